@@ -1,0 +1,137 @@
+//! Files in memory, of which chosen reads fail, or none.
+ghost use Rattle.std.specs.Prelude.{◌≡◌, ◌≤◌, ◌||◌, Some, is_err, is_none, option_map, length, IfOk};
+ghost use Rattle.ide_base.specs.Memory.{IsNew, called, contents_of, fails_now, held_under, reads_of};
+ghost use Rattle.ide_base.specs.Outside.{Given, ReadAt, ReadFrom, ReadOf, ShelfCause};
+
+use crate::calls::Calls;
+use crate::{Shelf, ShelfFault};
+
+/// A file of a shelf in memory: its name and its bytes.
+#[derive(Drop)]
+pub struct NamedFile {
+    pub name: String,
+    pub bytes: Vec<u8>,
+}
+
+// The bytes of the first file of this name.
+fn file_named<'a>(files: &'a [NamedFile], name: &str) -> Option<&'a [u8]>
+    ensures { option_map (λ b. b.now) result ≡ held_under files.now name.now }
+{
+    files
+        .iter()
+        .find(|f| f.name.as_str() == name)
+        .map(|f| f.bytes.as_slice())
+}
+
+// Copies what fits from a place on.
+fn copy_from(file: &[u8], at: u64, buf: &mut [u8]) -> usize
+    ensures { ReadAt file.now at result buf.new }
+{
+    if at >= file.len() as u64 {
+        return 0;
+    }
+    let rest = &file[at as usize..];
+    let n = rest.len().min(buf.len());
+    buf[..n].copy_from_slice(&rest[..n]);
+    n
+}
+
+// Reads the first file of this name, and counts what it gives.
+fn read_file(
+    files: &[NamedFile],
+    given: &mut u64,
+    name: &str,
+    at: u64,
+    buf: &mut [u8],
+) -> Result<usize, ShelfFault>
+    ensures bound { IfOk result (λ n. n ≤ length buf.new) }
+    ensures bytes { ReadOf (held_under files.now name.now) at result buf.new }
+    ensures counted { Given given.old given.new result }
+    ensures fails { is_err result ≡ is_none (held_under files.now name.now) }
+{
+    match file_named(files, name) {
+        None => Err(ShelfFault),
+        Some(file) => {
+            let n = copy_from(file, at, buf);
+            *given = given.saturating_add(n as u64);
+            Ok(n)
+        }
+    }
+}
+
+/// Files in memory, which it tells. The reads with the listed numbers, from 0, fail and are counted; of two
+/// files of one name it gives the first.
+#[derive(Drop)]
+pub struct MemShelf {
+    files: Vec<NamedFile>,
+    calls: Calls,
+    given: u64,
+}
+
+impl MemShelf {
+    /// The files, and the numbers of the reads that fail.
+    pub fn new(files: Vec<NamedFile>, failing: Vec<u64>) -> MemShelf
+        ensures contents { ⟦<MemShelf as Shelf>⟧.contents result ≡ Some (held_under files.items) }
+        ensures given { ⟦<MemShelf as Shelf>⟧.given result ≡ 0 }
+        ensures faults { ⟦<MemShelf as Shelf>⟧.faults result ≡ 0 }
+        ensures calls { IsNew (reads_of result) failing.items }
+    {
+        MemShelf {
+            files,
+            calls: Calls::new(failing),
+            given: 0,
+        }
+    }
+}
+
+impl Shelf for MemShelf {
+    ghost contents = { λ s. Some (contents_of s) };
+
+    ghost given = { λ s. s.given };
+
+    ghost faults = { λ s. s.calls.faults };
+
+    fn read(&mut self, name: &str, at: u64, buf: &mut [u8]) -> Result<usize, ShelfFault>
+        ensures same { ⟦<MemShelf as Shelf>⟧.contents self.new ≡ ⟦<MemShelf as Shelf>⟧.contents self.old }
+        ensures bound { IfOk result (λ n. n ≤ length buf.new) }
+        ensures bytes { ReadFrom (⟦<MemShelf as Shelf>⟧.contents self.old) name.now at result buf.new }
+        ensures counted { Given (⟦<MemShelf as Shelf>⟧.given self.old) (⟦<MemShelf as Shelf>⟧.given self.new) result }
+        ensures cause { ShelfCause (⟦<MemShelf as Shelf>⟧.faults self.old) (⟦<MemShelf as Shelf>⟧.faults self.new) (⟦<MemShelf as Shelf>⟧.contents self.old) name.now result }
+        ensures calls { reads_of self.new ≡ called (reads_of self.old) }
+        ensures fails { is_err result ≡ fails_now (reads_of self.old) || is_none (contents_of self.old name.now) }
+    {
+        if self.calls.next_fails() {
+            return Err(ShelfFault);
+        }
+        read_file(&self.files, &mut self.given, name, at, buf)
+    }
+}
+
+/// Files in memory, which it tells, and of which no read fails but at a name that has no file.
+#[derive(Drop)]
+pub struct TrueShelf {
+    files: Vec<NamedFile>,
+    given: u64,
+}
+
+impl TrueShelf {
+    /// The files.
+    pub fn new(files: Vec<NamedFile>) -> TrueShelf
+        ensures contents { ⟦<TrueShelf as Shelf>⟧.contents result ≡ Some (held_under files.items) }
+        ensures given { ⟦<TrueShelf as Shelf>⟧.given result ≡ 0 }
+    {
+        TrueShelf { files, given: 0 }
+    }
+}
+
+impl Shelf for TrueShelf {
+    ghost contents = { λ s. Some (held_under s.files.items) };
+
+    ghost given = { λ s. s.given };
+
+    ghost faults = { λ s. 0 };
+
+    fn read(&mut self, name: &str, at: u64, buf: &mut [u8]) -> Result<usize, ShelfFault> {
+        read_file(&self.files, &mut self.given, name, at, buf)
+    }
+}

@@ -1,0 +1,51 @@
+-- What the words of a command line ask for.
+use Rattle.std.specs.Prelude.{◌≡◌, ◌==◌, List, [], ◌∷◌, Bool, true, false, Option, Some, None, codes, unwrap_or, if◌then◌else◌}
+use Rattle.std.specs.Str.{bytes_eq}
+use Rattle.clap.specs.Words.{Row, Text, fault_of, first_of, subcommand_of}
+use Rattle.clap.specs.Walk.{is_empty}
+use Rattle.ide_words.specs.Ide.{ide_app}
+use Rattle.ide_words.specs.declared.Request.{Request}
+use Rattle.ide_words.specs.declared.Request.TheVariants.{Run, Show}
+use Rattle.ide_words.specs.declared.WordsError.{WordsError}
+use Rattle.ide_words.specs.declared.WordsError.TheVariants.{Usage, Memory}
+
+-- a request by the bytes of its names
+pub data Asked : Type 0 where
+  run : (topology script : Text) → Asked
+  show : (packets : Text) → Asked
+
+-- the argument's text; `clap` gives each required one, and where there were none it would be the empty text
+abbrev pub text_of : Text → List Row → Text
+text_of id rows = unwrap_or (first_of id rows) []
+
+abbrev pub asked_by : Text → List Row → Asked
+asked_by name rows =
+    if bytes_eq name (codes "run") then run (text_of (codes "TOPOLOGY") rows) (text_of (codes "SCRIPT") rows)
+    else show (text_of (codes "PACKETS") rows)
+
+-- what a subcommand and its arguments ask for; `clap` gives one, since it is required
+abbrev pub asked_of : Option (Text × List Row) → Asked
+asked_of None = show []
+asked_of (Some p) = asked_by p.0 p.1
+
+-- `clap` refuses the words
+abbrev pub is_refused : List Text → Bool
+is_refused words = if is_empty (fault_of ide_app words) then false else true
+
+-- what the words ask for, of which the first is the program's name; nothing where `clap` refuses them
+abbrev pub asked : List Text → Option Asked
+asked words = if is_refused words then None else Some (asked_of (subcommand_of ide_app words))
+
+abbrev pub view : Request → Asked
+view (Run topology script) = run topology.now script.now
+view (Show packets) = show packets.now
+
+-- the words are refused exactly where `clap` refuses them, and want of memory is free
+abbrev pub Refuses : Option Asked → WordsError → Type 0
+Refuses asked Usage = asked ≡ None
+Refuses asked Memory = Unit {0}
+
+-- a text that is not empty and does not begin with '-'
+abbrev pub IsName : Text → Type 0
+IsName [] = ⊥
+IsName (x ∷ xs) = (x == 45) ≡ false

@@ -1,0 +1,57 @@
+//! Words that are taken, and words that are refused.
+use crate::{Request, WordsError, read_words};
+use std::alloc::Global;
+use std::test::Fail;
+
+// The words behind the program's name.
+fn words_of(alloc: Global, line: &[&str]) -> Result<Vec<String>, Fail> {
+    let mut words = Vec::new(alloc);
+    words.push(String::from_str(alloc, "ide")?)?;
+    for word in line {
+        words.push(String::from_str(alloc, word)?)?;
+    }
+    Ok(words)
+}
+
+#[test]
+fn takes_its_forms(rt: HostRuntime) -> Result<(), Fail> {
+    let words = words_of(rt.alloc(), &["run", "base.toml", "row.txt"])?;
+    match read_words(rt.alloc(), &words) {
+        Ok(Request::Run(topology, script)) => {
+            assert_eq!(rt; topology, "base.toml");
+            assert_eq!(rt; script, "row.txt");
+        }
+        other => panic!(rt; "{other:?}"),
+    }
+    let words = words_of(rt.alloc(), &["show", "--", "-packets"])?;
+    match read_words(rt.alloc(), &words) {
+        Ok(Request::Show(packets)) => assert_eq!(rt; packets, "-packets"),
+        other => panic!(rt; "{other:?}"),
+    }
+    Ok(())
+}
+
+// Neither help nor a version is offered.
+#[test]
+fn refuses_other_words(rt: HostRuntime) -> Result<(), Fail> {
+    let lines: [&[&str]; 12] = [
+        &[],
+        &["jump"],
+        &["run", "base.toml"],
+        &["run", "base.toml", "row.txt", "more"],
+        &["run", "base.toml", "-x"],
+        &["show"],
+        &["show", "a", "b"],
+        &["help"],
+        &["--help"],
+        &["-h"],
+        &["--version"],
+        &["show", "--help"],
+    ];
+    for line in lines {
+        let words = words_of(rt.alloc(), line)?;
+        let refused = matches!(read_words(rt.alloc(), &words), Err(WordsError::Usage));
+        assert!(rt; refused, "at {line:?}");
+    }
+    Ok(())
+}
