@@ -1,0 +1,4 @@
+pub mod Entries
+pub mod Columns
+pub mod Blocks
+pub mod Vectors

@@ -1,0 +1,26 @@
+-- The state as four words, a column each, and the round keys, as the code keeps them.
+use Rattle.std.specs.Prelude.{◌≡◌, ℕ, ◌<◌, ◌/◌, ◌%◌, ◌^◌, List, [], ◌∷◌, ◌++◌, slice_index}
+use Rattle.std.specs.Int.{w32, from_be_bytes, to_be_bytes}
+use Rattle.aes_block.specs.Aes.{mixed, round_key}
+
+-- the word of four bytes, highest first
+abbrev pub word_of : ℕ → ℕ → ℕ → ℕ → ℕ
+word_of a b c d = from_be_bytes w32 (a ∷ b ∷ c ∷ d ∷ [])
+
+-- the word of a column times the matrix of MixColumns
+unfoldable pub mixed_word : ℕ → ℕ → ℕ → ℕ → ℕ
+mixed_word a b c d = word_of (mixed a b c d) (mixed b c d a) (mixed c d a b) (mixed d a b c)
+
+-- the state of four words
+unfoldable pub spread : List ℕ → List ℕ
+spread s =
+    to_be_bytes w32 (slice_index s 0) ++ (to_be_bytes w32 (slice_index s 1)
+    ++ (to_be_bytes w32 (slice_index s 2) ++ to_be_bytes w32 (slice_index s 3)))
+
+-- the four words of a number of 128 bits, highest first
+abbrev pub words_of : ℕ → List ℕ
+words_of n = n / 2 ^ 96 % 2 ^ 32 ∷ n / 2 ^ 64 % 2 ^ 32 ∷ n / 2 ^ 32 % 2 ^ 32 ∷ n % 2 ^ 32 ∷ []
+
+-- the words of each of 15 numbers are those of a round
+abbrev pub AreRoundKeys : List ℕ → List ℕ → Type 0
+AreRoundKeys words keys = (n : ℕ) → n < 15 → words_of (slice_index keys n) ≡ round_key words n
