@@ -1,0 +1,288 @@
+-- Where a packet goes wrong.
+use Rattle.std.proofs.Common.{◌≡◌, ℕ, ◌+◌, ◌-◌, ◌<◌, ◌≤◌, Bool, true, false, cond, IsTrue, List, [], length, get_or, take, drop, Option, Some, None, is_some, refl, sym, ap, subst, ◌∙◌, inl, inr, arith, length-take, length-drop, get_or-take, get_or-drop, take-append-drop, take-take, take_all, append-nil, min, not, add_comm}
+use Rattle.std.specs.Prelude.{MatchOption}
+use Rattle.std.specs.Array.{IsWholeChunk}
+use Rattle.ide_prefix.specs.Causes.{prefix_of, clear_size, fits_early, packet_fault_at, carries, moved}
+use Rattle.ide_prefix.specs.Cut.{tag_of}
+use Rattle.ide_prefix.specs.Faults.{GoesOff}
+use Rattle.ide_prefix.specs.Inside.{StopsEarly, StopsSync, StopsInHead, HasHeader, SizesAre, front_of, shifted}
+use Rattle.tlp_layout.proofs.Readings.{readable_heads}
+use Rattle.ide_prefix.specs.Packet.{FitsPacket, is_sync_packet, Packet, IsPacket, SpellsPacket, begins_sync}
+use Rattle.ide_prefix.specs.Reading.{sync_at, tag_part, packet_size, wants_packet, packet_may_follow}
+use Rattle.tlp_layout.specs.Causes.{head_size, layout_at, fault_at, cause_at}
+use Rattle.tlp_layout.specs.Reading.{head_of, rest_size, wants_head, may_follow}
+use Rattle.tlp_layout.specs.Tlp.{body_size}
+use Rattle.first_fault.proofs.Cells.{IsBytes}
+use Rattle.ide_prefix.proofs.Grammar.{IsWalkedPacket, needs_at, walks_from, walked_early, walked_late, size_at_least, size_front, size_carried, size_sync, packets, packet_of, sync_spells, carried_spells}
+use Rattle.tlp_layout.proofs.Heads.{layout_of, IsRight, kept, again}
+use Rattle.tlp_layout.proofs.Walk.{body_at_most, IsWalked, fits_from, head_size_at_least}
+use denote.Ref.{Bor}
+use Rattle.std.proofs.lemmas.Bool.{cases_lt, cases_eq, cases_Bool, ltb-true, lt-ltb, le-ltb, eq-eqb, eqb-true, ne_eqb, and_from, true≢false}
+use Rattle.std.proofs.lemmas.List.{nil_from_length}
+use Rattle.tlp_layout.specs.declared.layout.Layout.{Layout}
+use Rattle.ide_types.specs.declared.sub.SubKind.{SubKind}
+use Rattle.tlp_layout.specs.declared.head.HeadView.{HeadView}
+use Rattle.tlp_layout.specs.Head.{IsHead, head_bytes}
+use Rattle.first_fault.proofs.Fronts.{Walks, Halts, place_of, halts_of, walks_take}
+use Rattle.tlp_layout.proofs.Grammar.{heads, is_right, walked_of, rest_front}
+use Rattle.ide_prefix.specs.declared.fault.PacketFault.{PacketFault}
+use Rattle.ide_prefix.specs.declared.fault.PacketFault.TheVariants.{Short, Trailing, Tlp}
+use Rattle.ide_prefix.specs.declared.packet.Prefix.{Prefix}
+
+-- a walk up to a place, and no further
+halt : (s : List ℕ) (place : ℕ) → place ≤ length s → place < packet_size s → IsWalkedPacket s place
+    → (place < length s → IsTrue (packet_may_follow (take place s) (get_or s place 0)) → ⊥) → Halts wants_packet packet_may_follow s place
+halt s place le size w off = record {
+  within = le;
+  walks = walks_take wants_packet packet_may_follow s place le (λ i lt. needs_at s i (omega arith) (omega arith)) (walks_from s place le w);
+  off = λ less n f. off less f;
+  short = λ past. let all : take place s ≡ s = take_all place s past in rw all at (needs_at s place size le);
+}
+
+pub early_fault : (s : List ℕ) (f : PacketFault) (place : ℕ) → IsBytes s → StopsEarly s f place → GoesOff s f
+early_fault s f place fit h =
+    let early = h.early in (
+      place,
+      place_of IsPacket wants_packet packet_may_follow s place packets (halt s place h.within (omega (arith, size_at_least s)) (record {
+        fit = λ i lt. fit i;
+        early = λ i lt few. h.before i lt;
+        zeros = λ y i many lt less. absurd (omega arith);
+        late = λ n i many lt. absurd (omega arith);
+      }) (λ less t. true≢false (sym (walked_early s place less early t) ∙ h.off less))),
+      h.cause,
+    )
+
+pub sync_fault : (s : List ℕ) (f : PacketFault) (place : ℕ) → IsBytes s → ((i : ℕ) → i < 5 → fits_early i s (get_or s i 0) ≡ true) → sync_at s ≡ true → StopsSync s f place → GoesOff s f
+sync_fault s f place fit early y h =
+    let b = h.behind in (
+      place,
+      place_of IsPacket wants_packet packet_may_follow s place packets (halt s place h.within (omega (arith, size_at_least s)) (record {
+        fit = λ i lt. fit i;
+        early = λ i lt few. early i few;
+        zeros = λ y' i many lt less. h.before i many lt;
+        late = λ n i many lt. absurd (true≢false (sym y ∙ n));
+      }) (λ less t. h.off less (eqb-true _ _ (rw (y, lt-ltb place 16 b.1) at (walked_late s place less b.0 t))))),
+      h.cause,
+    )
+
+-- ---- a header behind the prefix
+
+-- the walk of a header's front, as the packet's
+head_walked : (s : List ℕ) (place : ℕ) → IsBytes s → 5 ≤ length s → ((i : ℕ) → i < 5 → fits_early i s (get_or s i 0) ≡ true) → sync_at s ≡ false
+    → place ≤ length (front_of s) → Walks wants_head may_follow (take place (front_of s)) → IsWalkedPacket s (4 + place)
+head_walked s place fit long early plain le w = record {
+  fit = λ i lt. fit i;
+  early = λ i lt few. early i few;
+  zeros = λ y i many lt less. absurd (true≢false (sym y ∙ plain));
+  late = λ n i many lt.
+      let size = head_size (get_or s 4 0) in
+      let len : length (front_of s) ≤ size = omega (arith, length-take size (drop 4 s)) in
+      let inside : i - 4 < length (take place (front_of s)) = omega (arith, length-take place (front_of s)) in
+      let t : may_follow (take (i - 4) (take place (front_of s))) (get_or (take place (front_of s)) (i - 4) 0) ≡ true = w.fitting (i - 4) inside in
+      let l1 : i - 4 < place = omega arith in
+      let l2 : i - 4 < size = omega arith in
+      let l3 : i - 4 ≤ place = omega arith in
+      let l4 : i - 4 ≤ size = omega arith in
+      let j : 4 + (i - 4) ≡ i = omega arith in
+      rw (take-take (i - 4) place (front_of s) l3, take-take (i - 4) size (drop 4 s) l4, get_or-take place (front_of s) (i - 4) 0 l1, get_or-take size (drop 4 s) (i - 4) 0 l2, get_or-drop 4 s (i - 4) 0, j) at t;
+}
+
+-- a header's front is not off at its first byte, where the packet's byte 4 is right
+some_kind : (sub : SubKind) (b : ℕ) (o : Option Layout) → carries sub b o ≡ true → is_some o ≡ true
+some_kind sub b None e = absurd cc
+some_kind sub b (Some k) e = refl
+
+begins_head : (s : List ℕ) → IsBytes s → 5 ≤ length s → ((i : ℕ) → i < 5 → fits_early i s (get_or s i 0) ≡ true) → sync_at s ≡ false → IsTrue (may_follow [] (get_or s 4 0))
+begins_head s fit long early plain =
+    let first : cond (sync_at s) (cond (prefix_of s).m (not (prefix_of s).t) false) (carries (prefix_of s).sub (get_or s 4 0) (layout_at (get_or s 4 0))) ≡ true = early 4 (omega arith) in
+    let c : carries (prefix_of s).sub (get_or s 4 0) (layout_at (get_or s 4 0)) ≡ true = rw plain at first in
+    and_from _ _ (lt-ltb _ _ (fit 4)) (some_kind (prefix_of s).sub (get_or s 4 0) (layout_at (get_or s 4 0)) c)
+
+shifted_cause : (p b : ℕ) → shifted (cause_at p b) ≡ Tlp (moved (cause_at p b))
+shifted_cause p b = elim (cases_eq p 2) [
+  | inl two ↦ elim (cases_lt b 64) [
+    | inl lt ↦ rw (eq-eqb p 2 two, lt-ltb b 64 lt) refl
+    | inr le ↦ rw (eq-eqb p 2 two, le-ltb b 64 le) refl
+  ]
+  | inr ne ↦ elim (cases_eq p 3) [
+    | inl three ↦ rw (ne_eqb p 2 ne, eq-eqb p 3 three) refl
+    | inr other ↦ rw (ne_eqb p 2 ne, ne_eqb p 3 other) refl
+  ]
+]
+
+pub header_fault : (s : List ℕ) (f : PacketFault) → IsBytes s → 5 ≤ length s → ((i : ℕ) → i < 5 → fits_early i s (get_or s i 0) ≡ true) → sync_at s ≡ false → StopsInHead s f → GoesOff s f
+header_fault s f fit long early plain h =
+    let front = front_of s in
+    let size = head_size (get_or s 4 0) in
+    let p = h.1.0 in
+    let halts = halts_of IsHead wants_head may_follow front p heads readable_heads.whole h.1.1 in
+    let within = halts.within in
+    let some : 12 ≤ size = head_size_at_least (get_or s 4 0) in
+    let len : length front ≡ min size (length s - 4) = omega (arith, length-take size (drop 4 s), length-drop 4 s) in
+    let first : get_or front 0 0 ≡ get_or s 4 0 = get_or-take size (drop 4 s) 0 0 (omega arith) ∙ get_or-drop 4 s 0 0 in
+    let pos : 0 < p = elim (cases_eq p 0) [
+      | inl none ↦
+          let off = subst (λ (q : ℕ). q < length front → IsTrue (wants_head (take q front)) → IsTrue (may_follow (take q front) (get_or front q 0)) → ⊥) none halts.off in
+          absurd (off (omega arith) refl (rw first (begins_head s fit long early plain)))
+      | inr other ↦ omega arith
+    ] in
+    let short : length front ≤ p → length front < size = λ le. let n : length front < head_size (get_or front 0 0) = ltb-true _ _ (halts.short le) in omega (arith, n, ap head_size first) in
+    let less : p < size = elim (cases_lt p (length front)) [ inl lt ↦ omega arith | inr past ↦ omega (arith, short past) ] in
+    let front0 : get_or (take p front) 0 0 ≡ get_or s 4 0 = get_or-take p front 0 0 pos ∙ first in
+    let needs : IsTrue (wants_head (take p front)) = lt-ltb _ _ (omega (arith, length-take p front, ap head_size front0, less)) in
+    let whole : 4 + p < packet_size s = omega (arith, size_carried s plain, ap head_size (get_or-drop 4 s 0 0)) in
+    let four : 4 + p - 4 ≡ p = omega arith in
+    let inside : 4 + p < length s → p < length front = λ lt. omega arith in
+    let off : 4 + p < length s → IsTrue (packet_may_follow (take (4 + p) s) (get_or s (4 + p) 0)) → ⊥ = λ lt t.
+    let there : may_follow (take (4 + p - 4) (drop 4 s)) (get_or s (4 + p) 0) ≡ true = rw plain at (walked_late s (4 + p) lt (omega arith) t) in
+    let le : p ≤ size = omega arith in
+    let here : may_follow (take p front) (get_or front p 0) ≡ true = rw (take-take p size (drop 4 s) le, get_or-take size (drop 4 s) p 0 less, get_or-drop 4 s p 0) (rw four at there) in
+    halts.off (inside lt) needs here in
+    let shift : shifted (fault_at front p) ≡ packet_fault_at s (4 + p) = elim (cases_eq p (length front)) [
+      | inl all ↦
+          let end : 4 + p ≡ length s = omega (arith, short (omega arith)) in
+          rw (eq-eqb p (length front) all, eq-eqb (4 + p) (length s) end, add_comm 4 p) refl
+      | inr part ↦
+          let e1 : 4 + p ≡ length s → ⊥ = λ e. omega arith in
+          let e2 : p ≡ 0 → ⊥ = λ e. omega arith in
+          let byte : get_or front p 0 ≡ get_or s (4 + p) 0 = get_or-take size (drop 4 s) p 0 less ∙ get_or-drop 4 s p 0 in
+          rw (ne_eqb p (length front) part, ne_eqb p 0 e2, first, lt-ltb p size less, ne_eqb (4 + p) (length s) e1, le-ltb (4 + p) 5 (omega arith), plain, lt-ltb (4 + p) (4 + size) (omega arith), four, byte) (shifted_cause p (get_or s (4 + p) 0))
+    ] in
+    (4 + p, place_of IsPacket wants_packet packet_may_follow s (4 + p) packets (halt s (4 + p) (omega arith) whole (head_walked s p fit long early plain within halts.walks) off), h.2 ∙ ap shifted h.1.2 ∙ shift)
+
+-- ---- the whole packet
+
+whole_walk : (s : List ℕ) (size wanted : ℕ) → IsBytes s → 5 ≤ length s → ((i : ℕ) → i < 5 → fits_early i s (get_or s i 0) ≡ true) → SizesAre s size wanted → IsWalkedPacket s (length s)
+whole_walk s size wanted fit long early z = record {
+  fit = λ i lt. fit i;
+  early = λ i lt few. early i few;
+  zeros = λ y i many lt less. z.zeros y i many less;
+  late = λ plain i many lt.
+      let h = z.header plain in
+      let t = drop 4 s in
+      let hs = head_size (get_or s 4 0) in
+      let r = is_right (front_of s) (record { head = h.0; spells = h.1 }) in
+      let rest : IsBytes (drop hs t) = λ j. rw (get_or-drop, get_or-drop) (fit (4 + (hs + j))) in
+      let w = subst (λ (x : List ℕ). IsWalked r.0 x (length x)) (take-append-drop hs t) (walked_of r.0 (front_of s) (drop hs t) r.1 rest) in
+      let j : 4 + (i - 4) ≡ i = omega arith in
+      let t : may_follow (take (i - 4) t) (get_or t (i - 4) 0) ≡ true = fits_from r.0 t (length t) w (omega arith) (i - 4) (omega (arith, length-drop 4 s)) in
+      rw (get_or-drop 4 s (i - 4) 0, j) at t;
+}
+
+total_is : (s : List ℕ) (size wanted : ℕ) → SizesAre s size wanted → packet_size s ≡ 4 + size + wanted + tag_part s
+total_is s size wanted z =
+    let a = z.size_is in
+    let b = z.wanted_is in
+    elim (cases_Bool (sync_at s)) [
+      | inl y ↦ let a' : size ≡ 12 = rw y at a in let b' : wanted ≡ 0 = rw y at b in omega (arith, size_sync s y)
+      | inr plain ↦ let a' : size ≡ head_size (get_or s 4 0) = rw plain at a in let b' : wanted ≡ rest_size (drop 4 s) = rw plain at b in omega (arith, size_carried s plain, ap head_size (get_or-drop 4 s 0 0))
+    ]
+
+pub short_fault : (s : List ℕ) (size wanted : ℕ) → IsBytes s → 5 ≤ length s → ((i : ℕ) → i < 5 → fits_early i s (get_or s i 0) ≡ true) → SizesAre s size wanted
+    → length s < 4 + size + wanted + tag_part s → GoesOff s (Short (length s))
+short_fault s size wanted fit long early z lt =
+    (length s, place_of IsPacket wants_packet packet_may_follow s (length s) packets (halt s (length s) (omega arith) (omega (arith, total_is s size wanted z)) (whole_walk s size wanted fit long early z) (λ less t. omega arith)), rw (eq-eqb (length s) (length s) refl) refl)
+
+walked_part : (s : List ℕ) (n : ℕ) → n ≤ length s → IsWalkedPacket s (length s) → IsWalkedPacket s n
+walked_part s n le w = record {
+  fit = λ i lt. w.fit i (omega arith);
+  early = λ i lt few. w.early i (omega arith) few;
+  zeros = λ y i many lt less. w.zeros y i many (omega arith) less;
+  late = λ plain i many lt. w.late plain i many (omega arith);
+}
+
+pub trailing_fault : (s : List ℕ) (size wanted place : ℕ) → IsBytes s → 5 ≤ length s → ((i : ℕ) → i < 5 → fits_early i s (get_or s i 0) ≡ true) → SizesAre s size wanted
+    → place ≡ 4 + size + wanted + tag_part s → place < length s → GoesOff s (Trailing place)
+trailing_fault s size wanted place fit long early z e lt =
+    let total : packet_size s ≡ place = total_is s size wanted z ∙ sym e in
+    let some : 16 ≤ packet_size s = size_at_least s in
+    let front : packet_size (take place s) ≡ packet_size s = size_front place s (omega arith) in
+    let len : length (take place s) ≡ place = omega (arith, length-take place s) in
+    let w = walked_part s place (omega arith) (whole_walk s size wanted fit long early z) in
+    let clear : 4 + clear_size (prefix_of s).sub (get_or s 4 0) ≤ place = omega (arith, z.size_is) in (
+      place,
+      place_of IsPacket wants_packet packet_may_follow s place packets (record {
+        within = omega arith;
+        walks = walks_take wants_packet packet_may_follow s place (omega arith) (λ i less. needs_at s i (omega arith) (omega arith)) (walks_from s place (omega arith) w);
+        off = λ less n t. let more : length (take place s) < packet_size (take place s) = ltb-true _ _ n in omega (arith, more, len, front);
+        short = λ past. absurd (omega arith);
+      }),
+      rw (ne_eqb place (length s) (λ x. omega arith), le-ltb place 5 (omega arith), le-ltb place (4 + clear_size (prefix_of s).sub (get_or s 4 0)) clear) refl,
+    )
+
+clear_size_at_least : (sub : SubKind) (b : ℕ) → 12 ≤ clear_size sub b
+clear_size_at_least sub b = elim (cases_Bool (begins_sync sub b)) [
+  | inl y ↦ rw y (omega arith)
+  | inr n ↦ rw n (head_size_at_least b)
+]
+
+pub spells_cut : (s head body tag : List ℕ) (size wanted : ℕ) → IsBytes s → 5 ≤ length s → ((i : ℕ) → i < 5 → fits_early i s (get_or s i 0) ≡ true) → SizesAre s size wanted
+    → length s ≡ 4 + size + wanted + tag_part s → head ≡ take size (drop 4 s) → body ≡ take wanted (drop size (drop 4 s)) → tag ≡ drop wanted (drop size (drop 4 s))
+    → SpellsPacket (packet_of s head body tag) s × (sync_at s ≡ is_sync_packet (packet_of s head body tag))
+spells_cut s head body tag size wanted fit long early z e eh eb et =
+    let w = whole_walk s size wanted fit long early z in
+    let total : length s ≡ packet_size s = e ∙ sym (total_is s size wanted z) in
+    let a = z.size_is in
+    let b = z.wanted_is in
+    let some : 0 < size = omega (arith, z.size_is, clear_size_at_least (prefix_of s).sub (get_or s 4 0)) in
+    let zeroth : get_or head 0 0 ≡ get_or s 4 0 = ap (λ (x : List ℕ). get_or x 0 0) eh ∙ get_or-take size (drop 4 s) 0 0 some ∙ get_or-drop 4 s 0 0 in
+    let flag : sync_at s ≡ begins_sync (prefix_of s).sub (get_or head 0 0) = ap (begins_sync (prefix_of s).sub) (sym zeroth) in
+    elim (cases_Bool (sync_at s)) [
+      | inl y ↦
+          let a' : size ≡ 12 = rw y at a in
+          let b' : wanted ≡ 0 = rw y at b in
+          let sp = sync_spells s long w y total in
+          let h : head ≡ take 12 (drop 4 s) = eh ∙ ap (λ (n : ℕ). take n (drop 4 s)) a' in
+          let o : body ≡ [] = eb ∙ ap (λ (n : ℕ). take n (drop size (drop 4 s))) b' in
+          let g : tag ≡ drop 12 (drop 4 s) = et ∙ ap (λ (n : ℕ). drop n (drop size (drop 4 s))) b' ∙ ap (λ (n : ℕ). drop n (drop 4 s)) a' in
+          (rw (h, o, g) sp.0, flag)
+      | inr plain ↦
+          let a' : size ≡ head_size (get_or (drop 4 s) 0 0) = (rw plain at a) ∙ sym (ap head_size (get_or-drop 4 s 0 0)) in
+          let b' : wanted ≡ rest_size (drop 4 s) = rw plain at b in
+          let sp = carried_spells s long w plain total in
+          let h : head ≡ take (head_size (get_or (drop 4 s) 0 0)) (drop 4 s) = eh ∙ ap (λ (n : ℕ). take n (drop 4 s)) a' in
+          let o : body ≡ take (rest_size (drop 4 s)) (drop (head_size (get_or (drop 4 s) 0 0)) (drop 4 s)) = eb ∙ ap (λ (n : ℕ). take n (drop size (drop 4 s))) b' ∙ ap (λ (n : ℕ). take (rest_size (drop 4 s)) (drop n (drop 4 s))) a' in
+          let g : tag ≡ drop (rest_size (drop 4 s)) (drop (head_size (get_or (drop 4 s) 0 0)) (drop 4 s)) = et ∙ ap (λ (n : ℕ). drop n (drop size (drop 4 s))) b' ∙ ap (λ (n : ℕ). drop (rest_size (drop 4 s)) (drop n (drop 4 s))) a' in
+          (rw (h, o, g) sp, flag)
+    ]
+
+pub header_sizes : (s : List ℕ) (wanted : ℕ) → 5 ≤ length s → sync_at s ≡ false → HasHeader s wanted → SizesAre s (head_size (get_or s 4 0)) wanted
+header_sizes s wanted long plain h =
+    let size = head_size (get_or s 4 0) in
+    let some : 12 ≤ size = head_size_at_least (get_or s 4 0) in
+    let k = layout_of h.head.fields in
+    let r : IsRight k (front_of s) = subst (IsRight k) (sym h.spells.spelled) (kept h.head h.spells.fits) in
+    let first : get_or (front_of s) 0 0 ≡ get_or s 4 0 = get_or-take size (drop 4 s) 0 0 (omega arith) ∙ get_or-drop 4 s 0 0 in
+    let same : head_of k (front_of s) ≡ h.head = ap (head_of k) (h.spells.spelled ∙ sym (append-nil (head_bytes h.head))) ∙ again h.head [] h.spells.fits in
+    let wants : rest_size (front_of s) ≡ body_size h.head.has_payload h.head.lead.length = ap (λ (x : HeadView). body_size x.has_payload x.lead.length) same in
+    let front : rest_size (front_of s) ≡ rest_size (drop 4 s) = rest_front size (drop 4 s) (omega arith) in
+    record {
+      size_is = rw plain refl;
+      within = omega (arith, r.size, ap head_size first, length-take size (drop 4 s), length-drop 4 s);
+      wanted_is = rw plain (h.wanted_is ∙ sym wants ∙ front);
+      small = rw h.wanted_is (body_at_most h.head.has_payload h.head.lead.length h.spells.fits.lead.length);
+      zeros = λ y i many lt. absurd (true≢false (sym y ∙ plain));
+      header = λ p. (h.head, h.spells);
+    }
+
+pub tag_long : (s : List ℕ) (size wanted : ℕ) → length s ≡ 4 + size + wanted + tag_part s → length (drop wanted (drop size (drop 4 s))) ≡ tag_part s
+tag_long s size wanted e = omega (arith, e, length-drop wanted (drop size (drop 4 s)), length-drop size (drop 4 s), length-drop 4 s)
+
+-- what `as_array` gives of the bytes behind the payload: the tag where M is set
+tag_is : (o : Option (Bor (List ℕ))) (t : List ℕ) (m : Bool) → length t ≡ cond m 12 0 → MatchOption o (length t ≡ 12 → ⊥) (λ y. IsWholeChunk t y.now 12) → (tag_of o ≡ t) × (is_some o ≡ m)
+tag_is None t true e h = absurd (h e)
+tag_is None t false e h = (sym (nil_from_length t e), refl)
+tag_is (Some y) t true e h = (h.same, refl)
+tag_is (Some y) t false e h = absurd (omega (arith, h.long, e))
+
+abbrev pub packet_from : Prefix → List ℕ → List ℕ → List ℕ → Packet
+packet_from p h b t = record { prefix = p; head = h; body = b; tag = t }
+
+pub is_cut : (s head body rest : List ℕ) (o : Option (Bor (List ℕ))) (size wanted : ℕ) (p : Prefix) (sync : Bool) → IsBytes s → 5 ≤ length s → ((i : ℕ) → i < 5 → fits_early i s (get_or s i 0) ≡ true) → SizesAre s size wanted
+    → length s ≡ 4 + size + wanted + tag_part s → p ≡ prefix_of s → sync ≡ sync_at s → head ≡ take size (drop 4 s) → body ≡ take wanted (drop size (drop 4 s)) → rest ≡ drop wanted (drop size (drop 4 s))
+    → MatchOption o (length rest ≡ 12 → ⊥) (λ y. IsWholeChunk rest y.now 12)
+    → SpellsPacket (packet_from p head body (tag_of o)) s × (FitsPacket (packet_from p head body (tag_of o)) × (sync ≡ is_sync_packet (packet_from p head body (tag_of o))) × (is_some o ≡ p.m))
+is_cut s head body rest o size wanted p sync fit long early z e ep es eh eb er m =
+    let t = tag_is o rest (prefix_of s).m (ap length er ∙ tag_long s size wanted e) m in
+    let r = spells_cut s head body (tag_of o) size wanted fit long early z e eh eb (t.0 ∙ er) in
+    rw (ep, es) (r.0, (r.0.fits, r.1, t.1))

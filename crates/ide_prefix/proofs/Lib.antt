@@ -1,0 +1,4 @@
+pub mod Units
+pub mod Grammar
+pub mod Faults
+pub mod Cuts

@@ -1,0 +1,57 @@
+-- What the reader's inner functions show of the bytes.
+use Rattle.std.specs.Prelude.{◌≡◌, ℕ, ◌+◌, ◌<◌, ◌≤◌, true, false, List, length, take, drop, slice_index, if◌then◌else◌}
+use Rattle.tlp_layout.specs.declared.fault.TlpFault.{TlpFault}
+use Rattle.tlp_layout.specs.declared.fault.TlpFault.TheVariants as tlps
+use Rattle.tlp_layout.specs.declared.head.HeadView.{HeadView}
+use Rattle.tlp_layout.specs.Head.{SpellsHead}
+use Rattle.tlp_layout.specs.Tlp.{body_size}
+use Rattle.tlp_layout.specs.Causes.{head_size}
+use Rattle.tlp_layout.specs.Faults.{IsHeadFault}
+use Rattle.tlp_layout.specs.Reading.{rest_size}
+use Rattle.ide_prefix.specs.declared.fault.PacketFault.{PacketFault}
+use Rattle.ide_prefix.specs.declared.fault.PacketFault.TheVariants.{Short, Tlp}
+use Rattle.ide_prefix.specs.Packet.{begins_sync}
+use Rattle.ide_prefix.specs.Causes.{prefix_of, fits_early, clear_size, moved, packet_fault_at}
+
+-- the bytes go off among the first five
+pub record StopsEarly (s : List ℕ) (fault : PacketFault) (place : ℕ) : Type 0 where
+  pub within : place ≤ length s
+  pub early : place < 5
+  pub cause : fault ≡ packet_fault_at s place
+  pub before : (i : ℕ) → i < place → fits_early i s (slice_index s i) ≡ true
+  pub off : place < length s → fits_early place s (slice_index s place) ≡ false
+
+-- a sync packet goes off behind byte 4
+pub record StopsSync (s : List ℕ) (fault : PacketFault) (place : ℕ) : Type 0 where
+  pub within : place ≤ length s
+  pub behind : (5 ≤ place) × (place < 16)
+  pub cause : fault ≡ packet_fault_at s place
+  pub before : (i : ℕ) → 5 ≤ i → i < place → slice_index s i ≡ 0
+  pub off : place < length s → slice_index s place ≡ 0 → ⊥
+
+-- a header's fault, as a packet's
+abbrev pub shifted : TlpFault → PacketFault
+shifted (tlps.Short place) = Short (place + 4)
+shifted f = Tlp (moved f)
+
+-- what stands in the header's place
+abbrev pub front_of : List ℕ → List ℕ
+front_of s = take (head_size (slice_index s 4)) (drop 4 s)
+
+-- behind the prefix stands a header, which wants that many bytes of payload
+pub record HasHeader (s : List ℕ) (wanted : ℕ) : Type 0 where
+  pub head : HeadView
+  pub spells : SpellsHead head (front_of s)
+  pub wanted_is : wanted ≡ body_size head.has_payload head.lead.length
+
+abbrev pub StopsInHead : List ℕ → PacketFault → Type 0
+StopsInHead s fault = (f : TlpFault) × IsHeadFault (front_of s) f × (fault ≡ shifted f)
+
+-- the bytes behind the prefix begin a sync packet, or with a header: its length, and that of the payload
+pub record SizesAre (s : List ℕ) (size wanted : ℕ) : Type 0 where
+  pub size_is : size ≡ clear_size (prefix_of s).sub (slice_index s 4)
+  pub within : 4 + size ≤ length s
+  pub wanted_is : wanted ≡ (if begins_sync (prefix_of s).sub (slice_index s 4) then 0 else rest_size (drop 4 s))
+  pub small : wanted ≤ 4096
+  pub zeros : begins_sync (prefix_of s).sub (slice_index s 4) ≡ true → (i : ℕ) → 5 ≤ i → i < 16 → slice_index s i ≡ 0
+  pub header : begins_sync (prefix_of s).sub (slice_index s 4) ≡ false → (h : HeadView) × SpellsHead h (front_of s)

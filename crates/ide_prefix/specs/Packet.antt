@@ -1,0 +1,75 @@
+-- The spelling of a packet: a prefix, a TLP's header in clear, its encrypted payload, and a tag (PCI Express Base 6.0
+-- section 6.33; the layout is this profile's).
+use Rattle.std.specs.Prelude.{◌≡◌, ◌≢◌, ℕ, ◌+◌, ◌*◌, ◌<◌, Bool, true, false, List, [], ◌∷◌, ◌++◌, length, slice_index, replicate, ◌⊎◌, ◌==◌, All, if◌then◌else◌}
+use Rattle.ide_types.specs.declared.sub.SubKind.{SubKind}
+use Rattle.ide_types.specs.declared.sub.SubKind.TheVariants.{Pr, Npr, Cpl}
+use Rattle.ide_types.specs.Sub.{sub_bits}
+use Rattle.tlp_layout.specs.declared.head.HeadView.{HeadView}
+use Rattle.tlp_layout.specs.Head.{SpellsHead, bit}
+use Rattle.tlp_layout.specs.Class.{class_of}
+use Rattle.tlp_layout.specs.Tlp.{body_size}
+use Rattle.ide_prefix.specs.declared.packet.Prefix.{Prefix}
+
+-- 92h; M, K and T in bits 7 to 5 and the sub-stream in bits 2:0; the stream ID; the posted count
+abbrev pub prefix_bytes : Prefix → List ℕ
+prefix_bytes p = 146 ∷ (128 * bit p.m + 64 * bit p.k + 32 * bit p.t + sub_bits p.sub) ∷ p.stream ∷ p.posted ∷ []
+
+-- the parts of a packet, as lists of bytes
+pub record Packet : Type 0 where
+  pub prefix : Prefix
+  pub head : List ℕ
+  pub body : List ℕ
+  pub tag : List ℕ
+
+abbrev pub packet_bytes : Packet → List ℕ
+packet_bytes p = prefix_bytes p.prefix ++ (p.head ++ (p.body ++ p.tag))
+
+-- 34h, which in the non-posted and the completion sub-stream begins a sync packet, and 11 zeros
+abbrev pub sync_head : List ℕ
+sync_head = 52 ∷ replicate 11 0
+
+-- the byte behind the prefix begins a sync packet
+abbrev pub begins_sync : SubKind → ℕ → Bool
+begins_sync Pr b = false
+begins_sync Npr b = b == 52
+begins_sync Cpl b = b == 52
+
+abbrev pub is_sync_packet : Packet → Bool
+is_sync_packet p = begins_sync p.prefix.sub (slice_index p.head 0)
+
+-- it carries a TLP of the sub-stream's class: a header, and as many bytes of payload as that wants
+pub record IsCarried (p : Packet) : Type 0 where
+  pub head : HeadView
+  pub spells : SpellsHead head p.head
+  pub class : class_of head ≡ p.prefix.sub
+  pub size : length p.body ≡ body_size head.has_payload head.lead.length
+
+pub record IsSync (p : Packet) : Type 0 where
+  pub head : p.head ≡ sync_head
+  pub body : p.body ≡ []
+  pub sub : p.prefix.sub ≢ Pr
+  pub m : p.prefix.m ≡ true
+  pub t : p.prefix.t ≡ false
+
+pub record FitsPrefix (p : Prefix) : Type 0 where
+  pub stream : p.stream < 256
+  pub posted : p.posted < 256
+  pub none : p.sub ≡ Pr → p.posted ≡ 0
+
+-- what has a spelling
+pub record FitsPacket (p : Packet) : Type 0 where
+  pub prefix : FitsPrefix p.prefix
+  pub carries : IsCarried p ⊎ IsSync p
+  pub body : All (λ b. b < 256) p.body
+  pub tag : All (λ b. b < 256) p.tag
+  pub tag_size : length p.tag ≡ (if p.prefix.m then 12 else 0)
+
+-- the bytes are this packet's
+pub record SpellsPacket (p : Packet) (bytes : List ℕ) : Type 0 where
+  pub fits : FitsPacket p
+  pub spelled : bytes ≡ packet_bytes p
+
+-- the bytes are a packet's
+pub record IsPacket (bytes : List ℕ) : Type 0 where
+  pub packet : Packet
+  pub spells : SpellsPacket packet bytes

@@ -1,0 +1,20 @@
+-- What the tag of a unit, a run of packets of which the last has M, covers.
+use Rattle.std.specs.List.{flat_map}
+use Rattle.std.specs.Prelude.{ℕ, List, [], ◌++◌}
+use Rattle.ide_prefix.specs.Packet.{Packet, prefix_bytes}
+
+-- of one packet in clear: its prefix and its header
+abbrev pub clear_bytes : Packet → List ℕ
+clear_bytes p = prefix_bytes p.prefix ++ p.head
+
+-- what it covers in clear
+abbrev pub authenticated : List Packet → List ℕ
+authenticated ps = flat_map clear_bytes ps
+
+-- what it covers encrypted
+abbrev pub encrypted : List Packet → List ℕ
+encrypted ps = flat_map (λ p. p.body) ps
+
+-- a packet without its tag
+abbrev pub untagged : Packet → Packet
+untagged p = record { prefix = p.prefix; head = p.head; body = p.body; tag = [] }

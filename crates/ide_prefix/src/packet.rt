@@ -1,0 +1,77 @@
+//! Packets and their prefix.
+
+ghost use Rattle.std.specs.Prelude.{◌≡◌};
+ghost use Rattle.ide_prefix.specs.Packet.{prefix_bytes};
+
+use ide_types::SubKind;
+use tlp_layout::{HeadView, read_head};
+
+/// What stands ahead of a TLP's header.
+#[derive(Clone, Copy, Debug, PartialEq, Eq)]
+pub struct Prefix {
+    /// Whether a tag ends the packet, which is the last of its unit.
+    pub m: bool,
+    /// The key set, 0 or 1, under which the unit is sealed.
+    pub k: bool,
+    /// Whether the TLP comes from a trusted requester.
+    pub t: bool,
+    /// The sub-stream.
+    pub sub: SubKind,
+    /// The stream's ID.
+    pub stream: u8,
+    /// How many posted packets were sealed since the last packet of this sub-stream; 0 in a posted packet.
+    pub posted: u8,
+}
+
+/// The four bytes of the prefix (this profile).
+pub fn write_prefix(prefix: &Prefix) -> [u8; 4]
+    ensures { result ≡ prefix_bytes prefix.now }
+{
+    let flags = 128 * u8::from(prefix.m) + 64 * u8::from(prefix.k) + 32 * u8::from(prefix.t);
+    [
+        0x92,
+        flags + prefix.sub.number(),
+        prefix.stream,
+        prefix.posted,
+    ]
+}
+
+/// A packet's parts, lent.
+#[derive(Clone, Copy, Debug)]
+pub struct PacketView<'a> {
+    /// The prefix, bytes 0 to 3.
+    pub prefix: Prefix,
+    /// The TLP's header, 12 or 16 bytes, or the 12 bytes of a sync packet.
+    pub head: &'a [u8],
+    /// The encrypted payload, up to 4,096 bytes.
+    pub body: &'a [u8],
+    /// The tag, where M is set.
+    pub tag: Option<&'a [u8; 12]>,
+    /// Whether it is a sync packet, which carries no TLP.
+    pub sync: bool,
+}
+
+impl PacketView<'_> {
+    ghost use Rattle.std.specs.Prelude.{◌≡◌};
+    ghost use Rattle.ide_prefix.specs.Cut.{header_in};
+
+    /// The header of the TLP that the packet carries; `None` of a sync packet, and only there where
+    /// `cut` gave the view.
+    pub fn header(&self) -> Option<HeadView>
+        ensures { result ≡ header_in self.now }
+    {
+        if self.sync {
+            return None;
+        }
+        read_head(self.head).ok()
+    }
+}
+
+/// What bytes are: a plain TLP's, or a packet.
+#[derive(Clone, Copy, Debug)]
+pub enum Cut<'a> {
+    /// Byte 0 is not 92h.
+    Plain,
+    /// A packet of an IDE stream.
+    Ide(PacketView<'a>),
+}

@@ -1,0 +1,6 @@
+pub mod Octets
+pub mod Heads
+pub mod Walk
+pub mod Grammar
+pub mod Found
+pub mod Readings

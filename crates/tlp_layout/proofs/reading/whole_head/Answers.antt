@@ -1,0 +1,19 @@
+use Rattle.std.proofs.Common.{arith}
+use Rattle.std.proofs.lemmas.Result.{err_from_is_err_and}
+use Rattle.tlp_layout.proofs.Found.{head_fault, head_trails, head_found}
+use Rattle.tlp_layout.proofs.reading.whole_head.Goals as goal
+
+pub returns-in_err-layout-clause-err : goal.returns-in_err-layout-clause-err
+returns-in_err-layout-clause-err c =
+    let p = err_from_is_err_and c.from_residual.result c.from_residual.ensures.1 in
+    rw (p.1, p.2) (head_fault _ _ (λ i. omega (arith, c.type_inv.bytes i)) c.in_err-layout.ensures.stops)
+
+pub returns-then-bytes-size-clause-err : goal.returns-then-bytes-size-clause-err
+returns-then-bytes-size-clause-err c =
+    let h = c.in_ok-layout.ensures in
+    head_trails _ _ _ (record { fit = λ i. omega (arith, c.type_inv.bytes i); kind = h.layout; size = h.size.0; within = h.size.1; agrees = h.agrees }) (omega arith)
+
+pub returns-clause-ok : goal.returns-clause-ok
+returns-clause-ok c =
+    let h = c.in_ok-layout.ensures in
+    rw c.head_view.ensures (head_found _ _ _ (record { fit = λ i. omega (arith, c.type_inv.bytes i); kind = h.layout; size = h.size.0; within = h.size.1; agrees = h.agrees }) (omega arith))

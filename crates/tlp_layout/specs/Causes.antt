@@ -1,0 +1,63 @@
+-- Which byte may stand at each place of a header, and why another may not (PCI Express Base 6.0 section 2.2; what this
+-- profile leaves out is refused).
+use Rattle.std.specs.Prelude.{ℕ, ◌+◌, ◌/◌, ◌%◌, Bool, true, List, length, slice_index, Option, Some, None, nat_lt, nat_le, ◌==◌, ◌&&◌, not, bit_and, if◌then◌else◌}
+use Rattle.tlp_layout.specs.declared.layout.Layout.{Layout}
+use Rattle.tlp_layout.specs.declared.layout.Layout.TheVariants.{Memory, Config, Message, Completion}
+use Rattle.tlp_layout.specs.declared.fault.TlpFault.{TlpFault}
+use Rattle.tlp_layout.specs.declared.fault.TlpFault.TheVariants.{Short, Kind, Bit, Length, Trailing}
+
+-- ---- byte 0: Fmt in bits 7:5, Type in bits 4:0
+
+-- 4 double words
+abbrev pub is_wide : ℕ → Bool
+is_wide b = b / 32 % 2 == 1
+
+-- a payload follows
+abbrev pub has_data : ℕ → Bool
+has_data b = b / 64 % 2 == 1
+
+-- the header's length in bytes
+abbrev pub head_size : ℕ → ℕ
+head_size b = if is_wide b then 16 else 12
+
+-- Type 00000, 10rrr with rrr up to 5, 0010x or 01010; a message has 4 double words, the last two have 3
+abbrev pub layout_at : ℕ → Option Layout
+layout_at b =
+    if nat_le 128 b then None
+    else if b % 32 == 0 then Some Memory
+    else if is_wide b && nat_le 16 (b % 32) && nat_lt (b % 32) 22 then Some Message
+    else if not (is_wide b) && (b % 32 / 2 == 2) then Some Config
+    else if not (is_wide b) && (b % 32 == 10) then Some Completion
+    else None
+
+-- ---- the bytes behind it
+
+-- the bits that are 0 in the byte at this place of a header of this length:
+-- bit 1 and TH of byte 1, TD and EP of byte 2, what is reserved, the two lowest bits of an address,
+-- and in byte 2 of a configuration request Length[9:8]
+abbrev pub reserved : Layout → ℕ → ℕ → ℕ
+reserved Memory size place = if place == 1 then 3 else if place == 2 then 192 else if place + 1 == size then 3 else 0
+reserved Config size place = if place == 1 then 3 else if place == 2 then 195 else if place == 10 then 240 else if place == 11 then 3 else 0
+reserved Message size place = if place == 1 then 3 else if place == 2 then 192 else 0
+reserved Completion size place = if place == 1 then 3 else if place == 2 then 192 else if place == 11 then 128 else 0
+
+-- Length[7:0] of a configuration request is 1
+abbrev pub has_length : Layout → ℕ → ℕ → Bool
+has_length Config place b = if place == 3 then b == 1 else true
+has_length _ place b = true
+
+abbrev pub allowed : Layout → ℕ → ℕ → ℕ → Bool
+allowed layout size place b = (bit_and (reserved layout size place) b == 0) && has_length layout place b
+
+-- ---- why the byte at a place ends the reading, the first cause
+
+-- behind byte 0 of a header: TD and EP come before Length
+abbrev pub cause_at : ℕ → ℕ → TlpFault
+cause_at place b = if place == 2 then (if nat_lt b 64 then Length 2 else Bit 2) else if place == 3 then Length 3 else Bit place
+
+abbrev pub fault_at : List ℕ → ℕ → TlpFault
+fault_at s place =
+    if place == length s then Short place
+    else if place == 0 then Kind 0
+    else if nat_lt place (head_size (slice_index s 0)) then cause_at place (slice_index s place)
+    else Trailing place

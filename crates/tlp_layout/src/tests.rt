@@ -1,0 +1,283 @@
+use super::*;
+use ide_types::Bytes;
+use std::alloc::{AllocError, Global};
+use std::process::Abort;
+use std::test::*;
+
+// The write of 11 22 33 44 at 1000_0000h by requester 0100h.
+const WRITE: [u8; 16] = [
+    0x40, 0, 0, 1, 1, 0, 0, 0x0f, 0x10, 0, 0, 0, 0x11, 0x22, 0x33, 0x44,
+];
+
+// Bits of the byte at a place which are 0 in a header (1 in a Length of 1), and the fault where
+// one is not.
+struct Rule(usize, u8, TlpFault);
+
+const LEAD: [Rule; 2] = [
+    Rule(1, 0x03, TlpFault::Bit(1)),
+    Rule(2, 0xc0, TlpFault::Bit(2)),
+];
+
+const MEMORY_3: [Rule; 3] = [
+    Rule(1, 0x03, TlpFault::Bit(1)),
+    Rule(2, 0xc0, TlpFault::Bit(2)),
+    Rule(11, 0x03, TlpFault::Bit(11)),
+];
+
+const MEMORY_4: [Rule; 3] = [
+    Rule(1, 0x03, TlpFault::Bit(1)),
+    Rule(2, 0xc0, TlpFault::Bit(2)),
+    Rule(15, 0x03, TlpFault::Bit(15)),
+];
+
+const CONFIG: [Rule; 6] = [
+    Rule(1, 0x03, TlpFault::Bit(1)),
+    Rule(2, 0xc0, TlpFault::Bit(2)),
+    Rule(2, 0x03, TlpFault::Length(2)),
+    Rule(3, 0xff, TlpFault::Length(3)),
+    Rule(10, 0xf0, TlpFault::Bit(10)),
+    Rule(11, 0x03, TlpFault::Bit(11)),
+];
+
+const COMPLETION: [Rule; 3] = [
+    Rule(1, 0x03, TlpFault::Bit(1)),
+    Rule(2, 0xc0, TlpFault::Bit(2)),
+    Rule(11, 0x80, TlpFault::Bit(11)),
+];
+
+fn wanted(rules: &[Rule], place: usize, bit: u8) -> Option<TlpFault> {
+    for rule in rules {
+        if rule.0 == place && rule.1 & bit != 0 {
+            return Some(rule.2);
+        }
+    }
+    None
+}
+
+ghost use Rattle.std.specs.Prelude.{◌<◌, length};
+
+fn flipped(alloc: Global, head: &[u8], place: usize, bit: u8) -> Result<Vec<u8>, AllocError>
+    requires { place < length head.now }
+{
+    let mut bytes = head.to_vec(alloc)?;
+    if place < bytes.len() {
+        bytes[place] ^= bit;
+    }
+    Ok(bytes)
+}
+
+// The header reads as of this kind; each front of it is short, a byte more trails, and each bit
+// behind byte 0 may be the other way but for those of the rules.
+fn check_head(
+    rt: &impl Abort,
+    alloc: Global,
+    head: &[u8],
+    kind: TlpKind,
+    rules: &[Rule],
+) -> Result<(), Fail> {
+    match read_head(head) {
+        Ok(view) => {
+            assert_eq!(rt; view.kind(), kind);
+            assert_eq!(rt; view.size(), head.len());
+        }
+        Err(_) => assert!(rt; false, "no header"),
+    }
+    for n in 0..head.len() {
+        assert_eq!(rt; read_head(&head[..n]).err(), Some(TlpFault::Short(n)));
+    }
+    let mut longer = head.to_vec(alloc)?;
+    longer.push(0)?;
+    assert_eq!(rt;
+        read_head(&longer).err(),
+        Some(TlpFault::Trailing(head.len()))
+    );
+    for place in 1..head.len() {
+        for bit in [1u8, 2, 4, 8, 16, 32, 64, 128] {
+            let bytes = flipped(alloc, head, place, bit)?;
+            assert_eq!(rt; read_head(&bytes).err(), wanted(rules, place, bit));
+        }
+    }
+    Ok(())
+}
+
+#[test]
+fn headers(rt: HostRuntime) -> Result<(), Fail> {
+    let a = rt.alloc();
+    let narrow = |first: u8| [first, 0, 0, 1, 1, 0, 5, 0x0f, 0x10, 0, 0, 0];
+    let wide = |first: u8| [first, 0, 0, 1, 1, 0, 5, 0x0f, 0, 0, 0, 1, 0x10, 0, 0, 0];
+    check_head(&rt, a, &narrow(0x00), TlpKind::MemRead, &MEMORY_3)?;
+    check_head(&rt, a, &narrow(0x40), TlpKind::MemWrite, &MEMORY_3)?;
+    check_head(&rt, a, &wide(0x20), TlpKind::MemRead, &MEMORY_4)?;
+    check_head(&rt, a, &wide(0x60), TlpKind::MemWrite, &MEMORY_4)?;
+    for first in [0x04u8, 0x05] {
+        check_head(&rt, a, &narrow(first), TlpKind::CfgRead, &CONFIG)?;
+        check_head(&rt, a, &narrow(0x40 + first), TlpKind::CfgWrite, &CONFIG)?;
+    }
+    for routing in 0..6u8 {
+        check_head(&rt, a, &wide(0x30 + routing), TlpKind::Message, &LEAD)?;
+        check_head(&rt, a, &wide(0x70 + routing), TlpKind::Message, &LEAD)?;
+    }
+    check_head(&rt, a, &narrow(0x0a), TlpKind::Completion, &COMPLETION)?;
+    check_head(&rt, a, &narrow(0x4a), TlpKind::Completion, &COMPLETION)?;
+    Ok(())
+}
+
+// Byte 0 of the 22 headers: memory, configuration, messages routed 0 to 5, completions.
+const FIRST: [u8; 22] = [
+    0x00, 0x20, 0x40, 0x60, 0x04, 0x05, 0x44, 0x45, 0x30, 0x31, 0x32, 0x33, 0x34, 0x35, 0x70, 0x71,
+    0x72, 0x73, 0x74, 0x75, 0x0a, 0x4a,
+];
+
+#[test]
+fn first_bytes(rt: HostRuntime) {
+    for first in 0..=255u8 {
+        let known = FIRST.iter().any(|b| *b == first);
+        let fault = if known {
+            TlpFault::Short(1)
+        } else {
+            TlpFault::Kind(0)
+        };
+        assert_eq!(rt; read_head(&[first]).err(), Some(fault));
+        assert_eq!(rt; read(&[first]).err(), Some(fault));
+    }
+    assert_eq!(rt; read(&[]).err(), Some(TlpFault::Short(0)));
+}
+
+#[test]
+fn fields(rt: HostRuntime) {
+    let completion = [0x4a, 0xdc, 0x24, 1, 2, 3, 0x9a, 0xbc, 1, 0, 7, 0x7f];
+    let read = HeadView {
+        lead: Lead {
+            wide: false,
+            tag_bits: 3,
+            tc: 5,
+            attr: 6,
+            at: 1,
+            length: 1,
+        },
+        has_payload: true,
+        fields: Fields::Completion(CompletionFields {
+            completer: 0x0203,
+            status: 4,
+            bcm: true,
+            count: 0xabc,
+            requester: 0x0100,
+            tag: 7,
+            lower: 0x7f,
+        }),
+    };
+    assert_eq!(rt; read_head(&completion).ok(), Some(read));
+    assert_eq!(rt; read.class(), SubKind::Cpl);
+    assert_eq!(rt; read.payload_size(), 4);
+    let config = [0x05, 0x80, 0, 1, 1, 0, 9, 0xa5, 2, 8, 0x0b, 0x14];
+    let lead = Lead {
+        wide: false,
+        tag_bits: 2,
+        tc: 0,
+        attr: 0,
+        at: 0,
+        length: 1,
+    };
+    let read = HeadView {
+        lead,
+        has_payload: false,
+        fields: Fields::Config(ConfigFields {
+            one: true,
+            requester: 0x0100,
+            tag: 9,
+            last_be: 10,
+            first_be: 5,
+            destination: 0x0208,
+            register: 0x2c5,
+        }),
+    };
+    assert_eq!(rt; read_head(&config).ok(), Some(read));
+    assert_eq!(rt; read.class(), SubKind::Npr);
+    assert_eq!(rt; read.payload_size(), 0);
+}
+
+#[test]
+fn payloads(rt: HostRuntime) {
+    let view = read(&WRITE);
+    assert!(rt;
+        matches!(
+            view,
+            Ok(TlpView::MemWrite {
+                requester: 0x0100,
+                first_be: 15,
+                address: 0x1000_0000,
+                payload: [0x11, 0x22, 0x33, 0x44],
+                ..
+            })
+        )
+    );
+    if let Ok(view) = view {
+        assert_eq!(rt; view.class(), SubKind::Pr);
+        assert_eq!(rt; view.kind(), TlpKind::MemWrite);
+        assert_eq!(rt; view.head().size(), 12);
+    }
+    assert_eq!(rt; read(&WRITE[..15]).err(), Some(TlpFault::Short(15)));
+    assert_eq!(rt; read_head(&WRITE).err(), Some(TlpFault::Trailing(12)));
+    let mut longer = [0; 17];
+    longer[0] = 0x4a;
+    longer[3] = 1;
+    assert_eq!(rt; read(&longer).err(), Some(TlpFault::Trailing(16)));
+    // Length 0 is 1,024 double words, and without a payload it means nothing.
+    assert_eq!(rt;
+        read(&[0x40, 0, 0, 0, 1, 0, 0, 0xff, 0x10, 0, 0, 0]).err(),
+        Some(TlpFault::Short(12))
+    );
+    assert!(rt; read(&[0x00, 0, 0, 0, 1, 0, 0, 0xff, 0x10, 0, 0, 0]).is_ok());
+    assert_eq!(rt; TlpFault::Trailing(16).place(), 16);
+}
+
+#[test]
+fn written(rt: HostRuntime) -> Result<(), Fail> {
+    let lead = Lead {
+        wide: false,
+        tag_bits: 0,
+        tc: 0,
+        attr: 0,
+        at: 0,
+        length: 1,
+    };
+    let tlp = Tlp::MemWrite {
+        lead,
+        requester: 0x0100,
+        tag: 0,
+        last_be: 0,
+        first_be: 15,
+        address: 0x1000_0000,
+        payload: Bytes::copied(rt.alloc(), &[0x11, 0x22, 0x33, 0x44])?,
+    };
+    assert_eq!(rt; tlp.class(), SubKind::Pr);
+    let mut out = Vec::new(rt.alloc());
+    write(&tlp, &mut out)?;
+    assert_eq!(rt; out.as_slice(), WRITE.as_slice());
+    // Behind it a configuration write with T9 and T8, of type 1.
+    let tlp = Tlp::CfgWrite {
+        lead: Lead {
+            wide: false,
+            tag_bits: 3,
+            tc: 5,
+            attr: 6,
+            at: 1,
+            length: 1,
+        },
+        one: true,
+        requester: 0x0203,
+        tag: 7,
+        last_be: 0,
+        first_be: 3,
+        destination: 0x0100,
+        register: 0x2c5,
+        payload: Bytes::copied(rt.alloc(), &[1, 2, 3, 4])?,
+    };
+    write(&tlp, &mut out)?;
+    let both = [
+        0x40, 0, 0, 1, 1, 0, 0, 0x0f, 0x10, 0, 0, 0, 0x11, 0x22, 0x33, 0x44, 0x45, 0xdc, 0x24, 1,
+        2, 3, 7, 3, 1, 0, 0x0b, 0x14, 1, 2, 3, 4,
+    ];
+    assert_eq!(rt; out.as_slice(), both.as_slice());
+    Ok(())
+}
