@@ -1,0 +1,5 @@
+pub mod Words
+pub mod Parse
+pub mod Spells
+pub mod Lines
+pub mod Apart
