@@ -1,0 +1,43 @@
+//! Bytes are cut at their line feeds.
+#![tactic(auto)]
+
+ghost use Rattle.std.specs.Prelude.{◌≡◌, ◌+◌, ◌==◌, ◌∷◌, [], MatchOption, IfSome, length, position};
+ghost use Rattle.text_lines.specs.Pieces.{pieces};
+
+// The place of the first line feed.
+fn line_end(bytes: &[u8]) -> Option<usize>
+    ensures { result ≡ position (λ b. b == 10) bytes.now }
+{
+    bytes.iter().position(|b| *b == b'\n')
+}
+
+/// The bytes ahead of the first line feed and those behind it; nothing where there is no line feed.
+#[tactic(auto, using(crate::proofs::Cuts::line_at, crate::proofs::Cuts::no_line, crate::proofs::Cuts::within))]
+pub fn split_line(bytes: &[u8]) -> Option<(&[u8], &[u8])>
+    ensures pieces { MatchOption result (pieces bytes.now ≡ bytes.now ∷ []) (λ p. pieces bytes.now ≡ p.0.now ∷ pieces p.1.now) }
+    ensures shorter { IfSome result (λ p. length p.0.now + 1 + length p.1.now ≡ length bytes.now) }
+{
+    match line_end(bytes) {
+        Some(end) => {
+            let (line, _) = bytes.split_at(end);
+            let (_, rest) = bytes.split_at(end + 1);
+            Some((line, rest))
+        }
+        None => None,
+    }
+}
+
+#[cfg(test)]
+mod tests {
+    use super::*;
+    use std::test::Fail;
+
+    #[test]
+    fn splits_at_the_first_line_feed(rt: HostRuntime) -> Result<(), Fail> {
+        let (line, rest) = split_line(b"ab\n\ncd").ok_or("no line")?;
+        assert_eq!(rt; line, b"ab".as_slice());
+        assert_eq!(rt; rest, b"\ncd".as_slice());
+        assert!(rt; split_line(b"cd").is_none());
+        Ok(())
+    }
+}
