@@ -1,0 +1,10 @@
+pub mod Below
+pub mod UnitLemmas
+pub mod Causes
+pub mod Received
+pub mod Keys
+pub mod Sealings
+pub mod Places
+pub mod Prefixes
+pub mod Orders
+pub mod Wholes

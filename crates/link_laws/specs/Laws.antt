@@ -1,0 +1,90 @@
+-- The laws of a history.
+use Rattle.std.specs.Prelude.{ℕ, ◌≡◌, ◌≢◌, ◌+◌, ◌≤◌, Bool, true, false, Some, Ok, List, [], ◌∷◌, ◌++◌, slice_get, take, map}
+use Rattle.starter.specs.declared.plan.Plan.{Plan}
+use Rattle.link_script.specs.declared.event.PortName.{PortName}
+use Rattle.link_script.specs.declared.event.Event.{Event}
+use Rattle.link_script.specs.declared.verdict.Verdict.{Verdict}
+use Rattle.link_script.specs.declared.verdict.Verdict.TheVariants.{Held, Accepted}
+use Rattle.ide_prefix.specs.Packet.{Packet, packet_bytes}
+use Rattle.ide_prefix.specs.Units.{authenticated, encrypted}
+use Rattle.link_laws.specs.Plan.{SubStream, received_direction}
+use Rattle.link_laws.specs.Units.{units}
+use Rattle.link_laws.specs.History.{History, Arrival, arrived, sent, got, pending, draws_got, on_draw, failed, meets_counts, received_in}
+use Rattle.link_laws.specs.Due.{Ending, due, before_tag, is_verified, ended, effect_of, unit_under}
+
+-- Each verdict is the one that is due after the pairs before it.
+abbrev pub CauseLaw : Plan → History → Type 0
+CauseLaw plan [] = Unit {0}
+CauseLaw plan ((event, verdict) ∷ h) = (verdict ≡ due plan h event) × CauseLaw plan h
+
+-- the tag of the last packet
+abbrev pub last_tag : List Packet → List ℕ
+last_tag [] = []
+last_tag (p ∷ []) = p.tag
+last_tag (p ∷ q ∷ ps) = last_tag (q ∷ ps)
+
+-- The unit of this number was sealed, and finished, with these authenticated bytes, this ciphertext and this tag.
+pub record WasSealed (plan : Plan) (h : History) (port : PortName) (x : Ending) : Type 0 where
+  pub unit : List Packet
+  pub place : ℕ
+  pub numbered : place + 1 ≡ x.unit.unit
+  pub finished : slice_get (units (sent plan h (received_in port x.unit) x.unit.draw)) place ≡ Some unit
+  pub same_authenticated : authenticated unit ≡ authenticated (ended plan h port x)
+  pub same_encrypted : encrypted unit ≡ encrypted (ended plan h port x)
+  pub same_tag : last_tag unit ≡ x.packet.tag
+
+-- A tag that verifies at this event was made by the partner.
+abbrev pub NotForged : Plan → History → Event → Type 0
+NotForged plan h e =
+    (a : Arrival) (x : Ending) → arrived plan h e ≡ Some a → before_tag plan h a ≡ Ok x
+    → is_verified plan h a.port x ≡ true → WasSealed plan h a.port x
+
+-- No tag verified on a unit that its partner had not sealed.
+abbrev pub NoForgery : Plan → History → Type 0
+NoForgery plan [] = Unit {0}
+NoForgery plan ((event, verdict) ∷ h) = NotForged plan h event × NoForgery plan h
+
+abbrev pub Begins : List Packet → List Packet → Type 0
+Begins xs ys = (rest : List Packet) × (xs ++ rest ≡ ys)
+
+-- no draw is smaller than an earlier one
+abbrev pub NeverFalls : List ℕ → Type 0
+NeverFalls [] = Unit {0}
+NeverFalls (j ∷ []) = Unit {0}
+NeverFalls (j ∷ i ∷ js) = (i ≤ j) × NeverFalls (i ∷ js)
+
+-- Key by key, each sub-stream got a prefix of what was sealed, and the draws of its accepted units never fall.
+pub record PrefixLaw (plan : Plan) (h : History) : Type 0 where
+  pub prefix : (s : SubStream) (j : ℕ) → Begins (got plan h s j) (sent plan h s j)
+  pub draws : (s : SubStream) → NeverFalls (draws_got h s)
+
+-- the draw is On at the port, in one of the two key sets
+abbrev pub IsOn : Plan → History → PortName → SubStream → ℕ → Type 0
+IsOn plan h port s j = (k : Bool) × (on_draw plan h port s k ≡ Some j)
+
+-- Packet m of what was sealed in a sub-stream under a draw arrives unchanged and in order, where its key is
+-- Live, nothing of another draw is held, the stream has not failed and the posted counts are met.
+pub record ArrivesInOrder (plan : Plan) (h : History) (e : Event) (s : SubStream) (j m : ℕ) (port : PortName) (p : Packet) : Type 0 where
+  pub receiver : (port.link ≡ s.link) × (received_direction port.side ≡ s.direction)
+  pub sealed : slice_get (sent plan h s j) m ≡ Some p
+  pub unchanged : arrived plan h e ≡ Some (record { port = port; bytes = packet_bytes p })
+  pub in_order : got plan h s j ++ pending plan h s j ≡ take m (sent plan h s j)
+  pub live : IsOn plan h port s j
+  pub alone : (i : ℕ) → IsOn plan h port s i → i ≢ j → pending plan h s i ≡ []
+  pub secure : failed plan h port s.stream ≡ false
+  pub counts : p.prefix.m ≡ true → meets_counts plan h s (pending plan h s j ++ p ∷ []) ≡ true
+
+-- it is held, or ends its unit and is accepted
+abbrev pub IsTaken : Plan → History → SubStream → ℕ → PortName → Packet → Verdict → Type 0
+IsTaken plan h s j port p verdict =
+    (p.prefix.m ≡ false → verdict ≡ Held port (unit_under h s j))
+    × (p.prefix.m ≡ true → verdict ≡ Accepted port (unit_under h s j) (map (effect_of port) (pending plan h s j ++ p ∷ [])))
+
+abbrev pub TakesWhole : Plan → History → Event → Verdict → Type 0
+TakesWhole plan h e verdict =
+    (s : SubStream) (j m : ℕ) (port : PortName) (p : Packet) → ArrivesInOrder plan h e s j m port p → IsTaken plan h s j port p verdict
+
+-- Everything that arrived unchanged in order was taken.
+abbrev pub WholeLaw : Plan → History → Type 0
+WholeLaw plan [] = Unit {0}
+WholeLaw plan ((event, verdict) ∷ h) = TakesWhole plan h event verdict × WholeLaw plan h

@@ -1,0 +1,6 @@
+//! Definitions over whole histories of a link's events and verdicts, and the laws that follow from them.
+#![tactic(auto)]
+
+mod laws;
+
+pub use laws::{prefix_law, whole_law};
