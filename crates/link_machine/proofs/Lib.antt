@@ -1,0 +1,12 @@
+pub mod Ports
+pub mod Keys
+pub mod Frames
+pub mod Counts
+pub mod Begins
+pub mod Refusals
+pub mod Posts
+pub mod Sends
+pub mod Numbers
+pub mod Takes
+pub mod Arrivals
+pub mod Steps
