@@ -1,0 +1,33 @@
+//! `ide`: the program over real files and standard output.
+#![tactic(auto)]
+
+use ide_base::{FileShelf, OutSink};
+use ide_cli::Status;
+use std::alloc::Global;
+use std::process::ExitCode;
+use std::{env, io};
+
+// The words of the command line; none where one of them is no text.
+fn words(rt: &HostRuntime, alloc: Global) -> Result<Vec<String>, Status> {
+    match env::args(rt) {
+        Err(_) => Ok(Vec::new(alloc)),
+        Ok(args) => args.collect(alloc).map_err(|_| Status::Memory),
+    }
+}
+
+fn perform(rt: &HostRuntime) -> Status {
+    let words = match words(rt, rt.alloc()) {
+        Ok(words) => words,
+        Err(status) => return status,
+    };
+    let mut shelf = match rt.clone() {
+        Ok(files) => FileShelf::new(rt.alloc(), files),
+        Err(_) => return Status::Memory,
+    };
+    let mut out = OutSink::new(io::writer(rt));
+    ide_cli::run(rt.alloc(), &words, &mut shelf, &mut out)
+}
+
+fn main(rt: HostRuntime) -> ExitCode {
+    ExitCode::from(perform(&rt) as u8)
+}

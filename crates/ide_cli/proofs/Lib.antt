@@ -1,0 +1,4 @@
+mod Plans
+pub mod Scripts
+pub mod Written
+mod Loads

@@ -1,0 +1,21 @@
+use Rattle.std.proofs.Common.{option_map, refl}
+use Rattle.line_runs.proofs.WholeFiles.{redue}
+use Rattle.ide_cli.specs.Script.{script_due}
+use Rattle.ide_cli.specs.Meaning.{run_due}
+use Rattle.ide_cli.proofs.Loads.{cut_by_load, gave_more, later, run_after}
+use Rattle.ide_cli.proofs.command.run_files.Goals as goal
+
+pub returns-in-Err-clause-answers : goal.returns-in-Err-clause-answers
+returns-in-Err-clause-answers g c =
+    cut_by_load (g.S.Shelf.contents c.args.shelf.now) (λ contents. run_due (contents c.args.topology.now) (contents c.args.script.now)) c.args.topology.now _ _ _ _ _ c.in-Err.e
+    (λ contents e. rw e refl) c.in-Err.ensures.cause
+
+pub returns-in-Ok-Sound-clause-answers : goal.returns-in-Ok-Sound-clause-answers
+returns-in-Ok-Sound-clause-answers g c =
+    let told = g.S.Shelf.contents c.args.shelf.now in
+    redue told (λ contents. option_map (script_due c.in-Ok-Sound.plan) (contents c.args.script.now)) (λ contents. run_due (contents c.args.topology.now) (contents c.args.script.now)) _ _ _ _ c.run_script.result
+    (run_after told c.args.topology.now c.args.script.now c.in-Ok-Sound.plan (rw c.in-Ok-Sound.field-0-is at c.in-Ok-Sound.ensures.loads))
+    (later told (g.S.Shelf.contents c.load.new.shelf) (λ contents. option_map (script_due c.in-Ok-Sound.plan) (contents c.args.script.now)) _ _ _ _ _ _ c.run_script.result c.in-Ok-Sound.ensures.same c.in-Ok-Sound.ensures.cause c.run_script.ensures.answers)
+
+pub returns-in-Ok-Sound-clause-too_long : goal.returns-in-Ok-Sound-clause-too_long
+returns-in-Ok-Sound-clause-too_long g c = gave_more c.run_script.result _ _ _ c.in-Ok-Sound.ensures.least c.run_script.ensures.too_long

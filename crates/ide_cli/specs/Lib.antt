@@ -1,0 +1,5 @@
+pub mod Script
+pub mod Works
+pub mod Meaning
+pub mod Headline
+pub mod Reads

@@ -1,0 +1,71 @@
+-- A script: the events of its lines, and how its reading ends.
+use Rattle.std.specs.Prelude.{ℕ, ◌+◌, ◌==◌, nat_lt, Bool, List, [], ◌∷◌, ◌++◌, length, Option, Some, None, Result, Ok, Err, if◌then◌else◌}
+use Rattle.text_lines.specs.Pieces.{pieces}
+use Rattle.starter.specs.declared.plan.Plan.{Plan}
+use Rattle.link_script.specs.declared.event.Event.{Event}
+use Rattle.link_script.specs.declared.fault.LineFault.{LineFault}
+use Rattle.link_script.specs.declared.fault.LineFault.TheVariants as line
+use Rattle.link_script.specs.Parse.{line_meaning}
+use Rattle.link_script.specs.Lines.{fault_line_of, totals_line_of}
+use Rattle.link_laws.specs.History.{History}
+use Rattle.link_laws.specs.Runs.{history_on, text_on, totals_of}
+use Rattle.line_runs.specs.declared.ends.End.{End}
+use Rattle.line_runs.specs.declared.ends.End.TheVariants as end
+use Rattle.line_runs.specs.Gain.{Text}
+use Rattle.line_runs.specs.Outcome.{Due}
+use Rattle.line_runs.specs.Lines.{is_over, cut_text}
+
+-- at the end of the file, at a line of this number that is not spelled, or at the limit
+pub data Stop : Type 0 where
+  AtEnd : Stop
+  Refused : ℕ → LineFault → Stop
+  AtLimit : Stop
+
+pub record Script : Type 0 where
+  pub events : List Event
+  pub stop : Stop
+
+abbrev pub stops : Stop → Script
+stops stop = record { events = []; stop = stop }
+
+-- a line of this number ahead of the others: no event, one, or the first that is not spelled
+abbrev pub with_line : ℕ → Result (Option Event) LineFault → Script → Script
+with_line n (Err fault) later = stops (Refused n fault)
+with_line n (Ok None) later = later
+with_line n (Ok (Some event)) later = record later { events = event ∷ later.events }
+
+-- a line that does not end ahead of the limit counts only where it is too long already
+abbrev pub unended_line : ℕ → Text → Script
+unended_line n piece = stops (if nat_lt 20000 (length piece) then Refused n line.TooLong else AtLimit)
+
+-- what stands between line feeds, numbered from n; the last piece is a line where it has bytes
+abbrev pub script_in : Bool → ℕ → List Text → Script
+script_in over n [] = stops AtEnd
+script_in over n (piece ∷ []) =
+    if over then unended_line n piece
+    else if length piece == 0 then stops AtEnd
+    else with_line n (line_meaning piece) (stops AtEnd)
+script_in over n (piece ∷ next ∷ rest) = with_line n (line_meaning piece) (script_in over (n + 1) (next ∷ rest))
+
+-- the script of a file
+abbrev pub script_of : Text → Script
+script_of file = script_in (is_over file) 1 (pieces (cut_text file))
+
+abbrev pub end_at : Stop → End
+end_at AtEnd = end.Done
+end_at (Refused n fault) = end.Script
+end_at AtLimit = end.TooLong
+
+-- the last line: the totals of the history, or the line that was refused
+abbrev pub last_line : Stop → History → Text
+last_line AtEnd h = totals_line_of (totals_of h)
+last_line (Refused n fault) h = fault_line_of n fault
+last_line AtLimit h = []
+
+-- after a history, the end and the text of a script: the verdict lines of its events, each verdict the one that is due, and the last line
+abbrev pub due_after : Plan → History → Script → Due
+due_after plan h script = (end_at script.stop, text_on plan h script.events ++ last_line script.stop (history_on plan h script.events))
+
+-- the end and the text of a script's file
+abbrev pub script_due : Plan → Text → Due
+script_due plan file = due_after plan [] (script_of file)

@@ -1,0 +1,14 @@
+//! The whole program over a shelf of files and a sink of text.
+#![tactic(auto)]
+
+mod command;
+mod packets;
+mod script;
+mod status;
+mod top;
+
+pub use status::Status;
+pub use top::run;
+
+#[cfg(test)]
+mod tests;

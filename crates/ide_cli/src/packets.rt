@@ -1,0 +1,52 @@
+//! The lines of a packet file, shown.
+
+ghost use Rattle.std.specs.Prelude.{◌≡◌};
+ghost use Rattle.ide_cli.specs.Works.{shown_line, no_text};
+
+use ide_types::{Bytes, Memory};
+use line_runs::LineWork;
+use link_script::LineError;
+use packet_lines::{parse_packet, show};
+use std::alloc::Global;
+use std::marker::Model;
+
+/// Nothing is kept from one packet to the next.
+#[derive(Drop)]
+pub(crate) struct PacketWork {
+    alloc: Global,
+}
+
+impl Model for PacketWork {
+    ghost Value = { Unit {0} };
+
+    ghost view = { λ w. tt };
+}
+
+impl PacketWork {
+    pub(crate) fn new(alloc: Global) -> PacketWork {
+        PacketWork { alloc }
+    }
+}
+
+impl LineWork for PacketWork {
+    ghost fits = { λ w n. Unit {0} };
+
+    ghost advance = { λ w n line. shown_line w n line };
+
+    ghost closing = { λ w. no_text w };
+
+    fn line(&mut self, number: u64, line: &[u8]) -> Result<Bytes, LineError> {
+        match parse_packet(self.alloc, line) {
+            Err(e) => Err(e),
+            Ok(None) => Ok(Bytes::new(Vec::new(self.alloc))),
+            Ok(Some(bytes)) => match show(self.alloc, number, bytes.as_slice()) {
+                Ok(text) => Ok(text),
+                Err(_) => Err(LineError::Memory),
+            },
+        }
+    }
+
+    fn closing(&self) -> Result<Bytes, Memory> {
+        Ok(Bytes::new(Vec::new(self.alloc)))
+    }
+}

@@ -1,0 +1,22 @@
+//! How the program ends.
+
+/// The exit status: 0 where the input was read to its end and every line was written, else why not.
+#[derive(Clone, Copy, Debug, PartialEq, Eq)]
+pub enum Status {
+    /// The input was read to its end, and every line was written.
+    Done = 0,
+    /// The words of the command line ask for nothing.
+    Usage = 2,
+    /// The topology is no plan.
+    Topology = 3,
+    /// A line is not spelled.
+    Script = 4,
+    /// A file could not be read.
+    ReadFault = 5,
+    /// Text could not be written.
+    WriteFault = 6,
+    /// There was no memory.
+    Memory = 7,
+    /// A file goes on behind its limit.
+    TooLong = 8,
+}

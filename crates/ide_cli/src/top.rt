@@ -1,0 +1,101 @@
+//! The whole program.
+
+ghost use Rattle.std.specs.Prelude.{◌≡◌, ◌+◌, ◌≤◌, IfOk, None, map, string_bytes};
+ghost use Rattle.ide_base.specs.Outside.{Rose};
+ghost use Rattle.ide_words.specs.Words.{asked};
+ghost use Rattle.link_laws.specs.Laws.{CauseLaw, NoForgery, PrefixLaw, WholeLaw};
+ghost use Rattle.line_runs.specs.Gain.{Gained};
+ghost use Rattle.line_runs.specs.Outcome.{Quiet, Ran, RanOn};
+ghost use Rattle.ide_cli.specs.Headline.{OfWritten, outcome_of};
+ghost use Rattle.ide_cli.specs.Meaning.{due_of, usage_line};
+ghost use Rattle.ide_cli.specs.Reads.{ReadPast, most_read};
+
+use crate::command::{run_files, show_packets};
+use crate::status::Status;
+use ide_base::{Shelf, Sink};
+use ide_words::{Request, WordsError, read_words};
+use line_runs::{End, Fault, finish};
+use link_laws::{prefix_law, whole_law};
+use std::alloc::Global;
+
+// Does what the words ask for.
+fn perform<S: Shelf, O: Sink>(
+    alloc: Global,
+    words: &[String],
+    shelf: &mut S,
+    out: &mut O,
+) -> Result<End, Fault>
+    ensures usage { IfOk result (λ e. e ≡ End.Usage → asked (map string_bytes words.now) ≡ None) }
+    ensures refused { asked (map string_bytes words.now) ≡ None → Ran (End.Usage, usage_line) ⊥ (Rose (O.faults out.old) (O.faults out.new))
+        (O.faults out.new ≡ O.faults out.old) (Gained (O.held out.old) (O.held out.new)) result }
+    ensures answers { RanOn (S.contents shelf.old) (due_of (map string_bytes words.now))
+        (Rose (S.faults shelf.old) (S.faults shelf.new)) (Rose (O.faults out.old) (O.faults out.new))
+        (Quiet (S.faults shelf.old) (S.faults shelf.new) (O.faults out.old) (O.faults out.new))
+        (Gained (O.held out.old) (O.held out.new)) result }
+    ensures cap { S.given shelf.new ≤ S.given shelf.old + most_read (asked (map string_bytes words.now)) }
+    ensures too_long { IfOk result (λ e. e ≡ End.TooLong → ReadPast (asked (map string_bytes words.now)) (S.given shelf.old) (S.given shelf.new)) }
+{
+    match read_words(alloc, words) {
+        Err(WordsError::Usage) => finish(
+            out,
+            End::Usage,
+            b"usage: run TOPOLOGY SCRIPT, check TOPOLOGY, show PACKETS, generate SEED COUNT\n",
+        ),
+        Err(WordsError::Memory) => Err(Fault::Memory),
+        Ok(Request::Run(topology, script)) => run_files(alloc, topology, script, shelf, out),
+        Ok(Request::Show(packets)) => show_packets(alloc, packets, shelf, out),
+    }
+}
+
+fn status_of(outcome: Result<End, Fault>) -> Status
+    ensures { outcome_of result ≡ outcome }
+{
+    match outcome {
+        Ok(End::Done) => Status::Done,
+        Ok(End::Usage) => Status::Usage,
+        Ok(End::Topology) => Status::Topology,
+        Ok(End::Script) => Status::Script,
+        Ok(End::TooLong) => Status::TooLong,
+        Err(Fault::Read) => Status::ReadFault,
+        Err(Fault::Write) => Status::WriteFault,
+        Err(Fault::Memory) => Status::Memory,
+    }
+}
+
+/// Does what the words of the command line ask for, of which the first is the program's name, over the files of
+/// a shelf, and writes its text to a sink. The words are the program's name and `run TOPOLOGY SCRIPT` or
+/// `show PACKETS`.
+///
+/// Where the shelf tells its contents, the text of a run is the verdict lines of the script's events, each verdict
+/// the one that is due after the events before it, and the laws hold of the history that is written.
+pub fn run<S: Shelf, O: Sink>(
+    alloc: Global,
+    words: &Vec<String>,
+    shelf: &mut S,
+    out: &mut O,
+) -> Status
+    // Words that ask for nothing are answered with the usage line, and only those.
+    ensures usage { result ≡ Status.Usage → asked (map string_bytes words.now.items) ≡ None }
+    ensures refused { asked (map string_bytes words.now.items) ≡ None → Ran (End.Usage, usage_line) ⊥ (Rose (O.faults out.old) (O.faults out.new))
+        (O.faults out.new ≡ O.faults out.old) (Gained (O.held out.old) (O.held out.new)) (outcome_of result) }
+
+    // Where the shelf tells its contents, the due status comes with all of the due text, and a fault or want of
+    // memory leaves a front of it. Each fault has its cause.
+    ensures answers { RanOn (S.contents shelf.old) (due_of (map string_bytes words.now.items))
+        (Rose (S.faults shelf.old) (S.faults shelf.new)) (Rose (O.faults out.old) (O.faults out.new))
+        (Quiet (S.faults shelf.old) (S.faults shelf.new) (O.faults out.old) (O.faults out.new))
+        (Gained (O.held out.old) (O.held out.new)) (outcome_of result) }
+
+    // Of each file that the words name, one byte more is read than count, and of no other any.
+    ensures cap { S.given shelf.new ≤ S.given shelf.old + most_read (asked (map string_bytes words.now.items)) }
+    ensures too_long { result ≡ Status.TooLong → ReadPast (asked (map string_bytes words.now.items)) (S.given shelf.old) (S.given shelf.new) }
+
+    // The laws hold of every history that is written.
+    ensures cause_law { OfWritten (S.contents shelf.old) (map string_bytes words.now.items) CauseLaw }
+    ensures prefix_law { OfWritten (S.contents shelf.old) (map string_bytes words.now.items) (λ plan h. NoForgery plan h → PrefixLaw plan h) }
+    ensures whole_law { OfWritten (S.contents shelf.old) (map string_bytes words.now.items) WholeLaw }
+{
+    prefix_law();
+    whole_law();
+    status_of(perform(alloc, words, shelf, out))
+}

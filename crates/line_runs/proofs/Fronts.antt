@@ -1,0 +1,70 @@
+-- A file that is read from its front.
+use Rattle.std.proofs.Common.{◌≡◌, ◌+◌, ◌<◌, ◌≤◌, ℕ, [], ◌∷◌, ◌++◌, Option, Some, None, Ok, refl, sym, ap, ◌∙◌, append_assoc, take, drop, length, arith, length-append}
+use Rattle.std.proofs.Math.Seq.{drop-append_seam, take-append_seam}
+use Rattle.std.proofs.lemmas.List.{take-append-drop, append-nil, take_all}
+use Rattle.ide_base.specs.Outside.{Contents, ReadAt, ReadOf, ReadFrom, counted}
+use Rattle.line_runs.specs.Gain.{Text, IsFront}
+use Rattle.line_runs.specs.Front.{FrontIn, FrontOf, IsReadIn, IsReadOf, IsWholeIn, IsWholeOf}
+
+empty : (xs : Text) → length xs ≡ 0 → xs ≡ []
+empty [] e = refl
+empty (x ∷ xs) e = absurd (omega arith)
+
+-- ---- one more piece
+
+more_of_file : (file read buf : Text) (n : ℕ) → 0 < length buf → ReadAt file (length read) n buf → IsFront read file
+    → IsFront (read ++ take n buf) file × (n ≡ 0 → (read ++ take n buf) ≡ file)
+more_of_file file read buf n room r (rest, e) =
+    let left : drop (length read) file ≡ rest = ap (drop (length read)) (sym e) ∙ drop-append_seam read rest in
+    let piece : take n buf ≡ take n rest = r.front ∙ ap (take n) left in
+    let goes : (read ++ take n buf) ++ drop n rest ≡ file = rw (piece, append_assoc, take-append-drop n rest) e in
+    ((drop n rest, goes), λ z. done rest e left piece z (r.end z room))
+  where
+    done : (rest : Text) → read ++ rest ≡ file → drop (length read) file ≡ rest → take n buf ≡ take n rest → n ≡ 0 → length file ≤ length read → (read ++ take n buf) ≡ file
+    done rest e left piece z short =
+        let none : rest ≡ [] = empty rest (omega (arith, length-append read rest, ap length e)) in
+        rw (z, append-nil read) (sym (append-nil read) ∙ ap (λ (t : Text). read ++ t) (sym none) ∙ e)
+
+more_in : (file : Option Text) (read buf : Text) (n : ℕ) → 0 < length buf → ReadOf file (length read) (Ok n) buf → IsReadIn file read → IsReadIn file (read ++ take n buf) × (n ≡ 0 → IsWholeIn file (read ++ take n buf))
+more_in None read buf n room h front = absurd h
+more_in (Some file) read buf n room h front = more_of_file file read buf n room h front
+
+pub reads_on : (told : Option Contents) (name read buf : Text) (n : ℕ) → 0 < length buf → ReadFrom told name (length read) (Ok n) buf → IsReadOf told name read
+    → IsReadOf told name (read ++ take n buf) × (n ≡ 0 → IsWholeOf told name (read ++ take n buf))
+reads_on None name read buf n room h front = (tt, λ z. tt)
+reads_on (Some contents) name read buf n room h front = more_in (contents name) read buf n room h front
+
+-- ---- the first and the last piece
+
+start_in : (file : Option Text) → IsReadIn file []
+start_in None = refl
+start_in (Some file) = (file, refl)
+
+pub start : (told : Option Contents) (name : Text) → IsReadOf told name []
+start None name = tt
+start (Some contents) name = start_in (contents name)
+
+whole_in : (file : Option Text) (read : Text) (most : ℕ) → IsWholeIn file read → length read ≤ most → FrontIn most file read
+whole_in None read most h le = absurd h
+whole_in (Some file) read most e le = e ∙ sym (take_all most file (rw e at le))
+
+pub whole : (told : Option Contents) (name read : Text) (most : ℕ) → IsWholeOf told name read → length read ≤ most → FrontOf told name most read
+whole None name read most h le = tt
+whole (Some contents) name read most h le = whole_in (contents name) read most h le
+
+-- where the file is not there, nothing was read: but then there was no read
+full_in : (file : Option Text) (read : Text) (most : ℕ) → IsReadIn file read → 0 < length read → length read ≡ most → FrontIn most file read
+full_in None read most e some long = absurd (omega (arith, ap length e))
+full_in (Some file) read most (rest, e) some long = sym (take-append_seam read rest) ∙ rw (long, e) refl
+
+pub full : (told : Option Contents) (name read : Text) (most : ℕ) → IsReadOf told name read → 0 < length read → length read ≡ most → FrontOf told name most read
+full None name read most h some long = tt
+full (Some contents) name read most h some long = full_in (contents name) read most h some long
+
+-- ---- counts
+
+pub counted-counted : (before m n : ℕ) → counted (counted before m) n ≡ counted before (m + n)
+counted-counted before m n = omega arith
+
+pub counted_within : (before n : ℕ) → counted before n ≤ before + n
+counted_within before n = omega arith

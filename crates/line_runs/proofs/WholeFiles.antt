@@ -1,0 +1,106 @@
+-- A file that was read, or could not be read, and a part that runs after it.
+use Rattle.std.proofs.Common.{◌≡◌, ◌+◌, ◌<◌, ◌≤◌, true, arith, ℕ, [], Option, Some, None, Result, Ok, Err, refl, sym, ap, inl, inr, option_map, take}
+use Rattle.std.specs.Prelude.{IfOk, nat_lt}
+use Rattle.std.proofs.lemmas.Bool.{ltb-true}
+use Rattle.std.proofs.lemmas.List.{append-nil}
+use Rattle.ide_base.specs.Outside.{Contents, Rose, counted}
+use Rattle.line_runs.specs.declared.ends.End.{End}
+use Rattle.line_runs.specs.declared.ends.End.TheVariants.{TooLong}
+use Rattle.line_runs.specs.declared.ends.Fault.{Fault}
+use Rattle.line_runs.specs.declared.ends.Fault.TheVariants as fault
+use Rattle.line_runs.specs.declared.front.Stop.{Stop}
+use Rattle.line_runs.specs.declared.front.Stop.TheVariants as stop
+use Rattle.line_runs.specs.Front.{FrontIn, FrontOf, StopCause}
+use Rattle.line_runs.specs.Gain.{Text, Gained}
+use Rattle.line_runs.specs.Outcome.{Due, Quiet, Ran, RanBlind, RanDue, RanOn}
+
+-- what is due where contents are told
+abbrev pub IsDue : Option Contents → (Contents → Option Due) → Due → Type 0
+IsDue None due last = Unit {0}
+IsDue (Some contents) due last = due contents ≡ Some last
+
+abbrev pub SameDue : Option Contents → (due other : Contents → Option Due) → Type 0
+SameDue None due other = Unit {0}
+SameDue (Some contents) due other = due contents ≡ other contents
+
+gained_nothing : (h : Option Text) → Gained h h []
+gained_nothing None = refl
+gained_nothing (Some held) = ap (λ (t : Text). Some t) (sym (append-nil held))
+
+some_none : {A : Type 0} {x : A} → Some x ≡ None → ⊥
+some_none e = cc
+
+abbrev pub fault_of : Stop → Fault
+fault_of stop.Fault = fault.Read
+fault_of stop.Memory = fault.Memory
+
+-- a file could not be read
+stopped_told : (contents : Contents) (due : Option Due) (name : Text) (s0 s1 : ℕ) (write quiet : Type 0) (h : Option Text) (e : Stop) → (contents name ≡ None → due ≡ None)
+    → StopCause s0 s1 (Some contents) name e → RanDue due (Rose s0 s1) write quiet (Gained h h) (Err (fault_of e))
+stopped_told contents None name s0 s1 write quiet h stop.Fault lacks c = gained_nothing h
+stopped_told contents None name s0 s1 write quiet h stop.Memory lacks c = gained_nothing h
+stopped_told contents (Some due) name s0 s1 write quiet h stop.Fault lacks c =
+    let rose : Rose s0 s1 = elim c.1 [ inl r ↦ r | inr none ↦ absurd (some_none (lacks none)) ] in
+    (rose, ([], (due.1, refl), inl refl, gained_nothing h))
+stopped_told contents (Some due) name s0 s1 write quiet h stop.Memory lacks c = ([], (due.1, refl), gained_nothing h)
+
+pub stopped : (told : Option Contents) (due : Contents → Option Due) (name : Text) (s0 s1 : ℕ) (write quiet : Type 0) (h : Option Text) (e : Stop)
+    → ((contents : Contents) → contents name ≡ None → due contents ≡ None) → StopCause s0 s1 told name e → RanOn told due (Rose s0 s1) write quiet (Gained h h) (Err (fault_of e))
+stopped None due name s0 s1 write quiet h stop.Fault lacks c = elim c.1 [ inl r ↦ r | inr none ↦ absurd none ]
+stopped None due name s0 s1 write quiet h stop.Memory lacks c = tt
+stopped (Some contents) due name s0 s1 write quiet h e lacks c = stopped_told contents (due contents) name s0 s1 write quiet h e (lacks contents) c
+
+-- a part that writes ran after the files were read
+ran_told : (due : Option Due) (last : Due) (s0 s1 o0 o1 : ℕ) (gained : Text → Type 0) (r : Result End Fault) → due ≡ Some last → s1 ≡ s0
+    → Ran last ⊥ (Rose o0 o1) (o1 ≡ o0) gained r → RanDue due (Rose s0 s1) (Rose o0 o1) (Quiet s0 s1 o0 o1) gained r
+ran_told due last s0 s1 o0 o1 gained (Ok e) is same h = rw is (h.0, h.1, (same, h.2))
+ran_told due last s0 s1 o0 o1 gained (Err fault.Read) is same h = absurd h.0
+ran_told due last s0 s1 o0 o1 gained (Err fault.Write) is same h = rw is h
+ran_told due last s0 s1 o0 o1 gained (Err fault.Memory) is same h = rw is h
+
+ran_blind : (last : Due) (s0 s1 o0 o1 : ℕ) (gained : Text → Type 0) (r : Result End Fault) → s1 ≡ s0
+    → Ran last ⊥ (Rose o0 o1) (o1 ≡ o0) gained r → RanBlind (Rose s0 s1) (Rose o0 o1) (Quiet s0 s1 o0 o1) r
+ran_blind last s0 s1 o0 o1 gained (Ok e) same h = (same, h.2)
+ran_blind last s0 s1 o0 o1 gained (Err fault.Read) same h = absurd h.0
+ran_blind last s0 s1 o0 o1 gained (Err fault.Write) same h = h.0
+ran_blind last s0 s1 o0 o1 gained (Err fault.Memory) same h = tt
+
+pub ran_after : (told : Option Contents) (due : Contents → Option Due) (last : Due) (s0 s1 o0 o1 : ℕ) (gained : Text → Type 0) (r : Result End Fault) → IsDue told due last → s1 ≡ s0
+    → Ran last ⊥ (Rose o0 o1) (o1 ≡ o0) gained r → RanOn told due (Rose s0 s1) (Rose o0 o1) (Quiet s0 s1 o0 o1) gained r
+ran_after None due last s0 s1 o0 o1 gained r is same h = ran_blind last s0 s1 o0 o1 gained r same h
+ran_after (Some contents) due last s0 s1 o0 o1 gained r is same h = ran_told (due contents) last s0 s1 o0 o1 gained r is same h
+
+-- the same is due
+pub redue : (told : Option Contents) (due other : Contents → Option Due) (read write quiet : Type 0) (gained : Text → Type 0) (r : Result End Fault) → SameDue told due other
+    → RanOn told due read write quiet gained r → RanOn told other read write quiet gained r
+redue None due other read write quiet gained r same h = h
+redue (Some contents) due other read write quiet gained r same h = rw (← same) h
+
+memory_told : (due : Option Due) (read write quiet : Type 0) (h : Option Text) → RanDue due read write quiet (Gained h h) (Err fault.Memory)
+memory_told None read write quiet h = gained_nothing h
+memory_told (Some due) read write quiet h = ([], (due.1, refl), gained_nothing h)
+
+-- want of memory before anything was written
+pub out_of_memory : (told : Option Contents) (due : Contents → Option Due) (read write quiet : Type 0) (h : Option Text) → RanOn told due read write quiet (Gained h h) (Err fault.Memory)
+out_of_memory None due read write quiet h = tt
+out_of_memory (Some contents) due read write quiet h = memory_told (due contents) read write quiet h
+
+-- ---- the front of a file
+
+due_in : (file : Option Text) (read : Text) (most : ℕ) (due : Text → Due) → FrontIn most file read → ((whole : Text) → read ≡ take most whole → due read ≡ due whole) → option_map due file ≡ Some (due read)
+due_in None read most due h same = absurd h
+due_in (Some whole) read most due e same = ap (λ (d : Due). Some d) (sym (same whole e))
+
+pub due_front : (told : Option Contents) (name read : Text) (most : ℕ) (due : Text → Due) → FrontOf told name most read → ((whole : Text) → read ≡ take most whole → due read ≡ due whole)
+    → IsDue told (λ contents. option_map due (contents name)) (due read)
+due_front None name read most due h same = tt
+due_front (Some contents) name read most due h same = due_in (contents name) read most due h same
+
+pub over_long : (r : Result End Fault) (limit n : ℕ) → IfOk r (λ e. e ≡ TooLong → nat_lt limit n ≡ true) → IfOk r (λ e. e ≡ TooLong → limit < n)
+over_long (Ok e) limit n h = λ is. ltb-true limit n (h is)
+over_long (Err f) limit n h = h
+
+-- where the program ends at the limit, so many bytes were given
+pub given_long : (r : Result End Fault) (limit n before now : ℕ) → IfOk r (λ e. e ≡ TooLong → limit < n) → counted before n ≤ now → n ≤ limit + 1 → IfOk r (λ e. e ≡ TooLong → counted before (limit + 1) ≤ now)
+given_long (Ok e) limit n before now h given le = λ is. let lt : limit < n = h is in let same : n ≡ limit + 1 = omega arith in rw same at given
+given_long (Err f) limit n before now h given le = h

@@ -1,0 +1,50 @@
+-- The front of a file.
+use Rattle.std.specs.Prelude.{ℕ, ◌≤◌, ◌≡◌, ◌⊎◌, [], take, Option, Some, None, Result, Ok, Err}
+use Rattle.ide_base.specs.Outside.{Contents, Rose, Lacks}
+use Rattle.line_runs.specs.declared.front.Stop.{Stop}
+use Rattle.line_runs.specs.declared.front.Stop.TheVariants as stop
+use Rattle.line_runs.specs.Gain.{Text, IsFront}
+
+-- so many bytes of the file, or all where it has no more
+abbrev pub FrontIn : ℕ → Option Text → Text → Type 0
+FrontIn most None read = ⊥
+FrontIn most (Some file) read = read ≡ take most file
+
+-- where the contents are told, it is the file of this name
+abbrev pub FrontOf : Option Contents → Text → ℕ → Text → Type 0
+FrontOf None name most read = Unit {0}
+FrontOf (Some contents) name most read = FrontIn most (contents name) read
+
+-- a fault was counted, or the told contents lack the name; want of memory counts nothing
+abbrev pub StopCause : ℕ → ℕ → Option Contents → Text → Stop → Type 0
+StopCause before now told name stop.Fault = (before ≤ now) × (Rose before now ⊎ Lacks told name)
+StopCause before now told name stop.Memory = now ≡ before
+
+abbrev pub ReadCause : {A : Type 0} → ℕ → ℕ → Option Contents → Text → Result A Stop → Type 0
+ReadCause before now told name (Ok x) = now ≡ before
+ReadCause before now told name (Err e) = StopCause before now told name e
+
+-- ---- piece by piece
+
+-- what was read is a front of the file
+abbrev pub IsReadIn : Option Text → Text → Type 0
+IsReadIn None read = read ≡ []
+IsReadIn (Some file) read = IsFront read file
+
+abbrev pub IsReadOf : Option Contents → Text → Text → Type 0
+IsReadOf None name read = Unit {0}
+IsReadOf (Some contents) name read = IsReadIn (contents name) read
+
+-- it is the whole file
+abbrev pub IsWholeIn : Option Text → Text → Type 0
+IsWholeIn None read = ⊥
+IsWholeIn (Some file) read = read ≡ file
+
+abbrev pub IsWholeOf : Option Contents → Text → Text → Type 0
+IsWholeOf None name read = Unit {0}
+IsWholeOf (Some contents) name read = IsWholeIn (contents name) read
+
+-- after one more piece it still is a front, and the whole file where the piece was empty
+abbrev pub ReadsOn : Option Contents → Text → Text → Result ℕ Stop → Type 0
+ReadsOn told name read (Ok n) = IsReadOf told name read × (n ≡ 0 → IsWholeOf told name read)
+ReadsOn told name read (Err e) = Unit {0}

@@ -1,0 +1,29 @@
+-- What a sink has gained.
+use Rattle.std.specs.Prelude.{ℕ, ◌≡◌, List, ◌++◌, Option, Result, Ok, Err, option_map}
+use Rattle.ide_base.specs.Outside.{SinkErrCause}
+use Rattle.ide_base.specs.declared.sink.SinkFault.{SinkFault}
+
+-- the bytes of a text
+abbrev pub Text : Type 0
+Text = List ℕ
+
+-- the sink holds this text more, where it tells what it holds
+abbrev pub Gained : Option Text → Option Text → Text → Type 0
+Gained before now text = now ≡ option_map (λ held. held ++ text) before
+
+-- a front of the text
+abbrev pub IsFront : Text → Text → Type 0
+IsFront front text = (rest : Text) × (front ++ rest ≡ text)
+
+-- the sink gained some front of the text
+abbrev pub GainedFront : Option Text → Option Text → Text → Type 0
+GainedFront before now text = (front : Text) × IsFront front text × Gained before now front
+
+-- all of a text was written, or a front of it
+abbrev pub WritesAll : Option Text → Option Text → Text → Result (Unit {0}) SinkFault → Type 0
+WritesAll before now text (Ok u) = Gained before now text
+WritesAll before now text (Err e) = GainedFront before now text
+
+abbrev pub WriteCause : ℕ → ℕ → Result (Unit {0}) SinkFault → Type 0
+WriteCause before now (Ok u) = now ≡ before
+WriteCause before now (Err e) = SinkErrCause before now e

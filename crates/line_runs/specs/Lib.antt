@@ -1,0 +1,4 @@
+pub mod Gain
+pub mod Front
+pub mod Outcome
+pub mod Lines

@@ -1,0 +1,74 @@
+-- What the end of a part promises, beside what the part should write.
+use Rattle.std.specs.Prelude.{ℕ, ◌≡◌, ◌⊎◌, Result, Ok, Err, [], ◌∷◌, ◌++◌, Option, Some, None}
+use Rattle.ide_base.specs.Outside.{Contents}
+use Rattle.line_runs.specs.declared.ends.End.{End}
+use Rattle.line_runs.specs.declared.ends.Fault.{Fault}
+use Rattle.line_runs.specs.declared.ends.Fault.TheVariants as fault
+use Rattle.line_runs.specs.Gain.{Text, IsFront}
+
+-- the end and the text that are due
+abbrev pub Due : Type 0
+Due = End × Text
+
+-- In what follows `read`, `write` and `quiet` say that a count of read faults rose, that one of write faults did,
+-- and that none did; `gained` says of a text that the sink has gained it.
+
+-- some front of the text was gained
+abbrev pub SomeFront : (Text → Type 0) → Text → Type 0
+SomeFront gained text = (front : Text) × IsFront front text × gained front
+
+-- nothing, or text whose last byte is a line feed
+abbrev pub IsWholeLines : Text → Type 0
+IsWholeLines text = (text ≡ []) ⊎ ((lines : Text) × (text ≡ lines ++ 10 ∷ []))
+
+-- some front of whole lines was gained
+abbrev pub SomeLines : (Text → Type 0) → Text → Type 0
+SomeLines gained text = (front : Text) × IsFront front text × IsWholeLines front × gained front
+
+-- cut off by a fault of reading or writing, or by want of memory
+abbrev pub CutOff : Text → (read write : Type 0) → (Text → Type 0) → Fault → Type 0
+CutOff text read write gained fault.Read = read × SomeLines gained text
+CutOff text read write gained fault.Write = write × SomeFront gained text
+CutOff text read write gained fault.Memory = SomeFront gained text
+
+-- the due end with all of the due text and no fault counted, or cut off
+abbrev pub Ran : Due → (read write quiet : Type 0) → (Text → Type 0) → Result End Fault → Type 0
+Ran due read write quiet gained (Ok e) = (e ≡ due.0) × gained due.1 × quiet
+Ran due read write quiet gained (Err e) = CutOff due.1 read write gained e
+
+-- a text was written, or cut off
+abbrev pub Wrote : Text → (write quiet : Type 0) → (Text → Type 0) → Result (Unit {0}) Fault → Type 0
+Wrote text write quiet gained (Ok u) = gained text × quiet
+Wrote text write quiet gained (Err e) = CutOff text ⊥ write gained e
+
+-- ---- where a shelf may tell its contents
+
+-- a file that is wanted is not there
+abbrev pub Unreadable : (Text → Type 0) → Result End Fault → Type 0
+Unreadable gained (Ok e) = ⊥
+Unreadable gained (Err fault.Read) = gained []
+Unreadable gained (Err fault.Write) = ⊥
+Unreadable gained (Err fault.Memory) = gained []
+
+abbrev pub RanDue : Option Due → (read write quiet : Type 0) → (Text → Type 0) → Result End Fault → Type 0
+RanDue None read write quiet gained r = Unreadable gained r
+RanDue (Some due) read write quiet gained r = Ran due read write quiet gained r
+
+abbrev pub CutCause : (read write : Type 0) → Fault → Type 0
+CutCause read write fault.Read = read
+CutCause read write fault.Write = write
+CutCause read write fault.Memory = Unit {0}
+
+-- where nothing is told, the causes alone
+abbrev pub RanBlind : (read write quiet : Type 0) → Result End Fault → Type 0
+RanBlind read write quiet (Ok e) = quiet
+RanBlind read write quiet (Err e) = CutCause read write e
+
+-- where the contents are told, by what they call for: an end and a text, or nothing where a file is not there
+abbrev pub RanOn : Option Contents → (Contents → Option Due) → (read write quiet : Type 0) → (Text → Type 0) → Result End Fault → Type 0
+RanOn None due read write quiet gained r = RanBlind read write quiet r
+RanOn (Some contents) due read write quiet gained r = RanDue (due contents) read write quiet gained r
+
+-- no count of faults rose
+abbrev pub Quiet : ℕ → ℕ → ℕ → ℕ → Type 0
+Quiet shelf_before shelf_now sink_before sink_now = (shelf_now ≡ shelf_before) × (sink_now ≡ sink_before)

@@ -1,0 +1,27 @@
+//! How a part of the program ends.
+
+/// How the program ends where nothing cuts it off.
+#[derive(Clone, Copy, Debug, PartialEq, Eq)]
+pub enum End {
+    /// All input was read, and all lines were written.
+    Done,
+    /// The words ask for nothing.
+    Usage,
+    /// The topology is no plan.
+    Topology,
+    /// A line is not spelled.
+    Script,
+    /// A file goes on behind its limit.
+    TooLong,
+}
+
+/// What cuts the program off.
+#[derive(Clone, Copy, Debug, PartialEq, Eq)]
+pub enum Fault {
+    /// A file could not be read.
+    Read,
+    /// Text could not be written.
+    Write,
+    /// Want of memory.
+    Memory,
+}

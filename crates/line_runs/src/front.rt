@@ -1,0 +1,74 @@
+//! The front of a file.
+ghost use Rattle.std.specs.Prelude.{◌≡◌, ◌≤◌, ◌<◌, ◌+◌, ◌^◌, length, IfOk, OnErr};
+ghost use Rattle.ide_base.specs.Outside.{counted};
+ghost use Rattle.line_runs.specs.Front.{FrontOf, IsReadOf, ReadCause, ReadsOn};
+
+use ide_base::Shelf;
+use std::alloc::Global;
+
+/// Why a file was not read.
+#[derive(Clone, Copy, Debug, PartialEq, Eq)]
+pub enum Stop {
+    /// The shelf answered a fault.
+    Fault,
+    /// Want of memory.
+    Memory,
+}
+
+// How much of a piece is read at once.
+const PIECE: usize = 4096;
+
+// Reads on behind what was read, at most a piece, and answers how many bytes; none at the end of the file.
+fn read_on<S: Shelf>(
+    shelf: &mut S,
+    name: &str,
+    bytes: &mut Vec<u8>,
+    piece: &mut [u8],
+) -> Result<usize, Stop>
+    requires { 0 < length piece.old }
+    ensures same { S.contents shelf.new ≡ S.contents shelf.old }
+    ensures kept { OnErr result (bytes.new.items ≡ bytes.old.items) }
+    ensures bound { IfOk result (λ n. n ≤ length piece.old) }
+    ensures more { IfOk result (λ n. length bytes.new.items ≡ length bytes.old.items + n) }
+    ensures bytes { IsReadOf (S.contents shelf.old) name.now bytes.old.items → ReadsOn (S.contents shelf.old) name.now bytes.new.items result }
+    ensures given { IfOk result (λ n. S.given shelf.new ≡ counted (S.given shelf.old) n) }
+    ensures cap { S.given shelf.new ≤ S.given shelf.old + length piece.old }
+    ensures cause { ReadCause (S.faults shelf.old) (S.faults shelf.new) (S.contents shelf.old) name.now result }
+{
+    match shelf.read(name, bytes.len() as u64, piece) {
+        Err(_) => Err(Stop::Fault),
+        Ok(n) => match bytes.extend_from_slice(&piece[..n]) {
+            Ok(()) => Ok(n),
+            Err(_) => Err(Stop::Memory),
+        },
+    }
+}
+
+/// The first bytes of a file, at most `most` of them, and all where it has no more. No byte behind them is asked
+/// for.
+pub fn read_front<S: Shelf>(
+    alloc: Global,
+    shelf: &mut S,
+    name: &str,
+    most: usize,
+) -> Result<Vec<u8>, Stop>
+    requires some { 0 < most }
+    requires size { most < 2 ^ 32 }
+    ensures same { S.contents shelf.new ≡ S.contents shelf.old }
+    ensures bytes { IfOk result (λ v. FrontOf (S.contents shelf.old) name.now most v.items) }
+    ensures length { IfOk result (λ v. length v.items ≤ most) }
+    ensures given { IfOk result (λ v. counted (S.given shelf.old) (length v.items) ≤ S.given shelf.new) }
+    ensures cap { S.given shelf.new ≤ S.given shelf.old + most }
+    ensures cause { ReadCause (S.faults shelf.old) (S.faults shelf.new) (S.contents shelf.old) name.now result }
+{
+    let mut buf = [0u8; PIECE];
+    let mut bytes = Vec::new(alloc);
+    while bytes.len() < most {
+        let room = (most - bytes.len()).min(PIECE);
+        let n = read_on(shelf, name, &mut bytes, &mut buf[..room])?;
+        if n == 0 {
+            return Ok(bytes);
+        }
+    }
+    Ok(bytes)
+}

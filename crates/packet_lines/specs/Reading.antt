@@ -1,0 +1,20 @@
+-- The bytes that a line of a packet file spells.
+use Rattle.std.specs.Prelude.{nat_lt, List, [], ◌∷◌, length, not, Option, Some, None, Result, Ok, Err, if◌then◌else◌}
+use Rattle.std.specs.List.{list_all}
+use Rattle.std.specs.Option.{ok_or, option_map}
+use Rattle.link_script.specs.declared.fault.LineFault.{LineFault}
+use Rattle.link_script.specs.declared.fault.LineFault.TheVariants.{Hex, TooLong, NotAscii}
+use Rattle.link_script.specs.Words.{Text, is_printable, words_in, bytes_in}
+
+-- one word of bytes; no words are no bytes to be shown
+abbrev pub bytes_of : List Text → Result (Option Text) LineFault
+bytes_of [] = Ok None
+bytes_of (word ∷ []) = ok_or (option_map (λ bytes. Some bytes) (bytes_in word)) Hex
+bytes_of (word ∷ other ∷ rest) = Err Hex
+
+-- the bytes, none on a line of spaces, or the first fault
+abbrev pub packet_meaning : Text → Result (Option Text) LineFault
+packet_meaning line =
+    if nat_lt 20000 (length line) then Err TooLong
+    else if not (list_all is_printable line) then Err NotAscii
+    else bytes_of (words_in line)

@@ -1,0 +1,13 @@
+//! Lines of packet files: each spells bytes, of which a line is written that shows the packet or the plain TLP
+//! (this profile).
+#![tactic(auto)]
+
+mod names;
+mod reading;
+mod showing;
+
+pub use reading::parse_packet;
+pub use showing::show;
+
+#[cfg(test)]
+mod tests;

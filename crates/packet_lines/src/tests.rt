@@ -1,0 +1,72 @@
+//! Lines of packet files and what is written for them.
+use crate::{parse_packet, show};
+use ide_types::Bytes;
+use link_script::{LineError, LineFault};
+use std::alloc::Global;
+use std::test::Fail;
+
+// The line that shows the bytes of a line, which is number 7.
+fn shown(alloc: Global, line: &str) -> Result<Bytes, Fail> {
+    match parse_packet(alloc, line.as_bytes()) {
+        Ok(Some(bytes)) => match show(alloc, 7, bytes.as_slice()) {
+            Ok(text) => Ok(text),
+            Err(_) => Err(Fail::from("memory")),
+        },
+        _ => Err(Fail::from("no bytes")),
+    }
+}
+
+#[test]
+fn shows_packets_and_plain_tlps(rt: HostRuntime) -> Result<(), Fail> {
+    let cases = [
+        (
+            "400000010100000f1000000011223344",
+            "7 plain memwrite head 12 body 4\n",
+        ),
+        (
+            "92800500400000010100000f1000000011223344000000000000000000000000",
+            "7 ide m1 k0 t0 pr 5 p0 memwrite head 12 body 4\n",
+        ),
+        (
+            "928105ff340000000000000000000000000000000000000000000000",
+            "7 ide m1 k0 t0 npr 5 p255 sync head 12 body 0\n",
+        ),
+        ("45000002", "7 plain length 3\n"),
+        ("ff", "7 plain kind 0\n"),
+        (
+            "  000000010100010F10000000 ",
+            "7 plain memread head 12 body 0\n",
+        ),
+        ("-", "7 plain short 0\n"),
+        ("92", "7 ide short 1\n"),
+        ("9288", "7 ide reserved 1\n"),
+        ("9283", "7 ide substream 1\n"),
+        ("92800501", "7 ide reserved 3\n"),
+        ("9280050000", "7 ide class 4\n"),
+        ("92800500ff", "7 ide kind 4\n"),
+    ];
+    for (line, want) in cases {
+        let text = shown(rt.alloc(), line)?;
+        assert_eq!(rt; text.as_slice(), want.as_bytes(), "at {line}");
+    }
+    Ok(())
+}
+
+#[test]
+fn refuses_other_lines(rt: HostRuntime) -> Result<(), Fail> {
+    assert!(rt; matches!(parse_packet(rt.alloc(), b"   "), Ok(None)));
+    assert!(rt; matches!(parse_packet(rt.alloc(), b""), Ok(None)));
+    for line in ["# 92", "92 80", "928", "9g", "--"] {
+        let found = parse_packet(rt.alloc(), line.as_bytes());
+        assert!(rt;
+            matches!(found, Err(LineError::Fault(LineFault::Hex))),
+            "at {line}"
+        );
+    }
+    let found = parse_packet(rt.alloc(), b"92\t");
+    assert!(rt; matches!(found, Err(LineError::Fault(LineFault::NotAscii))));
+    let long = vec![in rt.alloc(); b' '; 20_001]?;
+    let found = parse_packet(rt.alloc(), &long);
+    assert!(rt; matches!(found, Err(LineError::Fault(LineFault::TooLong))));
+    Ok(())
+}
