@@ -4,14 +4,16 @@
 use ide_base::{FileShelf, OutSink};
 use ide_cli::Status;
 use std::alloc::Global;
+use std::io::ErrorKind;
 use std::process::ExitCode;
 use std::{env, io};
 
 // The words of the command line; none where one of them is no text.
 fn words(rt: &HostRuntime, alloc: Global) -> Result<Vec<String>, Status> {
     match env::args(rt) {
-        Err(_) => Ok(Vec::new(alloc)),
         Ok(args) => args.collect(alloc).map_err(|_| Status::Memory),
+        Err(e) if matches!(e.kind(), ErrorKind::OutOfMemory) => Err(Status::Memory),
+        Err(_) => Ok(Vec::new(alloc)),
     }
 }
 

@@ -1,4 +1,3 @@
-mod Plans
 pub mod Scripts
 pub mod Written
 mod Loads

@@ -20,7 +20,7 @@ use Rattle.line_runs.specs.Gain.{Text}
 use Rattle.line_runs.specs.Outcome.{Due}
 use Rattle.text_lines.specs.Pieces.{pieces}
 use Rattle.line_runs.specs.Lines.{after, cut_text, file_due, go_on, is_over, process, unended}
-use Rattle.ide_cli.proofs.Plans.{kept_plan}
+use Rattle.link_machine.proofs.Kept.{kept_plan}
 use Rattle.ide_cli.specs.Script.{Script, AtEnd, stops, with_line, unended_line, script_in, end_at, last_line, due_after, script_due}
 use Rattle.ide_cli.specs.Works.{Running, totals_with, ran_event, by_meaning, ran_line}
 

@@ -3,7 +3,7 @@
 ghost use Rattle.std.specs.Prelude.{◌≡◌, ◌+◌, ◌≤◌, IfOk, None, map, string_bytes};
 ghost use Rattle.ide_base.specs.Outside.{Rose};
 ghost use Rattle.ide_words.specs.Words.{asked};
-ghost use Rattle.link_laws.specs.Laws.{CauseLaw, NoForgery, PrefixLaw, WholeLaw};
+ghost use Rattle.link_laws.specs.Laws.{CauseLaw, DrawsNeverFall, NoForgery, PrefixLaw, WholeLaw};
 ghost use Rattle.line_runs.specs.Gain.{Gained};
 ghost use Rattle.line_runs.specs.Outcome.{Quiet, Ran, RanOn};
 ghost use Rattle.ide_cli.specs.Headline.{OfWritten, outcome_of};
@@ -15,7 +15,7 @@ use crate::status::Status;
 use ide_base::{Shelf, Sink};
 use ide_words::{Request, WordsError, read_words};
 use line_runs::{End, Fault, finish};
-use link_laws::{prefix_law, whole_law};
+use link_laws::{draws_never_fall, prefix_law, whole_law};
 use std::alloc::Global;
 
 // Does what the words ask for.
@@ -93,9 +93,11 @@ pub fn run<S: Shelf, O: Sink>(
     // The laws hold of every history that is written.
     ensures cause_law { OfWritten (S.contents shelf.old) (map string_bytes words.now.items) CauseLaw }
     ensures prefix_law { OfWritten (S.contents shelf.old) (map string_bytes words.now.items) (λ plan h. NoForgery plan h → PrefixLaw plan h) }
+    ensures draws_never_fall { OfWritten (S.contents shelf.old) (map string_bytes words.now.items) (λ plan h. DrawsNeverFall h) }
     ensures whole_law { OfWritten (S.contents shelf.old) (map string_bytes words.now.items) WholeLaw }
 {
     prefix_law();
+    draws_never_fall();
     whole_law();
     status_of(perform(alloc, words, shelf, out))
 }

@@ -53,10 +53,14 @@ NeverFalls [] = Unit {0}
 NeverFalls (j ∷ []) = Unit {0}
 NeverFalls (j ∷ i ∷ js) = (i ≤ j) × NeverFalls (i ∷ js)
 
+-- The draws of successive accepted units of a sub-stream never fall.
+abbrev pub DrawsNeverFall : History → Type 0
+DrawsNeverFall h = (s : SubStream) → NeverFalls (draws_got h s)
+
 -- Key by key, each sub-stream got a prefix of what was sealed, and the draws of its accepted units never fall.
 pub record PrefixLaw (plan : Plan) (h : History) : Type 0 where
   pub prefix : (s : SubStream) (j : ℕ) → Begins (got plan h s j) (sent plan h s j)
-  pub draws : (s : SubStream) → NeverFalls (draws_got h s)
+  pub draws : DrawsNeverFall h
 
 -- the draw is On at the port, in one of the two key sets
 abbrev pub IsOn : Plan → History → PortName → SubStream → ℕ → Type 0

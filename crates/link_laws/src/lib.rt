@@ -3,4 +3,4 @@
 
 mod laws;
 
-pub use laws::{prefix_law, whole_law};
+pub use laws::{draws_never_fall, prefix_law, whole_law};

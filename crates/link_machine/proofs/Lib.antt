@@ -10,3 +10,4 @@ pub mod Numbers
 pub mod Takes
 pub mod Arrivals
 pub mod Steps
+pub mod Kept

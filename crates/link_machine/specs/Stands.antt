@@ -1,5 +1,5 @@
 -- The state stands for a history: each part that is kept is what the history says.
-use Rattle.std.specs.Prelude.{ℕ, ◌≡◌, false, [], ◌∷◌, length, map, Some}
+use Rattle.std.specs.Prelude.{◌+◌, ℕ, ◌≡◌, false, [], ◌∷◌, length, map, Some}
 use Rattle.ide_types.specs.declared.sub.SubKind.{SubKind}
 use Rattle.ide_types.specs.declared.sub.SubKind.TheVariants.{Pr, Npr, Cpl}
 use Rattle.starter.specs.declared.plan.Plan.{Plan}
@@ -56,6 +56,10 @@ pub record StandsFor (st : LinkState) (h : History) : Type 0 where
 -- The first state stands for the empty history.
 abbrev pub FirstStands : Type 0
 FirstStands = (plan : Plan) → StandsFor (first_state plan) []
+
+-- A step keeps the plan, and is counted.
+abbrev pub StepKeeps : Type 0
+StepKeeps = (st : LinkState) (e : Event) → ((step_of st e).1.plan ≡ st.plan) × ((step_of st e).1.steps ≡ st.steps + 1)
 
 -- A step gives the verdict that is due, and its state stands for the history with it.
 abbrev pub StepStands : Type 0

@@ -5,4 +5,4 @@ mod packet;
 mod stands;
 
 pub use packet::LinkPacket;
-pub use stands::{first_stands, step_stands};
+pub use stands::{first_stands, step_keeps, step_stands};

@@ -25,7 +25,7 @@ use link_script::{Effect, Event, PortName, Side, UnitName, Verdict};
 use starter::Plan;
 use std::alloc::Global;
 use std::marker::Model;
-use sub_stream::{Rx, Taken, Tx, TxRefusal};
+use sub_stream::{BUFFER_ROOM, PACKET_ROOM, Rx, Taken, Tx, TxRefusal};
 use tlp_layout::{TlpView, read};
 
 /// The id of the link's only stream.
@@ -33,12 +33,6 @@ const STREAM: u8 = 5;
 
 /// How many units one key may seal.
 const UNITS_PER_KEY: u64 = 4_294_967_296;
-
-/// The most bytes that a sealed packet has: prefix, header, payload and tag.
-const PACKET_ROOM: usize = 4_128;
-
-/// The most bytes that a receiver keeps of a unit.
-const UNIT_ROOM: usize = 4_200;
 
 /// Both ports of a link with one selective stream, of which what the device posts is keyed from the start.
 #[derive(Drop)]
@@ -85,7 +79,7 @@ impl World {
     {
         first_stands();
         let mut sender = Tx::make(STREAM, SubKind::Pr, UNITS_PER_KEY);
-        let mut receiver = Rx::make(STREAM, SubKind::Pr, Vec::with_capacity(alloc, UNIT_ROOM)?);
+        let mut receiver = Rx::make(STREAM, SubKind::Pr, Vec::with_capacity(alloc, BUFFER_ROOM)?);
         let key = &plan.keys.as_slice()[3];
         sender.program(key, 0);
         receiver.program(key, 0);

@@ -1,6 +1,6 @@
 use Rattle.std.proofs.Common.{◌≡◌, ◌+◌, ap, sym, subst, arith, ◌∙◌}
 use Rattle.ide_cli.specs.Works.{Running, IsEarly}
-use Rattle.ide_cli.proofs.Plans.{counted_step}
+use Rattle.link_machine.proofs.Kept.{counted_step}
 use Rattle.ide_cli.proofs.script.ScriptWork.run_event.Goals as goal
 
 pub returns-in-Ok-line-clause-early : goal.returns-in-Ok-line-clause-early
