@@ -48,11 +48,11 @@ fn with_script(alloc: Global, script: &str) -> Result<Vec<NamedFile>, Fail> {
     Ok(files)
 }
 
-// Runs a script on true outsides.
-fn ran(alloc: Global, script: &str) -> Result<(Status, TrueSink), Fail> {
+// Runs a script over a shelf and a sink in memory.
+fn ran(alloc: Global, script: &str) -> Result<(Status, MemSink), Fail> {
     let words = run_words(alloc)?;
-    let mut shelf = TrueShelf::new(with_script(alloc, script)?);
-    let mut out = TrueSink::new(alloc);
+    let mut shelf = MemShelf::new(with_script(alloc, script)?, Vec::new(alloc));
+    let mut out = MemSink::new(alloc, Vec::new(alloc));
     let status = run(alloc, &words, &mut shelf, &mut out);
     Ok((status, out))
 }
@@ -122,15 +122,18 @@ fn refuses_lines_and_topologies(rt: HostRuntime) -> Result<(), Fail> {
     assert_eq!(rt; status, Status::Script);
     assert_eq!(rt; out.bytes(), b"1 none\nrefused 2 word\n".as_slice());
     let words = words_of(rt.alloc(), &["run", "script", "keys"])?;
-    let mut shelf = TrueShelf::new(with_script(rt.alloc(), "version = 1\n")?);
-    let mut out = TrueSink::new(rt.alloc());
+    let mut shelf = MemShelf::new(
+        with_script(rt.alloc(), "version = 1\n")?,
+        Vec::new(rt.alloc()),
+    );
+    let mut out = MemSink::new(rt.alloc(), Vec::new(rt.alloc()));
     assert_eq!(rt;
         run(rt.alloc(), &words, &mut shelf, &mut out),
         Status::Topology
     );
     assert_eq!(rt; out.bytes(), b"topology nottoml\n".as_slice());
     let words = words_of(rt.alloc(), &["jump"])?;
-    let mut out = TrueSink::new(rt.alloc());
+    let mut out = MemSink::new(rt.alloc(), Vec::new(rt.alloc()));
     assert_eq!(rt;
         run(rt.alloc(), &words, &mut shelf, &mut out),
         Status::Usage
@@ -167,21 +170,24 @@ fn reports_faults(rt: HostRuntime) -> Result<(), Fail> {
     for failing in [0, 2, 3] {
         let failing = Vec::from_slice(rt.alloc(), &[failing])?;
         let mut shelf = MemShelf::new(with_script(rt.alloc(), SEND)?, failing);
-        let mut out = TrueSink::new(rt.alloc());
+        let mut out = MemSink::new(rt.alloc(), Vec::new(rt.alloc()));
         assert_eq!(rt;
             run(rt.alloc(), &words, &mut shelf, &mut out),
             Status::ReadFault
         );
         assert_eq!(rt; out.bytes(), b"".as_slice());
     }
-    let mut shelf = TrueShelf::new(keys(rt.alloc())?);
-    let mut out = TrueSink::new(rt.alloc());
+    let mut shelf = MemShelf::new(keys(rt.alloc())?, Vec::new(rt.alloc()));
+    let mut out = MemSink::new(rt.alloc(), Vec::new(rt.alloc()));
     assert_eq!(rt;
         run(rt.alloc(), &words, &mut shelf, &mut out),
         Status::ReadFault
     );
     assert_eq!(rt; out.bytes(), b"".as_slice());
-    let mut shelf = TrueShelf::new(with_script(rt.alloc(), "dump 1\ndump 2\n")?);
+    let mut shelf = MemShelf::new(
+        with_script(rt.alloc(), "dump 1\ndump 2\n")?,
+        Vec::new(rt.alloc()),
+    );
     let mut out = MemSink::new(rt.alloc(), Vec::from_slice(rt.alloc(), &[1])?);
     assert_eq!(rt;
         run(rt.alloc(), &words, &mut shelf, &mut out),
@@ -204,13 +210,13 @@ fn ends_at_the_limits(rt: HostRuntime) -> Result<(), Fail> {
     }
     let mut files = keys(alloc)?;
     add(alloc, &mut files, "script", bytes)?;
-    let mut shelf = TrueShelf::new(files);
-    let mut out = TrueSink::new(alloc);
+    let mut shelf = MemShelf::new(files, Vec::new(alloc));
+    let mut out = MemSink::new(alloc, Vec::new(alloc));
     assert_eq!(rt; run(alloc, &words, &mut shelf, &mut out), Status::TooLong);
     assert_eq!(rt; out.bytes(), b"".as_slice());
     let mut files = Vec::new(alloc);
     add(alloc, &mut files, "keys", vec![in alloc; b'0'; 1_048_577]?)?;
-    let mut shelf = TrueShelf::new(files);
+    let mut shelf = MemShelf::new(files, Vec::new(alloc));
     assert_eq!(rt; run(alloc, &words, &mut shelf, &mut out), Status::TooLong);
     assert_eq!(rt; out.bytes(), b"".as_slice());
     Ok(())
