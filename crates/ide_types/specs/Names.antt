@@ -1,0 +1,40 @@
+-- The words that name ports, sub-streams, failures and states in lines of text.
+use Rattle.std.specs.Prelude.{ℕ, List, ◌++◌, codes}
+use Rattle.std.specs.Fmt.{decimal}
+use Rattle.ide_types.specs.declared.sub.SubKind.{SubKind}
+use Rattle.ide_types.specs.declared.sub.SubKind.TheVariants.{Pr, Npr, Cpl}
+use Rattle.ide_types.specs.declared.sub.FailCause.{FailCause}
+use Rattle.ide_types.specs.declared.sub.FailCause.TheVariants as fail
+use Rattle.ide_types.specs.declared.port.Side.{Side}
+use Rattle.ide_types.specs.declared.port.Side.TheVariants.{Host, Device}
+use Rattle.ide_types.specs.declared.port.PortName.{PortName}
+use Rattle.ide_types.specs.declared.status.StreamStatus.{StreamStatus}
+use Rattle.ide_types.specs.declared.status.StreamStatus.TheVariants as status
+
+-- the bytes of a text
+abbrev pub Text : Type 0
+Text = List ℕ
+
+abbrev pub side_word : Side → Text
+side_word Host = codes "h"
+side_word Device = codes "d"
+
+abbrev pub port_word : PortName → Text
+port_word p = side_word p.side ++ decimal p.link
+
+abbrev pub sub_word : SubKind → Text
+sub_word Pr = codes "pr"
+sub_word Npr = codes "npr"
+sub_word Cpl = codes "cpl"
+
+abbrev pub fail_word : FailCause → Text
+fail_word fail.Key = codes "key"
+fail_word fail.Unit = codes "unit"
+fail_word fail.Tag = codes "tag"
+fail_word fail.Order = codes "order"
+
+abbrev pub status_word : StreamStatus → Text
+status_word status.Idle = codes "idle"
+status_word status.Partial = codes "partial"
+status_word status.Secure = codes "secure"
+status_word status.Insecure = codes "insecure"
