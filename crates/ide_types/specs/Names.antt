@@ -1,10 +1,12 @@
--- The words that name ports, sub-streams, failures and states in lines of text.
+-- The words that name ports, sub-streams, failures, states and faults in lines of text.
 use Rattle.std.specs.Prelude.{ℕ, List, ◌++◌, codes}
 use Rattle.std.specs.Fmt.{decimal}
 use Rattle.ide_types.specs.declared.sub.SubKind.{SubKind}
 use Rattle.ide_types.specs.declared.sub.SubKind.TheVariants.{Pr, Npr, Cpl}
 use Rattle.ide_types.specs.declared.sub.FailCause.{FailCause}
 use Rattle.ide_types.specs.declared.sub.FailCause.TheVariants as fail
+use Rattle.ide_types.specs.declared.fault_word.FaultWord.{FaultWord}
+use Rattle.ide_types.specs.declared.fault_word.FaultWord.TheVariants as fault
 use Rattle.ide_types.specs.declared.port.Side.{Side}
 use Rattle.ide_types.specs.declared.port.Side.TheVariants.{Host, Device}
 use Rattle.ide_types.specs.declared.port.PortName.{PortName}
@@ -38,3 +40,14 @@ status_word status.Idle = codes "idle"
 status_word status.Partial = codes "partial"
 status_word status.Secure = codes "secure"
 status_word status.Insecure = codes "insecure"
+
+abbrev pub fault_word : FaultWord → Text
+fault_word fault.Short = codes "short"
+fault_word fault.Reserved = codes "reserved"
+fault_word fault.SubStream = codes "substream"
+fault_word fault.Class = codes "class"
+fault_word fault.Kind = codes "kind"
+fault_word fault.Bit = codes "bit"
+fault_word fault.Length = codes "length"
+fault_word fault.Sync = codes "sync"
+fault_word fault.Trailing = codes "trailing"

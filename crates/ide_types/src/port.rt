@@ -6,14 +6,15 @@ ghost use Rattle.ide_types.specs.Names.{side_word, port_word};
 use std::fmt;
 
 /// The end of a link: its host's port or its device's.
-#[derive(Clone, Copy, Debug, PartialEq, Eq)]
+#[derive(Clone, Copy, Debug, Default, PartialEq, Eq)]
 pub enum Side {
+    #[default]
     Host,
     Device,
 }
 
 /// A port: the end of a link, and the link's number.
-#[derive(Clone, Copy, Debug, PartialEq, Eq)]
+#[derive(Clone, Copy, Debug, Default, PartialEq, Eq)]
 pub struct PortName {
     pub side: Side,
     pub link: u8,
