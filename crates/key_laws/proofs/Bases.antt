@@ -1,6 +1,6 @@
 -- Draws that are kept on a stream are from its base on.
-use Rattle.std.proofs.Common.{◌≡◌, ℕ, ◌+◌, ◌≤◌, ◌==◌, Bool, true, false, Option, Some, None, List, [], ◌∷◌, length, refl, ap, sym, ◌∙◌, subst, arith}
-use Rattle.std.specs.Prelude.{nat_lt, ◌&&◌, if◌then◌else◌, is_some}
+use Rattle.std.proofs.Common.{◌≡◌, ℕ, ◌≤◌, ◌==◌, Bool, true, false, Option, Some, None, List, [], ◌∷◌, length, refl, ap, sym, ◌∙◌, subst, arith}
+use Rattle.std.specs.Prelude.{nat_lt, ◌&&◌, if◌then◌else◌}
 use Rattle.link_events.specs.declared.event.Event.{Event}
 use Rattle.link_events.specs.declared.event.Event.TheVariants as event
 use Rattle.link_events.specs.declared.event.Loss.{Loss}
@@ -9,14 +9,14 @@ use Rattle.link_verdicts.specs.declared.verdict.Operation.TheVariants as op
 use Rattle.link_verdicts.specs.declared.verdict.Verdict.{Verdict}
 use Rattle.link_verdicts.specs.declared.verdict.Verdict.TheVariants as v
 use Rattle.key_laws.specs.Places.{KeyPlan, Place, is_on_stream}
-use Rattle.key_laws.specs.Keys.{Touch, Keys, no_keys, key_in, kept_in, on_in, keys}
-use Rattle.key_laws.specs.Operations.{Op, Idle, Establishing, Up, Refreshing, Stopping, Work, Reach, Manager, Begun, work_of, reach_of, last_of, op_after, op_ended, op_standing, begun_after, operated, makes_draw}
-use Rattle.key_laws.specs.History.{History, manager, op_of, draws, worked, on_it, came, touches, moments, base, begins_keyed, on_draw}
+use Rattle.key_laws.specs.Keys.{Touch, no_keys, keys}
+use Rattle.key_laws.specs.Operations.{Op, Idle, Establishing, Up, Refreshing, Stopping, Work, Reach, Manager, work_of, reach_of, last_of, op_after, op_ended, op_standing, operated, makes_draw}
+use Rattle.key_laws.specs.History.{History, manager, op_of, draws, worked, on_it, touches, moments, base, begins_keyed, on_draw}
 use Rattle.key_laws.specs.Due.{ports_at, establish_on, due}
 use Rattle.key_laws.specs.Laws.{CauseLaw}
-use Rattle.key_laws.proofs.Tests.{both-true, true-same}
-use Rattle.key_laws.proofs.Shapes.{Bare, keys_of}
-use Rattle.key_laws.proofs.Owners.{OwnedKeys, AllOwned, behind_owned, worked_owned, came_owned, cleared_owned, work_is, more_owned, owned_on, same_place}
+use Rattle.key_laws.proofs.Tests.{both-true}
+use Rattle.key_laws.proofs.Shapes.{keys_of}
+use Rattle.key_laws.proofs.Owners.{OwnedKeys, AllOwned, behind_owned, worked_owned, came_owned, cleared_owned, work_is, owned_on, same_place}
 use Rattle.key_laws.proofs.Whole.{more_begun}
 use Rattle.key_laws.proofs.States.{in_state}
 
@@ -145,11 +145,11 @@ establish_based plan h l s loss w p cause before = by_test ((l == p.link) && (s 
         let at = in_state plan h cause.2 p Idle idle in
         let none : keys p.sends (moments h p) ≡ no_keys = at.is.are ∙ ap keys_of at.fits in
         next_based h (event.Establish l s loss) w p (draws h) (rw new refl) (leads (draws h) (omega arith) (subst (OpFrom (draws h)) (sym idle) tt))
-        (subst (OwnedKeys (From (draws h))) (sym none) (record { zero_is = tt; one_is = tt }))
+        (subst (OwnedKeys (From (draws h))) (sym none) (record { first_is = tt; second_is = tt }))
 
 pub based : (plan : KeyPlan) (h : History) → CauseLaw plan h → (p : Place) → Based h p
 unfolding base manager moments keys
-based plan [] cause p = record { low = omega arith; op_from = tt; keys_from = record { zero_is = tt; one_is = tt } }
+based plan [] cause p = record { low = omega arith; op_from = tt; keys_from = record { first_is = tt; second_is = tt } }
 based plan ((event.Establish l s loss, w) ∷ h) cause p = establish_based plan h l s loss w p cause (based plan h cause.2 p)
 based plan ((event.Refresh l s loss, w) ∷ h) cause p =
     let before = based plan h cause.2 p in

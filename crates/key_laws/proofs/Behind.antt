@@ -1,7 +1,7 @@
 -- What touches behind others leave: marks only grow, a draw that is On got its GO, an operation opens and ends no unit.
-use Rattle.std.proofs.Common.{◌≡◌, ℕ, ◌+◌, ◌<◌, ◌≤◌, ◌==◌, Bool, true, false, Option, Some, None, List, [], ◌∷◌, ◌++◌, refl, ap, sym, ◌∙◌, subst, arith}
-use Rattle.std.specs.Prelude.{nat_lt, ◌&&◌, if◌then◌else◌, max}
-use Rattle.key_laws.specs.Keys.{Touch, Program, Go, Stop, Clear, Seal, Accept, Key, Keys, key_in, with_key, on_in, refuses, unless_below, touched, is_over, settled, is_open, keys}
+use Rattle.std.proofs.Common.{◌≡◌, ℕ, ◌+◌, ◌<◌, ◌≤◌, ◌==◌, Bool, true, false, Option, Some, None, List, [], ◌∷◌, ◌++◌, refl, arith}
+use Rattle.std.specs.Prelude.{nat_lt, if◌then◌else◌, max}
+use Rattle.key_laws.specs.Keys.{Touch, Program, Go, Stop, Clear, Seal, Accept, Keyed, Off, Loaded, On, Keys, key_in, with_key, on_in, refuses, unless_below, touched, is_over, settled, is_open, keys}
 use Rattle.link_events.specs.declared.event.Event.{Event}
 use Rattle.link_events.specs.declared.event.Event.TheVariants as event
 use Rattle.link_verdicts.specs.declared.verdict.Operation.{Operation}
@@ -10,7 +10,7 @@ use Rattle.link_verdicts.specs.declared.verdict.Verdict.{Verdict}
 use Rattle.link_verdicts.specs.declared.verdict.Verdict.TheVariants as v
 use Rattle.key_laws.specs.Places.{Place, is_host, lane, is_on_stream}
 use Rattle.key_laws.specs.Operations.{Op, Work, Reach, work_of, reach_of}
-use Rattle.key_laws.specs.History.{when, behind, is_within, from_at, below_at, program_at, go_at, keyed, stopped, worked, on_it, came, touches, operation_touches}
+use Rattle.key_laws.specs.History.{when, behind, is_within, stopped, worked, on_it, came, touches, operation_touches}
 use Rattle.key_laws.proofs.Shapes.{used, started}
 
 used_touch : (t : Touch) (ts : List Touch) → used ts ≤ used (t ∷ ts)
@@ -41,70 +41,69 @@ started_behind ts (t ∷ more) = let a = started_touch t ts in let b = started_b
 
 -- ---- a draw that is On got its GO
 
-abbrev OnBelow : ℕ → Option Key → Type 0
-OnBelow n None = Unit {0}
-OnBelow n (Some key) = key.on ≡ true → key.draw < n
+abbrev OnBelow : ℕ → Keyed → Type 0
+OnBelow n (On j) = j < n
+OnBelow n a = Unit {0}
 
 record AllBelow (n : ℕ) (ks : Keys) : Type 0 where
-  zero_is : OnBelow n ks.zero
-  one_is : OnBelow n ks.one
+  first_is : OnBelow n ks.first
+  second_is : OnBelow n ks.second
 
-below_more : (n m : ℕ) (o : Option Key) → n ≤ m → OnBelow n o → OnBelow m o
-below_more n m None le below = tt
-below_more n m (Some key) le below = λ on. let lt = below on in omega (arith, lt, le)
+below_more : (n m : ℕ) (a : Keyed) → n ≤ m → OnBelow n a → OnBelow m a
+below_more n m Off le below = tt
+below_more n m (Loaded j) le below = tt
+below_more n m (On j) le below = omega (arith, below, le)
 
-if_below : (n : ℕ) (b : Bool) (o : Option Key) → OnBelow n o → OnBelow n (if b then None else o)
+if_below : (n : ℕ) (b : Bool) (a : Keyed) → OnBelow n a → OnBelow n (if b then Off else a)
 if_below n true o below = tt
 if_below n false o below = below
 
-with_below : (n : ℕ) (set : Bool) (ks : Keys) (o : Option Key) → AllBelow n ks → OnBelow n o → AllBelow n (with_key ks set o)
-with_below n false ks o below mine = record { zero_is = mine; one_is = below.one_is }
-with_below n true ks o below mine = record { zero_is = below.zero_is; one_is = mine }
+with_below : (n : ℕ) (set : Bool) (ks : Keys) (a : Keyed) → AllBelow n ks → OnBelow n a → AllBelow n (with_key ks set a)
+with_below n false ks o below mine = record { first_is = mine; second_is = below.second_is }
+with_below n true ks o below mine = record { first_is = below.first_is; second_is = mine }
 
-unless_below_is : (n j : ℕ) (o : Option Key) → OnBelow n o → OnBelow n (unless_below j o)
-unless_below_is n j None below = tt
-unless_below_is n j (Some key) below = if_below n (key.on && nat_lt key.draw j) (Some key) below
+unless_below_is : (n j : ℕ) (a : Keyed) → OnBelow n a → OnBelow n (unless_below j a)
+unless_below_is n j Off below = tt
+unless_below_is n j (Loaded i) below = tt
+unless_below_is n j (On i) below = if_below n (nat_lt i j) (On i) below
 
 all_more : (n m : ℕ) (ks : Keys) → n ≤ m → AllBelow n ks → AllBelow m ks
-all_more n m ks le below = record { zero_is = below_more n m ks.zero le below.zero_is; one_is = below_more n m ks.one le below.one_is }
+all_more n m ks le below = record { first_is = below_more n m ks.first le below.first_is; second_is = below_more n m ks.second le below.second_is }
 
 settled_below : (n : ℕ) (s : Bool) (f : ℕ → Bool) (ks : Keys) → AllBelow n ks → AllBelow n (settled s f ks)
 settled_below n false f ks below = below
-settled_below n true f ks below = record { zero_is = if_below n (is_over f (on_in ks.zero) (on_in ks.one)) ks.zero below.zero_is; one_is = if_below n (is_over f (on_in ks.one) (on_in ks.zero)) ks.one below.one_is }
+settled_below n true f ks below = record { first_is = if_below n (is_over f (on_in ks.first) (on_in ks.second)) ks.first below.first_is; second_is = if_below n (is_over f (on_in ks.second) (on_in ks.first)) ks.second below.second_is }
 
 touched_below : (s : Bool) (ts : List Touch) (ks : Keys) (t : Touch) → AllBelow (started ts) ks → AllBelow (started (t ∷ ts)) (touched s ks t)
 unfolding started
 touched_below s ts ks (Program set j) below = by_answer (refuses s ks set)
   where
-    by_answer : (b : Bool) → AllBelow (started ts) (if b then ks else with_key ks set (Some (record { draw = j; on = false })))
+    by_answer : (b : Bool) → AllBelow (started ts) (if b then ks else with_key ks set (Loaded j))
     by_answer true = below
-    by_answer false = with_below (started ts) set ks (Some (record { draw = j; on = false })) below (λ on. absurd cc)
+    by_answer false = with_below (started ts) set ks (Loaded j) below tt
 touched_below s ts ks (Go set j) below =
-    with_below (max (j + 1) (started ts)) set ks (Some (record { draw = j; on = true })) (all_more (started ts) (max (j + 1) (started ts)) ks (omega arith) below) (λ on. omega arith)
-touched_below s ts ks (Stop set) below = with_below (started ts) set ks None below tt
-touched_below s ts ks Clear below = record { zero_is = tt; one_is = tt }
+    with_below (max (j + 1) (started ts)) set ks (On j) (all_more (started ts) (max (j + 1) (started ts)) ks (omega arith) below) (omega arith)
+touched_below s ts ks (Stop set) below = with_below (started ts) set ks Off below tt
+touched_below s ts ks Clear below = record { first_is = tt; second_is = tt }
 touched_below s ts ks (Seal j m) below = below
-touched_below s ts ks (Accept j) below = record { zero_is = unless_below_is (started ts) j ks.zero below.zero_is; one_is = unless_below_is (started ts) j ks.one below.one_is }
+touched_below s ts ks (Accept j) below = record { first_is = unless_below_is (started ts) j ks.first below.first_is; second_is = unless_below_is (started ts) j ks.second below.second_is }
 
 all_below : (s : Bool) (ts : List Touch) → AllBelow (started ts) (keys s ts)
 unfolding keys
-all_below s [] = record { zero_is = tt; one_is = tt }
+all_below s [] = record { first_is = tt; second_is = tt }
 all_below s (t ∷ ts) = settled_below (started (t ∷ ts)) s (is_open (t ∷ ts)) (touched s (keys s ts) t) (touched_below s ts (keys s ts) t (all_below s ts))
 
 pub on_started : (s : Bool) (ts : List Touch) (k : Bool) (j : ℕ) → on_in (key_in (keys s ts) k) ≡ Some j → j < started ts
 on_started s ts k j on = by_set k on
   where
-    by_key : (o : Option Key) → OnBelow (started ts) o → on_in o ≡ Some j → j < started ts
-    by_key None below on = absurd cc
-    by_key (Some key) below on = by_on key.on below on
-      where
-        by_on : (b : Bool) → (b ≡ true → key.draw < started ts) → (if b then Some key.draw else None) ≡ Some j → j < started ts
-        by_on true below on = let same : key.draw ≡ j = cc in let lt = below refl in omega (arith, same, lt)
-        by_on false below on = absurd cc
+    by_key : (a : Keyed) → OnBelow (started ts) a → on_in a ≡ Some j → j < started ts
+    by_key Off below on = absurd cc
+    by_key (Loaded i) below on = absurd cc
+    by_key (On i) below on = let same : i ≡ j = cc in omega (arith, same, below)
 
     by_set : (k : Bool) → on_in (key_in (keys s ts) k) ≡ Some j → j < started ts
-    by_set false on = by_key (keys s ts).zero (all_below s ts).zero_is on
-    by_set true on = by_key (keys s ts).one (all_below s ts).one_is on
+    by_set false on = by_key (keys s ts).first (all_below s ts).first_is on
+    by_set true on = by_key (keys s ts).second (all_below s ts).second_is on
 
 -- ---- touches that are no seals
 

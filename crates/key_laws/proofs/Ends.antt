@@ -235,7 +235,7 @@ establish_settles plan h link stream loss l t j cause = (by_has (plan.has_stream
         → (on_draw ((event.Establish link stream loss, v.Established l t j) ∷ h) p false ≡ Some j) × (on_draw ((event.Establish link stream loss, v.Established l t j) ∷ h) p true ≡ None)
     places p on_link on_id =
         let is = elsewhere p link stream (EndsAlone plan h p loss l t j) (on_link, on_id) (ends_alone plan h p loss l t j (fits plan h cause.2 p)) cause.0 in
-        (ap (λ (ks : Keys). on_in ks.zero) is.are, ap (λ (ks : Keys). on_in ks.one) is.are)
+        (ap (λ (ks : Keys). on_in ks.first) is.are, ap (λ (ks : Keys). on_in ks.second) is.are)
 
 -- ---- all pairs
 

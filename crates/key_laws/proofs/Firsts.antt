@@ -1,25 +1,22 @@
 -- Where a place comes to have its first key that is On: in an establish, under the base of the stream.
-use Rattle.std.proofs.Common.{◌≡◌, ℕ, ◌+◌, ◌<◌, ◌≤◌, ◌==◌, Bool, true, false, Option, Some, None, List, [], ◌∷◌, length, refl, ap, sym, ◌∙◌, subst, arith}
-use Rattle.std.specs.Prelude.{nat_lt, not, ◌&&◌, ◌||◌, if◌then◌else◌, is_some}
+use Rattle.std.proofs.Common.{◌≡◌, ℕ, ◌≤◌, ◌==◌, Bool, true, false, Option, Some, None, List, [], ◌∷◌, refl, ap, sym, ◌∙◌, subst, arith}
+use Rattle.std.specs.Prelude.{nat_lt, not, ◌&&◌, if◌then◌else◌, is_some}
 use Rattle.std.proofs.lemmas.Bool.Decides.{nat_tests}
 use Rattle.ide_types.specs.declared.port.Side.TheVariants.{Host}
 use Rattle.link_events.specs.declared.event.Event.TheVariants as event
 use Rattle.link_events.specs.declared.event.Loss.{Loss}
 use Rattle.link_verdicts.specs.declared.verdict.Operation.TheVariants as op
-use Rattle.ide_types.specs.declared.status.StreamStatus.{StreamStatus}
 use Rattle.link_verdicts.specs.declared.verdict.Verdict.{Verdict}
 use Rattle.link_verdicts.specs.declared.verdict.Verdict.TheVariants as v
 use Rattle.key_laws.specs.Places.{KeyPlan, Place}
-use Rattle.key_laws.specs.Keys.{Touch, Keys, keys}
-use Rattle.key_laws.specs.Operations.{Op, Idle, Establishing, Up, Refreshing, Stopping, Work, Reach, Manager, work_of, reach_of, last_of, op_after, op_ended, op_standing, operated}
+use Rattle.key_laws.specs.Keys.{Touch}
+use Rattle.key_laws.specs.Operations.{Op, Idle, Establishing, Up, Refreshing, Stopping, Reach, work_of, reach_of, op_after, operated}
 use Rattle.key_laws.specs.History.{History, manager, op_of, draws, moments, keys_at, base, begins_keyed, is_keyed, status_of}
-use Rattle.key_laws.specs.Due.{PortView, ports_at, establish_on, refresh_on, due}
+use Rattle.key_laws.specs.Due.{ports_at, establish_on, refresh_on, due}
 use Rattle.key_laws.specs.Laws.{CauseLaw}
-use Rattle.key_laws.proofs.Shapes.{Marks, marks, Shape, Bare, Waiting, Alone, Following, Both, keys_of, used, started, Sound, IsAt}
+use Rattle.key_laws.proofs.Shapes.{Marks, marks, Shape, keys_of, used, started, IsAt}
 use Rattle.key_laws.proofs.Stages.{Rest, unkeyed, old_alone, old_both, Half, waiting, following, Full, alone, both, Rising, before, half, full}
-use Rattle.key_laws.proofs.Fits.{FitsAt}
 use Rattle.key_laws.proofs.Owners.{same_place}
-use Rattle.key_laws.proofs.Whole.{fits}
 use Rattle.key_laws.proofs.States.{in_state}
 use Rattle.key_laws.proofs.Bases.{establish_idle}
 

@@ -1,5 +1,5 @@
 -- What a place holds, by the manager's state of its stream.
-use Rattle.std.proofs.Common.{◌≡◌, ℕ, ◌+◌, ◌<◌, ◌≤◌, Bool, true, false, None, List, [], ◌∷◌, ◌++◌, refl, subst, arith}
+use Rattle.std.proofs.Common.{◌≡◌, ℕ, ◌+◌, ◌<◌, ◌≤◌, Bool, true, false, List, [], ◌∷◌, ◌++◌, refl, subst, arith}
 use Rattle.std.specs.Prelude.{nat_lt, nat_le, not, ◌&&◌, if◌then◌else◌}
 use Rattle.ide_types.specs.Sub.{sub_bits}
 use Rattle.ide_types.specs.declared.sub.SubKind.{SubKind}
@@ -9,7 +9,7 @@ use Rattle.ide_types.specs.declared.port.Side.TheVariants.{Host, Device}
 use Rattle.link_verdicts.specs.declared.verdict.Operation.{Operation}
 use Rattle.link_verdicts.specs.declared.verdict.Operation.TheVariants as op
 use Rattle.key_laws.specs.Places.{Place, is_host, lane}
-use Rattle.key_laws.specs.Keys.{Touch, Program, Go, Stop, Clear, Keys, key_in, with_key, refuses, keys}
+use Rattle.key_laws.specs.Keys.{Touch, Program, Go, Stop, Clear, Off, Keys, key_in, with_key, refuses, keys}
 use Rattle.key_laws.specs.Operations.{Op, Idle, Establishing, Up, Refreshing, Stopping, Work, Reach, work, last_of, op_after, op_ended, op_standing}
 use Rattle.key_laws.specs.History.{is_within, when, behind, program_at, go_at, from_at, below_at, keyed, stopped}
 use Rattle.key_laws.specs.Laws.{uses, NeverFalls}
@@ -21,7 +21,7 @@ use Rattle.key_laws.proofs.Stages.{Rest, unkeyed, old_alone, old_both, Half, wai
 -- in a stop the host's port has no key left, and the device a key in no set whose STOP was acknowledged
 abbrev pub Halting : Side → ℕ → ℕ → Shape → Type 0
 Halting Host l n sh = sh ≡ Bare
-Halting Device l n sh = (1 + l < n → key_in (keys_of sh) false ≡ None) × (7 + l < n → key_in (keys_of sh) true ≡ None)
+Halting Device l n sh = (1 + l < n → key_in (keys_of sh) false ≡ Off) × (7 + l < n → key_in (keys_of sh) true ≡ Off)
 
 abbrev pub Fits : Op → ℕ → Marks → Place → Shape → Type 0
 Fits Idle top u p sh = sh ≡ Bare
@@ -227,23 +227,23 @@ refresh_goes_on p ts top k j n at = record { shape = at.shape; is = at.is; fits 
 
 -- ---- an event of a stop
 
-none_alike : (s set : Bool) (ks : Keys) → key_in ks set ≡ None → (x : Bool) → key_in (with_key ks x None) set ≡ None
+none_alike : (s set : Bool) (ks : Keys) → key_in ks set ≡ Off → (x : Bool) → key_in (with_key ks x Off) set ≡ Off
 none_alike s false ks e false = refl
 none_alike s false ks e true = e
 none_alike s true ks e false = e
 none_alike s true ks e true = refl
 
-none_there : (set : Bool) (ks : Keys) → key_in (with_key ks set None) set ≡ None
+none_there : (set : Bool) (ks : Keys) → key_in (with_key ks set Off) set ≡ Off
 none_there false ks = refl
 none_there true ks = refl
 
-stop_ends : (set : Bool) (sh : Shape) → key_in (keys_of (without set sh)) set ≡ None
-stop_ends set sh = subst (λ (ks : Keys). key_in ks set ≡ None) (stopped_keys false set (λ i. false) sh) (none_there set (keys_of sh))
+stop_ends : (set : Bool) (sh : Shape) → key_in (keys_of (without set sh)) set ≡ Off
+stop_ends set sh = subst (λ (ks : Keys). key_in ks set ≡ Off) (stopped_keys false set (λ i. false) sh) (none_there set (keys_of sh))
 
-stop_keeps : (x set : Bool) (sh : Shape) → key_in (keys_of sh) set ≡ None → key_in (keys_of (without x sh)) set ≡ None
-stop_keeps x set sh e = subst (λ (ks : Keys). key_in ks set ≡ None) (stopped_keys false x (λ i. false) sh) (none_alike false set (keys_of sh) e x)
+stop_keeps : (x set : Bool) (sh : Shape) → key_in (keys_of sh) set ≡ Off → key_in (keys_of (without x sh)) set ≡ Off
+stop_keeps x set sh e = subst (λ (ks : Keys). key_in ks set ≡ Off) (stopped_keys false x (λ i. false) sh) (none_alike false set (keys_of sh) e x)
 
-bare_of : (sh : Shape) → key_in (keys_of sh) false ≡ None → key_in (keys_of sh) true ≡ None → sh ≡ Bare
+bare_of : (sh : Shape) → key_in (keys_of sh) false ≡ Off → key_in (keys_of sh) true ≡ Off → sh ≡ Bare
 bare_of Bare e f = refl
 bare_of (Waiting false j) e f = absurd cc
 bare_of (Waiting true j) e f = absurd cc
@@ -256,7 +256,7 @@ bare_of (Both true i j) e f = absurd cc
 
 -- the device gave up set 0 where exchange a was acknowledged, and set 1 where exchange b was
 abbrev Halted : (a b n : ℕ) → Shape → Type 0
-Halted a b n sh = (a < n → key_in (keys_of sh) false ≡ None) × (b < n → key_in (keys_of sh) true ≡ None)
+Halted a b n sh = (a < n → key_in (keys_of sh) false ≡ Off) × (b < n → key_in (keys_of sh) true ≡ Off)
 
 halts : (s : Bool) (a b n next below : ℕ) (ts : List Touch) → Spans n next below → At s ts (Halted a b n)
     → Lands s ts (when (is_within n a below) (Stop false) ++ when (is_within n b below) (Stop true)) (Halted a b next)
@@ -270,7 +270,7 @@ halts s a b n next below ts comes at = by_first (is_within n a below) refl
         by_test false is = false-le n c is
         by_test true is = absurd (let out = outside n c below e (true-le n c is) in omega (arith, out, lt, comes.reached))
 
-    by_second : (us : List Touch) (sh : Shape) → IsAt s us sh → (a < next → key_in (keys_of sh) false ≡ None) → (b < n → key_in (keys_of sh) true ≡ None)
+    by_second : (us : List Touch) (sh : Shape) → IsAt s us sh → (a < next → key_in (keys_of sh) false ≡ Off) → (b < n → key_in (keys_of sh) true ≡ Off)
         → (g : Bool) → is_within n b below ≡ g → Lands s us (when g (Stop true)) (Halted a b next)
     by_second us sh is one two true e = record {
       at = record { shape = without true sh; is = stops s us true sh is; fits = (λ lt. stop_keeps true false sh (one lt), λ lt. stop_ends true sh) };

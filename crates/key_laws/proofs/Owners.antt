@@ -9,7 +9,7 @@ use Rattle.link_verdicts.specs.declared.verdict.SealedPacket.{SealedPacket}
 use Rattle.link_verdicts.specs.declared.verdict.Verdict.{Verdict}
 use Rattle.link_verdicts.specs.declared.verdict.Verdict.TheVariants as v
 use Rattle.key_laws.specs.Places.{Place, is_host, is_on_stream, lane}
-use Rattle.key_laws.specs.Keys.{Touch, Program, Go, Stop, Clear, Seal, Accept, Key, Keys, key_in, with_key, kept_in, on_in, refuses, unless_below, touched, is_open, is_over, settled, keys}
+use Rattle.key_laws.specs.Keys.{Touch, Program, Go, Stop, Clear, Seal, Accept, Keyed, Off, Loaded, On, Keys, key_in, with_key, kept_in, on_in, refuses, unless_below, touched, is_open, is_over, settled, keys}
 use Rattle.key_laws.specs.Operations.{Op, Idle, Establishing, Up, Refreshing, Stopping, Work, Reach, Manager, Begun, work_of, last_of, reach_of, op_after, op_ended, op_standing, makes_draw, begun_after, operated, manager_after}
 use Rattle.key_laws.specs.History.{History, manager, begun_at, is_sender, is_within, when, stopped, worked, on_it, sealed_here, came, operation_touches, touches, behind, moments}
 use Rattle.key_laws.proofs.Tests.{same-true, true-same, both-true}
@@ -17,49 +17,51 @@ use Rattle.key_laws.proofs.Tests.{same-true, true-same, both-true}
 -- ---- keys of known owners
 
 -- the key of a set is of a draw that the set may have
-abbrev OwnedKey : (Bool → ℕ → Type 0) → Bool → Option Key → Type 0
-OwnedKey O set None = Unit {0}
-OwnedKey O set (Some key) = O set key.draw
+abbrev OwnedKey : (Bool → ℕ → Type 0) → Bool → Keyed → Type 0
+OwnedKey O set Off = Unit {0}
+OwnedKey O set (Loaded j) = O set j
+OwnedKey O set (On j) = O set j
 
 pub record OwnedKeys (O : Bool → ℕ → Type 0) (ks : Keys) : Type 0 where
-  pub zero_is : OwnedKey O false ks.zero
-  pub one_is : OwnedKey O true ks.one
+  pub first_is : OwnedKey O false ks.first
+  pub second_is : OwnedKey O true ks.second
 
 abbrev pub TouchOwned : (Bool → ℕ → Type 0) → Touch → Type 0
 TouchOwned O (Program set j) = O set j
 TouchOwned O (Go set j) = O set j
 TouchOwned O _ = Unit {0}
 
-unless_over_owned : (O : Bool → ℕ → Type 0) (set b : Bool) (mine : Option Key) → OwnedKey O set mine → OwnedKey O set (if b then None else mine)
+unless_over_owned : (O : Bool → ℕ → Type 0) (set b : Bool) (mine : Keyed) → OwnedKey O set mine → OwnedKey O set (if b then Off else mine)
 unless_over_owned O set true mine owned = tt
 unless_over_owned O set false mine owned = owned
 
 settled_owned : (O : Bool → ℕ → Type 0) (s : Bool) (f : ℕ → Bool) (ks : Keys) → OwnedKeys O ks → OwnedKeys O (settled s f ks)
 settled_owned O false f ks owned = owned
 settled_owned O true f ks owned = record {
-  zero_is = unless_over_owned O false (is_over f (on_in ks.zero) (on_in ks.one)) ks.zero owned.zero_is;
-  one_is = unless_over_owned O true (is_over f (on_in ks.one) (on_in ks.zero)) ks.one owned.one_is;
+  first_is = unless_over_owned O false (is_over f (on_in ks.first) (on_in ks.second)) ks.first owned.first_is;
+  second_is = unless_over_owned O true (is_over f (on_in ks.second) (on_in ks.first)) ks.second owned.second_is;
 }
 
-with_owned : (O : Bool → ℕ → Type 0) (set : Bool) (ks : Keys) (o : Option Key) → OwnedKeys O ks → OwnedKey O set o → OwnedKeys O (with_key ks set o)
-with_owned O false ks o owned mine = record { zero_is = mine; one_is = owned.one_is }
-with_owned O true ks o owned mine = record { zero_is = owned.zero_is; one_is = mine }
+with_owned : (O : Bool → ℕ → Type 0) (set : Bool) (ks : Keys) (a : Keyed) → OwnedKeys O ks → OwnedKey O set a → OwnedKeys O (with_key ks set a)
+with_owned O false ks o owned mine = record { first_is = mine; second_is = owned.second_is }
+with_owned O true ks o owned mine = record { first_is = owned.first_is; second_is = mine }
 
-unless_below_owned : (O : Bool → ℕ → Type 0) (set : Bool) (j : ℕ) (o : Option Key) → OwnedKey O set o → OwnedKey O set (unless_below j o)
-unless_below_owned O set j None owned = tt
-unless_below_owned O set j (Some key) owned = unless_over_owned O set (key.on && nat_lt key.draw j) (Some key) owned
+unless_below_owned : (O : Bool → ℕ → Type 0) (set : Bool) (j : ℕ) (a : Keyed) → OwnedKey O set a → OwnedKey O set (unless_below j a)
+unless_below_owned O set j Off owned = tt
+unless_below_owned O set j (Loaded i) owned = owned
+unless_below_owned O set j (On i) owned = unless_over_owned O set (nat_lt i j) (On i) owned
 
 touched_owned : (O : Bool → ℕ → Type 0) (s : Bool) (ks : Keys) (t : Touch) → OwnedKeys O ks → TouchOwned O t → OwnedKeys O (touched s ks t)
 touched_owned O s ks (Program set j) owned mine = by_answer (refuses s ks set)
   where
-    by_answer : (b : Bool) → OwnedKeys O (if b then ks else with_key ks set (Some (record { draw = j; on = false })))
+    by_answer : (b : Bool) → OwnedKeys O (if b then ks else with_key ks set (Loaded j))
     by_answer true = owned
-    by_answer false = with_owned O set ks (Some (record { draw = j; on = false })) owned mine
-touched_owned O s ks (Go set j) owned mine = with_owned O set ks (Some (record { draw = j; on = true })) owned mine
-touched_owned O s ks (Stop set) owned mine = with_owned O set ks None owned tt
-touched_owned O s ks Clear owned mine = record { zero_is = tt; one_is = tt }
+    by_answer false = with_owned O set ks (Loaded j) owned mine
+touched_owned O s ks (Go set j) owned mine = with_owned O set ks (On j) owned mine
+touched_owned O s ks (Stop set) owned mine = with_owned O set ks Off owned tt
+touched_owned O s ks Clear owned mine = record { first_is = tt; second_is = tt }
 touched_owned O s ks (Seal j m) owned mine = owned
-touched_owned O s ks (Accept j) owned mine = record { zero_is = unless_below_owned O false j ks.zero owned.zero_is; one_is = unless_below_owned O true j ks.one owned.one_is }
+touched_owned O s ks (Accept j) owned mine = record { first_is = unless_below_owned O false j ks.first owned.first_is; second_is = unless_below_owned O true j ks.second owned.second_is }
 
 -- each touch that programs or starts a key is of a draw of its set
 abbrev pub AllOwned : (Bool → ℕ → Type 0) → List Touch → Type 0
@@ -73,11 +75,12 @@ behind_owned O s ts (t ∷ more) owned all =
     behind_owned O s (t ∷ ts) more (settled_owned O s (is_open (t ∷ ts)) (touched s (keys s ts) t) (touched_owned O s (keys s ts) t owned all.0)) all.1
 
 pub more_owned : (O P : Bool → ℕ → Type 0) (ks : Keys) → ((set : Bool) (j : ℕ) → O set j → P set j) → OwnedKeys O ks → OwnedKeys P ks
-more_owned O P ks leads owned = record { zero_is = each false ks.zero owned.zero_is; one_is = each true ks.one owned.one_is }
+more_owned O P ks leads owned = record { first_is = each false ks.first owned.first_is; second_is = each true ks.second owned.second_is }
   where
-    each : (set : Bool) (o : Option Key) → OwnedKey O set o → OwnedKey P set o
-    each set None mine = tt
-    each set (Some key) mine = leads set key.draw mine
+    each : (set : Bool) (a : Keyed) → OwnedKey O set a → OwnedKey P set a
+    each set Off mine = tt
+    each set (Loaded j) mine = leads set j mine
+    each set (On j) mine = leads set j mine
 
 -- ---- the operations that began
 
@@ -325,7 +328,7 @@ touches_owned m _ verdict p owned = came_owned _ p verdict
 
 pub keys_owned : (h : History) (p : Place) → OwnedKeys (OwnerAt (manager h) p) (keys p.sends (moments h p))
 unfolding manager moments keys
-keys_owned [] p = record { zero_is = tt; one_is = tt }
+keys_owned [] p = record { first_is = tt; second_is = tt }
 keys_owned ((e, verdict) ∷ h) p =
     behind_owned (OwnerAt (manager ((e, verdict) ∷ h)) p) p.sends (moments h p) (touches (manager h).ops (length (manager h).begun) e verdict p)
     (more_owned (OwnerAt (manager h) p) (OwnerAt (manager ((e, verdict) ∷ h)) p) (keys p.sends (moments h p)) (λ set j mine. after_longer (manager h) e verdict j _ mine) (keys_owned h p))
@@ -335,21 +338,19 @@ keys_owned ((e, verdict) ∷ h) p =
 owned_kept : (O : Bool → ℕ → Type 0) (ks : Keys) (set : Bool) (j : ℕ) → OwnedKeys O ks → kept_in (key_in ks set) ≡ Some j → O set j
 owned_kept O ks set j owned e = by_set set e
   where
-    by_key : (x : Bool) (o : Option Key) → OwnedKey O x o → kept_in o ≡ Some j → O x j
-    by_key x None owned e = absurd cc
-    by_key x (Some key) owned e = let same : key.draw ≡ j = cc in subst (O x) same owned
+    by_key : (x : Bool) (a : Keyed) → OwnedKey O x a → kept_in a ≡ Some j → O x j
+    by_key x Off owned e = absurd cc
+    by_key x (Loaded i) owned e = let same : i ≡ j = cc in subst (O x) same owned
+    by_key x (On i) owned e = let same : i ≡ j = cc in subst (O x) same owned
 
     by_set : (x : Bool) → kept_in (key_in ks x) ≡ Some j → O x j
-    by_set false e = by_key false ks.zero owned.zero_is e
-    by_set true e = by_key true ks.one owned.one_is e
+    by_set false e = by_key false ks.first owned.first_is e
+    by_set true e = by_key true ks.second owned.second_is e
 
-on_is_kept : (o : Option Key) (j : ℕ) → on_in o ≡ Some j → kept_in o ≡ Some j
-on_is_kept None j e = absurd cc
-on_is_kept (Some key) j e = by_on key.on e
-  where
-    by_on : (b : Bool) → (if b then Some key.draw else None) ≡ Some j → Some key.draw ≡ Some j
-    by_on true e = e
-    by_on false e = absurd cc
+on_is_kept : (a : Keyed) (j : ℕ) → on_in a ≡ Some j → kept_in a ≡ Some j
+on_is_kept Off j e = absurd cc
+on_is_kept (Loaded i) j e = absurd cc
+on_is_kept (On i) j e = e
 
 pub owned_on : (O : Bool → ℕ → Type 0) (ks : Keys) (set : Bool) (j : ℕ) → OwnedKeys O ks → on_in (key_in ks set) ≡ Some j → O set j
 owned_on O ks set j owned e = owned_kept O ks set j owned (on_is_kept (key_in ks set) j e)

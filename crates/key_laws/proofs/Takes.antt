@@ -5,7 +5,7 @@ use Rattle.ide_types.specs.declared.sub.SubKind.{SubKind}
 use Rattle.ide_types.specs.declared.port.Side.{Side}
 use Rattle.ide_types.specs.declared.port.Side.TheVariants.{Host, Device}
 use Rattle.link_verdicts.specs.declared.verdict.Operation.TheVariants as op
-use Rattle.key_laws.specs.Keys.{Touch, Key, Keys, on_in, refuses, refuses_on, keys, Armed, Live, slot_on, slot_from, slot_of, is_live}
+use Rattle.key_laws.specs.Keys.{Touch, Keyed, Off, Loaded, On, Keys, on_in, refuses, refuses_on, keys, Armed, Live, slot_on, slot_from, slot_of, is_live}
 use Rattle.key_laws.specs.Operations.{Reach, work}
 use Rattle.key_laws.specs.History.{program_at, go_at, from_at}
 use Rattle.key_laws.specs.Due.{PortView, is_refused, is_live_sender}
@@ -16,25 +16,22 @@ use Rattle.key_laws.proofs.Fits.{place, TakesKey}
 use Rattle.key_laws.proofs.Performs.{device_takes}
 
 -- a sender takes a key in a set that is not Live
-dead_takes : (mine other : Option Key) → is_live (slot_from true mine other) ≡ false → refuses_on true (on_in mine) (on_in other) ≡ false
-dead_takes None other dead = refl
-dead_takes (Some key) other dead = by_on key.on dead
+dead_takes : (mine other : Keyed) → is_live (slot_from true mine other) ≡ false → refuses_on true (on_in mine) (on_in other) ≡ false
+dead_takes Off other dead = refl
+dead_takes (Loaded j) other dead = refl
+dead_takes (On j) other dead = by_other (on_in other) dead
   where
-    by_on : (b : Bool) → is_live (slot_from true (Some (record { draw = key.draw; on = b })) other) ≡ false → refuses_on true (if b then Some key.draw else None) (on_in other) ≡ false
-    by_on false dead = refl
-    by_on true dead = by_other (on_in other) dead
+    by_other : (o : Option ℕ) → is_live (slot_on true j o) ≡ false → refuses_on true (Some j) o ≡ false
+    by_other None dead = absurd cc
+    by_other (Some i) dead = by_test (nat_lt i j) refl dead
       where
-        by_other : (o : Option ℕ) → is_live (slot_on true key.draw true o) ≡ false → refuses_on true (Some key.draw) o ≡ false
-        by_other None dead = absurd cc
-        by_other (Some i) dead = by_test (nat_lt i key.draw) refl dead
-          where
-            by_test : (b : Bool) → nat_lt i key.draw ≡ b → is_live (if b then Armed key.draw else Live key.draw) ≡ false → nat_le key.draw i ≡ false
-            by_test true e dead = le-false key.draw i (true-lt i key.draw e)
-            by_test false e dead = absurd cc
+        by_test : (b : Bool) → nat_lt i j ≡ b → is_live (if b then Armed j else Live j) ≡ false → nat_le j i ≡ false
+        by_test true e dead = le-false j i (true-lt i j e)
+        by_test false e dead = absurd cc
 
 sender_takes : (ks : Keys) (set : Bool) → is_live (slot_of true ks set) ≡ false → refuses true ks set ≡ false
-sender_takes ks false dead = dead_takes ks.zero ks.one dead
-sender_takes ks true dead = dead_takes ks.one ks.zero dead
+sender_takes ks false dead = dead_takes ks.first ks.second dead
+sender_takes ks true dead = dead_takes ks.second ks.first dead
 
 -- a receiver takes the key of a newer draw
 receiver_rests : (k : Bool) (j : ℕ) (u : Marks) (r : Bool) (sh : Shape) (ts : List Touch) → Sound false ts sh → Rest k j u r sh → refuses false (keys_of sh) k ≡ false

@@ -5,7 +5,7 @@ use Rattle.ide_types.specs.declared.port.Side.{Side}
 use Rattle.ide_types.specs.declared.port.Side.TheVariants.{Host, Device}
 use Rattle.link_verdicts.specs.declared.verdict.Operation.TheVariants as op
 use Rattle.key_laws.specs.Places.{Place, lane}
-use Rattle.key_laws.specs.Keys.{Touch, Seal, Accept, Key, Keys, no_keys, key_in, on_in, keys, Armed, Live, is_below, slot_on, slot_from, slot_of, live_in, first_of_two, live_draw}
+use Rattle.key_laws.specs.Keys.{Touch, Seal, Accept, Keyed, Off, Loaded, On, Keys, no_keys, key_in, on_in, keys, Armed, Live, is_below, slot_from, slot_of, live_in, first_of_two, live_draw}
 use Rattle.key_laws.specs.Laws.{uses, NeverFalls}
 use Rattle.key_laws.specs.Operations.{Op, Idle, Establishing, Up, Refreshing, Stopping}
 use Rattle.key_laws.specs.History.{program_at, go_at}
@@ -21,7 +21,7 @@ record Uses (sh after : Shape) (u v : Marks) : Type 0 where
   rest : (k : Bool) (j : ℕ) → Rest k j u true sh → Rest k j v true after
   half : (r k : Bool) (j : ℕ) → Half k j r sh → Half k j r after
   full : (r k : Bool) (j : ℕ) → Full k j r sh → Full k j r after
-  none : (set : Bool) → key_in (keys_of sh) set ≡ None → key_in (keys_of after) set ≡ None
+  none : (set : Bool) → key_in (keys_of sh) set ≡ Off → key_in (keys_of after) set ≡ Off
 
 rest_uses : (r k : Bool) (j : ℕ) (u v : Marks) (sh after : Shape) → Uses sh after u v → Rest k j u r sh → Rest k j v r after
 rest_uses false k j u v _ after uses (unkeyed le) = absurd (uses.not_bare refl)
@@ -60,7 +60,7 @@ same_uses sh u v same not_bare = record {
     moved k j _ _ not_bare (old_alone i lt) = old_alone i lt
     moved k j _ _ not_bare (old_both e i lt) = old_both e i lt
 
-no_none : (k set : Bool) (i j : ℕ) → key_in (keys_of (Both k i j)) set ≡ None → ⊥
+no_none : (k set : Bool) (i j : ℕ) → key_in (keys_of (Both k i j)) set ≡ Off → ⊥
 no_none false false i j e = cc
 no_none false true i j e = cc
 no_none true false i j e = cc
@@ -126,26 +126,23 @@ below_use : (s : Bool) (ts : List Touch) (sh : Shape) (k : Bool) (j top : ℕ) �
     → (max (j + 1) (used ts) ≤ top) × NeverFalls (j ∷ uses ts)
 below_use s ts sh k j top is on lt below = (used_within ts j top below.within lt, never_more j (uses ts) (none_above_used ts j (used_bound s ts sh k j is on)) below.falls)
 
-slot_on_live : (sends : Bool) (mine other : Option Key) (j : ℕ) → live_in (slot_from sends mine other) ≡ Some j → on_in mine ≡ Some j
-slot_on_live sends None other j e = absurd cc
-slot_on_live sends (Some key) other j e = by_on sends key.on e
+slot_on_live : (sends : Bool) (mine other : Keyed) (j : ℕ) → live_in (slot_from sends mine other) ≡ Some j → on_in mine ≡ Some j
+slot_on_live sends Off other j e = absurd cc
+slot_on_live sends (Loaded i) other j e = absurd cc
+slot_on_live false (On i) other j e = e
+slot_on_live true (On i) other j e = by_below (is_below (on_in other) i) e
   where
-    by_on : (s b : Bool) → live_in (slot_on s key.draw b (on_in other)) ≡ Some j → (if b then Some key.draw else None) ≡ Some j
-    by_on s false e = absurd cc
-    by_on false true e = e
-    by_on true true e = by_below (is_below (on_in other) key.draw) e
-      where
-        by_below : (b : Bool) → live_in (if b then Armed key.draw else Live key.draw) ≡ Some j → Some key.draw ≡ Some j
-        by_below true e = absurd cc
-        by_below false e = e
+    by_below : (b : Bool) → live_in (if b then Armed i else Live i) ≡ Some j → Some i ≡ Some j
+    by_below true e = absurd cc
+    by_below false e = e
 
 -- a Live draw is On
 pub live_is_on : (ks : Keys) (j : ℕ) → live_draw ks ≡ Some j → (set : Bool) × (on_in (key_in ks set) ≡ Some j)
 live_is_on ks j live = by_first (live_in (slot_of true ks false)) refl live
   where
     by_first : (o : Option ℕ) → live_in (slot_of true ks false) ≡ o → first_of_two o (live_in (slot_of true ks true)) ≡ Some j → (set : Bool) × (on_in (key_in ks set) ≡ Some j)
-    by_first None e live = (true, slot_on_live true ks.one ks.zero j live)
-    by_first (Some i) e live = (false, slot_on_live true ks.zero ks.one j (e ∙ live))
+    by_first None e live = (true, slot_on_live true ks.second ks.first j live)
+    by_first (Some i) e live = (false, slot_on_live true ks.first ks.second j (e ∙ live))
 
 -- a use behind which others come
 pub use_first : (o : Op) (top : ℕ) (p : Place) (ts : List Touch) (t : Touch) (more : List Touch) → (at : FitsAt o top p ts) → TouchFits p.sends ts at.shape t → Turned o top p (t ∷ ts) more → Turned o top p ts (t ∷ more)

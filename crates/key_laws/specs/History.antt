@@ -155,7 +155,7 @@ slot_at h p set = slot_of p.sends (keys_at h p) set
 
 -- whether a place has a Live key
 abbrev pub is_keyed : Keys → Bool
-is_keyed ks = is_some (on_in ks.zero) || is_some (on_in ks.one)
+is_keyed ks = is_some (on_in ks.first) || is_some (on_in ks.second)
 
 abbrev pub has_key : (Place → Keys) → Side → ℕ → ℕ → Bool
 has_key ks side link stream = list_any (λ p. is_keyed (ks p)) (places_of side link stream)

@@ -23,10 +23,17 @@ abbrev pub is_host : Side → Bool
 is_host Host = true
 is_host Device = false
 
+-- direction 0 is what the host's port sends, direction 1 what the device's port sends
+abbrev pub sent_direction : Side → ℕ
+sent_direction Host = 0
+sent_direction Device = 1
+
+abbrev pub received_direction : Side → ℕ
+received_direction Host = 1
+received_direction Device = 0
+
 abbrev pub is_same_side : Side → Side → Bool
-is_same_side Host Host = true
-is_same_side Device Device = true
-is_same_side _ _ = false
+is_same_side a b = sent_direction a == sent_direction b
 
 abbrev pub is_on_stream : Place → ℕ → ℕ → Bool
 is_on_stream p link stream = (p.link == link) && (p.stream == stream)
@@ -34,7 +41,7 @@ is_on_stream p link stream = (p.link == link) && (p.stream == stream)
 abbrev pub is_same_sub : SubKind → SubKind → Bool
 is_same_sub u w = sub_bits u == sub_bits w
 
--- whether its packets go from the device to the host: direction 1, else direction 0
+-- whether its packets go from the device to the host
 abbrev pub is_upward : Place → Bool
 is_upward p = if is_host p.side then not p.sends else p.sends
 
