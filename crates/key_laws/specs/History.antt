@@ -12,7 +12,7 @@ use Rattle.ide_types.specs.declared.status.StreamStatus.TheVariants as status
 use Rattle.link_verdicts.specs.declared.verdict.Verdict.{Verdict}
 use Rattle.link_verdicts.specs.declared.verdict.Verdict.TheVariants as v
 use Rattle.key_laws.specs.Places.{Place, is_host, is_same_side, is_same_sub, is_on_stream, lane, places_of}
-use Rattle.key_laws.specs.Keys.{Touch, Program, Go, Stop, Clear, Seal, Accept, Keys, keys, key_in, kept_in, on_in, Slot, slot_of}
+use Rattle.key_laws.specs.Keys.{Touch, Program, Go, Stop, Clear, Seal, Accept, Keys, keys, key_in, kept_in, on_in, is_on, Slot, slot_of}
 use Rattle.key_laws.specs.Operations.{Op, Idle, Work, Reach, Manager, Begun, work_of, reach_of, manager_after}
 
 abbrev pub History : Type 0
@@ -155,7 +155,7 @@ slot_at h p set = slot_of p.sends (keys_at h p) set
 
 -- whether a place has a Live key
 abbrev pub is_keyed : Keys → Bool
-is_keyed ks = is_some (on_in ks.first) || is_some (on_in ks.second)
+is_keyed ks = is_on ks.first || is_on ks.second
 
 abbrev pub has_key : (Place → Keys) → Side → ℕ → ℕ → Bool
 has_key ks side link stream = list_any (λ p. is_keyed (ks p)) (places_of side link stream)
