@@ -4,6 +4,7 @@ use Rattle.std.specs.Prelude.{if◌then◌else◌, unwrap_or}
 use Rattle.ide_types.specs.declared.sub.SubKind.{SubKind}
 use Rattle.ide_types.specs.declared.sub.SubKind.TheVariants.{Npr, Cpl}
 use Rattle.ide_types.specs.declared.port.PortName.{PortName}
+use Rattle.link_events.specs.declared.event.Event.{Event}
 use Rattle.link_events.specs.declared.event.Event.TheVariants.{Send}
 use Rattle.link_verdicts.specs.declared.verdict.Verdict.{Verdict}
 use Rattle.link_verdicts.specs.declared.verdict.Verdict.TheVariants as v
@@ -18,6 +19,7 @@ use Rattle.link_history.specs.Plan.{has_port, lane_out}
 use Rattle.link_history.specs.Due.{choice, Sending, lanes_at, due, send_read, send_on, refusals, first_that_holds, sealed_by, described, needs_sync, is_keyless, no_key}
 use Rattle.key_laws.specs.History.{History}
 use Rattle.link_history.specs.History.{KeyName, live_key, sealed_packets}
+use Rattle.link_history.specs.KeyFacts.{is_quiet}
 use Rattle.link_history.proofs.Senders.{AreFalse, none_holds, has_key, listed, sealed_by_is, and_false}
 
 -- ---- the verdict
@@ -116,3 +118,18 @@ all_live plan h port bytes ds is =
     let x = lanes_at plan h s.port s.stream in
     subst (AllLive plan h s.port s.stream) (sym (is.list ∙ sealed_by_is x s is.number))
     (listed_live plan h s is.number (needs_sync x s.class Npr) (needs_sync x s.class Cpl) is.free.1.0 (and_false _ _ is.free.1.1.1.0) (and_false _ _ is.free.1.1.1.1.0))
+
+-- ---- verdicts that seal nothing
+
+abbrev pub seals_none : Verdict → Bool
+seals_none (v.Sealed ds) = false
+seals_none _ = true
+
+pub quiet_seals_none : (w : Verdict) → is_quiet w ≡ true → seals_none w ≡ true
+quiet_seals_none (v.Sealed ds) none = none
+quiet_seals_none _ none = refl
+
+pub sealed_same : (plan : Plan) (h : History) (e : Event) (w : Verdict) → seals_none w ≡ true → sealed_packets plan ((e, w) ∷ h) ≡ sealed_packets plan h
+unfolding sealed_packets
+sealed_same plan h (Send p bytes more trusted) (v.Sealed ds) none = absurd cc
+sealed_same plan h _ _ none = refl

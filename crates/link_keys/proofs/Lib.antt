@@ -1,0 +1,5 @@
+pub mod Seats
+pub mod Given
+pub mod RealFacts
+pub mod Moments
+pub mod AllFacts
