@@ -6,3 +6,4 @@ pub mod KeyVerdicts
 pub mod Causes
 pub mod SealingIs
 pub mod OneHistory
+pub mod Choices

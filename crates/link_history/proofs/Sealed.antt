@@ -13,7 +13,7 @@ use Rattle.ide_prefix.specs.Packet.{Packet}
 use Rattle.ide_plan.specs.declared.plan.Plan.{Plan}
 use Rattle.link_history.specs.Plan.{SubStream, is_same, is_same_port, lane_out}
 use Rattle.link_history.specs.Units.{open_unit}
-use Rattle.link_history.specs.History.{SealedList, is_under, is_in, sent_in, posted_in, posted_of, sub_stream_of, with_sealed, packet_of}
+use Rattle.link_history.specs.History.{SealedList, is_under, is_in, ends_in, total_in, sent_in, posted_in, posted_of, sub_stream_of, with_sealed, packet_of}
 
 -- ---- the last place that passes a test
 
@@ -55,6 +55,20 @@ posted-more xs x s from other = count_after (is_in s from) (is_in (posted_of s) 
 pub posted-same : (xs : SealedList) (x : SealedPacket × Packet) (s : SubStream) (from : ℕ) → is_in s from x ≡ false → is_in (posted_of s) from x ≡ false
     → posted_in (xs ++ x ∷ []) s from ≡ posted_in xs s from
 posted-same xs x s from other none = posted-more xs x s from other ∙ rw none (omega arith)
+
+-- ---- totals
+
+pub total-snoc : (xs : SealedList) (x : SealedPacket × Packet) (s : SubStream) (from : ℕ) → total_in (xs ++ x ∷ []) s from ≡ (if ends_in s from x then total_in xs s from + 1 else total_in xs s from)
+unfolding total_in
+total-snoc xs x s from = ap length (filter-append (ends_in s from) xs (x ∷ [])) ∙ (length-append (filter (ends_in s from) xs) (filter (ends_in s from) (x ∷ [])) ∙ one (ends_in s from x))
+  where
+    one : (b : Bool) → length (filter (ends_in s from) xs) + length (if b then x ∷ [] else []) ≡ (if b then length (filter (ends_in s from) xs) + 1 else length (filter (ends_in s from) xs))
+    one true = refl
+    one false = omega arith
+
+-- a packet of another sub-stream adds to no total
+pub total-same : (xs : SealedList) (x : SealedPacket × Packet) (s : SubStream) (from : ℕ) → is_same (sub_stream_of x.0) s ≡ false → total_in (xs ++ x ∷ []) s from ≡ total_in xs s from
+total-same xs x s from other = total-snoc xs x s from ∙ rw other refl
 
 -- ---- what was sent
 
@@ -109,3 +123,11 @@ posted_elsewhere plan ahead bytes (d ∷ ds) xs port stream u from none =
     let p = packet_of plan (ahead d) bytes d (open_unit (sent_in xs (sub_stream_of d) d.draw)) in
     posted_elsewhere plan ahead bytes ds (xs ++ (d, p) ∷ []) port stream u from each.1
     ∙ posted-same xs (d, p) (lane_out port stream u) from (not_in port stream u from d p each.0) (not_in port stream Pr from d p each.0)
+
+pub total_elsewhere : (plan : Plan) (ahead : SealedPacket → List ℕ) (bytes : List ℕ) (ds : List SealedPacket) (xs : SealedList) (port : PortName) (stream : ℕ) (u : SubKind) (from : ℕ) → any_out port stream ds ≡ false
+    → total_in (with_sealed plan ahead bytes ds xs) (lane_out port stream u) from ≡ total_in xs (lane_out port stream u) from
+total_elsewhere plan ahead bytes [] xs port stream u from none = refl
+total_elsewhere plan ahead bytes (d ∷ ds) xs port stream u from none =
+    let each = off_first (is_out port stream d) (any_out port stream ds) none in
+    let p = packet_of plan (ahead d) bytes d (open_unit (sent_in xs (sub_stream_of d) d.draw)) in
+    total_elsewhere plan ahead bytes ds (xs ++ (d, p) ∷ []) port stream u from each.1 ∙ total-same xs (d, p) (lane_out port stream u) from (not_here port stream u d each.0)

@@ -87,7 +87,7 @@ posted_is u posted = same_sub u Pr posted
 pub needs_posted : (x : Lanes) (class u : SubKind) → needs_sync x class u ≡ true → class ≡ Pr
 needs_posted x class u needs = posted_is class (grind arith)
 
-lane_is : (port : PortName) (stream : ℕ) (d : SealedPacket) → d.port ≡ port → d.stream ≡ stream → sub_stream_of d ≡ lane_out port stream d.sub
+pub lane_is : (port : PortName) (stream : ℕ) (d : SealedPacket) → d.port ≡ port → d.stream ≡ stream → sub_stream_of d ≡ lane_out port stream d.sub
 lane_is port stream d port_is stream_is = λ i. lane_out (port_is i) (stream_is i) d.sub
 
 same_lane : (port : PortName) (stream : ℕ) (u x : SubKind) → is_same (lane_out port stream u) (lane_out port stream x) ≡ is_same_sub u x

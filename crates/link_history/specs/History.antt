@@ -58,9 +58,12 @@ untagged_packet plan bytes d front = record {
   tag = [];
 }
 
--- what stands ahead of the authenticated bytes of a unit: on a closed stream, of unit 1, the total before it
+-- what stands ahead of the authenticated bytes of a unit: on a closed stream, of unit 1, the total before it in 8 bytes
+abbrev pub front_with : Bool → ℕ → ℕ → List ℕ
+front_with closed unit total = if closed && (unit == 1) then to_be_bytes w64 total else []
+
 unfoldable pub front_of : Plan → SubStream → ℕ → ℕ → List ℕ
-front_of plan s unit total = if is_closed plan s.link s.stream && (unit == 1) then to_be_bytes w64 total else []
+front_of plan s unit total = front_with (is_closed plan s.link s.stream) unit total
 
 -- the tag of a unit
 abbrev pub unit_tag : Plan → List ℕ → SealedPacket → List Packet → List ℕ

@@ -45,7 +45,7 @@ unused plan h law port stream u k j on waiting =
     let s = lane_out port stream u in
     let other = other_of k j (key_in (keys_at h port s) (not k)) waiting in
     let ks : Keys = keys_there h (place port s true) in
-    let there : on_in (key_in ks (not k)) ≡ Some other.draw = sym (ap (λ (x : Keys). on_in (key_in x (not k))) (keys_out plan h port stream u)) ∙ ap on_in other.on in
+    let there : on_in (key_in ks (not k)) ≡ Some other.draw = sym (ap (λ (x : Keys). on_in (key_in x (not k))) (keys_out h port stream u)) ∙ ap on_in other.on in
     let at = fits (key_plan plan) h (key_cause plan h law) (place port s true) in
     let most : used (moments h (place port s true)) ≤ other.draw + 1 = used_bound true (moments h (place port s true)) at.shape (not k) other.draw at.is there in
     let apart_is : (other.draw == j) ≡ false = differ plan h law port s k other.draw j on other.on in

@@ -36,7 +36,7 @@ live_there : (plan : Plan) (h : History) (port : PortName) (stream : ℕ) (d : S
 live_there plan h port stream d p live here =
     let key_there : live_key h d.port (lane_out d.port d.stream d.sub) ≡ Some live.key = (λ i. live_key h (live.port_is i) (lane_out (live.port_is i) (live.stream_is i) d.sub)) ∙ live.live in
     let ks : Keys = keys_there h (place d.port (lane_out d.port d.stream d.sub) true) in
-    let least : lesser ks.first ks.second ≡ Some live.key = sym (ap (λ (x : Keys). lesser x.first x.second) (keys_out plan h d.port d.stream d.sub)) ∙ key_there in
+    let least : lesser ks.first ks.second ≡ Some live.key = sym (ap (λ (x : Keys). lesser x.first x.second) (keys_out h d.port d.stream d.sub)) ∙ key_there in
     let at : live_draw ks ≡ Some d.draw = live_of ks.first ks.second live.key least ∙ ap (λ (n : ℕ). Some n) (sym live.draw) in
     subst (λ (q : Place). live_draw (keys q.sends (moments h q)) ≡ Some d.draw) (sender_is p d here) at
 
@@ -116,7 +116,7 @@ accepted_given plan h e port unit effects p is = by_test (not p.sends && is_same
     by_test true here =
         let on = accepted_on plan h e port unit effects is in
         let ks : Keys = keys_there h (place port (lane_in port unit.stream unit.sub) false) in
-        let there : on_in (key_in ks on.0) ≡ Some unit.draw = subst (λ (x : Keys). on_in (key_in x on.0) ≡ Some unit.draw) (keys_into plan h port unit.stream unit.sub) on.1 in
+        let there : on_in (key_in ks on.0) ≡ Some unit.draw = subst (λ (x : Keys). on_in (key_in x on.0) ≡ Some unit.draw) (keys_into h port unit.stream unit.sub) on.1 in
         ((on.0, subst (λ (q : Place). on_in (key_in (keys q.sends (moments h q)) on.0) ≡ Some unit.draw) (receiver_is p port unit here) there), tt)
 
 -- ---- all verdicts

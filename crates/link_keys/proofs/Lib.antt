@@ -3,3 +3,4 @@ pub mod Given
 pub mod RealFacts
 pub mod Moments
 pub mod AllFacts
+pub mod Failures

@@ -145,7 +145,7 @@ on_there plan h q stream u port unit k same on =
     let port_is : port ≡ q = λ i. record { side = side i; link = link i } in
     let there : on_in (key_in (keys_at h q (lane_in q stream u)) k) ≡ Some unit.draw = (λ i. on_in (key_in (keys_at h (sym port_is i) (sym same i)) k)) ∙ on in
     let ks : Keys = keys_there h (place q (lane_in q stream u) false) in
-    let both : on_in (key_in ks k) ≡ Some unit.draw = sym (ap (λ (x : Keys). on_in (key_in x k)) (keys_into plan h q stream u)) ∙ there in
+    let both : on_in (key_in ks k) ≡ Some unit.draw = sym (ap (λ (x : Keys). on_in (key_in x k)) (keys_into h q stream u)) ∙ there in
     on_started false (moments h (place q (lane_in q stream u) false)) k unit.draw both
 
 held_on : (plan : Plan) (h : History) (e : Event) (port : PortName) (unit : UnitName) → CauseLaw plan ((e, v.Held port unit) ∷ h) → (k : Bool) × (on_in (key_in (keys_at h port (received_in port unit)) k) ≡ Some unit.draw)

@@ -17,13 +17,13 @@ use Rattle.link_history.specs.Plan.{SubStream, lane_out, lane_in}
 use Rattle.link_history.specs.History.{KeyName, lesser, place, keys_at, sub_stream_of, received_in}
 use Rattle.link_history.proofs.Tests.{same_sub, same_side, eqb-refl, in_not_out}
 
-pub keys_out : (plan : Plan) (h : History) (port : PortName) (stream : ℕ) (u : SubKind) → keys_at h port (lane_out port stream u) ≡ keys_there h (place port (lane_out port stream u) true)
+pub keys_out : (h : History) (port : PortName) (stream : ℕ) (u : SubKind) → keys_at h port (lane_out port stream u) ≡ keys_there h (place port (lane_out port stream u) true)
 unfolding keys_at
-keys_out plan h port stream u = rw (eqb-refl port.link, eqb-refl (sent_direction port.side)) refl
+keys_out h port stream u = rw (eqb-refl port.link, eqb-refl (sent_direction port.side)) refl
 
-pub keys_into : (plan : Plan) (h : History) (port : PortName) (stream : ℕ) (u : SubKind) → keys_at h port (lane_in port stream u) ≡ keys_there h (place port (lane_in port stream u) false)
+pub keys_into : (h : History) (port : PortName) (stream : ℕ) (u : SubKind) → keys_at h port (lane_in port stream u) ≡ keys_there h (place port (lane_in port stream u) false)
 unfolding keys_at
-keys_into plan h port stream u = rw (eqb-refl port.link, in_not_out port.side, eqb-refl (received_direction port.side)) refl
+keys_into h port stream u = rw (eqb-refl port.link, in_not_out port.side, eqb-refl (received_direction port.side)) refl
 
 -- the place that sealed a packet
 pub sender_is : (p : Place) (d : SealedPacket) → is_sender p d ≡ true → place d.port (sub_stream_of d) true ≡ p
