@@ -1,5 +1,5 @@
 -- The stream that a TLP takes is one of its link's.
-use Rattle.std.proofs.Common.{◌≡◌, ℕ, ◌==◌, ◌⊎◌, inl, inr, Bool, true, false, List, [], ◌∷◌, Option, Some, None, refl, sym, ap, subst, ◌∙◌, arith}
+use Rattle.std.proofs.Common.{◌≡◌, ℕ, ◌==◌, ◌⊎◌, inl, inr, Bool, true, false, List, [], ◌∷◌, Option, Some, None, refl, ap, subst, arith}
 use Rattle.std.specs.Prelude.{if◌then◌else◌, is_some, min}
 use Rattle.ide_types.specs.declared.port.PortName.{PortName}
 use Rattle.tlp_layout.specs.declared.head.HeadView.{HeadView}

@@ -1,19 +1,18 @@
 -- All that is used of keys holds.
-use Rattle.std.proofs.Common.{◌≡◌, ℕ, ◌+◌, ◌<◌, ◌≤◌, ◌==◌, Bool, true, false, List, [], Some, refl, ap, sym, ◌∙◌, subst, arith}
+use Rattle.std.proofs.Common.{◌≡◌, ℕ, ◌+◌, ◌<◌, ◌≤◌, ◌==◌, Bool, true, false, [], Some, refl, ap, sym, ◌∙◌, arith}
 use Rattle.std.specs.Prelude.{not, nat_le}
 use Rattle.std.proofs.lemmas.Bool.Decides.{nat_tests}
 use Rattle.ide_types.specs.declared.sub.SubKind.{SubKind}
 use Rattle.ide_types.specs.declared.port.PortName.{PortName}
-use Rattle.key_laws.specs.Places.{Place}
-use Rattle.key_laws.specs.Keys.{Touch, key_in, on_in, keys, Keyed, Off, Loaded, On, Keys}
+use Rattle.key_laws.specs.Keys.{key_in, on_in, Keyed, Off, Loaded, On, Keys}
 use Rattle.key_laws.specs.History.{moments, keys_at as keys_there, History, base}
-use Rattle.key_laws.proofs.Tests.{true-le, le-true, true-same}
+use Rattle.key_laws.proofs.Tests.{true-le, le-true}
 use Rattle.key_laws.proofs.Shapes.{used, used_bound}
 use Rattle.key_laws.proofs.Whole.{fits}
 use Rattle.key_laws.proofs.Bases.{on_from}
 use Rattle.ide_plan.specs.declared.plan.Plan.{Plan}
 use Rattle.link_history.specs.Plan.{SubStream, key_plan, lane_out}
-use Rattle.link_history.specs.History.{waits, place, sends_it, receives_it, keys_by, keys_at, sent, sealed_packets}
+use Rattle.link_history.specs.History.{waits, place, sends_it, receives_it, keys_by, keys_at, sent}
 use Rattle.link_history.specs.Cause.{CauseLaw}
 use Rattle.link_history.specs.KeyFacts.{KeyFacts}
 use Rattle.link_keys.proofs.Seats.{keys_out}

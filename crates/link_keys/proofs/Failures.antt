@@ -1,5 +1,5 @@
 -- Whether a stream failed at a port, after one more pair.
-use Rattle.std.proofs.Common.{◌≡◌, ℕ, ◌==◌, Bool, true, false, List, ◌∷◌, refl, ap, sym, ◌∙◌}
+use Rattle.std.proofs.Common.{◌≡◌, ℕ, Bool, true, false, ◌∷◌, refl, ap, sym, ◌∙◌}
 use Rattle.std.specs.Prelude.{◌&&◌, ◌||◌}
 use Rattle.ide_types.specs.declared.sub.SubKind.{SubKind}
 use Rattle.ide_types.specs.declared.sub.SubKind.TheVariants.{Pr, Npr, Cpl}
@@ -9,16 +9,14 @@ use Rattle.ide_types.specs.declared.port.PortName.{PortName}
 use Rattle.link_events.specs.declared.event.Event.{Event}
 use Rattle.link_verdicts.specs.declared.verdict.Verdict.{Verdict}
 use Rattle.key_laws.specs.Places.{Place}
-use Rattle.key_laws.specs.Keys.{Keys}
 use Rattle.key_laws.specs.History.{History, keys_at as keys_there, is_keyed as keeps_live, has_key, failed as failed_there}
-use Rattle.ide_plan.specs.declared.plan.Plan.{Plan}
 use Rattle.link_history.specs.Plan.{lane_out, lane_in}
 use Rattle.link_history.specs.History.{is_keyed, has_live, has_live_out, has_live_in, fails_at, failed}
 use Rattle.link_keys.proofs.Seats.{keys_out, keys_into}
 
 -- ---- six tests
 
-six_or : (a b c d e f : Bool) → (a || b || c || (d || e || f)) ≡ (a || (b || (c || (d || (e || (f || false))))))
+pub six_or : (a b c d e f : Bool) → (a || b || c || (d || e || f)) ≡ (a || (b || (c || (d || (e || (f || false))))))
 six_or true b c d e f = refl
 six_or false true c d e f = refl
 six_or false false true d e f = refl
@@ -31,7 +29,7 @@ or_true : (x : Bool) → (x || true) ≡ true
 or_true true = refl
 or_true false = refl
 
-six_or_back : (a b c d e f : Bool) → (a || b || c || (d || e || f)) ≡ (d || (e || (f || (a || (b || (c || false))))))
+pub six_or_back : (a b c d e f : Bool) → (a || b || c || (d || e || f)) ≡ (d || (e || (f || (a || (b || (c || false))))))
 six_or_back a b c true e f = or_true (a || b || c)
 six_or_back a b c false true f = or_true (a || b || c)
 six_or_back a b c false false true = or_true (a || b || c)

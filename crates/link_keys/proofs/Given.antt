@@ -1,6 +1,6 @@
 -- What is sealed and what is accepted is under keys that are Live or On: the rules of keys may suppose it.
 use Rattle.std.proofs.Common.{◌≡◌, ℕ, ◌==◌, Bool, true, false, List, [], ◌∷◌, ◌++◌, Some, refl, ap, sym, ◌∙◌, subst}
-use Rattle.std.specs.Prelude.{if◌then◌else◌, ◌&&◌, not}
+use Rattle.std.specs.Prelude.{◌&&◌, not}
 use Rattle.ide_types.specs.Sub.{sub_bits}
 use Rattle.ide_types.specs.declared.sub.SubKind.{SubKind}
 use Rattle.ide_types.specs.declared.sub.SubKind.TheVariants.{Pr, Npr, Cpl}
@@ -17,16 +17,14 @@ use Rattle.key_laws.specs.Keys.{Seal, Accept, key_in, on_in, keys, live_draw, Ke
 use Rattle.key_laws.specs.History.{is_sender, sealed_here, when, came, moments, keys_at as keys_there, History}
 use Rattle.key_laws.specs.Due.{due as key_due}
 use Rattle.key_laws.specs.Laws.{UsesFit, GivenFits, CauseLaw as KeyCauseLaw}
-use Rattle.key_laws.proofs.Tests.{both-true}
 use Rattle.ide_plan.specs.declared.plan.Plan.{Plan}
 use Rattle.link_history.specs.Plan.{SubStream, key_plan, lane_out, lane_in}
-use Rattle.link_history.specs.History.{KeyName, lesser, live_key, on_draw, place, keys_at, received_in}
-use Rattle.link_history.specs.Due.{due, Lanes, Sending, lanes_at, receiving, is_posted, needs_sync}
+use Rattle.link_history.specs.History.{lesser, live_key, on_draw, place, keys_at, received_in}
+use Rattle.link_history.specs.Due.{due, Lanes, Sending, lanes_at, needs_sync}
 use Rattle.link_history.specs.Cause.{CauseLaw}
-use Rattle.link_history.proofs.Tests.{same_sub}
-use Rattle.link_history.proofs.Causes.{AcceptedBy, accepted_by, received_there, is_send, sealed_by_send}
+use Rattle.link_history.proofs.Causes.{accepted_by, received_there, is_send, sealed_by_send}
 use Rattle.link_history.proofs.Senders.{listed, sealed_by_is, needs_posted}
-use Rattle.link_history.proofs.SealingIs.{IsLive, AllLive, IsSealing, sealing_is, all_live}
+use Rattle.link_history.proofs.SealingIs.{IsLive, AllLive, sealing_is, all_live}
 use Rattle.link_keys.proofs.Seats.{keys_out, keys_into, sender_is, receiver_is, live_of}
 
 -- ---- what is sealed

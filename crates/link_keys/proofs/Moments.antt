@@ -1,7 +1,7 @@
 -- What the touches of a place say of the packets there.
-use Rattle.std.proofs.Common.{◌≡◌, ℕ, zero, suc, ◌+◌, ◌-◌, ◌<◌, ◌≤◌, ◌==◌, Bool, true, false, List, [], ◌∷◌, ◌++◌, length, filter, map, drop, Some, refl, ap, sym, ◌∙◌, subst, arith, length-append}
+use Rattle.std.proofs.Common.{◌≡◌, ℕ, zero, suc, ◌-◌, ◌<◌, ◌≤◌, ◌==◌, Bool, true, false, List, [], ◌∷◌, ◌++◌, length, filter, drop, Some, refl, ap, sym, ◌∙◌, subst, arith, length-append}
 use Rattle.std.specs.Prelude.{if◌then◌else◌, ◌&&◌, not, nat_le, nat_lt}
-use Rattle.std.specs.List.{after_last, suffix_len}
+use Rattle.std.specs.List.{suffix_len}
 use Rattle.std.proofs.lemmas.Bool.Decides.{nat_tests}
 use Rattle.std.proofs.lemmas.List.Elements.{filter-append}
 use Rattle.ide_types.specs.declared.sub.SubKind.{SubKind}
@@ -15,16 +15,15 @@ use Rattle.link_verdicts.specs.declared.verdict.SealedPacket.{SealedPacket}
 use Rattle.link_verdicts.specs.declared.verdict.UnitName.{UnitName}
 use Rattle.ide_prefix.specs.Packet.{Packet}
 use Rattle.key_laws.specs.Places.{Place, sent_direction, received_direction}
-use Rattle.key_laws.specs.Keys.{Touch, Seal, key_in, on_in, is_open, keys, Keys}
+use Rattle.key_laws.specs.Keys.{Touch, Seal, key_in, on_in, is_open, Keys}
 use Rattle.key_laws.specs.History.{manager, draws as draws_made, is_sender, sealed_here, when, behind, touches, moments, keys_at as keys_there, History, base}
 use Rattle.key_laws.proofs.Tests.{both-true, true-same}
 use Rattle.key_laws.proofs.Shapes.{used, started}
 use Rattle.key_laws.proofs.Behind.{used_behind, started_behind, on_started, open_behind, touches_no_seal}
 use Rattle.ide_plan.specs.declared.plan.Plan.{Plan}
-use Rattle.link_history.specs.Plan.{SubStream, is_same, is_same_port, lane_out, lane_in}
+use Rattle.link_history.specs.Plan.{SubStream, is_same, lane_out, lane_in}
 use Rattle.link_history.specs.Units.{open_unit}
-use Rattle.link_history.specs.History.{SealedList, place, sends_it, keys_at, sent_in, sealed_packets, with_sealed, ahead_in, packet_of, sub_stream_of, is_under, is_in, posted_in, posted_of, received_in, is_of, held, units_got, got_since, arrived_packet}
-use Rattle.link_history.specs.Due.{receiving}
+use Rattle.link_history.specs.History.{SealedList, place, sends_it, keys_at, sent_in, sealed_packets, with_sealed, ahead_in, packet_of, sub_stream_of, is_under, is_in, posted_in, received_in, is_of, held, units_got, units_since, got_since, ends_in, total_in}
 use Rattle.link_history.specs.Cause.{CauseLaw}
 use Rattle.link_history.proofs.Tests.{same_stream, same_side, same_in, eqb-refl}
 use Rattle.link_history.proofs.Causes.{held_by, received_there, is_send, sealed_by_send}
@@ -133,6 +132,12 @@ none_posted plan h port stream u from le =
     ap length (filter_drop (is_in (lane_out port stream Pr) from) (length (sealed_packets plan h) - suffix_len (λ x. not (is_in (lane_out port stream u) from x)) (sealed_packets plan h)) (sealed_packets plan h)
     (none_in plan h port (lane_out port stream Pr) from (sends_lane port stream Pr) le))
 
+-- where no packet from a draw on was sealed, no unit was finished
+pub none_finished : (plan : Plan) (h : History) (port : PortName) (s : SubStream) (from : ℕ) → sends_it port s ≡ true → used (moments h (place port s true)) ≤ from → total_in (sealed_packets plan h) s from ≡ 0
+unfolding total_in
+none_finished plan h port s from here le =
+    ap length (filter_less (is_in s from) (ends_in s from) (sealed_packets plan h) (λ x is. (both-true (is_in s from x) x.1.prefix.m is).0) (none_in plan h port s from here le))
+
 -- ---- receivers
 
 -- what is held or accepted there is under a draw that is On there
@@ -187,19 +192,32 @@ none_got plan ((e, v.Accepted port unit effects) ∷ h) law q stream u j le =
     rw (not_of plan h q stream u j port unit on.0 on.1 before) (none_got plan h law.1 q stream u j before)
 none_got plan ((e, w) ∷ h) law q stream u j le = none_got plan h law.1 q stream u j (earlier h e w (place q (lane_in q stream u) false) j le)
 
+-- a unit that is accepted there is of a draw whose GO came
+below_from : (plan : Plan) (h : History) (q : PortName) (stream : ℕ) (u : SubKind) (port : PortName) (unit : UnitName) (from : ℕ) → (on : (k : Bool) × (on_in (key_in (keys_at h port (received_in port unit)) k) ≡ Some unit.draw))
+    → started (moments h (place q (lane_in q stream u) false)) ≤ from → (is_same (received_in port unit) (lane_in q stream u) && nat_le from unit.draw) ≡ false
+below_from plan h q stream u port unit from on before = by_test (is_same (received_in port unit) (lane_in q stream u)) refl
+  where
+    by_test : (b : Bool) → is_same (received_in port unit) (lane_in q stream u) ≡ b → (b && nat_le from unit.draw) ≡ false
+    by_test false is = refl
+    by_test true is = let lt = on_there plan h q stream u port unit on.0 (same_stream (received_in port unit) (lane_in q stream u) is) on.1 in grind (arith, nat_tests)
+
 pub none_since : (plan : Plan) (h : History) → CauseLaw plan h → (q : PortName) (stream : ℕ) (u : SubKind) (from : ℕ) → started (moments h (place q (lane_in q stream u) false)) ≤ from → got_since plan h (lane_in q stream u) from ≡ []
 unfolding got_since
 none_since plan [] law q stream u from le = refl
 none_since plan ((e, v.Accepted port unit effects) ∷ h) law q stream u from le =
     let on = accepted_on plan h e port unit effects law.0 in
     let before = earlier h e (v.Accepted port unit effects) (place q (lane_in q stream u) false) from le in
-    rw (by_test on before (is_same (received_in port unit) (lane_in q stream u)) refl) (none_since plan h law.1 q stream u from before)
-  where
-    by_test : (on : (k : Bool) × (on_in (key_in (keys_at h port (received_in port unit)) k) ≡ Some unit.draw)) → started (moments h (place q (lane_in q stream u) false)) ≤ from
-        → (b : Bool) → is_same (received_in port unit) (lane_in q stream u) ≡ b → (b && nat_le from unit.draw) ≡ false
-    by_test on before false is = refl
-    by_test on before true is = let lt = on_there plan h q stream u port unit on.0 (same_stream (received_in port unit) (lane_in q stream u) is) on.1 in grind (arith, nat_tests)
+    rw (below_from plan h q stream u port unit from on before) (none_since plan h law.1 q stream u from before)
 none_since plan ((e, w) ∷ h) law q stream u from le = none_since plan h law.1 q stream u from (earlier h e w (place q (lane_in q stream u) false) from le)
+
+pub no_units : (plan : Plan) (h : History) → CauseLaw plan h → (q : PortName) (stream : ℕ) (u : SubKind) (from : ℕ) → started (moments h (place q (lane_in q stream u) false)) ≤ from → units_since h (lane_in q stream u) from ≡ 0
+unfolding units_since
+no_units plan [] law q stream u from le = refl
+no_units plan ((e, v.Accepted port unit effects) ∷ h) law q stream u from le =
+    let on = accepted_on plan h e port unit effects law.0 in
+    let before = earlier h e (v.Accepted port unit effects) (place q (lane_in q stream u) false) from le in
+    rw (below_from plan h q stream u port unit from on before) (no_units plan h law.1 q stream u from before)
+no_units plan ((e, w) ∷ h) law q stream u from le = no_units plan h law.1 q stream u from (earlier h e w (place q (lane_in q stream u) false) from le)
 
 -- ---- an unfinished unit
 

@@ -1,11 +1,10 @@
 -- What is used of keys holds of the keys that operations, ends of units and accepted units leave.
-use Rattle.std.proofs.Common.{◌≡◌, ℕ, ◌<◌, ◌==◌, Bool, true, false, List, [], ◌∷◌, ◌++◌, Option, Some, None, refl, ap, sym, ◌∙◌, subst, arith}
+use Rattle.std.proofs.Common.{◌≡◌, ℕ, ◌<◌, ◌==◌, Bool, true, false, List, [], ◌∷◌, ◌++◌, Some, refl, ap, sym, ◌∙◌, subst, arith}
 use Rattle.std.specs.Prelude.{if◌then◌else◌, ◌&&◌, ◌||◌, not, nat_le, nat_lt}
 use Rattle.std.proofs.lemmas.Bool.Decides.{nat_tests}
-use Rattle.ide_types.specs.declared.sub.SubKind.{SubKind}
 use Rattle.ide_types.specs.declared.port.PortName.{PortName}
 use Rattle.link_events.specs.declared.event.Event.{Event}
-use Rattle.link_events.specs.declared.event.Event.TheVariants.{Send, Pass, Alter, Cut, Arrive, Dump, Establish, Refresh, Stop, Reset, Status}
+use Rattle.link_events.specs.declared.event.Event.TheVariants.{Send, Establish, Refresh, Stop, Reset}
 use Rattle.link_verdicts.specs.declared.verdict.Verdict.{Verdict}
 use Rattle.link_verdicts.specs.declared.verdict.Verdict.TheVariants as v
 use Rattle.link_verdicts.specs.declared.verdict.SealedPacket.{SealedPacket}
@@ -14,16 +13,16 @@ use Rattle.link_verdicts.specs.declared.verdict.Effect.{Effect}
 use Rattle.key_laws.specs.Places.{Place, is_same_side, is_same_sub, is_on_stream, sent_direction, received_direction}
 use Rattle.key_laws.specs.Keys.{Touch, Seal, Accept, key_in, on_in, keys, unless_below, live_draw, Keyed, Off, Loaded, On, Keys, no_keys, is_on}
 use Rattle.key_laws.specs.Operations.{Op}
-use Rattle.key_laws.specs.History.{manager, draws as draws_made, op_of, is_sender, sealed_here, when, behind, came, touches, moments, keys_at as keys_there, on_draw as on_there, History, base}
-use Rattle.key_laws.specs.Laws.{KeyFacts as FactsThere, CauseLaw as KeyCauseLaw}
+use Rattle.key_laws.specs.History.{manager, draws as draws_made, is_sender, sealed_here, when, behind, came, touches, moments, keys_at as keys_there, on_draw as on_there, History, base}
+use Rattle.key_laws.specs.Laws.{KeyFacts as FactsThere}
 use Rattle.key_laws.proofs.Tests.{both-true, true-same, le-true, le-false}
 use Rattle.key_laws.proofs.Shapes.{Shape, Bare, Waiting, Alone, Following, Both, keys_of, Sound, IsAt, sealed_shape, seals}
 use Rattle.key_laws.proofs.Touches.{AllCome}
 use Rattle.key_laws.proofs.Facts.{key_facts}
 use Rattle.key_laws.proofs.Whole.{fits, next_fits}
 use Rattle.ide_plan.specs.declared.plan.Plan.{Plan}
-use Rattle.link_history.specs.Plan.{SubStream, key_plan, is_same, is_same_port, lane_out}
-use Rattle.link_history.specs.History.{waits, place, sends_it, receives_it, keys_by, keys_at, sub_stream_of, received_in, ended_keys, ends_at, after_ends, accepted_keys, is_keyed, arrived}
+use Rattle.link_history.specs.Plan.{SubStream, key_plan, is_same, is_same_port}
+use Rattle.link_history.specs.History.{place, sends_it, receives_it, keys_by, keys_at, sub_stream_of, received_in, ended_keys, ends_at, after_ends, accepted_keys, is_keyed, arrived}
 use Rattle.link_history.specs.Due.{due}
 use Rattle.link_history.specs.Cause.{CauseLaw}
 use Rattle.link_history.specs.KeyFacts.{operates, is_steady}

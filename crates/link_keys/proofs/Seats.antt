@@ -1,19 +1,15 @@
 -- A port's place in a sub-stream, and the keys there.
-use Rattle.std.proofs.Common.{◌≡◌, ℕ, ◌==◌, Bool, true, false, Option, Some, None, List, refl, ap, sym, ◌∙◌, subst, arith}
+use Rattle.std.proofs.Common.{◌≡◌, ℕ, ◌==◌, Bool, true, false, Option, Some, None, refl, ap, sym, arith}
 use Rattle.std.specs.Prelude.{if◌then◌else◌, ◌&&◌, not, nat_lt, nat_le}
-use Rattle.std.proofs.lemmas.Bool.Decides.{nat_tests}
 use Rattle.ide_types.specs.declared.sub.SubKind.{SubKind}
-use Rattle.ide_types.specs.declared.port.Side.{Side}
-use Rattle.ide_types.specs.declared.port.Side.TheVariants.{Host, Device}
 use Rattle.ide_types.specs.declared.port.PortName.{PortName}
 use Rattle.link_verdicts.specs.declared.verdict.SealedPacket.{SealedPacket}
 use Rattle.link_verdicts.specs.declared.verdict.UnitName.{UnitName}
 use Rattle.key_laws.specs.Places.{Place, is_same_side, is_same_sub, is_on_stream, sent_direction, received_direction}
-use Rattle.key_laws.specs.Keys.{Keyed, Off, Loaded, On, Slot, Live, Armed, live_in, first_of_two, live_draw}
+use Rattle.key_laws.specs.Keys.{Keyed, Off, Loaded, On, Live, Armed, live_in, first_of_two, live_draw}
 use Rattle.key_laws.specs.History.{is_sender, keys_at as keys_there, History}
 use Rattle.key_laws.proofs.Tests.{both-true, true-same, true-le, false-le, lt-true, lt-false}
-use Rattle.ide_plan.specs.declared.plan.Plan.{Plan}
-use Rattle.link_history.specs.Plan.{SubStream, lane_out, lane_in}
+use Rattle.link_history.specs.Plan.{lane_out, lane_in}
 use Rattle.link_history.specs.History.{KeyName, lesser, place, keys_at, sub_stream_of, received_in}
 use Rattle.link_history.proofs.Tests.{same_sub, same_side, eqb-refl, in_not_out}
 

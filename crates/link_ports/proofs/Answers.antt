@@ -13,7 +13,7 @@ use Rattle.ide_plan.specs.declared.plan.Plan.{Plan}
 use Rattle.link_history.specs.Plan.{SubStream, lane_in, key_of, mode_of, is_closed}
 use Rattle.key_laws.specs.History.{History, base}
 use Rattle.key_laws.specs.Keys.{Keyed, Off, Loaded, On, Keys, key_in, on_in, is_on}
-use Rattle.link_history.specs.History.{keys_at, on_draw, is_keyed, has_live_in, failed, pending, units_got, units_since, meets_counts, front_of, front_due}
+use Rattle.link_history.specs.History.{keys_at, on_draw, is_keyed, has_live_in, failed, pending, units_got, units_since, meets_counts, front_of}
 use Rattle.link_history.specs.Due.{Ending, settled, under_keys, receiving, is_verified, is_mixed, is_overfull, unit_under, effect_of}
 use Rattle.link_ports.specs.Stream.{Slots, LiveKey, RxSub, Three, Taken, Insecure, NotKeyed, Failed, Held, Accepted, each_sub, at_sub, slot_in, live_in, taken_by, taken_under, checked, holds_any, is_tagged, is_allowed}
 use Rattle.link_ports.specs.Machine.{verdict_of}

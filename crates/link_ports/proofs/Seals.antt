@@ -14,7 +14,7 @@ use Rattle.tlp_layout.specs.Reading.{read_of}
 use Rattle.ide_prefix.specs.Packet.{Packet}
 use Rattle.ide_plan.specs.declared.plan.Plan.{Plan}
 use Rattle.link_history.specs.Plan.{SubStream, is_same, is_same_port, lane_out, key_of}
-use Rattle.key_laws.specs.Places.{sent_direction, is_same_sub}
+use Rattle.key_laws.specs.Places.{is_same_sub}
 use Rattle.link_history.specs.Units.{units, open_unit}
 use Rattle.link_history.specs.History.{SealedList, KeyName, lesser, sent_in, posted_in, total_in, front_with, is_in, posted_of, sub_stream_of, packet_of, with_sealed, waits, ended_keys, ends_at, after_ends}
 use Rattle.key_laws.specs.Keys.{Keyed, Off, Loaded, On, Keys, key_in}

@@ -1,6 +1,6 @@
 -- The verdict of a send is the one that is due, and the state after it stands for the history with it.
-use Rattle.std.proofs.Common.{◌≡◌, ℕ, ◌+◌, ◌==◌, Bool, true, false, List, [], ◌∷◌, ◌++◌, length, map, Option, Some, None, Result, Ok, Err, refl, ap, sym, ◌∙◌, subst, arith}
-use Rattle.std.specs.Prelude.{if◌then◌else◌, ◌&&◌, ◌||◌, is_none, is_some, unwrap_or, nat_le}
+use Rattle.std.proofs.Common.{◌≡◌, ℕ, ◌+◌, ◌==◌, Bool, true, false, List, [], ◌∷◌, ◌++◌, length, map, Option, Some, None, Result, Ok, Err, refl, ap, sym, ◌∙◌, subst}
+use Rattle.std.specs.Prelude.{if◌then◌else◌, ◌&&◌, ◌||◌, is_some, unwrap_or}
 use Rattle.std.proofs.lemmas.List.{length-map}
 use Rattle.ide_types.specs.declared.sub.SubKind.{SubKind}
 use Rattle.ide_types.specs.declared.sub.SubKind.TheVariants.{Pr, Npr, Cpl}
@@ -18,13 +18,12 @@ use Rattle.tlp_layout.specs.Tlp.{header, body}
 use Rattle.tlp_layout.specs.Reading.{read_of}
 use Rattle.ide_prefix.specs.Packet.{Packet}
 use Rattle.fault_words.specs.FaultWords.{tlp_word}
-use Rattle.link_history.specs.Plan.{is_closed, mode_of, is_same_port, lane_out, has_port, has_stream, streams_of, stream_plan, with_id}
+use Rattle.link_history.specs.Plan.{is_closed, mode_of, is_same_port, lane_out, has_port, has_stream}
 use Rattle.ide_plan.specs.declared.plan.Plan.{Plan}
-use Rattle.ide_plan.specs.declared.stream.StreamPlan.{StreamPlan}
-use Rattle.link_history.specs.Due.{choice, Sending, Lanes, lanes_at, due, first_that_holds, refusals, sealed_by, sent_as, described, needs_sync, is_keyless, is_posted, ends_unit, sets_trusted, no_key, send_read as due_read, send_on as due_on}
-use Rattle.link_history.specs.History.{failed, SealedList, keys_at, KeyName, lesser, live_key, is_keyed, sealed_packets, with_sealed, has_live_out, posted_in, after_ends, total_in, ahead_in, front_of}
+use Rattle.link_history.specs.Due.{choice, Sending, Lanes, lanes_at, due, first_that_holds, refusals, sealed_by, sent_as, described, needs_sync, is_keyless, no_key, send_read as due_read, send_on as due_on}
+use Rattle.link_history.specs.History.{failed, SealedList, keys_at, KeyName, live_key, is_keyed, sealed_packets, with_sealed, has_live_out, posted_in, after_ends, total_in, ahead_in, front_of}
 use Rattle.key_laws.specs.History.{History, base}
-use Rattle.key_laws.specs.Keys.{Keyed, Off, Loaded, On, Keys, key_in, is_on}
+use Rattle.key_laws.specs.Keys.{Keyed, On, Keys, key_in, is_on}
 use Rattle.link_history.specs.Cause.{CauseLaw}
 use Rattle.link_history.specs.KeyFacts.{IsNoOperation, operates, KeyFacts, is_quiet}
 use Rattle.link_ports.specs.Stream.{lanes_of, StreamState, TxSub, Three, each_sub, sealed_all}
@@ -33,7 +32,6 @@ use Rattle.link_ports.specs.Machine.{LinkState, LinkPacket, answered, find, put,
 use Rattle.link_ports.specs.Stands.{PortsStand, standing, tx_standing, tx_slots}
 use Rattle.link_history.proofs.Choices.{choice_known}
 use Rattle.link_history.proofs.Senders.{AreFalse, none_holds, has_key, and_false, on_live, listed, sealed_by_is, needs_posted}
-use Rattle.link_history.proofs.Tests.{eqb-refl, same_sub}
 use Rattle.link_ports.proofs.Puts.{find-put, find-put_other}
 use Rattle.link_history.proofs.Sealed.{any_out, is_out}
 use Rattle.link_ports.proofs.Frames.{each_same, tx_is, stream_is, rx_frame, live_out, failed_same}

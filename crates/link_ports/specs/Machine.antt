@@ -1,5 +1,5 @@
 -- What is kept of all links between two events, and one step.
-use Rattle.std.specs.Prelude.{true, false, not, ◌&&◌, ◌||◌, ℕ, suc, ◌+◌, ◌-◌, ◌*◌, ◌==◌, nat_lt, nat_le, Bool, if◌then◌else◌, List, [], ◌∷◌, ◌++◌, length, map, take, slice_get, slice_index, slice_set, bit_xor, Option, Some, None, Result, Ok, Err}
+use Rattle.std.specs.Prelude.{true, false, not, ◌&&◌, ◌||◌, ℕ, ◌+◌, ◌-◌, ◌*◌, ◌==◌, nat_lt, nat_le, Bool, if◌then◌else◌, List, [], ◌∷◌, ◌++◌, length, map, take, slice_get, slice_index, slice_set, bit_xor, Option, Some, None, Result, Ok, Err}
 use Rattle.std.specs.List.{slice_index_or}
 use Rattle.std.specs.Option.{option_and_then}
 use Rattle.ide_types.specs.declared.port.PortName.{PortName}
@@ -34,7 +34,7 @@ use Rattle.key_laws.specs.Operations.{Op, Idle, Work, Reach, work_of, reach_of, 
 use Rattle.key_laws.specs.History.{status_by, worked}
 use Rattle.key_laws.specs.Due.{PortView, establish_on, refresh_on, stop_on}
 use Rattle.link_ports.specs.Moves.{Move, Program, Go, Halt, is_live, any_live, moved_stream}
-use Rattle.link_history.specs.Plan.{SubStream, key_plan, partner, lane_out, lane_in, key_of, streams_of, has_port, mode_of, is_closed, streams_by_link}
+use Rattle.link_history.specs.Plan.{SubStream, key_plan, partner, key_of, streams_of, has_port, mode_of, is_closed, streams_by_link}
 use Rattle.ide_plan.specs.declared.plan.Plan.{Plan}
 use Rattle.ide_plan.specs.declared.stream.StreamPlan.{StreamPlan}
 use Rattle.link_history.specs.Due.{choice, Sending, refusals, sealed_by, first_that_holds, effect_of}
