@@ -33,7 +33,7 @@ fn faults(rt: HostRuntime) {
             &[0x92, 0x80, 5, 0, 0xff],
             PacketFault::Tlp(TlpFault::Kind(4)),
         ),
-        // 34h is a message in a posted packet, and begins a sync packet elsewhere, with M and without T.
+        // 0x34 is a message in a posted packet, and begins a sync packet elsewhere, with M and without T.
         (&[0x92, 0x80, 5, 0, 0x34], PacketFault::Short(5)),
         (&[0x92, 0x81, 5, 0, 0x34], PacketFault::Short(5)),
         (&[0x92, 0x82, 5, 7, 0x34], PacketFault::Short(5)),
