@@ -7,17 +7,16 @@ use Rattle.tlp_layout.specs.declared.layout.Layout.TheVariants as layouts
 use Rattle.tlp_layout.specs.declared.head.HeadView.{HeadView}
 use Rattle.tlp_layout.specs.declared.fault.TlpFault.{TlpFault}
 use Rattle.tlp_layout.specs.declared.fault.TlpFault.TheVariants as faults
-use Rattle.tlp_layout.specs.declared.tlp.Tlp.{Tlp}
 use Rattle.tlp_layout.specs.Head.{head_bytes, SpellsHead, IsHead}
 use Rattle.tlp_layout.specs.Causes.{head_size, layout_at}
 use Rattle.tlp_layout.specs.Faults.{IsFault, IsHeadFault}
 use Rattle.tlp_layout.specs.Inside.{Agrees, Stops, StopsAt}
 use Rattle.tlp_layout.specs.Reading.{head_of, fields_of, rest_size, wants_head, wants_tlp, whole_size, may_follow}
-use Rattle.tlp_layout.specs.Tlp.{body_size, Spells, IsTlp}
-use Rattle.tlp_layout.specs.View.{with_fields}
+use Rattle.tlp_layout.specs.Class.{layout_of}
+use Rattle.tlp_layout.specs.Tlp.{body_size, Spells, IsTlp, with_payload}
 use Rattle.first_fault.proofs.Cells.{IsBytes}
-use Rattle.tlp_layout.proofs.Heads.{layout_of, back, again}
-use Rattle.tlp_layout.proofs.Walk.{IsWalked, whole_front, fits_from, agrees_there, head_size_at_least}
+use Rattle.tlp_layout.proofs.Heads.{back, again, head_size_at_least}
+use Rattle.tlp_layout.proofs.Walk.{IsWalked, whole_front, fits_from, agrees_there}
 use Rattle.first_fault.proofs.Fronts.{Halts, place_of}
 use Rattle.tlp_layout.proofs.Grammar.{heads, tlps, needs_tlp_at, take_right, drop_bytes, spells_with}
 
@@ -185,15 +184,14 @@ head_front k s n r =
     let parts : head_bytes v ++ drop n s ≡ s = ap (λ (x : List ℕ). x ++ drop n s) (sym r.spelled) ∙ take-append-drop n s in
     subst (λ (j : Layout). head_of j s ≡ v) (kind_again k (take n s)) (subst (λ (x : List ℕ). head_of (layout_of v.fields) x ≡ v) parts one)
 
-pub tlp_found : (k : Layout) (s : List ℕ) (n wanted : ℕ) (t : Tlp) → HasHead k s n → wanted ≡ rest_size s → length s ≡ n + wanted
-    → t ≡ with_fields (head_of k s).lead (head_of k s).has_payload (head_of k s).fields (drop n s) → Spells t s
-tlp_found k s n wanted t h e long is =
+pub tlp_found : (k : Layout) (s : List ℕ) (n wanted : ℕ) → HasHead k s n → wanted ≡ rest_size s → length s ≡ n + wanted
+    → Spells (with_payload (head_of k s) (drop n s)) s
+tlp_found k s n wanted h e long =
     let r = back k (take n s) (take_right k s n h.size h.within (walked k s n h)) in
     let v = head_of k (take n s) in
     let same : head_of k s ≡ v = head_front k s n r in
-    let size : length (drop n s) ≡ body_size v.has_payload v.lead.length = omega (arith, length-drop n s, ap (λ (x : HeadView). body_size x.has_payload x.lead.length) same) in
-    let all = drop_bytes n s (λ i lt. h.fit i) in
-    let one = spells_with v.lead v.has_payload v.fields (drop n s) r.fits size all in
+    let size : length (drop n s) ≡ body_size v.has_payload v.lead.length =
+    omega (arith, length-drop n s, ap (λ (x : HeadView). body_size x.has_payload x.lead.length) same) in
+    let one = spells_with v (drop n s) r.fits size (drop_bytes n s (λ i lt. h.fit i)) in
     let parts : head_bytes v ++ drop n s ≡ s = ap (λ (x : List ℕ). x ++ drop n s) (sym r.spelled) ∙ take-append-drop n s in
-    let named : with_fields v.lead v.has_payload v.fields (drop n s) ≡ t = sym (is ∙ ap (λ (x : HeadView). with_fields x.lead x.has_payload x.fields (drop n s)) same) in
-    subst (λ (x : Tlp). Spells x s) named (subst (Spells (with_fields v.lead v.has_payload v.fields (drop n s))) parts one)
+    subst (λ (x : HeadView). Spells (with_payload x (drop n s)) s) (sym same) (subst (Spells (with_payload v (drop n s))) parts one)

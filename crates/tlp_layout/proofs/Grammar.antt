@@ -6,20 +6,17 @@ use Rattle.std.proofs.lemmas.List.{get_or_past, get_or_append_left, get_or-appen
 use Rattle.std.proofs.lemmas.List.Elements.{All-append, All-replicate, All-from_get_or}
 use Rattle.tlp_layout.specs.declared.layout.Layout.{Layout}
 use Rattle.tlp_layout.specs.declared.layout.Layout.TheVariants as layouts
-use Rattle.tlp_layout.specs.declared.head.Lead.{Lead}
 use Rattle.tlp_layout.specs.declared.head.HeadView.{HeadView}
-use Rattle.tlp_layout.specs.declared.head.Fields.{Fields}
-use Rattle.tlp_layout.specs.declared.head.Fields.TheVariants as fields
 use Rattle.tlp_layout.specs.declared.tlp.Tlp.{Tlp}
 use Rattle.first_fault.specs.Fronts.{Begins}
 use Rattle.tlp_layout.specs.Head.{head_bytes, FitsHead, IsHead}
 use Rattle.tlp_layout.specs.Causes.{head_size}
 use Rattle.tlp_layout.specs.Reading.{head_of, rest_size, wants_head, wants_tlp, whole_size, may_follow}
-use Rattle.tlp_layout.specs.Tlp.{body_size, tlp_bytes, FitsTlp, Spells, IsTlp, header, body}
-use Rattle.tlp_layout.specs.View.{with_fields}
+use Rattle.tlp_layout.specs.Class.{layout_of}
+use Rattle.tlp_layout.specs.Tlp.{body_size, tlp_bytes, FitsTlp, Spells, IsTlp, header, body, with_payload}
 use Rattle.first_fault.proofs.Cells.{IsBytes, all_bytes}
-use Rattle.tlp_layout.proofs.Heads.{layout_of, IsRight, Head-of, back, kept, again}
-use Rattle.tlp_layout.proofs.Walk.{IsWalked, whole_front, fits_from, walked_from, filled, filler, filled_right, head_size_at_least}
+use Rattle.tlp_layout.proofs.Heads.{IsRight, back, kept, again, head_size_at_least}
+use Rattle.tlp_layout.proofs.Walk.{IsWalked, whole_front, fits_from, walked_in, filled, filler, filled_right}
 use Rattle.first_fault.proofs.Fronts.{Walks, IsGrammar}
 
 -- ---- headers
@@ -60,7 +57,7 @@ head_goes_on : (s : List ℕ) → Walks wants_head may_follow s → Begins IsHea
 head_goes_on [] w = record { rest = filled layouts.Memory (0 ∷ []); spelled = head_from layouts.Memory _ (filled_right layouts.Memory (0 ∷ []) (omega arith) (omega arith) one_zero_walks) }
 head_goes_on (b ∷ bs) w =
     let size = front_size (b ∷ bs) w.needed (length bs) refl in
-    let k = walked_from (b ∷ bs) (length (b ∷ bs)) (omega arith) (omega arith) w.fitting in
+    let k = walked_in (b ∷ bs) (length (b ∷ bs)) (omega arith) (omega arith) w.fitting in
     record { rest = drop (length (b ∷ bs)) (filler k.0 b); spelled = head_from k.0 _ (filled_right k.0 (b ∷ bs) (omega arith) size k.1) }
 
 pub heads : IsGrammar IsHead wants_head may_follow
@@ -72,23 +69,16 @@ heads = record {
 
 -- ---- TLPs
 
-pub spells_with : (l : Lead) (p : Bool) (f : Fields) (b : List ℕ) → FitsHead (Head-of l p f) → length b ≡ body_size p l.length → All (λ x. x < 256) b
-    → Spells (with_fields l p f b) (head_bytes (Head-of l p f) ++ b)
-spells_with l true (fields.Memory f) b h e all = record { fits = record { head = h; size = e; bytes = all }; spelled = refl }
-spells_with l true (fields.Config f) b h e all = record { fits = record { head = h; size = e; bytes = all }; spelled = refl }
-spells_with l true (fields.Message f) b h e all = record { fits = record { head = h; size = e; bytes = all }; spelled = refl }
-spells_with l true (fields.Completion f) b h e all = record { fits = record { head = h; size = e; bytes = all }; spelled = refl }
-spells_with l false (fields.Memory f) [] h e all = record { fits = record { head = h; size = e; bytes = all }; spelled = refl }
-spells_with l false (fields.Config f) [] h e all = record { fits = record { head = h; size = e; bytes = all }; spelled = refl }
-spells_with l false (fields.Message f) [] h e all = record { fits = record { head = h; size = e; bytes = all }; spelled = refl }
-spells_with l false (fields.Completion f) [] h e all = record { fits = record { head = h; size = e; bytes = all }; spelled = refl }
-spells_with l false f (x ∷ b) h e all = absurd (omega arith)
+pub spells_with : (h : HeadView) (b : List ℕ) → FitsHead h → length b ≡ body_size h.has_payload h.lead.length
+    → All (λ x. x < 256) b → Spells (with_payload h b) (head_bytes h ++ b)
+spells_with h b fits e all = record { fits = record { head = fits; size = e; bytes = all }; spelled = refl }
 
 pub completes : (k : Layout) (h b : List ℕ) → IsRight k h → length b ≡ rest_size h → All (λ x. x < 256) b → IsTlp (h ++ b)
 completes k h b r e all =
     let s = back k h r in
-    let v = head_of k h in
-    record { tlp = with_fields v.lead v.has_payload v.fields b; spells = subst (λ (x : List ℕ). Spells (with_fields v.lead v.has_payload v.fields b) (x ++ b)) (sym s.spelled) (spells_with v.lead v.has_payload v.fields b s.fits e all) }
+    let t = with_payload (head_of k h) b in
+    let spelled = spells_with (head_of k h) b s.fits e all in
+    record { tlp = t; spells = subst (λ (x : List ℕ). Spells t (x ++ b)) (sym s.spelled) spelled }
 
 -- bytes that are a TLP: a right header, and as many bytes behind it as it wants
 pub record IsWhole (k : Layout) (s : List ℕ) : Type 0 where
@@ -194,7 +184,7 @@ long_goes_on k s le size w =
 tlp_goes_on : (s : List ℕ) → Walks wants_tlp may_follow s → Begins IsTlp s
 tlp_goes_on [] w = let b = short_goes_on layouts.Memory (0 ∷ []) (omega arith) (omega arith) one_zero_walks in record { rest = 0 ∷ b.rest; spelled = b.spelled }
 tlp_goes_on (b ∷ bs) w =
-    let k = walked_from (b ∷ bs) (length (b ∷ bs)) (omega arith) (omega arith) w.fitting in
+    let k = walked_in (b ∷ bs) (length (b ∷ bs)) (omega arith) (omega arith) w.fitting in
     elim (cases_lt (head_size b) (length (b ∷ bs))) [
       | inr short ↦ short_goes_on k.0 (b ∷ bs) (omega arith) short k.1
       | inl long ↦

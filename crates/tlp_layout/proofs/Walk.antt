@@ -8,12 +8,9 @@ use Rattle.tlp_layout.specs.declared.layout.Layout.TheVariants as layouts
 use Rattle.tlp_layout.specs.Reading.{stands_at, may_follow, whole_size}
 use Rattle.tlp_layout.specs.Causes.{is_wide, head_size, layout_at, reserved, allowed}
 use Rattle.tlp_layout.specs.Tlp.{body_size}
-use Rattle.tlp_layout.proofs.Heads.{IsRight}
+use Rattle.tlp_layout.proofs.Heads.{IsRight, head_size_at_least}
 
 -- ---- sizes
-
-pub head_size_at_least : (b : ℕ) → 12 ≤ head_size b
-head_size_at_least b = elim (is_wide b) as (λ (w : Bool). 12 ≤ cond w 16 12) [ true ↦ omega arith | false ↦ omega arith ]
 
 pub head_size_at_most : (b : ℕ) → head_size b ≤ 16
 head_size_at_most b = elim (is_wide b) as (λ (w : Bool). cond w 16 12 ≤ 16) [ true ↦ omega arith | false ↦ omega arith ]
@@ -62,8 +59,8 @@ agrees_there k s kind (suc i) lt pos less f =
     let there : stands_at (length (take (suc i) s)) (take (suc i) s) (get_or s (suc i) 0) ≡ true = (and_parts _ _ f).1 in
     rw (long, first, lt-ltb _ _ less, kind) at there
 
-pub walked_from : (s : List ℕ) (n : ℕ) → 0 < n → n ≤ length s → ((i : ℕ) → i < n → IsTrue (may_follow (take i s) (get_or s i 0))) → (k : Layout) × IsWalked k s n
-walked_from s n pos le f =
+pub walked_in : (s : List ℕ) (n : ℕ) → 0 < n → n ≤ length s → ((i : ℕ) → i < n → IsTrue (may_follow (take i s) (get_or s i 0))) → (k : Layout) × IsWalked k s n
+walked_in s n pos le f =
     let sk : (k : Layout) × (layout_at (get_or s 0 0) ≡ Some k) = some_of (layout_at (get_or s 0 0)) ((and_parts (ltb (get_or s 0 0) 256) (is_some (layout_at (get_or s 0 0))) (f 0 pos)).1) in
     (sk.0, record { fit = λ i lt. ltb-true _ _ ((and_parts _ _ (f i lt)).0); kind = sk.1; agrees = λ i p lt less. agrees_there sk.0 s sk.1 i (omega arith) p less (f i lt) })
 
