@@ -15,10 +15,10 @@ use Rattle.tlp_layout.specs.Reading.{head_of, fields_of, rest_size, wants_head, 
 use Rattle.tlp_layout.specs.Class.{layout_of}
 use Rattle.tlp_layout.specs.Tlp.{body_size, Spells, IsTlp, with_payload}
 use Rattle.first_fault.proofs.Cells.{IsBytes}
-use Rattle.tlp_layout.proofs.Heads.{back, again, head_size_at_least}
+use Rattle.tlp_layout.proofs.Heads.{back, head_size_at_least}
 use Rattle.tlp_layout.proofs.Walk.{IsWalked, whole_front, fits_from, agrees_there}
 use Rattle.first_fault.proofs.Fronts.{Halts, place_of}
-use Rattle.tlp_layout.proofs.Grammar.{heads, tlps, needs_tlp_at, take_right, drop_bytes, spells_with}
+use Rattle.tlp_layout.proofs.Grammar.{heads, tlps, needs_tlp_at, take_right, parts_spell}
 
 -- ---- a header that goes wrong
 
@@ -170,28 +170,8 @@ tlp_trails k s n wanted h e lt =
       rw (ne_eqb place (length s) (λ e. omega arith), ne_eqb place 0 (λ e. omega arith), le-ltb place (head_size (get_or s 0 0)) (omega arith)) refl,
     )
 
-kind_again : (k : Layout) (s : List ℕ) → layout_of (fields_of k s) ≡ k
-kind_again layouts.Memory s = refl
-kind_again layouts.Config s = refl
-kind_again layouts.Message s = refl
-kind_again layouts.Completion s = refl
-
--- the header is that of its bytes alone
-head_front : (k : Layout) (s : List ℕ) (n : ℕ) → SpellsHead (head_of k (take n s)) (take n s) → head_of k s ≡ head_of k (take n s)
-head_front k s n r =
-    let v = head_of k (take n s) in
-    let one : head_of (layout_of v.fields) (head_bytes v ++ drop n s) ≡ v = again v (drop n s) r.fits in
-    let parts : head_bytes v ++ drop n s ≡ s = ap (λ (x : List ℕ). x ++ drop n s) (sym r.spelled) ∙ take-append-drop n s in
-    subst (λ (j : Layout). head_of j s ≡ v) (kind_again k (take n s)) (subst (λ (x : List ℕ). head_of (layout_of v.fields) x ≡ v) parts one)
-
 pub tlp_found : (k : Layout) (s : List ℕ) (n wanted : ℕ) → HasHead k s n → wanted ≡ rest_size s → length s ≡ n + wanted
     → Spells (with_payload (head_of k s) (drop n s)) s
 tlp_found k s n wanted h e long =
-    let r = back k (take n s) (take_right k s n h.size h.within (walked k s n h)) in
-    let v = head_of k (take n s) in
-    let same : head_of k s ≡ v = head_front k s n r in
-    let size : length (drop n s) ≡ body_size v.has_payload v.lead.length =
-    omega (arith, length-drop n s, ap (λ (x : HeadView). body_size x.has_payload x.lead.length) same) in
-    let one = spells_with v (drop n s) r.fits size (drop_bytes n s (λ i lt. h.fit i)) in
-    let parts : head_bytes v ++ drop n s ≡ s = ap (λ (x : List ℕ). x ++ drop n s) (sym r.spelled) ∙ take-append-drop n s in
-    subst (λ (x : HeadView). Spells (with_payload x (drop n s)) s) (sym same) (subst (Spells (with_payload v (drop n s))) parts one)
+    subst (λ (m : ℕ). Spells (with_payload (head_of k s) (drop m s)) s) (sym h.size)
+    (parts_spell k s (walked k s n h) (omega (arith, whole_is k s n h)))

@@ -19,30 +19,7 @@ use Rattle.tlp_layout.specs.Faults.{IsFault, IsHeadFault}
 use Rattle.tlp_layout.specs.Reading.{head_of, head_read, tlp_read, may_follow, wants_head, wants_tlp, whole_size, read_head_of, read_of}
 use Rattle.tlp_layout.proofs.Heads.{kept, again, head_size_at_least}
 use Rattle.tlp_layout.proofs.Walk.{body_at_most, whole_front}
-use Rattle.tlp_layout.proofs.Grammar.{spells_with, heads, tlps, is_right, is_whole}
-
--- ---- what walks and wants no more is spelled
-
-head_whole : (s : List ℕ) → Walks wants_head may_follow s → (IsTrue (wants_head s) → ⊥) → IsHead s
-head_whole s w done =
-    let b = heads.goes_on s w in
-    let le : head_size (get_or s 0 0) ≤ length s = elim (cases_lt (length s) (head_size (get_or s 0 0))) [ inl less ↦ absurd (done (lt-ltb _ _ less)) | inr past ↦ past ] in
-    let some : 12 ≤ length s = omega (arith, head_size_at_least (get_or s 0 0)) in
-    let r = is_right (s ++ b.rest) b.spelled in
-    let first : get_or (s ++ b.rest) 0 0 ≡ get_or s 0 0 = get_or_append_left s b.rest 0 0 (omega arith) in
-    let none : length b.rest ≡ 0 = omega (arith, r.1.size, length-append s b.rest, ap head_size first, le) in
-    subst IsHead (ap (λ (x : List ℕ). s ++ x) (nil_from_length b.rest none) ∙ append-nil s) b.spelled
-
-tlp_whole : (s : List ℕ) → Walks wants_tlp may_follow s → (IsTrue (wants_tlp s) → ⊥) → IsTlp s
-tlp_whole s w done =
-    let b = tlps.goes_on s w in
-    let le : whole_size s ≤ length s = elim (cases_lt (length s) (whole_size s)) [ inl less ↦ absurd (done (lt-ltb _ _ less)) | inr past ↦ past ] in
-    let some : 12 ≤ length s = omega (arith, head_size_at_least (get_or s 0 0)) in
-    let r = is_whole (s ++ b.rest) b.spelled in
-    let front : whole_size (take (length s) (s ++ b.rest)) ≡ whole_size (s ++ b.rest) = whole_front (length s) (s ++ b.rest) (omega arith) in
-    let same : whole_size s ≡ whole_size (s ++ b.rest) = sym (ap whole_size (take_at s b.rest (length s) refl)) ∙ front in
-    let none : length b.rest ≡ 0 = omega (arith, r.1.size, length-append s b.rest, same, le) in
-    subst IsTlp (ap (λ (x : List ℕ). s ++ x) (nil_from_length b.rest none) ∙ append-nil s) b.spelled
+use Rattle.tlp_layout.proofs.Grammar.{spells_with, heads, tlps, head_whole, tlp_whole}
 
 pub readable_heads : IsReadable IsHead wants_head may_follow
 readable_heads = record { grammar = heads; whole = head_whole }
