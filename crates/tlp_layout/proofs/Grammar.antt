@@ -5,16 +5,11 @@ use Rattle.std.specs.Prelude.{All}
 use Rattle.std.proofs.lemmas.Bool.{cases_lt, ltb-true, lt-ltb, le-ltb, and_parts}
 use Rattle.std.proofs.lemmas.List.{get_or_past, get_or_push, take_at, take_all, get_or_append_left, get_or-append_right, length-replicate}
 use Rattle.std.proofs.lemmas.List.Elements.{All-append, All-replicate, All-from_get_or}
-use Rattle.tlp_layout.specs.declared.layout.Layout.{Layout}
-use Rattle.tlp_layout.specs.declared.layout.Layout.TheVariants as layouts
-use Rattle.tlp_layout.specs.declared.head.HeadView.{HeadView}
+use Rattle.tlp_layout.specs.{Layout, HeadView, head_bytes, FitsHead, SpellsHead, IsHead, head_size, has_data, head_of, rest_size, wants_head, wants_tlp, whole_size, may_follow, layout_of, body_size, tlp_bytes, FitsTlp, Spells, IsTlp, header, body, with_payload}
 use Rattle.tlp_layout.specs.declared.tlp.Tlp.{Tlp}
+use Rattle.tlp_layout.specs.declared.layout.Layout.TheVariants as layouts
 use Rattle.first_fault.specs.Fronts.{Begins}
-use Rattle.tlp_layout.specs.Head.{head_bytes, FitsHead, SpellsHead, IsHead}
-use Rattle.tlp_layout.specs.Causes.{head_size, has_data}
-use Rattle.tlp_layout.specs.Reading.{head_of, fields_of, rest_size, wants_head, wants_tlp, whole_size, may_follow}
-use Rattle.tlp_layout.specs.Class.{layout_of}
-use Rattle.tlp_layout.specs.Tlp.{body_size, tlp_bytes, FitsTlp, Spells, IsTlp, header, body, with_payload}
+use Rattle.tlp_layout.specs.Reading.{fields_of}
 use Rattle.first_fault.proofs.Cells.{IsBytes, all_bytes}
 use Rattle.tlp_layout.proofs.Heads.{IsRight, back, kept, again, head_size_at_least}
 use Rattle.tlp_layout.proofs.Walk.{IsWalked, whole_front, fits_from, walked_in, next_tlp, next_fits, head_size_at_most, body_at_most}

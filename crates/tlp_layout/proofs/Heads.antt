@@ -3,51 +3,25 @@
 -- layout, whose numbers come back by the laws of std and of byteorder.
 use Rattle.std.proofs.Common.{◌≡◌, ℕ, zero, suc, ◌+◌, ◌*◌, ◌/◌, ◌%◌, ◌^◌, ◌<◌, ◌≤◌, Bool, true, false, cond, ◌&&◌, eqb, bit_and, List, [], ◌∷◌, ◌++◌, length, get_or, take, drop, add-zero, add-suc, suc-add, add-one, one-add, Option, Some, None, refl, sym, ap, subst, ◌∙◌, inl, inr, arith}
 use Rattle.std.specs.Prelude.{All}
-use Rattle.std.proofs.lemmas.Bool.{eqb-true, eq-eqb, ne_eqb, agree_below_at, cases_Bool, cases_lt, and_parts, and_from}
+use Rattle.std.proofs.lemmas.Bool.{not-true, eqb-true, eq-eqb, ne_eqb, agree_below_at, cases_Bool, cases_lt, and_parts, and_from}
 use Rattle.std.proofs.lemmas.List.{get_or_past, drop_more}
 use Rattle.std.proofs.lemmas.List.Elements.{All-from_get_or}
 use Rattle.std.proofs.lemmas.Nat.{be_bytes_2, be_bytes_4, be_bytes_8}
 use Rattle.byteorder.specs.Endian.{big_bytes, big_number}
 use Rattle.byteorder.specs.Numbers.{big_from-lt, big_number-reads_back}
 use Rattle.first_fault.proofs.Cells.{IsBytes, cells, drop_cells, all_bytes}
-use Rattle.tlp_layout.specs.declared.layout.Layout.{Layout}
+use Rattle.tlp_layout.specs.{Layout, Lead, HeadView, Fields, Routing, CompletionStatus, bit, routing_bits, routing_from, status_bits, status_from, head_bytes, FitsLead, FitsFields, FitsHead, SpellsHead, is_wide, has_data, head_size, layout_at, allowed, reserved, layout_of, head_of}
 use Rattle.tlp_layout.specs.declared.layout.Layout.TheVariants as layouts
-use Rattle.tlp_layout.specs.declared.head.Lead.{Lead}
-use Rattle.tlp_layout.specs.declared.head.HeadView.{HeadView}
 use Rattle.tlp_layout.specs.declared.head.MemoryFields.{MemoryFields}
 use Rattle.tlp_layout.specs.declared.head.ConfigFields.{ConfigFields}
 use Rattle.tlp_layout.specs.declared.head.MessageFields.{MessageFields}
 use Rattle.tlp_layout.specs.declared.head.CompletionFields.{CompletionFields}
-use Rattle.tlp_layout.specs.declared.head.Fields.{Fields}
 use Rattle.tlp_layout.specs.declared.head.Fields.TheVariants.{Memory, Config, Message, Completion}
-use Rattle.tlp_layout.specs.declared.head.Routing.{Routing}
 use Rattle.tlp_layout.specs.declared.head.Routing.TheVariants as routings
-use Rattle.tlp_layout.specs.declared.head.CompletionStatus.{CompletionStatus}
-use Rattle.tlp_layout.specs.Numbers.{bit, routing_bits, routing_from, status_bits, status_from}
-use Rattle.tlp_layout.specs.Head.{type_of, tag_in, address_limit, head_bytes, lead_bytes, address_bytes, field_bytes, FitsLead, FitsFields, FitsHead, SpellsHead}
-use Rattle.tlp_layout.specs.Causes.{is_wide, has_data, head_size, layout_at, allowed, reserved}
-use Rattle.tlp_layout.specs.Class.{layout_of}
+use Rattle.tlp_layout.specs.Head.{type_of, tag_in, address_limit, lead_bytes, address_bytes, field_bytes}
 use Rattle.tlp_layout.specs.Inside.{Agrees}
-use Rattle.tlp_layout.specs.Reading.{address_of, head_of, lead_of, fields_of}
-use Rattle.tlp_layout.proofs.Octets.{memory_first, config_first, message_first, completion_first, clear_3, clear_192, clear_195, clear_240, clear_128, has_clear_3, has_clear_192, has_clear_195, has_clear_240, has_clear_128}
-
-abbrev Lead-of : Bool → ℕ → ℕ → ℕ → ℕ → Lead
-Lead-of w c a m n = record { wide = w; tc = c; attr = a; at = m; length = n }
-
-abbrev Memory-of : ℕ → ℕ → ℕ → ℕ → ℕ → Fields
-Memory-of r t x y a = Memory (record { requester = r; tag = t; last_be = x; first_be = y; address = a })
-
-abbrev Config-of : Bool → ℕ → ℕ → ℕ → ℕ → ℕ → ℕ → Fields
-Config-of o r t x y d a =
-    Config (record { one = o; requester = r; tag = t; last_be = x; first_be = y; destination = d; register = a })
-
-abbrev Message-of : Routing → ℕ → ℕ → ℕ → ℕ → List ℕ → Fields
-Message-of o r t x d y =
-    Message (record { routing = o; requester = r; tag = t; code = x; destination = d; kept = y })
-
-abbrev Completion-of : ℕ → CompletionStatus → Bool → ℕ → ℕ → ℕ → ℕ → Fields
-Completion-of c s b n r t y =
-    Completion (record { completer = c; status = s; bcm = b; count = n; requester = r; tag = t; lower = y })
+use Rattle.tlp_layout.specs.Reading.{address_of, lead_of, fields_of}
+use Rattle.tlp_layout.proofs.Octets.{width_of, clear_3, clear_192, clear_195, clear_240, clear_128, has_clear_3, has_clear_192, has_clear_195, has_clear_240, has_clear_128}
 
 -- a header of this layout, byte by byte
 pub record IsRight (k : Layout) (s : List ℕ) : Type 0 where
@@ -240,7 +214,7 @@ back_8 layouts.Memory b0 b1 b2 b3 b4 b5 b6 b7 t r =
 back_8 layouts.Config b0 b1 b2 b3 b4 b5 b6 b7 t r =
     let s = b0 ∷ b1 ∷ b2 ∷ b3 ∷ b4 ∷ b5 ∷ b6 ∷ b7 ∷ t in
     let f7 : b7 < 256 = r.fit 7 in
-    let wide = (config_first b0 (r.fit 0) r.kind).1 in
+    let wide : is_wide b0 ≡ false = not-true _ (width_of layouts.Config b0 (r.fit 0) r.kind) in
     let long : length s ≡ 12 = r.size ∙ ap (λ (w : Bool). cond w 16 12) wide in
     let behind : IsBytes t = λ i. r.fit (suc (suc (suc (suc (suc (suc (suc (suc i)))))))) in
     let z1 = clear_3 b1 (r.fit 1) (clear_at layouts.Config s 1 r (omega arith) (omega arith)) in
@@ -262,7 +236,7 @@ back_8 layouts.Config b0 b1 b2 b3 b4 b5 b6 b7 t r =
     }
 back_8 layouts.Message b0 b1 b2 b3 b4 b5 b6 b7 t r =
     let s = b0 ∷ b1 ∷ b2 ∷ b3 ∷ b4 ∷ b5 ∷ b6 ∷ b7 ∷ t in
-    let wide = (message_first b0 (r.fit 0) r.kind).1 in
+    let wide : is_wide b0 ≡ true = width_of layouts.Message b0 (r.fit 0) r.kind in
     let long : length s ≡ 16 = r.size ∙ ap (λ (w : Bool). cond w 16 12) wide in
     let behind : IsBytes t = λ i. r.fit (suc (suc (suc (suc (suc (suc (suc (suc i)))))))) in
     let z1 = clear_3 b1 (r.fit 1) (clear_at layouts.Message s 1 r (omega arith) (omega arith)) in
@@ -284,7 +258,7 @@ back_8 layouts.Completion b0 b1 b2 b3 b4 b5 b6 b7 t r =
     let s = b0 ∷ b1 ∷ b2 ∷ b3 ∷ b4 ∷ b5 ∷ b6 ∷ b7 ∷ t in
     let f6 : b6 < 256 = r.fit 6 in
     let f7 : b7 < 256 = r.fit 7 in
-    let wide = (completion_first b0 (r.fit 0) r.kind).1 in
+    let wide : is_wide b0 ≡ false = not-true _ (width_of layouts.Completion b0 (r.fit 0) r.kind) in
     let long : length s ≡ 12 = r.size ∙ ap (λ (w : Bool). cond w 16 12) wide in
     let behind : IsBytes t = λ i. r.fit (suc (suc (suc (suc (suc (suc (suc (suc i)))))))) in
     let z1 = clear_3 b1 (r.fit 1) (clear_at layouts.Completion s 1 r (omega arith) (omega arith)) in
@@ -334,52 +308,61 @@ agrees_of : (k : Layout) (b : ℕ) (bs : List ℕ) → FitFrom k (head_size b) 1
 agrees_of k b bs f n le zero pos lt = absurd (omega arith)
 agrees_of k b bs f n le (suc i) pos lt = rw one-add at ((fit_at k (head_size b) 1 bs f i (omega arith)).1)
 
-right : (k : Layout) (size b : ℕ) (bs : List ℕ) → layout_at b ≡ Some k → head_size b ≡ size → b < 256
-    → suc (length bs) ≡ size → FitFrom k size 1 bs → IsRight k (b ∷ bs)
-right k size b bs kind is lt long f =
-    let here : FitFrom k (head_size b) 1 bs = subst (λ (n : ℕ). FitFrom k n 1 bs) (sym is) f in
+-- flags and Type of byte 0
+first_is : (p w : Bool) (t : ℕ) → t < 32
+    → (is_wide (0x40 * bit p + 0x20 * bit w + t) ≡ w) × (has_data (0x40 * bit p + 0x20 * bit w + t) ≡ p)
+    × (0x40 * bit p + 0x20 * bit w + t < 256)
+first_is true true t lt = (eq-eqb _ _ (omega arith), eq-eqb _ _ (omega arith), omega arith)
+first_is true false t lt = (ne_eqb _ _ (λ e. omega arith), eq-eqb _ _ (omega arith), omega arith)
+first_is false true t lt = (eq-eqb _ _ (omega arith), ne_eqb _ _ (λ e. omega arith), omega arith)
+first_is false false t lt = (ne_eqb _ _ (λ e. omega arith), ne_eqb _ _ (λ e. omega arith), omega arith)
+
+-- byte 0, and bytes that may stand behind it
+right : (k : Layout) (p w : Bool) (t : ℕ) (bs : List ℕ) → layout_at (0x40 * bit p + 0x20 * bit w + t) ≡ Some k → t < 32
+    → suc (length bs) ≡ cond w 16 12 → FitFrom k (cond w 16 12) 1 bs → IsRight k ((0x40 * bit p + 0x20 * bit w + t) ∷ bs)
+right k p w t bs kind lt long f =
+    let n = first_is p w t lt in
+    let b = 0x40 * bit p + 0x20 * bit w + t in
+    let is : cond w 16 12 ≡ head_size b = sym (ap (λ (w : Bool). cond w 16 12) n.0) in
+    let here : FitFrom k (head_size b) 1 bs = subst (λ (n : ℕ). FitFrom k n 1 bs) is f in
     record {
-      fit = bytes_of k size b bs lt f;
+      fit = bytes_of k (head_size b) b bs n.2 here;
       kind = kind;
-      size = long ∙ sym is;
+      size = long ∙ is;
       agrees = agrees_of k b bs here (suc (length bs)) (omega arith);
     }
 
--- what byte 0 of a header names
-record Names (k : Layout) (p w : Bool) (t : ℕ) : Type 0 where
-  kind : layout_at (0x40 * bit p + 0x20 * bit w + t) ≡ Some k
-  size : head_size (0x40 * bit p + 0x20 * bit w + t) ≡ cond w 16 12
-  small : 0x40 * bit p + 0x20 * bit w + t < 256
+-- the layout that byte 0 of a header names
+memory_kind : (p w : Bool) → layout_at (0x40 * bit p + 0x20 * bit w + 0x00) ≡ Some layouts.Memory
+memory_kind true true = refl
+memory_kind true false = refl
+memory_kind false true = refl
+memory_kind false false = refl
 
-memory_named : (p w : Bool) → Names layouts.Memory p w 0x00
-memory_named true true = record { kind = refl; size = refl; small = omega arith }
-memory_named true false = record { kind = refl; size = refl; small = omega arith }
-memory_named false true = record { kind = refl; size = refl; small = omega arith }
-memory_named false false = record { kind = refl; size = refl; small = omega arith }
+config_kind : (p one : Bool) → layout_at (0x40 * bit p + 0x20 * bit false + (0x04 + bit one)) ≡ Some layouts.Config
+config_kind true true = refl
+config_kind true false = refl
+config_kind false true = refl
+config_kind false false = refl
 
-config_named : (p one : Bool) → Names layouts.Config p false (0x04 + bit one)
-config_named true true = record { kind = refl; size = refl; small = omega arith }
-config_named true false = record { kind = refl; size = refl; small = omega arith }
-config_named false true = record { kind = refl; size = refl; small = omega arith }
-config_named false false = record { kind = refl; size = refl; small = omega arith }
+message_kind : (r : Routing) (p : Bool)
+    → layout_at (0x40 * bit p + 0x20 * bit true + (0x10 + routing_bits r)) ≡ Some layouts.Message
+message_kind routings.ToRootComplex true = refl
+message_kind routings.ToRootComplex false = refl
+message_kind routings.ByAddress true = refl
+message_kind routings.ByAddress false = refl
+message_kind routings.ById true = refl
+message_kind routings.ById false = refl
+message_kind routings.FromRootComplex true = refl
+message_kind routings.FromRootComplex false = refl
+message_kind routings.Local true = refl
+message_kind routings.Local false = refl
+message_kind routings.Gathered true = refl
+message_kind routings.Gathered false = refl
 
-message_named : (r : Routing) (p : Bool) → Names layouts.Message p true (0x10 + routing_bits r)
-message_named routings.ToRootComplex true = record { kind = refl; size = refl; small = omega arith }
-message_named routings.ToRootComplex false = record { kind = refl; size = refl; small = omega arith }
-message_named routings.ByAddress true = record { kind = refl; size = refl; small = omega arith }
-message_named routings.ByAddress false = record { kind = refl; size = refl; small = omega arith }
-message_named routings.ById true = record { kind = refl; size = refl; small = omega arith }
-message_named routings.ById false = record { kind = refl; size = refl; small = omega arith }
-message_named routings.FromRootComplex true = record { kind = refl; size = refl; small = omega arith }
-message_named routings.FromRootComplex false = record { kind = refl; size = refl; small = omega arith }
-message_named routings.Local true = record { kind = refl; size = refl; small = omega arith }
-message_named routings.Local false = record { kind = refl; size = refl; small = omega arith }
-message_named routings.Gathered true = record { kind = refl; size = refl; small = omega arith }
-message_named routings.Gathered false = record { kind = refl; size = refl; small = omega arith }
-
-completion_named : (p : Bool) → Names layouts.Completion p false 0x0a
-completion_named true = record { kind = refl; size = refl; small = omega arith }
-completion_named false = record { kind = refl; size = refl; small = omega arith }
+completion_kind : (p : Bool) → layout_at (0x40 * bit p + 0x20 * bit false + 0x0a) ≡ Some layouts.Completion
+completion_kind true = refl
+completion_kind false = refl
 
 low_byte : (n : ℕ) → n % 256 < 256
 low_byte n = omega arith
@@ -460,51 +443,6 @@ completion_fit f l fl ff =
     (low_byte f.count, refl, (low_byte _, refl, (low_byte f.requester, refl, (low_byte f.tag, refl,
     (omega arith, and_from _ _ (has_clear_128 f.lower lower) refl, tt))))))))
 
-abbrev Head-of : Lead → Bool → Fields → HeadView
-Head-of l p f = record { lead = l; has_payload = p; fields = f }
-
-kept_fields : (l : Lead) (p : Bool) (f : Fields) → FitsLead l → FitsFields l f → IsRight (layout_of f) (head_bytes (Head-of l p f))
-kept_fields l p (Memory f) fl ff =
-    let n = memory_named p l.wide in
-    right layouts.Memory (cond l.wide 16 12) _ _ n.kind n.size n.small (memory_long l.wide f) (memory_fit l.wide f l fl ff)
-kept_fields l p (Config f) fl ff =
-    let n = config_named p f.one in
-    rw ff.0 (right layouts.Config 12 _ _ n.kind n.size n.small refl (config_fit f l fl ff))
-kept_fields l p (Message f) fl ff =
-    let n = message_named f.routing p in
-    rw ff.0 (right layouts.Message 16 _ _ n.kind n.size n.small (rw ff.5 refl) (message_fit f l fl ff))
-kept_fields l p (Completion f) fl ff =
-    let n = completion_named p in
-    rw ff.0 (right layouts.Completion 12 _ _ n.kind n.size n.small refl (completion_fit f l fl ff))
-
-pub kept : (h : HeadView) → FitsHead h → IsRight (layout_of h.fields) (head_bytes h)
-kept h fits = kept_fields h.lead h.has_payload h.fields fits.lead fits.fields
-
--- ---- what is written is read again, whatever follows
-
--- flags and Type of byte 0
-first_is : (p w : Bool) (t : ℕ) → t < 32
-    → (is_wide (0x40 * bit p + 0x20 * bit w + t) ≡ w) × (has_data (0x40 * bit p + 0x20 * bit w + t) ≡ p)
-first_is true true t lt = (eq-eqb _ _ (omega arith), eq-eqb _ _ (omega arith))
-first_is true false t lt = (ne_eqb _ _ (λ e. omega arith), eq-eqb _ _ (omega arith))
-first_is false true t lt = (eq-eqb _ _ (omega arith), ne_eqb _ _ (λ e. omega arith))
-first_is false false t lt = (ne_eqb _ _ (λ e. omega arith), ne_eqb _ _ (λ e. omega arith))
-
-lead_is : {w w' : Bool} {c c' a a' m m' n n' : ℕ} → w ≡ w' → c ≡ c' → a ≡ a' → m ≡ m' → n ≡ n'
-    → Lead-of w c a m n ≡ Lead-of w' c' a' m' n'
-lead_is ew ec ea em en = cc
-
-lead_again : (first tag : ℕ) (l : Lead) (more : List ℕ) → FitsLead l → tag < 1024 → is_wide first ≡ l.wide
-    → lead_of (first ∷ (lead_bytes l tag ++ more)) ≡ l
-lead_again first tag l more fl lt w =
-    lead_is w (omega (arith, fl.tc, fl.attr)) (omega (arith, fl.tc, fl.attr, fl.at, fl.length))
-    (omega (arith, fl.at, fl.length)) (omega (arith, fl.at, fl.length))
-
-tag_again : (l : Lead) (tag : ℕ) → FitsLead l → tag < 1024
-    → 512 * ((0x80 * (tag / 512) + 0x10 * l.tc + 0x08 * (tag / 256 % 2) + 0x04 * (l.attr / 4)) / 128)
-    + 256 * ((0x80 * (tag / 512) + 0x10 * l.tc + 0x08 * (tag / 256 % 2) + 0x04 * (l.attr / 4)) / 8 % 2) + tag % 256 ≡ tag
-tag_again l tag fl lt = omega (arith, fl.tc, fl.attr)
-
 routing_again : (r : Routing) → (routing_bits r < 8) × (routing_from (routing_bits r) ≡ r)
 routing_again routings.ToRootComplex = (omega arith, refl)
 routing_again routings.ByAddress = (omega arith, refl)
@@ -513,10 +451,57 @@ routing_again routings.FromRootComplex = (omega arith, refl)
 routing_again routings.Local = (omega arith, refl)
 routing_again routings.Gathered = (omega arith, refl)
 
-one_again : (p w one : Bool)
-    → (0x04 + bit one < 32) × (eqb ((0x40 * bit p + 0x20 * bit w + (0x04 + bit one)) % 32) 0x05 ≡ one)
-one_again p w true = (omega arith, eq-eqb _ _ (omega arith))
-one_again p w false = (omega arith, ne_eqb _ _ (λ e. omega arith))
+type_small : (one : Bool) → 0x04 + bit one < 32
+type_small true = omega arith
+type_small false = omega arith
+
+kept_fields : (l : Lead) (p : Bool) (f : Fields) → FitsLead l → FitsFields l f
+    → IsRight (layout_of f) (head_bytes (record { lead = l; has_payload = p; fields = f }))
+kept_fields l p (Memory f) fl ff =
+    right layouts.Memory p l.wide 0x00 _ (memory_kind p l.wide) (omega arith) (memory_long l.wide f) (memory_fit l.wide f l fl ff)
+kept_fields l p (Config f) fl ff =
+    let type = type_small f.one in
+    rw ff.0 (right layouts.Config p false (0x04 + bit f.one) _ (config_kind p f.one) type refl (config_fit f l fl ff))
+kept_fields l p (Message f) fl ff =
+    let type : 0x10 + routing_bits f.routing < 32 = omega (arith, (routing_again f.routing).0) in
+    rw ff.0 (right layouts.Message p true (0x10 + routing_bits f.routing) _ (message_kind f.routing p) type (rw ff.5 refl) (message_fit f l fl ff))
+kept_fields l p (Completion f) fl ff =
+    rw ff.0 (right layouts.Completion p false 0x0a _ (completion_kind p) (omega arith) refl (completion_fit f l fl ff))
+
+pub kept : (h : HeadView) → FitsHead h → IsRight (layout_of h.fields) (head_bytes h)
+kept h fits = kept_fields h.lead h.has_payload h.fields fits.lead fits.fields
+
+-- ---- what is written is read again, whatever follows
+
+attr_again : (l : Lead) (tag : ℕ) → FitsLead l
+    → 4 * ((0x80 * (tag / 512) + 0x10 * l.tc + 0x08 * (tag / 256 % 2) + 0x04 * (l.attr / 4)) / 4 % 2)
+    + (0x10 * (l.attr % 4) + 0x04 * l.at + l.length / 256) / 16 % 4 ≡ l.attr
+attr_again l tag fl = omega (arith, fl.tc, fl.attr, fl.at, fl.length)
+
+lead_again : (first tag : ℕ) (l : Lead) (more : List ℕ) → FitsLead l → tag < 1024 → is_wide first ≡ l.wide
+    → lead_of (first ∷ (lead_bytes l tag ++ more)) ≡ l
+lead_again first tag l more fl lt w =
+    let third = 0x10 * (l.attr % 4) + 0x04 * l.at + l.length / 256 in
+    let tc : (0x80 * (tag / 512) + 0x10 * l.tc + 0x08 * (tag / 256 % 2) + 0x04 * (l.attr / 4)) / 16 % 8 ≡ l.tc =
+    omega (arith, fl.tc, fl.attr) in
+    let at : third / 4 % 4 ≡ l.at = omega (arith, fl.at, fl.length) in
+    let long : 256 * (third % 4) + l.length % 256 ≡ l.length = omega (arith, fl.at, fl.length) in
+    λ i. record { wide = w i; tc = tc i; attr = attr_again l tag fl i; at = at i; length = long i }
+
+tag_again : (l : Lead) (tag : ℕ) → FitsLead l → tag < 1024
+    → 512 * ((0x80 * (tag / 512) + 0x10 * l.tc + 0x08 * (tag / 256 % 2) + 0x04 * (l.attr / 4)) / 128)
+    + 256 * ((0x80 * (tag / 512) + 0x10 * l.tc + 0x08 * (tag / 256 % 2) + 0x04 * (l.attr / 4)) / 8 % 2) + tag % 256 ≡ tag
+tag_again l tag fl lt = omega (arith, fl.tc, fl.attr)
+
+one_again : (p w one : Bool) → eqb ((0x40 * bit p + 0x20 * bit w + (0x04 + bit one)) % 32) 0x05 ≡ one
+one_again p w true = eq-eqb _ _ (omega arith)
+one_again p w false = ne_eqb _ _ (λ e. omega arith)
+
+halves_again : (a b : ℕ) → b < 16 → ((0x10 * a + b) / 16 ≡ a) × ((0x10 * a + b) % 16 ≡ b)
+halves_again a b lt = (omega arith, omega arith)
+
+register_again : (n : ℕ) → 64 * (n / 64) + (0x04 * (n % 64)) / 4 ≡ n
+register_again n = omega arith
 
 status_again : (status : ℕ) (bcm : Bool) (count : ℕ) → status < 8 → count < 4096
     → ((0x20 * status + 0x10 * bit bcm + count / 256) / 32 ≡ status)
@@ -533,52 +518,51 @@ address_again false first x1 x2 x3 requester tag be address more lt = big_number
 kept_again : (kept more : List ℕ) → length kept ≡ 6 → cells 6 0 (kept ++ more) ≡ kept
 kept_again kept more long = subst (λ (r : List ℕ). cells 6 0 (r ++ more) ≡ r) (sym (drop_cells 6 0 kept long)) refl
 
-head_is : {l l' : Lead} {p p' : Bool} {f f' : Fields} → l ≡ l' → p ≡ p' → f ≡ f' → Head-of l p f ≡ Head-of l' p' f'
-head_is el ep ef = cc
-
-memory_is : {r r' t t' x x' y y' a a' : ℕ} → r ≡ r' → t ≡ t' → x ≡ x' → y ≡ y' → a ≡ a'
-    → Memory-of r t x y a ≡ Memory-of r' t' x' y' a'
-memory_is er et ex ey ea = cc
-
-config_is : {o o' : Bool} {r r' t t' x x' y y' d d' a a' : ℕ} → o ≡ o' → r ≡ r' → t ≡ t' → x ≡ x' → y ≡ y' → d ≡ d' → a ≡ a'
-    → Config-of o r t x y d a ≡ Config-of o' r' t' x' y' d' a'
-config_is eo er et ex ey ed ea = cc
-
-message_is : {o o' : Routing} {r r' t t' x d d' : ℕ} {y y' : List ℕ} → o ≡ o' → r ≡ r' → t ≡ t' → d ≡ d' → y ≡ y'
-    → Message-of o r t x d y ≡ Message-of o' r' t' x d' y'
-message_is eo er et ed ey = cc
-
-completion_is : {c c' : ℕ} {s s' : CompletionStatus} {b b' : Bool} {n n' r r' t t' y : ℕ}
-    → c ≡ c' → s ≡ s' → b ≡ b' → n ≡ n' → r ≡ r' → t ≡ t'
-    → Completion-of c s b n r t y ≡ Completion-of c' s' b' n' r' t' y
-completion_is ec es eb en er et = cc
-
 again_fields : (l : Lead) (p : Bool) (f : Fields) (more : List ℕ) → FitsLead l → FitsFields l f
-    → head_of (layout_of f) (head_bytes (Head-of l p f) ++ more) ≡ Head-of l p f
+    → head_of (layout_of f) (head_bytes (record { lead = l; has_payload = p; fields = f }) ++ more)
+    ≡ record { lead = l; has_payload = p; fields = f }
 again_fields l p (Memory f) more fl ff =
     let k = first_is p l.wide 0x00 (omega arith) in
-    let address = address_again l.wide (0x40 * bit p + 0x20 * bit l.wide + 0x00) 0 0 0 f.requester f.tag 0 f.address more ff.5 in
-    head_is (lead_again _ f.tag l (field_bytes l.wide (Memory f) ++ more) fl ff.1 k.0) k.1
-    (memory_is (number_again f.requester ff.0) (tag_again l f.tag fl ff.1) (omega (arith, ff.3)) (omega (arith, ff.3)) (rw k.0 address))
+    let lead = lead_again _ f.tag l (field_bytes l.wide (Memory f) ++ more) fl ff.1 k.0 in
+    let be = halves_again f.last_be f.first_be ff.3 in
+    let t = address_bytes l.wide f.address ++ more in
+    let address = ap (λ (w : Bool). cond w (big_number 8 t) (big_number 4 t)) k.0
+    ∙ address_again l.wide 0 0 0 0 f.requester (f.tag % 256) 0 f.address more ff.5 in
+    λ i. record {
+      lead = lead i;
+      has_payload = k.1 i;
+      fields = Memory (record { requester = number_again f.requester ff.0 i; tag = tag_again l f.tag fl ff.1 i; last_be = be.0 i; first_be = be.1 i; address = address i });
+    }
 again_fields l p (Config f) more fl ff =
-    let t = one_again p l.wide f.one in
-    let k = first_is p l.wide (0x04 + bit f.one) t.0 in
-    head_is (lead_again _ f.tag l (field_bytes l.wide (Config f) ++ more) fl ff.3 k.0) k.1
-    (config_is t.1 (number_again f.requester ff.2) (tag_again l f.tag fl ff.3) (omega (arith, ff.5)) (omega (arith, ff.5))
-    (number_again f.destination ff.6) (omega (arith, ff.7)))
+    let k = first_is p l.wide (0x04 + bit f.one) (type_small f.one) in
+    let lead = lead_again _ f.tag l (field_bytes l.wide (Config f) ++ more) fl ff.3 k.0 in
+    let be = halves_again f.last_be f.first_be ff.5 in
+    λ i. record {
+      lead = lead i;
+      has_payload = k.1 i;
+      fields = Config (record { one = one_again p l.wide f.one i; requester = number_again f.requester ff.2 i; tag = tag_again l f.tag fl ff.3 i; last_be = be.0 i; first_be = be.1 i; destination = number_again f.destination ff.6 i; register = register_again f.register i });
+    }
 again_fields l p (Message f) more fl ff =
     let r = routing_again f.routing in
     let k = first_is p l.wide (0x10 + routing_bits f.routing) (omega (arith, r.0)) in
+    let lead = lead_again _ f.tag l (field_bytes l.wide (Message f) ++ more) fl ff.2 k.0 in
     let number : (0x40 * bit p + 0x20 * bit l.wide + (0x10 + routing_bits f.routing)) % 8 ≡ routing_bits f.routing = omega (arith, r.0) in
-    head_is (lead_again _ f.tag l (field_bytes l.wide (Message f) ++ more) fl ff.2 k.0) k.1
-    (message_is (ap routing_from number ∙ r.1) (number_again f.requester ff.1) (tag_again l f.tag fl ff.2)
-    (number_again f.destination ff.4) (kept_again f.kept more ff.5))
+    let routing = ap routing_from number ∙ r.1 in
+    λ i. record {
+      lead = lead i;
+      has_payload = k.1 i;
+      fields = Message (record { routing = routing i; requester = number_again f.requester ff.1 i; tag = tag_again l f.tag fl ff.2 i; code = f.code; destination = number_again f.destination ff.4 i; kept = kept_again f.kept more ff.5 i });
+    }
 again_fields l p (Completion f) more fl ff =
     let k = first_is p l.wide 0x0a (omega arith) in
+    let lead = lead_again _ f.tag l (field_bytes l.wide (Completion f) ++ more) fl ff.5 k.0 in
     let s = status_again (status_bits f.status) f.bcm f.count ff.2.0 ff.3 in
-    head_is (lead_again _ f.tag l (field_bytes l.wide (Completion f) ++ more) fl ff.5 k.0) k.1
-    (completion_is (number_again f.completer ff.1) (ap status_from s.0 ∙ ff.2.1) s.1 s.2 (number_again f.requester ff.4)
-    (tag_again l f.tag fl ff.5))
+    let status = ap status_from s.0 ∙ ff.2.1 in
+    λ i. record {
+      lead = lead i;
+      has_payload = k.1 i;
+      fields = Completion (record { completer = number_again f.completer ff.1 i; status = status i; bcm = s.1 i; count = s.2 i; requester = number_again f.requester ff.4 i; tag = tag_again l f.tag fl ff.5 i; lower = f.lower });
+    }
 
 pub again : (h : HeadView) (more : List ℕ) → FitsHead h → head_of (layout_of h.fields) (head_bytes h ++ more) ≡ h
 again h more fits = again_fields h.lead h.has_payload h.fields more fits.lead fits.fields

@@ -6,17 +6,9 @@ use Rattle.std.proofs.lemmas.Bool.{cases_lt, lt-ltb}
 use Rattle.std.proofs.lemmas.List.{get_or_append_left, nil_from_length}
 use Rattle.first_fault.proofs.Fronts.{Walks}
 use Rattle.first_fault.proofs.Walks.{IsReadable, reads, read_spells, refuses, refused_at}
-use Rattle.tlp_layout.specs.declared.layout.Layout.{Layout}
-use Rattle.tlp_layout.specs.declared.layout.Layout.TheVariants as layouts
-use Rattle.tlp_layout.specs.declared.fault.TlpFault.{TlpFault}
-use Rattle.tlp_layout.specs.declared.head.HeadView.{HeadView}
+use Rattle.tlp_layout.specs.{Layout, TlpFault, HeadView, TlpView, head_bytes, head_length, FitsHead, SpellsHead, IsHead, body_size, FitsTlp, tlp_bytes, Spells, IsTlp, header, body, with_payload, view_of, viewed, head_size, fault_at, IsFault, IsHeadFault, head_of, head_read, tlp_read, may_follow, wants_head, wants_tlp, whole_size, read_head_of, read_of}
 use Rattle.tlp_layout.specs.declared.tlp.Tlp.{Tlp}
-use Rattle.tlp_layout.specs.declared.tlp.TlpView.{TlpView}
-use Rattle.tlp_layout.specs.Head.{head_bytes, head_length, FitsHead, SpellsHead, IsHead}
-use Rattle.tlp_layout.specs.Tlp.{body_size, FitsTlp, tlp_bytes, Spells, IsTlp, header, body, with_payload, view_of, viewed}
-use Rattle.tlp_layout.specs.Causes.{head_size, fault_at}
-use Rattle.tlp_layout.specs.Faults.{IsFault, IsHeadFault}
-use Rattle.tlp_layout.specs.Reading.{head_of, head_read, tlp_read, may_follow, wants_head, wants_tlp, whole_size, read_head_of, read_of}
+use Rattle.tlp_layout.specs.declared.layout.Layout.TheVariants as layouts
 use Rattle.tlp_layout.proofs.Heads.{kept, again, head_size_at_least}
 use Rattle.tlp_layout.proofs.Walk.{body_at_most, whole_front}
 use Rattle.tlp_layout.proofs.Grammar.{spells_with, heads, tlps, head_whole, tlp_whole}

@@ -3,11 +3,9 @@
 use Rattle.std.proofs.Common.{◌≡◌, ℕ, zero, suc, ◌+◌, ◌<◌, ◌≤◌, Bool, true, false, cond, eqb, ltb, bit_and, IsTrue, List, [], ◌∷◌, length, get_or, take, Option, Some, None, is_some, refl, inl, inr, arith, length-take, get_or-take}
 use Rattle.std.proofs.lemmas.Bool.{cases_lt, ltb-true, lt-ltb, le-ltb, ne_eqb, and_parts, and_from, cases_eq, eq-eqb}
 use Rattle.std.proofs.lemmas.Nat.{and_comm}
-use Rattle.tlp_layout.specs.declared.layout.Layout.{Layout}
+use Rattle.tlp_layout.specs.{Layout, may_follow, whole_size, is_wide, head_size, layout_at, reserved, allowed, body_size}
 use Rattle.tlp_layout.specs.declared.layout.Layout.TheVariants as layouts
-use Rattle.tlp_layout.specs.Reading.{stands_at, may_follow, whole_size}
-use Rattle.tlp_layout.specs.Causes.{is_wide, head_size, layout_at, reserved, allowed}
-use Rattle.tlp_layout.specs.Tlp.{body_size}
+use Rattle.tlp_layout.specs.Reading.{stands_at}
 pub use Rattle.tlp_layout.proofs.Heads.{head_size_at_least}
 
 -- ---- sizes

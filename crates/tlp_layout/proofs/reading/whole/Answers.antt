@@ -1,9 +1,7 @@
 use Rattle.std.proofs.Common.{◌≡◌, ap, ◌∙◌, arith, length-drop}
 use Rattle.std.proofs.lemmas.List.{take_rest}
 use Rattle.std.proofs.lemmas.Result.{err_from_is_err_and}
-use Rattle.tlp_layout.specs.declared.head.HeadView.{HeadView}
-use Rattle.tlp_layout.specs.Reading.{rest_size}
-use Rattle.tlp_layout.specs.Tlp.{body_size}
+use Rattle.tlp_layout.specs.{HeadView, rest_size, body_size}
 use Rattle.tlp_layout.proofs.Found.{tlp_fault, tlp_short, tlp_trails, tlp_found}
 use Rattle.tlp_layout.proofs.reading.whole.Goals as goal
 
