@@ -62,9 +62,9 @@ abbrev pub early_cause : ℕ → List ℕ → ℕ → PacketFault
 early_cause place s b =
     if place == 1 then (if b / 8 % 4 == 0 then SubStream 1 else Reserved 1)
     else if place == 4 then
-        (if begins_sync (prefix_read s).sub b then Sync 4
-        else if is_some (kind_at b) then Class 4
-        else Tlp (tlps.Kind 4))
+    (if begins_sync (prefix_read s).sub b then Sync 4
+    else if is_some (kind_at b) then Class 4
+    else Tlp (tlps.Kind 4))
     else Reserved place
 
 -- a header's fault, its place behind the prefix
@@ -84,8 +84,8 @@ abbrev pub late_cause : List ℕ → ℕ → PacketFault
 late_cause s place =
     if nat_lt place (4 + clear_size (prefix_read s).sub (slice_index s 4))
     then
-        (if begins_sync (prefix_read s).sub (slice_index s 4) then Sync place
-        else Tlp (moved (cause_at (place - 4) (slice_index s place))))
+    (if begins_sync (prefix_read s).sub (slice_index s 4) then Sync place
+    else Tlp (moved (cause_at (place - 4) (slice_index s place))))
     else Trailing place
 
 abbrev pub packet_fault_at : List ℕ → ℕ → PacketFault

@@ -220,3 +220,15 @@ fn sync_packets(rt: HostRuntime) -> Result<(), Fail> {
     assert_eq!(rt; cut(&longer).err(), Some(PacketFault::Trailing(28)));
     Ok(())
 }
+
+#[test]
+fn vectors(rt: HostRuntime) {
+    assert_eq!(rt;
+        unit_iv(SubKind::Cpl, 0x0102_0304_0506_0708),
+        [0x20, 0, 0, 0, 1, 2, 3, 4, 5, 6, 7, 8]
+    );
+    assert_eq!(rt;
+        unit_iv(SubKind::Pr, 1),
+        [0, 0, 0, 0, 0, 0, 0, 0, 0, 0, 0, 1]
+    );
+}

@@ -1,12 +1,10 @@
 -- What the reader finds is a spelling, or the first fault.
-use Rattle.std.proofs.Common.{◌≡◌, ℕ, zero, suc, ◌+◌, ◌<◌, ◌≤◌, Bool, true, ltb, IsTrue, List, ◌++◌, length, get_or, take, drop, Option, Some, None, is_some, refl, sym, ap, subst, ◌∙◌, inl, inr, arith, length-take, length-drop, get_or-take, take-append-drop, take-take}
+use Rattle.std.proofs.Common.{◌≡◌, ℕ, zero, suc, ◌+◌, ◌<◌, ◌≤◌, Bool, true, ltb, IsTrue, List, length, get_or, take, drop, Option, Some, None, is_some, refl, sym, ap, subst, inl, inr, arith, length-take, get_or-take, take-take}
 use Rattle.std.proofs.lemmas.Bool.{cases_eq, ltb-true, lt-ltb, le-ltb, eq-eqb, ne_eqb, and_parts}
 use Rattle.std.proofs.lemmas.List.{take_all}
-use Rattle.tlp_layout.specs.{Layout, HeadView, TlpFault, head_bytes, SpellsHead, IsHead, head_size, layout_at, IsFault, IsHeadFault, head_of, rest_size, wants_head, wants_tlp, whole_size, may_follow, layout_of, body_size, Spells, IsTlp, with_payload}
-use Rattle.tlp_layout.specs.declared.layout.Layout.TheVariants as layouts
+use Rattle.tlp_layout.specs.{Layout, TlpFault, SpellsHead, IsHead, head_size, layout_at, IsFault, IsHeadFault, head_of, rest_size, wants_head, wants_tlp, whole_size, may_follow, Spells, IsTlp, with_payload}
 use Rattle.tlp_layout.specs.declared.fault.TlpFault.TheVariants as faults
 use Rattle.tlp_layout.specs.Inside.{Agrees, Stops, StopsAt}
-use Rattle.tlp_layout.specs.Reading.{fields_of}
 use Rattle.first_fault.proofs.Cells.{IsBytes}
 use Rattle.tlp_layout.proofs.Heads.{back, head_size_at_least}
 use Rattle.tlp_layout.proofs.Walk.{IsWalked, whole_front, fits_from, agrees_there}

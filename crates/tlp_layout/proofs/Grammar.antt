@@ -1,14 +1,13 @@
 -- Headers are a grammar, and TLPs are one: what is spelled walks byte by byte; what walks and wants no more has a right
 -- header and as many bytes behind it as that wants, and is spelled; and else a byte more may follow, until none is wanted.
-use Rattle.std.proofs.Common.{◌≡◌, ℕ, zero, suc, ◌+◌, ◌-◌, ◌<◌, ◌≤◌, ◌*◌, ◌%◌, Bool, true, false, cond, ltb, IsTrue, List, [], ◌∷◌, ◌++◌, length, get_or, take, drop, replicate, refl, sym, ap, subst, ◌∙◌, inl, inr, arith, append_assoc, length-append, length-take, length-drop, get_or-take, get_or-drop, take-append-drop}
+use Rattle.std.proofs.Common.{◌≡◌, ℕ, zero, suc, ◌+◌, ◌-◌, ◌<◌, ◌≤◌, ◌*◌, ◌%◌, true, cond, ltb, IsTrue, List, [], ◌∷◌, ◌++◌, length, get_or, take, drop, refl, sym, ap, subst, ◌∙◌, inl, inr, arith, length-append, length-take, length-drop, get_or-take, get_or-drop, take-append-drop}
 use Rattle.std.specs.Prelude.{All}
 use Rattle.std.proofs.lemmas.Bool.{cases_lt, ltb-true, lt-ltb, le-ltb, and_parts}
-use Rattle.std.proofs.lemmas.List.{get_or_past, get_or_push, take_at, take_all, get_or_append_left, get_or-append_right, length-replicate}
-use Rattle.std.proofs.lemmas.List.Elements.{All-append, All-replicate, All-from_get_or}
+use Rattle.std.proofs.lemmas.List.{get_or_past, get_or_push, take_at, take_all, get_or_append_left, get_or-append_right}
+use Rattle.std.proofs.lemmas.List.Elements.{All-from_get_or}
 use Rattle.tlp_layout.specs.{Layout, HeadView, head_bytes, FitsHead, SpellsHead, IsHead, head_size, has_data, head_of, rest_size, wants_head, wants_tlp, whole_size, may_follow, layout_of, body_size, tlp_bytes, FitsTlp, Spells, IsTlp, header, body, with_payload}
 use Rattle.tlp_layout.specs.declared.tlp.Tlp.{Tlp}
 use Rattle.tlp_layout.specs.declared.layout.Layout.TheVariants as layouts
-use Rattle.first_fault.specs.Fronts.{Begins}
 use Rattle.tlp_layout.specs.Reading.{fields_of}
 use Rattle.first_fault.proofs.Cells.{IsBytes, all_bytes}
 use Rattle.tlp_layout.proofs.Heads.{IsRight, back, kept, again, head_size_at_least}

@@ -1,16 +1,15 @@
 -- Headers: the fields that are read are those that were written, and the other way round. A header is taken in three parts:
 -- byte 0, of which all 256 values are tried; bytes 1 to 3, whose fields are sums and remainders; and the fields of its
 -- layout, whose numbers come back by the laws of std and of byteorder.
-use Rattle.std.proofs.Common.{◌≡◌, ℕ, zero, suc, ◌+◌, ◌*◌, ◌/◌, ◌%◌, ◌^◌, ◌<◌, ◌≤◌, Bool, true, false, cond, ◌&&◌, eqb, bit_and, List, [], ◌∷◌, ◌++◌, length, get_or, take, drop, add-zero, add-suc, suc-add, add-one, one-add, Option, Some, None, refl, sym, ap, subst, ◌∙◌, inl, inr, arith}
-use Rattle.std.specs.Prelude.{All}
-use Rattle.std.proofs.lemmas.Bool.{not-true, eqb-true, eq-eqb, ne_eqb, agree_below_at, cases_Bool, cases_lt, and_parts, and_from}
+use Rattle.std.proofs.Common.{◌≡◌, ℕ, zero, suc, ◌+◌, ◌*◌, ◌/◌, ◌%◌, ◌^◌, ◌<◌, ◌≤◌, Bool, true, false, cond, ◌&&◌, eqb, bit_and, List, [], ◌∷◌, ◌++◌, length, get_or, drop, add-zero, add-suc, suc-add, add-one, one-add, Option, Some, None, refl, sym, ap, subst, ◌∙◌, inl, inr, arith}
+use Rattle.std.proofs.lemmas.Bool.{not-true, eqb-true, eq-eqb, ne_eqb, agree_below_at, cases_lt, and_parts, and_from}
 use Rattle.std.proofs.lemmas.List.{get_or_past, drop_more}
 use Rattle.std.proofs.lemmas.List.Elements.{All-from_get_or}
 use Rattle.std.proofs.lemmas.Nat.{be_bytes_2, be_bytes_4, be_bytes_8}
 use Rattle.byteorder.specs.Endian.{big_bytes, big_number}
 use Rattle.byteorder.specs.Numbers.{big_from-lt, big_number-reads_back}
 use Rattle.first_fault.proofs.Cells.{IsBytes, cells, drop_cells, all_bytes}
-use Rattle.tlp_layout.specs.{Layout, Lead, HeadView, Fields, Routing, CompletionStatus, bit, routing_bits, routing_from, status_bits, status_from, head_bytes, FitsLead, FitsFields, FitsHead, SpellsHead, is_wide, has_data, head_size, layout_at, allowed, reserved, layout_of, head_of}
+use Rattle.tlp_layout.specs.{Layout, Lead, HeadView, Fields, Routing, bit, routing_bits, routing_from, status_bits, status_from, head_bytes, FitsLead, FitsFields, FitsHead, SpellsHead, is_wide, has_data, head_size, layout_at, allowed, reserved, layout_of, head_of}
 use Rattle.tlp_layout.specs.declared.layout.Layout.TheVariants as layouts
 use Rattle.tlp_layout.specs.declared.head.MemoryFields.{MemoryFields}
 use Rattle.tlp_layout.specs.declared.head.ConfigFields.{ConfigFields}
@@ -18,9 +17,9 @@ use Rattle.tlp_layout.specs.declared.head.MessageFields.{MessageFields}
 use Rattle.tlp_layout.specs.declared.head.CompletionFields.{CompletionFields}
 use Rattle.tlp_layout.specs.declared.head.Fields.TheVariants.{Memory, Config, Message, Completion}
 use Rattle.tlp_layout.specs.declared.head.Routing.TheVariants as routings
-use Rattle.tlp_layout.specs.Head.{type_of, tag_in, address_limit, lead_bytes, address_bytes, field_bytes}
+use Rattle.tlp_layout.specs.Head.{address_limit, lead_bytes, address_bytes, field_bytes}
 use Rattle.tlp_layout.specs.Inside.{Agrees}
-use Rattle.tlp_layout.specs.Reading.{address_of, lead_of, fields_of}
+use Rattle.tlp_layout.specs.Reading.{address_of, lead_of}
 use Rattle.tlp_layout.proofs.Octets.{width_of, clear_3, clear_192, clear_195, clear_240, clear_128, has_clear_3, has_clear_192, has_clear_195, has_clear_240, has_clear_128}
 
 -- a header of this layout, byte by byte
@@ -208,8 +207,8 @@ back_8 layouts.Memory b0 b1 b2 b3 b4 b5 b6 b7 t r =
         fields = (number_below from_4 numbers, tag_fits b1 b6 (r.fit 1) (r.fit 6), omega arith, omega arith, address.0, address.1);
       };
       spelled = sym (eight (first_back layouts.Memory b0 (r.fit 0) r.kind) (second_back b1 b2 b6 (r.fit 1) z1 (r.fit 6))
-      (third_back b1 b2 b3 z2 (r.fit 3)) (length_back b2 b3 (r.fit 3)) (number_2 from_4 numbers) (tag_back b1 b6 (r.fit 6))
-      (halves_back b7) (address_back (is_wide b0) t behind (rest_long (is_wide b0) (length t) (omega (arith, r.size)))));
+          (third_back b1 b2 b3 z2 (r.fit 3)) (length_back b2 b3 (r.fit 3)) (number_2 from_4 numbers) (tag_back b1 b6 (r.fit 6))
+          (halves_back b7) (address_back (is_wide b0) t behind (rest_long (is_wide b0) (length t) (omega (arith, r.size)))));
     }
 back_8 layouts.Config b0 b1 b2 b3 b4 b5 b6 b7 t r =
     let s = b0 ∷ b1 ∷ b2 ∷ b3 ∷ b4 ∷ b5 ∷ b6 ∷ b7 ∷ t in
@@ -231,8 +230,8 @@ back_8 layouts.Config b0 b1 b2 b3 b4 b5 b6 b7 t r =
         fields = (wide, omega (arith, z2.1), number_below from_4 numbers, tag_fits b1 b6 (r.fit 1) (r.fit 6), omega arith, omega arith, number_below t behind, omega arith);
       };
       spelled = sym (eight (first_back layouts.Config b0 (r.fit 0) r.kind) (second_back b1 b2 b6 (r.fit 1) z1 (r.fit 6))
-      (third_back b1 b2 b3 z2.0 (r.fit 3)) (length_back b2 b3 (r.fit 3)) (number_2 from_4 numbers) (tag_back b1 b6 (r.fit 6))
-      (halves_back b7) (config_tail t behind (omega arith) z11));
+          (third_back b1 b2 b3 z2.0 (r.fit 3)) (length_back b2 b3 (r.fit 3)) (number_2 from_4 numbers) (tag_back b1 b6 (r.fit 6))
+          (halves_back b7) (config_tail t behind (omega arith) z11));
     }
 back_8 layouts.Message b0 b1 b2 b3 b4 b5 b6 b7 t r =
     let s = b0 ∷ b1 ∷ b2 ∷ b3 ∷ b4 ∷ b5 ∷ b6 ∷ b7 ∷ t in
@@ -251,8 +250,8 @@ back_8 layouts.Message b0 b1 b2 b3 b4 b5 b6 b7 t r =
         fields = (wide, number_below from_4 numbers, tag_fits b1 b6 (r.fit 1) (r.fit 6), r.fit 7, number_below t behind, refl, All-from_get_or (λ (b : ℕ). b < 256) (cells 6 2 t) 0 (λ i lt. kept (suc (suc i))));
       };
       spelled = sym (eight (first_back layouts.Message b0 (r.fit 0) r.kind) (second_back b1 b2 b6 (r.fit 1) z1 (r.fit 6))
-      (third_back b1 b2 b3 z2 (r.fit 3)) (length_back b2 b3 (r.fit 3)) (number_2 from_4 numbers) (tag_back b1 b6 (r.fit 6))
-      same (message_tail t behind (omega arith)));
+          (third_back b1 b2 b3 z2 (r.fit 3)) (length_back b2 b3 (r.fit 3)) (number_2 from_4 numbers) (tag_back b1 b6 (r.fit 6))
+          same (message_tail t behind (omega arith)));
     }
 back_8 layouts.Completion b0 b1 b2 b3 b4 b5 b6 b7 t r =
     let s = b0 ∷ b1 ∷ b2 ∷ b3 ∷ b4 ∷ b5 ∷ b6 ∷ b7 ∷ t in
@@ -273,8 +272,8 @@ back_8 layouts.Completion b0 b1 b2 b3 b4 b5 b6 b7 t r =
         fields = (wide, number_below from_4 numbers, (omega (arith, status), ap status_from status), omega arith, number_below t behind, tag_fits b1 (get_or t 2 0) (r.fit 1) (r.fit 10), z11);
       };
       spelled = sym (eight (first_back layouts.Completion b0 (r.fit 0) r.kind) (second_back b1 b2 (get_or t 2 0) (r.fit 1) z1 (r.fit 10))
-      (third_back b1 b2 b3 z2 (r.fit 3)) (length_back b2 b3 (r.fit 3)) (number_2 from_4 numbers) (status_byte_back b6 b7 f6 f7)
-      (count_back b6 b7 f7) (completion_tail b1 t behind (omega arith)));
+          (third_back b1 b2 b3 z2 (r.fit 3)) (length_back b2 b3 (r.fit 3)) (number_2 from_4 numbers) (status_byte_back b6 b7 f6 f7)
+          (count_back b6 b7 f7) (completion_tail b1 t behind (omega arith)));
     }
 
 pub back : (k : Layout) (s : List ℕ) → IsRight k s → SpellsHead (head_of k s) s
@@ -396,15 +395,77 @@ status_byte status false count ls lc = omega arith
 memory_fit : (w : Bool) (f : MemoryFields) (l : Lead) → FitsLead l → FitsFields l (Memory f)
     → FitFrom layouts.Memory (cond w 16 12) 1 (lead_bytes l f.tag ++ field_bytes w (Memory f))
 memory_fit true f l fl ff =
-    lead_fit layouts.Memory 16 l f.tag (field_bytes true (Memory f)) cleared (and_from _ _ (plain_third l fl) refl) refl fl ff.1
-    (low_byte _, refl, (low_byte f.requester, refl, (low_byte f.tag, refl, (halves_small f.last_be f.first_be ff.2 ff.3, refl,
-    (low_byte _, refl, (low_byte _, refl, (low_byte _, refl, (low_byte _, refl, (low_byte _, refl, (low_byte _, refl,
-    (low_byte _, refl, (low_byte f.address, cleared _ (low_byte f.address) (omega (arith, ff.4)), tt))))))))))))
+    lead_fit layouts.Memory 16 l f.tag (field_bytes true (Memory f)) cleared (and_from _ _ (plain_third l fl) refl) refl fl ff.1 (
+      low_byte _,
+      refl,
+      (
+        low_byte f.requester,
+        refl,
+        (
+          low_byte f.tag,
+          refl,
+          (
+            halves_small f.last_be f.first_be ff.2 ff.3,
+            refl,
+            (
+              low_byte _,
+              refl,
+              (
+                low_byte _,
+                refl,
+                (
+                  low_byte _,
+                  refl,
+                  (
+                    low_byte _,
+                    refl,
+                    (
+                      low_byte _,
+                      refl,
+                      (
+                        low_byte _,
+                        refl,
+                        (low_byte _, refl, (low_byte f.address, cleared _ (low_byte f.address) (omega (arith, ff.4)), tt)),
+                      ),
+                    ),
+                  ),
+                ),
+              ),
+            ),
+          ),
+        ),
+      ),
+    )
 memory_fit false f l fl ff =
-    lead_fit layouts.Memory 12 l f.tag (field_bytes false (Memory f)) cleared (and_from _ _ (plain_third l fl) refl) refl fl ff.1
-    (low_byte _, refl, (low_byte f.requester, refl, (low_byte f.tag, refl, (halves_small f.last_be f.first_be ff.2 ff.3, refl,
-    (low_byte _, refl, (low_byte _, refl, (low_byte _, refl,
-    (low_byte f.address, cleared _ (low_byte f.address) (omega (arith, ff.4)), tt))))))))
+    lead_fit layouts.Memory 12 l f.tag (field_bytes false (Memory f)) cleared (and_from _ _ (plain_third l fl) refl) refl fl ff.1 (
+      low_byte _,
+      refl,
+      (
+        low_byte f.requester,
+        refl,
+        (
+          low_byte f.tag,
+          refl,
+          (
+            halves_small f.last_be f.first_be ff.2 ff.3,
+            refl,
+            (
+              low_byte _,
+              refl,
+              (
+                low_byte _,
+                refl,
+                (
+                  low_byte _,
+                  refl,
+                  (low_byte f.address, cleared _ (low_byte f.address) (omega (arith, ff.4)), tt),
+                ),
+              ),
+            ),
+          ),
+        ),
+      ),
+    )
 
 memory_long : (w : Bool) (f : MemoryFields) → suc (suc (suc (suc (length (field_bytes w (Memory f)))))) ≡ cond w 16 12
 memory_long true f = refl
@@ -418,10 +479,35 @@ config_fit f l fl ff =
     let one : eqb (l.length % 256) 1 ≡ true = eq-eqb _ _ (omega (arith, ff.1)) in
     let high : f.register / 64 < 16 = omega (arith, ff.7) in
     let low : 0x04 * (f.register % 64) < 256 = omega arith in
-    lead_fit layouts.Config 12 l f.tag (field_bytes false (Config f)) cleared (and_from _ _ clear refl) one fl ff.3
-    (low_byte _, refl, (low_byte f.requester, refl, (low_byte f.tag, refl, (halves_small f.last_be f.first_be ff.4 ff.5, refl,
-    (low_byte _, refl, (low_byte f.destination, refl, (omega arith, and_from _ _ (has_clear_240 _ high) refl,
-    (low, cleared _ low (omega arith), tt))))))))
+    lead_fit layouts.Config 12 l f.tag (field_bytes false (Config f)) cleared (and_from _ _ clear refl) one fl ff.3 (
+      low_byte _,
+      refl,
+      (
+        low_byte f.requester,
+        refl,
+        (
+          low_byte f.tag,
+          refl,
+          (
+            halves_small f.last_be f.first_be ff.4 ff.5,
+            refl,
+            (
+              low_byte _,
+              refl,
+              (
+                low_byte f.destination,
+                refl,
+                (
+                  omega arith,
+                  and_from _ _ (has_clear_240 _ high) refl,
+                  (low, cleared _ low (omega arith), tt),
+                ),
+              ),
+            ),
+          ),
+        ),
+      ),
+    )
 
 message_fit : (f : MessageFields) (l : Lead) → FitsLead l → FitsFields l (Message f)
     → FitFrom layouts.Message 16 1 (lead_bytes l f.tag ++ field_bytes true (Message f))
@@ -430,18 +516,57 @@ message_fit f l fl ff =
     let six : FitFrom layouts.Message 16 10 (cells 6 0 f.kept) =
     (k 0, refl, (k 1, refl, (k 2, refl, (k 3, refl, (k 4, refl, (k 5, refl, tt)))))) in
     let kept : FitFrom layouts.Message 16 10 f.kept = subst (FitFrom layouts.Message 16 10) (sym (drop_cells 6 0 f.kept ff.5)) six in
-    lead_fit layouts.Message 16 l f.tag (field_bytes true (Message f)) cleared (and_from _ _ (plain_third l fl) refl) refl fl ff.2
-    (low_byte _, refl, (low_byte f.requester, refl, (low_byte f.tag, refl, (ff.3, refl,
-    (low_byte _, refl, (low_byte f.destination, refl, kept))))))
+    lead_fit layouts.Message 16 l f.tag (field_bytes true (Message f)) cleared (and_from _ _ (plain_third l fl) refl) refl fl ff.2 (
+      low_byte _,
+      refl,
+      (
+        low_byte f.requester,
+        refl,
+        (
+          low_byte f.tag,
+          refl,
+          (
+            ff.3,
+            refl,
+            (low_byte _, refl, (low_byte f.destination, refl, kept)),
+          ),
+        ),
+      ),
+    )
 
 completion_fit : (f : CompletionFields) (l : Lead) → FitsLead l → FitsFields l (Completion f)
     → FitFrom layouts.Completion 12 1 (lead_bytes l f.tag ++ field_bytes false (Completion f))
 completion_fit f l fl ff =
     let lower = ff.6 in
-    lead_fit layouts.Completion 12 l f.tag (field_bytes false (Completion f)) cleared (and_from _ _ (plain_third l fl) refl) refl fl ff.5
-    (low_byte _, refl, (low_byte f.completer, refl, (status_byte (status_bits f.status) f.bcm f.count ff.2.0 ff.3, refl,
-    (low_byte f.count, refl, (low_byte _, refl, (low_byte f.requester, refl, (low_byte f.tag, refl,
-    (omega arith, and_from _ _ (has_clear_128 f.lower lower) refl, tt))))))))
+    lead_fit layouts.Completion 12 l f.tag (field_bytes false (Completion f)) cleared (and_from _ _ (plain_third l fl) refl) refl fl ff.5 (
+      low_byte _,
+      refl,
+      (
+        low_byte f.completer,
+        refl,
+        (
+          status_byte (status_bits f.status) f.bcm f.count ff.2.0 ff.3,
+          refl,
+          (
+            low_byte f.count,
+            refl,
+            (
+              low_byte _,
+              refl,
+              (
+                low_byte f.requester,
+                refl,
+                (
+                  low_byte f.tag,
+                  refl,
+                  (omega arith, and_from _ _ (has_clear_128 f.lower lower) refl, tt),
+                ),
+              ),
+            ),
+          ),
+        ),
+      ),
+    )
 
 routing_again : (r : Routing) → (routing_bits r < 8) × (routing_from (routing_bits r) ≡ r)
 routing_again routings.ToRootComplex = (omega arith, refl)

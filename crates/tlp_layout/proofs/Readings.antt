@@ -1,16 +1,13 @@
 -- The readings are those of the grammar: what they read is spelled so, and what they refuse goes off there.
-use Rattle.std.proofs.Common.{◌≡◌, ℕ, ◌≤◌, Bool, IsTrue, List, [], ◌++◌, length, cond, get_or, take, drop, Option, Some, None, unwrap_or, Result, Ok, Err, refl, sym, ap, subst, ◌∙◌, inl, inr, arith, append-nil, length-append, take_at, ◌<◌, true, false}
+use Rattle.std.proofs.Common.{◌≡◌, ℕ, ◌≤◌, Bool, List, [], ◌++◌, length, cond, get_or, take, drop, Option, unwrap_or, Result, Ok, Err, refl, sym, ap, subst, ◌∙◌, arith, append-nil, ◌<◌}
 use Rattle.std.specs.Prelude.{All, ◌↔◌, IfOk, IfErr, MatchResult}
 use Rattle.std.proofs.Math.Seq.{drop-append_seam, take-append_seam}
-use Rattle.std.proofs.lemmas.Bool.{cases_lt, lt-ltb}
-use Rattle.std.proofs.lemmas.List.{get_or_append_left, nil_from_length}
-use Rattle.first_fault.proofs.Fronts.{Walks}
 use Rattle.first_fault.proofs.Walks.{IsReadable, reads, read_spells, refuses, refused_at}
-use Rattle.tlp_layout.specs.{Layout, TlpFault, HeadView, TlpView, head_bytes, head_length, FitsHead, SpellsHead, IsHead, body_size, FitsTlp, tlp_bytes, Spells, IsTlp, header, body, with_payload, view_of, viewed, head_size, fault_at, IsFault, IsHeadFault, head_of, head_read, tlp_read, may_follow, wants_head, wants_tlp, whole_size, read_head_of, read_of}
+use Rattle.tlp_layout.specs.{Layout, TlpFault, HeadView, TlpView, head_bytes, head_length, FitsHead, SpellsHead, IsHead, body_size, FitsTlp, tlp_bytes, Spells, IsTlp, header, body, with_payload, view_of, viewed, head_size, fault_at, IsFault, IsHeadFault, head_of, head_read, tlp_read, may_follow, wants_head, wants_tlp, read_head_of, read_of}
 use Rattle.tlp_layout.specs.declared.tlp.Tlp.{Tlp}
 use Rattle.tlp_layout.specs.declared.layout.Layout.TheVariants as layouts
-use Rattle.tlp_layout.proofs.Heads.{kept, again, head_size_at_least}
-use Rattle.tlp_layout.proofs.Walk.{body_at_most, whole_front}
+use Rattle.tlp_layout.proofs.Heads.{kept, again}
+use Rattle.tlp_layout.proofs.Walk.{body_at_most}
 use Rattle.tlp_layout.proofs.Grammar.{spells_with, heads, tlps, head_whole, tlp_whole}
 
 pub readable_heads : IsReadable IsHead wants_head may_follow

@@ -1,6 +1,6 @@
 -- Headers and TLPs as grammars: which byte may follow a front. The bytes behind byte 0 are judged each by its place alone,
 -- so what walks is known place by place, and a byte that may come next is always at hand: 0, or the Length that is asked.
-use Rattle.std.proofs.Common.{◌≡◌, ℕ, zero, suc, ◌+◌, ◌<◌, ◌≤◌, Bool, true, false, cond, eqb, ltb, bit_and, IsTrue, List, [], ◌∷◌, length, get_or, take, Option, Some, None, is_some, refl, inl, inr, arith, length-take, get_or-take}
+use Rattle.std.proofs.Common.{◌≡◌, ℕ, zero, suc, ◌<◌, ◌≤◌, Bool, true, false, cond, eqb, ltb, bit_and, IsTrue, List, [], ◌∷◌, length, get_or, take, Option, Some, None, is_some, refl, inl, inr, arith, length-take, get_or-take}
 use Rattle.std.proofs.lemmas.Bool.{cases_lt, ltb-true, lt-ltb, le-ltb, ne_eqb, and_parts, and_from, cases_eq, eq-eqb}
 use Rattle.std.proofs.lemmas.Nat.{and_comm}
 use Rattle.tlp_layout.specs.{Layout, may_follow, whole_size, is_wide, head_size, layout_at, reserved, allowed, body_size}
