@@ -394,78 +394,25 @@ status_byte status false count ls lc = omega arith
 
 memory_fit : (w : Bool) (f : MemoryFields) (l : Lead) → FitsLead l → FitsFields l (Memory f)
     → FitFrom layouts.Memory (cond w 16 12) 1 (lead_bytes l f.tag ++ field_bytes w (Memory f))
-memory_fit true f l fl ff =
-    lead_fit layouts.Memory 16 l f.tag (field_bytes true (Memory f)) cleared (and_from _ _ (plain_third l fl) refl) refl fl ff.1 (
-      low_byte _,
-      refl,
-      (
-        low_byte f.requester,
-        refl,
-        (
-          low_byte f.tag,
-          refl,
-          (
-            halves_small f.last_be f.first_be ff.2 ff.3,
-            refl,
-            (
-              low_byte _,
-              refl,
-              (
-                low_byte _,
-                refl,
-                (
-                  low_byte _,
-                  refl,
-                  (
-                    low_byte _,
-                    refl,
-                    (
-                      low_byte _,
-                      refl,
-                      (
-                        low_byte _,
-                        refl,
-                        (low_byte _, refl, (low_byte f.address, cleared _ (low_byte f.address) (omega (arith, ff.4)), tt)),
-                      ),
-                    ),
-                  ),
-                ),
-              ),
-            ),
-          ),
-        ),
-      ),
-    )
-memory_fit false f l fl ff =
-    lead_fit layouts.Memory 12 l f.tag (field_bytes false (Memory f)) cleared (and_from _ _ (plain_third l fl) refl) refl fl ff.1 (
-      low_byte _,
-      refl,
-      (
-        low_byte f.requester,
-        refl,
-        (
-          low_byte f.tag,
-          refl,
-          (
-            halves_small f.last_be f.first_be ff.2 ff.3,
-            refl,
-            (
-              low_byte _,
-              refl,
-              (
-                low_byte _,
-                refl,
-                (
-                  low_byte _,
-                  refl,
-                  (low_byte f.address, cleared _ (low_byte f.address) (omega (arith, ff.4)), tt),
-                ),
-              ),
-            ),
-          ),
-        ),
-      ),
-    )
+memory_fit w f l fl ff =
+    let be = halves_small f.last_be f.first_be ff.2 ff.3 in
+    let last = cleared (f.address % 256) (low_byte f.address) (omega (arith, ff.4)) in
+    elim w as (λ (v : Bool). FitFrom layouts.Memory (cond v 16 12) 1 (lead_bytes l f.tag ++ field_bytes v (Memory f))) [
+      | true ↦
+          let low : FitFrom layouts.Memory 16 12 (big_bytes 4 f.address) =
+          (low_byte _, refl, (low_byte _, refl, (low_byte _, refl, (low_byte _, last, tt)))) in
+          let high : FitFrom layouts.Memory 16 8 (big_bytes 8 f.address) =
+          (low_byte _, refl, (low_byte _, refl, (low_byte _, refl, (low_byte _, refl, low)))) in
+          let more : FitFrom layouts.Memory 16 4 (field_bytes true (Memory f)) =
+          (low_byte _, refl, (low_byte _, refl, (low_byte _, refl, (be, refl, high)))) in
+          lead_fit layouts.Memory 16 l f.tag (field_bytes true (Memory f)) cleared (and_from _ _ (plain_third l fl) refl) refl fl ff.1 more
+      | false ↦
+          let low : FitFrom layouts.Memory 12 8 (big_bytes 4 f.address) =
+          (low_byte _, refl, (low_byte _, refl, (low_byte _, refl, (low_byte _, last, tt)))) in
+          let more : FitFrom layouts.Memory 12 4 (field_bytes false (Memory f)) =
+          (low_byte _, refl, (low_byte _, refl, (low_byte _, refl, (be, refl, low)))) in
+          lead_fit layouts.Memory 12 l f.tag (field_bytes false (Memory f)) cleared (and_from _ _ (plain_third l fl) refl) refl fl ff.1 more
+    ]
 
 memory_long : (w : Bool) (f : MemoryFields) → suc (suc (suc (suc (length (field_bytes w (Memory f)))))) ≡ cond w 16 12
 memory_long true f = refl
@@ -479,35 +426,13 @@ config_fit f l fl ff =
     let one : eqb (l.length % 256) 1 ≡ true = eq-eqb _ _ (omega (arith, ff.1)) in
     let high : f.register / 64 < 16 = omega (arith, ff.7) in
     let low : 0x04 * (f.register % 64) < 256 = omega arith in
-    lead_fit layouts.Config 12 l f.tag (field_bytes false (Config f)) cleared (and_from _ _ clear refl) one fl ff.3 (
-      low_byte _,
-      refl,
-      (
-        low_byte f.requester,
-        refl,
-        (
-          low_byte f.tag,
-          refl,
-          (
-            halves_small f.last_be f.first_be ff.4 ff.5,
-            refl,
-            (
-              low_byte _,
-              refl,
-              (
-                low_byte f.destination,
-                refl,
-                (
-                  omega arith,
-                  and_from _ _ (has_clear_240 _ high) refl,
-                  (low, cleared _ low (omega arith), tt),
-                ),
-              ),
-            ),
-          ),
-        ),
-      ),
-    )
+    let be = halves_small f.last_be f.first_be ff.4 ff.5 in
+    let h = and_from _ _ (has_clear_240 _ high) refl in
+    let rest : FitFrom layouts.Config 12 8 (drop 4 (field_bytes false (Config f))) =
+    (low_byte _, refl, (low_byte _, refl, (omega arith, h, (low, cleared _ low (omega arith), tt)))) in
+    let more : FitFrom layouts.Config 12 4 (field_bytes false (Config f)) =
+    (low_byte _, refl, (low_byte _, refl, (low_byte _, refl, (be, refl, rest)))) in
+    lead_fit layouts.Config 12 l f.tag (field_bytes false (Config f)) cleared (and_from _ _ clear refl) one fl ff.3 more
 
 message_fit : (f : MessageFields) (l : Lead) → FitsLead l → FitsFields l (Message f)
     → FitFrom layouts.Message 16 1 (lead_bytes l f.tag ++ field_bytes true (Message f))
@@ -515,58 +440,24 @@ message_fit f l fl ff =
     let k = all_bytes f.kept ff.6 in
     let six : FitFrom layouts.Message 16 10 (cells 6 0 f.kept) =
     (k 0, refl, (k 1, refl, (k 2, refl, (k 3, refl, (k 4, refl, (k 5, refl, tt)))))) in
-    let kept : FitFrom layouts.Message 16 10 f.kept = subst (FitFrom layouts.Message 16 10) (sym (drop_cells 6 0 f.kept ff.5)) six in
-    lead_fit layouts.Message 16 l f.tag (field_bytes true (Message f)) cleared (and_from _ _ (plain_third l fl) refl) refl fl ff.2 (
-      low_byte _,
-      refl,
-      (
-        low_byte f.requester,
-        refl,
-        (
-          low_byte f.tag,
-          refl,
-          (
-            ff.3,
-            refl,
-            (low_byte _, refl, (low_byte f.destination, refl, kept)),
-          ),
-        ),
-      ),
-    )
+    let rest = subst (FitFrom layouts.Message 16 10) (sym (drop_cells 6 0 f.kept ff.5)) six in
+    let ids : FitFrom layouts.Message 16 8 (big_bytes 2 f.destination ++ f.kept) =
+    (low_byte _, refl, (low_byte _, refl, rest)) in
+    let more : FitFrom layouts.Message 16 4 (field_bytes true (Message f)) =
+    (low_byte _, refl, (low_byte _, refl, (low_byte _, refl, (ff.3, refl, ids)))) in
+    lead_fit layouts.Message 16 l f.tag (field_bytes true (Message f)) cleared (and_from _ _ (plain_third l fl) refl) refl fl ff.2 more
 
 completion_fit : (f : CompletionFields) (l : Lead) → FitsLead l → FitsFields l (Completion f)
     → FitFrom layouts.Completion 12 1 (lead_bytes l f.tag ++ field_bytes false (Completion f))
 completion_fit f l fl ff =
-    let lower = ff.6 in
-    lead_fit layouts.Completion 12 l f.tag (field_bytes false (Completion f)) cleared (and_from _ _ (plain_third l fl) refl) refl fl ff.5 (
-      low_byte _,
-      refl,
-      (
-        low_byte f.completer,
-        refl,
-        (
-          status_byte (status_bits f.status) f.bcm f.count ff.2.0 ff.3,
-          refl,
-          (
-            low_byte f.count,
-            refl,
-            (
-              low_byte _,
-              refl,
-              (
-                low_byte f.requester,
-                refl,
-                (
-                  low_byte f.tag,
-                  refl,
-                  (omega arith, and_from _ _ (has_clear_128 f.lower lower) refl, tt),
-                ),
-              ),
-            ),
-          ),
-        ),
-      ),
-    )
+    let status = status_byte (status_bits f.status) f.bcm f.count ff.2.0 ff.3 in
+    let lower : f.lower < 256 = omega (arith, ff.6) in
+    let clear = and_from _ _ (has_clear_128 f.lower ff.6) refl in
+    let rest : FitFrom layouts.Completion 12 8 (drop 4 (field_bytes false (Completion f))) =
+    (low_byte _, refl, (low_byte _, refl, (low_byte _, refl, (lower, clear, tt)))) in
+    let more : FitFrom layouts.Completion 12 4 (field_bytes false (Completion f)) =
+    (low_byte _, refl, (low_byte _, refl, (status, refl, (low_byte _, refl, rest)))) in
+    lead_fit layouts.Completion 12 l f.tag (field_bytes false (Completion f)) cleared (and_from _ _ (plain_third l fl) refl) refl fl ff.5 more
 
 routing_again : (r : Routing) → (routing_bits r < 8) × (routing_from (routing_bits r) ≡ r)
 routing_again routings.ToRootComplex = (omega arith, refl)
