@@ -1,12 +1,14 @@
 -- Which stream of its link a TLP takes at a port: its order is this profile's, ranges are those of PCI Express Base 6.0
 -- section 6.33.
-use Rattle.std.specs.Prelude.{ℕ, ◌+◌, ◌*◌, slice_index, Bool, false, ◌&&◌, ◌||◌, ◌==◌, nat_le, if◌then◌else◌, List, [], ◌∷◌, Option, Some, None, min}
+use Rattle.std.specs.Prelude.{ℕ, Bool, false, ◌&&◌, ◌||◌, ◌==◌, nat_le, if◌then◌else◌, List, [], ◌∷◌, Option, Some, None, min}
 use Rattle.std.specs.List.{list_any}
 use Rattle.ide_types.specs.declared.port.Side.{Side}
 use Rattle.ide_types.specs.declared.port.Side.TheVariants.{Host, Device}
 use Rattle.tlp_layout.specs.declared.head.HeadView.{HeadView}
 use Rattle.tlp_layout.specs.declared.head.Fields.{Fields}
 use Rattle.tlp_layout.specs.declared.head.Fields.TheVariants.{Memory, Config, Message, Completion}
+use Rattle.tlp_layout.specs.declared.head.Routing.{Routing}
+use Rattle.tlp_layout.specs.declared.head.Routing.TheVariants.{ById}
 use Rattle.ide_plan.specs.declared.stream.StreamPlan.{StreamPlan}
 use Rattle.ide_plan.specs.declared.stream.Selector.{Selector}
 use Rattle.ide_plan.specs.declared.stream.Selector.TheVariants.{Selective, Link}
@@ -22,15 +24,16 @@ abbrev pub address_of : Fields → Option ℕ
 address_of (Memory f) = Some f.address
 address_of _ = None
 
-abbrev pub if_by_id : ℕ → List ℕ → Option ℕ
-if_by_id routing rest = if routing == 2 then Some (256 * slice_index rest 0 + slice_index rest 1) else None
+abbrev pub if_by_id : Routing → ℕ → Option ℕ
+if_by_id ById destination = Some destination
+if_by_id _ destination = None
 
 -- at a host's port the destination of a configuration request or of a message routed by ID, and the requester of a
 -- completion; at a device's port the requester of a request, and the completer of a completion
 abbrev pub id_of : Side → Fields → Option ℕ
 id_of Host (Memory f) = None
 id_of Host (Config f) = Some f.destination
-id_of Host (Message f) = if_by_id f.routing f.rest
+id_of Host (Message f) = if_by_id f.routing f.destination
 id_of Host (Completion f) = Some f.requester
 id_of Device (Memory f) = Some f.requester
 id_of Device (Config f) = Some f.requester
