@@ -11,3 +11,4 @@ pub mod Statuses
 pub mod AllSteps
 pub mod Resets
 pub mod Cases
+pub mod Points

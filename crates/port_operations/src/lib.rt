@@ -3,4 +3,4 @@
 
 mod stands;
 
-pub use stands::{first_stands, operation_stands, operation_steps, step_stands, worked_cases};
+pub use stands::{first_stands, operation_stands, operation_steps, points_stand, step_stands, worked_cases};

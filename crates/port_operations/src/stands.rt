@@ -2,6 +2,7 @@
 
 ghost use Rattle.link_ports.specs.Stands.{FirstStands, StepStands};
 ghost use Rattle.port_operations.specs.Cases.{WorkedCases};
+ghost use Rattle.port_operations.specs.Points.{PointsStand};
 ghost use Rattle.port_operations.specs.Operations.{OperationStands, OperationSteps};
 
 /// The state before the first event stands for the empty history.
@@ -13,6 +14,12 @@ pub fn first_stands()
 /// after it stands for the history with that pair.
 pub fn step_stands()
     ensures { StepStands }
+{}
+
+/// Where a state stands for a history, a slot holds the key of a draw exactly where the draw is kept, a stream of which
+/// nothing was asked has no key in any slot, and an unfinished operation has made its draw On where its GO came.
+pub fn points_stand()
+    ensures { PointsStand }
 {}
 
 /// Where an operation's pair moves the keys of a stream at a port, and each move is allowed, the moves of the slots
