@@ -7,3 +7,4 @@ pub mod Causes
 pub mod SealingIs
 pub mod OneHistory
 pub mod Choices
+pub mod LastPlaces

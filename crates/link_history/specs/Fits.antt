@@ -4,7 +4,7 @@ use Rattle.ide_plan.specs.declared.plan.Plan.{Plan}
 use Rattle.ide_plan.specs.declared.stream.StreamPlan.{StreamPlan}
 use Rattle.link_history.specs.Plan.{stream_plan}
 
-pub record FitsPlan (plan : Plan) : Type 0 where
+pub record StreamsFit (plan : Plan) : Type 0 where
   pub id : (link stream : ℕ) (s : StreamPlan) → stream_plan plan link stream ≡ Some s → stream < 256
   pub one : (link stream : ℕ) (s : StreamPlan) → stream_plan plan link stream ≡ Some s → 1 ≤ s.mode
   pub eight : (link stream : ℕ) (s : StreamPlan) → stream_plan plan link stream ≡ Some s → s.mode ≤ 8
