@@ -10,7 +10,7 @@ ghost use Rattle.sub_stream.specs.Sender.{sealing_of};
 ghost use Rattle.sub_stream.specs.Receiver.{taken_of};
 ghost use Rattle.tlp_layout.specs.Head.{head_bytes};
 ghost use Rattle.tlp_layout.specs.Tlp.{header, body};
-ghost use Rattle.tlp_layout.specs.View.{view_of};
+ghost use Rattle.tlp_layout.specs.Tlp.{view_of};
 ghost use Rattle.tlp_layout.specs.Reading.{read_of};
 ghost use Rattle.ide_prefix.specs.Cut.{packet_of_view, IsView};
 ghost use Rattle.ide_prefix.specs.Reading.{cut_of, IdePacket};

@@ -14,6 +14,6 @@ mod tests;
 
 pub use answer::{SealedPacket, Taken, TxRefusal};
 pub use buffer::{BUFFER_ROOM, HEAD_BYTES, PACKET_ROOM, PAYLOAD_BYTES};
-pub use key::unit_iv;
+pub use ide_prefix::unit_iv;
 pub use receiver::Rx;
 pub use sender::Tx;

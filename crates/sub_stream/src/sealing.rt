@@ -8,8 +8,8 @@ use crate::answer::SealedPacket;
 use crate::buffer::{
     HEAD_BYTES, PACKET_ROOM, PAYLOAD_BYTES, PREFIX_BYTES, TAG_BYTES, append_sealed,
 };
-use crate::key::{LiveKey, unit_iv};
-use ide_prefix::Prefix;
+use crate::key::LiveKey;
+use ide_prefix::{Prefix, unit_iv};
 
 /// Seals a header and a payload as a unit under the key, which counts it, and appends the packet.
 pub fn seal_under(

@@ -2,23 +2,23 @@
 
 ghost use Rattle.std.specs.Prelude.{◌≡◌, ◌+◌, ◌<◌, ◌≤◌, ◌≢◌, ◌^◌, length, vec_len, vec_capacity};
 ghost use Rattle.gcm_seal.specs.Gcm.{verifies};
-ghost use Rattle.ide_prefix.specs.Cut.{packet_of_view, tag_of};
+ghost use Rattle.ide_prefix.specs.Cut.{packet_of_view, lent_tag};
 ghost use Rattle.sub_stream.specs.Keys.{receiver_key, key_after, LaidOut};
 ghost use Rattle.sub_stream.specs.Receiver.{taken_under};
 ghost use Rattle.sub_stream.specs.declared.answer.Taken.TheVariants.{NotKeyed};
 
 use crate::answer::Taken;
 use crate::buffer::{BUFFER_ROOM, HEAD_BYTES, PAYLOAD_BYTES, append_parts, open_in_place};
-use crate::key::{LiveKey, unit_iv};
+use crate::key::LiveKey;
 use gcm_seal::{Gcm, MAX_BYTES};
-use ide_prefix::PacketView;
+use ide_prefix::{PacketView, unit_iv};
 use ide_types::{FailCause, SubKind};
 
 /// Whether there is a tag, and it is the one of the additional data and the ciphertext.
 fn is_tagged(cipher: &Gcm, iv: &[u8; 12], a: &[u8], c: &[u8], tag: Option<&[u8; 12]>) -> bool
     requires a_short { length a.now ≤ MAX_BYTES }
     requires c_short { length c.now ≤ MAX_BYTES }
-    ensures { result ≡ verifies cipher.now iv.now a.now c.now (tag_of tag.entry) }
+    ensures { result ≡ verifies cipher.now iv.now a.now c.now (lent_tag tag.entry) }
 {
     match tag {
         Some(tag) => cipher.verify(iv, a, c, tag),

@@ -1,25 +1,15 @@
 -- What the reader finds is a spelling, or the first fault.
-use Rattle.std.proofs.Common.{◌≡◌, ℕ, zero, suc, ◌+◌, ◌<◌, ◌≤◌, Bool, true, ltb, IsTrue, List, ◌++◌, length, get_or, take, drop, Option, Some, None, is_some, refl, sym, ap, subst, ◌∙◌, inl, inr, arith, length-take, length-drop, get_or-take, take-append-drop, take-take}
+use Rattle.std.proofs.Common.{◌≡◌, ℕ, zero, suc, ◌+◌, ◌<◌, ◌≤◌, Bool, true, ltb, IsTrue, List, length, get_or, take, drop, Option, Some, None, is_some, refl, sym, ap, subst, inl, inr, arith, length-take, get_or-take, take-take}
 use Rattle.std.proofs.lemmas.Bool.{cases_eq, ltb-true, lt-ltb, le-ltb, eq-eqb, ne_eqb, and_parts}
 use Rattle.std.proofs.lemmas.List.{take_all}
-use Rattle.tlp_layout.specs.declared.layout.Layout.{Layout}
-use Rattle.tlp_layout.specs.declared.layout.Layout.TheVariants as layouts
-use Rattle.tlp_layout.specs.declared.head.HeadView.{HeadView}
-use Rattle.tlp_layout.specs.declared.fault.TlpFault.{TlpFault}
+use Rattle.tlp_layout.specs.{Layout, TlpFault, SpellsHead, IsHead, head_size, layout_at, IsFault, IsHeadFault, head_of, rest_size, wants_head, wants_tlp, whole_size, may_follow, Spells, IsTlp, with_payload}
 use Rattle.tlp_layout.specs.declared.fault.TlpFault.TheVariants as faults
-use Rattle.tlp_layout.specs.declared.tlp.Tlp.{Tlp}
-use Rattle.tlp_layout.specs.Head.{head_bytes, SpellsHead, IsHead}
-use Rattle.tlp_layout.specs.Causes.{head_size, layout_at}
-use Rattle.tlp_layout.specs.Faults.{IsFault, IsHeadFault}
 use Rattle.tlp_layout.specs.Inside.{Agrees, Stops, StopsAt}
-use Rattle.tlp_layout.specs.Reading.{head_of, fields_of, rest_size, wants_head, wants_tlp, whole_size, may_follow}
-use Rattle.tlp_layout.specs.Tlp.{body_size, Spells, IsTlp}
-use Rattle.tlp_layout.specs.View.{with_fields}
 use Rattle.first_fault.proofs.Cells.{IsBytes}
-use Rattle.tlp_layout.proofs.Heads.{layout_of, back, again}
-use Rattle.tlp_layout.proofs.Walk.{IsWalked, whole_front, fits_from, agrees_there, head_size_at_least}
+use Rattle.tlp_layout.proofs.Heads.{back, head_size_at_least}
+use Rattle.tlp_layout.proofs.Walk.{IsWalked, whole_front, fits_from, agrees_there}
 use Rattle.first_fault.proofs.Fronts.{Halts, place_of}
-use Rattle.tlp_layout.proofs.Grammar.{heads, tlps, needs_tlp_at, take_right, drop_bytes, spells_with}
+use Rattle.tlp_layout.proofs.Grammar.{heads, tlps, needs_tlp_at, take_right, parts_spell}
 
 -- ---- a header that goes wrong
 
@@ -171,29 +161,8 @@ tlp_trails k s n wanted h e lt =
       rw (ne_eqb place (length s) (λ e. omega arith), ne_eqb place 0 (λ e. omega arith), le-ltb place (head_size (get_or s 0 0)) (omega arith)) refl,
     )
 
-kind_again : (k : Layout) (s : List ℕ) → layout_of (fields_of k s) ≡ k
-kind_again layouts.Memory s = refl
-kind_again layouts.Config s = refl
-kind_again layouts.Message s = refl
-kind_again layouts.Completion s = refl
-
--- the header is that of its bytes alone
-head_front : (k : Layout) (s : List ℕ) (n : ℕ) → SpellsHead (head_of k (take n s)) (take n s) → head_of k s ≡ head_of k (take n s)
-head_front k s n r =
-    let v = head_of k (take n s) in
-    let one : head_of (layout_of v.fields) (head_bytes v ++ drop n s) ≡ v = again v (drop n s) r.fits in
-    let parts : head_bytes v ++ drop n s ≡ s = ap (λ (x : List ℕ). x ++ drop n s) (sym r.spelled) ∙ take-append-drop n s in
-    subst (λ (j : Layout). head_of j s ≡ v) (kind_again k (take n s)) (subst (λ (x : List ℕ). head_of (layout_of v.fields) x ≡ v) parts one)
-
-pub tlp_found : (k : Layout) (s : List ℕ) (n wanted : ℕ) (t : Tlp) → HasHead k s n → wanted ≡ rest_size s → length s ≡ n + wanted
-    → t ≡ with_fields (head_of k s).lead (head_of k s).has_payload (head_of k s).fields (drop n s) → Spells t s
-tlp_found k s n wanted t h e long is =
-    let r = back k (take n s) (take_right k s n h.size h.within (walked k s n h)) in
-    let v = head_of k (take n s) in
-    let same : head_of k s ≡ v = head_front k s n r in
-    let size : length (drop n s) ≡ body_size v.has_payload v.lead.length = omega (arith, length-drop n s, ap (λ (x : HeadView). body_size x.has_payload x.lead.length) same) in
-    let all = drop_bytes n s (λ i lt. h.fit i) in
-    let one = spells_with v.lead v.has_payload v.fields (drop n s) r.fits size all in
-    let parts : head_bytes v ++ drop n s ≡ s = ap (λ (x : List ℕ). x ++ drop n s) (sym r.spelled) ∙ take-append-drop n s in
-    let named : with_fields v.lead v.has_payload v.fields (drop n s) ≡ t = sym (is ∙ ap (λ (x : HeadView). with_fields x.lead x.has_payload x.fields (drop n s)) same) in
-    subst (λ (x : Tlp). Spells x s) named (subst (Spells (with_fields v.lead v.has_payload v.fields (drop n s))) parts one)
+pub tlp_found : (k : Layout) (s : List ℕ) (n wanted : ℕ) → HasHead k s n → wanted ≡ rest_size s → length s ≡ n + wanted
+    → Spells (with_payload (head_of k s) (drop n s)) s
+tlp_found k s n wanted h e long =
+    subst (λ (m : ℕ). Spells (with_payload (head_of k s) (drop m s)) s) (sym h.size)
+    (parts_spell k s (walked k s n h) (omega (arith, whole_is k s n h)))

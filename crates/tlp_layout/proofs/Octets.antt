@@ -1,8 +1,7 @@
 -- Facts on single bytes, each tried at all 256 of them.
-use Rattle.std.proofs.Common.{◌≡◌, ℕ, ◌%◌, ◌<◌, ◌≤◌, Bool, true, false, ◌&&◌, not, ltb, leb, eqb, bit_and, Option, Some, None, refl, sym, ap, ◌∙◌, arith}
-use Rattle.std.proofs.lemmas.Bool.{agree_below, agree_below_at, eqb-true, ltb-true, eq-eqb, lt-ltb, leb-true, not-true, and_parts, and_from}
-use Rattle.tlp_layout.specs.Causes.{is_wide, layout_at}
-use Rattle.tlp_layout.specs.declared.layout.Layout.{Layout}
+use Rattle.std.proofs.Common.{◌≡◌, ℕ, ◌%◌, ◌<◌, Bool, true, ◌&&◌, not, ltb, eqb, bit_and, Option, Some, None, refl, sym, ap, ◌∙◌, arith}
+use Rattle.std.proofs.lemmas.Bool.{agree_below, agree_below_at, eqb-true, ltb-true, eq-eqb, lt-ltb, and_parts, and_from}
+use Rattle.tlp_layout.specs.{is_wide, layout_at, Layout}
 use Rattle.tlp_layout.specs.declared.layout.Layout.TheVariants as layouts
 
 mask_is : (m : ℕ) (test : ℕ → Bool) → agree_below (λ b. eqb (bit_and m b) 0) test 256 ≡ true → (b : ℕ) → b < 256 → eqb (bit_and m b) 0 ≡ test b
@@ -25,54 +24,21 @@ mask_128 = mask_is 128 (λ b. ltb b 128) refl
 
 -- ---- byte 0
 
-abbrev is_memory : Option Layout → Bool
-is_memory None = false
-is_memory (Some layouts.Memory) = true
-is_memory (Some _) = false
+-- a message has 4 double words, a configuration request and a completion have 3
+abbrev has_width : Layout → Bool → Bool
+has_width layouts.Memory wide = true
+has_width layouts.Config wide = not wide
+has_width layouts.Message wide = wide
+has_width layouts.Completion wide = not wide
 
-abbrev is_config : Option Layout → Bool
-is_config None = false
-is_config (Some layouts.Config) = true
-is_config (Some _) = false
+abbrev is_width : Option Layout → Bool → Bool
+is_width None wide = true
+is_width (Some k) wide = has_width k wide
 
-abbrev is_message : Option Layout → Bool
-is_message None = false
-is_message (Some layouts.Message) = true
-is_message (Some _) = false
-
-abbrev is_completion : Option Layout → Bool
-is_completion None = false
-is_completion (Some layouts.Completion) = true
-is_completion (Some _) = false
-
-pub memory_first : (b : ℕ) → b < 256 → layout_at b ≡ Some layouts.Memory → (b < 128) × (b % 32 ≡ 0)
-memory_first b lt e =
-    let t : (ltb b 128 && eqb (b % 32) 0) ≡ true = sym (agree_below_at (λ b. is_memory (layout_at b)) (λ b. ltb b 128 && eqb (b % 32) 0) 256 b refl lt) ∙ ap is_memory e in
-    let p = and_parts (ltb b 128) (eqb (b % 32) 0) t in
-    (ltb-true _ _ p.0, eqb-true _ _ p.1)
-
-pub message_first : (b : ℕ) → b < 256 → layout_at b ≡ Some layouts.Message → (b < 128) × (is_wide b ≡ true) × (16 ≤ b % 32) × (b % 32 < 22)
-message_first b lt e =
-    let t : (((ltb b 128 && is_wide b) && leb 16 (b % 32)) && ltb (b % 32) 22) ≡ true = sym (agree_below_at (λ b. is_message (layout_at b)) (λ b. ((ltb b 128 && is_wide b) && leb 16 (b % 32)) && ltb (b % 32) 22) 256 b refl lt) ∙ ap is_message e in
-    let p = and_parts _ _ t in
-    let q = and_parts _ _ p.0 in
-    let r = and_parts _ _ q.0 in
-    (ltb-true _ _ r.0, r.1, leb-true _ _ q.1, ltb-true _ _ p.1)
-
-pub config_first : (b : ℕ) → b < 256 → layout_at b ≡ Some layouts.Config → (b < 128) × (is_wide b ≡ false) × (4 ≤ b % 32) × (b % 32 < 6)
-config_first b lt e =
-    let t : (((ltb b 128 && not (is_wide b)) && leb 4 (b % 32)) && ltb (b % 32) 6) ≡ true = sym (agree_below_at (λ b. is_config (layout_at b)) (λ b. ((ltb b 128 && not (is_wide b)) && leb 4 (b % 32)) && ltb (b % 32) 6) 256 b refl lt) ∙ ap is_config e in
-    let p = and_parts _ _ t in
-    let q = and_parts _ _ p.0 in
-    let r = and_parts _ _ q.0 in
-    (ltb-true _ _ r.0, not-true _ r.1, leb-true _ _ q.1, ltb-true _ _ p.1)
-
-pub completion_first : (b : ℕ) → b < 256 → layout_at b ≡ Some layouts.Completion → (b < 128) × (is_wide b ≡ false) × (b % 32 ≡ 10)
-completion_first b lt e =
-    let t : ((ltb b 128 && not (is_wide b)) && eqb (b % 32) 10) ≡ true = sym (agree_below_at (λ b. is_completion (layout_at b)) (λ b. (ltb b 128 && not (is_wide b)) && eqb (b % 32) 10) 256 b refl lt) ∙ ap is_completion e in
-    let q = and_parts _ _ t in
-    let r = and_parts _ _ q.0 in
-    (ltb-true _ _ r.0, not-true _ r.1, eqb-true _ _ q.1)
+pub width_of : (k : Layout) (b : ℕ) → b < 256 → layout_at b ≡ Some k → has_width k (is_wide b) ≡ true
+width_of k b lt kind =
+    sym (ap (λ (o : Option Layout). is_width o (is_wide b)) kind)
+    ∙ agree_below_at (λ b. is_width (layout_at b) (is_wide b)) (λ b. true) 256 b refl lt
 
 -- what the bits that are 0 say
 pub clear_3 : (b : ℕ) → b < 256 → eqb (bit_and 3 b) 0 ≡ true → b % 4 ≡ 0

@@ -1,4 +1,4 @@
-use Rattle.tlp_layout.specs.View.{view_of}
+use Rattle.tlp_layout.specs.Tlp.{view_of}
 use Rattle.link_world.proofs.Parts.{parts_of}
 use Rattle.link_world.proofs.world.parts.Goals as goal
 

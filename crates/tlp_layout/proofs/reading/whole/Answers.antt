@@ -1,9 +1,7 @@
 use Rattle.std.proofs.Common.{◌≡◌, ap, ◌∙◌, arith, length-drop}
 use Rattle.std.proofs.lemmas.List.{take_rest}
 use Rattle.std.proofs.lemmas.Result.{err_from_is_err_and}
-use Rattle.tlp_layout.specs.declared.head.HeadView.{HeadView}
-use Rattle.tlp_layout.specs.Reading.{rest_size}
-use Rattle.tlp_layout.specs.Tlp.{body_size}
+use Rattle.tlp_layout.specs.{HeadView, rest_size, body_size}
 use Rattle.tlp_layout.proofs.Found.{tlp_fault, tlp_short, tlp_trails, tlp_found}
 use Rattle.tlp_layout.proofs.reading.whole.Goals as goal
 
@@ -32,5 +30,4 @@ returns-clause-ok c =
     let wanted : c.payload_size-wanted.result ≡ rest_size c.args.bytes.now = c.payload_size-wanted.ensures ∙ ap (λ (x : HeadView). body_size x.has_payload x.lead.length) c.head_view-head.ensures in
     let less = rw take_rest at c.if-payload-wanted.false in
     let more = rw take_rest at c.if-payload-wanted-2.false in
-    let is = rw (take_rest, c.head_view-head.ensures) at c.with_payload.ensures in
-    tlp_found c.in_ok-layout.layout c.args.bytes.now c.in_ok-layout.size c.payload_size-wanted.result _ (record { fit = λ i. omega (arith, c.type_inv.bytes i); kind = h.layout; size = h.size.0; within = h.size.1; agrees = h.agrees }) wanted (omega (arith, less, more, length-drop c.in_ok-layout.size c.args.bytes.now)) is
+    rw (take_rest, c.head_view-head.ensures) (tlp_found c.in_ok-layout.layout c.args.bytes.now c.in_ok-layout.size c.payload_size-wanted.result (record { fit = λ i. omega (arith, c.type_inv.bytes i); kind = h.layout; size = h.size.0; within = h.size.1; agrees = h.agrees }) wanted (omega (arith, less, more, length-drop c.in_ok-layout.size c.args.bytes.now)))
