@@ -84,10 +84,10 @@ all_bytes bytes h = All-from_get_or (λ b. b < 256) bytes 0 (λ i _. h i)
 pub key_holds : (path : Text) (d : Data) → Holds (λ key. (length key ≡ 32) × All (λ b. b < 256) key) (key_bytes path d)
 key_holds path d = next (λ _. Unit {0}) _ (text path d) (λ t. or_length path t (result_ok (decode_sized t 32))) (anything _)
     (λ t _. or_fault_holds _ _ _ (λ key e.
-      let sized = spelled (decode_sized t 32) key e in
-      let long = decode_sized-ok t 32 key sized in
-      let ok = decode_of-ok t key (sym (decode_sized-twice t 32 long) ∙ sized) in
-      (omega (arith, ok.2, long), all_bytes key ok.3)))
+    let sized = spelled (decode_sized t 32) key e in
+    let long = decode_sized-ok t 32 key sized in
+    let ok = decode_of-ok t key (sym (decode_sized-twice t 32 long) ∙ sized) in
+    (omega (arith, ok.2, long), all_bytes key ok.3)))
 
 short_holds : (most : ℕ) (path t : Text) (b : Bool) → nat_le (length t) (2 * most) ≡ b
     → Holds (λ bytes. (length bytes ≤ most) × All (λ c. c < 256) bytes) (cond b (or_length path t (result_ok (decode_of t))) (or_length path t None))
@@ -126,8 +126,8 @@ each_holds : {A : Type 0} (P : A → Type 0) (one : Reader A) → ((path : Text)
 each_holds P one h path i [] = gives _ [] (refl, All-nil P)
 each_holds {A} P one h path i (d ∷ ds) =
     next P _ (one (place path i) d) (λ x. each one path (i + 1) ds >>= λ xs. Ok (x ∷ xs)) (h (place path i) d) (λ x p.
-      next (λ (xs : List A). (length xs ≡ length ds) × All P xs) _ (each one path (i + 1) ds) (λ xs. Ok (x ∷ xs)) (each_holds P one h path (i + 1) ds) (λ xs ps.
-        gives _ (x ∷ xs) (grind (arith, ps.0), All-cons P x xs p ps.1)))
+    next (λ (xs : List A). (length xs ≡ length ds) × All P xs) _ (each one path (i + 1) ds) (λ xs. Ok (x ∷ xs)) (each_holds P one h path (i + 1) ds) (λ xs ps.
+    gives _ (x ∷ xs) (grind (arith, ps.0), All-cons P x xs p ps.1)))
 
 neither : (a b : Bool) → (a || b) ≡ false → a ≡ false
 neither true b h = cc
@@ -143,15 +143,15 @@ counted_holds span path ds false false p f = gives _ ds (ltb-false (length ds) s
 pub list_holds : {A : Type 0} (span : Span) (P : A → Type 0) (one : Reader A) → ((path : Text) (d : Data) → Holds P (one path d)) → (path : Text) (d : Data) → Holds (Listed span P) (list span one path d)
 list_holds {A} span P one h path d =
     next (λ _. Unit {0}) (Listed span P) (values_of path d) (λ ds. counted span path ds >>= λ cs. each one path 0 cs) (anything _) (λ ds _.
-      next (λ (es : List Data). (span.least ≤ length es) × (is_past span.most (length es) ≡ false)) (Listed span P) (counted span path ds) (λ cs. each one path 0 cs)
-        (counted_holds span path ds (is_past span.most (length ds)) _ refl refl) (λ cs q.
-          weaker _ (Listed span P) (each one path 0 cs) (each_holds P one h path 0 cs) (λ xs r.
-            record { least = rw r.0 q.0; most = rw r.0 q.1; each = r.1 })))
+    next (λ (es : List Data). (span.least ≤ length es) × (is_past span.most (length es) ≡ false)) (Listed span P) (counted span path ds) (λ cs. each one path 0 cs)
+    (counted_holds span path ds (is_past span.most (length ds)) _ refl refl) (λ cs q.
+    weaker _ (Listed span P) (each one path 0 cs) (each_holds P one h path 0 cs) (λ xs r.
+    record { least = rw r.0 q.0; most = rw r.0 q.1; each = r.1 })))
 
 both_holds : (first last : Bounds) (path : Text) (d e : Data) → Holds (λ (p : ℕ × ℕ). Admitted first p.0 × Admitted last p.1) (both first last path d e)
 both_holds first last path d e =
     next (Admitted first) _ (number first (place path 0) d) (λ m. number last (place path 1) e >>= λ n. Ok (m, n)) (number_holds first _ d) (λ m p.
-      next (Admitted last) _ (number last (place path 1) e) (λ n. Ok (m, n)) (number_holds last _ e) (λ n q. gives _ (m, n) (p, q)))
+    next (Admitted last) _ (number last (place path 1) e) (λ n. Ok (m, n)) (number_holds last _ e) (λ n q. gives _ (m, n) (p, q)))
 
 two_in_holds : (allowed : Bool) (first last : Bounds) (path : Text) (ds : List Data) → Holds (λ (p : ℕ × ℕ). Admitted first p.0 × Admitted last p.1) (two_in allowed first last path ds)
 two_in_holds allowed first last path [] = faulty _ _

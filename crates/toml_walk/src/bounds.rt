@@ -3,6 +3,9 @@
 ghost use Rattle.std.specs.Prelude.{◌≡◌, ◌<◌, ◌^◌};
 ghost use Rattle.toml_walk.specs.Bounds.{within, formed, has_form, admits};
 
+/// The greatest number that TOML has.
+pub const GREATEST: u64 = 9223372036854775807;
+
 /// What a number has to be besides.
 #[derive(Clone, Copy, Debug, PartialEq, Eq)]
 pub enum Form {

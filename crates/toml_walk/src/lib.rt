@@ -10,11 +10,11 @@ mod reader;
 mod table;
 mod texts;
 
-pub use bounds::{Bounds, Form};
+pub use bounds::{Bounds, Form, GREATEST};
 pub use fault::{PlanError, PlanFault};
 pub use list::{ListOf, Span, items_of};
 pub use numbers::{Byte, Long, Wide, Word, integer_of, two_numbers};
 pub use path::{key_path, place_path};
 pub use reader::Reader;
-pub use table::{optional, refuse_unknown, required, table_of};
+pub use table::{Keys, table_of};
 pub use texts::{HexBytes, KeyBytes, Truth, or_length, text_of};

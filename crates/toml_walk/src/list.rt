@@ -113,6 +113,19 @@ pub struct ListOf<R> {
     pub element: R,
 }
 
+impl<R> ListOf<R> {
+    /// From `least` to `most` elements.
+    pub fn between(least: usize, most: usize, element: R) -> ListOf<R>
+        ensures span { result.span ≡ between least most }
+        ensures element { result.element ≡ element }
+    {
+        ListOf {
+            span: Span::between(least, most),
+            element,
+        }
+    }
+}
+
 impl<R: Reader> Reader for ListOf<R> {
     type Out = Items<R::Out>;
 

@@ -2,13 +2,13 @@
 
 ghost use Rattle.std.specs.Prelude.{◌≡◌, ◌≤◌, ◌<◌, ◌^◌, IfOk, map};
 ghost use Rattle.toml.specs.View.{view};
-ghost use Rattle.toml_walk.specs.Bounds.{within, formed};
+ghost use Rattle.toml_walk.specs.Bounds.{greatest, within, formed};
 ghost use Rattle.toml_walk.specs.Fault.{Gives};
 ghost use Rattle.toml_walk.specs.Walk.{values_of};
 ghost use Rattle.toml_walk.specs.Values.{integer, bounded, number, both, two_in, two};
 
 use crate::list::items_of;
-use crate::{Bounds, Form, PlanError, PlanFault, Reader, place_path};
+use crate::{Bounds, Form, GREATEST, PlanError, PlanFault, Reader, place_path};
 use ide_types::Bytes;
 use std::alloc::Global;
 use toml::Value;
@@ -157,6 +157,26 @@ impl Reader for Long {
 #[derive(Clone, Copy)]
 pub struct Wide {
     pub bounds: Bounds,
+}
+
+impl Wide {
+    /// From `least` to `most`.
+    pub fn within(least: u64, most: u64) -> Wide
+        ensures { result.bounds ≡ within least most }
+    {
+        Wide {
+            bounds: Bounds::within(least, most),
+        }
+    }
+
+    /// From `least` on, of the form.
+    pub fn formed(least: u64, form: Form) -> Wide
+        ensures { result.bounds ≡ formed least greatest form }
+    {
+        Wide {
+            bounds: Bounds::formed(least, GREATEST, form),
+        }
+    }
 }
 
 impl Reader for Wide {

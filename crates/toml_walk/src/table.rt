@@ -36,21 +36,13 @@ fn first_unknown<'a>(known: &[&str], table: &'a Table) -> Option<&'a str>
     None
 }
 
-/// Refuses the least key of the table that is none of the known ones. `path` is the table's and a dot, or nothing at
-/// the top.
-#[tactic(auto, using(crate::proofs::Lists::keys_of_view))]
-pub fn refuse_unknown(
-    alloc: Global,
-    path: &[u8],
-    known: &[&str],
-    table: &Table,
-) -> Result<(), PlanError>
-    ensures { Gives (λ u. u) result (only_known path.now (map (λ s. s.now) known.now) (table_view table.now)) }
-{
-    match first_unknown(known, table) {
-        None => Ok(()),
-        Some(key) => Err(PlanError::Fault(PlanFault::Unknown(key_path(alloc, path, key)?))),
-    }
+/// The keys of a table, to be read one after the other.
+#[derive(Drop)]
+pub struct Keys<'a> {
+    pub alloc: Global,
+    /// The table's path and a dot, or nothing for the table at the top.
+    pub path: Bytes,
+    pub table: &'a Table,
 }
 
 fn found<'a>(table: &'a Table, name: &str) -> Option<&'a Value>
@@ -59,37 +51,48 @@ fn found<'a>(table: &'a Table, name: &str) -> Option<&'a Value>
     table.get(name)
 }
 
-/// The value of a key that has to be there. `path` is the table's and a dot, or nothing at the top.
-pub fn required<R: Reader>(
-    alloc: Global,
-    path: &[u8],
-    table: &Table,
-    name: &str,
-    reader: &R,
-) -> Result<R::Out, PlanError>
-    ensures { Gives (λ x. x) result (required path.now (table_view table.now) name.now (R.reads reader.now)) }
-{
-    let path = key_path(alloc, path, name)?;
-    match found(table, name) {
-        None => Err(PlanError::Fault(PlanFault::Missing(path))),
-        Some(value) => reader.read(alloc, path.as_slice(), value),
+impl Keys<'_> {
+    /// Refuses the least key of the table that is none of the known ones.
+    #[tactic(auto, using(crate::proofs::Lists::keys_of_view))]
+    pub fn only(&self, known: &[&str]) -> Result<(), PlanError>
+        ensures { Gives (λ u. u) result (only_known self.now.path (map (λ s. s.now) known.now) (table_view self.now.table.now)) }
+    {
+        match first_unknown(known, self.table) {
+            None => Ok(()),
+            Some(key) => {
+                let path = key_path(self.alloc, self.path.as_slice(), key)?;
+                Err(PlanError::Fault(PlanFault::Unknown(path)))
+            }
+        }
     }
-}
 
-/// The value of a key, or its default where it is not there. `path` is the table's and a dot, or nothing at the top.
-pub fn optional<R: Reader>(
-    alloc: Global,
-    path: &[u8],
-    table: &Table,
-    name: &str,
-    default: R::Out,
-    reader: &R,
-) -> Result<R::Out, PlanError>
-    ensures { Gives (λ x. x) result (optional path.now (table_view table.now) name.now default (R.reads reader.now)) }
-{
-    match found(table, name) {
-        None => Ok(default),
-        Some(value) => reader.read(alloc, key_path(alloc, path, name)?.as_slice(), value),
+    /// The value of a key that has to be there.
+    pub fn required<R: Reader>(&self, name: &str, reader: &R) -> Result<R::Out, PlanError>
+        ensures { Gives (λ x. x) result (required self.now.path (table_view self.now.table.now) name.now (R.reads reader.now)) }
+    {
+        let path = key_path(self.alloc, self.path.as_slice(), name)?;
+        match found(self.table, name) {
+            None => Err(PlanError::Fault(PlanFault::Missing(path))),
+            Some(value) => reader.read(self.alloc, path.as_slice(), value),
+        }
+    }
+
+    /// The value of a key, or its default where it is not there.
+    pub fn optional<R: Reader>(
+        &self,
+        name: &str,
+        default: R::Out,
+        reader: &R,
+    ) -> Result<R::Out, PlanError>
+        ensures { Gives (λ x. x) result (optional self.now.path (table_view self.now.table.now) name.now default (R.reads reader.now)) }
+    {
+        match found(self.table, name) {
+            None => Ok(default),
+            Some(value) => {
+                let path = key_path(self.alloc, self.path.as_slice(), name)?;
+                reader.read(self.alloc, path.as_slice(), value)
+            }
+        }
     }
 }
 

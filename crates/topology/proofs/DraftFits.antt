@@ -57,18 +57,18 @@ interface_holds t ms =
     next (Upto 65535) DraftFits (required t ms (codes "rid") (number (within 0 65535))) _ (required_holds _ t ms (codes "rid") _ (upto 65535)) (λ rid rid_fits.
     next (λ _. Unit {0}) DraftFits (required t ms (codes "stream") integer) _ (anything _) (λ z _.
     next (Admitted (formed 0 23 LockFlags)) DraftFits (optional t ms (codes "flags") 0 (number (formed 0 23 LockFlags))) _
-      (optional_holds _ t ms (codes "flags") 0 _ (record { least = lit≤ tt; most = lit≤ tt; form = refl }) (number_holds _)) (λ flags flags_fit.
+    (optional_holds _ t ms (codes "flags") 0 _ (record { least = lit≤ tt; most = lit≤ tt; form = refl }) (number_holds _)) (λ flags flags_fit.
     next (Admitted (formed 0 greatest Pages)) DraftFits (optional t ms (codes "offset") 0 (number (formed 0 greatest Pages))) _
-      (optional_holds _ t ms (codes "offset") 0 _ (record { least = lit≤ tt; most = lit≤ tt; form = refl }) (number_holds _)) (λ offset offset_fits.
+    (optional_holds _ t ms (codes "offset") 0 _ (record { least = lit≤ tt; most = lit≤ tt; form = refl }) (number_holds _)) (λ offset offset_fits.
     next (Upto 65535) DraftFits (optional t ms (codes "command") 0 (number (within 0 65535))) _ (optional_holds _ t ms (codes "command") 0 _ (lit≤ tt) (upto 65535)) (λ command command_fits.
     next (Upto 65535) DraftFits (optional t ms (codes "msix") 0 (number (within 0 65535))) _ (optional_holds _ t ms (codes "msix") 0 _ (lit≤ tt) (upto 65535)) (λ msix msix_fits.
     next (Upto 65535) DraftFits (optional t ms (codes "lnr") 0 (number (within 0 65535))) _ (optional_holds _ t ms (codes "lnr") 0 _ (lit≤ tt) (upto 65535)) (λ lnr lnr_fits.
     next (Upto 255) DraftFits (optional t ms (codes "cacheline") 0 (number (within 0 255))) _ (optional_holds _ t ms (codes "cacheline") 0 _ (lit≤ tt) (upto 255)) (λ line line_fits.
     next (Upto 4294967295) DraftFits (optional t ms (codes "tph") 0 (number (within 0 4294967295))) _ (optional_holds _ t ms (codes "tph") 0 _ (lit≤ tt) (upto 4294967295)) (λ tph tph_fits.
     next (λ bytes. (length bytes ≤ 1024) × AreBytes bytes) DraftFits (optional t ms (codes "info") [] (hex_bytes 1024)) _
-      (optional_holds _ t ms (codes "info") [] _ (lit≤ tt, All-nil (λ b. b < 256)) (hex_holds 1024)) (λ info info_fits.
+    (optional_holds _ t ms (codes "info") [] _ (lit≤ tt, All-nil (λ b. b < 256)) (hex_holds 1024)) (λ info info_fits.
     next (λ xs. (length xs ≤ 6) × All FitsBar xs) DraftFits (optional t ms (codes "bars") [] (list (between 0 6) (table bar_keys))) _
-      (optional_holds _ t ms (codes "bars") [] _ (lit≤ tt, All-nil FitsBar) bars_hold) (λ bars bars_fit.
+    (optional_holds _ t ms (codes "bars") [] _ (lit≤ tt, All-nil FitsBar) bars_hold) (λ bars bars_fit.
     gives DraftFits _ (λ streams streams_fit bound. record {
       requester = rid_fits;
       stream = bound_selective z streams streams_fit bound;
@@ -86,7 +86,7 @@ interface_holds t ms =
       info = info_fits.0;
       info_bytes = info_fits.1;
       bars = bars_fit.0;
-      each_bar = bars_fit.1
+      each_bar = bars_fit.1;
     })))))))))))))
 
 pub record LinkHolds (l : LinkDraft) : Type 0 where
@@ -108,18 +108,18 @@ unfolding link_keys
 link_holds t ms =
     next (λ _. Unit {0}) LinkHolds (only_known t link_names ms) _ (anything _) (λ _ _.
     next (λ xs. (length xs ≤ 1024) × All IsKey xs) LinkHolds (optional t ms (codes "nonces") [] (list (between 0 1024) key_bytes)) _
-      (optional_holds _ t ms (codes "nonces") [] _ (lit≤ tt, All-nil IsKey) nonces_hold) (λ nonces nonces_fit.
+    (optional_holds _ t ms (codes "nonces") [] _ (lit≤ tt, All-nil IsKey) nonces_hold) (λ nonces nonces_fit.
     next (Listed (between 1 16) FitsStream) LinkHolds (required t ms (codes "stream") (list (between 1 16) (table stream_keys))) _
-      (required_holds _ t ms (codes "stream") _ (list_holds _ FitsStream (table stream_keys) (table_holds FitsStream stream_keys stream_holds))) (λ streams streams_fit.
+    (required_holds _ t ms (codes "stream") _ (list_holds _ FitsStream (table stream_keys) (table_holds FitsStream stream_keys stream_holds))) (λ streams streams_fit.
     next (All DraftFits) LinkHolds (optional t ms (codes "interface") [] (list any_number (table interface_keys))) _
-      (optional_holds _ t ms (codes "interface") [] _ (All-nil DraftFits) interfaces_hold) (λ interfaces interfaces_fit.
+    (optional_holds _ t ms (codes "interface") [] _ (All-nil DraftFits) interfaces_hold) (λ interfaces interfaces_fit.
     gives LinkHolds _ (record {
       nonces = nonces_fit.0;
       each_nonce = nonces_fit.1;
       streams_least = streams_fit.least;
       streams_most = ltb-false 16 (length streams) streams_fit.most;
       each_stream = streams_fit.each;
-      each_interface = interfaces_fit
+      each_interface = interfaces_fit;
     })))))
 
 pub record TopHolds (d : PlanDraft) : Type 0 where
@@ -129,20 +129,20 @@ pub record TopHolds (d : PlanDraft) : Type 0 where
   pub links : Listed (between 1 8) LinkHolds d.links
   pub regions : Listed (between 0 16) FitsRegion d.memory
 
-pub top_holds : (ms : Members) → Holds TopHolds (top_keys ms)
+pub top_holds : (t : Text) (ms : Members) → Holds TopHolds (top_keys t ms)
 unfolding top_keys
-top_holds ms =
-    next (λ _. Unit {0}) TopHolds (only_known [] top_names ms) _ (anything _) (λ _ _.
-    next (λ _. Unit {0}) TopHolds (required [] ms (codes "version") (number (within 1 1))) _ (anything _) (λ _ _.
-    next (Admitted (within 16 65535)) TopHolds (optional [] ms (codes "portion") 64 (number (within 16 65535))) _
-      (optional_holds _ [] ms (codes "portion") 64 _ (record { least = lit≤ tt; most = lit≤ tt; form = refl }) (number_holds _)) (λ portion portion_fits.
-    next (Admitted (within 1 4294967296)) TopHolds (optional [] ms (codes "units_per_key") 4294967296 (number (within 1 4294967296))) _
-      (optional_holds _ [] ms (codes "units_per_key") 4294967296 _ (record { least = lit≤ tt; most = lit≤ tt; form = refl }) (number_holds _)) (λ units units_fit.
-    next (Listed (between 6 6144) IsKey) TopHolds (required [] ms (codes "pool") (list (between 6 6144) key_bytes)) _
-      (required_holds _ [] ms (codes "pool") _ (list_holds _ IsKey key_bytes key_holds)) (λ pool pool_fits.
-    next (Listed (between 1 8) LinkHolds) TopHolds (required [] ms (codes "link") (list (between 1 8) (table link_keys))) _
-      (required_holds _ [] ms (codes "link") _ (list_holds _ LinkHolds (table link_keys) (table_holds LinkHolds link_keys link_holds))) (λ links links_fit.
-    next (Listed (between 0 16) FitsRegion) TopHolds (optional [] ms (codes "memory") [] (list (between 0 16) (table region_keys))) _
-      (optional_holds _ [] ms (codes "memory") [] _ (record { least = lit≤ tt; most = refl; each = All-nil FitsRegion })
-        (list_holds _ FitsRegion (table region_keys) (table_holds FitsRegion region_keys region_holds))) (λ memory memory_fits.
+top_holds t ms =
+    next (λ _. Unit {0}) TopHolds (only_known t top_names ms) _ (anything _) (λ _ _.
+    next (λ _. Unit {0}) TopHolds (required t ms (codes "version") (number (within 1 1))) _ (anything _) (λ _ _.
+    next (Admitted (within 16 65535)) TopHolds (optional t ms (codes "portion") 64 (number (within 16 65535))) _
+    (optional_holds _ t ms (codes "portion") 64 _ (record { least = lit≤ tt; most = lit≤ tt; form = refl }) (number_holds _)) (λ portion portion_fits.
+    next (Admitted (within 1 4294967296)) TopHolds (optional t ms (codes "units_per_key") 4294967296 (number (within 1 4294967296))) _
+    (optional_holds _ t ms (codes "units_per_key") 4294967296 _ (record { least = lit≤ tt; most = lit≤ tt; form = refl }) (number_holds _)) (λ units units_fit.
+    next (Listed (between 6 6144) IsKey) TopHolds (required t ms (codes "pool") (list (between 6 6144) key_bytes)) _
+    (required_holds _ t ms (codes "pool") _ (list_holds _ IsKey key_bytes key_holds)) (λ pool pool_fits.
+    next (Listed (between 1 8) LinkHolds) TopHolds (required t ms (codes "link") (list (between 1 8) (table link_keys))) _
+    (required_holds _ t ms (codes "link") _ (list_holds _ LinkHolds (table link_keys) (table_holds LinkHolds link_keys link_holds))) (λ links links_fit.
+    next (Listed (between 0 16) FitsRegion) TopHolds (optional t ms (codes "memory") [] (list (between 0 16) (table region_keys))) _
+    (optional_holds _ t ms (codes "memory") [] _ (record { least = lit≤ tt; most = refl; each = All-nil FitsRegion })
+    (list_holds _ FitsRegion (table region_keys) (table_holds FitsRegion region_keys region_holds))) (λ memory memory_fits.
     gives TopHolds _ (record { portion = portion_fits; units = units_fit; pool = pool_fits; links = links_fit; regions = memory_fits }))))))))

@@ -27,5 +27,5 @@ looked_more keys m n pair old i some h e u =
     record {
       within = omega (arith, h.within);
       least = rw (front, more, e, h.first (get_or keys (i - 1) []), h.least) refl;
-      first = λ q. u.0 q ∙ rw (front, more, is_eq-slice_cmp (get_or keys (i - 1) []) q, nat_list_eq_equiv.symm q (get_or keys (i - 1) []), h.first q) refl
+      first = λ q. u.0 q ∙ rw (front, more, is_eq-slice_cmp (get_or keys (i - 1) []) q, nat_list_eq_equiv.symm q (get_or keys (i - 1) []), h.first q) refl;
     }

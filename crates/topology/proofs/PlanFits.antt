@@ -45,7 +45,7 @@ link_fits l h r = record {
   classes_apart = clash_free _ share_class l.streams r.classes;
   each_interface = All-map (FitsInterface l.streams) (λ (d : InterfaceDraft). d.interface) l.interfaces (λ k d lt. h.each_interface k d lt l.streams h.each_stream (r.bound k d lt));
   requesters_differ = clash_free_map _ same_requester (λ (i j : InterfacePlan). i.requester ≢ j.requester) (λ (d : InterfaceDraft). d.interface) l.interfaces
-    (λ a b e. eqb-false a.interface.requester b.interface.requester e) r.requesters
+      (λ a b e. eqb-false a.interface.requester b.interface.requester e) r.requesters;
 }
 
 counts : (ls : List LinkDraft) → sum_by (λ (l : LinkPlan). length l.interfaces) (map link_of ls) ≡ interface_count ls
@@ -74,14 +74,14 @@ plan_fits d h r =
       regions_most = ltb-false 16 (length d.memory) h.regions.most;
       each_region = h.regions.each;
       memory_most = r.memory;
-      regions_apart = clash_free _ overlap d.memory r.regions
+      regions_apart = clash_free _ overlap d.memory r.regions;
     }
 
 meaning_fits : (ms : Members) → Holds FitsPlan (plan_in ms)
 meaning_fits ms =
-    next TopHolds FitsPlan (top_keys ms) (λ d. rules d >>= λ _. Ok (plan_from d)) (top_holds ms) (λ d h.
-      next (λ _. rules d ≡ Ok tt) FitsPlan (rules d) (λ _. Ok (plan_from d)) (record { given = λ u e. e }) (λ _ e.
-        gives FitsPlan (plan_from d) (plan_fits d h (ruled d e))))
+    next TopHolds FitsPlan (top_keys [] ms) (λ d. rules d >>= λ _. Ok (plan_from d)) (top_holds [] ms) (λ d h.
+    next (λ _. rules d ≡ Ok tt) FitsPlan (rules d) (λ _. Ok (plan_from d)) (record { given = λ u e. e }) (λ _ e.
+    gives FitsPlan (plan_from d) (plan_fits d h (ruled d e))))
 
 -- a plan that is given
 pub given_fits : (ms : Members) (result : Result Plan PlanError) → Gives (λ p. p) result (plan_in ms) → IfOk result FitsPlan

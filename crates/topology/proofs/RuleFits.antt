@@ -121,5 +121,5 @@ ruled d e =
       each_link = links_ruled 0 d.links c.0;
       interfaces = at_most_is 32 (codes "interface") _ f.0;
       memory = at_most_is 16777216 (codes "memory") _ g.0;
-      regions = g.1
+      regions = g.1;
     }

@@ -32,18 +32,18 @@ upto most path d = weaker (Admitted (within 0 most)) (Upto most) _ (number_holds
 ids_hold : (allowed : Bool) (path : Text) (d : Data) → Holds FitsIds (id_range allowed path d)
 ids_hold allowed path d =
     next (λ (p : ℕ × ℕ). Admitted (within 0 65535) p.0 × Admitted (within 0 65535) p.1) FitsIds (two allowed (within 0 65535) (within 0 65535) path d) (ids_in_order path) (two_holds allowed _ _ path d)
-      (λ p a. checked FitsIds (nat_le p.0 p.1) (Some (record { base = p.0; limit = p.1 })) _ (λ h. (leb-true p.0 p.1 h, a.1.most)))
+    (λ p a. checked FitsIds (nat_le p.0 p.1) (Some (record { base = p.0; limit = p.1 })) _ (λ h. (leb-true p.0 p.1 h, a.1.most)))
 
 addresses_hold : (path : Text) (d : Data) → Holds FitsAddresses (address_range path d)
 addresses_hold path d =
     next (λ (p : ℕ × ℕ). Admitted (formed 0 greatest Mebibytes) p.0 × Admitted (formed 0 greatest LastOfMebibyte) p.1) FitsAddresses
-      (two true (formed 0 greatest Mebibytes) (formed 0 greatest LastOfMebibyte) path d) (addresses_in_order path) (two_holds true _ _ path d)
-      (λ p a. checked FitsAddresses (nat_lt p.0 p.1) (record { base = p.0; limit = p.1 }) _ (λ h. record {
-        base = eqb-true _ _ a.0.form;
-        limit = eqb-true _ _ a.1.form;
-        in_order = ltb-true p.0 p.1 h;
-        most = omega (arith, a.1.most)
-      }))
+    (two true (formed 0 greatest Mebibytes) (formed 0 greatest LastOfMebibyte) path d) (addresses_in_order path) (two_holds true _ _ path d)
+    (λ p a. checked FitsAddresses (nat_lt p.0 p.1) (record { base = p.0; limit = p.1 }) _ (λ h. record {
+      base = eqb-true _ _ a.0.form;
+      limit = eqb-true _ _ a.1.form;
+      in_order = ltb-true p.0 p.1 h;
+      most = omega (arith, a.1.most);
+    }))
 
 selector_fits : (k : StreamKind) (ids : Option IdRange) (addresses : List AddressRange) (default : Bool) (classes : List ℕ) → FitsIds ids
     → (length addresses ≤ 8) × All FitsAddresses addresses → All (λ c. c ≤ 7) classes → FitsSelector (selector_of k ids addresses default classes)
@@ -65,13 +65,13 @@ stream_holds t ms =
     next (Upto 255) FitsStream (required t ms (codes "id") (number (within 0 255))) _ (required_holds (Upto 255) t ms (codes "id") _ (upto 255)) (λ id id_fits.
     next (λ _. Unit {0}) FitsStream (required t ms (codes "kind") stream_kind) _ (anything _) (λ k _.
     next (Admitted (formed 1 8 UnitMode)) FitsStream (optional t ms (codes "mode") 1 (number (formed 1 8 UnitMode))) _
-      (optional_holds _ t ms (codes "mode") 1 _ (record { least = lit≤ tt; most = lit≤ tt; form = refl }) (number_holds _)) (λ mode mode_fits.
+    (optional_holds _ t ms (codes "mode") 1 _ (record { least = lit≤ tt; most = lit≤ tt; form = refl }) (number_holds _)) (λ mode mode_fits.
     next FitsIds FitsStream (optional t ms (codes "rid") None (id_range (is_selective_kind k))) _ (optional_holds FitsIds t ms (codes "rid") None _ tt (ids_hold (is_selective_kind k))) (λ ids ids_fit.
     next (λ xs. (length xs ≤ 8) × All FitsAddresses xs) FitsStream (optional t ms (codes "ranges") [] (list (only_if (is_selective_kind k) (between 0 8)) address_range)) _
-      (optional_holds _ t ms (codes "ranges") [] _ (lit≤ tt, All-nil FitsAddresses) (ranges_hold (is_selective_kind k))) (λ addresses addresses_fit.
+    (optional_holds _ t ms (codes "ranges") [] _ (lit≤ tt, All-nil FitsAddresses) (ranges_hold (is_selective_kind k))) (λ addresses addresses_fit.
     next (λ _. Unit {0}) FitsStream (optional t ms (codes "default") false (truth_if (is_selective_kind k))) _ (anything _) (λ default _.
     next (All (λ c. c ≤ 7)) FitsStream (optional t ms (codes "tcs") [] (list (only_if (not (is_selective_kind k)) any_number) (number (within 0 7)))) _
-      (optional_holds _ t ms (codes "tcs") [] _ (All-nil (λ c. c ≤ 7)) (classes_hold (not (is_selective_kind k)))) (λ classes classes_fit.
+    (optional_holds _ t ms (codes "tcs") [] _ (All-nil (λ c. c ≤ 7)) (classes_hold (not (is_selective_kind k)))) (λ classes classes_fit.
     next (λ _. Unit {0}) FitsStream (optional t ms (codes "closed") false truth) _ (anything _) (λ closed _.
     gives FitsStream _ (record { id = id_fits; mode = mode_fits.form; selector = selector_fits k ids addresses default classes ids_fit addresses_fit classes_fit }))))))))))
 
@@ -94,5 +94,5 @@ region_holds t ms =
       base = eqb-true _ _ base_fits.form;
       size = eqb-true _ _ size_fits.form;
       size_least = size_fits.least;
-      most = leb-true (base + size) 9223372036854775808 h
+      most = leb-true (base + size) 9223372036854775808 h;
     }))))

@@ -1,5 +1,5 @@
 -- The plan that a topology's text means, or its first fault.
-use Rattle.std.specs.Prelude.{ℕ, Bool, List, map, Option, Some, None, Result, Ok, Err, if◌then◌else◌}
+use Rattle.std.specs.Prelude.{ℕ, Bool, List, [], map, Option, Some, None, Result, Ok, Err, if◌then◌else◌}
 use Rattle.std.specs.Str.{is_utf8}
 use Rattle.toml.specs.Data.{Members}
 use Rattle.toml.specs.Parse.{parse_document}
@@ -22,13 +22,13 @@ plan_from d = record {
   units_per_key = d.units_per_key;
   pool = d.pool;
   links = map link_of d.links;
-  memory = d.memory
+  memory = d.memory;
 }
 
 -- the plan of a table: first each key, and then the rules over several values
 abbrev pub plan_in : Members → Result Plan PlanFault
 plan_in ms = do
-  d ← top_keys ms
+  d ← top_keys [] ms
   _ ← rules d
   Ok (plan_from d)
 

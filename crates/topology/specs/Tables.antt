@@ -148,8 +148,8 @@ interface_keys t ms = do
       pasid = 0;
       ats = 0;
       info = info;
-      bars = bars
-    }
+      bars = bars;
+    };
   })
 
 abbrev pub link_names : List Text
@@ -185,13 +185,13 @@ abbrev pub top_names : List Text
 top_names = codes "version" ∷ codes "portion" ∷ codes "units_per_key" ∷ codes "pool" ∷ codes "link" ∷ codes "memory" ∷ []
 
 -- the table at the top
-unfoldable pub top_keys : Members → Result PlanDraft PlanFault
-top_keys ms = do
-  _ ← only_known [] top_names ms
-  _ ← required [] ms (codes "version") (number (within 1 1))
-  portion ← optional [] ms (codes "portion") 64 (number (within 16 65535))
-  units ← optional [] ms (codes "units_per_key") 4294967296 (number (within 1 4294967296))
-  pool ← required [] ms (codes "pool") (list (between 6 6144) key_bytes)
-  links ← required [] ms (codes "link") (list (between 1 8) (table link_keys))
-  memory ← optional [] ms (codes "memory") [] (list (between 0 16) (table region_keys))
+unfoldable pub top_keys : Text → Members → Result PlanDraft PlanFault
+top_keys t ms = do
+  _ ← only_known t top_names ms
+  _ ← required t ms (codes "version") (number (within 1 1))
+  portion ← optional t ms (codes "portion") 64 (number (within 16 65535))
+  units ← optional t ms (codes "units_per_key") 4294967296 (number (within 1 4294967296))
+  pool ← required t ms (codes "pool") (list (between 6 6144) key_bytes)
+  links ← required t ms (codes "link") (list (between 1 8) (table link_keys))
+  memory ← optional t ms (codes "memory") [] (list (between 0 16) (table region_keys))
   Ok (record { portion = portion; units_per_key = units; pool = pool; links = links; memory = memory })

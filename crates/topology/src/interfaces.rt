@@ -12,27 +12,21 @@ use crate::draft::InterfaceDraft;
 use ide_plan::{BarPlan, InterfacePlan};
 use ide_types::{Bytes, Items};
 use std::alloc::Global;
-use toml::{Table, Value};
+use toml::Value;
 use toml_walk::{
-    Bounds, Byte, Form, HexBytes, ListOf, Long, PlanError, Reader, Span, Wide, Word, integer_of, key_path,
-    optional, refuse_unknown, required, table_of,
+    Byte, Form, GREATEST, HexBytes, Keys, ListOf, Long, PlanError, Reader, Wide, Word, integer_of,
+    key_path, table_of,
 };
 
-// The greatest number that TOML has.
-const GREATEST: u64 = 9223372036854775807;
-
-// The keys of a base address register's table; `t` is its path and a dot.
+// The keys of a base address register's table.
 #[tactic(auto, unfolding(crate::specs::Tables::bar_keys))]
-fn bar_of(alloc: Global, t: &[u8], table: &Table) -> Result<BarPlan, PlanError>
-    ensures { Gives (λ x. x) result (bar_keys t.now (table_view table.now)) }
+fn bar_of(keys: &Keys) -> Result<BarPlan, PlanError>
+    ensures { Gives (λ x. x) result (bar_keys keys.now.path (table_view keys.now.table.now)) }
 {
-    refuse_unknown(alloc, t, &["base", "pages", "attributes"], table)?;
-    let any = Wide {
-        bounds: Bounds::within(0, GREATEST),
-    };
-    let base = required(alloc, t, table, "base", &any)?;
-    let pages = required(alloc, t, table, "pages", &Long::within(0, 1048576))?;
-    let attributes = optional(alloc, t, table, "attributes", 0, &Byte::within(0, 15))?;
+    keys.only(&["base", "pages", "attributes"])?;
+    let base = keys.required("base", &Wide::within(0, GREATEST))?;
+    let pages = keys.required("pages", &Long::within(0, 1048576))?;
+    let attributes = keys.optional("attributes", 0, &Byte::within(0, 15))?;
     Ok(BarPlan {
         base,
         pages,
@@ -49,8 +43,9 @@ impl Reader for Bars {
     ghost reads = { λ _. table bar_keys };
 
     fn read(&self, alloc: Global, path: &[u8], value: &Value) -> Result<BarPlan, PlanError> {
-        let keys = table_of(Bytes::copied(alloc, path)?, value)?;
-        bar_of(alloc, key_path(alloc, path, ".")?.as_slice(), keys)
+        let table = table_of(Bytes::copied(alloc, path)?, value)?;
+        let path = key_path(alloc, path, ".")?;
+        bar_of(&Keys { alloc, path, table })
     }
 }
 
@@ -79,34 +74,37 @@ fn id_in(number: i64) -> u8
     }
 }
 
-// The keys of an interface's table; `t` is its path and a dot.
+// The keys of an interface's table.
 #[tactic(auto, unfolding(crate::specs::Tables::interface_keys))]
-fn interface_of(alloc: Global, t: &[u8], table: &Table) -> Result<InterfaceDraft, PlanError>
-    ensures { Gives (λ x. x) result (interface_keys t.now (table_view table.now)) }
+fn interface_of(keys: &Keys) -> Result<InterfaceDraft, PlanError>
+    ensures { Gives (λ x. x) result (interface_keys keys.now.path (table_view keys.now.table.now)) }
 {
-    let names = [
-        "rid", "stream", "flags", "offset", "command", "msix", "lnr", "cacheline", "tph", "info", "bars",
-    ];
-    refuse_unknown(alloc, t, &names, table)?;
-    let requester = required(alloc, t, table, "rid", &Word::within(0, 65535))?;
-    let stream = required(alloc, t, table, "stream", &Integer)?;
-    let flags = optional(alloc, t, table, "flags", 0, &Word::formed(0, 23, Form::LockFlags))?;
-    let pages = Wide {
-        bounds: Bounds::formed(0, GREATEST, Form::Pages),
-    };
-    let offset = optional(alloc, t, table, "offset", 0, &pages)?;
-    let command = optional(alloc, t, table, "command", 0, &Word::within(0, 65535))?;
-    let msix = optional(alloc, t, table, "msix", 0, &Word::within(0, 65535))?;
-    let lnr = optional(alloc, t, table, "lnr", 0, &Word::within(0, 65535))?;
-    let cache_line = optional(alloc, t, table, "cacheline", 0, &Byte::within(0, 255))?;
-    let tph = optional(alloc, t, table, "tph", 0, &Long::within(0, 4294967295))?;
-    let no_info = Bytes::new(Vec::new(alloc));
-    let info = optional(alloc, t, table, "info", no_info, &HexBytes { most: 1024 })?;
-    let list = ListOf {
-        span: Span::between(0, 6),
-        element: Bars,
-    };
-    let bars = optional(alloc, t, table, "bars", Items::new(Vec::new(alloc)), &list)?;
+    keys.only(&[
+        "rid",
+        "stream",
+        "flags",
+        "offset",
+        "command",
+        "msix",
+        "lnr",
+        "cacheline",
+        "tph",
+        "info",
+        "bars",
+    ])?;
+    let requester = keys.required("rid", &Word::within(0, 65535))?;
+    let stream = keys.required("stream", &Integer)?;
+    let flags = keys.optional("flags", 0, &Word::formed(0, 23, Form::LockFlags))?;
+    let offset = keys.optional("offset", 0, &Wide::formed(0, Form::Pages))?;
+    let command = keys.optional("command", 0, &Word::within(0, 65535))?;
+    let msix = keys.optional("msix", 0, &Word::within(0, 65535))?;
+    let lnr = keys.optional("lnr", 0, &Word::within(0, 65535))?;
+    let cache_line = keys.optional("cacheline", 0, &Byte::within(0, 255))?;
+    let tph = keys.optional("tph", 0, &Long::within(0, 4294967295))?;
+    let none = Bytes::new(Vec::new(keys.alloc));
+    let info = keys.optional("info", none, &HexBytes { most: 1024 })?;
+    let none = Items::new(Vec::new(keys.alloc));
+    let bars = keys.optional("bars", none, &ListOf::between(0, 6, Bars))?;
     Ok(InterfaceDraft {
         stream,
         interface: InterfacePlan {
@@ -137,7 +135,8 @@ impl Reader for Interfaces {
     ghost reads = { λ _. table interface_keys };
 
     fn read(&self, alloc: Global, path: &[u8], value: &Value) -> Result<InterfaceDraft, PlanError> {
-        let keys = table_of(Bytes::copied(alloc, path)?, value)?;
-        interface_of(alloc, key_path(alloc, path, ".")?.as_slice(), keys)
+        let table = table_of(Bytes::copied(alloc, path)?, value)?;
+        let path = key_path(alloc, path, ".")?;
+        interface_of(&Keys { alloc, path, table })
     }
 }

@@ -2,9 +2,10 @@
 
 ghost use Rattle.std.specs.Prelude.{◌≡◌, ◌≤◌, [], codes};
 ghost use Rattle.toml.specs.View.{view, table_view};
-ghost use Rattle.toml_walk.specs.Bounds.{greatest};
+ghost use Rattle.toml_walk.specs.Bounds.{greatest, within};
 ghost use Rattle.toml_walk.specs.Fault.{Gives};
-ghost use Rattle.toml_walk.specs.Walk.{table};
+ghost use Rattle.toml_walk.specs.Values.{number};
+ghost use Rattle.toml_walk.specs.Walk.{table, list, between, required, optional};
 ghost use Rattle.topology.specs.Tables.{link_keys, region_within, region_keys, top_keys};
 
 use crate::draft::{LinkDraft, PlanDraft};
@@ -13,36 +14,26 @@ use crate::streams::Streams;
 use ide_plan::Region;
 use ide_types::{Bytes, Items};
 use std::alloc::Global;
-use toml::{Table, Value};
+use toml::Value;
 use toml_walk::{
-    Bounds, Byte, Form, KeyBytes, ListOf, PlanError, PlanFault, Reader, Span, Wide, Word, key_path, optional,
-    refuse_unknown, required, table_of,
+    Byte, Form, KeyBytes, Keys, ListOf, PlanError, PlanFault, Reader, Span, Wide, Word, key_path,
+    table_of,
 };
 
-// The greatest number that TOML has.
-const GREATEST: u64 = 9223372036854775807;
-
-// The keys of a link's table; `t` is its path and a dot.
+// The keys of a link's table.
 #[tactic(auto, unfolding(crate::specs::Tables::link_keys))]
-fn link_of(alloc: Global, t: &[u8], table: &Table) -> Result<LinkDraft, PlanError>
-    ensures { Gives (λ x. x) result (link_keys t.now (table_view table.now)) }
+fn link_of(keys: &Keys) -> Result<LinkDraft, PlanError>
+    ensures { Gives (λ x. x) result (link_keys keys.now.path (table_view keys.now.table.now)) }
 {
-    refuse_unknown(alloc, t, &["nonces", "stream", "interface"], table)?;
-    let keys = ListOf {
-        span: Span::between(0, 1024),
-        element: KeyBytes,
-    };
-    let nonces = optional(alloc, t, table, "nonces", Items::new(Vec::new(alloc)), &keys)?;
-    let list = ListOf {
-        span: Span::between(1, 16),
-        element: Streams,
-    };
-    let streams = required(alloc, t, table, "stream", &list)?;
+    keys.only(&["nonces", "stream", "interface"])?;
+    let none = Items::new(Vec::new(keys.alloc));
+    let nonces = keys.optional("nonces", none, &ListOf::between(0, 1024, KeyBytes))?;
+    let streams = keys.required("stream", &ListOf::between(1, 16, Streams))?;
     let list = ListOf {
         span: Span::any_number(),
         element: Interfaces,
     };
-    let interfaces = optional(alloc, t, table, "interface", Items::new(Vec::new(alloc)), &list)?;
+    let interfaces = keys.optional("interface", Items::new(Vec::new(keys.alloc)), &list)?;
     Ok(LinkDraft {
         nonces,
         streams,
@@ -59,39 +50,34 @@ impl Reader for Links {
     ghost reads = { λ _. table link_keys };
 
     fn read(&self, alloc: Global, path: &[u8], value: &Value) -> Result<LinkDraft, PlanError> {
-        let keys = table_of(Bytes::copied(alloc, path)?, value)?;
-        link_of(alloc, key_path(alloc, path, ".")?.as_slice(), keys)
+        let table = table_of(Bytes::copied(alloc, path)?, value)?;
+        let path = key_path(alloc, path, ".")?;
+        link_of(&Keys { alloc, path, table })
     }
 }
 
-// A region of whole pages; `t` is its table's path and a dot.
-fn region_in(alloc: Global, t: &[u8], base: u64, size: u64) -> Result<Region, PlanError>
+// A region that ends at 2^63 or below.
+fn region_in(keys: &Keys, base: u64, size: u64) -> Result<Region, PlanError>
     requires base { base ≤ greatest }
     requires size { size ≤ greatest }
-    ensures { Gives (λ x. x) result (region_within t.now base size) }
+    ensures { Gives (λ x. x) result (region_within keys.now.path base size) }
 {
     if base + size <= 9223372036854775808 {
-        Ok(Region { base, size })
-    } else {
-        Err(PlanError::Fault(PlanFault::Range(key_path(alloc, t, "size")?, size as i64)))
+        return Ok(Region { base, size });
     }
+    let path = key_path(keys.alloc, keys.path.as_slice(), "size")?;
+    Err(PlanError::Fault(PlanFault::Range(path, size as i64)))
 }
 
-// The keys of a region's table; `t` is its path and a dot.
+// The keys of a region's table.
 #[tactic(auto, unfolding(crate::specs::Tables::region_keys))]
-fn region_of(alloc: Global, t: &[u8], table: &Table) -> Result<Region, PlanError>
-    ensures { Gives (λ x. x) result (region_keys t.now (table_view table.now)) }
+fn region_of(keys: &Keys) -> Result<Region, PlanError>
+    ensures { Gives (λ x. x) result (region_keys keys.now.path (table_view keys.now.table.now)) }
 {
-    refuse_unknown(alloc, t, &["base", "size"], table)?;
-    let base = Wide {
-        bounds: Bounds::formed(0, GREATEST, Form::Pages),
-    };
-    let base = required(alloc, t, table, "base", &base)?;
-    let size = Wide {
-        bounds: Bounds::formed(4096, GREATEST, Form::Pages),
-    };
-    let size = required(alloc, t, table, "size", &size)?;
-    region_in(alloc, t, base, size)
+    keys.only(&["base", "size"])?;
+    let base = keys.required("base", &Wide::formed(0, Form::Pages))?;
+    let size = keys.required("size", &Wide::formed(4096, Form::Pages))?;
+    region_in(keys, base, size)
 }
 
 #[derive(Clone, Copy)]
@@ -103,39 +89,53 @@ impl Reader for Regions {
     ghost reads = { λ _. table region_keys };
 
     fn read(&self, alloc: Global, path: &[u8], value: &Value) -> Result<Region, PlanError> {
-        let keys = table_of(Bytes::copied(alloc, path)?, value)?;
-        region_of(alloc, key_path(alloc, path, ".")?.as_slice(), keys)
+        let table = table_of(Bytes::copied(alloc, path)?, value)?;
+        let path = key_path(alloc, path, ".")?;
+        region_of(&Keys { alloc, path, table })
     }
+}
+
+fn units_in(keys: &Keys) -> Result<u64, PlanError>
+    ensures { Gives (λ n. n) result (optional keys.now.path (table_view keys.now.table.now) (codes "units_per_key") 4294967296
+        (number (within 1 4294967296))) }
+{
+    keys.optional("units_per_key", 4294967296, &Wide::within(1, 4294967296))
+}
+
+fn links_in(keys: &Keys) -> Result<Items<LinkDraft>, PlanError>
+    ensures { Gives (λ xs. xs) result (required keys.now.path (table_view keys.now.table.now) (codes "link")
+        (list (between 1 8) (table link_keys))) }
+{
+    keys.required("link", &ListOf::between(1, 8, Links))
+}
+
+fn memory_in(keys: &Keys) -> Result<Items<Region>, PlanError>
+    ensures { Gives (λ xs. xs) result (optional keys.now.path (table_view keys.now.table.now) (codes "memory") []
+        (list (between 0 16) (table region_keys))) }
+{
+    let none = Items::new(Vec::new(keys.alloc));
+    keys.optional("memory", none, &ListOf::between(0, 16, Regions))
 }
 
 /// The keys of the table at the top.
 #[tactic(auto, unfolding(crate::specs::Tables::top_keys))]
-pub(crate) fn top_of(alloc: Global, table: &Table) -> Result<PlanDraft, PlanError>
-    ensures { Gives (λ x. x) result (top_keys (table_view table.now)) }
+pub(crate) fn top_of(keys: &Keys) -> Result<PlanDraft, PlanError>
+    ensures { Gives (λ x. x) result (top_keys keys.now.path (table_view keys.now.table.now)) }
 {
-    let names = ["version", "portion", "units_per_key", "pool", "link", "memory"];
-    refuse_unknown(alloc, b"", &names, table)?;
-    required(alloc, b"", table, "version", &Byte::within(1, 1))?;
-    let portion = optional(alloc, b"", table, "portion", 64, &Word::within(16, 65535))?;
-    let units = Wide {
-        bounds: Bounds::within(1, 4294967296),
-    };
-    let units_per_key = optional(alloc, b"", table, "units_per_key", 4294967296, &units)?;
-    let keys = ListOf {
-        span: Span::between(6, 6144),
-        element: KeyBytes,
-    };
-    let pool = required(alloc, b"", table, "pool", &keys)?;
-    let list = ListOf {
-        span: Span::between(1, 8),
-        element: Links,
-    };
-    let links = required(alloc, b"", table, "link", &list)?;
-    let list = ListOf {
-        span: Span::between(0, 16),
-        element: Regions,
-    };
-    let memory = optional(alloc, b"", table, "memory", Items::new(Vec::new(alloc)), &list)?;
+    keys.only(&[
+        "version",
+        "portion",
+        "units_per_key",
+        "pool",
+        "link",
+        "memory",
+    ])?;
+    keys.required("version", &Byte::within(1, 1))?;
+    let portion = keys.optional("portion", 64, &Word::within(16, 65535))?;
+    let units_per_key = units_in(keys)?;
+    let pool = keys.required("pool", &ListOf::between(6, 6144, KeyBytes))?;
+    let links = links_in(keys)?;
+    let memory = memory_in(keys)?;
     Ok(PlanDraft {
         portion,
         units_per_key,

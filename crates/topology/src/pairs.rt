@@ -130,7 +130,9 @@ impl Clash for ShareClass {
 
     fn clash(&self, one: &StreamPlan, other: &StreamPlan) -> bool {
         let others = classes(&other.selector);
-        classes(&one.selector).iter().any(|class| contains(others, *class))
+        classes(&one.selector)
+            .iter()
+            .any(|class| contains(others, *class))
     }
 }
 

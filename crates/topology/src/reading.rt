@@ -10,10 +10,10 @@ use crate::draft::{LinkDraft, PlanDraft};
 use crate::links::top_of;
 use crate::rules::check;
 use ide_plan::{LinkPlan, Plan};
-use ide_types::Items;
+use ide_types::{Bytes, Items};
 use std::alloc::{AllocError, Global};
 use toml::Table;
-use toml_walk::{PlanError, PlanFault};
+use toml_walk::{Keys, PlanError, PlanFault};
 
 // The link that its keys say.
 fn link_from(alloc: Global, draft: LinkDraft) -> Result<LinkPlan, AllocError>
@@ -24,7 +24,10 @@ fn link_from(alloc: Global, draft: LinkDraft) -> Result<LinkPlan, AllocError>
         streams,
         interfaces,
     } = draft;
-    let plans = interfaces.into_vec().into_iter().map(|draft| draft.interface);
+    let plans = interfaces
+        .into_vec()
+        .into_iter()
+        .map(|draft| draft.interface);
     let interfaces = Items::new(plans.collect(alloc)?);
     Ok(LinkPlan {
         nonces,
@@ -60,7 +63,8 @@ fn plan_of_draft(alloc: Global, draft: PlanDraft) -> Result<Plan, AllocError>
 fn plan_of_table(alloc: Global, table: &Table) -> Result<Plan, PlanError>
     ensures { Gives (λ p. p) result (plan_in (table_view table.now)) }
 {
-    let draft = top_of(alloc, table)?;
+    let path = Bytes::new(Vec::new(alloc));
+    let draft = top_of(&Keys { alloc, path, table })?;
     check(alloc, &draft)?;
     Ok(plan_of_draft(alloc, draft)?)
 }

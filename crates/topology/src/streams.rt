@@ -4,7 +4,7 @@ ghost use Rattle.std.specs.Prelude.{◌≡◌, ◌≤◌, not, IfOk, codes};
 ghost use Rattle.toml.specs.View.{view, table_view};
 ghost use Rattle.toml_walk.specs.Bounds.{greatest, within, formed};
 ghost use Rattle.toml_walk.specs.Fault.{Gives};
-ghost use Rattle.toml_walk.specs.Walk.{table};
+ghost use Rattle.toml_walk.specs.Walk.{table, between, any_number};
 ghost use Rattle.topology.specs.Tables.{kind_named, stream_kind, is_selective_kind, only_if, ids_in_order, id_range, addresses_in_order, address_range, true_if, truth_if, selector_of, stream_keys};
 
 use crate::draft::StreamKind;
@@ -13,12 +13,9 @@ use ide_types::{Bytes, Items};
 use std::alloc::Global;
 use toml::{Table, Value};
 use toml_walk::{
-    Bounds, Byte, Form, ListOf, PlanError, PlanFault, Reader, Span, Truth, key_path, optional, or_length,
-    place_path, refuse_unknown, required, table_of, text_of, two_numbers,
+    Bounds, Byte, Form, GREATEST, Keys, ListOf, PlanError, PlanFault, Reader, Span, Truth,
+    key_path, or_length, place_path, table_of, text_of, two_numbers,
 };
-
-// The greatest number that TOML has.
-const GREATEST: u64 = 9223372036854775807;
 
 fn kind_of(word: &str) -> Option<StreamKind>
     ensures { result ≡ kind_named word.now }
@@ -75,7 +72,12 @@ impl Reader for Ids {
 
     ghost reads = { λ r. id_range r.allowed };
 
-    fn read(&self, alloc: Global, path: &[u8], value: &Value) -> Result<Option<IdRange>, PlanError> {
+    fn read(
+        &self,
+        alloc: Global,
+        path: &[u8],
+        value: &Value,
+    ) -> Result<Option<IdRange>, PlanError> {
         let bounds = Bounds::within(0, 65535);
         let (base, limit) = two_numbers(alloc, self.allowed, &bounds, &bounds, path, value)?;
         ids_of(alloc, path, base as u16, limit as u16)
@@ -86,7 +88,12 @@ impl Reader for Ids {
 #[derive(Clone, Copy)]
 struct Addresses;
 
-fn addresses_of(alloc: Global, path: &[u8], base: u64, limit: u64) -> Result<AddressRange, PlanError>
+fn addresses_of(
+    alloc: Global,
+    path: &[u8],
+    base: u64,
+    limit: u64,
+) -> Result<AddressRange, PlanError>
     requires { limit ≤ greatest }
     ensures { Gives (λ x. x) result (addresses_in_order path.now (base, limit)) }
 {
@@ -137,10 +144,35 @@ impl Reader for TruthIf {
     }
 }
 
-fn only(allowed: bool, span: Span) -> Span
-    ensures { result ≡ only_if allowed span }
+// Up to 8 ranges of addresses, or none where none are allowed.
+fn ranges(allowed: bool) -> ListOf<Addresses>
+    ensures { result.span ≡ only_if allowed (between 0 8) }
 {
-    Span { allowed, ..span }
+    let span = Span {
+        least: 0,
+        most: Some(8),
+        allowed,
+    };
+    ListOf {
+        span,
+        element: Addresses,
+    }
+}
+
+// Any number of traffic classes, or none where none are allowed.
+fn class_list(allowed: bool) -> ListOf<Byte>
+    ensures span { result.span ≡ only_if allowed any_number }
+    ensures element { result.element.bounds ≡ within 0 7 }
+{
+    let span = Span {
+        least: 0,
+        most: None,
+        allowed,
+    };
+    ListOf {
+        span,
+        element: Byte::within(0, 7),
+    }
 }
 
 fn selector(
@@ -162,32 +194,25 @@ fn selector(
     }
 }
 
-// The keys of a stream's table; `t` is its path and a dot.
+// The keys of a stream's table.
 #[tactic(auto, unfolding(crate::specs::Tables::stream_keys))]
-fn stream_of(alloc: Global, t: &[u8], table: &Table) -> Result<StreamPlan, PlanError>
-    ensures { Gives (λ x. x) result (stream_keys t.now (table_view table.now)) }
+fn stream_of(keys: &Keys) -> Result<StreamPlan, PlanError>
+    ensures { Gives (λ x. x) result (stream_keys keys.now.path (table_view keys.now.table.now)) }
 {
-    let names = ["id", "kind", "mode", "rid", "ranges", "default", "tcs", "closed"];
-    refuse_unknown(alloc, t, &names, table)?;
-    let id = required(alloc, t, table, "id", &Byte::within(0, 255))?;
-    let kind = required(alloc, t, table, "kind", &Kind)?;
+    keys.only(&[
+        "id", "kind", "mode", "rid", "ranges", "default", "tcs", "closed",
+    ])?;
+    let id = keys.required("id", &Byte::within(0, 255))?;
+    let kind = keys.required("kind", &Kind)?;
+    let mode = keys.optional("mode", 1, &Byte::formed(1, 8, Form::UnitMode))?;
     let selective = is_selective(kind);
-    let mode = optional(alloc, t, table, "mode", 1, &Byte::formed(1, 8, Form::UnitMode))?;
-    let ids = optional(alloc, t, table, "rid", None, &Ids { allowed: selective })?;
-    let ranges = ListOf {
-        span: only(selective, Span::between(0, 8)),
-        element: Addresses,
-    };
-    let no_ranges = Items::new(Vec::new(alloc));
-    let addresses = optional(alloc, t, table, "ranges", no_ranges, &ranges)?;
-    let default = optional(alloc, t, table, "default", false, &TruthIf { allowed: selective })?;
-    let tcs = ListOf {
-        span: only(!selective, Span::any_number()),
-        element: Byte::within(0, 7),
-    };
-    let no_classes = Items::new(Vec::new(alloc));
-    let classes = optional(alloc, t, table, "tcs", no_classes, &tcs)?;
-    let closed = optional(alloc, t, table, "closed", false, &Truth)?;
+    let ids = keys.optional("rid", None, &Ids { allowed: selective })?;
+    let none = Items::new(Vec::new(keys.alloc));
+    let addresses = keys.optional("ranges", none, &ranges(selective))?;
+    let default = keys.optional("default", false, &TruthIf { allowed: selective })?;
+    let none = Items::new(Vec::new(keys.alloc));
+    let classes = keys.optional("tcs", none, &class_list(!selective))?;
+    let closed = keys.optional("closed", false, &Truth)?;
     Ok(StreamPlan {
         id,
         mode,
@@ -206,7 +231,8 @@ impl Reader for Streams {
     ghost reads = { λ _. table stream_keys };
 
     fn read(&self, alloc: Global, path: &[u8], value: &Value) -> Result<StreamPlan, PlanError> {
-        let keys = table_of(Bytes::copied(alloc, path)?, value)?;
-        stream_of(alloc, key_path(alloc, path, ".")?.as_slice(), keys)
+        let table = table_of(Bytes::copied(alloc, path)?, value)?;
+        let path = key_path(alloc, path, ".")?;
+        stream_of(&Keys { alloc, path, table })
     }
 }
