@@ -4,14 +4,14 @@ use Rattle.gcm_seal.specs.Gcm.{open_of}
 use Rattle.ide_prefix.specs.Cut.{packet_of_view}
 use Rattle.ide_prefix.specs.Iv.{iv_of}
 use Rattle.ide_prefix.specs.Packet.{Packet, prefix_bytes}
-use Rattle.sub_stream.specs.declared.answer.Taken.{Taken}
-use Rattle.sub_stream.specs.declared.answer.Taken.TheVariants.{NotKeyed, Accepted, Fail}
-use Rattle.sub_stream.specs.declared.key.LiveKey.{LiveKey}
-use Rattle.sub_stream.specs.Keys.{receiver_key, key_after, delivered_in, LaidOut}
-use Rattle.sub_stream.specs.Receiver.{Receiver, receiver_after}
-use Rattle.sub_stream.proofs.Parts.{middle_of, rest_of}
-use Rattle.sub_stream.proofs.receiver.Rx.take.Goals as goal
-use Rattle.sub_stream.proofs.receiver.Rx.take.Goals.{in-Accepted, in_default-taken}
+use Rattle.one_key.specs.declared.answer.Taken.{Taken}
+use Rattle.one_key.specs.declared.answer.Taken.TheVariants.{NotKeyed, Accepted, Fail}
+use Rattle.one_key.specs.declared.key.LiveKey.{LiveKey}
+use Rattle.one_key.specs.Keys.{receiver_key, key_after, delivered_in, LaidOut}
+use Rattle.one_key.specs.Receiver.{Receiver, receiver_after}
+use Rattle.one_key.proofs.Parts.{middle_of, rest_of}
+use Rattle.one_key.proofs.receiver.Rx.take.Goals as goal
+use Rattle.one_key.proofs.receiver.Rx.take.Goals.{in-Accepted, in_default-taken}
 
 -- the receiver with its Live key, what it delivered and its count of takes replaced
 abbrev after : Receiver → LiveKey → List (List ℕ × List ℕ) → Receiver

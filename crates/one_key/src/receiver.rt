@@ -26,13 +26,13 @@ pub struct Rx {
 
 impl Model for Rx {
     ghost use Rattle.std.specs.Prelude.{◌≤◌, vec_len, vec_capacity};
-    ghost use Rattle.sub_stream.specs.Receiver.{Receiver};
+    ghost use Rattle.one_key.specs.Receiver.{Receiver};
 
     ghost Value = { Receiver };
 
     ghost use Rattle.std.specs.Option.{option_map};
-    ghost use Rattle.sub_stream.specs.declared.buffer.TheConstants.{BUFFER_ROOM};
-    ghost use Rattle.sub_stream.specs.Keys.{receiver_key, HasUnitsWithin, delivered_in, BeginsWithin};
+    ghost use Rattle.one_key.specs.declared.buffer.TheConstants.{BUFFER_ROOM};
+    ghost use Rattle.one_key.specs.Keys.{receiver_key, HasUnitsWithin, delivered_in, BeginsWithin};
 
     ghost view = { λ r. record { stream = r.stream; sub = r.sub; key = option_map receiver_key r.key; delivered = delivered_in r.buf.items r.delivered; takes = r.takes } };
 
@@ -41,7 +41,7 @@ impl Model for Rx {
 
 impl Rx {
     ghost use Rattle.ide_prefix.specs.Cut.{packet_of_view};
-    ghost use Rattle.sub_stream.specs.Receiver.{taken_of, receiver_after};
+    ghost use Rattle.one_key.specs.Receiver.{taken_of, receiver_after};
 
     /// A receiver with no key. `buf` has room for `BUFFER_ROOM` bytes; what it holds is not used.
     pub fn make(stream: u8, sub: SubKind, buf: Vec<u8>) -> Rx

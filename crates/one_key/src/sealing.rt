@@ -2,7 +2,7 @@
 
 ghost use Rattle.std.specs.Prelude.{◌≡◌, ◌+◌, ◌<◌, ◌≤◌, ◌^◌, ◌++◌, length, vec_len, vec_capacity, false};
 ghost use Rattle.ide_prefix.specs.Packet.{packet_bytes};
-ghost use Rattle.sub_stream.specs.Keys.{sender_key, packet_under};
+ghost use Rattle.one_key.specs.Keys.{sender_key, packet_under};
 
 use crate::answer::SealedPacket;
 use crate::buffer::{

@@ -1,8 +1,8 @@
 use Rattle.std.proofs.Common.{◌≡◌, ℕ, ◌+◌, List, ◌++◌, length, take, drop, slice_range, refl, append_assoc, arith, length-append}
 use Rattle.gcm_seal.specs.Gcm.{seal_of}
 use Rattle.ide_prefix.specs.Packet.{prefix_bytes}
-use Rattle.sub_stream.proofs.Parts.{front_of, rest_of, middle_of}
-use Rattle.sub_stream.proofs.buffer.append_sealed.Goals as goal
+use Rattle.one_key.proofs.Parts.{front_of, rest_of, middle_of}
+use Rattle.one_key.proofs.buffer.append_sealed.Goals as goal
 
 sealed_parts : (seal : List ℕ → List ℕ → List ℕ × List ℕ) (old p h b laid sealed out tag : List ℕ) (start body : ℕ)
     → start ≡ length old → body ≡ length old + 4 + length h → length p ≡ 4

@@ -2,8 +2,8 @@ use Rattle.std.proofs.Common.{◌≡◌, ℕ, ◌+◌, List, ◌++◌, length, t
 use Rattle.gcm_seal.specs.Gcm.{open_of}
 use Rattle.ide_prefix.specs.Iv.{iv_of}
 use Rattle.ide_prefix.specs.Packet.{prefix_bytes}
-use Rattle.sub_stream.proofs.Parts.{front_of, rest_of}
-use Rattle.sub_stream.proofs.taking.take_under.Goals as goal
+use Rattle.one_key.proofs.Parts.{front_of, rest_of}
+use Rattle.one_key.proofs.taking.take_under.Goals as goal
 
 opened_parts : (opened : List ℕ → List ℕ) (p h b laid buf : List ℕ) (body : ℕ)
     → length p ≡ 4 → body ≡ 4 + length h

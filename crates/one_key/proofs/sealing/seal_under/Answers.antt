@@ -4,9 +4,9 @@ use Rattle.gcm_seal.proofs.Sealing.{ciphertext-sealed, tag-sealed, length-cipher
 use Rattle.ide_prefix.specs.declared.packet.Prefix.{Prefix}
 use Rattle.ide_prefix.specs.Iv.{iv_of}
 use Rattle.ide_prefix.specs.Packet.{packet_bytes, prefix_bytes}
-use Rattle.sub_stream.specs.Keys.{sender_key, packet_under}
-use Rattle.sub_stream.specs.Sender.{SenderKey}
-use Rattle.sub_stream.proofs.sealing.seal_under.Goals as goal
+use Rattle.one_key.specs.Keys.{sender_key, packet_under}
+use Rattle.one_key.specs.Sender.{SenderKey}
+use Rattle.one_key.proofs.sealing.seal_under.Goals as goal
 
 length-sealed : (key iv a p : List ℕ) → length (seal_of key iv a p).0 + length (seal_of key iv a p).1 ≡ length p + 12
 length-sealed key iv a p =

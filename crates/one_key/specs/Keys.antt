@@ -5,11 +5,11 @@ use Rattle.gcm_seal.specs.Gcm.{open_of, seal_of}
 use Rattle.ide_prefix.specs.Iv.{iv_of}
 use Rattle.ide_prefix.specs.declared.packet.Prefix.{Prefix}
 use Rattle.ide_prefix.specs.Packet.{Packet, prefix_bytes}
-use Rattle.sub_stream.specs.declared.answer.Taken.{Taken}
-use Rattle.sub_stream.specs.declared.answer.Taken.TheVariants.{Accepted}
-use Rattle.sub_stream.specs.declared.key.LiveKey.{LiveKey}
-use Rattle.sub_stream.specs.Sender.{SenderKey}
-use Rattle.sub_stream.specs.Receiver.{ReceiverKey}
+use Rattle.one_key.specs.declared.answer.Taken.{Taken}
+use Rattle.one_key.specs.declared.answer.Taken.TheVariants.{Accepted}
+use Rattle.one_key.specs.declared.key.LiveKey.{LiveKey}
+use Rattle.one_key.specs.Sender.{SenderKey}
+use Rattle.one_key.specs.Receiver.{ReceiverKey}
 
 abbrev pub sender_key : LiveKey → SenderKey
 sender_key k = record { draw = k.draw; key = k.cipher; units = k.units }

@@ -22,12 +22,12 @@ pub struct Tx {
 }
 
 impl Model for Tx {
-    ghost use Rattle.sub_stream.specs.Sender.{Sender};
+    ghost use Rattle.one_key.specs.Sender.{Sender};
 
     ghost Value = { Sender };
 
     ghost use Rattle.std.specs.Option.{option_map};
-    ghost use Rattle.sub_stream.specs.Keys.{sender_key, HasUnitsWithin};
+    ghost use Rattle.one_key.specs.Keys.{sender_key, HasUnitsWithin};
 
     ghost view = { λ t. record { stream = t.stream; sub = t.sub; limit = t.limit; key = option_map sender_key t.key } };
 
@@ -35,7 +35,7 @@ impl Model for Tx {
 }
 
 impl Tx {
-    ghost use Rattle.sub_stream.specs.Sender.{ready_of, sealing_of};
+    ghost use Rattle.one_key.specs.Sender.{ready_of, sealing_of};
 
     /// A sender with no key. `limit` is how many units one key may seal.
     pub fn make(stream: u8, sub: SubKind, limit: u64) -> Tx

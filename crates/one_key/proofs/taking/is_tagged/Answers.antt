@@ -1,7 +1,7 @@
 use Rattle.std.proofs.Common.{◌≡◌, ℕ, Bool, true, false, List, [], length, refl, ap, ◌∙◌, arith}
 use Rattle.gcm_seal.specs.Gcm.{verifies}
 use Rattle.gcm_seal.proofs.Sealing.{verifies-tag, length-tag_of}
-use Rattle.sub_stream.proofs.taking.is_tagged.Goals as goal
+use Rattle.one_key.proofs.taking.is_tagged.Goals as goal
 
 -- no bytes are no tag
 none_verifies : (key iv a c : List ℕ) → verifies key iv a c [] ≡ true → ⊥

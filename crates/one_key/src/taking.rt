@@ -3,9 +3,9 @@
 ghost use Rattle.std.specs.Prelude.{◌≡◌, ◌+◌, ◌<◌, ◌≤◌, ◌≢◌, ◌^◌, length, vec_len, vec_capacity};
 ghost use Rattle.gcm_seal.specs.Gcm.{verifies};
 ghost use Rattle.ide_prefix.specs.Cut.{packet_of_view, lent_tag};
-ghost use Rattle.sub_stream.specs.Keys.{receiver_key, key_after, LaidOut};
-ghost use Rattle.sub_stream.specs.Receiver.{taken_under};
-ghost use Rattle.sub_stream.specs.declared.answer.Taken.TheVariants.{NotKeyed};
+ghost use Rattle.one_key.specs.Keys.{receiver_key, key_after, LaidOut};
+ghost use Rattle.one_key.specs.Receiver.{taken_under};
+ghost use Rattle.one_key.specs.declared.answer.Taken.TheVariants.{NotKeyed};
 
 use crate::answer::Taken;
 use crate::buffer::{BUFFER_ROOM, HEAD_BYTES, PAYLOAD_BYTES, append_parts, open_in_place};

@@ -6,8 +6,8 @@ use Rattle.ide_types.specs.declared.sub.FailCause.TheVariants as fail
 use Rattle.gcm_seal.specs.Gcm.{open_of, verifies}
 use Rattle.ide_prefix.specs.Iv.{iv_of}
 use Rattle.ide_prefix.specs.Packet.{Packet, prefix_bytes}
-use Rattle.sub_stream.specs.declared.answer.Taken.{Taken}
-use Rattle.sub_stream.specs.declared.answer.Taken.TheVariants.{NotKeyed, Accepted, Fail}
+use Rattle.one_key.specs.declared.answer.Taken.{Taken}
+use Rattle.one_key.specs.declared.answer.Taken.TheVariants.{NotKeyed, Accepted, Fail}
 
 -- the Live key of set 0 with its draw, and how many units were accepted under it
 pub record ReceiverKey : Type 0 where

@@ -5,9 +5,9 @@ use Rattle.gcm_seal.specs.Gcm.{seal_of}
 use Rattle.ide_prefix.specs.declared.packet.Prefix.{Prefix}
 use Rattle.ide_prefix.specs.Iv.{iv_of}
 use Rattle.ide_prefix.specs.Packet.{Packet, prefix_bytes, packet_bytes}
-use Rattle.sub_stream.specs.declared.answer.SealedPacket.{SealedPacket}
-use Rattle.sub_stream.specs.declared.answer.TxRefusal.{TxRefusal}
-use Rattle.sub_stream.specs.declared.answer.TxRefusal.TheVariants.{NoKey, Worn}
+use Rattle.one_key.specs.declared.answer.SealedPacket.{SealedPacket}
+use Rattle.one_key.specs.declared.answer.TxRefusal.{TxRefusal}
+use Rattle.one_key.specs.declared.answer.TxRefusal.TheVariants.{NoKey, Worn}
 
 -- the Live key with its draw, and how many units were sealed under it
 pub record SenderKey : Type 0 where
