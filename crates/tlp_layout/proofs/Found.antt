@@ -1,8 +1,8 @@
 -- What the reader finds is a spelling, or the first fault.
-use Rattle.std.proofs.Common.{◌≡◌, ℕ, zero, suc, ◌+◌, ◌<◌, ◌≤◌, Bool, true, ltb, IsTrue, List, length, get_or, take, drop, Option, Some, None, is_some, refl, sym, ap, subst, inl, inr, arith, length-take, get_or-take, take-take}
+use Rattle.std.proofs.Common.{◌≡◌, ℕ, zero, suc, ◌+◌, ◌<◌, ◌≤◌, Bool, true, ltb, IsTrue, List, length, get_or, take, drop, Option, Some, None, is_some, refl, sym, ap, subst, ◌∙◌, inl, inr, arith, length-take, get_or-take, take-take}
 use Rattle.std.proofs.lemmas.Bool.{cases_eq, ltb-true, lt-ltb, le-ltb, eq-eqb, ne_eqb, and_parts}
 use Rattle.std.proofs.lemmas.List.{take_all}
-use Rattle.tlp_layout.specs.{Layout, TlpFault, SpellsHead, IsHead, head_size, layout_at, IsFault, IsHeadFault, head_of, rest_size, wants_head, wants_tlp, whole_size, may_follow, Spells, IsTlp, with_payload}
+use Rattle.tlp_layout.specs.{Layout, HeadView, body_size, TlpFault, SpellsHead, IsHead, head_size, layout_at, IsFault, IsHeadFault, head_of, rest_size, wants_head, wants_tlp, whole_size, may_follow, Spells, IsTlp, with_payload}
 use Rattle.tlp_layout.specs.declared.fault.TlpFault.TheVariants as faults
 use Rattle.tlp_layout.specs.Inside.{Agrees, Stops, StopsAt}
 use Rattle.first_fault.proofs.Cells.{IsBytes}
@@ -88,6 +88,16 @@ pub record HasHead (k : Layout) (s : List ℕ) (n : ℕ) : Type 0 where
   pub size : n ≡ head_size (get_or s 0 0)
   pub within : n ≤ length s
   pub agrees : Agrees k s n
+
+pub has_head : (k : Layout) (s : List ℕ) (n : ℕ) → IsBytes s → layout_at (get_or s 0 0) ≡ Some k
+    → (n ≡ head_size (get_or s 0 0)) × (n ≤ length s) → Agrees k s n → HasHead k s n
+has_head k s n fit kind size agrees =
+    record { fit = fit; kind = kind; size = size.0; within = size.1; agrees = agrees }
+
+-- how many bytes follow, by the header that is read
+pub wanted_is : (k : Layout) (s : List ℕ) {h : HeadView} {wanted : ℕ} → h ≡ head_of k s
+    → wanted ≡ body_size h.has_payload h.lead.length → wanted ≡ rest_size s
+wanted_is k s is wants = wants ∙ ap (λ (x : HeadView). body_size x.has_payload x.lead.length) is
 
 walked : (k : Layout) (s : List ℕ) (n : ℕ) → HasHead k s n → IsWalked k s (length s)
 walked k s n h = record { fit = λ i lt. h.fit i; kind = h.kind; agrees = λ i p lt less. let size = h.size in h.agrees i p (omega arith) }
