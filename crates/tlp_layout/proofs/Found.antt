@@ -1,5 +1,5 @@
 -- What the reader finds is a spelling, or the first fault.
-use Rattle.std.proofs.Common.{◌≡◌, ℕ, zero, suc, ◌+◌, ◌<◌, ◌≤◌, Bool, true, ltb, IsTrue, List, length, get_or, take, drop, Option, Some, None, is_some, refl, sym, ap, subst, ◌∙◌, inl, inr, arith, length-take, get_or-take, take-take}
+use Rattle.std.proofs.Common.{◌≡◌, ℕ, ◌+◌, ◌<◌, ◌≤◌, Bool, true, ltb, IsTrue, List, length, get_or, take, drop, Option, Some, None, is_some, refl, sym, ap, subst, ◌∙◌, inl, inr, arith, length-take, get_or-take, take-take}
 use Rattle.std.proofs.lemmas.Bool.{cases_eq, ltb-true, lt-ltb, le-ltb, eq-eqb, ne_eqb, and_parts}
 use Rattle.std.proofs.lemmas.List.{take_all}
 use Rattle.tlp_layout.specs.{Layout, HeadView, body_size, TlpFault, SpellsHead, IsHead, head_size, layout_at, IsFault, IsHeadFault, head_of, rest_size, wants_head, wants_tlp, whole_size, may_follow, Spells, IsTlp, with_payload}

@@ -86,8 +86,8 @@ third_back : (b1 b2 b3 : ℕ) → b2 < 64 → b3 < 256
     → 0x10 * ((4 * (b1 / 4 % 2) + b2 / 16 % 4) % 4) + 0x04 * (b2 / 4 % 4) + (256 * (b2 % 4) + b3) / 256 ≡ b2
 third_back b1 b2 b3 lt less = omega arith
 
-length_back : (b2 b3 : ℕ) → b3 < 256 → (256 * (b2 % 4) + b3) % 256 ≡ b3
-length_back b2 b3 lt = omega arith
+low_back : (a b : ℕ) → b < 256 → (256 * a + b) % 256 ≡ b
+low_back a b lt = omega arith
 
 tag_back : (b1 low : ℕ) → low < 256 → (512 * (b1 / 128) + 256 * (b1 / 8 % 2) + low) % 256 ≡ low
 tag_back b1 low lt = omega arith
@@ -115,8 +115,7 @@ config_tail t fit long z =
     let f3 : get_or t 3 0 < 256 = fit 3 in
     let high : (64 * get_or t 2 0 + get_or t 3 0 / 4) / 64 ≡ get_or t 2 0 = omega arith in
     let low : 0x04 * ((64 * get_or t 2 0 + get_or t 3 0 / 4) % 64) ≡ get_or t 3 0 = omega arith in
-    let cells : t ≡ get_or t 0 0 ∷ get_or t 1 0 ∷ get_or t 2 0 ∷ get_or t 3 0 ∷ [] = drop_cells 4 0 t long in
-    joined_4 (number_2 t fit) high low ∙ sym cells
+    joined_4 (number_2 t fit) high low ∙ sym (drop_cells 4 0 t long)
 
 message_tail : (t : List ℕ) → IsBytes t → length t ≡ 8
     → big_bytes 2 (big_number 2 t) ++ cells 6 2 t ≡ t
@@ -161,9 +160,6 @@ status_byte_back : (b6 b7 : ℕ) → b6 < 256 → b7 < 256
 status_byte_back b6 b7 lt less =
     omega (arith, bit_is (b6 / 16 % 2) (omega arith), status_back (b6 / 32) (omega arith))
 
-count_back : (b6 b7 : ℕ) → b7 < 256 → (256 * (b6 % 16) + b7) % 256 ≡ b7
-count_back b6 b7 lt = omega arith
-
 -- the places of a header that have bits that are 0
 clear_at : (k : Layout) (s : List ℕ) (i : ℕ) → IsRight k s → 0 < i → i < length s
     → eqb (bit_and (reserved k (head_size (get_or s 0 0)) i) (get_or s i 0)) 0 ≡ true
@@ -206,7 +202,7 @@ back_8 layouts.Memory b0 b1 b2 b3 b4 b5 b6 b7 t r =
     let from_4 = b4 ∷ b5 ∷ b6 ∷ b7 ∷ t in
     let numbers : IsBytes from_4 = λ i. r.fit (suc (suc (suc (suc i)))) in
     spelled_by layouts.Memory s r.fit (number_below from_4 numbers, tag_fits b1 b6 (r.fit 1) (r.fit 6), omega arith, omega arith, address.0, address.1) (eight (first_back layouts.Memory b0 (r.fit 0) r.kind) (second_back b1 b2 b6 (r.fit 1) z1 (r.fit 6))
-    (third_back b1 b2 b3 z2 (r.fit 3)) (length_back b2 b3 (r.fit 3)) (number_2 from_4 numbers) (tag_back b1 b6 (r.fit 6))
+    (third_back b1 b2 b3 z2 (r.fit 3)) (low_back (b2 % 4) b3 (r.fit 3)) (number_2 from_4 numbers) (tag_back b1 b6 (r.fit 6))
     (halves_back b7) (address_back (is_wide b0) t behind (rest_long (is_wide b0) (length t) (omega (arith, r.size)))))
 back_8 layouts.Config b0 b1 b2 b3 b4 b5 b6 b7 t r =
     let s = b0 ∷ b1 ∷ b2 ∷ b3 ∷ b4 ∷ b5 ∷ b6 ∷ b7 ∷ t in
@@ -223,7 +219,7 @@ back_8 layouts.Config b0 b1 b2 b3 b4 b5 b6 b7 t r =
     let from_4 = b4 ∷ b5 ∷ b6 ∷ b7 ∷ t in
     let numbers : IsBytes from_4 = λ i. r.fit (suc (suc (suc (suc i)))) in
     spelled_by layouts.Config s r.fit (wide, omega (arith, z2.1), number_below from_4 numbers, tag_fits b1 b6 (r.fit 1) (r.fit 6), omega arith, omega arith, number_below t behind, omega arith) (eight (first_back layouts.Config b0 (r.fit 0) r.kind) (second_back b1 b2 b6 (r.fit 1) z1 (r.fit 6))
-    (third_back b1 b2 b3 z2.0 (r.fit 3)) (length_back b2 b3 (r.fit 3)) (number_2 from_4 numbers) (tag_back b1 b6 (r.fit 6))
+    (third_back b1 b2 b3 z2.0 (r.fit 3)) (low_back (b2 % 4) b3 (r.fit 3)) (number_2 from_4 numbers) (tag_back b1 b6 (r.fit 6))
     (halves_back b7) (config_tail t behind (omega arith) z11))
 back_8 layouts.Message b0 b1 b2 b3 b4 b5 b6 b7 t r =
     let s = b0 ∷ b1 ∷ b2 ∷ b3 ∷ b4 ∷ b5 ∷ b6 ∷ b7 ∷ t in
@@ -237,7 +233,7 @@ back_8 layouts.Message b0 b1 b2 b3 b4 b5 b6 b7 t r =
     let from_4 = b4 ∷ b5 ∷ b6 ∷ b7 ∷ t in
     let numbers : IsBytes from_4 = λ i. r.fit (suc (suc (suc (suc i)))) in
     spelled_by layouts.Message s r.fit (wide, number_below from_4 numbers, tag_fits b1 b6 (r.fit 1) (r.fit 6), r.fit 7, number_below t behind, refl, All-from_get_or (λ (b : ℕ). b < 256) (cells 6 2 t) 0 (λ i lt. kept (suc (suc i)))) (eight (first_back layouts.Message b0 (r.fit 0) r.kind) (second_back b1 b2 b6 (r.fit 1) z1 (r.fit 6))
-    (third_back b1 b2 b3 z2 (r.fit 3)) (length_back b2 b3 (r.fit 3)) (number_2 from_4 numbers) (tag_back b1 b6 (r.fit 6))
+    (third_back b1 b2 b3 z2 (r.fit 3)) (low_back (b2 % 4) b3 (r.fit 3)) (number_2 from_4 numbers) (tag_back b1 b6 (r.fit 6))
     same (message_tail t behind (omega arith)))
 back_8 layouts.Completion b0 b1 b2 b3 b4 b5 b6 b7 t r =
     let s = b0 ∷ b1 ∷ b2 ∷ b3 ∷ b4 ∷ b5 ∷ b6 ∷ b7 ∷ t in
@@ -253,8 +249,8 @@ back_8 layouts.Completion b0 b1 b2 b3 b4 b5 b6 b7 t r =
     let from_4 = b4 ∷ b5 ∷ b6 ∷ b7 ∷ t in
     let numbers : IsBytes from_4 = λ i. r.fit (suc (suc (suc (suc i)))) in
     spelled_by layouts.Completion s r.fit (wide, number_below from_4 numbers, (omega (arith, status), ap status_from status), omega arith, number_below t behind, tag_fits b1 (get_or t 2 0) (r.fit 1) (r.fit 10), z11) (eight (first_back layouts.Completion b0 (r.fit 0) r.kind) (second_back b1 b2 (get_or t 2 0) (r.fit 1) z1 (r.fit 10))
-    (third_back b1 b2 b3 z2 (r.fit 3)) (length_back b2 b3 (r.fit 3)) (number_2 from_4 numbers) (status_byte_back b6 b7 f6 f7)
-    (count_back b6 b7 f7) (completion_tail b1 t behind (omega arith)))
+    (third_back b1 b2 b3 z2 (r.fit 3)) (low_back (b2 % 4) b3 (r.fit 3)) (number_2 from_4 numbers) (status_byte_back b6 b7 f6 f7)
+    (low_back (b6 % 16) b7 f7) (completion_tail b1 t behind (omega arith)))
 
 pub back : (k : Layout) (s : List ℕ) → IsRight k s → SpellsHead (head_of k s) s
 back k s r =
@@ -367,10 +363,13 @@ cleared b lt z = and_from _ _ ((clear_3 b lt).1 z) refl
 halves_small : (a b : ℕ) → a < 16 → b < 16 → 0x10 * a + b < 256
 halves_small a b p q = omega arith
 
-status_byte : (status : ℕ) (bcm : Bool) (count : ℕ) → status < 8 → count < 4096
-    → 0x20 * status + 0x10 * bit bcm + count / 256 < 256
-status_byte status true count ls lc = omega arith
-status_byte status false count ls lc = omega arith
+status_again : (status : ℕ) (bcm : Bool) (count : ℕ) → status < 8 → count < 4096
+    → ((0x20 * status + 0x10 * bit bcm + count / 256) / 32 ≡ status)
+    × (eqb ((0x20 * status + 0x10 * bit bcm + count / 256) / 16 % 2) 1 ≡ bcm)
+    × (256 * ((0x20 * status + 0x10 * bit bcm + count / 256) % 16) + count % 256 ≡ count)
+    × (0x20 * status + 0x10 * bit bcm + count / 256 < 256)
+status_again status true count ls lc = (omega arith, eq-eqb _ _ (omega arith), omega arith, omega arith)
+status_again status false count ls lc = (omega arith, ne_eqb _ _ (λ e. omega arith), omega arith, omega arith)
 
 memory_fit : (w : Bool) (f : MemoryFields) (l : Lead) → FitsLead l → FitsFields l (Memory f)
     → FitFrom layouts.Memory (cond w 16 12) 1 (lead_bytes l f.tag ++ field_bytes w (Memory f))
@@ -431,7 +430,7 @@ message_fit f l fl ff =
 completion_fit : (f : CompletionFields) (l : Lead) → FitsLead l → FitsFields l (Completion f)
     → FitFrom layouts.Completion 12 1 (lead_bytes l f.tag ++ field_bytes false (Completion f))
 completion_fit f l fl ff =
-    let status = status_byte (status_bits f.status) f.bcm f.count ff.2.0 ff.3 in
+    let status = (status_again (status_bits f.status) f.bcm f.count ff.2.0 ff.3).3 in
     let lower : f.lower < 256 = omega (arith, ff.6) in
     let clear = and_from _ _ ((clear_128 f.lower lower).1 ff.6) refl in
     let rest : FitFrom layouts.Completion 12 8 (drop 4 (field_bytes false (Completion f))) =
@@ -502,13 +501,6 @@ halves_again a b lt = (omega arith, omega arith)
 
 register_again : (n : ℕ) → 64 * (n / 64) + (0x04 * (n % 64)) / 4 ≡ n
 register_again n = omega arith
-
-status_again : (status : ℕ) (bcm : Bool) (count : ℕ) → status < 8 → count < 4096
-    → ((0x20 * status + 0x10 * bit bcm + count / 256) / 32 ≡ status)
-    × (eqb ((0x20 * status + 0x10 * bit bcm + count / 256) / 16 % 2) 1 ≡ bcm)
-    × (256 * ((0x20 * status + 0x10 * bit bcm + count / 256) % 16) + count % 256 ≡ count)
-status_again status true count ls lc = (omega arith, eq-eqb _ _ (omega arith), omega arith)
-status_again status false count ls lc = (omega arith, ne_eqb _ _ (λ e. omega arith), omega arith)
 
 address_again : (w : Bool) (first x1 x2 x3 requester tag be address : ℕ) (more : List ℕ) → address < address_limit w
     → address_of w (first ∷ x1 ∷ x2 ∷ x3 ∷ (big_bytes 2 requester ++ tag ∷ be ∷ address_bytes w address ++ more)) ≡ address

@@ -1,5 +1,5 @@
 -- Facts on single bytes, each tried at all 256 of them.
-use Rattle.std.proofs.Common.{◌≡◌, ℕ, ◌%◌, ◌<◌, Bool, true, ◌&&◌, not, ltb, eqb, bit_and, Option, Some, None, refl, sym, ap, ◌∙◌, arith}
+use Rattle.std.proofs.Common.{◌≡◌, ℕ, ◌%◌, ◌<◌, Bool, true, ◌&&◌, not, ltb, eqb, bit_and, Option, Some, None, refl, sym, ap, ◌∙◌}
 use Rattle.std.specs.Prelude.{◌↔◌}
 use Rattle.std.proofs.lemmas.Bool.{agree_below, agree_below_at, eqb-true, ltb-true, eq-eqb, lt-ltb, and_parts, and_from}
 use Rattle.tlp_layout.specs.{is_wide, layout_at, Layout}
