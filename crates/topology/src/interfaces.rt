@@ -74,24 +74,26 @@ fn id_in(number: i64) -> u8
     }
 }
 
+const NAMES: &[&str] = &[
+    "rid",
+    "stream",
+    "flags",
+    "offset",
+    "command",
+    "msix",
+    "lnr",
+    "cacheline",
+    "tph",
+    "info",
+    "bars",
+];
+
 // The keys of an interface's table.
 #[tactic(auto, unfolding(crate::specs::Tables::interface_keys))]
 fn interface_of(keys: &Keys) -> Result<InterfaceDraft, PlanError>
     ensures { Gives (λ x. x) result (interface_keys keys.now.path (table_view keys.now.table.now)) }
 {
-    keys.only(&[
-        "rid",
-        "stream",
-        "flags",
-        "offset",
-        "command",
-        "msix",
-        "lnr",
-        "cacheline",
-        "tph",
-        "info",
-        "bars",
-    ])?;
+    keys.only(NAMES)?;
     let requester = keys.required("rid", &Word::within(0, 65535))?;
     let stream = keys.required("stream", &Integer)?;
     let flags = keys.optional("flags", 0, &Word::formed(0, 23, Form::LockFlags))?;
