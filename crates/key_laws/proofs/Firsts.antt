@@ -170,7 +170,7 @@ pub record First (h : History) (p : Place) (x : Verdict) (lose : Option Loss) : 
   pub fresh : Fresh h p (work_of op.Establish (op_of h p.link p.stream) (draws h)).draw
   pub base_of : base ((event.Establish p.link p.stream lose, x) ∷ h) p.link p.stream ≡ (work_of op.Establish (op_of h p.link p.stream) (draws h)).draw
 
-state_of : (plan : KeyPlan) (h : History) (l s : ℕ) (lose : Option Loss) (x : Verdict) (r : Reach) → x ≡ due plan h (event.Establish l s lose) x → reach_of op.Establish x ≡ Some r
+pub state_of : (plan : KeyPlan) (h : History) (l s : ℕ) (lose : Option Loss) (x : Verdict) (r : Reach) → x ≡ due plan h (event.Establish l s lose) x → reach_of op.Establish x ≡ Some r
     → is_some (reach_of op.Establish (establish_on plan (op_of h l s) (draws h) (ports_at h) l s lose)) ≡ true
 unfolding due
 state_of plan h l s lose x r is reached = by_has (plan.has_stream l s) (sym (ap (λ (y : Verdict). reach_of op.Establish y) is) ∙ reached)
@@ -236,7 +236,7 @@ rising_keyed k j a b n u sh (half _ le h) = by_half true k sh refl h
     by_half _ true _ e (following i) = refl
 rising_keyed k j a b n u sh (full _ lt f) = full_keyed k j sh f
 
-refresh_state : (plan : KeyPlan) (h : History) (l s : ℕ) (lose : Option Loss) (x : Verdict) (r : Reach) → x ≡ due plan h (event.Refresh l s lose) x → reach_of op.Refresh x ≡ Some r
+pub refresh_state : (plan : KeyPlan) (h : History) (l s : ℕ) (lose : Option Loss) (x : Verdict) (r : Reach) → x ≡ due plan h (event.Refresh l s lose) x → reach_of op.Refresh x ≡ Some r
     → is_some (reach_of op.Refresh (refresh_on plan (op_of h l s) (draws h) (ports_at h) (status_of h Host l s) l s lose)) ≡ true
 unfolding due
 refresh_state plan h l s lose x r is reached = by_has (plan.has_stream l s) (sym (ap (λ (y : Verdict). reach_of op.Refresh y) is) ∙ reached)

@@ -38,7 +38,7 @@ differ : (plan : Plan) (h : History) → CauseLaw plan h → (port : PortName) (
 differ plan h law port s true i j on other = apart plan h law port s i j other on
 differ plan h law port s false i j on other = let apart_is = apart plan h law port s j i on other in grind (arith, nat_tests)
 
-unused : (plan : Plan) (h : History) → CauseLaw plan h → (port : PortName) (stream : ℕ) (u : SubKind) (k : Bool) (j : ℕ) → let s = lane_out port stream u in
+pub unused : (plan : Plan) (h : History) → CauseLaw plan h → (port : PortName) (stream : ℕ) (u : SubKind) (k : Bool) (j : ℕ) → let s = lane_out port stream u in
     key_in (keys_at h port s) k ≡ On j → waits k j (key_in (keys_at h port s) (not k)) ≡ true → sent plan h s j ≡ []
 unused plan h law port stream u k j on waiting =
     let s = lane_out port stream u in
@@ -54,7 +54,7 @@ unused plan h law port stream u k j on waiting =
     smaller : (i j : ℕ) → i ≤ j → (i == j) ≡ false → i < j
     smaller i j le apart_is = grind (arith, nat_tests)
 
-from_base : (plan : Plan) (h : History) → CauseLaw plan h → (port : PortName) (s : SubStream) (k : Bool) (j : ℕ) → key_in (keys_at h port s) k ≡ On j → nat_le (base h s.link s.stream) j ≡ true
+pub from_base : (plan : Plan) (h : History) → CauseLaw plan h → (port : PortName) (s : SubStream) (k : Bool) (j : ℕ) → key_in (keys_at h port s) k ≡ On j → nat_le (base h s.link s.stream) j ≡ true
 unfolding keys_at
 from_base plan h law port s k j on = by_seat (sends_it port s) (receives_it port s) on
   where

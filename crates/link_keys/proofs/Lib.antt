@@ -4,3 +4,9 @@ pub mod RealFacts
 pub mod Moments
 pub mod AllFacts
 pub mod Failures
+pub mod Unplanned
+pub mod SealedKeys
+pub mod SealedOrder
+pub mod Fresh
+pub mod Ended
+pub mod Draws

@@ -184,7 +184,7 @@ accepted_end : (ts : List Touch) (j : ℕ) → (keys false (Accept j ∷ ts)) �
 unfolding keys
 accepted_end ts j = refl
 
-accept_here : (q : PortName) (s : SubStream) (port : PortName) (unit : UnitName) → receives_it q s ≡ true
+pub accept_here : (q : PortName) (s : SubStream) (port : PortName) (unit : UnitName) → receives_it q s ≡ true
     → (not false && is_same_side q.side port.side && is_on_stream (place q s false) port.link unit.stream && is_same_sub s.sub unit.sub) ≡ (is_same_port port q && is_same (received_in port unit) s)
 accept_here q s port unit here =
     let each = both-true (q.link == s.link) (received_direction q.side == s.direction) here in

@@ -4,7 +4,7 @@ use Rattle.key_laws.specs.History.{History}
 use Rattle.key_laws.specs.Laws.{CauseLaw as KeyCauseLaw}
 use Rattle.link_history.specs.Plan.{key_plan}
 use Rattle.link_history.specs.Cause.{CauseLaw}
-use Rattle.link_history.specs.KeyFacts.{KeyFacts}
+use Rattle.link_history.specs.KeyFacts.{KeyFacts, DrawFacts}
 
 -- Each verdict that is due is due by the rules of keys, which may suppose what they do of sends and arrivals.
 abbrev pub KeysHaveCauses : Type 0
@@ -13,3 +13,7 @@ KeysHaveCauses = (plan : Plan) (h : History) → CauseLaw plan h → KeyCauseLaw
 -- All that the machine uses of keys holds.
 abbrev pub FactsHold : Type 0
 FactsHold = (plan : Plan) → KeyFacts plan
+
+-- All that the laws use of draws holds.
+abbrev pub DrawsHold : Type 0
+DrawsHold = (plan : Plan) → DrawFacts plan

@@ -3,4 +3,4 @@
 
 mod facts;
 
-pub use facts::{facts_hold, keys_have_causes};
+pub use facts::{draws_hold, facts_hold, keys_have_causes};

@@ -29,6 +29,7 @@ use Rattle.link_ports.specs.Machine.{LinkState, port_at, slots_of, refuses_in, r
 use Rattle.link_ports.specs.Stands.{tx_slots, tx_standing, rx_slots, rx_standing, standing, PortsStand}
 use Rattle.link_keys.proofs.Seats.{keys_out, keys_into}
 use Rattle.link_keys.proofs.Given.{key_cause}
+use Rattle.link_keys.proofs.Unplanned.{unplanned_keys}
 use Rattle.link_keys.proofs.RealFacts.{InOrder, in_order}
 use Rattle.link_ports.proofs.Answers.{at_each}
 
@@ -166,54 +167,6 @@ known_live plan h law p false k =
     ap (λ (sl : Slots). is_live (slot_in sl k)) (slots_into plan h p)
     ∙ (ap (λ (ks : Keys). is_live (slot_in (rx_slots plan h port s ks) k)) at.is.are
     ∙ (live_into plan h port s at.shape (in_order false (moments h (place_of p false)) at.shape at.is.sound) k ∙ sym (ap (λ (ks : Keys). is_live_there (slot_of false ks k)) at.is.are)))
-
--- ---- a stream that the plan has not
-
-no_establish : (kp : KeyPlan) (h : History) (l s : ℕ) (lose : Option Loss) (x : Verdict) → x ≡ key_due kp h (event.Establish l s lose) x → kp.has_stream l s ≡ false → reach_of op.Establish x ≡ None
-unfolding key_due
-no_establish kp h l s lose x is none = ap (λ (y : Verdict). reach_of op.Establish y) is ∙ rw none refl
-
-no_refresh : (kp : KeyPlan) (h : History) (l s : ℕ) (lose : Option Loss) (x : Verdict) → x ≡ key_due kp h (event.Refresh l s lose) x → kp.has_stream l s ≡ false → reach_of op.Refresh x ≡ None
-unfolding key_due
-no_refresh kp h l s lose x is none = ap (λ (y : Verdict). reach_of op.Refresh y) is ∙ rw none refl
-
-no_stop : (kp : KeyPlan) (h : History) (l s : ℕ) (lose : Option Loss) (x : Verdict) → x ≡ key_due kp h (event.Stop l s lose) x → kp.has_stream l s ≡ false → reach_of op.Stop x ≡ None
-unfolding key_due
-no_stop kp h l s lose x is none = ap (λ (y : Verdict). reach_of op.Stop y) is ∙ rw none refl
-
-still_idle : (m : Manager) (o : Operation) (a b : ℕ) (r : Option Reach) (l s : ℕ) → (((l == a) && (s == b)) ≡ true → r ≡ None) → m.ops l s ≡ Idle → (operated m o a b r).ops l s ≡ Idle
-still_idle m o a b None l s none is = is
-still_idle m o a b (Some r) l s none is = by_test ((l == a) && (s == b)) refl
-  where
-    by_test : (f : Bool) → ((l == a) && (s == b)) ≡ f → (if f then op_after (work_of o (m.ops a b) (length m.begun)) r else m.ops l s) ≡ Idle
-    by_test true here = absurd (let e = none here in cc)
-    by_test false other = is
-
-elsewhere_has : (kp : KeyPlan) (a b l s : ℕ) → ((l == a) && (s == b)) ≡ true → kp.has_stream l s ≡ false → kp.has_stream a b ≡ false
-elsewhere_has kp a b l s here none = let same = same_place l s a b here in subst (λ (x : ℕ). kp.has_stream x b ≡ false) same.0 (subst (λ (y : ℕ). kp.has_stream l y ≡ false) same.1 none)
-
-unplanned_idle : (kp : KeyPlan) (h : History) → KeyCauseLaw kp h → (l s : ℕ) → kp.has_stream l s ≡ false → op_of h l s ≡ Idle
-unfolding manager
-unplanned_idle kp [] cause l s none = refl
-unplanned_idle kp ((event.Establish a b lose, x) ∷ h) cause l s none =
-    still_idle (manager h) op.Establish a b (reach_of op.Establish x) l s (λ here. no_establish kp h a b lose x cause.0 (elsewhere_has kp a b l s here none)) (unplanned_idle kp h cause.2 l s none)
-unplanned_idle kp ((event.Refresh a b lose, x) ∷ h) cause l s none =
-    still_idle (manager h) op.Refresh a b (reach_of op.Refresh x) l s (λ here. no_refresh kp h a b lose x cause.0 (elsewhere_has kp a b l s here none)) (unplanned_idle kp h cause.2 l s none)
-unplanned_idle kp ((event.Stop a b lose, x) ∷ h) cause l s none =
-    still_idle (manager h) op.Stop a b (reach_of op.Stop x) l s (λ here. no_stop kp h a b lose x cause.0 (elsewhere_has kp a b l s here none)) (unplanned_idle kp h cause.2 l s none)
-unplanned_idle kp ((event.Reset a, v.Reset m) ∷ h) cause l s none = by_test (l == a) (unplanned_idle kp h cause.2 l s none)
-  where
-    by_test : (f : Bool) → op_of h l s ≡ Idle → (if f then Idle else op_of h l s) ≡ Idle
-    by_test true is = refl
-    by_test false is = is
-unplanned_idle kp ((event.Reset a, x) ∷ h) cause l s none = unplanned_idle kp h cause.2 l s none
-unplanned_idle kp ((e, x) ∷ h) cause l s none = unplanned_idle kp h cause.2 l s none
-
-unplanned_keys : (plan : Plan) (h : History) → CauseLaw plan h → (p : Place) → is_some (stream_plan plan p.link p.stream) ≡ false → keys_there h p ≡ no_keys
-unplanned_keys plan h law p none =
-    let cause = key_cause plan h law in
-    let at = in_state (key_plan plan) h cause p Idle (unplanned_idle (key_plan plan) h cause p.link p.stream none) in
-    at.is.are ∙ ap keys_of at.fits
 
 -- ---- all places
 
