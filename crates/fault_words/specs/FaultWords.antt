@@ -3,8 +3,8 @@ use Rattle.tlp_layout.specs.declared.fault.TlpFault.{TlpFault}
 use Rattle.tlp_layout.specs.declared.fault.TlpFault.TheVariants as tlp
 use Rattle.ide_prefix.specs.declared.fault.PacketFault.{PacketFault}
 use Rattle.ide_prefix.specs.declared.fault.PacketFault.TheVariants as packet
-use Rattle.link_script.specs.declared.verdict.FaultWord.{FaultWord}
-use Rattle.link_script.specs.declared.verdict.FaultWord.TheVariants as word
+use Rattle.ide_types.specs.declared.fault_word.FaultWord.{FaultWord}
+use Rattle.ide_types.specs.declared.fault_word.FaultWord.TheVariants as word
 
 abbrev pub tlp_word : TlpFault → FaultWord
 tlp_word (tlp.Short place) = word.Short

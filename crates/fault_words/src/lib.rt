@@ -5,7 +5,7 @@ ghost use Rattle.std.specs.Prelude.{◌≡◌};
 ghost use Rattle.fault_words.specs.FaultWords.{packet_word as packet_word_of, tlp_word as tlp_word_of};
 
 use ide_prefix::PacketFault;
-use link_script::FaultWord;
+use ide_types::FaultWord;
 use tlp_layout::TlpFault;
 
 /// The word of a TLP's fault (this profile).

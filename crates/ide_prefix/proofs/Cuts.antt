@@ -11,7 +11,8 @@ use Rattle.tlp_layout.specs.Class.{class_of}
 use Rattle.tlp_layout.specs.Tlp.{body_size}
 use Rattle.tlp_layout.specs.Causes.{head_size}
 use Rattle.tlp_layout.specs.Reading.{head_of, rest_size, read_head_of}
-use Rattle.tlp_layout.proofs.Heads.{layout_of, IsRight, kept, again}
+use Rattle.tlp_layout.specs.Class.{layout_of}
+use Rattle.tlp_layout.proofs.Heads.{IsRight, kept, again}
 use Rattle.tlp_layout.proofs.Walk.{head_size_at_least, head_size_at_most, body_at_most}
 use Rattle.tlp_layout.proofs.Readings.{read_head_spells}
 use Rattle.ide_prefix.specs.declared.packet.Cut.{Cut}
@@ -21,7 +22,7 @@ use Rattle.ide_prefix.specs.declared.fault.PacketFault.{PacketFault}
 use Rattle.ide_prefix.specs.Packet.{Packet, packet_bytes, begins_sync, is_sync_packet, IsCarried, IsSync, FitsPacket, SpellsPacket, IsPacket}
 use Rattle.ide_prefix.specs.Causes.{is_plain, packet_fault_at}
 use Rattle.ide_prefix.specs.Faults.{IsPacketFault}
-use Rattle.ide_prefix.specs.Reading.{sync_at, head_part, body_part, packet_in, wants_packet, packet_may_follow, CutValue, PlainTlp, IdePacket, cut_of}
+use Rattle.ide_prefix.specs.Reading.{sync_at, head_part, body_part, packet_read, wants_packet, packet_may_follow, CutValue, PlainTlp, IdePacket, cut_of}
 use Rattle.ide_prefix.specs.Cut.{packet_of_view, cut_value, cut_values, IsCut}
 use Rattle.ide_prefix.proofs.Units.{not_sync}
 use Rattle.ide_prefix.proofs.Grammar.{packets, packet_whole, prefix_again, sync_is, sync_begins}
@@ -85,14 +86,14 @@ cut_parts h b t n m en em =
       ap (drop m) rest ∙ rw em (drop-append_seam b t),
     )
 
-packet_again : (p : Packet) → FitsPacket p → packet_in (packet_bytes p) ≡ p
+packet_again : (p : Packet) → FitsPacket p → packet_read (packet_bytes p) ≡ p
 packet_again p f =
     let sizes = has_parts p f in
     let parts = cut_parts p.head p.body p.tag (head_part (packet_bytes p)) (body_part (packet_bytes p)) sizes.0 sizes.1 in
     packet_is _ p.prefix _ p.head _ p.body _ p.tag (prefix_again p.prefix.m p.prefix.k p.prefix.t p.prefix.sub p.prefix.stream p.prefix.posted (p.head ++ (p.body ++ p.tag))) parts.0 parts.1 parts.2
 
-packet_value : (p : Packet) (s : List ℕ) → SpellsPacket p s → packet_in s ≡ p
-packet_value p s sp = ap packet_in sp.spelled ∙ packet_again p sp.fits
+packet_value : (p : Packet) (s : List ℕ) → SpellsPacket p s → packet_read s ≡ p
+packet_value p s sp = ap packet_read sp.spelled ∙ packet_again p sp.fits
 
 pub same_packet : (p q : Packet) (s : List ℕ) → SpellsPacket p s → SpellsPacket q s → p ≡ q
 same_packet p q s a b = sym (packet_value p s a) ∙ packet_value q s b
@@ -133,7 +134,7 @@ unfolding cut_of
 cut_plain s e = rw e refl
 
 abbrev value_in : List ℕ → CutValue
-value_in s = IdePacket (packet_in s)
+value_in s = IdePacket (packet_read s)
 
 cut_ide : (s : List ℕ) → is_plain s ≡ false → cut_of s ≡ reading wants_packet packet_may_follow value_in packet_fault_at s
 unfolding cut_of
@@ -146,7 +147,7 @@ plain_iff s = (
     | inl yes' ↦ yes'
     | inr no' ↦
         let r = read_spells IsPacket wants_packet packet_may_follow value_in packet_fault_at s PlainTlp readable_packets (sym (cut_ide s no') ∙ e) in
-        let wrong : IdePacket (packet_in s) ≡ PlainTlp = r.1 in
+        let wrong : IdePacket (packet_read s) ≡ PlainTlp = r.1 in
         absurd cc
   ],
 )
@@ -160,8 +161,8 @@ cuts_iff p s = (
         absurd cc
     | inr no' ↦
         let r = read_spells IsPacket wants_packet packet_may_follow value_in packet_fault_at s (IdePacket p) readable_packets (sym (cut_ide s no') ∙ e) in
-        let given : IdePacket (packet_in s) ≡ IdePacket p = r.1 in
-        let same : packet_in s ≡ p = cc in
+        let given : IdePacket (packet_read s) ≡ IdePacket p = r.1 in
+        let same : packet_read s ≡ p = cc in
         subst (λ (x : Packet). SpellsPacket x s) (sym (packet_value r.0.packet s r.0.spells) ∙ same) r.0.spells
   ],
 )

@@ -1,20 +1,23 @@
--- Where a packet goes wrong.
+-- Where a packet goes wrong: each byte ahead of the place was judged good by its place, and the one there is not; a fault of
+-- the header is the same fault four bytes on.
 use Rattle.std.proofs.Common.{◌≡◌, ℕ, ◌+◌, ◌-◌, ◌<◌, ◌≤◌, Bool, true, false, cond, IsTrue, List, [], length, get_or, take, drop, Option, Some, None, is_some, refl, sym, ap, subst, ◌∙◌, inl, inr, arith, length-take, length-drop, get_or-take, get_or-drop, take-append-drop, take-take, take_all, append-nil, min, not, add_comm}
 use Rattle.std.specs.Prelude.{MatchOption}
 use Rattle.std.specs.Array.{IsWholeChunk}
-use Rattle.ide_prefix.specs.Causes.{prefix_of, clear_size, fits_early, packet_fault_at, carries, moved}
-use Rattle.ide_prefix.specs.Cut.{tag_of}
+use Rattle.ide_prefix.specs.Causes.{prefix_read, clear_size, fits_early, packet_fault_at, belongs, moved}
+use Rattle.tlp_layout.specs.Class.{kind_at, kind_among}
+use Rattle.ide_prefix.specs.Cut.{lent_tag}
 use Rattle.ide_prefix.specs.Faults.{GoesOff}
-use Rattle.ide_prefix.specs.Inside.{StopsEarly, StopsSync, StopsInHead, HasHeader, SizesAre, front_of, shifted}
+use Rattle.ide_prefix.specs.Inside.{StopsEarly, StopsSync, StopsInHead, HasHeader, SizesAre, head_slice, shifted}
 use Rattle.tlp_layout.proofs.Readings.{readable_heads}
 use Rattle.ide_prefix.specs.Packet.{FitsPacket, is_sync_packet, Packet, IsPacket, SpellsPacket, begins_sync}
 use Rattle.ide_prefix.specs.Reading.{sync_at, tag_part, packet_size, wants_packet, packet_may_follow}
-use Rattle.tlp_layout.specs.Causes.{head_size, layout_at, fault_at, cause_at}
+use Rattle.tlp_layout.specs.Causes.{head_size, has_data, layout_at, fault_at, cause_at}
 use Rattle.tlp_layout.specs.Reading.{head_of, rest_size, wants_head, may_follow}
 use Rattle.tlp_layout.specs.Tlp.{body_size}
 use Rattle.first_fault.proofs.Cells.{IsBytes}
 use Rattle.ide_prefix.proofs.Grammar.{IsWalkedPacket, needs_at, walks_from, walked_early, walked_late, size_at_least, size_front, size_carried, size_sync, packets, packet_of, sync_spells, carried_spells}
-use Rattle.tlp_layout.proofs.Heads.{layout_of, IsRight, kept, again}
+use Rattle.tlp_layout.specs.Class.{layout_of}
+use Rattle.tlp_layout.proofs.Heads.{IsRight, kept, again}
 use Rattle.tlp_layout.proofs.Walk.{body_at_most, IsWalked, fits_from, head_size_at_least}
 use denote.Ref.{Bor}
 use Rattle.std.proofs.lemmas.Bool.{cases_lt, cases_eq, cases_Bool, ltb-true, lt-ltb, le-ltb, eq-eqb, eqb-true, ne_eqb, and_from, true≢false}
@@ -69,34 +72,34 @@ sync_fault s f place fit early y h =
 
 -- the walk of a header's front, as the packet's
 head_walked : (s : List ℕ) (place : ℕ) → IsBytes s → 5 ≤ length s → ((i : ℕ) → i < 5 → fits_early i s (get_or s i 0) ≡ true) → sync_at s ≡ false
-    → place ≤ length (front_of s) → Walks wants_head may_follow (take place (front_of s)) → IsWalkedPacket s (4 + place)
+    → place ≤ length (head_slice s) → Walks wants_head may_follow (take place (head_slice s)) → IsWalkedPacket s (4 + place)
 head_walked s place fit long early plain le w = record {
   fit = λ i lt. fit i;
   early = λ i lt few. early i few;
   zeros = λ y i many lt less. absurd (true≢false (sym y ∙ plain));
   late = λ n i many lt.
       let size = head_size (get_or s 4 0) in
-      let len : length (front_of s) ≤ size = omega (arith, length-take size (drop 4 s)) in
-      let inside : i - 4 < length (take place (front_of s)) = omega (arith, length-take place (front_of s)) in
-      let t : may_follow (take (i - 4) (take place (front_of s))) (get_or (take place (front_of s)) (i - 4) 0) ≡ true = w.fitting (i - 4) inside in
+      let len : length (head_slice s) ≤ size = omega (arith, length-take size (drop 4 s)) in
+      let inside : i - 4 < length (take place (head_slice s)) = omega (arith, length-take place (head_slice s)) in
+      let t : may_follow (take (i - 4) (take place (head_slice s))) (get_or (take place (head_slice s)) (i - 4) 0) ≡ true = w.fitting (i - 4) inside in
       let l1 : i - 4 < place = omega arith in
       let l2 : i - 4 < size = omega arith in
       let l3 : i - 4 ≤ place = omega arith in
       let l4 : i - 4 ≤ size = omega arith in
       let j : 4 + (i - 4) ≡ i = omega arith in
-      rw (take-take (i - 4) place (front_of s) l3, take-take (i - 4) size (drop 4 s) l4, get_or-take place (front_of s) (i - 4) 0 l1, get_or-take size (drop 4 s) (i - 4) 0 l2, get_or-drop 4 s (i - 4) 0, j) at t;
+      rw (take-take (i - 4) place (head_slice s) l3, take-take (i - 4) size (drop 4 s) l4, get_or-take place (head_slice s) (i - 4) 0 l1, get_or-take size (drop 4 s) (i - 4) 0 l2, get_or-drop 4 s (i - 4) 0, j) at t;
 }
 
 -- a header's front is not off at its first byte, where the packet's byte 4 is right
-some_kind : (sub : SubKind) (b : ℕ) (o : Option Layout) → carries sub b o ≡ true → is_some o ≡ true
-some_kind sub b None e = absurd cc
-some_kind sub b (Some k) e = refl
+some_kind : (sub : SubKind) (p : Bool) (o : Option Layout) → belongs sub (kind_among o p) ≡ true → is_some o ≡ true
+some_kind sub p None e = absurd cc
+some_kind sub p (Some k) e = refl
 
 begins_head : (s : List ℕ) → IsBytes s → 5 ≤ length s → ((i : ℕ) → i < 5 → fits_early i s (get_or s i 0) ≡ true) → sync_at s ≡ false → IsTrue (may_follow [] (get_or s 4 0))
 begins_head s fit long early plain =
-    let first : cond (sync_at s) (cond (prefix_of s).m (not (prefix_of s).t) false) (carries (prefix_of s).sub (get_or s 4 0) (layout_at (get_or s 4 0))) ≡ true = early 4 (omega arith) in
-    let c : carries (prefix_of s).sub (get_or s 4 0) (layout_at (get_or s 4 0)) ≡ true = rw plain at first in
-    and_from _ _ (lt-ltb _ _ (fit 4)) (some_kind (prefix_of s).sub (get_or s 4 0) (layout_at (get_or s 4 0)) c)
+    let first : cond (sync_at s) (cond (prefix_read s).m (not (prefix_read s).t) false) (belongs (prefix_read s).sub (kind_at (get_or s 4 0))) ≡ true = early 4 (omega arith) in
+    let c : belongs (prefix_read s).sub (kind_at (get_or s 4 0)) ≡ true = rw plain at first in
+    and_from _ _ (lt-ltb _ _ (fit 4)) (some_kind (prefix_read s).sub (has_data (get_or s 4 0)) (layout_at (get_or s 4 0)) c)
 
 shifted_cause : (p b : ℕ) → shifted (cause_at p b) ≡ Tlp (moved (cause_at p b))
 shifted_cause p b = elim (cases_eq p 2) [
@@ -112,7 +115,7 @@ shifted_cause p b = elim (cases_eq p 2) [
 
 pub header_fault : (s : List ℕ) (f : PacketFault) → IsBytes s → 5 ≤ length s → ((i : ℕ) → i < 5 → fits_early i s (get_or s i 0) ≡ true) → sync_at s ≡ false → StopsInHead s f → GoesOff s f
 header_fault s f fit long early plain h =
-    let front = front_of s in
+    let front = head_slice s in
     let size = head_size (get_or s 4 0) in
     let p = h.1.0 in
     let halts = halts_of IsHead wants_head may_follow front p heads readable_heads.whole h.1.1 in
@@ -161,9 +164,9 @@ whole_walk s size wanted fit long early z = record {
       let h = z.header plain in
       let t = drop 4 s in
       let hs = head_size (get_or s 4 0) in
-      let r = is_right (front_of s) (record { head = h.0; spells = h.1 }) in
+      let r = is_right (head_slice s) (record { head = h.0; spells = h.1 }) in
       let rest : IsBytes (drop hs t) = λ j. rw (get_or-drop, get_or-drop) (fit (4 + (hs + j))) in
-      let w = subst (λ (x : List ℕ). IsWalked r.0 x (length x)) (take-append-drop hs t) (walked_of r.0 (front_of s) (drop hs t) r.1 rest) in
+      let w = subst (λ (x : List ℕ). IsWalked r.0 x (length x)) (take-append-drop hs t) (walked_of r.0 (head_slice s) (drop hs t) r.1 rest) in
       let j : 4 + (i - 4) ≡ i = omega arith in
       let t : may_follow (take (i - 4) t) (get_or t (i - 4) 0) ≡ true = fits_from r.0 t (length t) w (omega arith) (i - 4) (omega (arith, length-drop 4 s)) in
       rw (get_or-drop 4 s (i - 4) 0, j) at t;
@@ -199,7 +202,7 @@ trailing_fault s size wanted place fit long early z e lt =
     let front : packet_size (take place s) ≡ packet_size s = size_front place s (omega arith) in
     let len : length (take place s) ≡ place = omega (arith, length-take place s) in
     let w = walked_part s place (omega arith) (whole_walk s size wanted fit long early z) in
-    let clear : 4 + clear_size (prefix_of s).sub (get_or s 4 0) ≤ place = omega (arith, z.size_is) in (
+    let clear : 4 + clear_size (prefix_read s).sub (get_or s 4 0) ≤ place = omega (arith, z.size_is) in (
       place,
       place_of IsPacket wants_packet packet_may_follow s place packets (record {
         within = omega arith;
@@ -207,7 +210,7 @@ trailing_fault s size wanted place fit long early z e lt =
         off = λ less n t. let more : length (take place s) < packet_size (take place s) = ltb-true _ _ n in omega (arith, more, len, front);
         short = λ past. absurd (omega arith);
       }),
-      rw (ne_eqb place (length s) (λ x. omega arith), le-ltb place 5 (omega arith), le-ltb place (4 + clear_size (prefix_of s).sub (get_or s 4 0)) clear) refl,
+      rw (ne_eqb place (length s) (λ x. omega arith), le-ltb place 5 (omega arith), le-ltb place (4 + clear_size (prefix_read s).sub (get_or s 4 0)) clear) refl,
     )
 
 clear_size_at_least : (sub : SubKind) (b : ℕ) → 12 ≤ clear_size sub b
@@ -224,9 +227,9 @@ spells_cut s head body tag size wanted fit long early z e eh eb et =
     let total : length s ≡ packet_size s = e ∙ sym (total_is s size wanted z) in
     let a = z.size_is in
     let b = z.wanted_is in
-    let some : 0 < size = omega (arith, z.size_is, clear_size_at_least (prefix_of s).sub (get_or s 4 0)) in
+    let some : 0 < size = omega (arith, z.size_is, clear_size_at_least (prefix_read s).sub (get_or s 4 0)) in
     let zeroth : get_or head 0 0 ≡ get_or s 4 0 = ap (λ (x : List ℕ). get_or x 0 0) eh ∙ get_or-take size (drop 4 s) 0 0 some ∙ get_or-drop 4 s 0 0 in
-    let flag : sync_at s ≡ begins_sync (prefix_of s).sub (get_or head 0 0) = ap (begins_sync (prefix_of s).sub) (sym zeroth) in
+    let flag : sync_at s ≡ begins_sync (prefix_read s).sub (get_or head 0 0) = ap (begins_sync (prefix_read s).sub) (sym zeroth) in
     elim (cases_Bool (sync_at s)) [
       | inl y ↦
           let a' : size ≡ 12 = rw y at a in
@@ -251,11 +254,11 @@ header_sizes s wanted long plain h =
     let size = head_size (get_or s 4 0) in
     let some : 12 ≤ size = head_size_at_least (get_or s 4 0) in
     let k = layout_of h.head.fields in
-    let r : IsRight k (front_of s) = subst (IsRight k) (sym h.spells.spelled) (kept h.head h.spells.fits) in
-    let first : get_or (front_of s) 0 0 ≡ get_or s 4 0 = get_or-take size (drop 4 s) 0 0 (omega arith) ∙ get_or-drop 4 s 0 0 in
-    let same : head_of k (front_of s) ≡ h.head = ap (head_of k) (h.spells.spelled ∙ sym (append-nil (head_bytes h.head))) ∙ again h.head [] h.spells.fits in
-    let wants : rest_size (front_of s) ≡ body_size h.head.has_payload h.head.lead.length = ap (λ (x : HeadView). body_size x.has_payload x.lead.length) same in
-    let front : rest_size (front_of s) ≡ rest_size (drop 4 s) = rest_front size (drop 4 s) (omega arith) in
+    let r : IsRight k (head_slice s) = subst (IsRight k) (sym h.spells.spelled) (kept h.head h.spells.fits) in
+    let first : get_or (head_slice s) 0 0 ≡ get_or s 4 0 = get_or-take size (drop 4 s) 0 0 (omega arith) ∙ get_or-drop 4 s 0 0 in
+    let same : head_of k (head_slice s) ≡ h.head = ap (head_of k) (h.spells.spelled ∙ sym (append-nil (head_bytes h.head))) ∙ again h.head [] h.spells.fits in
+    let wants : rest_size (head_slice s) ≡ body_size h.head.has_payload h.head.lead.length = ap (λ (x : HeadView). body_size x.has_payload x.lead.length) same in
+    let front : rest_size (head_slice s) ≡ rest_size (drop 4 s) = rest_front size (drop 4 s) (omega arith) in
     record {
       size_is = rw plain refl;
       within = omega (arith, r.size, ap head_size first, length-take size (drop 4 s), length-drop 4 s);
@@ -269,7 +272,7 @@ pub tag_long : (s : List ℕ) (size wanted : ℕ) → length s ≡ 4 + size + wa
 tag_long s size wanted e = omega (arith, e, length-drop wanted (drop size (drop 4 s)), length-drop size (drop 4 s), length-drop 4 s)
 
 -- what `as_array` gives of the bytes behind the payload: the tag where M is set
-tag_is : (o : Option (Bor (List ℕ))) (t : List ℕ) (m : Bool) → length t ≡ cond m 12 0 → MatchOption o (length t ≡ 12 → ⊥) (λ y. IsWholeChunk t y.now 12) → (tag_of o ≡ t) × (is_some o ≡ m)
+tag_is : (o : Option (Bor (List ℕ))) (t : List ℕ) (m : Bool) → length t ≡ cond m 12 0 → MatchOption o (length t ≡ 12 → ⊥) (λ y. IsWholeChunk t y.now 12) → (lent_tag o ≡ t) × (is_some o ≡ m)
 tag_is None t true e h = absurd (h e)
 tag_is None t false e h = (sym (nil_from_length t e), refl)
 tag_is (Some y) t true e h = (h.same, refl)
@@ -279,10 +282,10 @@ abbrev pub packet_from : Prefix → List ℕ → List ℕ → List ℕ → Packe
 packet_from p h b t = record { prefix = p; head = h; body = b; tag = t }
 
 pub is_cut : (s head body rest : List ℕ) (o : Option (Bor (List ℕ))) (size wanted : ℕ) (p : Prefix) (sync : Bool) → IsBytes s → 5 ≤ length s → ((i : ℕ) → i < 5 → fits_early i s (get_or s i 0) ≡ true) → SizesAre s size wanted
-    → length s ≡ 4 + size + wanted + tag_part s → p ≡ prefix_of s → sync ≡ sync_at s → head ≡ take size (drop 4 s) → body ≡ take wanted (drop size (drop 4 s)) → rest ≡ drop wanted (drop size (drop 4 s))
+    → length s ≡ 4 + size + wanted + tag_part s → p ≡ prefix_read s → sync ≡ sync_at s → head ≡ take size (drop 4 s) → body ≡ take wanted (drop size (drop 4 s)) → rest ≡ drop wanted (drop size (drop 4 s))
     → MatchOption o (length rest ≡ 12 → ⊥) (λ y. IsWholeChunk rest y.now 12)
-    → SpellsPacket (packet_from p head body (tag_of o)) s × (FitsPacket (packet_from p head body (tag_of o)) × (sync ≡ is_sync_packet (packet_from p head body (tag_of o))) × (is_some o ≡ p.m))
+    → SpellsPacket (packet_from p head body (lent_tag o)) s × (FitsPacket (packet_from p head body (lent_tag o)) × (sync ≡ is_sync_packet (packet_from p head body (lent_tag o))) × (is_some o ≡ p.m))
 is_cut s head body rest o size wanted p sync fit long early z e ep es eh eb er m =
-    let t = tag_is o rest (prefix_of s).m (ap length er ∙ tag_long s size wanted e) m in
-    let r = spells_cut s head body (tag_of o) size wanted fit long early z e eh eb (t.0 ∙ er) in
+    let t = tag_is o rest (prefix_read s).m (ap length er ∙ tag_long s size wanted e) m in
+    let r = spells_cut s head body (lent_tag o) size wanted fit long early z e eh eb (t.0 ∙ er) in
     rw (ep, es) (r.0, (r.0.fits, r.1, t.1))

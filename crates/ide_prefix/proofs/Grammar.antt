@@ -1,29 +1,29 @@
--- Packets are a grammar, byte by byte.
+-- Packets are a grammar, byte by byte: what is spelled walks; what walks and wants no more is spelled by its parts, a prefix
+-- that its flags give back, a header that is right, the payload that it wants, and the tag; and else a byte more may follow.
 use Rattle.std.proofs.Common.{◌≡◌, ℕ, zero, suc, ◌+◌, ◌-◌, ◌*◌, ◌/◌, ◌%◌, ◌<◌, ◌≤◌, Bool, true, false, cond, eqb, ltb, IsTrue, ◌&&◌, not, List, [], ◌∷◌, ◌++◌, length, get_or, take, drop, replicate, Option, Some, None, refl, sym, ap, subst, ◌∙◌, inl, inr, arith, length-append, length-take, length-drop, get_or-take, get_or-drop, take-append-drop}
 use Rattle.std.specs.Prelude.{All}
 use Rattle.std.proofs.lemmas.Bool.{true≢false, cases_lt, cases_eq, cases_Bool, ltb-true, lt-ltb, le-ltb, eq-eqb, eqb-true, ne_eqb, and_parts, and_from, agree_below_at}
-use Rattle.std.proofs.lemmas.List.{drop-take, get_or_past, get_or-replicate, get_or_append_left, get_or-append_right, get_or_push, take_at}
+use Rattle.std.proofs.lemmas.List.{ext_get_or, drop-take, get_or_past, get_or-replicate, get_or_append_left, get_or-append_right, get_or_push, take_at}
 use Rattle.std.proofs.lemmas.List.Elements.{All-from_get_or}
 use Rattle.tlp_layout.specs.declared.layout.Layout.{Layout}
 use Rattle.tlp_layout.specs.declared.layout.Layout.TheVariants as layouts
 use Rattle.ide_types.specs.declared.sub.SubKind.{SubKind}
 use Rattle.ide_types.specs.declared.sub.SubKind.TheVariants.{Pr, Npr, Cpl}
 use Rattle.tlp_layout.specs.declared.head.HeadView.{HeadView}
-use Rattle.tlp_layout.specs.declared.head.Fields.{Fields}
-use Rattle.tlp_layout.specs.declared.head.Fields.TheVariants as fields
-use Rattle.tlp_layout.specs.Head.{bit}
+use Rattle.tlp_layout.specs.Numbers.{bit}
 use Rattle.ide_prefix.specs.Reading.{sync_at, tag_part, packet_size, wants_packet, fits_late, packet_may_follow}
-use Rattle.ide_prefix.specs.Causes.{sub_from, prefix_of, layout_class, carries, fits_first, fits_early}
+use Rattle.ide_prefix.specs.Causes.{sub_from, prefix_read, belongs, fits_first, fits_early}
 use Rattle.ide_prefix.specs.Packet.{prefix_bytes, packet_bytes, Packet, IsCarried, IsSync, FitsPrefix, FitsPacket, SpellsPacket, IsPacket, sync_head, begins_sync}
 use Rattle.ide_types.specs.Sub.{sub_bits}
 use Rattle.tlp_layout.specs.Causes.{head_size, has_data, layout_at}
-use Rattle.tlp_layout.specs.Class.{class_of}
-use Rattle.tlp_layout.specs.Reading.{head_of, fields_of, rest_size, may_follow, whole_size}
+use Rattle.tlp_layout.specs.Class.{class_of, kind_class, kind_with, kind_at, kind_among}
+use Rattle.tlp_layout.specs.Reading.{head_of, rest_size, may_follow, whole_size}
 use Rattle.tlp_layout.specs.Tlp.{body_size}
 use Rattle.first_fault.proofs.Cells.{IsBytes, cells, drop_cells, all_bytes}
-use Rattle.ide_prefix.proofs.Units.{class_from, Prefix-of, flags, not_sync}
-use Rattle.tlp_layout.proofs.Heads.{layout_of, IsRight, kept, again, back}
-use Rattle.tlp_layout.proofs.Walk.{IsWalked, fits_from, agrees_there, head_size_at_least, head_size_at_most, body_at_most, length_byte, length_allowed, zero_allowed}
+use Rattle.ide_prefix.proofs.Units.{Prefix-of, flags, parts_of, bit_small, sub_small, sub_again, low_flags, not_sync}
+use Rattle.tlp_layout.specs.Class.{layout_of}
+use Rattle.tlp_layout.proofs.Heads.{IsRight, kept, again, back}
+use Rattle.tlp_layout.proofs.Walk.{IsWalked, fits_from, agrees_there, head_size_at_least, head_size_at_most, body_at_most, next_tlp, next_fits}
 use Rattle.first_fault.proofs.Fronts.{Walks, IsGrammar, IsStepped, grammar_of}
 use Rattle.tlp_layout.proofs.Grammar.{take_right, rest_front, walked_of}
 use Rattle.ide_prefix.specs.declared.packet.Prefix.{Prefix}
@@ -38,7 +38,7 @@ pub record IsWalkedPacket (s : List ℕ) (n : ℕ) : Type 0 where
 
 -- ---- what a front says
 
-prefix_front : (n : ℕ) (s : List ℕ) → 4 ≤ n → prefix_of (take n s) ≡ prefix_of s
+prefix_front : (n : ℕ) (s : List ℕ) → 4 ≤ n → prefix_read (take n s) ≡ prefix_read s
 prefix_front n s le =
     let l1 : 1 < n = omega arith in
     let l2 : 2 < n = omega arith in
@@ -56,8 +56,8 @@ early_front s (suc (suc (suc (suc (suc i))))) b lt = absurd (omega arith)
 sync_front : (n : ℕ) (s : List ℕ) → 5 ≤ n → sync_at (take n s) ≡ sync_at s
 sync_front n s le =
     let l4 : 4 < n = omega arith in
-    let p : prefix_of (take n s) ≡ prefix_of s = prefix_front n s (omega arith) in
-    ap (λ (x : Prefix). begins_sync x.sub (get_or (take n s) 4 0)) p ∙ ap (begins_sync (prefix_of s).sub) (get_or-take n s 4 0 l4)
+    let p : prefix_read (take n s) ≡ prefix_read s = prefix_front n s (omega arith) in
+    ap (λ (x : Prefix). begins_sync x.sub (get_or (take n s) 4 0)) p ∙ ap (begins_sync (prefix_read s).sub) (get_or-take n s 4 0 l4)
 
 drop_front : (n : ℕ) (s : List ℕ) → 4 ≤ n → drop 4 (take n s) ≡ take (n - 4) (drop 4 s)
 drop_front n s le =
@@ -135,37 +135,24 @@ flags_test b lt e =
     let t = agree_below_at flags_fit (λ b. flags_fit b && eqb (128 * bit (eqb (b / 128) 1) + 64 * bit (eqb (b / 64 % 2) 1) + 32 * bit (eqb (b / 32 % 2) 1) + sub_bits (sub_from (b % 8))) b) 256 b refl lt in
     eqb-true _ _ (and_parts (flags_fit b) _ (sym t ∙ e)).1
 
-prefix_is_front : (s : List ℕ) → 4 ≤ length s → IsWalkedPacket s (length s) → prefix_bytes (prefix_of s) ≡ cells 4 0 s
+prefix_is_front : (s : List ℕ) → 4 ≤ length s → IsWalkedPacket s (length s) → prefix_bytes (prefix_read s) ≡ cells 4 0 s
 prefix_is_front s le w =
-    let e0 : get_or s 0 0 ≡ 146 = eqb-true _ _ (w.early 0 (omega arith) (omega arith)) in
+    let e0 : get_or s 0 0 ≡ 0x92 = eqb-true _ _ (w.early 0 (omega arith) (omega arith)) in
     let e1 = flags_test (get_or s 1 0) (w.fit 1 (omega arith)) (w.early 1 (omega arith) (omega arith)) in
     cc
 
-sub_again : (x : SubKind) → sub_from (sub_bits x) ≡ x
-sub_again Pr = refl
-sub_again Npr = refl
-sub_again Cpl = refl
-
 -- what byte 4 of a packet that carries a TLP says
-carried_first : (sub : SubKind) (b : ℕ) (o : Option Layout) → carries sub b o ≡ true → (k : Layout) × (o ≡ Some k) × (layout_class k (has_data b) ≡ sub)
-carried_first sub b None e = absurd cc
-carried_first sub b (Some k) e = (k, refl, sym (sub_again (layout_class k (has_data b))) ∙ ap sub_from (eqb-true _ _ e) ∙ sub_again sub)
+carried_first : (sub : SubKind) (p : Bool) (o : Option Layout) → belongs sub (kind_among o p) ≡ true
+    → (k : Layout) × (o ≡ Some k) × (kind_class (kind_with k p) ≡ sub)
+carried_first sub p None e = absurd cc
+carried_first sub p (Some k) e =
+    (k, refl, sym (sub_again (kind_class (kind_with k p))) ∙ ap sub_from (eqb-true _ _ e) ∙ sub_again sub)
 
-class_again : (p : Bool) (f : Fields) → class_from p f ≡ layout_class (layout_of f) p
-class_again true (fields.Memory f) = refl
-class_again false (fields.Memory f) = refl
-class_again true (fields.Config f) = refl
-class_again false (fields.Config f) = refl
-class_again true (fields.Message f) = refl
-class_again false (fields.Message f) = refl
-class_again true (fields.Completion f) = refl
-class_again false (fields.Completion f) = refl
-
-class_is : (k : Layout) (s : List ℕ) → class_of (head_of k s) ≡ layout_class k (has_data (get_or s 0 0))
-class_is layouts.Memory s = class_again (has_data (get_or s 0 0)) (fields_of layouts.Memory s)
-class_is layouts.Config s = class_again (has_data (get_or s 0 0)) (fields_of layouts.Config s)
-class_is layouts.Message s = class_again (has_data (get_or s 0 0)) (fields_of layouts.Message s)
-class_is layouts.Completion s = class_again (has_data (get_or s 0 0)) (fields_of layouts.Completion s)
+class_is : (k : Layout) (s : List ℕ) → class_of (head_of k s) ≡ kind_class (kind_with k (has_data (get_or s 0 0)))
+class_is layouts.Memory s = refl
+class_is layouts.Config s = refl
+class_is layouts.Message s = refl
+class_is layouts.Completion s = refl
 
 part_bytes : (s : List ℕ) → IsBytes s → (n m : ℕ) → All (λ b. b < 256) (take m (drop n s))
 part_bytes s fit n m = All-from_get_or (λ (b : ℕ). b < 256) (take m (drop n s)) 0 (λ i lt.
@@ -190,7 +177,7 @@ pr_only n e = elim (cases_eq n 0) [
   ]
 ]
 
-fits_prefix : (s : List ℕ) → 4 ≤ length s → IsWalkedPacket s (length s) → FitsPrefix (prefix_of s)
+fits_prefix : (s : List ℕ) → 4 ≤ length s → IsWalkedPacket s (length s) → FitsPrefix (prefix_read s)
 fits_prefix s le w = record {
   stream = w.fit 2 (omega arith);
   posted = w.fit 3 (omega arith);
@@ -201,11 +188,11 @@ fits_prefix s le w = record {
 }
 
 -- behind the prefix a TLP's header walks
-pub tail_walked : (s : List ℕ) → 5 ≤ length s → IsWalkedPacket s (length s) → sync_at s ≡ false → (k : Layout) × IsWalked k (drop 4 s) (length (drop 4 s)) × (layout_class k (has_data (get_or s 4 0)) ≡ (prefix_of s).sub)
+pub tail_walked : (s : List ℕ) → 5 ≤ length s → IsWalkedPacket s (length s) → sync_at s ≡ false → (k : Layout) × IsWalked k (drop 4 s) (length (drop 4 s)) × (kind_class (kind_with k (has_data (get_or s 4 0))) ≡ (prefix_read s).sub)
 tail_walked s le w n =
-    let first : cond (sync_at s) (cond (prefix_of s).m (not (prefix_of s).t) false) (carries (prefix_of s).sub (get_or s 4 0) (layout_at (get_or s 4 0))) ≡ true = w.early 4 (omega arith) (omega arith) in
-    let c : carries (prefix_of s).sub (get_or s 4 0) (layout_at (get_or s 4 0)) ≡ true = rw n at first in
-    let k = carried_first (prefix_of s).sub (get_or s 4 0) (layout_at (get_or s 4 0)) c in
+    let first : cond (sync_at s) (cond (prefix_read s).m (not (prefix_read s).t) false) (belongs (prefix_read s).sub (kind_at (get_or s 4 0))) ≡ true = w.early 4 (omega arith) (omega arith) in
+    let c : belongs (prefix_read s).sub (kind_at (get_or s 4 0)) ≡ true = rw n at first in
+    let k = carried_first (prefix_read s).sub (has_data (get_or s 4 0)) (layout_at (get_or s 4 0)) c in
     let zeroth : get_or (drop 4 s) 0 0 ≡ get_or s 4 0 = get_or-drop 4 s 0 0 in
     let kind : layout_at (get_or (drop 4 s) 0 0) ≡ Some k.0 = ap layout_at zeroth ∙ k.1 in (
       k.0,
@@ -222,7 +209,7 @@ tail_walked s le w n =
     )
 
 abbrev pub packet_of : List ℕ → List ℕ → List ℕ → List ℕ → Packet
-packet_of s h b t = record { prefix = prefix_of s; head = h; body = b; tag = t }
+packet_of s h b t = record { prefix = prefix_read s; head = h; body = b; tag = t }
 
 take_cells : (s : List ℕ) → 4 ≤ length s → take 4 s ≡ cells 4 0 s
 take_cells s le =
@@ -230,9 +217,9 @@ take_cells s le =
     drop_cells 4 0 (take 4 s) long ∙ rw (get_or-take 4 s 0 0 (omega arith), get_or-take 4 s 1 0 (omega arith), get_or-take 4 s 2 0 (omega arith), get_or-take 4 s 3 0 (omega arith)) refl
 
 -- four bytes, and the rest
-parts_are : (s : List ℕ) → 5 ≤ length s → IsWalkedPacket s (length s) → s ≡ prefix_bytes (prefix_of s) ++ drop 4 s
+parts_are : (s : List ℕ) → 5 ≤ length s → IsWalkedPacket s (length s) → s ≡ prefix_bytes (prefix_read s) ++ drop 4 s
 parts_are s le w =
-    let front : take 4 s ≡ prefix_bytes (prefix_of s) = take_cells s (omega arith) ∙ sym (prefix_is_front s (omega arith) w) in
+    let front : take 4 s ≡ prefix_bytes (prefix_read s) = take_cells s (omega arith) ∙ sym (prefix_is_front s (omega arith) w) in
     sym (take-append-drop 4 s) ∙ ap (λ (x : List ℕ). x ++ drop 4 s) front
 
 pub size_carried : (s : List ℕ) → sync_at s ≡ false → packet_size s ≡ 4 + whole_size (drop 4 s) + tag_part s
@@ -264,43 +251,31 @@ carried_spells s le w n size =
         carries = inl (record {
           head = head_of k.0 (take hs t);
           spells = spells;
-          class = class_is k.0 (take hs t) ∙ ap (λ (b : ℕ). layout_class k.0 (has_data b)) first ∙ k.2;
+          class = class_is k.0 (take hs t) ∙ ap (λ (b : ℕ). kind_class (kind_with k.0 (has_data b))) first ∙ k.2;
           size = omega (arith, wants, long, length-take r (drop hs t), length-drop hs t);
         });
         body = part_bytes t (λ i. rw get_or-drop (all (4 + i))) hs r;
         tag = rest_bytes (drop hs t) (λ i. rw (get_or-drop, get_or-drop) (all (4 + (hs + i)))) r;
         tag_size = omega (arith, long, length-drop r (drop hs t), length-drop hs t);
       };
-      spelled = parts_are s le w ∙ ap (λ (x : List ℕ). prefix_bytes (prefix_of s) ++ x) (sym (take-append-drop hs t) ∙ ap (λ (x : List ℕ). take hs t ++ x) (sym (take-append-drop r (drop hs t))));
+      spelled = parts_are s le w ∙ ap (λ (x : List ℕ). prefix_bytes (prefix_read s) ++ x) (sym (take-append-drop hs t) ∙ ap (λ (x : List ℕ). take hs t ++ x) (sym (take-append-drop r (drop hs t))));
     }
 
 -- ---- sync packets
 
-twelve : (x : List ℕ) → length x ≡ 12 → get_or x 0 0 ≡ 52 → ((i : ℕ) → 0 < i → i < 12 → get_or x i 0 ≡ 0) → x ≡ sync_head
-twelve x long first zeros =
-    let z1 = zeros 1 (omega arith) (omega arith) in
-    let z2 = zeros 2 (omega arith) (omega arith) in
-    let z3 = zeros 3 (omega arith) (omega arith) in
-    let z4 = zeros 4 (omega arith) (omega arith) in
-    let z5 = zeros 5 (omega arith) (omega arith) in
-    let z6 = zeros 6 (omega arith) (omega arith) in
-    let z7 = zeros 7 (omega arith) (omega arith) in
-    let z8 = zeros 8 (omega arith) (omega arith) in
-    let z9 = zeros 9 (omega arith) (omega arith) in
-    let z10 = zeros 10 (omega arith) (omega arith) in
-    let z11 = zeros 11 (omega arith) (omega arith) in
-    drop_cells 12 0 x long ∙ rw (first, z1, z2, z3, z4, z5, z6, z7, z8, z9, z10, z11) refl
+sync_zero : (i : ℕ) → 0 < i → i < 12 → get_or sync_head i 0 ≡ 0
+sync_zero zero pos lt = absurd (omega arith)
+sync_zero (suc i) pos lt = get_or-replicate 11 i 0 0 (omega arith)
 
-npr_is : Npr ≡ Pr → ⊥
-npr_is e = absurd cc
+twelve_at : (x : List ℕ) → get_or x 0 0 ≡ 0x34 → ((i : ℕ) → 0 < i → i < 12 → get_or x i 0 ≡ 0) → (i : ℕ) → i < 12
+    → get_or x i 0 ≡ get_or sync_head i 0
+twelve_at x first zeros zero lt = first
+twelve_at x first zeros (suc i) lt = zeros (suc i) (omega arith) lt ∙ sym (sync_zero (suc i) (omega arith) lt)
 
-cpl_is : Cpl ≡ Pr → ⊥
-cpl_is e = absurd cc
-
-sync_first : (sub : SubKind) (b : ℕ) → begins_sync sub b ≡ true → (b ≡ 52) × (sub ≡ Pr → ⊥)
-sync_first Pr b e = absurd cc
-sync_first Npr b e = (eqb-true _ _ e, npr_is)
-sync_first Cpl b e = (eqb-true _ _ e, cpl_is)
+sync_of : (sub : SubKind) (b : ℕ) → begins_sync sub b ≡ true → (b ≡ 0x34) × (sub ≡ Pr → ⊥)
+sync_of Pr b e = absurd cc
+sync_of Npr b e = (eqb-true _ _ e, λ is. absurd cc)
+sync_of Cpl b e = (eqb-true _ _ e, λ is. absurd cc)
 
 flags_are : (m t : Bool) → cond m (not t) false ≡ true → (m ≡ true) × (t ≡ false)
 flags_are true true e = absurd cc
@@ -311,15 +286,15 @@ pub sync_spells : (s : List ℕ) → 5 ≤ length s → IsWalkedPacket s (length
 sync_spells s le w y size =
     let all : IsBytes s = bytes_of s w in
     let long : length s ≡ 16 + tag_part s = size ∙ size_sync s y in
-    let f = sync_first (prefix_of s).sub (get_or s 4 0) y in
-    let first : cond (sync_at s) (cond (prefix_of s).m (not (prefix_of s).t) false) (carries (prefix_of s).sub (get_or s 4 0) (layout_at (get_or s 4 0))) ≡ true = w.early 4 (omega arith) (omega arith) in
-    let flags : cond (prefix_of s).m (not (prefix_of s).t) false ≡ true = rw y at first in
-    let mt = flags_are (prefix_of s).m (prefix_of s).t flags in
+    let f = sync_of (prefix_read s).sub (get_or s 4 0) y in
+    let first : cond (sync_at s) (cond (prefix_read s).m (not (prefix_read s).t) false) (belongs (prefix_read s).sub (kind_at (get_or s 4 0))) ≡ true = w.early 4 (omega arith) (omega arith) in
+    let flags : cond (prefix_read s).m (not (prefix_read s).t) false ≡ true = rw y at first in
+    let mt = flags_are (prefix_read s).m (prefix_read s).t flags in
     let t = drop 4 s in
     let wide : length (take 12 t) ≡ 12 = omega (arith, length-take 12 t, length-drop 4 s, long) in
-    let zeroth : get_or (take 12 t) 0 0 ≡ 52 = get_or-take 12 t 0 0 (omega arith) ∙ get_or-drop 4 s 0 0 ∙ f.0 in
+    let zeroth : get_or (take 12 t) 0 0 ≡ 0x34 = get_or-take 12 t 0 0 (omega arith) ∙ get_or-drop 4 s 0 0 ∙ f.0 in
     let zeros : (i : ℕ) → 0 < i → i < 12 → get_or (take 12 t) i 0 ≡ 0 = λ i pos lt. get_or-take 12 t i 0 lt ∙ get_or-drop 4 s i 0 ∙ w.zeros y (4 + i) (omega arith) (omega (arith, long)) (omega arith) in
-    let head = twelve (take 12 t) wide zeroth zeros in (
+    let head = ext_get_or 0 (take 12 t) sync_head wide (λ i lt. twelve_at (take 12 t) zeroth zeros i (omega (arith, wide))) in (
       record {
         fits = record {
           prefix = fits_prefix s (omega arith) w;
@@ -328,7 +303,7 @@ sync_spells s le w y size =
           tag = rest_bytes t (λ i. rw get_or-drop (all (4 + i))) 12;
           tag_size = omega (arith, long, length-drop 12 t, length-drop 4 s);
         };
-        spelled = parts_are s le w ∙ ap (λ (x : List ℕ). prefix_bytes (prefix_of s) ++ x) (sym (take-append-drop 12 t));
+        spelled = parts_are s le w ∙ ap (λ (x : List ℕ). prefix_bytes (prefix_read s) ++ x) (sym (take-append-drop 12 t));
       },
       record { head = head; body = refl; sub = f.1; m = mt.0; t = mt.1 },
     )
@@ -357,65 +332,19 @@ packet_whole s w done =
 
 -- ---- what is spelled walks
 
-pub prefix_again : (m k t : Bool) (sub : SubKind) (stream posted : ℕ) (x : List ℕ) → prefix_of (prefix_bytes (Prefix-of m k t sub stream posted) ++ x) ≡ Prefix-of m k t sub stream posted
-prefix_again true true true Pr stream posted x = refl
-prefix_again true true true Npr stream posted x = refl
-prefix_again true true true Cpl stream posted x = refl
-prefix_again true true false Pr stream posted x = refl
-prefix_again true true false Npr stream posted x = refl
-prefix_again true true false Cpl stream posted x = refl
-prefix_again true false true Pr stream posted x = refl
-prefix_again true false true Npr stream posted x = refl
-prefix_again true false true Cpl stream posted x = refl
-prefix_again true false false Pr stream posted x = refl
-prefix_again true false false Npr stream posted x = refl
-prefix_again true false false Cpl stream posted x = refl
-prefix_again false true true Pr stream posted x = refl
-prefix_again false true true Npr stream posted x = refl
-prefix_again false true true Cpl stream posted x = refl
-prefix_again false true false Pr stream posted x = refl
-prefix_again false true false Npr stream posted x = refl
-prefix_again false true false Cpl stream posted x = refl
-prefix_again false false true Pr stream posted x = refl
-prefix_again false false true Npr stream posted x = refl
-prefix_again false false true Cpl stream posted x = refl
-prefix_again false false false Pr stream posted x = refl
-prefix_again false false false Npr stream posted x = refl
-prefix_again false false false Cpl stream posted x = refl
+pub prefix_again : (m k t : Bool) (sub : SubKind) (stream posted : ℕ) (x : List ℕ)
+    → prefix_read (prefix_bytes (Prefix-of m k t sub stream posted) ++ x) ≡ Prefix-of m k t sub stream posted
+prefix_again m k t sub stream posted x =
+    ap (λ (q : Bool × Bool × Bool × SubKind). Prefix-of q.0 q.1 q.2 q.3 stream posted) (parts_of m k t sub)
 
 flags_good : (m k t : Bool) (sub : SubKind) → (flags m k t sub < 256) × (flags_fit (flags m k t sub) ≡ true)
-flags_good true true true Pr = (omega arith, refl)
-flags_good true true true Npr = (omega arith, refl)
-flags_good true true true Cpl = (omega arith, refl)
-flags_good true true false Pr = (omega arith, refl)
-flags_good true true false Npr = (omega arith, refl)
-flags_good true true false Cpl = (omega arith, refl)
-flags_good true false true Pr = (omega arith, refl)
-flags_good true false true Npr = (omega arith, refl)
-flags_good true false true Cpl = (omega arith, refl)
-flags_good true false false Pr = (omega arith, refl)
-flags_good true false false Npr = (omega arith, refl)
-flags_good true false false Cpl = (omega arith, refl)
-flags_good false true true Pr = (omega arith, refl)
-flags_good false true true Npr = (omega arith, refl)
-flags_good false true true Cpl = (omega arith, refl)
-flags_good false true false Pr = (omega arith, refl)
-flags_good false true false Npr = (omega arith, refl)
-flags_good false true false Cpl = (omega arith, refl)
-flags_good false false true Pr = (omega arith, refl)
-flags_good false false true Npr = (omega arith, refl)
-flags_good false false true Cpl = (omega arith, refl)
-flags_good false false false Pr = (omega arith, refl)
-flags_good false false false Npr = (omega arith, refl)
-flags_good false false false Cpl = (omega arith, refl)
-
-sub_low : (m k t : ℕ) (sub : SubKind) → (128 * m + 64 * k + 32 * t + sub_bits sub) % 8 ≡ sub_bits sub
-sub_low m k t Pr = omega arith
-sub_low m k t Npr = omega arith
-sub_low m k t Cpl = omega arith
-
-low_flags : (m k t : Bool) (sub : SubKind) → flags m k t sub % 8 ≡ sub_bits sub
-low_flags m k t sub = sub_low (bit m) (bit k) (bit t) sub
+flags_good m k t sub =
+    let bm = bit_small m in
+    let bk = bit_small k in
+    let bt = bit_small t in
+    let bs = sub_small sub in
+    let clear : flags m k t sub / 8 % 4 ≡ 0 = omega arith in
+    (omega arith, rw (eq-eqb _ _ clear) (lt-ltb _ _ (omega (arith, low_flags m k t sub))))
 
 posted_good : (sub : SubKind) (posted : ℕ) → (sub ≡ Pr → posted ≡ 0) → cond (eqb (sub_bits sub) 0) (eqb posted 0) true ≡ true
 posted_good Pr posted none = eq-eqb _ _ (none refl)
@@ -423,11 +352,10 @@ posted_good Npr posted none = refl
 posted_good Cpl posted none = refl
 
 at_tail : (a b c d : ℕ) (x : List ℕ) (i : ℕ) → 4 ≤ i → get_or (a ∷ b ∷ c ∷ d ∷ x) i 0 ≡ get_or x (i - 4) 0
-at_tail a b c d x zero le = absurd (omega arith)
-at_tail a b c d x (suc zero) le = absurd (omega arith)
-at_tail a b c d x (suc (suc zero)) le = absurd (omega arith)
-at_tail a b c d x (suc (suc (suc zero))) le = absurd (omega arith)
-at_tail a b c d x (suc (suc (suc (suc i)))) le = let e : suc (suc (suc (suc i))) - 4 ≡ i = omega arith in rw e refl
+at_tail a b c d x i le =
+    let s = a ∷ b ∷ c ∷ d ∷ x in
+    let e : i ≡ 4 + (i - 4) = omega arith in
+    ap (λ (j : ℕ). get_or s j 0) e ∙ sym (get_or-drop 4 s (i - 4) 0)
 
 -- a prefix, and bytes behind it
 early_good : (p : Prefix) (x : List ℕ) → FitsPrefix p → fits_first p (get_or x 0 0) ≡ true → (i : ℕ) → i < 5 → fits_early i (prefix_bytes p ++ x) (get_or (prefix_bytes p ++ x) i 0) ≡ true
@@ -474,8 +402,8 @@ carried_spelled p f c =
     let w : IsWalked k x (length x) = walked_of k p.head more r all in
     let bytes : IsBytes x = append_bytes p.head more r.fit all in
     let plain : begins_sync p.prefix.sub (get_or x 0 0) ≡ false = not_sync p.prefix.sub c.head (get_or x 0 0) w.kind c.class in
-    let class : layout_class k (has_data (get_or x 0 0)) ≡ p.prefix.sub = ap (λ (h : HeadView). layout_class k h.has_payload) same ∙ sym (class_again c.head.has_payload c.head.fields) ∙ c.class in
-    let carried : carries p.prefix.sub (get_or x 0 0) (layout_at (get_or x 0 0)) ≡ true = rw w.kind (eq-eqb _ _ (ap sub_bits class)) in
+    let class = ap (λ (h : HeadView). kind_class (kind_with k h.has_payload)) same ∙ c.class in
+    let carried : belongs p.prefix.sub (kind_at (get_or x 0 0)) ≡ true = rw w.kind (eq-eqb _ _ (ap sub_bits class)) in
     let first : fits_first p.prefix (get_or x 0 0) ≡ true = rw plain carried in
     let no : sync_at (packet_bytes p) ≡ false = sync_is p.prefix x ∙ plain in
     let head0 : get_or x 0 0 ≡ get_or p.head 0 0 = get_or_append_left p.head more 0 0 (omega (arith, r.size, head_size_at_least (get_or p.head 0 0))) in
@@ -486,15 +414,11 @@ carried_spelled p f c =
         early = λ i lt few. early_good p.prefix x f.prefix first i few;
         zeros = λ y i many lt less. absurd (true≢false (sym y ∙ no));
         late = λ n i many lt.
-            let byte = at_tail 146 (flags p.prefix.m p.prefix.k p.prefix.t p.prefix.sub) p.prefix.stream p.prefix.posted x i (omega arith) in
+            let byte = at_tail 0x92 (flags p.prefix.m p.prefix.k p.prefix.t p.prefix.sub) p.prefix.stream p.prefix.posted x i (omega arith) in
             rw byte (fits_from k x (length x) w (omega arith) (i - 4) (omega arith));
       };
       size = omega (arith, size_carried (packet_bytes p) no, tag_is p.prefix x, f.tag_size, length-append p.head more, length-append p.body p.tag, r.size, ap head_size head0, wants, c.size);
     }
-
-sync_zero : (i : ℕ) → 0 < i → i < 12 → get_or sync_head i 0 ≡ 0
-sync_zero zero pos lt = absurd (omega arith)
-sync_zero (suc i) pos lt = get_or-replicate 11 i 0 0 (omega arith)
 
 sync_fit : IsBytes sync_head
 sync_fit zero = omega arith
@@ -503,7 +427,7 @@ sync_fit (suc i) = elim (cases_lt i 11) [
   | inr past ↦ rw (get_or_past (replicate {A = ℕ} 11 0) i 0 past) (omega arith)
 ]
 
-pub sync_begins : (sub : SubKind) → (sub ≡ Pr → ⊥) → begins_sync sub 52 ≡ true
+pub sync_begins : (sub : SubKind) → (sub ≡ Pr → ⊥) → begins_sync sub 0x34 ≡ true
 sync_begins Pr ne = absurd (ne refl)
 sync_begins Npr ne = refl
 sync_begins Cpl ne = refl
@@ -525,7 +449,7 @@ sync_spelled p f y =
       walked = record {
         fit = λ i lt. prefix_fit p.prefix x f.prefix bytes i;
         early = λ i lt few. early_good p.prefix x f.prefix first i few;
-        zeros = λ t i many lt less. at_tail 146 (flags p.prefix.m p.prefix.k p.prefix.t p.prefix.sub) p.prefix.stream p.prefix.posted x i (omega arith) ∙ zero_at (i - 4) (omega arith) (omega arith);
+        zeros = λ t i many lt less. at_tail 0x92 (flags p.prefix.m p.prefix.k p.prefix.t p.prefix.sub) p.prefix.stream p.prefix.posted x i (omega arith) ∙ zero_at (i - 4) (omega arith) (omega arith);
         late = λ n i many lt. absurd (true≢false (sym is ∙ n));
       };
       size = omega (arith, size_sync (packet_bytes p) is, tag_is p.prefix x, f.tag_size, length-append p.head more, length-append p.body p.tag, twelve', ap length y.body);
@@ -536,42 +460,13 @@ spelled_whole s i = subst IsWholePacket (sym i.spells.spelled) (elim i.spells.fi
 
 -- ---- one byte more
 
-abbrev length_of : Option Layout → ℕ
-length_of None = 0
-length_of (Some k) = length_byte k
-
-abbrev next_tlp : List ℕ → ℕ
-next_tlp x = cond (eqb (length x) 3) (length_of (layout_at (get_or x 0 0))) 0
-
-next_byte : (k : Layout) → length_byte k < 256
-next_byte layouts.Memory = omega arith
-next_byte layouts.Config = omega arith
-next_byte layouts.Message = omega arith
-next_byte layouts.Completion = omega arith
-
-next_place : (k : Layout) (x : List ℕ) (n : ℕ) → length x ≡ suc n → layout_at (get_or x 0 0) ≡ Some k → may_follow x (next_tlp x) ≡ true
-next_place k x n e kind = elim (cases_eq n 2) [
-  | inl three ↦
-      let long : length x ≡ 3 = omega arith in
-      rw (long, kind) (and_from _ _ (lt-ltb _ _ (next_byte k)) (elim (cases_lt 3 (head_size (get_or x 0 0))) [
-        | inl less ↦ rw (lt-ltb 3 _ less) (length_allowed k (get_or x 0 0))
-        | inr past ↦ rw (le-ltb 3 _ past) refl
-      ]))
-  | inr other ↦
-      let ne : length x ≡ 3 → ⊥ = λ three. omega arith in
-      rw (ne_eqb _ _ ne, e, kind) (elim (cases_lt (suc n) (head_size (get_or x 0 0))) [
-        | inl less ↦ rw (lt-ltb (suc n) _ less) (zero_allowed k (head_size (get_or x 0 0)) (suc n) (λ t. omega arith))
-        | inr past ↦ rw (le-ltb (suc n) _ past) refl
-      ])
-]
-
 abbrev first_of : SubKind → ℕ
 first_of Pr = 64
 first_of Npr = 0
 first_of Cpl = 10
 
 abbrev next_early : ℕ → List ℕ → ℕ
-next_early n s = cond (eqb n 0) 146 (cond (eqb n 4) (first_of (prefix_of s).sub) 0)
+next_early n s = cond (eqb n 0) 0x92 (cond (eqb n 4) (first_of (prefix_read s).sub) 0)
 
 abbrev pub next_packet : List ℕ → ℕ
 next_packet s = cond (ltb (length s) 5) (next_early (length s) s) (cond (sync_at s) 0 (next_tlp (drop 4 s)))
@@ -590,7 +485,7 @@ early_next zero s lt = (omega arith, refl)
 early_next (suc zero) s lt = (omega arith, refl)
 early_next (suc (suc zero)) s lt = (omega arith, refl)
 early_next (suc (suc (suc zero))) s lt = (omega arith, either (eqb (get_or s 1 0 % 8) 0))
-early_next (suc (suc (suc (suc zero)))) s lt = first_fits (prefix_of s) (prefix_of s).sub refl
+early_next (suc (suc (suc (suc zero)))) s lt = first_fits (prefix_read s) (prefix_read s).sub refl
 early_next (suc (suc (suc (suc (suc n))))) s lt = absurd (omega arith)
 
 packet_fills : (s : List ℕ) → Walks wants_packet packet_may_follow s → IsTrue (wants_packet s) → IsTrue (packet_may_follow s (next_packet s))
@@ -602,8 +497,7 @@ packet_fills s w needs = elim (cases_lt (length s) 5) [
     | inl y ↦ rw y (either (ltb (length s) 16))
     | inr n ↦
         let k = tail_walked s many (walked s w) n in
-        let e : length (drop 4 s) ≡ suc (length s - 5) = omega (arith, length-drop 4 s) in
-        let t : may_follow (drop 4 s) (next_tlp (drop 4 s)) ≡ true = next_place k.0 (drop 4 s) (length s - 5) e k.1.kind in
+        let t : may_follow (drop 4 s) (next_tlp (drop 4 s)) ≡ true = next_fits (drop 4 s) (fits_from k.0 (drop 4 s) (length (drop 4 s)) k.1 (omega arith)) in
         rw n (and_from _ _ (and_parts _ _ t).0 t)
   ])
 ]
@@ -618,7 +512,7 @@ size_at_most s fit =
     let b : get_or (drop 4 s) 3 0 < 256 = rw get_or-drop fit in
     let body = body_at_most (has_data (get_or (drop 4 s) 0 0)) (256 * (get_or (drop 4 s) 2 0 % 4) + get_or (drop 4 s) 3 0) (omega arith) in
     let head = head_size_at_most (get_or (drop 4 s) 0 0) in
-    let tag = tag_at_most (prefix_of s).m in
+    let tag = tag_at_most (prefix_read s).m in
     elim (cases_Bool (sync_at s)) [
       | inl y ↦ omega (arith, size_sync s y, tag)
       | inr n ↦ omega (arith, size_carried s n, tag, head, body)

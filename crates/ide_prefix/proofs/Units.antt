@@ -2,7 +2,7 @@
 use Rattle.std.proofs.Common.{◌≡◌, ℕ, suc, ◌+◌, ◌*◌, ◌/◌, ◌%◌, ◌<◌, Bool, true, false, eqb, List, [], ◌∷◌, ◌++◌, length, map, get_or, Some, refl, sym, ap, subst, ◌∙◌, inl, inr, arith, append-nil}
 use Rattle.std.specs.List.{AllByRecursion}
 use Rattle.std.specs.Prelude.{All}
-use Rattle.std.proofs.lemmas.Bool.{cases_eq, ne_eqb}
+use Rattle.std.proofs.lemmas.Bool.{ne_eqb, eq-eqb}
 use Rattle.std.proofs.lemmas.List.{get_or_append_left}
 use Rattle.std.proofs.lemmas.List.Concat.{flat_map-cons}
 use Rattle.tlp_layout.specs.declared.layout.Layout.{Layout}
@@ -10,9 +10,8 @@ use Rattle.tlp_layout.specs.declared.layout.Layout.TheVariants as layouts
 use Rattle.ide_types.specs.declared.sub.SubKind.{SubKind}
 use Rattle.ide_types.specs.declared.sub.SubKind.TheVariants.{Pr, Npr, Cpl}
 use Rattle.tlp_layout.specs.declared.head.HeadView.{HeadView}
-use Rattle.tlp_layout.specs.declared.head.Fields.{Fields}
-use Rattle.tlp_layout.specs.declared.head.Fields.TheVariants.{Memory, Config, Message, Completion}
-use Rattle.tlp_layout.specs.Head.{head_bytes, bit}
+use Rattle.tlp_layout.specs.Head.{head_bytes}
+use Rattle.tlp_layout.specs.Numbers.{bit}
 use Rattle.ide_prefix.specs.Causes.{clear_size, sub_from}
 use Rattle.ide_prefix.specs.Packet.{begins_sync, prefix_bytes, Packet, IsCarried, IsSync, FitsPacket}
 use Rattle.ide_prefix.specs.Units.{clear_bytes, authenticated, encrypted, untagged}
@@ -21,13 +20,10 @@ use Rattle.tlp_layout.specs.Causes.{layout_at}
 use Rattle.tlp_layout.specs.Class.{class_of, kind_with, kind_class}
 use Rattle.tlp_layout.specs.Reading.{head_of, rest_size}
 use Rattle.tlp_layout.specs.Tlp.{body_size}
-use Rattle.tlp_layout.proofs.Heads.{layout_of, IsRight, kept, again}
+use Rattle.tlp_layout.specs.Class.{layout_of}
+use Rattle.tlp_layout.proofs.Heads.{IsRight, kept, again}
 use Rattle.tlp_layout.proofs.Walk.{head_size_at_least}
 use Rattle.ide_prefix.specs.declared.packet.Prefix.{Prefix}
-
--- the class of a TLP with these fields
-abbrev pub class_from : Bool → Fields → SubKind
-class_from p f = kind_class (kind_with p f)
 
 -- ---- the prefix
 
@@ -40,39 +36,44 @@ flags m k t sub = 128 * bit m + 64 * bit k + 32 * bit t + sub_bits sub
 abbrev four : Bool → Bool → Bool → SubKind → Bool × Bool × Bool × SubKind
 four m k t u = (m, k, t, u)
 
-abbrev parts : ℕ → Bool × Bool × Bool × SubKind
+abbrev pub parts : ℕ → Bool × Bool × Bool × SubKind
 parts f = (eqb (f / 128) 1, eqb (f / 64 % 2) 1, eqb (f / 32 % 2) 1, sub_from (f % 8))
 
-parts_of : (m k t : Bool) (sub : SubKind) → parts (flags m k t sub) ≡ (m, k, t, sub)
-parts_of true true true Pr = refl
-parts_of true true true Npr = refl
-parts_of true true true Cpl = refl
-parts_of true true false Pr = refl
-parts_of true true false Npr = refl
-parts_of true true false Cpl = refl
-parts_of true false true Pr = refl
-parts_of true false true Npr = refl
-parts_of true false true Cpl = refl
-parts_of true false false Pr = refl
-parts_of true false false Npr = refl
-parts_of true false false Cpl = refl
-parts_of false true true Pr = refl
-parts_of false true true Npr = refl
-parts_of false true true Cpl = refl
-parts_of false true false Pr = refl
-parts_of false true false Npr = refl
-parts_of false true false Cpl = refl
-parts_of false false true Pr = refl
-parts_of false false true Npr = refl
-parts_of false false true Cpl = refl
-parts_of false false false Pr = refl
-parts_of false false false Npr = refl
-parts_of false false false Cpl = refl
+bit_again : (b : Bool) (x : ℕ) → x ≡ bit b → eqb x 1 ≡ b
+bit_again true x e = eq-eqb x 1 e
+bit_again false x e = ne_eqb x 1 (λ one. omega arith)
+
+pub bit_small : (b : Bool) → bit b < 2
+bit_small true = omega arith
+bit_small false = omega arith
+
+pub sub_small : (sub : SubKind) → sub_bits sub < 3
+sub_small Pr = omega arith
+sub_small Npr = omega arith
+sub_small Cpl = omega arith
+
+pub sub_again : (sub : SubKind) → sub_from (sub_bits sub) ≡ sub
+sub_again Pr = refl
+sub_again Npr = refl
+sub_again Cpl = refl
+
+pub low_flags : (m k t : Bool) (sub : SubKind) → flags m k t sub % 8 ≡ sub_bits sub
+low_flags m k t sub = omega (arith, sub_small sub)
+
+pub parts_of : (m k t : Bool) (sub : SubKind) → parts (flags m k t sub) ≡ (m, k, t, sub)
+parts_of m k t sub =
+    let bm = bit_small m in
+    let bk = bit_small k in
+    let bt = bit_small t in
+    let bs = sub_small sub in
+    let em = bit_again m (flags m k t sub / 128) (omega arith) in
+    let ek = bit_again k (flags m k t sub / 64 % 2) (omega arith) in
+    let et = bit_again t (flags m k t sub / 32 % 2) (omega arith) in
+    let es = ap sub_from (low_flags m k t sub) ∙ sub_again sub in
+    λ i. (em i, ek i, et i, es i)
 
 prefix_is : (m m' k k' t t' : Bool) (u u' : SubKind) (s s' p p' : ℕ) → four m k t u ≡ four m' k' t' u' → s ≡ s' → p ≡ p' → Prefix-of m k t u s p ≡ Prefix-of m' k' t' u' s' p'
-prefix_is m m' k k' t t' u u' s s' p p' e es ep =
-    let one : Prefix-of m k t u s p ≡ Prefix-of m' k' t' u' s p = ap (λ (x : Bool × Bool × Bool × SubKind). Prefix-of x.0 x.1 x.2 x.3 s p) e in
-    one ∙ ap (Prefix-of m' k' t' u' s) ep ∙ ap (λ (x : ℕ). Prefix-of m' k' t' u' x p') es
+prefix_is m m' k k' t t' u u' s s' p p' e es ep = λ i. Prefix-of (e i).0 (e i).1 (e i).2 (e i).3 (es i) (ep i)
 
 same_prefix : (p q : Prefix) (a b : List ℕ) → prefix_bytes p ++ a ≡ prefix_bytes q ++ b → (p ≡ q) × (a ≡ b)
 same_prefix p q a b e =
@@ -97,35 +98,21 @@ same_front (x ∷ a) (y ∷ b) u v l e =
 
 -- ---- headers
 
-message_class : (k : Layout) (p : Bool) (f : Fields) → layout_of f ≡ k → k ≡ layouts.Message → class_from p f ≡ Pr
-message_class k true (Memory f) e m = absurd cc
-message_class k false (Memory f) e m = absurd cc
-message_class k p (Config f) e m = absurd cc
-message_class k true (Message f) e m = refl
-message_class k false (Message f) e m = refl
-message_class k p (Completion f) e m = absurd cc
-
 some_is : (a b : Layout) → Some a ≡ Some b → a ≡ b
 some_is a b e = cc
 
-pub not_sync : (sub : SubKind) (h : HeadView) (b : ℕ) → layout_at b ≡ Some (layout_of h.fields) → class_of h ≡ sub → begins_sync sub b ≡ false
-not_sync Pr h b kind class = refl
-not_sync Npr h b kind class = elim (cases_eq b 52) [
-  | inl e ↦
-      let m : layout_of h.fields ≡ layouts.Message = sym (some_is layouts.Message (layout_of h.fields) (sym (ap layout_at e) ∙ kind)) in
-      let pr = message_class (layout_of h.fields) h.has_payload h.fields refl m in
-      absurd cc
-  | inr n ↦ ne_eqb b 52 n
-]
-not_sync Cpl h b kind class = elim (cases_eq b 52) [
-  | inl e ↦
-      let m : layout_of h.fields ≡ layouts.Message = sym (some_is layouts.Message (layout_of h.fields) (sym (ap layout_at e) ∙ kind)) in
-      let pr = message_class (layout_of h.fields) h.has_payload h.fields refl m in
-      absurd cc
-  | inr n ↦ ne_eqb b 52 n
-]
+posted : (h : HeadView) (b : ℕ) → layout_at b ≡ Some (layout_of h.fields) → b ≡ 0x34 → class_of h ≡ Pr
+posted h b kind e =
+    let m : layout_of h.fields ≡ layouts.Message = some_is _ _ (sym kind ∙ ap layout_at e) in
+    ap (λ (k : Layout). kind_class (kind_with k h.has_payload)) m
 
-pub sync_sized : (sub : SubKind) → (sub ≡ Pr → ⊥) → clear_size sub 52 ≡ 12
+pub not_sync : (sub : SubKind) (h : HeadView) (b : ℕ) → layout_at b ≡ Some (layout_of h.fields) → class_of h ≡ sub
+    → begins_sync sub b ≡ false
+not_sync Pr h b kind class = refl
+not_sync Npr h b kind class = ne_eqb b 0x34 (λ e. let pr = posted h b kind e in absurd cc)
+not_sync Cpl h b kind class = ne_eqb b 0x34 (λ e. let pr = posted h b kind e in absurd cc)
+
+pub sync_sized : (sub : SubKind) → (sub ≡ Pr → ⊥) → clear_size sub 0x34 ≡ 12
 sync_sized Pr ne = absurd (ne refl)
 sync_sized Npr ne = refl
 sync_sized Cpl ne = refl

@@ -12,13 +12,14 @@ use Rattle.ide_prefix.specs.Packet.{Packet, FitsPacket, SpellsPacket, is_sync_pa
 use Rattle.ide_prefix.specs.Causes.{is_plain}
 use Rattle.ide_prefix.specs.Reading.{CutValue, PlainTlp, IdePacket}
 
-abbrev pub tag_of : Option (Bor (List ℕ)) → List ℕ
-tag_of None = []
-tag_of (Some t) = t.now
+abbrev pub lent_tag : Option (Bor (List ℕ)) → List ℕ
+lent_tag None = []
+lent_tag (Some t) = t.now
 
 -- the packet that a view shows: lent bytes are the bytes
 abbrev pub packet_of_view : PacketView → Packet
-packet_of_view v = record { prefix = v.prefix; head = v.head.now; body = v.body.now; tag = tag_of v.tag }
+packet_of_view v =
+    record { prefix = v.prefix; head = v.head.now; body = v.body.now; tag = lent_tag v.tag }
 
 abbrev pub cut_value : Cut → CutValue
 cut_value Plain = PlainTlp
@@ -31,7 +32,8 @@ cut_values (Err f) = Err f
 
 -- a packet that has a spelling is shown, with its flag of sync packets, and with a tag where M is set
 abbrev pub IsView : PacketView → Type 0
-IsView v = FitsPacket (packet_of_view v) × (v.sync ≡ is_sync_packet (packet_of_view v)) × (is_some v.tag ≡ v.prefix.m)
+IsView v =
+    FitsPacket (packet_of_view v) × (v.sync ≡ is_sync_packet (packet_of_view v)) × (is_some v.tag ≡ v.prefix.m)
 
 -- the bytes are plain, or those of the packet that is shown
 abbrev pub IsCut : List ℕ → Cut → Type 0
@@ -39,5 +41,5 @@ IsCut bytes Plain = is_plain bytes ≡ true
 IsCut bytes (Ide v) = SpellsPacket (packet_of_view v) bytes × IsView v
 
 -- the header of the TLP that is shown, none of a sync packet
-abbrev pub header_in : PacketView → Option HeadView
-header_in v = if v.sync then None else result_ok (read_head_of v.head.now)
+abbrev pub view_header : PacketView → Option HeadView
+view_header v = if v.sync then None else result_ok (read_head_of v.head.now)

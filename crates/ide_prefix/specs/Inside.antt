@@ -11,7 +11,7 @@ use Rattle.tlp_layout.specs.Reading.{rest_size}
 use Rattle.ide_prefix.specs.declared.fault.PacketFault.{PacketFault}
 use Rattle.ide_prefix.specs.declared.fault.PacketFault.TheVariants.{Short, Tlp}
 use Rattle.ide_prefix.specs.Packet.{begins_sync}
-use Rattle.ide_prefix.specs.Causes.{prefix_of, fits_early, clear_size, moved, packet_fault_at}
+use Rattle.ide_prefix.specs.Causes.{prefix_read, fits_early, clear_size, moved, packet_fault_at}
 
 -- the bytes go off among the first five
 pub record StopsEarly (s : List ℕ) (fault : PacketFault) (place : ℕ) : Type 0 where
@@ -35,23 +35,25 @@ shifted (tlps.Short place) = Short (place + 4)
 shifted f = Tlp (moved f)
 
 -- what stands in the header's place
-abbrev pub front_of : List ℕ → List ℕ
-front_of s = take (head_size (slice_index s 4)) (drop 4 s)
+abbrev pub head_slice : List ℕ → List ℕ
+head_slice s = take (head_size (slice_index s 4)) (drop 4 s)
 
 -- behind the prefix stands a header, which wants that many bytes of payload
 pub record HasHeader (s : List ℕ) (wanted : ℕ) : Type 0 where
   pub head : HeadView
-  pub spells : SpellsHead head (front_of s)
+  pub spells : SpellsHead head (head_slice s)
   pub wanted_is : wanted ≡ body_size head.has_payload head.lead.length
 
 abbrev pub StopsInHead : List ℕ → PacketFault → Type 0
-StopsInHead s fault = (f : TlpFault) × IsHeadFault (front_of s) f × (fault ≡ shifted f)
+StopsInHead s fault = (f : TlpFault) × IsHeadFault (head_slice s) f × (fault ≡ shifted f)
 
 -- the bytes behind the prefix begin a sync packet, or with a header: its length, and that of the payload
 pub record SizesAre (s : List ℕ) (size wanted : ℕ) : Type 0 where
-  pub size_is : size ≡ clear_size (prefix_of s).sub (slice_index s 4)
+  pub size_is : size ≡ clear_size (prefix_read s).sub (slice_index s 4)
   pub within : 4 + size ≤ length s
-  pub wanted_is : wanted ≡ (if begins_sync (prefix_of s).sub (slice_index s 4) then 0 else rest_size (drop 4 s))
+  pub wanted_is : wanted ≡ (if begins_sync (prefix_read s).sub (slice_index s 4) then 0 else rest_size (drop 4 s))
   pub small : wanted ≤ 4096
-  pub zeros : begins_sync (prefix_of s).sub (slice_index s 4) ≡ true → (i : ℕ) → 5 ≤ i → i < 16 → slice_index s i ≡ 0
-  pub header : begins_sync (prefix_of s).sub (slice_index s 4) ≡ false → (h : HeadView) × SpellsHead h (front_of s)
+  pub zeros : begins_sync (prefix_read s).sub (slice_index s 4) ≡ true
+      → (i : ℕ) → 5 ≤ i → i < 16 → slice_index s i ≡ 0
+  pub header : begins_sync (prefix_read s).sub (slice_index s 4) ≡ false
+      → (h : HeadView) × SpellsHead h (head_slice s)

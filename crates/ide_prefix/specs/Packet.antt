@@ -5,14 +5,20 @@ use Rattle.ide_types.specs.declared.sub.SubKind.{SubKind}
 use Rattle.ide_types.specs.declared.sub.SubKind.TheVariants.{Pr, Npr, Cpl}
 use Rattle.ide_types.specs.Sub.{sub_bits}
 use Rattle.tlp_layout.specs.declared.head.HeadView.{HeadView}
-use Rattle.tlp_layout.specs.Head.{SpellsHead, bit}
+use Rattle.tlp_layout.specs.Head.{SpellsHead}
+use Rattle.tlp_layout.specs.Numbers.{bit}
 use Rattle.tlp_layout.specs.Class.{class_of}
 use Rattle.tlp_layout.specs.Tlp.{body_size}
 use Rattle.ide_prefix.specs.declared.packet.Prefix.{Prefix}
 
--- 92h; M, K and T in bits 7 to 5 and the sub-stream in bits 2:0; the stream ID; the posted count
+-- the first byte of a packet
+abbrev pub packet_first : ℕ
+packet_first = 0x92
+
+-- that byte; M, K and T in bits 7 to 5 and the sub-stream in bits 2:0; the stream ID; the posted count
 abbrev pub prefix_bytes : Prefix → List ℕ
-prefix_bytes p = 146 ∷ (128 * bit p.m + 64 * bit p.k + 32 * bit p.t + sub_bits p.sub) ∷ p.stream ∷ p.posted ∷ []
+prefix_bytes p =
+    packet_first ∷ (0x80 * bit p.m + 0x40 * bit p.k + 0x20 * bit p.t + sub_bits p.sub) ∷ p.stream ∷ p.posted ∷ []
 
 -- the parts of a packet, as lists of bytes
 pub record Packet : Type 0 where
@@ -24,15 +30,19 @@ pub record Packet : Type 0 where
 abbrev pub packet_bytes : Packet → List ℕ
 packet_bytes p = prefix_bytes p.prefix ++ (p.head ++ (p.body ++ p.tag))
 
--- 34h, which in the non-posted and the completion sub-stream begins a sync packet, and 11 zeros
+-- the first header byte of a sync packet, in the non-posted and the completion sub-stream
+abbrev pub sync_first : ℕ
+sync_first = 0x34
+
+-- that byte and 11 zeros
 abbrev pub sync_head : List ℕ
-sync_head = 52 ∷ replicate 11 0
+sync_head = sync_first ∷ replicate 11 0
 
 -- the byte behind the prefix begins a sync packet
 abbrev pub begins_sync : SubKind → ℕ → Bool
 begins_sync Pr b = false
-begins_sync Npr b = b == 52
-begins_sync Cpl b = b == 52
+begins_sync Npr b = b == sync_first
+begins_sync Cpl b = b == sync_first
 
 abbrev pub is_sync_packet : Packet → Bool
 is_sync_packet p = begins_sync p.prefix.sub (slice_index p.head 0)

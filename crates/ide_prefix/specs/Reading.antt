@@ -5,12 +5,12 @@ use Rattle.tlp_layout.specs.Causes.{head_size}
 use Rattle.tlp_layout.specs.Reading.{may_follow, rest_size}
 use Rattle.ide_prefix.specs.declared.fault.PacketFault.{PacketFault}
 use Rattle.ide_prefix.specs.Packet.{Packet, begins_sync}
-use Rattle.ide_prefix.specs.Causes.{is_plain, prefix_of, fits_early, packet_fault_at}
+use Rattle.ide_prefix.specs.Causes.{is_plain, prefix_read, fits_early, packet_fault_at}
 
 -- ---- the parts of a packet, whose bytes count as 0 where they are not there yet
 
 abbrev pub sync_at : List ℕ → Bool
-sync_at s = begins_sync (prefix_of s).sub (slice_index s 4)
+sync_at s = begins_sync (prefix_read s).sub (slice_index s 4)
 
 -- the lengths of header, payload and tag
 abbrev pub head_part : List ℕ → ℕ
@@ -20,14 +20,14 @@ abbrev pub body_part : List ℕ → ℕ
 body_part s = if sync_at s then 0 else rest_size (drop 4 s)
 
 abbrev pub tag_part : List ℕ → ℕ
-tag_part s = if (prefix_of s).m then 12 else 0
+tag_part s = if (prefix_read s).m then 12 else 0
 
 abbrev pub packet_size : List ℕ → ℕ
 packet_size s = 4 + head_part s + body_part s + tag_part s
 
-abbrev pub packet_in : List ℕ → Packet
-packet_in s = record {
-  prefix = prefix_of s;
+abbrev pub packet_read : List ℕ → Packet
+packet_read s = record {
+  prefix = prefix_read s;
   head = take (head_part s) (drop 4 s);
   body = take (body_part s) (drop (head_part s) (drop 4 s));
   tag = drop (body_part s) (drop (head_part s) (drop 4 s));
@@ -60,4 +60,4 @@ pub data CutValue : Type 0 where
 unfoldable pub cut_of : List ℕ → Result CutValue PacketFault
 cut_of bytes =
     if is_plain bytes then Ok PlainTlp
-    else reading wants_packet packet_may_follow (λ s. IdePacket (packet_in s)) packet_fault_at bytes
+    else reading wants_packet packet_may_follow (λ s. IdePacket (packet_read s)) packet_fault_at bytes

@@ -3,17 +3,17 @@
 ghost use Rattle.std.specs.Prelude.{◌≡◌, ℕ, ◌+◌, ◌<◌, ◌≤◌, ◌%◌, ◌^◌, IfOk, IfErr, OnOk, MatchResult, if◌then◌else◌, length, slice_index, true, Some};
 ghost use Rattle.tlp_layout.specs.Faults.{place_in};
 ghost use Rattle.ide_prefix.specs.Packet.{Packet, SpellsPacket, begins_sync as begins_sync_of};
-ghost use Rattle.ide_prefix.specs.Causes.{is_plain as is_plain_of, prefix_of, sub_from, layout_class, carries, fits_first, fits_early, early_cause};
+ghost use Rattle.ide_prefix.specs.Causes.{is_plain as is_plain_of, prefix_read, sub_from, belongs as belongs_to, fits_first, fits_early, early_cause};
 ghost use Rattle.ide_prefix.specs.Faults.{GoesOff, IsPacketFault};
 ghost use Rattle.ide_prefix.specs.Reading.{cut_of, IdePacket};
 ghost use Rattle.ide_prefix.specs.Cut.{IsCut, cut_value, cut_values};
 ghost use Rattle.ide_prefix.specs.declared.packet.Cut.TheVariants.{Ide};
-ghost use Rattle.ide_prefix.specs.Inside.{StopsEarly, StopsSync, StopsInHead, HasHeader, SizesAre, front_of, shifted};
+ghost use Rattle.ide_prefix.specs.Inside.{StopsEarly, StopsSync, StopsInHead, HasHeader, SizesAre, head_slice, shifted};
 
 use crate::fault::PacketFault;
-use crate::packet::{Cut, PacketView, Prefix};
+use crate::packet::{Cut, PACKET_FIRST, PacketView, Prefix, SYNC_FIRST};
 use ide_types::SubKind;
-use tlp_layout::{Layout, TlpFault, head_size, layout_of, read_head};
+use tlp_layout::{TlpFault, TlpKind, head_size, kind_at, read_head};
 
 fn sub_of(flags: u8) -> SubKind
     ensures { result ≡ sub_from (flags % 8) }
@@ -27,7 +27,7 @@ fn sub_of(flags: u8) -> SubKind
 
 fn prefix_at(bytes: &[u8]) -> Prefix
     requires { 4 ≤ length bytes.now }
-    ensures { result ≡ prefix_of bytes.now }
+    ensures { result ≡ prefix_read bytes.now }
 {
     let flags = bytes[1];
     Prefix {
@@ -45,32 +45,15 @@ fn begins_sync(sub: SubKind, first: u8) -> bool
 {
     match sub {
         SubKind::Pr => false,
-        SubKind::Npr => first == 0x34,
-        SubKind::Cpl => first == 0x34,
+        SubKind::Npr => first == SYNC_FIRST,
+        SubKind::Cpl => first == SYNC_FIRST,
     }
 }
 
-fn class_of(layout: Layout, has_payload: bool) -> SubKind
-    ensures { result ≡ layout_class layout has_payload }
+fn belongs(sub: SubKind, kind: TlpKind) -> bool
+    ensures { result ≡ belongs_to sub (Some kind) }
 {
-    match layout {
-        Layout::Memory => {
-            if has_payload {
-                SubKind::Pr
-            } else {
-                SubKind::Npr
-            }
-        }
-        Layout::Config => SubKind::Npr,
-        Layout::Message => SubKind::Pr,
-        Layout::Completion => SubKind::Cpl,
-    }
-}
-
-fn carries_layout(sub: SubKind, first: u8, layout: Layout) -> bool
-    ensures { result ≡ carries sub first (Some layout) }
-{
-    class_of(layout, (first >> 6) & 1 == 1).number() == sub.number()
+    kind.class().number() == sub.number()
 }
 
 fn allows_first(prefix: &Prefix, first: u8) -> bool
@@ -79,9 +62,9 @@ fn allows_first(prefix: &Prefix, first: u8) -> bool
     if begins_sync(prefix.sub, first) {
         prefix.m && !prefix.t
     } else {
-        match layout_of(first) {
+        match kind_at(first) {
             None => false,
-            Some(layout) => carries_layout(prefix.sub, first, layout),
+            Some(kind) => belongs(prefix.sub, kind),
         }
     }
 }
@@ -93,7 +76,7 @@ fn allows_early(place: usize, bytes: &[u8]) -> bool
 {
     let byte = bytes[place];
     match place {
-        0 => byte == 0x92,
+        0 => byte == PACKET_FIRST,
         1 => (byte >> 3) & 3 == 0 && byte & 7 < 3,
         3 => bytes[1] & 7 != 0 || byte == 0,
         4 => allows_first(&prefix_at(bytes), byte),
@@ -119,7 +102,7 @@ fn cause_early(place: usize, bytes: &[u8]) -> PacketFault
             if begins_sync(sub_of(bytes[1]), byte) {
                 PacketFault::Sync(4)
             } else {
-                match layout_of(byte) {
+                match kind_at(byte) {
                     None => PacketFault::Tlp(TlpFault::Kind(4)),
                     Some(_) => PacketFault::Class(4),
                 }
@@ -149,7 +132,7 @@ fn early(bytes: &[u8]) -> Result<(), PacketFault>
 /// The bytes behind byte 4 of a sync packet are 0.
 fn sync_zeros(bytes: &[u8]) -> Result<(), PacketFault>
     requires long { 5 ≤ length bytes.now }
-    requires sync { begins_sync_of (prefix_of bytes.now).sub (slice_index bytes.now 4) ≡ true }
+    requires sync { begins_sync_of (prefix_read bytes.now).sub (slice_index bytes.now 4) ≡ true }
     ensures long { OnOk result (16 ≤ length bytes.now) }
     ensures zeros { OnOk result ((i : ℕ) → 5 ≤ i → i < 16 → slice_index bytes.now i ≡ 0) }
     ensures stops { IfErr result (λ f. (place : ℕ) × StopsSync bytes.now f place) }
@@ -182,7 +165,7 @@ fn behind_prefix(fault: TlpFault) -> PacketFault
 /// What stands in a header's place.
 fn head_front(bytes: &[u8]) -> &[u8]
     requires { 5 ≤ length bytes.now }
-    ensures { result.now ≡ front_of bytes.now }
+    ensures { result.now ≡ head_slice bytes.now }
 {
     let size = head_size(bytes[4]);
     let rest = &bytes[4..];
@@ -214,7 +197,7 @@ fn tag_size(m: bool) -> usize
 fn sizes(sync: bool, bytes: &[u8]) -> Result<(usize, usize), PacketFault>
     requires long { 5 ≤ length bytes.now }
     requires fits { (i : ℕ) → i < 5 → fits_early i bytes.now (slice_index bytes.now i) ≡ true }
-    requires sync { sync ≡ begins_sync_of (prefix_of bytes.now).sub (slice_index bytes.now 4) }
+    requires sync { sync ≡ begins_sync_of (prefix_read bytes.now).sub (slice_index bytes.now 4) }
     ensures ok { IfOk result (λ x. SizesAre bytes.now x.0 x.1) }
     ensures err { IfErr result (GoesOff bytes.now) }
 {
@@ -266,7 +249,7 @@ fn is_plain(bytes: &[u8]) -> bool
 {
     match bytes {
         [] => false,
-        [first, ..] => *first != 0x92,
+        [first, ..] => *first != PACKET_FIRST,
     }
 }
 
@@ -284,7 +267,7 @@ fn whole(bytes: &[u8]) -> Result<Cut<'_>, PacketFault>
 }
 
 /// The parts of the packet that the bytes spell, all of the bytes; `Plain` exactly where byte 0 is there
-/// and is not 92h; else the first fault (this profile).
+/// and is not 0x92; else the first fault (this profile).
 pub fn cut(bytes: &[u8]) -> Result<Cut<'_>, PacketFault>
     // What is cut is plain or spelled so.
     ensures ok { IfOk result (IsCut bytes.now) }

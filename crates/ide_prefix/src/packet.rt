@@ -6,6 +6,12 @@ ghost use Rattle.ide_prefix.specs.Packet.{prefix_bytes};
 use ide_types::SubKind;
 use tlp_layout::{HeadView, read_head};
 
+/// The first byte of a packet.
+pub const PACKET_FIRST: u8 = 0x92;
+
+/// The first header byte of a sync packet.
+pub const SYNC_FIRST: u8 = 0x34;
+
 /// What stands ahead of a TLP's header.
 #[derive(Clone, Copy, Debug, PartialEq, Eq)]
 pub struct Prefix {
@@ -27,9 +33,9 @@ pub struct Prefix {
 pub fn write_prefix(prefix: &Prefix) -> [u8; 4]
     ensures { result ≡ prefix_bytes prefix.now }
 {
-    let flags = 128 * u8::from(prefix.m) + 64 * u8::from(prefix.k) + 32 * u8::from(prefix.t);
+    let flags = 0x80 * u8::from(prefix.m) + 0x40 * u8::from(prefix.k) + 0x20 * u8::from(prefix.t);
     [
-        0x92,
+        PACKET_FIRST,
         flags + prefix.sub.number(),
         prefix.stream,
         prefix.posted,
@@ -53,12 +59,12 @@ pub struct PacketView<'a> {
 
 impl PacketView<'_> {
     ghost use Rattle.std.specs.Prelude.{◌≡◌};
-    ghost use Rattle.ide_prefix.specs.Cut.{header_in};
+    ghost use Rattle.ide_prefix.specs.Cut.{view_header};
 
     /// The header of the TLP that the packet carries; `None` of a sync packet, and only there where
     /// `cut` gave the view.
     pub fn header(&self) -> Option<HeadView>
-        ensures { result ≡ header_in self.now }
+        ensures { result ≡ view_header self.now }
     {
         if self.sync {
             return None;
@@ -70,7 +76,7 @@ impl PacketView<'_> {
 /// What bytes are: a plain TLP's, or a packet.
 #[derive(Clone, Copy, Debug)]
 pub enum Cut<'a> {
-    /// Byte 0 is not 92h.
+    /// Byte 0 is not 0x92.
     Plain,
     /// A packet of an IDE stream.
     Ide(PacketView<'a>),

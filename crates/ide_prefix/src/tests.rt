@@ -33,7 +33,7 @@ fn faults(rt: HostRuntime) {
             &[0x92, 0x80, 5, 0, 0xff],
             PacketFault::Tlp(TlpFault::Kind(4)),
         ),
-        // 34h is a message in a posted packet, and begins a sync packet elsewhere, with M and without T.
+        // 0x34 is a message in a posted packet, and begins a sync packet elsewhere, with M and without T.
         (&[0x92, 0x80, 5, 0, 0x34], PacketFault::Short(5)),
         (&[0x92, 0x81, 5, 0, 0x34], PacketFault::Short(5)),
         (&[0x92, 0x82, 5, 7, 0x34], PacketFault::Short(5)),
@@ -219,4 +219,16 @@ fn sync_packets(rt: HostRuntime) -> Result<(), Fail> {
     longer.push(0)?;
     assert_eq!(rt; cut(&longer).err(), Some(PacketFault::Trailing(28)));
     Ok(())
+}
+
+#[test]
+fn vectors(rt: HostRuntime) {
+    assert_eq!(rt;
+        unit_iv(SubKind::Cpl, 0x0102_0304_0506_0708),
+        [0x20, 0, 0, 0, 1, 2, 3, 4, 5, 6, 7, 8]
+    );
+    assert_eq!(rt;
+        unit_iv(SubKind::Pr, 1),
+        [0, 0, 0, 0, 0, 0, 0, 0, 0, 0, 0, 1]
+    );
 }

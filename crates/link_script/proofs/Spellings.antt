@@ -13,8 +13,8 @@ use Rattle.ide_types.specs.declared.sub.FailCause.TheVariants as fail
 use Rattle.link_script.specs.declared.event.Side.{Side}
 use Rattle.link_script.specs.declared.event.Side.TheVariants.{Host, Device}
 use Rattle.link_script.specs.declared.event.PortName.{PortName}
-use Rattle.link_script.specs.declared.verdict.FaultWord.{FaultWord}
-use Rattle.link_script.specs.declared.verdict.FaultWord.TheVariants as fault
+use Rattle.ide_types.specs.declared.fault_word.FaultWord.{FaultWord}
+use Rattle.ide_types.specs.declared.fault_word.FaultWord.TheVariants as fault
 use Rattle.link_script.specs.declared.verdict.BlockCause.TheVariants.{NotTrusted, NotRunning, WrongStream, Stale, Outside, Crosses}
 use Rattle.link_script.specs.declared.verdict.Effect.{Effect}
 use Rattle.link_script.specs.declared.verdict.Effect.TheVariants.{Sync, Delivered, Applied, Blocked}
@@ -23,7 +23,8 @@ use Rattle.link_script.specs.declared.verdict.UnitName.{UnitName}
 use Rattle.link_script.specs.declared.verdict.Verdict.{Verdict}
 use Rattle.link_script.specs.declared.verdict.Verdict.TheVariants.{Nothing, Malformed, Plain, RefusedInsecure, RefusedNoKey, RefusedUnfinished, RefusedWorn, Sealed, Unknown, Insecure, NotKeyed, Fail, Held, Accepted, Packet}
 use Rattle.link_script.specs.Words.{Text, bytes_word, side_word, port_word}
-use Rattle.link_script.specs.Lines.{fault_word, sub_word, fail_word, effect_word, bit_of, unit_words, sync_words, packet_words, more_packets_words, packets_words, effects_words, verdict_words}
+use Rattle.ide_types.specs.Names.{fault_word}
+use Rattle.link_script.specs.Lines.{sub_word, fail_word, effect_word, bit_of, unit_words, sync_words, packet_words, more_packets_words, packets_words, effects_words, verdict_words}
 use Rattle.link_script.specs.Apart.{LinesApart, Fits, FitsUnit, FitsPacket, FitPackets}
 use Rattle.link_script.proofs.Joins.{IsWord, AreWords, line_apart}
 use Rattle.link_script.proofs.Readings.{verdict, verdict_back}

@@ -7,8 +7,7 @@ use Rattle.ide_types.specs.declared.sub.FailCause.{FailCause}
 use Rattle.ide_types.specs.declared.sub.FailCause.TheVariants as fail
 use Rattle.link_script.specs.declared.fault.LineFault.{LineFault}
 use Rattle.link_script.specs.declared.fault.LineFault.TheVariants.{Word, Count, Number, Hex, TooLong, NotAscii}
-use Rattle.link_script.specs.declared.verdict.FaultWord.{FaultWord}
-use Rattle.link_script.specs.declared.verdict.FaultWord.TheVariants as fault
+use Rattle.ide_types.specs.Names.{fault_word}
 use Rattle.link_script.specs.declared.verdict.BlockCause.{BlockCause}
 use Rattle.link_script.specs.declared.verdict.BlockCause.TheVariants.{NotTrusted, NotRunning, WrongStream, Stale, Outside, Crosses}
 use Rattle.link_script.specs.declared.verdict.Effect.{Effect}
@@ -21,17 +20,6 @@ use Rattle.link_script.specs.declared.verdict.Verdict.TheVariants.{Nothing, Malf
 use Rattle.link_script.specs.Words.{Text, joined, port_word, bytes_word}
 
 -- ---- names
-
-abbrev pub fault_word : FaultWord → Text
-fault_word fault.Short = codes "short"
-fault_word fault.Reserved = codes "reserved"
-fault_word fault.SubStream = codes "substream"
-fault_word fault.Class = codes "class"
-fault_word fault.Kind = codes "kind"
-fault_word fault.Bit = codes "bit"
-fault_word fault.Length = codes "length"
-fault_word fault.Sync = codes "sync"
-fault_word fault.Trailing = codes "trailing"
 
 abbrev pub sub_word : SubKind → Text
 sub_word Pr = codes "pr"

@@ -14,7 +14,7 @@ mod words;
 
 pub use event::{Event, PortName, Side};
 pub use fault::{LineError, LineFault};
-pub use ide_types::Memory;
+pub use ide_types::{FaultWord, Memory};
 pub use lines::{fault_line, line, lines_apart, totals_line};
 pub use parse::{lines_spell, parse_line};
-pub use verdict::{BlockCause, Effect, FaultWord, SealedPacket, Totals, UnitName, Verdict};
+pub use verdict::{BlockCause, Effect, SealedPacket, Totals, UnitName, Verdict};

@@ -2,9 +2,9 @@
 
 ghost use Rattle.std.specs.Prelude.{◌≡◌, Some};
 ghost use Rattle.link_script.specs.Words.{side_word, port_word};
-ghost use Rattle.link_script.specs.Lines.{sub_word, fail_word, fault_word, block_word, effect_word, line_fault_word};
+ghost use Rattle.link_script.specs.Lines.{sub_word, fail_word, block_word, effect_word, line_fault_word};
 
-use crate::{BlockCause, Effect, FaultWord, LineFault, PortName, Side};
+use crate::{BlockCause, Effect, LineFault, PortName, Side};
 use ide_types::{FailCause, SubKind};
 use std::fmt;
 
@@ -24,24 +24,6 @@ impl fmt::Display for PortName {
 
     fn fmt<W: fmt::Write>(&self, f: &mut fmt::Formatter<W>) -> fmt::Result {
         write!(f, "{}{}", self.side, self.link)
-    }
-}
-
-impl fmt::Display for FaultWord {
-    ghost output = { λ w. Some (fault_word w) };
-
-    fn fmt<W: fmt::Write>(&self, f: &mut fmt::Formatter<W>) -> fmt::Result {
-        f.write_str(match self {
-            FaultWord::Short => "short",
-            FaultWord::Reserved => "reserved",
-            FaultWord::SubStream => "substream",
-            FaultWord::Class => "class",
-            FaultWord::Kind => "kind",
-            FaultWord::Bit => "bit",
-            FaultWord::Length => "length",
-            FaultWord::Sync => "sync",
-            FaultWord::Trailing => "trailing",
-        })
     }
 }
 

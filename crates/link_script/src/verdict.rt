@@ -1,24 +1,7 @@
 //! What each event of a script comes to.
 
 use crate::PortName;
-use ide_types::{Bytes, FailCause, Items, SubKind};
-
-/// Why bytes are no TLP or packet. Of a TLP: too few bytes, a set bit that has to be clear, no known kind, a
-/// wrong length, bytes behind the end. Of a packet besides: a reserved field, no such sub-stream, a TLP of
-/// another class than the sub-stream, a wrong sync packet (PCI Express Base 6.0 section 2.2, and this
-/// profile).
-#[derive(Clone, Copy, Debug, PartialEq, Eq)]
-pub enum FaultWord {
-    Short,
-    Reserved,
-    SubStream,
-    Class,
-    Kind,
-    Bit,
-    Length,
-    Sync,
-    Trailing,
-}
+use ide_types::{Bytes, FailCause, FaultWord, Items, SubKind};
 
 /// A sealed packet: its number over the run, from 1, and what its prefix says (PCI Express Base 6.0
 /// section 6.33).

@@ -1,44 +1,34 @@
--- Headers are a grammar, and TLPs are one.
-use Rattle.std.proofs.Common.{◌≡◌, ℕ, zero, suc, ◌+◌, ◌-◌, ◌<◌, ◌≤◌, Bool, true, false, ltb, IsTrue, List, [], ◌∷◌, ◌++◌, length, get_or, take, drop, replicate, refl, sym, ap, subst, ◌∙◌, inl, inr, arith, append_assoc, length-append, length-take, length-drop, get_or-take, get_or-drop, take-append-drop}
+-- Headers are a grammar, and TLPs are one: what is spelled walks byte by byte; what walks and wants no more has a right
+-- header and as many bytes behind it as that wants, and is spelled; and else a byte more may follow, until none is wanted.
+use Rattle.std.proofs.Common.{◌≡◌, ℕ, zero, suc, ◌+◌, ◌-◌, ◌<◌, ◌≤◌, ◌*◌, ◌%◌, true, cond, ltb, IsTrue, List, [], ◌∷◌, ◌++◌, length, get_or, take, drop, refl, sym, ap, subst, ◌∙◌, inl, inr, arith, length-append, length-take, length-drop, get_or-take, get_or-drop, take-append-drop}
 use Rattle.std.specs.Prelude.{All}
-use Rattle.std.proofs.lemmas.Bool.{cases_lt, ltb-true, lt-ltb}
-use Rattle.std.proofs.lemmas.List.{get_or_past, get_or_append_left, get_or-append_right, length-replicate}
-use Rattle.std.proofs.lemmas.List.Elements.{All-append, All-replicate, All-from_get_or}
-use Rattle.tlp_layout.specs.declared.layout.Layout.{Layout}
-use Rattle.tlp_layout.specs.declared.layout.Layout.TheVariants as layouts
-use Rattle.tlp_layout.specs.declared.head.Lead.{Lead}
-use Rattle.tlp_layout.specs.declared.head.HeadView.{HeadView}
-use Rattle.tlp_layout.specs.declared.head.Fields.{Fields}
-use Rattle.tlp_layout.specs.declared.head.Fields.TheVariants as fields
+use Rattle.std.proofs.lemmas.Bool.{cases_lt, ltb-true, lt-ltb, le-ltb, and_parts}
+use Rattle.std.proofs.lemmas.List.{get_or_past, get_or_push, take_at, take_all, get_or_append_left, get_or-append_right}
+use Rattle.std.proofs.lemmas.List.Elements.{All-from_get_or}
+use Rattle.tlp_layout.specs.{Layout, HeadView, head_bytes, FitsHead, SpellsHead, IsHead, head_size, has_data, head_of, rest_size, wants_head, wants_tlp, whole_size, may_follow, layout_of, body_size, tlp_bytes, FitsTlp, Spells, IsTlp, header, body, with_payload}
 use Rattle.tlp_layout.specs.declared.tlp.Tlp.{Tlp}
-use Rattle.first_fault.specs.Fronts.{Begins}
-use Rattle.tlp_layout.specs.Head.{head_bytes, FitsHead, IsHead}
-use Rattle.tlp_layout.specs.Causes.{head_size}
-use Rattle.tlp_layout.specs.Reading.{head_of, rest_size, wants_head, wants_tlp, whole_size, may_follow}
-use Rattle.tlp_layout.specs.Tlp.{body_size, tlp_bytes, FitsTlp, Spells, IsTlp, header, body}
-use Rattle.tlp_layout.specs.View.{with_fields}
+use Rattle.tlp_layout.specs.declared.layout.Layout.TheVariants as layouts
+use Rattle.tlp_layout.specs.Reading.{fields_of}
 use Rattle.first_fault.proofs.Cells.{IsBytes, all_bytes}
-use Rattle.tlp_layout.proofs.Heads.{layout_of, IsRight, Head-of, back, kept, again}
-use Rattle.tlp_layout.proofs.Walk.{IsWalked, whole_front, fits_from, walked_from, filled, filler, filled_right, head_size_at_least}
-use Rattle.first_fault.proofs.Fronts.{Walks, IsGrammar}
+use Rattle.tlp_layout.proofs.Heads.{IsRight, back, kept, again, head_size_at_least}
+use Rattle.tlp_layout.proofs.Walk.{IsWalked, whole_front, fits_from, walked_in, next_tlp, next_fits, head_size_at_most, body_at_most}
+use Rattle.first_fault.proofs.Fronts.{Walks, IsGrammar, IsStepped, grammar_of}
 
 -- ---- headers
 
 right_walks : (k : Layout) (s : List ℕ) → IsRight k s → IsWalked k s (length s)
 right_walks k s r = record { fit = λ i lt. r.fit i; kind = r.kind; agrees = λ i p lt less. r.agrees i p lt }
 
-needs_head_at : (s : List ℕ) → length s ≡ head_size (get_or s 0 0) → (i : ℕ) → i < length s → IsTrue (wants_head (take i s))
-needs_head_at s size zero lt = refl
-needs_head_at s size (suc i) lt =
-    let long : length (take (suc i) s) ≡ suc i = omega (arith, length-take (suc i) s) in
-    let first : get_or (take (suc i) s) 0 0 ≡ get_or s 0 0 = get_or-take (suc i) s 0 0 (omega arith) in
-    rw (long, first) (lt-ltb _ _ (omega arith))
+pub needs_head_front : (s : List ℕ) (n : ℕ) → n ≤ length s → (0 < n → n < head_size (get_or s 0 0)) → IsTrue (wants_head (take n s))
+needs_head_front s zero le small = refl
+needs_head_front s (suc n) le small =
+    let long : length (take (suc n) s) ≡ suc n = omega (arith, length-take (suc n) s) in
+    let first : get_or (take (suc n) s) 0 0 ≡ get_or s 0 0 = get_or-take (suc n) s 0 0 (omega arith) in
+    let less = small (omega arith) in
+    rw (long, first) (lt-ltb _ _ less)
 
 pub is_right : (s : List ℕ) → IsHead s → (k : Layout) × IsRight k s
 is_right s h = (layout_of h.head.fields, subst (IsRight (layout_of h.head.fields)) (sym h.spells.spelled) (kept h.head h.spells.fits))
-
-head_from : (k : Layout) (s : List ℕ) → IsRight k s → IsHead s
-head_from k s r = record { head = head_of k s; spells = back k s r }
 
 -- a front of a header is at most as long
 front_size : (s : List ℕ) → ((i : ℕ) → i < length s → IsTrue (wants_head (take i s))) → (n : ℕ) → length s ≡ suc n → length s ≤ head_size (get_or s 0 0)
@@ -49,46 +39,81 @@ front_size s f (suc n) e =
     let less : ltb (suc n) (head_size (get_or s 0 0)) ≡ true = rw (long, first) at (f (suc n) (omega arith)) in
     omega (arith, ltb-true _ _ less)
 
-one_zero : (i : ℕ) → i < 1 → get_or {A = ℕ} (0 ∷ []) i 0 < 256
-one_zero zero lt = omega arith
-one_zero (suc i) lt = absurd (omega arith)
+pub take_right : (k : Layout) (s : List ℕ) (n : ℕ) → n ≡ head_size (get_or s 0 0) → n ≤ length s → IsWalked k s (length s) → IsRight k (take n s)
+take_right k s n e le w =
+    let some : 12 ≤ n = omega (arith, head_size_at_least (get_or s 0 0)) in
+    let long : length (take n s) ≡ n = omega (arith, length-take n s) in
+    let first : get_or (take n s) 0 0 ≡ get_or s 0 0 = get_or-take n s 0 0 (omega arith) in
+    record {
+      fit = λ i. elim (cases_lt i n) [
+        | inl lt ↦ rw (get_or-take n s i 0 lt) (w.fit i (omega arith))
+        | inr past ↦ rw (get_or_past (take n s) i 0 (omega arith)) (omega arith)
+      ];
+      kind = rw first w.kind;
+      size = rw first (long ∙ e);
+      agrees = λ i p lt. let here : i < n = omega arith in rw (first, get_or-take n s i 0 here) (w.agrees i p (omega arith) (omega arith));
+    }
 
-one_zero_walks : IsWalked layouts.Memory (0 ∷ []) 1
-one_zero_walks = record { fit = one_zero; kind = refl; agrees = λ i p lt less. absurd (omega arith) }
+pub rest_front : (n : ℕ) (s : List ℕ) → 4 ≤ n → rest_size (take n s) ≡ rest_size s
+rest_front n s le =
+    let l0 : 0 < n = omega arith in
+    let l2 : 2 < n = omega arith in
+    let l3 : 3 < n = omega arith in
+    rw (get_or-take n s 0 0 l0, get_or-take n s 2 0 l2, get_or-take n s 3 0 l3) refl
 
-head_goes_on : (s : List ℕ) → Walks wants_head may_follow s → Begins IsHead s
-head_goes_on [] w = record { rest = filled layouts.Memory (0 ∷ []); spelled = head_from layouts.Memory _ (filled_right layouts.Memory (0 ∷ []) (omega arith) (omega arith) one_zero_walks) }
-head_goes_on (b ∷ bs) w =
+head_whole_at : (k : Layout) (s : List ℕ) → IsWalked k s (length s) → length s ≡ head_size (get_or s 0 0) → IsHead s
+head_whole_at k s w size =
+    let r = rw (take_all (length s) s (omega arith)) at (take_right k s (length s) size (omega arith) w) in
+    record { head = head_of k s; spells = back k s r }
+
+pub head_whole : (s : List ℕ) → Walks wants_head may_follow s → (IsTrue (wants_head s) → ⊥) → IsHead s
+head_whole [] w done = absurd (done refl)
+head_whole (b ∷ bs) w done =
+    let k = walked_in (b ∷ bs) (length (b ∷ bs)) (omega arith) (omega arith) w.fitting in
     let size = front_size (b ∷ bs) w.needed (length bs) refl in
-    let k = walked_from (b ∷ bs) (length (b ∷ bs)) (omega arith) (omega arith) w.fitting in
-    record { rest = drop (length (b ∷ bs)) (filler k.0 b); spelled = head_from k.0 _ (filled_right k.0 (b ∷ bs) (omega arith) size k.1) }
+    elim (cases_lt (length (b ∷ bs)) (head_size b)) [
+      | inl less ↦ absurd (done (lt-ltb _ _ less))
+      | inr past ↦ head_whole_at k.0 (b ∷ bs) k.1 (omega arith)
+    ]
+
+-- how many bytes are left to come, at most
+abbrev left_head : List ℕ → ℕ
+left_head s = cond (ltb (length s) 1) 100 (head_size (get_or s 0 0) - length s)
+
+head_falls : (s : List ℕ) (b : ℕ) → IsTrue (wants_head s) → left_head (s ++ b ∷ []) < left_head s
+head_falls s b needs =
+    let more : length (s ++ b ∷ []) ≡ length s + 1 = length-append s (b ∷ []) in
+    let less : length s < head_size (get_or s 0 0) = ltb-true _ _ needs in
+    let past = le-ltb (length (s ++ b ∷ [])) 1 (omega arith) in
+    elim (cases_lt (length s) 1) [
+      | inl few ↦ rw (lt-ltb (length s) 1 few, past) (omega (arith, head_size_at_most (get_or (s ++ b ∷ []) 0 0)))
+      | inr many ↦
+          let first : get_or (s ++ b ∷ []) 0 0 ≡ get_or s 0 0 = get_or_append_left s (b ∷ []) 0 0 (omega arith) in
+          rw (le-ltb (length s) 1 many, past, first) (omega (arith, more, less))
+    ]
+
+heads_step : IsStepped IsHead wants_head may_follow next_tlp left_head
+heads_step = record {
+  walks = λ s h.
+      let r = is_right s h in
+      record { needed = λ i lt. needs_head_front s i (omega arith) (λ _. omega (arith, r.1.size)); fitting = fits_from r.0 s (length s) (right_walks r.0 s r.1) (omega arith) };
+  ends = λ s h e.
+      let r = is_right s h in
+      let size = r.1.size in
+      let less : length s < head_size (get_or s 0 0) = ltb-true _ _ e in omega arith;
+  whole = head_whole;
+  fills = λ s w needs. next_fits s w.fitting;
+  falls = λ s w needs. head_falls s (next_tlp s) needs;
+}
 
 pub heads : IsGrammar IsHead wants_head may_follow
-heads = record {
-  walks = λ s h. let r = is_right s h in record { needed = needs_head_at s r.1.size; fitting = fits_from r.0 s (length s) (right_walks r.0 s r.1) (omega arith) };
-  ends = λ s h e. let r = is_right s h in let size = r.1.size in let less : length s < head_size (get_or s 0 0) = ltb-true _ _ e in omega arith;
-  goes_on = head_goes_on;
-}
+heads = grammar_of IsHead wants_head may_follow next_tlp left_head heads_step
 
 -- ---- TLPs
 
-pub spells_with : (l : Lead) (p : Bool) (f : Fields) (b : List ℕ) → FitsHead (Head-of l p f) → length b ≡ body_size p l.length → All (λ x. x < 256) b
-    → Spells (with_fields l p f b) (head_bytes (Head-of l p f) ++ b)
-spells_with l true (fields.Memory f) b h e all = record { fits = record { head = h; size = e; bytes = all }; spelled = refl }
-spells_with l true (fields.Config f) b h e all = record { fits = record { head = h; size = e; bytes = all }; spelled = refl }
-spells_with l true (fields.Message f) b h e all = record { fits = record { head = h; size = e; bytes = all }; spelled = refl }
-spells_with l true (fields.Completion f) b h e all = record { fits = record { head = h; size = e; bytes = all }; spelled = refl }
-spells_with l false (fields.Memory f) [] h e all = record { fits = record { head = h; size = e; bytes = all }; spelled = refl }
-spells_with l false (fields.Config f) [] h e all = record { fits = record { head = h; size = e; bytes = all }; spelled = refl }
-spells_with l false (fields.Message f) [] h e all = record { fits = record { head = h; size = e; bytes = all }; spelled = refl }
-spells_with l false (fields.Completion f) [] h e all = record { fits = record { head = h; size = e; bytes = all }; spelled = refl }
-spells_with l false f (x ∷ b) h e all = absurd (omega arith)
-
-pub completes : (k : Layout) (h b : List ℕ) → IsRight k h → length b ≡ rest_size h → All (λ x. x < 256) b → IsTlp (h ++ b)
-completes k h b r e all =
-    let s = back k h r in
-    let v = head_of k h in
-    record { tlp = with_fields v.lead v.has_payload v.fields b; spells = subst (λ (x : List ℕ). Spells (with_fields v.lead v.has_payload v.fields b) (x ++ b)) (sym s.spelled) (spells_with v.lead v.has_payload v.fields b s.fits e all) }
+pub spells_with : (h : HeadView) (b : List ℕ) → FitsHead h → length b ≡ body_size h.has_payload h.lead.length
+    → All (λ x. x < 256) b → Spells (with_payload h b) (head_bytes h ++ b)
+spells_with h b fits e all = record { fits = record { head = fits; size = e; bytes = all }; spelled = refl }
 
 -- bytes that are a TLP: a right header, and as many bytes behind it as it wants
 pub record IsWhole (k : Layout) (s : List ℕ) : Type 0 where
@@ -142,69 +167,86 @@ front_whole s f n e many =
     let less = ltb-true _ _ (f n (omega arith)) in
     omega (arith, long, whole_front n s many, less)
 
-zeros_are_bytes : (n : ℕ) → All (λ x. x < 256) (replicate n 0)
-zeros_are_bytes n = All-replicate (λ (x : ℕ). x < 256) n 0 (omega arith)
+kind_again : (k : Layout) (s : List ℕ) → layout_of (fields_of k s) ≡ k
+kind_again layouts.Memory s = refl
+kind_again layouts.Config s = refl
+kind_again layouts.Message s = refl
+kind_again layouts.Completion s = refl
 
--- a header's front goes on to a TLP
-short_goes_on : (k : Layout) (s : List ℕ) → 0 < length s → length s ≤ head_size (get_or s 0 0) → IsWalked k s (length s) → Begins IsTlp s
-short_goes_on k s pos le w =
-    let h = filled k s in
-    let tail = drop (length s) (filler k (get_or s 0 0)) in
-    record {
-      rest = tail ++ replicate (rest_size h) 0;
-      spelled = subst IsTlp (append_assoc s tail (replicate (rest_size h) 0)) (completes k h (replicate (rest_size h) 0) (filled_right k s pos le w) (length-replicate (rest_size h) 0) (zeros_are_bytes (rest_size h)));
-    }
+-- the header is that of its bytes alone
+head_front : (k : Layout) (s : List ℕ) (n : ℕ) → SpellsHead (head_of k (take n s)) (take n s) → head_of k s ≡ head_of k (take n s)
+head_front k s n r =
+    let v = head_of k (take n s) in
+    let one : head_of (layout_of v.fields) (head_bytes v ++ drop n s) ≡ v = again v (drop n s) r.fits in
+    let parts : head_bytes v ++ drop n s ≡ s = ap (λ (x : List ℕ). x ++ drop n s) (sym r.spelled) ∙ take-append-drop n s in
+    subst (λ (j : Layout). head_of j s ≡ v) (kind_again k (take n s)) (subst (λ (x : List ℕ). head_of (layout_of v.fields) x ≡ v) parts one)
 
-pub take_right : (k : Layout) (s : List ℕ) (n : ℕ) → n ≡ head_size (get_or s 0 0) → n ≤ length s → IsWalked k s (length s) → IsRight k (take n s)
-take_right k s n e le w =
-    let some : 12 ≤ n = omega (arith, head_size_at_least (get_or s 0 0)) in
-    let long : length (take n s) ≡ n = omega (arith, length-take n s) in
-    let first : get_or (take n s) 0 0 ≡ get_or s 0 0 = get_or-take n s 0 0 (omega arith) in
-    record {
-      fit = λ i. elim (cases_lt i n) [
-        | inl lt ↦ rw (get_or-take n s i 0 lt) (w.fit i (omega arith))
-        | inr past ↦ rw (get_or_past (take n s) i 0 (omega arith)) (omega arith)
-      ];
-      kind = rw first w.kind;
-      size = rw first (long ∙ e);
-      agrees = λ i p lt. let here : i < n = omega arith in rw (first, get_or-take n s i 0 here) (w.agrees i p (omega arith) (omega arith));
-    }
-
-pub rest_front : (n : ℕ) (s : List ℕ) → 4 ≤ n → rest_size (take n s) ≡ rest_size s
-rest_front n s le =
-    let l0 : 0 < n = omega arith in
-    let l2 : 2 < n = omega arith in
-    let l3 : 3 < n = omega arith in
-    rw (get_or-take n s 0 0 l0, get_or-take n s 2 0 l2, get_or-take n s 3 0 l3) refl
-
-pub drop_bytes : (n : ℕ) (s : List ℕ) → ((i : ℕ) → i < length s → get_or s i 0 < 256) → All (λ x. x < 256) (drop n s)
-drop_bytes n s f = All-from_get_or (λ (x : ℕ). x < 256) (drop n s) 0 (λ i lt. rw get_or-drop (f (n + i) (omega (arith, length-drop n s))))
-
-long_goes_on : (k : Layout) (s : List ℕ) → head_size (get_or s 0 0) ≤ length s → length s ≤ whole_size s → IsWalked k s (length s) → Begins IsTlp s
-long_goes_on k s le size w =
+-- what walks and is as long as its header says is spelled by its parts
+pub parts_spell : (k : Layout) (s : List ℕ) → IsWalked k s (length s) → length s ≡ whole_size s
+    → Spells (with_payload (head_of k s) (drop (head_size (get_or s 0 0)) s)) s
+parts_spell k s w size =
     let n = head_size (get_or s 0 0) in
-    let more = replicate {A = ℕ} (whole_size s - length s) 0 in
-    let some : 12 ≤ n = head_size_at_least (get_or s 0 0) in
-    let wants : length (drop n s ++ more) ≡ rest_size (take n s) = omega (arith, length-append (drop n s) more, length-drop n s, length-replicate {A = ℕ} (whole_size s - length s) 0, rest_front n s (omega arith)) in
-    let all = All-append (λ (x : ℕ). x < 256) (drop n s) more (drop_bytes n s w.fit) (zeros_are_bytes (whole_size s - length s)) in
-    let whole = completes k (take n s) (drop n s ++ more) (take_right k s n refl le w) wants all in
-    let same : take n s ++ (drop n s ++ more) ≡ s ++ more = sym (append_assoc (take n s) (drop n s) more) ∙ ap (λ (x : List ℕ). x ++ more) (take-append-drop n s) in
-    record { rest = more; spelled = subst IsTlp same whole }
+    let r = back k (take n s) (take_right k s n refl (omega (arith, size)) w) in
+    let v = head_of k (take n s) in
+    let same : head_of k s ≡ v = head_front k s n r in
+    let long : length (drop n s) ≡ body_size v.has_payload v.lead.length =
+    omega (arith, length-drop n s, ap (λ (x : HeadView). body_size x.has_payload x.lead.length) same) in
+    let bytes = All-from_get_or (λ (x : ℕ). x < 256) (drop n s) 0 (λ i lt. rw get_or-drop (w.fit (n + i) (omega (arith, length-drop n s)))) in
+    let one = spells_with v (drop n s) r.fits long bytes in
+    let parts : head_bytes v ++ drop n s ≡ s = ap (λ (x : List ℕ). x ++ drop n s) (sym r.spelled) ∙ take-append-drop n s in
+    subst (λ (x : HeadView). Spells (with_payload x (drop n s)) s) (sym same) (subst (Spells (with_payload v (drop n s))) parts one)
 
-tlp_goes_on : (s : List ℕ) → Walks wants_tlp may_follow s → Begins IsTlp s
-tlp_goes_on [] w = let b = short_goes_on layouts.Memory (0 ∷ []) (omega arith) (omega arith) one_zero_walks in record { rest = 0 ∷ b.rest; spelled = b.spelled }
-tlp_goes_on (b ∷ bs) w =
-    let k = walked_from (b ∷ bs) (length (b ∷ bs)) (omega arith) (omega arith) w.fitting in
-    elim (cases_lt (head_size b) (length (b ∷ bs))) [
-      | inr short ↦ short_goes_on k.0 (b ∷ bs) (omega arith) short k.1
-      | inl long ↦
-          let many : 4 ≤ length bs = omega (arith, head_size_at_least b) in
-          long_goes_on k.0 (b ∷ bs) (omega arith) (front_whole (b ∷ bs) w.needed (length bs) refl many) k.1
+pub tlp_whole : (s : List ℕ) → Walks wants_tlp may_follow s → (IsTrue (wants_tlp s) → ⊥) → IsTlp s
+tlp_whole [] w done = absurd (done refl)
+tlp_whole (b ∷ bs) w done =
+    let k = walked_in (b ∷ bs) (length (b ∷ bs)) (omega arith) (omega arith) w.fitting in
+    let least = head_size_at_least b in
+    elim (cases_lt (length (b ∷ bs)) (whole_size (b ∷ bs))) [
+      | inl less ↦ absurd (done (lt-ltb _ _ less))
+      | inr past ↦
+          let size = front_whole (b ∷ bs) w.needed (length bs) refl (omega arith) in
+          record { tlp = _; spells = parts_spell k.0 (b ∷ bs) k.1 (omega arith) }
     ]
 
-pub tlps : IsGrammar IsTlp wants_tlp may_follow
-tlps = record {
-  walks = λ s t. let r = is_whole s t in record { needed = needs_tlp_at s (omega (arith, r.1.size)); fitting = fits_from r.0 s (length s) r.1.walked (omega arith) };
-  ends = λ s t e. let r = is_whole s t in let size = r.1.size in let less : length s < whole_size s = ltb-true _ _ e in omega arith;
-  goes_on = tlp_goes_on;
+abbrev left_tlp : List ℕ → ℕ
+left_tlp s = cond (ltb (length s) 4) (10000 - length s) (whole_size s - length s)
+
+size_at_most : (s : List ℕ) → get_or s 3 0 < 256 → whole_size s ≤ 4112
+size_at_most s fit =
+    let body = body_at_most (has_data (get_or s 0 0)) (256 * (get_or s 2 0 % 4) + get_or s 3 0) (omega arith) in
+    omega (arith, body, head_size_at_most (get_or s 0 0))
+
+tlp_falls : (s : List ℕ) (b : ℕ) → b < 256 → IsTrue (wants_tlp s) → left_tlp (s ++ b ∷ []) < left_tlp s
+tlp_falls s b small needs =
+    let more : length (s ++ b ∷ []) ≡ length s + 1 = length-append s (b ∷ []) in
+    let less : length s < whole_size s = ltb-true _ _ needs in
+    elim (cases_lt (length s) 4) [
+      | inl few ↦ elim (cases_lt (length s) 3) [
+        | inl fewer ↦ rw (lt-ltb (length s) 4 few, lt-ltb (length (s ++ b ∷ [])) 4 (omega arith)) (omega arith)
+        | inr three ↦
+            let last : get_or (s ++ b ∷ []) 3 0 ≡ b = get_or_push s b 0 3 (omega arith) in
+            let most = size_at_most (s ++ b ∷ []) (rw last small) in
+            rw (lt-ltb (length s) 4 few, le-ltb (length (s ++ b ∷ [])) 4 (omega arith)) (omega (arith, more, most))
+      ]
+      | inr many ↦
+          let front : whole_size (take (length s) (s ++ b ∷ [])) ≡ whole_size (s ++ b ∷ []) = whole_front (length s) (s ++ b ∷ []) many in
+          let same = ap whole_size (take_at s (b ∷ []) (length s) refl) in
+          rw (le-ltb (length s) 4 many, le-ltb (length (s ++ b ∷ [])) 4 (omega arith)) (omega (arith, more, less, front, same))
+    ]
+
+tlps_step : IsStepped IsTlp wants_tlp may_follow next_tlp left_tlp
+tlps_step = record {
+  walks = λ s t.
+      let r = is_whole s t in
+      record { needed = needs_tlp_at s (omega (arith, r.1.size)); fitting = fits_from r.0 s (length s) r.1.walked (omega arith) };
+  ends = λ s t e.
+      let r = is_whole s t in
+      let size = r.1.size in
+      let less : length s < whole_size s = ltb-true _ _ e in omega arith;
+  whole = tlp_whole;
+  fills = λ s w needs. next_fits s w.fitting;
+  falls = λ s w needs. tlp_falls s (next_tlp s) (ltb-true _ _ (and_parts _ _ (next_fits s w.fitting)).0) needs;
 }
+
+pub tlps : IsGrammar IsTlp wants_tlp may_follow
+tlps = grammar_of IsTlp wants_tlp may_follow next_tlp left_tlp tlps_step

@@ -1,53 +1,14 @@
 -- The readings are those of the grammar: what they read is spelled so, and what they refuse goes off there.
-use Rattle.std.proofs.Common.{◌≡◌, ℕ, ◌≤◌, Bool, IsTrue, List, [], ◌++◌, length, cond, get_or, take, drop, Option, Some, None, unwrap_or, Result, Ok, Err, refl, sym, ap, subst, ◌∙◌, inl, inr, arith, append-nil, length-append, take_at, ◌<◌, true, false}
+use Rattle.std.proofs.Common.{◌≡◌, ℕ, ◌≤◌, Bool, List, [], ◌++◌, length, cond, get_or, take, drop, Option, unwrap_or, Result, Ok, Err, refl, sym, ap, subst, ◌∙◌, arith, append-nil, ◌<◌}
 use Rattle.std.specs.Prelude.{All, ◌↔◌, IfOk, IfErr, MatchResult}
 use Rattle.std.proofs.Math.Seq.{drop-append_seam, take-append_seam}
-use Rattle.std.proofs.lemmas.Bool.{cases_lt, lt-ltb}
-use Rattle.std.proofs.lemmas.List.{get_or_append_left, nil_from_length}
-use Rattle.first_fault.proofs.Fronts.{Walks}
 use Rattle.first_fault.proofs.Walks.{IsReadable, reads, read_spells, refuses, refused_at}
-use Rattle.tlp_layout.specs.declared.layout.Layout.{Layout}
-use Rattle.tlp_layout.specs.declared.layout.Layout.TheVariants as layouts
-use Rattle.tlp_layout.specs.declared.fault.TlpFault.{TlpFault}
-use Rattle.tlp_layout.specs.declared.head.Lead.{Lead}
-use Rattle.tlp_layout.specs.declared.head.Fields.{Fields}
-use Rattle.tlp_layout.specs.declared.head.Fields.TheVariants as fields
-use Rattle.tlp_layout.specs.declared.head.HeadView.{HeadView}
+use Rattle.tlp_layout.specs.{Layout, TlpFault, HeadView, TlpView, head_bytes, head_length, FitsHead, SpellsHead, IsHead, body_size, FitsTlp, tlp_bytes, Spells, IsTlp, header, body, with_payload, view_of, viewed, head_size, fault_at, IsFault, IsHeadFault, head_of, head_read, tlp_read, may_follow, wants_head, wants_tlp, read_head_of, read_of}
 use Rattle.tlp_layout.specs.declared.tlp.Tlp.{Tlp}
-use Rattle.tlp_layout.specs.declared.tlp.Tlp.TheVariants.{MemRead, MemWrite, CfgRead, CfgWrite, Message, Completion}
-use Rattle.tlp_layout.specs.declared.tlp.TlpView.{TlpView}
-use Rattle.tlp_layout.specs.Head.{head_bytes, head_length, FitsHead, SpellsHead, IsHead}
-use Rattle.tlp_layout.specs.Tlp.{body_size, FitsTlp, tlp_bytes, Spells, IsTlp, header, body}
-use Rattle.tlp_layout.specs.View.{view_of, viewed, with_fields, with_payload}
-use Rattle.tlp_layout.specs.Causes.{head_size, fault_at}
-use Rattle.tlp_layout.specs.Faults.{IsFault, IsHeadFault}
-use Rattle.tlp_layout.specs.Reading.{head_of, head_in, may_follow, wants_head, wants_tlp, whole_size, read_head_of, read_of}
-use Rattle.tlp_layout.proofs.Heads.{Head-of, kept, again}
-use Rattle.tlp_layout.proofs.Walk.{body_at_most, whole_front, head_size_at_least}
-use Rattle.tlp_layout.proofs.Grammar.{spells_with, heads, tlps, is_right, is_whole}
-
--- ---- what walks and wants no more is spelled
-
-head_whole : (s : List ℕ) → Walks wants_head may_follow s → (IsTrue (wants_head s) → ⊥) → IsHead s
-head_whole s w done =
-    let b = heads.goes_on s w in
-    let le : head_size (get_or s 0 0) ≤ length s = elim (cases_lt (length s) (head_size (get_or s 0 0))) [ inl less ↦ absurd (done (lt-ltb _ _ less)) | inr past ↦ past ] in
-    let some : 12 ≤ length s = omega (arith, head_size_at_least (get_or s 0 0)) in
-    let r = is_right (s ++ b.rest) b.spelled in
-    let first : get_or (s ++ b.rest) 0 0 ≡ get_or s 0 0 = get_or_append_left s b.rest 0 0 (omega arith) in
-    let none : length b.rest ≡ 0 = omega (arith, r.1.size, length-append s b.rest, ap head_size first, le) in
-    subst IsHead (ap (λ (x : List ℕ). s ++ x) (nil_from_length b.rest none) ∙ append-nil s) b.spelled
-
-tlp_whole : (s : List ℕ) → Walks wants_tlp may_follow s → (IsTrue (wants_tlp s) → ⊥) → IsTlp s
-tlp_whole s w done =
-    let b = tlps.goes_on s w in
-    let le : whole_size s ≤ length s = elim (cases_lt (length s) (whole_size s)) [ inl less ↦ absurd (done (lt-ltb _ _ less)) | inr past ↦ past ] in
-    let some : 12 ≤ length s = omega (arith, head_size_at_least (get_or s 0 0)) in
-    let r = is_whole (s ++ b.rest) b.spelled in
-    let front : whole_size (take (length s) (s ++ b.rest)) ≡ whole_size (s ++ b.rest) = whole_front (length s) (s ++ b.rest) (omega arith) in
-    let same : whole_size s ≡ whole_size (s ++ b.rest) = sym (ap whole_size (take_at s b.rest (length s) refl)) ∙ front in
-    let none : length b.rest ≡ 0 = omega (arith, r.1.size, length-append s b.rest, same, le) in
-    subst IsTlp (ap (λ (x : List ℕ). s ++ x) (nil_from_length b.rest none) ∙ append-nil s) b.spelled
+use Rattle.tlp_layout.specs.declared.layout.Layout.TheVariants as layouts
+use Rattle.tlp_layout.proofs.Heads.{kept, again}
+use Rattle.tlp_layout.proofs.Walk.{body_at_most}
+use Rattle.tlp_layout.proofs.Grammar.{spells_with, heads, tlps, head_whole, tlp_whole}
 
 pub readable_heads : IsReadable IsHead wants_head may_follow
 readable_heads = record { grammar = heads; whole = head_whole }
@@ -57,11 +18,11 @@ readable_tlps = record { grammar = tlps; whole = tlp_whole }
 
 -- ---- the value of what is spelled
 
-pub head_again : (h : HeadView) (more : List ℕ) → FitsHead h → head_in (head_bytes h ++ more) ≡ h
+pub head_again : (h : HeadView) (more : List ℕ) → FitsHead h → head_read (head_bytes h ++ more) ≡ h
 head_again h more fits = ap (λ (o : Option Layout). head_of (unwrap_or o layouts.Memory) (head_bytes h ++ more)) (kept h fits).kind ∙ again h more fits
 
-pub head_value : (h : HeadView) (s : List ℕ) → SpellsHead h s → head_in s ≡ h
-head_value h s p = ap head_in (p.spelled ∙ sym (append-nil (head_bytes h))) ∙ head_again h [] p.fits
+pub head_value : (h : HeadView) (s : List ℕ) → SpellsHead h s → head_read s ≡ h
+head_value h s p = ap head_read (p.spelled ∙ sym (append-nil (head_bytes h))) ∙ head_again h [] p.fits
 
 pub drop_front : (a b : List ℕ) (n : ℕ) → n ≡ length a → drop n (a ++ b) ≡ b
 drop_front a b n e = rw e (drop-append_seam a b)
@@ -81,42 +42,19 @@ front_is t s p = record {
 pub rest_is : (t : Tlp) (s : List ℕ) → Spells t s → drop (head_length (header t)) s ≡ body t
 rest_is t s p = ap (drop (head_length (header t))) p.spelled ∙ drop_front (head_bytes (header t)) (body t) _ (sym (head_sized (header t) p.fits.head))
 
-tlp_again : (t : Tlp) → with_payload (header t) (body t) ≡ t
-tlp_again (MemRead l requester tag last_be first_be address) = refl
-tlp_again (MemWrite l requester tag last_be first_be address payload) = refl
-tlp_again (CfgRead l one requester tag last_be first_be destination register) = refl
-tlp_again (CfgWrite l one requester tag last_be first_be destination register payload) = refl
-tlp_again (Message l routing requester tag code rest None) = refl
-tlp_again (Message l routing requester tag code rest (Some payload)) = refl
-tlp_again (Completion l completer status bcm count requester tag lower None) = refl
-tlp_again (Completion l completer status bcm count requester tag lower (Some payload)) = refl
-
-abbrev pub tlp_in : List ℕ → Tlp
-tlp_in s = with_payload (head_in s) (drop (head_size (get_or s 0 0)) s)
-
-pub tlp_value : (t : Tlp) (s : List ℕ) → Spells t s → tlp_in s ≡ t
+pub tlp_value : (t : Tlp) (s : List ℕ) → Spells t s → tlp_read s ≡ t
 tlp_value t s p =
     let h = head_again (header t) (body t) p.fits.head in
     let b : drop (head_size (get_or (tlp_bytes t) 0 0)) (tlp_bytes t) ≡ body t = drop_front (head_bytes (header t)) (body t) _ (sym (kept (header t) p.fits.head).size) in
-    ap tlp_in p.spelled ∙ ap (λ (x : HeadView). with_payload x (drop (head_size (get_or (tlp_bytes t) 0 0)) (tlp_bytes t))) h ∙ ap (with_payload (header t)) b ∙ tlp_again t
+    ap tlp_read p.spelled ∙ ap (λ (x : HeadView). with_payload x (drop (head_size (get_or (tlp_bytes t) 0 0)) (tlp_bytes t))) h ∙ ap (with_payload (header t)) b
 
 pub small_body : (t : Tlp) → FitsTlp t → length (body t) ≤ 4096
 small_body t f = omega (arith, f.size, body_at_most (header t).has_payload (header t).lead.length f.head.lead.length)
 
 -- a header and the payload that it wants
-header_with : (l : Lead) (p : Bool) (f : Fields) (b : List ℕ) → header (with_fields l p f b) ≡ Head-of l p f
-header_with l true (fields.Memory f) b = refl
-header_with l false (fields.Memory f) b = refl
-header_with l true (fields.Config f) b = refl
-header_with l false (fields.Config f) b = refl
-header_with l true (fields.Message f) b = refl
-header_with l false (fields.Message f) b = refl
-header_with l true (fields.Completion f) b = refl
-header_with l false (fields.Completion f) b = refl
-
-pub spells_whole : (h : HeadView) (b : List ℕ) → FitsHead h → length b ≡ body_size h.has_payload h.lead.length → All (λ x. x < 256) b
-    → (Spells (with_payload h b) (head_bytes h ++ b)) × (header (with_payload h b) ≡ h)
-spells_whole h b fits size all = (spells_with h.lead h.has_payload h.fields b fits size all, header_with h.lead h.has_payload h.fields b)
+pub spells_whole : (h : HeadView) (b : List ℕ) → FitsHead h → length b ≡ body_size h.has_payload h.lead.length
+    → All (λ x. x < 256) b → (Spells (with_payload h b) (head_bytes h ++ b)) × (header (with_payload h b) ≡ h)
+spells_whole h b fits size all = (spells_with h b fits size all, refl)
 
 -- ---- one value, one fault
 
@@ -131,33 +69,33 @@ same_head h k s p q = sym (head_value h s p) ∙ head_value k s q
 pub read_head_spells : (h : HeadView) (s : List ℕ) → (SpellsHead h s) ↔ (read_head_of s ≡ Ok h)
 unfolding read_head_of
 read_head_spells h s = (
-  λ p. reads IsHead wants_head may_follow head_in fault_at s readable_heads (record { head = h; spells = p }) ∙ ap (λ (x : HeadView). Ok x) (head_value h s p),
+  λ p. reads IsHead wants_head may_follow head_read fault_at s readable_heads (record { head = h; spells = p }) ∙ ap (λ (x : HeadView). Ok x) (head_value h s p),
   λ e.
-      let r = read_spells IsHead wants_head may_follow head_in fault_at s h readable_heads e in
+      let r = read_spells IsHead wants_head may_follow head_read fault_at s h readable_heads e in
       subst (λ (x : HeadView). SpellsHead x s) (sym (head_value r.0.head s r.0.spells) ∙ r.1) r.0.spells,
 )
 
 pub read_head_refuses : (f : TlpFault) (s : List ℕ) → (IsHeadFault s f) ↔ (read_head_of s ≡ Err f)
 unfolding read_head_of
 read_head_refuses f s = (
-  λ p. refuses IsHead wants_head may_follow head_in fault_at s p.0 readable_heads p.1 ∙ ap (λ (x : TlpFault). Err x) (sym p.2),
-  λ e. refused_at IsHead wants_head may_follow head_in fault_at s f readable_heads e,
+  λ p. refuses IsHead wants_head may_follow head_read fault_at s p.0 readable_heads p.1 ∙ ap (λ (x : TlpFault). Err x) (sym p.2),
+  λ e. refused_at IsHead wants_head may_follow head_read fault_at s f readable_heads e,
 )
 
 pub read_spells_tlp : (t : Tlp) (s : List ℕ) → (Spells t s) ↔ (read_of s ≡ Ok t)
 unfolding read_of
 read_spells_tlp t s = (
-  λ p. reads IsTlp wants_tlp may_follow tlp_in fault_at s readable_tlps (record { tlp = t; spells = p }) ∙ ap (λ (x : Tlp). Ok x) (tlp_value t s p),
+  λ p. reads IsTlp wants_tlp may_follow tlp_read fault_at s readable_tlps (record { tlp = t; spells = p }) ∙ ap (λ (x : Tlp). Ok x) (tlp_value t s p),
   λ e.
-      let r = read_spells IsTlp wants_tlp may_follow tlp_in fault_at s t readable_tlps e in
+      let r = read_spells IsTlp wants_tlp may_follow tlp_read fault_at s t readable_tlps e in
       subst (λ (x : Tlp). Spells x s) (sym (tlp_value r.0.tlp s r.0.spells) ∙ r.1) r.0.spells,
 )
 
 pub read_refuses : (f : TlpFault) (s : List ℕ) → (IsFault s f) ↔ (read_of s ≡ Err f)
 unfolding read_of
 read_refuses f s = (
-  λ p. refuses IsTlp wants_tlp may_follow tlp_in fault_at s p.0 readable_tlps p.1 ∙ ap (λ (x : TlpFault). Err x) (sym p.2),
-  λ e. refused_at IsTlp wants_tlp may_follow tlp_in fault_at s f readable_tlps e,
+  λ p. refuses IsTlp wants_tlp may_follow tlp_read fault_at s p.0 readable_tlps p.1 ∙ ap (λ (x : TlpFault). Err x) (sym p.2),
+  λ e. refused_at IsTlp wants_tlp may_follow tlp_read fault_at s f readable_tlps e,
 )
 
 -- ---- what the readers answer

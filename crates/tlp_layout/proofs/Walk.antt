@@ -1,19 +1,14 @@
--- Headers and TLPs as grammars: which byte may follow a front.
-use Rattle.std.proofs.Common.{◌≡◌, ℕ, zero, suc, ◌+◌, ◌-◌, ◌<◌, ◌≤◌, Bool, true, false, cond, eqb, ltb, bit_and, IsTrue, List, ◌∷◌, ◌++◌, length, get_or, take, drop, replicate, Option, Some, None, is_some, refl, ◌∙◌, inl, inr, arith, length-append, length-take, length-drop, get_or-take, get_or-drop}
+-- Headers and TLPs as grammars: which byte may follow a front. The bytes behind byte 0 are judged each by its place alone,
+-- so what walks is known place by place, and a byte that may come next is always at hand: 0, or the Length that is asked.
+use Rattle.std.proofs.Common.{◌≡◌, ℕ, zero, suc, ◌<◌, ◌≤◌, Bool, true, false, cond, eqb, ltb, bit_and, IsTrue, List, [], ◌∷◌, length, get_or, take, Option, Some, None, is_some, refl, inl, inr, arith, length-take, get_or-take}
 use Rattle.std.proofs.lemmas.Bool.{cases_lt, ltb-true, lt-ltb, le-ltb, ne_eqb, and_parts, and_from, cases_eq, eq-eqb}
-use Rattle.std.proofs.lemmas.List.{get_or_past, get_or-replicate, get_or_append_left, get_or-append_right, length-replicate}
 use Rattle.std.proofs.lemmas.Nat.{and_comm}
-use Rattle.tlp_layout.specs.declared.layout.Layout.{Layout}
+use Rattle.tlp_layout.specs.{Layout, may_follow, whole_size, is_wide, head_size, layout_at, reserved, allowed, body_size}
 use Rattle.tlp_layout.specs.declared.layout.Layout.TheVariants as layouts
-use Rattle.tlp_layout.specs.Reading.{stands_at, may_follow, whole_size}
-use Rattle.tlp_layout.specs.Causes.{is_wide, head_size, layout_at, reserved, allowed}
-use Rattle.tlp_layout.specs.Tlp.{body_size}
-use Rattle.tlp_layout.proofs.Heads.{IsRight}
+use Rattle.tlp_layout.specs.Reading.{stands_at}
+pub use Rattle.tlp_layout.proofs.Heads.{head_size_at_least}
 
 -- ---- sizes
-
-pub head_size_at_least : (b : ℕ) → 12 ≤ head_size b
-head_size_at_least b = elim (is_wide b) as (λ (w : Bool). 12 ≤ cond w 16 12) [ true ↦ omega arith | false ↦ omega arith ]
 
 pub head_size_at_most : (b : ℕ) → head_size b ≤ 16
 head_size_at_most b = elim (is_wide b) as (λ (w : Bool). cond w 16 12 ≤ 16) [ true ↦ omega arith | false ↦ omega arith ]
@@ -54,7 +49,9 @@ some_of : (o : Option Layout) → is_some o ≡ true → (k : Layout) × (o ≡ 
 some_of None e = absurd cc
 some_of (Some k) e = (k, refl)
 
-pub agrees_there : (k : Layout) (s : List ℕ) → layout_at (get_or s 0 0) ≡ Some k → (i : ℕ) → i < length s → 0 < i → i < head_size (get_or s 0 0) → IsTrue (may_follow (take i s) (get_or s i 0)) → allowed k (head_size (get_or s 0 0)) i (get_or s i 0) ≡ true
+pub agrees_there : (k : Layout) (s : List ℕ) → layout_at (get_or s 0 0) ≡ Some k → (i : ℕ) → i < length s → 0 < i
+    → i < head_size (get_or s 0 0) → IsTrue (may_follow (take i s) (get_or s i 0))
+    → allowed k (head_size (get_or s 0 0)) i (get_or s i 0) ≡ true
 agrees_there k s kind zero lt pos less f = absurd (omega arith)
 agrees_there k s kind (suc i) lt pos less f =
     let long : length (take (suc i) s) ≡ suc i = omega (arith, length-take (suc i) s) in
@@ -62,84 +59,61 @@ agrees_there k s kind (suc i) lt pos less f =
     let there : stands_at (length (take (suc i) s)) (take (suc i) s) (get_or s (suc i) 0) ≡ true = (and_parts _ _ f).1 in
     rw (long, first, lt-ltb _ _ less, kind) at there
 
-pub walked_from : (s : List ℕ) (n : ℕ) → 0 < n → n ≤ length s → ((i : ℕ) → i < n → IsTrue (may_follow (take i s) (get_or s i 0))) → (k : Layout) × IsWalked k s n
-walked_from s n pos le f =
+pub walked_in : (s : List ℕ) (n : ℕ) → 0 < n → n ≤ length s → ((i : ℕ) → i < n → IsTrue (may_follow (take i s) (get_or s i 0))) → (k : Layout) × IsWalked k s n
+walked_in s n pos le f =
     let sk : (k : Layout) × (layout_at (get_or s 0 0) ≡ Some k) = some_of (layout_at (get_or s 0 0)) ((and_parts (ltb (get_or s 0 0) 256) (is_some (layout_at (get_or s 0 0))) (f 0 pos)).1) in
     (sk.0, record { fit = λ i lt. ltb-true _ _ ((and_parts _ _ (f i lt)).0); kind = sk.1; agrees = λ i p lt less. agrees_there sk.0 s sk.1 i (omega arith) p less (f i lt) })
 
--- ---- a header of each kind, to go on with
+-- ---- one byte more
 
-abbrev pub length_byte : Layout → ℕ
-length_byte layouts.Memory = 0
+abbrev length_byte : Layout → ℕ
 length_byte layouts.Config = 1
-length_byte layouts.Message = 0
-length_byte layouts.Completion = 0
+length_byte _ = 0
 
-abbrev pub filler : Layout → ℕ → List ℕ
-filler k b = b ∷ 0 ∷ 0 ∷ length_byte k ∷ replicate (head_size b - 4) 0
+abbrev length_of : Option Layout → ℕ
+length_of None = 0
+length_of (Some k) = length_byte k
 
-pub length-filler : (k : Layout) (b : ℕ) → length (filler k b) ≡ head_size b
-length-filler k b = rw length-replicate (omega (arith, head_size_at_least b))
+-- a byte that may follow a front
+abbrev pub next_tlp : List ℕ → ℕ
+next_tlp x = cond (eqb (length x) 3) (length_of (layout_at (get_or x 0 0))) 0
 
 zero_clear : (m : ℕ) → eqb (bit_and m 0) 0 ≡ true
 zero_clear m = rw and_comm refl
 
-pub zeros : (n i : ℕ) → get_or (replicate {A = ℕ} n 0) i 0 ≡ 0
-zeros n i = elim (cases_lt i n) [
-  | inl lt ↦ get_or-replicate n i 0 0 lt
-  | inr le ↦ get_or_past (replicate n 0) i 0 (rw length-replicate le)
-]
-
-pub zero_allowed : (k : Layout) (size i : ℕ) → (i ≡ 3 → ⊥) → allowed k size i 0 ≡ true
+zero_allowed : (k : Layout) (size i : ℕ) → (i ≡ 3 → ⊥) → allowed k size i 0 ≡ true
 zero_allowed layouts.Memory size i ne = and_from _ _ (zero_clear (reserved layouts.Memory size i)) refl
-zero_allowed layouts.Config size i ne = and_from _ _ (zero_clear (reserved layouts.Config size i)) (rw (ne_eqb i 3 ne) refl)
+zero_allowed layouts.Config size i ne =
+    and_from _ _ (zero_clear (reserved layouts.Config size i)) (rw (ne_eqb i 3 ne) refl)
 zero_allowed layouts.Message size i ne = and_from _ _ (zero_clear (reserved layouts.Message size i)) refl
 zero_allowed layouts.Completion size i ne = and_from _ _ (zero_clear (reserved layouts.Completion size i)) refl
 
-pub length_allowed : (k : Layout) (b : ℕ) → allowed k (head_size b) 3 (length_byte k) ≡ true
-length_allowed layouts.Memory b = and_from _ _ (zero_clear (reserved layouts.Memory (head_size b) 3)) refl
-length_allowed layouts.Config b = refl
-length_allowed layouts.Message b = refl
-length_allowed layouts.Completion b = refl
+length_allowed : (k : Layout) (size : ℕ) → (size ≡ 4 → ⊥) → (length_byte k < 256) × (allowed k size 3 (length_byte k) ≡ true)
+length_allowed layouts.Memory size ne = (omega arith, and_from _ _ (zero_clear (reserved layouts.Memory size 3)) refl)
+length_allowed layouts.Config size ne = (omega arith, refl)
+length_allowed layouts.Message size ne = (omega arith, refl)
+length_allowed layouts.Completion size ne = (omega arith, refl)
 
-filler_allowed : (k : Layout) (b i : ℕ) → 0 < i → allowed k (head_size b) i (get_or (filler k b) i 0) ≡ true
-filler_allowed k b zero pos = absurd (omega arith)
-filler_allowed k b (suc zero) pos = zero_allowed k (head_size b) 1 (λ e. omega arith)
-filler_allowed k b (suc (suc zero)) pos = zero_allowed k (head_size b) 2 (λ e. omega arith)
-filler_allowed k b (suc (suc (suc zero))) pos = length_allowed k b
-filler_allowed k b (suc (suc (suc (suc i)))) pos = rw zeros (zero_allowed k (head_size b) (suc (suc (suc (suc i)))) (λ e. omega arith))
+next_place : (k : Layout) (x : List ℕ) (n : ℕ) → length x ≡ suc n → layout_at (get_or x 0 0) ≡ Some k
+    → may_follow x (next_tlp x) ≡ true
+next_place k x n e kind =
+    let least = head_size_at_least (get_or x 0 0) in
+    let asked = length_allowed k (head_size (get_or x 0 0)) (λ four. omega (arith, least)) in
+    elim (cases_eq n 2) [
+      | inl three ↦
+          let long : length x ≡ 3 = omega arith in
+          rw (long, kind) (and_from _ _ (lt-ltb _ _ asked.0) (rw (lt-ltb 3 (head_size (get_or x 0 0)) (omega (arith, least))) asked.1))
+      | inr other ↦
+          let ne : length x ≡ 3 → ⊥ = λ three. omega arith in
+          rw (ne_eqb _ _ ne, e, kind) (elim (cases_lt (suc n) (head_size (get_or x 0 0))) [
+            | inl less ↦ rw (lt-ltb (suc n) _ less) (zero_allowed k (head_size (get_or x 0 0)) (suc n) (λ t. omega arith))
+            | inr past ↦ rw (le-ltb (suc n) _ past) refl
+          ])
+    ]
 
-filler_bytes : (k : Layout) (b i : ℕ) → 0 < i → get_or (filler k b) i 0 < 256
-filler_bytes k b zero pos = absurd (omega arith)
-filler_bytes k b (suc zero) pos = omega arith
-filler_bytes k b (suc (suc zero)) pos = omega arith
-filler_bytes layouts.Memory b (suc (suc (suc zero))) pos = omega arith
-filler_bytes layouts.Config b (suc (suc (suc zero))) pos = omega arith
-filler_bytes layouts.Message b (suc (suc (suc zero))) pos = omega arith
-filler_bytes layouts.Completion b (suc (suc (suc zero))) pos = omega arith
-filler_bytes k b (suc (suc (suc (suc i)))) pos = rw zeros (omega arith)
-
--- the front, and then what a header of its kind may have
-abbrev pub filled : Layout → List ℕ → List ℕ
-filled k s = s ++ drop (length s) (filler k (get_or s 0 0))
-
-pub filled_right : (k : Layout) (s : List ℕ) → 0 < length s → length s ≤ head_size (get_or s 0 0) → IsWalked k s (length s) → IsRight k (filled k s)
-filled_right k s pos le w =
-    let tail = drop (length s) (filler k (get_or s 0 0)) in
-    let first : get_or (s ++ tail) 0 0 ≡ get_or s 0 0 = get_or_append_left s tail 0 0 pos in
-    let size : length (s ++ tail) ≡ head_size (get_or s 0 0) = omega (arith, length-append s tail, length-drop (length s) (filler k (get_or s 0 0)), length-filler k (get_or s 0 0)) in
-    let there : (i : ℕ) → length s ≤ i → get_or (s ++ tail) i 0 ≡ get_or (filler k (get_or s 0 0)) i 0 = λ i past.
-    let n : length s + (i - length s) ≡ i = omega arith in
-    get_or-append_right s tail (length s) i 0 refl past ∙ get_or-drop (length s) (filler k (get_or s 0 0)) (i - length s) 0 ∙ rw n refl in
-    record {
-      fit = λ i. elim (cases_lt i (length s)) [
-        | inl lt ↦ rw (get_or_append_left s tail 0 i lt) (w.fit i lt)
-        | inr past ↦ rw (there i past) (filler_bytes k (get_or s 0 0) i (omega arith))
-      ];
-      kind = rw first w.kind;
-      size = rw first size;
-      agrees = λ i p lt. elim (cases_lt i (length s)) [
-        | inl less ↦ rw (first, get_or_append_left s tail 0 i less) (w.agrees i p less (omega arith))
-        | inr past ↦ rw (first, there i past) (filler_allowed k (get_or s 0 0) i p)
-      ];
-    }
+pub next_fits : (s : List ℕ) → ((i : ℕ) → i < length s → IsTrue (may_follow (take i s) (get_or s i 0)))
+    → IsTrue (may_follow s (next_tlp s))
+next_fits [] f = refl
+next_fits (b ∷ bs) f =
+    let k = walked_in (b ∷ bs) (length (b ∷ bs)) (omega arith) (omega arith) f in
+    next_place k.0 (b ∷ bs) (length bs) refl k.1.kind

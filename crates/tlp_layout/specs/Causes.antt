@@ -1,5 +1,5 @@
--- Which byte may stand at each place of a header, and why another may not (PCI Express Base 6.0 section 2.2; what this
--- profile leaves out is refused).
+-- Which byte may stand at each place of a header, and why another may not (PCI Express Base 6.0 section 2.2, as this
+-- profile has it: see Head).
 use Rattle.std.specs.Prelude.{ℕ, ◌+◌, ◌/◌, ◌%◌, Bool, true, List, length, slice_index, Option, Some, None, nat_lt, nat_le, ◌==◌, ◌&&◌, not, bit_and, if◌then◌else◌}
 use Rattle.tlp_layout.specs.declared.layout.Layout.{Layout}
 use Rattle.tlp_layout.specs.declared.layout.Layout.TheVariants.{Memory, Config, Message, Completion}
@@ -10,11 +10,11 @@ use Rattle.tlp_layout.specs.declared.fault.TlpFault.TheVariants.{Short, Kind, Bi
 
 -- 4 double words
 abbrev pub is_wide : ℕ → Bool
-is_wide b = b / 32 % 2 == 1
+is_wide b = b / 0x20 % 2 == 1
 
 -- a payload follows
 abbrev pub has_data : ℕ → Bool
-has_data b = b / 64 % 2 == 1
+has_data b = b / 0x40 % 2 == 1
 
 -- the header's length in bytes
 abbrev pub head_size : ℕ → ℕ
@@ -23,11 +23,11 @@ head_size b = if is_wide b then 16 else 12
 -- Type 00000, 10rrr with rrr up to 5, 0010x or 01010; a message has 4 double words, the last two have 3
 abbrev pub layout_at : ℕ → Option Layout
 layout_at b =
-    if nat_le 128 b then None
-    else if b % 32 == 0 then Some Memory
-    else if is_wide b && nat_le 16 (b % 32) && nat_lt (b % 32) 22 then Some Message
-    else if not (is_wide b) && (b % 32 / 2 == 2) then Some Config
-    else if not (is_wide b) && (b % 32 == 10) then Some Completion
+    if nat_le 0x80 b then None
+    else if b % 32 == 0x00 then Some Memory
+    else if is_wide b && nat_le 0x10 (b % 32) && nat_lt (b % 32) 0x16 then Some Message
+    else if not (is_wide b) && (b % 32 / 2 == 0x02) then Some Config
+    else if not (is_wide b) && (b % 32 == 0x0a) then Some Completion
     else None
 
 -- ---- the bytes behind it
@@ -36,10 +36,14 @@ layout_at b =
 -- bit 1 and TH of byte 1, TD and EP of byte 2, what is reserved, the two lowest bits of an address,
 -- and in byte 2 of a configuration request Length[9:8]
 abbrev pub reserved : Layout → ℕ → ℕ → ℕ
-reserved Memory size place = if place == 1 then 3 else if place == 2 then 192 else if place + 1 == size then 3 else 0
-reserved Config size place = if place == 1 then 3 else if place == 2 then 195 else if place == 10 then 240 else if place == 11 then 3 else 0
-reserved Message size place = if place == 1 then 3 else if place == 2 then 192 else 0
-reserved Completion size place = if place == 1 then 3 else if place == 2 then 192 else if place == 11 then 128 else 0
+reserved Memory size place =
+    if place == 1 then 0x03 else if place == 2 then 0xc0 else if place + 1 == size then 0x03 else 0x00
+reserved Config size place =
+    if place == 1 then 0x03 else if place == 2 then 0xc3 else if place == 10 then 0xf0
+    else if place == 11 then 0x03 else 0x00
+reserved Message size place = if place == 1 then 0x03 else if place == 2 then 0xc0 else 0x00
+reserved Completion size place =
+    if place == 1 then 0x03 else if place == 2 then 0xc0 else if place == 11 then 0x80 else 0x00
 
 -- Length[7:0] of a configuration request is 1
 abbrev pub has_length : Layout → ℕ → ℕ → Bool
@@ -53,7 +57,10 @@ allowed layout size place b = (bit_and (reserved layout size place) b == 0) && h
 
 -- behind byte 0 of a header: TD and EP come before Length
 abbrev pub cause_at : ℕ → ℕ → TlpFault
-cause_at place b = if place == 2 then (if nat_lt b 64 then Length 2 else Bit 2) else if place == 3 then Length 3 else Bit place
+cause_at place b =
+    if place == 2 then (if nat_lt b 0x40 then Length 2 else Bit 2)
+    else if place == 3 then Length 3
+    else Bit place
 
 abbrev pub fault_at : List ℕ → ℕ → TlpFault
 fault_at s place =

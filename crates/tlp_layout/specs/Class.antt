@@ -1,24 +1,32 @@
--- What a header says of its TLP: one of six kinds, and the sub-stream (PCI Express Base 6.0 sections 2.2 and 6.33).
-use Rattle.std.specs.Prelude.{Bool, true, false}
+-- What a header says of its TLP: its layout, one of six kinds, and the sub-stream (PCI Express Base 6.0 sections 2.2 and
+-- 6.33).
+use Rattle.std.specs.Prelude.{Bool, ℕ, Option, Some, None, if◌then◌else◌}
 use Rattle.ide_types.specs.declared.sub.SubKind.{SubKind}
 use Rattle.ide_types.specs.declared.sub.SubKind.TheVariants.{Pr, Npr, Cpl}
 use Rattle.tlp_layout.specs.declared.head.HeadView.{HeadView}
 use Rattle.tlp_layout.specs.declared.head.Fields.{Fields}
 use Rattle.tlp_layout.specs.declared.head.Fields.TheVariants as fields
+use Rattle.tlp_layout.specs.declared.layout.Layout.{Layout}
+use Rattle.tlp_layout.specs.declared.layout.Layout.TheVariants as layouts
 use Rattle.tlp_layout.specs.declared.head.TlpKind.{TlpKind}
 use Rattle.tlp_layout.specs.declared.head.TlpKind.TheVariants.{MemRead, MemWrite, CfgRead, CfgWrite, Message, Completion}
+use Rattle.tlp_layout.specs.Causes.{layout_at, has_data}
 
--- the kind of a TLP with these fields, with or without a payload
-abbrev pub kind_with : Bool → Fields → TlpKind
-kind_with false (fields.Memory f) = MemRead
-kind_with true (fields.Memory f) = MemWrite
-kind_with false (fields.Config f) = CfgRead
-kind_with true (fields.Config f) = CfgWrite
-kind_with has_payload (fields.Message f) = Message
-kind_with has_payload (fields.Completion f) = Completion
+abbrev pub layout_of : Fields → Layout
+layout_of (fields.Memory f) = layouts.Memory
+layout_of (fields.Config f) = layouts.Config
+layout_of (fields.Message f) = layouts.Message
+layout_of (fields.Completion f) = layouts.Completion
+
+-- the kind of a TLP of this layout, with or without a payload
+abbrev pub kind_with : Layout → Bool → TlpKind
+kind_with layouts.Memory has_payload = if has_payload then MemWrite else MemRead
+kind_with layouts.Config has_payload = if has_payload then CfgWrite else CfgRead
+kind_with layouts.Message has_payload = Message
+kind_with layouts.Completion has_payload = Completion
 
 abbrev pub kind_of : HeadView → TlpKind
-kind_of h = kind_with h.has_payload h.fields
+kind_of h = kind_with (layout_of h.fields) h.has_payload
 
 -- posted requests, non-posted requests, completions
 abbrev pub kind_class : TlpKind → SubKind
@@ -31,3 +39,11 @@ kind_class Completion = Cpl
 
 abbrev pub class_of : HeadView → SubKind
 class_of h = kind_class (kind_of h)
+
+abbrev pub kind_among : Option Layout → Bool → Option TlpKind
+kind_among None has_payload = None
+kind_among (Some layout) has_payload = Some (kind_with layout has_payload)
+
+-- the kind of TLP whose header this byte 0 begins
+abbrev pub kind_at : ℕ → Option TlpKind
+kind_at b = kind_among (layout_at b) (has_data b)

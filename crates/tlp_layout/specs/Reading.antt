@@ -1,6 +1,6 @@
 -- Reading from left to right: the header or the TLP that bytes spell, or their first fault, as functions.
 use Rattle.std.specs.Prelude.{ℕ, zero, suc, ◌+◌, ◌*◌, ◌/◌, ◌%◌, Bool, true, false, List, [], ◌∷◌, length, drop, slice_index, Option, Some, None, is_some, unwrap_or, Result, nat_lt, ◌==◌, ◌&&◌, if◌then◌else◌}
-use Rattle.std.specs.Int.{w16, w32, w64, from_be_bytes}
+use Rattle.byteorder.specs.Endian.{big_number}
 use Rattle.first_fault.specs.Walks.{reading}
 use Rattle.tlp_layout.specs.declared.layout.Layout.{Layout}
 use Rattle.tlp_layout.specs.declared.layout.Layout.TheVariants as layouts
@@ -11,42 +11,78 @@ use Rattle.tlp_layout.specs.declared.head.Fields.{Fields}
 use Rattle.tlp_layout.specs.declared.head.Fields.TheVariants.{Memory, Config, Message, Completion}
 use Rattle.tlp_layout.specs.declared.tlp.Tlp.{Tlp}
 use Rattle.tlp_layout.specs.Causes.{is_wide, has_data, head_size, layout_at, allowed, fault_at}
-use Rattle.tlp_layout.specs.Tlp.{body_size}
-use Rattle.tlp_layout.specs.View.{with_payload}
+use Rattle.tlp_layout.specs.Numbers.{routing_from, status_from}
+use Rattle.tlp_layout.specs.Tlp.{body_size, with_payload}
 
 -- ---- the fields of bytes
 
 abbrev pub lead_of : List ℕ → Lead
 lead_of s = record {
   wide = is_wide (slice_index s 0);
-  tag_bits = 2 * (slice_index s 1 / 128) + slice_index s 1 / 8 % 2;
   tc = slice_index s 1 / 16 % 8;
   attr = 4 * (slice_index s 1 / 4 % 2) + slice_index s 2 / 16 % 4;
   at = slice_index s 2 / 4 % 4;
   length = 256 * (slice_index s 2 % 4) + slice_index s 3;
 }
 
--- the number of two bytes
-abbrev pub number : List ℕ → ℕ → ℕ
-number s i = from_be_bytes w16 (slice_index s i ∷ slice_index s (i + 1) ∷ [])
+-- T9 and T8 of byte 1 above the byte at the place
+abbrev pub tag_at : List ℕ → ℕ → ℕ
+tag_at s i = 512 * (slice_index s 1 / 128) + 256 * (slice_index s 1 / 8 % 2) + slice_index s i
+
+-- the number of the two bytes from the place on
+abbrev pub number_at : List ℕ → ℕ → ℕ
+number_at s i = big_number 2 (drop i s)
 
 abbrev pub address_of : Bool → List ℕ → ℕ
-address_of wide s =
-    if wide then from_be_bytes w64 (slice_index s 8 ∷ slice_index s 9 ∷ slice_index s 10 ∷ slice_index s 11 ∷ slice_index s 12 ∷ slice_index s 13 ∷ slice_index s 14 ∷ slice_index s 15 ∷ [])
-    else from_be_bytes w32 (slice_index s 8 ∷ slice_index s 9 ∷ slice_index s 10 ∷ slice_index s 11 ∷ [])
+address_of wide s = if wide then big_number 8 (drop 8 s) else big_number 4 (drop 8 s)
 
 abbrev pub fields_of : Layout → List ℕ → Fields
-fields_of layouts.Memory s = Memory (record { requester = number s 4; tag = slice_index s 6; last_be = slice_index s 7 / 16; first_be = slice_index s 7 % 16; address = address_of (is_wide (slice_index s 0)) s })
-fields_of layouts.Config s = Config (record { one = slice_index s 0 % 32 == 5; requester = number s 4; tag = slice_index s 6; last_be = slice_index s 7 / 16; first_be = slice_index s 7 % 16; destination = number s 8; register = 64 * slice_index s 10 + slice_index s 11 / 4 })
-fields_of layouts.Message s = Message (record { routing = slice_index s 0 % 8; requester = number s 4; tag = slice_index s 6; code = slice_index s 7; rest = slice_index s 8 ∷ slice_index s 9 ∷ slice_index s 10 ∷ slice_index s 11 ∷ slice_index s 12 ∷ slice_index s 13 ∷ slice_index s 14 ∷ slice_index s 15 ∷ [] })
-fields_of layouts.Completion s = Completion (record { completer = number s 4; status = slice_index s 6 / 32; bcm = slice_index s 6 / 16 % 2 == 1; count = 256 * (slice_index s 6 % 16) + slice_index s 7; requester = number s 8; tag = slice_index s 10; lower = slice_index s 11 })
+fields_of layouts.Memory s = Memory (record {
+  requester = number_at s 4;
+  tag = tag_at s 6;
+  last_be = slice_index s 7 / 16;
+  first_be = slice_index s 7 % 16;
+  address = address_of (is_wide (slice_index s 0)) s;
+})
+fields_of layouts.Config s = Config (record {
+  one = slice_index s 0 % 32 == 0x05;
+  requester = number_at s 4;
+  tag = tag_at s 6;
+  last_be = slice_index s 7 / 16;
+  first_be = slice_index s 7 % 16;
+  destination = number_at s 8;
+  register = 64 * slice_index s 10 + slice_index s 11 / 4;
+})
+fields_of layouts.Message s = Message (record {
+  routing = routing_from (slice_index s 0 % 8);
+  requester = number_at s 4;
+  tag = tag_at s 6;
+  code = slice_index s 7;
+  destination = number_at s 8;
+  kept = slice_index s 10 ∷ slice_index s 11 ∷ slice_index s 12
+      ∷ slice_index s 13 ∷ slice_index s 14 ∷ slice_index s 15 ∷ [];
+})
+fields_of layouts.Completion s = Completion (record {
+  completer = number_at s 4;
+  status = status_from (slice_index s 6 / 32);
+  bcm = slice_index s 6 / 16 % 2 == 1;
+  count = 256 * (slice_index s 6 % 16) + slice_index s 7;
+  requester = number_at s 8;
+  tag = tag_at s 10;
+  lower = slice_index s 11;
+})
 
 abbrev pub head_of : Layout → List ℕ → HeadView
-head_of layout s = record { lead = lead_of s; has_payload = has_data (slice_index s 0); fields = fields_of layout s }
+head_of layout s =
+    record { lead = lead_of s; has_payload = has_data (slice_index s 0); fields = fields_of layout s }
 
 -- the header that the bytes begin with, of the layout that byte 0 names
-abbrev pub head_in : List ℕ → HeadView
-head_in s = head_of (unwrap_or (layout_at (slice_index s 0)) layouts.Memory) s
+abbrev pub head_read : List ℕ → HeadView
+head_read s = head_of (unwrap_or (layout_at (slice_index s 0)) layouts.Memory) s
+
+-- and with it what stands behind that header
+abbrev pub tlp_read : List ℕ → Tlp
+tlp_read s = with_payload (head_read s) (drop (head_size (slice_index s 0)) s)
 
 -- ---- how far bytes go
 
@@ -54,12 +90,13 @@ abbrev pub layout_allows : Option Layout → ℕ → ℕ → ℕ → Bool
 layout_allows None size place b = false
 layout_allows (Some layout) size place b = allowed layout size place b
 
--- the byte may stand at this place, behind a front of that length: byte 0 names a layout, the header's others are those of
--- that layout, and a payload has any
+-- the byte may stand at this place, behind a front of that length: byte 0 names a layout, the header's others are those
+-- of that layout, and a payload has any
 abbrev pub stands_at : ℕ → List ℕ → ℕ → Bool
 stands_at zero front b = is_some (layout_at b)
 stands_at (suc n) front b =
-    if nat_lt (suc n) (head_size (slice_index front 0)) then layout_allows (layout_at (slice_index front 0)) (head_size (slice_index front 0)) (suc n) b
+    if nat_lt (suc n) (head_size (slice_index front 0))
+    then layout_allows (layout_at (slice_index front 0)) (head_size (slice_index front 0)) (suc n) b
     else true
 
 -- the byte may follow the front
@@ -84,8 +121,8 @@ wants_tlp front = nat_lt (length front) (whole_size front)
 
 -- the header that the bytes spell, all of the bytes, or their first fault
 unfoldable pub read_head_of : List ℕ → Result HeadView TlpFault
-read_head_of bytes = reading wants_head may_follow head_in fault_at bytes
+read_head_of bytes = reading wants_head may_follow head_read fault_at bytes
 
 -- the TLP that the bytes spell, all of the bytes, or their first fault
 unfoldable pub read_of : List ℕ → Result Tlp TlpFault
-read_of bytes = reading wants_tlp may_follow (λ s. with_payload (head_in s) (drop (head_size (slice_index s 0)) s)) fault_at bytes
+read_of bytes = reading wants_tlp may_follow tlp_read fault_at bytes

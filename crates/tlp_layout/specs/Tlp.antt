@@ -1,26 +1,21 @@
--- The spelling of a TLP: its header, then its payload (PCI Express Base 6.0 section 2.2).
-use Rattle.std.specs.Prelude.{◌≡◌, ℕ, ◌*◌, ◌<◌, Bool, true, false, List, [], ◌++◌, length, is_some, unwrap_or, ◌==◌, if◌then◌else◌, All}
+-- The spelling of a TLP: its header, then its payload (PCI Express Base 6.0 section 2.2, as this profile has it).
+use Rattle.std.specs.Prelude.{◌≡◌, ℕ, ◌*◌, ◌<◌, Bool, List, ◌++◌, length, ◌==◌, if◌then◌else◌, All, Result, Ok, Err}
+use Rattle.tlp_layout.specs.declared.fault.TlpFault.{TlpFault}
 use Rattle.tlp_layout.specs.declared.head.HeadView.{HeadView}
-use Rattle.tlp_layout.specs.declared.head.Fields.TheVariants as fields
 use Rattle.tlp_layout.specs.declared.tlp.Tlp.{Tlp}
-use Rattle.tlp_layout.specs.declared.tlp.Tlp.TheVariants.{MemRead, MemWrite, CfgRead, CfgWrite, Message, Completion}
+use Rattle.tlp_layout.specs.declared.tlp.TlpView.{TlpView}
 use Rattle.tlp_layout.specs.Head.{head_bytes, FitsHead}
 
 abbrev pub header : Tlp → HeadView
-header (MemRead l requester tag last_be first_be address) = record { lead = l; has_payload = false; fields = fields.Memory (record { requester = requester; tag = tag; last_be = last_be; first_be = first_be; address = address }) }
-header (MemWrite l requester tag last_be first_be address payload) = record { lead = l; has_payload = true; fields = fields.Memory (record { requester = requester; tag = tag; last_be = last_be; first_be = first_be; address = address }) }
-header (CfgRead l one requester tag last_be first_be destination register) = record { lead = l; has_payload = false; fields = fields.Config (record { one = one; requester = requester; tag = tag; last_be = last_be; first_be = first_be; destination = destination; register = register }) }
-header (CfgWrite l one requester tag last_be first_be destination register payload) = record { lead = l; has_payload = true; fields = fields.Config (record { one = one; requester = requester; tag = tag; last_be = last_be; first_be = first_be; destination = destination; register = register }) }
-header (Message l routing requester tag code rest payload) = record { lead = l; has_payload = is_some payload; fields = fields.Message (record { routing = routing; requester = requester; tag = tag; code = code; rest = rest }) }
-header (Completion l completer status bcm count requester tag lower payload) = record { lead = l; has_payload = is_some payload; fields = fields.Completion (record { completer = completer; status = status; bcm = bcm; count = count; requester = requester; tag = tag; lower = lower }) }
+header t = t.head
 
--- its payload, none being no bytes
+-- its payload, no bytes where the header has none
 abbrev pub body : Tlp → List ℕ
-body (MemWrite l requester tag last_be first_be address payload) = payload
-body (CfgWrite l one requester tag last_be first_be destination register payload) = payload
-body (Message l routing requester tag code rest payload) = unwrap_or payload []
-body (Completion l completer status bcm count requester tag lower payload) = unwrap_or payload []
-body _ = []
+body t = t.payload
+
+-- the TLP of a header and a payload
+abbrev pub with_payload : HeadView → List ℕ → Tlp
+with_payload h b = record { head = h; payload = b }
 
 -- the payload's length in bytes: Length counts double words, and 0 stands for 1024
 abbrev pub body_size : Bool → ℕ → ℕ
@@ -44,3 +39,12 @@ pub record Spells (t : Tlp) (bytes : List ℕ) : Type 0 where
 pub record IsTlp (bytes : List ℕ) : Type 0 where
   pub tlp : Tlp
   pub spells : Spells tlp bytes
+
+-- the TLP that a view shows: lent bytes are the bytes
+abbrev pub view_of : TlpView → Tlp
+view_of v = with_payload v.head v.payload.now
+
+-- what a reader answers, with the TLP in the view's place
+abbrev pub viewed : Result TlpView TlpFault → Result Tlp TlpFault
+viewed (Ok v) = Ok (view_of v)
+viewed (Err f) = Err f

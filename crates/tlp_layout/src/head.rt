@@ -1,14 +1,13 @@
 //! Headers of TLPs as values (PCI Express Base 6.0 section 2.2).
 
+use crate::layout::Layout;
 use ide_types::SubKind;
 
-/// The first double word of a header but for Fmt and Type.
+/// The first double word of a header but for Fmt, Type and the two tag bits in it.
 #[derive(Clone, Copy, Debug, PartialEq, Eq)]
 pub struct Lead {
     /// Whether the header has 4 double words, not 3.
     pub wide: bool,
-    /// T9 and T8, 2 bits.
-    pub tag_bits: u8,
     /// Traffic class, 3 bits.
     pub tc: u8,
     /// Attributes, 3 bits.
@@ -26,11 +25,11 @@ pub struct HeadView {
     pub lead: Lead,
     /// Whether a payload follows, of `lead.length` double words.
     pub has_payload: bool,
-    /// What stands behind the first double word.
+    /// The fields of its layout.
     pub fields: Fields,
 }
 
-/// The fields of a header behind its first double word.
+/// The fields of a header by its layout.
 #[derive(Clone, Copy, Debug, PartialEq, Eq)]
 pub enum Fields {
     /// Of a memory read or write request.
@@ -48,8 +47,8 @@ pub enum Fields {
 pub struct MemoryFields {
     /// Requester ID: bus in bits 15:8, device and function below.
     pub requester: u16,
-    /// Tag, its low 8 bits.
-    pub tag: u8,
+    /// Tag, 10 bits.
+    pub tag: u16,
     /// Byte enables of the last double word, 4 bits.
     pub last_be: u8,
     /// Byte enables of the first double word, 4 bits.
@@ -65,8 +64,8 @@ pub struct ConfigFields {
     pub one: bool,
     /// Requester ID: bus in bits 15:8, device and function below.
     pub requester: u16,
-    /// Tag, its low 8 bits.
-    pub tag: u8,
+    /// Tag, 10 bits.
+    pub tag: u16,
     /// Byte enables of the last double word, 4 bits.
     pub last_be: u8,
     /// Byte enables of the first double word, 4 bits.
@@ -77,19 +76,51 @@ pub struct ConfigFields {
     pub register: u16,
 }
 
+/// How a message is routed (PCI Express Base 6.0 section 2.2.8; routings 6 and 7 are refused).
+#[derive(Clone, Copy, Debug, PartialEq, Eq)]
+pub enum Routing {
+    /// To the root complex, number 0.
+    ToRootComplex,
+    /// By address, number 1.
+    ByAddress,
+    /// By ID, number 2.
+    ById,
+    /// Broadcast from the root complex, number 3.
+    FromRootComplex,
+    /// Local: it ends at the receiver, number 4.
+    Local,
+    /// Gathered, and routed to the root complex, number 5.
+    Gathered,
+}
+
 /// The fields of a message request.
 #[derive(Clone, Copy, Debug, PartialEq, Eq)]
 pub struct MessageFields {
-    /// How it is routed, 0 to 5; 2 is by ID.
-    pub routing: u8,
+    /// How it is routed.
+    pub routing: Routing,
     /// Requester ID: bus in bits 15:8, device and function below.
     pub requester: u16,
-    /// Tag, its low 8 bits.
-    pub tag: u8,
+    /// Tag, 10 bits.
+    pub tag: u16,
     /// Message code.
     pub code: u8,
-    /// Header bytes 8 to 15; of a message routed by ID the first two are the destination's ID.
-    pub rest: [u8; 8],
+    /// Header bytes 8 and 9: of a message routed by ID the destination's ID, of others kept.
+    pub destination: u16,
+    /// Header bytes 10 to 15, kept.
+    pub kept: [u8; 6],
+}
+
+/// What became of a request (PCI Express Base 6.0 section 2.2.9).
+#[derive(Clone, Copy, Debug, PartialEq, Eq)]
+pub enum CompletionStatus {
+    /// Successful completion, number 0.
+    Successful,
+    /// Unsupported request, number 1.
+    UnsupportedRequest,
+    /// Completer abort, number 4.
+    CompleterAbort,
+    /// Another number of 3 bits, kept.
+    Other(u8),
 }
 
 /// The fields of a completion.
@@ -97,16 +128,16 @@ pub struct MessageFields {
 pub struct CompletionFields {
     /// Completer ID.
     pub completer: u16,
-    /// Completion status, 3 bits.
-    pub status: u8,
+    /// What became of the request.
+    pub status: CompletionStatus,
     /// Byte count modified.
     pub bcm: bool,
     /// Byte count, 12 bits.
     pub count: u16,
     /// ID of the requester that it answers.
     pub requester: u16,
-    /// Tag of the request that it answers, its low 8 bits.
-    pub tag: u8,
+    /// Tag of the request that it answers, 10 bits.
+    pub tag: u16,
     /// Lower address, 7 bits.
     pub lower: u8,
 }
@@ -138,12 +169,87 @@ impl TlpKind {
         ensures { result ≡ kind_class self }
     {
         match self {
-            TlpKind::MemRead => SubKind::Npr,
-            TlpKind::MemWrite => SubKind::Pr,
-            TlpKind::CfgRead => SubKind::Npr,
-            TlpKind::CfgWrite => SubKind::Npr,
-            TlpKind::Message => SubKind::Pr,
+            TlpKind::MemWrite | TlpKind::Message => SubKind::Pr,
+            TlpKind::MemRead | TlpKind::CfgRead | TlpKind::CfgWrite => SubKind::Npr,
             TlpKind::Completion => SubKind::Cpl,
+        }
+    }
+}
+
+impl Routing {
+    ghost use Rattle.std.specs.Prelude.{◌≡◌, ◌%◌};
+    ghost use Rattle.tlp_layout.specs.Numbers.{routing_bits, routing_from};
+
+    /// Its number on the link, in bits 2:0 of byte 0.
+    pub fn number(self) -> u8
+        ensures { result ≡ routing_bits self }
+    {
+        match self {
+            Routing::ToRootComplex => 0,
+            Routing::ByAddress => 1,
+            Routing::ById => 2,
+            Routing::FromRootComplex => 3,
+            Routing::Local => 4,
+            Routing::Gathered => 5,
+        }
+    }
+
+    /// The routing that byte 0 of a message names in its bits 2:0.
+    pub(crate) fn of(first: u8) -> Routing
+        ensures { result ≡ routing_from (first % 8) }
+    {
+        match first & 7 {
+            0 => Routing::ToRootComplex,
+            1 => Routing::ByAddress,
+            2 => Routing::ById,
+            3 => Routing::FromRootComplex,
+            4 => Routing::Local,
+            _ => Routing::Gathered,
+        }
+    }
+}
+
+impl CompletionStatus {
+    ghost use Rattle.std.specs.Prelude.{◌≡◌};
+    ghost use Rattle.tlp_layout.specs.Numbers.{status_bits, status_from};
+
+    /// Its number on the link.
+    pub fn number(self) -> u8
+        ensures { result ≡ status_bits self }
+    {
+        match self {
+            CompletionStatus::Successful => 0,
+            CompletionStatus::UnsupportedRequest => 1,
+            CompletionStatus::CompleterAbort => 4,
+            CompletionStatus::Other(number) => number,
+        }
+    }
+
+    /// The status of this number.
+    pub(crate) fn of(number: u8) -> CompletionStatus
+        ensures { result ≡ status_from number }
+    {
+        match number {
+            0 => CompletionStatus::Successful,
+            1 => CompletionStatus::UnsupportedRequest,
+            4 => CompletionStatus::CompleterAbort,
+            _ => CompletionStatus::Other(number),
+        }
+    }
+}
+
+impl Fields {
+    ghost use Rattle.std.specs.Prelude.{◌≡◌};
+    ghost use Rattle.tlp_layout.specs.Class.{layout_of};
+
+    fn layout(&self) -> Layout
+        ensures { result ≡ layout_of self.now }
+    {
+        match self {
+            Fields::Memory(_) => Layout::Memory,
+            Fields::Config(_) => Layout::Config,
+            Fields::Message(_) => Layout::Message,
+            Fields::Completion(_) => Layout::Completion,
         }
     }
 }
@@ -158,27 +264,10 @@ impl HeadView {
     pub fn kind(&self) -> TlpKind
         ensures { result ≡ kind_of self.now }
     {
-        match self.fields {
-            Fields::Memory(_) => {
-                if self.has_payload {
-                    TlpKind::MemWrite
-                } else {
-                    TlpKind::MemRead
-                }
-            }
-            Fields::Config(_) => {
-                if self.has_payload {
-                    TlpKind::CfgWrite
-                } else {
-                    TlpKind::CfgRead
-                }
-            }
-            Fields::Message(_) => TlpKind::Message,
-            Fields::Completion(_) => TlpKind::Completion,
-        }
+        self.fields.layout().kind(self.has_payload)
     }
 
-    /// The sub-stream that the TLP belongs to.
+    /// The sub-stream that the TLP belongs to (PCI Express Base 6.0 section 6.33).
     pub fn class(&self) -> SubKind
         ensures { result ≡ class_of self.now }
     {

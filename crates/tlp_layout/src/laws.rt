@@ -5,8 +5,7 @@ ghost use Rattle.tlp_layout.specs.declared.head.HeadView.{HeadView};
 ghost use Rattle.tlp_layout.specs.declared.tlp.Tlp.{Tlp};
 ghost use Rattle.tlp_layout.specs.declared.fault.TlpFault.{TlpFault};
 ghost use Rattle.tlp_layout.specs.Head.{FitsHead, SpellsHead, head_bytes, head_length};
-ghost use Rattle.tlp_layout.specs.Tlp.{Spells, FitsTlp, header, body, body_size};
-ghost use Rattle.tlp_layout.specs.View.{with_payload};
+ghost use Rattle.tlp_layout.specs.Tlp.{Spells, FitsTlp, header, body, body_size, with_payload};
 ghost use Rattle.tlp_layout.specs.Faults.{IsFault, IsHeadFault};
 ghost use Rattle.tlp_layout.specs.Reading.{read_of, read_head_of};
 

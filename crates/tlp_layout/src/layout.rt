@@ -1,9 +1,12 @@
-//! The layouts of headers, and the bits that each leaves 0 (PCI Express Base 6.0 section 2.2).
+//! The layouts of headers: which one byte 0 names, and the bits that each leaves 0
+//! (PCI Express Base 6.0 section 2.2).
 
-ghost use Rattle.std.specs.Prelude.{◌≡◌, ◌<◌, ◌≤◌};
-ghost use Rattle.tlp_layout.specs.Causes.{layout_at, head_size as head_size_of, reserved as reserved_at, allowed, cause_at};
+ghost use Rattle.std.specs.Prelude.{◌≡◌, ◌<◌};
+ghost use Rattle.tlp_layout.specs.Causes.{layout_at as layout_named, head_size as size_named, reserved as reserved_at, allowed, cause_at};
+ghost use Rattle.tlp_layout.specs.Class.{kind_with, kind_at as kind_named};
 
 use crate::fault::TlpFault;
+use crate::head::TlpKind;
 
 /// Which fields stand behind the first double word of a header.
 #[derive(Clone, Copy, Debug, PartialEq, Eq)]
@@ -14,9 +17,25 @@ pub enum Layout {
     Completion,
 }
 
+impl Layout {
+    /// The kind of a TLP of this layout, with or without a payload.
+    pub(crate) fn kind(self, has_payload: bool) -> TlpKind
+        ensures { result ≡ kind_with self has_payload }
+    {
+        match (self, has_payload) {
+            (Layout::Memory, false) => TlpKind::MemRead,
+            (Layout::Memory, true) => TlpKind::MemWrite,
+            (Layout::Config, false) => TlpKind::CfgRead,
+            (Layout::Config, true) => TlpKind::CfgWrite,
+            (Layout::Message, _) => TlpKind::Message,
+            (Layout::Completion, _) => TlpKind::Completion,
+        }
+    }
+}
+
 /// The layout that byte 0 names by Fmt and Type; `None` where this profile has no such TLP.
-pub fn layout_of(first: u8) -> Option<Layout>
-    ensures { result ≡ layout_at first }
+pub(crate) fn layout_at(first: u8) -> Option<Layout>
+    ensures { result ≡ layout_named first }
 {
     let number = first & 0x1f;
     let wide = (first >> 5) & 1 == 1;
@@ -35,9 +54,19 @@ pub fn layout_of(first: u8) -> Option<Layout>
     }
 }
 
+/// The kind of TLP whose header byte 0 begins; `None` where this profile has no such TLP.
+pub fn kind_at(first: u8) -> Option<TlpKind>
+    ensures { result ≡ kind_named first }
+{
+    match layout_at(first) {
+        Some(layout) => Some(layout.kind((first >> 6) & 1 == 1)),
+        None => None,
+    }
+}
+
 /// The length in bytes, 12 or 16, of the header that byte 0 begins.
 pub fn head_size(first: u8) -> usize
-    ensures { result ≡ head_size_of first }
+    ensures { result ≡ size_named first }
 {
     if (first >> 5) & 1 == 1 { 16 } else { 12 }
 }

@@ -2,11 +2,10 @@
 
 ghost use Rattle.std.specs.Prelude.{◌≡◌, ◌<◌, ◌≤◌, ◌+◌, Some, IfOk, IfErr, MatchResult, length, slice_index, if◌then◌else◌};
 ghost use Rattle.tlp_layout.specs.Head.{SpellsHead};
-ghost use Rattle.tlp_layout.specs.Tlp.{Spells};
-ghost use Rattle.tlp_layout.specs.View.{view_of, viewed};
-ghost use Rattle.tlp_layout.specs.Causes.{layout_at, head_size as head_size_of};
+ghost use Rattle.tlp_layout.specs.Tlp.{Spells, view_of, viewed};
+ghost use Rattle.tlp_layout.specs.Causes.{layout_at as layout_named, head_size as size_named};
 ghost use Rattle.tlp_layout.specs.Faults.{IsFault, IsHeadFault};
-ghost use Rattle.tlp_layout.specs.Reading.{read_of, read_head_of, head_of, lead_of, fields_of, address_of, number};
+ghost use Rattle.tlp_layout.specs.Reading.{read_of, read_head_of, head_of, lead_of, fields_of, address_of, number_at as number_named, tag_at as tag_named};
 ghost use Rattle.tlp_layout.specs.Inside.{Agrees, Stops};
 ghost use Rattle.tlp_layout.specs.declared.tlp.Tlp.{Tlp};
 ghost use Rattle.tlp_layout.specs.declared.head.Fields.TheVariants.{Memory, Config, Message, Completion};
@@ -14,16 +13,18 @@ ghost use Rattle.tlp_layout.specs.declared.layout.Layout.TheVariants as layouts;
 
 use crate::fault::TlpFault;
 use crate::head::{
-    CompletionFields, ConfigFields, Fields, HeadView, Lead, MemoryFields, MessageFields,
+    CompletionFields, CompletionStatus, ConfigFields, Fields, HeadView, Lead, MemoryFields,
+    MessageFields, Routing,
 };
-use crate::layout::{Layout, allows, cause, head_size, layout_of};
+use crate::layout::{Layout, allows, cause, head_size, layout_at};
 use crate::tlp::TlpView;
+use byteorder::{BigEndian, ByteOrder};
 
 /// The layout and the length of the header that the bytes begin with.
 fn head_at(bytes: &[u8]) -> Result<(Layout, usize), TlpFault>
-    ensures layout { IfOk result (λ x. layout_at (slice_index bytes.now 0) ≡ Some x.0) }
+    ensures layout { IfOk result (λ x. layout_named (slice_index bytes.now 0) ≡ Some x.0) }
     ensures size { IfOk result (λ x.
-        (x.1 ≡ head_size_of (slice_index bytes.now 0)) × (x.1 ≤ length bytes.now)) }
+        (x.1 ≡ size_named (slice_index bytes.now 0)) × (x.1 ≤ length bytes.now)) }
     ensures agrees { IfOk result (λ x. Agrees x.0 bytes.now x.1) }
     ensures stops { IfErr result (Stops bytes.now) }
 {
@@ -31,7 +32,7 @@ fn head_at(bytes: &[u8]) -> Result<(Layout, usize), TlpFault>
         return Err(TlpFault::Short(0));
     }
     let first = bytes[0];
-    let Some(layout) = layout_of(first) else {
+    let Some(layout) = layout_at(first) else {
         return Err(TlpFault::Kind(0));
     };
     let size = head_size(first);
@@ -47,11 +48,21 @@ fn head_at(bytes: &[u8]) -> Result<(Layout, usize), TlpFault>
     Ok((layout, size))
 }
 
+/// The number of two bytes.
 fn number_at(bytes: &[u8], place: usize) -> u16
     requires { place + 1 < length bytes.now }
-    ensures { result ≡ number bytes.now place }
+    ensures { result ≡ number_named bytes.now place }
 {
-    u16::from_be_bytes([bytes[place], bytes[place + 1]])
+    BigEndian::read_u16(&bytes[place..])
+}
+
+/// T9 and T8 of byte 1 above the byte at the place.
+fn tag_at(bytes: &[u8], place: usize) -> u16
+    requires second { 1 < length bytes.now }
+    requires within { place < length bytes.now }
+    ensures { result ≡ tag_named bytes.now place }
+{
+    512 * u16::from(bytes[1] >> 7) + 256 * u16::from((bytes[1] >> 3) & 1) + u16::from(bytes[place])
 }
 
 fn address_at(wide: bool, bytes: &[u8]) -> u64
@@ -59,11 +70,9 @@ fn address_at(wide: bool, bytes: &[u8]) -> u64
     ensures { result ≡ address_of wide bytes.now }
 {
     if wide {
-        u64::from_be_bytes([
-            bytes[8], bytes[9], bytes[10], bytes[11], bytes[12], bytes[13], bytes[14], bytes[15],
-        ])
+        BigEndian::read_u64(&bytes[8..])
     } else {
-        u64::from(u32::from_be_bytes([bytes[8], bytes[9], bytes[10], bytes[11]]))
+        u64::from(BigEndian::read_u32(&bytes[8..]))
     }
 }
 
@@ -73,7 +82,6 @@ fn lead_at(bytes: &[u8]) -> Lead
 {
     Lead {
         wide: (bytes[0] >> 5) & 1 == 1,
-        tag_bits: ((bytes[1] >> 7) << 1) | ((bytes[1] >> 3) & 1),
         tc: (bytes[1] >> 4) & 7,
         attr: (((bytes[1] >> 2) & 1) << 2) | ((bytes[2] >> 4) & 3),
         at: (bytes[2] >> 2) & 3,
@@ -82,12 +90,12 @@ fn lead_at(bytes: &[u8]) -> Lead
 }
 
 fn memory_at(bytes: &[u8]) -> MemoryFields
-    requires { head_size_of (slice_index bytes.now 0) ≤ length bytes.now }
+    requires { size_named (slice_index bytes.now 0) ≤ length bytes.now }
     ensures { Memory result ≡ fields_of layouts.Memory bytes.now }
 {
     MemoryFields {
         requester: number_at(bytes, 4),
-        tag: bytes[6],
+        tag: tag_at(bytes, 6),
         last_be: bytes[7] >> 4,
         first_be: bytes[7] & 0x0f,
         address: address_at((bytes[0] >> 5) & 1 == 1, bytes),
@@ -99,9 +107,9 @@ fn config_at(bytes: &[u8]) -> ConfigFields
     ensures { Config result ≡ fields_of layouts.Config bytes.now }
 {
     ConfigFields {
-        one: bytes[0] & 0x1f == 5,
+        one: bytes[0] & 0x1f == 0x05,
         requester: number_at(bytes, 4),
-        tag: bytes[6],
+        tag: tag_at(bytes, 6),
         last_be: bytes[7] >> 4,
         first_be: bytes[7] & 0x0f,
         destination: number_at(bytes, 8),
@@ -114,12 +122,13 @@ fn message_at(bytes: &[u8]) -> MessageFields
     ensures { Message result ≡ fields_of layouts.Message bytes.now }
 {
     MessageFields {
-        routing: bytes[0] & 7,
+        routing: Routing::of(bytes[0]),
         requester: number_at(bytes, 4),
-        tag: bytes[6],
+        tag: tag_at(bytes, 6),
         code: bytes[7],
-        rest: [
-            bytes[8], bytes[9], bytes[10], bytes[11], bytes[12], bytes[13], bytes[14], bytes[15],
+        destination: number_at(bytes, 8),
+        kept: [
+            bytes[10], bytes[11], bytes[12], bytes[13], bytes[14], bytes[15],
         ],
     }
 }
@@ -130,18 +139,18 @@ fn completion_at(bytes: &[u8]) -> CompletionFields
 {
     CompletionFields {
         completer: number_at(bytes, 4),
-        status: bytes[6] >> 5,
+        status: CompletionStatus::of(bytes[6] >> 5),
         bcm: (bytes[6] >> 4) & 1 == 1,
         count: (u16::from(bytes[6] & 0x0f) << 8) | u16::from(bytes[7]),
         requester: number_at(bytes, 8),
-        tag: bytes[10],
+        tag: tag_at(bytes, 10),
         lower: bytes[11],
     }
 }
 
 fn fields_at(layout: Layout, bytes: &[u8]) -> Fields
-    requires size { head_size_of (slice_index bytes.now 0) ≤ length bytes.now }
-    requires layout { layout_at (slice_index bytes.now 0) ≡ Some layout }
+    requires size { size_named (slice_index bytes.now 0) ≤ length bytes.now }
+    requires layout { layout_named (slice_index bytes.now 0) ≡ Some layout }
     ensures { result ≡ fields_of layout bytes.now }
 {
     match layout {
@@ -153,8 +162,8 @@ fn fields_at(layout: Layout, bytes: &[u8]) -> Fields
 }
 
 fn head_view(layout: Layout, bytes: &[u8]) -> HeadView
-    requires size { head_size_of (slice_index bytes.now 0) ≤ length bytes.now }
-    requires layout { layout_at (slice_index bytes.now 0) ≡ Some layout }
+    requires size { size_named (slice_index bytes.now 0) ≤ length bytes.now }
+    requires layout { layout_named (slice_index bytes.now 0) ≡ Some layout }
     ensures { result ≡ head_of layout bytes.now }
 {
     HeadView {
@@ -178,7 +187,7 @@ fn whole(bytes: &[u8]) -> Result<TlpView<'_>, TlpFault>
     if payload.len() > wanted {
         return Err(TlpFault::Trailing(size + wanted));
     }
-    Ok(head.with_payload(payload))
+    Ok(TlpView { head, payload })
 }
 
 /// The TLP that the bytes spell, all of the bytes; else their first fault

@@ -1,7 +1,9 @@
 //! Writing TLPs.
 
-ghost use Rattle.std.specs.Prelude.{◌≡◌, ◌+◌, ◌*◌, ◌/◌, ◌%◌, ◌<◌, ◌≤◌, ◌++◌, ◌∷◌, [], OnOk, OnErr, length, vec_len, vec_capacity};
-ghost use Rattle.tlp_layout.specs.Head.{lead_bytes as lead_bytes_of, field_bytes, first_byte as first_byte_of, FitsLead, FitsFields, FitsHead};
+ghost use Rattle.std.specs.Prelude.{◌≡◌, ◌+◌, ◌<◌, ◌≤◌, ◌++◌, OnOk, OnErr, length, vec_len, vec_capacity};
+ghost use Rattle.arrayvec.specs.ArrayVec.{array_vec_len};
+ghost use Rattle.byteorder.specs.Endian.{big_bytes};
+ghost use Rattle.tlp_layout.specs.Head.{head_bytes, lead_bytes as lead_bytes_of, field_bytes, first_byte as first_byte_of, tag_in, FitsLead, FitsFields, FitsHead};
 ghost use Rattle.tlp_layout.specs.Tlp.{tlp_bytes, FitsTlp};
 ghost use Rattle.tlp_layout.specs.declared.head.Fields.TheVariants as variants;
 
@@ -9,26 +11,51 @@ use crate::head::{
     CompletionFields, ConfigFields, Fields, HeadView, Lead, MemoryFields, MessageFields,
 };
 use crate::tlp::Tlp;
+use arrayvec::ArrayVec;
+use byteorder::{BigEndian, ByteOrder};
 use ide_types::Memory;
 
-/// Appends the bytes, for which there is room.
-fn append(out: &mut Vec<u8>, bytes: &[u8])
-    requires { vec_len out.old + length bytes.now ≤ vec_capacity out.old }
+/// The bytes of a header, up to 16.
+type Header = ArrayVec<u8, 16>;
+
+fn put(out: &mut Header, bytes: &[u8])
+    requires { array_vec_len out.old + length bytes.now ≤ 16 }
     ensures items { out.new.items ≡ out.old.items ++ bytes.now }
-    ensures len { vec_len out.new ≡ vec_len out.old + length bytes.now }
-    ensures capacity { vec_capacity out.old ≤ vec_capacity out.new }
+    ensures len { array_vec_len out.new ≡ array_vec_len out.old + length bytes.now }
 {
-    let _ = out.extend_from_slice(bytes);
+    let _ = out.try_extend_from_slice(bytes);
+}
+
+fn put_number(out: &mut Header, number: u16)
+    requires { array_vec_len out.old + 2 ≤ 16 }
+    ensures items { out.new.items ≡ out.old.items ++ big_bytes 2 number }
+    ensures len { array_vec_len out.new ≡ array_vec_len out.old + 2 }
+{
+    let mut bytes = [0; 2];
+    BigEndian::write_u16(&mut bytes, number);
+    put(out, &bytes);
+}
+
+fn tag_of(fields: &Fields) -> u16
+    ensures { result ≡ tag_in fields.now }
+{
+    match fields {
+        Fields::Memory(fields) => fields.tag,
+        Fields::Config(fields) => fields.tag,
+        Fields::Message(fields) => fields.tag,
+        Fields::Completion(fields) => fields.tag,
+    }
 }
 
 /// Bytes 1 to 3 of a header.
-fn lead_bytes(lead: &Lead) -> [u8; 3]
-    requires { FitsLead lead.now }
-    ensures { result ≡ lead_bytes_of lead.now }
+fn lead_bytes(lead: &Lead, tag: u16) -> [u8; 3]
+    requires lead { FitsLead lead.now }
+    requires tag { tag < 1024 }
+    ensures { result ≡ lead_bytes_of lead.now tag }
 {
-    let second = ((lead.tag_bits >> 1) << 7)
+    let second = (((tag >> 9) as u8) << 7)
         + (lead.tc << 4)
-        + ((lead.tag_bits & 1) << 3)
+        + ((((tag >> 8) & 1) as u8) << 3)
         + ((lead.attr >> 2) << 2);
     let third = ((lead.attr & 3) << 4) + (lead.at << 2) + (lead.length >> 8) as u8;
     [second, third, (lead.length & 0xff) as u8]
@@ -39,41 +66,53 @@ fn first_byte(head: &HeadView) -> u8
     ensures { result ≡ first_byte_of head.now }
 {
     let number = match &head.fields {
-        Fields::Memory(_) => 0,
-        Fields::Config(fields) => 4 + u8::from(fields.one),
-        Fields::Message(fields) => 16 + fields.routing,
-        Fields::Completion(_) => 10,
+        Fields::Memory(_) => 0x00,
+        Fields::Config(fields) => 0x04 + u8::from(fields.one),
+        Fields::Message(fields) => 0x10 + fields.routing.number(),
+        Fields::Completion(_) => 0x0a,
     };
-    64 * u8::from(head.has_payload) + 32 * u8::from(head.lead.wide) + number
+    0x40 * u8::from(head.has_payload) + 0x20 * u8::from(head.lead.wide) + number
 }
 
-fn put_memory(out: &mut Vec<u8>, lead: &Lead, fields: &MemoryFields)
-    requires room { vec_len out.old + 12 ≤ vec_capacity out.old }
+fn put_memory(out: &mut Header, lead: &Lead, fields: &MemoryFields)
+    requires room { array_vec_len out.old + 12 ≤ 16 }
     requires fits { FitsFields lead.now (variants.Memory fields.now) }
-    ensures items { out.new.items ≡ out.old.items ++ field_bytes lead.now.wide (variants.Memory fields.now) }
-    ensures len { vec_len out.new ≤ vec_len out.old + 12 }
-    ensures capacity { vec_capacity out.old ≤ vec_capacity out.new }
+    ensures { out.new.items ≡ out.old.items ++ field_bytes lead.now.wide (variants.Memory fields.now) }
 {
-    append(out, &fields.requester.to_be_bytes());
-    append(out, &[fields.tag, 16 * fields.last_be + fields.first_be]);
+    put_number(out, fields.requester);
+    put(
+        out,
+        &[
+            (fields.tag & 0xff) as u8,
+            16 * fields.last_be + fields.first_be,
+        ],
+    );
     if lead.wide {
-        append(out, &fields.address.to_be_bytes());
+        let mut bytes = [0; 8];
+        BigEndian::write_u64(&mut bytes, fields.address);
+        put(out, &bytes);
     } else {
-        append(out, &(fields.address as u32).to_be_bytes());
+        let mut bytes = [0; 4];
+        BigEndian::write_u32(&mut bytes, fields.address as u32);
+        put(out, &bytes);
     }
 }
 
-fn put_config(out: &mut Vec<u8>, lead: &Lead, fields: &ConfigFields)
-    requires room { vec_len out.old + 12 ≤ vec_capacity out.old }
+fn put_config(out: &mut Header, lead: &Lead, fields: &ConfigFields)
+    requires room { array_vec_len out.old + 12 ≤ 16 }
     requires fits { FitsFields lead.now (variants.Config fields.now) }
-    ensures items { out.new.items ≡ out.old.items ++ field_bytes lead.now.wide (variants.Config fields.now) }
-    ensures len { vec_len out.new ≤ vec_len out.old + 12 }
-    ensures capacity { vec_capacity out.old ≤ vec_capacity out.new }
+    ensures { out.new.items ≡ out.old.items ++ field_bytes lead.now.wide (variants.Config fields.now) }
 {
-    append(out, &fields.requester.to_be_bytes());
-    append(out, &[fields.tag, 16 * fields.last_be + fields.first_be]);
-    append(out, &fields.destination.to_be_bytes());
-    append(
+    put_number(out, fields.requester);
+    put(
+        out,
+        &[
+            (fields.tag & 0xff) as u8,
+            16 * fields.last_be + fields.first_be,
+        ],
+    );
+    put_number(out, fields.destination);
+    put(
         out,
         &[
             (fields.register / 64) as u8,
@@ -82,39 +121,36 @@ fn put_config(out: &mut Vec<u8>, lead: &Lead, fields: &ConfigFields)
     );
 }
 
-fn put_message(out: &mut Vec<u8>, lead: &Lead, fields: &MessageFields)
-    requires room { vec_len out.old + 12 ≤ vec_capacity out.old }
+fn put_message(out: &mut Header, lead: &Lead, fields: &MessageFields)
+    requires room { array_vec_len out.old + 12 ≤ 16 }
     requires fits { FitsFields lead.now (variants.Message fields.now) }
-    ensures items { out.new.items ≡ out.old.items ++ field_bytes lead.now.wide (variants.Message fields.now) }
-    ensures len { vec_len out.new ≤ vec_len out.old + 12 }
-    ensures capacity { vec_capacity out.old ≤ vec_capacity out.new }
+    ensures { out.new.items ≡ out.old.items ++ field_bytes lead.now.wide (variants.Message fields.now) }
 {
-    append(out, &fields.requester.to_be_bytes());
-    append(out, &[fields.tag, fields.code]);
-    append(out, &fields.rest);
+    put_number(out, fields.requester);
+    put(out, &[(fields.tag & 0xff) as u8, fields.code]);
+    put_number(out, fields.destination);
+    put(out, &fields.kept);
 }
 
-fn put_completion(out: &mut Vec<u8>, lead: &Lead, fields: &CompletionFields)
-    requires room { vec_len out.old + 12 ≤ vec_capacity out.old }
+fn put_completion(out: &mut Header, lead: &Lead, fields: &CompletionFields)
+    requires room { array_vec_len out.old + 12 ≤ 16 }
     requires fits { FitsFields lead.now (variants.Completion fields.now) }
-    ensures items { out.new.items ≡ out.old.items ++ field_bytes lead.now.wide (variants.Completion fields.now) }
-    ensures len { vec_len out.new ≤ vec_len out.old + 12 }
-    ensures capacity { vec_capacity out.old ≤ vec_capacity out.new }
+    ensures { out.new.items ≡ out.old.items ++ field_bytes lead.now.wide (variants.Completion fields.now) }
 {
-    append(out, &fields.completer.to_be_bytes());
-    let status = 32 * fields.status + 16 * u8::from(fields.bcm) + (fields.count / 256) as u8;
-    append(out, &[status, (fields.count % 256) as u8]);
-    append(out, &fields.requester.to_be_bytes());
-    append(out, &[fields.tag, fields.lower]);
+    put_number(out, fields.completer);
+    let status = 32 * fields.status.number()
+        + 16 * u8::from(fields.bcm)
+        + (fields.count / 256) as u8;
+    put(out, &[status, (fields.count % 256) as u8]);
+    put_number(out, fields.requester);
+    put(out, &[(fields.tag & 0xff) as u8, fields.lower]);
 }
 
 /// Appends what stands behind the first double word.
-fn put_fields(out: &mut Vec<u8>, lead: &Lead, fields: &Fields)
-    requires room { vec_len out.old + 12 ≤ vec_capacity out.old }
+fn put_fields(out: &mut Header, lead: &Lead, fields: &Fields)
+    requires room { array_vec_len out.old + 12 ≤ 16 }
     requires fits { FitsFields lead.now fields.now }
-    ensures items { out.new.items ≡ out.old.items ++ field_bytes lead.now.wide fields.now }
-    ensures len { vec_len out.new ≤ vec_len out.old + 12 }
-    ensures capacity { vec_capacity out.old ≤ vec_capacity out.new }
+    ensures { out.new.items ≡ out.old.items ++ field_bytes lead.now.wide fields.now }
 {
     match fields {
         Fields::Memory(fields) => put_memory(out, lead, fields),
@@ -124,20 +160,39 @@ fn put_fields(out: &mut Vec<u8>, lead: &Lead, fields: &Fields)
     }
 }
 
-/// Appends the TLP's one spelling to `out` (PCI Express Base 6.0 section 2.2). That it has one, its fields
-/// in range and its payload as long as Length says, is the caller's condition. After `Memory` the bytes of
-/// `out` are as before.
+fn header_bytes(head: &HeadView) -> Header
+    requires { FitsHead head.now }
+    ensures { result.items ≡ head_bytes head.now }
+{
+    let mut out = ArrayVec::new();
+    put(&mut out, &[first_byte(head)]);
+    put(&mut out, &lead_bytes(&head.lead, tag_of(&head.fields)));
+    put_fields(&mut out, &head.lead, &head.fields);
+    out
+}
+
+/// Appends the TLP's one spelling to `out` (PCI Express Base 6.0 section 2.2, as this profile has it). That
+/// it has one, its fields in range and its payload as long as Length says, is the caller's condition. After
+/// `Memory` the bytes of `out` are as before; it comes from this call's one `reserve` alone.
 pub fn write(tlp: &Tlp, out: &mut Vec<u8>) -> Result<(), Memory>
     requires { FitsTlp tlp.now }
     ensures ok { OnOk result (out.new.items ≡ out.old.items ++ tlp_bytes tlp.now) }
     ensures err { OnErr result (out.new.items ≡ out.old.items) }
 {
-    let head = tlp.head();
-    let payload = tlp.payload();
-    out.reserve(16 + payload.len())?;
-    append(out, &[first_byte(&head)]);
-    append(out, &lead_bytes(&head.lead));
-    put_fields(out, &head.lead, &head.fields);
+    let head = header_bytes(&tlp.head);
+    let payload = tlp.payload.as_slice();
+    out.reserve(head.len() + payload.len())?;
+    append(out, head.as_slice());
     append(out, payload);
     Ok(())
+}
+
+/// Appends the bytes, for which there is room.
+fn append(out: &mut Vec<u8>, bytes: &[u8])
+    requires { vec_len out.old + length bytes.now ≤ vec_capacity out.old }
+    ensures items { out.new.items ≡ out.old.items ++ bytes.now }
+    ensures len { vec_len out.new ≡ vec_len out.old + length bytes.now }
+    ensures capacity { vec_capacity out.old ≤ vec_capacity out.new }
+{
+    let _ = out.extend_from_slice(bytes);
 }

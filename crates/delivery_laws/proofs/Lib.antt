@@ -1,0 +1,10 @@
+pub mod Received
+pub mod GotUnits
+pub mod Orders
+pub mod Prefixes
+pub mod Closed
+pub mod SameFronts
+pub mod Wholes
+pub mod Unforged
+pub mod Deliveries
+pub mod AllLaws

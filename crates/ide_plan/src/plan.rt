@@ -1,0 +1,40 @@
+//! A topology, and its links.
+
+use crate::{InterfacePlan, StreamPlan};
+use ide_types::Items;
+
+/// What there is before the first event of a run.
+#[derive(Debug, Drop)]
+pub struct Plan {
+    /// How many bytes of an interface report one request asks for, 16 to 65,535.
+    pub portion: u16,
+    /// How many units a key seals at the most, 1 to 2^32.
+    pub units_per_key: u64,
+    /// The keys, six for each draw: key `6j + 3d + u` is that of draw j, direction d (0 sealed by the host's
+    /// port, 1 by the device's) and sub-stream number u. Pairwise different; 6 to 6,144 of them.
+    pub pool: Items<[u8; 32]>,
+    /// The links, by their number; 1 to 8 of them.
+    pub links: Items<LinkPlan>,
+    /// The regions of trusted memory, which do not overlap; up to 16 of them.
+    pub memory: Items<Region>,
+}
+
+/// A link: a host's port and a device's.
+#[derive(Debug, Drop)]
+pub struct LinkPlan {
+    /// What the device gives in answer to lock requests, in order; up to 1,024 of them.
+    pub nonces: Items<[u8; 32]>,
+    /// The streams of the link, of which no two have the same ID; 1 to 16 of them.
+    pub streams: Items<StreamPlan>,
+    /// The device's interfaces, of which no two have the same requester ID.
+    pub interfaces: Items<InterfacePlan>,
+}
+
+/// A region of trusted memory, in bytes; both are multiples of 4,096.
+#[derive(Clone, Copy, Debug, PartialEq, Eq)]
+pub struct Region {
+    /// The address of its first byte.
+    pub base: u64,
+    /// How many bytes it has, at least 4,096.
+    pub size: u64,
+}

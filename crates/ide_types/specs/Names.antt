@@ -1,0 +1,58 @@
+-- Lines of text: words, and those that name ports, sub-streams, failures, states and faults.
+use Rattle.std.specs.Prelude.{ℕ, List, [], ◌∷◌, ◌++◌, codes}
+use Rattle.std.specs.Fmt.{decimal}
+use Rattle.ide_types.specs.declared.sub.SubKind.{SubKind}
+use Rattle.ide_types.specs.declared.sub.SubKind.TheVariants.{Pr, Npr, Cpl}
+use Rattle.ide_types.specs.declared.sub.FailCause.{FailCause}
+use Rattle.ide_types.specs.declared.sub.FailCause.TheVariants as fail
+use Rattle.ide_types.specs.declared.fault_word.FaultWord.{FaultWord}
+use Rattle.ide_types.specs.declared.fault_word.FaultWord.TheVariants as fault
+use Rattle.ide_types.specs.declared.port.Side.{Side}
+use Rattle.ide_types.specs.declared.port.Side.TheVariants.{Host, Device}
+use Rattle.ide_types.specs.declared.port.PortName.{PortName}
+use Rattle.ide_types.specs.declared.status.StreamStatus.{StreamStatus}
+use Rattle.ide_types.specs.declared.status.StreamStatus.TheVariants as status
+
+-- the bytes of a text
+abbrev pub Text : Type 0
+Text = List ℕ
+
+-- words, each behind a space, and a line feed
+abbrev pub joined : List Text → Text
+joined [] = 10 ∷ []
+joined (w ∷ ws) = 32 ∷ (w ++ joined ws)
+
+abbrev pub side_word : Side → Text
+side_word Host = codes "h"
+side_word Device = codes "d"
+
+abbrev pub port_word : PortName → Text
+port_word p = side_word p.side ++ decimal p.link
+
+abbrev pub sub_word : SubKind → Text
+sub_word Pr = codes "pr"
+sub_word Npr = codes "npr"
+sub_word Cpl = codes "cpl"
+
+abbrev pub fail_word : FailCause → Text
+fail_word fail.Key = codes "key"
+fail_word fail.Unit = codes "unit"
+fail_word fail.Tag = codes "tag"
+fail_word fail.Order = codes "order"
+
+abbrev pub status_word : StreamStatus → Text
+status_word status.Idle = codes "idle"
+status_word status.Partial = codes "partial"
+status_word status.Secure = codes "secure"
+status_word status.Insecure = codes "insecure"
+
+abbrev pub fault_word : FaultWord → Text
+fault_word fault.Short = codes "short"
+fault_word fault.Reserved = codes "reserved"
+fault_word fault.SubStream = codes "substream"
+fault_word fault.Class = codes "class"
+fault_word fault.Kind = codes "kind"
+fault_word fault.Bit = codes "bit"
+fault_word fault.Length = codes "length"
+fault_word fault.Sync = codes "sync"
+fault_word fault.Trailing = codes "trailing"

@@ -1,0 +1,136 @@
+-- What the keys of a history obey.
+use Rattle.std.specs.Prelude.{ℕ, ◌≡◌, ◌≢◌, ◌≤◌, ◌<◌, Bool, true, false, Some, None, List, [], ◌∷◌, ◌==◌, if◌then◌else◌}
+use Rattle.ide_types.specs.declared.port.Side.{Side}
+use Rattle.link_events.specs.declared.event.Event.{Event}
+use Rattle.link_events.specs.declared.event.Event.TheVariants as event
+use Rattle.link_verdicts.specs.declared.verdict.Operation.TheVariants as op
+use Rattle.ide_types.specs.declared.status.StreamStatus.TheVariants as status
+use Rattle.link_verdicts.specs.declared.verdict.Verdict.{Verdict}
+use Rattle.link_verdicts.specs.declared.verdict.Verdict.TheVariants as v
+use Rattle.key_laws.specs.Places.{KeyPlan, Place}
+use Rattle.key_laws.specs.Keys.{Touch, Go, Seal, Accept, keys, key_in, kept_in, on_in, live_draw}
+use Rattle.key_laws.specs.Operations.{Idle, Establishing, Up, Refreshing, work_of}
+use Rattle.key_laws.specs.History.{History, op_of, draws, moments, came, kept_draw, on_draw, status_of, go_at, manager, touches}
+use Rattle.key_laws.specs.Due.{due}
+
+-- ---- the cause of each verdict
+
+-- A packet is sealed under the Live key of its sender, a unit accepted under a key that is On at its receiver.
+abbrev pub UseFits : Bool → List Touch → Touch → Type 0
+UseFits sends ts (Seal j m) = live_draw (keys sends ts) ≡ Some j
+UseFits sends ts (Accept j) = (set : Bool) × (on_in (key_in (keys sends ts) set) ≡ Some j)
+UseFits sends ts _ = Unit {0}
+
+abbrev pub UsesFit : Bool → List Touch → List Touch → Type 0
+UsesFit sends ts [] = Unit {0}
+UsesFit sends ts (t ∷ more) = UseFits sends ts t × UsesFit sends (t ∷ ts) more
+
+-- what is supposed of the verdict of a send or an arrival
+abbrev pub GivenFits : History → Event → Verdict → Type 0
+GivenFits h (event.Establish link stream loss) verdict = Unit {0}
+GivenFits h (event.Refresh link stream loss) verdict = Unit {0}
+GivenFits h (event.Stop link stream loss) verdict = Unit {0}
+GivenFits h (event.Reset link) verdict = Unit {0}
+GivenFits h _ verdict = (p : Place) → UsesFit p.sends (moments h p) (came p verdict)
+
+-- Each verdict is the one that is due after the pairs before it.
+abbrev pub CauseLaw : KeyPlan → History → Type 0
+CauseLaw plan [] = Unit {0}
+CauseLaw plan ((e, verdict) ∷ h) = (verdict ≡ due plan h e verdict) × GivenFits h e verdict × CauseLaw plan h
+
+-- ---- draws
+
+-- the draws that packets were sealed under at a sender, or units accepted under at a receiver, the newest first
+abbrev pub uses : List Touch → List ℕ
+uses [] = []
+uses (Seal j m ∷ ts) = j ∷ uses ts
+uses (Accept j ∷ ts) = j ∷ uses ts
+uses (_ ∷ ts) = uses ts
+
+abbrev pub uses_at : History → Place → List ℕ
+uses_at h p = uses (moments h p)
+
+abbrev pub NoneAbove : ℕ → List ℕ → Type 0
+NoneAbove j [] = Unit {0}
+NoneAbove j (i ∷ is) = (i ≤ j) × NoneAbove j is
+
+-- no draw is smaller than an earlier one
+abbrev pub NeverFalls : List ℕ → Type 0
+NeverFalls [] = Unit {0}
+NeverFalls (j ∷ []) = Unit {0}
+NeverFalls (j ∷ i ∷ js) = (i ≤ j) × NeverFalls (i ∷ js)
+
+pub record KeyFacts (h : History) : Type 0 where
+  -- wherever a draw is On it is in one set, and on one stream
+  pub one_set : (p q : Place) (k l : Bool) (j : ℕ) → on_draw h p k ≡ Some j → on_draw h q l ≡ Some j → k ≡ l
+  pub one_stream : (p q : Place) (k l : Bool) (j : ℕ) → on_draw h p k ≡ Some j → on_draw h q l ≡ Some j → (p.link ≡ q.link) × (p.stream ≡ q.stream)
+  -- a draw that is On is at least each draw that was used there
+  pub none_above : (p : Place) (k : Bool) (j : ℕ) → on_draw h p k ≡ Some j → NoneAbove j (uses_at h p)
+  -- draws of sealed packets and of accepted units never fall
+  pub never_fall : (p : Place) → NeverFalls (uses_at h p)
+
+-- ---- the state of a stream
+
+-- what the manager's state of a stream says of its places; a GO is carried at a device's place, and acknowledged where
+-- it makes the host's port go on
+pub record StreamFacts (h : History) : Type 0 where
+  pub idle : (p : Place) → op_of h p.link p.stream ≡ Idle → (set : Bool) → kept_draw h p set ≡ None
+  pub establishing : (p : Place) (j n : ℕ) → op_of h p.link p.stream ≡ Establishing j n
+      → (go_at op.Establish p < n → on_draw h p false ≡ Some j) × ((set : Bool) (i : ℕ) → on_draw h p set ≡ Some i → i ≡ j)
+  pub up : (p : Place) (set : Bool) (j : ℕ) → op_of h p.link p.stream ≡ Up set j
+      → (on_draw h p set ≡ Some j) × ((other : Bool) (i : ℕ) → on_draw h p other ≡ Some i → i ≢ j → i < j)
+  pub refreshing : (p : Place) (set : Bool) (j n : ℕ) → op_of h p.link p.stream ≡ Refreshing set j n → go_at op.Refresh p < n → on_draw h p set ≡ Some j
+  -- a draw is kept in one slot of a place at most, and on one stream
+  pub one_slot : (p q : Place) (k l : Bool) (j : ℕ) → kept_draw h p k ≡ Some j → kept_draw h q l ≡ Some j → (k ≡ l) × (p.link ≡ q.link) × (p.stream ≡ q.stream)
+
+-- Before each GO that comes to a place its draw is kept there.
+abbrev pub GoesKept : Bool → List Touch → List Touch → Type 0
+GoesKept sends ts [] = Unit {0}
+GoesKept sends ts (Go set j ∷ more) = (kept_in (key_in (keys sends ts) set) ≡ Some j) × GoesKept sends (Go set j ∷ ts) more
+GoesKept sends ts (t ∷ more) = GoesKept sends (t ∷ ts) more
+
+abbrev pub GosFindKeys : History → Type 0
+GosFindKeys [] = Unit {0}
+GosFindKeys ((e, verdict) ∷ h) = ((p : Place) → GoesKept p.sends (moments h p) (touches (manager h).ops (draws h) e verdict p)) × GosFindKeys h
+
+-- whether the GO of a draw ever came
+abbrev pub went : List Touch → ℕ → Bool
+went [] j = false
+went (Go set i ∷ ts) j = if i == j then true else went ts j
+went (_ ∷ ts) j = went ts j
+
+-- Where its GO came, a draw is kept only while it is On: once it has ceased to be On it is never kept there again.
+abbrev pub NeverAgain : History → Type 0
+NeverAgain h = (p : Place) (set : Bool) (j : ℕ) → kept_draw h p set ≡ Some j → went (moments h p) j ≡ true → on_draw h p set ≡ Some j
+
+-- ---- ends of operations
+
+-- At an established or refreshed verdict the draw of the operation is On in all places of the stream; then no other
+-- draw is On, or only smaller ones. At a stopped verdict none is kept.
+abbrev pub SettledAt : History → Event → Verdict → Type 0
+SettledAt h (event.Establish link stream loss) (v.Established l t j) =
+    (j ≡ (work_of op.Establish (op_of h link stream) (draws h)).draw)
+    × ((p : Place) → p.link ≡ link → p.stream ≡ stream
+    → (on_draw ((event.Establish link stream loss, v.Established l t j) ∷ h) p false ≡ Some j) × (on_draw ((event.Establish link stream loss, v.Established l t j) ∷ h) p true ≡ None))
+SettledAt h (event.Refresh link stream loss) (v.Refreshed l t j) =
+    (j ≡ (work_of op.Refresh (op_of h link stream) (draws h)).draw)
+    × ((p : Place) → p.link ≡ link → p.stream ≡ stream
+    → (on_draw ((event.Refresh link stream loss, v.Refreshed l t j) ∷ h) p (work_of op.Refresh (op_of h link stream) (draws h)).set ≡ Some j)
+    × ((set : Bool) (i : ℕ) → on_draw ((event.Refresh link stream loss, v.Refreshed l t j) ∷ h) p set ≡ Some i → i ≢ j → i < j))
+SettledAt h (event.Stop link stream loss) (v.Stopped l t) =
+    (p : Place) → p.link ≡ link → p.stream ≡ stream → (set : Bool) → kept_draw ((event.Stop link stream loss, v.Stopped l t) ∷ h) p set ≡ None
+SettledAt h e verdict = Unit {0}
+
+abbrev pub Settled : History → Type 0
+Settled [] = Unit {0}
+Settled ((e, verdict) ∷ h) = SettledAt h e verdict × Settled h
+
+-- No move of a refresh takes a port out of Secure.
+abbrev pub StaysSecureAt : History → Event → Verdict → Type 0
+StaysSecureAt h (event.Refresh link stream loss) verdict =
+    (side : Side) → status_of h side link stream ≡ status.Secure → status_of ((event.Refresh link stream loss, verdict) ∷ h) side link stream ≡ status.Secure
+StaysSecureAt h e verdict = Unit {0}
+
+abbrev pub StaysSecure : History → Type 0
+StaysSecure [] = Unit {0}
+StaysSecure ((e, verdict) ∷ h) = StaysSecureAt h e verdict × StaysSecure h

@@ -1,0 +1,115 @@
+-- The manager's operations on streams, said by their verdicts.
+use Rattle.std.specs.Prelude.{ℕ, ◌+◌, ◌==◌, nat_lt, Bool, true, false, not, ◌&&◌, if◌then◌else◌, Option, Some, None, List, ◌∷◌, length}
+use Rattle.link_events.specs.declared.event.Event.{Event}
+use Rattle.link_events.specs.declared.event.Event.TheVariants as event
+use Rattle.link_verdicts.specs.declared.verdict.Operation.{Operation}
+use Rattle.link_verdicts.specs.declared.verdict.Operation.TheVariants as op
+use Rattle.link_verdicts.specs.declared.verdict.Verdict.{Verdict}
+use Rattle.link_verdicts.specs.declared.verdict.Verdict.TheVariants as v
+
+-- What the manager knows of a stream: it has no keys; it is being keyed with a draw in set 0, and which exchange
+-- is next; it is keyed; it is being given the key of a draw in the other set; its keys are being taken away.
+pub data Op : Type 0 where
+  Idle : Op
+  Establishing : (draw next : ℕ) → Op
+  Up : (set : Bool) (draw : ℕ) → Op
+  Refreshing : (set : Bool) (draw next : ℕ) → Op
+  Stopping : (next : ℕ) → Op
+
+-- an operation at an event: its key set, its draw, the first exchange that the event comes to, and whether it begins
+pub record Work : Type 0 where
+  pub operation : Operation
+  pub set : Bool
+  pub draw : ℕ
+  pub first : ℕ
+  pub begins : Bool
+
+abbrev pub work : Operation → Bool → ℕ → ℕ → Bool → Work
+work o set draw first begins = record { operation = o; set = set; draw = draw; first = first; begins = begins }
+
+-- the operation goes on where it stands, else it begins with the next draw; a refresh takes the set that is not current
+abbrev pub work_of : Operation → Op → ℕ → Work
+work_of op.Establish (Establishing j n) next = work op.Establish false j n false
+work_of op.Establish _ next = work op.Establish false next 1 true
+work_of op.Refresh (Refreshing set j n) next = work op.Refresh set j n false
+work_of op.Refresh (Up set j) next = work op.Refresh (not set) next 1 true
+work_of op.Refresh _ next = work op.Refresh true next 1 true
+work_of op.Stop (Stopping n) next = work op.Stop false 0 n false
+work_of op.Stop _ next = work op.Stop false 0 1 true
+
+-- the number of its last exchange
+abbrev pub last_of : Operation → ℕ
+last_of op.Establish = 13
+last_of op.Refresh = 12
+last_of op.Stop = 12
+
+-- how far an event came: each exchange below the one was carried to the device, each below the other acknowledged
+pub record Reach : Type 0 where
+  pub carried : ℕ
+  pub acknowledged : ℕ
+
+abbrev pub reach : ℕ → ℕ → Reach
+reach carried acknowledged = record { carried = carried; acknowledged = acknowledged }
+
+-- by the verdict; nothing where the operation was refused
+abbrev pub reach_of : Operation → Verdict → Option Reach
+reach_of o (v.Established l s j) = Some (reach (last_of o + 1) (last_of o + 1))
+reach_of o (v.Refreshed l s j) = Some (reach (last_of o + 1) (last_of o + 1))
+reach_of o (v.Stopped l s) = Some (reach (last_of o + 1) (last_of o + 1))
+reach_of o (v.LostRequest n) = Some (reach n n)
+reach_of o (v.LostReply n) = Some (reach (n + 1) n)
+reach_of o (v.RefusedDevice n code) = Some (reach (n + 1) n)
+reach_of o _ = None
+
+abbrev pub op_ended : Work → Op
+op_ended w = ended w.operation
+  where
+    ended : Operation → Op
+    ended op.Establish = Up w.set w.draw
+    ended op.Refresh = Up w.set w.draw
+    ended op.Stop = Idle
+
+abbrev pub op_standing : Work → ℕ → Op
+op_standing w n = standing w.operation
+  where
+    standing : Operation → Op
+    standing op.Establish = Establishing w.draw n
+    standing op.Refresh = Refreshing w.set w.draw n
+    standing op.Stop = Stopping n
+
+abbrev pub op_after : Work → Reach → Op
+op_after w r = if nat_lt (last_of w.operation) r.acknowledged then op_ended w else op_standing w r.acknowledged
+
+-- an operation that began with a draw
+pub record Begun : Type 0 where
+  pub link : ℕ
+  pub stream : ℕ
+  pub set : Bool
+
+-- the state of each stream by its link and id, and the operations that began with a draw, the newest first
+pub record Manager : Type 0 where
+  pub ops : ℕ → ℕ → Op
+  pub begun : List Begun
+
+abbrev pub makes_draw : Operation → Bool
+makes_draw op.Stop = false
+makes_draw _ = true
+
+abbrev pub begun_after : List Begun → ℕ → ℕ → Work → List Begun
+begun_after bs link stream w = if w.begins && makes_draw w.operation then record { link = link; stream = stream; set = w.set } ∷ bs else bs
+
+abbrev pub operated : Manager → Operation → ℕ → ℕ → Option Reach → Manager
+operated m o link stream None = m
+operated m o link stream (Some r) =
+    let w = work_of o (m.ops link stream) (length m.begun) in
+    record {
+      ops = λ a b. if (a == link) && (b == stream) then op_after w r else m.ops a b;
+      begun = begun_after m.begun link stream w;
+    }
+
+abbrev pub manager_after : Manager → Event → Verdict → Manager
+manager_after m (event.Establish link stream loss) verdict = operated m op.Establish link stream (reach_of op.Establish verdict)
+manager_after m (event.Refresh link stream loss) verdict = operated m op.Refresh link stream (reach_of op.Refresh verdict)
+manager_after m (event.Stop link stream loss) verdict = operated m op.Stop link stream (reach_of op.Stop verdict)
+manager_after m (event.Reset link) (v.Reset l) = record { ops = λ a b. if a == link then Idle else m.ops a b; begun = m.begun }
+manager_after m _ _ = m

@@ -1,0 +1,48 @@
+-- Where keys are: at a port, and there in a sub-stream that it sends or receives.
+use Rattle.std.specs.Prelude.{ℕ, ◌+◌, ◌==◌, ◌&&◌, Bool, true, false, not, if◌then◌else◌, List, [], ◌∷◌}
+use Rattle.ide_types.specs.Sub.{sub_bits}
+use Rattle.ide_types.specs.declared.sub.SubKind.{SubKind}
+use Rattle.ide_types.specs.declared.sub.SubKind.TheVariants.{Pr, Npr, Cpl}
+use Rattle.ide_types.specs.declared.port.Side.{Side}
+use Rattle.ide_types.specs.declared.port.Side.TheVariants.{Host, Device}
+pub use Rattle.ide_types.specs.Sub.{sent_direction, received_direction, is_same_sub}
+
+-- what there is before the first event: how many draws the pool has, and which links and streams exist
+pub record KeyPlan : Type 0 where
+  pub pool : ℕ
+  pub has_link : ℕ → Bool
+  pub has_stream : ℕ → ℕ → Bool
+
+pub record Place : Type 0 where
+  pub side : Side
+  pub link : ℕ
+  pub stream : ℕ
+  pub sends : Bool
+  pub sub : SubKind
+
+abbrev pub is_host : Side → Bool
+is_host Host = true
+is_host Device = false
+
+abbrev pub is_same_side : Side → Side → Bool
+is_same_side a b = sent_direction a == sent_direction b
+
+abbrev pub is_on_stream : Place → ℕ → ℕ → Bool
+is_on_stream p link stream = (p.link == link) && (p.stream == stream)
+
+-- whether its packets go from the device to the host
+abbrev pub is_upward : Place → Bool
+is_upward p = if is_host p.side then not p.sends else p.sends
+
+-- its number among the six of its stream: the device's receivers PR, NPR, CPL, then its senders
+abbrev pub lane : Place → ℕ
+lane p = (if is_upward p then 3 else 0) + sub_bits p.sub
+
+abbrev pub place_at : Side → ℕ → ℕ → Bool → SubKind → Place
+place_at side link stream upward u = record { side = side; link = link; stream = stream; sends = if is_host side then not upward else upward; sub = u }
+
+-- the six places of a stream at a port, in order
+abbrev pub places_of : Side → ℕ → ℕ → List Place
+places_of side link stream =
+    place_at side link stream false Pr ∷ place_at side link stream false Npr ∷ place_at side link stream false Cpl
+    ∷ place_at side link stream true Pr ∷ place_at side link stream true Npr ∷ place_at side link stream true Cpl ∷ []

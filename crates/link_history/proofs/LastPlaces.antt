@@ -1,0 +1,8 @@
+-- Places of a list with one more element.
+use Rattle.std.proofs.Common.{◌≡◌, ℕ, zero, suc, List, [], ◌∷◌, ◌++◌, length, Some, slice_get, ◌⊎◌, inl, inr, refl, ap}
+
+pub place_of_last : {A : Type 0} (xs : List A) (x y : A) (i : ℕ) → slice_get (xs ++ x ∷ []) i ≡ Some y → (slice_get xs i ≡ Some y) ⊎ ((x ≡ y) × (i ≡ length xs))
+place_of_last [] x y zero is = inr (cc, refl)
+place_of_last [] x y (suc i) is = absurd cc
+place_of_last (z ∷ xs) x y zero is = inl is
+place_of_last (z ∷ xs) x y (suc i) is = elim (place_of_last xs x y i is) [ inl p ↦ inl p | inr p ↦ inr (p.0, ap suc p.1) ]

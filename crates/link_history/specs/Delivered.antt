@@ -1,0 +1,52 @@
+-- The TLPs that were sent, and those that were delivered: each is the bytes of its header and its payload in plain. Sync
+-- packets carry none.
+use Rattle.std.specs.Prelude.{ℕ, Bool, not, ◌&&◌, ◌==◌, if◌then◌else◌, List, [], ◌∷◌, ◌++◌, length, take, drop, map, filter}
+use Rattle.ide_plan.specs.declared.plan.Plan.{Plan}
+use Rattle.link_history.specs.Plan.{SubStream, is_same, key_of}
+use Rattle.link_history.specs.Laws.{Begins}
+use Rattle.key_laws.specs.History.{History}
+use Rattle.link_history.specs.History.{sub_stream_of, arrived_packet, is_of, held}
+use Rattle.link_events.specs.declared.event.Event.TheVariants.{Send}
+use Rattle.link_verdicts.specs.declared.verdict.Verdict.TheVariants.{Sealed, Accepted}
+use Rattle.link_verdicts.specs.declared.verdict.SealedPacket.{SealedPacket}
+use Rattle.ide_prefix.specs.Packet.{Packet, is_sync_packet}
+use Rattle.ide_prefix.specs.Iv.{iv_of}
+use Rattle.ide_prefix.specs.Units.{encrypted}
+use Rattle.gcm_seal.specs.Gcm.{open_of}
+
+-- ---- sent
+
+-- the sealed packet carries a TLP of this sub-stream under this draw
+abbrev pub carries : SubStream → ℕ → SealedPacket → Bool
+carries s j d = not d.sync && is_same (sub_stream_of d) s && (d.draw == j)
+
+-- the bytes that were sent and sealed in a sub-stream under a draw, in order
+unfoldable pub tlps_sent : History → SubStream → ℕ → List (List ℕ)
+tlps_sent [] s j = []
+tlps_sent ((Send port bytes more trusted, Sealed ds) ∷ h) s j = tlps_sent h s j ++ map (λ d. bytes) (filter (carries s j) ds)
+tlps_sent (_ ∷ h) s j = tlps_sent h s j
+
+-- ---- delivered
+
+-- the packets of a unit with their parts of its plaintext
+abbrev pub with_payloads : List ℕ → List Packet → List (List ℕ)
+with_payloads plain [] = []
+with_payloads plain (p ∷ ps) =
+    let later = with_payloads (drop (length p.body) plain) ps in
+    if is_sync_packet p then later else (p.head ++ take (length p.body) plain) ∷ later
+
+-- the TLPs of a unit of this number: its plaintext is GCM's, under the key of the draw
+abbrev pub opened : Plan → SubStream → ℕ → ℕ → List Packet → List (List ℕ)
+opened plan s j n unit = with_payloads (open_of (key_of plan j s) (iv_of s.sub n) (encrypted unit)) unit
+
+-- the TLPs of the units that were accepted in a sub-stream under a draw, in order
+unfoldable pub tlps_got : Plan → History → SubStream → ℕ → List (List ℕ)
+tlps_got plan [] s j = []
+tlps_got plan ((e, Accepted port unit effects) ∷ h) s j =
+    if is_of s j port unit then tlps_got plan h s j ++ opened plan s j unit.unit (held plan h s j unit.unit ++ arrived_packet plan h e ∷ [])
+    else tlps_got plan h s j
+tlps_got plan (_ ∷ h) s j = tlps_got plan h s j
+
+-- Key by key, each sub-stream delivered a prefix of the TLPs that were sent in it.
+abbrev pub DeliveryLaw : Plan → History → Type 0
+DeliveryLaw plan h = (s : SubStream) (j : ℕ) → Begins (tlps_got plan h s j) (tlps_sent h s j)

@@ -1,0 +1,175 @@
+-- The one verdict that an event gets after a history.
+use Rattle.std.specs.Prelude.{ℕ, ◌+◌, Bool, true, false, not, ◌&&◌, ◌||◌, if◌then◌else◌, ◌==◌, nat_lt, nat_le, Option, Some, None, Result, Ok, Err, List, [], ◌∷◌, ◌++◌, length, map, is_some}
+use Rattle.std.specs.Option.{option_map_or}
+use Rattle.ide_types.specs.declared.sub.FailCause.TheVariants as fail
+use Rattle.ide_plan.specs.declared.plan.Plan.{Plan}
+use Rattle.link_history.specs.Plan.{SubStream, key_plan, streams_of, stream_plan, lane_out, has_port, has_stream, mode_of, key_of}
+use Rattle.key_laws.specs.Places.{sent_direction, received_direction}
+use Rattle.link_history.specs.Units.{units, open_unit}
+use Rattle.key_laws.specs.History.{History, status_of}
+use Rattle.key_laws.specs.Due.{due as key_due}
+use Rattle.association.specs.Choice.{choice_of, chosen}
+use Rattle.link_history.specs.History.{Arrival, KeyName, sealed_packets, sent, arrived, packet_at, pending, units_got, on_draw, live_key, failed, posted_count, meets_counts, received_in, front_due}
+use Rattle.ide_types.specs.declared.port.PortName.{PortName}
+use Rattle.ide_types.specs.declared.port.Side.TheVariants.{Host, Device}
+use Rattle.link_events.specs.declared.event.Event.{Event}
+use Rattle.link_events.specs.declared.event.Event.TheVariants.{Send, Dump, Establish, Refresh, Stop, Reset, Status}
+use Rattle.link_verdicts.specs.declared.verdict.Verdict.{Verdict}
+use Rattle.link_verdicts.specs.declared.verdict.Verdict.TheVariants as v
+use Rattle.link_verdicts.specs.declared.verdict.SealedPacket.{SealedPacket}
+use Rattle.link_verdicts.specs.declared.verdict.UnitName.{UnitName}
+use Rattle.link_verdicts.specs.declared.verdict.Effect.{Effect}
+use Rattle.link_verdicts.specs.declared.verdict.Effect.TheVariants as effect
+use Rattle.link_verdicts.specs.declared.verdict.BlockCause.TheVariants as block
+use Rattle.tlp_layout.specs.declared.head.HeadView.{HeadView}
+use Rattle.tlp_layout.specs.declared.head.TlpKind.{TlpKind}
+use Rattle.tlp_layout.specs.declared.head.TlpKind.TheVariants as kind
+use Rattle.tlp_layout.specs.declared.tlp.Tlp.{Tlp}
+use Rattle.tlp_layout.specs.declared.fault.TlpFault.{TlpFault}
+use Rattle.tlp_layout.specs.Class.{class_of, kind_of}
+use Rattle.tlp_layout.specs.Faults.{place_in}
+use Rattle.tlp_layout.specs.Tlp.{header}
+use Rattle.tlp_layout.specs.Reading.{read_of, read_head_of}
+use Rattle.ide_prefix.specs.declared.fault.PacketFault.{PacketFault}
+use Rattle.ide_prefix.specs.Faults.{packet_place}
+use Rattle.ide_prefix.specs.Packet.{Packet, packet_bytes, is_sync_packet}
+use Rattle.ide_prefix.specs.Iv.{iv_of}
+use Rattle.ide_prefix.specs.Units.{authenticated, encrypted}
+use Rattle.ide_prefix.specs.Reading.{CutValue, PlainTlp, IdePacket, cut_of}
+use Rattle.fault_words.specs.FaultWords.{tlp_word, packet_word}
+use Rattle.gcm_seal.specs.Gcm.{verifies}
+pub use Rattle.stream_rules.specs.Sending.{first_that_holds, Sending, Lane, Lanes, is_posted, begins_unit, needs_sync, is_worn, is_keyless, refusals, no_key, described, ends_unit, sets_trusted, sync_before, sealed_by, sent_as}
+
+-- ---- sends
+
+-- what a history says of a sub-stream that a port seals
+abbrev pub sent_under : Plan → History → SubStream → Option KeyName → List Packet
+sent_under plan h s None = []
+sent_under plan h s (Some key) = sent plan h s key.draw
+
+abbrev pub lane_at : Plan → History → PortName → SubStream → Lane
+lane_at plan h port s =
+    let under = sent_under plan h s (live_key h port s) in
+    record { key = live_key h port s; front = open_unit under; units = length (units under); posted = posted_count plan h s }
+
+abbrev pub lanes_at : Plan → History → PortName → ℕ → Lanes
+lanes_at plan h port stream = record {
+  mode = mode_of plan port.link stream;
+  limit = plan.units_per_key;
+  failed = failed h port stream;
+  lane = λ u. lane_at plan h port (lane_out port stream u);
+}
+
+-- the stream that a TLP takes
+unfoldable pub choice : Plan → PortName → HeadView → Option ℕ
+choice plan port head = chosen (choice_of (streams_of plan port.link) port.side head)
+
+abbrev pub send_on : Plan → History → PortName → HeadView → Bool → Bool → Option ℕ → Verdict
+send_on plan h port head more trusted None = v.Plain port
+send_on plan h port head more trusted (Some stream) =
+    let s : Sending = record { port = port; stream = stream; class = class_of head; more = more; trusted = trusted } in
+    sent_as (lanes_at plan h port stream) s (length (sealed_packets plan h) + 1)
+
+abbrev pub send_read : Plan → History → PortName → Result Tlp TlpFault → Bool → Bool → Verdict
+send_read plan h port (Err f) more trusted = v.Malformed port (tlp_word f) (place_in f)
+send_read plan h port (Ok t) more trusted = send_on plan h port (header t) more trusted (choice plan port (header t))
+
+-- ---- arrivals
+
+-- a packet whose tag is to be verified, with its unit
+pub record Ending : Type 0 where
+  pub packet : Packet
+  pub unit : UnitName
+
+-- the sub-stream in which a packet arrives
+abbrev pub receiving : PortName → Packet → SubStream
+receiving port p = record { link = port.link; stream = p.prefix.stream; direction = received_direction port.side; sub = p.prefix.sub }
+
+-- whether packets of the other key set are held
+abbrev pub is_mixed : Plan → History → SubStream → Option ℕ → Bool
+is_mixed plan h s other = nat_lt 0 (option_map_or (λ i. length (pending plan h s i)) other 0)
+
+-- whether the packet leaves unfinished a unit that has no room for another
+abbrev pub is_overfull : Plan → History → SubStream → ℕ → Bool → Bool
+is_overfull plan h s j m = not m && nat_le (mode_of plan s.link s.stream) (length (pending plan h s j) + 1)
+
+abbrev pub unit_under : History → SubStream → ℕ → UnitName
+unit_under h s j = record { stream = s.stream; sub = s.sub; draw = j; unit = units_got h s j + 1 }
+
+-- what is left once the keys are known: that of the set that K names, and that of the other
+abbrev pub under_keys : Plan → History → PortName → Packet → Option ℕ → Option ℕ → Result Ending Verdict
+under_keys plan h port p None None = Err (v.NotKeyed port p.prefix.stream p.prefix.sub)
+under_keys plan h port p None (Some i) = Err (v.Fail port p.prefix.stream p.prefix.sub fail.Key)
+under_keys plan h port p (Some j) other =
+    let s = receiving port p in
+    if is_mixed plan h s other || is_overfull plan h s j p.prefix.m then Err (v.Fail port p.prefix.stream p.prefix.sub fail.Unit)
+    else if p.prefix.m then Ok (record { packet = p; unit = unit_under h s j })
+    else Err (v.Held port (unit_under h s j))
+
+abbrev pub before_tag_of : Plan → History → PortName → Result CutValue PacketFault → Result Ending Verdict
+before_tag_of plan h port (Err f) = Err (v.Malformed port (packet_word f) (packet_place f))
+before_tag_of plan h port (Ok PlainTlp) = Err (v.Plain port)
+before_tag_of plan h port (Ok (IdePacket p)) =
+    if not (has_stream plan port p.prefix.stream) then Err (v.Unknown port p.prefix.stream)
+    else if failed h port p.prefix.stream then Err (v.Insecure port p.prefix.stream)
+    else under_keys plan h port p (on_draw h port (receiving port p) p.prefix.k) (on_draw h port (receiving port p) (not p.prefix.k))
+
+-- the packet whose tag is to be verified and its unit, or the verdict without that
+unfoldable pub before_tag : Plan → History → Arrival → Result Ending Verdict
+before_tag plan h a = before_tag_of plan h a.port (cut_of a.bytes)
+
+-- the unit that a packet ends
+abbrev pub ended : Plan → History → PortName → Ending → List Packet
+ended plan h port x = pending plan h (received_in port x.unit) x.unit.draw ++ x.packet ∷ []
+
+-- whether the tag is that of the unit
+unfoldable pub is_verified : Plan → History → PortName → Ending → Bool
+is_verified plan h port x =
+    verifies (key_of plan x.unit.draw (received_in port x.unit)) (iv_of x.unit.sub x.unit.unit)
+    (front_due plan h (received_in port x.unit) x.unit.unit ++ authenticated (ended plan h port x)) (encrypted (ended plan h port x)) x.packet.tag
+
+-- A memory write that a host's port delivers is blocked: without T, and with it since no interface is in RUN.
+abbrev pub kind_in : Result HeadView TlpFault → Option TlpKind
+kind_in (Ok head) = Some (kind_of head)
+kind_in (Err f) = None
+
+abbrev pub is_write : Option TlpKind → Bool
+is_write (Some kind.MemWrite) = true
+is_write _ = false
+
+abbrev pub effect_of : PortName → Packet → Effect
+effect_of port p =
+    if is_sync_packet p then effect.Sync
+    else if (sent_direction port.side == 0) && is_write (kind_in (read_head_of p.head))
+    then effect.Blocked (if p.prefix.t then block.NotRunning else block.NotTrusted)
+    else effect.Delivered
+
+abbrev pub settled : Plan → History → PortName → Result Ending Verdict → Verdict
+settled plan h port (Err verdict) = verdict
+settled plan h port (Ok x) =
+    if not (is_verified plan h port x) then v.Fail port x.unit.stream x.unit.sub fail.Tag
+    else if not (meets_counts plan h (received_in port x.unit) (ended plan h port x)) then v.Fail port x.unit.stream x.unit.sub fail.Order
+    else v.Accepted port x.unit (map (effect_of port) (ended plan h port x))
+
+abbrev pub arrival_due : Plan → History → Option Arrival → Verdict
+arrival_due plan h None = v.Nothing
+arrival_due plan h (Some a) = settled plan h a.port (before_tag plan h a)
+
+abbrev pub dump_due : ℕ → Option (SealedPacket × Packet) → Verdict
+dump_due n None = v.Nothing
+dump_due n (Some x) = v.Packet n (packet_bytes x.1)
+
+-- ---- the verdict
+
+-- Each event has one verdict. An operation and a reset get that of their keys; whatever else is no send and shows
+-- nothing brings bytes.
+unfoldable pub due : Plan → History → Event → Verdict
+due plan h (Send port bytes more trusted) = if has_port plan port then send_read plan h port (read_of bytes) more trusted else v.Nothing
+due plan h (Dump n) = dump_due n (packet_at (sealed_packets plan h) n)
+due plan h (Establish link stream lose) = key_due (key_plan plan) h (Establish link stream lose) v.Nothing
+due plan h (Refresh link stream lose) = key_due (key_plan plan) h (Refresh link stream lose) v.Nothing
+due plan h (Stop link stream lose) = key_due (key_plan plan) h (Stop link stream lose) v.Nothing
+due plan h (Reset link) = key_due (key_plan plan) h (Reset link) v.Nothing
+due plan h (Status link stream) =
+    if is_some (stream_plan plan link stream) then v.Status link stream (status_of h Host link stream) (status_of h Device link stream) else v.Nothing
+due plan h e = arrival_due plan h (arrived plan h e)

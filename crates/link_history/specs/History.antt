@@ -1,0 +1,323 @@
+-- What happened: filters of a history, which is a list of events with their verdicts, the newest first.
+use Rattle.std.specs.Prelude.{not, ℕ, ◌+◌, ◌-◌, Bool, true, false, ◌&&◌, ◌||◌, if◌then◌else◌, ◌==◌, nat_lt, nat_le, Option, Some, None, Result, Ok, Err, List, [], ◌∷◌, ◌++◌, length, filter, map, take, slice_get, slice_index, slice_set, bit_xor, option_map, sum_by}
+use Rattle.std.specs.List.{after_last, list_any}
+use Rattle.std.specs.Option.{option_and_then}
+use Rattle.ide_types.specs.Sub.{sub_bits}
+use Rattle.ide_types.specs.declared.sub.SubKind.TheVariants.{Pr, Npr, Cpl}
+use Rattle.ide_types.specs.declared.port.PortName.{PortName}
+use Rattle.ide_plan.specs.declared.plan.Plan.{Plan}
+use Rattle.link_events.specs.declared.event.Event.{Event}
+use Rattle.link_events.specs.declared.event.Event.TheVariants.{Send, Pass, Alter, Cut, Arrive}
+use Rattle.link_verdicts.specs.declared.verdict.Verdict.{Verdict}
+use Rattle.link_verdicts.specs.declared.verdict.Verdict.TheVariants.{Sealed, Held, Accepted}
+use Rattle.link_verdicts.specs.declared.verdict.SealedPacket.{SealedPacket}
+use Rattle.link_verdicts.specs.declared.verdict.UnitName.{UnitName}
+use Rattle.tlp_layout.specs.Head.{head_bytes}
+use Rattle.tlp_layout.specs.Tlp.{header, body}
+use Rattle.tlp_layout.specs.Reading.{read_of}
+use Rattle.tlp_layout.specs.declared.tlp.Tlp.{Tlp}
+use Rattle.tlp_layout.specs.declared.fault.TlpFault.{TlpFault}
+use Rattle.ide_prefix.specs.declared.fault.PacketFault.{PacketFault}
+use Rattle.ide_prefix.specs.Packet.{Packet, packet_bytes, sync_head}
+use Rattle.ide_prefix.specs.Iv.{iv_of}
+use Rattle.ide_prefix.specs.Units.{authenticated, encrypted}
+use Rattle.ide_prefix.specs.Reading.{CutValue, IdePacket, cut_of}
+use Rattle.gcm_seal.specs.Gcm.{masked, tag_of}
+use Rattle.key_laws.specs.Places.{Place, sent_direction, received_direction}
+use Rattle.key_laws.specs.Keys.{Keyed, Off, On, Keys, no_keys, key_in, on_in, unless_below}
+use Rattle.key_laws.specs.History.{History, base, is_keyed as keeps_live, keys_at as keys_there, fails_at as fails_there, failed as failed_there}
+use Rattle.link_history.specs.Plan.{SubStream, is_same, is_same_port, partner, lane_out, lane_in, has_port, key_of, is_closed}
+use Rattle.link_history.specs.Units.{open_unit}
+pub use Rattle.stream_rules.specs.Sending.{KeyName, prefix_of, front_with}
+
+-- ---- what was sealed
+
+-- the sub-stream of a sealed packet
+abbrev pub sub_stream_of : SealedPacket → SubStream
+sub_stream_of d = record { link = d.port.link; stream = d.stream; direction = sent_direction d.port.side; sub = d.sub }
+
+-- the header in clear: of a sync packet, or of the TLP that was sent
+abbrev pub head_in : Result Tlp TlpFault → List ℕ
+head_in (Ok tlp) = head_bytes (header tlp)
+head_in (Err f) = []
+
+abbrev pub payload_in : Result Tlp TlpFault → List ℕ
+payload_in (Ok tlp) = body tlp
+payload_in (Err f) = []
+
+-- the packet before its tag: its body is its part of the unit's ciphertext, behind the bodies of the front
+abbrev pub untagged_packet : Plan → List ℕ → SealedPacket → List Packet → Packet
+untagged_packet plan bytes d front = record {
+  prefix = prefix_of d;
+  head = if d.sync then sync_head else head_in (read_of bytes);
+  body = masked (key_of plan d.draw (sub_stream_of d)) (iv_of d.sub d.unit) (length (encrypted front)) (if d.sync then [] else payload_in (read_of bytes));
+  tag = [];
+}
+
+unfoldable pub front_of : Plan → SubStream → ℕ → ℕ → List ℕ
+front_of plan s unit total = front_with (is_closed plan s.link s.stream) unit total
+
+-- the tag of a unit
+abbrev pub unit_tag : Plan → List ℕ → SealedPacket → List Packet → List ℕ
+unit_tag plan ahead d unit = tag_of (key_of plan d.draw (sub_stream_of d)) (iv_of d.sub d.unit) (ahead ++ authenticated unit) (encrypted unit)
+
+-- the packet that was sealed for the bytes of a send, behind the front of its unit
+unfoldable pub packet_of : Plan → List ℕ → List ℕ → SealedPacket → List Packet → Packet
+packet_of plan ahead bytes d front =
+    let p = untagged_packet plan bytes d front in
+    record p { tag = if d.m then unit_tag plan ahead d (front ++ p ∷ []) else [] }
+
+-- packets with what their verdicts say of them
+abbrev pub SealedList : Type 0
+SealedList = List (SealedPacket × Packet)
+
+-- whether a sealed packet is of this sub-stream and draw
+abbrev pub is_under : SubStream → ℕ → SealedPacket × Packet → Bool
+is_under s j x = is_same (sub_stream_of x.0) s && (x.0.draw == j)
+
+-- the packets of a sub-stream under a draw, in order
+unfoldable pub sent_in : SealedList → SubStream → ℕ → List Packet
+sent_in xs s j = map (λ (x : SealedPacket × Packet). x.1) (filter (is_under s j) xs)
+
+-- the packets of one send behind those before
+abbrev pub with_sealed : Plan → (SealedPacket → List ℕ) → List ℕ → List SealedPacket → SealedList → SealedList
+with_sealed plan ahead bytes [] before = before
+with_sealed plan ahead bytes (d ∷ ds) before =
+    with_sealed plan ahead bytes ds (before ++ (d, packet_of plan (ahead d) bytes d (open_unit (sent_in before (sub_stream_of d) d.draw))) ∷ [])
+
+-- whether a sealed packet is of the sub-stream, and of a draw from this one on
+abbrev pub is_in : SubStream → ℕ → SealedPacket × Packet → Bool
+is_in s from x = is_same (sub_stream_of x.0) s && nat_le from x.0.draw
+
+-- ends a unit there
+abbrev pub ends_in : SubStream → ℕ → SealedPacket × Packet → Bool
+ends_in s from x = is_in s from x && x.1.prefix.m
+
+-- the total of a sender: the units of a sub-stream that were finished under all draws from this one on
+unfoldable pub total_in : SealedList → SubStream → ℕ → ℕ
+total_in xs s from = length (filter (ends_in s from) xs)
+
+abbrev pub ahead_in : Plan → SealedList → (ℕ → ℕ → ℕ) → SealedPacket → List ℕ
+ahead_in plan xs from d = let s = sub_stream_of d in front_of plan s d.unit (total_in xs s (from s.link s.stream))
+
+-- all packets that were sealed, in order: packet N stands at place N - 1
+unfoldable pub sealed_packets : Plan → History → SealedList
+sealed_packets plan [] = []
+sealed_packets plan ((Send port bytes more trusted, Sealed ds) ∷ h) = with_sealed plan (ahead_in plan (sealed_packets plan h) (base h)) bytes ds (sealed_packets plan h)
+sealed_packets plan (_ ∷ h) = sealed_packets plan h
+
+-- the packets that were sealed in a sub-stream under a draw, in order
+abbrev pub sent : Plan → History → SubStream → ℕ → List Packet
+sent plan h s j = sent_in (sealed_packets plan h) s j
+
+-- what stood ahead of the unit of this number
+abbrev pub is_of_unit : SubStream → ℕ → ℕ → SealedPacket → Bool
+is_of_unit s j n d = is_same (sub_stream_of d) s && (d.draw == j) && (d.unit == n)
+
+unfoldable pub front_sent : Plan → History → SubStream → ℕ → ℕ → List ℕ
+front_sent plan [] s j n = []
+front_sent plan ((Send port bytes more trusted, Sealed ds) ∷ h) s j n =
+    if list_any (is_of_unit s j n) ds then front_of plan s n (total_in (sealed_packets plan h) s (base h s.link s.stream)) else front_sent plan h s j n
+front_sent plan (_ ∷ h) s j n = front_sent plan h s j n
+
+-- ---- what arrived
+
+pub record Arrival : Type 0 where
+  pub port : PortName
+  pub bytes : List ℕ
+
+abbrev pub packet_at : SealedList → ℕ → Option (SealedPacket × Packet)
+packet_at xs n = if n == 0 then None else slice_get xs (n - 1)
+
+-- bytes of packet N come to the partner of the port that sealed it
+abbrev pub brought : SealedPacket × Packet → List ℕ → Arrival
+brought x bytes = record { port = partner x.0.port; bytes = bytes }
+
+abbrev pub altered : ℕ → ℕ → SealedPacket × Packet → Option Arrival
+altered at mask x =
+    let bytes = packet_bytes x.1 in
+    if nat_lt at (length bytes) then Some (brought x (slice_set bytes at (bit_xor (slice_index bytes at) mask))) else None
+
+abbrev pub shortened : ℕ → SealedPacket × Packet → Option Arrival
+shortened len x =
+    let bytes = packet_bytes x.1 in
+    if nat_le len (length bytes) then Some (brought x (take len bytes)) else None
+
+-- what an event brings, and where; nothing where a packet or byte that it names does not exist
+unfoldable pub arrived : Plan → History → Event → Option Arrival
+arrived plan h (Pass n) = option_map (λ (x : SealedPacket × Packet). brought x (packet_bytes x.1)) (packet_at (sealed_packets plan h) n)
+arrived plan h (Alter n at mask) = option_and_then (altered at mask) (packet_at (sealed_packets plan h) n)
+arrived plan h (Cut n len) = option_and_then (shortened len) (packet_at (sealed_packets plan h) n)
+arrived plan h (Arrive port bytes) = if has_port plan port then Some (record { port = port; bytes = bytes }) else None
+arrived plan h _ = None
+
+abbrev pub no_packet : Packet
+no_packet = record { prefix = record { m = false; k = false; t = false; sub = Pr; stream = 0; posted = 0 }; head = []; body = []; tag = [] }
+
+abbrev pub cut_packet : Result CutValue PacketFault → Packet
+cut_packet (Ok (IdePacket p)) = p
+cut_packet _ = no_packet
+
+abbrev pub packet_in : Option Arrival → Packet
+packet_in None = no_packet
+packet_in (Some a) = cut_packet (cut_of a.bytes)
+
+-- the packet that an event brings
+abbrev pub arrived_packet : Plan → History → Event → Packet
+arrived_packet plan h e = packet_in (arrived plan h e)
+
+-- the sub-stream that a unit was received in
+abbrev pub received_in : PortName → UnitName → SubStream
+received_in port unit = record { link = port.link; stream = unit.stream; direction = received_direction port.side; sub = unit.sub }
+
+abbrev pub is_of : SubStream → ℕ → PortName → UnitName → Bool
+is_of s j port unit = is_same (received_in port unit) s && (unit.draw == j)
+
+-- the packets that were held for unit n, in order
+unfoldable pub held : Plan → History → SubStream → ℕ → ℕ → List Packet
+held plan [] s j n = []
+held plan ((e, Held port unit) ∷ h) s j n =
+    if is_of s j port unit && (unit.unit == n) then held plan h s j n ++ arrived_packet plan h e ∷ [] else held plan h s j n
+held plan (_ ∷ h) s j n = held plan h s j n
+
+-- the packets of accepted units, in order
+unfoldable pub got : Plan → History → SubStream → ℕ → List Packet
+got plan [] s j = []
+got plan ((e, Accepted port unit effects) ∷ h) s j =
+    if is_of s j port unit then got plan h s j ++ (held plan h s j unit.unit ++ arrived_packet plan h e ∷ []) else got plan h s j
+got plan (_ ∷ h) s j = got plan h s j
+
+-- how many units were accepted
+unfoldable pub units_got : History → SubStream → ℕ → ℕ
+units_got [] s j = 0
+units_got ((e, Accepted port unit effects) ∷ h) s j = if is_of s j port unit then units_got h s j + 1 else units_got h s j
+units_got (_ ∷ h) s j = units_got h s j
+
+-- the draws of the accepted units of a sub-stream, the newest first
+unfoldable pub draws_got : History → SubStream → List ℕ
+draws_got [] s = []
+draws_got ((e, Accepted port unit effects) ∷ h) s = if is_same (received_in port unit) s then unit.draw ∷ draws_got h s else draws_got h s
+draws_got (_ ∷ h) s = draws_got h s
+
+-- the packets that are held for the next unit
+abbrev pub pending : Plan → History → SubStream → ℕ → List Packet
+pending plan h s j = held plan h s j (units_got h s j + 1)
+
+-- ---- keys
+
+-- the draw in the set waits for the unit of a lesser one to end
+abbrev pub waits : Bool → ℕ → Keyed → Bool
+waits false j (On i) = not (nat_le j i)
+waits true j (On i) = nat_le i j
+waits k j _ = false
+
+-- a unit under the lesser of two draws that are On has ended at their sender
+abbrev pub ended_keys : Keyed → Keyed → Keys
+ended_keys (On i) (On j) = if nat_le i j then record { first = Off; second = On j } else record { first = On i; second = Off }
+ended_keys a b = record { first = a; second = b }
+
+-- a sealed packet ends a unit of the sub-stream at the port
+abbrev pub ends_at : PortName → SubStream → SealedPacket → Bool
+ends_at port s d = is_same_port d.port port && is_same (sub_stream_of d) s && d.m
+
+abbrev pub after_ends : PortName → SubStream → List SealedPacket → Keys → Keys
+after_ends port s [] keys = keys
+after_ends port s (d ∷ ds) keys = after_ends port s ds (if ends_at port s d then ended_keys keys.first keys.second else keys)
+
+-- a unit of draw j was accepted: a smaller draw is On no more
+abbrev pub accepted_keys : ℕ → Keys → Keys
+accepted_keys j keys = record { first = unless_below j keys.first; second = unless_below j keys.second }
+
+-- a port's place in a sub-stream, of which it is the sender or the receiver
+abbrev pub place : PortName → SubStream → Bool → Place
+place port s sends = record { side = port.side; link = s.link; stream = s.stream; sends = sends; sub = s.sub }
+
+abbrev pub sends_it : PortName → SubStream → Bool
+sends_it port s = (port.link == s.link) && (sent_direction port.side == s.direction)
+
+abbrev pub receives_it : PortName → SubStream → Bool
+receives_it port s = (port.link == s.link) && (received_direction port.side == s.direction)
+
+abbrev pub keys_by : History → PortName → SubStream → Bool → Bool → Keys
+keys_by h port s true receives = keys_there h (place port s true)
+keys_by h port s false true = keys_there h (place port s false)
+keys_by h port s false false = no_keys
+
+-- The keys of a port in a sub-stream. A port that neither sends nor receives it has none.
+unfoldable pub keys_at : History → PortName → SubStream → Keys
+keys_at h port s = keys_by h port s (sends_it port s) (receives_it port s)
+
+-- the draw that is On in the key set that K names
+abbrev pub on_draw : History → PortName → SubStream → Bool → Option ℕ
+on_draw h port s k = on_in (key_in (keys_at h port s) k)
+
+-- the key that a sender seals under: the lesser of the draws that are On
+abbrev pub lesser : Keyed → Keyed → Option KeyName
+lesser (On i) (On j) = Some (if nat_le i j then record { k = false; draw = i } else record { k = true; draw = j })
+lesser (On i) _ = Some (record { k = false; draw = i })
+lesser _ (On j) = Some (record { k = true; draw = j })
+lesser _ _ = None
+
+abbrev pub live_key : History → PortName → SubStream → Option KeyName
+live_key h port s = lesser (keys_at h port s).first (keys_at h port s).second
+
+-- whether a port has a Live key of a sub-stream, of any of the three that it seals, and of any that it receives
+abbrev pub is_keyed : History → PortName → SubStream → Bool
+is_keyed h port s = keeps_live (keys_at h port s)
+
+unfoldable pub has_live_out : History → PortName → ℕ → Bool
+has_live_out h port stream =
+    is_keyed h port (lane_out port stream Pr) || is_keyed h port (lane_out port stream Npr) || is_keyed h port (lane_out port stream Cpl)
+
+unfoldable pub has_live_in : History → PortName → ℕ → Bool
+has_live_in h port stream =
+    is_keyed h port (lane_in port stream Pr) || is_keyed h port (lane_in port stream Npr) || is_keyed h port (lane_in port stream Cpl)
+
+abbrev pub has_live : History → PortName → ℕ → Bool
+has_live h port stream = has_live_out h port stream || has_live_in h port stream
+
+-- whether the verdict says that an arrival failed on the stream at the port
+abbrev pub fails_at : PortName → ℕ → Verdict → Bool
+fails_at port stream v = fails_there port.side port.link stream v
+
+-- whether an arrival failed at the port, and since then the port always had a Live key on the stream
+abbrev pub failed : History → PortName → ℕ → Bool
+failed h port stream = failed_there h port.side port.link stream
+
+-- ---- counts
+
+abbrev pub posted_of : SubStream → SubStream
+posted_of s = record s { sub = Pr }
+
+-- how many posted packets were sealed in its direction since the last packet of the sub-stream, of draws from this one on
+unfoldable pub posted_in : SealedList → SubStream → ℕ → ℕ
+posted_in xs s from = length (filter (is_in (posted_of s) from) (after_last (is_in s from) xs))
+
+abbrev pub posted_count : Plan → History → SubStream → ℕ
+posted_count plan h s = posted_in (sealed_packets plan h) s (base h s.link s.stream)
+
+-- the packets of accepted units of draws from this one on
+unfoldable pub got_since : Plan → History → SubStream → ℕ → List Packet
+got_since plan [] s from = []
+got_since plan ((e, Accepted port unit effects) ∷ h) s from =
+    if is_same (received_in port unit) s && nat_le from unit.draw
+    then got_since plan h s from ++ (held plan h s unit.draw unit.unit ++ arrived_packet plan h e ∷ []) else got_since plan h s from
+got_since plan (_ ∷ h) s from = got_since plan h s from
+
+-- whether the posted counts of all packets of a non-posted or completion sub-stream, this unit among them, come to no more than the posted packets that were got
+unfoldable pub meets_counts : Plan → History → SubStream → List Packet → Bool
+meets_counts plan h s unit =
+    (sub_bits s.sub == 0)
+    || nat_le (sum_by (λ (p : Packet). p.prefix.posted) (got_since plan h s (base h s.link s.stream) ++ unit))
+    (length (got_since plan h (posted_of s) (base h s.link s.stream)))
+
+-- the total of a receiver: the units that were accepted of all draws from this one on
+unfoldable pub units_since : History → SubStream → ℕ → ℕ
+units_since [] s from = 0
+units_since ((e, Accepted port unit effects) ∷ h) s from =
+    if is_same (received_in port unit) s && nat_le from unit.draw then units_since h s from + 1 else units_since h s from
+units_since (_ ∷ h) s from = units_since h s from
+
+-- what has to stand ahead of a unit that ends now
+abbrev pub front_due : Plan → History → SubStream → ℕ → List ℕ
+front_due plan h s n = front_of plan s n (units_since h s (base h s.link s.stream))

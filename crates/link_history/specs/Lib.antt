@@ -1,0 +1,10 @@
+pub mod Plan
+pub mod Units
+pub mod History
+pub mod Due
+pub mod Cause
+pub mod KeyFacts
+pub mod Fits
+pub mod Laws
+pub mod Delivered
+pub mod Ordered

@@ -1,0 +1,42 @@
+-- Non-posted packets and completions are accepted behind the posted packets that were sealed before them.
+use Rattle.std.specs.Prelude.{ℕ, ◌≡◌, ◌≢◌, ◌<◌, ◌≤◌, true, false, Some, [], ◌∷◌, length, slice_get, take}
+use Rattle.std.specs.List.{AllByRecursion}
+use Rattle.ide_types.specs.Sub.{sub_bits}
+use Rattle.ide_plan.specs.declared.plan.Plan.{Plan}
+use Rattle.link_history.specs.Plan.{SubStream, is_closed}
+use Rattle.key_laws.specs.History.{History, base}
+use Rattle.link_history.specs.History.{SealedList, sealed_packets, sent, sent_in, is_under, got, draws_got, received_in, posted_of}
+use Rattle.link_events.specs.declared.event.Event.{Event}
+use Rattle.link_verdicts.specs.declared.verdict.Verdict.{Verdict}
+use Rattle.link_verdicts.specs.declared.verdict.Verdict.TheVariants.{Accepted}
+use Rattle.link_verdicts.specs.declared.verdict.SealedPacket.{SealedPacket}
+use Rattle.ide_prefix.specs.Packet.{Packet}
+
+-- the packet at this place of all that were sealed is packet m, from 0, of its sub-stream and draw
+pub record StandsAt (xs : SealedList) (s : SubStream) (j m place : ℕ) : Type 0 where
+  pub sealed : SealedPacket × Packet
+  pub stands : slice_get xs place ≡ Some sealed
+  pub under : is_under s j sealed ≡ true
+  pub number : m ≡ length (sent_in (take place xs) s j)
+
+-- From Base on nothing of an overtaken key is missing: in the sub-stream below this draw, and in the posted one below
+-- each draw of which a unit was accepted.
+pub record NoneMissing (plan : Plan) (h : History) (s : SubStream) (j : ℕ) : Type 0 where
+  pub own : (i : ℕ) → base h s.link s.stream ≤ i → i < j → got plan h s i ≡ sent plan h s i
+  pub posted : AllByRecursion (λ (k : ℕ). (i : ℕ) → base h s.link s.stream ≤ i → i < k → got plan h (posted_of s) i ≡ sent plan h (posted_of s) i) (draws_got h (posted_of s))
+
+-- Where a unit of a non-posted or completion sub-stream is accepted, and on an open stream nothing of an overtaken key is missing, each
+-- posted packet, of a draw from Base on, that was sealed before a packet of the unit, or of one before it under its draw,
+-- had been accepted.
+abbrev pub BehindPosted : Plan → History → Event → Verdict → Type 0
+BehindPosted plan h e (Accepted port unit effects) =
+    (m place : ℕ) → sub_bits unit.sub ≢ 0 → (is_closed plan port.link unit.stream ≡ false → NoneMissing plan h (received_in port unit) unit.draw)
+    → m < length (got plan ((e, Accepted port unit effects) ∷ h) (received_in port unit) unit.draw)
+    → StandsAt (sealed_packets plan h) (received_in port unit) unit.draw m place
+    → (j n earlier : ℕ) → base h port.link unit.stream ≤ j → earlier < place → StandsAt (sealed_packets plan h) (posted_of (received_in port unit)) j n earlier
+    → n < length (got plan h (posted_of (received_in port unit)) j)
+BehindPosted plan h e _ = Unit {0}
+
+abbrev pub OrderLaw : Plan → History → Type 0
+OrderLaw plan [] = Unit {0}
+OrderLaw plan ((event, verdict) ∷ h) = BehindPosted plan h event verdict × OrderLaw plan h

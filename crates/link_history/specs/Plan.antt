@@ -1,0 +1,88 @@
+-- What there is before the first event, by link, stream and sub-stream.
+use Rattle.std.specs.Prelude.{ℕ, ◌+◌, ◌*◌, ◌/◌, ◌==◌, ◌&&◌, Bool, false, List, [], ◌∷◌, Option, Some, None, is_some, if◌then◌else◌, length, map, nat_lt}
+use Rattle.std.specs.Option.{option_map_or}
+use Rattle.std.specs.List.{slice_index_or}
+use Rattle.ide_types.specs.Sub.{sub_bits}
+use Rattle.ide_types.specs.declared.sub.SubKind.{SubKind}
+use Rattle.ide_types.specs.declared.port.Side.{Side}
+use Rattle.ide_types.specs.declared.port.Side.TheVariants.{Host, Device}
+use Rattle.ide_types.specs.declared.port.PortName.{PortName}
+use Rattle.ide_plan.specs.declared.plan.Plan.{Plan}
+use Rattle.ide_plan.specs.declared.plan.LinkPlan.{LinkPlan}
+use Rattle.ide_plan.specs.declared.stream.StreamPlan.{StreamPlan}
+use Rattle.key_laws.specs.Places.{KeyPlan, sent_direction, received_direction}
+
+-- one sub-stream in one direction: 0 is sealed by the host's port, 1 by the device's port
+pub record SubStream : Type 0 where
+  pub link : ℕ
+  pub stream : ℕ
+  pub direction : ℕ
+  pub sub : SubKind
+
+abbrev pub is_same : SubStream → SubStream → Bool
+is_same s t = (s.link == t.link) && (s.stream == t.stream) && (s.direction == t.direction) && (sub_bits s.sub == sub_bits t.sub)
+
+abbrev pub is_same_port : PortName → PortName → Bool
+is_same_port p q = (sent_direction p.side == sent_direction q.side) && (p.link == q.link)
+
+-- what a port seals, and what it receives, in a sub-stream
+abbrev pub lane_out : PortName → ℕ → SubKind → SubStream
+lane_out port stream u = record { link = port.link; stream = stream; direction = sent_direction port.side; sub = u }
+
+abbrev pub lane_in : PortName → ℕ → SubKind → SubStream
+lane_in port stream u = record { link = port.link; stream = stream; direction = received_direction port.side; sub = u }
+
+-- the other end of its link
+abbrev pub partner : PortName → PortName
+partner p = record { side = other p.side; link = p.link }
+  where
+    other : Side → Side
+    other Host = Device
+    other Device = Host
+
+-- the streams of each link, in the plan's order
+abbrev pub streams_by_link : Plan → List (List StreamPlan)
+streams_by_link plan = map (λ (l : LinkPlan). l.streams) plan.links
+
+-- the streams of a link
+abbrev pub streams_of : Plan → ℕ → List StreamPlan
+streams_of plan link = slice_index_or (streams_by_link plan) link []
+
+abbrev pub with_id : List StreamPlan → ℕ → Option StreamPlan
+with_id [] id = None
+with_id (s ∷ ss) id = if s.id == id then Some s else with_id ss id
+
+unfoldable pub stream_plan : Plan → ℕ → ℕ → Option StreamPlan
+stream_plan plan link stream = with_id (streams_of plan link) stream
+
+-- the link exists
+abbrev pub has_link : Plan → ℕ → Bool
+has_link plan link = nat_lt link (length plan.links)
+
+-- the port exists
+abbrev pub has_port : Plan → PortName → Bool
+has_port plan port = has_link plan port.link
+
+-- the port has the stream
+abbrev pub has_stream : Plan → PortName → ℕ → Bool
+has_stream plan port stream = is_some (stream_plan plan port.link stream)
+
+-- how many packets a unit may have
+abbrev pub mode_of : Plan → ℕ → ℕ → ℕ
+mode_of plan link stream = option_map_or (λ (s : StreamPlan). s.mode) (stream_plan plan link stream) 1
+
+-- nothing of a newer key is accepted before all of the older ones
+abbrev pub is_closed : Plan → ℕ → ℕ → Bool
+is_closed plan link stream = option_map_or (λ (s : StreamPlan). s.closed) (stream_plan plan link stream) false
+
+-- the key of a draw: key 6j + 3d + u of the pool
+unfoldable pub key_of : Plan → ℕ → SubStream → List ℕ
+key_of plan draw s = slice_index_or plan.pool (6 * draw + 3 * s.direction + sub_bits s.sub) []
+
+-- what the rules of keys look at: a draw takes six keys of the pool
+abbrev pub key_plan : Plan → KeyPlan
+key_plan plan = record {
+  pool = length plan.pool / 6;
+  has_link = has_link plan;
+  has_stream = λ link stream. is_some (stream_plan plan link stream);
+}

@@ -1,0 +1,12 @@
+pub mod Seats
+pub mod Given
+pub mod RealFacts
+pub mod Moments
+pub mod AllFacts
+pub mod Failures
+pub mod Unplanned
+pub mod SealedKeys
+pub mod SealedOrder
+pub mod Fresh
+pub mod Ended
+pub mod Draws

@@ -1,0 +1,12 @@
+pub mod Puts
+pub mod Frames
+pub mod Changes
+pub mod Answers
+pub mod Beyond
+pub mod Takes
+pub mod Numbers
+pub mod Arrivals
+pub mod Lanes
+pub mod Seals
+pub mod Sends
+pub mod Steps

@@ -1,0 +1,4 @@
+pub mod Stream
+pub mod Moves
+pub mod Machine
+pub mod Stands

@@ -1,0 +1,337 @@
+-- What is kept of all links between two events, and one step.
+use Rattle.std.specs.Prelude.{true, false, not, ◌&&◌, ◌||◌, ℕ, ◌+◌, ◌-◌, ◌*◌, ◌==◌, nat_lt, nat_le, Bool, if◌then◌else◌, List, [], ◌∷◌, ◌++◌, length, map, take, slice_get, slice_index, slice_set, bit_xor, Option, Some, None, Result, Ok, Err}
+use Rattle.std.specs.List.{slice_index_or}
+use Rattle.std.specs.Option.{option_and_then}
+use Rattle.ide_types.specs.declared.port.PortName.{PortName}
+use Rattle.link_events.specs.declared.event.Event.{Event}
+use Rattle.link_events.specs.declared.event.Event.TheVariants.{Send, Pass, Alter, Cut, Arrive, Dump, Establish, Refresh, Stop, Reset, Status}
+use Rattle.link_verdicts.specs.declared.verdict.Verdict.{Verdict}
+use Rattle.link_verdicts.specs.declared.verdict.Verdict.TheVariants as v
+use Rattle.link_verdicts.specs.declared.verdict.SealedPacket.{SealedPacket}
+use Rattle.link_verdicts.specs.declared.verdict.UnitName.{UnitName}
+use Rattle.tlp_layout.specs.declared.tlp.Tlp.{Tlp}
+use Rattle.tlp_layout.specs.declared.fault.TlpFault.{TlpFault}
+use Rattle.tlp_layout.specs.Class.{class_of}
+use Rattle.tlp_layout.specs.Faults.{place_in}
+use Rattle.tlp_layout.specs.Head.{head_bytes}
+use Rattle.tlp_layout.specs.Tlp.{header, body}
+use Rattle.tlp_layout.specs.Reading.{read_of}
+use Rattle.ide_prefix.specs.declared.fault.PacketFault.{PacketFault}
+use Rattle.ide_prefix.specs.Faults.{packet_place}
+use Rattle.ide_prefix.specs.Packet.{Packet, packet_bytes}
+use Rattle.ide_prefix.specs.Reading.{CutValue, PlainTlp, IdePacket, cut_of}
+use Rattle.fault_words.specs.FaultWords.{tlp_word, packet_word}
+use Rattle.ide_types.specs.declared.port.Side.{Side}
+use Rattle.ide_types.specs.declared.port.Side.TheVariants.{Host, Device}
+use Rattle.ide_types.specs.declared.sub.SubKind.{SubKind}
+use Rattle.link_events.specs.declared.event.Loss.{Loss}
+use Rattle.link_verdicts.specs.declared.verdict.Operation.{Operation}
+use Rattle.link_verdicts.specs.declared.verdict.Operation.TheVariants as op
+use Rattle.ide_types.specs.declared.status.StreamStatus.{StreamStatus}
+use Rattle.key_laws.specs.Places.{Place, sent_direction}
+use Rattle.key_laws.specs.Keys.{Touch, Program as ProgramTouch, Go as GoTouch, Stop as StopTouch, Clear as ClearTouch}
+use Rattle.key_laws.specs.Operations.{Op, Idle, Work, Reach, work_of, reach_of, op_after, makes_draw}
+use Rattle.key_laws.specs.History.{status_by, worked}
+use Rattle.key_laws.specs.Due.{PortView, establish_on, refresh_on, stop_on}
+use Rattle.link_ports.specs.Moves.{Move, Program, Go, Halt, is_live, any_live, moved_stream}
+use Rattle.link_history.specs.Plan.{SubStream, key_plan, partner, key_of, streams_of, has_port, mode_of, is_closed, streams_by_link}
+use Rattle.ide_plan.specs.declared.plan.Plan.{Plan}
+use Rattle.ide_plan.specs.declared.stream.StreamPlan.{StreamPlan}
+use Rattle.link_history.specs.Due.{choice, Sending, refusals, sealed_by, first_that_holds, effect_of}
+use Rattle.link_history.specs.History.{Arrival}
+use Rattle.link_ports.specs.Stream.{Slot, Slots, slot_in, at_sub, LiveKey, Empty, Live, each_sub, Three, StreamState, TxSub, Taken, Insecure, NotKeyed, Failed, Held, Accepted, lanes_of, sealed_all, taken_by, state_after}
+
+-- a sealed packet: the port that sealed it, and its bytes
+pub record LinkPacket : Type 0 where
+  pub port : PortName
+  pub bytes : List ℕ
+
+-- of each port, 2 for each link, its streams in the plan's order; of each link the manager's operations on its streams
+-- in that order; how many draws were made; and all sealed packets in order
+pub record LinkState : Type 0 where
+  pub ports : List (List StreamState)
+  pub ops : List (List Op)
+  pub draws : ℕ
+  pub packets : List LinkPacket
+
+-- ---- one stream at a port
+
+abbrev pub port_place : PortName → ℕ
+port_place port = 2 * port.link + sent_direction port.side
+
+abbrev pub found : {A : Type 0} → List StreamPlan → List A → ℕ → Option A
+found (s ∷ ss) (x ∷ xs) id = if s.id == id then Some x else found ss xs id
+found _ _ id = None
+
+abbrev pub changed : {A : Type 0} → List StreamPlan → List A → ℕ → A → List A
+changed (s ∷ ss) (x ∷ xs) id y = if s.id == id then y ∷ xs else x ∷ changed ss xs id y
+changed _ xs id y = xs
+
+unfoldable pub find : Plan → LinkState → PortName → ℕ → Option StreamState
+find plan st port stream = found (streams_of plan port.link) (slice_index_or st.ports (port_place port) []) stream
+
+unfoldable pub put : Plan → LinkState → PortName → ℕ → StreamState → LinkState
+put plan st port stream x =
+    record st { ports = slice_set st.ports (port_place port) (changed (streams_of plan port.link) (slice_index_or st.ports (port_place port) []) stream x) }
+
+-- the manager's operation on a stream of a link
+unfoldable pub find_op : Plan → LinkState → ℕ → ℕ → Option Op
+find_op plan st link stream = found (streams_of plan link) (slice_index_or st.ops link []) stream
+
+unfoldable pub put_op : Plan → LinkState → ℕ → ℕ → Op → LinkState
+put_op plan st link stream o = record st { ops = slice_set st.ops link (changed (streams_of plan link) (slice_index_or st.ops link []) stream o) }
+
+-- a verdict and the state after it
+abbrev pub Stepped : Type 0
+Stepped = Verdict × LinkState
+
+-- ---- sends
+
+abbrev pub kept_at : PortName → Packet → LinkPacket
+kept_at port p = record { port = port; bytes = packet_bytes p }
+
+abbrev pub sealed_in : Plan → LinkState → Sending → StreamState → List SealedPacket → List Packet × Three TxSub → Stepped
+sealed_in plan st s x ds sealed =
+    let new = put plan st s.port s.stream (record x { tx = sealed.1 }) in
+    (v.Sealed ds, record new { packets = st.packets ++ map (kept_at s.port) sealed.0 })
+
+-- it is refused, or sealed as these packets
+abbrev pub answered : Plan → LinkState → Sending → Tlp → StreamState → Option Verdict → List SealedPacket → Stepped
+answered plan st s t x (Some verdict) ds = (verdict, st)
+answered plan st s t x None ds = sealed_in plan st s x ds (sealed_all (is_closed plan s.port.link s.stream) (head_bytes (header t)) (body t) ds x.tx)
+
+abbrev pub send_as : Plan → LinkState → Sending → Tlp → StreamState → Stepped
+send_as plan st s t x =
+    let lanes = lanes_of (mode_of plan s.port.link s.stream) plan.units_per_key x in
+    answered plan st s t x (first_that_holds (refusals lanes s.class)) (sealed_by lanes s (length st.packets + 1))
+
+abbrev pub send_found : Plan → LinkState → Sending → Tlp → Option StreamState → Stepped
+send_found plan st s t None = (v.Nothing, st)
+send_found plan st s t (Some x) = send_as plan st s t x
+
+abbrev pub send_on : Plan → LinkState → PortName → Tlp → Bool → Bool → Option ℕ → Stepped
+send_on plan st port t more trusted None = (v.Plain port, st)
+send_on plan st port t more trusted (Some stream) =
+    send_found plan st (record { port = port; stream = stream; class = class_of (header t); more = more; trusted = trusted }) t (find plan st port stream)
+
+abbrev pub send_read : Plan → LinkState → PortName → Result Tlp TlpFault → Bool → Bool → Stepped
+send_read plan st port (Err f) more trusted = (v.Malformed port (tlp_word f) (place_in f), st)
+send_read plan st port (Ok t) more trusted = send_on plan st port t more trusted (choice plan port (header t))
+
+-- ---- arrivals
+
+abbrev pub unit_name : Packet → ℕ → ℕ → UnitName
+unit_name p draw unit = record { stream = p.prefix.stream; sub = p.prefix.sub; draw = draw; unit = unit }
+
+abbrev pub verdict_of : PortName → Packet → Taken → Verdict
+verdict_of port p Insecure = v.Insecure port p.prefix.stream
+verdict_of port p NotKeyed = v.NotKeyed port p.prefix.stream p.prefix.sub
+verdict_of port p (Failed cause) = v.Fail port p.prefix.stream p.prefix.sub cause
+verdict_of port p (Held j n) = v.Held port (unit_name p j n)
+verdict_of port p (Accepted j n unit) = v.Accepted port (unit_name p j n) (map (effect_of port) unit)
+
+abbrev pub take_as : Plan → LinkState → PortName → Packet → StreamState → Stepped
+take_as plan st port p x =
+    let taken = taken_by (mode_of plan port.link p.prefix.stream) (is_closed plan port.link p.prefix.stream) x p in
+    (verdict_of port p taken, put plan st port p.prefix.stream (state_after x p taken))
+
+abbrev pub take_found : Plan → LinkState → PortName → Packet → Option StreamState → Stepped
+take_found plan st port p None = (v.Unknown port p.prefix.stream, st)
+take_found plan st port p (Some x) = take_as plan st port p x
+
+abbrev pub arrive_read : Plan → LinkState → PortName → Result CutValue PacketFault → Stepped
+arrive_read plan st port (Err f) = (v.Malformed port (packet_word f) (packet_place f), st)
+arrive_read plan st port (Ok PlainTlp) = (v.Plain port, st)
+arrive_read plan st port (Ok (IdePacket p)) = take_found plan st port p (find plan st port p.prefix.stream)
+
+abbrev pub arrive : Plan → LinkState → Option Arrival → Stepped
+arrive plan st None = (v.Nothing, st)
+arrive plan st (Some a) = arrive_read plan st a.port (cut_of a.bytes)
+
+-- ---- packets by number
+
+abbrev pub packet_numbered : List LinkPacket → ℕ → Option LinkPacket
+packet_numbered xs n = if n == 0 then None else slice_get xs (n - 1)
+
+-- the whole packet comes to the partner of the port that sealed it
+abbrev pub passed : LinkPacket → Option Arrival
+passed x = Some (record { port = partner x.port; bytes = x.bytes })
+
+abbrev pub altered_to : ℕ → ℕ → LinkPacket → Option Arrival
+altered_to at mask x =
+    if nat_lt at (length x.bytes) then Some (record { port = partner x.port; bytes = slice_set x.bytes at (bit_xor (slice_index x.bytes at) mask) }) else None
+
+abbrev pub cut_short : ℕ → LinkPacket → Option Arrival
+cut_short len x = if nat_le len (length x.bytes) then Some (record { port = partner x.port; bytes = take len x.bytes }) else None
+
+abbrev pub shown : ℕ → Option LinkPacket → Verdict
+shown n None = v.Nothing
+shown n (Some x) = v.Packet n x.bytes
+
+-- ---- an operation on a stream of a link moves slots at both ports
+
+abbrev pub moved_found : Plan → LinkState → PortName → ℕ → (SubKind → List Move) → (SubKind → List Move) → Option StreamState → LinkState
+moved_found plan st port stream out into None = st
+moved_found plan st port stream out into (Some x) = put plan st port stream (moved_stream plan port stream out into x)
+
+abbrev pub moved_at : Plan → LinkState → ℕ → ℕ → (Side → SubKind → List Move) → (Side → SubKind → List Move) → Side → LinkState
+moved_at plan st link stream out into side =
+    let port : PortName = record { side = side; link = link } in
+    moved_found plan st port stream (out side) (into side) (find plan st port stream)
+
+-- the state after it
+abbrev pub moved_state : Plan → LinkState → ℕ → ℕ → (Side → SubKind → List Move) → (Side → SubKind → List Move) → LinkState
+moved_state plan st link stream out into = moved_at plan (moved_at plan st link stream out into Host) link stream out into Device
+
+-- ---- what operations read of the ports
+
+abbrev pub port_at : Side → ℕ → PortName
+port_at side link = record { side = side; link = link }
+
+abbrev pub slots_of : Bool → SubKind → StreamState → Slots
+slots_of sends u x = if sends then (at_sub x.tx u).slots else (at_sub x.rx u).slots
+
+-- a KEY_PROG of a Live slot is refused where the other is not a newer Live one
+abbrev pub is_newer : ℕ → Slot → Bool
+is_newer i (Live x) = nat_lt i x.draw
+is_newer i _ = false
+
+abbrev pub is_last_live : Slot → Slot → Bool
+is_last_live (Live x) other = not (is_newer x.draw other)
+is_last_live _ other = false
+
+abbrev pub refuses_in : Slots → Bool → Bool
+refuses_in s k = is_last_live (slot_in s k) (slot_in s (not k))
+
+abbrev pub refuses_at : Bool → SubKind → Bool → Option StreamState → Bool
+refuses_at sends u k None = false
+refuses_at sends u k (Some x) = refuses_in (slots_of sends u x) k
+
+abbrev pub live_at : Bool → SubKind → Bool → Option StreamState → Bool
+live_at sends u k None = false
+live_at sends u k (Some x) = is_live (slot_in (slots_of sends u x) k)
+
+abbrev pub ports_of : Plan → LinkState → PortView
+ports_of plan st = record {
+  refuses = λ p k. refuses_at p.sends p.sub k (find plan st (port_at p.side p.link) p.stream);
+  is_live = λ p k. live_at p.sends p.sub k (find plan st (port_at p.side p.link) p.stream);
+}
+
+abbrev pub all_live : StreamState → Bool
+all_live x =
+    any_live x.tx.pr.slots && any_live x.tx.npr.slots && any_live x.tx.cpl.slots
+    && any_live x.rx.pr.slots && any_live x.rx.npr.slots && any_live x.rx.cpl.slots
+
+abbrev pub some_live : StreamState → Bool
+some_live x =
+    any_live x.tx.pr.slots || any_live x.tx.npr.slots || any_live x.tx.cpl.slots
+    || any_live x.rx.pr.slots || any_live x.rx.npr.slots || any_live x.rx.cpl.slots
+
+abbrev pub stream_status : Option StreamState → StreamStatus
+stream_status None = status_by false false false
+stream_status (Some x) = status_by x.failed (some_live x) (all_live x)
+
+abbrev pub status_at : Plan → LinkState → Side → ℕ → ℕ → StreamStatus
+status_at plan st side link stream = stream_status (find plan st (port_at side link) stream)
+
+-- ---- operations
+
+-- the moves of touches, where the slots refuse a KEY_PROG of these sets; only the first touch may be one
+abbrev pub moves_of : (Bool → Bool) → List Touch → List Move
+moves_of refuses [] = []
+moves_of refuses (ProgramTouch k j ∷ ts) = if refuses k then moves_of refuses ts else Program k j ∷ moves_of refuses ts
+moves_of refuses (GoTouch k j ∷ ts) = Go k ∷ moves_of refuses ts
+moves_of refuses (StopTouch k ∷ ts) = Halt k ∷ moves_of refuses ts
+moves_of refuses (ClearTouch ∷ ts) = Halt false ∷ Halt true ∷ moves_of refuses ts
+moves_of refuses (_ ∷ ts) = moves_of refuses ts
+
+-- what an event of an operation does to the slots of a sub-stream at one end of the link
+abbrev pub end_at : ℕ → ℕ → Bool → Side → SubKind → Place
+end_at link stream sends side u = record { side = side; link = link; stream = stream; sends = sends; sub = u }
+
+abbrev pub moves_at : PortView → Work → Reach → Place → List Move
+moves_at ports w r p = moves_of (ports.refuses p) (worked w (Some r) p)
+
+abbrev pub draws_after : ℕ → Work → ℕ
+draws_after next w = if w.begins && makes_draw w.operation then next + 1 else next
+
+abbrev pub work_done : Plan → LinkState → ℕ → ℕ → Work → Option Reach → LinkState
+work_done plan st link stream w None = st
+work_done plan st link stream w (Some r) =
+    let ports = ports_of plan st in
+    let moved = moved_state plan st link stream (λ side u. moves_at ports w r (end_at link stream true side u)) (λ side u. moves_at ports w r (end_at link stream false side u)) in
+    record (put_op plan moved link stream (op_after w r)) { draws = draws_after st.draws w }
+
+abbrev pub operated : Plan → LinkState → Operation → ℕ → ℕ → Op → Verdict → Stepped
+operated plan st o link stream q verdict = (verdict, work_done plan st link stream (work_of o q st.draws) (reach_of o verdict))
+
+abbrev pub establish_found : Plan → LinkState → ℕ → ℕ → Option Loss → Option Op → Stepped
+establish_found plan st link stream lose None = (v.Nothing, st)
+establish_found plan st link stream lose (Some q) = operated plan st op.Establish link stream q (establish_on (key_plan plan) q st.draws (ports_of plan st) link stream lose)
+
+abbrev pub refresh_found : Plan → LinkState → ℕ → ℕ → Option Loss → Option Op → Stepped
+refresh_found plan st link stream lose None = (v.Nothing, st)
+refresh_found plan st link stream lose (Some q) =
+    operated plan st op.Refresh link stream q (refresh_on (key_plan plan) q st.draws (ports_of plan st) (status_at plan st Host link stream) link stream lose)
+
+abbrev pub stop_found : Plan → LinkState → ℕ → ℕ → Option Loss → Option Op → Stepped
+stop_found plan st link stream lose None = (v.Nothing, st)
+stop_found plan st link stream lose (Some q) = operated plan st op.Stop link stream q (stop_on q st.draws (ports_of plan st) link stream lose)
+
+abbrev pub status_found : Plan → LinkState → ℕ → ℕ → Option Op → Stepped
+status_found plan st link stream None = (v.Nothing, st)
+status_found plan st link stream (Some q) = (v.Status link stream (status_at plan st Host link stream) (status_at plan st Device link stream), st)
+
+-- ---- a reset
+
+abbrev pub no_slots : Slots
+no_slots = record { first = Empty; second = Empty }
+
+abbrev pub empty_stream : StreamState
+empty_stream = record {
+  tx = each_sub (λ u. record { slots = no_slots; posted = 0; total = 0 });
+  rx = each_sub (λ u. record { slots = no_slots; sum = 0; got = 0; total = 0 });
+  failed = false;
+}
+
+-- both ports of the link begin again, and the manager knows of no operation there
+abbrev pub reset_state : Plan → LinkState → ℕ → LinkState
+reset_state plan st link =
+    let empty = map (λ (s : StreamPlan). empty_stream) (streams_of plan link) in
+    record st {
+      ports = slice_set (slice_set st.ports (port_place (port_at Host link)) empty) (port_place (port_at Device link)) empty;
+      ops = slice_set st.ops link (map (λ (s : StreamPlan). Idle) (streams_of plan link));
+    }
+
+-- the verdict of an event, and the state after it
+unfoldable pub step_of : Plan → LinkState → Event → Stepped
+step_of plan st (Send port bytes more trusted) = if has_port plan port then send_read plan st port (read_of bytes) more trusted else (v.Nothing, st)
+step_of plan st (Pass n) = arrive plan st (option_and_then passed (packet_numbered st.packets n))
+step_of plan st (Alter n at mask) = arrive plan st (option_and_then (altered_to at mask) (packet_numbered st.packets n))
+step_of plan st (Cut n len) = arrive plan st (option_and_then (cut_short len) (packet_numbered st.packets n))
+step_of plan st (Arrive port bytes) = if has_port plan port then arrive plan st (Some (record { port = port; bytes = bytes })) else (v.Nothing, st)
+step_of plan st (Dump n) = (shown n (packet_numbered st.packets n), st)
+step_of plan st (Establish link stream lose) = establish_found plan st link stream lose (find_op plan st link stream)
+step_of plan st (Refresh link stream lose) = refresh_found plan st link stream lose (find_op plan st link stream)
+step_of plan st (Stop link stream lose) = stop_found plan st link stream lose (find_op plan st link stream)
+step_of plan st (Reset link) = if nat_lt link (length plan.links) then (v.Reset link, reset_state plan st link) else (v.Nothing, st)
+step_of plan st (Status link stream) = status_found plan st link stream (find_op plan st link stream)
+
+-- ---- the beginning
+
+-- a key under which there is nothing yet
+abbrev pub new_key : Plan → SubStream → ℕ → LiveKey
+new_key plan s j = record { draw = j; key = key_of plan j s; units = 0; packets = [] }
+
+abbrev pub first_ports : List (List StreamPlan) → List (List StreamState)
+first_ports [] = []
+first_ports (ss ∷ links) = map (λ (s : StreamPlan). empty_stream) ss ∷ map (λ (s : StreamPlan). empty_stream) ss ∷ first_ports links
+
+-- the state before the first event
+abbrev pub first_state : Plan → LinkState
+first_state plan = record {
+  ports = first_ports (streams_by_link plan);
+  ops = map (map (λ (s : StreamPlan). Idle)) (streams_by_link plan);
+  draws = 0;
+  packets = [];
+}

@@ -1,0 +1,7 @@
+-- The law of the order between sub-streams.
+use Rattle.order_laws.specs.Statements.{OrderLawHolds}
+use Rattle.link_keys.proofs.Draws.{draws}
+use Rattle.order_laws.proofs.Ordering.{order_law as ordered}
+
+pub order_law : OrderLawHolds
+order_law plan fits h cause forged totals = ordered plan fits (draws plan) h cause forged totals

@@ -1,0 +1,6 @@
+//! The order between the sub-streams of a stream.
+#![tactic(auto)]
+
+mod laws;
+
+pub use laws::order_law;

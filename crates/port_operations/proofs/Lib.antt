@@ -1,0 +1,14 @@
+pub mod SlotMoves
+pub mod Operations
+pub mod OperationSteps
+pub mod Runs
+pub mod Operates
+pub mod Views
+pub mod Worked
+pub mod Managed
+pub mod Kept
+pub mod Statuses
+pub mod AllSteps
+pub mod Resets
+pub mod Cases
+pub mod Points

@@ -1,0 +1,124 @@
+-- The manager's operations and the number of draws stand for the history.
+use Rattle.std.proofs.Common.{◌≡◌, ◌≢◌, ℕ, ◌+◌, ◌<◌, ◌≤◌, ◌==◌, Bool, true, false, Option, Some, None, List, [], ◌∷◌, length, refl, ap, sym, ◌∙◌, subst, arith, ⊎_elim}
+use Rattle.std.specs.Prelude.{if◌then◌else◌, ◌&&◌, is_some, slice_set}
+use Rattle.std.specs.List.{slice_index_or}
+use Rattle.std.proofs.lemmas.Bool.{cases_lt}
+use Rattle.std.proofs.lemmas.Bool.Decides.{nat_tests}
+use Rattle.std.proofs.lemmas.List.{get_or-set_same, get_or-set_other, get_or_past}
+use Rattle.ide_types.specs.declared.sub.SubKind.{SubKind}
+use Rattle.ide_types.specs.declared.port.Side.{Side}
+use Rattle.ide_types.specs.declared.port.Side.TheVariants.{Host, Device}
+use Rattle.ide_types.specs.declared.port.PortName.{PortName}
+use Rattle.link_verdicts.specs.declared.verdict.Operation.{Operation}
+use Rattle.key_laws.specs.Operations.{Op, Work, Reach, Begun, work_of, op_after, makes_draw, operated}
+use Rattle.key_laws.specs.History.{manager, op_of, draws as draws_made, History}
+use Rattle.ide_plan.specs.declared.plan.Plan.{Plan}
+use Rattle.link_history.specs.Plan.{streams_of, stream_plan}
+use Rattle.link_ports.specs.Stream.{StreamState}
+use Rattle.link_ports.specs.Moves.{Move}
+use Rattle.link_ports.specs.Machine.{LinkState, found, changed, find, put, find_op, put_op, port_at, moved_found, moved_at, moved_state, draws_after, work_done, moves_at, end_at, ports_of}
+use Rattle.link_ports.specs.Stands.{op_at}
+use Rattle.link_history.proofs.Tests.{eqb-refl}
+use Rattle.link_ports.proofs.Puts.{found_same, found_other, none_found}
+
+-- ---- one operation is put, and no other
+
+pub op_within : (plan : Plan) (st : LinkState) (link stream : ℕ) → is_some (find_op plan st link stream) ≡ true → link < length st.ops
+unfolding find_op
+op_within plan st link stream is = ⊎_elim (λ lt. lt) (λ le. absurd (past le)) (cases_lt link (length st.ops))
+  where
+    past : length st.ops ≤ link → ⊥
+    past le = let none : false ≡ true = ap is_some (sym (none_found (streams_of plan link) stream)) ∙ rw (get_or_past st.ops link [] le) at is in cc
+
+find_op-put : (plan : Plan) (st : LinkState) (link stream : ℕ) (o : Op) → is_some (find_op plan st link stream) ≡ true → find_op plan (put_op plan st link stream o) link stream ≡ Some o
+unfolding find_op put_op
+find_op-put plan st link stream o is = rw (get_or-set_same st.ops link (changed (streams_of plan link) (slice_index_or st.ops link []) stream o) [] (op_within plan st link stream is)) (found_same (streams_of plan link) _ stream o is)
+
+find_op-put_other : (plan : Plan) (st : LinkState) (link stream : ℕ) (o : Op) (l s : ℕ) → is_some (find_op plan st link stream) ≡ true → ((l == link) && (s == stream)) ≡ false → find_op plan (put_op plan st link stream o) l s ≡ find_op plan st l s
+unfolding find_op put_op
+find_op-put_other plan st link stream o l s is other = by_link (l == link) refl
+  where
+    ys : List Op
+    ys = changed (streams_of plan link) (slice_index_or st.ops link []) stream o
+
+    by_link : (b : Bool) → (l == link) ≡ b → found (streams_of plan l) (slice_index_or (slice_set st.ops link ys) l []) s ≡ found (streams_of plan l) (slice_index_or st.ops l []) s
+    by_link false e =
+        let apart : l ≢ link = λ same. absurd (let here : (l == link) ≡ true = ap (λ (n : ℕ). l == n) (sym same) ∙ eqb-refl l in cc) in
+        ap (λ (zs : List Op). found (streams_of plan l) zs s) (get_or-set_other st.ops link l ys [] apart)
+    by_link true e =
+        let same : link ≡ l = grind (arith, nat_tests) in
+        let apart : (stream == s) ≡ false = grind (arith, nat_tests) in
+        subst (λ (n : ℕ). found (streams_of plan n) (slice_index_or (slice_set st.ops link ys) n []) s ≡ found (streams_of plan n) (slice_index_or st.ops n []) s) same
+        (rw (get_or-set_same st.ops link ys [] (op_within plan st link stream is)) (found_other (streams_of plan link) _ stream s o apart))
+
+-- ---- the moves of slots leave them
+
+found_ops : (plan : Plan) (st : LinkState) (port : PortName) (stream : ℕ) (out into : SubKind → List Move) (x : Option StreamState) → (moved_found plan st port stream out into x).ops ≡ st.ops
+unfolding put
+found_ops plan st port stream out into None = refl
+found_ops plan st port stream out into (Some x) = refl
+
+moved_ops : (plan : Plan) (st : LinkState) (link stream : ℕ) (out into : Side → SubKind → List Move) → (moved_state plan st link stream out into).ops ≡ st.ops
+moved_ops plan st link stream out into =
+    let first = moved_at plan st link stream out into Host in
+    found_ops plan first (port_at Device link) stream (out Device) (into Device) (find plan first (port_at Device link) stream)
+    ∙ found_ops plan st (port_at Host link) stream (out Host) (into Host) (find plan st (port_at Host link) stream)
+
+same_ops : (plan : Plan) (st new : LinkState) → new.ops ≡ st.ops → (l s : ℕ) → find_op plan new l s ≡ find_op plan st l s
+unfolding find_op
+same_ops plan st new is l s = ap (λ (zs : List (List Op)). found (streams_of plan l) (slice_index_or zs l []) s) is
+
+put_ops : (plan : Plan) (st : LinkState) (link stream n : ℕ) (o : Op) (l s : ℕ) → find_op plan (record (put_op plan st link stream o) { draws = n }) l s ≡ find_op plan (put_op plan st link stream o) l s
+unfolding find_op
+put_ops plan st link stream n o l s = refl
+
+-- ---- after an operation
+
+abbrev OpsStand : Plan → LinkState → History → Type 0
+OpsStand plan st h = (l s : ℕ) → find_op plan st l s ≡ op_at plan h l s
+
+-- by what stood before, and what the stream has now
+ops_after : (plan : Plan) (st moved : LinkState) (h : History) (link stream n : ℕ) (o : Op) → moved.ops ≡ st.ops → OpsStand plan st h → is_some (find_op plan st link stream) ≡ true → (l s : ℕ)
+    → find_op plan (record (put_op plan moved link stream o) { draws = n }) l s ≡ (if is_some (stream_plan plan l s) then Some (if (l == link) && (s == stream) then o else op_of h l s) else None)
+ops_after plan st moved h link stream n o is stands known l s = put_ops plan moved link stream n o l s ∙ by_test ((l == link) && (s == stream)) refl
+  where
+    there : is_some (find_op plan moved link stream) ≡ true
+    there = ap is_some (same_ops plan st moved is link stream) ∙ known
+
+    planned : is_some (stream_plan plan link stream) ≡ true
+    planned = by_plan (is_some (stream_plan plan link stream)) (ap is_some (sym (stands link stream)) ∙ known)
+      where
+        by_plan : (b : Bool) → is_some (if b then Some (op_of h link stream) else None) ≡ true → b ≡ true
+        by_plan true e = refl
+        by_plan false e = absurd cc
+
+    by_test : (b : Bool) → ((l == link) && (s == stream)) ≡ b → find_op plan (put_op plan moved link stream o) l s ≡ (if is_some (stream_plan plan l s) then Some (if b then o else op_of h l s) else None)
+    by_test false other = find_op-put_other plan moved link stream o l s there other ∙ (same_ops plan st moved is l s ∙ stands l s)
+    by_test true here =
+        let one : link ≡ l = grind (arith, nat_tests) in
+        let two : stream ≡ s = grind (arith, nat_tests) in
+        subst (λ (a : ℕ). find_op plan (put_op plan moved link stream o) a s ≡ (if is_some (stream_plan plan a s) then Some o else None)) one
+        (subst (λ (b : ℕ). find_op plan (put_op plan moved link stream o) link b ≡ (if is_some (stream_plan plan link b) then Some o else None)) two
+        (find_op-put plan moved link stream o there ∙ sym (rw planned refl)))
+
+drawn_one : (bs : List Begun) (link stream : ℕ) (w : Work) (f : Bool) → (if f then length bs + 1 else length bs) ≡ length (if f then record { link = link; stream = stream; set = w.set } ∷ bs else bs)
+drawn_one bs link stream w true = omega arith
+drawn_one bs link stream w false = refl
+
+-- the state after an operation, by how far it came
+pub ops_worked : (plan : Plan) (st : LinkState) (h : History) (o : Operation) (link stream : ℕ) (r : Option Reach) → OpsStand plan st h → is_some (find_op plan st link stream) ≡ true → (l s : ℕ)
+    → find_op plan (work_done plan st link stream (work_of o (op_of h link stream) (draws_made h)) r) l s
+    ≡ (if is_some (stream_plan plan l s) then Some ((operated (manager h) o link stream r).ops l s) else None)
+ops_worked plan st h o link stream None stands known l s = stands l s
+ops_worked plan st h o link stream (Some r) stands known l s =
+    let w = work_of o (op_of h link stream) (draws_made h) in
+    let out : Side → SubKind → List Move = λ side u. moves_at (ports_of plan st) w r (end_at link stream true side u) in
+    let into : Side → SubKind → List Move = λ side u. moves_at (ports_of plan st) w r (end_at link stream false side u) in
+    ops_after plan st (moved_state plan st link stream out into) h link stream (draws_after st.draws w) (op_after w r) (moved_ops plan st link stream out into) stands known l s
+
+pub draws_worked : (plan : Plan) (st : LinkState) (h : History) (o : Operation) (link stream : ℕ) (r : Option Reach) → st.draws ≡ draws_made h
+    → (work_done plan st link stream (work_of o (op_of h link stream) (draws_made h)) r).draws ≡ length (operated (manager h) o link stream r).begun
+draws_worked plan st h o link stream None is = is
+draws_worked plan st h o link stream (Some r) is =
+    let w = work_of o (op_of h link stream) (draws_made h) in
+    ap (λ (n : ℕ). draws_after n w) is ∙ drawn_one (manager h).begun link stream w (w.begins && makes_draw w.operation)

@@ -1,0 +1,71 @@
+-- Worked cases: operations among sends, by the definitions and by the machine.
+use Rattle.std.specs.Prelude.{◌≡◌, Some, None, ℕ, Bool, false, true, List, [], ◌∷◌, replicate}
+use Rattle.ide_types.specs.declared.sub.SubKind.TheVariants.{Pr}
+use Rattle.ide_types.specs.declared.port.Side.TheVariants.{Device}
+use Rattle.ide_types.specs.declared.port.PortName.{PortName}
+use Rattle.link_events.specs.declared.event.Lost.TheVariants.{Request, Reply}
+use Rattle.link_events.specs.declared.event.Event.{Event}
+use Rattle.link_events.specs.declared.event.Event.TheVariants.{Send, Establish, Refresh, Stop, Reset, Status}
+use Rattle.link_verdicts.specs.declared.verdict.Operation.TheVariants as op
+use Rattle.ide_types.specs.declared.status.StreamStatus.TheVariants as status
+use Rattle.link_verdicts.specs.declared.verdict.Verdict.{Verdict}
+use Rattle.link_verdicts.specs.declared.verdict.Verdict.TheVariants as v
+use Rattle.link_verdicts.specs.declared.verdict.SealedPacket.{SealedPacket}
+use Rattle.ide_plan.specs.declared.plan.Plan.{Plan}
+use Rattle.ide_plan.specs.declared.stream.Selector.TheVariants.{Selective}
+use Rattle.key_laws.specs.History.{History}
+use Rattle.link_history.specs.Due.{due}
+use Rattle.link_ports.specs.Machine.{LinkState, step_of, first_state}
+
+-- link 0 has stream 5, the default one, with units of up to 4 packets; the pool has three draws
+abbrev pub plan : Plan
+plan = record {
+  portion = 16;
+  units_per_key = 4294967296;
+  pool = replicate 18 (replicate 32 0);
+  links = record { nonces = []; streams = record { id = 5; mode = 4; closed = false; selector = Selective None [] true } ∷ []; interfaces = [] } ∷ [];
+  memory = [];
+}
+
+-- a write of 11 22 33 44 at 10000000h by the requester 0100h
+abbrev pub write : List ℕ
+write = 0x40 ∷ 0x00 ∷ 0x00 ∷ 0x01 ∷ 0x01 ∷ 0x00 ∷ 0x00 ∷ 0x0f ∷ 0x10 ∷ 0x00 ∷ 0x00 ∷ 0x00 ∷ 0x11 ∷ 0x22 ∷ 0x33 ∷ 0x44 ∷ []
+
+abbrev pub device : PortName
+device = record { side = Device; link = 0 }
+
+abbrev pub packet : ℕ → ℕ → ℕ → Bool → Bool → SealedPacket
+packet number draw unit m k = record { number = number; port = device; stream = 5; sub = Pr; draw = draw; unit = unit; m = m; k = k; t = false; posted = 0; sync = false }
+
+abbrev pub verdicts_on : History → List Event → List Verdict
+verdicts_on h [] = []
+verdicts_on h (e ∷ es) = let verdict = due plan h e in verdict ∷ verdicts_on ((e, verdict) ∷ h) es
+
+abbrev pub answers_on : LinkState → List Event → List Verdict
+answers_on st [] = []
+answers_on st (e ∷ es) = let r = step_of plan st e in r.0 ∷ answers_on r.1 es
+
+-- a refresh of a set whose unit is unfinished at the device is refused there, and goes on once the unit ended
+abbrev pub held_up : List Event
+held_up =
+    Establish 0 5 None ∷ Send device write true false ∷ Refresh 0 5 None ∷ Refresh 0 5 None ∷ Send device write false false ∷ Refresh 0 5 None ∷ []
+
+abbrev pub held_up_verdicts : List Verdict
+held_up_verdicts =
+    v.Established 0 5 0 ∷ v.Sealed (packet 1 0 1 false false ∷ []) ∷ v.Refreshed 0 5 1 ∷ v.RefusedDevice 4 3 ∷ v.Sealed (packet 2 0 1 true false ∷ []) ∷ v.Refreshed 0 5 2 ∷ []
+
+-- losses, refusals, a stop and a reset
+abbrev pub lost_on_the_way : List Event
+lost_on_the_way =
+    Establish 0 5 (Some (record { exchange = 11; lost = Request })) ∷ Status 0 5 ∷ Refresh 0 5 None ∷ Establish 0 5 None ∷ Establish 0 5 None
+    ∷ Stop 0 5 (Some (record { exchange = 3; lost = Reply })) ∷ Establish 0 5 None ∷ Reset 0 ∷ Establish 0 6 None ∷ Status 0 5 ∷ []
+
+abbrev pub lost_verdicts : List Verdict
+lost_verdicts =
+    v.LostRequest 11 ∷ v.Status 0 5 status.Secure status.Partial ∷ v.RefusedBusy op.Establish ∷ v.Established 0 5 0 ∷ v.RefusedNotIdle
+    ∷ v.LostReply 3 ∷ v.RefusedBusy op.Stop ∷ v.Reset 0 ∷ v.Nothing ∷ v.Status 0 5 status.Idle status.Idle ∷ []
+
+abbrev pub WorkedCases : Type 0
+WorkedCases =
+    (verdicts_on [] held_up ≡ held_up_verdicts) × (answers_on (first_state plan) held_up ≡ held_up_verdicts)
+    × (verdicts_on [] lost_on_the_way ≡ lost_verdicts) × (answers_on (first_state plan) lost_on_the_way ≡ lost_verdicts)

@@ -1,0 +1,3 @@
+pub mod Operations
+pub mod Cases
+pub mod Points

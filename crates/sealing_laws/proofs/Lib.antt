@@ -1,0 +1,10 @@
+pub mod Below
+pub mod Sealings
+pub mod Bounds
+pub mod Places
+pub mod Totals
+pub mod Counted
+pub mod Sums
+pub mod Fronts
+pub mod FirstFronts
+pub mod Few
