@@ -28,9 +28,9 @@ use Rattle.key_laws.proofs.Fits.{Halting}
 use Rattle.key_laws.proofs.Tests.{lt-true, lt-false, both-true, true-same}
 use Rattle.key_laws.proofs.Uses.{live_is_on}
 use Rattle.key_laws.proofs.Whole.{fits, next_fits}
-use Rattle.key_laws.proofs.States.{in_state}
-use Rattle.key_laws.proofs.Bases.{based}
-use Rattle.key_laws.proofs.Firsts.{state_of, refresh_state}
+use Rattle.key_states.proofs.States.{in_state}
+use Rattle.key_states.proofs.Bases.{based}
+use Rattle.key_states.proofs.Firsts.{state_of, refresh_state}
 use Rattle.link_history.specs.Plan.{SubStream, key_plan, is_same, is_same_port, lane_out, lane_in, partner}
 use Rattle.link_history.specs.Units.{open_unit}
 use Rattle.link_history.specs.History.{ahead_in, SealedList, keys_at, place, ended_keys, ends_at, after_ends, sent, sent_in, sealed_packets, with_sealed, packet_of, sub_stream_of, is_under}

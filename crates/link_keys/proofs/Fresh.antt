@@ -16,7 +16,7 @@ use Rattle.key_laws.specs.Keys.{Touch, Program, Go, Stop, Clear, Seal, Accept, K
 use Rattle.key_laws.specs.History.{History, manager, draws, base, moments, touches, behind, keys_at as keys_there}
 use Rattle.key_laws.proofs.Shapes.{Shape, used, IsAt}
 use Rattle.key_laws.proofs.Touches.{Goes, waiting_goes, alone_goes, following_goes, both_goes, Comes, AllCome}
-use Rattle.key_laws.proofs.Behind.{used_behind}
+use Rattle.key_states.proofs.Behind.{used_behind}
 use Rattle.key_laws.proofs.Whole.{fits, next_fits}
 use Rattle.link_history.specs.Plan.{SubStream, key_plan, is_same, lane_out}
 use Rattle.link_history.specs.Units.{open_unit}

@@ -21,7 +21,7 @@ use Rattle.key_laws.specs.Keys.{Touch, Accept, Keyed, Off, Loaded, On, Keys, key
 use Rattle.key_laws.specs.Operations.{operated, work_of, reach_of, Reach}
 use Rattle.key_laws.specs.History.{History, manager, draws, base, begins_keyed, moments, touches, when, behind, keys_at as keys_there}
 use Rattle.key_laws.proofs.Shapes.{used, used_bound}
-use Rattle.key_laws.proofs.Behind.{used_behind}
+use Rattle.key_states.proofs.Behind.{used_behind}
 use Rattle.key_laws.proofs.Whole.{fits, more_begun}
 use Rattle.link_history.specs.Plan.{SubStream, key_plan, is_same, is_same_port, lane_out, lane_in}
 use Rattle.link_history.specs.Units.{open_unit}

@@ -16,7 +16,7 @@ use Rattle.key_laws.specs.Due.{due as key_due}
 use Rattle.key_laws.specs.Laws.{CauseLaw as KeyCauseLaw}
 use Rattle.key_laws.proofs.Shapes.{keys_of}
 use Rattle.key_laws.proofs.Owners.{same_place}
-use Rattle.key_laws.proofs.States.{in_state}
+use Rattle.key_states.proofs.States.{in_state}
 use Rattle.ide_plan.specs.declared.plan.Plan.{Plan}
 use Rattle.link_history.specs.Plan.{SubStream, key_plan, stream_plan}
 use Rattle.link_history.specs.History.{place, sends_it, receives_it, keys_by, keys_at}

@@ -9,7 +9,7 @@ use Rattle.key_laws.specs.Keys.{Keyed, Off, Loaded, On, Keys, key_in, kept_in}
 use Rattle.key_laws.specs.Operations.{Op, Idle}
 use Rattle.key_laws.specs.History.{History, kept_draw, op_of}
 use Rattle.key_laws.specs.Laws.{StreamFacts}
-use Rattle.key_laws.proofs.States.{stream_facts}
+use Rattle.key_states.proofs.States.{stream_facts}
 use Rattle.link_history.specs.Plan.{SubStream, lane_out, lane_in, key_of, stream_plan, key_plan}
 use Rattle.link_history.specs.History.{SealedList, waits, sealed_packets, keys_at}
 use Rattle.link_ports.specs.Stream.{Armed, Live, StreamState, TxSub, RxSub, slot_in}
