@@ -9,11 +9,3 @@ pub mod Performs
 pub mod Takes
 pub mod Whole
 pub mod Facts
-pub mod States
-pub mod Gos
-pub mod Again
-pub mod Ends
-pub mod Bases
-pub mod Behind
-pub mod Firsts
-pub mod Secures

@@ -2,36 +2,10 @@
 
 ghost use Rattle.key_laws.specs.Places.{KeyPlan};
 ghost use Rattle.key_laws.specs.History.{History};
-ghost use Rattle.key_laws.specs.Laws.{CauseLaw, GosFindKeys, KeyFacts, NeverAgain, Settled, StaysSecure, StreamFacts};
+ghost use Rattle.key_laws.specs.Laws.{CauseLaw, KeyFacts};
 
 /// A draw that is On is so in one key set and on one stream, and is at least each draw that was used there;
 /// the draws of sealed packets and of accepted units never fall.
 pub fn key_facts()
     ensures { (plan : KeyPlan) (h : History) → CauseLaw plan h → KeyFacts h }
-{}
-
-/// Before each GO that comes to a place, its key is kept there.
-pub fn gos_find_keys()
-    ensures { (plan : KeyPlan) (h : History) → CauseLaw plan h → GosFindKeys h }
-{}
-
-/// A draw whose GO came to a place is kept there only while it is On.
-pub fn never_again()
-    ensures { (plan : KeyPlan) (h : History) → CauseLaw plan h → NeverAgain h }
-{}
-
-/// Where no operation was asked of a stream no key is kept, an unfinished operation has made its draw On where its
-/// GO came, and a stream that is up has its draw On everywhere.
-pub fn stream_facts()
-    ensures { (plan : KeyPlan) (h : History) → CauseLaw plan h → StreamFacts h }
-{}
-
-/// An operation that ends, whatever was lost before, ends in the key state of one without losses.
-pub fn settled()
-    ensures { (plan : KeyPlan) (h : History) → CauseLaw plan h → Settled h }
-{}
-
-/// No move of a refresh takes a port out of Secure.
-pub fn stays_secure()
-    ensures { (plan : KeyPlan) (h : History) → CauseLaw plan h → StaysSecure h }
 {}

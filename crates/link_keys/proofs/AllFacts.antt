@@ -9,7 +9,7 @@ use Rattle.key_laws.specs.History.{moments, keys_at as keys_there, History, base
 use Rattle.key_laws.proofs.Tests.{true-le, le-true}
 use Rattle.key_laws.proofs.Shapes.{used, used_bound}
 use Rattle.key_laws.proofs.Whole.{fits}
-use Rattle.key_laws.proofs.Bases.{on_from}
+use Rattle.key_states.proofs.Bases.{on_from}
 use Rattle.ide_plan.specs.declared.plan.Plan.{Plan}
 use Rattle.link_history.specs.Plan.{SubStream, key_plan, lane_out}
 use Rattle.link_history.specs.History.{waits, place, sends_it, receives_it, keys_by, keys_at, sent}

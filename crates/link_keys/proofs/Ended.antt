@@ -1,7 +1,6 @@
 -- No unit is open of a draw that was overtaken, where the newer one is On at the receiver.
-use Rattle.std.proofs.Common.{◌≡◌, ℕ, zero, suc, ◌≤◌, ◌<◌, ◌==◌, Bool, true, false, List, [], ◌∷◌, ◌++◌, length, filter, map, Option, Some, None, slice_get, refl, ap, sym, ◌∙◌, subst, arith, inl, inr, ◌⊎◌}
-use Rattle.std.specs.Prelude.{if◌then◌else◌, ◌&&◌, not, nat_lt, nat_le, is_some}
-use Rattle.std.specs.List.{AllByRecursion}
+use Rattle.std.proofs.Common.{◌≡◌, ℕ, suc, ◌≤◌, ◌<◌, ◌==◌, Bool, true, false, List, [], ◌∷◌, ◌++◌, length, filter, map, Option, Some, None, slice_get, refl, ap, sym, ◌∙◌, subst, arith, inl, inr, ◌⊎◌}
+use Rattle.std.specs.Prelude.{if◌then◌else◌, ◌&&◌, not, nat_lt, is_some}
 use Rattle.std.proofs.lemmas.Bool.Decides.{nat_tests}
 use Rattle.ide_types.specs.Sub.{sub_bits}
 use Rattle.ide_types.specs.declared.sub.SubKind.{SubKind}
@@ -11,7 +10,6 @@ use Rattle.ide_types.specs.declared.port.Side.TheVariants.{Host, Device}
 use Rattle.ide_types.specs.declared.port.PortName.{PortName}
 use Rattle.link_events.specs.declared.event.Event.{Event}
 use Rattle.link_events.specs.declared.event.Event.TheVariants.{Send, Establish, Refresh, Stop, Reset}
-use Rattle.link_events.specs.declared.event.Loss.{Loss}
 use Rattle.link_verdicts.specs.declared.verdict.Operation.{Operation}
 use Rattle.link_verdicts.specs.declared.verdict.Operation.TheVariants as op
 use Rattle.link_verdicts.specs.declared.verdict.Verdict.{Verdict}
@@ -19,20 +17,20 @@ use Rattle.link_verdicts.specs.declared.verdict.Verdict.TheVariants as v
 use Rattle.link_verdicts.specs.declared.verdict.SealedPacket.{SealedPacket}
 use Rattle.ide_prefix.specs.Packet.{Packet}
 use Rattle.ide_plan.specs.declared.plan.Plan.{Plan}
-use Rattle.key_laws.specs.Places.{KeyPlan, Place, is_on_stream, is_same_sub, lane, sent_direction, received_direction}
-use Rattle.key_laws.specs.Keys.{Touch, Program as ProgramTouch, Go as GoTouch, Stop as StopTouch, Clear as ClearTouch, Seal as SealTouch, Accept as AcceptTouch, Keyed, Off, Loaded, On, Keys, no_keys, key_in, on_in, is_open, keys, live_draw, settled}
-use Rattle.key_laws.specs.Operations.{Op, Idle, Establishing, Up, Refreshing, Stopping, Work, Reach, Manager, work_of, reach_of, op_after, op_ended, op_standing, last_of, operated}
+use Rattle.key_laws.specs.Places.{Place, is_on_stream, is_same_sub, lane, sent_direction}
+use Rattle.key_laws.specs.Keys.{Touch, Program as ProgramTouch, Go as GoTouch, Clear as ClearTouch, Keyed, Off, Loaded, On, Keys, no_keys, key_in, on_in, is_open, keys, live_draw, settled}
+use Rattle.key_laws.specs.Operations.{Op, Idle, Establishing, Up, Refreshing, Stopping, Work, Reach, work_of, reach_of, op_after, op_ended, op_standing, last_of, operated}
 use Rattle.key_laws.specs.Due.{ports_at, establish_on, refresh_on}
-use Rattle.key_laws.specs.History.{History, manager, op_of, draws, base, begins_keyed, moments, touches, came, keyed, worked, on_it, when, behind, status_of, keys_at as keys_there}
-use Rattle.key_laws.proofs.Shapes.{Shape, Bare, Waiting, Alone, Following, Both, keys_of, used, IsAt, next_keys, next_programmed, following_programmed, sender_keeps, alone_gone, following_gone, both_gone, both_stay, live_waiting, live_alone, live_following, live_both}
-use Rattle.key_laws.proofs.Touches.{Programs, bare_programs, waiting_programs, other_programs, following_programs, older_programs, Goes, waiting_goes, alone_goes, following_goes, both_goes, Comes, AllCome}
+use Rattle.key_laws.specs.History.{History, manager, op_of, draws, base, begins_keyed, moments, touches, came, worked, on_it, when, behind, status_of, keys_at as keys_there}
+use Rattle.key_laws.proofs.Shapes.{Shape, Bare, Alone, Following, Both, keys_of, IsAt, next_keys, next_programmed, following_programmed, sender_keeps, alone_gone, following_gone, both_gone, both_stay, live_waiting, live_alone, live_following, live_both}
+use Rattle.key_laws.proofs.Touches.{Programs, bare_programs, waiting_programs, other_programs, following_programs, older_programs, Goes, waiting_goes, alone_goes, following_goes, both_goes, AllCome}
 use Rattle.key_laws.proofs.Fits.{Halting}
 use Rattle.key_laws.proofs.Tests.{lt-true, lt-false, both-true, true-same}
 use Rattle.key_laws.proofs.Uses.{live_is_on}
 use Rattle.key_laws.proofs.Whole.{fits, next_fits}
-use Rattle.key_laws.proofs.States.{in_state}
-use Rattle.key_laws.proofs.Bases.{based}
-use Rattle.key_laws.proofs.Firsts.{state_of, refresh_state}
+use Rattle.key_states.proofs.States.{in_state}
+use Rattle.key_states.proofs.Bases.{based}
+use Rattle.key_states.proofs.Firsts.{state_of, refresh_state}
 use Rattle.link_history.specs.Plan.{SubStream, key_plan, is_same, is_same_port, lane_out, lane_in, partner}
 use Rattle.link_history.specs.Units.{open_unit}
 use Rattle.link_history.specs.History.{ahead_in, SealedList, keys_at, place, ended_keys, ends_at, after_ends, sent, sent_in, sealed_packets, with_sealed, packet_of, sub_stream_of, is_under}
@@ -46,10 +44,10 @@ use Rattle.link_history.proofs.Sealed.{sent_in-snoc, sent-same, sent_elsewhere, 
 use Rattle.link_history.proofs.SealingIs.{IsLive, AllLive, IsSealing, sealing_is, all_live, seals_none, sealed_same}
 use Rattle.link_keys.proofs.Seats.{keys_out, keys_into, live_of}
 use Rattle.link_keys.proofs.Given.{key_cause}
-use Rattle.link_keys.proofs.RealFacts.{sealed, operates_no_base}
+use Rattle.link_keys.proofs.RealFacts.{sealed}
 use Rattle.link_keys.proofs.Moments.{busy_is, sends_lane}
 use Rattle.link_keys.proofs.SealedKeys.{each_more, live_all, live_on, below_draws}
-use Rattle.link_keys.proofs.SealedOrder.{on_above, send_operates}
+use Rattle.link_keys.proofs.SealedOrder.{on_above}
 
 -- ---- the manager's state
 

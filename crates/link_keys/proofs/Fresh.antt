@@ -1,5 +1,5 @@
 -- A key that comes to be Live at a sender has sealed nothing.
-use Rattle.std.proofs.Common.{◌≡◌, ℕ, ◌+◌, ◌≤◌, ◌<◌, ◌==◌, Bool, true, false, List, [], ◌∷◌, ◌++◌, Option, Some, None, refl, ap, sym, ◌∙◌, subst, arith, inl, inr, ◌⊎◌}
+use Rattle.std.proofs.Common.{◌≡◌, ℕ, ◌≤◌, ◌==◌, Bool, true, false, List, [], ◌∷◌, ◌++◌, Option, Some, None, refl, ap, sym, ◌∙◌, subst, arith, inl, inr, ◌⊎◌}
 use Rattle.std.specs.Prelude.{if◌then◌else◌, ◌&&◌, not, nat_lt, nat_le}
 use Rattle.std.proofs.lemmas.Bool.Decides.{nat_tests}
 use Rattle.ide_types.specs.declared.sub.SubKind.{SubKind}
@@ -11,12 +11,12 @@ use Rattle.link_verdicts.specs.declared.verdict.Verdict.TheVariants as v
 use Rattle.link_verdicts.specs.declared.verdict.SealedPacket.{SealedPacket}
 use Rattle.ide_prefix.specs.Packet.{Packet}
 use Rattle.ide_plan.specs.declared.plan.Plan.{Plan}
-use Rattle.key_laws.specs.Places.{Place, sent_direction}
+use Rattle.key_laws.specs.Places.{sent_direction}
 use Rattle.key_laws.specs.Keys.{Touch, Program, Go, Stop, Clear, Seal, Accept, Keyed, Off, Loaded, On, Keys, key_in, with_key, on_in, refuses, unless_below, touched, is_over, settled, is_open, keys}
 use Rattle.key_laws.specs.History.{History, manager, draws, base, moments, touches, behind, keys_at as keys_there}
-use Rattle.key_laws.proofs.Shapes.{Shape, Waiting, Alone, Following, Both, keys_of, used, Sound, IsAt}
+use Rattle.key_laws.proofs.Shapes.{Shape, used, IsAt}
 use Rattle.key_laws.proofs.Touches.{Goes, waiting_goes, alone_goes, following_goes, both_goes, Comes, AllCome}
-use Rattle.key_laws.proofs.Behind.{used_behind}
+use Rattle.key_states.proofs.Behind.{used_behind}
 use Rattle.key_laws.proofs.Whole.{fits, next_fits}
 use Rattle.link_history.specs.Plan.{SubStream, key_plan, is_same, lane_out}
 use Rattle.link_history.specs.Units.{open_unit}
@@ -24,7 +24,6 @@ use Rattle.link_history.specs.History.{ahead_in, SealedList, KeyName, lesser, li
 use Rattle.link_history.specs.Cause.{CauseLaw}
 use Rattle.link_history.proofs.Tests.{same_stream, same_side, eqb-sym}
 use Rattle.link_history.proofs.Sealed.{sent_in-snoc}
-use Rattle.link_history.proofs.Causes.{is_send, sealed_by_send}
 use Rattle.link_history.proofs.Senders.{on_live}
 use Rattle.link_history.proofs.SealingIs.{IsLive, AllLive, sealing_is, all_live, seals_none, sealed_same}
 use Rattle.link_keys.proofs.Seats.{keys_out}

@@ -19,7 +19,7 @@ use Rattle.key_laws.specs.Keys.{Touch, Seal, key_in, on_in, is_open, Keys}
 use Rattle.key_laws.specs.History.{manager, draws as draws_made, is_sender, sealed_here, when, behind, touches, moments, keys_at as keys_there, History, base}
 use Rattle.key_laws.proofs.Tests.{both-true, true-same}
 use Rattle.key_laws.proofs.Shapes.{used, started}
-use Rattle.key_laws.proofs.Behind.{used_behind, started_behind, on_started, open_behind, touches_no_seal}
+use Rattle.key_states.proofs.Behind.{used_behind, started_behind, on_started, open_behind, touches_no_seal}
 use Rattle.ide_plan.specs.declared.plan.Plan.{Plan}
 use Rattle.link_history.specs.Plan.{SubStream, is_same, lane_out, lane_in}
 use Rattle.link_history.specs.Units.{open_unit}

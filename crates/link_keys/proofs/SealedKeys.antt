@@ -1,9 +1,7 @@
 -- The draws of sealed packets: whose they are, and that they never fall.
-use Rattle.std.proofs.Common.{◌≡◌, ℕ, zero, suc, ◌+◌, ◌≤◌, ◌<◌, ◌==◌, Bool, true, false, List, [], ◌∷◌, ◌++◌, length, filter, Option, Some, None, slice_get, refl, ap, sym, ◌∙◌, subst, arith, inl, inr, ◌⊎◌}
-use Rattle.std.specs.Prelude.{if◌then◌else◌, ◌&&◌, not, nat_lt, nat_le, is_some}
+use Rattle.std.proofs.Common.{◌≡◌, ℕ, ◌<◌, ◌==◌, Bool, true, false, List, [], ◌∷◌, ◌++◌, Option, Some, slice_get, refl, ap, sym, ◌∙◌, subst, inl, inr, ◌⊎◌}
+use Rattle.std.specs.Prelude.{if◌then◌else◌, ◌&&◌}
 use Rattle.std.specs.List.{AllByRecursion}
-use Rattle.std.proofs.lemmas.Bool.Decides.{nat_tests}
-use Rattle.ide_types.specs.declared.sub.SubKind.{SubKind}
 use Rattle.ide_types.specs.declared.port.PortName.{PortName}
 use Rattle.link_events.specs.declared.event.Event.{Event}
 use Rattle.link_events.specs.declared.event.Event.TheVariants.{Send, Establish}
@@ -13,29 +11,19 @@ use Rattle.link_verdicts.specs.declared.verdict.Verdict.TheVariants as v
 use Rattle.link_verdicts.specs.declared.verdict.SealedPacket.{SealedPacket}
 use Rattle.ide_prefix.specs.Packet.{Packet}
 use Rattle.ide_plan.specs.declared.plan.Plan.{Plan}
-use Rattle.key_laws.specs.Places.{Place, sent_direction}
-use Rattle.key_laws.specs.Keys.{Keyed, Off, Loaded, On, Keys, key_in, on_in}
-use Rattle.key_laws.specs.Operations.{Manager, Begun}
-use Rattle.key_laws.specs.History.{History, manager, draws, base, begun_at, begins_keyed, moments, keys_at as keys_there}
+use Rattle.key_laws.specs.Keys.{On, key_in, on_in}
+use Rattle.key_laws.specs.Operations.{Begun}
+use Rattle.key_laws.specs.History.{History, manager, draws, base, begins_keyed}
 use Rattle.key_laws.proofs.Owners.{Owner, owner, begun_below, after_longer, on_owned}
-use Rattle.key_laws.proofs.Shapes.{used, used_bound}
-use Rattle.key_laws.proofs.Whole.{fits}
-use Rattle.key_laws.proofs.Tests.{both-true}
-use Rattle.link_history.specs.Plan.{SubStream, key_plan, is_same, lane_out}
+use Rattle.link_history.specs.Plan.{SubStream, lane_out}
 use Rattle.link_history.specs.Units.{open_unit}
-use Rattle.link_history.specs.History.{ahead_in, SealedList, KeyName, lesser, live_key, keys_at, place, sent_in, sealed_packets, with_sealed, packet_of, sub_stream_of, is_in}
+use Rattle.link_history.specs.History.{ahead_in, SealedList, keys_at, place, sent_in, sealed_packets, with_sealed, packet_of, sub_stream_of}
 use Rattle.link_history.specs.Cause.{CauseLaw}
-use Rattle.link_history.specs.KeyFacts.{BaseStays, NoneFrom, operates}
-use Rattle.link_history.proofs.Tests.{same_stream, same_side, eqb-refl}
+use Rattle.link_history.specs.KeyFacts.{NoneFrom}
 use Rattle.link_history.proofs.LastPlaces.{place_of_last}
-use Rattle.link_history.proofs.Causes.{is_send, sealed_by_send}
 use Rattle.link_history.proofs.Senders.{on_live}
-use Rattle.link_history.proofs.SealingIs.{IsLive, AllLive, IsSealing, sealing_is, all_live, seals_none, sealed_same}
-use Rattle.link_keys.proofs.Seats.{keys_out}
-use Rattle.link_keys.proofs.Given.{key_cause}
+use Rattle.link_history.proofs.SealingIs.{IsLive, AllLive, sealing_is, all_live}
 use Rattle.link_keys.proofs.Unplanned.{on_at}
-use Rattle.link_keys.proofs.RealFacts.{operates_no_base}
-use Rattle.link_keys.proofs.Moments.{none_in, sends_lane}
 
 -- ---- all that were sealed
 

@@ -1,6 +1,6 @@
 -- Draws that are On against those of sealed packets and accepted units: they never fall.
-use Rattle.std.proofs.Common.{◌≡◌, ℕ, zero, suc, ◌+◌, ◌≤◌, ◌<◌, ◌==◌, Bool, true, false, List, [], ◌∷◌, ◌++◌, length, filter, Option, Some, None, slice_get, refl, ap, sym, ◌∙◌, subst, arith, inl, inr, ◌⊎◌}
-use Rattle.std.specs.Prelude.{if◌then◌else◌, ◌&&◌, not, nat_lt, nat_le, max}
+use Rattle.std.proofs.Common.{◌≡◌, ℕ, zero, suc, ◌+◌, ◌≤◌, ◌<◌, ◌==◌, Bool, true, false, List, [], ◌∷◌, ◌++◌, length, filter, Option, Some, None, slice_get, refl, ap, sym, ◌∙◌, subst, arith, inl, inr}
+use Rattle.std.specs.Prelude.{if◌then◌else◌, ◌&&◌, not, nat_le, max}
 use Rattle.std.specs.List.{AllByRecursion}
 use Rattle.std.proofs.lemmas.Bool.Decides.{nat_tests}
 use Rattle.ide_types.specs.declared.sub.SubKind.{SubKind}
@@ -18,15 +18,14 @@ use Rattle.ide_prefix.specs.Packet.{Packet}
 use Rattle.ide_plan.specs.declared.plan.Plan.{Plan}
 use Rattle.key_laws.specs.Places.{Place, is_same_side, is_same_sub, is_on_stream, sent_direction, received_direction}
 use Rattle.key_laws.specs.Keys.{Touch, Accept, Keyed, Off, Loaded, On, Keys, key_in, on_in}
-use Rattle.key_laws.specs.Operations.{Manager, Op, manager_after, operated, work_of, reach_of, Reach}
-use Rattle.key_laws.specs.History.{History, manager, draws, base, begins_keyed, moments, touches, came, when, behind, keys_at as keys_there}
+use Rattle.key_laws.specs.Operations.{operated, work_of, reach_of, Reach}
+use Rattle.key_laws.specs.History.{History, manager, draws, base, begins_keyed, moments, touches, when, behind, keys_at as keys_there}
 use Rattle.key_laws.proofs.Shapes.{used, used_bound}
-use Rattle.key_laws.proofs.Behind.{used_behind}
+use Rattle.key_states.proofs.Behind.{used_behind}
 use Rattle.key_laws.proofs.Whole.{fits, more_begun}
-use Rattle.key_laws.proofs.Tests.{both-true}
 use Rattle.link_history.specs.Plan.{SubStream, key_plan, is_same, is_same_port, lane_out, lane_in}
 use Rattle.link_history.specs.Units.{open_unit}
-use Rattle.link_history.specs.History.{ahead_in, SealedList, KeyName, lesser, live_key, keys_at, place, receives_it, received_in, draws_got, sent_in, sealed_packets, with_sealed, packet_of, sub_stream_of, is_in}
+use Rattle.link_history.specs.History.{ahead_in, SealedList, KeyName, lesser, keys_at, place, receives_it, received_in, draws_got, sent_in, sealed_packets, with_sealed, packet_of, sub_stream_of, is_in}
 use Rattle.link_history.specs.Due.{due}
 use Rattle.link_history.specs.Cause.{CauseLaw}
 use Rattle.link_history.specs.KeyFacts.{BaseStays, operates}

@@ -1,5 +1,5 @@
 -- A stream that the plan does not have gets no keys.
-use Rattle.std.proofs.Common.{◌≡◌, ℕ, ◌==◌, Bool, true, false, Option, Some, None, List, [], ◌∷◌, length, refl, ap, sym, ◌∙◌, subst}
+use Rattle.std.proofs.Common.{◌≡◌, ℕ, ◌==◌, Bool, true, false, Option, Some, None, [], ◌∷◌, length, refl, ap, sym, ◌∙◌, subst}
 use Rattle.std.specs.Prelude.{◌&&◌, if◌then◌else◌, is_some}
 use Rattle.ide_types.specs.declared.port.PortName.{PortName}
 use Rattle.link_events.specs.declared.event.Event.TheVariants as event
@@ -9,14 +9,14 @@ use Rattle.link_verdicts.specs.declared.verdict.Operation.TheVariants as op
 use Rattle.link_verdicts.specs.declared.verdict.Verdict.{Verdict}
 use Rattle.link_verdicts.specs.declared.verdict.Verdict.TheVariants as v
 use Rattle.key_laws.specs.Places.{KeyPlan, Place}
-use Rattle.key_laws.specs.Keys.{Keyed, On, Keys, no_keys, key_in}
-use Rattle.key_laws.specs.Operations.{Op, Idle, Reach, Manager, reach_of, operated, work_of, op_after}
+use Rattle.key_laws.specs.Keys.{On, Keys, no_keys, key_in}
+use Rattle.key_laws.specs.Operations.{Idle, Reach, Manager, reach_of, operated, work_of, op_after}
 use Rattle.key_laws.specs.History.{manager, op_of, keys_at as keys_there, History}
 use Rattle.key_laws.specs.Due.{due as key_due}
 use Rattle.key_laws.specs.Laws.{CauseLaw as KeyCauseLaw}
 use Rattle.key_laws.proofs.Shapes.{keys_of}
 use Rattle.key_laws.proofs.Owners.{same_place}
-use Rattle.key_laws.proofs.States.{in_state}
+use Rattle.key_states.proofs.States.{in_state}
 use Rattle.ide_plan.specs.declared.plan.Plan.{Plan}
 use Rattle.link_history.specs.Plan.{SubStream, key_plan, stream_plan}
 use Rattle.link_history.specs.History.{place, sends_it, receives_it, keys_by, keys_at}

@@ -25,7 +25,6 @@ use Rattle.link_history.proofs.Tests.{same_stream}
 use Rattle.link_history.proofs.Sealed.{posted-own, posted-more}
 use Rattle.ide_types.specs.declared.port.PortName.{PortName}
 use Rattle.link_events.specs.declared.event.Event.{Event}
-use Rattle.link_events.specs.declared.event.Event.TheVariants.{Send, Pass, Alter, Cut, Arrive, Dump}
 use Rattle.link_verdicts.specs.declared.verdict.Verdict.TheVariants.{Accepted}
 use Rattle.link_verdicts.specs.declared.verdict.SealedPacket.{SealedPacket}
 use Rattle.link_verdicts.specs.declared.verdict.UnitName.{UnitName}

@@ -27,7 +27,7 @@ use Rattle.link_history.specs.KeyFacts.{operates}
 use Rattle.link_ports.specs.Machine.{port_at, end_at, moves_at, moves_of}
 use Rattle.link_ports.specs.Moves.{Move, Halt, keys_moved_in, keys_moved_out}
 use Rattle.link_ports.specs.Stands.{got_in}
-use Rattle.key_laws.proofs.Firsts.{first_keys, refresh_keyed, base_kept}
+use Rattle.key_states.proofs.Firsts.{first_keys, refresh_keyed, base_kept}
 use Rattle.link_history.proofs.KeyVerdicts.{establish_due_quiet, refresh_due_quiet, stop_due_quiet}
 use Rattle.link_history.proofs.SealingIs.{sealed_same, quiet_seals_none}
 use Rattle.link_history.proofs.Tests.{eqb-refl}

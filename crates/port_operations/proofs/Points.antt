@@ -1,5 +1,5 @@
 -- What the slots and the manager's state of a stream say of its keys.
-use Rattle.std.proofs.Common.{◌≡◌, ◌<◌, ℕ, Bool, true, false, Option, Some, None, List, option_map, refl, ap, sym, ◌∙◌, subst}
+use Rattle.std.proofs.Common.{◌≡◌, ℕ, Bool, true, false, Some, None, List, option_map, refl, ap, sym, ◌∙◌}
 use Rattle.std.specs.Prelude.{if◌then◌else◌, is_some}
 use Rattle.ide_types.specs.declared.sub.SubKind.{SubKind}
 use Rattle.ide_types.specs.declared.port.Side.{Side}
@@ -7,19 +7,19 @@ use Rattle.ide_types.specs.declared.port.PortName.{PortName}
 use Rattle.ide_plan.specs.declared.plan.Plan.{Plan}
 use Rattle.key_laws.specs.Keys.{Keyed, Off, Loaded, On, Keys, key_in, kept_in}
 use Rattle.key_laws.specs.Operations.{Op, Idle}
-use Rattle.key_laws.specs.History.{History, kept_draw, op_of, keys_at as keys_there}
+use Rattle.key_laws.specs.History.{History, kept_draw, op_of}
 use Rattle.key_laws.specs.Laws.{StreamFacts}
-use Rattle.key_laws.proofs.States.{stream_facts}
-use Rattle.link_history.specs.Plan.{SubStream, lane_out, lane_in, key_of, has_stream, stream_plan, key_plan}
-use Rattle.link_history.specs.History.{SealedList, waits, sealed_packets, keys_at, place}
-use Rattle.link_ports.specs.Stream.{Slot, Armed, Live, Slots, StreamState, TxSub, RxSub, at_sub, each_sub, slot_in}
+use Rattle.key_states.proofs.States.{stream_facts}
+use Rattle.link_history.specs.Plan.{SubStream, lane_out, lane_in, key_of, stream_plan, key_plan}
+use Rattle.link_history.specs.History.{SealedList, waits, sealed_packets, keys_at}
+use Rattle.link_ports.specs.Stream.{Armed, Live, StreamState, TxSub, RxSub, slot_in}
 use Rattle.link_ports.specs.Machine.{LinkState, find, find_op, slots_of, port_at, end_at}
 use Rattle.link_ports.specs.Stands.{sealing_key, tx_slot, tx_slots, rx_slot, rx_slots, tx_standing, rx_standing, standing, StandsFor}
 use Rattle.link_ports.proofs.Answers.{at_each}
 use Rattle.link_ports.proofs.Changes.{kept_is}
 use Rattle.link_keys.proofs.Seats.{keys_out, keys_into}
 use Rattle.link_keys.proofs.Given.{key_cause}
-use Rattle.port_operations.specs.Points.{StreamPoints, PointsStand, key_held, lane_at}
+use Rattle.port_operations.specs.Points.{PointsStand, key_held, lane_at}
 
 -- ---- one slot
 

@@ -1,26 +1,16 @@
 -- What operations read of the slots is what the keys say.
-use Rattle.std.proofs.Common.{◌≡◌, ℕ, ◌==◌, Bool, true, false, Option, Some, None, [], ◌∷◌, length, refl, ap, sym, ◌∙◌, subst, arith}
-use Rattle.std.specs.Prelude.{◌&&◌, if◌then◌else◌, is_some}
+use Rattle.std.proofs.Common.{◌≡◌, Bool, true, false, Some, None, refl, ap, sym, ◌∙◌, arith}
+use Rattle.std.specs.Prelude.{if◌then◌else◌}
 use Rattle.ide_types.specs.declared.port.PortName.{PortName}
-use Rattle.link_events.specs.declared.event.Event.TheVariants as event
-use Rattle.link_events.specs.declared.event.Loss.{Loss}
-use Rattle.link_verdicts.specs.declared.verdict.Operation.{Operation}
-use Rattle.link_verdicts.specs.declared.verdict.Operation.TheVariants as op
-use Rattle.link_verdicts.specs.declared.verdict.Verdict.{Verdict}
-use Rattle.link_verdicts.specs.declared.verdict.Verdict.TheVariants as v
-use Rattle.key_laws.specs.Places.{KeyPlan, Place}
+use Rattle.key_laws.specs.Places.{Place}
 use Rattle.key_laws.specs.Keys.{no_keys, refuses, slot_of, is_live as is_live_there, Keys}
-use Rattle.key_laws.specs.Operations.{Idle, Reach, Manager, reach_of, operated, work_of, op_after}
-use Rattle.key_laws.specs.History.{manager, op_of, moments, keys_at as keys_there, History}
-use Rattle.key_laws.specs.Due.{ports_at, due as key_due}
-use Rattle.key_laws.specs.Laws.{CauseLaw as KeyCauseLaw}
+use Rattle.key_laws.specs.History.{moments, keys_at as keys_there, History}
+use Rattle.key_laws.specs.Due.{ports_at}
 use Rattle.key_laws.proofs.Tests.{le-true, le-false, lt-true, lt-false}
 use Rattle.key_laws.proofs.Shapes.{Shape, Bare, Waiting, Alone, Following, Both, keys_of}
-use Rattle.key_laws.proofs.Owners.{same_place}
 use Rattle.key_laws.proofs.Whole.{fits}
-use Rattle.key_laws.proofs.States.{in_state}
 use Rattle.ide_plan.specs.declared.plan.Plan.{Plan}
-use Rattle.link_history.specs.Plan.{SubStream, key_plan, lane_out, lane_in, has_stream, stream_plan}
+use Rattle.link_history.specs.Plan.{SubStream, key_plan, lane_out, lane_in, has_stream}
 use Rattle.link_history.specs.History.{SealedList, sealed_packets}
 use Rattle.link_history.specs.Cause.{CauseLaw}
 use Rattle.link_ports.specs.Stream.{Slots, slot_in, TxSub, RxSub}

@@ -4,7 +4,7 @@ use Rattle.ide_types.specs.declared.sub.SubKind.{SubKind}
 use Rattle.ide_types.specs.declared.port.Side.{Side}
 use Rattle.link_verdicts.specs.declared.verdict.Operation.TheVariants as op
 use Rattle.ide_plan.specs.declared.plan.Plan.{Plan}
-use Rattle.key_laws.specs.Operations.{Idle, Establishing, Up, Refreshing}
+use Rattle.key_laws.specs.Operations.{Idle, Establishing, Refreshing}
 use Rattle.key_laws.specs.History.{History, kept_draw, on_draw, go_at}
 use Rattle.link_history.specs.Plan.{SubStream, lane_out, lane_in, key_of}
 use Rattle.link_ports.specs.Stream.{Slot, Empty, Programmed, Armed, Live, StreamState, slot_in}

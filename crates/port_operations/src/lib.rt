@@ -3,4 +3,6 @@
 
 mod stands;
 
-pub use stands::{first_stands, operation_stands, operation_steps, points_stand, step_stands, worked_cases};
+pub use stands::{
+    first_stands, operation_stands, operation_steps, points_stand, step_stands, worked_cases,
+};

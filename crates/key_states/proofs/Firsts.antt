@@ -17,8 +17,8 @@ use Rattle.key_laws.specs.Laws.{CauseLaw}
 use Rattle.key_laws.proofs.Shapes.{Marks, marks, Shape, keys_of, used, started, IsAt}
 use Rattle.key_laws.proofs.Stages.{Rest, unkeyed, old_alone, old_both, Half, waiting, following, Full, alone, both, Rising, before, half, full}
 use Rattle.key_laws.proofs.Owners.{same_place}
-use Rattle.key_laws.proofs.States.{in_state}
-use Rattle.key_laws.proofs.Bases.{establish_idle}
+use Rattle.key_states.proofs.States.{in_state}
+use Rattle.key_states.proofs.Bases.{establish_idle}
 
 -- ---- an establish that goes on is of the base
 

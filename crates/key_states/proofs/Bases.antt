@@ -18,7 +18,7 @@ use Rattle.key_laws.proofs.Tests.{both-true}
 use Rattle.key_laws.proofs.Shapes.{keys_of}
 use Rattle.key_laws.proofs.Owners.{OwnedKeys, AllOwned, behind_owned, worked_owned, came_owned, cleared_owned, work_is, owned_on, same_place}
 use Rattle.key_laws.proofs.Whole.{more_begun}
-use Rattle.key_laws.proofs.States.{in_state}
+use Rattle.key_states.proofs.States.{in_state}
 
 abbrev From : ℕ → Bool → ℕ → Type 0
 From b set j = b ≤ j

@@ -28,7 +28,7 @@ use Rattle.key_laws.proofs.Shapes.{Marks, Shape, keys_of}
 use Rattle.key_laws.proofs.Stages.{Rest, unkeyed, old_alone, old_both, Half, waiting, following, Full, alone, both, Rising, before, half, full}
 use Rattle.key_laws.proofs.Fits.{FitsAt}
 use Rattle.key_laws.proofs.Whole.{fits}
-use Rattle.key_laws.proofs.Ends.{on_same}
+use Rattle.key_states.proofs.Ends.{on_same}
 
 -- ---- a stream that is being refreshed has a key in each place
 

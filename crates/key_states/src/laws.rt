@@ -1,0 +1,31 @@
+//! What the states of streams say of their keys, in every history in which each verdict is the one that is due.
+
+ghost use Rattle.key_laws.specs.Places.{KeyPlan};
+ghost use Rattle.key_laws.specs.History.{History};
+ghost use Rattle.key_laws.specs.Laws.{CauseLaw, GosFindKeys, NeverAgain, Settled, StaysSecure, StreamFacts};
+
+/// Before each GO that comes to a place, its key is kept there.
+pub fn gos_find_keys()
+    ensures { (plan : KeyPlan) (h : History) → CauseLaw plan h → GosFindKeys h }
+{}
+
+/// A draw whose GO came to a place is kept there only while it is On.
+pub fn never_again()
+    ensures { (plan : KeyPlan) (h : History) → CauseLaw plan h → NeverAgain h }
+{}
+
+/// Where no operation was asked of a stream no key is kept, an unfinished operation has made its draw On where its
+/// GO came, and a stream that is up has its draw On everywhere.
+pub fn stream_facts()
+    ensures { (plan : KeyPlan) (h : History) → CauseLaw plan h → StreamFacts h }
+{}
+
+/// An operation that ends, whatever was lost before, ends in the key state of one without losses.
+pub fn settled()
+    ensures { (plan : KeyPlan) (h : History) → CauseLaw plan h → Settled h }
+{}
+
+/// No move of a refresh takes a port out of Secure.
+pub fn stays_secure()
+    ensures { (plan : KeyPlan) (h : History) → CauseLaw plan h → StaysSecure h }
+{}
