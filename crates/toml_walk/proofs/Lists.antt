@@ -1,6 +1,5 @@
 -- Lists of a table as lists, and reading them one element after the other.
-use Rattle.std.proofs.Common.{◌≡◌, ℕ, suc, ◌-◌, ◌+◌, ◌≤◌, ◌<◌, List, [], ◌∷◌, ◌++◌, Result, Ok, Err, refl, sym, ap, ◌∙◌, append_assoc, arith, map, drop, length, get_or, String, string_bytes}
-use Rattle.std.proofs.lemmas.List.{append-nil}
+use Rattle.std.proofs.Common.{◌≡◌, ℕ, ◌+◌, List, [], ◌∷◌, ◌++◌, Result, Ok, Err, refl, sym, ap, ◌∙◌, append_assoc, map, String, string_bytes}
 use Rattle.toml.specs.Data.{Data}
 use Rattle.toml.specs.View.{view, items_view, items_of, members_view, table_view}
 use Rattle.std.specs.BTreeMap.{BTreeMap, keys}

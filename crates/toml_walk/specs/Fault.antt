@@ -1,5 +1,5 @@
 -- The first fault of a walk, and what a call that gives one promises.
-use Rattle.std.specs.Prelude.{◌≡◌, ℕ, List, Option, Some, None, Result, Ok, Err, Bool, if◌then◌else◌}
+use Rattle.std.specs.Prelude.{◌≡◌, Option, Some, None, Result, Ok, Err}
 use Rattle.toml_walk.specs.declared.fault.PlanFault.{PlanFault}
 use Rattle.toml_walk.specs.declared.fault.PlanError.{PlanError}
 use Rattle.toml_walk.specs.declared.fault.PlanError.TheVariants as errors

@@ -26,7 +26,8 @@ fn is_in(known: &[&str], key: &str) -> bool
 
 // The first key that is none of the known ones.
 fn first_unknown<'a>(known: &[&str], table: &'a Table) -> Option<&'a str>
-    ensures { option_map (λ s. s.now) result ≡ unknown_in (map (λ s. s.now) known.now) (map string_bytes (keys table.now)) }
+    ensures { option_map (λ s. s.now) result
+        ≡ unknown_in (map (λ s. s.now) known.now) (map string_bytes (keys table.now)) }
 {
     for key in table.keys() {
         if !is_in(known, key.as_str()) {
@@ -55,7 +56,8 @@ impl Keys<'_> {
     /// Refuses the least key of the table that is none of the known ones.
     #[tactic(auto, using(crate::proofs::Lists::keys_of_view))]
     pub fn only(&self, known: &[&str]) -> Result<(), PlanError>
-        ensures { Gives (λ u. u) result (only_known self.now.path (map (λ s. s.now) known.now) (table_view self.now.table.now)) }
+        ensures { Gives (λ u. u) result
+            (only_known self.now.path (map (λ s. s.now) known.now) (table_view self.now.table.now)) }
     {
         match first_unknown(known, self.table) {
             None => Ok(()),
@@ -68,7 +70,8 @@ impl Keys<'_> {
 
     /// The value of a key that has to be there.
     pub fn required<R: Reader>(&self, name: &str, reader: &R) -> Result<R::Out, PlanError>
-        ensures { Gives (λ x. x) result (required self.now.path (table_view self.now.table.now) name.now (R.reads reader.now)) }
+        ensures { Gives (λ x. x) result
+            (required self.now.path (table_view self.now.table.now) name.now (R.reads reader.now)) }
     {
         let path = key_path(self.alloc, self.path.as_slice(), name)?;
         match found(self.table, name) {
@@ -84,7 +87,8 @@ impl Keys<'_> {
         default: R::Out,
         reader: &R,
     ) -> Result<R::Out, PlanError>
-        ensures { Gives (λ x. x) result (optional self.now.path (table_view self.now.table.now) name.now default (R.reads reader.now)) }
+        ensures { Gives (λ x. x) result
+            (optional self.now.path (table_view self.now.table.now) name.now default (R.reads reader.now)) }
     {
         match found(self.table, name) {
             None => Ok(default),

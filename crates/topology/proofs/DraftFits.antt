@@ -1,7 +1,7 @@
 -- What the keys of a topology say, ahead of the rules over several values, meets every bound of the keys.
-use Rattle.std.proofs.Common.{◌≡◌, ◌∙◌, sym, ap, refl, ℕ, ℤ, pos, negsuc, ◌+◌, ◌^◌, ◌≤◌, ◌<◌, ◌==◌, ◌&&◌, ◌||◌, nat_le, List, [], ◌∷◌, length, Bool, true, false, Option, Some, None, cond, arith, codes, lit≤, inl, inr}
-use Rattle.std.specs.List.{All, list_any}
-use Rattle.std.proofs.lemmas.Bool.{leb-true, ltb-false, eqb-true, eq-eqb, le-leb, and_parts, and_from, or_cases}
+use Rattle.std.proofs.Common.{◌≡◌, sym, refl, ℕ, ℤ, pos, negsuc, ◌≤◌, ◌<◌, ◌==◌, ◌&&◌, ◌||◌, nat_le, List, [], ◌∷◌, length, Bool, true, false, arith, codes, lit≤, inl, inr}
+use Rattle.std.specs.List.{All}
+use Rattle.std.proofs.lemmas.Bool.{ltb-false, eqb-true, eq-eqb, le-leb, and_parts, and_from, or_cases}
 use Rattle.std.proofs.lemmas.List.Elements.{All-nil, All-head, All-tail}
 use Rattle.toml.specs.Data.{Data, Members}
 use Rattle.ide_plan.specs.declared.stream.StreamPlan.{StreamPlan}

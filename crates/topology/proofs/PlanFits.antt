@@ -1,7 +1,7 @@
 -- Every plan that a topology means meets the bounds and rules of plans.
-use Rattle.std.proofs.Common.{◌≡◌, ◌≢◌, ◌∙◌, sym, ap, refl, ℕ, ◌+◌, ◌≤◌, ◌<◌, List, [], ◌∷◌, map, length, Bool, true, false, Option, Some, None, Result, Ok, Err, arith, codes}
+use Rattle.std.proofs.Common.{◌≡◌, ◌≢◌, ◌∙◌, sym, refl, List, [], ◌∷◌, map, length, false, Result, Ok, Err}
 use Rattle.std.specs.Prelude.{sum_by, IfOk}
-use Rattle.std.specs.List.{All, AllPairs}
+use Rattle.std.specs.List.{AllPairs}
 use Rattle.std.specs.Str.{bytes_eq}
 use Rattle.std.proofs.lemmas.Bool.{ltb-false, eqb-false}
 use Rattle.std.proofs.lemmas.Bool.Decides.{not_from_Decides}
@@ -16,9 +16,8 @@ use Rattle.ide_plan.specs.declared.plan.Plan.{Plan}
 use Rattle.ide_plan.specs.Plans.{same_id, both_default, share_class, overlap}
 use Rattle.ide_plan.specs.Fits.{FitsInterface, FitsLink, FitsPlan}
 use Rattle.toml_walk.specs.declared.fault.PlanError.{PlanError}
-use Rattle.toml_walk.specs.declared.fault.PlanFault.{PlanFault}
 use Rattle.toml_walk.specs.Fault.{◌>>=◌, Gives}
-use Rattle.toml_walk.proofs.Holds.{Holds, next, gives, ok_same}
+use Rattle.toml_walk.proofs.Holds.{Holds, next, gives}
 use Rattle.topology.specs.declared.draft.InterfaceDraft.{InterfaceDraft}
 use Rattle.topology.specs.declared.draft.LinkDraft.{LinkDraft}
 use Rattle.topology.specs.declared.draft.PlanDraft.{PlanDraft}

@@ -1,5 +1,5 @@
 -- What the rules over several values say of a topology that meets them.
-use Rattle.std.proofs.Common.{◌≡◌, ◌≢◌, ◌∙◌, sym, ap, refl, ℕ, ◌+◌, ◌%◌, ◌≤◌, ◌<◌, ◌==◌, nat_le, List, [], ◌∷◌, ◌++◌, map, length, Bool, true, false, Option, Some, None, Result, Ok, Err, cond, arith, codes}
+use Rattle.std.proofs.Common.{◌≡◌, ap, refl, ℕ, ◌+◌, ◌%◌, ◌≤◌, ◌==◌, nat_le, List, [], ◌∷◌, ◌++◌, map, length, Bool, true, false, Option, Some, None, Result, Ok, Err, cond, arith, codes}
 use Rattle.std.specs.Prelude.{sum_by}
 use Rattle.std.specs.List.{All, AllPairs, position_from}
 use Rattle.std.specs.Str.{bytes_eq}

@@ -1,26 +1,20 @@
 -- What the tables of a topology give meets every bound of its keys.
-use Rattle.std.proofs.Common.{◌≡◌, ◌∙◌, sym, ap, refl, ℕ, ℤ, pos, negsuc, ◌+◌, ◌*◌, ◌/◌, ◌%◌, ◌^◌, ◌≤◌, ◌<◌, ◌==◌, ◌&&◌, nat_le, nat_lt, List, [], ◌∷◌, ◌++◌, length, Bool, true, false, not, Option, Some, None, Result, Ok, Err, cond, subst, arith, codes, lit≤}
-use Rattle.std.specs.List.{All, list_any}
+use Rattle.std.proofs.Common.{refl, ℕ, ◌+◌, ◌≤◌, nat_le, nat_lt, List, [], length, Bool, true, false, not, Option, Some, None, arith, codes, lit≤}
+use Rattle.std.specs.List.{All}
 use Rattle.std.proofs.lemmas.Bool.{leb-true, ltb-true, ltb-false, eqb-true}
-use Rattle.std.proofs.lemmas.List.Elements.{All-nil, All-weaker}
+use Rattle.std.proofs.lemmas.List.Elements.{All-nil}
 use Rattle.toml.specs.Data.{Data, Members}
 use Rattle.ide_plan.specs.declared.stream.IdRange.{IdRange}
 use Rattle.ide_plan.specs.declared.stream.AddressRange.{AddressRange}
-use Rattle.ide_plan.specs.declared.stream.StreamPlan.{StreamPlan}
-use Rattle.ide_plan.specs.declared.interface.BarPlan.{BarPlan}
-use Rattle.ide_plan.specs.declared.plan.Region.{Region}
-use Rattle.ide_plan.specs.Plans.{has_selective, is_selective}
-use Rattle.ide_plan.specs.Fits.{AreBytes, IsKey, FitsIds, FitsAddresses, FitsSelector, FitsStream, FitsBar, FitsInterface, FitsRegion}
-use Rattle.toml_walk.specs.declared.bounds.Bounds.{Bounds}
-use Rattle.toml_walk.specs.declared.bounds.Form.TheVariants.{Pages, Mebibytes, LastOfMebibyte, UnitMode, LockFlags}
-use Rattle.toml_walk.specs.Fault.{◌>>=◌}
+use Rattle.ide_plan.specs.Fits.{FitsIds, FitsAddresses, FitsSelector, FitsStream, FitsBar, FitsRegion}
+use Rattle.toml_walk.specs.declared.bounds.Form.TheVariants.{Pages, Mebibytes, LastOfMebibyte, UnitMode}
 use Rattle.toml_walk.specs.Bounds.{greatest, within, formed}
-use Rattle.toml_walk.specs.Walk.{Text, Reader, place, only_known, required, optional, table, list, between, any_number}
-use Rattle.toml_walk.specs.Values.{integer, number, truth, text, key_bytes, hex_bytes, two}
-use Rattle.toml_walk.proofs.Holds.{Holds, gives, faulty, anything, next, weaker, checked, Admitted, Listed, number_holds, key_holds, hex_holds, required_holds, optional_holds, table_holds, list_holds, two_holds}
+use Rattle.toml_walk.specs.Walk.{Text, only_known, required, optional, list, between, any_number}
+use Rattle.toml_walk.specs.Values.{number, truth, two}
+use Rattle.toml_walk.proofs.Holds.{Holds, gives, anything, next, weaker, checked, Admitted, Listed, number_holds, required_holds, optional_holds, list_holds, two_holds}
 use Rattle.topology.specs.declared.draft.StreamKind.{StreamKind}
 use Rattle.topology.specs.declared.draft.StreamKind.TheVariants as kind
-use Rattle.topology.specs.Tables.{stream_kind, is_selective_kind, only_if, id_range, ids_in_order, address_range, addresses_in_order, truth_if, selector_of, stream_names, stream_keys, bar_names, bar_keys, region_names, region_keys, region_within}
+use Rattle.topology.specs.Tables.{stream_kind, is_selective_kind, only_if, id_range, ids_in_order, address_range, addresses_in_order, truth_if, selector_of, stream_names, stream_keys, bar_names, bar_keys, region_names, region_keys}
 
 -- a number from 0 to the most
 abbrev pub Upto : ℕ → ℕ → Type 0

@@ -1,16 +1,14 @@
 -- The tables of a topology: for each its keys in their order, with kind, bounds and default.
-use Rattle.std.specs.Prelude.{◌≡◌, ◌+◌, ◌≤◌, ℕ, ℤ, pos, negsuc, nat_le, nat_lt, Bool, true, false, not, ◌&&◌, List, [], ◌∷◌, ◌++◌, length, Option, Some, None, Result, Ok, Err, if◌then◌else◌, codes}
+use Rattle.std.specs.Prelude.{◌+◌, ℕ, ℤ, pos, negsuc, nat_le, nat_lt, Bool, true, false, not, ◌&&◌, List, [], ◌∷◌, ◌++◌, Option, Some, None, Result, Ok, Err, if◌then◌else◌, codes}
 use Rattle.std.specs.Str.{bytes_eq}
-use Rattle.toml.specs.Data.{Data, Members}
+use Rattle.toml.specs.Data.{Members}
 use Rattle.ide_plan.specs.declared.stream.IdRange.{IdRange}
 use Rattle.ide_plan.specs.declared.stream.AddressRange.{AddressRange}
 use Rattle.ide_plan.specs.declared.stream.Selector.{Selector}
 use Rattle.ide_plan.specs.declared.stream.Selector.TheVariants as selector
 use Rattle.ide_plan.specs.declared.stream.StreamPlan.{StreamPlan}
-use Rattle.ide_plan.specs.declared.interface.InterfacePlan.{InterfacePlan}
 use Rattle.ide_plan.specs.declared.interface.BarPlan.{BarPlan}
 use Rattle.ide_plan.specs.declared.plan.Region.{Region}
-use Rattle.toml_walk.specs.declared.bounds.Bounds.{Bounds}
 use Rattle.toml_walk.specs.declared.bounds.Form.TheVariants.{Pages, Mebibytes, LastOfMebibyte, UnitMode, LockFlags}
 use Rattle.toml_walk.specs.declared.list.Span.{Span}
 use Rattle.toml_walk.specs.declared.fault.PlanFault.{PlanFault}

@@ -26,7 +26,8 @@ fn range_line(alloc: Global, key: &Bytes, value: i64) -> Result<Vec<u8>, AllocEr
 }
 
 fn repeated_line(alloc: Global, key: &Bytes, i: usize, j: usize) -> Result<Vec<u8>, AllocError>
-    ensures { IfOk result (λ v. v.items ≡ codes "topology repeated " ++ key.now ++ codes " " ++ decimal i ++ codes " " ++ decimal j) }
+    ensures { IfOk result (λ v. v.items
+        ≡ codes "topology repeated " ++ key.now ++ codes " " ++ decimal i ++ codes " " ++ decimal j) }
 {
     let mut line = key_line(alloc, "topology repeated ", key)?;
     line.extend_from_slice(format!(in alloc; " {i} {j}")?.as_bytes())?;

@@ -96,7 +96,8 @@ impl Reader for Regions {
 }
 
 fn units_in(keys: &Keys) -> Result<u64, PlanError>
-    ensures { Gives (λ n. n) result (optional keys.now.path (table_view keys.now.table.now) (codes "units_per_key") 4294967296
+    ensures { Gives (λ n. n) result (optional keys.now.path (table_view keys.now.table.now) (codes "units_per_key")
+        4294967296
         (number (within 1 4294967296))) }
 {
     keys.optional("units_per_key", 4294967296, &Wide::within(1, 4294967296))

@@ -1,6 +1,4 @@
-use Rattle.std.proofs.Common.{rules, ◌≡◌, ◌-◌, Some, None, get_or, []}
-use Rattle.topology.specs.Rules.{pair_or}
-use Rattle.topology.proofs.EqualKeys.{Looked, looked_more}
+use Rattle.topology.proofs.EqualKeys.{looked_more}
 use Rattle.topology.proofs.pairs.equal_keys.Goals as goal
 
 pub loop-i-preserved-in-Some : goal.loop-i-preserved-in-Some

@@ -1,4 +1,4 @@
-use Rattle.std.proofs.Common.{◌≡◌, rules, refl}
+use Rattle.std.proofs.Common.{rules, refl}
 use Rattle.toml.specs.View.{table_view}
 use Rattle.topology.proofs.Document.{document_read, document_refused}
 use Rattle.topology.proofs.PlanFits.{given_fits}
