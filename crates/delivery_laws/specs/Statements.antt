@@ -7,10 +7,13 @@ use Rattle.link_history.specs.Laws.{NoForgery, TotalsFit, PrefixLaw, DrawsNeverF
 use Rattle.link_history.specs.Delivered.{DeliveryLaw}
 
 abbrev pub PrefixLawHolds : Type 0
-PrefixLawHolds = (plan : Plan) → StreamsFit plan → (h : History) → CauseLaw plan h → NoForgery plan h → TotalsFit plan h → PrefixLaw plan h
+PrefixLawHolds =
+    (plan : Plan) → StreamsFit plan → (h : History) → CauseLaw plan h → NoForgery plan h → TotalsFit plan h
+    → PrefixLaw plan h
 
 abbrev pub DeliveryLawHolds : Type 0
-DeliveryLawHolds = (plan : Plan) → StreamsFit plan → (h : History) → CauseLaw plan h → NoForgery plan h → DeliveryLaw plan h
+DeliveryLawHolds =
+    (plan : Plan) → StreamsFit plan → (h : History) → CauseLaw plan h → NoForgery plan h → DeliveryLaw plan h
 
 abbrev pub WholeLawHolds : Type 0
 WholeLawHolds = (plan : Plan) → StreamsFit plan → (h : History) → CauseLaw plan h → WholeLaw plan h

@@ -106,13 +106,16 @@ settled_stream tx rx failed =
     let out = any_live tx.pr.slots || any_live tx.npr.slots || any_live tx.cpl.slots in
     let into = any_live rx.pr.slots || any_live rx.npr.slots || any_live rx.cpl.slots in
     record {
-      tx = each_sub (λ u. record { slots = (at_sub tx u).slots; posted = if out then (at_sub tx u).posted else 0; total = if out then (at_sub tx u).total else 0 });
-      rx = each_sub (λ u. record { slots = (at_sub rx u).slots; sum = if into then (at_sub rx u).sum else 0; got = if into then (at_sub rx u).got else 0; total = if into then (at_sub rx u).total else 0 });
+      tx =
+          each_sub (λ u. record { slots = (at_sub tx u).slots; posted = if out then (at_sub tx u).posted else 0; total = if out then (at_sub tx u).total else 0 });
+      rx =
+          each_sub (λ u. record { slots = (at_sub rx u).slots; sum = if into then (at_sub rx u).sum else 0; got = if into then (at_sub rx u).got else 0; total = if into then (at_sub rx u).total else 0 });
       failed = failed && (out || into);
     }
 
 -- after the moves of each sub-stream
-abbrev pub moved_stream : Plan → PortName → ℕ → (SubKind → List Move) → (SubKind → List Move) → StreamState → StreamState
+abbrev pub moved_stream : Plan → PortName → ℕ → (SubKind → List Move) → (SubKind → List Move) → StreamState
+    → StreamState
 moved_stream plan port stream out into st =
     settled_stream
     (each_sub (λ u. record { slots = slots_moved_out plan (lane_out port stream u) (out u) (at_sub st.tx u).slots; posted = (at_sub st.tx u).posted; total = (at_sub st.tx u).total }))

@@ -96,7 +96,8 @@ live_sender s = first_live (live_in s.first) (live_in s.second)
 -- what the rules of sealing see of a sender
 abbrev pub lane_of : ℕ → Option (Bool × LiveKey) → Lane
 lane_of posted None = record { key = None; front = []; units = 0; posted = posted }
-lane_of posted (Some x) = record { key = Some (record { k = x.0; draw = x.1.draw }); front = x.1.packets; units = x.1.units; posted = posted }
+lane_of posted (Some x) =
+    record { key = Some (record { k = x.0; draw = x.1.draw }); front = x.1.packets; units = x.1.units; posted = posted }
 
 abbrev pub lanes_of : ℕ → ℕ → StreamState → Lanes
 lanes_of mode limit st = record {
@@ -121,7 +122,8 @@ tagged_under ahead key front d p =
 
 abbrev pub packet_under : List ℕ → Option (Bool × LiveKey) → SealedPacket → List ℕ → List ℕ → Packet
 packet_under ahead None d head payload = untagged_under [] [] d head payload
-packet_under ahead (Some x) d head payload = tagged_under ahead x.1.key x.1.packets d (untagged_under x.1.key x.1.packets d head payload)
+packet_under ahead (Some x) d head payload =
+    tagged_under ahead x.1.key x.1.packets d (untagged_under x.1.key x.1.packets d head payload)
 
 -- a unit goes on, or ends: then a slot that waited for that is Live
 abbrev pub gone_on : Packet → Slot → Slot
@@ -136,8 +138,10 @@ abbrev pub ended_slots : Slots → Slots
 ended_slots s = by_wait s.first s.second
   where
     by_wait : Slot → Slot → Slots
-    by_wait (Live x) (Armed j key) = record { first = Empty; second = Live (record { draw = j; key = key; units = 0; packets = [] }) }
-    by_wait (Armed j key) (Live x) = record { first = Live (record { draw = j; key = key; units = 0; packets = [] }); second = Empty }
+    by_wait (Live x) (Armed j key) =
+        record { first = Empty; second = Live (record { draw = j; key = key; units = 0; packets = [] }) }
+    by_wait (Armed j key) (Live x) =
+        record { first = Live (record { draw = j; key = key; units = 0; packets = [] }); second = Empty }
     by_wait a b = record { first = counted a; second = counted b }
 
 abbrev pub sealed_slots : Bool → Packet → Slots → Slots
@@ -228,7 +232,8 @@ accepted_slots j true s = record { first = retired j s.first; second = counted s
 accepted_slots j false s = record { first = counted s.first; second = retired j s.second }
 
 abbrev pub accepted_sub : ℕ → Bool → List Packet → RxSub → RxSub
-accepted_sub j k unit rx = record { slots = accepted_slots j k rx.slots; sum = rx.sum + posted_sum unit; got = rx.got + length unit; total = rx.total + 1 }
+accepted_sub j k unit rx =
+    record { slots = accepted_slots j k rx.slots; sum = rx.sum + posted_sum unit; got = rx.got + length unit; total = rx.total + 1 }
 
 abbrev pub held_sub : Bool → Packet → RxSub → RxSub
 held_sub k p rx = record rx { slots = with_slot rx.slots k (gone_on p (slot_in rx.slots k)) }
@@ -237,6 +242,8 @@ held_sub k p rx = record rx { slots = with_slot rx.slots k (gone_on p (slot_in r
 abbrev pub state_after : StreamState → Packet → Taken → StreamState
 state_after st p (Failed cause) =
     record st { rx = record { pr = dropped_held st.rx.pr; npr = dropped_held st.rx.npr; cpl = dropped_held st.rx.cpl }; failed = true }
-state_after st p (Held j n) = record st { rx = set_sub st.rx p.prefix.sub (held_sub p.prefix.k p (at_sub st.rx p.prefix.sub)) }
-state_after st p (Accepted j n unit) = record st { rx = set_sub st.rx p.prefix.sub (accepted_sub j p.prefix.k unit (at_sub st.rx p.prefix.sub)) }
+state_after st p (Held j n) =
+    record st { rx = set_sub st.rx p.prefix.sub (held_sub p.prefix.k p (at_sub st.rx p.prefix.sub)) }
+state_after st p (Accepted j n unit) =
+    record st { rx = set_sub st.rx p.prefix.sub (accepted_sub j p.prefix.k unit (at_sub st.rx p.prefix.sub)) }
 state_after st p _ = st

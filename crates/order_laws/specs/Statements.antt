@@ -7,4 +7,6 @@ use Rattle.link_history.specs.Laws.{NoForgery, TotalsFit}
 use Rattle.link_history.specs.Ordered.{OrderLaw}
 
 abbrev pub OrderLawHolds : Type 0
-OrderLawHolds = (plan : Plan) → StreamsFit plan → (h : History) → CauseLaw plan h → NoForgery plan h → TotalsFit plan h → OrderLaw plan h
+OrderLawHolds =
+    (plan : Plan) → StreamsFit plan → (h : History) → CauseLaw plan h → NoForgery plan h → TotalsFit plan h
+    → OrderLaw plan h
