@@ -1,2 +1,3 @@
 pub mod Choice
+pub mod Ways
 pub use Rattle.association.specs.Choice.{choice_of, chosen}

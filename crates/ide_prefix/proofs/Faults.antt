@@ -1,4 +1,5 @@
--- Where a packet goes wrong.
+-- Where a packet goes wrong: each byte ahead of the place was judged good by its place, and the one there is not; a fault of
+-- the header is the same fault four bytes on.
 use Rattle.std.proofs.Common.{◌≡◌, ℕ, ◌+◌, ◌-◌, ◌<◌, ◌≤◌, Bool, true, false, cond, IsTrue, List, [], length, get_or, take, drop, Option, Some, None, is_some, refl, sym, ap, subst, ◌∙◌, inl, inr, arith, length-take, length-drop, get_or-take, get_or-drop, take-append-drop, take-take, take_all, append-nil, min, not, add_comm}
 use Rattle.std.specs.Prelude.{MatchOption}
 use Rattle.std.specs.Array.{IsWholeChunk}

@@ -1,8 +1,9 @@
--- Packets are a grammar, byte by byte.
+-- Packets are a grammar, byte by byte: what is spelled walks; what walks and wants no more is spelled by its parts, a prefix
+-- that its flags give back, a header that is right, the payload that it wants, and the tag; and else a byte more may follow.
 use Rattle.std.proofs.Common.{◌≡◌, ℕ, zero, suc, ◌+◌, ◌-◌, ◌*◌, ◌/◌, ◌%◌, ◌<◌, ◌≤◌, Bool, true, false, cond, eqb, ltb, IsTrue, ◌&&◌, not, List, [], ◌∷◌, ◌++◌, length, get_or, take, drop, replicate, Option, Some, None, refl, sym, ap, subst, ◌∙◌, inl, inr, arith, length-append, length-take, length-drop, get_or-take, get_or-drop, take-append-drop}
 use Rattle.std.specs.Prelude.{All}
 use Rattle.std.proofs.lemmas.Bool.{true≢false, cases_lt, cases_eq, cases_Bool, ltb-true, lt-ltb, le-ltb, eq-eqb, eqb-true, ne_eqb, and_parts, and_from, agree_below_at}
-use Rattle.std.proofs.lemmas.List.{drop-take, get_or_past, get_or-replicate, get_or_append_left, get_or-append_right, get_or_push, take_at}
+use Rattle.std.proofs.lemmas.List.{ext_get_or, drop-take, get_or_past, get_or-replicate, get_or_append_left, get_or-append_right, get_or_push, take_at}
 use Rattle.std.proofs.lemmas.List.Elements.{All-from_get_or}
 use Rattle.tlp_layout.specs.declared.layout.Layout.{Layout}
 use Rattle.tlp_layout.specs.declared.layout.Layout.TheVariants as layouts
@@ -262,31 +263,19 @@ carried_spells s le w n size =
 
 -- ---- sync packets
 
-twelve : (x : List ℕ) → length x ≡ 12 → get_or x 0 0 ≡ 0x34 → ((i : ℕ) → 0 < i → i < 12 → get_or x i 0 ≡ 0) → x ≡ sync_head
-twelve x long first zeros =
-    let z1 = zeros 1 (omega arith) (omega arith) in
-    let z2 = zeros 2 (omega arith) (omega arith) in
-    let z3 = zeros 3 (omega arith) (omega arith) in
-    let z4 = zeros 4 (omega arith) (omega arith) in
-    let z5 = zeros 5 (omega arith) (omega arith) in
-    let z6 = zeros 6 (omega arith) (omega arith) in
-    let z7 = zeros 7 (omega arith) (omega arith) in
-    let z8 = zeros 8 (omega arith) (omega arith) in
-    let z9 = zeros 9 (omega arith) (omega arith) in
-    let z10 = zeros 10 (omega arith) (omega arith) in
-    let z11 = zeros 11 (omega arith) (omega arith) in
-    drop_cells 12 0 x long ∙ rw (first, z1, z2, z3, z4, z5, z6, z7, z8, z9, z10, z11) refl
+sync_zero : (i : ℕ) → 0 < i → i < 12 → get_or sync_head i 0 ≡ 0
+sync_zero zero pos lt = absurd (omega arith)
+sync_zero (suc i) pos lt = get_or-replicate 11 i 0 0 (omega arith)
 
-npr_is : Npr ≡ Pr → ⊥
-npr_is e = absurd cc
-
-cpl_is : Cpl ≡ Pr → ⊥
-cpl_is e = absurd cc
+twelve_at : (x : List ℕ) → get_or x 0 0 ≡ 0x34 → ((i : ℕ) → 0 < i → i < 12 → get_or x i 0 ≡ 0) → (i : ℕ) → i < 12
+    → get_or x i 0 ≡ get_or sync_head i 0
+twelve_at x first zeros zero lt = first
+twelve_at x first zeros (suc i) lt = zeros (suc i) (omega arith) lt ∙ sym (sync_zero (suc i) (omega arith) lt)
 
 sync_of : (sub : SubKind) (b : ℕ) → begins_sync sub b ≡ true → (b ≡ 0x34) × (sub ≡ Pr → ⊥)
 sync_of Pr b e = absurd cc
-sync_of Npr b e = (eqb-true _ _ e, npr_is)
-sync_of Cpl b e = (eqb-true _ _ e, cpl_is)
+sync_of Npr b e = (eqb-true _ _ e, λ is. absurd cc)
+sync_of Cpl b e = (eqb-true _ _ e, λ is. absurd cc)
 
 flags_are : (m t : Bool) → cond m (not t) false ≡ true → (m ≡ true) × (t ≡ false)
 flags_are true true e = absurd cc
@@ -305,7 +294,7 @@ sync_spells s le w y size =
     let wide : length (take 12 t) ≡ 12 = omega (arith, length-take 12 t, length-drop 4 s, long) in
     let zeroth : get_or (take 12 t) 0 0 ≡ 0x34 = get_or-take 12 t 0 0 (omega arith) ∙ get_or-drop 4 s 0 0 ∙ f.0 in
     let zeros : (i : ℕ) → 0 < i → i < 12 → get_or (take 12 t) i 0 ≡ 0 = λ i pos lt. get_or-take 12 t i 0 lt ∙ get_or-drop 4 s i 0 ∙ w.zeros y (4 + i) (omega arith) (omega (arith, long)) (omega arith) in
-    let head = twelve (take 12 t) wide zeroth zeros in (
+    let head = ext_get_or 0 (take 12 t) sync_head wide (λ i lt. twelve_at (take 12 t) zeroth zeros i (omega (arith, wide))) in (
       record {
         fits = record {
           prefix = fits_prefix s (omega arith) w;
@@ -363,11 +352,10 @@ posted_good Npr posted none = refl
 posted_good Cpl posted none = refl
 
 at_tail : (a b c d : ℕ) (x : List ℕ) (i : ℕ) → 4 ≤ i → get_or (a ∷ b ∷ c ∷ d ∷ x) i 0 ≡ get_or x (i - 4) 0
-at_tail a b c d x zero le = absurd (omega arith)
-at_tail a b c d x (suc zero) le = absurd (omega arith)
-at_tail a b c d x (suc (suc zero)) le = absurd (omega arith)
-at_tail a b c d x (suc (suc (suc zero))) le = absurd (omega arith)
-at_tail a b c d x (suc (suc (suc (suc i)))) le = let e : suc (suc (suc (suc i))) - 4 ≡ i = omega arith in rw e refl
+at_tail a b c d x i le =
+    let s = a ∷ b ∷ c ∷ d ∷ x in
+    let e : i ≡ 4 + (i - 4) = omega arith in
+    ap (λ (j : ℕ). get_or s j 0) e ∙ sym (get_or-drop 4 s (i - 4) 0)
 
 -- a prefix, and bytes behind it
 early_good : (p : Prefix) (x : List ℕ) → FitsPrefix p → fits_first p (get_or x 0 0) ≡ true → (i : ℕ) → i < 5 → fits_early i (prefix_bytes p ++ x) (get_or (prefix_bytes p ++ x) i 0) ≡ true
@@ -431,10 +419,6 @@ carried_spelled p f c =
       };
       size = omega (arith, size_carried (packet_bytes p) no, tag_is p.prefix x, f.tag_size, length-append p.head more, length-append p.body p.tag, r.size, ap head_size head0, wants, c.size);
     }
-
-sync_zero : (i : ℕ) → 0 < i → i < 12 → get_or sync_head i 0 ≡ 0
-sync_zero zero pos lt = absurd (omega arith)
-sync_zero (suc i) pos lt = get_or-replicate 11 i 0 0 (omega arith)
 
 sync_fit : IsBytes sync_head
 sync_fit zero = omega arith

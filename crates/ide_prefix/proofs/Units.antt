@@ -73,9 +73,7 @@ parts_of m k t sub =
     λ i. (em i, ek i, et i, es i)
 
 prefix_is : (m m' k k' t t' : Bool) (u u' : SubKind) (s s' p p' : ℕ) → four m k t u ≡ four m' k' t' u' → s ≡ s' → p ≡ p' → Prefix-of m k t u s p ≡ Prefix-of m' k' t' u' s' p'
-prefix_is m m' k k' t t' u u' s s' p p' e es ep =
-    let one : Prefix-of m k t u s p ≡ Prefix-of m' k' t' u' s p = ap (λ (x : Bool × Bool × Bool × SubKind). Prefix-of x.0 x.1 x.2 x.3 s p) e in
-    one ∙ ap (Prefix-of m' k' t' u' s) ep ∙ ap (λ (x : ℕ). Prefix-of m' k' t' u' x p') es
+prefix_is m m' k k' t t' u u' s s' p p' e es ep = λ i. Prefix-of (e i).0 (e i).1 (e i).2 (e i).3 (es i) (ep i)
 
 same_prefix : (p q : Prefix) (a b : List ℕ) → prefix_bytes p ++ a ≡ prefix_bytes q ++ b → (p ≡ q) × (a ≡ b)
 same_prefix p q a b e =

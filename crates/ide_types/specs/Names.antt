@@ -1,5 +1,5 @@
--- The words that name ports, sub-streams, failures, states and faults in lines of text.
-use Rattle.std.specs.Prelude.{ℕ, List, ◌++◌, codes}
+-- Lines of text: words, and those that name ports, sub-streams, failures, states and faults.
+use Rattle.std.specs.Prelude.{ℕ, List, [], ◌∷◌, ◌++◌, codes}
 use Rattle.std.specs.Fmt.{decimal}
 use Rattle.ide_types.specs.declared.sub.SubKind.{SubKind}
 use Rattle.ide_types.specs.declared.sub.SubKind.TheVariants.{Pr, Npr, Cpl}
@@ -16,6 +16,11 @@ use Rattle.ide_types.specs.declared.status.StreamStatus.TheVariants as status
 -- the bytes of a text
 abbrev pub Text : Type 0
 Text = List ℕ
+
+-- words, each behind a space, and a line feed
+abbrev pub joined : List Text → Text
+joined [] = 10 ∷ []
+joined (w ∷ ws) = 32 ∷ (w ++ joined ws)
 
 abbrev pub side_word : Side → Text
 side_word Host = codes "h"

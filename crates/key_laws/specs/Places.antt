@@ -5,6 +5,7 @@ use Rattle.ide_types.specs.declared.sub.SubKind.{SubKind}
 use Rattle.ide_types.specs.declared.sub.SubKind.TheVariants.{Pr, Npr, Cpl}
 use Rattle.ide_types.specs.declared.port.Side.{Side}
 use Rattle.ide_types.specs.declared.port.Side.TheVariants.{Host, Device}
+pub use Rattle.ide_types.specs.Sub.{sent_direction, received_direction, is_same_sub}
 
 -- what there is before the first event: how many draws the pool has, and which links and streams exist
 pub record KeyPlan : Type 0 where
@@ -23,23 +24,11 @@ abbrev pub is_host : Side → Bool
 is_host Host = true
 is_host Device = false
 
--- direction 0 is what the host's port sends, direction 1 what the device's port sends
-abbrev pub sent_direction : Side → ℕ
-sent_direction Host = 0
-sent_direction Device = 1
-
-abbrev pub received_direction : Side → ℕ
-received_direction Host = 1
-received_direction Device = 0
-
 abbrev pub is_same_side : Side → Side → Bool
 is_same_side a b = sent_direction a == sent_direction b
 
 abbrev pub is_on_stream : Place → ℕ → ℕ → Bool
 is_on_stream p link stream = (p.link == link) && (p.stream == stream)
-
-abbrev pub is_same_sub : SubKind → SubKind → Bool
-is_same_sub u w = sub_bits u == sub_bits w
 
 -- whether its packets go from the device to the host
 abbrev pub is_upward : Place → Bool

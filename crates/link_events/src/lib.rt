@@ -1,6 +1,15 @@
-//! The events of scripts.
+//! The events of scripts, and the line that spells each (this profile).
 #![tactic(auto)]
 
 mod event;
+mod fault;
+mod parse;
+#[cfg(test)]
+mod tests;
+mod words;
 
 pub use event::{Event, Loss, Lost};
+pub use fault::{LINE_LIMIT, LineError, LineFault, fault_line};
+pub use ide_types::Memory;
+pub use parse::{faults_are_first, lines_spell, parse_line};
+pub use words::{Words, bytes_at, is_printed, words_of};

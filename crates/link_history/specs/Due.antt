@@ -1,9 +1,6 @@
 -- The one verdict that an event gets after a history.
-use Rattle.std.specs.Prelude.{ℕ, ◌+◌, Bool, true, false, not, ◌&&◌, ◌||◌, if◌then◌else◌, ◌==◌, nat_lt, nat_le, Option, Some, None, Result, Ok, Err, List, [], ◌∷◌, ◌++◌, length, map, is_none, is_some, unwrap_or}
+use Rattle.std.specs.Prelude.{ℕ, ◌+◌, Bool, true, false, not, ◌&&◌, ◌||◌, if◌then◌else◌, ◌==◌, nat_lt, nat_le, Option, Some, None, Result, Ok, Err, List, [], ◌∷◌, ◌++◌, length, map, is_some}
 use Rattle.std.specs.Option.{option_map_or}
-use Rattle.ide_types.specs.Sub.{sub_bits}
-use Rattle.ide_types.specs.declared.sub.SubKind.{SubKind}
-use Rattle.ide_types.specs.declared.sub.SubKind.TheVariants.{Pr, Npr, Cpl}
 use Rattle.ide_types.specs.declared.sub.FailCause.TheVariants as fail
 use Rattle.ide_plan.specs.declared.plan.Plan.{Plan}
 use Rattle.link_history.specs.Plan.{SubStream, key_plan, streams_of, stream_plan, lane_out, has_port, has_stream, mode_of, key_of}
@@ -41,110 +38,9 @@ use Rattle.ide_prefix.specs.Units.{authenticated, encrypted}
 use Rattle.ide_prefix.specs.Reading.{CutValue, PlainTlp, IdePacket, cut_of}
 use Rattle.fault_words.specs.FaultWords.{tlp_word, packet_word}
 use Rattle.gcm_seal.specs.Gcm.{verifies}
+pub use Rattle.stream_rules.specs.Sending.{first_that_holds, Sending, Lane, Lanes, is_posted, begins_unit, needs_sync, is_worn, is_keyless, refusals, no_key, described, ends_unit, sets_trusted, sync_before, sealed_by, sent_as}
 
 -- ---- sends
-
--- the verdict of the first condition that holds
-abbrev pub first_that_holds : List (Bool × Verdict) → Option Verdict
-first_that_holds [] = None
-first_that_holds (x ∷ xs) = if x.0 then Some x.1 else first_that_holds xs
-
--- a TLP on its way out at a port, on the stream that it takes
-pub record Sending : Type 0 where
-  pub port : PortName
-  pub stream : ℕ
-  pub class : SubKind
-  pub more : Bool
-  pub trusted : Bool
-
--- what the rules of sealing look at in one sub-stream: the Live key, the packets of an unfinished unit and the
--- number of finished ones under it, and the posted count
-pub record Lane : Type 0 where
-  pub key : Option KeyName
-  pub front : List Packet
-  pub units : ℕ
-  pub posted : ℕ
-
--- a rule of sealing speaks of a stream: what it may hold, whether it failed, and its three sub-streams
-pub record Lanes : Type 0 where
-  pub mode : ℕ
-  pub limit : ℕ
-  pub failed : Bool
-  pub lane : SubKind → Lane
-
-abbrev pub is_posted : SubKind → Bool
-is_posted u = sub_bits u == 0
-
--- whether the next packet begins a unit
-abbrev pub begins_unit : Lane → Bool
-begins_unit l = length l.front == 0
-
--- whether a sync packet goes first: a posted unit is to begin whose packets the next posted count might not hold
-abbrev pub needs_sync : Lanes → SubKind → SubKind → Bool
-needs_sync x class u = is_posted class && begins_unit (x.lane class) && nat_lt 255 ((x.lane u).posted + x.mode)
-
--- whether the key of a sub-stream may begin no further unit
-abbrev pub is_worn : Lanes → SubKind → Bool
-is_worn x u = begins_unit (x.lane u) && ((x.lane u).units == x.limit)
-
-abbrev pub is_keyless : Lanes → SubKind → Bool
-is_keyless x u = is_none (x.lane u).key
-
--- why a TLP is not sealed, in order
-abbrev pub refusals : Lanes → SubKind → List (Bool × Verdict)
-refusals x class =
-    (x.failed, v.RefusedInsecure)
-    ∷ (is_keyless x class, v.RefusedNoKey class)
-    ∷ (not (is_posted class) && not (begins_unit (x.lane Pr)), v.RefusedUnfinished)
-    ∷ (needs_sync x class Npr && is_keyless x Npr, v.RefusedNoKey Npr)
-    ∷ (needs_sync x class Cpl && is_keyless x Cpl, v.RefusedNoKey Cpl)
-    ∷ (is_worn x class, v.RefusedWorn class x.limit)
-    ∷ (needs_sync x class Npr && is_worn x Npr, v.RefusedWorn Npr x.limit)
-    ∷ (needs_sync x class Cpl && is_worn x Cpl, v.RefusedWorn Cpl x.limit)
-    ∷ []
-
-abbrev pub no_key : KeyName
-no_key = record { k = false; draw = 0 }
-
--- a sealed packet's fields, but for what a sync packet has otherwise
-abbrev pub described : Lanes → Sending → SubKind → ℕ → Bool → Bool → Bool → SealedPacket
-described x s u number m t sync =
-    let key = unwrap_or (x.lane u).key no_key in
-    record {
-      number = number;
-      port = s.port;
-      stream = s.stream;
-      sub = u;
-      draw = key.draw;
-      unit = (x.lane u).units + 1;
-      m = m;
-      k = key.k;
-      t = t;
-      posted = if is_posted u then 0 else (x.lane u).posted;
-      sync = sync;
-    }
-
--- whether the TLP ends its unit
-abbrev pub ends_unit : Lanes → Sending → Bool
-ends_unit x s = not s.more || (length (x.lane s.class).front + 1 == x.mode)
-
--- a host's port sets T as it is asked; a device's port sets it for interfaces in RUN, of which there is none
-abbrev pub sets_trusted : PortName → Bool → Bool
-sets_trusted port trusted = (sent_direction port.side == 0) && trusted
-
-abbrev pub sync_before : Lanes → Sending → SubKind → ℕ → List SealedPacket
-sync_before x s u number = if needs_sync x s.class u then described x s u number true false true ∷ [] else []
-
--- the sync packets that go first, NPR before CPL, and the TLP's packet, numbered from this number on
-abbrev pub sealed_by : Lanes → Sending → ℕ → List SealedPacket
-sealed_by x s number =
-    let first = sync_before x s Npr number in
-    let second = sync_before x s Cpl (number + length first) in
-    first ++ second ++ described x s s.class (number + length first + length second) (ends_unit x s) (sets_trusted s.port s.trusted) false ∷ []
-
--- the verdict of a TLP on a stream
-abbrev pub sent_as : Lanes → Sending → ℕ → Verdict
-sent_as x s number = unwrap_or (first_that_holds (refusals x s.class)) (v.Sealed (sealed_by x s number))
 
 -- what a history says of a sub-stream that a port seals
 abbrev pub sent_under : Plan → History → SubStream → Option KeyName → List Packet

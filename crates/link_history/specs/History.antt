@@ -1,6 +1,5 @@
 -- What happened: filters of a history, which is a list of events with their verdicts, the newest first.
 use Rattle.std.specs.Prelude.{not, ℕ, ◌+◌, ◌-◌, Bool, true, false, ◌&&◌, ◌||◌, if◌then◌else◌, ◌==◌, nat_lt, nat_le, Option, Some, None, Result, Ok, Err, List, [], ◌∷◌, ◌++◌, length, filter, map, take, slice_get, slice_index, slice_set, bit_xor, option_map, sum_by}
-use Rattle.std.specs.Int.{w64, to_be_bytes}
 use Rattle.std.specs.List.{after_last, list_any}
 use Rattle.std.specs.Option.{option_and_then}
 use Rattle.ide_types.specs.Sub.{sub_bits}
@@ -18,7 +17,6 @@ use Rattle.tlp_layout.specs.Tlp.{header, body}
 use Rattle.tlp_layout.specs.Reading.{read_of}
 use Rattle.tlp_layout.specs.declared.tlp.Tlp.{Tlp}
 use Rattle.tlp_layout.specs.declared.fault.TlpFault.{TlpFault}
-use Rattle.ide_prefix.specs.declared.packet.Prefix.{Prefix}
 use Rattle.ide_prefix.specs.declared.fault.PacketFault.{PacketFault}
 use Rattle.ide_prefix.specs.Packet.{Packet, packet_bytes, sync_head}
 use Rattle.ide_prefix.specs.Iv.{iv_of}
@@ -30,15 +28,13 @@ use Rattle.key_laws.specs.Keys.{Keyed, Off, On, Keys, no_keys, key_in, on_in, un
 use Rattle.key_laws.specs.History.{History, base, is_keyed as keeps_live, keys_at as keys_there, fails_at as fails_there, failed as failed_there}
 use Rattle.link_history.specs.Plan.{SubStream, is_same, is_same_port, partner, lane_out, lane_in, has_port, key_of, is_closed}
 use Rattle.link_history.specs.Units.{open_unit}
+pub use Rattle.stream_rules.specs.Sending.{KeyName, prefix_of, front_with}
 
 -- ---- what was sealed
 
 -- the sub-stream of a sealed packet
 abbrev pub sub_stream_of : SealedPacket → SubStream
 sub_stream_of d = record { link = d.port.link; stream = d.stream; direction = sent_direction d.port.side; sub = d.sub }
-
-abbrev pub prefix_of : SealedPacket → Prefix
-prefix_of d = record { m = d.m; k = d.k; t = d.t; sub = d.sub; stream = d.stream; posted = d.posted }
 
 -- the header in clear: of a sync packet, or of the TLP that was sent
 abbrev pub head_in : Result Tlp TlpFault → List ℕ
@@ -58,10 +54,6 @@ untagged_packet plan bytes d front = record {
       masked (key_of plan d.draw (sub_stream_of d)) (iv_of d.sub d.unit) (length (encrypted front)) (if d.sync then [] else payload_in (read_of bytes));
   tag = [];
 }
-
--- what stands ahead of the authenticated bytes of a unit: on a closed stream, of unit 1, the total before it in 8 bytes
-abbrev pub front_with : Bool → ℕ → ℕ → List ℕ
-front_with closed unit total = if closed && (unit == 1) then to_be_bytes w64 total else []
 
 unfoldable pub front_of : Plan → SubStream → ℕ → ℕ → List ℕ
 front_of plan s unit total = front_with (is_closed plan s.link s.stream) unit total
@@ -268,11 +260,6 @@ keys_at h port s = keys_by h port s (sends_it port s) (receives_it port s)
 -- the draw that is On in the key set that K names
 abbrev pub on_draw : History → PortName → SubStream → Bool → Option ℕ
 on_draw h port s k = on_in (key_in (keys_at h port s) k)
-
--- a key set and its draw
-pub record KeyName : Type 0 where
-  pub k : Bool
-  pub draw : ℕ
 
 -- the key that a sender seals under: the lesser of the draws that are On
 abbrev pub lesser : Keyed → Keyed → Option KeyName

@@ -1,10 +1,12 @@
 -- The stream that a TLP takes at a port: a selective stream by address range or by ID (this profile's order).
-use Rattle.std.specs.Prelude.{ℕ, ◌==◌, ◌&&◌, ◌||◌, nat_le, Bool, false, Option, Some, None, if◌then◌else◌, slice_index, ◌+◌, ◌*◌}
+use Rattle.std.specs.Prelude.{ℕ, ◌==◌, ◌&&◌, ◌||◌, nat_le, Bool, true, false, Option, Some, None, if◌then◌else◌}
 use Rattle.link_script.specs.declared.event.Side.{Side}
 use Rattle.link_script.specs.declared.event.Side.TheVariants.{Host, Device}
 use Rattle.link_script.specs.declared.event.PortName.{PortName}
 use Rattle.starter.specs.declared.plan.Plan.{Plan}
 use Rattle.tlp_layout.specs.declared.head.HeadView.{HeadView}
+use Rattle.tlp_layout.specs.declared.head.Routing.{Routing}
+use Rattle.tlp_layout.specs.declared.head.Routing.TheVariants.{ById}
 use Rattle.tlp_layout.specs.declared.head.Fields.{Fields}
 use Rattle.tlp_layout.specs.declared.head.Fields.TheVariants.{Memory, Config, Message, Completion}
 
@@ -13,15 +15,16 @@ abbrev pub is_addressed : Fields → ℕ → ℕ → Bool
 is_addressed (Memory f) base limit = nat_le base f.address && nat_le f.address limit
 is_addressed _ base limit = false
 
-abbrev pub is_by_id : ℕ → Bool
-is_by_id routing = routing == 2
+abbrev pub is_by_id : Routing → Bool
+is_by_id ById = true
+is_by_id _ = false
 
 -- The ID that a TLP goes by. Into the host's port: the destination of a configuration request or of a
 -- message routed by ID, the requester of a completion. Out of the device's port: who sends it.
 abbrev pub id_at : Side → Fields → Option ℕ
 id_at Host (Memory f) = None
 id_at Host (Config f) = Some f.destination
-id_at Host (Message f) = if is_by_id f.routing then Some (256 * slice_index f.rest 0 + slice_index f.rest 1) else None
+id_at Host (Message f) = if is_by_id f.routing then Some f.destination else None
 id_at Host (Completion f) = Some f.requester
 id_at Device (Memory f) = Some f.requester
 id_at Device (Config f) = Some f.requester

@@ -11,8 +11,8 @@ use Rattle.link_script.specs.declared.verdict.Verdict.TheVariants as v
 use Rattle.link_laws.specs.Plan.{SubStream}
 use Rattle.link_laws.specs.History.{History, sealed_packets, held, units_got, failed, fails_at, has_live, posted_count}
 use Rattle.link_laws.specs.Due.{due}
-use Rattle.sub_stream.specs.Sender.{Sender}
-use Rattle.sub_stream.specs.Receiver.{Receiver}
+use Rattle.one_key.specs.Sender.{Sender}
+use Rattle.one_key.specs.Receiver.{Receiver}
 use Rattle.link_machine.specs.Machine.{LinkState, Stepped, counted}
 use Rattle.link_machine.specs.Stands.{StandsFor, SenderStands, ReceiverStands, host, device, from_device}
 use Rattle.link_machine.proofs.Keys.{host_live, device_live}

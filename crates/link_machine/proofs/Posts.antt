@@ -17,9 +17,9 @@ use Rattle.ide_prefix.specs.declared.packet.Prefix.{Prefix}
 use Rattle.ide_prefix.specs.Packet.{Packet, prefix_bytes, packet_bytes}
 use Rattle.ide_prefix.specs.Iv.{iv_of}
 use Rattle.gcm_seal.specs.Gcm.{masked, tag_of, ciphertext_of, seal_of}
-use Rattle.sub_stream.specs.declared.answer.TxRefusal.TheVariants as tx
-use Rattle.sub_stream.specs.declared.answer.TxRefusal.{TxRefusal}
-use Rattle.sub_stream.specs.Sender.{Sender, SenderKey, Sealing, next_packet, sealed_one, sealing_of, sealing_under}
+use Rattle.one_key.specs.declared.answer.TxRefusal.TheVariants as tx
+use Rattle.one_key.specs.declared.answer.TxRefusal.{TxRefusal}
+use Rattle.one_key.specs.Sender.{Sender, SenderKey, Sealing, next_packet, sealed_one, sealing_of, sealing_under}
 use Rattle.link_laws.specs.Plan.{key_of, units_per_key}
 use Rattle.link_laws.specs.Units.{units, open_unit}
 use Rattle.link_laws.specs.History.{History, SealedList, sealed_packets, sent, sent_in, failed, packet_of, prefix_of}

@@ -14,8 +14,8 @@ use Rattle.link_script.specs.declared.verdict.Verdict.{Verdict}
 use Rattle.link_script.specs.declared.verdict.Verdict.TheVariants as v
 use Rattle.link_script.specs.declared.verdict.Effect.{Effect}
 use Rattle.ide_prefix.specs.Packet.{Packet, prefix_bytes}
-use Rattle.sub_stream.specs.declared.answer.Taken.TheVariants as taken
-use Rattle.sub_stream.specs.Receiver.{Receiver, ReceiverKey, is_next, taken_of, receiver_after}
+use Rattle.one_key.specs.declared.answer.Taken.TheVariants as taken
+use Rattle.one_key.specs.Receiver.{Receiver, ReceiverKey, is_next, taken_of, receiver_after}
 use Rattle.link_laws.specs.Plan.{key_of}
 use Rattle.link_laws.specs.History.{History, on_draw, failed, pending, units_got, meets_counts}
 use Rattle.link_laws.specs.Due.{Ending, due, settled, under_keys, receiving, is_verified, effect_of}

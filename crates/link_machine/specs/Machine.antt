@@ -25,13 +25,13 @@ use Rattle.ide_prefix.specs.declared.fault.PacketFault.{PacketFault}
 use Rattle.ide_prefix.specs.Faults.{packet_place}
 use Rattle.ide_prefix.specs.Packet.{Packet}
 use Rattle.ide_prefix.specs.Reading.{CutValue, PlainTlp, IdePacket, cut_of}
-use Rattle.sub_stream.specs.declared.answer.SealedPacket.{SealedPacket as Description}
-use Rattle.sub_stream.specs.declared.answer.Taken.{Taken}
-use Rattle.sub_stream.specs.declared.answer.Taken.TheVariants as taken
-use Rattle.sub_stream.specs.declared.answer.TxRefusal.{TxRefusal}
-use Rattle.sub_stream.specs.declared.answer.TxRefusal.TheVariants as tx
-use Rattle.sub_stream.specs.Sender.{Sender, Sealing, sealing_of}
-use Rattle.sub_stream.specs.Receiver.{Receiver, taken_of, receiver_after}
+use Rattle.one_key.specs.declared.answer.SealedPacket.{SealedPacket as Description}
+use Rattle.one_key.specs.declared.answer.Taken.{Taken}
+use Rattle.one_key.specs.declared.answer.Taken.TheVariants as taken
+use Rattle.one_key.specs.declared.answer.TxRefusal.{TxRefusal}
+use Rattle.one_key.specs.declared.answer.TxRefusal.TheVariants as tx
+use Rattle.one_key.specs.Sender.{Sender, Sealing, sealing_of}
+use Rattle.one_key.specs.Receiver.{Receiver, taken_of, receiver_after}
 use Rattle.link_machine.specs.declared.packet.LinkPacket.{LinkPacket}
 use Rattle.link_laws.specs.Plan.{partner, units_per_key}
 use Rattle.link_laws.specs.Choice.{choice}

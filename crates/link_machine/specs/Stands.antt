@@ -8,8 +8,8 @@ use Rattle.link_script.specs.declared.event.PortName.{PortName}
 use Rattle.link_script.specs.declared.event.Event.{Event}
 use Rattle.link_script.specs.declared.verdict.SealedPacket.{SealedPacket}
 use Rattle.ide_prefix.specs.Packet.{Packet, packet_bytes}
-use Rattle.sub_stream.specs.Sender.{Sender}
-use Rattle.sub_stream.specs.Receiver.{Receiver}
+use Rattle.one_key.specs.Sender.{Sender}
+use Rattle.one_key.specs.Receiver.{Receiver}
 use Rattle.link_laws.specs.Plan.{SubStream, key_of, units_per_key}
 use Rattle.link_laws.specs.Units.{units, open_unit}
 use Rattle.link_laws.specs.History.{History, sealed_packets, sent, held, units_got, failed, posted_count}

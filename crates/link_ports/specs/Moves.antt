@@ -6,6 +6,7 @@ use Rattle.ide_plan.specs.declared.plan.Plan.{Plan}
 use Rattle.link_history.specs.Plan.{SubStream, key_of, lane_out, lane_in}
 use Rattle.key_laws.specs.Keys.{Keyed, Off, Loaded, On, Keys, key_in, with_key}
 use Rattle.link_ports.specs.Stream.{Slot, Empty, Programmed, Armed, Live, Slots, slot_in, with_slot, TxSub, RxSub, Three, StreamState, at_sub, each_sub}
+pub use Rattle.stream_rules.specs.Slots.{both_slots, begun, is_busy, slot_gone, woken, is_live, any_live, settled_stream}
 
 -- in a key set: an accepted KEY_PROG of a draw, a GO, a STOP
 pub data Move : Type 0 where
@@ -45,30 +46,10 @@ key_moved_out busy (Halt k) keys = with_key keys k Off
 
 -- ---- slots
 
-abbrev pub both_slots : Bool → Slot → Slot → Slots
-both_slots k a b = if k then record { first = b; second = a } else record { first = a; second = b }
-
-abbrev pub begun : Slot → Slot
-begun (Programmed j key) = Live (record { draw = j; key = key; units = 0; packets = [] })
-begun s = s
-
 abbrev pub slot_moved_in : Plan → SubStream → Move → Slots → Slots
 slot_moved_in plan s (Program k j) slots = with_slot slots k (Programmed j (key_of plan j s))
 slot_moved_in plan s (Go k) slots = with_slot slots k (begun (slot_in slots k))
 slot_moved_in plan s (Halt k) slots = with_slot slots k Empty
-
-abbrev pub is_busy : Slot → Bool
-is_busy (Live x) = nat_lt 0 (length x.packets)
-is_busy _ = false
-
-abbrev pub slot_gone : Bool → Slot → Slot → Slots
-slot_gone k (Programmed j key) other =
-    if is_busy other then both_slots k (Armed j key) other else both_slots k (Live (record { draw = j; key = key; units = 0; packets = [] })) Empty
-slot_gone k a other = both_slots k a other
-
-abbrev pub woken : Slot → Slot
-woken (Armed j key) = Live (record { draw = j; key = key; units = 0; packets = [] })
-woken s = s
 
 abbrev pub slot_moved_out : Plan → SubStream → Move → Slots → Slots
 slot_moved_out plan s (Program k j) slots = with_slot slots k (Programmed j (key_of plan j s))
@@ -93,29 +74,8 @@ abbrev pub slots_moved_out : Plan → SubStream → List Move → Slots → Slot
 slots_moved_out plan s [] slots = slots
 slots_moved_out plan s (m ∷ ms) slots = slots_moved_out plan s ms (slot_moved_out plan s m slots)
 
-abbrev pub is_live : Slot → Bool
-is_live (Live x) = true
-is_live _ = false
-
-abbrev pub any_live : Slots → Bool
-any_live s = is_live s.first || is_live s.second
-
--- a direction of which no slot is Live counts from 0, and a stream of which none is Live has not failed
-abbrev pub settled_stream : Three TxSub → Three RxSub → Bool → StreamState
-settled_stream tx rx failed =
-    let out = any_live tx.pr.slots || any_live tx.npr.slots || any_live tx.cpl.slots in
-    let into = any_live rx.pr.slots || any_live rx.npr.slots || any_live rx.cpl.slots in
-    record {
-      tx =
-          each_sub (λ u. record { slots = (at_sub tx u).slots; posted = if out then (at_sub tx u).posted else 0; total = if out then (at_sub tx u).total else 0 });
-      rx =
-          each_sub (λ u. record { slots = (at_sub rx u).slots; sum = if into then (at_sub rx u).sum else 0; got = if into then (at_sub rx u).got else 0; total = if into then (at_sub rx u).total else 0 });
-      failed = failed && (out || into);
-    }
-
 -- after the moves of each sub-stream
-abbrev pub moved_stream : Plan → PortName → ℕ → (SubKind → List Move) → (SubKind → List Move) → StreamState
-    → StreamState
+abbrev pub moved_stream : Plan → PortName → ℕ → (SubKind → List Move) → (SubKind → List Move) → StreamState → StreamState
 moved_stream plan port stream out into st =
     settled_stream
     (each_sub (λ u. record { slots = slots_moved_out plan (lane_out port stream u) (out u) (at_sub st.tx u).slots; posted = (at_sub st.tx u).posted; total = (at_sub st.tx u).total }))

@@ -1,8 +1,15 @@
-//! The verdicts that events come to.
+//! The verdicts that events come to, and their lines: each verdict has one line, and two verdicts with one line are
+//! equal (this profile).
 #![tactic(auto)]
 
+mod lines;
 mod lists;
+mod names;
+#[cfg(test)]
+mod tests;
 mod verdict;
 
+pub use ide_types::Memory;
+pub use lines::{line, lines_apart, totals_line};
 pub use lists::{Effects, SealedPackets};
 pub use verdict::{BlockCause, Effect, Operation, SealedPacket, Totals, UnitName, Verdict};

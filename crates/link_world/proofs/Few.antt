@@ -18,12 +18,12 @@ use Rattle.tlp_layout.specs.Reading.{read_of}
 use Rattle.ide_prefix.specs.declared.fault.PacketFault.{PacketFault}
 use Rattle.ide_prefix.specs.Packet.{Packet}
 use Rattle.ide_prefix.specs.Reading.{CutValue, PlainTlp, IdePacket, cut_of}
-use Rattle.sub_stream.specs.declared.answer.Taken.{Taken}
-use Rattle.sub_stream.specs.declared.answer.Taken.TheVariants as taken
-use Rattle.sub_stream.specs.declared.answer.TxRefusal.{TxRefusal}
-use Rattle.sub_stream.specs.declared.answer.TxRefusal.TheVariants as tx
-use Rattle.sub_stream.specs.Sender.{Sealing, sealing_of}
-use Rattle.sub_stream.specs.Receiver.{taken_of}
+use Rattle.one_key.specs.declared.answer.Taken.{Taken}
+use Rattle.one_key.specs.declared.answer.Taken.TheVariants as taken
+use Rattle.one_key.specs.declared.answer.TxRefusal.{TxRefusal}
+use Rattle.one_key.specs.declared.answer.TxRefusal.TheVariants as tx
+use Rattle.one_key.specs.Sender.{Sealing, sealing_of}
+use Rattle.one_key.specs.Receiver.{taken_of}
 use Rattle.link_laws.specs.Choice.{choice}
 use Rattle.link_laws.specs.History.{Arrival}
 use Rattle.link_machine.specs.declared.packet.LinkPacket.{LinkPacket}

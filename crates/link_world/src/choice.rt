@@ -5,7 +5,7 @@ ghost use Rattle.link_laws.specs.Choice.{choice, is_addressed, id_at, is_id_in};
 ghost use Rattle.starter.specs.declared.plan.Plan.{Plan};
 
 use link_script::{PortName, Side};
-use tlp_layout::{Fields, HeadView};
+use tlp_layout::{Fields, HeadView, Routing};
 
 // Whether it is a request of an address in the range.
 fn is_addressed(fields: &Fields, base: u64, limit: u64) -> bool
@@ -25,13 +25,10 @@ fn id_at(side: Side, fields: &Fields) -> Option<u16>
         Side::Host => match fields {
             Fields::Memory(_) => None,
             Fields::Config(config) => Some(config.destination),
-            Fields::Message(message) => {
-                if message.routing == 2 {
-                    Some(u16::from_be_bytes([message.rest[0], message.rest[1]]))
-                } else {
-                    None
-                }
-            }
+            Fields::Message(message) => match message.routing {
+                Routing::ById => Some(message.destination),
+                _ => None,
+            },
             Fields::Completion(completion) => Some(completion.requester),
         },
         Side::Device => match fields {

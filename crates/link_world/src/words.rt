@@ -11,7 +11,7 @@ ghost use Rattle.ide_prefix.specs.Cut.{packet_of_view};
 use ide_prefix::PacketView;
 use ide_types::SubKind;
 use link_script::{BlockCause, Effect, PortName, SealedPacket, Side, Verdict};
-use sub_stream::TxRefusal;
+use one_key::TxRefusal;
 use tlp_layout::TlpKind;
 
 /// The port at the other end of the link.
@@ -29,7 +29,7 @@ pub(crate) fn partner(port: PortName) -> PortName
 }
 
 /// A sealed packet's description with its number and port.
-pub(crate) fn named(number: u64, port: PortName, packet: sub_stream::SealedPacket) -> SealedPacket
+pub(crate) fn named(number: u64, port: PortName, packet: one_key::SealedPacket) -> SealedPacket
     ensures { result ≡ name_of number port packet }
 {
     SealedPacket {

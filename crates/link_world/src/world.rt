@@ -6,8 +6,8 @@ ghost use Rattle.link_laws.specs.Due.{due};
 ghost use Rattle.std.specs.Option.{option_and_then};
 ghost use Rattle.link_machine.specs.Machine.{first_state, step_of, answered, send as send_answer, send_read, sends_at, device_posts, device_sealed, arrive_at, arrive_read, takes_at, host_took, packet_numbered, passed};
 ghost use Rattle.link_machine.specs.Stands.{StandsFor};
-ghost use Rattle.sub_stream.specs.Sender.{sealing_of};
-ghost use Rattle.sub_stream.specs.Receiver.{taken_of};
+ghost use Rattle.one_key.specs.Sender.{sealing_of};
+ghost use Rattle.one_key.specs.Receiver.{taken_of};
 ghost use Rattle.tlp_layout.specs.Head.{head_bytes};
 ghost use Rattle.tlp_layout.specs.Tlp.{header, body};
 ghost use Rattle.tlp_layout.specs.Tlp.{view_of};
@@ -25,7 +25,7 @@ use link_script::{Effect, Event, PortName, Side, UnitName, Verdict};
 use starter::Plan;
 use std::alloc::Global;
 use std::marker::Model;
-use sub_stream::{BUFFER_ROOM, PACKET_ROOM, Rx, Taken, Tx, TxRefusal};
+use one_key::{BUFFER_ROOM, PACKET_ROOM, Rx, Taken, Tx, TxRefusal};
 use tlp_layout::{TlpView, read};
 
 /// The id of the link's only stream.

@@ -1,25 +1,27 @@
 -- What the reader finds is a spelling, or the first fault.
-use Rattle.std.proofs.Common.{◌≡◌, ℕ, zero, suc, ◌+◌, ◌<◌, ◌≤◌, Bool, true, ltb, IsTrue, List, length, get_or, take, drop, Option, Some, None, is_some, refl, sym, ap, subst, inl, inr, arith, length-take, get_or-take, take-take}
+use Rattle.std.proofs.Common.{◌≡◌, ℕ, ◌+◌, ◌<◌, ◌≤◌, Bool, true, ltb, IsTrue, List, length, get_or, take, drop, Option, Some, None, is_some, refl, sym, ap, subst, ◌∙◌, inl, inr, arith, length-take, get_or-take, take-take}
 use Rattle.std.proofs.lemmas.Bool.{cases_eq, ltb-true, lt-ltb, le-ltb, eq-eqb, ne_eqb, and_parts}
 use Rattle.std.proofs.lemmas.List.{take_all}
-use Rattle.tlp_layout.specs.{Layout, TlpFault, SpellsHead, IsHead, head_size, layout_at, IsFault, IsHeadFault, head_of, rest_size, wants_head, wants_tlp, whole_size, may_follow, Spells, IsTlp, with_payload}
+use Rattle.tlp_layout.specs.{Layout, HeadView, body_size, TlpFault, SpellsHead, IsHead, head_size, layout_at, IsFault, IsHeadFault, head_of, rest_size, wants_head, wants_tlp, whole_size, may_follow, Spells, IsTlp, with_payload}
 use Rattle.tlp_layout.specs.declared.fault.TlpFault.TheVariants as faults
 use Rattle.tlp_layout.specs.Inside.{Agrees, Stops, StopsAt}
 use Rattle.first_fault.proofs.Cells.{IsBytes}
 use Rattle.tlp_layout.proofs.Heads.{back, head_size_at_least}
 use Rattle.tlp_layout.proofs.Walk.{IsWalked, whole_front, fits_from, agrees_there}
 use Rattle.first_fault.proofs.Fronts.{Halts, place_of}
-use Rattle.tlp_layout.proofs.Grammar.{heads, tlps, needs_tlp_at, take_right, parts_spell}
+use Rattle.tlp_layout.proofs.Grammar.{heads, tlps, needs_head_front, needs_tlp_at, take_right, parts_spell}
 
 -- ---- a header that goes wrong
 
-front_walked : (k : Layout) (s : List ℕ) (n : ℕ) → IsBytes s → 0 < n → n ≤ length s → layout_at (get_or s 0 0) ≡ Some k → Agrees k s n → IsWalked k (take n s) n
-front_walked k s n fit pos le kind agrees =
+walked_front : (k : Layout) (s : List ℕ) (n m : ℕ) → IsWalked k s m → 0 < n → n ≤ m → n ≤ length s → IsWalked k (take n s) n
+walked_front k s n m w pos few le =
     let first : get_or (take n s) 0 0 ≡ get_or s 0 0 = get_or-take n s 0 0 pos in
     record {
-      fit = λ i lt. rw (get_or-take n s i 0 lt) (fit i);
-      kind = rw first kind;
-      agrees = λ i p lt less. rw (first, get_or-take n s i 0 lt) (agrees i p lt);
+      fit = λ i lt. rw (get_or-take n s i 0 lt) (w.fit i (omega arith));
+      kind = rw first w.kind;
+      agrees = λ i p lt less.
+          let small : i < head_size (get_or s 0 0) = rw first at less in
+          rw (first, get_or-take n s i 0 lt) (w.agrees i p (omega arith) small);
     }
 
 no_kind : (o : Option Layout) → o ≡ None → is_some o ≡ true → ⊥
@@ -37,7 +39,8 @@ halts_from needs s f place fit h wants = record {
         let b = h.behind pos in
         let le = h.within in
         let long : length (take place s) ≡ place = omega (arith, length-take place s) in
-        let w = front_walked b.0 s place fit pos h.within b.1 b.3 in
+        let right : IsWalked b.0 s place = record { fit = λ i lt. fit i; kind = b.1; agrees = λ i p lt less. b.3 i p lt } in
+        let w = walked_front b.0 s place place right pos (omega arith) h.within in
         let small = b.2 in
         record {
           needed = λ i lt. let less : i ≤ place = omega arith in rw (take-take i place s less) (wants i (omega arith) (λ _. omega (arith, small)));
@@ -60,14 +63,6 @@ halts_from needs s f place fit h wants = record {
   short = λ le. rw (take_all place s le) at (wants place h.within (λ pos. (h.behind pos).2));
 }
 
-needs_head_front : (s : List ℕ) (n : ℕ) → n ≤ length s → (0 < n → n < head_size (get_or s 0 0)) → IsTrue (wants_head (take n s))
-needs_head_front s zero le small = refl
-needs_head_front s (suc n) le small =
-    let long : length (take (suc n) s) ≡ suc n = omega (arith, length-take (suc n) s) in
-    let first : get_or (take (suc n) s) 0 0 ≡ get_or s 0 0 = get_or-take (suc n) s 0 0 (omega arith) in
-    let less = small (omega arith) in
-    rw (long, first) (lt-ltb _ _ less)
-
 needs_tlp_front : (s : List ℕ) (n : ℕ) → n ≤ length s → (0 < n → n < head_size (get_or s 0 0)) → IsTrue (wants_tlp (take n s))
 needs_tlp_front s n le small =
     let less : length (take n s) < head_size (get_or (take n s) 0 0) = ltb-true _ _ (needs_head_front s n le small) in
@@ -89,17 +84,18 @@ pub record HasHead (k : Layout) (s : List ℕ) (n : ℕ) : Type 0 where
   pub within : n ≤ length s
   pub agrees : Agrees k s n
 
+pub has_head : (k : Layout) (s : List ℕ) (n : ℕ) → IsBytes s → layout_at (get_or s 0 0) ≡ Some k
+    → (n ≡ head_size (get_or s 0 0)) × (n ≤ length s) → Agrees k s n → HasHead k s n
+has_head k s n fit kind size agrees =
+    record { fit = fit; kind = kind; size = size.0; within = size.1; agrees = agrees }
+
+-- how many bytes follow, by the header that is read
+pub wanted_is : (k : Layout) (s : List ℕ) {h : HeadView} {wanted : ℕ} → h ≡ head_of k s
+    → wanted ≡ body_size h.has_payload h.lead.length → wanted ≡ rest_size s
+wanted_is k s is wants = wants ∙ ap (λ (x : HeadView). body_size x.has_payload x.lead.length) is
+
 walked : (k : Layout) (s : List ℕ) (n : ℕ) → HasHead k s n → IsWalked k s (length s)
 walked k s n h = record { fit = λ i lt. h.fit i; kind = h.kind; agrees = λ i p lt less. let size = h.size in h.agrees i p (omega arith) }
-
-walked_front : (k : Layout) (s : List ℕ) (n : ℕ) → IsWalked k s (length s) → 0 < n → n ≤ length s → IsWalked k (take n s) n
-walked_front k s n w pos le =
-    let first : get_or (take n s) 0 0 ≡ get_or s 0 0 = get_or-take n s 0 0 pos in
-    record {
-      fit = λ i lt. rw (get_or-take n s i 0 lt) (w.fit i (omega arith));
-      kind = rw first w.kind;
-      agrees = λ i p lt less. let small : i < head_size (get_or s 0 0) = rw first at less in rw (first, get_or-take n s i 0 lt) (w.agrees i p (omega arith) small);
-    }
 
 pub head_found : (k : Layout) (s : List ℕ) (n : ℕ) → HasHead k s n → length s ≤ n → SpellsHead (head_of k s) s
 head_found k s n h le =
@@ -153,7 +149,7 @@ tlp_trails k s n wanted h e lt =
         within = omega arith;
         walks = record {
           needed = λ i less. needs_tlp_at (take place s) (omega (arith, front, size, long)) i less;
-          fitting = λ i less. fits_from k (take place s) place (walked_front k s place (walked k s n h) (omega arith) (omega arith)) (omega arith) i (omega arith);
+          fitting = λ i less. fits_from k (take place s) place (walked_front k s place (length s) (walked k s n h) (omega arith) (omega arith) (omega arith)) (omega arith) i (omega arith);
         };
         off = λ less needs fits. let more : length (take place s) < whole_size (take place s) = ltb-true _ _ needs in omega (arith, more, long, front, size);
         short = λ le. absurd (omega arith);

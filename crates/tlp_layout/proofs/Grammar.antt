@@ -19,12 +19,13 @@ use Rattle.first_fault.proofs.Fronts.{Walks, IsGrammar, IsStepped, grammar_of}
 right_walks : (k : Layout) (s : List ℕ) → IsRight k s → IsWalked k s (length s)
 right_walks k s r = record { fit = λ i lt. r.fit i; kind = r.kind; agrees = λ i p lt less. r.agrees i p lt }
 
-needs_head_at : (s : List ℕ) → length s ≡ head_size (get_or s 0 0) → (i : ℕ) → i < length s → IsTrue (wants_head (take i s))
-needs_head_at s size zero lt = refl
-needs_head_at s size (suc i) lt =
-    let long : length (take (suc i) s) ≡ suc i = omega (arith, length-take (suc i) s) in
-    let first : get_or (take (suc i) s) 0 0 ≡ get_or s 0 0 = get_or-take (suc i) s 0 0 (omega arith) in
-    rw (long, first) (lt-ltb _ _ (omega arith))
+pub needs_head_front : (s : List ℕ) (n : ℕ) → n ≤ length s → (0 < n → n < head_size (get_or s 0 0)) → IsTrue (wants_head (take n s))
+needs_head_front s zero le small = refl
+needs_head_front s (suc n) le small =
+    let long : length (take (suc n) s) ≡ suc n = omega (arith, length-take (suc n) s) in
+    let first : get_or (take (suc n) s) 0 0 ≡ get_or s 0 0 = get_or-take (suc n) s 0 0 (omega arith) in
+    let less = small (omega arith) in
+    rw (long, first) (lt-ltb _ _ less)
 
 pub is_right : (s : List ℕ) → IsHead s → (k : Layout) × IsRight k s
 is_right s h = (layout_of h.head.fields, subst (IsRight (layout_of h.head.fields)) (sym h.spells.spelled) (kept h.head h.spells.fits))
@@ -95,7 +96,7 @@ heads_step : IsStepped IsHead wants_head may_follow next_tlp left_head
 heads_step = record {
   walks = λ s h.
       let r = is_right s h in
-      record { needed = needs_head_at s r.1.size; fitting = fits_from r.0 s (length s) (right_walks r.0 s r.1) (omega arith) };
+      record { needed = λ i lt. needs_head_front s i (omega arith) (λ _. omega (arith, r.1.size)); fitting = fits_from r.0 s (length s) (right_walks r.0 s r.1) (omega arith) };
   ends = λ s h e.
       let r = is_right s h in
       let size = r.1.size in

@@ -19,8 +19,8 @@ use Rattle.tlp_layout.specs.declared.head.Fields.TheVariants.{Memory, Config, Me
 use Rattle.tlp_layout.specs.declared.head.Routing.TheVariants as routings
 use Rattle.tlp_layout.specs.Head.{address_limit, lead_bytes, address_bytes, field_bytes}
 use Rattle.tlp_layout.specs.Inside.{Agrees}
-use Rattle.tlp_layout.specs.Reading.{address_of, lead_of}
-use Rattle.tlp_layout.proofs.Octets.{width_of, clear_3, clear_192, clear_195, clear_240, clear_128, has_clear_3, has_clear_192, has_clear_195, has_clear_240, has_clear_128}
+use Rattle.tlp_layout.specs.Reading.{address_of, lead_of, fields_of}
+use Rattle.tlp_layout.proofs.Octets.{width_of, clear_3, clear_192, clear_195, clear_240, clear_128}
 
 -- a header of this layout, byte by byte
 pub record IsRight (k : Layout) (s : List ℕ) : Type 0 where
@@ -86,8 +86,8 @@ third_back : (b1 b2 b3 : ℕ) → b2 < 64 → b3 < 256
     → 0x10 * ((4 * (b1 / 4 % 2) + b2 / 16 % 4) % 4) + 0x04 * (b2 / 4 % 4) + (256 * (b2 % 4) + b3) / 256 ≡ b2
 third_back b1 b2 b3 lt less = omega arith
 
-length_back : (b2 b3 : ℕ) → b3 < 256 → (256 * (b2 % 4) + b3) % 256 ≡ b3
-length_back b2 b3 lt = omega arith
+low_back : (a b : ℕ) → b < 256 → (256 * a + b) % 256 ≡ b
+low_back a b lt = omega arith
 
 tag_back : (b1 low : ℕ) → low < 256 → (512 * (b1 / 128) + 256 * (b1 / 8 % 2) + low) % 256 ≡ low
 tag_back b1 low lt = omega arith
@@ -115,8 +115,7 @@ config_tail t fit long z =
     let f3 : get_or t 3 0 < 256 = fit 3 in
     let high : (64 * get_or t 2 0 + get_or t 3 0 / 4) / 64 ≡ get_or t 2 0 = omega arith in
     let low : 0x04 * ((64 * get_or t 2 0 + get_or t 3 0 / 4) % 64) ≡ get_or t 3 0 = omega arith in
-    let cells : t ≡ get_or t 0 0 ∷ get_or t 1 0 ∷ get_or t 2 0 ∷ get_or t 3 0 ∷ [] = drop_cells 4 0 t long in
-    joined_4 (number_2 t fit) high low ∙ sym cells
+    joined_4 (number_2 t fit) high low ∙ sym (drop_cells 4 0 t long)
 
 message_tail : (t : List ℕ) → IsBytes t → length t ≡ 8
     → big_bytes 2 (big_number 2 t) ++ cells 6 2 t ≡ t
@@ -161,9 +160,6 @@ status_byte_back : (b6 b7 : ℕ) → b6 < 256 → b7 < 256
 status_byte_back b6 b7 lt less =
     omega (arith, bit_is (b6 / 16 % 2) (omega arith), status_back (b6 / 32) (omega arith))
 
-count_back : (b6 b7 : ℕ) → b7 < 256 → (256 * (b6 % 16) + b7) % 256 ≡ b7
-count_back b6 b7 lt = omega arith
-
 -- the places of a header that have bits that are 0
 clear_at : (k : Layout) (s : List ℕ) (i : ℕ) → IsRight k s → 0 < i → i < length s
     → eqb (bit_and (reserved k (head_size (get_or s 0 0)) i) (get_or s i 0)) 0 ≡ true
@@ -177,15 +173,19 @@ last_clear : (s : List ℕ) (w : Bool) → IsRight layouts.Memory s → is_wide 
     → get_or s (cond w 15 11) 0 % 4 ≡ 0
 last_clear s true r wide =
     let long : length s ≡ 16 = r.size ∙ ap (λ (w : Bool). cond w 16 12) wide in
-    clear_3 (get_or s 15 0) (r.fit 15) (rw wide at (clear_at layouts.Memory s 15 r (omega arith) (omega arith)))
+    (clear_3 (get_or s 15 0) (r.fit 15)).0 (rw wide at (clear_at layouts.Memory s 15 r (omega arith) (omega arith)))
 last_clear s false r wide =
     let long : length s ≡ 12 = r.size ∙ ap (λ (w : Bool). cond w 16 12) wide in
-    clear_3 (get_or s 11 0) (r.fit 11) (rw wide at (clear_at layouts.Memory s 11 r (omega arith) (omega arith)))
+    (clear_3 (get_or s 11 0) (r.fit 11)).0 (rw wide at (clear_at layouts.Memory s 11 r (omega arith) (omega arith)))
 
 last_in : (w : Bool) (b0 b1 b2 b3 b4 b5 b6 b7 : ℕ) (t : List ℕ)
     → get_or (b0 ∷ b1 ∷ b2 ∷ b3 ∷ b4 ∷ b5 ∷ b6 ∷ b7 ∷ t) (cond w 15 11) 0 ≡ get_or t (cond w 7 3) 0
 last_in true b0 b1 b2 b3 b4 b5 b6 b7 t = refl
 last_in false b0 b1 b2 b3 b4 b5 b6 b7 t = refl
+
+spelled_by : (k : Layout) (s : List ℕ) → IsBytes s → FitsFields (lead_of s) (fields_of k s) → head_bytes (head_of k s) ≡ s
+    → SpellsHead (head_of k s) s
+spelled_by k s fit fields e = record { fits = record { lead = fits_lead s fit; fields = fields }; spelled = sym e }
 
 back_8 : (k : Layout) (b0 b1 b2 b3 b4 b5 b6 b7 : ℕ) (t : List ℕ)
     → IsRight k (b0 ∷ b1 ∷ b2 ∷ b3 ∷ b4 ∷ b5 ∷ b6 ∷ b7 ∷ t)
@@ -195,64 +195,46 @@ back_8 layouts.Memory b0 b1 b2 b3 b4 b5 b6 b7 t r =
     let f7 : b7 < 256 = r.fit 7 in
     let behind : IsBytes t = λ i. r.fit (suc (suc (suc (suc (suc (suc (suc (suc i)))))))) in
     let some : 8 ≤ length s = omega arith in
-    let z1 = clear_3 b1 (r.fit 1) (clear_at layouts.Memory s 1 r (omega arith) (omega arith)) in
-    let z2 = clear_192 b2 (r.fit 2) (clear_at layouts.Memory s 2 r (omega arith) (omega arith)) in
+    let z1 = (clear_3 b1 (r.fit 1)).0 (clear_at layouts.Memory s 1 r (omega arith) (omega arith)) in
+    let z2 = (clear_192 b2 (r.fit 2)).0 (clear_at layouts.Memory s 2 r (omega arith) (omega arith)) in
     let z = sym (last_in (is_wide b0) b0 b1 b2 b3 b4 b5 b6 b7 t) in
     let address = address_fits (is_wide b0) t behind (ap (λ (x : ℕ). x % 4) z ∙ last_clear s (is_wide b0) r refl) in
     let from_4 = b4 ∷ b5 ∷ b6 ∷ b7 ∷ t in
     let numbers : IsBytes from_4 = λ i. r.fit (suc (suc (suc (suc i)))) in
-    record {
-      fits = record {
-        lead = fits_lead s r.fit;
-        fields = (number_below from_4 numbers, tag_fits b1 b6 (r.fit 1) (r.fit 6), omega arith, omega arith, address.0, address.1);
-      };
-      spelled = sym (eight (first_back layouts.Memory b0 (r.fit 0) r.kind) (second_back b1 b2 b6 (r.fit 1) z1 (r.fit 6))
-          (third_back b1 b2 b3 z2 (r.fit 3)) (length_back b2 b3 (r.fit 3)) (number_2 from_4 numbers) (tag_back b1 b6 (r.fit 6))
-          (halves_back b7) (address_back (is_wide b0) t behind (rest_long (is_wide b0) (length t) (omega (arith, r.size)))));
-    }
+    spelled_by layouts.Memory s r.fit (number_below from_4 numbers, tag_fits b1 b6 (r.fit 1) (r.fit 6), omega arith, omega arith, address.0, address.1) (eight (first_back layouts.Memory b0 (r.fit 0) r.kind) (second_back b1 b2 b6 (r.fit 1) z1 (r.fit 6))
+    (third_back b1 b2 b3 z2 (r.fit 3)) (low_back (b2 % 4) b3 (r.fit 3)) (number_2 from_4 numbers) (tag_back b1 b6 (r.fit 6))
+    (halves_back b7) (address_back (is_wide b0) t behind (rest_long (is_wide b0) (length t) (omega (arith, r.size)))))
 back_8 layouts.Config b0 b1 b2 b3 b4 b5 b6 b7 t r =
     let s = b0 ∷ b1 ∷ b2 ∷ b3 ∷ b4 ∷ b5 ∷ b6 ∷ b7 ∷ t in
     let f7 : b7 < 256 = r.fit 7 in
     let wide : is_wide b0 ≡ false = not-true _ (width_of layouts.Config b0 (r.fit 0) r.kind) in
     let long : length s ≡ 12 = r.size ∙ ap (λ (w : Bool). cond w 16 12) wide in
     let behind : IsBytes t = λ i. r.fit (suc (suc (suc (suc (suc (suc (suc (suc i)))))))) in
-    let z1 = clear_3 b1 (r.fit 1) (clear_at layouts.Config s 1 r (omega arith) (omega arith)) in
-    let z2 = clear_195 b2 (r.fit 2) (clear_at layouts.Config s 2 r (omega arith) (omega arith)) in
-    let z10 = clear_240 (get_or t 2 0) (r.fit 10) (clear_at layouts.Config s 10 r (omega arith) (omega arith)) in
-    let z11 = clear_3 (get_or t 3 0) (r.fit 11) (clear_at layouts.Config s 11 r (omega arith) (omega arith)) in
+    let z1 = (clear_3 b1 (r.fit 1)).0 (clear_at layouts.Config s 1 r (omega arith) (omega arith)) in
+    let z2 = (clear_195 b2 (r.fit 2)).0 (clear_at layouts.Config s 2 r (omega arith) (omega arith)) in
+    let z10 = (clear_240 (get_or t 2 0) (r.fit 10)).0 (clear_at layouts.Config s 10 r (omega arith) (omega arith)) in
+    let z11 = (clear_3 (get_or t 3 0) (r.fit 11)).0 (clear_at layouts.Config s 11 r (omega arith) (omega arith)) in
     let one : b3 ≡ 1 = eqb-true _ _ (and_parts (eqb (bit_and 0 b3) 0) (eqb b3 1) (r.agrees 3 (omega arith) (omega arith))).1 in
     let f11 : get_or t 3 0 < 256 = r.fit 11 in
     let from_4 = b4 ∷ b5 ∷ b6 ∷ b7 ∷ t in
     let numbers : IsBytes from_4 = λ i. r.fit (suc (suc (suc (suc i)))) in
-    record {
-      fits = record {
-        lead = fits_lead s r.fit;
-        fields = (wide, omega (arith, z2.1), number_below from_4 numbers, tag_fits b1 b6 (r.fit 1) (r.fit 6), omega arith, omega arith, number_below t behind, omega arith);
-      };
-      spelled = sym (eight (first_back layouts.Config b0 (r.fit 0) r.kind) (second_back b1 b2 b6 (r.fit 1) z1 (r.fit 6))
-          (third_back b1 b2 b3 z2.0 (r.fit 3)) (length_back b2 b3 (r.fit 3)) (number_2 from_4 numbers) (tag_back b1 b6 (r.fit 6))
-          (halves_back b7) (config_tail t behind (omega arith) z11));
-    }
+    spelled_by layouts.Config s r.fit (wide, omega (arith, z2.1), number_below from_4 numbers, tag_fits b1 b6 (r.fit 1) (r.fit 6), omega arith, omega arith, number_below t behind, omega arith) (eight (first_back layouts.Config b0 (r.fit 0) r.kind) (second_back b1 b2 b6 (r.fit 1) z1 (r.fit 6))
+    (third_back b1 b2 b3 z2.0 (r.fit 3)) (low_back (b2 % 4) b3 (r.fit 3)) (number_2 from_4 numbers) (tag_back b1 b6 (r.fit 6))
+    (halves_back b7) (config_tail t behind (omega arith) z11))
 back_8 layouts.Message b0 b1 b2 b3 b4 b5 b6 b7 t r =
     let s = b0 ∷ b1 ∷ b2 ∷ b3 ∷ b4 ∷ b5 ∷ b6 ∷ b7 ∷ t in
     let wide : is_wide b0 ≡ true = width_of layouts.Message b0 (r.fit 0) r.kind in
     let long : length s ≡ 16 = r.size ∙ ap (λ (w : Bool). cond w 16 12) wide in
     let behind : IsBytes t = λ i. r.fit (suc (suc (suc (suc (suc (suc (suc (suc i)))))))) in
-    let z1 = clear_3 b1 (r.fit 1) (clear_at layouts.Message s 1 r (omega arith) (omega arith)) in
-    let z2 = clear_192 b2 (r.fit 2) (clear_at layouts.Message s 2 r (omega arith) (omega arith)) in
+    let z1 = (clear_3 b1 (r.fit 1)).0 (clear_at layouts.Message s 1 r (omega arith) (omega arith)) in
+    let z2 = (clear_192 b2 (r.fit 2)).0 (clear_at layouts.Message s 2 r (omega arith) (omega arith)) in
     let same : b7 ≡ b7 = refl in
     let kept : IsBytes (cells 8 0 t) = subst IsBytes (drop_cells 8 0 t (omega arith)) behind in
     let from_4 = b4 ∷ b5 ∷ b6 ∷ b7 ∷ t in
     let numbers : IsBytes from_4 = λ i. r.fit (suc (suc (suc (suc i)))) in
-    record {
-      fits = record {
-        lead = fits_lead s r.fit;
-        fields = (wide, number_below from_4 numbers, tag_fits b1 b6 (r.fit 1) (r.fit 6), r.fit 7, number_below t behind, refl, All-from_get_or (λ (b : ℕ). b < 256) (cells 6 2 t) 0 (λ i lt. kept (suc (suc i))));
-      };
-      spelled = sym (eight (first_back layouts.Message b0 (r.fit 0) r.kind) (second_back b1 b2 b6 (r.fit 1) z1 (r.fit 6))
-          (third_back b1 b2 b3 z2 (r.fit 3)) (length_back b2 b3 (r.fit 3)) (number_2 from_4 numbers) (tag_back b1 b6 (r.fit 6))
-          same (message_tail t behind (omega arith)));
-    }
+    spelled_by layouts.Message s r.fit (wide, number_below from_4 numbers, tag_fits b1 b6 (r.fit 1) (r.fit 6), r.fit 7, number_below t behind, refl, All-from_get_or (λ (b : ℕ). b < 256) (cells 6 2 t) 0 (λ i lt. kept (suc (suc i)))) (eight (first_back layouts.Message b0 (r.fit 0) r.kind) (second_back b1 b2 b6 (r.fit 1) z1 (r.fit 6))
+    (third_back b1 b2 b3 z2 (r.fit 3)) (low_back (b2 % 4) b3 (r.fit 3)) (number_2 from_4 numbers) (tag_back b1 b6 (r.fit 6))
+    same (message_tail t behind (omega arith)))
 back_8 layouts.Completion b0 b1 b2 b3 b4 b5 b6 b7 t r =
     let s = b0 ∷ b1 ∷ b2 ∷ b3 ∷ b4 ∷ b5 ∷ b6 ∷ b7 ∷ t in
     let f6 : b6 < 256 = r.fit 6 in
@@ -260,21 +242,15 @@ back_8 layouts.Completion b0 b1 b2 b3 b4 b5 b6 b7 t r =
     let wide : is_wide b0 ≡ false = not-true _ (width_of layouts.Completion b0 (r.fit 0) r.kind) in
     let long : length s ≡ 12 = r.size ∙ ap (λ (w : Bool). cond w 16 12) wide in
     let behind : IsBytes t = λ i. r.fit (suc (suc (suc (suc (suc (suc (suc (suc i)))))))) in
-    let z1 = clear_3 b1 (r.fit 1) (clear_at layouts.Completion s 1 r (omega arith) (omega arith)) in
-    let z2 = clear_192 b2 (r.fit 2) (clear_at layouts.Completion s 2 r (omega arith) (omega arith)) in
-    let z11 = clear_128 (get_or t 3 0) (r.fit 11) (clear_at layouts.Completion s 11 r (omega arith) (omega arith)) in
+    let z1 = (clear_3 b1 (r.fit 1)).0 (clear_at layouts.Completion s 1 r (omega arith) (omega arith)) in
+    let z2 = (clear_192 b2 (r.fit 2)).0 (clear_at layouts.Completion s 2 r (omega arith) (omega arith)) in
+    let z11 = (clear_128 (get_or t 3 0) (r.fit 11)).0 (clear_at layouts.Completion s 11 r (omega arith) (omega arith)) in
     let status = status_back (b6 / 32) (omega arith) in
     let from_4 = b4 ∷ b5 ∷ b6 ∷ b7 ∷ t in
     let numbers : IsBytes from_4 = λ i. r.fit (suc (suc (suc (suc i)))) in
-    record {
-      fits = record {
-        lead = fits_lead s r.fit;
-        fields = (wide, number_below from_4 numbers, (omega (arith, status), ap status_from status), omega arith, number_below t behind, tag_fits b1 (get_or t 2 0) (r.fit 1) (r.fit 10), z11);
-      };
-      spelled = sym (eight (first_back layouts.Completion b0 (r.fit 0) r.kind) (second_back b1 b2 (get_or t 2 0) (r.fit 1) z1 (r.fit 10))
-          (third_back b1 b2 b3 z2 (r.fit 3)) (length_back b2 b3 (r.fit 3)) (number_2 from_4 numbers) (status_byte_back b6 b7 f6 f7)
-          (count_back b6 b7 f7) (completion_tail b1 t behind (omega arith)));
-    }
+    spelled_by layouts.Completion s r.fit (wide, number_below from_4 numbers, (omega (arith, status), ap status_from status), omega arith, number_below t behind, tag_fits b1 (get_or t 2 0) (r.fit 1) (r.fit 10), z11) (eight (first_back layouts.Completion b0 (r.fit 0) r.kind) (second_back b1 b2 (get_or t 2 0) (r.fit 1) z1 (r.fit 10))
+    (third_back b1 b2 b3 z2 (r.fit 3)) (low_back (b2 % 4) b3 (r.fit 3)) (number_2 from_4 numbers) (status_byte_back b6 b7 f6 f7)
+    (low_back (b6 % 16) b7 f7) (completion_tail b1 t behind (omega arith)))
 
 pub back : (k : Layout) (s : List ℕ) → IsRight k s → SpellsHead (head_of k s) s
 back k s r =
@@ -379,18 +355,21 @@ lead_fit k size l tag fields a1 a2 a3 fl lt more =
 
 -- byte 2 of a header that is no configuration request
 plain_third : (l : Lead) → FitsLead l → eqb (bit_and 0xc0 (0x10 * (l.attr % 4) + 0x04 * l.at + l.length / 256)) 0 ≡ true
-plain_third l fl = has_clear_192 _ (omega (arith, fl.at, fl.length))
+plain_third l fl = (clear_192 _ (omega (arith, fl.at, fl.length))).1 (omega (arith, fl.at, fl.length))
 
 cleared : (b : ℕ) → b < 256 → b % 4 ≡ 0 → (eqb (bit_and 0x03 b) 0 && true) ≡ true
-cleared b lt z = and_from _ _ (has_clear_3 b lt z) refl
+cleared b lt z = and_from _ _ ((clear_3 b lt).1 z) refl
 
 halves_small : (a b : ℕ) → a < 16 → b < 16 → 0x10 * a + b < 256
 halves_small a b p q = omega arith
 
-status_byte : (status : ℕ) (bcm : Bool) (count : ℕ) → status < 8 → count < 4096
-    → 0x20 * status + 0x10 * bit bcm + count / 256 < 256
-status_byte status true count ls lc = omega arith
-status_byte status false count ls lc = omega arith
+status_again : (status : ℕ) (bcm : Bool) (count : ℕ) → status < 8 → count < 4096
+    → ((0x20 * status + 0x10 * bit bcm + count / 256) / 32 ≡ status)
+    × (eqb ((0x20 * status + 0x10 * bit bcm + count / 256) / 16 % 2) 1 ≡ bcm)
+    × (256 * ((0x20 * status + 0x10 * bit bcm + count / 256) % 16) + count % 256 ≡ count)
+    × (0x20 * status + 0x10 * bit bcm + count / 256 < 256)
+status_again status true count ls lc = (omega arith, eq-eqb _ _ (omega arith), omega arith, omega arith)
+status_again status false count ls lc = (omega arith, ne_eqb _ _ (λ e. omega arith), omega arith, omega arith)
 
 memory_fit : (w : Bool) (f : MemoryFields) (l : Lead) → FitsLead l → FitsFields l (Memory f)
     → FitFrom layouts.Memory (cond w 16 12) 1 (lead_bytes l f.tag ++ field_bytes w (Memory f))
@@ -422,12 +401,13 @@ config_fit : (f : ConfigFields) (l : Lead) → FitsLead l → FitsFields l (Conf
     → FitFrom layouts.Config 12 1 (lead_bytes l f.tag ++ field_bytes false (Config f))
 config_fit f l fl ff =
     let third : 0x10 * (l.attr % 4) + 0x04 * l.at + l.length / 256 < 64 = omega (arith, fl.at, fl.length) in
-    let clear = has_clear_195 _ third (omega (arith, ff.1)) in
+    let small : 0x10 * (l.attr % 4) + 0x04 * l.at + l.length / 256 < 256 = omega arith in
+    let clear = (clear_195 _ small).1 (third, omega (arith, ff.1)) in
     let one : eqb (l.length % 256) 1 ≡ true = eq-eqb _ _ (omega (arith, ff.1)) in
     let high : f.register / 64 < 16 = omega (arith, ff.7) in
     let low : 0x04 * (f.register % 64) < 256 = omega arith in
     let be = halves_small f.last_be f.first_be ff.4 ff.5 in
-    let h = and_from _ _ (has_clear_240 _ high) refl in
+    let h = and_from _ _ ((clear_240 _ (omega arith)).1 high) refl in
     let rest : FitFrom layouts.Config 12 8 (drop 4 (field_bytes false (Config f))) =
     (low_byte _, refl, (low_byte _, refl, (omega arith, h, (low, cleared _ low (omega arith), tt)))) in
     let more : FitFrom layouts.Config 12 4 (field_bytes false (Config f)) =
@@ -450,9 +430,9 @@ message_fit f l fl ff =
 completion_fit : (f : CompletionFields) (l : Lead) → FitsLead l → FitsFields l (Completion f)
     → FitFrom layouts.Completion 12 1 (lead_bytes l f.tag ++ field_bytes false (Completion f))
 completion_fit f l fl ff =
-    let status = status_byte (status_bits f.status) f.bcm f.count ff.2.0 ff.3 in
+    let status = (status_again (status_bits f.status) f.bcm f.count ff.2.0 ff.3).3 in
     let lower : f.lower < 256 = omega (arith, ff.6) in
-    let clear = and_from _ _ (has_clear_128 f.lower ff.6) refl in
+    let clear = and_from _ _ ((clear_128 f.lower lower).1 ff.6) refl in
     let rest : FitFrom layouts.Completion 12 8 (drop 4 (field_bytes false (Completion f))) =
     (low_byte _, refl, (low_byte _, refl, (low_byte _, refl, (lower, clear, tt)))) in
     let more : FitFrom layouts.Completion 12 4 (field_bytes false (Completion f)) =
@@ -467,12 +447,15 @@ routing_again routings.FromRootComplex = (omega arith, refl)
 routing_again routings.Local = (omega arith, refl)
 routing_again routings.Gathered = (omega arith, refl)
 
+abbrev head_with : Lead → Bool → Fields → HeadView
+head_with l p f = record { lead = l; has_payload = p; fields = f }
+
 type_small : (one : Bool) → 0x04 + bit one < 32
 type_small true = omega arith
 type_small false = omega arith
 
 kept_fields : (l : Lead) (p : Bool) (f : Fields) → FitsLead l → FitsFields l f
-    → IsRight (layout_of f) (head_bytes (record { lead = l; has_payload = p; fields = f }))
+    → IsRight (layout_of f) (head_bytes (head_with l p f))
 kept_fields l p (Memory f) fl ff =
     right layouts.Memory p l.wide 0x00 _ (memory_kind p l.wide) (omega arith) (memory_long l.wide f) (memory_fit l.wide f l fl ff)
 kept_fields l p (Config f) fl ff =
@@ -519,13 +502,6 @@ halves_again a b lt = (omega arith, omega arith)
 register_again : (n : ℕ) → 64 * (n / 64) + (0x04 * (n % 64)) / 4 ≡ n
 register_again n = omega arith
 
-status_again : (status : ℕ) (bcm : Bool) (count : ℕ) → status < 8 → count < 4096
-    → ((0x20 * status + 0x10 * bit bcm + count / 256) / 32 ≡ status)
-    × (eqb ((0x20 * status + 0x10 * bit bcm + count / 256) / 16 % 2) 1 ≡ bcm)
-    × (256 * ((0x20 * status + 0x10 * bit bcm + count / 256) % 16) + count % 256 ≡ count)
-status_again status true count ls lc = (omega arith, eq-eqb _ _ (omega arith), omega arith)
-status_again status false count ls lc = (omega arith, ne_eqb _ _ (λ e. omega arith), omega arith)
-
 address_again : (w : Bool) (first x1 x2 x3 requester tag be address : ℕ) (more : List ℕ) → address < address_limit w
     → address_of w (first ∷ x1 ∷ x2 ∷ x3 ∷ (big_bytes 2 requester ++ tag ∷ be ∷ address_bytes w address ++ more)) ≡ address
 address_again true first x1 x2 x3 requester tag be address more lt = big_number-reads_back 8 address [] lt
@@ -534,9 +510,12 @@ address_again false first x1 x2 x3 requester tag be address more lt = big_number
 kept_again : (kept more : List ℕ) → length kept ≡ 6 → cells 6 0 (kept ++ more) ≡ kept
 kept_again kept more long = subst (λ (r : List ℕ). cells 6 0 (r ++ more) ≡ r) (sym (drop_cells 6 0 kept long)) refl
 
+head_is : {l l' : Lead} {p p' : Bool} {f f' : Fields} → l ≡ l' → p ≡ p' → f ≡ f'
+    → head_with l p f ≡ head_with l' p' f'
+head_is el ep ef = λ i. record { lead = el i; has_payload = ep i; fields = ef i }
+
 again_fields : (l : Lead) (p : Bool) (f : Fields) (more : List ℕ) → FitsLead l → FitsFields l f
-    → head_of (layout_of f) (head_bytes (record { lead = l; has_payload = p; fields = f }) ++ more)
-    ≡ record { lead = l; has_payload = p; fields = f }
+    → head_of (layout_of f) (head_bytes (head_with l p f) ++ more) ≡ head_with l p f
 again_fields l p (Memory f) more fl ff =
     let k = first_is p l.wide 0x00 (omega arith) in
     let lead = lead_again _ f.tag l (field_bytes l.wide (Memory f) ++ more) fl ff.1 k.0 in
@@ -544,41 +523,25 @@ again_fields l p (Memory f) more fl ff =
     let t = address_bytes l.wide f.address ++ more in
     let address = ap (λ (w : Bool). cond w (big_number 8 t) (big_number 4 t)) k.0
     ∙ address_again l.wide 0 0 0 0 f.requester (f.tag % 256) 0 f.address more ff.5 in
-    λ i. record {
-      lead = lead i;
-      has_payload = k.1 i;
-      fields = Memory (record { requester = number_again f.requester ff.0 i; tag = tag_again l f.tag fl ff.1 i; last_be = be.0 i; first_be = be.1 i; address = address i });
-    }
+    head_is lead k.1 (λ i. Memory (record { requester = number_again f.requester ff.0 i; tag = tag_again l f.tag fl ff.1 i; last_be = be.0 i; first_be = be.1 i; address = address i }))
 again_fields l p (Config f) more fl ff =
     let k = first_is p l.wide (0x04 + bit f.one) (type_small f.one) in
     let lead = lead_again _ f.tag l (field_bytes l.wide (Config f) ++ more) fl ff.3 k.0 in
     let be = halves_again f.last_be f.first_be ff.5 in
-    λ i. record {
-      lead = lead i;
-      has_payload = k.1 i;
-      fields = Config (record { one = one_again p l.wide f.one i; requester = number_again f.requester ff.2 i; tag = tag_again l f.tag fl ff.3 i; last_be = be.0 i; first_be = be.1 i; destination = number_again f.destination ff.6 i; register = register_again f.register i });
-    }
+    head_is lead k.1 (λ i. Config (record { one = one_again p l.wide f.one i; requester = number_again f.requester ff.2 i; tag = tag_again l f.tag fl ff.3 i; last_be = be.0 i; first_be = be.1 i; destination = number_again f.destination ff.6 i; register = register_again f.register i }))
 again_fields l p (Message f) more fl ff =
     let r = routing_again f.routing in
     let k = first_is p l.wide (0x10 + routing_bits f.routing) (omega (arith, r.0)) in
     let lead = lead_again _ f.tag l (field_bytes l.wide (Message f) ++ more) fl ff.2 k.0 in
     let number : (0x40 * bit p + 0x20 * bit l.wide + (0x10 + routing_bits f.routing)) % 8 ≡ routing_bits f.routing = omega (arith, r.0) in
     let routing = ap routing_from number ∙ r.1 in
-    λ i. record {
-      lead = lead i;
-      has_payload = k.1 i;
-      fields = Message (record { routing = routing i; requester = number_again f.requester ff.1 i; tag = tag_again l f.tag fl ff.2 i; code = f.code; destination = number_again f.destination ff.4 i; kept = kept_again f.kept more ff.5 i });
-    }
+    head_is lead k.1 (λ i. Message (record { routing = routing i; requester = number_again f.requester ff.1 i; tag = tag_again l f.tag fl ff.2 i; code = f.code; destination = number_again f.destination ff.4 i; kept = kept_again f.kept more ff.5 i }))
 again_fields l p (Completion f) more fl ff =
     let k = first_is p l.wide 0x0a (omega arith) in
     let lead = lead_again _ f.tag l (field_bytes l.wide (Completion f) ++ more) fl ff.5 k.0 in
     let s = status_again (status_bits f.status) f.bcm f.count ff.2.0 ff.3 in
     let status = ap status_from s.0 ∙ ff.2.1 in
-    λ i. record {
-      lead = lead i;
-      has_payload = k.1 i;
-      fields = Completion (record { completer = number_again f.completer ff.1 i; status = status i; bcm = s.1 i; count = s.2 i; requester = number_again f.requester ff.4 i; tag = tag_again l f.tag fl ff.5 i; lower = f.lower });
-    }
+    head_is lead k.1 (λ i. Completion (record { completer = number_again f.completer ff.1 i; status = status i; bcm = s.1 i; count = s.2 i; requester = number_again f.requester ff.4 i; tag = tag_again l f.tag fl ff.5 i; lower = f.lower }))
 
 pub again : (h : HeadView) (more : List ℕ) → FitsHead h → head_of (layout_of h.fields) (head_bytes h ++ more) ≡ h
 again h more fits = again_fields h.lead h.has_payload h.fields more fits.lead fits.fields

@@ -1,5 +1,6 @@
 -- Facts on single bytes, each tried at all 256 of them.
-use Rattle.std.proofs.Common.{◌≡◌, ℕ, ◌%◌, ◌<◌, Bool, true, ◌&&◌, not, ltb, eqb, bit_and, Option, Some, None, refl, sym, ap, ◌∙◌, arith}
+use Rattle.std.proofs.Common.{◌≡◌, ℕ, ◌%◌, ◌<◌, Bool, true, ◌&&◌, not, ltb, eqb, bit_and, Option, Some, None, refl, sym, ap, ◌∙◌}
+use Rattle.std.specs.Prelude.{◌↔◌}
 use Rattle.std.proofs.lemmas.Bool.{agree_below, agree_below_at, eqb-true, ltb-true, eq-eqb, lt-ltb, and_parts, and_from}
 use Rattle.tlp_layout.specs.{is_wide, layout_at, Layout}
 use Rattle.tlp_layout.specs.declared.layout.Layout.TheVariants as layouts
@@ -7,20 +8,27 @@ use Rattle.tlp_layout.specs.declared.layout.Layout.TheVariants as layouts
 mask_is : (m : ℕ) (test : ℕ → Bool) → agree_below (λ b. eqb (bit_and m b) 0) test 256 ≡ true → (b : ℕ) → b < 256 → eqb (bit_and m b) 0 ≡ test b
 mask_is m test e b lt = agree_below_at (λ b. eqb (bit_and m b) 0) test 256 b e lt
 
-pub mask_3 : (b : ℕ) → b < 256 → eqb (bit_and 3 b) 0 ≡ eqb (b % 4) 0
-mask_3 = mask_is 3 (λ b. eqb (b % 4) 0) refl
+-- what the bits that are 0 say of a byte
+pub clear_3 : (b : ℕ) → b < 256 → (eqb (bit_and 0x03 b) 0 ≡ true) ↔ (b % 4 ≡ 0)
+clear_3 b lt =
+    let same = mask_is 0x03 (λ b. eqb (b % 4) 0) refl b lt in (λ e. eqb-true _ _ (sym same ∙ e), λ e. same ∙ eq-eqb _ _ e)
 
-pub mask_192 : (b : ℕ) → b < 256 → eqb (bit_and 192 b) 0 ≡ ltb b 64
-mask_192 = mask_is 192 (λ b. ltb b 64) refl
+pub clear_192 : (b : ℕ) → b < 256 → (eqb (bit_and 0xc0 b) 0 ≡ true) ↔ (b < 64)
+clear_192 b lt =
+    let same = mask_is 0xc0 (λ b. ltb b 64) refl b lt in (λ e. ltb-true _ _ (sym same ∙ e), λ e. same ∙ lt-ltb _ _ e)
 
-pub mask_195 : (b : ℕ) → b < 256 → eqb (bit_and 195 b) 0 ≡ (ltb b 64 && eqb (b % 4) 0)
-mask_195 = mask_is 195 (λ b. ltb b 64 && eqb (b % 4) 0) refl
+pub clear_195 : (b : ℕ) → b < 256 → (eqb (bit_and 0xc3 b) 0 ≡ true) ↔ ((b < 64) × (b % 4 ≡ 0))
+clear_195 b lt =
+    let same = mask_is 0xc3 (λ b. ltb b 64 && eqb (b % 4) 0) refl b lt in
+    (λ e. let p = and_parts (ltb b 64) (eqb (b % 4) 0) (sym same ∙ e) in (ltb-true _ _ p.0, eqb-true _ _ p.1), λ e. same ∙ and_from _ _ (lt-ltb _ _ e.0) (eq-eqb _ _ e.1))
 
-pub mask_240 : (b : ℕ) → b < 256 → eqb (bit_and 240 b) 0 ≡ ltb b 16
-mask_240 = mask_is 240 (λ b. ltb b 16) refl
+pub clear_240 : (b : ℕ) → b < 256 → (eqb (bit_and 0xf0 b) 0 ≡ true) ↔ (b < 16)
+clear_240 b lt =
+    let same = mask_is 0xf0 (λ b. ltb b 16) refl b lt in (λ e. ltb-true _ _ (sym same ∙ e), λ e. same ∙ lt-ltb _ _ e)
 
-pub mask_128 : (b : ℕ) → b < 256 → eqb (bit_and 128 b) 0 ≡ ltb b 128
-mask_128 = mask_is 128 (λ b. ltb b 128) refl
+pub clear_128 : (b : ℕ) → b < 256 → (eqb (bit_and 0x80 b) 0 ≡ true) ↔ (b < 128)
+clear_128 b lt =
+    let same = mask_is 0x80 (λ b. ltb b 128) refl b lt in (λ e. ltb-true _ _ (sym same ∙ e), λ e. same ∙ lt-ltb _ _ e)
 
 -- ---- byte 0
 
@@ -39,37 +47,3 @@ pub width_of : (k : Layout) (b : ℕ) → b < 256 → layout_at b ≡ Some k →
 width_of k b lt kind =
     sym (ap (λ (o : Option Layout). is_width o (is_wide b)) kind)
     ∙ agree_below_at (λ b. is_width (layout_at b) (is_wide b)) (λ b. true) 256 b refl lt
-
--- what the bits that are 0 say
-pub clear_3 : (b : ℕ) → b < 256 → eqb (bit_and 3 b) 0 ≡ true → b % 4 ≡ 0
-clear_3 b lt e = eqb-true _ _ (sym (mask_3 b lt) ∙ e)
-
-pub clear_192 : (b : ℕ) → b < 256 → eqb (bit_and 192 b) 0 ≡ true → b < 64
-clear_192 b lt e = ltb-true _ _ (sym (mask_192 b lt) ∙ e)
-
-pub clear_195 : (b : ℕ) → b < 256 → eqb (bit_and 195 b) 0 ≡ true → (b < 64) × (b % 4 ≡ 0)
-clear_195 b lt e =
-    let p = and_parts (ltb b 64) (eqb (b % 4) 0) (sym (mask_195 b lt) ∙ e) in
-    (ltb-true _ _ p.0, eqb-true _ _ p.1)
-
-pub clear_240 : (b : ℕ) → b < 256 → eqb (bit_and 240 b) 0 ≡ true → b < 16
-clear_240 b lt e = ltb-true _ _ (sym (mask_240 b lt) ∙ e)
-
-pub clear_128 : (b : ℕ) → b < 256 → eqb (bit_and 128 b) 0 ≡ true → b < 128
-clear_128 b lt e = ltb-true _ _ (sym (mask_128 b lt) ∙ e)
-
--- and the other way round
-pub has_clear_3 : (b : ℕ) → b < 256 → b % 4 ≡ 0 → eqb (bit_and 3 b) 0 ≡ true
-has_clear_3 b lt e = mask_3 b lt ∙ eq-eqb _ _ e
-
-pub has_clear_192 : (b : ℕ) → b < 64 → eqb (bit_and 192 b) 0 ≡ true
-has_clear_192 b lt = mask_192 b (omega arith) ∙ lt-ltb _ _ lt
-
-pub has_clear_195 : (b : ℕ) → b < 64 → b % 4 ≡ 0 → eqb (bit_and 195 b) 0 ≡ true
-has_clear_195 b lt e = mask_195 b (omega arith) ∙ and_from _ _ (lt-ltb _ _ lt) (eq-eqb _ _ e)
-
-pub has_clear_240 : (b : ℕ) → b < 16 → eqb (bit_and 240 b) 0 ≡ true
-has_clear_240 b lt = mask_240 b (omega arith) ∙ lt-ltb _ _ lt
-
-pub has_clear_128 : (b : ℕ) → b < 128 → eqb (bit_and 128 b) 0 ≡ true
-has_clear_128 b lt = mask_128 b (omega arith) ∙ lt-ltb _ _ lt

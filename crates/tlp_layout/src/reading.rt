@@ -58,7 +58,8 @@ fn number_at(bytes: &[u8], place: usize) -> u16
 
 /// T9 and T8 of byte 1 above the byte at the place.
 fn tag_at(bytes: &[u8], place: usize) -> u16
-    requires { (1 < length bytes.now) × (place < length bytes.now) }
+    requires second { 1 < length bytes.now }
+    requires within { place < length bytes.now }
     ensures { result ≡ tag_named bytes.now place }
 {
     512 * u16::from(bytes[1] >> 7) + 256 * u16::from((bytes[1] >> 3) & 1) + u16::from(bytes[place])

@@ -1,6 +1,7 @@
 use Rattle.std.proofs.Common.{arith}
 use Rattle.std.proofs.lemmas.Result.{err_from_is_err_and}
-use Rattle.tlp_layout.proofs.Found.{head_fault, head_trails, head_found}
+use Rattle.first_fault.proofs.Cells.{IsBytes}
+use Rattle.tlp_layout.proofs.Found.{has_head, head_fault, head_trails, head_found}
 use Rattle.tlp_layout.proofs.reading.whole_head.Goals as goal
 
 pub returns-in_err-layout-clause-err : goal.returns-in_err-layout-clause-err
@@ -11,9 +12,13 @@ returns-in_err-layout-clause-err c =
 pub returns-then-bytes-size-clause-err : goal.returns-then-bytes-size-clause-err
 returns-then-bytes-size-clause-err c =
     let h = c.in_ok-layout.ensures in
-    head_trails _ _ _ (record { fit = λ i. omega (arith, c.type_inv.bytes i); kind = h.layout; size = h.size.0; within = h.size.1; agrees = h.agrees }) (omega arith)
+    let fit : IsBytes c.args.bytes.now = λ i. omega (arith, c.type_inv.bytes i) in
+    let begun = has_head c.in_ok-layout.layout c.args.bytes.now c.in_ok-layout.size fit h.layout h.size h.agrees in
+    head_trails _ _ _ begun (omega arith)
 
 pub returns-clause-ok : goal.returns-clause-ok
 returns-clause-ok c =
     let h = c.in_ok-layout.ensures in
-    rw c.head_view.ensures (head_found _ _ _ (record { fit = λ i. omega (arith, c.type_inv.bytes i); kind = h.layout; size = h.size.0; within = h.size.1; agrees = h.agrees }) (omega arith))
+    let fit : IsBytes c.args.bytes.now = λ i. omega (arith, c.type_inv.bytes i) in
+    let begun = has_head c.in_ok-layout.layout c.args.bytes.now c.in_ok-layout.size fit h.layout h.size h.agrees in
+    rw c.head_view.ensures (head_found _ _ _ begun (omega arith))

@@ -1,0 +1,240 @@
+//! The device's responder.
+
+ghost use Rattle.std.specs.Prelude.{◌≡◌, ◌+◌, ◌<◌, ◌≤◌, ◌++◌, Some, None, length, slice_index, if◌then◌else◌, vec_len, vec_capacity};
+ghost use Rattle.ide_km.specs.Objects.{spelling};
+ghost use Rattle.ide_km.specs.Replies.{set_of, direction_of, sub_of, key_call, call_for, call_of, Moved, Kept, status_of, is_done, description, reply_for, refusal_of, reply_of, bytes_of};
+
+use crate::object::KmView;
+use crate::port::SlotPort;
+use crate::reading::km_read;
+use crate::status::KeyStatus;
+use crate::writing::km_write;
+use key_slots::Key;
+
+/// The responder of a device's port: it answers requests of key management (PCI Express Base 6.0 section 6.33, in
+/// this profile's layout).
+#[derive(Clone, Copy, Debug)]
+pub struct Responder {
+    rid: u16,
+}
+
+fn set(selector: u8) -> u8
+    ensures { result ≡ set_of selector }
+{
+    selector % 2
+}
+
+fn direction(selector: u8) -> u8
+    ensures { result ≡ direction_of selector }
+{
+    selector / 2 % 2
+}
+
+fn sub(selector: u8) -> u8
+    ensures { result ≡ sub_of selector }
+{
+    selector / 16
+}
+
+/// Programs a key, where the port index is 0 and the initial counter is 1.
+fn program<P: SlotPort>(
+    port: &mut P,
+    stream: u8,
+    selector: u8,
+    index: u8,
+    key: [u8; 32],
+    counter: u64,
+    draw: u32,
+) -> KeyStatus
+    ensures moved { let call = key_call (P.slots port.old) draw stream selector index key counter in
+        Moved P.moves port.old call port.new }
+    ensures slots { let call = key_call (P.slots port.old) draw stream selector index key counter in
+        Kept (P.slots port.old) (P.unfinished port.old) call (P.slots port.new) }
+    ensures status { result ≡ status_of index (key_call (P.slots port.old) draw stream selector index key counter) }
+{
+    if index != 0 {
+        return KeyStatus::Port;
+    }
+    if counter != 1 {
+        return KeyStatus::Refused;
+    }
+    match port.program(
+        stream,
+        set(selector),
+        direction(selector),
+        sub(selector),
+        Key::of(key),
+        draw,
+    ) {
+        Ok(()) => KeyStatus::Success,
+        Err(_) => KeyStatus::Refused,
+    }
+}
+
+/// Starts or stops a slot, where the port index is 0, and answers whether it did.
+fn go<P: SlotPort>(port: &mut P, stream: u8, selector: u8, index: u8, draw: u32) -> bool
+    ensures moved { let call = call_for (P.slots port.old) draw (KmView.SetGo stream selector index) in
+        Moved P.moves port.old call port.new }
+    ensures slots { let call = call_for (P.slots port.old) draw (KmView.SetGo stream selector index) in
+        Kept (P.slots port.old) (P.unfinished port.old) call (P.slots port.new) }
+    ensures done { result ≡ is_done (call_for (P.slots port.old) draw (KmView.SetGo stream selector index)) }
+{
+    index == 0 && port.go(stream, set(selector), direction(selector), sub(selector))
+}
+
+fn halt<P: SlotPort>(port: &mut P, stream: u8, selector: u8, index: u8, draw: u32) -> bool
+    ensures moved { let call = call_for (P.slots port.old) draw (KmView.SetStop stream selector index) in
+        Moved P.moves port.old call port.new }
+    ensures slots { let call = call_for (P.slots port.old) draw (KmView.SetStop stream selector index) in
+        Kept (P.slots port.old) (P.unfinished port.old) call (P.slots port.new) }
+    ensures done { result ≡ is_done (call_for (P.slots port.old) draw (KmView.SetStop stream selector index)) }
+{
+    index == 0 && port.halt(stream, set(selector), direction(selector), sub(selector))
+}
+
+/// Acknowledges what was done.
+fn acknowledgement(done: bool, stream: u8, selector: u8, port: u8) -> Option<KmView>
+    ensures { result ≡ (if done then Some (KmView.GoStopAck stream selector port) else None) }
+{
+    done.then_some(KmView::GoStopAck {
+        stream,
+        selector,
+        port,
+    })
+}
+
+/// The byte at a place, 0 where it is missing.
+fn byte(bytes: &[u8], place: usize) -> u8
+    ensures { result ≡ slice_index bytes.now place }
+{
+    match bytes.get(place) {
+        Some(byte) => *byte,
+        None => 0,
+    }
+}
+
+/// The reply to a request that is no object.
+fn refusal(request: &[u8]) -> Option<KmView>
+    ensures { result ≡ refusal_of request.now }
+{
+    if request.len() < 2 || request[0] != 0 || request[1] != 2 {
+        return None;
+    }
+    Some(KmView::KpAck {
+        stream: byte(request, 4),
+        status: KeyStatus::Length.code(),
+        selector: byte(request, 6),
+        port: byte(request, 7),
+    })
+}
+
+/// Appends the reply, where there is one.
+fn append(object: Option<KmView>, reply: &mut Vec<u8>)
+    requires { vec_len reply.old + length (bytes_of object) ≤ vec_capacity reply.old }
+    ensures items { reply.new.items ≡ reply.old.items ++ bytes_of object }
+    ensures capacity { vec_capacity reply.old ≤ vec_capacity reply.new }
+{
+    if let Some(object) = object {
+        km_write(&object, reply);
+    }
+}
+
+impl Responder {
+    /// The responder of a device whose first interface has this requester ID, 0 where there is none.
+    pub fn make(rid: u16) -> Responder
+        ensures { result ≡ record { rid = rid } }
+    {
+        Responder { rid }
+    }
+
+    /// What the port is.
+    fn describe(&self) -> KmView
+        ensures { result ≡ description self.now.rid }
+    {
+        let [bus, device_function] = self.rid.to_be_bytes();
+        KmView::QueryResp {
+            port: 0,
+            device_function,
+            bus,
+            segment: 0,
+            highest: 0,
+        }
+    }
+
+    /// Makes the call of the port that the object asks for, and answers the reply.
+    fn respond<P: SlotPort>(&self, port: &mut P, object: KmView, draw: u32) -> Option<KmView>
+        ensures moved { Moved P.moves port.old (call_for (P.slots port.old) draw object) port.new }
+        ensures slots { let call = call_for (P.slots port.old) draw object in
+            Kept (P.slots port.old) (P.unfinished port.old) call (P.slots port.new) }
+        ensures reply { result ≡ reply_for self.now.rid object (call_for (P.slots port.old) draw object) }
+        ensures short { length (bytes_of result) ≤ 8 }
+    {
+        match object {
+            KmView::Query { port: index } => {
+                if index == 0 {
+                    Some(self.describe())
+                } else {
+                    None
+                }
+            }
+            KmView::KeyProg {
+                stream,
+                selector,
+                port: index,
+                key,
+                counter,
+            } => {
+                let status = program(port, stream, selector, index, key, counter, draw);
+                Some(KmView::KpAck {
+                    stream,
+                    status: status.code(),
+                    selector,
+                    port: index,
+                })
+            }
+            KmView::SetGo {
+                stream,
+                selector,
+                port: index,
+            } => {
+                let done = go(port, stream, selector, index, draw);
+                acknowledgement(done, stream, selector, index)
+            }
+            KmView::SetStop {
+                stream,
+                selector,
+                port: index,
+            } => {
+                let done = halt(port, stream, selector, index, draw);
+                acknowledgement(done, stream, selector, index)
+            }
+            _ => None,
+        }
+    }
+
+    /// Answers a request: makes at most one call of the port, and appends the reply, or nothing. `draw` is the
+    /// number under which a KEY_PROG's key is kept. `reply` has 8 bytes of room, so it takes no memory (this
+    /// profile).
+    pub fn answer<P: SlotPort>(
+        &mut self,
+        port: &mut P,
+        request: &[u8],
+        draw: u32,
+        reply: &mut Vec<u8>,
+    )
+        requires { vec_len reply.old + 8 ≤ vec_capacity reply.old }
+        ensures same { self.new ≡ self.old }
+        ensures moved { Moved P.moves port.old (call_of (P.slots port.old) request.now draw) port.new }
+        ensures slots { let call = call_of (P.slots port.old) request.now draw in
+            Kept (P.slots port.old) (P.unfinished port.old) call (P.slots port.new) }
+        ensures reply { let call = call_of (P.slots port.old) request.now draw in
+            reply.new.items ≡ reply.old.items ++ reply_of self.old.rid request.now call }
+        ensures capacity { vec_capacity reply.old ≤ vec_capacity reply.new }
+    {
+        let object = match km_read(request) {
+            Ok(object) => self.respond(port, object, draw),
+            Err(_) => refusal(request),
+        };
+        append(object, reply);
+    }
+}

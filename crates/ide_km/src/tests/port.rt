@@ -1,0 +1,66 @@
+//! A port of one place, for tests.
+
+ghost use Rattle.std.specs.Prelude.{◌≡◌, ◌&&◌, nat_lt, if◌then◌else◌, Some, None};
+ghost use Rattle.ide_km.specs.Calls.{is_place, place_at};
+
+use crate::{ProgramFault, SlotPort};
+use key_slots::{Key, OnlyLive, Slots};
+
+/// A port that has stream 5 in one direction and one sub-stream. Tests look at its slots.
+#[derive(Drop)]
+pub struct OnePort {
+    pub direction: u8,
+    pub sub: u8,
+    pub unfinished: bool,
+    pub slots: Slots,
+}
+
+impl OnePort {
+    fn has(&self, stream: u8, dir: u8, sub: u8) -> bool
+        ensures { let own = place_at 5 self.now.direction self.now.sub in
+            result ≡ (is_place (place_at stream dir sub) own && nat_lt sub 3) }
+    {
+        ((stream == 5 && dir == self.direction) && sub == self.sub) && sub < 3
+    }
+}
+
+impl SlotPort for OnePort {
+    ghost use Rattle.ide_km.specs.Calls.{Place, PortCall};
+
+    ghost slots = { λ port place.
+        if is_place place (place_at 5 port.direction port.sub) then Some port.slots else None };
+
+    ghost unfinished = { λ port place. port.unfinished };
+
+    ghost moves = { λ before call after. after.direction ≡ before.direction };
+
+    fn program(
+        &mut self,
+        stream: u8,
+        set: u8,
+        dir: u8,
+        sub: u8,
+        key: Key,
+        draw: u32,
+    ) -> Result<(), ProgramFault> {
+        if !self.has(stream, dir, sub) {
+            return Err(ProgramFault::NoPlace(key));
+        }
+        match self.slots.program(set, key, draw) {
+            Ok(()) => Ok(()),
+            Err(OnlyLive { key }) => Err(ProgramFault::OnlyLive(key)),
+        }
+    }
+
+    fn go(&mut self, stream: u8, set: u8, dir: u8, sub: u8) -> bool {
+        self.has(stream, dir, sub) && self.slots.arm(set, self.unfinished).is_ok()
+    }
+
+    fn halt(&mut self, stream: u8, set: u8, dir: u8, sub: u8) -> bool {
+        if !self.has(stream, dir, sub) {
+            return false;
+        }
+        self.slots.halt(set);
+        true
+    }
+}

@@ -1,0 +1,107 @@
+-- The bounds and rules that every plan meets.
+use Rattle.std.specs.Prelude.{ℕ, ◌≡◌, ◌≢◌, ◌+◌, ◌*◌, ◌^◌, ◌/◌, ◌%◌, ◌<◌, ◌≤◌, ◌==◌, ◌||◌, Bool, true, false, IsTrue, List, length, Option, Some, None, All, AllPairs, sum_by}
+use Rattle.ide_plan.specs.declared.stream.IdRange.{IdRange}
+use Rattle.ide_plan.specs.declared.stream.AddressRange.{AddressRange}
+use Rattle.ide_plan.specs.declared.stream.Selector.{Selector}
+use Rattle.ide_plan.specs.declared.stream.Selector.TheVariants.{Selective, Link}
+use Rattle.ide_plan.specs.declared.stream.StreamPlan.{StreamPlan}
+use Rattle.ide_plan.specs.declared.interface.InterfacePlan.{InterfacePlan}
+use Rattle.ide_plan.specs.declared.interface.BarPlan.{BarPlan}
+use Rattle.ide_plan.specs.declared.plan.Region.{Region}
+use Rattle.ide_plan.specs.declared.plan.LinkPlan.{LinkPlan}
+use Rattle.ide_plan.specs.declared.plan.Plan.{Plan}
+use Rattle.ide_plan.specs.Plans.{is_default, same_id, both_default, share_class, has_selective, overlap}
+
+abbrev pub AreBytes : List ℕ → Type 0
+AreBytes bytes = All (λ b. b < 256) bytes
+
+-- 32 bytes
+abbrev pub IsKey : List ℕ → Type 0
+IsKey key = (length key ≡ 32) × AreBytes key
+
+-- from the base to the limit
+abbrev pub FitsIds : Option IdRange → Type 0
+FitsIds None = Unit {0}
+FitsIds (Some ids) = (ids.base ≤ ids.limit) × (ids.limit ≤ 65535)
+
+-- whole blocks of 2^20 bytes
+pub record FitsAddresses (r : AddressRange) : Type 0 where
+  pub base : r.base % 1048576 ≡ 0
+  pub limit : (r.limit + 1) % 1048576 ≡ 0
+  pub in_order : r.base < r.limit
+  pub most : r.limit < 2 ^ 63
+
+abbrev pub FitsSelector : Selector → Type 0
+FitsSelector (Selective ids addresses default) = FitsIds ids × (length addresses ≤ 8) × All FitsAddresses addresses
+FitsSelector (Link classes) = All (λ c. c ≤ 7) classes
+
+-- 1, 2, 4 or 8 packets in a unit
+abbrev pub is_mode : ℕ → Bool
+is_mode n = (n == 1 || n == 2) || (n == 4 || n == 8)
+
+pub record FitsStream (s : StreamPlan) : Type 0 where
+  pub id : s.id ≤ 255
+  pub mode : is_mode s.mode ≡ true
+  pub selector : FitsSelector s.selector
+
+pub record FitsBar (b : BarPlan) : Type 0 where
+  pub base : b.base < 2 ^ 63
+  pub pages : b.pages ≤ 1048576
+  pub attributes : b.attributes ≤ 15
+
+-- an interface of a link with these streams
+pub record FitsInterface (streams : List StreamPlan) (i : InterfacePlan) : Type 0 where
+  pub requester : i.requester ≤ 65535
+  pub stream : has_selective i.stream streams ≡ true
+  pub flags : i.flags ≤ 23
+  pub no_peers : i.flags / 8 % 2 ≡ 0
+  pub offset : i.offset % 4096 ≡ 0
+  pub offset_most : i.offset < 2 ^ 63
+  pub command : i.command ≤ 65535
+  pub msix : i.msix ≤ 65535
+  pub lnr : i.lnr ≤ 65535
+  pub cache_line : i.cache_line ≤ 255
+  pub tph : i.tph < 2 ^ 32
+  pub pasid : i.pasid ≤ 65535
+  pub ats : i.ats ≤ 65535
+  pub info : length i.info ≤ 1024
+  pub info_bytes : AreBytes i.info
+  pub bars : length i.bars ≤ 6
+  pub each_bar : All FitsBar i.bars
+
+pub record FitsLink (l : LinkPlan) : Type 0 where
+  pub nonces : length l.nonces ≤ 1024
+  pub each_nonce : All IsKey l.nonces
+  pub streams_least : 1 ≤ length l.streams
+  pub streams_most : length l.streams ≤ 16
+  pub each_stream : All FitsStream l.streams
+  pub ids_differ : AllPairs (λ s t. s.id ≢ t.id) l.streams
+  pub one_default : AllPairs (λ s t. both_default s t ≡ false) l.streams
+  pub classes_apart : AllPairs (λ s t. share_class s t ≡ false) l.streams
+  pub each_interface : All (FitsInterface l.streams) l.interfaces
+  pub requesters_differ : AllPairs (λ i j. i.requester ≢ j.requester) l.interfaces
+
+pub record FitsRegion (r : Region) : Type 0 where
+  pub base : r.base % 4096 ≡ 0
+  pub size : r.size % 4096 ≡ 0
+  pub size_least : 4096 ≤ r.size
+  pub most : r.base + r.size ≤ 2 ^ 63
+
+pub record FitsPlan (p : Plan) : Type 0 where
+  pub portion_least : 16 ≤ p.portion
+  pub portion_most : p.portion ≤ 65535
+  pub units_least : 1 ≤ p.units_per_key
+  pub units_most : p.units_per_key ≤ 2 ^ 32
+  pub pool_least : 6 ≤ length p.pool
+  pub pool_most : length p.pool ≤ 6144
+  pub pool_sixes : length p.pool % 6 ≡ 0
+  pub each_key : All IsKey p.pool
+  pub keys_differ : AllPairs (λ key other. key ≢ other) p.pool
+  pub links_least : 1 ≤ length p.links
+  pub links_most : length p.links ≤ 8
+  pub each_link : All FitsLink p.links
+  pub interfaces_most : sum_by (λ l. length l.interfaces) p.links ≤ 32
+  pub regions_most : length p.memory ≤ 16
+  pub each_region : All FitsRegion p.memory
+  pub memory_most : sum_by (λ r. r.size) p.memory ≤ 16777216
+  pub regions_apart : AllPairs (λ r q. overlap r q ≡ false) p.memory

@@ -1,0 +1,42 @@
+-- What is told of the parts of a plan.
+use Rattle.std.specs.Prelude.{ℕ, ◌+◌, ◌==◌, ◌&&◌, nat_lt, Bool, true, false, List, []}
+use Rattle.std.specs.List.{list_any}
+use Rattle.ide_plan.specs.declared.stream.Selector.{Selector}
+use Rattle.ide_plan.specs.declared.stream.Selector.TheVariants.{Selective, Link}
+use Rattle.ide_plan.specs.declared.stream.StreamPlan.{StreamPlan}
+use Rattle.ide_plan.specs.declared.plan.Region.{Region}
+
+abbrev pub is_selective : Selector → Bool
+is_selective (Selective ids addresses default) = true
+is_selective (Link classes) = false
+
+-- a stream takes what no selective stream takes by ID or address
+abbrev pub is_default : Selector → Bool
+is_default (Selective ids addresses default) = default
+is_default (Link classes) = false
+
+-- the traffic classes that a link stream takes
+abbrev pub classes_of : Selector → List ℕ
+classes_of (Selective ids addresses default) = []
+classes_of (Link classes) = classes
+
+abbrev pub same_id : StreamPlan → StreamPlan → Bool
+same_id s t = s.id == t.id
+
+abbrev pub both_default : StreamPlan → StreamPlan → Bool
+both_default s t = is_default s.selector && is_default t.selector
+
+-- a traffic class is among others
+abbrev pub is_among : ℕ → List ℕ → Bool
+is_among c cs = list_any (λ d. c == d) cs
+
+abbrev pub share_class : StreamPlan → StreamPlan → Bool
+share_class s t = list_any (λ c. is_among c (classes_of t.selector)) (classes_of s.selector)
+
+-- a selective stream of the ID is among them
+abbrev pub has_selective : ℕ → List StreamPlan → Bool
+has_selective id streams = list_any (λ s. is_selective s.selector && s.id == id) streams
+
+-- a byte is in both regions
+abbrev pub overlap : Region → Region → Bool
+overlap r q = nat_lt r.base (q.base + q.size) && nat_lt q.base (r.base + r.size)

@@ -1,0 +1,50 @@
+-- A pool of keys, and the draws from it (this profile).
+use Rattle.std.specs.Prelude.{ℕ, ◌+◌, ◌*◌, ◌/◌, List, [], ◌∷◌, map, length, slice_index_or, nat_lt, Option, Some, Result, Ok, Err, if◌then◌else◌}
+use Rattle.key_slots.specs.declared.pool.PoolEmpty.{PoolEmpty}
+
+-- its keys, and how many draws were made
+pub record Pool : Type 0 where
+  pub keys : List (List ℕ)
+  pub draws : ℕ
+
+-- the place of a direction (0 from host to device, 1 from device to host) and a sub-stream among the six of a draw
+abbrev pub key_place : ℕ → ℕ → ℕ
+key_place direction sub = 3 * direction + sub
+
+-- the key of a draw at a place: number 6 * draw + place of the pool
+abbrev pub pool_key : List (List ℕ) → ℕ → ℕ → List ℕ
+pool_key keys draw place = slice_index_or keys (6 * draw + place) []
+
+-- the six keys of a draw, by place
+abbrev pub six_keys : List (List ℕ) → ℕ → List (List ℕ)
+six_keys keys draw =
+    pool_key keys draw 0 ∷ pool_key keys draw 1 ∷ pool_key keys draw 2
+    ∷ pool_key keys draw 3 ∷ pool_key keys draw 4 ∷ pool_key keys draw 5 ∷ []
+
+-- how many draws the keys last for
+abbrev pub draws_in : List (List ℕ) → ℕ
+draws_in keys = length keys / 6
+
+-- a pool of which nothing was drawn
+abbrev pub new_pool : List (List ℕ) → Pool
+new_pool keys = record { keys = keys; draws = 0 }
+
+-- the six keys of one draw, with its number
+pub record DrawnSix : Type 0 where
+  pub draw : ℕ
+  pub keys : List (List ℕ)
+
+-- the next draw; where all were made, how many they are
+abbrev pub draw_answer : Pool → Result DrawnSix PoolEmpty
+draw_answer pool =
+    if nat_lt pool.draws (draws_in pool.keys) then
+    Ok (record { draw = pool.draws; keys = six_keys pool.keys pool.draws })
+    else Err (record { draws = pool.draws })
+
+abbrev pub pool_after : Pool → Pool
+pool_after pool =
+    if nat_lt pool.draws (draws_in pool.keys) then record { keys = pool.keys; draws = pool.draws + 1 } else pool
+
+-- the six keys of a draw, none of them spent
+abbrev pub unspent : List (List ℕ) → List (Option (List ℕ))
+unspent keys = map Some keys

@@ -1,0 +1,263 @@
+//! The two slots of one sub-stream in one direction.
+
+ghost use Rattle.std.specs.Prelude.{◌≡◌, ◌<◌, true, false, not, is_ok, if◌then◌else◌};
+ghost use Rattle.std.specs.Option.{option_copied, option_map};
+ghost use Rattle.key_slots.specs.Slots.{is_one, is_newer_than, is_older, live_draw, after_go, after_end};
+
+use crate::Key;
+use crate::slot::{HeldKey, Slot, SlotState};
+use gcm_seal::Gcm;
+use std::marker::Model;
+use std::mem;
+
+/// The slot is Live and the other is not a newer Live one. The key comes back.
+#[derive(Debug, Drop)]
+pub struct OnlyLive {
+    pub key: Key,
+}
+
+/// The slot has no key.
+#[derive(Clone, Copy, Debug, PartialEq, Eq)]
+pub struct SlotEmpty;
+
+/// The slots of key set 0 and of key set 1, of a sender or of a receiver (PCI Express Base 6.0 section 6.33, in
+/// this profile). In each call `set` is 0 or 1.
+#[derive(Drop)]
+pub struct Slots {
+    sender: bool,
+    zero: Slot,
+    one: Slot,
+}
+
+impl Model for Slots {
+    ghost use Rattle.std.specs.Prelude.{◌≡◌, true};
+    ghost use Rattle.key_slots.specs.Slots.{SlotPair, may_stand};
+
+    ghost Value = { SlotPair };
+
+    ghost view = { λ s. record { sender = s.sender; zero = s.zero; one = s.one } };
+
+    ghost invariant = { λ s. may_stand s.sender s.zero s.one ≡ true };
+}
+
+impl Slots {
+    ghost use Rattle.key_slots.specs.declared.slot.Slot.TheVariants.{Empty};
+    ghost use Rattle.key_slots.specs.Slots.{may_stand, is_sound, empty_pair, slot_in, with_both, is_only_live, program_answer, programmed, is_empty, armed, halted, ended, accepted, live_set, state_of, held_key, shown_key};
+
+    /// Both slots empty.
+    pub fn make(sender: bool) -> Slots
+        ensures { result ≡ empty_pair sender }
+    {
+        Slots {
+            sender,
+            zero: Slot::Empty,
+            one: Slot::Empty,
+        }
+    }
+
+    fn slot_ref(&self, set: u8) -> &Slot
+        requires { set < 2 }
+        ensures { result.now ≡ slot_in self.now (is_one set) }
+    {
+        if set == 1 { &self.one } else { &self.zero }
+    }
+
+    // The slot of this set and the other, which are left empty.
+    fn take(&mut self, set: u8) -> (Slot, Slot)
+        requires { set < 2 }
+        ensures mine { result.0 ≡ slot_in self.old (is_one set) }
+        ensures other { result.1 ≡ slot_in self.old (not (is_one set)) }
+        ensures may_stand { may_stand self.old.sender result.0 result.1 ≡ true }
+        ensures left { self.new ≡ empty_pair self.old.sender }
+    {
+        let zero = mem::replace(&mut self.zero, Slot::Empty);
+        let one = mem::replace(&mut self.one, Slot::Empty);
+        ordered(set, zero, one)
+    }
+
+    fn put(&mut self, set: u8, mine: Slot, other: Slot)
+        requires set { set < 2 }
+        requires may_stand { may_stand self.old.sender mine other ≡ true }
+        ensures { self.new ≡ with_both self.old.sender (is_one set) (mine, other) }
+    {
+        if set == 1 {
+            self.zero = other;
+            self.one = mine;
+        } else {
+            self.zero = mine;
+            self.one = other;
+        }
+    }
+
+    fn is_only_live(&self, set: u8) -> bool
+        requires { set < 2 }
+        ensures { result ≡ is_only_live self.now (is_one set) }
+    {
+        match self.slot_ref(set).live_draw() {
+            None => false,
+            Some(draw) => !is_newer_than(set, draw, self.slot_ref(1 - set).live_draw()),
+        }
+    }
+
+    /// Programs the slot with a key of this draw. `OnlyLive` comes exactly where the slot is Live and the other is
+    /// not a newer Live one: the key comes back, and the slots are as before.
+    pub fn program(&mut self, set: u8, key: Key, draw: u32) -> Result<(), OnlyLive>
+        requires { set < 2 }
+        ensures answer { result ≡ program_answer self.old (is_one set) key }
+        ensures slots { self.new ≡ programmed self.old (is_one set) (record { key = key; draw = draw }) }
+    {
+        if self.is_only_live(set) {
+            return Err(OnlyLive { key });
+        }
+        let (_, other) = self.take(set);
+        self.put(set, Slot::Programmed(HeldKey::new(key, draw)), other);
+        Ok(())
+    }
+
+    /// GO: takes a Programmed key into use. A receiver's is Live at once; a sender's at once where no unit is
+    /// `unfinished`, and the other slot is emptied, else it is Armed until that unit ends. A Live or Armed slot
+    /// stays as it is. `SlotEmpty` comes exactly of an Empty slot.
+    pub fn arm(&mut self, set: u8, unfinished: bool) -> Result<(), SlotEmpty>
+        requires { set < 2 }
+        ensures answer { is_ok result ≡ not (is_empty (slot_in self.old (is_one set))) }
+        ensures slots { self.new ≡ armed self.old (is_one set) unfinished }
+    {
+        if self.slot_ref(set).is_empty() {
+            return Err(SlotEmpty);
+        }
+        let sender = self.sender;
+        let (mine, other) = self.take(set);
+        let (mine, other) = after_go(sender, unfinished, mine, other);
+        self.put(set, mine, other);
+        Ok(())
+    }
+
+    /// STOP: empties the slot; an Armed other one becomes Live.
+    pub fn halt(&mut self, set: u8)
+        requires { set < 2 }
+        ensures { self.new ≡ halted self.old (is_one set) }
+    {
+        let (_, other) = self.take(set);
+        self.put(set, Slot::Empty, other.woken());
+    }
+
+    /// A sender's unit ended: an Armed slot becomes Live, and the other is emptied.
+    pub fn ended(&mut self)
+        ensures { self.new ≡ ended self.old }
+    {
+        let (zero, one) = self.take(0);
+        let (zero, one) = after_end(zero, one);
+        self.put(0, zero, one);
+    }
+
+    /// A unit was accepted under this Live slot of a receiver: an older Live one is emptied.
+    pub fn accepted(&mut self, set: u8)
+        requires { set < 2 }
+        ensures { self.new ≡ accepted self.old (is_one set) }
+    {
+        if self.is_other_older(set) {
+            let (mine, _) = self.take(set);
+            self.put(set, mine, Slot::Empty);
+        }
+    }
+
+    fn is_other_older(&self, set: u8) -> bool
+        requires { set < 2 }
+        ensures { let mine = slot_in self.now (is_one set) in
+            let other = slot_in self.now (not (is_one set)) in
+            result ≡ is_older (not (is_one set)) (live_draw other) (live_draw mine) }
+    {
+        match self.slot_ref(1 - set).live_draw() {
+            None => false,
+            Some(draw) => is_newer_than(1 - set, draw, self.slot_ref(set).live_draw()),
+        }
+    }
+
+    /// The Live set; of two Live slots of a receiver the newer, the one of the greater draw, between equal draws
+    /// set 1.
+    pub fn live(&self) -> Option<u8>
+        ensures live { result ≡ live_set self.now }
+        // A sender has at most one Live slot, and a receiver no Armed one.
+        ensures sound { is_sound self.now ≡ true }
+    {
+        match (self.zero.live_draw(), self.one.live_draw()) {
+            (None, None) => None,
+            (None, Some(_)) => Some(1),
+            (Some(_), None) => Some(0),
+            (Some(zero), one) => Some(is_newer_than(0, zero, one) as u8),
+        }
+    }
+
+    /// The state of a slot, and its key, lent, with its draw, where it has one.
+    pub fn slot(&self, set: u8) -> (SlotState, Option<(&Key, u32)>)
+        requires { set < 2 }
+        ensures state { result.0 ≡ state_of (slot_in self.now (is_one set)) }
+        ensures key { shown_key result.1 ≡ held_key (slot_in self.now (is_one set)) }
+    {
+        let slot = self.slot_ref(set);
+        match slot.held() {
+            None => (slot.state(), None),
+            Some(held) => (slot.state(), Some((held.key(), held.draw()))),
+        }
+    }
+
+    /// The prepared form of a slot's key, lent, where it has one.
+    pub fn cipher(&self, set: u8) -> Option<&Gcm>
+        requires { set < 2 }
+        ensures { option_copied result ≡ option_map (λ held. held.key) (held_key (slot_in self.now (is_one set))) }
+    {
+        match self.slot_ref(set).held() {
+            None => None,
+            Some(held) => Some(held.cipher()),
+        }
+    }
+}
+
+// The slot of a set first.
+fn ordered(set: u8, zero: Slot, one: Slot) -> (Slot, Slot)
+    requires { set < 2 }
+    ensures mine { result.0 ≡ (if is_one set then one else zero) }
+    ensures other { result.1 ≡ (if is_one set then zero else one) }
+{
+    if set == 1 { (one, zero) } else { (zero, one) }
+}
+
+// Whether the other slot, Live under `other`, is newer than a draw in this set.
+fn is_newer_than(set: u8, draw: u32, other: Option<u32>) -> bool
+    requires { set < 2 }
+    ensures { result ≡ is_newer_than (is_one set) draw other }
+{
+    match other {
+        None => false,
+        Some(other) => draw < other || draw == other && set == 0,
+    }
+}
+
+// A slot and the other after the slot's GO.
+fn after_go(sender: bool, unfinished: bool, mine: Slot, other: Slot) -> (Slot, Slot)
+    ensures { result ≡ after_go sender unfinished mine other }
+{
+    match mine {
+        Slot::Programmed(held) => {
+            if !sender {
+                (Slot::Live(held), other)
+            } else if unfinished {
+                (Slot::Armed(held), other)
+            } else {
+                (Slot::Live(held), Slot::Empty)
+            }
+        }
+        slot => (slot, other),
+    }
+}
+
+// A sender's slots after the end of a unit.
+fn after_end(zero: Slot, one: Slot) -> (Slot, Slot)
+    ensures { result ≡ after_end zero one }
+{
+    match (zero, one) {
+        (_, Slot::Armed(held)) => (Slot::Empty, Slot::Live(held)),
+        (Slot::Armed(held), _) => (Slot::Live(held), Slot::Empty),
+        (zero, one) => (zero, one),
+    }
+}

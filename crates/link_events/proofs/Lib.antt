@@ -1,0 +1,7 @@
+pub mod Numbers
+pub mod Steps
+pub mod Meanings
+pub mod Skips
+pub mod Sizes
+pub mod FirstFaults
+pub mod Sevens

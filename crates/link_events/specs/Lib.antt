@@ -1,0 +1,4 @@
+pub mod Words
+pub mod Parse
+pub mod Spells
+pub mod Faults

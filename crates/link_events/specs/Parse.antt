@@ -1,0 +1,172 @@
+-- The event that a line spells, or its first fault, word by word.
+use Rattle.std.specs.Prelude.{◌≡◌, ◌==◌, ◌&&◌, ◌||◌, ℕ, nat_lt, Bool, true, false, not, List, [], ◌∷◌, length, Option, Some, None, Result, Ok, Err, if◌then◌else◌, codes}
+use Rattle.std.specs.List.{list_all}
+use Rattle.std.specs.Option.{ok_or, unwrap_or}
+use Rattle.std.specs.Str.{bytes_eq}
+use Rattle.ide_types.specs.declared.port.Side.{Side}
+use Rattle.ide_types.specs.declared.port.Side.TheVariants.{Host, Device}
+use Rattle.ide_types.specs.Names.{Text}
+use Rattle.link_events.specs.declared.event.Event.{Event}
+use Rattle.link_events.specs.declared.event.Event.TheVariants.{Establish, Refresh, Stop, Send, Pass, Alter, Cut, Arrive, Dump, Reset, Status}
+use Rattle.link_events.specs.declared.event.Loss.{Loss}
+use Rattle.link_events.specs.declared.fault.LineFault.{LineFault}
+use Rattle.link_events.specs.declared.fault.LineFault.TheVariants.{Word, Count, Number, Hex, TooLong, NotAscii}
+use Rattle.link_events.specs.declared.fault.LineError.{LineError}
+use Rattle.link_events.specs.declared.fault.LineError.TheVariants as error
+use Rattle.link_events.specs.Words.{is_printable, words_in, number_in, mask_in, bytes_in, port_in, lost_in}
+
+-- a word after the other: the first fault from the left
+infixl 10 ◌>>=◌
+abbrev pub ◌>>=◌ : {A B : Type 0} → Result A LineFault → (A → Result B LineFault) → Result B LineFault
+(Ok x) >>= f = f x
+(Err e) >>= f = Err e
+
+-- ---- the words behind the first
+
+abbrev pub lost_exchange_in : Text → Text → Result (Option Loss) LineFault
+lost_exchange_in n w = do
+  exchange ← ok_or (number_in n) Number
+  lost ← ok_or (lost_in w) Word
+  Ok (Some (record { exchange = exchange; lost = lost }))
+
+-- nothing, or lose, the number of an exchange, and what is lost of it
+abbrev pub loss_in : List Text → Result (Option Loss) LineFault
+loss_in [] = Ok None
+loss_in (l ∷ n ∷ w ∷ []) = if bytes_eq l (codes "lose") then lost_exchange_in n w else Err Word
+loss_in _ = Err Count
+
+-- whether an operation may have so many words behind its stream
+abbrev pub is_loss_long : List Text → Bool
+is_loss_long [] = true
+is_loss_long (l ∷ n ∷ w ∷ []) = true
+is_loss_long _ = false
+
+-- a link and a stream, and what is lost
+abbrev pub operation_in : List Text → Result (ℕ × ℕ × Option Loss) LineFault
+operation_in (l ∷ s ∷ rest) =
+    if not (is_loss_long rest) then Err Count
+    else do
+      link ← ok_or (number_in l) Number
+      stream ← ok_or (number_in s) Number
+      lose ← loss_in rest
+      Ok (link, stream, lose)
+operation_in _ = Err Count
+
+-- more, and then at a host's port trusted: whether each stands there
+abbrev pub marks_in : Side → List Text → Option (Bool × Bool)
+marks_in side [] = Some (false, false)
+marks_in Host (a ∷ []) =
+    if bytes_eq a (codes "more") then Some (true, false)
+    else if bytes_eq a (codes "trusted") then Some (false, true)
+    else None
+marks_in Device (a ∷ []) = if bytes_eq a (codes "more") then Some (true, false) else None
+marks_in Host (a ∷ b ∷ []) = if bytes_eq a (codes "more") && bytes_eq b (codes "trusted") then Some (true, true) else None
+marks_in _ _ = None
+
+abbrev pub send_in : List Text → Result Event LineFault
+send_in (p ∷ w ∷ marks) =
+    if nat_lt 2 (length marks) then Err Count
+    else do
+      port ← ok_or (port_in p) Word
+      bytes ← ok_or (bytes_in w) Hex
+      m ← ok_or (marks_in port.side marks) Word
+      Ok (Send port bytes m.0 m.1)
+send_in _ = Err Count
+
+abbrev pub one_number_in : List Text → Result ℕ LineFault
+one_number_in (n ∷ []) = ok_or (number_in n) Number
+one_number_in _ = Err Count
+
+abbrev pub two_numbers_in : List Text → Result (ℕ × ℕ) LineFault
+two_numbers_in (m ∷ n ∷ []) = do
+  first ← ok_or (number_in m) Number
+  second ← ok_or (number_in n) Number
+  Ok (first, second)
+two_numbers_in _ = Err Count
+
+abbrev pub alter_in : List Text → Result Event LineFault
+alter_in (n ∷ a ∷ h ∷ []) = do
+  packet ← ok_or (number_in n) Number
+  at ← ok_or (number_in a) Number
+  mask ← ok_or (mask_in h) Hex
+  Ok (Alter packet at mask)
+alter_in _ = Err Count
+
+abbrev pub arrive_in : List Text → Result Event LineFault
+arrive_in (p ∷ w ∷ []) = do
+  port ← ok_or (port_in p) Word
+  bytes ← ok_or (bytes_in w) Hex
+  Ok (Arrive port bytes)
+arrive_in _ = Err Count
+
+-- ---- lines
+
+-- an event that names packets; nothing where the first word is none of theirs
+abbrev pub packet_event_of : Text → List Text → Option (Result Event LineFault)
+packet_event_of first rest =
+    if bytes_eq first (codes "pass") then Some (one_number_in rest >>= λ n. Ok (Pass n))
+    else if bytes_eq first (codes "alter") then Some (alter_in rest)
+    else if bytes_eq first (codes "cut") then Some (two_numbers_in rest >>= λ n. Ok (Cut n.0 n.1))
+    else if bytes_eq first (codes "dump") then Some (one_number_in rest >>= λ n. Ok (Dump n))
+    else None
+
+-- an event that names links, streams and packets, and holds no bytes
+abbrev pub naming_event_of : Text → List Text → Option (Result Event LineFault)
+naming_event_of first rest =
+    if bytes_eq first (codes "establish") then Some (operation_in rest >>= λ o. Ok (Establish o.0 o.1 o.2))
+    else if bytes_eq first (codes "refresh") then Some (operation_in rest >>= λ o. Ok (Refresh o.0 o.1 o.2))
+    else if bytes_eq first (codes "stop") then Some (operation_in rest >>= λ o. Ok (Stop o.0 o.1 o.2))
+    else if bytes_eq first (codes "reset") then Some (one_number_in rest >>= λ n. Ok (Reset n))
+    else if bytes_eq first (codes "status") then Some (two_numbers_in rest >>= λ n. Ok (Status n.0 n.1))
+    else packet_event_of first rest
+
+-- an event that holds bytes
+abbrev pub bytes_event_in : Text → List Text → Result Event LineFault
+bytes_event_in first rest =
+    if bytes_eq first (codes "send") then send_in rest
+    else if bytes_eq first (codes "arrive") then arrive_in rest
+    else Err Word
+
+abbrev pub event_by : Text → List Text → Result Event LineFault
+event_by first rest = unwrap_or (naming_event_of first rest) (bytes_event_in first rest)
+
+-- no words are no event
+abbrev pub event_in : List Text → Result (Option Event) LineFault
+event_in [] = Ok None
+event_in (first ∷ rest) = do
+  event ← event_by first rest
+  Ok (Some event)
+
+abbrev pub is_comment : Text → Bool
+is_comment [] = false
+is_comment (b ∷ bs) = b == 35
+
+-- the event, none on a comment and on a line of spaces, or the first fault
+abbrev pub line_meaning : Text → Result (Option Event) LineFault
+line_meaning line =
+    if nat_lt 20000 (length line) then Err TooLong
+    else if is_comment line then Ok None
+    else if not (list_all is_printable line) then Err NotAscii
+    else event_in (words_in line)
+
+-- ---- answers
+
+-- the error is want of memory, or the fault that is due
+abbrev pub IsErrorOf : {A : Type 0} → Result A LineFault → LineError → Type 0
+IsErrorOf due error.Memory = Unit {0}
+IsErrorOf due (error.Fault f) = due ≡ Err f
+
+-- the answer is the one that is due, but for want of memory
+abbrev pub Gives : {A : Type 0} → Result A LineFault → Result A LineError → Type 0
+Gives due (Ok x) = due ≡ Ok x
+Gives due (Err e) = IsErrorOf due e
+
+-- the answer is the one that is due
+abbrev pub answer_of : {A : Type 0} → Result A LineFault → Result A LineError
+answer_of (Ok x) = Ok x
+answer_of (Err f) = Err (error.Fault f)
+
+-- the line begins with the word of an event that holds bytes
+abbrev pub begins_bytes : List Text → Bool
+begins_bytes [] = false
+begins_bytes (first ∷ rest) = bytes_eq first (codes "send") || bytes_eq first (codes "arrive")

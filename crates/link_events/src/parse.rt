@@ -1,0 +1,261 @@
+//! The event that a line of a script spells.
+
+ghost use Rattle.std.specs.Prelude.{◌≡◌, ◌∷◌, [], false, map};
+ghost use Rattle.std.specs.Option.{ok_or};
+ghost use Rattle.link_events.specs.declared.fault.LineFault.TheVariants as fault;
+ghost use Rattle.link_events.specs.Words.{words_in};
+ghost use Rattle.link_events.specs.Parse.{loss_in, operation_in, marks_in, send_in, one_number_in, two_numbers_in, alter_in, arrive_in, bytes_event_in, packet_event_of, naming_event_of, event_by, event_in, line_meaning, begins_bytes, answer_of, Gives};
+ghost use Rattle.link_events.specs.Spells.{MeaningIsSpelling, NothingIsSkipped, SpelledAreAllowed};
+ghost use Rattle.link_events.specs.Faults.{FaultsAreFirst};
+
+use crate::words::{bytes_at, is_printed, lost_at, mask_at, number_at, port_at, words_of};
+use crate::{Event, LINE_LIMIT, LineError, LineFault, Loss};
+use ide_types::Side;
+use std::alloc::Global;
+
+// What is lost, by the words behind an operation's stream.
+fn loss(words: &[&[u8]]) -> Result<Option<Loss>, LineFault>
+    ensures { result ≡ loss_in (map (λ w. w.now) words.now) }
+{
+    match words {
+        [] => Ok(None),
+        [lose, exchange, lost] => {
+            if *lose != b"lose".as_slice() {
+                return Err(LineFault::Word);
+            }
+            let exchange = number_at(exchange)?;
+            let lost = lost_at(lost)?;
+            Ok(Some(Loss { exchange, lost }))
+        }
+        _ => Err(LineFault::Count),
+    }
+}
+
+// The link and the stream of an operation, and what is lost.
+fn operation(words: &[&[u8]]) -> Result<(u64, u64, Option<Loss>), LineFault>
+    ensures { result ≡ operation_in (map (λ w. w.now) words.now) }
+{
+    let [link, stream, rest @ ..] = words else {
+        return Err(LineFault::Count);
+    };
+    if !matches!(rest, [] | [_, _, _]) {
+        return Err(LineFault::Count);
+    }
+    let link = number_at(link)?;
+    let stream = number_at(stream)?;
+    let lose = loss(rest)?;
+    Ok((link, stream, lose))
+}
+
+fn one_number(words: &[&[u8]]) -> Result<u64, LineFault>
+    ensures { result ≡ one_number_in (map (λ w. w.now) words.now) }
+{
+    let [number] = words else {
+        return Err(LineFault::Count);
+    };
+    number_at(number)
+}
+
+fn two_numbers(words: &[&[u8]]) -> Result<(u64, u64), LineFault>
+    ensures { result ≡ two_numbers_in (map (λ w. w.now) words.now) }
+{
+    let [first, second] = words else {
+        return Err(LineFault::Count);
+    };
+    let first = number_at(first)?;
+    let second = number_at(second)?;
+    Ok((first, second))
+}
+
+fn alter(words: &[&[u8]]) -> Result<Event, LineFault>
+    ensures { result ≡ alter_in (map (λ w. w.now) words.now) }
+{
+    let [packet, at, mask] = words else {
+        return Err(LineFault::Count);
+    };
+    let packet = number_at(packet)?;
+    let at = number_at(at)?;
+    let mask = mask_at(mask)?;
+    Ok(Event::Alter { packet, at, mask })
+}
+
+// Whether `more` and `trusted` stand behind the bytes of a send.
+fn marks_at(side: Side, marks: &[&[u8]]) -> Result<(bool, bool), LineFault>
+    ensures { result ≡ ok_or (marks_in side (map (λ w. w.now) marks.now)) fault.Word }
+{
+    match (side, marks) {
+        (_, []) => Ok((false, false)),
+        (_, [a]) if *a == b"more".as_slice() => Ok((true, false)),
+        (Side::Host, [a]) if *a == b"trusted".as_slice() => Ok((false, true)),
+        (Side::Host, [a, b]) if *a == b"more".as_slice() && *b == b"trusted".as_slice() => {
+            Ok((true, true))
+        }
+        _ => Err(LineFault::Word),
+    }
+}
+
+fn send(alloc: Global, words: &[&[u8]]) -> Result<Event, LineError>
+    ensures { Gives (send_in (map (λ w. w.now) words.now)) result }
+{
+    let [port, bytes, marks @ ..] = words else {
+        return Err(LineError::Fault(LineFault::Count));
+    };
+    if marks.len() > 2 {
+        return Err(LineError::Fault(LineFault::Count));
+    }
+    let port = port_at(port)?;
+    let bytes = bytes_at(alloc, bytes)?;
+    let (more, trusted) = marks_at(port.side, marks)?;
+    Ok(Event::Send {
+        port,
+        bytes,
+        more,
+        trusted,
+    })
+}
+
+fn arrive(alloc: Global, words: &[&[u8]]) -> Result<Event, LineError>
+    ensures { Gives (arrive_in (map (λ w. w.now) words.now)) result }
+{
+    let [port, bytes] = words else {
+        return Err(LineError::Fault(LineFault::Count));
+    };
+    let port = port_at(port)?;
+    let bytes = bytes_at(alloc, bytes)?;
+    Ok(Event::Arrive { port, bytes })
+}
+
+fn bytes_event(alloc: Global, first: &[u8], rest: &[&[u8]]) -> Result<Event, LineError>
+    ensures gives { Gives (bytes_event_in first.now (map (λ w. w.now) rest.now)) result }
+    ensures none { begins_bytes (first.now ∷ []) ≡ false → result ≡ Err (LineError.Fault LineFault.Word) }
+{
+    if first == b"send".as_slice() {
+        return send(alloc, rest);
+    }
+    if first == b"arrive".as_slice() {
+        return arrive(alloc, rest);
+    }
+    Err(LineError::Fault(LineFault::Word))
+}
+
+// An event that names packets; nothing where the first word is none of theirs.
+fn packet_event(first: &[u8], rest: &[&[u8]]) -> Option<Result<Event, LineFault>>
+    ensures { result ≡ packet_event_of first.now (map (λ w. w.now) rest.now) }
+{
+    if first == b"pass".as_slice() {
+        return Some(one_number(rest).map(|packet| Event::Pass { packet }));
+    }
+    if first == b"alter".as_slice() {
+        return Some(alter(rest));
+    }
+    if first == b"cut".as_slice() {
+        return Some(two_numbers(rest).map(|(packet, length)| Event::Cut { packet, length }));
+    }
+    if first == b"dump".as_slice() {
+        return Some(one_number(rest).map(|packet| Event::Dump { packet }));
+    }
+    None
+}
+
+// An event that names links, streams and packets, and holds no bytes.
+fn naming_event(first: &[u8], rest: &[&[u8]]) -> Option<Result<Event, LineFault>>
+    ensures { result ≡ naming_event_of first.now (map (λ w. w.now) rest.now) }
+{
+    if first == b"establish".as_slice() {
+        return Some(operation(rest).map(|(link, stream, lose)| Event::Establish {
+            link,
+            stream,
+            lose,
+        }));
+    }
+    if first == b"refresh".as_slice() {
+        return Some(operation(rest).map(|(link, stream, lose)| Event::Refresh {
+            link,
+            stream,
+            lose,
+        }));
+    }
+    if first == b"stop".as_slice() {
+        return Some(operation(rest).map(|(link, stream, lose)| Event::Stop { link, stream, lose }));
+    }
+    if first == b"reset".as_slice() {
+        return Some(one_number(rest).map(|link| Event::Reset { link }));
+    }
+    if first == b"status".as_slice() {
+        return Some(two_numbers(rest).map(|(link, stream)| Event::Status { link, stream }));
+    }
+    packet_event(first, rest)
+}
+
+fn event(alloc: Global, first: &[u8], rest: &[&[u8]]) -> Result<Event, LineError>
+    ensures gives { Gives (event_by first.now (map (λ w. w.now) rest.now)) result }
+    ensures exact { begins_bytes (first.now ∷ []) ≡ false → result ≡ answer_of (event_by first.now (map (λ w. w.now) rest.now)) }
+{
+    match naming_event(first, rest) {
+        Some(Ok(event)) => Ok(event),
+        Some(Err(fault)) => Err(LineError::Fault(fault)),
+        None => bytes_event(alloc, first, rest),
+    }
+}
+
+#[tactic(auto, using(crate::proofs::Sevens::same_error))]
+fn some_event(alloc: Global, first: &[u8], rest: &[&[u8]]) -> Result<Option<Event>, LineError>
+    ensures gives { Gives (event_in (first.now ∷ map (λ w. w.now) rest.now)) result }
+    ensures exact { begins_bytes (first.now ∷ []) ≡ false → result ≡ answer_of (event_in (first.now ∷ map (λ w. w.now) rest.now)) }
+{
+    match event(alloc, first, rest) {
+        Ok(event) => Ok(Some(event)),
+        Err(e) => Err(e),
+    }
+}
+
+fn event_of(alloc: Global, words: &[&[u8]]) -> Result<Option<Event>, LineError>
+    ensures gives { Gives (event_in (map (λ w. w.now) words.now)) result }
+    ensures exact { begins_bytes (map (λ w. w.now) words.now) ≡ false → result ≡ answer_of (event_in (map (λ w. w.now) words.now)) }
+{
+    match words {
+        [] => Ok(None),
+        [first, rest @ ..] => some_event(alloc, first, rest),
+    }
+}
+
+// The event that the words of a line spell.
+fn event_on(alloc: Global, line: &[u8]) -> Result<Option<Event>, LineError>
+    ensures gives { Gives (event_in (words_in line.now)) result }
+    ensures exact { begins_bytes (words_in line.now) ≡ false → result ≡ answer_of (event_in (words_in line.now)) }
+{
+    let words = words_of(line);
+    event_of(alloc, words.as_slice())
+}
+
+/// The event that a line without its line feed spells, None on a line of spaces and on one that begins with
+/// `#`, or the first fault of any other line (this profile). Only the events `send` and `arrive` take memory.
+pub fn parse_line(alloc: Global, line: &[u8]) -> Result<Option<Event>, LineError>
+    ensures gives { Gives (line_meaning line.now) result }
+    ensures exact { begins_bytes (words_in line.now) ≡ false → result ≡ answer_of (line_meaning line.now) }
+{
+    if line.len() > LINE_LIMIT {
+        return Err(LineError::Fault(LineFault::TooLong));
+    }
+    if let [b'#', ..] = line {
+        return Ok(None);
+    }
+    if !is_printed(line) {
+        return Err(LineError::Fault(LineFault::NotAscii));
+    }
+    event_on(alloc, line)
+}
+
+/// A line means an event exactly where it spells it, and none exactly where it is a comment or of spaces only.
+/// A spelled event is of one of eight links, and trusted at a host's port alone (this profile).
+pub fn lines_spell()
+    ensures exact { MeaningIsSpelling }
+    ensures none { NothingIsSkipped }
+    ensures allowed { SpelledAreAllowed }
+{}
+
+/// The fault of a line is its first: by the causes in their order, and then by the first word that is not what stands in
+/// its place behind its event's word (this profile).
+pub fn faults_are_first()
+    ensures { FaultsAreFirst }
+{}

@@ -1,0 +1,160 @@
+//! Words, numbers, bytes and ports in a line of a script.
+
+ghost use Rattle.std.specs.Prelude.{◌≡◌, ◌≤◌, ◌==◌, false, map, slice_index, take};
+ghost use Rattle.std.specs.List.{list_all};
+ghost use Rattle.std.specs.Option.{ok_or};
+ghost use Rattle.link_events.specs.declared.event.Lost.{Lost};
+ghost use Rattle.link_events.specs.declared.fault.LineFault.TheVariants as fault;
+ghost use Rattle.link_events.specs.Words.{words_in, is_printable, some_digits_value, digits_in, number_in, mask_in, bytes_in, port_in, lost_in};
+ghost use Rattle.link_events.specs.Parse.{Gives};
+
+use crate::{LineError, LineFault, Lost};
+use arrayvec::ArrayVec;
+use hex::FromHexError;
+use ide_types::{Bytes, PortName, Side};
+use std::alloc::Global;
+
+/// Whether each byte is a space or a printed character.
+pub fn is_printed(line: &[u8]) -> bool
+    ensures { result ≡ list_all is_printable line.now }
+{
+    line.iter().all(|b| 0x20 <= *b && *b <= 0x7e)
+}
+
+/// The first words of a line.
+pub type Words<'a> = ArrayVec<&'a [u8], 7>;
+
+/// The words between the spaces of a line, and of more than seven the first seven.
+pub fn words_of(line: &[u8]) -> Words<'_>
+    ensures { map (λ w. w.now) result.items ≡ take 7 (words_in line.now) }
+{
+    let mut all = ArrayVec::new();
+    for word in line.split(|b| *b == b' ') {
+        if !word.is_empty() && !all.is_full() {
+            all.push(word);
+        }
+    }
+    all
+}
+
+// Whether std would read a sign, which no number here has.
+fn is_signed(word: &[u8]) -> bool
+    ensures { result ≡ (slice_index word.now 0 == 43) }
+{
+    matches!(word, [b'+', ..])
+}
+
+// The number that digits write, where there is one and it is below 2^64.
+fn value(digits: &[u8], radix: u32) -> Option<u64>
+    requires lower_bound { 2 ≤ radix }
+    requires upper_bound { radix ≤ 36 }
+    requires unsigned { (slice_index digits.now 0 == 43) ≡ false }
+    ensures { result ≡ some_digits_value radix digits.now }
+{
+    match str::from_utf8(digits) {
+        Ok(text) => u64::from_str_radix(text, radix).ok(),
+        Err(_) => None,
+    }
+}
+
+// The number that 1 to `most` digits write, where it is below 2^64.
+fn digits(word: &[u8], radix: u32, most: usize) -> Option<u64>
+    requires lower_bound { 2 ≤ radix }
+    requires upper_bound { radix ≤ 36 }
+    ensures { result ≡ digits_in radix most word.now }
+{
+    if word.len() > most || is_signed(word) {
+        return None;
+    }
+    value(word, radix)
+}
+
+#[tactic(auto, unfolding(crate::specs::Words::number_in))]
+fn number(word: &[u8]) -> Option<u64>
+    ensures { result ≡ number_in word.now }
+{
+    match word.strip_prefix(b"0x".as_slice()) {
+        Some(hexadecimal) => digits(hexadecimal, 16, 16),
+        None => digits(word, 10, 20),
+    }
+}
+
+pub(crate) fn number_at(word: &[u8]) -> Result<u64, LineFault>
+    ensures { result ≡ ok_or (number_in word.now) fault.Number }
+{
+    number(word).ok_or(LineFault::Number)
+}
+
+#[tactic(auto, unfolding(crate::specs::Words::mask_in))]
+fn mask(word: &[u8]) -> Option<u8>
+    ensures { result ≡ mask_in word.now }
+{
+    let mut byte = [0];
+    match hex::decode_to_slice(word, &mut byte) {
+        Ok(()) => Some(byte[0]),
+        Err(_) => None,
+    }
+}
+
+pub(crate) fn mask_at(word: &[u8]) -> Result<u8, LineFault>
+    ensures { result ≡ ok_or (mask_in word.now) fault.Hex }
+{
+    mask(word).ok_or(LineFault::Hex)
+}
+
+/// The bytes that a word spells in hexadecimal, `-` for none.
+#[tactic(auto, unfolding(crate::specs::Words::bytes_in))]
+pub fn bytes_at(alloc: Global, word: &[u8]) -> Result<Bytes, LineError>
+    ensures { Gives (ok_or (bytes_in word.now) fault.Hex) result }
+{
+    if word == b"-".as_slice() {
+        return Ok(Bytes::new(Vec::new(alloc)));
+    }
+    match hex::decode(alloc, word) {
+        Ok(bytes) => Ok(Bytes::new(bytes)),
+        Err(FromHexError::OutOfMemory) => Err(LineError::Memory),
+        Err(_) => Err(LineError::Fault(LineFault::Hex)),
+    }
+}
+
+#[tactic(auto, unfolding(crate::specs::Words::port_in))]
+fn port(word: &[u8]) -> Option<PortName>
+    ensures { result ≡ port_in word.now }
+{
+    let [side, link] = word else {
+        return None;
+    };
+    let link = match *link {
+        b'0'..=b'7' => *link - b'0',
+        _ => return None,
+    };
+    match *side {
+        b'h' => Some(PortName {
+            side: Side::Host,
+            link,
+        }),
+        b'd' => Some(PortName {
+            side: Side::Device,
+            link,
+        }),
+        _ => None,
+    }
+}
+
+pub(crate) fn port_at(word: &[u8]) -> Result<PortName, LineFault>
+    ensures { result ≡ ok_or (port_in word.now) fault.Word }
+{
+    port(word).ok_or(LineFault::Word)
+}
+
+pub(crate) fn lost_at(word: &[u8]) -> Result<Lost, LineFault>
+    ensures { result ≡ ok_or (lost_in word.now) fault.Word }
+{
+    if word == b"request".as_slice() {
+        return Ok(Lost::Request);
+    }
+    if word == b"reply".as_slice() {
+        return Ok(Lost::Reply);
+    }
+    Err(LineFault::Word)
+}

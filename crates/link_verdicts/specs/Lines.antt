@@ -1,0 +1,158 @@
+-- The line of each verdict.
+use Rattle.std.specs.Prelude.{ℕ, Bool, true, false, List, [], ◌∷◌, ◌++◌, codes}
+use Rattle.std.specs.Fmt.{decimal}
+use Rattle.hex.specs.Hex.{encode_lower}
+use Rattle.ide_types.specs.Names.{Text, joined, port_word, sub_word, fail_word, fault_word, status_word}
+use Rattle.link_verdicts.specs.declared.verdict.BlockCause.{BlockCause}
+use Rattle.link_verdicts.specs.declared.verdict.BlockCause.TheVariants.{NotTrusted, NotRunning, WrongStream, Stale, Outside, Crosses}
+use Rattle.link_verdicts.specs.declared.verdict.Effect.{Effect}
+use Rattle.link_verdicts.specs.declared.verdict.Effect.TheVariants.{Sync, Delivered, Applied, Blocked}
+use Rattle.link_verdicts.specs.declared.verdict.Operation.{Operation}
+use Rattle.link_verdicts.specs.declared.verdict.Operation.TheVariants as operation
+use Rattle.link_verdicts.specs.declared.verdict.SealedPacket.{SealedPacket}
+use Rattle.link_verdicts.specs.declared.verdict.UnitName.{UnitName}
+use Rattle.link_verdicts.specs.declared.verdict.Totals.{Totals}
+use Rattle.link_verdicts.specs.declared.verdict.Verdict.{Verdict}
+use Rattle.link_verdicts.specs.declared.verdict.Verdict.TheVariants.{Nothing, Malformed, Plain, RefusedInsecure, RefusedNoKey, RefusedUnfinished, RefusedWorn, Sealed, Unknown, Insecure, NotKeyed, Fail, Held, Accepted, Established, Refreshed, Stopped, LostRequest, LostReply, RefusedNotIdle, RefusedNotSecure, RefusedPoolEmpty, RefusedDevice, RefusedBusy, RefusedUnitOpen, Packet, Reset, Status}
+
+-- ---- words
+
+abbrev pub block_word : BlockCause → Text
+block_word NotTrusted = codes "nottrusted"
+block_word NotRunning = codes "notrunning"
+block_word WrongStream = codes "wrongstream"
+block_word Stale = codes "stale"
+block_word Outside = codes "outside"
+block_word Crosses = codes "crosses"
+
+abbrev pub effect_word : Effect → Text
+effect_word Sync = codes "sync"
+effect_word Delivered = codes "delivered"
+effect_word Applied = codes "applied"
+effect_word (Blocked cause) = codes "blocked:" ++ block_word cause
+
+abbrev pub operation_word : Operation → Text
+operation_word operation.Establish = codes "establish"
+operation_word operation.Refresh = codes "refresh"
+operation_word operation.Stop = codes "stop"
+
+-- bytes in lower-case hexadecimal, or - for none
+abbrev pub bytes_word : List ℕ → Text
+bytes_word [] = codes "-"
+bytes_word (b ∷ bs) = encode_lower (b ∷ bs)
+
+abbrev pub bit_of : Bool → ℕ
+bit_of false = 0
+bit_of true = 1
+
+-- ---- parts of a line, each ahead of the words that follow it
+
+abbrev pub unit_words : UnitName → List Text → List Text
+unit_words u after = decimal u.stream ∷ sub_word u.sub ∷ codes "draw" ∷ decimal u.draw ∷ codes "unit" ∷ decimal u.unit ∷ after
+
+abbrev pub sync_words : Bool → List Text → List Text
+sync_words true after = codes "sync" ∷ after
+sync_words false after = after
+
+abbrev pub packet_words : SealedPacket → List Text → List Text
+packet_words p after =
+    decimal p.number ∷ port_word p.port ∷ decimal p.stream ∷ sub_word p.sub ∷ codes "draw" ∷ decimal p.draw ∷ codes "unit" ∷ decimal p.unit
+    ∷ (codes "m" ++ decimal (bit_of p.m)) ∷ (codes "k" ++ decimal (bit_of p.k)) ∷ (codes "t" ++ decimal (bit_of p.t))
+    ∷ (codes "p" ++ decimal p.posted) ∷ sync_words p.sync after
+
+abbrev pub more_packets_words : List SealedPacket → List Text
+more_packets_words [] = []
+more_packets_words (p ∷ ps) = codes ";" ∷ packet_words p (more_packets_words ps)
+
+-- packets, and a semicolon between each two
+abbrev pub packets_words : List SealedPacket → List Text
+packets_words [] = []
+packets_words (p ∷ ps) = packet_words p (more_packets_words ps)
+
+abbrev pub effects_words : List Effect → List Text
+effects_words [] = []
+effects_words (e ∷ es) = effect_word e ∷ effects_words es
+
+-- ---- lines
+
+abbrev pub keyed_words : Text → ℕ → ℕ → ℕ → List Text
+keyed_words word link stream draw = word ∷ decimal link ∷ decimal stream ∷ codes "draw" ∷ decimal draw ∷ []
+
+abbrev pub verdict_words : Verdict → List Text
+verdict_words Nothing = codes "none" ∷ []
+verdict_words (Malformed port word place) = codes "malformed" ∷ port_word port ∷ fault_word word ∷ decimal place ∷ []
+verdict_words (Plain port) = codes "plain" ∷ port_word port ∷ []
+verdict_words RefusedInsecure = codes "refused" ∷ codes "insecure" ∷ []
+verdict_words (RefusedNoKey sub) = codes "refused" ∷ codes "nokey" ∷ sub_word sub ∷ []
+verdict_words RefusedUnfinished = codes "refused" ∷ codes "unfinished" ∷ []
+verdict_words (RefusedWorn sub units) = codes "refused" ∷ codes "worn" ∷ sub_word sub ∷ decimal units ∷ []
+verdict_words (Sealed packets) = codes "sealed" ∷ packets_words packets
+verdict_words (Unknown port stream) = codes "unknown" ∷ port_word port ∷ decimal stream ∷ []
+verdict_words (Insecure port stream) = codes "insecure" ∷ port_word port ∷ decimal stream ∷ []
+verdict_words (NotKeyed port stream sub) = codes "notkeyed" ∷ port_word port ∷ decimal stream ∷ sub_word sub ∷ []
+verdict_words (Fail port stream sub cause) = codes "fail" ∷ port_word port ∷ decimal stream ∷ sub_word sub ∷ fail_word cause ∷ []
+verdict_words (Held port unit) = codes "held" ∷ port_word port ∷ unit_words unit []
+verdict_words (Accepted port unit effects) = codes "accepted" ∷ port_word port ∷ unit_words unit (effects_words effects)
+verdict_words (Established link stream draw) = keyed_words (codes "established") link stream draw
+verdict_words (Refreshed link stream draw) = keyed_words (codes "refreshed") link stream draw
+verdict_words (Stopped link stream) = codes "stopped" ∷ decimal link ∷ decimal stream ∷ []
+verdict_words (LostRequest exchange) = codes "lost" ∷ codes "request" ∷ decimal exchange ∷ []
+verdict_words (LostReply exchange) = codes "lost" ∷ codes "reply" ∷ decimal exchange ∷ []
+verdict_words RefusedNotIdle = codes "refused" ∷ codes "notidle" ∷ []
+verdict_words (RefusedNotSecure status) = codes "refused" ∷ codes "notsecure" ∷ status_word status ∷ []
+verdict_words (RefusedPoolEmpty draws) = codes "refused" ∷ codes "poolempty" ∷ decimal draws ∷ []
+verdict_words (RefusedDevice exchange code) = codes "refused" ∷ codes "devicerefused" ∷ decimal exchange ∷ decimal code ∷ []
+verdict_words (RefusedBusy operation) = codes "refused" ∷ codes "busy" ∷ operation_word operation ∷ []
+verdict_words (RefusedUnitOpen sub) = codes "refused" ∷ codes "unitopen" ∷ sub_word sub ∷ []
+verdict_words (Packet packet bytes) = codes "packet" ∷ decimal packet ∷ bytes_word bytes ∷ []
+verdict_words (Reset link) = codes "reset" ∷ decimal link ∷ []
+verdict_words (Status link stream host device) =
+    codes "status" ∷ decimal link ∷ decimal stream ∷ status_word host ∷ status_word device ∷ []
+
+-- of a send that was refused
+abbrev pub IsSendRefusal : Verdict → Type 0
+IsSendRefusal RefusedInsecure = Unit {0}
+IsSendRefusal (RefusedNoKey sub) = Unit {0}
+IsSendRefusal RefusedUnfinished = Unit {0}
+IsSendRefusal (RefusedWorn sub units) = Unit {0}
+IsSendRefusal _ = ⊥
+
+-- of bytes that arrived, and are neither malformed nor plain
+abbrev pub IsArrival : Verdict → Type 0
+IsArrival (Unknown port stream) = Unit {0}
+IsArrival (Insecure port stream) = Unit {0}
+IsArrival (NotKeyed port stream sub) = Unit {0}
+IsArrival (Fail port stream sub cause) = Unit {0}
+IsArrival (Held port unit) = Unit {0}
+IsArrival (Accepted port unit effects) = Unit {0}
+IsArrival _ = ⊥
+
+-- of an operation on a stream that was refused at its beginning or by the device
+abbrev pub IsOperationRefusal : Verdict → Type 0
+IsOperationRefusal RefusedNotIdle = Unit {0}
+IsOperationRefusal (RefusedNotSecure status) = Unit {0}
+IsOperationRefusal (RefusedPoolEmpty draws) = Unit {0}
+IsOperationRefusal (RefusedDevice exchange code) = Unit {0}
+IsOperationRefusal (RefusedBusy operation) = Unit {0}
+IsOperationRefusal (RefusedUnitOpen sub) = Unit {0}
+IsOperationRefusal _ = ⊥
+
+-- of an operation on a stream that came to its end or lost a message
+abbrev pub IsOutcome : Verdict → Type 0
+IsOutcome (Established link stream draw) = Unit {0}
+IsOutcome (Refreshed link stream draw) = Unit {0}
+IsOutcome (Stopped link stream) = Unit {0}
+IsOutcome (LostRequest exchange) = Unit {0}
+IsOutcome (LostReply exchange) = Unit {0}
+IsOutcome _ = ⊥
+
+-- a verdict's line behind its event's number
+abbrev pub line_of : ℕ → Verdict → Text
+line_of number v = decimal number ++ joined (verdict_words v)
+
+abbrev pub totals_words : Totals → List Text
+totals_words t = codes "sealed" ∷ decimal t.sealed ∷ codes "accepted" ∷ decimal t.accepted ∷ codes "failed" ∷ decimal t.failed ∷ codes "blocked" ∷ decimal t.blocked ∷ []
+
+-- the last line of a run that was read to its end
+abbrev pub totals_line_of : Totals → Text
+totals_line_of t = codes "total" ++ joined (totals_words t)

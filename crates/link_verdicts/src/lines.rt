@@ -1,0 +1,304 @@
+//! The line of each verdict.
+
+ghost use Rattle.std.specs.Prelude.{◌≡◌, ◌++◌, ◌∷◌, ◌⊎◌, List, IfOk, OnOk, codes, string_bytes};
+ghost use Rattle.std.specs.Fmt.{decimal};
+ghost use Rattle.ide_types.specs.Names.{Text, joined, port_word};
+ghost use Rattle.link_verdicts.specs.Lines.{bytes_word, unit_words, packet_words, more_packets_words, packets_words, effects_words, sync_words, line_of, totals_line_of, IsSendRefusal, IsArrival, IsOperationRefusal, IsOutcome};
+ghost use Rattle.link_verdicts.specs.Apart.{LinesApart};
+
+use crate::{Effect, Memory, SealedPacket, Totals, UnitName, Verdict};
+use ide_types::{Bytes, PortName};
+use std::alloc::{AllocError, Global};
+
+fn bytes_text(alloc: Global, bytes: &Bytes) -> Result<String, AllocError>
+    ensures { IfOk result (λ s. string_bytes s ≡ bytes_word bytes.now) }
+{
+    match bytes.as_slice() {
+        [] => String::from_str(alloc, "-"),
+        bytes => hex::encode(alloc, bytes),
+    }
+}
+
+fn sync_text(sync: bool) -> &'static str
+    ensures { (after : List Text) → result.now ++ joined after ≡ joined (sync_words sync after) }
+{
+    if sync { " sync" } else { "" }
+}
+
+fn push_packet(text: &mut String, packet: &SealedPacket) -> Result<(), AllocError>
+    ensures { OnOk result ((after : List Text) → string_bytes text.new ++ joined after ≡ string_bytes text.old ++ joined (packet_words packet.now after)) }
+{
+    let SealedPacket {
+        number,
+        port,
+        stream,
+        sub,
+        draw,
+        unit,
+        m,
+        k,
+        t,
+        posted,
+        sync,
+    } = *packet;
+    let m = u8::from(m);
+    let k = u8::from(k);
+    let t = u8::from(t);
+    let sync = sync_text(sync);
+    write!(
+        text,
+        " {number} {port} {stream} {sub} draw {draw} unit {unit} m{m} k{k} t{t} p{posted}{sync}"
+    )
+}
+
+fn push_more_packets(text: &mut String, packets: &[SealedPacket]) -> Result<(), AllocError>
+    ensures { OnOk result (string_bytes text.new ≡ string_bytes text.old ++ joined (more_packets_words packets.now)) }
+{
+    for packet in packets {
+        text.push_str(" ;")?;
+        push_packet(text, packet)?;
+    }
+    text.push_str("\n")
+}
+
+fn push_packets(text: &mut String, packets: &[SealedPacket]) -> Result<(), AllocError>
+    ensures { OnOk result (string_bytes text.new ≡ string_bytes text.old ++ joined (packets_words packets.now)) }
+{
+    match packets {
+        [] => text.push_str("\n"),
+        [first, rest @ ..] => {
+            push_packet(text, first)?;
+            push_more_packets(text, rest)
+        }
+    }
+}
+
+fn push_effects(text: &mut String, effects: &[Effect]) -> Result<(), AllocError>
+    ensures { OnOk result (string_bytes text.new ≡ string_bytes text.old ++ joined (effects_words effects.now)) }
+{
+    for effect in effects {
+        write!(text, " {effect}")?;
+    }
+    text.push_str("\n")
+}
+
+fn sealed_text(alloc: Global, number: u64, packets: &[SealedPacket]) -> Result<String, AllocError>
+    ensures { IfOk result (λ s. string_bytes s ≡ decimal number ++ joined (codes "sealed" ∷ packets_words packets.now)) }
+{
+    let mut text = format!(in alloc; "{number} sealed")?;
+    push_packets(&mut text, packets)?;
+    Ok(text)
+}
+
+fn held_text(
+    alloc: Global,
+    number: u64,
+    port: PortName,
+    unit: UnitName,
+) -> Result<String, AllocError>
+    ensures { IfOk result (λ s. string_bytes s ≡ line_of number (Verdict.Held port unit)) }
+{
+    let UnitName {
+        stream,
+        sub,
+        draw,
+        unit,
+    } = unit;
+    format!(in alloc; "{number} held {port} {stream} {sub} draw {draw} unit {unit}\n")
+}
+
+fn accepted_text(
+    alloc: Global,
+    number: u64,
+    port: PortName,
+    unit: UnitName,
+    effects: &[Effect],
+) -> Result<String, AllocError>
+    ensures { IfOk result (λ s. string_bytes s ≡ decimal number ++ joined (codes "accepted" ∷ port_word port ∷ unit_words unit (effects_words effects.now))) }
+{
+    let UnitName {
+        stream,
+        sub,
+        draw,
+        unit,
+    } = unit;
+    let mut text = format!(in alloc;
+        "{number} accepted {port} {stream} {sub} draw {draw} unit {unit}"
+    )?;
+    push_effects(&mut text, effects)?;
+    Ok(text)
+}
+
+fn send_refused_text(alloc: Global, number: u64, verdict: &Verdict) -> Result<String, AllocError>
+    requires { IsSendRefusal verdict.now }
+    ensures { IfOk result (λ s. string_bytes s ≡ line_of number verdict.now) }
+{
+    match verdict {
+        Verdict::RefusedInsecure => format!(in alloc; "{number} refused insecure\n"),
+        Verdict::RefusedNoKey { sub } => format!(in alloc; "{number} refused nokey {sub}\n"),
+        Verdict::RefusedUnfinished => format!(in alloc; "{number} refused unfinished\n"),
+        Verdict::RefusedWorn { sub, units } => format!(in alloc;
+            "{number} refused worn {sub} {units}\n"
+        ),
+        _ => unreachable!(),
+    }
+}
+
+fn operation_refused_text(
+    alloc: Global,
+    number: u64,
+    verdict: &Verdict,
+) -> Result<String, AllocError>
+    requires { IsOperationRefusal verdict.now }
+    ensures { IfOk result (λ s. string_bytes s ≡ line_of number verdict.now) }
+{
+    match verdict {
+        Verdict::RefusedNotIdle => format!(in alloc; "{number} refused notidle\n"),
+        Verdict::RefusedNotSecure { status } => format!(in alloc;
+            "{number} refused notsecure {status}\n"
+        ),
+        Verdict::RefusedPoolEmpty { draws } => format!(in alloc;
+            "{number} refused poolempty {draws}\n"
+        ),
+        Verdict::RefusedDevice { exchange, code } => format!(in alloc;
+            "{number} refused devicerefused {exchange} {code}\n"
+        ),
+        Verdict::RefusedBusy { operation } => format!(in alloc;
+            "{number} refused busy {operation}\n"
+        ),
+        Verdict::RefusedUnitOpen { sub } => format!(in alloc; "{number} refused unitopen {sub}\n"),
+        _ => unreachable!(),
+    }
+}
+
+fn outcome_text(alloc: Global, number: u64, verdict: &Verdict) -> Result<String, AllocError>
+    requires { IsOutcome verdict.now }
+    ensures { IfOk result (λ s. string_bytes s ≡ line_of number verdict.now) }
+{
+    match verdict {
+        Verdict::Established { link, stream, draw } => format!(in alloc;
+            "{number} established {link} {stream} draw {draw}\n"
+        ),
+        Verdict::Refreshed { link, stream, draw } => format!(in alloc;
+            "{number} refreshed {link} {stream} draw {draw}\n"
+        ),
+        Verdict::Stopped { link, stream } => format!(in alloc;
+            "{number} stopped {link} {stream}\n"
+        ),
+        Verdict::LostRequest { exchange } => format!(in alloc;
+            "{number} lost request {exchange}\n"
+        ),
+        Verdict::LostReply { exchange } => format!(in alloc; "{number} lost reply {exchange}\n"),
+        _ => unreachable!(),
+    }
+}
+
+fn text_of(alloc: Global, number: u64, verdict: &Verdict) -> Result<String, AllocError>
+    ensures { IfOk result (λ s. string_bytes s ≡ line_of number verdict.now) }
+{
+    match verdict {
+        Verdict::Nothing => format!(in alloc; "{number} none\n"),
+        Verdict::Malformed { port, fault, place } => format!(in alloc;
+            "{number} malformed {port} {fault} {place}\n"
+        ),
+        Verdict::Plain { port } => format!(in alloc; "{number} plain {port}\n"),
+        Verdict::Sealed { packets } => sealed_text(alloc, number, packets.as_slice()),
+        Verdict::Packet { packet, bytes } => {
+            let bytes = bytes_text(alloc, bytes)?;
+            format!(in alloc; "{number} packet {packet} {bytes}\n")
+        }
+        Verdict::RefusedInsecure
+        | Verdict::RefusedNoKey { .. }
+        | Verdict::RefusedUnfinished
+        | Verdict::RefusedWorn { .. } => send_refused_text(alloc, number, verdict),
+        Verdict::Reset { link } => format!(in alloc; "{number} reset {link}\n"),
+        Verdict::Status {
+            link,
+            stream,
+            host,
+            device,
+        } => format!(in alloc; "{number} status {link} {stream} {host} {device}\n"),
+        _ => answer_text(alloc, number, verdict),
+    }
+}
+
+// Of an operation on a stream, or of an arrival.
+fn answer_text(alloc: Global, number: u64, verdict: &Verdict) -> Result<String, AllocError>
+    requires { IsOperationRefusal verdict.now ⊎ (IsOutcome verdict.now ⊎ IsArrival verdict.now) }
+    ensures { IfOk result (λ s. string_bytes s ≡ line_of number verdict.now) }
+{
+    match verdict {
+        Verdict::RefusedNotIdle
+        | Verdict::RefusedNotSecure { .. }
+        | Verdict::RefusedPoolEmpty { .. }
+        | Verdict::RefusedDevice { .. }
+        | Verdict::RefusedBusy { .. }
+        | Verdict::RefusedUnitOpen { .. } => operation_refused_text(alloc, number, verdict),
+        Verdict::Established { .. }
+        | Verdict::Refreshed { .. }
+        | Verdict::Stopped { .. }
+        | Verdict::LostRequest { .. }
+        | Verdict::LostReply { .. } => outcome_text(alloc, number, verdict),
+        _ => arrival_text(alloc, number, verdict),
+    }
+}
+
+fn arrival_text(alloc: Global, number: u64, verdict: &Verdict) -> Result<String, AllocError>
+    requires { IsArrival verdict.now }
+    ensures { IfOk result (λ s. string_bytes s ≡ line_of number verdict.now) }
+{
+    match verdict {
+        Verdict::Unknown { port, stream } => format!(in alloc;
+            "{number} unknown {port} {stream}\n"
+        ),
+        Verdict::Insecure { port, stream } => format!(in alloc;
+            "{number} insecure {port} {stream}\n"
+        ),
+        Verdict::NotKeyed { port, stream, sub } => format!(in alloc;
+            "{number} notkeyed {port} {stream} {sub}\n"
+        ),
+        Verdict::Fail {
+            port,
+            stream,
+            sub,
+            cause,
+        } => format!(in alloc; "{number} fail {port} {stream} {sub} {cause}\n"),
+        Verdict::Held { port, unit } => held_text(alloc, number, *port, *unit),
+        Verdict::Accepted {
+            port,
+            unit,
+            effects,
+        } => accepted_text(alloc, number, *port, *unit, effects.as_slice()),
+        _ => unreachable!(),
+    }
+}
+
+/// The line of a verdict behind its event's number, from 1, with its line feed (this profile).
+pub fn line(alloc: Global, number: u64, verdict: &Verdict) -> Result<Vec<u8>, Memory>
+    ensures { IfOk result (λ text. text.items ≡ line_of number verdict.now) }
+{
+    let text = text_of(alloc, number, verdict)?;
+    Ok(text.into_bytes())
+}
+
+/// The last line of a run that was read to its end, with its line feed (this profile).
+pub fn totals_line(alloc: Global, totals: &Totals) -> Result<Vec<u8>, Memory>
+    ensures { IfOk result (λ text. text.items ≡ totals_line_of totals.now) }
+{
+    let Totals {
+        sealed,
+        accepted,
+        failed,
+        blocked,
+    } = *totals;
+    let text = format!(in alloc;
+        "total sealed {sealed} accepted {accepted} failed {failed} blocked {blocked}\n"
+    )?;
+    Ok(text.into_bytes())
+}
+
+/// Two texts that are equal, and begin with the lines of two verdicts, begin with one verdict of one event, and go
+/// on alike.
+pub fn lines_apart()
+    ensures { LinesApart }
+{}

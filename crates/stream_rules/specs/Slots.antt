@@ -1,0 +1,41 @@
+-- What keys do to slots: a key is put in, gets GO, or is taken out.
+use Rattle.std.specs.Prelude.{ℕ, Bool, true, false, ◌&&◌, ◌||◌, nat_lt, List, [], length, if◌then◌else◌}
+use Rattle.stream_rules.specs.Stream.{Slot, Empty, Programmed, Armed, Live, Slots, TxSub, RxSub, Three, StreamState, at_sub, each_sub}
+
+abbrev pub both_slots : Bool → Slot → Slot → Slots
+both_slots k a b = if k then record { first = b; second = a } else record { first = a; second = b }
+
+abbrev pub begun : Slot → Slot
+begun (Programmed j key) = Live (record { draw = j; key = key; units = 0; packets = [] })
+begun s = s
+
+abbrev pub is_busy : Slot → Bool
+is_busy (Live x) = nat_lt 0 (length x.packets)
+is_busy _ = false
+
+abbrev pub slot_gone : Bool → Slot → Slot → Slots
+slot_gone k (Programmed j key) other =
+    if is_busy other then both_slots k (Armed j key) other else both_slots k (Live (record { draw = j; key = key; units = 0; packets = [] })) Empty
+slot_gone k a other = both_slots k a other
+
+abbrev pub woken : Slot → Slot
+woken (Armed j key) = Live (record { draw = j; key = key; units = 0; packets = [] })
+woken s = s
+
+abbrev pub is_live : Slot → Bool
+is_live (Live x) = true
+is_live _ = false
+
+abbrev pub any_live : Slots → Bool
+any_live s = is_live s.first || is_live s.second
+
+-- a direction of which no slot is Live counts from 0, and a stream of which none is Live has not failed
+abbrev pub settled_stream : Three TxSub → Three RxSub → Bool → StreamState
+settled_stream tx rx failed =
+    let out = any_live tx.pr.slots || any_live tx.npr.slots || any_live tx.cpl.slots in
+    let into = any_live rx.pr.slots || any_live rx.npr.slots || any_live rx.cpl.slots in
+    record {
+      tx = each_sub (λ u. record { slots = (at_sub tx u).slots; posted = if out then (at_sub tx u).posted else 0; total = if out then (at_sub tx u).total else 0 });
+      rx = each_sub (λ u. record { slots = (at_sub rx u).slots; sum = if into then (at_sub rx u).sum else 0; got = if into then (at_sub rx u).got else 0; total = if into then (at_sub rx u).total else 0 });
+      failed = failed && (out || into);
+    }

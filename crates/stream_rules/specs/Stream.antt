@@ -1,0 +1,240 @@
+-- A port's part of one stream: what is kept, what a send seals, and what an arrival comes to.
+use Rattle.std.specs.Prelude.{ℕ, ◌+◌, ◌==◌, Bool, true, false, not, ◌&&◌, ◌||◌, nat_lt, nat_le, List, [], ◌∷◌, ◌++◌, length, sum_by, Option, Some, None, if◌then◌else◌}
+use Rattle.ide_types.specs.Sub.{sub_bits, is_same_sub}
+use Rattle.ide_types.specs.declared.sub.SubKind.{SubKind}
+use Rattle.ide_types.specs.declared.sub.SubKind.TheVariants.{Pr, Npr, Cpl}
+use Rattle.ide_types.specs.declared.sub.FailCause.{FailCause}
+use Rattle.ide_types.specs.declared.sub.FailCause.TheVariants as fail
+use Rattle.link_verdicts.specs.declared.verdict.SealedPacket.{SealedPacket}
+use Rattle.gcm_seal.specs.Gcm.{masked, tag_of, verifies}
+use Rattle.ide_prefix.specs.Packet.{Packet, sync_head}
+use Rattle.ide_prefix.specs.Iv.{iv_of}
+use Rattle.ide_prefix.specs.Units.{authenticated, encrypted}
+use Rattle.stream_rules.specs.Sending.{Lane, Lanes, prefix_of, front_with}
+
+-- ---- three sub-streams
+
+pub record Three (A : Type 0) : Type 0 where
+  pub pr : A
+  pub npr : A
+  pub cpl : A
+
+abbrev pub at_sub : {A : Type 0} → Three A → SubKind → A
+at_sub t Pr = t.pr
+at_sub t Npr = t.npr
+at_sub t Cpl = t.cpl
+
+abbrev pub set_sub : {A : Type 0} → Three A → SubKind → A → Three A
+set_sub t Pr x = record t { pr = x }
+set_sub t Npr x = record t { npr = x }
+set_sub t Cpl x = record t { cpl = x }
+
+abbrev pub each_sub : {A : Type 0} → (SubKind → A) → Three A
+each_sub f = record { pr = f Pr; npr = f Npr; cpl = f Cpl }
+
+-- ---- what is kept
+
+-- a Live key: the units finished under it, and the packets of the next one
+pub record LiveKey : Type 0 where
+  pub draw : ℕ
+  pub key : List ℕ
+  pub units : ℕ
+  pub packets : List Packet
+
+pub data Slot : Type 0 where
+  Empty : Slot
+  Programmed : ℕ → List ℕ → Slot
+  Armed : ℕ → List ℕ → Slot
+  Live : LiveKey → Slot
+
+-- the slots of both key sets
+pub record Slots : Type 0 where
+  pub first : Slot
+  pub second : Slot
+
+-- a sender: the posted count of its next packet, and how many units it finished
+pub record TxSub : Type 0 where
+  pub slots : Slots
+  pub posted : ℕ
+  pub total : ℕ
+
+-- a receiver: the sum of the posted counts, and the number, of the packets of its accepted units, and how many units
+pub record RxSub : Type 0 where
+  pub slots : Slots
+  pub sum : ℕ
+  pub got : ℕ
+  pub total : ℕ
+
+pub record StreamState : Type 0 where
+  pub tx : Three TxSub
+  pub rx : Three RxSub
+  pub failed : Bool
+
+abbrev pub slot_in : Slots → Bool → Slot
+slot_in s k = if k then s.second else s.first
+
+abbrev pub with_slot : Slots → Bool → Slot → Slots
+with_slot s k x = if k then record s { second = x } else record s { first = x }
+
+abbrev pub live_in : Slot → Option LiveKey
+live_in (Live x) = Some x
+live_in _ = None
+
+-- ---- sends
+
+-- the Live key of a sender, with its set; there is at most one
+abbrev pub live_sender : Slots → Option (Bool × LiveKey)
+live_sender s = first_live (live_in s.first) (live_in s.second)
+  where
+    first_live : Option LiveKey → Option LiveKey → Option (Bool × LiveKey)
+    first_live (Some x) o = Some (false, x)
+    first_live None (Some y) = Some (true, y)
+    first_live None None = None
+
+-- what the rules of sealing see of a sender
+abbrev pub lane_of : ℕ → Option (Bool × LiveKey) → Lane
+lane_of posted None = record { key = None; front = []; units = 0; posted = posted }
+lane_of posted (Some x) = record { key = Some (record { k = x.0; draw = x.1.draw }); front = x.1.packets; units = x.1.units; posted = posted }
+
+abbrev pub lanes_of : ℕ → ℕ → StreamState → Lanes
+lanes_of mode limit st = record {
+  mode = mode;
+  limit = limit;
+  failed = st.failed;
+  lane = λ u. lane_of (at_sub st.tx u).posted (live_sender (at_sub st.tx u).slots);
+}
+
+-- the packet of a description under a key: its body is its part of the unit's ciphertext, and the last has the tag
+abbrev pub untagged_under : List ℕ → List Packet → SealedPacket → List ℕ → List ℕ → Packet
+untagged_under key front d head payload = record {
+  prefix = prefix_of d;
+  head = if d.sync then sync_head else head;
+  body = masked key (iv_of d.sub d.unit) (length (encrypted front)) (if d.sync then [] else payload);
+  tag = [];
+}
+
+abbrev pub tagged_under : List ℕ → List ℕ → List Packet → SealedPacket → Packet → Packet
+tagged_under ahead key front d p =
+    record p { tag = if d.m then tag_of key (iv_of d.sub d.unit) (ahead ++ authenticated (front ++ p ∷ [])) (encrypted (front ++ p ∷ [])) else [] }
+
+abbrev pub packet_under : List ℕ → Option (Bool × LiveKey) → SealedPacket → List ℕ → List ℕ → Packet
+packet_under ahead None d head payload = untagged_under [] [] d head payload
+packet_under ahead (Some x) d head payload = tagged_under ahead x.1.key x.1.packets d (untagged_under x.1.key x.1.packets d head payload)
+
+-- a unit goes on, or ends: then a slot that waited for that is Live
+abbrev pub gone_on : Packet → Slot → Slot
+gone_on p (Live x) = Live (record x { packets = x.packets ++ p ∷ [] })
+gone_on p s = s
+
+abbrev pub counted : Slot → Slot
+counted (Live x) = Live (record x { units = x.units + 1; packets = [] })
+counted s = s
+
+abbrev pub ended_slots : Slots → Slots
+ended_slots s = by_wait s.first s.second
+  where
+    by_wait : Slot → Slot → Slots
+    by_wait (Live x) (Armed j key) = record { first = Empty; second = Live (record { draw = j; key = key; units = 0; packets = [] }) }
+    by_wait (Armed j key) (Live x) = record { first = Live (record { draw = j; key = key; units = 0; packets = [] }); second = Empty }
+    by_wait a b = record { first = counted a; second = counted b }
+
+abbrev pub sealed_slots : Bool → Packet → Slots → Slots
+sealed_slots m p s = if m then ended_slots s else record { first = gone_on p s.first; second = gone_on p s.second }
+
+-- a sub-stream after a sealed packet of the stream: its own begins its posted count again, a posted one counts
+abbrev pub sealed_sub : SealedPacket → Packet → SubKind → TxSub → TxSub
+sealed_sub d p u tx =
+    if is_same_sub d.sub u then record { slots = sealed_slots d.m p tx.slots; posted = 0; total = if d.m then tx.total + 1 else tx.total }
+    else if is_same_sub d.sub Pr then record tx { posted = tx.posted + 1 } else tx
+
+-- on a closed stream the total stands ahead of unit 1
+abbrev pub sealed_one : Bool → List ℕ → List ℕ → SealedPacket → Three TxSub → Packet × Three TxSub
+sealed_one closed head payload d tx =
+    let x = at_sub tx d.sub in
+    let p = packet_under (front_with closed d.unit x.total) (live_sender x.slots) d head payload in
+    (p, each_sub (λ u. sealed_sub d p u (at_sub tx u)))
+
+-- the packets of descriptions in order, and the senders after them
+abbrev pub sealed_all : Bool → List ℕ → List ℕ → List SealedPacket → Three TxSub → List Packet × Three TxSub
+sealed_all closed head payload [] tx = ([], tx)
+sealed_all closed head payload (d ∷ ds) tx =
+    let one = sealed_one closed head payload d tx in
+    let rest = sealed_all closed head payload ds one.1 in
+    (one.0 ∷ rest.0, rest.1)
+
+-- ---- arrivals
+
+-- what an arrival comes to: of a held packet the draw and the unit, of an accepted one its packets too
+pub data Taken : Type 0 where
+  Insecure : Taken
+  NotKeyed : Taken
+  Failed : FailCause → Taken
+  Held : ℕ → ℕ → Taken
+  Accepted : ℕ → ℕ → List Packet → Taken
+
+abbrev pub holds_any : Option LiveKey → Bool
+holds_any None = false
+holds_any (Some x) = nat_lt 0 (length x.packets)
+
+abbrev pub posted_sum : List Packet → ℕ
+posted_sum ps = sum_by (λ (p : Packet). p.prefix.posted) ps
+
+-- the posted counts may come to as many as there are posted packets
+abbrev pub is_allowed : Three RxSub → SubKind → List Packet → Bool
+is_allowed rx u unit = (sub_bits u == 0) || nat_le ((at_sub rx u).sum + posted_sum unit) rx.pr.got
+
+-- the tag is that of the unit, with the total ahead of unit 1 on a closed stream
+abbrev pub is_tagged : Bool → ℕ → LiveKey → Packet → Bool
+is_tagged closed total x p =
+    verifies x.key (iv_of p.prefix.sub (x.units + 1)) (front_with closed (x.units + 1) total ++ authenticated (x.packets ++ p ∷ [])) (encrypted (x.packets ++ p ∷ [])) p.tag
+
+abbrev pub checked : Bool → Bool → LiveKey → Packet → Taken
+checked tagged allowed x p =
+    if not tagged then Failed fail.Tag
+    else if not allowed then Failed fail.Order
+    else Accepted x.draw (x.units + 1) (x.packets ++ p ∷ [])
+
+abbrev pub taken_under : ℕ → Bool → Three RxSub → Packet → Option LiveKey → Option LiveKey → Taken
+taken_under mode closed rx p None None = NotKeyed
+taken_under mode closed rx p None (Some y) = Failed fail.Key
+taken_under mode closed rx p (Some x) other =
+    if holds_any other || (not p.prefix.m && nat_le mode (length x.packets + 1)) then Failed fail.Unit
+    else if p.prefix.m then checked (is_tagged closed (at_sub rx p.prefix.sub).total x p) (is_allowed rx p.prefix.sub (x.packets ++ p ∷ [])) x p
+    else Held x.draw (x.units + 1)
+
+-- the answer to a packet of the stream
+abbrev pub taken_by : ℕ → Bool → StreamState → Packet → Taken
+taken_by mode closed st p =
+    let slots = (at_sub st.rx p.prefix.sub).slots in
+    if st.failed then Insecure
+    else taken_under mode closed st.rx p (live_in (slot_in slots p.prefix.k)) (live_in (slot_in slots (not p.prefix.k)))
+
+abbrev pub dropped : Slot → Slot
+dropped (Live x) = Live (record x { packets = [] })
+dropped s = s
+
+abbrev pub dropped_held : RxSub → RxSub
+dropped_held rx = record rx { slots = record { first = dropped rx.slots.first; second = dropped rx.slots.second } }
+
+-- a Live key of a smaller draw than that of an accepted unit
+abbrev pub retired : ℕ → Slot → Slot
+retired j (Live x) = if nat_lt x.draw j then Empty else Live x
+retired j s = s
+
+abbrev pub accepted_slots : ℕ → Bool → Slots → Slots
+accepted_slots j true s = record { first = retired j s.first; second = counted s.second }
+accepted_slots j false s = record { first = counted s.first; second = retired j s.second }
+
+abbrev pub accepted_sub : ℕ → Bool → List Packet → RxSub → RxSub
+accepted_sub j k unit rx = record { slots = accepted_slots j k rx.slots; sum = rx.sum + posted_sum unit; got = rx.got + length unit; total = rx.total + 1 }
+
+abbrev pub held_sub : Bool → Packet → RxSub → RxSub
+held_sub k p rx = record rx { slots = with_slot rx.slots k (gone_on p (slot_in rx.slots k)) }
+
+-- the receivers and what failed after that answer
+abbrev pub state_after : StreamState → Packet → Taken → StreamState
+state_after st p (Failed cause) =
+    record st { rx = record { pr = dropped_held st.rx.pr; npr = dropped_held st.rx.npr; cpl = dropped_held st.rx.cpl }; failed = true }
+state_after st p (Held j n) = record st { rx = set_sub st.rx p.prefix.sub (held_sub p.prefix.k p (at_sub st.rx p.prefix.sub)) }
+state_after st p (Accepted j n unit) = record st { rx = set_sub st.rx p.prefix.sub (accepted_sub j p.prefix.k unit (at_sub st.rx p.prefix.sub)) }
+state_after st p _ = st

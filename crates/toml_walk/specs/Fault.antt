@@ -1,0 +1,26 @@
+-- The first fault of a walk, and what a call that gives one promises.
+use Rattle.std.specs.Prelude.{◌≡◌, ℕ, List, Option, Some, None, Result, Ok, Err, Bool, if◌then◌else◌}
+use Rattle.toml_walk.specs.declared.fault.PlanFault.{PlanFault}
+use Rattle.toml_walk.specs.declared.fault.PlanError.{PlanError}
+use Rattle.toml_walk.specs.declared.fault.PlanError.TheVariants as errors
+
+-- the next reading, of the value that was read; the first fault ends a walk
+infixl 10 ◌>>=◌
+abbrev pub ◌>>=◌ : {A B : Type 0} → Result A PlanFault → (A → Result B PlanFault) → Result B PlanFault
+(Ok x) >>= f = f x
+(Err e) >>= f = Err e
+
+-- the error is the fault that was due, or want of memory
+abbrev pub Fails : {Y : Type 0} → PlanError → Result Y PlanFault → Type 0
+Fails errors.Memory due = Unit {0}
+Fails (errors.Fault f) due = due ≡ Err f
+
+-- the answer is the value that was due, or the fault that was due, or want of memory
+abbrev pub Gives : {X Y : Type 0} → (X → Y) → Result X PlanError → Result Y PlanFault → Type 0
+Gives view (Ok x) due = due ≡ Ok (view x)
+Gives view (Err e) due = Fails e due
+
+-- the value, or the fault where there is none
+abbrev pub or_fault : {A : Type 0} → Option A → PlanFault → Result A PlanFault
+or_fault None f = Err f
+or_fault (Some x) f = Ok x

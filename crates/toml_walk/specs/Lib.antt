@@ -1,0 +1,4 @@
+pub mod Fault
+pub mod Bounds
+pub mod Walk
+pub mod Values

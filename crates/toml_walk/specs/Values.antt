@@ -1,0 +1,67 @@
+-- Numbers, truth values and texts.
+use Rattle.std.specs.Prelude.{◌≡◌, ◌*◌, ℕ, ℤ, pos, negsuc, Bool, true, false, ◌&&◌, nat_le, List, [], ◌∷◌, length, Option, Some, None, Result, Ok, Err, if◌then◌else◌}
+use Rattle.std.specs.Result.{result_ok}
+use Rattle.hex.specs.Hex.{decode_of, decode_sized}
+use Rattle.toml.specs.Data.{Data, as_integer, as_bool, as_str}
+use Rattle.toml_walk.specs.declared.bounds.Bounds.{Bounds}
+use Rattle.toml_walk.specs.declared.fault.PlanFault.{PlanFault}
+use Rattle.toml_walk.specs.declared.fault.PlanFault.TheVariants.{Kind, Range, Limit}
+use Rattle.toml_walk.specs.Fault.{◌>>=◌, or_fault}
+use Rattle.toml_walk.specs.Bounds.{admits}
+use Rattle.toml_walk.specs.Walk.{Text, Reader, place, values_of}
+
+-- any number
+abbrev pub integer : Reader ℤ
+integer path d = or_fault (as_integer d) (Kind path)
+
+abbrev pub bounded : Bounds → Text → ℤ → Result ℕ PlanFault
+bounded b path (pos n) = if admits b n then Ok n else Err (Range path (pos n))
+bounded b path (negsuc n) = Err (Range path (negsuc n))
+
+-- a number within bounds
+abbrev pub number : Bounds → Reader ℕ
+number b path d = do
+  z ← integer path d
+  bounded b path z
+
+-- true or false
+abbrev pub truth : Reader Bool
+truth path d = or_fault (as_bool d) (Kind path)
+
+abbrev pub text : Reader Text
+text path d = or_fault (as_str d) (Kind path)
+
+-- a fault of a text: its length in bytes
+abbrev pub or_length : {A : Type 0} → Text → Text → Option A → Result A PlanFault
+or_length path t found = or_fault found (Range path (pos (length t)))
+
+-- the 32 bytes of 64 hex digits
+abbrev pub key_bytes : Reader (List ℕ)
+key_bytes path d = do
+  t ← text path d
+  or_length path t (result_ok (decode_sized t 32))
+
+-- the bytes of an even number of hex digits, up to so many bytes
+abbrev pub hex_bytes : ℕ → Reader (List ℕ)
+hex_bytes most path d = do
+  t ← text path d
+  if nat_le (length t) (2 * most) then or_length path t (result_ok (decode_of t)) else or_length path t None
+
+-- two numbers, each within bounds of its own
+abbrev pub both : Bounds → Bounds → Text → Data → Data → Result (ℕ × ℕ) PlanFault
+both first last path d e = do
+  m ← number first (place path 0) d
+  n ← number last (place path 1) e
+  Ok (m, n)
+
+-- a list of two numbers: more are Limit, fewer are Range, and so are two where none are allowed
+abbrev pub two_in : Bool → Bounds → Bounds → Text → List Data → Result (ℕ × ℕ) PlanFault
+two_in allowed first last path [] = Err (Range path (pos 0))
+two_in allowed first last path (d ∷ []) = Err (Range path (pos 1))
+two_in allowed first last path (d ∷ e ∷ []) = if allowed then both first last path d e else Err (Range path (pos 2))
+two_in allowed first last path (d ∷ e ∷ f ∷ ds) = Err (Limit path)
+
+abbrev pub two : Bool → Bounds → Bounds → Reader (ℕ × ℕ)
+two allowed first last path d = do
+  ds ← values_of path d
+  two_in allowed first last path ds

@@ -1,0 +1,103 @@
+-- Walking through a table key by key, over toml's own view of it.
+use Rattle.std.specs.Prelude.{◌≡◌, ◌+◌, ℕ, Bool, true, false, not, ◌&&◌, ◌||◌, nat_lt, List, [], ◌∷◌, ◌++◌, length, Option, Some, None, option_map, Result, Ok, Err, if◌then◌else◌, codes, pos, find}
+use Rattle.std.specs.Fmt.{decimal}
+use Rattle.std.specs.Str.{bytes_eq}
+use Rattle.std.specs.List.{list_any}
+use Rattle.toml.specs.Data.{Data, Items, no_items, item, Members, no_members, member, get_member, as_array, as_table}
+use Rattle.toml_walk.specs.declared.fault.PlanFault.{PlanFault}
+use Rattle.toml_walk.specs.declared.fault.PlanFault.TheVariants.{Missing, Kind, Range, Unknown, Limit}
+use Rattle.toml_walk.specs.declared.list.Span.{Span}
+use Rattle.toml_walk.specs.Fault.{◌>>=◌, or_fault}
+
+-- the bytes of a text, and of a key's path: keys and places in lists, joined by dots
+abbrev pub Text : Type 0
+Text = List ℕ
+
+-- what the value at a path means, or its first fault
+abbrev pub Reader : Type 0 → Type 0
+Reader A = Text → Data → Result A PlanFault
+
+-- the path of an element of a list
+abbrev pub place : Text → ℕ → Text
+place path i = path ++ 46 ∷ decimal i
+
+abbrev pub keys_in : Members → List Text
+keys_in no_members = []
+keys_in (member key d ms) = key ∷ keys_in ms
+
+abbrev pub is_known : List Text → Text → Bool
+is_known known key = list_any (λ name. bytes_eq name key) known
+
+-- the first key that is none of the known ones; the keys of a table ascend in byte order, so it is the least
+abbrev pub unknown_in : List Text → List Text → Option Text
+unknown_in known [] = None
+unknown_in known (key ∷ keys) = if is_known known key then unknown_in known keys else Some key
+
+abbrev pub refused_key : Text → Option Text → Result (Unit {0}) PlanFault
+refused_key table None = Ok tt
+refused_key table (Some key) = Err (Unknown (table ++ key))
+
+-- a table has known keys alone; `table` is its path and a dot, or nothing for the table at the top
+abbrev pub only_known : Text → List Text → Members → Result (Unit {0}) PlanFault
+only_known table known ms = refused_key table (unknown_in known (keys_in ms))
+
+-- the value of a key that has to be there
+abbrev pub required : {A : Type 0} → Text → Members → Text → Reader A → Result A PlanFault
+required table ms name read = do
+  d ← or_fault (get_member name ms) (Missing (table ++ name))
+  read (table ++ name) d
+
+abbrev pub found_or : {A : Type 0} → Text → A → Reader A → Option Data → Result A PlanFault
+found_or path default read None = Ok default
+found_or path default read (Some d) = read path d
+
+-- the value of a key, or its default where it is not there
+abbrev pub optional : {A : Type 0} → Text → Members → Text → A → Reader A → Result A PlanFault
+optional table ms name default read = found_or (table ++ name) default read (get_member name ms)
+
+-- a table, by how its keys are read
+abbrev pub table : {A : Type 0} → (Text → Members → Result A PlanFault) → Reader A
+table keys path d = do
+  ms ← or_fault (as_table d) (Kind path)
+  keys (path ++ codes ".") ms
+
+abbrev pub list_of : Items → List Data
+list_of no_items = []
+list_of (item d ds) = d ∷ list_of ds
+
+-- the elements of a list
+abbrev pub values_of : Reader (List Data)
+values_of path d = or_fault (option_map list_of (as_array d)) (Kind path)
+
+abbrev pub is_past : Option ℕ → ℕ → Bool
+is_past None n = false
+is_past (Some most) n = nat_lt most n
+
+-- a list may have so many elements: more are Limit; fewer are Range, and so is any at all where none are allowed
+abbrev pub counted : Span → Text → List Data → Result (List Data) PlanFault
+counted span path ds =
+    if is_past span.most (length ds) then Err (Limit path)
+    else if nat_lt (length ds) span.least || (not span.allowed && nat_lt 0 (length ds)) then Err (Range path (pos (length ds)))
+    else Ok ds
+
+-- each element from place i on, up to the first fault
+abbrev pub each : {A : Type 0} → Reader A → Text → ℕ → List Data → Result (List A) PlanFault
+each one path i [] = Ok []
+each one path i (d ∷ ds) = do
+  x ← one (place path i) d
+  xs ← each one path (i + 1) ds
+  Ok (x ∷ xs)
+
+-- a list of so many elements, by how an element is read
+abbrev pub list : {A : Type 0} → Span → Reader A → Reader (List A)
+list span one path d = do
+  ds ← values_of path d
+  counted_ds ← counted span path ds
+  each one path 0 counted_ds
+
+-- so many elements, or any number from the least on
+abbrev pub between : ℕ → ℕ → Span
+between least most = record { least = least; most = Some most; allowed = true }
+
+abbrev pub any_number : Span
+any_number = record { least = 0; most = None; allowed = true }

@@ -1,0 +1,58 @@
+//! Why a text is no plan.
+
+ghost use Rattle.std.specs.Prelude.{◌≡◌};
+ghost use Rattle.toml_walk.specs.declared.fault.PlanError.TheVariants.{Memory};
+
+use ide_types::Bytes;
+use std::alloc::{AllocError, AllocFailed};
+
+/// The first fault of a walk (this profile). A key is named by its path: keys and places in lists, joined by dots.
+#[derive(Debug, Drop)]
+pub enum PlanFault {
+    /// The bytes are no TOML text.
+    NotToml,
+    /// The key is not there and has no default.
+    Missing(Bytes),
+    /// The key's value is of another kind.
+    Kind(Bytes),
+    /// The key's value is outside its bounds: the number, the length of a text in bytes or of a list in elements, or 1
+    /// for `true`.
+    Range(Bytes, i64),
+    /// Two elements of the list may not stand beside each other: their places, of which no pair is less.
+    Repeated(Bytes, usize, usize),
+    /// No table has such a key.
+    Unknown(Bytes),
+    /// The list has too many elements.
+    Limit(Bytes),
+}
+
+/// Why there is no plan: there was no memory, or the text has a fault.
+#[derive(Debug, Drop)]
+pub enum PlanError {
+    Memory,
+    Fault(PlanFault),
+}
+
+impl From<AllocError> for PlanError {
+    ghost from_gives = { λ _ e. e ≡ Memory };
+
+    fn from(_e: AllocError) -> PlanError {
+        PlanError::Memory
+    }
+}
+
+impl<T: Drop> From<AllocFailed<T>> for PlanError {
+    ghost from_gives = { λ _ e. e ≡ Memory };
+
+    fn from(_e: AllocFailed<T>) -> PlanError {
+        PlanError::Memory
+    }
+}
+
+impl From<ide_types::Memory> for PlanError {
+    ghost from_gives = { λ _ e. e ≡ Memory };
+
+    fn from(_e: ide_types::Memory) -> PlanError {
+        PlanError::Memory
+    }
+}

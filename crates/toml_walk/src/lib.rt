@@ -1,0 +1,20 @@
+//! Reading TOML tables key by key, each value by its kind and bounds, with the first fault of the walk.
+#![tactic(auto)]
+
+mod bounds;
+mod fault;
+mod list;
+mod numbers;
+mod path;
+mod reader;
+mod table;
+mod texts;
+
+pub use bounds::{Bounds, Form, GREATEST};
+pub use fault::{PlanError, PlanFault};
+pub use list::{ListOf, Span, items_of};
+pub use numbers::{Byte, Long, Wide, Word, integer_of, two_numbers};
+pub use path::{key_path, place_path};
+pub use reader::Reader;
+pub use table::{Keys, table_of};
+pub use texts::{HexBytes, KeyBytes, Truth, or_length, text_of};

@@ -1,0 +1,139 @@
+//! Lists.
+
+ghost use Rattle.std.specs.Prelude.{◌≡◌, map, option_map, length};
+ghost use Rattle.toml.specs.Data.{as_array};
+ghost use Rattle.toml.specs.View.{view};
+ghost use Rattle.toml_walk.specs.Fault.{Gives};
+ghost use Rattle.toml_walk.specs.Walk.{list_of, values_of, counted, each, list, is_past, between, any_number};
+
+use crate::{PlanError, PlanFault, Reader, place_path};
+use ide_types::{Bytes, Items};
+use std::alloc::Global;
+use toml::Value;
+
+/// How many elements a list may have.
+#[derive(Clone, Copy, Debug, PartialEq, Eq)]
+pub struct Span {
+    pub least: usize,
+    /// No bound where there is none.
+    pub most: Option<usize>,
+    /// Whether the list may have elements at all.
+    pub allowed: bool,
+}
+
+impl Span {
+    /// From `least` to `most` elements.
+    pub fn between(least: usize, most: usize) -> Span
+        ensures { result ≡ between least most }
+    {
+        Span {
+            least,
+            most: Some(most),
+            allowed: true,
+        }
+    }
+
+    /// Any number of elements.
+    pub fn any_number() -> Span
+        ensures { result ≡ any_number }
+    {
+        Span {
+            least: 0,
+            most: None,
+            allowed: true,
+        }
+    }
+
+    fn is_passed(&self, count: usize) -> bool
+        ensures { result ≡ is_past self.now.most count }
+    {
+        match self.most {
+            None => false,
+            Some(most) => most < count,
+        }
+    }
+}
+
+// The elements of a list.
+#[tactic(auto, using(crate::proofs::Lists::list_of_view))]
+fn items_in(value: &Value) -> Option<&[Value]>
+    ensures { option_map (λ vs. map view vs.now) result ≡ option_map list_of (as_array (view value.now)) }
+{
+    match value.as_array() {
+        None => None,
+        Some(items) => Some(items.as_slice()),
+    }
+}
+
+/// The elements of the list that a value is.
+pub fn items_of(path: Bytes, value: &Value) -> Result<&[Value], PlanError>
+    ensures { Gives (λ vs. map view vs.now) result (values_of path (view value.now)) }
+{
+    match items_in(value) {
+        None => Err(PlanError::Fault(PlanFault::Kind(path))),
+        Some(items) => Ok(items),
+    }
+}
+
+// Refuses too many elements, and then too few.
+fn refuse_count(alloc: Global, span: &Span, path: &[u8], items: &[Value]) -> Result<(), PlanError>
+    ensures { Gives (λ _. map view items.now) result (counted span.now path.now (map view items.now)) }
+{
+    let count = items.len();
+    if span.is_passed(count) {
+        return Err(PlanError::Fault(PlanFault::Limit(Bytes::copied(alloc, path)?)));
+    }
+    if count < span.least || (!span.allowed && count > 0) {
+        return Err(PlanError::Fault(PlanFault::Range(Bytes::copied(alloc, path)?, count as i64)));
+    }
+    Ok(())
+}
+
+// Each element of a list, up to the first fault.
+fn each_of<R: Reader>(
+    alloc: Global,
+    reader: &R,
+    path: &[u8],
+    values: &[Value],
+) -> Result<Vec<R::Out>, PlanError>
+    ensures { Gives (λ v. v.items) result (each (R.reads reader.now) path.now 0 (map view values.now)) }
+{
+    let mut all = Vec::new(alloc);
+    for (i, value) in values.iter().enumerate() {
+        let place = place_path(alloc, path, i)?;
+        all.push(reader.read(alloc, place.as_slice(), value)?)?;
+    }
+    Ok(all)
+}
+
+/// A list of so many elements, by how an element is read.
+#[derive(Clone, Copy)]
+pub struct ListOf<R> {
+    pub span: Span,
+    pub element: R,
+}
+
+impl<R> ListOf<R> {
+    /// From `least` to `most` elements.
+    pub fn between(least: usize, most: usize, element: R) -> ListOf<R>
+        ensures span { result.span ≡ between least most }
+        ensures element { result.element ≡ element }
+    {
+        ListOf {
+            span: Span::between(least, most),
+            element,
+        }
+    }
+}
+
+impl<R: Reader> Reader for ListOf<R> {
+    type Out = Items<R::Out>;
+
+    ghost reads = { λ l. list l.span (R.reads l.element) };
+
+    fn read(&self, alloc: Global, path: &[u8], value: &Value) -> Result<Items<R::Out>, PlanError> {
+        let items = items_of(Bytes::copied(alloc, path)?, value)?;
+        refuse_count(alloc, &self.span, path, items)?;
+        Ok(Items::new(each_of(alloc, &self.element, path, items)?))
+    }
+}

@@ -1,0 +1,23 @@
+//! How the values of keys are read.
+
+ghost use Rattle.std.specs.Prelude.{List, Result, ℕ};
+ghost use Rattle.toml.specs.Data.{Data};
+ghost use Rattle.toml.specs.View.{view};
+ghost use Rattle.toml_walk.specs.declared.fault.PlanFault.{PlanFault};
+ghost use Rattle.toml_walk.specs.Fault.{Gives};
+
+use crate::PlanError;
+use std::alloc::Global;
+use toml::Value;
+
+/// How the value of a key, or an element of a list, is read.
+pub trait Reader {
+    /// What such a value means.
+    type Out: Drop;
+
+    ghost reads: { Self → List ℕ → Data → Result Self.Out PlanFault };
+
+    /// What the value at the path means, or its first fault.
+    fn read(&self, alloc: Global, path: &[u8], value: &Value) -> Result<Self::Out, PlanError>
+        ensures { Gives (λ x. x) result (reads self.now path.now (view value.now)) };
+}

@@ -1,0 +1,107 @@
+//! Walking through a table.
+
+ghost use Rattle.std.specs.Prelude.{◌≡◌, ◌++◌, map, option_map, codes, string_bytes};
+ghost use Rattle.std.specs.BTreeMap.{keys};
+ghost use Rattle.toml.specs.Data.{get_member, as_table};
+ghost use Rattle.toml.specs.View.{view, table_view};
+ghost use Rattle.toml_walk.specs.declared.fault.PlanFault.TheVariants.{Kind};
+ghost use Rattle.toml_walk.specs.Fault.{Gives, or_fault};
+ghost use Rattle.toml_walk.specs.Walk.{is_known, unknown_in, only_known, required, optional};
+
+use crate::{PlanError, PlanFault, Reader, key_path};
+use ide_types::Bytes;
+use std::alloc::Global;
+use toml::{Table, Value};
+
+fn is_in(known: &[&str], key: &str) -> bool
+    ensures { result ≡ is_known (map (λ s. s.now) known.now) key.now }
+{
+    for name in known {
+        if *name == key {
+            return true;
+        }
+    }
+    false
+}
+
+// The first key that is none of the known ones.
+fn first_unknown<'a>(known: &[&str], table: &'a Table) -> Option<&'a str>
+    ensures { option_map (λ s. s.now) result ≡ unknown_in (map (λ s. s.now) known.now) (map string_bytes (keys table.now)) }
+{
+    for key in table.keys() {
+        if !is_in(known, key.as_str()) {
+            return Some(key.as_str());
+        }
+    }
+    None
+}
+
+/// The keys of a table, to be read one after the other.
+#[derive(Drop)]
+pub struct Keys<'a> {
+    pub alloc: Global,
+    /// The table's path and a dot, or nothing for the table at the top.
+    pub path: Bytes,
+    pub table: &'a Table,
+}
+
+fn found<'a>(table: &'a Table, name: &str) -> Option<&'a Value>
+    ensures { option_map (λ v. view v.now) result ≡ get_member name.now (table_view table.now) }
+{
+    table.get(name)
+}
+
+impl Keys<'_> {
+    /// Refuses the least key of the table that is none of the known ones.
+    #[tactic(auto, using(crate::proofs::Lists::keys_of_view))]
+    pub fn only(&self, known: &[&str]) -> Result<(), PlanError>
+        ensures { Gives (λ u. u) result (only_known self.now.path (map (λ s. s.now) known.now) (table_view self.now.table.now)) }
+    {
+        match first_unknown(known, self.table) {
+            None => Ok(()),
+            Some(key) => {
+                let path = key_path(self.alloc, self.path.as_slice(), key)?;
+                Err(PlanError::Fault(PlanFault::Unknown(path)))
+            }
+        }
+    }
+
+    /// The value of a key that has to be there.
+    pub fn required<R: Reader>(&self, name: &str, reader: &R) -> Result<R::Out, PlanError>
+        ensures { Gives (λ x. x) result (required self.now.path (table_view self.now.table.now) name.now (R.reads reader.now)) }
+    {
+        let path = key_path(self.alloc, self.path.as_slice(), name)?;
+        match found(self.table, name) {
+            None => Err(PlanError::Fault(PlanFault::Missing(path))),
+            Some(value) => reader.read(self.alloc, path.as_slice(), value),
+        }
+    }
+
+    /// The value of a key, or its default where it is not there.
+    pub fn optional<R: Reader>(
+        &self,
+        name: &str,
+        default: R::Out,
+        reader: &R,
+    ) -> Result<R::Out, PlanError>
+        ensures { Gives (λ x. x) result (optional self.now.path (table_view self.now.table.now) name.now default (R.reads reader.now)) }
+    {
+        match found(self.table, name) {
+            None => Ok(default),
+            Some(value) => {
+                let path = key_path(self.alloc, self.path.as_slice(), name)?;
+                reader.read(self.alloc, path.as_slice(), value)
+            }
+        }
+    }
+}
+
+/// The table that a value is.
+pub fn table_of(path: Bytes, value: &Value) -> Result<&Table, PlanError>
+    ensures { Gives (λ t. table_view t.now) result (or_fault (as_table (view value.now)) (Kind path)) }
+{
+    match value.as_table() {
+        None => Err(PlanError::Fault(PlanFault::Kind(path))),
+        Some(table) => Ok(table),
+    }
+}

@@ -1,0 +1,125 @@
+-- What the rules over several values say of a topology that meets them.
+use Rattle.std.proofs.Common.{◌≡◌, ◌≢◌, ◌∙◌, sym, ap, refl, ℕ, ◌+◌, ◌%◌, ◌≤◌, ◌<◌, ◌==◌, nat_le, List, [], ◌∷◌, ◌++◌, map, length, Bool, true, false, Option, Some, None, Result, Ok, Err, cond, arith, codes}
+use Rattle.std.specs.Prelude.{sum_by}
+use Rattle.std.specs.List.{All, AllPairs, position_from}
+use Rattle.std.specs.Str.{bytes_eq}
+use Rattle.std.proofs.lemmas.Bool.{leb-true, eqb-true}
+use Rattle.std.proofs.lemmas.List.Elements.{All-nil, All-cons}
+use Rattle.std.proofs.lemmas.List.Kept.{AllPairs-cons}
+use Rattle.ide_plan.specs.declared.stream.StreamPlan.{StreamPlan}
+use Rattle.ide_plan.specs.Plans.{same_id, both_default, share_class, overlap}
+use Rattle.toml_walk.specs.declared.fault.PlanFault.{PlanFault}
+use Rattle.toml_walk.specs.Fault.{◌>>=◌}
+use Rattle.toml_walk.specs.Walk.{Text, place}
+use Rattle.topology.specs.declared.draft.InterfaceDraft.{InterfaceDraft}
+use Rattle.topology.specs.declared.draft.LinkDraft.{LinkDraft}
+use Rattle.topology.specs.declared.draft.PlanDraft.{PlanDraft}
+use Rattle.topology.specs.Rules.{pair_or, pair_from, refused_pair, no_clash, at_most, in_sixes, same_requester, is_bound, each_bound, link_rules, each_link, interface_count, rules}
+
+-- both steps gave a value
+pub steps : {B : Type 0} (r : Result (Unit {0}) PlanFault) (f : Unit {0} → Result B PlanFault) (y : B) → (r >>= f) ≡ Ok y → (r ≡ Ok tt) × (f tt ≡ Ok y)
+steps (Ok u) f y e = (refl, e)
+steps (Err g) f y e = cc
+
+tested : {B : Type 0} (b : Bool) (r : Result B PlanFault) (f : PlanFault) (y : B) → cond b r (Err f) ≡ Ok y → (b ≡ true) × (r ≡ Ok y)
+tested true r f y e = (refl, e)
+tested false r f y e = cc
+
+no_later : (i : ℕ) (o : Option ℕ) (later : Option (ℕ × ℕ)) → pair_or i o later ≡ None → (o ≡ None) × (later ≡ None)
+no_later i None later e = (refl, e)
+no_later i (Some j) later e = cc
+
+module _ {A B : Type 0} (clash : A → A → Bool) (R : B → B → Type 0) (f : A → B) (sound : (a b : A) → clash a b ≡ false → R (f a) (f b)) where
+  apart_step : (x y : A) (i : ℕ) (ys : List A) (b : Bool) → clash x y ≡ b → cond b (Some i) (position_from (clash x) (i + 1) ys) ≡ None
+      → (position_from (clash x) (i + 1) ys ≡ None → All (R (f x)) (map f ys)) → All (R (f x)) (map f (y ∷ ys))
+  apart_step x y i ys true h e later = cc
+  apart_step x y i ys false h e later = All-cons (R (f x)) (f y) (map f ys) (sound x y h) (later e)
+
+  apart_from : (x : A) (i : ℕ) (ys : List A) → position_from (clash x) i ys ≡ None → All (R (f x)) (map f ys)
+  apart_from x i [] e = All-nil (R (f x))
+  apart_from x i (y ∷ ys) e = apart_step x y i ys (clash x y) refl e (apart_from x (i + 1) ys)
+
+  apart : (i : ℕ) (xs : List A) → pair_from clash i xs ≡ None → AllPairs R (map f xs)
+  apart i [] e = λ i j d below lt. absurd (omega arith)
+  apart i (x ∷ xs) e =
+      let p = no_later i (position_from (clash x) (i + 1) xs) (pair_from clash (i + 1) xs) e in
+      AllPairs-cons R (f x) (map f xs) (apart_from x (i + 1) xs p.0) (apart (i + 1) xs p.1)
+
+no_pair : (path : Text) (o : Option (ℕ × ℕ)) → refused_pair path o ≡ Ok tt → o ≡ None
+no_pair path None e = refl
+no_pair path (Some p) e = cc
+
+map_itself : {A : Type 0} (xs : List A) → map (λ x. x) xs ≡ xs
+map_itself [] = refl
+map_itself {A} (x ∷ xs) = ap (λ (ys : List A). x ∷ ys) (map_itself xs)
+
+-- no two elements clash
+pub clash_free : {A : Type 0} (path : Text) (clash : A → A → Bool) (xs : List A) → no_clash path clash xs ≡ Ok tt → AllPairs (λ a b. clash a b ≡ false) xs
+clash_free path clash xs e =
+    rw (map_itself xs) at (apart clash (λ a b. clash a b ≡ false) (λ x. x) (λ a b h. h) 0 xs (no_pair path (pair_from clash 0 xs) e))
+
+-- nor do what they are mapped to
+pub clash_free_map : {A B : Type 0} (path : Text) (clash : A → A → Bool) (R : B → B → Type 0) (f : A → B) (xs : List A) → ((a b : A) → clash a b ≡ false → R (f a) (f b))
+    → no_clash path clash xs ≡ Ok tt → AllPairs R (map f xs)
+clash_free_map path clash R f xs sound e = apart clash R f sound 0 xs (no_pair path (pair_from clash 0 xs) e)
+
+pub at_most_is : (limit : ℕ) (path : Text) (total : ℕ) → at_most limit path total ≡ Ok tt → total ≤ limit
+at_most_is limit path total e = leb-true total limit (tested (nat_le total limit) (Ok tt) _ tt e).0
+
+pub sixes : (pool : List (List ℕ)) → in_sixes pool ≡ Ok tt → length pool % 6 ≡ 0
+sixes pool e = eqb-true _ _ (tested (length pool % 6 == 0) (Ok tt) _ tt e).0
+
+pub all_bound : (path : Text) (streams : List StreamPlan) (i : ℕ) (xs : List InterfaceDraft) → each_bound path streams i xs ≡ Ok tt → All (λ x. is_bound streams x.stream ≡ true) xs
+all_bound path streams i [] e = All-nil (λ x. is_bound streams x.stream ≡ true)
+all_bound path streams i (x ∷ xs) e =
+    let t = tested (is_bound streams x.stream) (each_bound path streams (i + 1) xs) _ tt e in
+    All-cons (λ y. is_bound streams y.stream ≡ true) x xs t.0 (all_bound path streams (i + 1) xs t.1)
+
+-- the rules of one link
+pub record LinkRuled (l : LinkDraft) : Type 0 where
+  pub path : Text
+  pub ids : no_clash (path ++ codes ".stream") same_id l.streams ≡ Ok tt
+  pub defaults : no_clash (path ++ codes ".stream") both_default l.streams ≡ Ok tt
+  pub classes : no_clash (path ++ codes ".stream") share_class l.streams ≡ Ok tt
+  pub requesters : no_clash (path ++ codes ".interface") same_requester l.interfaces ≡ Ok tt
+  pub bound : All (λ x. is_bound l.streams x.stream ≡ true) l.interfaces
+
+link_ruled : (path : Text) (l : LinkDraft) → link_rules path l ≡ Ok tt → LinkRuled l
+unfolding link_rules
+link_ruled path l e =
+    let a = steps (no_clash (path ++ codes ".stream") same_id l.streams) _ tt e in
+    let b = steps (no_clash (path ++ codes ".stream") both_default l.streams) _ tt a.1 in
+    let c = steps (no_clash (path ++ codes ".stream") share_class l.streams) _ tt b.1 in
+    let d = steps (no_clash (path ++ codes ".interface") same_requester l.interfaces) _ tt c.1 in
+    record { path = path; ids = a.0; defaults = b.0; classes = c.0; requesters = d.0; bound = all_bound (path ++ codes ".interface") l.streams 0 l.interfaces d.1 }
+
+links_ruled : (i : ℕ) (ls : List LinkDraft) → each_link i ls ≡ Ok tt → All LinkRuled ls
+links_ruled i [] e = All-nil LinkRuled
+links_ruled i (l ∷ ls) e =
+    let s = steps (link_rules (place (codes "link") i) l) (λ _. each_link (i + 1) ls) tt e in
+    All-cons LinkRuled l ls (link_ruled (place (codes "link") i) l s.0) (links_ruled (i + 1) ls s.1)
+
+pub record Ruled (d : PlanDraft) : Type 0 where
+  pub pool_sixes : length d.pool % 6 ≡ 0
+  pub pool : no_clash (codes "pool") bytes_eq d.pool ≡ Ok tt
+  pub each_link : All LinkRuled d.links
+  pub interfaces : interface_count d.links ≤ 32
+  pub memory : sum_by (λ r. r.size) d.memory ≤ 16777216
+  pub regions : no_clash (codes "memory") overlap d.memory ≡ Ok tt
+
+pub ruled : (d : PlanDraft) → rules d ≡ Ok tt → Ruled d
+unfolding rules
+ruled d e =
+    let a = steps (in_sixes d.pool) _ tt e in
+    let b = steps (no_clash (codes "pool") bytes_eq d.pool) _ tt a.1 in
+    let c = steps (each_link 0 d.links) _ tt b.1 in
+    let f = steps (at_most 32 (codes "interface") (interface_count d.links)) _ tt c.1 in
+    let g = steps (at_most 16777216 (codes "memory") (sum_by (λ r. r.size) d.memory)) _ tt f.1 in
+    record {
+      pool_sixes = sixes d.pool a.0;
+      pool = b.0;
+      each_link = links_ruled 0 d.links c.0;
+      interfaces = at_most_is 32 (codes "interface") _ f.0;
+      memory = at_most_is 16777216 (codes "memory") _ g.0;
+      regions = g.1;
+    }

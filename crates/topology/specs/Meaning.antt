@@ -1,0 +1,44 @@
+-- The plan that a topology's text means, or its first fault.
+use Rattle.std.specs.Prelude.{ℕ, Bool, List, [], map, Option, Some, None, Result, Ok, Err, if◌then◌else◌}
+use Rattle.std.specs.Str.{is_utf8}
+use Rattle.toml.specs.Data.{Members}
+use Rattle.toml.specs.Parse.{parse_document}
+use Rattle.ide_plan.specs.declared.plan.LinkPlan.{LinkPlan}
+use Rattle.ide_plan.specs.declared.plan.Plan.{Plan}
+use Rattle.toml_walk.specs.declared.fault.PlanFault.{PlanFault}
+use Rattle.toml_walk.specs.declared.fault.PlanFault.TheVariants.{NotToml}
+use Rattle.toml_walk.specs.Fault.{◌>>=◌}
+use Rattle.topology.specs.declared.draft.LinkDraft.{LinkDraft}
+use Rattle.topology.specs.declared.draft.PlanDraft.{PlanDraft}
+use Rattle.topology.specs.Tables.{top_keys}
+use Rattle.topology.specs.Rules.{rules}
+
+abbrev pub link_of : LinkDraft → LinkPlan
+link_of l = record { nonces = l.nonces; streams = l.streams; interfaces = map (λ i. i.interface) l.interfaces }
+
+abbrev pub plan_from : PlanDraft → Plan
+plan_from d = record {
+  portion = d.portion;
+  units_per_key = d.units_per_key;
+  pool = d.pool;
+  links = map link_of d.links;
+  memory = d.memory;
+}
+
+-- the plan of a table: first each key, and then the rules over several values
+abbrev pub plan_in : Members → Result Plan PlanFault
+plan_in ms = do
+  d ← top_keys [] ms
+  _ ← rules d
+  Ok (plan_from d)
+
+-- the table that TOML reads from the bytes, which have to be UTF-8
+abbrev pub document : List ℕ → Option Members
+document bytes = if is_utf8 bytes then parse_document bytes else None
+
+abbrev pub plan_of_document : Option Members → Result Plan PlanFault
+plan_of_document None = Err NotToml
+plan_of_document (Some ms) = plan_in ms
+
+abbrev pub plan_of : List ℕ → Result Plan PlanFault
+plan_of bytes = plan_of_document (document bytes)

@@ -1,0 +1,84 @@
+-- The rules over several values of a topology, in their order.
+use Rattle.std.specs.Prelude.{◌≡◌, ◌+◌, ◌%◌, ◌==◌, ◌&&◌, ℕ, ℤ, pos, negsuc, nat_le, Bool, true, false, List, [], ◌∷◌, ◌++◌, length, Option, Some, None, Result, Ok, Err, if◌then◌else◌, codes, sum_by}
+use Rattle.std.specs.List.{list_any, position_from}
+use Rattle.std.specs.Str.{bytes_eq}
+use Rattle.ide_plan.specs.declared.stream.StreamPlan.{StreamPlan}
+use Rattle.ide_plan.specs.Plans.{same_id, both_default, share_class, is_selective, overlap}
+use Rattle.toml_walk.specs.declared.fault.PlanFault.{PlanFault}
+use Rattle.toml_walk.specs.declared.fault.PlanFault.TheVariants.{Range, Repeated, Limit}
+use Rattle.toml_walk.specs.Fault.{◌>>=◌}
+use Rattle.toml_walk.specs.Walk.{Text, place}
+use Rattle.topology.specs.declared.draft.InterfaceDraft.{InterfaceDraft}
+use Rattle.topology.specs.declared.draft.LinkDraft.{LinkDraft}
+use Rattle.topology.specs.declared.draft.PlanDraft.{PlanDraft}
+
+-- the pair of a place and a later one where there is a later one, and else a later pair
+abbrev pub pair_or : ℕ → Option ℕ → Option (ℕ × ℕ) → Option (ℕ × ℕ)
+pair_or i (Some j) later = Some (i, j)
+pair_or i None later = later
+
+-- the least pair of places of elements that clash, the first place first; places count from i on
+abbrev pub pair_from : {A : Type 0} → (A → A → Bool) → ℕ → List A → Option (ℕ × ℕ)
+pair_from clash i [] = None
+pair_from clash i (x ∷ xs) = pair_or i (position_from (clash x) (i + 1) xs) (pair_from clash (i + 1) xs)
+
+abbrev pub refused_pair : Text → Option (ℕ × ℕ) → Result (Unit {0}) PlanFault
+refused_pair path None = Ok tt
+refused_pair path (Some p) = Err (Repeated path p.0 p.1)
+
+-- no two elements of the list at the path clash
+abbrev pub no_clash : {A : Type 0} → Text → (A → A → Bool) → List A → Result (Unit {0}) PlanFault
+no_clash path clash xs = refused_pair path (pair_from clash 0 xs)
+
+-- the total is at most the limit
+abbrev pub at_most : ℕ → Text → ℕ → Result (Unit {0}) PlanFault
+at_most limit path total = if nat_le total limit then Ok tt else Err (Limit path)
+
+abbrev pub in_sixes : List (List ℕ) → Result (Unit {0}) PlanFault
+in_sixes pool = if length pool % 6 == 0 then Ok tt else Err (Range (codes "pool") (pos (length pool)))
+
+abbrev pub same_requester : InterfaceDraft → InterfaceDraft → Bool
+same_requester i j = i.interface.requester == j.interface.requester
+
+abbrev pub is_id : ℤ → ℕ → Bool
+is_id (pos n) id = n == id
+is_id (negsuc n) id = false
+
+-- the number is the ID of a selective stream
+abbrev pub is_bound : List StreamPlan → ℤ → Bool
+is_bound streams z = list_any (λ s. is_selective s.selector && is_id z s.id) streams
+
+-- each interface from place i on is bound to a selective stream of its link
+abbrev pub each_bound : Text → List StreamPlan → ℕ → List InterfaceDraft → Result (Unit {0}) PlanFault
+each_bound path streams i [] = Ok tt
+each_bound path streams i (x ∷ xs) =
+    if is_bound streams x.stream then each_bound path streams (i + 1) xs
+    else Err (Range (place path i ++ codes ".stream") x.stream)
+
+-- the rules of one link
+unfoldable pub link_rules : Text → LinkDraft → Result (Unit {0}) PlanFault
+link_rules path l = do
+  _ ← no_clash (path ++ codes ".stream") same_id l.streams
+  _ ← no_clash (path ++ codes ".stream") both_default l.streams
+  _ ← no_clash (path ++ codes ".stream") share_class l.streams
+  _ ← no_clash (path ++ codes ".interface") same_requester l.interfaces
+  each_bound (path ++ codes ".interface") l.streams 0 l.interfaces
+
+-- the rules of each link from place i on
+abbrev pub each_link : ℕ → List LinkDraft → Result (Unit {0}) PlanFault
+each_link i [] = Ok tt
+each_link i (l ∷ ls) = do
+  _ ← link_rules (place (codes "link") i) l
+  each_link (i + 1) ls
+
+abbrev pub interface_count : List LinkDraft → ℕ
+interface_count links = sum_by (λ l. length l.interfaces) links
+
+unfoldable pub rules : PlanDraft → Result (Unit {0}) PlanFault
+rules d = do
+  _ ← in_sixes d.pool
+  _ ← no_clash (codes "pool") bytes_eq d.pool
+  _ ← each_link 0 d.links
+  _ ← at_most 32 (codes "interface") (interface_count d.links)
+  _ ← at_most 16777216 (codes "memory") (sum_by (λ r. r.size) d.memory)
+  no_clash (codes "memory") overlap d.memory

@@ -1,0 +1,197 @@
+-- The tables of a topology: for each its keys in their order, with kind, bounds and default.
+use Rattle.std.specs.Prelude.{◌≡◌, ◌+◌, ◌≤◌, ℕ, ℤ, pos, negsuc, nat_le, nat_lt, Bool, true, false, not, ◌&&◌, List, [], ◌∷◌, ◌++◌, length, Option, Some, None, Result, Ok, Err, if◌then◌else◌, codes}
+use Rattle.std.specs.Str.{bytes_eq}
+use Rattle.toml.specs.Data.{Data, Members}
+use Rattle.ide_plan.specs.declared.stream.IdRange.{IdRange}
+use Rattle.ide_plan.specs.declared.stream.AddressRange.{AddressRange}
+use Rattle.ide_plan.specs.declared.stream.Selector.{Selector}
+use Rattle.ide_plan.specs.declared.stream.Selector.TheVariants as selector
+use Rattle.ide_plan.specs.declared.stream.StreamPlan.{StreamPlan}
+use Rattle.ide_plan.specs.declared.interface.InterfacePlan.{InterfacePlan}
+use Rattle.ide_plan.specs.declared.interface.BarPlan.{BarPlan}
+use Rattle.ide_plan.specs.declared.plan.Region.{Region}
+use Rattle.toml_walk.specs.declared.bounds.Bounds.{Bounds}
+use Rattle.toml_walk.specs.declared.bounds.Form.TheVariants.{Pages, Mebibytes, LastOfMebibyte, UnitMode, LockFlags}
+use Rattle.toml_walk.specs.declared.list.Span.{Span}
+use Rattle.toml_walk.specs.declared.fault.PlanFault.{PlanFault}
+use Rattle.toml_walk.specs.declared.fault.PlanFault.TheVariants.{Range}
+use Rattle.toml_walk.specs.Fault.{◌>>=◌}
+use Rattle.toml_walk.specs.Bounds.{greatest, within, formed}
+use Rattle.toml_walk.specs.Walk.{Text, Reader, place, only_known, required, optional, table, list, between, any_number}
+use Rattle.toml_walk.specs.Values.{integer, number, truth, text, or_length, key_bytes, hex_bytes, two}
+use Rattle.topology.specs.declared.draft.StreamKind.{StreamKind}
+use Rattle.topology.specs.declared.draft.StreamKind.TheVariants as kind
+use Rattle.topology.specs.declared.draft.InterfaceDraft.{InterfaceDraft}
+use Rattle.topology.specs.declared.draft.LinkDraft.{LinkDraft}
+use Rattle.topology.specs.declared.draft.PlanDraft.{PlanDraft}
+
+-- "selective" or "link"
+abbrev pub kind_named : Text → Option StreamKind
+kind_named word =
+    if bytes_eq word (codes "selective") then Some kind.Selective
+    else if bytes_eq word (codes "link") then Some kind.Link
+    else None
+
+abbrev pub stream_kind : Reader StreamKind
+stream_kind path d = do
+  word ← text path d
+  or_length path word (kind_named word)
+
+abbrev pub is_selective_kind : StreamKind → Bool
+is_selective_kind kind.Selective = true
+is_selective_kind kind.Link = false
+
+-- a list that a stream of the other kind may have without elements alone
+abbrev pub only_if : Bool → Span → Span
+only_if allowed span = record span { allowed = allowed }
+
+-- [base, limit] with base at most limit
+abbrev pub ids_in_order : Text → ℕ × ℕ → Result (Option IdRange) PlanFault
+ids_in_order path (base, limit) =
+    if nat_le base limit then Ok (Some (record { base = base; limit = limit })) else Err (Range (place path 1) (pos limit))
+
+abbrev pub id_range : Bool → Reader (Option IdRange)
+id_range allowed path d = do
+  ends ← two allowed (within 0 65535) (within 0 65535) path d
+  ids_in_order path ends
+
+-- [base, limit] with base less than limit
+abbrev pub addresses_in_order : Text → ℕ × ℕ → Result AddressRange PlanFault
+addresses_in_order path (base, limit) =
+    if nat_lt base limit then Ok (record { base = base; limit = limit }) else Err (Range (place path 1) (pos limit))
+
+-- base and limit + 1 are multiples of 2^20
+abbrev pub address_range : Reader AddressRange
+address_range path d = do
+  ends ← two true (formed 0 greatest Mebibytes) (formed 0 greatest LastOfMebibyte) path d
+  addresses_in_order path ends
+
+-- true where it is allowed, or false; Range with 1 is the fault of true
+abbrev pub true_if : Bool → Text → Bool → Result Bool PlanFault
+true_if allowed path b = if b && not allowed then Err (Range path (pos 1)) else Ok b
+
+abbrev pub truth_if : Bool → Reader Bool
+truth_if allowed path d = do
+  b ← truth path d
+  true_if allowed path b
+
+abbrev pub selector_of : StreamKind → Option IdRange → List AddressRange → Bool → List ℕ → Selector
+selector_of kind.Selective ids addresses default classes = selector.Selective ids addresses default
+selector_of kind.Link ids addresses default classes = selector.Link classes
+
+abbrev pub stream_names : List Text
+stream_names = codes "id" ∷ codes "kind" ∷ codes "mode" ∷ codes "rid" ∷ codes "ranges" ∷ codes "default" ∷ codes "tcs" ∷ codes "closed" ∷ []
+
+-- a stream: rid, ranges and default are a selective stream's, tcs a link stream's
+unfoldable pub stream_keys : Text → Members → Result StreamPlan PlanFault
+stream_keys t ms = do
+  _ ← only_known t stream_names ms
+  id ← required t ms (codes "id") (number (within 0 255))
+  kind ← required t ms (codes "kind") stream_kind
+  mode ← optional t ms (codes "mode") 1 (number (formed 1 8 UnitMode))
+  ids ← optional t ms (codes "rid") None (id_range (is_selective_kind kind))
+  addresses ← optional t ms (codes "ranges") [] (list (only_if (is_selective_kind kind) (between 0 8)) address_range)
+  default ← optional t ms (codes "default") false (truth_if (is_selective_kind kind))
+  classes ← optional t ms (codes "tcs") [] (list (only_if (not (is_selective_kind kind)) any_number) (number (within 0 7)))
+  closed ← optional t ms (codes "closed") false truth
+  Ok (record { id = id; mode = mode; closed = closed; selector = selector_of kind ids addresses default classes })
+
+abbrev pub bar_names : List Text
+bar_names = codes "base" ∷ codes "pages" ∷ codes "attributes" ∷ []
+
+-- a base address register
+unfoldable pub bar_keys : Text → Members → Result BarPlan PlanFault
+bar_keys t ms = do
+  _ ← only_known t bar_names ms
+  base ← required t ms (codes "base") (number (within 0 greatest))
+  pages ← required t ms (codes "pages") (number (within 0 1048576))
+  attributes ← optional t ms (codes "attributes") 0 (number (within 0 15))
+  Ok (record { base = base; pages = pages; attributes = attributes })
+
+-- the stream ID that a number is, or 0 where it is none
+abbrev pub id_of : ℤ → ℕ
+id_of (pos n) = if nat_le n 255 then n else 0
+id_of (negsuc n) = 0
+
+abbrev pub interface_names : List Text
+interface_names =
+    codes "rid" ∷ codes "stream" ∷ codes "flags" ∷ codes "offset" ∷ codes "command" ∷ codes "msix" ∷ codes "lnr" ∷ codes "cacheline"
+    ∷ codes "tph" ∷ codes "info" ∷ codes "bars" ∷ []
+
+-- an interface, and the number at its key `stream`, whose bounds are a rule over several values
+unfoldable pub interface_keys : Text → Members → Result InterfaceDraft PlanFault
+interface_keys t ms = do
+  _ ← only_known t interface_names ms
+  rid ← required t ms (codes "rid") (number (within 0 65535))
+  stream ← required t ms (codes "stream") integer
+  flags ← optional t ms (codes "flags") 0 (number (formed 0 23 LockFlags))
+  offset ← optional t ms (codes "offset") 0 (number (formed 0 greatest Pages))
+  command ← optional t ms (codes "command") 0 (number (within 0 65535))
+  msix ← optional t ms (codes "msix") 0 (number (within 0 65535))
+  lnr ← optional t ms (codes "lnr") 0 (number (within 0 65535))
+  cacheline ← optional t ms (codes "cacheline") 0 (number (within 0 255))
+  tph ← optional t ms (codes "tph") 0 (number (within 0 4294967295))
+  info ← optional t ms (codes "info") [] (hex_bytes 1024)
+  bars ← optional t ms (codes "bars") [] (list (between 0 6) (table bar_keys))
+  Ok (record {
+    stream = stream;
+    interface = record {
+      requester = rid;
+      stream = id_of stream;
+      flags = flags;
+      offset = offset;
+      command = command;
+      cache_line = cacheline;
+      msix = msix;
+      lnr = lnr;
+      tph = tph;
+      pasid = 0;
+      ats = 0;
+      info = info;
+      bars = bars;
+    };
+  })
+
+abbrev pub link_names : List Text
+link_names = codes "nonces" ∷ codes "stream" ∷ codes "interface" ∷ []
+
+-- a link
+unfoldable pub link_keys : Text → Members → Result LinkDraft PlanFault
+link_keys t ms = do
+  _ ← only_known t link_names ms
+  nonces ← optional t ms (codes "nonces") [] (list (between 0 1024) key_bytes)
+  streams ← required t ms (codes "stream") (list (between 1 16) (table stream_keys))
+  interfaces ← optional t ms (codes "interface") [] (list any_number (table interface_keys))
+  Ok (record { nonces = nonces; streams = streams; interfaces = interfaces })
+
+abbrev pub region_names : List Text
+region_names = codes "base" ∷ codes "size" ∷ []
+
+-- base + size at most 2^63
+abbrev pub region_within : Text → ℕ → ℕ → Result Region PlanFault
+region_within t base size =
+    if nat_le (base + size) 9223372036854775808 then Ok (record { base = base; size = size })
+    else Err (Range (t ++ codes "size") (pos size))
+
+-- a region of trusted memory
+unfoldable pub region_keys : Text → Members → Result Region PlanFault
+region_keys t ms = do
+  _ ← only_known t region_names ms
+  base ← required t ms (codes "base") (number (formed 0 greatest Pages))
+  size ← required t ms (codes "size") (number (formed 4096 greatest Pages))
+  region_within t base size
+
+abbrev pub top_names : List Text
+top_names = codes "version" ∷ codes "portion" ∷ codes "units_per_key" ∷ codes "pool" ∷ codes "link" ∷ codes "memory" ∷ []
+
+-- the table at the top
+unfoldable pub top_keys : Text → Members → Result PlanDraft PlanFault
+top_keys t ms = do
+  _ ← only_known t top_names ms
+  _ ← required t ms (codes "version") (number (within 1 1))
+  portion ← optional t ms (codes "portion") 64 (number (within 16 65535))
+  units ← optional t ms (codes "units_per_key") 4294967296 (number (within 1 4294967296))
+  pool ← required t ms (codes "pool") (list (between 6 6144) key_bytes)
+  links ← required t ms (codes "link") (list (between 1 8) (table link_keys))
+  memory ← optional t ms (codes "memory") [] (list (between 0 16) (table region_keys))
+  Ok (record { portion = portion; units_per_key = units; pool = pool; links = links; memory = memory })

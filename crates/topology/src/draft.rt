@@ -1,0 +1,37 @@
+//! What the keys of a topology say, ahead of the rules over several values.
+
+use ide_plan::{InterfacePlan, Region, StreamPlan};
+use ide_types::Items;
+
+/// What a stream is chosen by.
+#[derive(Clone, Copy, Debug, PartialEq, Eq)]
+pub enum StreamKind {
+    Selective,
+    Link,
+}
+
+/// An interface, and the number that names its stream.
+#[derive(Drop)]
+pub struct InterfaceDraft {
+    pub stream: i64,
+    /// Its stream is that number, or 0 where the number is no stream ID.
+    pub interface: InterfacePlan,
+}
+
+/// A link.
+#[derive(Drop)]
+pub struct LinkDraft {
+    pub nonces: Items<[u8; 32]>,
+    pub streams: Items<StreamPlan>,
+    pub interfaces: Items<InterfaceDraft>,
+}
+
+/// A topology.
+#[derive(Drop)]
+pub struct PlanDraft {
+    pub portion: u16,
+    pub units_per_key: u64,
+    pub pool: Items<[u8; 32]>,
+    pub links: Items<LinkDraft>,
+    pub memory: Items<Region>,
+}

@@ -1,0 +1,144 @@
+//! The tables of device interfaces.
+
+ghost use Rattle.std.specs.Prelude.{◌≡◌, codes};
+ghost use Rattle.toml.specs.View.{view, table_view};
+ghost use Rattle.toml_walk.specs.Bounds.{within, formed};
+ghost use Rattle.toml_walk.specs.Fault.{Gives};
+ghost use Rattle.toml_walk.specs.Values.{integer};
+ghost use Rattle.toml_walk.specs.Walk.{table};
+ghost use Rattle.topology.specs.Tables.{bar_keys, id_of, interface_keys};
+
+use crate::draft::InterfaceDraft;
+use ide_plan::{BarPlan, InterfacePlan};
+use ide_types::{Bytes, Items};
+use std::alloc::Global;
+use toml::Value;
+use toml_walk::{
+    Byte, Form, GREATEST, HexBytes, Keys, ListOf, Long, PlanError, Reader, Wide, Word, integer_of,
+    key_path, table_of,
+};
+
+// The keys of a base address register's table.
+#[tactic(auto, unfolding(crate::specs::Tables::bar_keys))]
+fn bar_of(keys: &Keys) -> Result<BarPlan, PlanError>
+    ensures { Gives (λ x. x) result (bar_keys keys.now.path (table_view keys.now.table.now)) }
+{
+    keys.only(&["base", "pages", "attributes"])?;
+    let base = keys.required("base", &Wide::within(0, GREATEST))?;
+    let pages = keys.required("pages", &Long::within(0, 1048576))?;
+    let attributes = keys.optional("attributes", 0, &Byte::within(0, 15))?;
+    Ok(BarPlan {
+        base,
+        pages,
+        attributes,
+    })
+}
+
+#[derive(Clone, Copy)]
+struct Bars;
+
+impl Reader for Bars {
+    type Out = BarPlan;
+
+    ghost reads = { λ _. table bar_keys };
+
+    fn read(&self, alloc: Global, path: &[u8], value: &Value) -> Result<BarPlan, PlanError> {
+        let table = table_of(Bytes::copied(alloc, path)?, value)?;
+        let path = key_path(alloc, path, ".")?;
+        bar_of(&Keys { alloc, path, table })
+    }
+}
+
+// Any number.
+#[derive(Clone, Copy)]
+struct Integer;
+
+impl Reader for Integer {
+    type Out = i64;
+
+    ghost reads = { λ _. integer };
+
+    fn read(&self, alloc: Global, path: &[u8], value: &Value) -> Result<i64, PlanError> {
+        integer_of(alloc, path, value)
+    }
+}
+
+// The stream ID that a number is, or 0 where it is none.
+fn id_in(number: i64) -> u8
+    ensures { result ≡ id_of number }
+{
+    if number >= 0 && number <= 255 {
+        number as u8
+    } else {
+        0
+    }
+}
+
+const NAMES: &[&str] = &[
+    "rid",
+    "stream",
+    "flags",
+    "offset",
+    "command",
+    "msix",
+    "lnr",
+    "cacheline",
+    "tph",
+    "info",
+    "bars",
+];
+
+// The keys of an interface's table.
+#[tactic(auto, unfolding(crate::specs::Tables::interface_keys))]
+fn interface_of(keys: &Keys) -> Result<InterfaceDraft, PlanError>
+    ensures { Gives (λ x. x) result (interface_keys keys.now.path (table_view keys.now.table.now)) }
+{
+    keys.only(NAMES)?;
+    let requester = keys.required("rid", &Word::within(0, 65535))?;
+    let stream = keys.required("stream", &Integer)?;
+    let flags = keys.optional("flags", 0, &Word::formed(0, 23, Form::LockFlags))?;
+    let offset = keys.optional("offset", 0, &Wide::formed(0, Form::Pages))?;
+    let command = keys.optional("command", 0, &Word::within(0, 65535))?;
+    let msix = keys.optional("msix", 0, &Word::within(0, 65535))?;
+    let lnr = keys.optional("lnr", 0, &Word::within(0, 65535))?;
+    let cache_line = keys.optional("cacheline", 0, &Byte::within(0, 255))?;
+    let tph = keys.optional("tph", 0, &Long::within(0, 4294967295))?;
+    let none = Bytes::new(Vec::new(keys.alloc));
+    let info = keys.optional("info", none, &HexBytes { most: 1024 })?;
+    let none = Items::new(Vec::new(keys.alloc));
+    let bars = keys.optional("bars", none, &ListOf::between(0, 6, Bars))?;
+    Ok(InterfaceDraft {
+        stream,
+        interface: InterfacePlan {
+            requester,
+            stream: id_in(stream),
+            flags,
+            offset,
+            command,
+            cache_line,
+            msix,
+            lnr,
+            tph,
+            pasid: 0,
+            ats: 0,
+            info,
+            bars,
+        },
+    })
+}
+
+/// The table of an interface.
+#[derive(Clone, Copy)]
+pub(crate) struct Interfaces;
+
+impl Reader for Interfaces {
+    type Out = InterfaceDraft;
+
+    ghost reads = { λ _. table interface_keys };
+
+    fn read(&self, alloc: Global, path: &[u8], value: &Value) -> Result<InterfaceDraft, PlanError> {
+        let table = table_of(Bytes::copied(alloc, path)?, value)?;
+        let path = key_path(alloc, path, ".")?;
+        interface_of(&Keys { alloc, path, table })
+    }
+}

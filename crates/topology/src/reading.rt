@@ -1,0 +1,88 @@
+//! Reading a topology.
+
+ghost use Rattle.std.specs.Prelude.{◌≡◌, IfOk, map};
+ghost use Rattle.toml.specs.View.{table_view};
+ghost use Rattle.ide_plan.specs.Fits.{FitsPlan};
+ghost use Rattle.toml_walk.specs.Fault.{Gives};
+ghost use Rattle.topology.specs.Meaning.{link_of, plan_from, plan_in, plan_of};
+
+use crate::draft::{LinkDraft, PlanDraft};
+use crate::links::top_of;
+use crate::rules::check;
+use ide_plan::{LinkPlan, Plan};
+use ide_types::{Bytes, Items};
+use std::alloc::{AllocError, Global};
+use toml::Table;
+use toml_walk::{Keys, PlanError, PlanFault};
+
+// The link that its keys say.
+fn link_from(alloc: Global, draft: LinkDraft) -> Result<LinkPlan, AllocError>
+    ensures { IfOk result (λ l. l ≡ link_of draft) }
+{
+    let LinkDraft {
+        nonces,
+        streams,
+        interfaces,
+    } = draft;
+    let plans = interfaces
+        .into_vec()
+        .into_iter()
+        .map(|draft| draft.interface);
+    let interfaces = Items::new(plans.collect(alloc)?);
+    Ok(LinkPlan {
+        nonces,
+        streams,
+        interfaces,
+    })
+}
+
+// The plan that the keys say.
+fn plan_of_draft(alloc: Global, draft: PlanDraft) -> Result<Plan, AllocError>
+    ensures { IfOk result (λ p. p ≡ plan_from draft) }
+{
+    let PlanDraft {
+        portion,
+        units_per_key,
+        pool,
+        links,
+        memory,
+    } = draft;
+    let mut all = Vec::new(alloc);
+    for draft in links.into_vec() {
+        all.push(link_from(alloc, draft)?)?;
+    }
+    Ok(Plan {
+        portion,
+        units_per_key,
+        pool,
+        links: Items::new(all),
+        memory,
+    })
+}
+
+fn plan_of_table(alloc: Global, table: &Table) -> Result<Plan, PlanError>
+    ensures { Gives (λ p. p) result (plan_in (table_view table.now)) }
+{
+    let path = Bytes::new(Vec::new(alloc));
+    let draft = top_of(&Keys { alloc, path, table })?;
+    check(alloc, &draft)?;
+    Ok(plan_of_draft(alloc, draft)?)
+}
+
+/// The plan that a topology's text means, or the first fault of the walk through its tables, each key by its kind,
+/// bounds and default, and of the rules over several values (this profile).
+pub fn read(alloc: Global, bytes: &[u8]) -> Result<Plan, PlanError>
+    ensures gives { Gives (λ p. p) result (plan_of bytes.now) }
+    ensures fits { IfOk result FitsPlan }
+{
+    match toml::table_from_slice(alloc, bytes) {
+        Ok(table) => plan_of_table(alloc, &table),
+        Err(error) => {
+            if error.is_memory() {
+                Err(PlanError::Memory)
+            } else {
+                Err(PlanError::Fault(PlanFault::NotToml))
+            }
+        }
+    }
+}

@@ -1,0 +1,238 @@
+//! The tables of streams.
+
+ghost use Rattle.std.specs.Prelude.{◌≡◌, ◌≤◌, not, IfOk, codes};
+ghost use Rattle.toml.specs.View.{view, table_view};
+ghost use Rattle.toml_walk.specs.Bounds.{greatest, within, formed};
+ghost use Rattle.toml_walk.specs.Fault.{Gives};
+ghost use Rattle.toml_walk.specs.Walk.{table, between, any_number};
+ghost use Rattle.topology.specs.Tables.{kind_named, stream_kind, is_selective_kind, only_if, ids_in_order, id_range, addresses_in_order, address_range, true_if, truth_if, selector_of, stream_keys};
+
+use crate::draft::StreamKind;
+use ide_plan::{AddressRange, IdRange, Selector, StreamPlan};
+use ide_types::{Bytes, Items};
+use std::alloc::Global;
+use toml::{Table, Value};
+use toml_walk::{
+    Bounds, Byte, Form, GREATEST, Keys, ListOf, PlanError, PlanFault, Reader, Span, Truth,
+    key_path, or_length, place_path, table_of, text_of, two_numbers,
+};
+
+fn kind_of(word: &str) -> Option<StreamKind>
+    ensures { result ≡ kind_named word.now }
+{
+    match word {
+        "selective" => Some(StreamKind::Selective),
+        "link" => Some(StreamKind::Link),
+        _ => None,
+    }
+}
+
+// What a stream is chosen by.
+#[derive(Clone, Copy)]
+struct Kind;
+
+impl Reader for Kind {
+    type Out = StreamKind;
+
+    ghost reads = { λ _. stream_kind };
+
+    fn read(&self, alloc: Global, path: &[u8], value: &Value) -> Result<StreamKind, PlanError> {
+        let word = text_of(alloc, path, value)?;
+        or_length(alloc, path, word, kind_of(word))
+    }
+}
+
+fn is_selective(kind: StreamKind) -> bool
+    ensures { result ≡ is_selective_kind kind }
+{
+    match kind {
+        StreamKind::Selective => true,
+        StreamKind::Link => false,
+    }
+}
+
+// [base, limit] of IDs.
+#[derive(Clone, Copy)]
+struct Ids {
+    allowed: bool,
+}
+
+fn ids_of(alloc: Global, path: &[u8], base: u16, limit: u16) -> Result<Option<IdRange>, PlanError>
+    ensures { Gives (λ x. x) result (ids_in_order path.now (base, limit)) }
+{
+    if base <= limit {
+        Ok(Some(IdRange { base, limit }))
+    } else {
+        Err(PlanError::Fault(PlanFault::Range(place_path(alloc, path, 1)?, i64::from(limit))))
+    }
+}
+
+impl Reader for Ids {
+    type Out = Option<IdRange>;
+
+    ghost reads = { λ r. id_range r.allowed };
+
+    fn read(
+        &self,
+        alloc: Global,
+        path: &[u8],
+        value: &Value,
+    ) -> Result<Option<IdRange>, PlanError> {
+        let bounds = Bounds::within(0, 65535);
+        let (base, limit) = two_numbers(alloc, self.allowed, &bounds, &bounds, path, value)?;
+        ids_of(alloc, path, base as u16, limit as u16)
+    }
+}
+
+// [base, limit] of addresses.
+#[derive(Clone, Copy)]
+struct Addresses;
+
+fn addresses_of(
+    alloc: Global,
+    path: &[u8],
+    base: u64,
+    limit: u64,
+) -> Result<AddressRange, PlanError>
+    requires { limit ≤ greatest }
+    ensures { Gives (λ x. x) result (addresses_in_order path.now (base, limit)) }
+{
+    if base < limit {
+        Ok(AddressRange { base, limit })
+    } else {
+        Err(PlanError::Fault(PlanFault::Range(place_path(alloc, path, 1)?, limit as i64)))
+    }
+}
+
+impl Reader for Addresses {
+    type Out = AddressRange;
+
+    ghost reads = { λ _. address_range };
+
+    fn read(&self, alloc: Global, path: &[u8], value: &Value) -> Result<AddressRange, PlanError> {
+        let first = Bounds::formed(0, GREATEST, Form::Mebibytes);
+        let last = Bounds::formed(0, GREATEST, Form::LastOfMebibyte);
+        let (base, limit) = two_numbers(alloc, true, &first, &last, path, value)?;
+        addresses_of(alloc, path, base, limit)
+    }
+}
+
+// True where it is allowed, or false.
+#[derive(Clone, Copy)]
+struct TruthIf {
+    allowed: bool,
+}
+
+fn truth_of(alloc: Global, allowed: bool, path: &[u8], b: bool) -> Result<bool, PlanError>
+    ensures { Gives (λ x. x) result (true_if allowed path.now b) }
+{
+    if b && !allowed {
+        Err(PlanError::Fault(PlanFault::Range(Bytes::copied(alloc, path)?, 1)))
+    } else {
+        Ok(b)
+    }
+}
+
+impl Reader for TruthIf {
+    type Out = bool;
+
+    ghost reads = { λ r. truth_if r.allowed };
+
+    fn read(&self, alloc: Global, path: &[u8], value: &Value) -> Result<bool, PlanError> {
+        let b = Truth.read(alloc, path, value)?;
+        truth_of(alloc, self.allowed, path, b)
+    }
+}
+
+// Up to 8 ranges of addresses, or none where none are allowed.
+fn ranges(allowed: bool) -> ListOf<Addresses>
+    ensures { result.span ≡ only_if allowed (between 0 8) }
+{
+    let span = Span {
+        least: 0,
+        most: Some(8),
+        allowed,
+    };
+    ListOf {
+        span,
+        element: Addresses,
+    }
+}
+
+// Any number of traffic classes, or none where none are allowed.
+fn class_list(allowed: bool) -> ListOf<Byte>
+    ensures span { result.span ≡ only_if allowed any_number }
+    ensures element { result.element.bounds ≡ within 0 7 }
+{
+    let span = Span {
+        least: 0,
+        most: None,
+        allowed,
+    };
+    ListOf {
+        span,
+        element: Byte::within(0, 7),
+    }
+}
+
+fn selector(
+    kind: StreamKind,
+    ids: Option<IdRange>,
+    addresses: Items<AddressRange>,
+    default: bool,
+    classes: Items<u8>,
+) -> Selector
+    ensures { result ≡ selector_of kind ids addresses default classes }
+{
+    match kind {
+        StreamKind::Selective => Selector::Selective {
+            ids,
+            addresses,
+            default,
+        },
+        StreamKind::Link => Selector::Link { classes },
+    }
+}
+
+// The keys of a stream's table.
+#[tactic(auto, unfolding(crate::specs::Tables::stream_keys))]
+fn stream_of(keys: &Keys) -> Result<StreamPlan, PlanError>
+    ensures { Gives (λ x. x) result (stream_keys keys.now.path (table_view keys.now.table.now)) }
+{
+    keys.only(&[
+        "id", "kind", "mode", "rid", "ranges", "default", "tcs", "closed",
+    ])?;
+    let id = keys.required("id", &Byte::within(0, 255))?;
+    let kind = keys.required("kind", &Kind)?;
+    let mode = keys.optional("mode", 1, &Byte::formed(1, 8, Form::UnitMode))?;
+    let selective = is_selective(kind);
+    let ids = keys.optional("rid", None, &Ids { allowed: selective })?;
+    let none = Items::new(Vec::new(keys.alloc));
+    let addresses = keys.optional("ranges", none, &ranges(selective))?;
+    let default = keys.optional("default", false, &TruthIf { allowed: selective })?;
+    let none = Items::new(Vec::new(keys.alloc));
+    let classes = keys.optional("tcs", none, &class_list(!selective))?;
+    let closed = keys.optional("closed", false, &Truth)?;
+    Ok(StreamPlan {
+        id,
+        mode,
+        closed,
+        selector: selector(kind, ids, addresses, default, classes),
+    })
+}
+
+/// The table of a stream.
+#[derive(Clone, Copy)]
+pub(crate) struct Streams;
+
+impl Reader for Streams {
+    type Out = StreamPlan;
+
+    ghost reads = { λ _. table stream_keys };
+
+    fn read(&self, alloc: Global, path: &[u8], value: &Value) -> Result<StreamPlan, PlanError> {
+        let table = table_of(Bytes::copied(alloc, path)?, value)?;
+        let path = key_path(alloc, path, ".")?;
+        stream_of(&Keys { alloc, path, table })
+    }
+}

@@ -1,0 +1,35 @@
+use Rattle.std.proofs.Common.{◌≡◌, ◌+◌, ◌<◌, false, length, sym, arith}
+use Rattle.unit_aggregation.specs.Units.{has_room}
+use Rattle.unit_aggregation.proofs.Views.{has_room-less, has_room-full, view-full, view-added, laid-added}
+use Rattle.unit_aggregation.proofs.unit_buf.UnitBuf.add.Goals as goal
+
+full : (c : goal.Then-len-self) → has_room c.args.self.now ≡ false
+full c = has_room-full _ _ _ _ c.self.inside.ends.items c.args.self.now c.self.view_is (omega (arith, c.if-len-self.true, c.len.ensures.value))
+
+pub returns-then-len-self-clause-answer : goal.returns-then-len-self-clause-answer
+returns-then-len-self-clause-answer c = sym (full c)
+
+pub returns-then-len-self-clause-unit : goal.returns-then-len-self-clause-unit
+returns-then-len-self-clause-unit c = view-full c.args.self.now _ _ (full c)
+
+less : (c : goal.After-push) → length c.self.inside.ends.items < c.self.inside.mode
+less c = omega (arith, c.if-len-self.false, c.len.ensures.value)
+
+head_ends : (c : goal.After-push) → c.len-2.result ≡ length c.self.inside.heads.items + length c.args.head.now
+head_ends c = omega (arith, c.len-2.ensures, c.append.ensures.len, c.self.inside.heads.ok.0)
+
+body_ends : (c : goal.After-push) → c.len-3.result ≡ length c.self.inside.bodies.items + length c.args.body.now
+body_ends c = omega (arith, c.len-3.ensures, c.append-2.ensures.len, c.self.inside.bodies.ok.0)
+
+pub invariant_of-self : goal.invariant_of-self
+invariant_of-self c =
+    rw (c.push.ensures.items, c.append.ensures.items, c.append-2.ensures.items)
+    (laid-added _ _ _ _ _ _ _ _ _ _ _ _ _ c.self.invariant (less c) c.requires.head_short c.requires.body_short c.append.ensures.capacity c.append-2.ensures.capacity (head_ends c) (body_ends c))
+
+pub returns-clause-answer : goal.returns-clause-answer
+returns-clause-answer c = sym (has_room-less _ _ _ _ c.self.inside.ends.items c.args.self.now c.self.view_is (less c))
+
+pub returns-clause-unit : goal.returns-clause-unit
+returns-clause-unit c =
+    rw (c.push.ensures.items, c.append.ensures.items, c.append-2.ensures.items)
+    (view-added _ _ _ _ _ _ _ _ _ c.args.self.now c.self.view_is (less c) c.self.invariant.rising (head_ends c) (body_ends c))

@@ -1,0 +1,62 @@
+-- The packets of one unit, collected (PCI Express Base 6.0 section 6.33, in this profile). A packet is its head, which
+-- is sent in clear (prefix and header), and its body.
+use Rattle.std.specs.Prelude.{◌≡◌, ℕ, Bool, List, [], ◌∷◌, ◌++◌, length, map, take, drop, nat_lt, if◌then◌else◌}
+use Rattle.std.specs.List.{flat_map}
+
+-- at most how many packets, the bytes ahead of the first, and the packets
+pub record Collected : Type 0 where
+  pub mode : ℕ
+  pub front : List ℕ
+  pub packets : List (List ℕ × List ℕ)
+
+abbrev pub empty_unit : ℕ → Collected
+empty_unit mode = record { mode = mode; front = []; packets = [] }
+
+-- the heads of packets, joined
+abbrev pub heads_of : List (List ℕ × List ℕ) → List ℕ
+heads_of packets = flat_map (λ p. p.0) packets
+
+-- their bodies, joined
+abbrev pub bodies_of : List (List ℕ × List ℕ) → List ℕ
+bodies_of packets = flat_map (λ p. p.1) packets
+
+-- what is authenticated in clear: the front, and the heads
+abbrev pub aad_of : Collected → List ℕ
+aad_of unit = unit.front ++ heads_of unit.packets
+
+abbrev pub body_of : Collected → List ℕ
+body_of unit = bodies_of unit.packets
+
+-- one more packet fits
+abbrev pub has_room : Collected → Bool
+has_room unit = nat_lt (length unit.packets) unit.mode
+
+-- with the packet at its end, where it fits
+abbrev pub with_packet : Collected → List ℕ → List ℕ → Collected
+with_packet unit head body =
+    if has_room unit then record unit { packets = unit.packets ++ (head, body) ∷ [] } else unit
+
+-- ---- writing
+
+-- the bytes written over as many of the old ones, from the first on
+abbrev pub overwritten : List ℕ → List ℕ → List ℕ
+overwritten old new = take (length old) (new ++ drop (length new) old)
+
+-- the packets with these bytes as their bodies, each as long as before
+abbrev pub rebodied : List (List ℕ × List ℕ) → List ℕ → List (List ℕ × List ℕ)
+rebodied [] bytes = []
+rebodied (p ∷ ps) bytes = (p.0, take (length p.1) bytes) ∷ rebodied ps (drop (length p.1) bytes)
+
+-- the unit with these bytes written over its bodies
+abbrev pub with_bodies : Collected → List ℕ → Collected
+with_bodies unit bytes = record unit { packets = rebodied unit.packets (overwritten (body_of unit) bytes) }
+
+-- the lengths of heads and of bodies
+abbrev pub lengths_of : List (List ℕ × List ℕ) → List (ℕ × ℕ)
+lengths_of packets = map (λ p. (length p.0, length p.1)) packets
+
+-- as many bytes as the bodies have are the new bodies, joined; heads and all lengths stay
+pub record KeepsLengths (unit : Collected) (bytes : List ℕ) : Type 0 where
+  pub body : body_of (with_bodies unit bytes) ≡ bytes
+  pub aad : aad_of (with_bodies unit bytes) ≡ aad_of unit
+  pub lengths : lengths_of (with_bodies unit bytes).packets ≡ lengths_of unit.packets

@@ -1,0 +1,8 @@
+//! Where packets end.
+
+/// Where a packet's head and body end in the bytes that are joined.
+#[derive(Clone, Copy, Debug, Default)]
+pub struct PacketEnds {
+    pub head: usize,
+    pub body: usize,
+}

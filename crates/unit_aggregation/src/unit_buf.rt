@@ -1,0 +1,207 @@
+//! The packets of one unit.
+
+ghost use Rattle.std.specs.Prelude.{◌≡◌, ◌+◌, ◌*◌, ◌<◌, ◌≤◌, ◌++◌, [], ◌∷◌, IfOk, is_ok, Some, length, slice_get, slice_index_or, slice_range, vec_len, vec_capacity};
+ghost use Rattle.unit_aggregation.specs.Layout.{LieWithin};
+
+use crate::ends::PacketEnds;
+use arrayvec::ArrayVec;
+use ide_types::Memory;
+use std::alloc::Global;
+use std::marker::Model;
+
+/// The most packets of a unit (this profile).
+pub const MAX_PACKETS: usize = 8;
+
+/// The bytes that may stand ahead of the first packet's head, once a unit (this profile).
+pub const FRONT_BYTES: usize = 8;
+
+/// The most bytes of a packet's head: 4 of its prefix and 16 of its TLP's header (PCI Express Base 6.0 section 2.2).
+pub const HEAD_BYTES: usize = 20;
+
+/// The most bytes of a packet's body: 1,024 double words (PCI Express Base 6.0 section 2.2).
+pub const BODY_BYTES: usize = 4_096;
+
+/// The unit has as many packets as its mode allows.
+#[derive(Clone, Copy, Debug, PartialEq, Eq)]
+pub struct UnitFull;
+
+/// The packets of one unit (PCI Express Base 6.0 section 6.33, in this profile). A packet is its head, which is sent
+/// in clear (prefix and header), and its body. Contracts see the mode, the front and the packets.
+#[derive(Drop)]
+pub struct UnitBuf {
+    mode: usize,
+    front: usize,
+    heads: Vec<u8>,
+    bodies: Vec<u8>,
+    ends: ArrayVec<PacketEnds, 8>,
+}
+
+impl Model for UnitBuf {
+    ghost use Rattle.std.specs.Prelude.{take, vec_capacity};
+    ghost use Rattle.unit_aggregation.specs.Units.{Collected};
+    ghost use Rattle.unit_aggregation.specs.Layout.{parts, IsLaidOut};
+
+    ghost Value = { Collected };
+
+    ghost view = { λ u.
+        record { mode = u.mode; front = take u.front u.heads.items; packets = parts u.heads.items u.bodies.items u.front 0 u.ends.items } };
+
+    ghost invariant = { λ u. IsLaidOut u.mode u.front u.ends.items u.heads.items u.bodies.items
+        (vec_capacity u.heads) (vec_capacity u.bodies) };
+}
+
+// Appends the bytes, for which there is room.
+fn append(out: &mut Vec<u8>, bytes: &[u8])
+    requires { vec_len out.old + length bytes.now ≤ vec_capacity out.old }
+    ensures items { out.new.items ≡ out.old.items ++ bytes.now }
+    ensures len { vec_len out.new ≡ vec_len out.old + length bytes.now }
+    ensures capacity { vec_capacity out.old ≤ vec_capacity out.new }
+{
+    let _ = out.extend_from_slice(bytes);
+}
+
+// Where packet `i` starts: where the one before it ends, the first behind the front.
+fn start_of(front: usize, ends: &[PacketEnds], i: usize) -> PacketEnds
+    requires { i ≤ length ends.now }
+    ensures { result ≡ slice_index_or (record { head = front; body = 0 } ∷ ends.now) i result }
+{
+    if i == 0 {
+        PacketEnds {
+            head: front,
+            body: 0,
+        }
+    } else {
+        ends[i - 1]
+    }
+}
+
+// Where packet `i` ends.
+fn end_of(ends: &[PacketEnds], i: usize) -> PacketEnds
+    requires { i < length ends.now }
+    ensures { result ≡ slice_index_or ends.now i result }
+{
+    ends[i]
+}
+
+// The packet that starts and ends at these places.
+fn packet_between<'a>(
+    heads: &'a [u8],
+    bodies: &'a [u8],
+    start: PacketEnds,
+    ends: PacketEnds,
+) -> (&'a [u8], &'a [u8])
+    requires { LieWithin start ends (length heads.now) (length bodies.now) }
+    ensures head { result.0.now ≡ slice_range heads.now start.head ends.head }
+    ensures body { result.1.now ≡ slice_range bodies.now start.body ends.body }
+{
+    (
+        &heads[start.head..ends.head],
+        &bodies[start.body..ends.body],
+    )
+}
+
+impl UnitBuf {
+    ghost use Rattle.std.specs.Borrow.{sem};
+    ghost use Rattle.unit_aggregation.specs.Units.{empty_unit, aad_of, body_of, has_room, with_packet};
+    ghost use Rattle.unit_aggregation.specs.Lending.{LendsBody};
+
+    /// A buffer for units of at most `mode` packets, which is 1, 2, 4 or 8; it has none yet.
+    pub fn reserve(alloc: Global, mode: u8) -> Result<UnitBuf, Memory>
+        requires { mode ≤ MAX_PACKETS }
+        ensures { IfOk result (λ unit. unit ≡ empty_unit mode) }
+    {
+        let mode = mode as usize;
+        let heads = Vec::with_capacity(alloc, FRONT_BYTES + HEAD_BYTES * mode)?;
+        let bodies = Vec::with_capacity(alloc, BODY_BYTES * mode)?;
+        Ok(UnitBuf {
+            mode,
+            front: 0,
+            heads,
+            bodies,
+            ends: ArrayVec::new(),
+        })
+    }
+
+    /// Adds a packet: a head of at most 20 bytes, and a body of at most 4,096. `UnitFull` comes exactly where the unit
+    /// has `mode` packets, and changes nothing.
+    pub fn add(&mut self, head: &[u8], body: &[u8]) -> Result<(), UnitFull>
+        requires head_short { length head.now ≤ HEAD_BYTES }
+        requires body_short { length body.now ≤ BODY_BYTES }
+        ensures answer { is_ok result ≡ has_room self.old }
+        ensures unit { self.new ≡ with_packet self.old head.now body.now }
+    {
+        if self.ends.len() >= self.mode {
+            return Err(UnitFull);
+        }
+        append(&mut self.heads, head);
+        append(&mut self.bodies, body);
+        self.ends.push(PacketEnds {
+            head: self.heads.len(),
+            body: self.bodies.len(),
+        });
+        Ok(())
+    }
+
+    /// How many packets it has.
+    pub fn count(&self) -> usize
+        ensures count { result ≡ length self.now.packets }
+        ensures fits { result ≤ self.now.mode }
+    {
+        self.ends.len()
+    }
+
+    /// What is authenticated in clear: the front, where one was set, and the heads, joined.
+    pub fn aad(&self) -> &[u8]
+        ensures value { result.now ≡ aad_of self.now }
+        ensures short { length result.now ≤ FRONT_BYTES + HEAD_BYTES * MAX_PACKETS }
+    {
+        &self.heads
+    }
+
+    /// The bodies, joined.
+    pub fn body(&self) -> &[u8]
+        ensures value { result.now ≡ body_of self.now }
+        ensures short { length result.now ≤ BODY_BYTES * MAX_PACKETS }
+    {
+        &self.bodies
+    }
+
+    /// The head and the body of packet `i`, counted from 0.
+    pub fn packet(&self, i: usize) -> (&[u8], &[u8])
+        requires { i < length self.now.packets }
+        ensures { slice_get self.now.packets i ≡ Some (result.0.now, result.1.now) }
+    {
+        let start = start_of(self.front, self.ends.as_slice(), i);
+        let ends = end_of(self.ends.as_slice(), i);
+        packet_between(&self.heads, &self.bodies, start, ends)
+    }
+
+    /// The bodies, joined, for writing. What is written stands in the packets, and every length stays.
+    pub fn body_mut(&mut self) -> &mut [u8]
+        ensures* writes_back { sem 𝓛 (LendsBody self.entry result) }
+        ensures value { result.now ≡ body_of self.old }
+        ensures short { length result.now ≤ BODY_BYTES * MAX_PACKETS }
+    {
+        self.bodies.as_mut_slice()
+    }
+
+    /// Drops the packets and the front.
+    pub fn clear(&mut self)
+        ensures { self.new ≡ empty_unit self.old.mode }
+    {
+        self.front = 0;
+        self.heads.clear();
+        self.bodies.clear();
+        self.ends.clear();
+    }
+
+    /// Sets 8 bytes ahead of the heads, in place of those set before. It has no packet yet.
+    pub fn front(&mut self, bytes: &[u8; 8])
+        requires { self.old.packets ≡ [] }
+        ensures { self.new ≡ record self.old { front = bytes.now } }
+    {
+        self.clear();
+        append(&mut self.heads, bytes);
+        self.front = FRONT_BYTES;
+    }
+}
