@@ -8,3 +8,4 @@ pub mod Sums
 pub mod Fronts
 pub mod FirstFronts
 pub mod Few
+pub mod OfPlans
