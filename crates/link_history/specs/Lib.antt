@@ -4,7 +4,6 @@ pub mod History
 pub mod Due
 pub mod Cause
 pub mod KeyFacts
-pub mod Fits
 pub mod Laws
 pub mod Delivered
 pub mod Ordered
@@ -14,7 +13,6 @@ pub use Rattle.link_history.specs.Units.{units, open_unit}
 pub use Rattle.link_history.specs.History.{sealed_packets, sent, arrived, got, held, pending, units_got, draws_got, keys_at, on_draw, live_key, failed, posted_count, meets_counts, total_in, units_since, front_with, front_sent, front_due}
 pub use Rattle.link_history.specs.Due.{due, choice}
 pub use Rattle.link_history.specs.Cause.{CauseLaw, OneHistory}
-pub use Rattle.link_history.specs.Fits.{StreamsFit}
 pub use Rattle.link_history.specs.Laws.{NoForgery, PrefixLaw, DrawsNeverFall, TotalsFit, WholeLaw, OrderIsNoForgery}
 pub use Rattle.link_history.specs.Delivered.{DeliveryLaw, tlps_sent, tlps_got}
 pub use Rattle.link_history.specs.Ordered.{OrderLaw}

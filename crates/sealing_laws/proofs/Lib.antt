@@ -1,3 +1,4 @@
+pub mod Fits
 pub mod Below
 pub mod Sealings
 pub mod Bounds

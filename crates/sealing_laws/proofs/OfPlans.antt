@@ -8,7 +8,7 @@ use Rattle.ide_plan.specs.declared.plan.LinkPlan.{LinkPlan}
 use Rattle.ide_plan.specs.declared.stream.StreamPlan.{StreamPlan}
 use Rattle.ide_plan.specs.Fits.{FitsPlan, FitsLink, FitsStream, is_mode}
 use Rattle.link_history.specs.Plan.{streams_of, stream_plan, with_id}
-use Rattle.link_history.specs.Fits.{StreamsFit}
+use Rattle.sealing_laws.proofs.Fits.{StreamsFit}
 
 of_streams : (ss : List StreamPlan) → All FitsStream ss → (id : ℕ) (s : StreamPlan) → with_id ss id ≡ Some s → (s.id ≡ id) × FitsStream s
 of_streams [] each id s is = absurd cc
