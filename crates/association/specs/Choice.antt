@@ -55,7 +55,8 @@ holds_address ranges address = list_any (λ (r : AddressRange). holds r.base r.l
 
 -- whether a selective stream has a range that holds the TLP's address or its ID
 abbrev pub takes_by_range : Side → HeadView → Selector → Bool
-takes_by_range side head (Selective ids addresses default) = holds_address addresses (address_of head.fields) || holds_id ids (id_of side head.fields)
+takes_by_range side head (Selective ids addresses default) =
+    holds_address addresses (address_of head.fields) || holds_id ids (id_of side head.fields)
 takes_by_range side head (Link classes) = false
 
 -- whether it is the default stream

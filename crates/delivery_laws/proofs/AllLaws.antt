@@ -1,6 +1,7 @@
 -- The laws of what is delivered.
 use Rattle.delivery_laws.specs.Statements.{PrefixLawHolds, DeliveryLawHolds, WholeLawHolds, OrderIsNoForgeryHolds, DrawsNeverFallHolds}
 use Rattle.link_keys.proofs.Draws.{draws}
+use Rattle.sealing_laws.proofs.OfPlans.{streams_fit}
 use Rattle.delivery_laws.proofs.Closed.{closed_law}
 use Rattle.delivery_laws.proofs.Orders.{draws_never_fall as never_fall}
 use Rattle.delivery_laws.proofs.Prefixes.{got_begins}
@@ -10,19 +11,19 @@ use Rattle.delivery_laws.proofs.Unforged.{order_is_no_forgery as unforged}
 
 pub prefix_law : PrefixLawHolds
 prefix_law plan fits h cause forged totals = record {
-  prefix = got_begins plan fits (draws plan) h cause forged;
+  prefix = got_begins plan (streams_fit plan fits) (draws plan) h cause forged;
   draws = never_fall plan (draws plan) h cause;
-  older = closed_law plan fits (draws plan) h cause forged totals;
+  older = closed_law plan (streams_fit plan fits) (draws plan) h cause forged totals;
 }
 
 pub delivery_law : DeliveryLawHolds
-delivery_law plan fits h cause forged = delivers plan fits (draws plan) h cause forged
+delivery_law plan fits h cause forged = delivers plan (streams_fit plan fits) (draws plan) h cause forged
 
 pub whole_law : WholeLawHolds
-whole_law plan fits h cause = takes_whole plan fits (draws plan) h cause
+whole_law plan fits h cause = takes_whole plan (streams_fit plan fits) (draws plan) h cause
 
 pub order_is_no_forgery : OrderIsNoForgeryHolds
-order_is_no_forgery plan fits h cause = unforged plan fits (draws plan) h cause
+order_is_no_forgery plan fits h cause = unforged plan (streams_fit plan fits) (draws plan) h cause
 
 pub draws_never_fall : DrawsNeverFallHolds
 draws_never_fall plan h cause = never_fall plan (draws plan) h cause

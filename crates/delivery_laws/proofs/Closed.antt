@@ -23,7 +23,7 @@ use Rattle.key_laws.specs.Keys.{key_in}
 use Rattle.link_history.specs.Due.{receiving}
 use Rattle.link_history.specs.Cause.{CauseLaw}
 use Rattle.link_history.specs.KeyFacts.{DrawFacts}
-use Rattle.link_history.specs.Fits.{StreamsFit}
+use Rattle.sealing_laws.proofs.Fits.{StreamsFit}
 use Rattle.link_history.specs.Laws.{NoForgery, NotForged, ClosedLaw, TotalsFit}
 use Rattle.link_history.proofs.Tests.{same_stream}
 use Rattle.link_history.proofs.UnitLemmas.{joined, joined_units}

@@ -20,7 +20,7 @@ use Rattle.link_history.specs.KeyFacts.{DrawFacts}
 use Rattle.link_history.proofs.Tests.{same_stream}
 use Rattle.link_history.proofs.Sealed.{sent_in-snoc}
 use Rattle.link_history.proofs.SealingIs.{sealing_is}
-use Rattle.link_history.specs.Fits.{StreamsFit}
+use Rattle.sealing_laws.proofs.Fits.{StreamsFit}
 use Rattle.link_events.specs.declared.event.Event.TheVariants.{Send}
 use Rattle.link_verdicts.specs.declared.verdict.Verdict.TheVariants.{Sealed, Accepted}
 use Rattle.link_verdicts.specs.declared.verdict.SealedPacket.{SealedPacket}

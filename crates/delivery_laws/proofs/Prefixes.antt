@@ -17,7 +17,7 @@ use Rattle.link_history.proofs.UnitLemmas.{joined, units-append, joined_units, E
 use Rattle.link_history.proofs.Causes.{Came, Passed, accepted_by, ending, packet_that_came, numbered}
 use Rattle.link_history.specs.KeyFacts.{DrawFacts}
 use Rattle.link_history.proofs.Sealed.{sent_in-snoc}
-use Rattle.link_history.specs.Fits.{StreamsFit}
+use Rattle.sealing_laws.proofs.Fits.{StreamsFit}
 use Rattle.ide_types.specs.declared.port.PortName.{PortName}
 use Rattle.link_events.specs.declared.event.Event.{Event}
 use Rattle.link_events.specs.declared.event.Event.TheVariants.{Send}

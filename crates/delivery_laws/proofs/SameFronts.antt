@@ -19,7 +19,7 @@ use Rattle.key_laws.specs.Keys.{On, key_in}
 use Rattle.link_history.specs.History.{keys_at, SealedList, sealed_packets, with_sealed, packet_of, sent, sent_in, is_under, sub_stream_of, units_got, draws_got, total_in, front_of, front_sent, front_due, units_since, is_of_unit, ahead_in}
 use Rattle.link_history.specs.Cause.{CauseLaw}
 use Rattle.link_history.specs.KeyFacts.{DrawFacts}
-use Rattle.link_history.specs.Fits.{StreamsFit}
+use Rattle.sealing_laws.proofs.Fits.{StreamsFit}
 use Rattle.link_history.proofs.Tests.{same_stream, is_same-refl}
 use Rattle.link_history.proofs.UnitLemmas.{units-append, units-end}
 use Rattle.link_history.proofs.Sealed.{sent_in-snoc}

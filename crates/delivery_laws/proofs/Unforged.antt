@@ -12,7 +12,7 @@ use Rattle.link_history.specs.Laws.{ArrivesInOrder, NotForged, WasSealed, OrderI
 use Rattle.link_history.proofs.UnitLemmas.{units-append}
 use Rattle.link_history.proofs.Causes.{ending}
 use Rattle.link_history.specs.KeyFacts.{DrawFacts}
-use Rattle.link_history.specs.Fits.{StreamsFit}
+use Rattle.sealing_laws.proofs.Fits.{StreamsFit}
 use Rattle.ide_types.specs.declared.port.PortName.{PortName}
 use Rattle.link_events.specs.declared.event.Event.{Event}
 use Rattle.link_verdicts.specs.declared.verdict.Verdict.{Verdict}

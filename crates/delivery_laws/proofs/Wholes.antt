@@ -13,7 +13,7 @@ use Rattle.link_history.specs.Cause.{CauseLaw}
 use Rattle.link_history.specs.Laws.{WholeLaw, ArrivesInOrder, IsTaken}
 use Rattle.link_history.specs.KeyFacts.{DrawFacts}
 use Rattle.key_laws.specs.Keys.{On, key_in}
-use Rattle.link_history.specs.Fits.{StreamsFit}
+use Rattle.sealing_laws.proofs.Fits.{StreamsFit}
 use Rattle.ide_types.specs.declared.port.PortName.{PortName}
 use Rattle.link_events.specs.declared.event.Event.{Event}
 use Rattle.link_events.specs.declared.event.Event.TheVariants.{Send, Pass, Alter, Cut, Arrive, Dump, Establish, Refresh, Stop, Reset, Status}

@@ -1,22 +1,25 @@
 -- The laws of what is delivered, of every history in which each verdict is the one that is due.
 use Rattle.ide_plan.specs.declared.plan.Plan.{Plan}
+use Rattle.ide_plan.specs.Fits.{FitsPlan}
 use Rattle.key_laws.specs.History.{History}
 use Rattle.link_history.specs.Cause.{CauseLaw}
-use Rattle.link_history.specs.Fits.{StreamsFit}
 use Rattle.link_history.specs.Laws.{NoForgery, TotalsFit, PrefixLaw, DrawsNeverFall, WholeLaw, OrderIsNoForgery}
 use Rattle.link_history.specs.Delivered.{DeliveryLaw}
 
 abbrev pub PrefixLawHolds : Type 0
-PrefixLawHolds = (plan : Plan) → StreamsFit plan → (h : History) → CauseLaw plan h → NoForgery plan h → TotalsFit plan h → PrefixLaw plan h
+PrefixLawHolds =
+    (plan : Plan) → FitsPlan plan → (h : History) → CauseLaw plan h → NoForgery plan h → TotalsFit plan h
+    → PrefixLaw plan h
 
 abbrev pub DeliveryLawHolds : Type 0
-DeliveryLawHolds = (plan : Plan) → StreamsFit plan → (h : History) → CauseLaw plan h → NoForgery plan h → DeliveryLaw plan h
+DeliveryLawHolds =
+    (plan : Plan) → FitsPlan plan → (h : History) → CauseLaw plan h → NoForgery plan h → DeliveryLaw plan h
 
 abbrev pub WholeLawHolds : Type 0
-WholeLawHolds = (plan : Plan) → StreamsFit plan → (h : History) → CauseLaw plan h → WholeLaw plan h
+WholeLawHolds = (plan : Plan) → FitsPlan plan → (h : History) → CauseLaw plan h → WholeLaw plan h
 
 abbrev pub OrderIsNoForgeryHolds : Type 0
-OrderIsNoForgeryHolds = (plan : Plan) → StreamsFit plan → (h : History) → CauseLaw plan h → OrderIsNoForgery plan h
+OrderIsNoForgeryHolds = (plan : Plan) → FitsPlan plan → (h : History) → CauseLaw plan h → OrderIsNoForgery plan h
 
 abbrev pub DrawsNeverFallHolds : Type 0
 DrawsNeverFallHolds = (plan : Plan) → (h : History) → CauseLaw plan h → DrawsNeverFall h

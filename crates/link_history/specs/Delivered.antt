@@ -23,7 +23,8 @@ carries s j d = not d.sync && is_same (sub_stream_of d) s && (d.draw == j)
 -- the bytes that were sent and sealed in a sub-stream under a draw, in order
 unfoldable pub tlps_sent : History → SubStream → ℕ → List (List ℕ)
 tlps_sent [] s j = []
-tlps_sent ((Send port bytes more trusted, Sealed ds) ∷ h) s j = tlps_sent h s j ++ map (λ d. bytes) (filter (carries s j) ds)
+tlps_sent ((Send port bytes more trusted, Sealed ds) ∷ h) s j =
+    tlps_sent h s j ++ map (λ d. bytes) (filter (carries s j) ds)
 tlps_sent (_ ∷ h) s j = tlps_sent h s j
 
 -- ---- delivered

@@ -83,7 +83,8 @@ pub record Ending : Type 0 where
 
 -- the sub-stream in which a packet arrives
 abbrev pub receiving : PortName → Packet → SubStream
-receiving port p = record { link = port.link; stream = p.prefix.stream; direction = received_direction port.side; sub = p.prefix.sub }
+receiving port p =
+    record { link = port.link; stream = p.prefix.stream; direction = received_direction port.side; sub = p.prefix.sub }
 
 -- whether packets of the other key set are held
 abbrev pub is_mixed : Plan → History → SubStream → Option ℕ → Bool
@@ -164,7 +165,8 @@ dump_due n (Some x) = v.Packet n (packet_bytes x.1)
 -- Each event has one verdict. An operation and a reset get that of their keys; whatever else is no send and shows
 -- nothing brings bytes.
 unfoldable pub due : Plan → History → Event → Verdict
-due plan h (Send port bytes more trusted) = if has_port plan port then send_read plan h port (read_of bytes) more trusted else v.Nothing
+due plan h (Send port bytes more trusted) =
+    if has_port plan port then send_read plan h port (read_of bytes) more trusted else v.Nothing
 due plan h (Dump n) = dump_due n (packet_at (sealed_packets plan h) n)
 due plan h (Establish link stream lose) = key_due (key_plan plan) h (Establish link stream lose) v.Nothing
 due plan h (Refresh link stream lose) = key_due (key_plan plan) h (Refresh link stream lose) v.Nothing

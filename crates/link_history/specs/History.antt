@@ -50,7 +50,8 @@ abbrev pub untagged_packet : Plan → List ℕ → SealedPacket → List Packet 
 untagged_packet plan bytes d front = record {
   prefix = prefix_of d;
   head = if d.sync then sync_head else head_in (read_of bytes);
-  body = masked (key_of plan d.draw (sub_stream_of d)) (iv_of d.sub d.unit) (length (encrypted front)) (if d.sync then [] else payload_in (read_of bytes));
+  body =
+      masked (key_of plan d.draw (sub_stream_of d)) (iv_of d.sub d.unit) (length (encrypted front)) (if d.sync then [] else payload_in (read_of bytes));
   tag = [];
 }
 
@@ -59,7 +60,8 @@ front_of plan s unit total = front_with (is_closed plan s.link s.stream) unit to
 
 -- the tag of a unit
 abbrev pub unit_tag : Plan → List ℕ → SealedPacket → List Packet → List ℕ
-unit_tag plan ahead d unit = tag_of (key_of plan d.draw (sub_stream_of d)) (iv_of d.sub d.unit) (ahead ++ authenticated unit) (encrypted unit)
+unit_tag plan ahead d unit =
+    tag_of (key_of plan d.draw (sub_stream_of d)) (iv_of d.sub d.unit) (ahead ++ authenticated unit) (encrypted unit)
 
 -- the packet that was sealed for the bytes of a send, behind the front of its unit
 unfoldable pub packet_of : Plan → List ℕ → List ℕ → SealedPacket → List Packet → Packet
@@ -103,7 +105,8 @@ ahead_in plan xs from d = let s = sub_stream_of d in front_of plan s d.unit (tot
 -- all packets that were sealed, in order: packet N stands at place N - 1
 unfoldable pub sealed_packets : Plan → History → SealedList
 sealed_packets plan [] = []
-sealed_packets plan ((Send port bytes more trusted, Sealed ds) ∷ h) = with_sealed plan (ahead_in plan (sealed_packets plan h) (base h)) bytes ds (sealed_packets plan h)
+sealed_packets plan ((Send port bytes more trusted, Sealed ds) ∷ h) =
+    with_sealed plan (ahead_in plan (sealed_packets plan h) (base h)) bytes ds (sealed_packets plan h)
 sealed_packets plan (_ ∷ h) = sealed_packets plan h
 
 -- the packets that were sealed in a sub-stream under a draw, in order
@@ -145,14 +148,16 @@ shortened len x =
 
 -- what an event brings, and where; nothing where a packet or byte that it names does not exist
 unfoldable pub arrived : Plan → History → Event → Option Arrival
-arrived plan h (Pass n) = option_map (λ (x : SealedPacket × Packet). brought x (packet_bytes x.1)) (packet_at (sealed_packets plan h) n)
+arrived plan h (Pass n) =
+    option_map (λ (x : SealedPacket × Packet). brought x (packet_bytes x.1)) (packet_at (sealed_packets plan h) n)
 arrived plan h (Alter n at mask) = option_and_then (altered at mask) (packet_at (sealed_packets plan h) n)
 arrived plan h (Cut n len) = option_and_then (shortened len) (packet_at (sealed_packets plan h) n)
 arrived plan h (Arrive port bytes) = if has_port plan port then Some (record { port = port; bytes = bytes }) else None
 arrived plan h _ = None
 
 abbrev pub no_packet : Packet
-no_packet = record { prefix = record { m = false; k = false; t = false; sub = Pr; stream = 0; posted = 0 }; head = []; body = []; tag = [] }
+no_packet =
+    record { prefix = record { m = false; k = false; t = false; sub = Pr; stream = 0; posted = 0 }; head = []; body = []; tag = [] }
 
 abbrev pub cut_packet : Result CutValue PacketFault → Packet
 cut_packet (Ok (IdePacket p)) = p
@@ -168,7 +173,8 @@ arrived_packet plan h e = packet_in (arrived plan h e)
 
 -- the sub-stream that a unit was received in
 abbrev pub received_in : PortName → UnitName → SubStream
-received_in port unit = record { link = port.link; stream = unit.stream; direction = received_direction port.side; sub = unit.sub }
+received_in port unit =
+    record { link = port.link; stream = unit.stream; direction = received_direction port.side; sub = unit.sub }
 
 abbrev pub is_of : SubStream → ℕ → PortName → UnitName → Bool
 is_of s j port unit = is_same (received_in port unit) s && (unit.draw == j)
@@ -190,13 +196,15 @@ got plan (_ ∷ h) s j = got plan h s j
 -- how many units were accepted
 unfoldable pub units_got : History → SubStream → ℕ → ℕ
 units_got [] s j = 0
-units_got ((e, Accepted port unit effects) ∷ h) s j = if is_of s j port unit then units_got h s j + 1 else units_got h s j
+units_got ((e, Accepted port unit effects) ∷ h) s j =
+    if is_of s j port unit then units_got h s j + 1 else units_got h s j
 units_got (_ ∷ h) s j = units_got h s j
 
 -- the draws of the accepted units of a sub-stream, the newest first
 unfoldable pub draws_got : History → SubStream → List ℕ
 draws_got [] s = []
-draws_got ((e, Accepted port unit effects) ∷ h) s = if is_same (received_in port unit) s then unit.draw ∷ draws_got h s else draws_got h s
+draws_got ((e, Accepted port unit effects) ∷ h) s =
+    if is_same (received_in port unit) s then unit.draw ∷ draws_got h s else draws_got h s
 draws_got (_ ∷ h) s = draws_got h s
 
 -- the packets that are held for the next unit
@@ -213,7 +221,8 @@ waits k j _ = false
 
 -- a unit under the lesser of two draws that are On has ended at their sender
 abbrev pub ended_keys : Keyed → Keyed → Keys
-ended_keys (On i) (On j) = if nat_le i j then record { first = Off; second = On j } else record { first = On i; second = Off }
+ended_keys (On i) (On j) =
+    if nat_le i j then record { first = Off; second = On j } else record { first = On i; second = Off }
 ended_keys a b = record { first = a; second = b }
 
 -- a sealed packet ends a unit of the sub-stream at the port
@@ -222,7 +231,8 @@ ends_at port s d = is_same_port d.port port && is_same (sub_stream_of d) s && d.
 
 abbrev pub after_ends : PortName → SubStream → List SealedPacket → Keys → Keys
 after_ends port s [] keys = keys
-after_ends port s (d ∷ ds) keys = after_ends port s ds (if ends_at port s d then ended_keys keys.first keys.second else keys)
+after_ends port s (d ∷ ds) keys =
+    after_ends port s ds (if ends_at port s d then ended_keys keys.first keys.second else keys)
 
 -- a unit of draw j was accepted: a smaller draw is On no more
 abbrev pub accepted_keys : ℕ → Keys → Keys

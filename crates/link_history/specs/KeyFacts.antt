@@ -49,23 +49,31 @@ IsNoOperation e = (link stream : ℕ) → operates e link stream ≡ false
 pub record KeyFacts (plan : Plan) : Type 0 where
   -- but for operations on the stream, keys change by the ends of units alone, and the place stays keyed
   pub steady : (h : History) (e : Event) (v : Verdict) → CauseLaw plan ((e, v) ∷ h) → is_steady v ≡ true
-      → (port : PortName) (s : SubStream) → operates e s.link s.stream ≡ false → keys_at ((e, v) ∷ h) port s ≡ keys_at h port s
+      → (port : PortName) (s : SubStream) → operates e s.link s.stream ≡ false
+      → keys_at ((e, v) ∷ h) port s ≡ keys_at h port s
   pub sealed : (h : History) (e : Event) (ds : List SealedPacket) → CauseLaw plan ((e, Sealed ds) ∷ h)
-      → (port : PortName) (s : SubStream) → keys_at ((e, Sealed ds) ∷ h) port s ≡ after_ends port s ds (keys_at h port s)
-  pub accepted : (h : History) (e : Event) (port : PortName) (unit : UnitName) (effects : List Effect) → CauseLaw plan ((e, Accepted port unit effects) ∷ h)
+      → (port : PortName) (s : SubStream)
+      → keys_at ((e, Sealed ds) ∷ h) port s ≡ after_ends port s ds (keys_at h port s)
+  pub accepted : (h : History) (e : Event) (port : PortName) (unit : UnitName) (effects : List Effect)
+      → CauseLaw plan ((e, Accepted port unit effects) ∷ h)
       → (q : PortName) (s : SubStream) → keys_at ((e, Accepted port unit effects) ∷ h) q s
       ≡ (if is_same_port port q && is_same (received_in port unit) s then accepted_keys unit.draw (keys_at h q s) else keys_at h q s)
-  pub keyed : (h : History) (e : Event) (v : Verdict) → CauseLaw plan ((e, v) ∷ h) → (port : PortName) (s : SubStream) → operates e s.link s.stream ≡ false
+  pub keyed : (h : History) (e : Event) (v : Verdict) → CauseLaw plan ((e, v) ∷ h) → (port : PortName) (s : SubStream)
+      → operates e s.link s.stream ≡ false
       → is_keyed ((e, v) ∷ h) port s ≡ is_keyed h port s
-  pub base_same : (h : History) (e : Event) (v : Verdict) → CauseLaw plan ((e, v) ∷ h) → (link stream : ℕ) → operates e link stream ≡ false
+  pub base_same : (h : History) (e : Event) (v : Verdict) → CauseLaw plan ((e, v) ∷ h) → (link stream : ℕ)
+      → operates e link stream ≡ false
       → base ((e, v) ∷ h) link stream ≡ base h link stream
   -- draws that are On are from Base on, and those of the two sets differ
-  pub from_base : (h : History) → CauseLaw plan h → (port : PortName) (s : SubStream) (k : Bool) (j : ℕ) → key_in (keys_at h port s) k ≡ On j
+  pub from_base : (h : History) → CauseLaw plan h → (port : PortName) (s : SubStream) (k : Bool) (j : ℕ)
+      → key_in (keys_at h port s) k ≡ On j
       → nat_le (base h s.link s.stream) j ≡ true
-  pub apart : (h : History) → CauseLaw plan h → (port : PortName) (s : SubStream) (i j : ℕ) → (keys_at h port s).first ≡ On i → (keys_at h port s).second ≡ On j
+  pub apart : (h : History) → CauseLaw plan h → (port : PortName) (s : SubStream) (i j : ℕ)
+      → (keys_at h port s).first ≡ On i → (keys_at h port s).second ≡ On j
       → (i == j) ≡ false
   -- a draw that waits has sealed nothing
-  pub unused : (h : History) → CauseLaw plan h → (port : PortName) (stream : ℕ) (u : SubKind) (k : Bool) (j : ℕ) → let s = lane_out port stream u in
+  pub unused : (h : History) → CauseLaw plan h → (port : PortName) (stream : ℕ) (u : SubKind) (k : Bool) (j : ℕ)
+      → let s = lane_out port stream u in
       key_in (keys_at h port s) k ≡ On j → waits k j (key_in (keys_at h port s) (not k)) ≡ true → sent plan h s j ≡ []
 
 -- a packet of the sub-stream of a draw from this one on was sealed when this was Base
@@ -78,37 +86,49 @@ BaseStays plan s from (_ ∷ h) = BaseStays plan s from h
 -- each packet of the stream that was sealed is of a draw below this one
 abbrev pub NoneFrom : Plan → History → ℕ → ℕ → ℕ → Type 0
 NoneFrom plan h link stream from =
-    (i : ℕ) (x : SealedPacket × Packet) → slice_get (sealed_packets plan h) i ≡ Some x → (sub_stream_of x.0).link ≡ link → x.0.stream ≡ stream → x.0.draw < from
+    (i : ℕ) (x : SealedPacket × Packet) → slice_get (sealed_packets plan h) i ≡ Some x
+    → (sub_stream_of x.0).link ≡ link → x.0.stream ≡ stream → x.0.draw < from
 
 -- what the laws use
 pub record DrawFacts (plan : Plan) : Type 0 where
   -- draws that are On are from Base on, and those of the two sets differ
-  pub from_base : (h : History) → CauseLaw plan h → (port : PortName) (s : SubStream) (k : Bool) (j : ℕ) → key_in (keys_at h port s) k ≡ On j
+  pub from_base : (h : History) → CauseLaw plan h → (port : PortName) (s : SubStream) (k : Bool) (j : ℕ)
+      → key_in (keys_at h port s) k ≡ On j
       → nat_le (base h s.link s.stream) j ≡ true
-  pub apart : (h : History) → CauseLaw plan h → (port : PortName) (s : SubStream) (i j : ℕ) → (keys_at h port s).first ≡ On i → (keys_at h port s).second ≡ On j
+  pub apart : (h : History) → CauseLaw plan h → (port : PortName) (s : SubStream) (i j : ℕ)
+      → (keys_at h port s).first ≡ On i → (keys_at h port s).second ≡ On j
       → (i == j) ≡ false
   -- a key that comes to be Live at a sender has sealed nothing
-  pub fresh : (h : History) (e : Event) (v : Verdict) → CauseLaw plan ((e, v) ∷ h) → (port : PortName) (stream : ℕ) (u : SubKind) (key : KeyName) → let s = lane_out port stream u in
-      live_key ((e, v) ∷ h) port s ≡ Some key → (live_key h port s ≡ Some key) ⊎ (sent plan ((e, v) ∷ h) s key.draw ≡ [])
+  pub fresh : (h : History) (e : Event) (v : Verdict) → CauseLaw plan ((e, v) ∷ h)
+      → (port : PortName) (stream : ℕ) (u : SubKind) (key : KeyName) → let s = lane_out port stream u in
+      live_key ((e, v) ∷ h) port s ≡ Some key
+      → (live_key h port s ≡ Some key) ⊎ (sent plan ((e, v) ∷ h) s key.draw ≡ [])
   -- Base stays, or nothing from it on has been sealed
   pub base_fresh : (h : History) (e : Event) (v : Verdict) → CauseLaw plan ((e, v) ∷ h) → (link stream : ℕ)
       → (base ((e, v) ∷ h) link stream ≡ base h link stream) ⊎ NoneFrom plan ((e, v) ∷ h) link stream (base ((e, v) ∷ h) link stream)
   -- a draw is On only where the plan has the stream
-  pub known : (h : History) → CauseLaw plan h → (port : PortName) (s : SubStream) (k : Bool) (j : ℕ) → key_in (keys_at h port s) k ≡ On j
+  pub known : (h : History) → CauseLaw plan h → (port : PortName) (s : SubStream) (k : Bool) (j : ℕ)
+      → key_in (keys_at h port s) k ≡ On j
       → is_some (stream_plan plan s.link s.stream) ≡ true
   -- a draw belongs to one key set: wherever it is On in a sub-stream, it is in the set that its packets name
-  pub own_set : (h : History) → CauseLaw plan h → (i : ℕ) (x : SealedPacket × Packet) → slice_get (sealed_packets plan h) i ≡ Some x
+  pub own_set : (h : History) → CauseLaw plan h → (i : ℕ) (x : SealedPacket × Packet)
+      → slice_get (sealed_packets plan h) i ≡ Some x
       → (port : PortName) (k : Bool) → key_in (keys_at h port (sub_stream_of x.0)) k ≡ On x.0.draw → k ≡ x.0.k
   -- a draw that is On at a receiver is at least every one of which a unit was accepted there
-  pub above_got : (h : History) → CauseLaw plan h → (port : PortName) (stream : ℕ) (u : SubKind) (k : Bool) (j : ℕ) → let s = lane_in port stream u in
+  pub above_got : (h : History) → CauseLaw plan h → (port : PortName) (stream : ℕ) (u : SubKind) (k : Bool) (j : ℕ)
+      → let s = lane_in port stream u in
       key_in (keys_at h port s) k ≡ On j → AllByRecursion (λ (i : ℕ). i ≤ j) (draws_got h s)
   -- the draws of the packets that are sealed in a sub-stream never fall
-  pub rises : (h : History) → CauseLaw plan h → (s : SubStream) (i k : ℕ) (x y : SealedPacket × Packet) → i ≤ k → slice_get (sealed_packets plan h) i ≡ Some x → slice_get (sealed_packets plan h) k ≡ Some y
+  pub rises : (h : History) → CauseLaw plan h → (s : SubStream) (i k : ℕ) (x y : SealedPacket × Packet) → i ≤ k
+      → slice_get (sealed_packets plan h) i ≡ Some x → slice_get (sealed_packets plan h) k ≡ Some y
       → is_same (sub_stream_of x.0) s ≡ true → is_same (sub_stream_of y.0) s ≡ true → x.0.draw ≤ y.0.draw
   -- the packets of draws from Base on were sealed since it is Base
   pub since_base : (h : History) → CauseLaw plan h → (s : SubStream) → BaseStays plan s (base h s.link s.stream) h
   -- Where a draw is On at a receiver, and a packet of it was sealed, no unit of a smaller draw from Base on is open. (Without
   -- the first this is false: a stop that is left in the middle drops a sender's open unit and makes its other key Live, when
   -- the receiver's keys are gone.)
-  pub ended : (h : History) → CauseLaw plan h → (port : PortName) (stream : ℕ) (u : SubKind) (k : Bool) (j i place : ℕ) (x : SealedPacket × Packet) → let s = lane_in port stream u in
-      key_in (keys_at h port s) k ≡ On j → slice_get (sealed_packets plan h) place ≡ Some x → is_under s j x ≡ true → base h s.link s.stream ≤ i → i < j → open_unit (sent plan h s i) ≡ []
+  pub ended : (h : History) → CauseLaw plan h
+      → (port : PortName) (stream : ℕ) (u : SubKind) (k : Bool) (j i place : ℕ) (x : SealedPacket × Packet)
+      → let s = lane_in port stream u in
+      key_in (keys_at h port s) k ≡ On j → slice_get (sealed_packets plan h) place ≡ Some x → is_under s j x ≡ true
+      → base h s.link s.stream ≤ i → i < j → open_unit (sent plan h s i) ≡ []

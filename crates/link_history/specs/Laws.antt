@@ -76,7 +76,8 @@ pub record PrefixLaw (plan : Plan) (h : History) : Type 0 where
 -- no total passes 8 bytes
 abbrev pub TotalsFit : Plan → History → Type 0
 TotalsFit plan [] = Unit {0}
-TotalsFit plan ((event, verdict) ∷ h) = ((s : SubStream) (from : ℕ) → total_in (sealed_packets plan h) s from < 18446744073709551616) × TotalsFit plan h
+TotalsFit plan ((event, verdict) ∷ h) =
+    ((s : SubStream) (from : ℕ) → total_in (sealed_packets plan h) s from < 18446744073709551616) × TotalsFit plan h
 
 -- the draw is On at the port, in one of the two key sets
 abbrev pub IsOn : Plan → History → PortName → SubStream → ℕ → Type 0
@@ -94,7 +95,8 @@ pub record ArrivesInOrder (plan : Plan) (h : History) (e : Event) (s : SubStream
   pub secure : failed h port s.stream ≡ false
   pub counts : p.prefix.m ≡ true → meets_counts plan h s (pending plan h s j ++ p ∷ []) ≡ true
   -- on a closed stream, where it ends unit 1, all was got of the smaller draws from Base on
-  pub older : p.prefix.m ≡ true → units_got h s j ≡ 0 → is_closed plan s.link s.stream ≡ true → (i : ℕ) → base h s.link s.stream ≤ i → i < j → got plan h s i ≡ sent plan h s i
+  pub older : p.prefix.m ≡ true → units_got h s j ≡ 0 → is_closed plan s.link s.stream ≡ true → (i : ℕ)
+      → base h s.link s.stream ≤ i → i < j → got plan h s i ≡ sent plan h s i
 
 -- What arrives so is no forgery.
 abbrev pub OrderIsNoForgery : Plan → History → Type 0
@@ -111,7 +113,8 @@ IsTaken plan h s j port p verdict =
 
 abbrev pub TakesWhole : Plan → History → Event → Verdict → Type 0
 TakesWhole plan h e verdict =
-    (s : SubStream) (j m : ℕ) (port : PortName) (p : Packet) → ArrivesInOrder plan h e s j m port p → IsTaken plan h s j port p verdict
+    (s : SubStream) (j m : ℕ) (port : PortName) (p : Packet) → ArrivesInOrder plan h e s j m port p
+    → IsTaken plan h s j port p verdict
 
 -- Everything that arrived unchanged in order was taken.
 abbrev pub WholeLaw : Plan → History → Type 0

@@ -30,10 +30,12 @@ pub record NoneMissing (plan : Plan) (h : History) (s : SubStream) (j : ℕ) : T
 -- had been accepted.
 abbrev pub BehindPosted : Plan → History → Event → Verdict → Type 0
 BehindPosted plan h e (Accepted port unit effects) =
-    (m place : ℕ) → sub_bits unit.sub ≢ 0 → (is_closed plan port.link unit.stream ≡ false → NoneMissing plan h (received_in port unit) unit.draw)
+    (m place : ℕ) → sub_bits unit.sub ≢ 0
+    → (is_closed plan port.link unit.stream ≡ false → NoneMissing plan h (received_in port unit) unit.draw)
     → m < length (got plan ((e, Accepted port unit effects) ∷ h) (received_in port unit) unit.draw)
     → StandsAt (sealed_packets plan h) (received_in port unit) unit.draw m place
-    → (j n earlier : ℕ) → base h port.link unit.stream ≤ j → earlier < place → StandsAt (sealed_packets plan h) (posted_of (received_in port unit)) j n earlier
+    → (j n earlier : ℕ) → base h port.link unit.stream ≤ j → earlier < place
+    → StandsAt (sealed_packets plan h) (posted_of (received_in port unit)) j n earlier
     → n < length (got plan h (posted_of (received_in port unit)) j)
 BehindPosted plan h e _ = Unit {0}
 

@@ -20,7 +20,8 @@ pub record SubStream : Type 0 where
   pub sub : SubKind
 
 abbrev pub is_same : SubStream → SubStream → Bool
-is_same s t = (s.link == t.link) && (s.stream == t.stream) && (s.direction == t.direction) && (sub_bits s.sub == sub_bits t.sub)
+is_same s t =
+    (s.link == t.link) && (s.stream == t.stream) && (s.direction == t.direction) && (sub_bits s.sub == sub_bits t.sub)
 
 abbrev pub is_same_port : PortName → PortName → Bool
 is_same_port p q = (sent_direction p.side == sent_direction q.side) && (p.link == q.link)

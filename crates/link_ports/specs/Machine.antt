@@ -79,7 +79,8 @@ unfoldable pub find_op : Plan → LinkState → ℕ → ℕ → Option Op
 find_op plan st link stream = found (streams_of plan link) (slice_index_or st.ops link []) stream
 
 unfoldable pub put_op : Plan → LinkState → ℕ → ℕ → Op → LinkState
-put_op plan st link stream o = record st { ops = slice_set st.ops link (changed (streams_of plan link) (slice_index_or st.ops link []) stream o) }
+put_op plan st link stream o =
+    record st { ops = slice_set st.ops link (changed (streams_of plan link) (slice_index_or st.ops link []) stream o) }
 
 -- a verdict and the state after it
 abbrev pub Stepped : Type 0
@@ -90,7 +91,8 @@ Stepped = Verdict × LinkState
 abbrev pub kept_at : PortName → Packet → LinkPacket
 kept_at port p = record { port = port; bytes = packet_bytes p }
 
-abbrev pub sealed_in : Plan → LinkState → Sending → StreamState → List SealedPacket → List Packet × Three TxSub → Stepped
+abbrev pub sealed_in : Plan → LinkState → Sending → StreamState → List SealedPacket → List Packet × Three TxSub
+    → Stepped
 sealed_in plan st s x ds sealed =
     let new = put plan st s.port s.stream (record x { tx = sealed.1 }) in
     (v.Sealed ds, record new { packets = st.packets ++ map (kept_at s.port) sealed.0 })
@@ -98,7 +100,8 @@ sealed_in plan st s x ds sealed =
 -- it is refused, or sealed as these packets
 abbrev pub answered : Plan → LinkState → Sending → Tlp → StreamState → Option Verdict → List SealedPacket → Stepped
 answered plan st s t x (Some verdict) ds = (verdict, st)
-answered plan st s t x None ds = sealed_in plan st s x ds (sealed_all (is_closed plan s.port.link s.stream) (head_bytes (header t)) (body t) ds x.tx)
+answered plan st s t x None ds =
+    sealed_in plan st s x ds (sealed_all (is_closed plan s.port.link s.stream) (head_bytes (header t)) (body t) ds x.tx)
 
 abbrev pub send_as : Plan → LinkState → Sending → Tlp → StreamState → Stepped
 send_as plan st s t x =
@@ -162,7 +165,8 @@ altered_to at mask x =
     if nat_lt at (length x.bytes) then Some (record { port = partner x.port; bytes = slice_set x.bytes at (bit_xor (slice_index x.bytes at) mask) }) else None
 
 abbrev pub cut_short : ℕ → LinkPacket → Option Arrival
-cut_short len x = if nat_le len (length x.bytes) then Some (record { port = partner x.port; bytes = take len x.bytes }) else None
+cut_short len x =
+    if nat_le len (length x.bytes) then Some (record { port = partner x.port; bytes = take len x.bytes }) else None
 
 abbrev pub shown : ℕ → Option LinkPacket → Verdict
 shown n None = v.Nothing
@@ -170,18 +174,22 @@ shown n (Some x) = v.Packet n x.bytes
 
 -- ---- an operation on a stream of a link moves slots at both ports
 
-abbrev pub moved_found : Plan → LinkState → PortName → ℕ → (SubKind → List Move) → (SubKind → List Move) → Option StreamState → LinkState
+abbrev pub moved_found : Plan → LinkState → PortName → ℕ → (SubKind → List Move) → (SubKind → List Move)
+    → Option StreamState → LinkState
 moved_found plan st port stream out into None = st
 moved_found plan st port stream out into (Some x) = put plan st port stream (moved_stream plan port stream out into x)
 
-abbrev pub moved_at : Plan → LinkState → ℕ → ℕ → (Side → SubKind → List Move) → (Side → SubKind → List Move) → Side → LinkState
+abbrev pub moved_at : Plan → LinkState → ℕ → ℕ → (Side → SubKind → List Move) → (Side → SubKind → List Move) → Side
+    → LinkState
 moved_at plan st link stream out into side =
     let port : PortName = record { side = side; link = link } in
     moved_found plan st port stream (out side) (into side) (find plan st port stream)
 
 -- the state after it
-abbrev pub moved_state : Plan → LinkState → ℕ → ℕ → (Side → SubKind → List Move) → (Side → SubKind → List Move) → LinkState
-moved_state plan st link stream out into = moved_at plan (moved_at plan st link stream out into Host) link stream out into Device
+abbrev pub moved_state : Plan → LinkState → ℕ → ℕ → (Side → SubKind → List Move) → (Side → SubKind → List Move)
+    → LinkState
+moved_state plan st link stream out into =
+    moved_at plan (moved_at plan st link stream out into Host) link stream out into Device
 
 -- ---- what operations read of the ports
 
@@ -259,15 +267,18 @@ abbrev pub work_done : Plan → LinkState → ℕ → ℕ → Work → Option Re
 work_done plan st link stream w None = st
 work_done plan st link stream w (Some r) =
     let ports = ports_of plan st in
-    let moved = moved_state plan st link stream (λ side u. moves_at ports w r (end_at link stream true side u)) (λ side u. moves_at ports w r (end_at link stream false side u)) in
+    let moved =
+    moved_state plan st link stream (λ side u. moves_at ports w r (end_at link stream true side u)) (λ side u. moves_at ports w r (end_at link stream false side u)) in
     record (put_op plan moved link stream (op_after w r)) { draws = draws_after st.draws w }
 
 abbrev pub operated : Plan → LinkState → Operation → ℕ → ℕ → Op → Verdict → Stepped
-operated plan st o link stream q verdict = (verdict, work_done plan st link stream (work_of o q st.draws) (reach_of o verdict))
+operated plan st o link stream q verdict =
+    (verdict, work_done plan st link stream (work_of o q st.draws) (reach_of o verdict))
 
 abbrev pub establish_found : Plan → LinkState → ℕ → ℕ → Option Loss → Option Op → Stepped
 establish_found plan st link stream lose None = (v.Nothing, st)
-establish_found plan st link stream lose (Some q) = operated plan st op.Establish link stream q (establish_on (key_plan plan) q st.draws (ports_of plan st) link stream lose)
+establish_found plan st link stream lose (Some q) =
+    operated plan st op.Establish link stream q (establish_on (key_plan plan) q st.draws (ports_of plan st) link stream lose)
 
 abbrev pub refresh_found : Plan → LinkState → ℕ → ℕ → Option Loss → Option Op → Stepped
 refresh_found plan st link stream lose None = (v.Nothing, st)
@@ -276,11 +287,13 @@ refresh_found plan st link stream lose (Some q) =
 
 abbrev pub stop_found : Plan → LinkState → ℕ → ℕ → Option Loss → Option Op → Stepped
 stop_found plan st link stream lose None = (v.Nothing, st)
-stop_found plan st link stream lose (Some q) = operated plan st op.Stop link stream q (stop_on q st.draws (ports_of plan st) link stream lose)
+stop_found plan st link stream lose (Some q) =
+    operated plan st op.Stop link stream q (stop_on q st.draws (ports_of plan st) link stream lose)
 
 abbrev pub status_found : Plan → LinkState → ℕ → ℕ → Option Op → Stepped
 status_found plan st link stream None = (v.Nothing, st)
-status_found plan st link stream (Some q) = (v.Status link stream (status_at plan st Host link stream) (status_at plan st Device link stream), st)
+status_found plan st link stream (Some q) =
+    (v.Status link stream (status_at plan st Host link stream) (status_at plan st Device link stream), st)
 
 -- ---- a reset
 
@@ -299,22 +312,26 @@ abbrev pub reset_state : Plan → LinkState → ℕ → LinkState
 reset_state plan st link =
     let empty = map (λ (s : StreamPlan). empty_stream) (streams_of plan link) in
     record st {
-      ports = slice_set (slice_set st.ports (port_place (port_at Host link)) empty) (port_place (port_at Device link)) empty;
+      ports =
+          slice_set (slice_set st.ports (port_place (port_at Host link)) empty) (port_place (port_at Device link)) empty;
       ops = slice_set st.ops link (map (λ (s : StreamPlan). Idle) (streams_of plan link));
     }
 
 -- the verdict of an event, and the state after it
 unfoldable pub step_of : Plan → LinkState → Event → Stepped
-step_of plan st (Send port bytes more trusted) = if has_port plan port then send_read plan st port (read_of bytes) more trusted else (v.Nothing, st)
+step_of plan st (Send port bytes more trusted) =
+    if has_port plan port then send_read plan st port (read_of bytes) more trusted else (v.Nothing, st)
 step_of plan st (Pass n) = arrive plan st (option_and_then passed (packet_numbered st.packets n))
 step_of plan st (Alter n at mask) = arrive plan st (option_and_then (altered_to at mask) (packet_numbered st.packets n))
 step_of plan st (Cut n len) = arrive plan st (option_and_then (cut_short len) (packet_numbered st.packets n))
-step_of plan st (Arrive port bytes) = if has_port plan port then arrive plan st (Some (record { port = port; bytes = bytes })) else (v.Nothing, st)
+step_of plan st (Arrive port bytes) =
+    if has_port plan port then arrive plan st (Some (record { port = port; bytes = bytes })) else (v.Nothing, st)
 step_of plan st (Dump n) = (shown n (packet_numbered st.packets n), st)
 step_of plan st (Establish link stream lose) = establish_found plan st link stream lose (find_op plan st link stream)
 step_of plan st (Refresh link stream lose) = refresh_found plan st link stream lose (find_op plan st link stream)
 step_of plan st (Stop link stream lose) = stop_found plan st link stream lose (find_op plan st link stream)
-step_of plan st (Reset link) = if nat_lt link (length plan.links) then (v.Reset link, reset_state plan st link) else (v.Nothing, st)
+step_of plan st (Reset link) =
+    if nat_lt link (length plan.links) then (v.Reset link, reset_state plan st link) else (v.Nothing, st)
 step_of plan st (Status link stream) = status_found plan st link stream (find_op plan st link stream)
 
 -- ---- the beginning
@@ -325,7 +342,8 @@ new_key plan s j = record { draw = j; key = key_of plan j s; units = 0; packets 
 
 abbrev pub first_ports : List (List StreamPlan) → List (List StreamState)
 first_ports [] = []
-first_ports (ss ∷ links) = map (λ (s : StreamPlan). empty_stream) ss ∷ map (λ (s : StreamPlan). empty_stream) ss ∷ first_ports links
+first_ports (ss ∷ links) =
+    map (λ (s : StreamPlan). empty_stream) ss ∷ map (λ (s : StreamPlan). empty_stream) ss ∷ first_ports links
 
 -- the state before the first event
 abbrev pub first_state : Plan → LinkState

@@ -1,11 +1,11 @@
 -- What an operation does to the slots of a stream at a port: a key is put in, gets GO, or is taken out.
-use Rattle.std.specs.Prelude.{ℕ, Bool, true, false, not, ◌&&◌, ◌||◌, nat_lt, List, [], ◌∷◌, length, if◌then◌else◌}
+use Rattle.std.specs.Prelude.{ℕ, Bool, not, List, [], ◌∷◌, if◌then◌else◌}
 use Rattle.ide_types.specs.declared.sub.SubKind.{SubKind}
 use Rattle.ide_types.specs.declared.port.PortName.{PortName}
 use Rattle.ide_plan.specs.declared.plan.Plan.{Plan}
 use Rattle.link_history.specs.Plan.{SubStream, key_of, lane_out, lane_in}
 use Rattle.key_laws.specs.Keys.{Keyed, Off, Loaded, On, Keys, key_in, with_key}
-use Rattle.link_ports.specs.Stream.{Slot, Empty, Programmed, Armed, Live, Slots, slot_in, with_slot, TxSub, RxSub, Three, StreamState, at_sub, each_sub}
+use Rattle.link_ports.specs.Stream.{Empty, Programmed, Slots, slot_in, with_slot, StreamState, at_sub, each_sub}
 pub use Rattle.stream_rules.specs.Slots.{both_slots, begun, is_busy, slot_gone, woken, is_live, any_live, settled_stream}
 
 -- in a key set: an accepted KEY_PROG of a draw, a GO, a STOP

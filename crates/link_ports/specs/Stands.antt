@@ -22,7 +22,8 @@ use Rattle.link_ports.specs.Machine.{LinkState, find, find_op, step_of, kept_at,
 
 -- the units and the open unit of what was sealed under a draw
 abbrev pub sealing_key : Plan → SealedList → SubStream → ℕ → LiveKey
-sealing_key plan xs s j = record { draw = j; key = key_of plan j s; units = length (units (sent_in xs s j)); packets = open_unit (sent_in xs s j) }
+sealing_key plan xs s j =
+    record { draw = j; key = key_of plan j s; units = length (units (sent_in xs s j)); packets = open_unit (sent_in xs s j) }
 
 -- the slot of a set, beside what the other set holds
 abbrev pub tx_slot : Plan → SealedList → SubStream → Bool → Keyed → Keyed → Slot
@@ -31,7 +32,8 @@ tx_slot plan xs s k (Loaded j) other = Programmed j (key_of plan j s)
 tx_slot plan xs s k (On j) other = if waits k j other then Armed j (key_of plan j s) else Live (sealing_key plan xs s j)
 
 abbrev pub tx_slots : Plan → SealedList → SubStream → Keys → Slots
-tx_slots plan xs s keys = record { first = tx_slot plan xs s false keys.first keys.second; second = tx_slot plan xs s true keys.second keys.first }
+tx_slots plan xs s keys =
+    record { first = tx_slot plan xs s false keys.first keys.second; second = tx_slot plan xs s true keys.second keys.first }
 
 -- while none of a port's three sub-streams has a Live key, counts and sums are 0
 abbrev pub tx_standing : Plan → History → PortName → SubStream → TxSub
@@ -54,7 +56,8 @@ rx_slot plan h port s (Loaded j) = Programmed j (key_of plan j s)
 rx_slot plan h port s (On j) = Live (receiving_key plan h port s j)
 
 abbrev pub rx_slots : Plan → History → PortName → SubStream → Keys → Slots
-rx_slots plan h port s keys = record { first = rx_slot plan h port s keys.first; second = rx_slot plan h port s keys.second }
+rx_slots plan h port s keys =
+    record { first = rx_slot plan h port s keys.first; second = rx_slot plan h port s keys.second }
 
 abbrev pub got_in : Plan → History → SubStream → List Packet
 got_in plan h s = got_since plan h s (base h s.link s.stream)
@@ -114,5 +117,7 @@ is_of_packets _ = false
 
 -- A step at such an event gives the verdict that is due, and its ports and packets stand for the history with it.
 abbrev pub PacketsStand : Type 0
-PacketsStand = (plan : Plan) → KeyFacts plan → (st : LinkState) (h : History) (e : Event) → is_of_packets e ≡ true → PortsStand plan st h
+PacketsStand =
+    (plan : Plan) → KeyFacts plan → (st : LinkState) (h : History) (e : Event) → is_of_packets e ≡ true
+    → PortsStand plan st h
     → ((step_of plan st e).0 ≡ due plan h e) × PortsStand plan (step_of plan st e).1 ((e, (step_of plan st e).0) ∷ h)

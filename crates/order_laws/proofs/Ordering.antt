@@ -17,7 +17,7 @@ use Rattle.link_history.specs.Due.{ended, receiving}
 use Rattle.link_history.specs.Cause.{CauseLaw}
 use Rattle.link_history.specs.Laws.{NoForgery, Begins, NeverFalls, TotalsFit}
 use Rattle.link_history.specs.KeyFacts.{DrawFacts}
-use Rattle.link_history.specs.Fits.{StreamsFit}
+use Rattle.sealing_laws.proofs.Fits.{StreamsFit}
 use Rattle.link_history.specs.Ordered.{NoneMissing, StandsAt, BehindPosted, OrderLaw}
 use Rattle.link_history.proofs.Causes.{ending, accepted_by, received_there}
 use Rattle.link_history.proofs.SealingIs.{sealed_same}

@@ -23,19 +23,22 @@ plan = record {
   portion = 16;
   units_per_key = 4294967296;
   pool = replicate 18 (replicate 32 0);
-  links = record { nonces = []; streams = record { id = 5; mode = 4; closed = false; selector = Selective None [] true } ∷ []; interfaces = [] } ∷ [];
+  links =
+      record { nonces = []; streams = record { id = 5; mode = 4; closed = false; selector = Selective None [] true } ∷ []; interfaces = [] } ∷ [];
   memory = [];
 }
 
 -- a write of 11 22 33 44 at 10000000h by the requester 0100h
 abbrev pub write : List ℕ
-write = 0x40 ∷ 0x00 ∷ 0x00 ∷ 0x01 ∷ 0x01 ∷ 0x00 ∷ 0x00 ∷ 0x0f ∷ 0x10 ∷ 0x00 ∷ 0x00 ∷ 0x00 ∷ 0x11 ∷ 0x22 ∷ 0x33 ∷ 0x44 ∷ []
+write =
+    0x40 ∷ 0x00 ∷ 0x00 ∷ 0x01 ∷ 0x01 ∷ 0x00 ∷ 0x00 ∷ 0x0f ∷ 0x10 ∷ 0x00 ∷ 0x00 ∷ 0x00 ∷ 0x11 ∷ 0x22 ∷ 0x33 ∷ 0x44 ∷ []
 
 abbrev pub device : PortName
 device = record { side = Device; link = 0 }
 
 abbrev pub packet : ℕ → ℕ → ℕ → Bool → Bool → SealedPacket
-packet number draw unit m k = record { number = number; port = device; stream = 5; sub = Pr; draw = draw; unit = unit; m = m; k = k; t = false; posted = 0; sync = false }
+packet number draw unit m k =
+    record { number = number; port = device; stream = 5; sub = Pr; draw = draw; unit = unit; m = m; k = k; t = false; posted = 0; sync = false }
 
 abbrev pub verdicts_on : History → List Event → List Verdict
 verdicts_on h [] = []

@@ -20,20 +20,25 @@ key_held (Live x) = Some (x.draw, x.key)
 
 -- what a port seals, or receives
 abbrev pub lane_at : Side → ℕ → ℕ → Bool → SubKind → SubStream
-lane_at side link stream sends u = if sends then lane_out (port_at side link) stream u else lane_in (port_at side link) stream u
+lane_at side link stream sends u =
+    if sends then lane_out (port_at side link) stream u else lane_in (port_at side link) stream u
 
 pub record StreamPoints (plan : Plan) (st : LinkState) (h : History) : Type 0 where
   -- a slot holds the key of a draw exactly where the draw is kept there
-  pub kept : (side : Side) (link stream : ℕ) (x : StreamState) → find plan st (port_at side link) stream ≡ Some x → (sends : Bool) (u : SubKind) (k : Bool)
+  pub kept : (side : Side) (link stream : ℕ) (x : StreamState) → find plan st (port_at side link) stream ≡ Some x
+      → (sends : Bool) (u : SubKind) (k : Bool)
       → key_held (slot_in (slots_of sends u x) k) ≡ option_map (λ j. (j, key_of plan j (lane_at side link stream sends u))) (kept_draw h (end_at link stream sends side u) k)
   -- while no operation was asked of a stream no slot holds a key
-  pub idle : (link stream : ℕ) → find_op plan st link stream ≡ Some Idle → (side : Side) (x : StreamState) → find plan st (port_at side link) stream ≡ Some x → (sends : Bool) (u : SubKind) (k : Bool)
+  pub idle : (link stream : ℕ) → find_op plan st link stream ≡ Some Idle → (side : Side) (x : StreamState)
+      → find plan st (port_at side link) stream ≡ Some x → (sends : Bool) (u : SubKind) (k : Bool)
       → key_held (slot_in (slots_of sends u x) k) ≡ None
   -- while an establish is unfinished its draw is On where its GO came, and no other is
-  pub establishing : (link stream j n : ℕ) → find_op plan st link stream ≡ Some (Establishing j n) → (side : Side) (sends : Bool) (u : SubKind) → let p = end_at link stream sends side u in
+  pub establishing : (link stream j n : ℕ) → find_op plan st link stream ≡ Some (Establishing j n)
+      → (side : Side) (sends : Bool) (u : SubKind) → let p = end_at link stream sends side u in
       (go_at op.Establish p < n → on_draw h p false ≡ Some j) × ((k : Bool) (i : ℕ) → on_draw h p k ≡ Some i → i ≡ j)
   -- while a refresh is unfinished its draw is On where its GO came
-  pub refreshing : (link stream : ℕ) (k : Bool) (j n : ℕ) → find_op plan st link stream ≡ Some (Refreshing k j n) → (side : Side) (sends : Bool) (u : SubKind) → let p = end_at link stream sends side u in
+  pub refreshing : (link stream : ℕ) (k : Bool) (j n : ℕ) → find_op plan st link stream ≡ Some (Refreshing k j n)
+      → (side : Side) (sends : Bool) (u : SubKind) → let p = end_at link stream sends side u in
       go_at op.Refresh p < n → on_draw h p k ≡ Some j
 
 -- It follows where the state stands for the history.

@@ -29,7 +29,7 @@ use Rattle.link_history.proofs.UnitLemmas.{open_unit-snoc}
 use Rattle.link_history.proofs.Sealed.{sent_in-snoc, sent-same, posted-own, posted-more, posted-same, sent_elsewhere, posted_elsewhere, any_out, is_out}
 use Rattle.link_history.proofs.Senders.{in_lane}
 use Rattle.link_history.proofs.SealingIs.{sealing_is}
-use Rattle.link_history.specs.Fits.{StreamsFit}
+use Rattle.sealing_laws.proofs.Fits.{StreamsFit}
 use Rattle.sealing_laws.proofs.Sealings.{IsOf, AllOf, live_at, from_at, all_of_sealing}
 
 -- ---- of the plan

@@ -16,7 +16,7 @@ use Rattle.key_laws.specs.History.{History, base}
 use Rattle.link_history.specs.History.{SealedList, sealed_packets, sent, sent_in, is_under, sub_stream_of, total_in, front_of, front_sent, is_of_unit, ahead_in}
 use Rattle.link_history.specs.Cause.{CauseLaw}
 use Rattle.link_history.specs.KeyFacts.{DrawFacts}
-use Rattle.link_history.specs.Fits.{StreamsFit}
+use Rattle.sealing_laws.proofs.Fits.{StreamsFit}
 use Rattle.link_history.proofs.Tests.{same_stream}
 use Rattle.link_history.proofs.UnitLemmas.{units-append}
 use Rattle.link_history.proofs.SealingIs.{IsLive, AllLive, sealing_is, all_live}

@@ -1,3 +1,4 @@
+pub mod Fits
 pub mod Below
 pub mod Sealings
 pub mod Bounds
@@ -8,3 +9,4 @@ pub mod Sums
 pub mod Fronts
 pub mod FirstFronts
 pub mod Few
+pub mod OfPlans

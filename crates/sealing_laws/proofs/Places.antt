@@ -29,7 +29,7 @@ use Rattle.link_history.specs.KeyFacts.{DrawFacts}
 use Rattle.link_history.proofs.Tests.{same_stream}
 use Rattle.link_history.proofs.Senders.{on_live}
 use Rattle.link_history.proofs.SealingIs.{sealing_is}
-use Rattle.link_history.specs.Fits.{StreamsFit}
+use Rattle.sealing_laws.proofs.Fits.{StreamsFit}
 use Rattle.sealing_laws.proofs.Below.{is_read}
 use Rattle.sealing_laws.proofs.Sealings.{IsOf, AllOf, IsSyncOf, live_at, from_at, all_of_sealing}
 use Rattle.sealing_laws.proofs.Bounds.{Bounds, bounded, one_bounded, id_byte, m_is}
