@@ -1,55 +1,74 @@
 -- A topology that was read, and what runs after it.
-use Rattle.std.proofs.Common.{◌≡◌, ◌≤◌, ◌+◌, ℕ, length, take, true, false, Bool, Option, Some, None, Result, Ok, Err, refl, ap, subst, ◌∙◌, arith, option_map}
-use Rattle.std.specs.Prelude.{IfOk, nat_lt, min, ◌^◌, ◌-◌}
+use Rattle.std.proofs.Common.{◌≡◌, ◌≢◌, ◌≤◌, ◌<◌, ◌+◌, ℕ, length, take, true, false, Bool, Option, Some, None, Result, Ok, Err, refl, sym, ap, inr, subst, ◌∙◌, arith, option_map}
+use Rattle.std.specs.Prelude.{IfOk, nat_lt}
 use Rattle.std.proofs.lemmas.Bool.Decides.{nat_tests}
 use Rattle.std.proofs.lemmas.List.{length-take-le, take_all}
-use Rattle.ide_base.specs.Outside.{Contents, Rose, counted}
+use Rattle.ide_base.specs.Outside.{Contents, Rose}
 use Rattle.starter.specs.declared.plan.Plan.{Plan}
 use Rattle.line_runs.specs.Gain.{Text, Gained}
-use Rattle.line_runs.specs.Front.{FrontIn, FrontOf}
+use Rattle.line_runs.specs.Front.{FrontIn, FrontOf, Gave}
 use Rattle.line_runs.specs.Outcome.{Due, Quiet, RanOn}
 use Rattle.line_runs.specs.declared.ends.Fault.TheVariants as fault
 use Rattle.line_runs.specs.declared.front.Stop.TheVariants as stop
 use Rattle.line_runs.specs.declared.ends.End.{End}
 use Rattle.line_runs.specs.declared.ends.End.TheVariants.{TooLong}
 use Rattle.line_runs.specs.declared.ends.Fault.{Fault}
-use Rattle.line_runs.proofs.WholeFiles.{SameDue, stopped}
-use Rattle.ide_cli.specs.declared.command.Loaded.{Loaded}
-use Rattle.ide_cli.specs.declared.command.Loaded.TheVariants.{Sound, Faulty, Long}
+use Rattle.line_runs.proofs.WholeFiles.{IsDue, SameDue, stopped}
+use Rattle.ide_cli.specs.declared.command.Loaded.TheVariants.{Sound, Long}
+use Rattle.ide_cli.specs.Loading.{Loads, LoadedIn, LoadedOf, LoadCut, topology_limit, within}
+use Rattle.ide_cli.specs.Meaning.{loaded, run_due}
+use Rattle.ide_cli.specs.Reads.{GaveAtMost, RanPast}
 use Rattle.ide_cli.specs.Script.{script_due}
-use Rattle.ide_cli.specs.Meaning.{loaded, run_due, Loads, LoadedIn, LoadedOf, LoadCut, GaveLong, IsLongAt, topology_limit}
 
 -- one byte more than those that count tells what the whole file comes to
-same_loaded : (whole : Text) (b : Bool) → nat_lt topology_limit (length whole) ≡ b → loaded (take 1048577 whole) ≡ loaded whole
-same_loaded whole true over =
-    let long : nat_lt topology_limit (length (take 1048577 whole)) ≡ true = let n = length-take-le 1048577 whole (grind (arith, nat_tests)) in grind (arith, nat_tests) in
-    rw (over, long) refl
-same_loaded whole false over = ap loaded (take_all 1048577 whole (grind (arith, nat_tests)))
+same_loaded : {L : Type 0} (long : L) (by : Text → L) (whole : Text) (b : Bool) → nat_lt topology_limit (length whole) ≡ b → within long by (take 1048577 whole) ≡ within long by whole
+same_loaded long by whole true over =
+    let longer : nat_lt topology_limit (length (take 1048577 whole)) ≡ true = let n = length-take-le 1048577 whole (grind (arith, nat_tests)) in grind (arith, nat_tests) in
+    rw (over, longer) refl
+same_loaded long by whole false over = ap (within long by) (take_all 1048577 whole (grind (arith, nat_tests)))
 
-front_in : (file : Option Text) (read : Text) (l : Loaded) → FrontIn 1048577 file read → l ≡ loaded read → LoadedIn file l
-front_in None read l is e = absurd is
-front_in (Some whole) read l is e = e ∙ ap loaded is ∙ same_loaded whole (nat_lt topology_limit (length whole)) refl
+front_in : {L : Type 0} (long : L) (by : Text → L) (file : Option Text) (read : Text) (l : L) → FrontIn 1048577 file read → l ≡ within long by read → LoadedIn (within long by) file l
+front_in long by None read l is e = absurd is
+front_in long by (Some whole) read l is e = e ∙ ap (within long by) is ∙ same_loaded long by whole (nat_lt topology_limit (length whole)) refl
 
-front_of : (told : Option Contents) (name read : Text) (l : Loaded) → FrontOf told name 1048577 read → l ≡ loaded read → LoadedOf told name l
-front_of None name read l is e = tt
-front_of (Some contents) name read l is e = front_in (contents name) read l is e
+front_of : {L : Type 0} (long : L) (by : Text → L) (told : Option Contents) (name read : Text) (l : L) → FrontOf told name 1048577 read → l ≡ within long by read → LoadedOf (within long by) told name l
+front_of long by None name read l is e = tt
+front_of long by (Some contents) name read l is e = front_in long by (contents name) read l is e
 
-pub loads_front : (told : Option Contents) (name read : Text) (r : Result Loaded Fault) → FrontOf told name 1048577 read → IfOk r (λ l. l ≡ loaded read) → Loads told name r
-loads_front told name read (Ok l) is e = front_of told name read l is e
-loads_front told name read (Err f) is e = tt
+pub loads_front : {L : Type 0} (long : L) (by : Text → L) (told : Option Contents) (name read : Text) (r : Result L Fault) → FrontOf told name 1048577 read → IfOk r (λ l. l ≡ within long by read)
+    → Loads (within long by) told name r
+loads_front long by told name read (Ok l) is e = front_of long by told name read l is e
+loads_front long by told name read (Err f) is e = tt
 
-gave_long_of : (l : Loaded) (n before now : ℕ) → n ≤ 1048577 → counted before n ≤ now → IsLongAt n l → GaveLong before now l
-gave_long_of Long n before now most gave long = let same : n ≡ 1048577 = omega arith in rw same at gave
-gave_long_of Faulty n before now most gave long = tt
-gave_long_of (Sound plan) n before now most gave long = tt
+-- ---- how much was given
 
-pub gave_long : (r : Result Loaded Fault) (n before now : ℕ) → n ≤ 1048577 → counted before n ≤ now → IfOk r (IsLongAt n) → IfOk r (GaveLong before now)
-gave_long (Ok l) n before now most gave long = gave_long_of l n before now most gave long
-gave_long (Err f) n before now most gave long = long
+pub gave_long : {L : Type 0} (long : L) (r : Result L Fault) (n before now : ℕ) → n ≤ 1048577 → Gave before n now → IfOk r (λ l. l ≡ long → 1048576 < n) → IfOk r (λ l. l ≡ long → Gave before 1048577 now)
+gave_long long (Ok l) n before now most gave over = λ is. let lt : 1048576 < n = over is in let same : n ≡ 1048577 = omega arith in rw same at gave
+gave_long long (Err f) n before now most gave over = over
 
-pub gave_least : (r : Result Loaded Fault) (n before now : ℕ) → counted before n ≤ now → IfOk r (λ l. counted before 0 ≤ now)
-gave_least (Ok l) n before now gave = omega arith
-gave_least (Err f) n before now gave = tt
+pub gave_few : {L : Type 0} (long : L) (r : Result L Fault) (n before now : ℕ) → Gave before n now → IfOk r (λ l. l ≢ long → n ≤ 1048576) → IfOk r (λ l. l ≢ long → GaveAtMost before 1048576 now)
+gave_few long (Ok l) n before now gave few = λ other. (n, few other, gave)
+gave_few long (Err f) n before now gave few = few
+
+joined : (a b c m n : ℕ) → Gave a m b → Gave b n c → Gave a (m + n) c
+joined a b c m n one two = (omega (arith, one.0, two.0), omega (arith, one.1, two.1))
+
+-- a topology that is no longer than counts, and then one byte more of a script than count
+pub gave_more : (r : Result End Fault) (a b c : ℕ) → GaveAtMost a 1048576 b → IfOk r (λ e. e ≡ TooLong → Gave b 16777217 c) → IfOk r (λ e. e ≡ TooLong → RanPast a c)
+gave_more (Ok e) a b c few more = λ is. inr (few.0, few.1, joined a b c few.0 16777217 few.2 (more is))
+gave_more (Err f) a b c few more = more
+
+pub sound_is_short : (plan : Plan) → Sound plan ≢ Long
+sound_is_short plan e = cc
+
+-- what is due of what was loaded
+due_in : {L : Type 0} (by : Text → L) (due : L → Due) (file : Option Text) (l : L) → LoadedIn by file l → option_map (λ t. due (by t)) file ≡ Some (due l)
+due_in by due None l is = absurd is
+due_in by due (Some bytes) l is = ap (λ x. Some (due x)) (sym is)
+
+pub due_loaded : {L : Type 0} (by : Text → L) (due : L → Due) (told : Option Contents) (name : Text) (l : L) → LoadedOf by told name l → IsDue told (λ contents. option_map (λ t. due (by t)) (contents name)) (due l)
+due_loaded by due None name l is = tt
+due_loaded by due (Some contents) name l is = due_in by due (contents name) l is
 
 -- a topology could not be loaded
 pub cut_by_load : (told : Option Contents) (due : Contents → Option Due) (name : Text) (s0 s1 : ℕ) (write quiet : Type 0) (h : Option Text) (e : Fault)
@@ -68,12 +87,12 @@ pub same_due : (told : Option Contents) (name : Text) (f g : Text → Due) → (
 same_due None name f g same = tt
 same_due (Some contents) name f g same = same_map (contents name) f g same
 
-run_in : (topology script : Option Text) (plan : Plan) → LoadedIn topology (Sound plan) → option_map (script_due plan) script ≡ run_due topology script
+run_in : (topology script : Option Text) (plan : Plan) → LoadedIn loaded topology (Sound plan) → option_map (script_due plan) script ≡ run_due topology script
 run_in None script plan is = absurd is
 run_in (Some bytes) script plan is = rw (← is) refl
 
 -- once a topology is loaded, what is due is the script's
-pub run_after : (told : Option Contents) (topology script : Text) (plan : Plan) → LoadedOf told topology (Sound plan)
+pub run_after : (told : Option Contents) (topology script : Text) (plan : Plan) → LoadedOf loaded told topology (Sound plan)
     → SameDue told (λ contents. option_map (script_due plan) (contents script)) (λ contents. run_due (contents topology) (contents script))
 run_after None topology script plan is = tt
 run_after (Some contents) topology script plan is = run_in (contents topology) (contents script) plan is
@@ -85,12 +104,3 @@ later told now due before after end o0 o1 gained r same quiet ran =
     let P : Option Contents → Type 0 = λ t. RanOn t due (Rose before end) (Rose o0 o1) (Quiet before end o0 o1) gained r in
     let Q : ℕ → Type 0 = λ n. RanOn now due (Rose n end) (Rose o0 o1) (Quiet n end o0 o1) gained r in
     subst P same (subst Q quiet ran)
-
--- ---- counts of bytes
-
-least : (a b c m n : ℕ) → n ≤ m → min (a + 0) (2 ^ 64 - 1) ≤ b → min (b + m) (2 ^ 64 - 1) ≤ c → min (a + n) (2 ^ 64 - 1) ≤ c
-least a b c m n le one two = omega arith
-
-pub gave_more : (r : Result End Fault) (a b c : ℕ) → counted a 0 ≤ b → IfOk r (λ e. e ≡ TooLong → counted b 16777217 ≤ c) → IfOk r (λ e. e ≡ TooLong → counted a 1048577 ≤ c)
-gave_more (Ok e) a b c one more = λ is. least a b c 16777217 1048577 (omega arith) one (more is)
-gave_more (Err f) a b c one more = more

@@ -6,7 +6,7 @@ use Rattle.link_laws.specs.History.{History}
 use Rattle.link_laws.specs.Laws.{CauseLaw}
 use Rattle.link_laws.specs.Runs.{history_with, history_on}
 use Rattle.ide_base.specs.Outside.{Contents}
-use Rattle.ide_words.specs.Words.{Asked, run, show, asked}
+use Rattle.ide_words.specs.Words.{Asked, run, check, show, asked}
 use Rattle.line_runs.specs.Gain.{Text}
 use Rattle.ide_cli.specs.declared.command.Loaded.{Loaded}
 use Rattle.ide_cli.specs.declared.command.Loaded.TheVariants.{Sound, Faulty, Long}
@@ -37,6 +37,7 @@ of_files law holds (Some topology) script = of_loaded law holds script (loaded t
 of_asked : (law : Plan → History → Type 0) → ((plan : Plan) (h : History) → CauseLaw plan h → law plan h) → (contents : Contents) (a : Option Asked) → OfAsked law contents a
 of_asked law holds contents None = tt
 of_asked law holds contents (Some (run topology script)) = of_files law holds (contents topology) (contents script)
+of_asked law holds contents (Some (check topology)) = tt
 of_asked law holds contents (Some (show packets)) = tt
 
 -- it holds of every history that is written

@@ -1,7 +1,7 @@
 -- The histories that a run writes.
 use Rattle.std.specs.Prelude.{ℕ, List, [], take, Option, Some, None, Result, Ok, Err}
 use Rattle.ide_base.specs.Outside.{Contents}
-use Rattle.ide_words.specs.Words.{Asked, run, show, asked}
+use Rattle.ide_words.specs.Words.{Asked, run, check, show, asked}
 use Rattle.starter.specs.declared.plan.Plan.{Plan}
 use Rattle.link_laws.specs.History.{History}
 use Rattle.link_laws.specs.Runs.{history_on}
@@ -35,6 +35,7 @@ OfFiles law (Some topology) script = OfLoaded law script (loaded topology)
 abbrev pub OfAsked : (Plan → History → Type 0) → Contents → Option Asked → Type 0
 OfAsked law contents None = Unit {0}
 OfAsked law contents (Some (run topology script)) = OfFiles law (contents topology) (contents script)
+OfAsked law contents (Some (check topology)) = Unit {0}
 OfAsked law contents (Some (show packets)) = Unit {0}
 
 -- the law holds of every history that a run with these words writes, where the contents are told

@@ -1,3 +1,5 @@
+pub mod Loading
+pub mod Topologies
 pub mod Script
 pub mod Works
 pub mod Meaning

@@ -1,16 +1,26 @@
 -- How much of the files is read.
-use Rattle.std.specs.Prelude.{ℕ, ◌+◌, ◌≤◌, Option, Some, None}
-use Rattle.ide_base.specs.Outside.{counted}
-use Rattle.ide_words.specs.Words.{Asked, run, show}
+use Rattle.std.specs.Prelude.{ℕ, ◌+◌, ◌≤◌, ◌⊎◌, Option, Some, None}
+use Rattle.ide_words.specs.Words.{Asked, run, check, show}
+use Rattle.line_runs.specs.Front.{Gave}
 
 -- how many bytes are given at most: of a topology and of a file of lines, one more than those that count
 abbrev pub most_read : Option Asked → ℕ
 most_read None = 0
 most_read (Some (run topology script)) = 1048577 + 16777217
+most_read (Some (check topology)) = 1048577
 most_read (Some (show packets)) = 16777217
+
+-- no more than so many bytes were given
+abbrev pub GaveAtMost : ℕ → ℕ → ℕ → Type 0
+GaveAtMost before most now = (n : ℕ) × (n ≤ most) × Gave before n now
+
+-- a run was given one byte more of the topology than count, or all of it and one byte more of the script than count
+abbrev pub RanPast : ℕ → ℕ → Type 0
+RanPast before now = Gave before 1048577 now ⊎ ((n : ℕ) × (n ≤ 1048576) × Gave before (n + 16777217) now)
 
 -- one byte more was given than those that count
 abbrev pub ReadPast : Option Asked → ℕ → ℕ → Type 0
 ReadPast None before now = ⊥
-ReadPast (Some (run topology script)) before now = counted before 1048577 ≤ now
-ReadPast (Some (show packets)) before now = counted before 16777217 ≤ now
+ReadPast (Some (run topology script)) before now = RanPast before now
+ReadPast (Some (check topology)) before now = Gave before 1048577 now
+ReadPast (Some (show packets)) before now = Gave before 16777217 now

@@ -1,24 +1,25 @@
 //! The commands, each over the files that it reads.
 
-ghost use Rattle.std.specs.Prelude.{◌≡◌, ◌≢◌, ◌+◌, ◌≤◌, IfOk, IfErr, length, option_map};
-ghost use Rattle.ide_base.specs.Outside.{Rose, counted};
+ghost use Rattle.std.specs.Prelude.{◌≡◌, ◌≢◌, ◌+◌, ◌<◌, ◌≤◌, IfOk, IfErr, length, option_map};
+ghost use Rattle.ide_base.specs.Outside.{Rose};
+ghost use Rattle.line_runs.specs.Front.{Gave};
 ghost use Rattle.line_runs.specs.Gain.{Gained};
 ghost use Rattle.line_runs.specs.Outcome.{Quiet, RanOn};
 ghost use Rattle.ide_cli.specs.Script.{script_due};
-ghost use Rattle.ide_cli.specs.Meaning.{loaded as loaded_of, HasKeys, IsLongAt, LoadCause, Loads, GaveLong, run_due, show_due};
+ghost use Rattle.ide_cli.specs.Loading.{LoadCause, Loads};
+ghost use Rattle.ide_cli.specs.Meaning.{loaded as loaded_of, HasKeys, run_due, show_due};
+ghost use Rattle.ide_cli.specs.Reads.{GaveAtMost, RanPast};
 
 use crate::packets::PacketWork;
 use crate::script::ScriptWork;
+use crate::topologies::TOPOLOGY_LIMIT;
 use ide_base::{Shelf, Sink};
 use line_runs::{End, Fault, Stop, finish, read_front, run_file};
 use link_world::World;
 use starter::{Plan, PlanError};
 use std::alloc::Global;
 
-/// How many bytes of a topology count (this profile).
-const TOPOLOGY_LIMIT: usize = 1_048_576;
-
-/// What a topology's bytes come to.
+/// What the bytes of the keys of a run come to.
 #[derive(Drop)]
 pub(crate) enum Loaded {
     Sound(Plan),
@@ -26,12 +27,13 @@ pub(crate) enum Loaded {
     Long,
 }
 
-// What the front of a topology comes to, of which one byte more than those that count was read.
+// What the front of the keys comes to, of which one byte more than those that count was read.
 fn judge(alloc: Global, front: &[u8]) -> Result<Loaded, Fault>
     ensures loaded { IfOk result (λ l. l ≡ loaded_of front.now) }
     ensures memory { IfErr result (λ e. e ≡ Fault.Memory) }
     ensures keys { IfOk result HasKeys }
-    ensures long { IfOk result (IsLongAt (length front.now)) }
+    ensures long { IfOk result (λ l. l ≡ Loaded.Long → 1048576 < length front.now) }
+    ensures few { IfOk result (λ l. l ≢ Loaded.Long → length front.now ≤ 1048576) }
 {
     if front.len() > TOPOLOGY_LIMIT {
         return Ok(Loaded::Long);
@@ -43,15 +45,15 @@ fn judge(alloc: Global, front: &[u8]) -> Result<Loaded, Fault>
     }
 }
 
-// Reads a topology.
+// Reads the keys of a run.
 fn load<S: Shelf>(alloc: Global, shelf: &mut S, name: &str) -> Result<Loaded, Fault>
     ensures same { S.contents shelf.new ≡ S.contents shelf.old }
-    ensures loads { Loads (S.contents shelf.old) name.now result }
+    ensures loads { Loads loaded_of (S.contents shelf.old) name.now result }
     ensures cause { LoadCause (S.faults shelf.old) (S.faults shelf.new) (S.contents shelf.old) name.now result }
     ensures keys { IfOk result HasKeys }
     ensures cap { S.given shelf.new ≤ S.given shelf.old + 1048577 }
-    ensures least { IfOk result (λ l. counted (S.given shelf.old) 0 ≤ S.given shelf.new) }
-    ensures long { IfOk result (GaveLong (S.given shelf.old) (S.given shelf.new)) }
+    ensures long { IfOk result (λ l. l ≡ Loaded.Long → Gave (S.given shelf.old) 1048577 (S.given shelf.new)) }
+    ensures few { IfOk result (λ l. l ≢ Loaded.Long → GaveAtMost (S.given shelf.old) 1048576 (S.given shelf.new)) }
 {
     match read_front(alloc, shelf, name, TOPOLOGY_LIMIT + 1) {
         Err(Stop::Fault) => Err(Fault::Read),
@@ -75,7 +77,7 @@ fn run_script<S: Shelf, O: Sink>(
         (Quiet (S.faults shelf.old) (S.faults shelf.new) (O.faults out.old) (O.faults out.new))
         (Gained (O.held out.old) (O.held out.new)) result }
     ensures cap { S.given shelf.new ≤ S.given shelf.old + 16777217 }
-    ensures too_long { IfOk result (λ e. e ≡ End.TooLong → counted (S.given shelf.old) 16777217 ≤ S.given shelf.new) }
+    ensures too_long { IfOk result (λ e. e ≡ End.TooLong → Gave (S.given shelf.old) 16777217 (S.given shelf.new)) }
 {
     match World::make(alloc, plan) {
         Err(_) => Err(Fault::Memory),
@@ -100,7 +102,7 @@ pub(crate) fn run_files<S: Shelf, O: Sink>(
         (Quiet (S.faults shelf.old) (S.faults shelf.new) (O.faults out.old) (O.faults out.new))
         (Gained (O.held out.old) (O.held out.new)) result }
     ensures cap { S.given shelf.new ≤ S.given shelf.old + 17825794 }
-    ensures too_long { IfOk result (λ e. e ≡ End.TooLong → counted (S.given shelf.old) 1048577 ≤ S.given shelf.new) }
+    ensures too_long { IfOk result (λ e. e ≡ End.TooLong → RanPast (S.given shelf.old) (S.given shelf.new)) }
 {
     match load(alloc, shelf, topology) {
         Err(e) => Err(e),
@@ -123,7 +125,7 @@ pub(crate) fn show_packets<S: Shelf, O: Sink>(
         (Quiet (S.faults shelf.old) (S.faults shelf.new) (O.faults out.old) (O.faults out.new))
         (Gained (O.held out.old) (O.held out.new)) result }
     ensures cap { S.given shelf.new ≤ S.given shelf.old + 16777217 }
-    ensures too_long { IfOk result (λ e. e ≡ End.TooLong → counted (S.given shelf.old) 16777217 ≤ S.given shelf.new) }
+    ensures too_long { IfOk result (λ e. e ≡ End.TooLong → Gave (S.given shelf.old) 16777217 (S.given shelf.new)) }
 {
     let mut work = PacketWork::new(alloc);
     run_file(alloc, &mut work, packets, shelf, out)

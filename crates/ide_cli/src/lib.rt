@@ -6,6 +6,7 @@ mod packets;
 mod script;
 mod status;
 mod top;
+mod topologies;
 
 pub use status::Status;
 pub use top::run;

@@ -1,4 +1,6 @@
 //! Worked scripts with their whole text, and each status.
+mod check;
+
 use crate::{Status, run};
 use ide_base::{MemShelf, MemSink, NamedFile, TrueShelf, TrueSink};
 use std::alloc::Global;

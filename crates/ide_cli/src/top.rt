@@ -12,6 +12,7 @@ ghost use Rattle.ide_cli.specs.Reads.{ReadPast, most_read};
 
 use crate::command::{run_files, show_packets};
 use crate::status::Status;
+use crate::topologies::check_topology;
 use ide_base::{Shelf, Sink};
 use ide_words::{Request, WordsError, read_words};
 use line_runs::{End, Fault, finish};
@@ -43,6 +44,7 @@ fn perform<S: Shelf, O: Sink>(
         ),
         Err(WordsError::Memory) => Err(Fault::Memory),
         Ok(Request::Run(topology, script)) => run_files(alloc, topology, script, shelf, out),
+        Ok(Request::Check(topology)) => check_topology(alloc, topology, shelf, out),
         Ok(Request::Show(packets)) => show_packets(alloc, packets, shelf, out),
     }
 }
@@ -63,8 +65,8 @@ fn status_of(outcome: Result<End, Fault>) -> Status
 }
 
 /// Does what the words of the command line ask for, of which the first is the program's name, over the files of
-/// a shelf, and writes its text to a sink. The words are the program's name and `run TOPOLOGY SCRIPT` or
-/// `show PACKETS`.
+/// a shelf, and writes its text to a sink. The words are the program's name and `run TOPOLOGY SCRIPT`,
+/// `check TOPOLOGY` or `show PACKETS`.
 ///
 /// Where the shelf tells its contents, the text of a run is the verdict lines of the script's events, each verdict
 /// the one that is due after the events before it, and the laws hold of the history that is written.

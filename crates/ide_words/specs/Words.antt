@@ -5,13 +5,14 @@ use Rattle.clap.specs.Words.{Row, Text, fault_of, first_of, subcommand_of}
 use Rattle.clap.specs.Walk.{is_empty}
 use Rattle.ide_words.specs.Ide.{ide_app}
 use Rattle.ide_words.specs.declared.Request.{Request}
-use Rattle.ide_words.specs.declared.Request.TheVariants.{Run, Show}
+use Rattle.ide_words.specs.declared.Request.TheVariants.{Run, Check, Show}
 use Rattle.ide_words.specs.declared.WordsError.{WordsError}
 use Rattle.ide_words.specs.declared.WordsError.TheVariants.{Usage, Memory}
 
 -- a request by the bytes of its names
 pub data Asked : Type 0 where
   run : (topology script : Text) → Asked
+  check : (topology : Text) → Asked
   show : (packets : Text) → Asked
 
 -- the argument's text; `clap` gives each required one, and where there were none it would be the empty text
@@ -21,6 +22,7 @@ text_of id rows = unwrap_or (first_of id rows) []
 abbrev pub asked_by : Text → List Row → Asked
 asked_by name rows =
     if bytes_eq name (codes "run") then run (text_of (codes "TOPOLOGY") rows) (text_of (codes "SCRIPT") rows)
+    else if bytes_eq name (codes "check") then check (text_of (codes "TOPOLOGY") rows)
     else show (text_of (codes "PACKETS") rows)
 
 -- what a subcommand and its arguments ask for; `clap` gives one, since it is required
@@ -38,6 +40,7 @@ asked words = if is_refused words then None else Some (asked_of (subcommand_of i
 
 abbrev pub view : Request → Asked
 view (Run topology script) = run topology.now script.now
+view (Check topology) = check topology.now
 view (Show packets) = show packets.now
 
 -- the words are refused exactly where `clap` refuses them, and want of memory is free

@@ -1,11 +1,11 @@
 //! The words of the command line.
 #![tactic(auto)]
 
-ghost use Rattle.std.specs.Prelude.{◌≡◌, [], ◌∷◌, List, ℕ, Some, IfOk, IfErr, codes, false, map, string_bytes};
+ghost use Rattle.std.specs.Prelude.{◌≡◌, [], ◌∷◌, List, ℕ, None, Some, IfOk, IfErr, codes, false, map, string_bytes};
 ghost use Rattle.clap.specs.Words.{app_of, found_of, new_app, rows_of, rule_of, subcommand_rows_of, with_rule, with_subcommand};
 ghost use Rattle.clap.specs.declared.builder.command.Command.TheViews.{out-Command};
-ghost use Rattle.ide_words.specs.Ide.{ide_app, name_rule, run_app, show_app, top_app};
-ghost use Rattle.ide_words.specs.Words.{IsName, Refuses, asked, asked_by, asked_of, run, show, text_of, view};
+ghost use Rattle.ide_words.specs.Ide.{check_app, ide_app, name_rule, run_app, show_app, top_app};
+ghost use Rattle.ide_words.specs.Words.{IsName, Refuses, asked, asked_by, asked_of, check, run, show, text_of, view};
 
 use clap::error::ErrorKind;
 use clap::{Arg, ArgMatches, Command};
@@ -16,6 +16,8 @@ use std::alloc::{AllocError, Global};
 pub enum Request<'a> {
     /// To run a script on a topology.
     Run(&'a str, &'a str),
+    /// To check a topology.
+    Check(&'a str),
     /// To show packets.
     Show(&'a str),
 }
@@ -43,6 +45,14 @@ fn run_command<'a>(alloc: Global) -> Result<Command<'a>, AllocError>
     let topology = name_arg(alloc, "TOPOLOGY");
     let script = name_arg(alloc, "SCRIPT");
     Command::new(alloc, "run").arg(topology)?.arg(script)
+}
+
+// `check TOPOLOGY`
+fn check_command<'a>(alloc: Global) -> Result<Command<'a>, AllocError>
+    ensures app { IfOk result (λ c. app_of c ≡ check_app) }
+    ensures local { IfOk result (λ c. (out-Command c).has_globals ≡ false) }
+{
+    Command::new(alloc, "check").arg(name_arg(alloc, "TOPOLOGY"))
 }
 
 // `show PACKETS`
@@ -75,7 +85,8 @@ fn ide<'a>(alloc: Global) -> Result<Command<'a>, AllocError>
     ensures { IfOk result (λ c. app_of c ≡ ide_app) }
 {
     let with_run = with_command(top(alloc), run_command(alloc)?)?;
-    with_command(with_run, show_command(alloc)?)
+    let with_check = with_command(with_run, check_command(alloc)?)?;
+    with_command(with_check, show_command(alloc)?)
 }
 
 // The argument's text, or the empty text.
@@ -92,6 +103,7 @@ fn request_by<'a>(name: &str, matches: &ArgMatches<'a>) -> Request<'a>
 {
     match name {
         "run" => Request::Run(text_in(matches, "TOPOLOGY"), text_in(matches, "SCRIPT")),
+        "check" => Request::Check(text_in(matches, "TOPOLOGY")),
         _ => Request::Show(text_in(matches, "PACKETS")),
     }
 }
@@ -105,8 +117,9 @@ fn request_in<'a>(matches: &ArgMatches<'a>) -> Request<'a>
     }
 }
 
-/// What the words ask for, of which the first is the program's name: `run TOPOLOGY SCRIPT` or
-/// `show PACKETS`. `Usage` comes exactly where `clap` refuses the words for another cause than memory.
+/// What the words ask for, of which the first is the program's name: `run TOPOLOGY SCRIPT`,
+/// `check TOPOLOGY` or `show PACKETS`. `Usage` comes exactly where `clap` refuses the words for another cause than
+/// memory.
 #[tactic(auto, using(crate::proofs::App::ide_is_simple))]
 pub fn read_words<'a>(alloc: Global, words: &'a [String]) -> Result<Request<'a>, WordsError>
     ensures ok { IfOk result (λ r. asked (map string_bytes words.now) ≡ Some (view r)) }
@@ -132,7 +145,13 @@ pub fn read_words<'a>(alloc: Global, words: &'a [String]) -> Result<Request<'a>,
 /// with `-`.
 pub fn forms_are_taken()
     ensures run { (program a b : List ℕ) → IsName a → IsName b → asked (program ∷ codes "run" ∷ a ∷ b ∷ []) ≡ Some (run a b) }
+    ensures check { (program a : List ℕ) → IsName a → asked (program ∷ codes "check" ∷ a ∷ []) ≡ Some (check a) }
     ensures show { (program a : List ℕ) → IsName a → asked (program ∷ codes "show" ∷ a ∷ []) ≡ Some (show a) }
+{}
+
+/// No words at all, not even the program's name, ask for nothing.
+pub fn no_words_are_refused()
+    ensures { asked [] ≡ None }
 {}
 
 #[cfg(test)]

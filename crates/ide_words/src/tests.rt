@@ -23,6 +23,11 @@ fn takes_its_forms(rt: HostRuntime) -> Result<(), Fail> {
         }
         other => panic!(rt; "{other:?}"),
     }
+    let words = words_of(rt.alloc(), &["check", "base.toml"])?;
+    match read_words(rt.alloc(), &words) {
+        Ok(Request::Check(topology)) => assert_eq!(rt; topology, "base.toml"),
+        other => panic!(rt; "{other:?}"),
+    }
     let words = words_of(rt.alloc(), &["show", "--", "-packets"])?;
     match read_words(rt.alloc(), &words) {
         Ok(Request::Show(packets)) => assert_eq!(rt; packets, "-packets"),
@@ -34,12 +39,16 @@ fn takes_its_forms(rt: HostRuntime) -> Result<(), Fail> {
 // Neither help nor a version is offered.
 #[test]
 fn refuses_other_words(rt: HostRuntime) -> Result<(), Fail> {
-    let lines: [&[&str]; 12] = [
+    let lines: [&[&str]; 16] = [
         &[],
         &["jump"],
         &["run", "base.toml"],
         &["run", "base.toml", "row.txt", "more"],
         &["run", "base.toml", "-x"],
+        &["check"],
+        &["check", "a", "b"],
+        &["check", "a", "--migrate"],
+        &["generate", "1", "10"],
         &["show"],
         &["show", "a", "b"],
         &["help"],

@@ -3,14 +3,14 @@ use Rattle.std.proofs.Common.{◌≡◌, ◌+◌, ◌<◌, ◌≤◌, true, arit
 use Rattle.std.specs.Prelude.{IfOk, nat_lt}
 use Rattle.std.proofs.lemmas.Bool.{ltb-true}
 use Rattle.std.proofs.lemmas.List.{append-nil}
-use Rattle.ide_base.specs.Outside.{Contents, Rose, counted}
+use Rattle.ide_base.specs.Outside.{Contents, Rose}
 use Rattle.line_runs.specs.declared.ends.End.{End}
 use Rattle.line_runs.specs.declared.ends.End.TheVariants.{TooLong}
 use Rattle.line_runs.specs.declared.ends.Fault.{Fault}
 use Rattle.line_runs.specs.declared.ends.Fault.TheVariants as fault
 use Rattle.line_runs.specs.declared.front.Stop.{Stop}
 use Rattle.line_runs.specs.declared.front.Stop.TheVariants as stop
-use Rattle.line_runs.specs.Front.{FrontIn, FrontOf, StopCause}
+use Rattle.line_runs.specs.Front.{FrontIn, FrontOf, Gave, StopCause}
 use Rattle.line_runs.specs.Gain.{Text, Gained}
 use Rattle.line_runs.specs.Outcome.{Due, Quiet, Ran, RanBlind, RanDue, RanOn}
 
@@ -101,6 +101,6 @@ over_long (Ok e) limit n h = λ is. ltb-true limit n (h is)
 over_long (Err f) limit n h = h
 
 -- where the program ends at the limit, so many bytes were given
-pub given_long : (r : Result End Fault) (limit n before now : ℕ) → IfOk r (λ e. e ≡ TooLong → limit < n) → counted before n ≤ now → n ≤ limit + 1 → IfOk r (λ e. e ≡ TooLong → counted before (limit + 1) ≤ now)
+pub given_long : (r : Result End Fault) (limit n before now : ℕ) → IfOk r (λ e. e ≡ TooLong → limit < n) → Gave before n now → n ≤ limit + 1 → IfOk r (λ e. e ≡ TooLong → Gave before (limit + 1) now)
 given_long (Ok e) limit n before now h given le = λ is. let lt : limit < n = h is in let same : n ≡ limit + 1 = omega arith in rw same at given
 given_long (Err f) limit n before now h given le = h

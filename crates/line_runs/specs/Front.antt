@@ -1,6 +1,6 @@
 -- The front of a file.
-use Rattle.std.specs.Prelude.{ℕ, ◌≤◌, ◌≡◌, ◌⊎◌, [], take, Option, Some, None, Result, Ok, Err}
-use Rattle.ide_base.specs.Outside.{Contents, Rose, Lacks}
+use Rattle.std.specs.Prelude.{ℕ, ◌+◌, ◌≤◌, ◌≡◌, ◌⊎◌, [], take, Option, Some, None, Result, Ok, Err}
+use Rattle.ide_base.specs.Outside.{Contents, Rose, Lacks, counted}
 use Rattle.line_runs.specs.declared.front.Stop.{Stop}
 use Rattle.line_runs.specs.declared.front.Stop.TheVariants as stop
 use Rattle.line_runs.specs.Gain.{Text, IsFront}
@@ -23,6 +23,10 @@ StopCause before now told name stop.Memory = now ≡ before
 abbrev pub ReadCause : {A : Type 0} → ℕ → ℕ → Option Contents → Text → Result A Stop → Type 0
 ReadCause before now told name (Ok x) = now ≡ before
 ReadCause before now told name (Err e) = StopCause before now told name e
+
+-- n bytes were given: the count rose by n, or up to its last value
+abbrev pub Gave : ℕ → ℕ → ℕ → Type 0
+Gave before n now = (counted before n ≤ now) × (now ≤ before + n)
 
 -- ---- piece by piece
 

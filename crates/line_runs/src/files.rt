@@ -1,6 +1,7 @@
 //! A file of lines, from its name to what is written for it.
 ghost use Rattle.std.specs.Prelude.{◌≡◌, ◌≢◌, ◌≤◌, ◌<◌, ◌+◌, ◌^◌, length, IfOk, option_map};
-ghost use Rattle.ide_base.specs.Outside.{Rose, counted};
+ghost use Rattle.ide_base.specs.Outside.{Rose};
+ghost use Rattle.line_runs.specs.Front.{Gave};
 ghost use Rattle.line_runs.specs.Gain.{Gained};
 ghost use Rattle.line_runs.specs.Lines.{cut_at, file_due};
 ghost use Rattle.line_runs.specs.Outcome.{Quiet, Ran, RanOn};
@@ -63,7 +64,7 @@ pub fn run_file<S: Shelf, O: Sink, W: LineWork>(
         (Quiet (S.faults shelf.old) (S.faults shelf.new) (O.faults out.old) (O.faults out.new))
         (Gained (O.held out.old) (O.held out.new)) result }
     ensures cap { S.given shelf.new ≤ S.given shelf.old + 16777217 }
-    ensures too_long { IfOk result (λ e. e ≡ End.TooLong → counted (S.given shelf.old) 16777217 ≤ S.given shelf.new) }
+    ensures too_long { IfOk result (λ e. e ≡ End.TooLong → Gave (S.given shelf.old) 16777217 (S.given shelf.new)) }
 {
     match read_front(alloc, shelf, name, FILE_LIMIT + 1) {
         Err(Stop::Fault) => Err(Fault::Read),

@@ -1,7 +1,7 @@
 //! The front of a file.
 ghost use Rattle.std.specs.Prelude.{◌≡◌, ◌≤◌, ◌<◌, ◌+◌, ◌^◌, length, IfOk, OnErr};
 ghost use Rattle.ide_base.specs.Outside.{counted};
-ghost use Rattle.line_runs.specs.Front.{FrontOf, IsReadOf, ReadCause, ReadsOn};
+ghost use Rattle.line_runs.specs.Front.{FrontOf, Gave, IsReadOf, ReadCause, ReadsOn};
 
 use ide_base::Shelf;
 use std::alloc::Global;
@@ -57,7 +57,7 @@ pub fn read_front<S: Shelf>(
     ensures same { S.contents shelf.new ≡ S.contents shelf.old }
     ensures bytes { IfOk result (λ v. FrontOf (S.contents shelf.old) name.now most v.items) }
     ensures length { IfOk result (λ v. length v.items ≤ most) }
-    ensures given { IfOk result (λ v. counted (S.given shelf.old) (length v.items) ≤ S.given shelf.new) }
+    ensures given { IfOk result (λ v. Gave (S.given shelf.old) (length v.items) (S.given shelf.new)) }
     ensures cap { S.given shelf.new ≤ S.given shelf.old + most }
     ensures cause { ReadCause (S.faults shelf.old) (S.faults shelf.new) (S.contents shelf.old) name.now result }
 {

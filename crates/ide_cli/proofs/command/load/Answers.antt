@@ -1,19 +1,23 @@
-use Rattle.std.proofs.Common.{◌≡◌, length, subst}
+use Rattle.std.proofs.Common.{◌≡◌, ◌≢◌, ◌<◌, ◌≤◌, length, subst}
 use Rattle.std.specs.Prelude.{IfOk}
+use Rattle.starter.specs.Starter.{plan_of}
 use Rattle.line_runs.specs.Gain.{Text}
-use Rattle.ide_cli.specs.Meaning.{loaded, IsLongAt}
-use Rattle.ide_cli.proofs.Loads.{gave_least, gave_long, loads_front}
+use Rattle.ide_cli.specs.declared.command.Loaded.TheVariants.{Long}
+use Rattle.ide_cli.specs.Meaning.{by_plan, loaded}
+use Rattle.ide_cli.proofs.Loads.{gave_few, gave_long, loads_front}
 use Rattle.ide_cli.proofs.command.load.Goals as goal
 
 pub returns-in-Ok-clause-loads : goal.returns-in-Ok-clause-loads
 returns-in-Ok-clause-loads g c =
     let P : Text → Type 0 = λ t. IfOk c.judge.result (λ l. l ≡ loaded t) in
-    loads_front (g.S.Shelf.contents c.args.shelf.now) c.args.name.now c.in-Ok.front.items c.judge.result c.in-Ok.ensures.bytes (subst P c.deref.ensures.value c.judge.ensures.loaded)
+    loads_front Long (λ b. by_plan (plan_of b)) (g.S.Shelf.contents c.args.shelf.now) c.args.name.now c.in-Ok.front.items c.judge.result c.in-Ok.ensures.bytes (subst P c.deref.ensures.value c.judge.ensures.loaded)
 
 pub returns-in-Ok-clause-long : goal.returns-in-Ok-clause-long
 returns-in-Ok-clause-long g c =
-    let P : Text → Type 0 = λ t. IfOk c.judge.result (IsLongAt (length t)) in
-    gave_long c.judge.result (length c.in-Ok.front.items) _ _ c.in-Ok.ensures.length c.in-Ok.ensures.given (subst P c.deref.ensures.value c.judge.ensures.long)
+    let P : Text → Type 0 = λ t. IfOk c.judge.result (λ l. l ≡ Long → 1048576 < length t) in
+    gave_long Long c.judge.result (length c.in-Ok.front.items) _ _ c.in-Ok.ensures.length c.in-Ok.ensures.given (subst P c.deref.ensures.value c.judge.ensures.long)
 
-pub returns-in-Ok-clause-least : goal.returns-in-Ok-clause-least
-returns-in-Ok-clause-least g c = gave_least c.judge.result (length c.in-Ok.front.items) _ _ c.in-Ok.ensures.given
+pub returns-in-Ok-clause-few : goal.returns-in-Ok-clause-few
+returns-in-Ok-clause-few g c =
+    let P : Text → Type 0 = λ t. IfOk c.judge.result (λ l. l ≢ Long → length t ≤ 1048576) in
+    gave_few Long c.judge.result (length c.in-Ok.front.items) _ _ c.in-Ok.ensures.given (subst P c.deref.ensures.value c.judge.ensures.few)

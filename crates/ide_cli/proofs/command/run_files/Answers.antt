@@ -2,7 +2,7 @@ use Rattle.std.proofs.Common.{option_map, refl}
 use Rattle.line_runs.proofs.WholeFiles.{redue}
 use Rattle.ide_cli.specs.Script.{script_due}
 use Rattle.ide_cli.specs.Meaning.{run_due}
-use Rattle.ide_cli.proofs.Loads.{cut_by_load, gave_more, later, run_after}
+use Rattle.ide_cli.proofs.Loads.{cut_by_load, gave_more, later, run_after, sound_is_short}
 use Rattle.ide_cli.proofs.command.run_files.Goals as goal
 
 pub returns-in-Err-clause-answers : goal.returns-in-Err-clause-answers
@@ -18,4 +18,6 @@ returns-in-Ok-Sound-clause-answers g c =
     (later told (g.S.Shelf.contents c.load.new.shelf) (λ contents. option_map (script_due c.in-Ok-Sound.plan) (contents c.args.script.now)) _ _ _ _ _ _ c.run_script.result c.in-Ok-Sound.ensures.same c.in-Ok-Sound.ensures.cause c.run_script.ensures.answers)
 
 pub returns-in-Ok-Sound-clause-too_long : goal.returns-in-Ok-Sound-clause-too_long
-returns-in-Ok-Sound-clause-too_long g c = gave_more c.run_script.result _ _ _ c.in-Ok-Sound.ensures.least c.run_script.ensures.too_long
+returns-in-Ok-Sound-clause-too_long g c =
+    let few = rw c.in-Ok-Sound.field-0-is at c.in-Ok-Sound.ensures.few in
+    gave_more c.run_script.result _ _ _ (few (sound_is_short c.in-Ok-Sound.plan)) c.run_script.ensures.too_long

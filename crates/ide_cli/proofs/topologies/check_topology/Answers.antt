@@ -1,0 +1,16 @@
+use Rattle.std.proofs.Common.{option_map, ap}
+use Rattle.line_runs.proofs.WholeFiles.{ran_after}
+use Rattle.ide_cli.specs.Topologies.{check_due, loaded, report}
+use Rattle.ide_cli.proofs.Loads.{cut_by_load, due_loaded}
+use Rattle.ide_cli.proofs.topologies.check_topology.Goals as goal
+
+pub returns-in-Err-clause-answers : goal.returns-in-Err-clause-answers
+returns-in-Err-clause-answers g c =
+    cut_by_load (g.S.Shelf.contents c.args.shelf.now) (λ contents. option_map check_due (contents c.args.topology.now)) c.args.topology.now _ _ _ _ _ c.in-Err.e
+    (λ contents e. ap (option_map check_due) e) c.in-Err.ensures.cause
+
+pub returns-in-Ok-clause-answers : goal.returns-in-Ok-clause-answers
+returns-in-Ok-clause-answers g c =
+    let told = g.S.Shelf.contents c.args.shelf.now in
+    let is = due_loaded loaded report told c.args.topology.now c.in-Ok.loaded c.in-Ok.ensures.loads in
+    ran_after told (λ contents. option_map check_due (contents c.args.topology.now)) (report c.in-Ok.loaded) _ _ _ _ _ c.report.result is c.in-Ok.ensures.cause c.report.ensures.ran

@@ -1,0 +1,37 @@
+-- A topology's file that is read, of which so many bytes count.
+use Rattle.std.specs.Prelude.{ℕ, ◌≡◌, ◌⊎◌, ◌≤◌, nat_lt, if◌then◌else◌, Result, Ok, Err, length, Option, Some, None}
+use Rattle.ide_base.specs.Outside.{Contents, Rose, Lacks}
+use Rattle.line_runs.specs.declared.ends.Fault.{Fault}
+use Rattle.line_runs.specs.declared.ends.Fault.TheVariants as fault
+use Rattle.line_runs.specs.Gain.{Text}
+
+-- how many bytes of a topology count
+abbrev pub topology_limit : ℕ
+topology_limit = 1048576
+
+-- what the bytes come to, where they are no more than count
+abbrev pub within : {L : Type 0} → L → (Text → L) → Text → L
+within long by bytes = if nat_lt topology_limit (length bytes) then long else by bytes
+
+-- where the contents are told, what was loaded is what the file comes to
+abbrev pub LoadedIn : {L : Type 0} → (Text → L) → Option Text → L → Type 0
+LoadedIn by None l = ⊥
+LoadedIn by (Some bytes) l = l ≡ by bytes
+
+abbrev pub LoadedOf : {L : Type 0} → (Text → L) → Option Contents → Text → L → Type 0
+LoadedOf by None name l = Unit {0}
+LoadedOf by (Some contents) name l = LoadedIn by (contents name) l
+
+abbrev pub Loads : {L : Type 0} → (Text → L) → Option Contents → Text → Result L Fault → Type 0
+Loads by told name (Ok l) = LoadedOf by told name l
+Loads by told name (Err e) = Unit {0}
+
+-- a fault was counted, or the told contents lack the name; want of memory counts nothing
+abbrev pub LoadCut : ℕ → ℕ → Option Contents → Text → Fault → Type 0
+LoadCut before now told name fault.Read = (before ≤ now) × (Rose before now ⊎ Lacks told name)
+LoadCut before now told name fault.Write = ⊥
+LoadCut before now told name fault.Memory = now ≡ before
+
+abbrev pub LoadCause : {L : Type 0} → ℕ → ℕ → Option Contents → Text → Result L Fault → Type 0
+LoadCause before now told name (Ok l) = now ≡ before
+LoadCause before now told name (Err e) = LoadCut before now told name e

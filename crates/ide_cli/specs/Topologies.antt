@@ -1,0 +1,33 @@
+-- What a topology's bytes come to, and what is written for them.
+use Rattle.std.specs.Prelude.{List, [], ◌++◌, Result, Ok, Err, codes}
+use Rattle.ide_plan.specs.declared.plan.Plan.{Plan}
+use Rattle.toml_walk.specs.declared.fault.PlanFault.{PlanFault}
+use Rattle.topology.specs.Meaning.{plan_of}
+use Rattle.topology.specs.Lines.{fault_line}
+use Rattle.line_runs.specs.declared.ends.End.TheVariants as end
+use Rattle.line_runs.specs.Gain.{Text}
+use Rattle.line_runs.specs.Outcome.{Due}
+use Rattle.ide_cli.specs.declared.topologies.Loaded.{Loaded}
+use Rattle.ide_cli.specs.declared.topologies.Loaded.TheVariants.{Sound, Faulty, Long}
+use Rattle.ide_cli.specs.Loading.{within}
+
+abbrev pub by_plan : Result Plan PlanFault → Loaded
+by_plan (Ok plan) = Sound plan
+by_plan (Err fault) = Faulty fault
+
+-- a plan, the first fault of the bytes, or too many of them
+abbrev pub loaded : Text → Loaded
+loaded bytes = within Long (λ b. by_plan (plan_of b)) bytes
+
+-- the line of a fault
+abbrev pub refusal : PlanFault → Text
+refusal fault = fault_line fault ++ codes "\n"
+
+abbrev pub report : Loaded → Due
+report (Sound plan) = (end.Done, codes "ok\n")
+report (Faulty fault) = (end.Topology, refusal fault)
+report Long = (end.TooLong, [])
+
+-- the end and the text of a topology that is checked
+abbrev pub check_due : Text → Due
+check_due file = report (loaded file)

@@ -1,0 +1,110 @@
+//! A topology that is read and checked.
+
+ghost use Rattle.std.specs.Prelude.{◌≡◌, ◌≢◌, ◌+◌, ◌<◌, ◌≤◌, IfOk, IfErr, length, option_map};
+ghost use Rattle.ide_base.specs.Outside.{Rose};
+ghost use Rattle.line_runs.specs.Front.{Gave};
+ghost use Rattle.line_runs.specs.Gain.{Gained};
+ghost use Rattle.line_runs.specs.Outcome.{Quiet, Ran, RanOn};
+ghost use Rattle.ide_cli.specs.Loading.{LoadCause, Loads};
+ghost use Rattle.ide_cli.specs.Reads.{GaveAtMost};
+ghost use Rattle.ide_cli.specs.Topologies.{check_due, loaded, refusal as refusal_of, report as report_of};
+
+use ide_base::{Shelf, Sink};
+use ide_plan::Plan;
+use ide_types::Memory;
+use line_runs::{End, Fault, Stop, finish, read_front};
+use std::alloc::Global;
+use topology::{PlanError, PlanFault};
+
+/// How many bytes of a topology count (this profile).
+pub(crate) const TOPOLOGY_LIMIT: usize = 1_048_576;
+
+/// What a topology's bytes come to: its plan, its first fault, or too many of them.
+#[derive(Drop)]
+pub(crate) enum Loaded {
+    Sound(Plan),
+    Faulty(PlanFault),
+    Long,
+}
+
+// What the front of a topology comes to, of which one byte more than those that count was read.
+fn judge(alloc: Global, front: &[u8]) -> Result<Loaded, Fault>
+    ensures loaded { IfOk result (λ l. l ≡ loaded front.now) }
+    ensures memory { IfErr result (λ e. e ≡ Fault.Memory) }
+    ensures long { IfOk result (λ l. l ≡ Loaded.Long → 1048576 < length front.now) }
+    ensures few { IfOk result (λ l. l ≢ Loaded.Long → length front.now ≤ 1048576) }
+{
+    if front.len() > TOPOLOGY_LIMIT {
+        return Ok(Loaded::Long);
+    }
+    match topology::read(alloc, front) {
+        Ok(plan) => Ok(Loaded::Sound(plan)),
+        Err(PlanError::Fault(fault)) => Ok(Loaded::Faulty(fault)),
+        Err(PlanError::Memory) => Err(Fault::Memory),
+    }
+}
+
+// Reads a topology.
+fn load<S: Shelf>(alloc: Global, shelf: &mut S, name: &str) -> Result<Loaded, Fault>
+    ensures same { S.contents shelf.new ≡ S.contents shelf.old }
+    ensures loads { Loads loaded (S.contents shelf.old) name.now result }
+    ensures cause { LoadCause (S.faults shelf.old) (S.faults shelf.new) (S.contents shelf.old) name.now result }
+    ensures cap { S.given shelf.new ≤ S.given shelf.old + 1048577 }
+    ensures long { IfOk result (λ l. l ≡ Loaded.Long → Gave (S.given shelf.old) 1048577 (S.given shelf.new)) }
+    ensures few { IfOk result (λ l. l ≢ Loaded.Long → GaveAtMost (S.given shelf.old) 1048576 (S.given shelf.new)) }
+{
+    match read_front(alloc, shelf, name, TOPOLOGY_LIMIT + 1) {
+        Err(Stop::Fault) => Err(Fault::Read),
+        Err(Stop::Memory) => Err(Fault::Memory),
+        Ok(front) => judge(alloc, &front),
+    }
+}
+
+// The line of a fault.
+fn refusal(alloc: Global, fault: &PlanFault) -> Result<Vec<u8>, Memory>
+    ensures { IfOk result (λ line. line.items ≡ refusal_of fault.now) }
+{
+    let mut line = topology::fault_line(alloc, fault)?.into_vec();
+    line.push(b'\n')?;
+    Ok(line)
+}
+
+// Writes what a topology comes to.
+fn report<O: Sink>(alloc: Global, loaded: &Loaded, out: &mut O) -> Result<End, Fault>
+    ensures end { IfOk result (λ e. e ≢ End.Usage) }
+    ensures long { IfOk result (λ e. e ≡ End.TooLong → loaded.now ≡ Loaded.Long) }
+    ensures few { IfOk result (λ e. e ≢ End.TooLong → loaded.now ≢ Loaded.Long) }
+    ensures ran { Ran (report_of loaded.now) ⊥ (Rose (O.faults out.old) (O.faults out.new)) (O.faults out.new ≡ O.faults out.old)
+        (Gained (O.held out.old) (O.held out.new)) result }
+{
+    match loaded {
+        Loaded::Sound(_) => finish(out, End::Done, b"ok\n"),
+        Loaded::Faulty(fault) => match refusal(alloc, fault) {
+            Ok(line) => finish(out, End::Topology, &line),
+            Err(_) => Err(Fault::Memory),
+        },
+        Loaded::Long => Ok(End::TooLong),
+    }
+}
+
+/// `check TOPOLOGY`: whether a topology is a plan, or its first fault.
+pub(crate) fn check_topology<S: Shelf, O: Sink>(
+    alloc: Global,
+    topology: &str,
+    shelf: &mut S,
+    out: &mut O,
+) -> Result<End, Fault>
+    ensures end { IfOk result (λ e. e ≢ End.Usage) }
+    ensures answers { RanOn (S.contents shelf.old) (λ contents. option_map check_due (contents topology.now))
+        (Rose (S.faults shelf.old) (S.faults shelf.new)) (Rose (O.faults out.old) (O.faults out.new))
+        (Quiet (S.faults shelf.old) (S.faults shelf.new) (O.faults out.old) (O.faults out.new))
+        (Gained (O.held out.old) (O.held out.new)) result }
+    ensures cap { S.given shelf.new ≤ S.given shelf.old + 1048577 }
+    ensures too_long { IfOk result (λ e. e ≡ End.TooLong → Gave (S.given shelf.old) 1048577 (S.given shelf.new)) }
+    ensures within { IfOk result (λ e. e ≢ End.TooLong → GaveAtMost (S.given shelf.old) 1048576 (S.given shelf.new)) }
+{
+    match load(alloc, shelf, topology) {
+        Ok(loaded) => report(alloc, &loaded, out),
+        Err(e) => Err(e),
+    }
+}
