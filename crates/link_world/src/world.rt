@@ -22,10 +22,10 @@ use ide_prefix::{Cut, PacketView, cut};
 use ide_types::{Bytes, Items, Memory, SubKind};
 use link_machine::{LinkPacket, first_stands, step_stands};
 use link_script::{Effect, Event, PortName, Side, UnitName, Verdict};
+use one_key::{BUFFER_ROOM, PACKET_ROOM, Rx, Taken, Tx, TxRefusal};
 use starter::Plan;
 use std::alloc::Global;
 use std::marker::Model;
-use one_key::{BUFFER_ROOM, PACKET_ROOM, Rx, Taken, Tx, TxRefusal};
 use tlp_layout::{TlpView, read};
 
 /// The id of the link's only stream.
