@@ -8,7 +8,7 @@ use std::io::ErrorKind;
 use std::process::ExitCode;
 use std::{env, io};
 
-// The words of the command line; none where one of them is no text.
+// The words of the command line; none where one of them is no text, which then ask for nothing.
 fn words(rt: &HostRuntime, alloc: Global) -> Result<Vec<String>, Status> {
     match env::args(rt) {
         Ok(args) => args.collect(alloc).map_err(|_| Status::Memory),
@@ -31,5 +31,5 @@ fn perform(rt: &HostRuntime) -> Status {
 }
 
 fn main(rt: HostRuntime) -> ExitCode {
-    ExitCode::from(perform(&rt) as u8)
+    ExitCode::from(perform(&rt).code())
 }

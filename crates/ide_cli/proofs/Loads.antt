@@ -11,7 +11,7 @@ use Rattle.line_runs.specs.Outcome.{Due, Quiet, RanOn}
 use Rattle.line_runs.specs.declared.ends.Fault.TheVariants as fault
 use Rattle.line_runs.specs.declared.front.Stop.TheVariants as stop
 use Rattle.line_runs.specs.declared.ends.End.{End}
-use Rattle.line_runs.specs.declared.ends.End.TheVariants.{TooLong}
+use Rattle.line_runs.specs.declared.ends.End.TheVariants.{Done, TooLong}
 use Rattle.line_runs.specs.declared.ends.Fault.{Fault}
 use Rattle.line_runs.proofs.WholeFiles.{IsDue, SameDue, stopped}
 use Rattle.ide_cli.specs.declared.command.Loaded.TheVariants.{Sound, Long}
@@ -60,6 +60,22 @@ gave_more (Err f) a b c few more = more
 
 pub sound_is_short : (plan : Plan) → Sound plan ≢ Long
 sound_is_short plan e = cc
+
+most_given : (before most now : ℕ) → GaveAtMost before most now → now ≤ before + most
+most_given before most now gave = omega (arith, gave.1, gave.2.1)
+
+done_is_short : (e : End) → e ≡ Done → e ≢ TooLong
+done_is_short e is bad = cc
+
+-- a topology that is checked to its end has no more bytes than count
+pub checked_whole : {L : Type 0} (long l : L) (r : Result End Fault) (before now : ℕ) → (l ≢ long → GaveAtMost before 1048576 now) → IfOk r (λ e. e ≢ TooLong → l ≢ long) → IfOk r (λ e. e ≡ Done → now ≤ before + 1048576)
+checked_whole long l (Ok e) before now few short = λ is. most_given before 1048576 now (few (short (done_is_short e is)))
+checked_whole long l (Err f) before now few short = short
+
+-- nor has a script that is run to its end, behind such a topology
+pub ran_whole : (r : Result End Fault) (a b c : ℕ) → GaveAtMost a 1048576 b → IfOk r (λ e. e ≡ Done → c ≤ b + 16777216) → IfOk r (λ e. e ≡ Done → c ≤ a + 17825792)
+ran_whole (Ok e) a b c few more = λ is. let behind : c ≤ b + 16777216 = more is in omega (arith, behind, most_given a 1048576 b few)
+ran_whole (Err f) a b c few more = more
 
 -- what is due of what was loaded
 due_in : {L : Type 0} (by : Text → L) (due : L → Due) (file : Option Text) (l : L) → LoadedIn by file l → option_map (λ t. due (by t)) file ≡ Some (due l)

@@ -10,6 +10,13 @@ most_read (Some (run topology script)) = 1048577 + 16777217
 most_read (Some (check topology)) = 1048577
 most_read (Some (show packets)) = 16777217
 
+-- how many bytes count at most
+abbrev pub most_counted : Option Asked → ℕ
+most_counted None = 0
+most_counted (Some (run topology script)) = 1048576 + 16777216
+most_counted (Some (check topology)) = 1048576
+most_counted (Some (show packets)) = 16777216
+
 -- no more than so many bytes were given
 abbrev pub GaveAtMost : ℕ → ℕ → ℕ → Type 0
 GaveAtMost before most now = (n : ℕ) × (n ≤ most) × Gave before n now

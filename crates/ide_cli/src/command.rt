@@ -78,6 +78,7 @@ fn run_script<S: Shelf, O: Sink>(
         (Gained (O.held out.old) (O.held out.new)) result }
     ensures cap { S.given shelf.new ≤ S.given shelf.old + 16777217 }
     ensures too_long { IfOk result (λ e. e ≡ End.TooLong → Gave (S.given shelf.old) 16777217 (S.given shelf.new)) }
+    ensures whole { IfOk result (λ e. e ≡ End.Done → S.given shelf.new ≤ S.given shelf.old + 16777216) }
 {
     match World::make(alloc, plan) {
         Err(_) => Err(Fault::Memory),
@@ -103,6 +104,7 @@ pub(crate) fn run_files<S: Shelf, O: Sink>(
         (Gained (O.held out.old) (O.held out.new)) result }
     ensures cap { S.given shelf.new ≤ S.given shelf.old + 17825794 }
     ensures too_long { IfOk result (λ e. e ≡ End.TooLong → RanPast (S.given shelf.old) (S.given shelf.new)) }
+    ensures whole { IfOk result (λ e. e ≡ End.Done → S.given shelf.new ≤ S.given shelf.old + 17825792) }
 {
     match load(alloc, shelf, topology) {
         Err(e) => Err(e),
@@ -126,6 +128,7 @@ pub(crate) fn show_packets<S: Shelf, O: Sink>(
         (Gained (O.held out.old) (O.held out.new)) result }
     ensures cap { S.given shelf.new ≤ S.given shelf.old + 16777217 }
     ensures too_long { IfOk result (λ e. e ≡ End.TooLong → Gave (S.given shelf.old) 16777217 (S.given shelf.new)) }
+    ensures whole { IfOk result (λ e. e ≡ End.Done → S.given shelf.new ≤ S.given shelf.old + 16777216) }
 {
     let mut work = PacketWork::new(alloc);
     run_file(alloc, &mut work, packets, shelf, out)

@@ -1,5 +1,8 @@
 //! How the program ends.
 
+ghost use Rattle.std.specs.Prelude.{◌≡◌};
+ghost use Rattle.ide_cli.specs.Codes.{code_of};
+
 /// The exit status: 0 where the input was read to its end and every line was written, else why not.
 #[derive(Clone, Copy, Debug, PartialEq, Eq)]
 pub enum Status {
@@ -19,4 +22,13 @@ pub enum Status {
     Memory = 7,
     /// A file goes on behind its limit.
     TooLong = 8,
+}
+
+impl Status {
+    /// The exit code of the program, by this profile's table of statuses.
+    pub fn code(self) -> u8
+        ensures { result ≡ code_of self }
+    {
+        self as u8
+    }
 }

@@ -1,5 +1,6 @@
 //! Worked scripts with their whole text, and each status.
 mod check;
+mod files;
 
 use crate::{Status, run};
 use ide_base::{MemShelf, MemSink, NamedFile, TrueShelf, TrueSink};
@@ -31,15 +32,20 @@ fn add(alloc: Global, files: &mut Vec<NamedFile>, name: &str, bytes: Vec<u8>) ->
     Ok(())
 }
 
-// A file `keys` of 24 keys that count from 0.
-fn keys(alloc: Global) -> Result<Vec<NamedFile>, Fail> {
+// 24 keys that count from 0, one a line.
+fn key_lines(alloc: Global) -> Result<String, Fail> {
     let mut text = String::new(alloc);
     for n in 0..24 {
         let line = format!(in alloc; "{n:064x}\n")?;
         text.push_str(&line)?;
     }
+    Ok(text)
+}
+
+// A file `keys` of them.
+fn keys(alloc: Global) -> Result<Vec<NamedFile>, Fail> {
     let mut files = Vec::new(alloc);
-    add(alloc, &mut files, "keys", text.into_bytes())?;
+    add(alloc, &mut files, "keys", key_lines(alloc)?.into_bytes())?;
     Ok(files)
 }
 

@@ -8,7 +8,7 @@ ghost use Rattle.line_runs.specs.Gain.{Gained};
 ghost use Rattle.line_runs.specs.Outcome.{Quiet, Ran, RanOn};
 ghost use Rattle.ide_cli.specs.Headline.{OfWritten, outcome_of};
 ghost use Rattle.ide_cli.specs.Meaning.{due_of, usage_line};
-ghost use Rattle.ide_cli.specs.Reads.{ReadPast, most_read};
+ghost use Rattle.ide_cli.specs.Reads.{ReadPast, most_counted, most_read};
 
 use crate::command::{run_files, show_packets};
 use crate::status::Status;
@@ -35,6 +35,7 @@ fn perform<S: Shelf, O: Sink>(
         (Gained (O.held out.old) (O.held out.new)) result }
     ensures cap { S.given shelf.new ≤ S.given shelf.old + most_read (asked (map string_bytes words.now)) }
     ensures too_long { IfOk result (λ e. e ≡ End.TooLong → ReadPast (asked (map string_bytes words.now)) (S.given shelf.old) (S.given shelf.new)) }
+    ensures whole { IfOk result (λ e. e ≡ End.Done → S.given shelf.new ≤ S.given shelf.old + most_counted (asked (map string_bytes words.now))) }
 {
     match read_words(alloc, words) {
         Err(WordsError::Usage) => finish(
@@ -88,9 +89,11 @@ pub fn run<S: Shelf, O: Sink>(
         (Quiet (S.faults shelf.old) (S.faults shelf.new) (O.faults out.old) (O.faults out.new))
         (Gained (O.held out.old) (O.held out.new)) (outcome_of result) }
 
-    // Of each file that the words name, one byte more is read than count, and of no other any.
+    // Of each file that the words name, one byte more is read than count, and of no other any. A file is too long
+    // where that byte was given, and a file that was read to its end has no more than count.
     ensures cap { S.given shelf.new ≤ S.given shelf.old + most_read (asked (map string_bytes words.now.items)) }
     ensures too_long { result ≡ Status.TooLong → ReadPast (asked (map string_bytes words.now.items)) (S.given shelf.old) (S.given shelf.new) }
+    ensures whole { result ≡ Status.Done → S.given shelf.new ≤ S.given shelf.old + most_counted (asked (map string_bytes words.now.items)) }
 
     // The laws hold of every history that is written.
     ensures cause_law { OfWritten (S.contents shelf.old) (map string_bytes words.now.items) CauseLaw }

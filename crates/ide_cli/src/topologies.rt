@@ -101,7 +101,7 @@ pub(crate) fn check_topology<S: Shelf, O: Sink>(
         (Gained (O.held out.old) (O.held out.new)) result }
     ensures cap { S.given shelf.new ≤ S.given shelf.old + 1048577 }
     ensures too_long { IfOk result (λ e. e ≡ End.TooLong → Gave (S.given shelf.old) 1048577 (S.given shelf.new)) }
-    ensures within { IfOk result (λ e. e ≢ End.TooLong → GaveAtMost (S.given shelf.old) 1048576 (S.given shelf.new)) }
+    ensures whole { IfOk result (λ e. e ≡ End.Done → S.given shelf.new ≤ S.given shelf.old + 1048576) }
 {
     match load(alloc, shelf, topology) {
         Ok(loaded) => report(alloc, &loaded, out),

@@ -1,11 +1,11 @@
 -- A file that was read, or could not be read, and a part that runs after it.
-use Rattle.std.proofs.Common.{◌≡◌, ◌+◌, ◌<◌, ◌≤◌, true, arith, ℕ, [], Option, Some, None, Result, Ok, Err, refl, sym, ap, inl, inr, option_map, take}
+use Rattle.std.proofs.Common.{◌≡◌, ◌+◌, ◌<◌, ◌≤◌, true, false, arith, ℕ, [], Option, Some, None, Result, Ok, Err, refl, sym, ap, inl, inr, option_map, take}
 use Rattle.std.specs.Prelude.{IfOk, nat_lt}
-use Rattle.std.proofs.lemmas.Bool.{ltb-true}
+use Rattle.std.proofs.lemmas.Bool.{ltb-true, ltb-false}
 use Rattle.std.proofs.lemmas.List.{append-nil}
 use Rattle.ide_base.specs.Outside.{Contents, Rose}
 use Rattle.line_runs.specs.declared.ends.End.{End}
-use Rattle.line_runs.specs.declared.ends.End.TheVariants.{TooLong}
+use Rattle.line_runs.specs.declared.ends.End.TheVariants.{Done, TooLong}
 use Rattle.line_runs.specs.declared.ends.Fault.{Fault}
 use Rattle.line_runs.specs.declared.ends.Fault.TheVariants as fault
 use Rattle.line_runs.specs.declared.front.Stop.{Stop}
@@ -99,6 +99,15 @@ due_front (Some contents) name read most due h same = due_in (contents name) rea
 pub over_long : (r : Result End Fault) (limit n : ℕ) → IfOk r (λ e. e ≡ TooLong → nat_lt limit n ≡ true) → IfOk r (λ e. e ≡ TooLong → limit < n)
 over_long (Ok e) limit n h = λ is. ltb-true limit n (h is)
 over_long (Err f) limit n h = h
+
+pub not_over : (r : Result End Fault) (limit n : ℕ) → IfOk r (λ e. e ≡ Done → nat_lt limit n ≡ false) → IfOk r (λ e. e ≡ Done → n ≤ limit)
+not_over (Ok e) limit n h = λ is. ltb-false limit n (h is)
+not_over (Err f) limit n h = h
+
+-- where the program ends with the file, no more bytes were given than count
+pub given_whole : (r : Result End Fault) (limit n before now : ℕ) → IfOk r (λ e. e ≡ Done → n ≤ limit) → Gave before n now → IfOk r (λ e. e ≡ Done → now ≤ before + limit)
+given_whole (Ok e) limit n before now h gave = λ is. let le : n ≤ limit = h is in omega (arith, le, gave.1)
+given_whole (Err f) limit n before now h gave = h
 
 -- where the program ends at the limit, so many bytes were given
 pub given_long : (r : Result End Fault) (limit n before now : ℕ) → IfOk r (λ e. e ≡ TooLong → limit < n) → Gave before n now → n ≤ limit + 1 → IfOk r (λ e. e ≡ TooLong → Gave before (limit + 1) now)

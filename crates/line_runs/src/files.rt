@@ -40,6 +40,7 @@ fn run_front<O: Sink, W: LineWork>(
     requires fits { W.fits work.old 1 }
     ensures end { IfOk result (λ e. e ≢ End.Usage) }
     ensures over { IfOk result (λ e. e ≡ End.TooLong → 16777216 < length front.now) }
+    ensures whole { IfOk result (λ e. e ≡ End.Done → length front.now ≤ 16777216) }
     ensures ran { Ran (file_due W.advance W.closing work.old front.now) ⊥ (Rose (O.faults out.old) (O.faults out.new)) (O.faults out.new ≡ O.faults out.old)
         (Gained (O.held out.old) (O.held out.new)) result }
 {
@@ -65,6 +66,7 @@ pub fn run_file<S: Shelf, O: Sink, W: LineWork>(
         (Gained (O.held out.old) (O.held out.new)) result }
     ensures cap { S.given shelf.new ≤ S.given shelf.old + 16777217 }
     ensures too_long { IfOk result (λ e. e ≡ End.TooLong → Gave (S.given shelf.old) 16777217 (S.given shelf.new)) }
+    ensures whole { IfOk result (λ e. e ≡ End.Done → S.given shelf.new ≤ S.given shelf.old + 16777216) }
 {
     match read_front(alloc, shelf, name, FILE_LIMIT + 1) {
         Err(Stop::Fault) => Err(Fault::Read),

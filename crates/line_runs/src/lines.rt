@@ -1,5 +1,5 @@
 //! The lines of a file, one after another.
-ghost use Rattle.std.specs.Prelude.{◌≡◌, ◌≢◌, ◌∷◌, [], ◌+◌, ◌<◌, ◌^◌, ℕ, List, Result, IfOk, OnOk, length, true};
+ghost use Rattle.std.specs.Prelude.{◌≡◌, ◌≢◌, ◌∷◌, [], ◌+◌, ◌<◌, ◌^◌, ℕ, List, Result, IfOk, OnOk, length, true, false};
 ghost use Rattle.ide_base.specs.Outside.{Rose};
 ghost use Rattle.text_lines.specs.Pieces.{pieces};
 ghost use Rattle.link_script.specs.declared.fault.LineFault.{LineFault};
@@ -59,6 +59,7 @@ fn refuse<O: Sink>(alloc: Global, number: u64, fault: LineFault, out: &mut O) ->
 // Ends where the bytes that count do.
 fn end_unended<O: Sink>(alloc: Global, number: u64, piece: &[u8], out: &mut O) -> Result<End, Fault>
     ensures end { IfOk result (λ e. e ≢ End.Usage) }
+    ensures cut { IfOk result (λ e. e ≢ End.Done) }
     ensures ran { Ran (unended number piece.now) ⊥ (Rose (O.faults out.old) (O.faults out.new)) (O.faults out.new ≡ O.faults out.old)
         (Gained (O.held out.old) (O.held out.new)) result }
 {
@@ -93,6 +94,7 @@ fn run_last<O: Sink, W: LineWork>(
     requires fits { W.fits work.old number }
     ensures end { IfOk result (λ e. e ≢ End.Usage) }
     ensures over { IfOk result (λ e. e ≡ End.TooLong → over ≡ true) }
+    ensures whole { IfOk result (λ e. e ≡ End.Done → over ≡ false) }
     ensures ran { Ran (process W.advance W.closing over number work.old (piece.now ∷ [])) ⊥ (Rose (O.faults out.old) (O.faults out.new))
         (O.faults out.new ≡ O.faults out.old) (Gained (O.held out.old) (O.held out.new)) result }
 {
@@ -124,6 +126,7 @@ pub fn run_lines<O: Sink, W: LineWork>(
     requires fits { W.fits work.old 1 }
     ensures end { IfOk result (λ e. e ≢ End.Usage) }
     ensures over { IfOk result (λ e. e ≡ End.TooLong → over ≡ true) }
+    ensures whole { IfOk result (λ e. e ≡ End.Done → over ≡ false) }
     ensures ran { Ran (process W.advance W.closing over 1 work.old (pieces bytes.now)) ⊥ (Rose (O.faults out.old) (O.faults out.new))
         (O.faults out.new ≡ O.faults out.old) (Gained (O.held out.old) (O.held out.new)) result }
 {

@@ -1,15 +1,10 @@
 //! Bytes are cut at their line feeds.
 #![tactic(auto)]
 
-ghost use Rattle.std.specs.Prelude.{◌≡◌, ◌+◌, ◌==◌, ◌∷◌, [], MatchOption, IfSome, length, position};
+ghost use Rattle.std.specs.Prelude.{◌≡◌, ◌+◌, ◌∷◌, [], MatchOption, IfSome, length};
 ghost use Rattle.text_lines.specs.Pieces.{pieces};
 
-// The place of the first line feed.
-fn line_end(bytes: &[u8]) -> Option<usize>
-    ensures { result ≡ position (λ b. b == 10) bytes.now }
-{
-    bytes.iter().position(|b| *b == b'\n')
-}
+use memchr::memchr;
 
 /// The bytes ahead of the first line feed and those behind it; nothing where there is no line feed.
 #[tactic(auto, using(crate::proofs::Cuts::line_at, crate::proofs::Cuts::no_line, crate::proofs::Cuts::within))]
@@ -17,7 +12,7 @@ pub fn split_line(bytes: &[u8]) -> Option<(&[u8], &[u8])>
     ensures pieces { MatchOption result (pieces bytes.now ≡ bytes.now ∷ []) (λ p. pieces bytes.now ≡ p.0.now ∷ pieces p.1.now) }
     ensures shorter { IfSome result (λ p. length p.0.now + 1 + length p.1.now ≡ length bytes.now) }
 {
-    match line_end(bytes) {
+    match memchr(b'\n', bytes) {
         Some(end) => {
             let (line, _) = bytes.split_at(end);
             let (_, rest) = bytes.split_at(end + 1);

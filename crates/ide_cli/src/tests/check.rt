@@ -1,5 +1,5 @@
 //! Topologies that are checked.
-use super::{add, words_of};
+use crate::tests::{add, words_of};
 use crate::{Status, run};
 use ide_base::{MemShelf, MemSink, TrueShelf, TrueSink};
 use std::alloc::Global;

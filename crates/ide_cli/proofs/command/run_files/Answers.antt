@@ -2,7 +2,7 @@ use Rattle.std.proofs.Common.{option_map, refl}
 use Rattle.line_runs.proofs.WholeFiles.{redue}
 use Rattle.ide_cli.specs.Script.{script_due}
 use Rattle.ide_cli.specs.Meaning.{run_due}
-use Rattle.ide_cli.proofs.Loads.{cut_by_load, gave_more, later, run_after, sound_is_short}
+use Rattle.ide_cli.proofs.Loads.{cut_by_load, gave_more, later, ran_whole, run_after, sound_is_short}
 use Rattle.ide_cli.proofs.command.run_files.Goals as goal
 
 pub returns-in-Err-clause-answers : goal.returns-in-Err-clause-answers
@@ -21,3 +21,8 @@ pub returns-in-Ok-Sound-clause-too_long : goal.returns-in-Ok-Sound-clause-too_lo
 returns-in-Ok-Sound-clause-too_long g c =
     let few = rw c.in-Ok-Sound.field-0-is at c.in-Ok-Sound.ensures.few in
     gave_more c.run_script.result _ _ _ (few (sound_is_short c.in-Ok-Sound.plan)) c.run_script.ensures.too_long
+
+pub returns-in-Ok-Sound-clause-whole : goal.returns-in-Ok-Sound-clause-whole
+returns-in-Ok-Sound-clause-whole g c =
+    let few = rw c.in-Ok-Sound.field-0-is at c.in-Ok-Sound.ensures.few in
+    ran_whole c.run_script.result _ _ _ (few (sound_is_short c.in-Ok-Sound.plan)) c.run_script.ensures.whole

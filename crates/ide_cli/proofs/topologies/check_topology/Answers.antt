@@ -1,7 +1,8 @@
 use Rattle.std.proofs.Common.{option_map, ap}
 use Rattle.line_runs.proofs.WholeFiles.{ran_after}
+use Rattle.ide_cli.specs.declared.topologies.Loaded.TheVariants.{Long}
 use Rattle.ide_cli.specs.Topologies.{check_due, loaded, report}
-use Rattle.ide_cli.proofs.Loads.{cut_by_load, due_loaded}
+use Rattle.ide_cli.proofs.Loads.{checked_whole, cut_by_load, due_loaded}
 use Rattle.ide_cli.proofs.topologies.check_topology.Goals as goal
 
 pub returns-in-Err-clause-answers : goal.returns-in-Err-clause-answers
@@ -14,3 +15,6 @@ returns-in-Ok-clause-answers g c =
     let told = g.S.Shelf.contents c.args.shelf.now in
     let is = due_loaded loaded report told c.args.topology.now c.in-Ok.loaded c.in-Ok.ensures.loads in
     ran_after told (λ contents. option_map check_due (contents c.args.topology.now)) (report c.in-Ok.loaded) _ _ _ _ _ c.report.result is c.in-Ok.ensures.cause c.report.ensures.ran
+
+pub returns-in-Ok-clause-whole : goal.returns-in-Ok-clause-whole
+returns-in-Ok-clause-whole g c = checked_whole Long c.in-Ok.loaded c.report.result _ _ c.in-Ok.ensures.few c.report.ensures.few

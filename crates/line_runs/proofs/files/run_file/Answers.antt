@@ -1,13 +1,13 @@
-use Rattle.std.proofs.Common.{◌≡◌, ◌+◌, ◌<◌, ◌∙◌, option_map, ap, length, subst}
+use Rattle.std.proofs.Common.{◌≡◌, ◌+◌, ◌<◌, ◌≤◌, ◌∙◌, option_map, ap, length, subst}
 use Rattle.std.specs.Prelude.{IfOk}
 use Rattle.ide_base.specs.Outside.{Rose}
-use Rattle.line_runs.specs.declared.ends.End.TheVariants.{TooLong}
+use Rattle.line_runs.specs.declared.ends.End.TheVariants.{Done, TooLong}
 use Rattle.line_runs.specs.declared.front.Stop.TheVariants as stop
 use Rattle.line_runs.specs.Gain.{Gained, Text}
 use Rattle.line_runs.specs.Outcome.{Ran}
 use Rattle.line_runs.specs.Lines.{file_due, file_limit}
 use Rattle.line_runs.proofs.Cuttings.{front_due}
-use Rattle.line_runs.proofs.WholeFiles.{due_front, given_long, ran_after, stopped}
+use Rattle.line_runs.proofs.WholeFiles.{due_front, given_long, given_whole, ran_after, stopped}
 use Rattle.line_runs.proofs.files.run_file.Goals as goal
 
 pub returns-in-Err-Fault-clause-answers : goal.returns-in-Err-Fault-clause-answers
@@ -36,3 +36,8 @@ pub returns-in-Ok-clause-too_long : goal.returns-in-Ok-clause-too_long
 returns-in-Ok-clause-too_long g c =
     let P : Text → Type 0 = λ t. IfOk c.run_front.result (λ e. e ≡ TooLong → 16777216 < length t) in
     given_long c.run_front.result 16777216 _ _ _ (subst P c.deref.ensures.value c.run_front.ensures.over) c.in-Ok.ensures.given c.in-Ok.ensures.length
+
+pub returns-in-Ok-clause-whole : goal.returns-in-Ok-clause-whole
+returns-in-Ok-clause-whole g c =
+    let P : Text → Type 0 = λ t. IfOk c.run_front.result (λ e. e ≡ Done → length t ≤ 16777216) in
+    given_whole c.run_front.result 16777216 _ _ _ (subst P c.deref.ensures.value c.run_front.ensures.whole) c.in-Ok.ensures.given
