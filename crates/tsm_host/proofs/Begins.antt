@@ -1,13 +1,13 @@
 -- What the manager's `begin` makes of the stream that it finds.
-use Rattle.std.proofs.Common.{◌≡◌, ℕ, List, get_or, Option, Some, None, Result, refl, ap, sym, ◌∙◌, arith}
-use Rattle.std.specs.Prelude.{slice_set, slice_get, position}
+use Rattle.std.proofs.Common.{◌≡◌, ℕ, suc, zero, ◌<◌, true, length, [], ◌∷◌, List, get_or, Option, Some, None, Result, refl, ap, sym, ◌∙◌, arith}
+use Rattle.std.specs.Prelude.{slice_set, slice_get, position, is_some}
 use Rattle.std.proofs.lemmas.List.{set-get_or}
 use Rattle.std.proofs.lemmas.List.Quantifiers.{position-Some}
 use Rattle.link_verdicts.specs.declared.verdict.Operation.{Operation}
 use Rattle.key_slots.specs.{Pool}
 use Rattle.key_laws.specs.Operations.{work_of}
 use Rattle.tsm_host.specs.declared.operation.Refusal.{Refusal}
-use Rattle.tsm_host.specs.Streams.{StreamView, HostView, is_named, unless, ok_unless, refusal_of, begun_stream}
+use Rattle.tsm_host.specs.Streams.{StreamView, new_stream, HostView, is_named, unless, ok_unless, refusal_of, begun_stream}
 use Rattle.tsm_host.specs.Managers.{ManagerView, Named, named, named_at, named_in, place_of, asking_begun, begun}
 use Rattle.tsm_host.proofs.Lists.{get_at}
 
@@ -39,3 +39,19 @@ pub begun_by : (streams : List StreamView) (asking : Option ℕ) (m : ManagerVie
     → (let kept : ManagerView = record { streams = slice_set streams place new; asking = asked } in kept) ≡ begun m operation host pool (named_as place s)
 begun_by streams asking m place s new host pool o operation answer asked view is same stream result next =
     rw (← same) (begun_as streams asking m place s new (begun_stream (work_of o s.op pool.draws) pool s) (refusal_of o s.op host pool) answer asked view is stream result next)
+
+-- a place that was found has a stream
+within : (xs : List StreamView) (i : ℕ) → i < length xs → is_some (slice_get xs i) ≡ true
+within [] i lt = absurd (omega arith)
+within (x ∷ xs) zero lt = refl
+within (x ∷ xs) (suc i) lt = within xs i (omega arith)
+
+some_at : (place : ℕ) (s : Option StreamView) → is_some (named_at place s) ≡ is_some s
+some_at place None = refl
+some_at place (Some s) = refl
+
+pub has_place : (m : ManagerView) (link id : ℕ) (place : Option ℕ) → place_of m link id ≡ place → is_some (named m link id) ≡ is_some place
+has_place m link id None at = ap (λ x. is_some (named_in m.streams x)) at
+has_place m link id (Some place) at =
+    let lt = (position-Some (is_named link id) m.streams place (new_stream 0 0) at).0 in
+    ap (λ x. is_some (named_in m.streams x)) at ∙ some_at place (slice_get m.streams place) ∙ within m.streams place lt

@@ -4,3 +4,4 @@ pub mod Judging
 pub mod Local
 pub mod Streams
 pub mod Managers
+pub mod OnePort

@@ -11,18 +11,9 @@ use link_verdicts::Operation;
 #[derive(Clone, Copy, Debug, PartialEq, Eq)]
 pub enum Exchange {
     Query,
-    Program {
-        set: bool,
-        lane: u8,
-    },
-    Go {
-        set: bool,
-        lane: u8,
-    },
-    Stop {
-        set: bool,
-        lane: u8,
-    },
+    Program { set: bool, lane: u8 },
+    Go { set: bool, lane: u8 },
+    Stop { set: bool, lane: u8 },
 }
 
 /// The number of a key set.

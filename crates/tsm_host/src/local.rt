@@ -10,15 +10,7 @@ use ide_km::SlotPort;
 use key_slots::{HostSix, Key};
 
 // One call, whose answer is not needed.
-fn program<P: SlotPort>(
-    port: &mut P,
-    stream: u8,
-    set: bool,
-    dir: u8,
-    sub: u8,
-    key: Key,
-    draw: u32,
-)
+fn program<P: SlotPort>(port: &mut P, stream: u8, set: bool, dir: u8, sub: u8, key: Key, draw: u32)
     requires { dir < 2 }
     ensures { CallMoves P.slots P.unfinished P.moves port.old (AskProgram (place_at stream dir sub) (set_number set) key draw) port.new }
 {

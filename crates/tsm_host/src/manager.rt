@@ -72,7 +72,7 @@ impl Manager {
 
     /// Whether the link has the stream.
     pub fn has_stream(&self, link: u8, stream: u8) -> bool
-        ensures { result ≡ is_some (place_of self.now link stream) }
+        ensures { result ≡ is_some (named self.now link stream) }
     {
         self.place(link, stream).is_some()
     }
@@ -193,11 +193,7 @@ impl Manager {
 }
 
 // The place of the stream that is asked, behind a `begin`.
-fn asking_begun(
-    asking: Option<usize>,
-    place: usize,
-    answer: Result<(), Refusal>,
-) -> Option<usize>
+fn asking_begun(asking: Option<usize>, place: usize, answer: Result<(), Refusal>) -> Option<usize>
     ensures { result ≡ asking_begun asking place answer }
 {
     match answer {

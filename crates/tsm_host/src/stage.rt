@@ -210,7 +210,10 @@ impl Stage {
                 exchange: *next,
             }),
             Stage::Refreshing {
-                set, draw, next, ..
+                set,
+                draw,
+                next,
+                ..
             } => Some(Asked {
                 operation: Operation::Refresh,
                 set: *set,
