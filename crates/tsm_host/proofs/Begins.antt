@@ -1,6 +1,6 @@
 -- What the manager's `begin` makes of the stream that it finds.
-use Rattle.std.proofs.Common.{◌≡◌, ℕ, suc, zero, ◌<◌, true, length, [], ◌∷◌, List, get_or, Option, Some, None, Result, refl, ap, sym, ◌∙◌, arith}
-use Rattle.std.specs.Prelude.{slice_set, slice_get, position, is_some}
+use Rattle.std.proofs.Common.{◌≡◌, ℕ, suc, zero, ◌<◌, true, length, [], ◌∷◌, List, get_or, Option, Some, None, Result, refl, ap, ◌∙◌, arith}
+use Rattle.std.specs.Prelude.{slice_set, slice_get, is_some}
 use Rattle.std.proofs.lemmas.List.{set-get_or}
 use Rattle.std.proofs.lemmas.List.Quantifiers.{position-Some}
 use Rattle.link_verdicts.specs.declared.verdict.Operation.{Operation}

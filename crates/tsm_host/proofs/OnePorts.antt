@@ -2,9 +2,9 @@
 use Rattle.std.proofs.Common.{◌≡◌, ◌≢◌, ℕ, suc, zero, ◌+◌, ◌*◌, ◌<◌, Bool, true, false, List, [], ◌∷◌, length, get_or, Option, Some, None, refl, ap, sym, ◌∙◌, subst, arith}
 use Rattle.std.specs.Prelude.{slice_set, slice_get, nat_lt, ◌&&◌, ◌==◌, if◌then◌else◌}
 use Rattle.std.specs.Option.{option_and_then, option_map}
-use Rattle.key_laws.proofs.Tests.{true-same, same-true, different-false, true-lt, lt-true}
+use Rattle.key_laws.proofs.Tests.{true-same, same-true, true-lt, lt-true}
 use Rattle.key_slots.specs.{SlotPair}
-use Rattle.ide_km.specs.{Place, place_at, PortCall, called_place, slots_by, is_place, slots_at, SlotsAfter, shown_at, Shown}
+use Rattle.ide_km.specs.{Place, place_at, PortCall, called_place, slots_by, is_place, slots_at, SlotsAfter, shown_at}
 use Rattle.tsm_host.specs.OnePort.{lane_at, shown_in}
 use Rattle.tsm_host.proofs.Lists.{get_at}
 

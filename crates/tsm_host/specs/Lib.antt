@@ -4,4 +4,5 @@ pub mod Judging
 pub mod Local
 pub mod Streams
 pub mod Managers
+pub mod Walk
 pub mod OnePort

@@ -1,14 +1,13 @@
 -- What the manager keeps of all streams, and what each call makes of it (this profile).
-use Rattle.std.specs.Prelude.{ℕ, ◌+◌, ◌==◌, Bool, true, false, if◌then◌else◌, Option, Some, None, List, [], ◌∷◌, ◌++◌, map, Result, Ok, Err, position, slice_get, slice_set}
+use Rattle.std.specs.Prelude.{ℕ, ◌+◌, Option, Some, None, List, [], ◌∷◌, ◌++◌, map, Result, Ok, Err, position, slice_get, slice_set}
 use Rattle.ide_plan.specs.declared.plan.LinkPlan.{LinkPlan}
 use Rattle.ide_plan.specs.declared.stream.StreamPlan.{StreamPlan}
-use Rattle.ide_km.specs.{spelling}
 use Rattle.key_slots.specs.{Pool}
 use Rattle.link_verdicts.specs.declared.verdict.Operation.{Operation}
 use Rattle.key_laws.specs.Operations.{Op, Work, work_of}
 use Rattle.tsm_host.specs.declared.operation.Carried.{Carried}
 use Rattle.tsm_host.specs.declared.operation.Outcome.{Outcome}
-use Rattle.tsm_host.specs.declared.operation.Outcome.TheVariants.{Next, Done, Refused}
+use Rattle.tsm_host.specs.declared.operation.Outcome.TheVariants.{Next}
 use Rattle.tsm_host.specs.declared.operation.Refusal.{Refusal}
 use Rattle.tsm_host.specs.declared.stage.Asked.{Asked}
 use Rattle.tsm_host.specs.Judging.{judged}

@@ -1,5 +1,5 @@
 -- What the manager keeps of a stream, and what each call makes of it (this profile).
-use Rattle.std.specs.Prelude.{ℕ, ◌≡◌, ◌+◌, ◌<◌, ◌≤◌, ◌==◌, nat_lt, Bool, true, false, not, ◌&&◌, if◌then◌else◌, IsSome, Option, Some, None, List, [], Result, Ok, Err, slice_index_or, slice_set}
+use Rattle.std.specs.Prelude.{ℕ, ◌+◌, ◌<◌, ◌≤◌, ◌==◌, nat_lt, Bool, false, not, ◌&&◌, if◌then◌else◌, IsSome, Option, Some, None, List, [], Result, Ok, Err, slice_set}
 use Rattle.ide_types.specs.declared.sub.SubKind.{SubKind}
 use Rattle.ide_types.specs.declared.sub.SubKind.TheVariants.{Pr, Npr, Cpl}
 use Rattle.ide_types.specs.declared.status.StreamStatus.{StreamStatus}

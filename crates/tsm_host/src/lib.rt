@@ -7,6 +7,7 @@
 
 mod exchange;
 mod judge;
+mod laws;
 mod local;
 mod manager;
 mod operation;
@@ -16,6 +17,7 @@ mod stream;
 #[cfg(test)]
 mod tests;
 
+pub use laws::walks_are_due;
 pub use link_verdicts::Operation;
 pub use manager::Manager;
 pub use operation::{Carried, Op, Outcome, Refusal, Shown};

@@ -1,5 +1,4 @@
 use Rattle.std.proofs.Common.{◌≡◌, ℕ, List, refl, ap}
-use Rattle.tsm_host.specs.Local.{key_in}
 use Rattle.tsm_host.proofs.local.program_six.Goals as goal
 
 -- six keys, each by its place

@@ -1,4 +1,4 @@
-use Rattle.std.proofs.Common.{◌≡◌, Some, arith, sym, ◌∙◌, get_or}
+use Rattle.std.proofs.Common.{◌≡◌, Some, sym, ◌∙◌, get_or}
 use Rattle.tsm_host.specs.Operations.{op_name}
 use Rattle.tsm_host.specs.Managers.{place_of}
 use Rattle.tsm_host.proofs.Begins.{found, begun_by}

@@ -1,4 +1,4 @@
-use Rattle.std.proofs.Common.{◌≡◌, ℕ, true, false, [], Option, List, refl, not, sym, arith}
+use Rattle.std.proofs.Common.{◌≡◌, ℕ, true, [], refl}
 use Rattle.link_verdicts.specs.declared.verdict.Operation.TheVariants as op
 use Rattle.key_slots.specs.{Pool}
 use Rattle.key_laws.specs.Operations.{Op, Idle, Establishing, Up, Refreshing, Stopping, work_of}
