@@ -1,0 +1,49 @@
+-- What the manager makes of a reply (this profile).
+use Rattle.std.specs.Prelude.{ℕ, ◌==◌, Bool, false, ◌&&◌, if◌then◌else◌, Some, None, Result, Ok, Err}
+use Rattle.ide_km.specs.declared.object.KmView.{KmView}
+use Rattle.ide_km.specs.declared.object.KmView.TheVariants.{Query, QueryResp, KeyProg, KpAck, SetGo, SetStop, GoStopAck}
+use Rattle.ide_km.specs.declared.object.KmFault.{KmFault}
+use Rattle.ide_km.specs.{reading}
+use Rattle.tsm_host.specs.declared.judge.Judged.{Judged}
+use Rattle.tsm_host.specs.declared.judge.Judged.TheVariants.{Expected, Lost, Refused, Bad}
+use Rattle.tsm_host.specs.declared.operation.Carried.{Carried}
+use Rattle.tsm_host.specs.declared.operation.Carried.TheVariants as carried
+
+abbrev pub gives_back : ℕ → ℕ → ℕ → ℕ → ℕ → ℕ → Bool
+gives_back stream selector port s x p = ((s == stream) && (x == selector)) && (p == port)
+
+abbrev pub is_description : ℕ → KmView → Bool
+is_description port (QueryResp p device_function bus segment highest) = p == port
+is_description port reply = false
+
+abbrev pub is_key_acknowledgement : ℕ → ℕ → ℕ → KmView → Bool
+is_key_acknowledgement stream selector port (KpAck s status x p) = gives_back stream selector port s x p && (status == 0)
+is_key_acknowledgement stream selector port reply = false
+
+abbrev pub is_acknowledgement : ℕ → ℕ → ℕ → KmView → Bool
+is_acknowledgement stream selector port (GoStopAck s x p) = gives_back stream selector port s x p
+is_acknowledgement stream selector port reply = false
+
+-- the reply that is paired with the request, which gives back its stream, selector and port index; of a KEY_PROG with
+-- status 0
+abbrev pub is_expected : KmView → KmView → Bool
+is_expected (Query port) reply = is_description port reply
+is_expected (KeyProg stream selector port key counter) reply = is_key_acknowledgement stream selector port reply
+is_expected (SetGo stream selector port) reply = is_acknowledgement stream selector port reply
+is_expected (SetStop stream selector port) reply = is_acknowledgement stream selector port reply
+is_expected request reply = false
+
+-- a KP_ACK with another status than 0 is a refusal, any other reply is none
+abbrev pub refusal_in : KmView → Judged
+refusal_in (KpAck s status x p) = if status == 0 then Bad else Refused status
+refusal_in reply = Bad
+
+abbrev pub judged_reply : KmView → Result KmView KmFault → Judged
+judged_reply request (Err fault) = Bad
+judged_reply request (Ok reply) = if is_expected request reply then Expected else refusal_in reply
+
+-- no reply of the device is a bad one
+abbrev pub judged : KmView → Carried → Judged
+judged request carried.Lost = Lost
+judged request (carried.Reply None) = Bad
+judged request (carried.Reply (Some bytes)) = judged_reply request (reading bytes.now)

@@ -1,0 +1,58 @@
+-- Local calls of the host's port, one after another.
+use Rattle.std.specs.Prelude.{ℕ, ◌≡◌, Bool, false, true, List, [], ◌∷◌, ◌++◌, slice_index_or}
+use Rattle.ide_km.specs.{Place, place_at, PortCall, Program, Go, Halt, Shown, program_answer, go_answer, halt_answer, SlotsAfter}
+use Rattle.tsm_host.specs.Exchanges.{set_number}
+
+-- a call without its answer
+pub data Request : Type 0 where
+  AskProgram : Place → ℕ → List ℕ → ℕ → Request
+  AskGo : Place → ℕ → Request
+  AskHalt : Place → ℕ → Request
+
+-- the call with the answer that a port gives which shows these slots
+abbrev pub answered : Shown → Request → PortCall
+answered shown (AskProgram place set key draw) = Program place set key draw (program_answer shown place set key)
+answered shown (AskGo place set) = Go place set (go_answer shown place set)
+answered shown (AskHalt place set) = Halt place set (halt_answer shown place)
+
+-- one call: the port moves by its own relation, and its slots by the call
+pub record CallMoves {Port : Type 0} (slots : Port → Shown) (unfinished : Port → Place → Bool) (moves : Port → PortCall → Port → Type 0) (before : Port) (request : Request) (after : Port) : Type 0 where
+  pub moved : moves before (answered (slots before) request) after
+  pub kept : SlotsAfter (slots before) (unfinished before) (answered (slots before) request) (slots after)
+
+-- the calls of a list, in order; with none the port is as before
+abbrev pub CallsMove : {Port : Type 0} → (Port → Shown) → (Port → Place → Bool) → (Port → PortCall → Port → Type 0) → Port → List Request → Port → Type 0
+CallsMove slots unfinished moves before [] after = after ≡ before
+CallsMove {Port} slots unfinished moves before (request ∷ more) after =
+    (next : Port) × (CallMoves slots unfinished moves before request next) × (CallsMove slots unfinished moves next more after)
+
+-- ---- what the operations ask
+
+-- a key of six by lane
+abbrev pub key_in : List (List ℕ) → ℕ → List ℕ
+key_in keys lane = slice_index_or keys lane []
+
+-- the six slots of a set, by lane: what the device receives, and then what it sends
+abbrev pub programs : ℕ → Bool → List (List ℕ) → ℕ → List Request
+programs stream set keys draw =
+    AskProgram (place_at stream 0 0) (set_number set) (key_in keys 0) draw
+    ∷ AskProgram (place_at stream 0 1) (set_number set) (key_in keys 1) draw
+    ∷ AskProgram (place_at stream 0 2) (set_number set) (key_in keys 2) draw
+    ∷ AskProgram (place_at stream 1 0) (set_number set) (key_in keys 3) draw
+    ∷ AskProgram (place_at stream 1 1) (set_number set) (key_in keys 4) draw
+    ∷ AskProgram (place_at stream 1 2) (set_number set) (key_in keys 5) draw ∷ []
+
+-- the host's receivers, which take direction 1, and then its senders
+abbrev pub goes : ℕ → Bool → List Request
+goes stream set =
+    AskGo (place_at stream 1 0) (set_number set) ∷ AskGo (place_at stream 1 1) (set_number set) ∷ AskGo (place_at stream 1 2) (set_number set)
+    ∷ AskGo (place_at stream 0 0) (set_number set) ∷ AskGo (place_at stream 0 1) (set_number set) ∷ AskGo (place_at stream 0 2) (set_number set) ∷ []
+
+abbrev pub halts_in : ℕ → Bool → List Request
+halts_in stream set =
+    AskHalt (place_at stream 0 0) (set_number set) ∷ AskHalt (place_at stream 0 1) (set_number set) ∷ AskHalt (place_at stream 0 2) (set_number set)
+    ∷ AskHalt (place_at stream 1 0) (set_number set) ∷ AskHalt (place_at stream 1 1) (set_number set) ∷ AskHalt (place_at stream 1 2) (set_number set) ∷ []
+
+-- all slots of a stream
+abbrev pub halts : ℕ → List Request
+halts stream = halts_in stream false ++ halts_in stream true

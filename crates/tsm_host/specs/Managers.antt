@@ -1,0 +1,140 @@
+-- What the manager keeps of all streams, and what each call makes of it (this profile).
+use Rattle.std.specs.Prelude.{ℕ, ◌+◌, Option, Some, None, List, [], ◌∷◌, ◌++◌, map, Result, Ok, Err, position, slice_get, slice_set}
+use Rattle.ide_plan.specs.declared.plan.LinkPlan.{LinkPlan}
+use Rattle.ide_plan.specs.declared.stream.StreamPlan.{StreamPlan}
+use Rattle.key_slots.specs.{Pool}
+use Rattle.link_verdicts.specs.declared.verdict.Operation.{Operation}
+use Rattle.key_laws.specs.Operations.{Op, Work, work_of}
+use Rattle.tsm_host.specs.declared.operation.Carried.{Carried}
+use Rattle.tsm_host.specs.declared.operation.Outcome.{Outcome}
+use Rattle.tsm_host.specs.declared.operation.Outcome.TheVariants.{Next}
+use Rattle.tsm_host.specs.declared.operation.Refusal.{Refusal}
+use Rattle.tsm_host.specs.declared.stage.Asked.{Asked}
+use Rattle.tsm_host.specs.Judging.{judged}
+use Rattle.tsm_host.specs.Local.{Request}
+use Rattle.tsm_host.specs.Streams.{StreamView, new_stream, is_named, reset_stream, asked_in, request_asked, HostView, refusal_of, unless, begun_stream, begun_pool, begun_calls, outcome_of, taken_stream, taken_calls}
+
+-- The streams of all links, in the order of the links and of each link's streams, and the place of the one whose
+-- exchange is to be asked and taken.
+pub record ManagerView : Type 0 where
+  pub streams : List StreamView
+  pub asking : Option ℕ
+
+-- ---- make
+
+abbrev pub new_streams : ℕ → List StreamPlan → List StreamView
+new_streams link streams = map (λ s. new_stream link s.id) streams
+
+-- of the links from this number on
+abbrev pub streams_from : ℕ → List LinkPlan → List StreamView
+streams_from link [] = []
+streams_from link (l ∷ ls) = new_streams link l.streams ++ streams_from (link + 1) ls
+
+abbrev pub new_manager : List LinkPlan → ManagerView
+new_manager links = record { streams = streams_from 0 links; asking = None }
+
+-- ---- streams by name
+
+abbrev pub place_of : ManagerView → ℕ → ℕ → Option ℕ
+place_of m link id = position (is_named link id) m.streams
+
+-- a stream and its place
+pub record Named : Type 0 where
+  pub place : ℕ
+  pub stream : StreamView
+
+abbrev pub named_at : ℕ → Option StreamView → Option Named
+named_at place None = None
+named_at place (Some s) = Some (record { place = place; stream = s })
+
+abbrev pub named_in : List StreamView → Option ℕ → Option Named
+named_in streams None = None
+named_in streams (Some place) = named_at place (slice_get streams place)
+
+abbrev pub named : ManagerView → ℕ → ℕ → Option Named
+named m link id = named_in m.streams (place_of m link id)
+
+abbrev pub op_named : Option Named → Option Op
+op_named None = None
+op_named (Some n) = Some n.stream.op
+
+-- the state of the operations of a stream that its link has
+abbrev pub op_at : ManagerView → ℕ → ℕ → Option Op
+op_at m link id = op_named (named m link id)
+
+-- ---- the stream whose exchange is to be asked and taken
+
+pub record Current : Type 0 where
+  pub place : ℕ
+  pub stream : StreamView
+  pub asked : Asked
+
+abbrev pub current_asked : ℕ → StreamView → Option Asked → Option Current
+current_asked place s None = None
+current_asked place s (Some a) = Some (record { place = place; stream = s; asked = a })
+
+abbrev pub current_at : ℕ → Option StreamView → Option Current
+current_at place None = None
+current_at place (Some s) = current_asked place s (asked_in s.op)
+
+abbrev pub current_in : List StreamView → Option ℕ → Option Current
+current_in streams None = None
+current_in streams (Some place) = current_at place (slice_get streams place)
+
+abbrev pub current : ManagerView → Option Current
+current m = current_in m.streams m.asking
+
+abbrev pub asked_of : Option Current → Option Asked
+asked_of None = None
+asked_of (Some c) = Some c.asked
+
+-- ---- begin
+
+abbrev pub begin_refusal : Operation → HostView → Pool → Named → Option Refusal
+begin_refusal operation host pool n = refusal_of operation n.stream.op host pool
+
+abbrev pub begin_work : Operation → Pool → Named → Work
+begin_work operation pool n = work_of operation n.stream.op pool.draws
+
+-- the stream is asked where the operation begins or goes on; a refusal changes nothing
+abbrev pub begun : ManagerView → Operation → HostView → Pool → Named → ManagerView
+begun m operation host pool n =
+    unless (begin_refusal operation host pool n) m
+    (record { streams = slice_set m.streams n.place (begun_stream (begin_work operation pool n) pool n.stream); asking = Some n.place })
+
+abbrev pub pool_begun : Operation → HostView → Pool → Named → Pool
+pool_begun operation host pool n =
+    unless (begin_refusal operation host pool n) pool (begun_pool (begin_work operation pool n) pool)
+
+abbrev pub calls_begun : Operation → HostView → Pool → Named → List Request
+calls_begun operation host pool n =
+    unless (begin_refusal operation host pool n) [] (begun_calls (begin_work operation pool n) pool n.stream.id)
+
+abbrev pub asking_begun : Option ℕ → ℕ → Result (Unit {0}) Refusal → Option ℕ
+asking_begun asking place (Ok done) = Some place
+asking_begun asking place (Err refusal) = asking
+
+-- ---- take
+
+-- an operation that goes on is asked again
+abbrev pub asking_after : ℕ → Outcome → Option ℕ
+asking_after place Next = Some place
+asking_after place outcome = None
+
+abbrev pub outcome_now : Current → Carried → Outcome
+outcome_now c carried = outcome_of c.asked (judged (request_asked c.asked c.stream) carried)
+
+abbrev pub taken : ManagerView → Current → Carried → ManagerView
+taken m c carried = record {
+  streams = slice_set m.streams c.place (taken_stream c.asked (judged (request_asked c.asked c.stream) carried) c.stream);
+  asking = asking_after c.place (outcome_now c carried);
+}
+
+abbrev pub calls_taken : Current → Carried → List Request
+calls_taken c carried = taken_calls c.asked (judged (request_asked c.asked c.stream) carried) c.stream.id
+
+-- ---- link_reset
+
+-- the streams of the link are as they were made, and nothing is asked
+abbrev pub reset_manager : ℕ → ManagerView → ManagerView
+reset_manager link m = record { streams = map (reset_stream link) m.streams; asking = None }

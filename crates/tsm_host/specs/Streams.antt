@@ -1,0 +1,239 @@
+-- What the manager keeps of a stream, and what each call makes of it (this profile).
+use Rattle.std.specs.Prelude.{ℕ, ◌+◌, ◌<◌, ◌≤◌, ◌==◌, nat_lt, Bool, false, not, ◌&&◌, if◌then◌else◌, IsSome, Option, Some, None, List, [], Result, Ok, Err, slice_set}
+use Rattle.ide_types.specs.declared.sub.SubKind.{SubKind}
+use Rattle.ide_types.specs.declared.sub.SubKind.TheVariants.{Pr, Npr, Cpl}
+use Rattle.ide_types.specs.declared.status.StreamStatus.{StreamStatus}
+use Rattle.ide_types.specs.declared.status.StreamStatus.TheVariants as status
+use Rattle.link_verdicts.specs.declared.verdict.Operation.{Operation}
+use Rattle.link_verdicts.specs.declared.verdict.Operation.TheVariants as op
+use Rattle.key_slots.specs.{Pool, draws_in, six_keys, pool_after, unspent}
+use Rattle.key_laws.specs.Operations.{Op, Idle, Establishing, Up, Refreshing, Stopping, Work, work, work_of, last_of, makes_draw, reach, op_after, op_standing}
+use Rattle.ide_km.specs.declared.object.KmView.{KmView}
+use Rattle.tsm_host.specs.declared.exchange.Exchange.{Exchange}
+use Rattle.tsm_host.specs.declared.exchange.Exchange.TheVariants as exchange
+use Rattle.tsm_host.specs.declared.judge.Judged.{Judged}
+use Rattle.tsm_host.specs.declared.judge.Judged.TheVariants.{Expected, Lost, Refused, Bad}
+use Rattle.tsm_host.specs.declared.operation.Outcome.{Outcome}
+use Rattle.tsm_host.specs.declared.operation.Outcome.TheVariants as outcome
+use Rattle.tsm_host.specs.declared.operation.Refusal.{Refusal}
+use Rattle.tsm_host.specs.declared.operation.Refusal.TheVariants.{NotIdle, NotSecure, PoolEmpty, SessionLost, DeviceRefused, BadReply, Busy, UnitOpen}
+use Rattle.tsm_host.specs.declared.operation.Shown.{Shown}
+use Rattle.tsm_host.specs.declared.operation.Shown.TheVariants as shown
+use Rattle.tsm_host.specs.declared.stage.Asked.{Asked}
+use Rattle.tsm_host.specs.declared.stage.Stage.{Stage}
+use Rattle.tsm_host.specs.declared.stage.Stage.TheVariants as stage
+use Rattle.tsm_host.specs.Exchanges.{exchange_of, is_last_receiver_go, set_number, WireKeys, kept_key, request_of}
+use Rattle.tsm_host.specs.Local.{Request, programs, goes, halts}
+
+-- A stream of a link, with the state of its operations, and the keys of an establish or refresh that is unfinished, by
+-- lane: each is kept until its KEY_PROG is acknowledged. There are none else.
+pub record StreamView : Type 0 where
+  pub link : ℕ
+  pub id : ℕ
+  pub op : Op
+  pub keys : WireKeys
+
+abbrev pub new_stream : ℕ → ℕ → StreamView
+new_stream link id = record { link = link; id = id; op = Idle; keys = [] }
+
+abbrev pub is_named : ℕ → ℕ → StreamView → Bool
+is_named link id s = (s.link == link) && (s.id == id)
+
+-- as it was made, where it is of this link
+abbrev pub reset_stream : ℕ → StreamView → StreamView
+reset_stream link s = if s.link == link then new_stream s.link s.id else s
+
+-- ---- as it is kept
+
+abbrev pub op_in : Stage → Op
+op_in stage.Idle = Idle
+op_in (stage.Establishing draw next keys) = Establishing draw next
+op_in (stage.Up set draw) = Up set draw
+op_in (stage.Refreshing set draw next keys) = Refreshing set draw next
+op_in (stage.Stopping next) = Stopping next
+
+abbrev pub keys_in : Stage → WireKeys
+keys_in (stage.Establishing draw next keys) = keys
+keys_in (stage.Refreshing set draw next keys) = keys
+keys_in s = []
+
+-- the number of the exchange that is next, 0 where there is none
+abbrev pub next_in : Stage → ℕ
+next_in (stage.Establishing draw next keys) = next
+next_in (stage.Refreshing set draw next keys) = next
+next_in (stage.Stopping next) = next
+next_in s = 0
+
+-- at the next exchange
+abbrev pub op_advanced : Op → Op
+op_advanced (Establishing draw next) = Establishing draw (next + 1)
+op_advanced (Refreshing set draw next) = Refreshing set draw (next + 1)
+op_advanced (Stopping next) = Stopping (next + 1)
+op_advanced o = o
+
+-- an establish or a refresh at its first exchange
+abbrev pub keyed_stage : Operation → Bool → ℕ → WireKeys → Stage
+keyed_stage op.Refresh set draw keys = stage.Refreshing set draw 1 keys
+keyed_stage operation set draw keys = stage.Establishing draw 1 keys
+
+-- each key whose KEY_PROG is not acknowledged is kept; the first KEY_PROG is exchange `first`, the next exchange `next`
+abbrev pub KeysLeft : ℕ → ℕ → WireKeys → Type 0
+KeysLeft first next keys = (lane : ℕ) → lane < 6 → next ≤ first + lane → IsSome (kept_key keys lane)
+
+abbrev pub StageHolds : Stage → Type 0
+StageHolds (stage.Establishing draw next keys) = (1 ≤ next) × (next ≤ 13) × KeysLeft 2 next keys
+StageHolds (stage.Refreshing set draw next keys) = (1 ≤ next) × (next ≤ 12) × KeysLeft 1 next keys
+StageHolds (stage.Stopping next) = (1 ≤ next) × (next ≤ 12)
+StageHolds s = Unit {0}
+
+-- ---- the exchange that is next
+
+-- of an unfinished operation
+abbrev pub asked_in : Op → Option Asked
+asked_in (Establishing draw next) = Some (record { operation = op.Establish; set = false; draw = draw; exchange = next })
+asked_in (Refreshing set draw next) = Some (record { operation = op.Refresh; set = set; draw = draw; exchange = next })
+asked_in (Stopping next) = Some (record { operation = op.Stop; set = false; draw = 0; exchange = next })
+asked_in o = None
+
+abbrev pub exchange_asked : Asked → Exchange
+exchange_asked a = exchange_of a.operation a.set a.exchange
+
+abbrev pub work_asked : Asked → Work
+work_asked a = work a.operation a.set a.draw a.exchange false
+
+-- its request
+abbrev pub request_asked : Asked → StreamView → KmView
+request_asked a s = request_of s.id s.keys (exchange_asked a)
+
+-- ---- begin: refusals
+
+-- what is read of the host's port
+pub record HostView : Type 0 where
+  pub status : Option StreamStatus
+  pub live : SubKind → Option ℕ
+
+abbrev pub host_view : {Port : Type 0} → (Port → ℕ → Option StreamStatus) → (Port → ℕ → SubKind → Option ℕ) → Port → ℕ → HostView
+host_view status_of live_of port stream = record { status = status_of port stream; live = live_of port stream }
+
+-- a port without the stream has no key of it
+abbrev pub status_or_idle : Option StreamStatus → StreamStatus
+status_or_idle None = status.Idle
+status_or_idle (Some s) = s
+
+abbrev pub is_set : Bool → Option ℕ → Bool
+is_set set None = false
+is_set set (Some live) = live == set_number set
+
+-- the first sub-stream, PR first, whose Live key is in the set that is to be programmed
+abbrev pub open_unit : HostView → Bool → Option Refusal
+open_unit host set =
+    if is_set set (host.live Pr) then Some (UnitOpen Pr)
+    else if is_set set (host.live Npr) then Some (UnitOpen Npr)
+    else if is_set set (host.live Cpl) then Some (UnitOpen Cpl)
+    else None
+
+abbrev pub unless_secure : StreamStatus → Option Refusal → Option Refusal
+unless_secure status.Secure refusal = refusal
+unless_secure s refusal = Some (NotSecure s)
+
+abbrev pub establish_refusal : Op → Option Refusal
+establish_refusal Idle = None
+establish_refusal (Establishing draw next) = None
+establish_refusal (Up set draw) = Some NotIdle
+establish_refusal (Refreshing set draw next) = Some (Busy op.Refresh)
+establish_refusal (Stopping next) = Some (Busy op.Stop)
+
+abbrev pub refresh_refusal : Op → HostView → Option Refusal
+refresh_refusal Idle host = Some (NotSecure (status_or_idle host.status))
+refresh_refusal (Establishing draw next) host = Some (Busy op.Establish)
+refresh_refusal (Up set draw) host = unless_secure (status_or_idle host.status) (open_unit host (not set))
+refresh_refusal (Refreshing set draw next) host = None
+refresh_refusal (Stopping next) host = Some (Busy op.Stop)
+
+-- all refusals but that of an empty pool, which comes last
+abbrev pub refusal_at : Operation → Op → HostView → Option Refusal
+refusal_at op.Establish o host = establish_refusal o
+refusal_at op.Refresh o host = refresh_refusal o host
+refusal_at op.Stop o host = None
+
+-- the key set of a keyed stream, else set 0
+abbrev pub current_set : Op → Bool
+current_set (Up set draw) = set
+current_set o = false
+
+-- whether the operation begins with a draw
+abbrev pub draws_now : Work → Bool
+draws_now w = w.begins && makes_draw w.operation
+
+abbrev pub pool_refusal : Work → Pool → Option Refusal
+pool_refusal w pool = if draws_now w && not (nat_lt pool.draws (draws_in pool.keys)) then Some (PoolEmpty pool.draws) else None
+
+abbrev pub first_of : Option Refusal → Option Refusal → Option Refusal
+first_of None second = second
+first_of (Some refusal) second = Some refusal
+
+abbrev pub refusal_of : Operation → Op → HostView → Pool → Option Refusal
+refusal_of operation o host pool = first_of (refusal_at operation o host) (pool_refusal (work_of operation o pool.draws) pool)
+
+-- ---- begin: what it does
+
+abbrev pub ok_unless : Option Refusal → Result (Unit {0}) Refusal
+ok_unless None = Ok tt
+ok_unless (Some refusal) = Err refusal
+
+-- a refusal changes nothing
+abbrev pub unless : {A : Type 0} → Option Refusal → A → A → A
+unless None old new = new
+unless (Some refusal) old new = old
+
+-- the operation stands at its first exchange, with the six keys of its draw; one that goes on is as it was
+abbrev pub begun_stream : Work → Pool → StreamView → StreamView
+begun_stream w pool s =
+    if w.begins then
+    record s { op = op_standing w 1; keys = if makes_draw w.operation then unspent (six_keys pool.keys w.draw) else [] }
+    else s
+
+abbrev pub begun_pool : Work → Pool → Pool
+begun_pool w pool = if draws_now w then pool_after pool else pool
+
+-- the host's slots of the set are programmed with the same keys; of a stop all are emptied
+abbrev pub begun_calls : Work → Pool → ℕ → List Request
+begun_calls w pool stream =
+    if w.begins then (if makes_draw w.operation then programs stream w.set (six_keys pool.keys w.draw) w.draw else halts stream)
+    else []
+
+-- ---- take
+
+abbrev pub is_last : Asked → Bool
+is_last a = a.exchange == last_of a.operation
+
+abbrev pub shown_at_end : Asked → Shown
+shown_at_end a = if makes_draw a.operation then shown.Draw a.draw else shown.Stopped
+
+abbrev pub outcome_of : Asked → Judged → Outcome
+outcome_of a Expected = if is_last a then outcome.Done (shown_at_end a) else outcome.Next
+outcome_of a Lost = outcome.Refused (SessionLost a.exchange)
+outcome_of a (Refused code) = outcome.Refused (DeviceRefused a.exchange code)
+outcome_of a Bad = outcome.Refused (BadReply a.exchange)
+
+-- a key goes where its KEY_PROG is acknowledged
+abbrev pub keys_after : Exchange → WireKeys → WireKeys
+keys_after (exchange.Program set lane) keys = slice_set keys lane None
+keys_after e keys = keys
+
+-- the exchange is acknowledged
+abbrev pub acknowledged : Asked → StreamView → StreamView
+acknowledged a s = record s {
+  op = op_after (work_asked a) (reach (a.exchange + 1) (a.exchange + 1));
+  keys = if is_last a then [] else keys_after (exchange_asked a) s.keys;
+}
+
+-- only an expected reply goes on
+abbrev pub taken_stream : Asked → Judged → StreamView → StreamView
+taken_stream a Expected s = acknowledged a s
+taken_stream a judged s = s
+
+-- the host's port goes on where the last of the device's receivers did
+abbrev pub taken_calls : Asked → Judged → ℕ → List Request
+taken_calls a Expected stream = if is_last_receiver_go (exchange_asked a) then goes stream a.set else []
+taken_calls a judged stream = []

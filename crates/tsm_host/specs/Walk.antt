@@ -1,0 +1,121 @@
+-- An operation at one event: it begins or goes on, and its exchanges are taken one after another.
+use Rattle.std.specs.Prelude.{ℕ, ◌≡◌, ◌+◌, ◌-◌, ◌≤◌, zero, suc, Bool, if◌then◌else◌, Option, Some, None}
+use Rattle.ide_types.specs.declared.sub.SubKind.{SubKind}
+use Rattle.ide_types.specs.declared.status.StreamStatus.{StreamStatus}
+use Rattle.link_events.specs.declared.event.Loss.{Loss}
+use Rattle.link_verdicts.specs.declared.verdict.Operation.{Operation}
+use Rattle.link_verdicts.specs.declared.verdict.Operation.TheVariants as op
+use Rattle.link_verdicts.specs.declared.verdict.Verdict.{Verdict}
+use Rattle.link_verdicts.specs.declared.verdict.Verdict.TheVariants as v
+use Rattle.key_slots.specs.{Pool, draws_in}
+use Rattle.key_laws.specs.Places.{KeyPlan}
+use Rattle.key_laws.specs.Operations.{Op, Work, Reach, work_of, last_of, reach_of, op_after}
+use Rattle.key_laws.specs.Due.{PortView, is_refused, is_lost, cut_off, establish_on, refresh_on, stop_on, is_live_sender}
+use Rattle.tsm_host.specs.declared.judge.Judged.{Judged}
+use Rattle.tsm_host.specs.declared.judge.Judged.TheVariants.{Expected, Lost, Refused}
+use Rattle.tsm_host.specs.declared.operation.Outcome.{Outcome}
+use Rattle.tsm_host.specs.declared.operation.Outcome.TheVariants as outcome
+use Rattle.tsm_host.specs.declared.operation.Refusal.{Refusal}
+use Rattle.tsm_host.specs.declared.operation.Refusal.TheVariants.{NotIdle, NotSecure, PoolEmpty, SessionLost, DeviceRefused, BadReply, Busy, UnitOpen}
+use Rattle.tsm_host.specs.declared.operation.Shown.{Shown}
+use Rattle.tsm_host.specs.declared.operation.Shown.TheVariants as shown
+use Rattle.tsm_host.specs.declared.stage.Asked.{Asked}
+use Rattle.tsm_host.specs.Streams.{StreamView, HostView, asked_in, is_set, refusal_of, begun_stream, outcome_of, taken_stream}
+
+-- ---- the walk
+
+-- what is carried at each exchange: the loss goes ahead of a refusal by the device
+abbrev pub answers : Option Loss → (ℕ → Bool) → ℕ → Judged
+answers loss refused n = if is_lost loss n then Lost else if refused n then Refused 3 else Expected
+
+-- what an event comes to, and the stream after it
+pub record Walked : Type 0 where
+  pub outcome : Outcome
+  pub stream : StreamView
+
+abbrev pub outcome_at : Option Asked → (ℕ → Judged) → Outcome
+outcome_at None carried = outcome.Next
+outcome_at (Some a) carried = outcome_of a (carried a.exchange)
+
+abbrev pub stream_at : Option Asked → (ℕ → Judged) → StreamView → StreamView
+stream_at None carried s = s
+stream_at (Some a) carried s = taken_stream a (carried a.exchange) s
+
+abbrev pub continued : Outcome → StreamView → Walked → Walked
+continued outcome.Next s rest = rest
+continued o s rest = record { outcome = o; stream = s }
+
+-- `take` after `take`, up to so many
+abbrev pub walk : (more : ℕ) → (ℕ → Judged) → StreamView → Walked
+walk zero carried s = record { outcome = outcome.Next; stream = s }
+walk (suc more) carried s =
+    continued (outcome_at (asked_in s.op) carried) (stream_at (asked_in s.op) carried s) (walk more carried (stream_at (asked_in s.op) carried s))
+
+-- `begin`, and then the walk
+abbrev pub walked_unless : Option Refusal → StreamView → Walked → Walked
+walked_unless (Some refusal) s walked = record { outcome = outcome.Refused refusal; stream = s }
+walked_unless None s walked = walked
+
+abbrev pub walked : Operation → HostView → Pool → (ℕ → Judged) → StreamView → Walked
+walked operation host pool carried s =
+    let w = work_of operation s.op pool.draws in
+    walked_unless (refusal_of operation s.op host pool) s (walk (last_of operation + 1 - w.first) carried (begun_stream w pool s))
+
+-- ---- the verdict that it is
+
+abbrev pub shown_verdict : Operation → ℕ → ℕ → Shown → Verdict
+shown_verdict op.Establish link stream (shown.Draw j) = v.Established link stream j
+shown_verdict op.Refresh link stream (shown.Draw j) = v.Refreshed link stream j
+shown_verdict o link stream s = v.Stopped link stream
+
+-- a lost exchange is that of the loss; a bad reply has no verdict
+abbrev pub refusal_verdict : Option Loss → Refusal → Verdict
+refusal_verdict loss NotIdle = v.RefusedNotIdle
+refusal_verdict loss (NotSecure s) = v.RefusedNotSecure s
+refusal_verdict loss (PoolEmpty draws) = v.RefusedPoolEmpty draws
+refusal_verdict loss (SessionLost n) = cut_off loss n
+refusal_verdict loss (DeviceRefused n code) = v.RefusedDevice n code
+refusal_verdict loss (BadReply n) = v.Nothing
+refusal_verdict loss (Busy o) = v.RefusedBusy o
+refusal_verdict loss (UnitOpen u) = v.RefusedUnitOpen u
+
+abbrev pub verdict_of : Operation → ℕ → ℕ → Option Loss → Outcome → Verdict
+verdict_of o link stream loss outcome.Next = v.Nothing
+verdict_of o link stream loss (outcome.Done s) = shown_verdict o link stream s
+verdict_of o link stream loss (outcome.Refused refusal) = refusal_verdict loss refusal
+
+-- ---- the law
+
+-- an unfinished operation is at one of its exchanges
+abbrev pub IsAsked : Option Asked → Type 0
+IsAsked None = Unit {0}
+IsAsked (Some a) = (1 ≤ a.exchange) × (a.exchange ≤ last_of a.operation)
+
+-- what the host's port and the pool show is what the definitions read of them
+pub record Reads (plan : KeyPlan) (ports : PortView) (link stream : ℕ) (status : StreamStatus) (host : HostView) (pool : Pool) : Type 0 where
+  pub pool_is : plan.pool ≡ draws_in pool.keys
+  pub status_is : host.status ≡ Some status
+  pub live_is : (set : Bool) (u : SubKind) → is_set set (host.live u) ≡ is_live_sender ports link stream set u
+
+abbrev pub due_on : Operation → KeyPlan → Op → ℕ → PortView → StreamStatus → ℕ → ℕ → Option Loss → Verdict
+due_on op.Establish plan o next ports status link stream loss = establish_on plan o next ports link stream loss
+due_on op.Refresh plan o next ports status link stream loss = refresh_on plan o next ports status link stream loss
+due_on op.Stop plan o next ports status link stream loss = stop_on o next ports link stream loss
+
+-- the operations of the stream after its verdict
+abbrev pub op_by : Op → Work → Option Reach → Op
+op_by o w None = o
+op_by o w (Some reached) = op_after w reached
+
+-- Where each exchange is lost or refused as the definitions say, an event comes to the verdict that is due, and leaves
+-- the operations as the verdict says.
+pub record WalkIsDue (operation : Operation) (plan : KeyPlan) (ports : PortView) (status : StreamStatus) (host : HostView) (pool : Pool) (loss : Option Loss) (s : StreamView) : Type 0 where
+  pub verdict_is : verdict_of operation s.link s.id loss (walked operation host pool (answers loss (is_refused ports operation (work_of operation s.op pool.draws).set s.link s.id)) s).outcome
+      ≡ due_on operation plan s.op pool.draws ports status s.link s.id loss
+  pub op_is : (walked operation host pool (answers loss (is_refused ports operation (work_of operation s.op pool.draws).set s.link s.id)) s).stream.op
+      ≡ op_by s.op (work_of operation s.op pool.draws) (reach_of operation (due_on operation plan s.op pool.draws ports status s.link s.id loss))
+
+abbrev pub WalksAreDue : Type 0
+WalksAreDue =
+    (operation : Operation) (plan : KeyPlan) (ports : PortView) (status : StreamStatus) (host : HostView) (pool : Pool) (loss : Option Loss) (s : StreamView)
+    → IsAsked (asked_in s.op) → Reads plan ports s.link s.id status host pool → WalkIsDue operation plan ports status host pool loss s

@@ -1,0 +1,84 @@
+//! Local calls of the host's port.
+
+ghost use Rattle.std.specs.Prelude.{◌≡◌, ◌<◌};
+ghost use Rattle.ide_km.specs.{place_at};
+ghost use Rattle.tsm_host.specs.Exchanges.{set_number};
+ghost use Rattle.tsm_host.specs.Local.{CallMoves, CallsMove, AskProgram, AskGo, AskHalt, key_in, programs, goes, halts_in, halts};
+
+use crate::exchange::number;
+use ide_km::SlotPort;
+use key_slots::{HostSix, Key};
+
+// One call, whose answer is not needed.
+fn program<P: SlotPort>(port: &mut P, stream: u8, set: bool, dir: u8, sub: u8, key: Key, draw: u32)
+    requires { dir < 2 }
+    ensures { CallMoves P.slots P.unfinished P.moves port.old (AskProgram (place_at stream dir sub) (set_number set) key draw) port.new }
+{
+    let _ = port.program(stream, number(set), dir, sub, key, draw);
+}
+
+fn go<P: SlotPort>(port: &mut P, stream: u8, set: bool, dir: u8, sub: u8)
+    requires { dir < 2 }
+    ensures { CallMoves P.slots P.unfinished P.moves port.old (AskGo (place_at stream dir sub) (set_number set)) port.new }
+{
+    let _ = port.go(stream, number(set), dir, sub);
+}
+
+fn halt<P: SlotPort>(port: &mut P, stream: u8, set: bool, dir: u8, sub: u8)
+    requires { dir < 2 }
+    ensures { CallMoves P.slots P.unfinished P.moves port.old (AskHalt (place_at stream dir sub) (set_number set)) port.new }
+{
+    let _ = port.halt(stream, number(set), dir, sub);
+}
+
+// The keys of an array.
+#[tactic(auto, using(std::proofs::lemmas::List::get_or_default))]
+fn six_of(keys: [Key; 6]) -> (Key, Key, Key, Key, Key, Key)
+    ensures { result ≡ (key_in keys 0, key_in keys 1, key_in keys 2, key_in keys 3, key_in keys 4, key_in keys 5) }
+{
+    let [a, b, c, d, e, f] = keys;
+    (a, b, c, d, e, f)
+}
+
+/// Programs the six slots of a stream's key set.
+pub fn program_six<P: SlotPort>(port: &mut P, stream: u8, set: bool, six: HostSix, draw: u32)
+    ensures { CallsMove P.slots P.unfinished P.moves port.old (programs stream set six draw) port.new }
+{
+    let (a, b, c, d, e, f) = six_of(six.keys());
+    program(port, stream, set, 0, 0, a, draw);
+    program(port, stream, set, 0, 1, b, draw);
+    program(port, stream, set, 0, 2, c, draw);
+    program(port, stream, set, 1, 0, d, draw);
+    program(port, stream, set, 1, 1, e, draw);
+    program(port, stream, set, 1, 2, f, draw);
+}
+
+/// Takes the six slots of a key set into use, those of the host's receivers first.
+pub fn go_six<P: SlotPort>(port: &mut P, stream: u8, set: bool)
+    ensures { CallsMove P.slots P.unfinished P.moves port.old (goes stream set) port.new }
+{
+    go(port, stream, set, 1, 0);
+    go(port, stream, set, 1, 1);
+    go(port, stream, set, 1, 2);
+    go(port, stream, set, 0, 0);
+    go(port, stream, set, 0, 1);
+    go(port, stream, set, 0, 2);
+}
+
+/// Empties all slots of a stream.
+pub fn halt_all<P: SlotPort>(port: &mut P, stream: u8)
+    ensures { CallsMove P.slots P.unfinished P.moves port.old (halts stream) port.new }
+{
+    halt(port, stream, false, 0, 0);
+    halt(port, stream, false, 0, 1);
+    halt(port, stream, false, 0, 2);
+    halt(port, stream, false, 1, 0);
+    halt(port, stream, false, 1, 1);
+    halt(port, stream, false, 1, 2);
+    halt(port, stream, true, 0, 0);
+    halt(port, stream, true, 0, 1);
+    halt(port, stream, true, 0, 2);
+    halt(port, stream, true, 1, 0);
+    halt(port, stream, true, 1, 1);
+    halt(port, stream, true, 1, 2);
+}

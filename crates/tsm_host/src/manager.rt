@@ -1,0 +1,221 @@
+//! The manager of all links.
+
+ghost use Rattle.std.specs.Prelude.{◌≡◌, ℕ, ◌+◌, ◌++◌, ◌≤◌, ◌<◌, IsSome, IfSome, IfOk, is_some, Some, [], length, map, slice_get, vec_len, vec_capacity};
+ghost use Rattle.ide_km.specs.{spelling};
+ghost use Rattle.tsm_host.specs.Local.{CallsMove};
+ghost use Rattle.tsm_host.specs.Operations.{op_name};
+ghost use Rattle.tsm_host.specs.Streams.{reset_stream, request_asked, host_view, ok_unless};
+ghost use Rattle.tsm_host.specs.Managers.{new_streams, asking_begun, asking_after};
+
+use crate::operation::{Carried, Op, Outcome, Refusal};
+use crate::port::HostPort;
+use crate::stage::Asked;
+use crate::stream::StreamKeys;
+use ide_km::km_write;
+use ide_plan::{LinkPlan, StreamPlan};
+use ide_types::{Items, Memory};
+use key_slots::KeyPool;
+use std::alloc::Global;
+use std::marker::Model;
+
+/// The host's manager of key management, for all links. It has at most one exchange under way: that of the
+/// operation which `begin` began last or went on with.
+#[derive(Drop)]
+pub struct Manager {
+    streams: Vec<StreamKeys>,
+    asking: Option<usize>,
+}
+
+impl Model for Manager {
+    ghost use Rattle.tsm_host.specs.Managers.{ManagerView};
+
+    ghost Value = { ManagerView };
+
+    ghost view = { λ m. record { streams = m.streams.items; asking = m.asking } };
+}
+
+/// Adds a link's streams.
+fn add_streams(streams: &mut Vec<StreamKeys>, link: u8, plans: &[StreamPlan]) -> Result<(), Memory>
+    ensures { IfOk result (λ _. streams.new.items ≡ streams.old.items ++ new_streams link plans.now) }
+{
+    for plan in plans {
+        streams.push(StreamKeys::new(link, plan.id))?;
+    }
+    Ok(())
+}
+
+impl Manager {
+    ghost use Rattle.tsm_host.specs.Managers.{new_manager, place_of, named, current, begin_refusal, begun, pool_begun, calls_begun, outcome_now, taken, calls_taken, reset_manager, asked_of};
+
+    /// A manager of these links, of which there are up to 8; no stream has keys.
+    pub fn make(alloc: Global, links: &Items<LinkPlan>) -> Result<Manager, Memory>
+        requires { length links.now ≤ 8 }
+        ensures { IfOk result (λ m. m ≡ new_manager links.now) }
+    {
+        let mut streams = Vec::new(alloc);
+        let mut number = 0;
+        for link in links.as_slice() {
+            add_streams(&mut streams, number, link.streams.as_slice())?;
+            number += 1;
+        }
+        Ok(Manager {
+            streams,
+            asking: None,
+        })
+    }
+
+    fn place(&self, link: u8, stream: u8) -> Option<usize>
+        ensures { result ≡ place_of self.now link stream }
+    {
+        self.streams.iter().position(|s| s.is_named(link, stream))
+    }
+
+    /// Whether the link has the stream.
+    pub fn has_stream(&self, link: u8, stream: u8) -> bool
+        ensures { result ≡ is_some (named self.now link stream) }
+    {
+        self.place(link, stream).is_some()
+    }
+
+    /// Begins an operation on a stream that its link has, or goes on with it where it is unfinished; `port` is the
+    /// host's port of the link. An establish or a refresh that begins draws from the pool and programs the six slots
+    /// of its key set at the port; a stop that begins empties all slots of the stream there, and drops what is
+    /// unfinished. One that goes on does none of this. A refusal changes nothing.
+    pub fn begin<P: HostPort>(
+        &mut self,
+        port: &mut P,
+        pool: &mut KeyPool,
+        op: Op,
+    ) -> Result<(), Refusal>
+        requires { IsSome (named self.old (op_name op).link (op_name op).stream) }
+        ensures answer { let name = op_name op in IfSome (named self.old name.link name.stream) (λ n.
+            let host = host_view P.status_of P.live_of port.old n.stream.id in
+            result ≡ ok_unless (begin_refusal name.operation host pool.old n)) }
+        ensures manager { let name = op_name op in IfSome (named self.old name.link name.stream) (λ n.
+            let host = host_view P.status_of P.live_of port.old n.stream.id in
+            self.new ≡ begun self.old name.operation host pool.old n) }
+        ensures pool { let name = op_name op in IfSome (named self.old name.link name.stream) (λ n.
+            let host = host_view P.status_of P.live_of port.old n.stream.id in
+            pool.new ≡ pool_begun name.operation host pool.old n) }
+        ensures calls { let name = op_name op in IfSome (named self.old name.link name.stream) (λ n.
+            let host = host_view P.status_of P.live_of port.old n.stream.id in
+            CallsMove P.slots P.unfinished P.moves port.old (calls_begun name.operation host pool.old n) port.new) }
+    {
+        let Some(place) = self.place(op.link(), op.stream()) else {
+            unreachable!()
+        };
+        let stream = &mut self.streams[place];
+        let answer = stream.begin(port, pool, op.operation());
+        self.asking = asking_begun(self.asking, place, answer);
+        answer
+    }
+
+    // The exchange that is next of the operation that is under way.
+    fn asked(&self) -> Option<Asked>
+        ensures { result ≡ asked_of (current self.now) }
+    {
+        match self.asking {
+            None => None,
+            Some(place) => match self.streams.get(place) {
+                None => None,
+                Some(stream) => stream.asked(),
+            },
+        }
+    }
+
+    /// Whether an exchange is to be asked and taken: from a `begin` that answered `Ok` on, until the operation is done
+    /// or refused, or a link is reset.
+    pub fn is_asking(&self) -> bool
+        ensures { result ≡ is_some (current self.now) }
+    {
+        self.asked().is_some()
+    }
+
+    /// The number of the exchange that `ask` writes, from 1.
+    pub fn exchange(&self) -> u32
+        requires { IsSome (current self.now) }
+        ensures { IfSome (current self.now) (λ c. result ≡ c.asked.exchange) }
+    {
+        let Some(asked) = self.asked() else {
+            unreachable!()
+        };
+        u32::from(asked.exchange)
+    }
+
+    /// Appends the request of the exchange that is next, for which `out` has 49 bytes of room, and answers the
+    /// operation's draw, 0 where it has none. It takes no memory.
+    pub fn ask(&self, out: &mut Vec<u8>) -> u32
+        requires asking { IsSome (current self.now) }
+        requires room { vec_len out.old + 49 ≤ vec_capacity out.old }
+        ensures items { IfSome (current self.now) (λ c. out.new.items ≡ out.old.items ++ spelling (request_asked c.asked c.stream)) }
+        ensures draw { IfSome (current self.now) (λ c. result ≡ c.asked.draw) }
+        ensures capacity { vec_capacity out.old ≤ vec_capacity out.new }
+    {
+        let Some(place) = self.asking else {
+            unreachable!()
+        };
+        let stream = &self.streams[place];
+        let Some(asked) = stream.asked() else {
+            unreachable!()
+        };
+        km_write(&stream.request(asked), out);
+        asked.draw
+    }
+
+    /// Takes what was carried in answer to the request of the exchange that is next; `port` is the host's port of the
+    /// link. Where the reply is the expected one, the operation goes on, and behind the last GO of the device's
+    /// receivers the port's six slots get theirs; anything else leaves the operation at that exchange.
+    pub fn take<P: HostPort>(&mut self, port: &mut P, carried: Carried) -> Outcome
+        requires { IsSome (current self.old) }
+        ensures outcome { IfSome (current self.old) (λ c. result ≡ outcome_now c carried.entry) }
+        ensures manager { IfSome (current self.old) (λ c. self.new ≡ taken self.old c carried.entry) }
+        ensures calls { IfSome (current self.old) (λ c. CallsMove P.slots P.unfinished P.moves port.old (calls_taken c carried.entry) port.new) }
+    {
+        let Some(place) = self.asking else {
+            unreachable!()
+        };
+        let stream = &mut self.streams[place];
+        let Some(asked) = stream.asked() else {
+            unreachable!()
+        };
+        let outcome = stream.take(port, asked, carried);
+        self.asking = still_asking(place, outcome);
+        outcome
+    }
+
+    /// The streams of a link are without keys again, and their operations dropped; no exchange is under way.
+    pub fn link_reset(&mut self, link: u8)
+        ensures { self.new ≡ reset_manager link self.old }
+    {
+        reset_streams(&mut self.streams, link);
+        self.asking = None;
+    }
+}
+
+// The place of the stream that is asked, behind a `begin`.
+fn asking_begun(asking: Option<usize>, place: usize, answer: Result<(), Refusal>) -> Option<usize>
+    ensures { result ≡ asking_begun asking place answer }
+{
+    match answer {
+        Ok(()) => Some(place),
+        Err(_) => asking,
+    }
+}
+
+// The place of the stream whose operation goes on.
+fn still_asking(place: usize, outcome: Outcome) -> Option<usize>
+    ensures { result ≡ asking_after place outcome }
+{
+    match outcome {
+        Outcome::Next => Some(place),
+        Outcome::Done(_) | Outcome::Refused(_) => None,
+    }
+}
+
+fn reset_streams(streams: &mut Vec<StreamKeys>, link: u8)
+    ensures { streams.new.items ≡ map (reset_stream link) streams.old.items }
+{
+    for stream in streams.iter_mut() {
+        stream.reset(link);
+    }
+}

@@ -1,0 +1,278 @@
+//! The state of a stream for the manager.
+
+ghost use Rattle.std.specs.Prelude.{◌≡◌, ◌+◌, ◌<◌, ◌≤◌, IsSome, IsTrue, true, not, if◌then◌else◌, [], slice_index_or};
+ghost use Rattle.key_laws.specs.Operations.{work_of, last_of, op_after, reach};
+ghost use Rattle.tsm_host.specs.Exchanges.{exchange_of, lane_of, kept_key, key_or_none};
+ghost use Rattle.tsm_host.specs.Streams.{op_in, keys_in, StageHolds, asked_in, exchange_asked, work_asked, host_view, refusal_at, open_unit, status_or_idle, unless_secure, is_set, keys_after, establish_refusal, refresh_refusal, current_set, next_in, op_advanced};
+
+use crate::exchange::{Exchange, exchange_at, last, number};
+use crate::operation::{Refusal, Shown};
+use crate::port::HostPort;
+use ide_types::{StreamStatus, SubKind};
+use key_slots::WireSix;
+use link_verdicts::Operation;
+
+/// The state of a stream for the manager. `next` is the number of the exchange that is to be asked next, from 1; the
+/// keys are those that the device has not acknowledged yet.
+#[derive(Drop)]
+pub enum Stage {
+    Idle,
+    Establishing {
+        draw: u32,
+        next: u8,
+        keys: WireSix,
+    },
+    Up {
+        set: bool,
+        draw: u32,
+    },
+    Refreshing {
+        set: bool,
+        draw: u32,
+        next: u8,
+        keys: WireSix,
+    },
+    Stopping {
+        next: u8,
+    },
+}
+
+/// The exchange that is next of an unfinished operation: its key set, its draw (0 where it has none), and the number
+/// of the exchange, from 1.
+#[derive(Clone, Copy, Debug, PartialEq, Eq)]
+pub struct Asked {
+    pub operation: Operation,
+    pub set: bool,
+    pub draw: u32,
+    pub exchange: u8,
+}
+
+impl Asked {
+    ghost use Rattle.tsm_host.specs.Streams.{exchange_asked, is_last, shown_at_end};
+
+    /// The exchange.
+    pub fn exchange(&self) -> Exchange
+        requires first { 1 ≤ self.now.exchange }
+        requires last { self.now.exchange ≤ last_of self.now.operation }
+        ensures exchange { result ≡ exchange_asked self.now }
+        ensures lane { lane_of result < 6 }
+    {
+        exchange_at(self.operation, self.set, self.exchange)
+    }
+
+    /// Whether it is the operation's last.
+    pub fn is_last(&self) -> bool
+        ensures { result ≡ is_last self.now }
+    {
+        self.exchange == last(self.operation)
+    }
+
+    /// What the operation shows at its end.
+    pub fn shown(&self) -> Shown
+        ensures { result ≡ shown_at_end self.now }
+    {
+        match self.operation {
+            Operation::Establish | Operation::Refresh => Shown::Draw(self.draw),
+            Operation::Stop => Shown::Stopped,
+        }
+    }
+}
+
+/// The first sub-stream, PR first, whose Live key at the host's sender is in this set.
+fn open_unit<P: HostPort>(port: &P, stream: u8, set: bool) -> Option<Refusal>
+    ensures { result ≡ open_unit (host_view P.status_of P.live_of port.now stream) set }
+{
+    let set = number(set);
+    if port.live_set(stream, SubKind::Pr) == Some(set) {
+        Some(Refusal::UnitOpen(SubKind::Pr))
+    } else if port.live_set(stream, SubKind::Npr) == Some(set) {
+        Some(Refusal::UnitOpen(SubKind::Npr))
+    } else if port.live_set(stream, SubKind::Cpl) == Some(set) {
+        Some(Refusal::UnitOpen(SubKind::Cpl))
+    } else {
+        None
+    }
+}
+
+/// The state of a stream at the host's port.
+fn status<P: HostPort>(port: &P, stream: u8) -> StreamStatus
+    ensures { result ≡ status_or_idle (P.status_of port.now stream) }
+{
+    match port.status(stream) {
+        None => StreamStatus::Idle,
+        Some(status) => status,
+    }
+}
+
+/// Why a refresh of a keyed stream may not begin with keys in this set.
+fn not_ready<P: HostPort>(port: &P, stream: u8, set: bool) -> Option<Refusal>
+    ensures { let host = host_view P.status_of P.live_of port.now stream in
+        result ≡ unless_secure (status_or_idle host.status) (open_unit host set) }
+{
+    match status(port, stream) {
+        StreamStatus::Secure => open_unit(port, stream, set),
+        status => Some(Refusal::NotSecure(status)),
+    }
+}
+
+/// The keys without the one that the exchange brought.
+fn spent(mut keys: WireSix, exchange: Exchange) -> WireSix
+    requires { lane_of exchange < 6 }
+    ensures { result ≡ keys_after exchange keys }
+{
+    if let Exchange::Program { lane, .. } = exchange {
+        keys.spend(lane);
+    }
+    keys
+}
+
+impl Stage {
+    /// Why an operation may neither begin nor go on, but for an empty pool.
+    pub fn refusal<P: HostPort>(
+        &self,
+        port: &P,
+        stream: u8,
+        operation: Operation,
+    ) -> Option<Refusal>
+        ensures { result ≡ refusal_at operation (op_in self.now) (host_view P.status_of P.live_of port.now stream) }
+    {
+        match operation {
+            Operation::Establish => self.establish_refusal(),
+            Operation::Refresh => self.refresh_refusal(port, stream),
+            Operation::Stop => None,
+        }
+    }
+
+    fn establish_refusal(&self) -> Option<Refusal>
+        ensures { result ≡ establish_refusal (op_in self.now) }
+    {
+        match self {
+            Stage::Idle | Stage::Establishing { .. } => None,
+            Stage::Up { .. } => Some(Refusal::NotIdle),
+            Stage::Refreshing { .. } => Some(Refusal::Busy(Operation::Refresh)),
+            Stage::Stopping { .. } => Some(Refusal::Busy(Operation::Stop)),
+        }
+    }
+
+    fn refresh_refusal<P: HostPort>(&self, port: &P, stream: u8) -> Option<Refusal>
+        ensures { result ≡ refresh_refusal (op_in self.now) (host_view P.status_of P.live_of port.now stream) }
+    {
+        match self {
+            Stage::Idle => Some(Refusal::NotSecure(status(port, stream))),
+            Stage::Establishing { .. } => Some(Refusal::Busy(Operation::Establish)),
+            Stage::Up { set, .. } => not_ready(port, stream, !*set),
+            Stage::Refreshing { .. } => None,
+            Stage::Stopping { .. } => Some(Refusal::Busy(Operation::Stop)),
+        }
+    }
+
+    /// Whether the operation begins, and does not go on.
+    pub fn begins(&self, operation: Operation) -> bool
+        ensures { result ≡ (work_of operation (op_in self.now) 0).begins }
+    {
+        match (operation, self) {
+            (Operation::Establish, Stage::Establishing { .. }) => false,
+            (Operation::Refresh, Stage::Refreshing { .. }) => false,
+            (Operation::Stop, Stage::Stopping { .. }) => false,
+            _ => true,
+        }
+    }
+
+    /// The key set that a refresh of a keyed stream gives keys in; set 0 for an establish.
+    pub fn next_set(&self, operation: Operation) -> bool
+        requires { (work_of operation (op_in self.now) 0).begins ≡ true }
+        ensures { result ≡ (work_of operation (op_in self.now) 0).set }
+    {
+        match operation {
+            Operation::Refresh => !self.current_set(),
+            Operation::Establish | Operation::Stop => false,
+        }
+    }
+
+    fn current_set(&self) -> bool
+        ensures { result ≡ current_set (op_in self.now) }
+    {
+        match self {
+            Stage::Up { set, .. } => *set,
+            _ => false,
+        }
+    }
+
+    /// The exchange that is next, where an operation is unfinished.
+    pub fn asked(&self) -> Option<Asked>
+        ensures { result ≡ asked_in (op_in self.now) }
+    {
+        match self {
+            Stage::Establishing { draw, next, .. } => Some(Asked {
+                operation: Operation::Establish,
+                set: false,
+                draw: *draw,
+                exchange: *next,
+            }),
+            Stage::Refreshing {
+                set,
+                draw,
+                next,
+                ..
+            } => Some(Asked {
+                operation: Operation::Refresh,
+                set: *set,
+                draw: *draw,
+                exchange: *next,
+            }),
+            Stage::Stopping { next } => Some(Asked {
+                operation: Operation::Stop,
+                set: false,
+                draw: 0,
+                exchange: *next,
+            }),
+            Stage::Idle | Stage::Up { .. } => None,
+        }
+    }
+
+    /// The bytes of a key that the device has not acknowledged yet.
+    pub fn key(&self, lane: u8) -> [u8; 32]
+        requires lane { lane < 6 }
+        requires kept { IsSome (kept_key (keys_in self.now) lane) }
+        ensures { result ≡ key_or_none (kept_key (keys_in self.now) lane) }
+    {
+        match self {
+            Stage::Establishing { keys, .. } | Stage::Refreshing { keys, .. } => {
+                match keys.key(lane) {
+                    Some(key) => *key.bytes(),
+                    None => unreachable!(),
+                }
+            }
+            _ => unreachable!(),
+        }
+    }
+
+    /// The state where the exchange that is next was acknowledged and is not the last.
+    pub fn advanced(self, exchange: Exchange) -> Stage
+        requires lane { lane_of exchange < 6 }
+        requires early { next_in self < 13 }
+        ensures op { op_in result ≡ op_advanced (op_in self) }
+        ensures keys { keys_in result ≡ keys_after exchange (keys_in self) }
+    {
+        match self {
+            Stage::Establishing { draw, next, keys } => Stage::Establishing {
+                draw,
+                next: next + 1,
+                keys: spent(keys, exchange),
+            },
+            Stage::Refreshing {
+                set,
+                draw,
+                next,
+                keys,
+            } => Stage::Refreshing {
+                set,
+                draw,
+                next: next + 1,
+                keys: spent(keys, exchange),
+            },
+            Stage::Stopping { next } => Stage::Stopping { next: next + 1 },
+            stage => stage,
+        }
+    }
+}
