@@ -1,7 +1,7 @@
 -- The calls of a port that key management moves.
 use Rattle.std.specs.Prelude.{ℕ, ◌≡◌, Bool, true, false, not, ◌&&◌, ◌==◌, nat_lt, List, Option, Some, None, Result, Ok, Err, if◌then◌else◌}
 use Rattle.std.specs.Option.{option_map}
-use Rattle.key_slots.specs.Slots.{SlotPair, slot_in, is_one, is_empty, is_only_live, programmed, armed, halted}
+use Rattle.key_slots.specs.{SlotPair, slot_in, is_one, is_empty, is_only_live, programmed, armed, halted}
 use Rattle.ide_km.specs.declared.port.ProgramFault.{ProgramFault}
 use Rattle.ide_km.specs.declared.port.ProgramFault.TheVariants.{NoPlace, OnlyLive}
 
@@ -53,14 +53,15 @@ halt_answer shown place = is_there (shown_at shown place)
 
 -- ---- slots after a call
 
-abbrev pub place_of : PortCall → Place
-place_of (Program place set key draw answer) = place
-place_of (Go place set answer) = place
-place_of (Halt place set answer) = place
+abbrev pub called_place : PortCall → Place
+called_place (Program place set key draw answer) = place
+called_place (Go place set answer) = place
+called_place (Halt place set answer) = place
 
 -- the two slots of the place that is called
 abbrev pub slots_by : PortCall → Bool → SlotPair → SlotPair
-slots_by (Program place set key draw answer) unfinished slots = programmed slots (is_one set) (record { key = key; draw = draw })
+slots_by (Program place set key draw answer) unfinished slots =
+    programmed slots (is_one set) (record { key = key; draw = draw })
 slots_by (Go place set answer) unfinished slots = armed slots (is_one set) unfinished
 slots_by (Halt place set answer) unfinished slots = halted slots (is_one set)
 
@@ -69,7 +70,7 @@ is_place p q = ((p.stream == q.stream) && (p.direction == q.direction)) && (p.su
 
 abbrev pub slots_at : Shown → (Place → Bool) → PortCall → Place → Option SlotPair
 slots_at shown unfinished call p =
-    if is_place p (place_of call) && nat_lt p.sub 3 then option_map (slots_by call (unfinished p)) (shown p)
+    if is_place p (called_place call) && nat_lt p.sub 3 then option_map (slots_by call (unfinished p)) (shown p)
     else shown p
 
 -- the slots move at the place that is called, and nowhere else

@@ -1,7 +1,7 @@
 -- What the responder does with a request (this profile).
 use Rattle.std.specs.Prelude.{ℕ, ◌≡◌, ◌/◌, ◌%◌, Bool, false, ◌&&◌, ◌==◌, nat_lt, List, [], length, slice_index, Option, Some, None, Result, Ok, Err, if◌then◌else◌}
 use Rattle.key_slots.specs.declared.slot.Slot.TheVariants.{Programmed}
-use Rattle.key_slots.specs.Slots.{SlotPair, slot_in, is_one}
+use Rattle.key_slots.specs.{SlotPair, slot_in, is_one}
 use Rattle.ide_km.specs.declared.object.KmView.{KmView}
 use Rattle.ide_km.specs.declared.object.KmView.TheVariants.{Query, QueryResp, KeyProg, KpAck, SetGo, SetStop, GoStopAck}
 use Rattle.ide_km.specs.declared.object.KmFault.{KmFault}

@@ -1,7 +1,7 @@
 //! The calls of a port that key management moves.
 
 ghost use Rattle.std.specs.Prelude.{◌≡◌, ◌<◌, ℕ, Bool, Option};
-ghost use Rattle.key_slots.specs.Slots.{SlotPair};
+ghost use Rattle.key_slots.specs.{SlotPair};
 ghost use Rattle.ide_km.specs.Calls.{Place, place_at, PortCall, Program, Go, Halt, program_answer, go_answer, halt_answer, SlotsAfter};
 
 use key_slots::Key;

@@ -164,7 +164,8 @@ impl Responder {
     /// Makes the call of the port that the object asks for, and answers the reply.
     fn respond<P: SlotPort>(&self, port: &mut P, object: KmView, draw: u32) -> Option<KmView>
         ensures moved { Moved P.moves port.old (call_for (P.slots port.old) draw object) port.new }
-        ensures slots { Kept (P.slots port.old) (P.unfinished port.old) (call_for (P.slots port.old) draw object) (P.slots port.new) }
+        ensures slots { let call = call_for (P.slots port.old) draw object in
+            Kept (P.slots port.old) (P.unfinished port.old) call (P.slots port.new) }
         ensures reply { result ≡ reply_for self.now.rid object (call_for (P.slots port.old) draw object) }
         ensures short { length (bytes_of result) ≤ 8 }
     {

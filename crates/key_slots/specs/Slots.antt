@@ -1,5 +1,5 @@
--- The two key slots of one sub-stream in one direction at a port, and what each call makes of them (PCI Express Base 6.0
--- section 6.33, in this profile). A key set is said by whether it is set 1.
+-- The two key slots of one sub-stream in one direction at a port, and what each call makes of them (PCI Express Base
+-- 6.0 section 6.33, in this profile). A key set is said by whether it is set 1.
 use Rattle.std.specs.Prelude.{ℕ, ◌==◌, nat_lt, Bool, true, false, not, ◌&&◌, ◌||◌, if◌then◌else◌, List, Option, Some, None, Result, Ok, Err}
 use Rattle.std.specs.Option.{option_map}
 use Rattle.std.specs.Borrow.{Bor}
@@ -94,7 +94,9 @@ program_answer pair set key = if is_only_live pair set then Err (record { key = 
 
 -- the slot is Programmed, unless that is refused
 abbrev pub programmed : SlotPair → Bool → DrawnKey → SlotPair
-programmed pair set held = if is_only_live pair set then pair else with_both pair.sender set (Programmed held, slot_in pair (not set))
+programmed pair set held =
+    if is_only_live pair set then pair
+    else with_both pair.sender set (Programmed held, slot_in pair (not set))
 
 -- ---- K_SET_GO
 
@@ -105,9 +107,11 @@ after_go true false (Programmed held) other = (Live held, Empty)
 after_go true true (Programmed held) other = (Armed held, other)
 after_go sender unfinished mine other = (mine, other)
 
--- a receiver's Programmed slot is Live; a sender's is Live, and the other emptied, where no unit is unfinished, else Armed
+-- a receiver's Programmed slot is Live; a sender's is Live, and the other emptied, where no unit is unfinished, else
+-- Armed
 abbrev pub armed : SlotPair → Bool → Bool → SlotPair
-armed pair set unfinished = with_both pair.sender set (after_go pair.sender unfinished (slot_in pair set) (slot_in pair (not set)))
+armed pair set unfinished =
+    with_both pair.sender set (after_go pair.sender unfinished (slot_in pair set) (slot_in pair (not set)))
 
 -- ---- K_SET_STOP
 

@@ -5,8 +5,8 @@ ghost use Rattle.std.specs.Prelude.{◌≡◌};
 use std::fmt::{self, Debug, Formatter, Write};
 use std::marker::Model;
 
-/// A key of AES-256, 32 bytes (FIPS 197). It is neither `Copy` nor `Clone`, so it has one place; `Debug` leaves
-/// its bytes out.
+/// A key of AES-256, 32 bytes (FIPS 197). It is neither `Copy` nor `Clone`, so it has one place, and a use of it
+/// after it was moved does not compile; `Debug` leaves its bytes out.
 #[derive(Drop)]
 pub struct Key {
     bytes: [u8; 32],

@@ -2,7 +2,7 @@
 
 ghost use Rattle.std.specs.Prelude.{◌≡◌, ◌*◌, ◌+◌, ◌≤◌, ◌<◌, ℕ, List, [], ◌∷◌, None, IfOk, length, slice_index_or, slice_set};
 ghost use Rattle.std.specs.Option.{option_copied};
-ghost use Rattle.key_slots.specs.Pool.{new_pool, draw_answer, pool_after, unspent};
+ghost use Rattle.key_slots.specs.Draws.{new_pool, draw_answer, pool_after, unspent};
 
 use crate::Key;
 use ide_types::Memory;
@@ -28,7 +28,7 @@ pub struct KeyPool {
 
 impl Model for KeyPool {
     ghost use Rattle.std.specs.Prelude.{◌≤◌, length};
-    ghost use Rattle.key_slots.specs.Pool.{Pool, draws_in};
+    ghost use Rattle.key_slots.specs.Draws.{Pool, draws_in};
 
     ghost Value = { Pool };
 
@@ -45,7 +45,7 @@ pub struct KeySix {
 }
 
 impl Model for KeySix {
-    ghost use Rattle.key_slots.specs.Pool.{DrawnSix};
+    ghost use Rattle.key_slots.specs.Draws.{DrawnSix};
 
     ghost Value = { DrawnSix };
 

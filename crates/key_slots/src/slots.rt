@@ -163,7 +163,9 @@ impl Slots {
 
     fn is_other_older(&self, set: u8) -> bool
         requires { set < 2 }
-        ensures { result ≡ is_older (not (is_one set)) (live_draw (slot_in self.now (not (is_one set)))) (live_draw (slot_in self.now (is_one set))) }
+        ensures { let mine = slot_in self.now (is_one set) in
+            let other = slot_in self.now (not (is_one set)) in
+            result ≡ is_older (not (is_one set)) (live_draw other) (live_draw mine) }
     {
         match self.slot_ref(1 - set).live_draw() {
             None => false,

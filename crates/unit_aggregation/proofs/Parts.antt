@@ -5,7 +5,7 @@ use Rattle.std.proofs.lemmas.List.{drop_all, drop-drop, take-append-drop, take-a
 use Rattle.std.proofs.lemmas.List.Folds.{drop_split}
 use Rattle.std.proofs.Math.Seq.{drop-append_seam}
 use Rattle.unit_aggregation.specs.declared.ends.PacketEnds.{PacketEnds}
-use Rattle.unit_aggregation.specs.Collected.{heads_of, bodies_of, rebodied}
+use Rattle.unit_aggregation.specs.Units.{heads_of, bodies_of, rebodied}
 use Rattle.unit_aggregation.specs.Layout.{parts, Rises, LieWithin}
 
 pub rises_below : (h b : ℕ) (es : List PacketEnds) (heads bodies : ℕ) → Rises h b es heads bodies → (h ≤ heads) × (b ≤ bodies)

@@ -4,7 +4,7 @@ use Rattle.std.specs.List.{slice_get}
 use Rattle.std.proofs.lemmas.Bool.{lt-ltb, le-ltb}
 use Rattle.std.proofs.lemmas.List.{take-append-le, take_all}
 use Rattle.unit_aggregation.specs.declared.ends.PacketEnds.{PacketEnds}
-use Rattle.unit_aggregation.specs.Collected.{Collected, empty_unit, has_room, with_packet, body_of, overwritten, with_bodies}
+use Rattle.unit_aggregation.specs.Units.{Collected, empty_unit, has_room, with_packet, body_of, overwritten, with_bodies}
 use Rattle.unit_aggregation.specs.Layout.{parts, Rises, IsLaidOut, LieWithin}
 use Rattle.unit_aggregation.proofs.Parts.{rises_below, length-parts, bodies_of-parts, rises_on, parts-added, parts_at, rises_at, parts-rebodied}
 

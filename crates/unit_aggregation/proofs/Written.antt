@@ -1,7 +1,7 @@
 -- What bytes written over bodies keep.
 use Rattle.std.proofs.Common.{◌≡◌, ℕ, List, [], ◌∷◌, ◌++◌, length, take, drop, refl, ap, ◌∙◌, arith, length-append, length-take, length-drop}
 use Rattle.std.proofs.lemmas.List.{drop_all, take-append-drop, take_all}
-use Rattle.unit_aggregation.specs.Collected.{Collected, heads_of, bodies_of, body_of, overwritten, rebodied, lengths_of, KeepsLengths}
+use Rattle.unit_aggregation.specs.Units.{Collected, heads_of, bodies_of, body_of, overwritten, rebodied, lengths_of, KeepsLengths}
 
 heads_of-rebodied : (ps : List (List ℕ × List ℕ)) (s : List ℕ) → heads_of (rebodied ps s) ≡ heads_of ps
 heads_of-rebodied [] s = refl

@@ -5,15 +5,18 @@ use Rattle.unit_aggregation.specs.declared.ends.PacketEnds.{PacketEnds}
 -- the packets between a place in each list and the last ends
 abbrev pub parts : List ℕ → List ℕ → ℕ → ℕ → List PacketEnds → List (List ℕ × List ℕ)
 parts heads bodies h b [] = []
-parts heads bodies h b (e ∷ es) = (slice_range heads h e.head, slice_range bodies b e.body) ∷ parts heads bodies e.head e.body es
+parts heads bodies h b (e ∷ es) =
+    (slice_range heads h e.head, slice_range bodies b e.body) ∷ parts heads bodies e.head e.body es
 
 -- the ends rise, from a place in each list to the lengths of the lists
 abbrev pub Rises : ℕ → ℕ → List PacketEnds → ℕ → ℕ → Type 0
 Rises h b [] heads bodies = (h ≡ heads) × (b ≡ bodies)
 Rises h b (e ∷ es) heads bodies = (h ≤ e.head) × (b ≤ e.body) × Rises e.head e.body es heads bodies
 
--- the packets lie behind the front, and there is room for the rest: 8 bytes of front, 20 of each head, 4,096 of each body
-pub record IsLaidOut (mode front : ℕ) (ends : List PacketEnds) (heads bodies : List ℕ) (heads_room bodies_room : ℕ) : Type 0 where
+-- the packets lie behind the front, and there is room for the rest: 8 bytes of front, 20 of each head and 4,096 of each
+-- body
+pub record IsLaidOut (mode front : ℕ) (ends : List PacketEnds) (heads bodies : List ℕ) (heads_room bodies_room : ℕ)
+    : Type 0 where
   pub mode_fits : mode ≤ 8
   pub packets_fit : length ends ≤ mode
   pub rising : Rises front 0 ends (length heads) (length bodies)

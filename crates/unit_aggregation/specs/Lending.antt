@@ -1,7 +1,7 @@
 -- What a unit becomes when its bodies were lent for writing.
 use Rattle.std.specs.Prelude.{ℕ, List}
 use Rattle.std.specs.Borrow.{Lends, MutBor, Fml, Array, u8}
-use Rattle.unit_aggregation.specs.Collected.{Collected, with_bodies}
+use Rattle.unit_aggregation.specs.Units.{Collected, with_bodies}
 use Rattle.unit_aggregation.specs.contracts.unit_buf.UnitBuf.{the_row}
 
 -- the unit ends with the last bytes behind `body` written over its bodies

@@ -1,7 +1,7 @@
 //! What the definitions of units imply.
 
 ghost use Rattle.std.specs.Prelude.{◌≡◌, ℕ, List, length};
-ghost use Rattle.unit_aggregation.specs.Collected.{Collected, body_of, KeepsLengths};
+ghost use Rattle.unit_aggregation.specs.Units.{Collected, body_of, KeepsLengths};
 
 /// Bytes written over the bodies of a unit, as many as these have, are its new bodies, joined; its heads stay, and
 /// every length.

@@ -38,14 +38,16 @@ pub struct UnitBuf {
 
 impl Model for UnitBuf {
     ghost use Rattle.std.specs.Prelude.{take, vec_capacity};
-    ghost use Rattle.unit_aggregation.specs.Collected.{Collected};
+    ghost use Rattle.unit_aggregation.specs.Units.{Collected};
     ghost use Rattle.unit_aggregation.specs.Layout.{parts, IsLaidOut};
 
     ghost Value = { Collected };
 
-    ghost view = { λ u. record { mode = u.mode; front = take u.front u.heads.items; packets = parts u.heads.items u.bodies.items u.front 0 u.ends.items } };
+    ghost view = { λ u.
+        record { mode = u.mode; front = take u.front u.heads.items; packets = parts u.heads.items u.bodies.items u.front 0 u.ends.items } };
 
-    ghost invariant = { λ u. IsLaidOut u.mode u.front u.ends.items u.heads.items u.bodies.items (vec_capacity u.heads) (vec_capacity u.bodies) };
+    ghost invariant = { λ u. IsLaidOut u.mode u.front u.ends.items u.heads.items u.bodies.items
+        (vec_capacity u.heads) (vec_capacity u.bodies) };
 }
 
 // Appends the bytes, for which there is room.
@@ -100,7 +102,7 @@ fn packet_between<'a>(
 
 impl UnitBuf {
     ghost use Rattle.std.specs.Borrow.{sem};
-    ghost use Rattle.unit_aggregation.specs.Collected.{empty_unit, aad_of, body_of, has_room, with_packet};
+    ghost use Rattle.unit_aggregation.specs.Units.{empty_unit, aad_of, body_of, has_room, with_packet};
     ghost use Rattle.unit_aggregation.specs.Lending.{LendsBody};
 
     /// A buffer for units of at most `mode` packets, which is 1, 2, 4 or 8; it has none yet.

@@ -17,7 +17,8 @@ pub struct OnePort {
 
 impl OnePort {
     fn has(&self, stream: u8, dir: u8, sub: u8) -> bool
-        ensures { result ≡ (is_place (place_at stream dir sub) (place_at 5 self.now.direction self.now.sub) && nat_lt sub 3) }
+        ensures { let own = place_at 5 self.now.direction self.now.sub in
+            result ≡ (is_place (place_at stream dir sub) own && nat_lt sub 3) }
     {
         ((stream == 5 && dir == self.direction) && sub == self.sub) && sub < 3
     }
@@ -26,7 +27,8 @@ impl OnePort {
 impl SlotPort for OnePort {
     ghost use Rattle.ide_km.specs.Calls.{Place, PortCall};
 
-    ghost slots = { λ port place. if is_place place (place_at 5 port.direction port.sub) then Some port.slots else None };
+    ghost slots = { λ port place.
+        if is_place place (place_at 5 port.direction port.sub) then Some port.slots else None };
 
     ghost unfinished = { λ port place. port.unfinished };
 

@@ -1,5 +1,5 @@
 use Rattle.std.proofs.Common.{◌≡◌, ◌+◌, ◌<◌, false, length, sym, arith}
-use Rattle.unit_aggregation.specs.Collected.{has_room}
+use Rattle.unit_aggregation.specs.Units.{has_room}
 use Rattle.unit_aggregation.proofs.Views.{has_room-less, has_room-full, view-full, view-added, laid-added}
 use Rattle.unit_aggregation.proofs.unit_buf.UnitBuf.add.Goals as goal
 

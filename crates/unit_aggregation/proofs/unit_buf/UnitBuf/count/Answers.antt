@@ -1,5 +1,5 @@
 use Rattle.std.proofs.Common.{length, sym, ap, ◌∙◌}
-use Rattle.unit_aggregation.specs.Collected.{Collected}
+use Rattle.unit_aggregation.specs.Units.{Collected}
 use Rattle.unit_aggregation.proofs.Parts.{length-parts}
 use Rattle.unit_aggregation.proofs.unit_buf.UnitBuf.count.Goals as goal
 

@@ -8,8 +8,8 @@ pub record Pool : Type 0 where
   pub draws : ℕ
 
 -- the place of a direction (0 from host to device, 1 from device to host) and a sub-stream among the six of a draw
-abbrev pub place_of : ℕ → ℕ → ℕ
-place_of direction sub = 3 * direction + sub
+abbrev pub key_place : ℕ → ℕ → ℕ
+key_place direction sub = 3 * direction + sub
 
 -- the key of a draw at a place: number 6 * draw + place of the pool
 abbrev pub pool_key : List (List ℕ) → ℕ → ℕ → List ℕ
@@ -37,7 +37,8 @@ pub record DrawnSix : Type 0 where
 -- the next draw; where all were made, how many they are
 abbrev pub draw_answer : Pool → Result DrawnSix PoolEmpty
 draw_answer pool =
-    if nat_lt pool.draws (draws_in pool.keys) then Ok (record { draw = pool.draws; keys = six_keys pool.keys pool.draws })
+    if nat_lt pool.draws (draws_in pool.keys) then
+    Ok (record { draw = pool.draws; keys = six_keys pool.keys pool.draws })
     else Err (record { draws = pool.draws })
 
 abbrev pub pool_after : Pool → Pool

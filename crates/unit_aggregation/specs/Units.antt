@@ -1,5 +1,5 @@
--- The packets of one unit, collected (PCI Express Base 6.0 section 6.33, in this profile). A packet is its head, which is
--- sent in clear (prefix and header), and its body.
+-- The packets of one unit, collected (PCI Express Base 6.0 section 6.33, in this profile). A packet is its head, which
+-- is sent in clear (prefix and header), and its body.
 use Rattle.std.specs.Prelude.{◌≡◌, ℕ, Bool, List, [], ◌∷◌, ◌++◌, length, map, take, drop, nat_lt, if◌then◌else◌}
 use Rattle.std.specs.List.{flat_map}
 
