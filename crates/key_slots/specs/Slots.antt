@@ -47,6 +47,11 @@ held_key (Programmed held) = Some held
 held_key (Armed held) = Some held
 held_key (Live held) = Some held
 
+-- the key of a Live slot, with the draw
+abbrev pub live_held : Slot → Option DrawnKey
+live_held (Live held) = Some held
+live_held slot = None
+
 abbrev pub is_empty : Slot → Bool
 is_empty Empty = true
 is_empty slot = false

@@ -42,7 +42,7 @@ impl Model for Slots {
 
 impl Slots {
     ghost use Rattle.key_slots.specs.declared.slot.Slot.TheVariants.{Empty};
-    ghost use Rattle.key_slots.specs.Slots.{may_stand, is_sound, empty_pair, slot_in, with_both, is_only_live, program_answer, programmed, is_empty, armed, halted, ended, accepted, live_set, state_of, held_key, shown_key};
+    ghost use Rattle.key_slots.specs.Slots.{may_stand, is_sound, empty_pair, slot_in, with_both, is_only_live, program_answer, programmed, is_empty, armed, halted, ended, accepted, live_set, state_of, held_key, live_held, shown_key};
 
     /// Both slots empty.
     pub fn make(sender: bool) -> Slots
@@ -198,6 +198,17 @@ impl Slots {
         match slot.held() {
             None => (slot.state(), None),
             Some(held) => (slot.state(), Some((held.key(), held.draw()))),
+        }
+    }
+
+    /// The prepared form of a Live slot's key, lent, with its draw; `None` of any other slot.
+    pub fn live_key(&self, set: u8) -> Option<(&Gcm, u32)>
+        requires { set < 2 }
+        ensures { shown_key result ≡ live_held (slot_in self.now (is_one set)) }
+    {
+        match self.slot_ref(set) {
+            Slot::Live(held) => Some((held.cipher(), held.draw())),
+            _ => None,
         }
     }
 

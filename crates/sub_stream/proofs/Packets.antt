@@ -1,0 +1,147 @@
+-- Packets in a buffer: what is joined, one more, and decrypted.
+use Rattle.std.proofs.Common.{◌≡◌, ℕ, ◌+◌, ◌-◌, ◌*◌, ◌<◌, ◌≤◌, zero, suc, List, [], ◌∷◌, ◌++◌, length, map, take, drop, get_or, slice_index, Option, Some, None, refl, sym, ap, ◌∙◌, subst, arith, append_assoc, length-append}
+use Rattle.std.specs.List.{slice_get, flat_map}
+use Rattle.std.specs.Option.{option_map}
+use Rattle.std.proofs.Math.ListN.{set}
+use Rattle.std.proofs.Math.Seq.{take-append_seam, drop-append_seam}
+use Rattle.std.proofs.lemmas.Option.{slice_get-map}
+use Rattle.std.proofs.lemmas.List.{length-map, length-set, map-append}
+use Rattle.std.proofs.lemmas.List.Sums.{sum_by-append, sum_by-cons}
+use Rattle.std.proofs.lemmas.Grind.{flat_map-append, common_steps}
+use Rattle.gcm_seal.specs.Gcm.{masked}
+use Rattle.gcm_seal.proofs.Sealing.{masked-append, length-masked}
+use Rattle.ide_prefix.specs.declared.packet.Prefix.{Prefix}
+use Rattle.ide_prefix.specs.Packet.{Packet, prefix_bytes, begins_sync}
+use Rattle.ide_prefix.specs.Units.{clear_bytes, authenticated, encrypted, untagged}
+use Rattle.stream_rules.specs.Stream.{posted_sum}
+use Rattle.unit_aggregation.specs.{Collected, heads_of, bodies_of, overwritten, rebodied, with_bodies, body_of}
+use Rattle.sub_stream.specs.declared.answer.PacketMark.{PacketMark}
+use Rattle.sub_stream.specs.Gathered.{packets_in, parts_of, opened_from, opened, lent_parts, mark_of, IsGathered}
+
+abbrev pub Parts : Type 0
+Parts = List ℕ × List ℕ
+
+-- ---- joined
+
+pub heads-parts : (ps : List Packet) → heads_of (map parts_of ps) ≡ authenticated ps
+heads-parts [] = refl
+heads-parts (p ∷ ps) = ap (λ x. clear_bytes p ++ x) (heads-parts ps)
+
+pub bodies-parts : (ps : List Packet) → bodies_of (map parts_of ps) ≡ encrypted ps
+bodies-parts [] = refl
+bodies-parts (p ∷ ps) = ap (λ x. p.body ++ x) (bodies-parts ps)
+
+pub heads_in : (xs : List Parts) (ps : List Prefix) → map parts_of (packets_in xs ps) ≡ xs → heads_of xs ≡ authenticated (packets_in xs ps)
+heads_in xs ps e = ap heads_of (sym e) ∙ heads-parts (packets_in xs ps)
+
+pub bodies_in : (xs : List Parts) (ps : List Prefix) → map parts_of (packets_in xs ps) ≡ xs → bodies_of xs ≡ encrypted (packets_in xs ps)
+bodies_in xs ps e = ap bodies_of (sym e) ∙ bodies-parts (packets_in xs ps)
+
+pub length-packets_in : (xs : List Parts) (ps : List Prefix) → map parts_of (packets_in xs ps) ≡ xs → length (packets_in xs ps) ≡ length xs
+length-packets_in xs ps e = sym (length-map (packets_in xs ps) parts_of) ∙ ap length e
+
+-- ---- one more
+
+pub packets-added : (xs : List Parts) (ps : List Prefix) (p : Prefix) (h b : List ℕ)
+    → length xs < length ps
+    → packets_in (xs ++ (prefix_bytes p ++ h, b) ∷ []) (set ps (length xs) p) ≡ packets_in xs ps ++ record { prefix = p; head = h; body = b; tag = [] } ∷ []
+packets-added [] [] p h b lt = absurd (omega arith)
+packets-added [] (q ∷ ps) p h b lt = refl
+packets-added (x ∷ xs) [] p h b lt = absurd (omega arith)
+packets-added (x ∷ xs) (q ∷ ps) p h b lt =
+    let less : length xs < length ps = omega arith in
+    ap (λ y. record { prefix = q; head = drop 4 x.0; body = x.1; tag = [] } ∷ y) (packets-added xs ps p h b less)
+
+-- ---- decrypted
+
+pub length-rebodied : (xs : List Parts) (bytes : List ℕ) → length (rebodied xs bytes) ≡ length xs
+length-rebodied [] bytes = refl
+length-rebodied (x ∷ xs) bytes = ap (λ n. suc n) (length-rebodied xs (drop (length x.1) bytes))
+
+pub posted-cons : (p : Packet) (ps : List Packet) → posted_sum (p ∷ ps) ≡ p.prefix.posted + posted_sum ps
+posted-cons p ps = sum_by-cons (λ (x : Packet). x.prefix.posted) p ps
+
+pub posted-rebodied : (xs : List Parts) (ps : List Prefix) (bytes : List ℕ) → posted_sum (packets_in (rebodied xs bytes) ps) ≡ posted_sum (packets_in xs ps)
+posted-rebodied [] ps bytes = refl
+posted-rebodied (x ∷ xs) [] bytes = refl
+posted-rebodied (x ∷ xs) (p ∷ ps) bytes =
+    let q : List ℕ → Packet = λ b. record { prefix = p; head = drop 4 x.0; body = b; tag = [] } in
+    posted-cons (q (take (length x.1) bytes)) (packets_in (rebodied xs (drop (length x.1) bytes)) ps)
+    ∙ ap (λ n. p.posted + n) (posted-rebodied xs ps (drop (length x.1) bytes))
+    ∙ sym (posted-cons (q x.1) (packets_in xs ps))
+
+pub parts-rebodied : (xs : List Parts) (ps : List Prefix) (bytes : List ℕ) → map parts_of (packets_in xs ps) ≡ xs
+    → map parts_of (packets_in (rebodied xs bytes) ps) ≡ rebodied xs bytes
+parts-rebodied [] ps bytes e = refl
+parts-rebodied (x ∷ xs) [] bytes e = absurd (cc)
+parts-rebodied (x ∷ xs) (p ∷ ps) bytes e =
+    let rest : map parts_of (packets_in xs ps) ≡ xs = cc in
+    let first : parts_of (record { prefix = p; head = drop 4 x.0; body = x.1; tag = [] }) ≡ x = cc in
+    let head : prefix_bytes p ++ drop 4 x.0 ≡ x.0 = ap (λ (y : Parts). y.0) first in
+    λ i. (head i, take (length x.1) bytes) ∷ parts-rebodied xs ps (drop (length x.1) bytes) rest i
+
+cut_front : (a b : List ℕ) (n : ℕ) → n ≡ length a → take n (a ++ b) ≡ a
+cut_front a b n e = rw e (take-append_seam a b)
+
+cut_back : (a b : List ℕ) (n : ℕ) → n ≡ length a → drop n (a ++ b) ≡ b
+cut_back a b n e = rw e (drop-append_seam a b)
+
+pub opened-rebodied : (key iv : List ℕ) (n : ℕ) (xs : List Parts) (ps : List Prefix)
+    → packets_in (rebodied xs (masked key iv n (bodies_of xs))) ps ≡ opened_from key iv n (packets_in xs ps)
+opened-rebodied key iv n [] ps = refl
+opened-rebodied key iv n (x ∷ xs) [] = refl
+opened-rebodied key iv n (x ∷ xs) (p ∷ ps) =
+    let both = masked-append key iv n x.1 (bodies_of xs) in
+    let a = masked key iv n x.1 in
+    let b = masked key iv (n + length x.1) (bodies_of xs) in
+    let la : length x.1 ≡ length a = sym (length-masked key iv n x.1) in
+    let front : take (length x.1) (masked key iv n (x.1 ++ bodies_of xs)) ≡ a = rw both (cut_front a b (length x.1) la) in
+    let back : drop (length x.1) (masked key iv n (x.1 ++ bodies_of xs)) ≡ b = rw both (cut_back a b (length x.1) la) in
+    (λ i. record { prefix = p; head = drop 4 x.0; body = front i; tag = [] } ∷ packets_in (rebodied xs (back i)) ps)
+    ∙ ap (λ y. record { prefix = p; head = drop 4 x.0; body = a; tag = [] } ∷ y) (opened-rebodied key iv (n + length x.1) xs ps)
+
+pub overwritten-all : (old new : List ℕ) → length new ≡ length old → overwritten old new ≡ new
+overwritten-all old new e = grind (arith, common_steps)
+
+-- ---- lent
+
+pub parts-lent : (ps : List Packet) → map (λ (x : Parts). (drop 4 x.0, x.1)) (map parts_of ps) ≡ map lent_parts ps
+parts-lent [] = refl
+parts-lent (p ∷ ps) = ap (λ y. lent_parts p ∷ y) (parts-lent ps)
+
+pub lent_at : (xs : List Parts) (ps : List Prefix) (i : ℕ) (clear body : List ℕ) → map parts_of (packets_in xs ps) ≡ xs
+    → slice_get xs i ≡ Some (clear, body) → slice_get (map lent_parts (packets_in xs ps)) i ≡ Some (drop 4 clear, body)
+lent_at xs ps i clear body e at =
+    let cut : Parts → Parts = λ x. (drop 4 x.0, x.1) in
+    ap (λ y. slice_get y i) (sym (parts-lent (packets_in xs ps)) ∙ ap (map cut) e)
+    ∙ slice_get-map cut xs i ∙ ap (option_map cut) at
+
+pub clear_long : (xs : List Parts) (ps : List Prefix) (i : ℕ) (clear body : List ℕ) → map parts_of (packets_in xs ps) ≡ xs
+    → slice_get xs i ≡ Some (clear, body) → 4 ≤ length clear
+clear_long [] ps i clear body e at = absurd (cc)
+clear_long (x ∷ xs) [] i clear body e at = absurd (cc)
+clear_long (x ∷ xs) (p ∷ ps) zero clear body e at =
+    let first : parts_of (record { prefix = p; head = drop 4 x.0; body = x.1; tag = [] }) ≡ x = cc in
+    let same : x ≡ (clear, body) = cc in
+    let head : prefix_bytes p ++ drop 4 x.0 ≡ clear = ap (λ (y : Parts). y.0) (first ∙ same) in
+    omega (arith, ap length head)
+clear_long (x ∷ xs) (p ∷ ps) (suc i) clear body e at =
+    let rest : map parts_of (packets_in xs ps) ≡ xs = cc in
+    clear_long xs ps i clear body rest at
+
+pub mark_at : (xs : List Parts) (ps : List Prefix) (i : ℕ) (clear body : List ℕ) (d : Prefix) → i < length xs → map parts_of (packets_in xs ps) ≡ xs
+    → slice_get xs i ≡ Some (clear, body)
+    → slice_get (map mark_of (packets_in xs ps)) i ≡ Some (record { t = (get_or ps i d).t; sync = begins_sync (get_or ps i d).sub (slice_index clear 4) })
+mark_at [] ps i clear body d lt e at = absurd (omega arith)
+mark_at (x ∷ xs) [] i clear body d lt e at = absurd (cc)
+mark_at (x ∷ xs) (p ∷ ps) zero clear body d lt e at =
+    let first : parts_of (record { prefix = p; head = drop 4 x.0; body = x.1; tag = [] }) ≡ x = cc in
+    let same : x ≡ (clear, body) = cc in
+    let head : prefix_bytes p ++ drop 4 x.0 ≡ clear = ap (λ (y : Parts). y.0) (first ∙ same) in
+    ap (λ y. Some (record { t = p.t; sync = begins_sync p.sub (slice_index y 4) })) head
+mark_at (x ∷ xs) (p ∷ ps) (suc i) clear body d lt e at =
+    let rest : map parts_of (packets_in xs ps) ≡ xs = cc in
+    mark_at xs ps i clear body d (omega arith) rest at
+
+pub whole_rest : (s : List ℕ) → take (length s - 4) (drop 4 s) ≡ drop 4 s
+whole_rest s = grind (arith, common_steps)

@@ -1,0 +1,212 @@
+-- A packet that was sealed: its bytes, and the sender after it.
+use Rattle.std.proofs.Common.{◌≡◌, ◌≢◌, ℕ, ◌+◌, ◌-◌, ◌<◌, ◌≤◌, Bool, true, false, not, ◌&&◌, ◌||◌, ◌==◌, if◌then◌else◌, List, [], ◌∷◌, ◌++◌, length, Option, Some, None, Result, Ok, Err, refl, sym, ap, ◌∙◌, subst, arith, append_assoc, length-append}
+use Rattle.std.proofs.lemmas.Grind.{common_steps}
+use Rattle.gcm_seal.specs.Gcm.{masked, tag_of}
+use Rattle.ide_prefix.specs.declared.packet.Prefix.{Prefix}
+use Rattle.ide_prefix.specs.Iv.{iv_of}
+use Rattle.ide_prefix.specs.Packet.{Packet, prefix_bytes, packet_bytes, sync_head}
+use Rattle.ide_prefix.specs.Units.{authenticated, encrypted}
+use Rattle.stream_rules.specs.Stream.{Slots, LiveKey, live_sender, sealed_slots, ended_slots}
+use Rattle.key_slots.specs.declared.slot.Slot.{Slot as KeySlot}
+use Rattle.key_slots.specs.declared.slot.Slot.TheVariants.{Empty, Programmed, Armed, Live}
+use Rattle.key_slots.specs.{SlotPair}
+use Rattle.sub_stream.specs.declared.answer.TxRefusal.TheVariants.{Worn}
+use Rattle.sub_stream.specs.Seen.{seen_out, has_live, both_live}
+use Rattle.sub_stream.specs.Gathered.{Gathered, with_packet, clear_of, no_packets}
+use Rattle.sub_stream.specs.Sender.{Sender, Content, ready_of, ready_under, sealing_of, sealing_under, sealing_as, packet_of, ends, ahead_for, IsSender}
+
+pub sealing_with : (tx : Sender) (front : List ℕ) (c : Content) (more : Bool) (x : Bool × LiveKey) → Ok x ≡ ready_of tx
+    → sealing_of tx front c more ≡ Ok (sealing_as tx front x c (ends tx x.1 more))
+sealing_with tx front c more x e = ap (sealing_under tx front c more) (sym e)
+
+-- the packet before its tag
+abbrev pub bare : List ℕ → List ℕ → List Packet → Prefix → List ℕ → List ℕ → Packet
+bare key iv ps prefix head payload =
+    record { prefix = prefix; head = head; body = masked key iv (length (encrypted ps)) payload; tag = [] }
+
+abbrev pub tagged : Bool → List ℕ → List ℕ → Gathered → Packet → Packet
+tagged m key iv unit q =
+    record q { tag = if m then tag_of key iv (clear_of (with_packet unit q)) (encrypted (with_packet unit q).packets) else [] }
+
+-- it is the rules' packet
+pub packet-tagged : (tx : Sender) (front : List ℕ) (x : Bool × LiveKey) (c : Content) (m : Bool) (unit : Gathered) (prefix : Prefix) (iv : List ℕ)
+    → unit.packets ≡ x.1.packets → unit.front ≡ ahead_for tx x.1 front
+    → (if c.sync then sync_head else c.head) ≡ c.head → (if c.sync then [] else c.payload) ≡ c.payload
+    → prefix ≡ record { m = m; k = x.0; t = c.t; sub = tx.sub; stream = tx.stream; posted = c.posted }
+    → iv ≡ iv_of tx.sub (x.1.units + 1)
+    → tagged m x.1.key iv unit (bare x.1.key iv unit.packets prefix c.head c.payload) ≡ packet_of tx front x c m
+packet-tagged tx front x c m unit prefix iv ps ahead head payload is_prefix is_iv =
+    rw (ps, ahead, is_prefix, is_iv, head, payload) refl
+
+pub bytes-sealed : (key iv out0 out1 out2 head payload : List ℕ) (prefix : Prefix) (unit unit2 : Gathered) (m : Bool)
+    → out1 ≡ out0 ++ (prefix_bytes prefix ++ (head ++ masked key iv (length (encrypted unit.packets)) payload))
+    → unit2 ≡ with_packet unit (bare key iv unit.packets prefix head payload)
+    → out2 ≡ out1 ++ (if m then tag_of key iv (clear_of unit2) (encrypted unit2.packets) else [])
+    → out2 ≡ out0 ++ packet_bytes (tagged m key iv unit (bare key iv unit.packets prefix head payload))
+bytes-sealed key iv out0 out1 out2 head payload prefix unit unit2 m is1 is_unit is2 =
+    let t : List ℕ = if m then tag_of key iv (clear_of (with_packet unit (bare key iv unit.packets prefix head payload))) (encrypted (with_packet unit (bare key iv unit.packets prefix head payload)).packets) else [] in
+    rw (is2, is1, is_unit) (regroup out0 (prefix_bytes prefix) head (masked key iv (length (encrypted unit.packets)) payload) t)
+  where
+    regroup : (a p h b t : List ℕ) → (a ++ (p ++ (h ++ b))) ++ t ≡ a ++ (p ++ (h ++ (b ++ t)))
+    regroup a p h b t = simp append_assoc
+
+-- ---- the slots after it
+
+ended-open : (pair : SlotPair) (units : ℕ) (ps qs : List Packet) → ended_slots (seen_out pair units ps) ≡ ended_slots (seen_out pair units qs)
+ended-open pair units ps qs = by_slots pair.zero pair.one
+  where
+    by_slots : (a b : KeySlot) → ended_slots (seen_out (record { sender = true; zero = a; one = b }) units ps) ≡ ended_slots (seen_out (record { sender = true; zero = a; one = b }) units qs)
+    by_slots Empty Empty = refl
+    by_slots Empty (Programmed h) = refl
+    by_slots Empty (Armed h) = refl
+    by_slots Empty (Live h) = refl
+    by_slots (Programmed g) Empty = refl
+    by_slots (Programmed g) (Programmed h) = refl
+    by_slots (Programmed g) (Armed h) = refl
+    by_slots (Programmed g) (Live h) = refl
+    by_slots (Armed g) Empty = refl
+    by_slots (Armed g) (Programmed h) = refl
+    by_slots (Armed g) (Armed h) = refl
+    by_slots (Armed g) (Live h) = refl
+    by_slots (Live g) Empty = refl
+    by_slots (Live g) (Programmed h) = refl
+    by_slots (Live g) (Armed h) = refl
+    by_slots (Live g) (Live h) = refl
+
+goes_on : (pair : SlotPair) (units : ℕ) (ps : List Packet) (p : Packet) → seen_out pair units (ps ++ p ∷ []) ≡ sealed_slots false p (seen_out pair units ps)
+goes_on pair units ps p = by_slots pair.zero pair.one
+  where
+    by_slots : (a b : KeySlot) → seen_out (record { sender = true; zero = a; one = b }) units (ps ++ p ∷ []) ≡ sealed_slots false p (seen_out (record { sender = true; zero = a; one = b }) units ps)
+    by_slots Empty Empty = refl
+    by_slots Empty (Programmed h) = refl
+    by_slots Empty (Armed h) = refl
+    by_slots Empty (Live h) = refl
+    by_slots (Programmed g) Empty = refl
+    by_slots (Programmed g) (Programmed h) = refl
+    by_slots (Programmed g) (Armed h) = refl
+    by_slots (Programmed g) (Live h) = refl
+    by_slots (Armed g) Empty = refl
+    by_slots (Armed g) (Programmed h) = refl
+    by_slots (Armed g) (Armed h) = refl
+    by_slots (Armed g) (Live h) = refl
+    by_slots (Live g) Empty = refl
+    by_slots (Live g) (Programmed h) = refl
+    by_slots (Live g) (Armed h) = refl
+    by_slots (Live g) (Live h) = refl
+
+pub slots-sealed : (m : Bool) (pair : SlotPair) (units : ℕ) (ps : List Packet) (key iv : List ℕ) (unit : Gathered) (q : Packet) (slots : Slots)
+    → q.tag ≡ []
+    → slots ≡ (if m then ended_slots (seen_out pair units (ps ++ q ∷ [])) else seen_out pair units (ps ++ q ∷ []))
+    → slots ≡ sealed_slots m (tagged m key iv unit q) (seen_out pair units ps)
+slots-sealed true pair units ps key iv unit q slots bare_tag is = is ∙ ended-open pair units (ps ++ q ∷ []) ps
+slots-sealed false pair units ps key iv unit q slots bare_tag is =
+    let same : q ≡ tagged false key iv unit q = rw bare_tag refl in
+    is ∙ goes_on pair units ps q ∙ ap (λ p. sealed_slots false p (seen_out pair units ps)) same
+
+pub front_if : (m : Bool) (a b : Gathered) → (if m then a else b).front ≡ (if m then a.front else b.front)
+front_if true a b = refl
+front_if false a b = refl
+
+-- ---- what always holds
+
+not_worn : (a b : Bool) (x y : Bool × LiveKey) (n : ℕ) → Ok x ≡ (if a && b then Err (Worn n) else Ok y) → a ≡ true → b ≡ false
+not_worn true true x y n e h = absurd (cc)
+not_worn true false x y n e h = refl
+not_worn false b x y n e h = absurd (cc)
+
+-- a unit that begins is one of those that the key may seal
+begins_within : (pair : SlotPair) (units limit : ℕ) (ps : List Packet) (x : Bool × LiveKey)
+    → Ok x ≡ ready_under limit (live_sender (seen_out pair units ps)) → (length ps == 0) ≡ true → (units == limit) ≡ false
+begins_within pair units limit ps x = by_slots pair.zero pair.one
+  where
+    by_slots : (a b : KeySlot) → Ok x ≡ ready_under limit (live_sender (seen_out (record { sender = true; zero = a; one = b }) units ps))
+        → (length ps == 0) ≡ true → (units == limit) ≡ false
+    by_slots (Live g) b e h = not_worn (length ps == 0) (units == limit) x _ limit e h
+    by_slots Empty (Live g) e h = not_worn (length ps == 0) (units == limit) x _ limit e h
+    by_slots (Programmed f) (Live g) e h = not_worn (length ps == 0) (units == limit) x _ limit e h
+    by_slots (Armed f) (Live g) e h = not_worn (length ps == 0) (units == limit) x _ limit e h
+    by_slots Empty Empty e h = absurd (cc)
+    by_slots Empty (Programmed g) e h = absurd (cc)
+    by_slots Empty (Armed g) e h = absurd (cc)
+    by_slots (Programmed f) Empty e h = absurd (cc)
+    by_slots (Programmed f) (Programmed g) e h = absurd (cc)
+    by_slots (Programmed f) (Armed g) e h = absurd (cc)
+    by_slots (Armed f) Empty e h = absurd (cc)
+    by_slots (Armed f) (Programmed g) e h = absurd (cc)
+    by_slots (Armed f) (Armed g) e h = absurd (cc)
+
+-- a key that seals is Live
+pub keyed_live : (pair : SlotPair) (units limit : ℕ) (ps : List Packet) (x : Bool × LiveKey)
+    → Ok x ≡ ready_under limit (live_sender (seen_out pair units ps)) → has_live pair ≡ true
+keyed_live pair units limit ps x = by_slots pair.zero pair.one
+  where
+    by_slots : (a b : KeySlot) → Ok x ≡ ready_under limit (live_sender (seen_out (record { sender = true; zero = a; one = b }) units ps))
+        → has_live (record { sender = true; zero = a; one = b }) ≡ true
+    by_slots (Live g) b e = refl
+    by_slots Empty (Live g) e = refl
+    by_slots (Programmed f) (Live g) e = refl
+    by_slots (Armed f) (Live g) e = refl
+    by_slots Empty Empty e = absurd (cc)
+    by_slots Empty (Programmed g) e = absurd (cc)
+    by_slots Empty (Armed g) e = absurd (cc)
+    by_slots (Programmed f) Empty e = absurd (cc)
+    by_slots (Programmed f) (Programmed g) e = absurd (cc)
+    by_slots (Programmed f) (Armed g) e = absurd (cc)
+    by_slots (Armed f) Empty e = absurd (cc)
+    by_slots (Armed f) (Programmed g) e = absurd (cc)
+    by_slots (Armed f) (Armed g) e = absurd (cc)
+
+within_limit : (mode limit units : ℕ) (pair : SlotPair) (unit : Gathered) (x : Bool × LiveKey)
+    → IsSender mode limit units pair unit → has_live pair ≡ true
+    → Ok x ≡ ready_under limit (live_sender (seen_out pair units unit.packets)) → units < limit
+within_limit mode limit units pair unit x inv live e = by_open (length unit.packets == 0) refl
+  where
+    by_open : (b : Bool) → (length unit.packets == 0) ≡ b → units < limit
+    by_open false h = inv.room h
+    by_open true h =
+        let most : units ≤ limit = inv.worn live in
+        let other : (units == limit) ≡ false = begins_within pair units limit unit.packets x e h in
+        grind (arith, common_steps)
+
+pub sender-sealed : (mode limit units units' : ℕ) (pair pair' : SlotPair) (unit unit2 unit' : Gathered) (m more : Bool) (x : Bool × LiveKey)
+    → IsSender mode limit units pair unit
+    → Ok x ≡ ready_under limit (live_sender (seen_out pair units unit.packets))
+    → m ≡ (not more || (length unit.packets + 1 == mode))
+    → length unit2.packets ≡ length unit.packets + 1 → unit2.mode ≡ unit.mode
+    → unit' ≡ (if m then no_packets unit2.mode else unit2)
+    → pair'.sender ≡ pair.sender → has_live pair' ≡ true → (both_live pair ≡ false → both_live pair' ≡ false)
+    → units' ≤ (if m then units + 1 else units)
+    → IsSender mode limit units' pair' unit'
+sender-sealed mode limit units units' pair pair' unit unit2 unit' true more x inv e is_m more_packets same is sender live' one few =
+    let less : units < limit = within_limit mode limit units pair unit x inv (keyed_live pair units limit unit.packets x e) e in
+    let none : unit'.packets ≡ [] = ap (λ (u : Gathered). u.packets) is in
+    record {
+      sender = sender ∙ inv.sender;
+      one_live = one inv.one_live;
+      some_mode = inv.some_mode;
+      small_mode = inv.small_mode;
+      same_mode = ap (λ (u : Gathered). u.mode) is ∙ same ∙ inv.same_mode;
+      fits = rw none inv.some_mode;
+      worn = λ _. omega (arith, few, less);
+      room = rw none (λ no. absurd (cc));
+      closed = λ no. absurd (cc);
+    }
+sender-sealed mode limit units units' pair pair' unit unit2 unit' false more x inv e is_m more_packets same is sender live' one few =
+    let less : units < limit = within_limit mode limit units pair unit x inv (keyed_live pair units limit unit.packets x e) e in
+    let count : length unit'.packets ≡ length unit.packets + 1 = ap (λ (u : Gathered). length u.packets) is ∙ more_packets in
+    let not_full : (length unit.packets + 1 == mode) ≡ false = last_false (not more) _ (sym is_m) in
+    record {
+      sender = sender ∙ inv.sender;
+      one_live = one inv.one_live;
+      some_mode = inv.some_mode;
+      small_mode = inv.small_mode;
+      same_mode = ap (λ (u : Gathered). u.mode) is ∙ same ∙ inv.same_mode;
+      fits = (let f : length unit.packets < mode = inv.fits in grind (arith, common_steps));
+      worn = λ _. omega (arith, few, less);
+      room = λ _. omega (arith, few, less);
+      closed = λ no. absurd (cc);
+    }
+  where
+    last_false : (a b : Bool) → (a || b) ≡ false → b ≡ false
+    last_false true b e = absurd (cc)
+    last_false false b e = e

@@ -1,0 +1,18 @@
+use Rattle.std.proofs.Common.{◌≡◌, ◌+◌, ◌<◌, ◌++◌, List, ℕ, length, ap, sym, ◌∙◌, arith}
+use Rattle.ide_prefix.specs.Packet.{prefix_bytes}
+use Rattle.sub_stream.proofs.Views.{has_place, gathered-added, view-added}
+use Rattle.sub_stream.proofs.unit_packets.UnitPackets.push.Goals as goal
+
+place : (c : goal.After-add) → length c.self.inside.buf.packets < c.self.inside.buf.mode
+place c = has_place _ _ _ _ c.self.invariant c.self.view_is c.requires.room
+
+clear : (c : goal.After-add) → c.deref.result.now ≡ prefix_bytes c.args.prefix.now ++ c.args.head.now
+clear c = c.deref.ensures.0 ∙ c.clear_part-clear.ensures
+
+pub invariant_of-self : goal.invariant_of-self
+invariant_of-self c =
+    rw c.posted_in.ensures.value
+    (gathered-added _ _ _ _ _ _ _ _ _ c.self.invariant (place c) c.count-i.ensures.count (omega (arith, c.posted_in.ensures.value, c.posted_in.ensures.small)) (clear c) c.add.ensures.unit)
+
+pub returns : goal.returns
+returns c = view-added _ _ _ _ _ _ _ _ _ _ c.self.invariant c.self.view_is (place c) c.count-i.ensures.count (clear c) c.add.ensures.unit

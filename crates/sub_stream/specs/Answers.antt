@@ -1,0 +1,32 @@
+-- What senders and receivers answer, beside the verdicts of a port.
+use Rattle.std.specs.Prelude.{ℕ, List, [], ◌∷◌, length, map, Option, Some, None}
+use Rattle.ide_types.specs.declared.port.PortName.{PortName}
+use Rattle.link_verdicts.specs.declared.verdict.SealedPacket.{SealedPacket as Described}
+use Rattle.stream_rules.specs.Stream.{Taken as Answer, Insecure, NotKeyed as Keyless, Failed, Held as HeldBack, Accepted as Whole}
+use Rattle.sub_stream.specs.declared.answer.SealedPacket.{SealedPacket}
+use Rattle.sub_stream.specs.declared.answer.Taken.{Taken}
+use Rattle.sub_stream.specs.declared.answer.Taken.TheVariants.{NotKeyed, Held, Accepted, Fail}
+
+-- a sealed packet as a port describes it, with its number over the run
+abbrev pub numbered : PortName → ℕ → SealedPacket → Described
+numbered port number p = record {
+  number = number;
+  port = port;
+  stream = p.stream;
+  sub = p.sub;
+  draw = p.draw;
+  unit = p.unit;
+  m = p.m;
+  k = p.k;
+  t = p.t;
+  posted = p.posted;
+  sync = p.sync;
+}
+
+-- what is answered to a packet; none where the stream is insecure
+abbrev pub answer_of : Answer → Option Taken
+answer_of Insecure = None
+answer_of Keyless = Some NotKeyed
+answer_of (Failed cause) = Some (Fail cause)
+answer_of (HeldBack draw unit) = Some (Held draw unit)
+answer_of (Whole draw unit packets) = Some (Accepted draw unit (length packets))

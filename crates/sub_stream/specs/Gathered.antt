@@ -1,0 +1,73 @@
+-- The packets of one unit, gathered, and what they carry once they are decrypted (PCI Express Base 6.0 section 6.33, in
+-- this profile).
+use Rattle.std.specs.Prelude.{◌≡◌, ℕ, ◌+◌, ◌*◌, ◌≤◌, Bool, List, [], ◌∷◌, ◌++◌, length, map, drop, slice_index, Option, Some, None}
+use Rattle.std.specs.Borrow.{Bor}
+use Rattle.gcm_seal.specs.Gcm.{masked}
+use Rattle.ide_prefix.specs.declared.packet.Prefix.{Prefix}
+use Rattle.ide_prefix.specs.Packet.{Packet, is_sync_packet}
+use Rattle.ide_prefix.specs.Units.{clear_bytes, authenticated, encrypted}
+use Rattle.stream_rules.specs.Stream.{posted_sum}
+use Rattle.unit_aggregation.specs.{Collected}
+use Rattle.sub_stream.specs.declared.answer.PacketMark.{PacketMark}
+
+-- at most how many packets, the bytes ahead of what they have in clear, and the packets, without a tag
+pub record Gathered : Type 0 where
+  pub mode : ℕ
+  pub front : List ℕ
+  pub packets : List Packet
+
+abbrev pub no_packets : ℕ → Gathered
+no_packets mode = record { mode = mode; front = []; packets = [] }
+
+-- a unit that begins, behind these bytes
+abbrev pub begun_unit : ℕ → List ℕ → Gathered
+begun_unit mode front = record { mode = mode; front = front; packets = [] }
+
+abbrev pub with_packet : Gathered → Packet → Gathered
+with_packet unit p = record unit { packets = unit.packets ++ p ∷ [] }
+
+-- what is authenticated in clear
+abbrev pub clear_of : Gathered → List ℕ
+clear_of unit = unit.front ++ authenticated unit.packets
+
+abbrev pub lent_front : Option (Bor (List ℕ)) → List ℕ
+lent_front None = []
+lent_front (Some front) = front.now
+
+-- ---- packets in a buffer
+
+-- the packets of these prefixes: a head is the bytes of a prefix, and a header
+abbrev pub packets_in : List (List ℕ × List ℕ) → List Prefix → List Packet
+packets_in [] ps = []
+packets_in (x ∷ xs) [] = []
+packets_in (x ∷ xs) (p ∷ ps) = record { prefix = p; head = drop 4 x.0; body = x.1; tag = [] } ∷ packets_in xs ps
+
+abbrev pub parts_of : Packet → List ℕ × List ℕ
+parts_of p = (clear_bytes p, p.body)
+
+-- the buffer has the packets of these prefixes, whose posted counts come to this sum
+pub record IsGathered (prefixes : List Prefix) (posted : ℕ) (buf : Collected) : Type 0 where
+  pub places : length prefixes ≡ 8
+  pub small_mode : buf.mode ≤ 8
+  pub fits : length buf.packets ≤ buf.mode
+  pub parts : map parts_of (packets_in buf.packets prefixes) ≡ buf.packets
+  pub sum : posted ≡ posted_sum (packets_in buf.packets prefixes)
+  pub few : posted ≤ 255 * length buf.packets
+
+-- ---- decrypted
+
+-- with their bodies decrypted, the first of which begins at byte n of the unit's plaintext
+abbrev pub opened_from : List ℕ → List ℕ → ℕ → List Packet → List Packet
+opened_from key iv n [] = []
+opened_from key iv n (p ∷ ps) =
+    record { prefix = p.prefix; head = p.head; body = masked key iv n p.body; tag = [] } ∷ opened_from key iv (n + length p.body) ps
+
+abbrev pub opened : List ℕ → List ℕ → List Packet → List Packet
+opened key iv unit = opened_from key iv 0 unit
+
+-- what is lent of a packet: its header, and its body
+abbrev pub lent_parts : Packet → List ℕ × List ℕ
+lent_parts p = (p.head, p.body)
+
+abbrev pub mark_of : Packet → PacketMark
+mark_of p = record { t = p.prefix.t; sync = is_sync_packet p }

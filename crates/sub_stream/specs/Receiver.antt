@@ -1,0 +1,232 @@
+-- A receiver of one sub-stream as a machine: what it keeps, and what it answers to a packet (PCI Express Base 6.0 section
+-- 6.33, in this profile).
+use Rattle.std.specs.Prelude.{◌≡◌, ℕ, ◌+◌, ◌≤◌, ◌<◌, Bool, true, false, not, ◌&&◌, ◌||◌, ◌==◌, nat_le, nat_lt, List, [], ◌∷◌, ◌++◌, length, Option, Some, None, if◌then◌else◌}
+use Rattle.ide_types.specs.declared.sub.SubKind.{SubKind}
+use Rattle.ide_types.specs.declared.sub.FailCause.TheVariants as fail
+use Rattle.gcm_seal.specs.Gcm.{verifies}
+use Rattle.ide_prefix.specs.Packet.{Packet}
+use Rattle.ide_prefix.specs.Iv.{iv_of}
+use Rattle.ide_prefix.specs.Units.{authenticated, encrypted, untagged}
+use Rattle.stream_rules.specs.Stream.{Slot, Empty, Programmed, Live, Slots, LiveKey, Taken, NotKeyed, Failed, Held, Accepted, Insecure, slot_in, with_slot, live_in, holds_any, posted_sum, checked, dropped, gone_on, accepted_slots}
+use Rattle.stream_rules.specs.Slots.{begun}
+use Rattle.key_slots.specs.{SlotPair, slot_in as key_slot_in, with_both, live_draw, is_only_live, is_live as is_live_key}
+use Rattle.key_slots.specs.declared.slot.Slot.TheVariants as key
+use Rattle.sub_stream.specs.declared.answer.Taken.{Taken as Answer}
+use Rattle.sub_stream.specs.declared.answer.Taken.TheVariants as answers
+use Rattle.sub_stream.specs.declared.taking.Holds.{Holds}
+use Rattle.sub_stream.specs.declared.taking.Holds.TheVariants.{Nothing, Zero, One, Delivered}
+use Rattle.sub_stream.specs.Seen.{seen, slot_pair, no_slots, has_armed}
+use Rattle.sub_stream.specs.Gathered.{Gathered, with_packet, opened}
+use Rattle.sub_stream.specs.Sender.{ahead_of}
+
+-- units of at most `mode` packets; `ahead` stands ahead of what the held packets authenticate, `delivered` are the
+-- packets of the last accepted unit, decrypted, until the next change, and `takes` how many packets it was given
+pub record Receiver : Type 0 where
+  pub stream : ℕ
+  pub sub : SubKind
+  pub mode : ℕ
+  pub ahead : List ℕ
+  pub slots : Slots
+  pub delivered : List Packet
+  pub takes : ℕ
+
+abbrev pub new_receiver : ℕ → SubKind → ℕ → Receiver
+new_receiver stream sub mode =
+    record { stream = stream; sub = sub; mode = mode; ahead = []; slots = no_slots; delivered = []; takes = 0 }
+
+-- ---- what is kept, as the code keeps it
+
+-- the packets of a buffer that are held in key set 0, in key set 1, and those that were delivered
+abbrev pub held_zero : Holds → List Packet → List Packet
+held_zero Zero ps = ps
+held_zero h ps = []
+
+abbrev pub held_one : Holds → List Packet → List Packet
+held_one One ps = ps
+held_one h ps = []
+
+abbrev pub lent_by : Holds → List Packet → List Packet
+lent_by Delivered ps = ps
+lent_by h ps = []
+
+abbrev pub ahead_by : Holds → List ℕ → List ℕ
+ahead_by Zero front = front
+ahead_by One front = front
+ahead_by h front = []
+
+abbrev pub holds_some : Holds → Bool
+holds_some Zero = true
+holds_some One = true
+holds_some h = false
+
+-- packets are held in another set than this
+abbrev pub holds_apart : Bool → Holds → Bool
+holds_apart k Zero = k
+holds_apart k One = not k
+holds_apart k h = false
+
+abbrev pub held_in : Bool → Holds
+held_in k = if k then One else Zero
+
+abbrev pub holds_after : Bool → Answer → Holds
+holds_after k (answers.Held draw unit) = held_in k
+holds_after k (answers.Accepted draw unit count) = Delivered
+holds_after k answer = Nothing
+
+abbrev pub is_accepted : Answer → Bool
+is_accepted (answers.Accepted draw unit count) = true
+is_accepted answer = false
+
+-- the other slot is emptied where it is Live under an older draw
+abbrev pub is_draw_below : ℕ → Option ℕ → Bool
+is_draw_below draw None = false
+is_draw_below draw (Some other) = nat_lt other draw
+
+abbrev pub without_older : SlotPair → Bool → ℕ → SlotPair
+without_older pair k draw =
+    if is_draw_below draw (live_draw (key_slot_in pair (not k))) then with_both pair.sender k (key_slot_in pair k, key.Empty) else pair
+
+abbrev pub slots_after : Answer → Bool → SlotPair → SlotPair
+slots_after (answers.Accepted draw unit count) k pair = without_older pair k draw
+slots_after answer k pair = pair
+
+abbrev pub held_unless_failed : Holds → Answer → Holds
+held_unless_failed h answers.NotKeyed = h
+held_unless_failed h answer = Nothing
+
+abbrev pub held_alone : Holds → Holds
+held_alone Delivered = Nothing
+held_alone h = h
+
+-- a packet of this key set, with this M, joins what is held and leaves room for the last of its unit
+abbrev pub fits_held : Holds → ℕ → ℕ → Bool → Bool → Bool
+fits_held h n mode k m =
+    not (holds_apart k h || (not m && nat_le mode ((if holds_some h then n else 0) + 1)))
+
+-- what is held where a slot is emptied
+abbrev pub left_without : Bool → Holds → Holds
+left_without k Zero = if k then Zero else Nothing
+left_without k One = if k then Nothing else One
+left_without k h = Nothing
+
+abbrev pub seen_in : SlotPair → ℕ → ℕ → Holds → List Packet → Slots
+seen_in pair units_zero units_one h ps =
+    record { first = seen units_zero (held_zero h ps) pair.zero; second = seen units_one (held_one h ps) pair.one }
+
+-- packets are held in a Live slot, fewer than the mode
+abbrev pub HoldsFew : SlotPair → ℕ → Holds → List Packet → Type 0
+HoldsFew pair mode Zero ps = (is_live_key pair.zero ≡ true) × (0 < length ps) × (length ps < mode)
+HoldsFew pair mode One ps = (is_live_key pair.one ≡ true) × (0 < length ps) × (length ps < mode)
+HoldsFew pair mode h ps = Unit {0}
+
+pub record IsReceiver (mode units_zero units_one takes : ℕ) (pair : SlotPair) (h : Holds) (unit : Gathered) : Type 0 where
+  pub sender : pair.sender ≡ false
+  pub never_armed : has_armed pair ≡ false
+  pub some_mode : 1 ≤ mode
+  pub small_mode : mode ≤ 8
+  pub same_mode : unit.mode ≡ mode
+  pub few_zero : units_zero ≤ takes
+  pub few_one : units_one ≤ takes
+  pub few : HoldsFew pair mode h unit.packets
+
+-- ---- packets
+
+abbrev pub key_for : Receiver → Bool → Option LiveKey
+key_for rx k = live_in (slot_in rx.slots k)
+
+abbrev pub ahead_in : Receiver → LiveKey → List ℕ → List ℕ
+ahead_in rx x front = if length x.packets == 0 then ahead_of front (x.units + 1) else rx.ahead
+
+-- the tag is that of the unit
+abbrev pub is_tagged_behind : List ℕ → LiveKey → Packet → Bool
+is_tagged_behind ahead x p =
+    let unit = x.packets ++ p ∷ [] in
+    verifies x.key (iv_of p.prefix.sub (x.units + 1)) (ahead ++ authenticated unit) (encrypted unit) p.tag
+
+-- no packets of the other set are held, and one without M finds room for the last of its unit
+abbrev pub fits_unit : ℕ → LiveKey → Option LiveKey → Packet → Bool
+fits_unit mode x other p = not (holds_any other || (not p.prefix.m && nat_le mode (length x.packets + 1)))
+
+abbrev pub judged : List ℕ → ℕ → LiveKey → Packet → Taken
+judged ahead allowed x p =
+    if p.prefix.m then checked (is_tagged_behind ahead x p) (nat_le (posted_sum (x.packets ++ p ∷ [])) allowed) x p
+    else Held x.draw (x.units + 1)
+
+abbrev pub taken_with : Receiver → ℕ → List ℕ → Packet → Option LiveKey → Option LiveKey → Taken
+taken_with rx allowed front p None None = NotKeyed
+taken_with rx allowed front p None (Some y) = Failed fail.Key
+taken_with rx allowed front p (Some x) other =
+    if fits_unit rx.mode x other p then judged (ahead_in rx x front) allowed x p else Failed fail.Unit
+
+-- the answers that come before a look at the tag
+abbrev pub early_answer : ℕ → Packet → Option LiveKey → Option LiveKey → Option Answer
+early_answer mode p None None = Some answers.NotKeyed
+early_answer mode p None (Some y) = Some (answers.Fail fail.Key)
+early_answer mode p (Some x) other = if fits_unit mode x other p then None else Some (answers.Fail fail.Unit)
+
+abbrev pub early_of : Receiver → Packet → Option Answer
+early_of rx p = early_answer rx.mode p (key_for rx p.prefix.k) (key_for rx (not p.prefix.k))
+
+-- the buffer after an answer under a key: the packet is with the held ones, or the unit is decrypted
+abbrev pub BufferAfter : Gathered → LiveKey → Packet → Taken → Gathered → Type 0
+BufferAfter begun x p (Held draw unit) new = new ≡ with_packet begun (untagged p)
+BufferAfter begun x p (Accepted draw unit packets) new =
+    new ≡ record begun { packets = opened x.key (iv_of p.prefix.sub (x.units + 1)) packets }
+BufferAfter begun x p answer new = Unit {0}
+
+-- the answer to a packet of the sub-stream, whose unit's posted counts may come to this sum
+abbrev pub taken_of : Receiver → ℕ → List ℕ → Packet → Taken
+taken_of rx allowed front p = taken_with rx allowed front p (key_for rx p.prefix.k) (key_for rx (not p.prefix.k))
+
+abbrev pub dropped_slots : Slots → Slots
+dropped_slots s = record { first = dropped s.first; second = dropped s.second }
+
+abbrev pub dropped_receiver : Receiver → Receiver
+dropped_receiver rx = record rx { ahead = []; slots = dropped_slots rx.slots; delivered = [] }
+
+abbrev pub ahead_held : Receiver → Option LiveKey → List ℕ → List ℕ
+ahead_held rx None front = []
+ahead_held rx (Some x) front = ahead_in rx x front
+
+-- an accepted unit, decrypted under its key
+abbrev pub opened_under : Option LiveKey → SubKind → List Packet → List Packet
+opened_under None sub unit = []
+opened_under (Some x) sub unit = opened x.key (iv_of sub (x.units + 1)) unit
+
+-- what is kept after an answer: only an accepted unit moves a counter or empties a slot
+abbrev pub after_answer : Receiver → List ℕ → Packet → Taken → Receiver
+after_answer rx front p (Failed cause) = dropped_receiver rx
+after_answer rx front p (Held draw unit) =
+    record rx {
+      ahead = ahead_held rx (key_for rx p.prefix.k) front;
+      slots = with_slot rx.slots p.prefix.k (gone_on p (slot_in rx.slots p.prefix.k));
+      delivered = [];
+    }
+after_answer rx front p (Accepted draw unit packets) =
+    record rx {
+      ahead = [];
+      slots = accepted_slots draw p.prefix.k rx.slots;
+      delivered = opened_under (key_for rx p.prefix.k) p.prefix.sub packets;
+    }
+after_answer rx front p answer = rx
+
+abbrev pub receiver_after : Receiver → ℕ → List ℕ → Packet → Receiver
+receiver_after rx allowed front p = record (after_answer rx front p (taken_of rx allowed front p)) { takes = rx.takes + 1 }
+
+-- ---- keys: the held packets go with their slot, and what was delivered is lent no more
+
+abbrev pub ahead_at : Slots → List ℕ → List ℕ
+ahead_at slots ahead = if holds_any (live_in slots.first) || holds_any (live_in slots.second) then ahead else []
+
+abbrev pub with_slots : Receiver → Slots → Receiver
+with_slots rx slots = record rx { ahead = ahead_at slots rx.ahead; slots = slots; delivered = [] }
+
+abbrev pub programmed_receiver : Receiver → Bool → List ℕ → ℕ → Receiver
+programmed_receiver rx k key draw =
+    if is_only_live (slot_pair false rx.slots) k then rx else with_slots rx (with_slot rx.slots k (Programmed draw key))
+
+abbrev pub gone_receiver : Receiver → Bool → Receiver
+gone_receiver rx k = with_slots rx (with_slot rx.slots k (begun (slot_in rx.slots k)))
+
+abbrev pub halted_receiver : Receiver → Bool → Receiver
+halted_receiver rx k = with_slots rx (with_slot rx.slots k Empty)

@@ -1,0 +1,65 @@
+-- The two key slots with what is kept beside them.
+use Rattle.std.specs.Prelude.{◌≡◌, ℕ, Bool, true, false, ◌&&◌, ◌||◌, List, [], Option, Some, None}
+use Rattle.std.specs.Option.{option_map}
+use denote.Ref.{Bor}
+use Rattle.ide_prefix.specs.Packet.{Packet}
+use Rattle.stream_rules.specs.Stream.{Slot, Empty, Programmed, Armed, Live, LiveKey, Slots}
+use Rattle.key_slots.specs.declared.slot.Slot.{Slot as KeySlot}
+use Rattle.key_slots.specs.{SlotPair, DrawnKey, live_held, is_live, is_armed}
+use Rattle.key_slots.specs.declared.slot.Slot.TheVariants as key
+
+-- a slot, with the units and the open unit's packets of its key where that is Live
+abbrev pub seen : ℕ → List Packet → KeySlot → Slot
+seen units packets key.Empty = Empty
+seen units packets (key.Programmed held) = Programmed held.draw held.key
+seen units packets (key.Armed held) = Armed held.draw held.key
+seen units packets (key.Live held) = Live (record { draw = held.draw; key = held.key; units = units; packets = packets })
+
+-- the keys of a slot alone
+abbrev pub key_slot : Slot → KeySlot
+key_slot Empty = key.Empty
+key_slot (Programmed draw bytes) = key.Programmed (record { key = bytes; draw = draw })
+key_slot (Armed draw bytes) = key.Armed (record { key = bytes; draw = draw })
+key_slot (Live x) = key.Live (record { key = x.key; draw = x.draw })
+
+-- the keys of both slots, of a sender or of a receiver
+abbrev pub slot_pair : Bool → Slots → SlotPair
+slot_pair sender slots = record { sender = sender; zero = key_slot slots.first; one = key_slot slots.second }
+
+abbrev pub no_slots : Slots
+no_slots = record { first = Empty; second = Empty }
+
+abbrev pub is_programmed : KeySlot → Bool
+is_programmed (key.Programmed held) = true
+is_programmed slot = false
+
+-- ---- a sender's slots, of which one at most is Live
+
+abbrev pub seen_out : SlotPair → ℕ → List Packet → Slots
+seen_out pair units packets = record { first = seen units packets pair.zero; second = seen units packets pair.one }
+
+abbrev pub has_live : SlotPair → Bool
+has_live pair = is_live pair.zero || is_live pair.one
+
+abbrev pub has_armed : SlotPair → Bool
+has_armed pair = is_armed pair.zero || is_armed pair.one
+
+abbrev pub both_live : SlotPair → Bool
+both_live pair = is_live pair.zero && is_live pair.one
+
+-- the Live key with its set
+abbrev pub in_use : SlotPair → Option (Bool × DrawnKey)
+in_use pair = first_of (live_held pair.zero) (live_held pair.one)
+  where
+    first_of : Option DrawnKey → Option DrawnKey → Option (Bool × DrawnKey)
+    first_of (Some x) other = Some (false, x)
+    first_of None (Some y) = Some (true, y)
+    first_of None None = None
+
+-- a lent key, with its set and its draw, as a value
+abbrev pub shown_in_use : Option (Bool × Bor (List ℕ) × ℕ) → Option (Bool × DrawnKey)
+shown_in_use shown = option_map (λ x. (x.0, record { key = x.1.now; draw = x.2 })) shown
+
+-- with the units and the packets that are kept beside it
+abbrev pub live_with : ℕ → List Packet → DrawnKey → LiveKey
+live_with units packets held = record { draw = held.draw; key = held.key; units = units; packets = packets }

@@ -1,0 +1,188 @@
+-- A sender of one sub-stream as a machine: what it keeps, and what it seals (PCI Express Base 6.0 section 6.33, in this
+-- profile).
+use Rattle.std.specs.Prelude.{◌≡◌, ℕ, ◌+◌, ◌≤◌, ◌<◌, Bool, true, false, not, ◌&&◌, ◌||◌, ◌==◌, List, [], ◌∷◌, ◌++◌, length, Option, Some, None, Result, Ok, Err, if◌then◌else◌}
+use Rattle.std.specs.Result.{result_map_both}
+use Rattle.ide_types.specs.declared.sub.SubKind.{SubKind}
+use Rattle.ide_types.specs.declared.port.PortName.{PortName}
+use Rattle.ide_types.specs.declared.port.Side.TheVariants.{Host}
+use Rattle.link_verdicts.specs.declared.verdict.SealedPacket.{SealedPacket as Described}
+use Rattle.ide_prefix.specs.Packet.{Packet, packet_bytes, sync_head}
+use Rattle.stream_rules.specs.Stream.{Slot, Empty, Programmed, Slots, LiveKey, live_sender, untagged_under, tagged_under, sealed_slots, slot_in, with_slot}
+use Rattle.stream_rules.specs.Slots.{both_slots, slot_gone, woken, is_live}
+use Rattle.key_slots.specs.{SlotPair, DrawnKey, is_only_live}
+use Rattle.sub_stream.specs.declared.answer.SealedPacket.{SealedPacket}
+use Rattle.sub_stream.specs.declared.answer.TxRefusal.{TxRefusal}
+use Rattle.sub_stream.specs.declared.answer.TxRefusal.TheVariants.{NoKey, Worn}
+use Rattle.sub_stream.specs.declared.sealing.Carried.{Carried}
+use Rattle.sub_stream.specs.Seen.{slot_pair, no_slots, has_live, both_live}
+use Rattle.sub_stream.specs.Gathered.{Gathered}
+
+-- units of at most `mode` packets, and at most `limit` units under one key; `ahead` stands ahead of what the open unit
+-- authenticates
+pub record Sender : Type 0 where
+  pub stream : ℕ
+  pub sub : SubKind
+  pub mode : ℕ
+  pub limit : ℕ
+  pub ahead : List ℕ
+  pub slots : Slots
+
+abbrev pub new_sender : ℕ → SubKind → ℕ → ℕ → Sender
+new_sender stream sub mode limit =
+    record { stream = stream; sub = sub; mode = mode; limit = limit; ahead = []; slots = no_slots }
+
+-- ---- what is kept, as the code keeps it
+
+-- a unit is open only under a Live key; it has fewer packets than the mode, and is one of those that the key may seal
+pub record IsSender (mode limit units : ℕ) (pair : SlotPair) (unit : Gathered) : Type 0 where
+  pub sender : pair.sender ≡ true
+  pub one_live : both_live pair ≡ false
+  pub some_mode : 1 ≤ mode
+  pub small_mode : mode ≤ 8
+  pub same_mode : unit.mode ≡ mode
+  pub fits : length unit.packets < mode
+  pub worn : has_live pair ≡ true → units ≤ limit
+  pub room : (length unit.packets == 0) ≡ false → units < limit
+  pub closed : has_live pair ≡ false → unit.packets ≡ []
+
+-- ---- sealing
+
+-- a key that may seal a packet, with its set, or why there is none
+abbrev pub ready_under : ℕ → Option (Bool × LiveKey) → Result (Bool × LiveKey) TxRefusal
+ready_under limit None = Err NoKey
+ready_under limit (Some x) = if (length x.1.packets == 0) && (x.1.units == limit) then Err (Worn limit) else Ok x
+
+abbrev pub ready_of : Sender → Result (Bool × LiveKey) TxRefusal
+ready_of tx = ready_under tx.limit (live_sender tx.slots)
+
+abbrev pub packets_under : Option (Bool × LiveKey) → List Packet
+packets_under None = []
+packets_under (Some x) = x.1.packets
+
+abbrev pub open_packets : Sender → List Packet
+open_packets tx = packets_under (live_sender tx.slots)
+
+abbrev pub is_unfinished : Sender → Bool
+is_unfinished tx = not (length (open_packets tx) == 0)
+
+-- what a packet carries: a TLP's header and payload, or a sync packet's header alone
+pub record Content : Type 0 where
+  pub head : List ℕ
+  pub payload : List ℕ
+  pub posted : ℕ
+  pub t : Bool
+  pub sync : Bool
+
+abbrev pub carried_content : Carried → Content
+carried_content c = record { head = c.head.now; payload = c.payload.now; posted = c.posted; t = c.t; sync = c.sync }
+
+abbrev pub tlp_content : List ℕ → List ℕ → ℕ → Bool → Content
+tlp_content head payload posted t = record { head = head; payload = payload; posted = posted; t = t; sync = false }
+
+abbrev pub sync_content : ℕ → Content
+sync_content posted = record { head = sync_head; payload = []; posted = posted; t = false; sync = true }
+
+-- the packet as it is described, but for its port and its number
+abbrev pub noted : Sender → Bool × LiveKey → Content → Bool → Described
+noted tx x c m = record {
+  number = 0;
+  port = record { side = Host; link = 0 };
+  stream = tx.stream;
+  sub = tx.sub;
+  draw = x.1.draw;
+  unit = x.1.units + 1;
+  m = m;
+  k = x.0;
+  t = c.t;
+  posted = c.posted;
+  sync = c.sync;
+}
+
+abbrev pub with_length : Described → ℕ → SealedPacket
+with_length d n = record {
+  stream = d.stream;
+  sub = d.sub;
+  draw = d.draw;
+  unit = d.unit;
+  m = d.m;
+  k = d.k;
+  t = d.t;
+  posted = d.posted;
+  sync = d.sync;
+  length = n;
+}
+
+-- what stands ahead of unit n, where this is given for the first
+abbrev pub ahead_of : List ℕ → ℕ → List ℕ
+ahead_of front n = if n == 1 then front else []
+
+-- a unit that begins where no packet is there; what stands ahead of it is set then
+abbrev pub begun_where_empty : Gathered → List ℕ → ℕ → Gathered
+begun_where_empty unit front n =
+    record unit { front = if length unit.packets == 0 then ahead_of front n else unit.front }
+
+abbrev pub ahead_for : Sender → LiveKey → List ℕ → List ℕ
+ahead_for tx x front = if length x.packets == 0 then ahead_of front (x.units + 1) else tx.ahead
+
+abbrev pub packet_of : Sender → List ℕ → Bool × LiveKey → Content → Bool → Packet
+packet_of tx front x c m =
+    let d = noted tx x c m in
+    tagged_under (ahead_for tx x.1 front) x.1.key x.1.packets d (untagged_under x.1.key x.1.packets d c.head c.payload)
+
+-- whether a packet ends its unit
+abbrev pub ends : Sender → LiveKey → Bool → Bool
+ends tx x more = not more || (length x.packets + 1 == tx.mode)
+
+-- a packet that was sealed: what is said of it, the packet, and the sender after it
+pub record Sealing : Type 0 where
+  pub description : SealedPacket
+  pub packet : Packet
+  pub sender : Sender
+
+abbrev pub sealing_as : Sender → List ℕ → Bool × LiveKey → Content → Bool → Sealing
+sealing_as tx front x c m =
+    let p = packet_of tx front x c m in
+    record {
+      description = with_length (noted tx x c m) (length (packet_bytes p));
+      packet = p;
+      sender = record tx { ahead = (if m then [] else ahead_for tx x.1 front); slots = sealed_slots m p tx.slots };
+    }
+
+abbrev pub sealing_under : Sender → List ℕ → Content → Bool → Result (Bool × LiveKey) TxRefusal → Result Sealing TxRefusal
+sealing_under tx front c more (Err e) = Err e
+sealing_under tx front c more (Ok x) = Ok (sealing_as tx front x c (ends tx x.1 more))
+
+-- what sealing comes to; `more` says that the unit goes on where it has room
+abbrev pub sealing_of : Sender → List ℕ → Content → Bool → Result Sealing TxRefusal
+sealing_of tx front c more = sealing_under tx front c more (ready_of tx)
+
+abbrev pub sealing_answer : Result Sealing TxRefusal → Result SealedPacket TxRefusal
+sealing_answer r = result_map_both (λ (s : Sealing). s.description) (λ (e : TxRefusal). e) r
+
+abbrev pub sealing_bytes : Result Sealing TxRefusal → List ℕ
+sealing_bytes (Err e) = []
+sealing_bytes (Ok s) = packet_bytes s.packet
+
+abbrev pub sender_after : Sender → Result Sealing TxRefusal → Sender
+sender_after tx (Err e) = tx
+sender_after tx (Ok s) = s.sender
+
+-- ---- keys
+
+abbrev pub gone_slots : Slots → Bool → Slots
+gone_slots slots k = slot_gone k (slot_in slots k) (slot_in slots (not k))
+
+abbrev pub halted_slots : Slots → Bool → Slots
+halted_slots slots k = both_slots k Empty (woken (slot_in slots (not k)))
+
+abbrev pub programmed_sender : Sender → Bool → List ℕ → ℕ → Sender
+programmed_sender tx k key draw =
+    if is_only_live (slot_pair true tx.slots) k then tx else record tx { slots = with_slot tx.slots k (Programmed draw key) }
+
+abbrev pub gone_sender : Sender → Bool → Sender
+gone_sender tx k = record tx { slots = gone_slots tx.slots k }
+
+-- an open unit goes with its key
+abbrev pub halted_sender : Sender → Bool → Sender
+halted_sender tx k =
+    record tx { ahead = (if is_live (slot_in tx.slots k) then [] else tx.ahead); slots = halted_slots tx.slots k }

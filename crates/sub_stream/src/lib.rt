@@ -1,0 +1,18 @@
+//! One sub-stream in one direction: its sender, which seals units, and its receiver, which accepts them, each over two
+//! key slots and a buffer for the packets of one unit (PCI Express Base 6.0 section 6.33, in this profile). No call
+//! takes memory.
+#![tactic(auto)]
+
+mod answer;
+mod receiver;
+mod sealing;
+mod sender;
+mod taking;
+#[cfg(test)]
+mod tests;
+mod unit_packets;
+
+pub use answer::{PacketMark, SealedPacket, Taken, TxRefusal};
+pub use receiver::Rx;
+pub use sealing::{PACKET_ROOM, PAYLOAD_BYTES, SYNC_ROOM, TLP_HEAD_BYTES};
+pub use sender::Tx;

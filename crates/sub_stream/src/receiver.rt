@@ -1,0 +1,249 @@
+//! The receiver of one sub-stream.
+
+ghost use Rattle.std.specs.Prelude.{◌≡◌, ◌+◌, ◌<◌, ◌≤◌, ◌^◌, ◌*◌, ◌&&◌, Some, None, is_ok, is_some, not, true, false, length, slice_get, map, if◌then◌else◌};
+ghost use Rattle.ide_prefix.specs.Cut.{packet_of_view, IsView};
+ghost use Rattle.key_slots.specs.{slot_in as key_slot_in, is_one, is_empty, program_answer};
+ghost use Rattle.stream_rules.specs.Stream.{slot_in, posted_sum};
+ghost use Rattle.sub_stream.specs.Answers.{answer_of};
+ghost use Rattle.sub_stream.specs.Gathered.{lent_front, lent_parts, mark_of};
+ghost use Rattle.sub_stream.specs.Seen.{slot_pair, key_slot, is_programmed};
+ghost use Rattle.sub_stream.specs.Receiver.{fits_held};
+
+use crate::answer::{PacketMark, Taken};
+use crate::taking::{Holds, count_accepted, keep_held, set_of, take_under};
+use crate::unit_packets::UnitPackets;
+use ide_prefix::PacketView;
+use ide_types::{FailCause, SubKind};
+use key_slots::{Key, OnlyLive, SlotEmpty, SlotState, Slots};
+use std::marker::Model;
+use unit_aggregation::UnitBuf;
+
+/// A receiver of one sub-stream: it holds packets until the last of their unit, and accepts whole units under a Live
+/// key. Of two Live keys the older one goes with the first unit under the newer (PCI Express Base 6.0 section 6.33, in
+/// this profile). In each call `set` is 0 or 1.
+#[derive(Drop)]
+pub struct Rx {
+    stream: u8,
+    sub: SubKind,
+    mode: u8,
+    // the units accepted under the Live key of set 0, and of set 1
+    zero: u64,
+    one: u64,
+    slots: Slots,
+    holds: Holds,
+    unit: UnitPackets,
+    takes: u64,
+}
+
+impl Model for Rx {
+    ghost use Rattle.sub_stream.specs.Receiver.{Receiver, IsReceiver, seen_in, lent_by, ahead_by};
+
+    ghost Value = { Receiver };
+
+    ghost view = { λ r. record { stream = r.stream; sub = r.sub; mode = r.mode; ahead = ahead_by r.holds r.unit.front; slots = seen_in r.slots r.zero r.one r.holds r.unit.packets; delivered = lent_by r.holds r.unit.packets; takes = r.takes } };
+
+    ghost invariant = { λ r. IsReceiver r.mode r.zero r.one r.takes r.slots r.holds r.unit };
+}
+
+// No unit is counted yet under a Programmed key of this set.
+fn restart(slots: &Slots, set: u8, zero: &mut u64, one: &mut u64)
+    requires { set < 2 }
+    ensures zero { zero.new ≡ (if is_programmed (key_slot_in slots.now (is_one set)) && not (is_one set) then 0 else zero.old) }
+    ensures one { one.new ≡ (if is_programmed (key_slot_in slots.now (is_one set)) && is_one set then 0 else one.old) }
+{
+    if slots.slot(set).0 == SlotState::Programmed {
+        if set == 1 {
+            *one = 0;
+        } else {
+            *zero = 0;
+        }
+    }
+}
+
+// The units of a key set.
+fn units_in(k: bool, zero: u64, one: u64) -> u64
+    ensures { result ≡ (if k then one else zero) }
+{
+    if k { one } else { zero }
+}
+
+// Whether the packet joins what is held, and leaves room for the last of its unit.
+fn fits(holds: Holds, unit: &UnitPackets, mode: u8, packet: &PacketView) -> bool
+    ensures { result ≡ fits_held holds (length unit.now.packets) mode packet.now.prefix.k packet.now.prefix.m }
+{
+    let held = if holds.some() { unit.count() } else { 0 };
+    let full = mode as usize <= held + 1;
+    !(holds.apart(packet.prefix.k) || !packet.prefix.m && full)
+}
+
+impl Rx {
+    ghost use Rattle.sub_stream.specs.Receiver.{new_receiver, early_of, taken_of, receiver_after, dropped_receiver, programmed_receiver, gone_receiver, halted_receiver};
+
+    /// A receiver with no key. `mode` is 1, 2, 4 or 8, with which `buf` was reserved.
+    pub fn make(stream: u8, sub: SubKind, mode: u8, buf: UnitBuf) -> Rx
+        requires some { 1 ≤ mode }
+        requires few { mode ≤ 8 }
+        requires same { buf.mode ≡ mode }
+        ensures { result ≡ new_receiver stream sub mode }
+    {
+        Rx {
+            stream,
+            sub,
+            mode,
+            zero: 0,
+            one: 0,
+            slots: Slots::make(false),
+            holds: Holds::Nothing,
+            unit: UnitPackets::new(buf),
+            takes: 0,
+        }
+    }
+
+    // The answer that comes before a look at the tag, where one does.
+    fn early(&self, packet: &PacketView) -> Option<Taken>
+        ensures { result ≡ early_of self.now (packet_of_view packet.now) }
+    {
+        let k = packet.prefix.k;
+        let set = set_of(k);
+        match (self.slots.live_key(set), self.slots.live_key(1 - set)) {
+            (None, None) => Some(Taken::NotKeyed),
+            (None, Some(_)) => Some(Taken::Fail(FailCause::Key)),
+            (Some(_), _) if fits(self.holds, &self.unit, self.mode, packet) => None,
+            (Some(_), _) => Some(Taken::Fail(FailCause::Unit)),
+        }
+    }
+
+    /// Takes a packet of this sub-stream that `cut` gave, and answers what became of it. `allowed` is the sum to which
+    /// the posted counts of its unit may come; `front` is the total on a closed stream, which stands ahead of what is
+    /// authenticated of unit 1 under a key. Only an accepted unit moves a counter or empties a slot; what it carries is
+    /// lent until the next change. A failed check drops the held packets.
+    pub fn take(&mut self, packet: &PacketView, allowed: u64, front: Option<&[u8; 8]>) -> Taken
+        requires view { IsView packet.now }
+        requires few { self.old.takes < 2 ^ 40 }
+        ensures answer { Some result ≡ answer_of (taken_of self.old allowed (lent_front front.entry) (packet_of_view packet.now)) }
+        ensures receiver { self.new ≡ receiver_after self.old allowed (lent_front front.entry) (packet_of_view packet.now) }
+    {
+        match self.early(packet) {
+            Some(taken) => {
+                self.takes += 1;
+                self.holds = self.holds.unless_failed(&taken);
+                taken
+            }
+            None => self.take_keyed(packet, allowed, front),
+        }
+    }
+
+    // Takes a packet under its Live key, where it fits what is held.
+    fn take_keyed(&mut self, packet: &PacketView, allowed: u64, front: Option<&[u8; 8]>) -> Taken
+        requires view { IsView packet.now }
+        requires few { self.old.takes < 2 ^ 40 }
+        requires early { early_of self.old (packet_of_view packet.now) ≡ None }
+        ensures answer { Some result ≡ answer_of (taken_of self.old allowed (lent_front front.entry) (packet_of_view packet.now)) }
+        ensures receiver { self.new ≡ receiver_after self.old allowed (lent_front front.entry) (packet_of_view packet.now) }
+    {
+        let k = packet.prefix.k;
+        let Some((cipher, draw)) = self.slots.live_key(set_of(k)) else {
+            unreachable!()
+        };
+        let units = units_in(k, self.zero, self.one);
+        self.takes += 1;
+        keep_held(&mut self.unit, self.holds);
+        let taken = take_under(cipher, draw, units, packet, allowed, front, &mut self.unit);
+        count_accepted(&taken, k, &mut self.slots, &mut self.zero, &mut self.one);
+        self.holds = Holds::after(k, &taken);
+        taken
+    }
+
+    /// Drops what is held, and lends no packet any more.
+    pub fn drop_held(&mut self)
+        ensures { self.new ≡ dropped_receiver self.old }
+    {
+        self.holds = Holds::Nothing;
+    }
+
+    /// The header and the decrypted payload of packet `i` of the unit that the last change accepted, counted from 0.
+    pub fn packet(&self, i: usize) -> (&[u8], &[u8])
+        requires { i < length self.now.delivered }
+        ensures { slice_get (map lent_parts self.now.delivered) i ≡ Some (result.0.now, result.1.now) }
+    {
+        self.unit.packet(i)
+    }
+
+    /// Whether packet `i` of the unit that the last change accepted, counted from 0, is trusted, and whether it is a
+    /// sync packet.
+    pub fn mark(&self, i: usize) -> PacketMark
+        requires { i < length self.now.delivered }
+        ensures { slice_get (map mark_of self.now.delivered) i ≡ Some result }
+    {
+        self.unit.mark(i)
+    }
+
+    /// The sum of the posted counts of the unit that the last change accepted, 0 where it was another change.
+    pub fn posted(&self) -> u64
+        ensures value { result ≡ posted_sum self.now.delivered }
+        ensures few { result ≤ 2040 }
+    {
+        match self.holds {
+            Holds::Delivered => self.unit.posted(),
+            _ => 0,
+        }
+    }
+
+    /// Puts a key of this draw into the slot, whose held packets go. `OnlyLive` comes exactly where the slot is Live and
+    /// the other is not a newer Live one: the key comes back, and nothing changes.
+    pub fn program(&mut self, set: u8, key: Key, draw: u32) -> Result<(), OnlyLive>
+        requires { set < 2 }
+        ensures answer { result ≡ program_answer (slot_pair false self.old.slots) (is_one set) key }
+        ensures receiver { self.new ≡ programmed_receiver self.old (is_one set) key draw }
+    {
+        match self.slots.program(set, key, draw) {
+            Ok(()) => {
+                self.holds = self.holds.without(set == 1);
+                Ok(())
+            }
+            Err(refusal) => Err(refusal),
+        }
+    }
+
+    /// GO: a Programmed key is Live. `SlotEmpty` comes exactly of an Empty slot.
+    pub fn go(&mut self, set: u8) -> Result<(), SlotEmpty>
+        requires { set < 2 }
+        ensures answer { is_ok result ≡ not (is_empty (key_slot (slot_in self.old.slots (is_one set)))) }
+        ensures receiver { self.new ≡ gone_receiver self.old (is_one set) }
+    {
+        self.holds = self.holds.held();
+        restart(&self.slots, set, &mut self.zero, &mut self.one);
+        self.slots.arm(set, false)
+    }
+
+    /// STOP: empties the slot, whose held packets go.
+    pub fn halt(&mut self, set: u8)
+        requires { set < 2 }
+        ensures { self.new ≡ halted_receiver self.old (is_one set) }
+    {
+        self.holds = self.holds.without(set == 1);
+        self.slots.halt(set);
+    }
+
+    /// Empties both slots, and drops what is held.
+    pub fn clear(&mut self)
+        ensures { self.new ≡ record (new_receiver self.old.stream self.old.sub self.old.mode) { takes = self.old.takes } }
+    {
+        self.holds = Holds::Nothing;
+        self.slots = Slots::make(false);
+    }
+
+    /// The slots, lent.
+    pub fn slots(&self) -> &Slots
+        ensures { result.now ≡ slot_pair false self.now.slots }
+    {
+        &self.slots
+    }
+
+    /// How many packets it was given.
+    pub fn calls(&self) -> u64
+        ensures { result ≡ self.now.takes }
+    {
+        self.takes
+    }
+}

@@ -1,0 +1,353 @@
+//! The sender of one sub-stream.
+
+ghost use Rattle.std.specs.Prelude.{◌≡◌, ◌==◌, ◌&&◌, ◌||◌, ◌^◌, false, ℕ, ◌+◌, ◌<◌, ◌≤◌, List, ◌++◌, [], length, vec_len, vec_capacity, is_ok, not, true, if◌then◌else◌};
+ghost use Rattle.std.specs.Result.{result_map_both};
+ghost use Rattle.ide_prefix.specs.Packet.{sync_head};
+ghost use Rattle.key_slots.specs.{slot_in as key_slot_in, is_one, is_empty, is_live, is_armed as is_armed_key, program_answer};
+ghost use Rattle.stream_rules.specs.Stream.{ended_slots, live_sender, slot_in};
+ghost use Rattle.sub_stream.specs.Gathered.{lent_front};
+ghost use Rattle.sub_stream.specs.Gathered as gathered;
+ghost use Rattle.sub_stream.specs.Seen.{shown_in_use, in_use, live_with, seen_out, has_live, both_live, has_armed, is_programmed, slot_pair, key_slot};
+ghost use Rattle.sub_stream.specs.Sender.{ready_under, begun_where_empty, carried_content, tlp_content, sync_content};
+
+use crate::answer::{SealedPacket, TxRefusal};
+use crate::sealing::{
+    Carried, PACKET_ROOM, PAYLOAD_BYTES, PREFIX_BYTES, SYNC_HEAD, SYNC_ROOM, TAG_BYTES,
+    TLP_HEAD_BYTES, append_packet, append_tag,
+};
+use crate::unit_packets::UnitPackets;
+use gcm_seal::Gcm;
+use ide_prefix::{Prefix, unit_iv};
+use ide_types::SubKind;
+use key_slots::{Key, OnlyLive, SlotEmpty, SlotState, Slots};
+use std::marker::Model;
+use unit_aggregation::UnitBuf;
+
+/// A sender of one sub-stream: it seals units of at most `mode` packets under the Live key, and at most as many as its
+/// limit under one key. A newer key waits for the end of an open unit (PCI Express Base 6.0 section 6.33, in this
+/// profile). In each call `set` is 0 or 1.
+#[derive(Drop)]
+pub struct Tx {
+    stream: u8,
+    sub: SubKind,
+    mode: u8,
+    limit: u64,
+    // the units finished under the Live key
+    units: u64,
+    slots: Slots,
+    unit: UnitPackets,
+}
+
+impl Model for Tx {
+    ghost use Rattle.sub_stream.specs.Seen.{seen_out};
+    ghost use Rattle.sub_stream.specs.Sender.{Sender, IsSender};
+
+    ghost Value = { Sender };
+
+    ghost view = { λ s. record { stream = s.stream; sub = s.sub; mode = s.mode; limit = s.limit; ahead = s.unit.front; slots = seen_out s.slots s.units s.unit.packets } };
+
+    ghost invariant = { λ s. IsSender s.mode s.limit s.units s.slots s.unit };
+}
+
+// The Live key of a sender: its set, its prepared form, lent, and its draw.
+fn live_of(slots: &Slots) -> Option<(bool, &Gcm, u32)>
+    ensures { shown_in_use result ≡ in_use slots.now }
+{
+    match (slots.live_key(0), slots.live_key(1)) {
+        (Some((cipher, draw)), _) => Some((false, cipher, draw)),
+        (None, Some((cipher, draw))) => Some((true, cipher, draw)),
+        (None, None) => None,
+    }
+}
+
+// The key that may seal a packet, which begins a unit where there is no other; or why there is none.
+fn sealing_key<'a>(
+    slots: &'a Slots,
+    units: u64,
+    unit: &UnitPackets,
+    limit: u64,
+) -> Result<(bool, &'a Gcm, u32), TxRefusal>
+    ensures { result_map_both (λ x. (x.0, live_with units unit.now.packets (record { key = x.1.now; draw = x.2 }))) (λ e. e) result ≡ ready_under limit (live_sender (seen_out slots.now units unit.now.packets)) }
+{
+    match live_of(slots) {
+        None => Err(TxRefusal::NoKey),
+        Some(_) if unit.count() == 0 && units == limit => Err(TxRefusal::Worn(limit)),
+        Some(key) => Ok(key),
+    }
+}
+
+fn is_armed(slots: &Slots) -> bool
+    ensures { result ≡ has_armed slots.now }
+{
+    slots.slot(0).0 == SlotState::Armed || slots.slot(1).0 == SlotState::Armed
+}
+
+/// Begins unit `n` where no packet is there; the front stands ahead of the first.
+pub fn begin_where_empty(unit: &mut UnitPackets, front: Option<&[u8; 8]>, n: u64)
+    ensures { unit.new ≡ begun_where_empty unit.old (lent_front front.entry) n }
+{
+    if unit.count() == 0 {
+        unit.begin(if n == 1 { front } else { None });
+    }
+}
+
+// Whether the next packet is the last of its unit.
+fn is_last(unit: &UnitPackets, mode: u8, more: bool) -> bool
+    ensures { result ≡ (not more || (length unit.now.packets + 1 == mode)) }
+{
+    let full = unit.count() + 1 == mode as usize;
+    !more || full
+}
+
+// Ends the open unit: it counts, and a key that waited for that is Live.
+fn end_unit(slots: &mut Slots, units: &mut u64, unit: &mut UnitPackets, last: bool)
+    requires live { has_live slots.old ≡ true }
+    requires few { units.old + 1 < 2 ^ 64 }
+    ensures slots { seen_out slots.new units.new unit.new.packets ≡ (if last then ended_slots (seen_out slots.old units.old unit.old.packets) else seen_out slots.old units.old unit.old.packets) }
+    ensures unit { unit.new ≡ (if last then gathered.no_packets unit.old.mode else unit.old) }
+    ensures sender { slots.new.sender ≡ slots.old.sender }
+    ensures live { has_live slots.new ≡ true }
+    ensures one_live { both_live slots.old ≡ false → both_live slots.new ≡ false }
+    ensures units { units.new ≤ (if last then units.old + 1 else units.old) }
+{
+    if last {
+        *units = if is_armed(slots) { 0 } else { *units + 1 };
+        slots.ended();
+        unit.clear();
+    }
+}
+
+// The units under the Live key after a GO, which takes a Programmed key into use where no unit is open.
+fn units_after_go(slots: &Slots, set: u8, unfinished: bool, units: u64) -> u64
+    requires { set < 2 }
+    ensures { result ≡ (if is_programmed (key_slot_in slots.now (is_one set)) && not unfinished then 0 else units) }
+{
+    let programmed = slots.slot(set).0 == SlotState::Programmed;
+    if programmed && !unfinished { 0 } else { units }
+}
+
+// The units under the Live key after a STOP, which takes an Armed key of the other set into use.
+fn units_after_halt(slots: &Slots, set: u8, units: u64) -> u64
+    requires { set < 2 }
+    ensures { result ≡ (if is_armed_key (key_slot_in slots.now (not (is_one set))) then 0 else units) }
+{
+    if slots.slot(1 - set).0 == SlotState::Armed {
+        0
+    } else {
+        units
+    }
+}
+
+// Drops an open unit under the key of this slot.
+fn drop_unit(slots: &Slots, set: u8, unit: &mut UnitPackets)
+    requires { set < 2 }
+    ensures { unit.new ≡ (if is_live (key_slot_in slots.now (is_one set)) then gathered.no_packets unit.old.mode else unit.old) }
+{
+    if slots.slot(set).0 == SlotState::Live {
+        unit.clear();
+    }
+}
+
+impl Tx {
+    ghost use Rattle.sub_stream.specs.Sender.{Content, new_sender, ready_of, is_unfinished, sealing_of, sealing_answer, sealing_bytes, sender_after, programmed_sender, gone_sender, halted_sender};
+
+    /// A sender with no key. `mode` is 1, 2, 4 or 8, with which `buf` was reserved; `limit` is how many units one key
+    /// may seal.
+    pub fn make(stream: u8, sub: SubKind, mode: u8, limit: u64, buf: UnitBuf) -> Tx
+        requires some { 1 ≤ mode }
+        requires few { mode ≤ 8 }
+        requires same { buf.mode ≡ mode }
+        ensures { result ≡ new_sender stream sub mode limit }
+    {
+        Tx {
+            stream,
+            sub,
+            mode,
+            limit,
+            units: 0,
+            slots: Slots::make(true),
+            unit: UnitPackets::new(buf),
+        }
+    }
+
+    /// Whether the next packet would be sealed, and if not, why.
+    pub fn ready(&self) -> Result<(), TxRefusal>
+        ensures { result ≡ result_map_both (λ _. tt) (λ e. e) (ready_of self.now) }
+    {
+        match sealing_key(&self.slots, self.units, &self.unit, self.limit) {
+            Ok(_) => Ok(()),
+            Err(refusal) => Err(refusal),
+        }
+    }
+
+    /// Whether a unit was begun and not ended.
+    pub fn unfinished(&self) -> bool
+        ensures { result ≡ is_unfinished self.now }
+    {
+        self.unit.count() != 0
+    }
+
+    // Seals what is carried, and appends its packet.
+    fn seal_carried(
+        &mut self,
+        carried: &Carried,
+        more: bool,
+        front: Option<&[u8; 8]>,
+        out: &mut Vec<u8>,
+    ) -> Result<SealedPacket, TxRefusal>
+        requires head { (if carried.now.sync then sync_head else carried.now.head.now) ≡ carried.now.head.now }
+        requires payload { (if carried.now.sync then [] else carried.now.payload.now) ≡ carried.now.payload.now }
+        requires head_short { length carried.now.head.now ≤ TLP_HEAD_BYTES }
+        requires payload_short { length carried.now.payload.now ≤ PAYLOAD_BYTES }
+        requires room { vec_len out.old + PREFIX_BYTES + length carried.now.head.now + length carried.now.payload.now + TAG_BYTES ≤ vec_capacity out.old }
+        ensures answer { result ≡ sealing_answer (sealing_of self.old (lent_front front.entry) (carried_content carried.now) more) }
+        ensures sender { self.new ≡ sender_after self.old (sealing_of self.old (lent_front front.entry) (carried_content carried.now) more) }
+        ensures bytes { out.new.items ≡ out.old.items ++ sealing_bytes (sealing_of self.old (lent_front front.entry) (carried_content carried.now) more) }
+        ensures capacity { vec_capacity out.old ≤ vec_capacity out.new }
+    {
+        let (k, cipher, draw) = match sealing_key(&self.slots, self.units, &self.unit, self.limit) {
+            Ok(key) => key,
+            Err(refusal) => return Err(refusal),
+        };
+        let m = is_last(&self.unit, self.mode, more);
+        let unit = self.units + 1;
+        let prefix = Prefix {
+            m,
+            k,
+            t: carried.t,
+            sub: self.sub,
+            stream: self.stream,
+            posted: carried.posted,
+        };
+        let iv = unit_iv(self.sub, unit);
+        let start = out.len();
+        begin_where_empty(&mut self.unit, front, unit);
+        append_packet(
+            out,
+            cipher,
+            &iv,
+            &prefix,
+            carried.head,
+            carried.payload,
+            &mut self.unit,
+        );
+        append_tag(out, cipher, &iv, &self.unit, m);
+        end_unit(&mut self.slots, &mut self.units, &mut self.unit, m);
+        Ok(SealedPacket {
+            stream: self.stream,
+            sub: self.sub,
+            draw,
+            unit,
+            m,
+            k,
+            t: carried.t,
+            posted: carried.posted,
+            sync: carried.sync,
+            length: out.len() - start,
+        })
+    }
+
+    /// Seals a TLP's header and payload, and appends its packet to `out`, which has room for `PACKET_ROOM` bytes more.
+    /// `posted` is the posted count, 0 in the posted sub-stream; `t` says that the TLP is trusted, and `more` that the
+    /// unit goes on where it has room. `front` is the total on a closed stream: it stands ahead of what is
+    /// authenticated of unit 1 under a key, and is the same for all packets of one unit.
+    pub fn seal(
+        &mut self,
+        head: &[u8],
+        payload: &[u8],
+        posted: u8,
+        t: bool,
+        more: bool,
+        front: Option<&[u8; 8]>,
+        out: &mut Vec<u8>,
+    ) -> Result<SealedPacket, TxRefusal>
+        requires head_short { length head.now ≤ TLP_HEAD_BYTES }
+        requires payload_short { length payload.now ≤ PAYLOAD_BYTES }
+        requires room { vec_len out.old + PACKET_ROOM ≤ vec_capacity out.old }
+        ensures answer { result ≡ sealing_answer (sealing_of self.old (lent_front front.entry) (tlp_content head.now payload.now posted t) more) }
+        ensures sender { self.new ≡ sender_after self.old (sealing_of self.old (lent_front front.entry) (tlp_content head.now payload.now posted t) more) }
+        ensures bytes { out.new.items ≡ out.old.items ++ sealing_bytes (sealing_of self.old (lent_front front.entry) (tlp_content head.now payload.now posted t) more) }
+        ensures capacity { vec_capacity out.old ≤ vec_capacity out.new }
+    {
+        let carried = Carried {
+            head,
+            payload,
+            posted,
+            t,
+            sync: false,
+        };
+        self.seal_carried(&carried, more, front, out)
+    }
+
+    /// Seals a sync packet, which ends its unit, and appends it to `out`, which has room for `SYNC_ROOM` bytes more.
+    /// `posted` and `front` are as for `seal`.
+    pub fn sync(
+        &mut self,
+        posted: u8,
+        front: Option<&[u8; 8]>,
+        out: &mut Vec<u8>,
+    ) -> Result<SealedPacket, TxRefusal>
+        requires { vec_len out.old + SYNC_ROOM ≤ vec_capacity out.old }
+        ensures answer { result ≡ sealing_answer (sealing_of self.old (lent_front front.entry) (sync_content posted) false) }
+        ensures sender { self.new ≡ sender_after self.old (sealing_of self.old (lent_front front.entry) (sync_content posted) false) }
+        ensures bytes { out.new.items ≡ out.old.items ++ sealing_bytes (sealing_of self.old (lent_front front.entry) (sync_content posted) false) }
+        ensures capacity { vec_capacity out.old ≤ vec_capacity out.new }
+    {
+        let carried = Carried {
+            head: &SYNC_HEAD,
+            payload: &[],
+            posted,
+            t: false,
+            sync: true,
+        };
+        self.seal_carried(&carried, false, front, out)
+    }
+
+    /// Puts a key of this draw into the slot. `OnlyLive` comes exactly where the slot is Live and the other is not a
+    /// newer Live one: the key comes back, and nothing changes.
+    pub fn program(&mut self, set: u8, key: Key, draw: u32) -> Result<(), OnlyLive>
+        requires { set < 2 }
+        ensures answer { result ≡ program_answer (slot_pair true self.old.slots) (is_one set) key }
+        ensures sender { self.new ≡ programmed_sender self.old (is_one set) key draw }
+    {
+        self.slots.program(set, key, draw)
+    }
+
+    /// GO: a Programmed key is Live at once where no unit is open, and the other slot is emptied; else it waits, Armed,
+    /// for the unit's end. `SlotEmpty` comes exactly of an Empty slot.
+    pub fn go(&mut self, set: u8) -> Result<(), SlotEmpty>
+        requires { set < 2 }
+        ensures answer { is_ok result ≡ not (is_empty (key_slot (slot_in self.old.slots (is_one set)))) }
+        ensures sender { self.new ≡ gone_sender self.old (is_one set) }
+    {
+        let unfinished = self.unit.count() != 0;
+        self.units = units_after_go(&self.slots, set, unfinished, self.units);
+        self.slots.arm(set, unfinished)
+    }
+
+    /// STOP: empties the slot, and drops an open unit under its key; a key that waited for that unit's end is Live.
+    pub fn halt(&mut self, set: u8)
+        requires { set < 2 }
+        ensures { self.new ≡ halted_sender self.old (is_one set) }
+    {
+        drop_unit(&self.slots, set, &mut self.unit);
+        self.units = units_after_halt(&self.slots, set, self.units);
+        self.slots.halt(set);
+    }
+
+    /// Empties both slots, and drops an open unit.
+    pub fn clear(&mut self)
+        ensures { self.new ≡ new_sender self.old.stream self.old.sub self.old.mode self.old.limit }
+    {
+        self.units = 0;
+        self.unit.clear();
+        self.slots = Slots::make(true);
+    }
+
+    /// The slots, lent.
+    pub fn slots(&self) -> &Slots
+        ensures { result.now ≡ slot_pair true self.now.slots }
+    {
+        &self.slots
+    }
+}

@@ -1,0 +1,189 @@
+//! The packets of one unit, each with its prefix.
+
+ghost use Rattle.std.specs.Prelude.{◌≡◌, [], ◌+◌, ◌<◌, ◌≤◌, ◌++◌, Some, length, slice_get, slice_index, map};
+ghost use Rattle.gcm_seal.specs.Gcm.{masked};
+ghost use Rattle.ide_prefix.specs.Packet.{prefix_bytes, begins_sync};
+ghost use Rattle.ide_prefix.specs.Units.{encrypted};
+ghost use Rattle.stream_rules.specs.Stream.{posted_sum};
+ghost use Rattle.unit_aggregation.specs.{with_bodies, body_of};
+
+use crate::answer::PacketMark;
+use crate::sealing::{PAYLOAD_BYTES, TLP_HEAD_BYTES};
+use arrayvec::ArrayVec;
+use gcm_seal::{Gcm, MAX_BYTES};
+use ide_prefix::{Prefix, SYNC_FIRST, write_prefix};
+use ide_types::SubKind;
+use std::marker::Model;
+use unit_aggregation::UnitBuf;
+
+// What stands in the places of no packet.
+const BLANK: Prefix = Prefix {
+    m: false,
+    k: false,
+    t: false,
+    sub: SubKind::Pr,
+    stream: 0,
+    posted: 0,
+};
+
+/// The packets of one unit in a buffer: those of an open unit as they are sent, those of an accepted one decrypted.
+/// Contracts see the mode, the front and the packets, without a tag.
+#[derive(Drop)]
+pub struct UnitPackets {
+    prefixes: [Prefix; 8],
+    // the sum of the posted counts
+    posted: u64,
+    buf: UnitBuf,
+}
+
+impl Model for UnitPackets {
+    ghost use Rattle.sub_stream.specs.Gathered.{Gathered, packets_in, IsGathered};
+
+    ghost Value = { Gathered };
+
+    ghost view = { λ u. record { mode = u.buf.mode; front = u.buf.front; packets = packets_in u.buf.packets u.prefixes } };
+
+    ghost invariant = { λ u. IsGathered u.prefixes u.posted u.buf };
+}
+
+// Decrypts the bodies, joined.
+fn mask_bodies(buf: &mut UnitBuf, cipher: &Gcm, iv: &[u8; 12])
+    ensures { buf.new ≡ with_bodies buf.old (masked cipher.now iv.now 0 (body_of buf.old)) }
+{
+    cipher.mask(iv, 0, buf.body_mut());
+}
+
+// The bytes of a packet in clear: its prefix and its header.
+fn clear_part(prefix: &Prefix, head: &[u8]) -> ArrayVec<u8, 20>
+    requires { length head.now ≤ TLP_HEAD_BYTES }
+    ensures { result.items ≡ prefix_bytes prefix.now ++ head.now }
+{
+    let mut clear = ArrayVec::new();
+    let _ = clear.try_extend_from_slice(&write_prefix(prefix));
+    let _ = clear.try_extend_from_slice(head);
+    clear
+}
+
+fn posted_in(prefix: Prefix) -> u64
+    ensures value { result ≡ prefix.posted }
+    ensures small { result ≤ 255 }
+{
+    u64::from(prefix.posted)
+}
+
+// What is looked at in a packet of this prefix, whose bytes in clear these are.
+fn mark_in(prefix: &Prefix, clear: &[u8]) -> PacketMark
+    ensures { result ≡ record { t = prefix.now.t; sync = begins_sync prefix.now.sub (slice_index clear.now 4) } }
+{
+    PacketMark {
+        t: prefix.t,
+        sync: prefix.sub != SubKind::Pr && clear.get(4) == Some(&SYNC_FIRST),
+    }
+}
+
+impl UnitPackets {
+    ghost use Rattle.sub_stream.specs.Gathered.{no_packets, begun_unit, with_packet, clear_of, lent_front, opened, lent_parts, mark_of};
+
+    /// No packets, in a buffer for at most 8; what it holds is not used.
+    pub fn new(mut buf: UnitBuf) -> UnitPackets
+        requires { buf.mode ≤ 8 }
+        ensures { result ≡ no_packets buf.mode }
+    {
+        buf.clear();
+        UnitPackets {
+            prefixes: [BLANK; 8],
+            posted: 0,
+            buf,
+        }
+    }
+
+    /// How many packets there are.
+    pub fn count(&self) -> usize
+        ensures count { result ≡ length self.now.packets }
+        ensures fits { result ≤ self.now.mode }
+        ensures few { result ≤ 8 }
+    {
+        self.buf.count()
+    }
+
+    /// The sum of their posted counts.
+    pub fn posted(&self) -> u64
+        ensures value { result ≡ posted_sum self.now.packets }
+        ensures few { result ≤ 2040 }
+    {
+        self.posted
+    }
+
+    /// What is authenticated in clear: the front, and prefixes and headers, joined.
+    pub fn clear_bytes(&self) -> &[u8]
+        ensures value { result.now ≡ clear_of self.now }
+        ensures short { length result.now ≤ MAX_BYTES }
+    {
+        self.buf.aad()
+    }
+
+    /// The bodies, joined.
+    pub fn body(&self) -> &[u8]
+        ensures value { result.now ≡ encrypted self.now.packets }
+        ensures short { length result.now ≤ 0x8000 }
+    {
+        self.buf.body()
+    }
+
+    /// Drops the packets and the front.
+    pub fn clear(&mut self)
+        ensures { self.new ≡ no_packets self.old.mode }
+    {
+        self.posted = 0;
+        self.buf.clear();
+    }
+
+    /// Begins a unit behind this front.
+    pub fn begin(&mut self, front: Option<&[u8; 8]>)
+        ensures { self.new ≡ begun_unit self.old.mode (lent_front front.entry) }
+    {
+        self.clear();
+        if let Some(front) = front {
+            self.buf.front(front);
+        }
+    }
+
+    /// Adds a packet: a header of at most 16 bytes, and a body of at most 4,096.
+    pub fn push(&mut self, prefix: &Prefix, head: &[u8], body: &[u8])
+        requires room { length self.old.packets < self.old.mode }
+        requires head_short { length head.now ≤ TLP_HEAD_BYTES }
+        requires body_short { length body.now ≤ PAYLOAD_BYTES }
+        ensures { self.new ≡ with_packet self.old (record { prefix = prefix.now; head = head.now; body = body.now; tag = [] }) }
+    {
+        let i = self.buf.count();
+        let clear = clear_part(prefix, head);
+        self.prefixes[i] = *prefix;
+        self.posted += posted_in(*prefix);
+        let _ = self.buf.add(&clear, body);
+    }
+
+    /// Decrypts the bodies of a whole unit.
+    pub fn open(&mut self, cipher: &Gcm, iv: &[u8; 12])
+        ensures { self.new ≡ record self.old { packets = opened cipher.now iv.now self.old.packets } }
+    {
+        mask_bodies(&mut self.buf, cipher, iv);
+    }
+
+    /// The header and the body of packet `i`, counted from 0.
+    pub fn packet(&self, i: usize) -> (&[u8], &[u8])
+        requires { i < length self.now.packets }
+        ensures { slice_get (map lent_parts self.now.packets) i ≡ Some (result.0.now, result.1.now) }
+    {
+        let (clear, body) = self.buf.packet(i);
+        (&clear[4..], body)
+    }
+
+    /// Whether packet `i`, counted from 0, is trusted, and whether it is a sync packet.
+    pub fn mark(&self, i: usize) -> PacketMark
+        requires { i < length self.now.packets }
+        ensures { slice_get (map mark_of self.now.packets) i ≡ Some result }
+    {
+        let (clear, _) = self.buf.packet(i);
+        mark_in(&self.prefixes[i], clear)
+    }
+}
