@@ -1,5 +1,5 @@
 -- What a topology's bytes come to, and what is written for them.
-use Rattle.std.specs.Prelude.{List, [], ◌++◌, Result, Ok, Err, codes}
+use Rattle.std.specs.Prelude.{[], ◌++◌, Result, Ok, Err, codes}
 use Rattle.ide_plan.specs.declared.plan.Plan.{Plan}
 use Rattle.toml_walk.specs.declared.fault.PlanFault.{PlanFault}
 use Rattle.topology.specs.Meaning.{plan_of}
