@@ -21,8 +21,8 @@ use Rattle.sub_stream.specs.declared.taking.Holds.TheVariants.{Nothing, Zero, On
 use Rattle.sub_stream.specs.Answers.{answer_of}
 use Rattle.sub_stream.specs.Gathered.{Gathered, no_packets, with_packet, opened}
 use Rattle.sub_stream.specs.Seen.{seen, live_with, has_armed, is_programmed}
-use Rattle.sub_stream.specs.Sender.{begun_where_empty, ahead_of}
-use Rattle.sub_stream.specs.Receiver.{Receiver, held_zero, held_one, seen_in, lent_by, ahead_by, HoldsFew, IsReceiver, holds_some, holds_apart, held_in, holds_after, held_alone, held_unless_failed, is_accepted, is_draw_below, without_older, slots_after, fits_held, fits_unit, key_for, ahead_in, is_tagged_behind, judged, early_answer, early_of, BufferAfter, taken_with, taken_of, dropped_slots, dropped_receiver, ahead_held, opened_under, after_answer, ahead_at, gone_receiver}
+use Rattle.sub_stream.specs.Senders.{begun_where_empty, ahead_of}
+use Rattle.sub_stream.specs.Receivers.{Receiver, held_zero, held_one, seen_in, lent_by, ahead_by, HoldsFew, IsReceiver, holds_some, holds_apart, held_in, holds_after, held_alone, held_unless_failed, is_accepted, is_draw_below, without_older, slots_after, fits_held, fits_unit, key_for, ahead_in, is_tagged_behind, judged, early_answer, early_of, BufferAfter, taken_with, taken_of, dropped_slots, dropped_receiver, ahead_held, opened_under, after_answer, ahead_at, gone_receiver}
 use Rattle.sub_stream.proofs.Receiving.{units_of, held_of, key_seen, fits_seen, early_seen, early_by, other_holds}
 
 -- ---- answers that come early

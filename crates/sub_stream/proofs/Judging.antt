@@ -9,7 +9,7 @@ use Rattle.ide_prefix.specs.Units.{clear_bytes, authenticated, encrypted, untagg
 use Rattle.stream_rules.specs.Stream.{LiveKey, Taken, Failed, Held, Accepted, posted_sum, checked}
 use Rattle.std.proofs.lemmas.Grind.{common_steps}
 use Rattle.sub_stream.specs.Gathered.{Gathered, with_packet, clear_of, opened_from, opened}
-use Rattle.sub_stream.specs.Receiver.{is_tagged_behind, judged}
+use Rattle.sub_stream.specs.Receivers.{is_tagged_behind, judged}
 
 -- ---- a tag is not joined
 

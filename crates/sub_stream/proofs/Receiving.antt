@@ -15,11 +15,11 @@ use Rattle.sub_stream.specs.declared.answer.Taken.TheVariants as answers
 use Rattle.sub_stream.specs.declared.taking.Holds.{Holds}
 use Rattle.sub_stream.specs.declared.taking.Holds.TheVariants.{Nothing, Zero, One, Delivered}
 use Rattle.sub_stream.specs.Seen.{seen, live_with}
-use Rattle.sub_stream.specs.Receiver.{held_zero, held_one, seen_in, HoldsFew, holds_some, holds_apart, fits_held, fits_unit, early_answer}
+use Rattle.sub_stream.specs.Receivers.{held_zero, held_one, seen_in, HoldsFew, holds_some, holds_apart, fits_held, fits_unit, early_answer}
 
 -- the units and the packets of a key set
 abbrev pub units_of : Bool → ℕ → ℕ → ℕ
-units_of k zero one = if k then one else zero
+units_of k in_zero in_one = if k then in_one else in_zero
 
 abbrev pub held_of : Bool → Holds → List Packet → List Packet
 held_of k h ps = if k then held_one h ps else held_zero h ps

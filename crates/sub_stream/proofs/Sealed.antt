@@ -13,7 +13,7 @@ use Rattle.key_slots.specs.{SlotPair}
 use Rattle.sub_stream.specs.declared.answer.TxRefusal.TheVariants.{Worn}
 use Rattle.sub_stream.specs.Seen.{seen_out, has_live, both_live}
 use Rattle.sub_stream.specs.Gathered.{Gathered, with_packet, clear_of, no_packets}
-use Rattle.sub_stream.specs.Sender.{Sender, Content, ready_of, ready_under, sealing_of, sealing_under, sealing_as, packet_of, ends, ahead_for, IsSender}
+use Rattle.sub_stream.specs.Senders.{Sender, Content, ready_of, ready_under, sealing_of, sealing_under, sealing_as, packet_of, ends, ahead_for, IsSender}
 
 pub sealing_with : (tx : Sender) (front : List ℕ) (c : Content) (more : Bool) (x : Bool × LiveKey) → Ok x ≡ ready_of tx
     → sealing_of tx front c more ≡ Ok (sealing_as tx front x c (ends tx x.1 more))

@@ -8,7 +8,7 @@ use Rattle.key_slots.specs.declared.slot.Slot.{Slot as KeySlot}
 use Rattle.key_slots.specs.declared.slot.Slot.TheVariants.{Empty, Programmed, Armed, Live}
 use Rattle.key_slots.specs.{DrawnKey, SlotPair, slot_in, with_both, after_go, armed, is_live}
 use Rattle.sub_stream.specs.Seen.{seen, seen_out, has_live, is_programmed}
-use Rattle.sub_stream.specs.Sender.{gone_slots}
+use Rattle.sub_stream.specs.Senders.{gone_slots}
 
 pub some_or_none : (ps : List Packet) → nat_lt 0 (length ps) ≡ not (length ps == 0)
 some_or_none [] = refl

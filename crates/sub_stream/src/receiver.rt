@@ -7,7 +7,7 @@ ghost use Rattle.stream_rules.specs.Stream.{slot_in, posted_sum};
 ghost use Rattle.sub_stream.specs.Answers.{answer_of};
 ghost use Rattle.sub_stream.specs.Gathered.{lent_front, lent_parts, mark_of};
 ghost use Rattle.sub_stream.specs.Seen.{slot_pair, key_slot, is_programmed};
-ghost use Rattle.sub_stream.specs.Receiver.{fits_held};
+ghost use Rattle.sub_stream.specs.Receivers.{fits_held};
 
 use crate::answer::{PacketMark, Taken};
 use crate::taking::{Holds, count_accepted, keep_held, set_of, take_under};
@@ -36,7 +36,7 @@ pub struct Rx {
 }
 
 impl Model for Rx {
-    ghost use Rattle.sub_stream.specs.Receiver.{Receiver, IsReceiver, seen_in, lent_by, ahead_by};
+    ghost use Rattle.sub_stream.specs.Receivers.{Receiver, IsReceiver, seen_in, lent_by, ahead_by};
 
     ghost Value = { Receiver };
 
@@ -77,7 +77,7 @@ fn fits(holds: Holds, unit: &UnitPackets, mode: u8, packet: &PacketView) -> bool
 }
 
 impl Rx {
-    ghost use Rattle.sub_stream.specs.Receiver.{new_receiver, early_of, taken_of, receiver_after, dropped_receiver, programmed_receiver, gone_receiver, halted_receiver};
+    ghost use Rattle.sub_stream.specs.Receivers.{new_receiver, early_of, taken_of, receiver_after, dropped_receiver, programmed_receiver, gone_receiver, halted_receiver};
 
     /// A receiver with no key. `mode` is 1, 2, 4 or 8, with which `buf` was reserved.
     pub fn make(stream: u8, sub: SubKind, mode: u8, buf: UnitBuf) -> Rx

@@ -8,7 +8,7 @@ ghost use Rattle.stream_rules.specs.Stream.{ended_slots, live_sender, slot_in};
 ghost use Rattle.sub_stream.specs.Gathered.{lent_front};
 ghost use Rattle.sub_stream.specs.Gathered as gathered;
 ghost use Rattle.sub_stream.specs.Seen.{shown_in_use, in_use, live_with, seen_out, has_live, both_live, has_armed, is_programmed, slot_pair, key_slot};
-ghost use Rattle.sub_stream.specs.Sender.{ready_under, begun_where_empty, carried_content, tlp_content, sync_content};
+ghost use Rattle.sub_stream.specs.Senders.{ready_under, begun_where_empty, carried_content, tlp_content, sync_content};
 
 use crate::answer::{SealedPacket, TxRefusal};
 use crate::sealing::{
@@ -40,7 +40,7 @@ pub struct Tx {
 
 impl Model for Tx {
     ghost use Rattle.sub_stream.specs.Seen.{seen_out};
-    ghost use Rattle.sub_stream.specs.Sender.{Sender, IsSender};
+    ghost use Rattle.sub_stream.specs.Senders.{Sender, IsSender};
 
     ghost Value = { Sender };
 
@@ -149,7 +149,7 @@ fn drop_unit(slots: &Slots, set: u8, unit: &mut UnitPackets)
 }
 
 impl Tx {
-    ghost use Rattle.sub_stream.specs.Sender.{Content, new_sender, ready_of, is_unfinished, sealing_of, sealing_answer, sealing_bytes, sender_after, programmed_sender, gone_sender, halted_sender};
+    ghost use Rattle.sub_stream.specs.Senders.{Content, new_sender, ready_of, is_unfinished, sealing_of, sealing_answer, sealing_bytes, sender_after, programmed_sender, gone_sender, halted_sender};
 
     /// A sender with no key. `mode` is 1, 2, 4 or 8, with which `buf` was reserved; `limit` is how many units one key
     /// may seal.

@@ -7,9 +7,9 @@ ghost use Rattle.ide_prefix.specs.Units.{encrypted};
 ghost use Rattle.key_slots.specs.{slot_in, is_one, is_live};
 ghost use Rattle.sub_stream.specs.Answers.{answer_of};
 ghost use Rattle.sub_stream.specs.Gathered.{lent_front, clear_of, no_packets};
-ghost use Rattle.sub_stream.specs.Receiver.{judged, BufferAfter, holds_some, holds_apart, holds_after, held_alone, held_unless_failed, left_without, is_accepted, without_older, slots_after};
+ghost use Rattle.sub_stream.specs.Receivers.{judged, BufferAfter, holds_some, holds_apart, holds_after, held_alone, held_unless_failed, left_without, is_accepted, without_older, slots_after};
 ghost use Rattle.sub_stream.specs.Seen.{live_with};
-ghost use Rattle.sub_stream.specs.Sender.{begun_where_empty};
+ghost use Rattle.sub_stream.specs.Senders.{begun_where_empty};
 
 use crate::answer::Taken;
 use crate::sender::begin_where_empty;

@@ -1,6 +1,8 @@
 //! Units of one and of several packets, keys that follow one another, and fronts; packets go from a sender to a
 //! receiver of one sub-stream.
 
+ghost use Rattle.std.specs.Prelude.{◌<◌, ◌≤◌};
+
 use crate::{PACKET_ROOM, PacketMark, Rx, SYNC_ROOM, SealedPacket, Taken, Tx, TxRefusal};
 use ide_prefix::{Cut, cut};
 use ide_types::{FailCause, SubKind};

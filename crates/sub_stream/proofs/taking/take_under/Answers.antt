@@ -7,9 +7,9 @@ use Rattle.sub_stream.specs.declared.answer.Taken.{Taken as Answer}
 use Rattle.sub_stream.specs.declared.answer.Taken.TheVariants as answers
 use Rattle.sub_stream.specs.Answers.{answer_of}
 use Rattle.sub_stream.specs.Gathered.{Gathered, with_packet, lent_front}
-use Rattle.sub_stream.specs.Receiver.{is_tagged_behind, BufferAfter}
+use Rattle.sub_stream.specs.Receivers.{is_tagged_behind, BufferAfter}
 use Rattle.sub_stream.specs.Seen.{live_with}
-use Rattle.sub_stream.specs.Sender.{begun_where_empty}
+use Rattle.sub_stream.specs.Senders.{begun_where_empty}
 use Rattle.sub_stream.proofs.Judging.{tagged-in, posted-in, opened-in, length-opened, judged-tag, judged-order, judged-accepted, le-false, le-true}
 use Rattle.sub_stream.proofs.taking.take_under.Goals as goal
 

@@ -4,7 +4,7 @@ use Rattle.ide_prefix.specs.Cut.{packet_of_view}
 use Rattle.key_slots.specs.{DrawnKey, slot_in, live_held}
 use Rattle.sub_stream.specs.declared.answer.Taken.{Taken as Answer}
 use Rattle.sub_stream.specs.declared.answer.Taken.TheVariants as answers
-use Rattle.sub_stream.specs.Receiver.{Receiver, early_of, fits_held}
+use Rattle.sub_stream.specs.Receivers.{Receiver, early_of, fits_held}
 use Rattle.sub_stream.proofs.Receiving.{early_by, early_seen, key_held}
 use Rattle.sub_stream.proofs.receiver.Rx.early.Goals as goal
 

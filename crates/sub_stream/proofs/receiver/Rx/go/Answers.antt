@@ -1,6 +1,6 @@
 use Rattle.std.proofs.Common.{◌≡◌, Bool, sym, ap, ◌∙◌}
 use Rattle.key_slots.specs.{is_one}
-use Rattle.sub_stream.specs.Receiver.{Receiver, gone_receiver}
+use Rattle.sub_stream.specs.Receivers.{Receiver, gone_receiver}
 use Rattle.sub_stream.proofs.Answering.{view, view-gone}
 use Rattle.sub_stream.proofs.receiver.Rx.go.Goals as goal
 

@@ -7,8 +7,8 @@ use Rattle.sub_stream.specs.declared.taking.Holds.{Holds}
 use Rattle.sub_stream.specs.Answers.{answer_of}
 use Rattle.sub_stream.specs.Gathered.{Gathered, lent_front}
 use Rattle.sub_stream.specs.Seen.{live_with}
-use Rattle.sub_stream.specs.Sender.{begun_where_empty}
-use Rattle.sub_stream.specs.Receiver.{Receiver, fits_held, judged, early_of, taken_of, after_answer, BufferAfter, IsReceiver}
+use Rattle.sub_stream.specs.Senders.{begun_where_empty}
+use Rattle.sub_stream.specs.Receivers.{Receiver, fits_held, judged, early_of, taken_of, after_answer, BufferAfter, IsReceiver}
 use Rattle.sub_stream.proofs.Receiving.{units_of, key_held}
 use Rattle.sub_stream.proofs.Answering.{kept, view, judged-is, not_apart, fits-early, taken-keyed, view-answered, receiver-answered, mode_kept, IsJudged}
 use Rattle.sub_stream.proofs.receiver.Rx.take_keyed.Goals as goal

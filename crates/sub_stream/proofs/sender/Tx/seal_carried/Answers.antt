@@ -5,7 +5,7 @@ use Rattle.ide_prefix.specs.Packet.{Packet, packet_bytes}
 use Rattle.stream_rules.specs.Stream.{LiveKey, sealed_slots, ended_slots}
 use Rattle.sub_stream.specs.Gathered.{Gathered, lent_front}
 use Rattle.sub_stream.specs.Seen.{seen_out, live_with}
-use Rattle.sub_stream.specs.Sender.{Sender, Content, Sealing, carried_content, ready_of, sealing_of, sealing_as, sealing_answer, sealing_bytes, sender_after, packet_of, ahead_for}
+use Rattle.sub_stream.specs.Senders.{Sender, Content, Sealing, carried_content, ready_of, sealing_of, sealing_as, sealing_answer, sealing_bytes, sender_after, packet_of, ahead_for}
 use Rattle.sub_stream.proofs.Sealed.{sealing_with, bare, tagged, packet-tagged, bytes-sealed, slots-sealed, front_if, sender-sealed}
 use Rattle.sub_stream.proofs.sender.Tx.seal_carried.Goals as goal
 

@@ -17,7 +17,7 @@ use Rattle.sub_stream.specs.declared.taking.Holds.{Holds}
 use Rattle.sub_stream.specs.declared.taking.Holds.TheVariants.{Nothing, Zero, One, Delivered}
 use Rattle.sub_stream.specs.Seen.{seen, slot_pair, no_slots, has_armed}
 use Rattle.sub_stream.specs.Gathered.{Gathered, with_packet, opened}
-use Rattle.sub_stream.specs.Sender.{ahead_of}
+use Rattle.sub_stream.specs.Senders.{ahead_of}
 
 -- units of at most `mode` packets; `ahead` stands ahead of what the held packets authenticate, `delivered` are the
 -- packets of the last accepted unit, decrypted, until the next change, and `takes` how many packets it was given
