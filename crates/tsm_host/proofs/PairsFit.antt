@@ -1,12 +1,12 @@
 -- Each local call of the manager leaves slots that fit.
-use Rattle.std.proofs.Common.{◌≡◌, ℕ, ◌<◌, ◌==◌, Bool, true, false, List, refl, sym, subst, arith}
+use Rattle.std.proofs.Common.{◌≡◌, ℕ, ◌<◌, ◌==◌, Bool, true, false, List, refl, sym, subst}
 use Rattle.std.specs.Prelude.{nat_lt, not, ◌&&◌, ◌||◌}
 use Rattle.key_laws.proofs.Tests.{same-true, true-same, lt-true, true-lt, both-true}
 use Rattle.key_slots.specs.declared.slot.Slot.{Slot}
 use Rattle.key_slots.specs.declared.slot.Slot.TheVariants.{Empty, Programmed, Armed, Live}
 use Rattle.key_slots.specs.{SlotPair, DrawnKey, slot_in, is_live, is_only_live, is_last_live, live_draw, programmed, after_go, armed, halted}
 use Rattle.key_laws.specs.Operations.{Idle, Establishing, Up, Refreshing, Stopping}
-use Rattle.tsm_host.specs.Fits.{is_ahead, is_in_use, pair_fits, PairFits, PairsFit}
+use Rattle.tsm_host.specs.Fits.{is_ahead, is_in_use, pair_fits, PairsFit}
 
 abbrev pair_of : Bool → Slot → Slot → SlotPair
 pair_of sender zero one = record { sender = sender; zero = zero; one = one }
