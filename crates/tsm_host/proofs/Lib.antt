@@ -3,3 +3,4 @@ pub mod Begins
 pub mod OnePorts
 pub mod Walks
 pub mod Dues
+pub mod PairsFit

@@ -17,7 +17,7 @@ mod stream;
 #[cfg(test)]
 mod tests;
 
-pub use laws::walks_are_due;
+pub use laws::{pairs_fit, walks_are_due};
 pub use link_verdicts::Operation;
 pub use manager::Manager;
 pub use operation::{Carried, Op, Outcome, Refusal, Shown};
