@@ -3,14 +3,14 @@ use Rattle.std.proofs.Common.{◌≡◌, ◌≢◌, ℕ, zero, suc, ◌+◌, ◌
 use Rattle.std.specs.Prelude.{All}
 use Rattle.std.proofs.lemmas.Bool.{cases_lt, cases_eq, cases_Bool, eq-eqb, ne_eqb, lt-ltb, le-ltb, ltb-false, eqb-true}
 use Rattle.std.proofs.lemmas.List.Elements.{All-append, All-cons}
-use Rattle.byteorder.specs.Endian.{little_bytes, little_number}
+use Rattle.byteorder.specs.Endian.{little_bytes}
 use Rattle.byteorder.specs.Numbers.{little_number-reads_back}
 use Rattle.first_fault.proofs.Cells.{IsBytes, cells, all_bytes}
 use Rattle.tdisp_codec.specs.declared.fault.TdispFault.{TdispFault}
 use Rattle.tdisp_codec.specs.declared.fault.TdispFault.TheVariants.{Short, Trailing, Version, Kind}
 use Rattle.tdisp_codec.specs.Messages.{message_bytes, SpellsMessage, type_in, function_in, body_in, message_fault, message_fault_at}
-use Rattle.tdisp_codec.proofs.Octets.{IsByte, length-cells, drop_split_cells, list_cells, number_4, below_4, drop_octets, four_bytes, ignored}
-use Rattle.tdisp_codec.proofs.Shapes.{IsSized, IsShaped, Stops, IsJudged}
+use Rattle.tdisp_codec.proofs.Octets.{IsByte, drop_split_cells, list_cells, number_4, below_4, drop_octets, four_bytes, ignored}
+use Rattle.tdisp_codec.proofs.Shapes.{IsSized, IsShaped, IsJudged}
 
 -- what stands in the bytes of a message
 pub record IsMessage (type function : ℕ) (body s : List ℕ) : Type 0 where

@@ -1,19 +1,18 @@
 -- Bytes spell a report exactly where they are read as it, and go off where the reader says.
-use Rattle.std.proofs.Common.{◌≡◌, ℕ, zero, suc, ◌+◌, ◌*◌, ◌/◌, ◌%◌, ◌^◌, ◌<◌, ◌≤◌, Bool, true, List, [], ◌∷◌, ◌++◌, length, get_or, take, drop, replicate, Option, Some, None, Result, Ok, Err, refl, sym, ap, subst, ◌∙◌, ◌⊎◌, inl, inr, arith, append_assoc, length-append, length-drop, length-take, take-append-drop, take_at}
+use Rattle.std.proofs.Common.{◌≡◌, ℕ, ◌+◌, ◌*◌, ◌/◌, ◌^◌, ◌<◌, Bool, true, List, [], ◌∷◌, ◌++◌, length, take, drop, Option, Ok, Err, refl, sym, ap, subst, ◌∙◌, inl, inr, arith, append_assoc, length-append, length-drop, length-take, take-append-drop, take_at}
 use Rattle.std.specs.Prelude.{All}
 use Rattle.std.specs.List.{flat_map}
 use Rattle.std.proofs.lemmas.Bool.{cases_lt, eq-eqb, ne_eqb, lt-ltb, le-ltb}
 use Rattle.std.proofs.lemmas.List.{drop_at, drop-drop}
-use Rattle.std.proofs.lemmas.List.Elements.{All-append, All-cons}
+use Rattle.std.proofs.lemmas.List.Elements.{All-append}
 use Rattle.byteorder.specs.Endian.{little_bytes, little_number}
 use Rattle.byteorder.specs.Numbers.{little_number-reads_back}
 use Rattle.first_fault.proofs.Cells.{IsBytes, cells, all_bytes}
 use Rattle.tdisp_codec.specs.declared.fault.TdispFault.{TdispFault}
-use Rattle.tdisp_codec.specs.declared.fault.TdispFault.TheVariants.{Short, Trailing}
 use Rattle.tdisp_codec.specs.declared.report.ReportRange.{ReportRange}
 use Rattle.tdisp_codec.specs.declared.report.ReportView.{ReportView}
-use Rattle.tdisp_codec.specs.Messages.{Ignored, length_fault, IsFirstFault}
-use Rattle.tdisp_codec.specs.Ranges.{range_bytes, FitsRange, ranges_in}
+use Rattle.tdisp_codec.specs.Messages.{length_fault, IsFirstFault}
+use Rattle.tdisp_codec.specs.Ranges.{range_bytes, ranges_in}
 use Rattle.tdisp_codec.specs.Reports.{Report, report_shown, report_bytes, report_spelling, FitsReport, SpellsReport, range_count, device_place, report_size, report_in, report_reading, report_fault_at}
 use Rattle.tdisp_codec.proofs.Octets.{IsByte, list_cells, drop_split_cells, drop_octets, all_of, number_2, number_4, below_2, below_4, two_bytes, four_bytes, ignored, zeros, same_4, all_taken}
 use Rattle.tdisp_codec.proofs.Shapes.{IsSized, IsShaped, IsJudged, spelled_read, read_spelled, refused_first, first_refused}

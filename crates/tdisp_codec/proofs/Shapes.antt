@@ -1,12 +1,11 @@
 -- A grammar of bytes that is known by its first bytes, a test at each place, and by its length, which the bytes themselves
 -- say: what its readers answer, and where bytes first go off it.
-use Rattle.std.proofs.Common.{◌≡◌, ℕ, zero, suc, ◌+◌, ◌-◌, ◌<◌, ◌≤◌, Bool, true, false, List, [], ◌∷◌, ◌++◌, length, get_or, take, drop, replicate, Option, Some, None, Result, Ok, Err, refl, sym, ap, subst, ◌∙◌, ◌⊎◌, inl, inr, arith, append_assoc, append-nil, length-append, length-take, length-drop, get_or-take, get_or-drop}
-use Rattle.std.specs.Prelude.{All}
-use Rattle.std.proofs.lemmas.Bool.{cases_lt, cases_eq, true≢false}
+use Rattle.std.proofs.Common.{◌≡◌, ℕ, ◌+◌, ◌-◌, ◌<◌, ◌≤◌, Bool, true, false, List, ◌++◌, length, get_or, take, drop, replicate, Option, Some, None, Ok, Err, refl, sym, ap, subst, ◌∙◌, ◌⊎◌, inl, inr, arith, append_assoc, append-nil, length-append, length-take, length-drop, get_or-take, get_or-drop}
+use Rattle.std.proofs.lemmas.Bool.{cases_lt, true≢false}
 use Rattle.std.proofs.lemmas.List.{get_or_past, drop_all, get_or_append_left, get_or-append_right, length-replicate, get_or-replicate}
 use Rattle.first_fault.specs.Fronts.{Begins, IsFaultPlace}
 use Rattle.first_fault.proofs.Fronts.{same_place}
-use Rattle.first_fault.proofs.Cells.{IsBytes, all_bytes}
+use Rattle.first_fault.proofs.Cells.{IsBytes}
 use Rattle.tdisp_codec.specs.declared.fault.TdispFault.{TdispFault}
 use Rattle.tdisp_codec.specs.Messages.{IsSpelled, read_or, IsFirstFault}
 

@@ -1,5 +1,5 @@
 -- The report of an interface as bytes (TDISP section 11.3, in this profile).
-use Rattle.std.specs.Prelude.{ℕ, ◌≡◌, ◌+◌, ◌*◌, ◌<◌, ◌^◌, ◌==◌, List, [], ◌++◌, length, take, drop, replicate, All, Result, Ok, Err, if◌then◌else◌}
+use Rattle.std.specs.Prelude.{ℕ, ◌≡◌, ◌+◌, ◌*◌, ◌<◌, ◌^◌, ◌==◌, List, ◌++◌, length, take, drop, replicate, All, Result, Ok, Err, if◌then◌else◌}
 use Rattle.std.specs.List.{flat_map}
 use Rattle.byteorder.specs.Endian.{little_bytes, little_number}
 use Rattle.tdisp_codec.specs.declared.fault.TdispFault.{TdispFault}
@@ -7,7 +7,7 @@ use Rattle.tdisp_codec.specs.declared.fault.TdispFault.TheVariants.{Short, Trail
 use Rattle.tdisp_codec.specs.declared.report.ReportRange.{ReportRange}
 use Rattle.tdisp_codec.specs.declared.report.ReportView.{ReportView}
 use Rattle.tdisp_codec.specs.Messages.{Ignored, length_fault, read_or}
-use Rattle.tdisp_codec.specs.Ranges.{range_bytes, FitsRange, first_ranges, ranges_in}
+use Rattle.tdisp_codec.specs.Ranges.{range_bytes, FitsRange, ranges_in}
 
 -- a report as a value
 pub record Report : Type 0 where

@@ -1,4 +1,4 @@
-use Rattle.std.proofs.Common.{◌≡◌, ◌/◌, ◌∙◌, List, ◌++◌, length, ℕ, arith, ap}
+use Rattle.std.proofs.Common.{◌/◌, ◌∙◌, List, ◌++◌, length, ℕ, arith, ap}
 use Rattle.byteorder.specs.Endian.{little_bytes}
 use Rattle.tdisp_codec.proofs.Reports.{front_bytes, view_spelled, joined}
 use Rattle.tdisp_codec.proofs.writing.report_write.Goals as goal
