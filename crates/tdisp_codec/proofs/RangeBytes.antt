@@ -1,0 +1,98 @@
+-- Ranges and their bytes.
+use Rattle.std.proofs.Common.{◌≡◌, ℕ, zero, suc, ◌+◌, ◌*◌, ◌/◌, ◌%◌, ◌<◌, List, [], ◌∷◌, ◌++◌, length, drop, Some, refl, sym, ap, ◌∙◌, arith, length-append, length-drop}
+use Rattle.std.specs.Prelude.{All, slice_get}
+use Rattle.std.specs.List.{flat_map, AllByRecursion}
+use Rattle.std.proofs.lemmas.List.{nil_from_length, drop-drop}
+use Rattle.std.proofs.lemmas.List.Elements.{All-append, All-from_recursion}
+use Rattle.byteorder.specs.Endian.{little_bytes, little_number}
+use Rattle.byteorder.specs.Numbers.{little_number-reads_back}
+use Rattle.first_fault.proofs.Cells.{IsBytes, cells}
+use Rattle.tdisp_codec.specs.declared.report.ReportRange.{ReportRange}
+use Rattle.tdisp_codec.specs.Ranges.{range_bytes, FitsRange, range_from, first_ranges, ranges_in}
+use Rattle.tdisp_codec.proofs.Octets.{IsByte, drop_octets, drop_split_cells, number_2, number_4, number_8, below_2, below_4, below_8, two_bytes, four_bytes, eight_bytes, no_bytes}
+
+pub length-first_ranges : (n : ℕ) (s : List ℕ) → length (first_ranges n s) ≡ n
+unfolding first_ranges
+length-first_ranges zero s = refl
+length-first_ranges (suc n) s = ap suc (length-first_ranges n (drop 16 s))
+
+-- ---- from ranges to bytes, and back
+
+range_again : (r : ReportRange) (rest : List ℕ) → FitsRange r → range_from (range_bytes r ++ rest) ≡ r
+range_again r rest f =
+    let a = little_number-reads_back 8 r.first_page (little_bytes 4 r.pages ++ (little_bytes 2 r.attributes ++ (little_bytes 2 r.id ++ rest))) f.first_page in
+    let b = little_number-reads_back 4 r.pages (little_bytes 2 r.attributes ++ (little_bytes 2 r.id ++ rest)) f.pages in
+    let c = little_number-reads_back 2 r.attributes (little_bytes 2 r.id ++ rest) f.attributes in
+    let d = little_number-reads_back 2 r.id rest f.id in
+    let t8 = little_bytes 4 r.pages ++ (little_bytes 2 r.attributes ++ (little_bytes 2 r.id ++ rest)) in
+    let t12 = little_bytes 2 r.attributes ++ (little_bytes 2 r.id ++ rest) in
+    let t14 = little_bytes 2 r.id ++ rest in
+    ap (λ (n : ℕ). record { first_page = n; pages = little_number 4 t8; attributes = little_number 2 t12; id = little_number 2 t14 }) a
+    ∙ ap (λ (n : ℕ). record { first_page = r.first_page; pages = n; attributes = little_number 2 t12; id = little_number 2 t14 }) b
+    ∙ ap (λ (n : ℕ). record { first_page = r.first_page; pages = r.pages; attributes = n; id = little_number 2 t14 }) c
+    ∙ ap (λ (n : ℕ). record { first_page = r.first_page; pages = r.pages; attributes = r.attributes; id = n }) d
+
+pub length-ranges : (rs : List ReportRange) → length (flat_map range_bytes rs) ≡ 16 * length rs
+length-ranges [] = refl
+length-ranges (r ∷ rs) = let e = length-ranges rs in omega (arith, length-append (range_bytes r) (flat_map range_bytes rs))
+
+pub ranges_first : (rs : List ReportRange) → All FitsRange rs → first_ranges (length rs) (flat_map range_bytes rs) ≡ rs
+unfolding first_ranges
+ranges_first [] f = refl
+ranges_first (r ∷ rs) f =
+    let one : range_from (range_bytes r ++ flat_map range_bytes rs) ≡ r = range_again r (flat_map range_bytes rs) (f 0 r (omega arith)) in
+    let rest : first_ranges (length rs) (flat_map range_bytes rs) ≡ rs = ranges_first rs (λ i d lt. f (suc i) d (omega arith)) in
+    ap (λ (x : ReportRange). x ∷ first_ranges (length rs) (flat_map range_bytes rs)) one ∙ ap (λ (x : List ReportRange). r ∷ x) rest
+
+-- ---- from bytes to ranges, and back
+
+range_back : (s : List ℕ) → IsBytes s → range_bytes (range_from s) ≡ cells 16 0 s
+range_back s f =
+    let a : little_bytes 8 (little_number 8 s) ≡ cells 8 0 s = number_8 0 s f in
+    let b : little_bytes 4 (little_number 4 (drop 8 s)) ≡ cells 4 8 s = number_4 8 s f in
+    let c : little_bytes 2 (little_number 2 (drop 12 s)) ≡ cells 2 12 s = number_2 12 s f in
+    let d : little_bytes 2 (little_number 2 (drop 14 s)) ≡ cells 2 14 s = number_2 14 s f in
+    cc
+
+pub range_fits : (s : List ℕ) → IsBytes s → FitsRange (range_from s)
+range_fits s f = record { first_page = below_8 0 s f; pages = below_4 8 s f; attributes = below_2 12 s f; id = below_2 14 s f }
+
+pub first_back : (n : ℕ) (s : List ℕ) → IsBytes s → length s ≡ 16 * n → flat_map range_bytes (first_ranges n s) ≡ s
+unfolding first_ranges
+first_back zero s f long = sym (nil_from_length s (omega arith))
+first_back (suc n) s f long =
+    let one : range_bytes (range_from s) ≡ cells 16 0 s = range_back s f in
+    let rest : flat_map range_bytes (first_ranges n (drop 16 s)) ≡ drop 16 s = first_back n (drop 16 s) (drop_octets 16 s f) (omega (arith, length-drop 16 s)) in
+    ap (λ (x : List ℕ). x ++ flat_map range_bytes (first_ranges n (drop 16 s))) one ∙ ap (λ (x : List ℕ). cells 16 0 s ++ x) rest ∙ sym (drop_split_cells 16 0 s (omega arith))
+
+fits_by : (n : ℕ) (s : List ℕ) → IsBytes s → AllByRecursion FitsRange (first_ranges n s)
+unfolding first_ranges
+fits_by zero s f = tt
+fits_by (suc n) s f = (range_fits s f, fits_by n (drop 16 s) (drop_octets 16 s f))
+
+pub first_fit : (n : ℕ) (s : List ℕ) → IsBytes s → All FitsRange (first_ranges n s)
+first_fit n s f = All-from_recursion FitsRange (first_ranges n s) (fits_by n s f)
+
+-- the range of a number, where there are so many
+pub first_at : (n i : ℕ) (s : List ℕ) → i < n → slice_get (first_ranges n s) i ≡ Some (range_from (drop (16 * i) s))
+unfolding first_ranges
+first_at zero i s lt = absurd (omega arith)
+first_at (suc n) zero s lt = refl
+first_at (suc n) (suc i) s lt =
+    let next : 16 + 16 * i ≡ 16 * suc i = omega arith in
+    first_at n i (drop 16 s) (omega arith) ∙ ap (λ (t : List ℕ). Some (range_from t)) (drop-drop (16 * i) 16 s ∙ ap (λ (j : ℕ). drop j s) next)
+
+pub range_octets : (rs : List ReportRange) → All IsByte (flat_map range_bytes rs)
+range_octets [] = no_bytes
+range_octets (r ∷ rs) =
+    let rest = little_bytes 4 r.pages ++ (little_bytes 2 r.attributes ++ little_bytes 2 r.id) in
+    let last = All-append IsByte (little_bytes 2 r.attributes) (little_bytes 2 r.id) (two_bytes r.attributes) (two_bytes r.id) in
+    All-append IsByte (range_bytes r) (flat_map range_bytes rs) (All-append IsByte (little_bytes 8 r.first_page) rest (eight_bytes r.first_page) (All-append IsByte (little_bytes 4 r.pages) (little_bytes 2 r.attributes ++ little_bytes 2 r.id) (four_bytes r.pages) last)) (range_octets rs)
+
+pub ranges_again : (rs : List ReportRange) → All FitsRange rs → ranges_in (flat_map range_bytes rs) ≡ rs
+ranges_again rs f =
+    let n : length (flat_map range_bytes rs) / 16 ≡ length rs = omega (arith, length-ranges rs) in
+    ap (λ (k : ℕ). first_ranges k (flat_map range_bytes rs)) n ∙ ranges_first rs f
+
+pub ranges_back : (s : List ℕ) → IsBytes s → length s % 16 ≡ 0 → flat_map range_bytes (ranges_in s) ≡ s
+ranges_back s f whole = first_back (length s / 16) s f (omega arith)
