@@ -122,25 +122,6 @@ fn accepted_unit_is_lent(rt: HostRuntime) -> Result<(), Fail> {
                 sync: false
             }
     );
-    assert!(rt;
-        lane.rx.mark(1)
-            == PacketMark {
-                t: false,
-                sync: true
-            }
-    );
-    Ok(())
-}
-
-#[test]
-fn payload_comes_back(rt: HostRuntime) -> Result<(), Fail> {
-    let mut lane = lane(rt.alloc(), SubKind::Pr, 2, 100)?;
-    let (_, a) = write(&rt, &mut lane, true, None)?;
-    let (_, b) = write(&rt, &mut lane, false, None)?;
-    assert_eq!(rt; take(&rt, &mut lane, &a, None), held(0, 1));
-    assert_eq!(rt; take(&rt, &mut lane, &b, None), accepted(0, 1, 2));
-    let (head, payload) = lane.rx.packet(1);
-    assert!(rt; head == WRITE.as_slice() && payload == PAYLOAD.as_slice());
     Ok(())
 }
 
