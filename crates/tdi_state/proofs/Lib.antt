@@ -1,0 +1,5 @@
+pub mod BarRanges
+pub mod KeptReports
+pub mod ListedParts
+pub mod SharedBytes
+pub mod Entered

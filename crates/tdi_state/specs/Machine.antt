@@ -1,0 +1,187 @@
+-- A device interface as a machine: what it keeps, and what each call answers and makes of it (TDISP, PCI Express Base 6.0
+-- chapter 11, in this profile).
+use Rattle.std.specs.Prelude.{ℕ, ◌≡◌, ◌+◌, ◌%◌, ◌==◌, ◌&&◌, ◌||◌, nat_le, bit_and, Bool, true, false, not, List, length, take, drop, Option, Some, None, IfSome, Result, Ok, Err, if◌then◌else◌}
+use Rattle.std.specs.Option.{option_map, option_map_or}
+use Rattle.std.specs.Str.{bytes_eq}
+use Rattle.std.specs.Borrow.{Bor}
+use Rattle.ide_plan.specs.declared.interface.InterfacePlan.{InterfacePlan}
+use Rattle.tdi_state.specs.declared.error_codes.ErrorCode.{ErrorCode}
+use Rattle.tdi_state.specs.declared.error_codes.ErrorCode.TheVariants.{InvalidRequest, InvalidInterfaceState, UnsupportedRequest, VersionMismatch, InvalidInterface, InvalidNonce, InsufficientEntropy, InvalidDeviceConfiguration}
+use Rattle.tdi_state.specs.declared.register_set.Register.{Register}
+use Rattle.tdi_state.specs.declared.register_set.Registers.{Registers}
+use Rattle.tdi_state.specs.declared.states.Lock.{Lock}
+use Rattle.tdi_state.specs.declared.states.TdiState.{TdiState}
+use Rattle.tdi_state.specs.declared.states.TdiState.TheVariants.{ConfigUnlocked, ConfigLocked, Run, Error}
+use Rattle.tdi_state.specs.RegisterValues.{planned, with_value, has_bit, listed, changes_listed}
+use Rattle.tdi_state.specs.Bars.{bars_of, any_overlap}
+use Rattle.tdi_state.specs.Kept.{kept_report}
+
+-- ---- codes
+
+-- the code of an ERROR message
+abbrev pub error_code : ErrorCode → ℕ
+error_code InvalidRequest = 0x0001
+error_code InvalidInterfaceState = 0x0004
+error_code UnsupportedRequest = 0x0007
+error_code VersionMismatch = 0x0041
+error_code InvalidInterface = 0x0101
+error_code InvalidNonce = 0x0102
+error_code InsufficientEntropy = 0x0103
+error_code InvalidDeviceConfiguration = 0x0104
+
+abbrev pub state_code : TdiState → ℕ
+state_code ConfigUnlocked = 0
+state_code (ConfigLocked lock nonce) = 1
+state_code (Run lock) = 2
+state_code Error = 3
+
+-- ---- what is kept
+
+-- the layout of the interface, its registers, and its state with what the lock that stands kept
+pub record Tdi : Type 0 where
+  pub plan : InterfacePlan
+  pub registers : Registers
+  pub state : TdiState
+
+abbrev pub new_tdi : InterfacePlan → Tdi
+new_tdi plan = record { plan = plan; registers = planned plan; state = ConfigUnlocked }
+
+abbrev pub with_state : Tdi → TdiState → Tdi
+with_state tdi state = record { plan = tdi.plan; registers = tdi.registers; state = state }
+
+abbrev pub is_unlocked : TdiState → Bool
+is_unlocked ConfigUnlocked = true
+is_unlocked state = false
+
+-- the lock that stands, in CONFIG_LOCKED and RUN alone
+abbrev pub lock_of : TdiState → Option Lock
+lock_of (ConfigLocked lock nonce) = Some lock
+lock_of (Run lock) = Some lock
+lock_of state = None
+
+-- the stream that the interface is bound to
+abbrev pub bound_stream : TdiState → Option ℕ
+bound_stream state = option_map (λ lock. lock.stream) (lock_of state)
+
+-- the flags of the lock that stands, 0 without one
+abbrev pub lock_flags : TdiState → ℕ
+lock_flags state = option_map_or (λ lock. lock.flags) (lock_of state) 0
+
+-- where a lock stands, the listed part of the registers is that of the registers that it kept
+abbrev pub KeepsListed : Registers → TdiState → Type 0
+KeepsListed registers state = IfSome (lock_of state) (λ lock. listed lock.flags registers ≡ listed lock.flags lock.registers)
+
+-- ---- LOCK_INTERFACE
+
+-- no flag but 0, 1, 2 and 4
+abbrev pub are_lock_flags : ℕ → Bool
+are_lock_flags flags = bit_and 0x0017 flags == flags
+
+-- a multiple of 4,096
+abbrev pub is_page : ℕ → Bool
+is_page offset = offset % 4096 == 0
+
+-- the nonce that is given, and without one a refusal
+abbrev pub nonce_answer : Option (List ℕ) → Result (List ℕ) ℕ
+nonce_answer (Some nonce) = Ok nonce
+nonce_answer None = Err (error_code InsufficientEntropy)
+
+-- `secure` says that the stream is known and Secure at the device; `drawn` is the next nonce of its list
+abbrev pub lock_answer : Tdi → ℕ → ℕ → Bool → Option (List ℕ) → Result (List ℕ) ℕ
+lock_answer tdi flags offset secure drawn =
+    if not (is_unlocked tdi.state) then Err (error_code InvalidInterfaceState)
+    else if not (are_lock_flags flags && is_page offset) then Err (error_code InvalidRequest)
+    else if not (secure && not (any_overlap (bars_of tdi.plan tdi.registers))) then Err (error_code InvalidDeviceConfiguration)
+    else nonce_answer drawn
+
+-- what a lock keeps: its flags, stream and offset, and the registers as they stand
+abbrev pub new_lock : Tdi → ℕ → ℕ → ℕ → Lock
+new_lock tdi flags stream offset = record { flags = flags; stream = stream; offset = offset; registers = tdi.registers }
+
+-- CONFIG_LOCKED with this nonce, or as before after a refusal
+abbrev pub locked_with : Tdi → Lock → Result (List ℕ) ℕ → Tdi
+locked_with tdi lock (Ok nonce) = with_state tdi (ConfigLocked lock nonce)
+locked_with tdi lock (Err code) = tdi
+
+abbrev pub locked : Tdi → ℕ → ℕ → ℕ → Bool → Option (List ℕ) → Tdi
+locked tdi flags stream offset secure drawn = locked_with tdi (new_lock tdi flags stream offset) (lock_answer tdi flags offset secure drawn)
+
+-- ---- GET_DEVICE_INTERFACE_REPORT
+
+-- at most `size` bytes of the report from an offset on, and how many come behind them
+abbrev pub portion_of : Option (List ℕ) → ℕ → ℕ → Result (List ℕ × ℕ) ℕ
+portion_of None offset size = Err (error_code InvalidInterfaceState)
+portion_of (Some report) offset size =
+    if (size == 0) || nat_le (length report) offset then Err (error_code InvalidRequest)
+    else Ok (take size (drop offset report), length (drop (offset + size) report))
+
+-- a lent portion, as a value
+abbrev pub portion_shown : Result (Bor (List ℕ) × ℕ) ℕ → Result (List ℕ × ℕ) ℕ
+portion_shown (Ok portion) = Ok (portion.0.now, portion.1)
+portion_shown (Err code) = Err code
+
+-- of the report that the lock kept
+abbrev pub report_answer : Tdi → ℕ → ℕ → Result (List ℕ × ℕ) ℕ
+report_answer tdi offset size = portion_of (option_map (kept_report tdi.plan) (lock_of tdi.state)) offset size
+
+-- ---- START_INTERFACE and STOP_INTERFACE
+
+abbrev pub start_answer : TdiState → List ℕ → Result (Unit {0}) ℕ
+start_answer (ConfigLocked lock held) nonce = if bytes_eq nonce held then Ok tt else Err (error_code InvalidNonce)
+start_answer state nonce = Err (error_code InvalidInterfaceState)
+
+-- RUN under the same lock, from CONFIG_LOCKED with its nonce alone
+abbrev pub started : TdiState → List ℕ → TdiState
+started (ConfigLocked lock held) nonce = if bytes_eq nonce held then Run lock else ConfigLocked lock held
+started state nonce = state
+
+-- ---- what ends a lock
+
+-- ERROR, from CONFIG_LOCKED and RUN alone
+abbrev pub failed : TdiState → TdiState
+failed (ConfigLocked lock nonce) = Error
+failed (Run lock) = Error
+failed state = state
+
+-- after a change that is listed or not
+abbrev pub after_change : Bool → TdiState → TdiState
+after_change true state = failed state
+after_change false state = state
+
+-- a register is written: in CONFIG_LOCKED and RUN a listed change sends the interface to ERROR
+abbrev pub written : Tdi → Register → ℕ → Tdi
+written tdi register value = record {
+  plan = tdi.plan;
+  registers = with_value tdi.registers register value;
+  state = after_change (changes_listed (lock_flags tdi.state) tdi.registers register value) tdi.state;
+}
+
+-- a function level reset
+abbrev pub level_reset : Tdi → Tdi
+level_reset tdi = record { plan = tdi.plan; registers = planned tdi.plan; state = failed tdi.state }
+
+-- a firmware update, which lock flag 0 forbids
+abbrev pub firmware_updated : TdiState → TdiState
+firmware_updated state = after_change (has_bit 0 (lock_flags state)) state
+
+-- ---- all calls
+
+pub data Call : Type 0 where
+  LockInterface : ℕ → ℕ → ℕ → Bool → Option (List ℕ) → Call
+  StartInterface : List ℕ → Call
+  StopInterface : Call
+  WriteRegister : Register → ℕ → Call
+  LevelReset : Call
+  FirmwareUpdate : Call
+  StreamLeft : Call
+  LinkReset : Call
+
+abbrev pub after : Tdi → Call → Tdi
+after tdi (LockInterface flags stream offset secure drawn) = locked tdi flags stream offset secure drawn
+after tdi (StartInterface nonce) = with_state tdi (started tdi.state nonce)
+after tdi StopInterface = with_state tdi ConfigUnlocked
+after tdi (WriteRegister register value) = written tdi register value
+after tdi LevelReset = level_reset tdi
+after tdi FirmwareUpdate = with_state tdi (firmware_updated tdi.state)
+after tdi StreamLeft = with_state tdi (failed tdi.state)
+after tdi LinkReset = new_tdi tdi.plan

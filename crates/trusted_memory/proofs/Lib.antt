@@ -1,0 +1,4 @@
+pub mod Seen
+pub mod Written
+pub mod Putting
+pub mod Turns

@@ -1,0 +1,203 @@
+-- One write in one page.
+use Rattle.std.proofs.Common.{◌≡◌, ◌≢◌, ℕ, ◌+◌, ◌-◌, ◌*◌, ◌/◌, ◌%◌, ◌<◌, ◌≤◌, Bool, true, false, cond, ◌&&◌, ◌||◌, eqb, leb, ltb, List, [], length, map, get_or, replicate, Option, Some, None, unwrap_or, is_some, not, refl, sym, ap, ◌∙◌, inl, inr, arith}
+use Rattle.std.specs.Ordering.{nat_cmp}
+use Rattle.std.specs.BTreeMap.{is_at}
+use Rattle.std.specs.Map.{lookup, keys_of}
+use Rattle.std.specs.List.{list_any}
+use Rattle.std.proofs.lemmas.Bool.{cases_Bool, true≢false, eqb-true, eqb-false, eq-eqb}
+use Rattle.std.proofs.lemmas.Bool.Decides.{nat_tests}
+use Rattle.std.proofs.lemmas.List.{get_or-replicate}
+use Rattle.std.proofs.lemmas.Map.Made.{is_some-lookup}
+use Rattle.ide_plan.specs.declared.plan.Region.{Region}
+use Rattle.trusted_memory.specs.Writes.{Write, is_enabled, reaches, enables, written}
+use Rattle.trusted_memory.specs.Regions.{in_region, in_one_region, crosses}
+use Rattle.trusted_memory.specs.Contents.{TrustedMemory, byte_at, bytes_from, has_page, is_ready}
+use Rattle.trusted_memory.specs.Pages.{page_bytes, paged_byte, seen, HasWritten}
+use Rattle.trusted_memory.proofs.Seen.{byte_in-seen, each_in_region, first_in_region}
+
+-- ---- numbers
+
+leb-shifted : (c x y : ℕ) → leb (c + x) (c + y) ≡ leb x y
+leb-shifted c x y = grind (arith, nat_tests)
+
+ltb-shifted : (c x y : ℕ) → ltb (c + x) (c + y) ≡ ltb x y
+ltb-shifted c x y = grind (arith, nat_tests)
+
+pub is_at-eqb : (p q : ℕ) → is_at (nat_cmp p) q ≡ eqb p q
+is_at-eqb p q = grind (arith, nat_tests)
+
+pub fits_page : (w : Write) → crosses w ≡ false → w.address % 4096 + length w.payload ≤ 4096
+fits_page w e = grind (arith, nat_tests)
+
+-- ---- the same page
+
+-- the write with its place in its page
+abbrev in_its_page : Write → Write
+in_its_page w = record w { address = w.address % 4096 }
+
+reaches-same_page : (w : Write) (a : ℕ) → w.address / 4096 ≡ a / 4096 → reaches (in_its_page w) (a % 4096) ≡ reaches w a
+reaches-same_page w a same =
+    let c = 4096 * (a / 4096) in
+    let first : w.address ≡ 4096 * (a / 4096) + w.address % 4096 = omega arith in
+    let here : a ≡ 4096 * (a / 4096) + a % 4096 = omega arith in
+    let end : w.address + length w.payload ≡ 4096 * (a / 4096) + (w.address % 4096 + length w.payload) = omega arith in
+    let low : leb w.address a ≡ leb (w.address % 4096) (a % 4096) = (λ i. leb (first i) (here i)) ∙ leb-shifted c _ _ in
+    let high : ltb a (w.address + length w.payload) ≡ ltb (a % 4096) (w.address % 4096 + length w.payload) = (λ i. ltb (here i) (end i)) ∙ ltb-shifted c _ _ in
+    sym (λ i. low i && high i)
+
+place-same_page : (w : Write) (a : ℕ) → w.address / 4096 ≡ a / 4096 → a % 4096 - w.address % 4096 ≡ a - w.address
+place-same_page w a same = omega arith
+
+pub written-same_page : (w : Write) (old : List ℕ) (a : ℕ) (b : ℕ) → w.address / 4096 ≡ a / 4096 → b ≡ get_or old (a % 4096) 0
+    → written (in_its_page w) (λ i. get_or old i 0) (a % 4096) ≡ written w (λ _. b) a
+written-same_page w old a b same e =
+    let r = reaches-same_page w a same in
+    let p = place-same_page w a same in
+    λ i. cond (r i && is_enabled w (p i)) (get_or w.payload (p i) 0) (sym e i)
+
+-- ---- another page
+
+reaches_low : (w : Write) (a : ℕ) → reaches w a ≡ true → w.address ≤ a
+reaches_low w a e = grind (arith, nat_tests)
+
+reaches_high : (w : Write) (a : ℕ) → reaches w a ≡ true → a < w.address + length w.payload
+reaches_high w a e = grind (arith, nat_tests)
+
+reaches-other_page : (w : Write) (a : ℕ) → crosses w ≡ false → w.address / 4096 ≢ a / 4096 → reaches w a ≡ false
+reaches-other_page w a whole other =
+    let short = fits_page w whole in
+    elim (cases_Bool (reaches w a)) [
+      | inl e ↦
+          let low = reaches_low w a e in
+          let high = reaches_high w a e in
+          absurd (other (omega arith))
+      | inr e ↦ e
+    ]
+
+-- ---- pages
+
+none_of : {X : Type 0} (o : Option (List X)) → is_some o ≡ false → unwrap_or o [] ≡ []
+none_of None e = refl
+none_of (Some s) e = absurd (true≢false e)
+
+or-true : (b : Bool) → (b || true) ≡ true
+or-true true = refl
+or-true false = refl
+
+or-false : (b : Bool) → (b || false) ≡ b
+or-false true = refl
+or-false false = refl
+
+-- one page is a new one, and the others are the old ones
+pub record PutsPage (n : ℕ) (new : List ℕ) (es es' : List (ℕ × List ℕ)) : Type 0 where
+  pub at : (q : ℕ) → lookup (is_at (nat_cmp q)) es' ≡ cond (is_at (nat_cmp n) q) (Some new) (lookup (is_at (nat_cmp q)) es)
+
+-- what is found at a page then
+found : (n q : ℕ) (b : Bool) (new : List ℕ) (es es' : List (ℕ × List ℕ)) → PutsPage n new es es' → eqb n q ≡ b
+    → lookup (is_at (nat_cmp q)) es' ≡ cond b (Some new) (lookup (is_at (nat_cmp q)) es)
+found n q b new es es' puts e =
+    puts.at q ∙ ap (λ (t : Bool). cond t (Some new) (lookup (is_at (nat_cmp q)) es)) (is_at-eqb n q ∙ e)
+
+page_bytes-put : (n q : ℕ) (new : List ℕ) (es es' : List (ℕ × List ℕ)) → PutsPage n new es es' → page_bytes es' q ≡ cond (eqb n q) new (page_bytes es q)
+page_bytes-put n q new es es' puts = elim (cases_Bool (eqb n q)) [
+  | inl e ↦ rw e (ap (λ (o : Option (List ℕ)). unwrap_or o []) (found n q true new es es' puts e))
+  | inr e ↦ rw e (ap (λ (o : Option (List ℕ)). unwrap_or o []) (found n q false new es es' puts e))
+]
+
+pub paged-written : (w : Write) (old new : List ℕ) (es es' : List (ℕ × List ℕ)) → crosses w ≡ false → page_bytes es (w.address / 4096) ≡ old
+    → HasWritten (w.address % 4096) w old new → PutsPage (w.address / 4096) new es es' → (a : ℕ) → paged_byte es' a ≡ written w (paged_byte es) a
+paged-written w old new es es' whole was has puts a =
+    let put = page_bytes-put (w.address / 4096) (a / 4096) new es es' puts in
+    elim (cases_Bool (eqb (w.address / 4096) (a / 4096))) [
+      | inl e ↦
+          let same = eqb-true (w.address / 4096) (a / 4096) e in
+          let here : page_bytes es' (a / 4096) ≡ new = put ∙ rw e refl in
+          let before : paged_byte es a ≡ get_or old (a % 4096) 0 =
+          (λ i. get_or (page_bytes es (sym same i)) (a % 4096) 0) ∙ ap (λ (s : List ℕ). get_or s (a % 4096) 0) was in
+          ap (λ (s : List ℕ). get_or s (a % 4096) 0) here ∙ has (a % 4096) ∙ written-same_page w old a (paged_byte es a) same before
+      | inr e ↦
+          let other = eqb-false (w.address / 4096) (a / 4096) e in
+          let there : page_bytes es' (a / 4096) ≡ page_bytes es (a / 4096) = put ∙ rw e refl in
+          let apart = reaches-other_page w a whole other in
+          ap (λ (s : List ℕ). get_or s (a % 4096) 0) there ∙ sym (rw apart refl)
+    ]
+
+pub byte_at-seen : (rs : List Region) (es : List (ℕ × List ℕ)) (a : ℕ) → in_region rs a ≡ true → byte_at (seen rs es) a ≡ paged_byte es a
+byte_at-seen rs es a h = byte_in-seen (paged_byte es) rs a ∙ rw h refl
+
+enables-reaches : (w : Write) (a : ℕ) → enables w a ≡ true → reaches w a ≡ true
+enables-reaches w a e = grind arith
+
+pub byte_at-written : (rs : List Region) (es es' : List (ℕ × List ℕ)) (w : Write) → in_one_region rs w.address (length w.payload) ≡ true
+    → ((a : ℕ) → paged_byte es' a ≡ written w (paged_byte es) a) → (a : ℕ) → byte_at (seen rs es') a ≡ written w (byte_at (seen rs es)) a
+byte_at-written rs es es' w inside h a = elim (cases_Bool (enables w a)) [
+  | inl e ↦
+      let reached = enables-reaches w a e in
+      let low : w.address ≤ a = reaches_low w a reached in
+      let high : a < w.address + length w.payload = reaches_high w a reached in
+      let has = each_in_region rs w.address (length w.payload) a inside low high in
+      byte_at-seen rs es' a has ∙ h a ∙ rw e refl
+  | inr e ↦
+      let same : paged_byte es' a ≡ paged_byte es a = h a ∙ rw e refl in
+      byte_in-seen (paged_byte es') rs a ∙ ap (λ (b : ℕ). cond (in_region rs a) b 0) same ∙ sym (byte_in-seen (paged_byte es) rs a) ∙ sym (rw e refl)
+]
+
+-- ---- a page of bytes 0
+
+pub paged-new : (n : ℕ) (es es' : List (ℕ × List ℕ)) → page_bytes es n ≡ [] → PutsPage n (replicate 4096 0) es es' → (a : ℕ) → paged_byte es' a ≡ paged_byte es a
+paged-new n es es' none puts a =
+    let put = page_bytes-put n (a / 4096) (replicate 4096 0) es es' puts in
+    elim (cases_Bool (eqb n (a / 4096))) [
+      | inl e ↦
+          let here : page_bytes es' (a / 4096) ≡ replicate 4096 0 = put ∙ rw e refl in
+          let same : n ≡ a / 4096 = eqb-true n (a / 4096) e in
+          let empty : page_bytes es (a / 4096) ≡ [] = (λ i. page_bytes es (sym same i)) ∙ none in
+          ap (λ (s : List ℕ). get_or s (a % 4096) 0) here ∙ get_or-replicate 4096 (a % 4096) 0 0 (omega arith)
+          ∙ sym (ap (λ (s : List ℕ). get_or s (a % 4096) 0) empty)
+      | inr e ↦ ap (λ (s : List ℕ). get_or s (a % 4096) 0) (put ∙ rw e refl)
+    ]
+
+pub seen-same_bytes : (rs : List Region) (es es' : List (ℕ × List ℕ)) → ((a : ℕ) → paged_byte es' a ≡ paged_byte es a)
+    → seen rs es' ≡ record (seen rs es) { provided = keys_of es' }
+seen-same_bytes rs es es' h i =
+    record { regions = rs; bytes = map (λ r. bytes_from (λ a. h a i) r.base r.size) rs; provided = keys_of es' }
+
+-- ---- which pages are there
+
+pub has_page-lookup : (rs : List Region) (es : List (ℕ × List ℕ)) (n : ℕ) → has_page (seen rs es) n ≡ is_some (lookup (is_at (nat_cmp n)) es)
+has_page-lookup rs es n =
+    sym (is_some-lookup (is_at (nat_cmp n)) es ∙ ap (λ (t : ℕ → Bool). list_any t (keys_of es)) (λ i k. is_at-eqb n k i))
+
+pub has_page-put : (rs : List Region) (es es' : List (ℕ × List ℕ)) (n : ℕ) (new : List ℕ) → PutsPage n new es es' → (q : ℕ)
+    → has_page (seen rs es') q ≡ (has_page (seen rs es) q || eqb n q)
+has_page-put rs es es' n new puts q = elim (cases_Bool (eqb n q)) [
+  | inl e ↦
+      let there : has_page (seen rs es') q ≡ true =
+      has_page-lookup rs es' q ∙ ap (λ (o : Option (List ℕ)). is_some o) (found n q true new es es' puts e) in
+      there ∙ sym (or-true (has_page (seen rs es) q)) ∙ ap (λ (b : Bool). has_page (seen rs es) q || b) (sym e)
+  | inr e ↦
+      let same : has_page (seen rs es') q ≡ has_page (seen rs es) q =
+      has_page-lookup rs es' q ∙ ap (λ (o : Option (List ℕ)). is_some o) (found n q false new es es' puts e) ∙ sym (has_page-lookup rs es q) in
+      same ∙ sym (or-false (has_page (seen rs es) q)) ∙ ap (λ (b : Bool). has_page (seen rs es) q || b) (sym e)
+]
+
+-- the new page is there
+pub has_page-new : (rs : List Region) (es es' : List (ℕ × List ℕ)) (n : ℕ) (new : List ℕ) → PutsPage n new es es' → has_page (seen rs es') n ≡ true
+has_page-new rs es es' n new puts =
+    has_page-put rs es es' n new puts n ∙ ap (λ (b : Bool). has_page (seen rs es) n || b) (eq-eqb n n refl) ∙ or-true (has_page (seen rs es) n)
+
+pub no_page : (rs : List Region) (es : List (ℕ × List ℕ)) (n : ℕ) → has_page (seen rs es) n ≡ false → page_bytes es n ≡ []
+no_page rs es n h = none_of (lookup (is_at (nat_cmp n)) es) (sym (has_page-lookup rs es n) ∙ h)
+
+-- ---- what a write needs
+
+pub ready_outside : (m : TrustedMemory) (at : ℕ) → in_region m.regions at ≡ false → (w : Write) → w.address ≡ at → is_ready m w ≡ true
+ready_outside m at h w is = elim (cases_Bool (in_one_region m.regions w.address (length w.payload))) [
+  | inl e ↦ absurd (true≢false (sym (first_in_region m.regions w.address (length w.payload) e) ∙ ap (λ (a : ℕ). in_region m.regions a) is ∙ h))
+  | inr e ↦ rw e refl
+]
+
+pub ready_there : (m : TrustedMemory) (at : ℕ) → has_page m (at / 4096) ≡ true → (w : Write) → w.address ≡ at → is_ready m w ≡ true
+ready_there m at h w is =
+    let there : has_page m (w.address / 4096) ≡ true = ap (λ (a : ℕ). has_page m (a / 4096)) is ∙ h in
+    rw there (or-true (not (in_one_region m.regions w.address (length w.payload)) || crosses w))

@@ -1,0 +1,76 @@
+//! A page of memory.
+
+ghost use Rattle.std.specs.Prelude.{◌≡◌, ◌<◌, ◌+◌, ◌≤◌, ℕ, IfOk, length, replicate, slice_index, slice_set, if◌then◌else◌};
+ghost use Rattle.trusted_memory.specs.Writes.{write_of, is_enabled};
+ghost use Rattle.trusted_memory.specs.Pages.{HasWritten};
+
+use crate::MemWriteView;
+use ide_types::Memory;
+use std::alloc::Global;
+use std::marker::Model;
+
+/// The bytes of a page.
+pub const PAGE_BYTES: usize = 4_096;
+
+/// 4,096 bytes.
+#[derive(Drop)]
+pub struct Page {
+    bytes: Vec<u8>,
+}
+
+impl Model for Page {
+    ghost use Rattle.std.specs.Prelude.{◌≡◌, List, ℕ, length};
+
+    ghost Value = { List ℕ };
+
+    ghost view = { λ p. p.bytes.items };
+
+    ghost invariant = { λ p. length p.bytes.items ≡ 4096 };
+}
+
+// Writes byte `i` of the payload at its place behind `start`, if it is enabled.
+fn put(bytes: &mut [u8], start: usize, write: &MemWriteView<'_>, i: usize)
+    requires in_payload { i < length write.now.payload.now }
+    requires in_bytes { start + i < length bytes.old }
+    ensures { bytes.new ≡ (if is_enabled (write_of write.now) i
+        then slice_set bytes.old (start + i) (slice_index write.now.payload.now i) else bytes.old) }
+{
+    if write.is_enabled(i) {
+        bytes[start + i] = write.payload[i];
+    }
+}
+
+fn put_all(bytes: &mut [u8], start: usize, write: &MemWriteView<'_>)
+    requires { start + length write.now.payload.now ≤ length bytes.old }
+    ensures { HasWritten start (write_of write.now) bytes.old bytes.new }
+{
+    for i in 0..write.payload.len() {
+        put(bytes, start, write, i);
+    }
+}
+
+impl Page {
+    /// A page of bytes 0.
+    pub fn new(alloc: Global) -> Result<Page, Memory>
+        ensures { IfOk result (λ page. page ≡ replicate 4096 0) }
+    {
+        let bytes = vec![in alloc; 0; PAGE_BYTES]?;
+        Ok(Page { bytes })
+    }
+
+    /// Byte `i`.
+    pub fn byte(&self, i: usize) -> u8
+        requires { i < PAGE_BYTES }
+        ensures { result ≡ slice_index self.now i }
+    {
+        self.bytes[i]
+    }
+
+    /// Writes the enabled bytes of the payload, the first at `start`.
+    pub fn write(&mut self, start: usize, write: &MemWriteView<'_>)
+        requires { start + length write.now.payload.now ≤ PAGE_BYTES }
+        ensures written { HasWritten start (write_of write.now) self.old self.new }
+    {
+        put_all(self.bytes.as_mut_slice(), start, write);
+    }
+}
