@@ -161,6 +161,17 @@ impl Rx {
         self.holds = Holds::Nothing;
     }
 
+    /// How many packets the unit has that the last change accepted, 0 where it was another change.
+    pub fn delivered(&self) -> usize
+        ensures value { result ≡ length self.now.delivered }
+        ensures most { result ≤ 8 }
+    {
+        match self.holds {
+            Holds::Delivered => self.unit.count(),
+            _ => 0,
+        }
+    }
+
     /// The header and the decrypted payload of packet `i` of the unit that the last change accepted, counted from 0.
     pub fn packet(&self, i: usize) -> (&[u8], &[u8])
         requires { i < length self.now.delivered }

@@ -1,0 +1,98 @@
+-- What one send seals has at most 4,184 bytes.
+use Rattle.std.proofs.Common.{◌≡◌, ℕ, ◌+◌, ◌≤◌, Bool, true, false, List, [], ◌∷◌, ◌++◌, length, Option, Some, None, arith, length-append}
+use Rattle.std.specs.Prelude.{if◌then◌else◌}
+use Rattle.gcm_seal.specs.Gcm.{masked, tag_of}
+use Rattle.gcm_seal.proofs.Sealing.{length-masked, length-tag_of}
+use Rattle.ide_types.specs.declared.sub.SubKind.{SubKind}
+use Rattle.ide_types.specs.declared.sub.SubKind.TheVariants.{Npr, Cpl}
+use Rattle.ide_prefix.specs.Packet.{Packet, packet_bytes, sync_head}
+use Rattle.ide_prefix.specs.Iv.{iv_of}
+use Rattle.ide_prefix.specs.Units.{authenticated, encrypted}
+use Rattle.link_verdicts.specs.declared.verdict.Verdict.{Verdict}
+use Rattle.link_verdicts.specs.declared.verdict.SealedPacket.{SealedPacket}
+use Rattle.stream_rules.specs.Sending.{Sending, Lanes, described, needs_sync, sync_before, ends_unit, sets_trusted, front_with, sealed_by}
+use Rattle.stream_rules.specs.Stream.{LiveKey, Three, TxSub, at_sub, live_sender, untagged_under, tagged_under, packet_under, sealed_one, sealed_all}
+use Rattle.ide_stream.specs.{StreamEnd, joined_packets, packets_sent, lanes_in}
+use Rattle.ide_stream.specs.Sends.{unless, sealing, refused}
+
+tag_length : (m : Bool) (key iv a c : List ℕ) → length (if m then tag_of key iv a c else []) ≤ 12
+tag_length true key iv a c = omega (arith, length-tag_of key iv a c)
+tag_length false key iv a c = omega arith
+
+-- how many bytes a packet of a description has at most
+abbrev room_of : SealedPacket → ℕ
+room_of d = if d.sync then 28 else 4128
+
+bytes_length : (p : Packet) → length (packet_bytes p) ≡ 4 + (length p.head + (length p.body + length p.tag))
+bytes_length p = omega (arith, length-append p.head (p.body ++ p.tag), length-append p.body p.tag)
+
+parts_length : (sync : Bool) (key iv : List ℕ) (n : ℕ) (head payload : List ℕ) → length head ≤ 16 → length payload ≤ 4096
+    → length (if sync then sync_head else head) + length (masked key iv n (if sync then [] else payload)) + 16 ≤ (if sync then 28 else 4128)
+parts_length true key iv n head payload h b = omega (arith, length-masked key iv n [])
+parts_length false key iv n head payload h b = omega (arith, length-masked key iv n payload, h, b)
+
+packet_length : (ahead : List ℕ) (o : Option (Bool × LiveKey)) (d : SealedPacket) (head payload : List ℕ) → length head ≤ 16 → length payload ≤ 4096
+    → length (packet_bytes (packet_under ahead o d head payload)) ≤ room_of d
+packet_length ahead None d head payload h b =
+    omega (arith, bytes_length (untagged_under [] [] d head payload), parts_length d.sync [] (iv_of d.sub d.unit) (length (encrypted [])) head payload h b)
+packet_length ahead (Some x) d head payload h b =
+    let p = untagged_under x.1.key x.1.packets d head payload in
+    omega (
+      arith,
+      bytes_length (tagged_under ahead x.1.key x.1.packets d p),
+      parts_length d.sync x.1.key (iv_of d.sub d.unit) (length (encrypted x.1.packets)) head payload h b,
+      tag_length d.m x.1.key (iv_of d.sub d.unit) (ahead ++ authenticated (x.1.packets ++ p ∷ [])) (encrypted (x.1.packets ++ p ∷ [])),
+    )
+
+room_all : List SealedPacket → ℕ
+room_all [] = 0
+room_all (d ∷ ds) = room_of d + room_all ds
+
+all_length : (closed : Bool) (head payload : List ℕ) (ds : List SealedPacket) (tx : Three TxSub) → length head ≤ 16 → length payload ≤ 4096
+    → length (joined_packets (sealed_all closed head payload ds tx).0) ≤ room_all ds
+unfolding room_all
+all_length closed head payload [] tx h b = omega arith
+all_length closed head payload (d ∷ ds) tx h b =
+    let x = at_sub tx d.sub in
+    let one = sealed_one closed head payload d tx in
+    let rest = all_length closed head payload ds one.1 h b in
+    omega (
+      arith,
+      length-append (packet_bytes one.0) (joined_packets (sealed_all closed head payload ds one.1).0),
+      rest,
+      packet_length (front_with closed d.unit x.total) (live_sender x.slots) d head payload h b,
+    )
+
+room_append : (xs ys : List SealedPacket) → room_all (xs ++ ys) ≡ room_all xs + room_all ys
+unfolding room_all
+room_append [] ys = omega arith
+room_append (x ∷ xs) ys = omega (arith, room_append xs ys)
+
+sync_room : (b : Bool) (x : Lanes) (s : Sending) (u : SubKind) (number : ℕ) → room_all (if b then described x s u number true false true ∷ [] else []) ≤ 28
+unfolding room_all
+sync_room true x s u number = omega arith
+sync_room false x s u number = omega arith
+
+sealed_room : (x : Lanes) (s : Sending) (number : ℕ) → room_all (sealed_by x s number) ≤ 4184
+unfolding room_all
+sealed_room x s number =
+    let first = sync_before x s Npr number in
+    let second = sync_before x s Cpl (number + length first) in
+    let last = described x s s.class (number + length first + length second) (ends_unit x s) (sets_trusted s.port s.trusted) false in
+    omega (
+      arith,
+      room_append (first ++ second) (last ∷ []),
+      room_append first second,
+      sync_room (needs_sync x s.class Npr) x s Npr number,
+      sync_room (needs_sync x s.class Cpl) x s Cpl (number + length first),
+    )
+
+unless_length : (o : Option Verdict) (ps : List Packet) (n : ℕ) → length (joined_packets ps) ≤ n → length (joined_packets (unless o [] ps)) ≤ n
+unless_length None ps n le = le
+unless_length (Some verdict) ps n le = omega arith
+
+pub sent-length : (e : StreamEnd) (head payload : List ℕ) (s : Sending) (number : ℕ) → length head ≤ 16 → length payload ≤ 4096
+    → length (joined_packets (packets_sent e head payload s number)) ≤ 4184
+sent-length e head payload s number h b =
+    unless_length (refused e s) (sealing e head payload s number).0 4184
+    (omega (arith, all_length e.closed head payload (sealed_by (lanes_in e) s number) e.state.tx h b, sealed_room (lanes_in e) s number))

@@ -1,0 +1,10 @@
+pub mod Numbers
+pub mod Parts
+pub mod Lists
+pub mod Waiting
+pub mod Streams
+pub mod Moves
+pub mod Shown
+pub mod Lengths
+pub mod Keeping
+pub mod Steps

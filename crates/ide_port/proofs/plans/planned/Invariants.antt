@@ -1,0 +1,6 @@
+use Rattle.std.proofs.Common.{◌≡◌, take}
+use Rattle.ide_port.specs.Kept.{new_streams}
+use Rattle.ide_port.proofs.plans.planned.Given as goal
+
+abbrev pub invariant-loop-plan : goal.invariant-loop-plan
+invariant-loop-plan l = l.streams.items ≡ new_streams l.side l.limit (take l.plan-index l.plans)

@@ -1,0 +1,6 @@
+use Rattle.std.proofs.Common.{◌≡◌, ◌++◌, map, take, drop}
+use Rattle.ide_stream.specs.{reset_end}
+use Rattle.ide_port.proofs.port.reset_streams.Given as goal
+
+abbrev pub invariant-loop-stream : goal.invariant-loop-stream
+invariant-loop-stream l = l.stream-items ≡ map reset_end (take l.stream-index l.initial.stream-items) ++ drop l.stream-index l.initial.stream-items

@@ -1,0 +1,56 @@
+-- What bytes that come to a port come to.
+use Rattle.std.specs.Prelude.{ℕ, ◌+◌, List, [], length, Option, Some, None, Result, Ok, Err}
+use Rattle.link_verdicts.specs.declared.verdict.UnitName.{UnitName}
+use Rattle.ide_prefix.specs.declared.fault.PacketFault.{PacketFault}
+use Rattle.ide_prefix.specs.Packet.{Packet}
+use Rattle.ide_prefix.specs.Reading.{CutValue, PlainTlp, IdePacket, cut_of}
+use Rattle.stream_rules.specs.Stream.{Taken, Insecure as IsInsecure, NotKeyed as IsKeyless, Failed, Held as IsHeld, Accepted as IsAccepted, taken_by, state_after}
+use Rattle.ide_stream.specs.{opened_after}
+use Rattle.ide_port.specs.declared.answer.Arrival.{Arrival}
+use Rattle.ide_port.specs.declared.answer.Arrival.TheVariants.{Malformed, Plain, Unknown, Insecure, NotKeyed, Fail, Held, Accepted}
+use Rattle.ide_port.specs.Ends.{PortEnd, Found, found, changed}
+
+-- the answer, and the port after it
+pub record TakeStep : Type 0 where
+  pub answer : Arrival
+  pub port : PortEnd
+
+-- nothing of a stream changes
+abbrev pub untaken : PortEnd → Arrival → TakeStep
+untaken e answer = record { answer = answer; port = record e { delivered = []; calls = e.calls + 1 } }
+
+abbrev pub unit_name : Packet → ℕ → ℕ → UnitName
+unit_name p draw unit = record { stream = p.prefix.stream; sub = p.prefix.sub; draw = draw; unit = unit }
+
+-- of an accepted unit, how many packets it has
+abbrev pub arrival_of : Packet → Taken → Arrival
+arrival_of p IsInsecure = Insecure p.prefix.stream
+arrival_of p IsKeyless = NotKeyed p.prefix.stream p.prefix.sub
+arrival_of p (Failed cause) = Fail p.prefix.stream p.prefix.sub cause
+arrival_of p (IsHeld draw unit) = Held (unit_name p draw unit)
+arrival_of p (IsAccepted draw unit packets) = Accepted (unit_name p draw unit) (length packets)
+
+abbrev pub taken_on : PortEnd → Packet → Found → TakeStep
+taken_on e p f =
+    let taken = taken_by f.plan.mode f.plan.closed f.state p in
+    record {
+      answer = arrival_of p taken;
+      port =
+          record e {
+            states = changed e.plans e.states f.plan.id (state_after f.state p taken);
+            delivered = opened_after f.state p taken;
+            calls = e.calls + 1;
+          };
+    }
+
+abbrev pub take_found : PortEnd → Packet → Option Found → TakeStep
+take_found e p None = untaken e (Unknown p.prefix.stream)
+take_found e p (Some f) = taken_on e p f
+
+abbrev pub take_read : PortEnd → Result CutValue PacketFault → TakeStep
+take_read e (Err fault) = untaken e (Malformed fault)
+take_read e (Ok PlainTlp) = untaken e Plain
+take_read e (Ok (IdePacket p)) = take_found e p (found e.plans e.states p.prefix.stream)
+
+abbrev pub take_step : PortEnd → List ℕ → TakeStep
+take_step e bytes = take_read e (cut_of bytes)

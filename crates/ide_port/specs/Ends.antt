@@ -1,0 +1,65 @@
+-- A port of a link with all its streams: what is kept (PCI Express Base 6.0 section 6.33, in this profile).
+use Rattle.std.specs.Prelude.{ℕ, ◌==◌, List, [], ◌∷◌, map, Option, Some, None, if◌then◌else◌}
+use Rattle.ide_types.specs.declared.port.PortName.{PortName}
+use Rattle.ide_plan.specs.declared.stream.StreamPlan.{StreamPlan}
+use Rattle.ide_prefix.specs.Packet.{Packet}
+use Rattle.stream_rules.specs.Stream.{StreamState}
+use Rattle.stream_calls.specs.Calls.{no_stream}
+use Rattle.ide_stream.specs.{StreamEnd}
+
+-- The streams are those of its link, in order, with their states; a key seals at most `limit` units. `sealed` are the
+-- bytes of the packets of the last send, joined; `delivered` the packets of the last accepted unit, decrypted, until
+-- the next packet or call of key management; `calls` counts sends and packets that came.
+pub record PortEnd : Type 0 where
+  pub name : PortName
+  pub plans : List StreamPlan
+  pub limit : ℕ
+  pub states : List StreamState
+  pub sealed : List ℕ
+  pub delivered : List Packet
+  pub calls : ℕ
+
+abbrev pub new_port : PortName → List StreamPlan → ℕ → PortEnd
+new_port name plans limit = record {
+  name = name;
+  plans = plans;
+  limit = limit;
+  states = map (λ (s : StreamPlan). no_stream) plans;
+  sealed = [];
+  delivered = [];
+  calls = 0;
+}
+
+-- ---- one stream
+
+-- a stream of the port, with its state
+pub record Found : Type 0 where
+  pub plan : StreamPlan
+  pub state : StreamState
+
+abbrev pub found : List StreamPlan → List StreamState → ℕ → Option Found
+found (s ∷ ss) (x ∷ xs) id = if s.id == id then Some (record { plan = s; state = x }) else found ss xs id
+found ss xs id = None
+
+-- with another state of the stream
+abbrev pub changed : List StreamPlan → List StreamState → ℕ → StreamState → List StreamState
+changed (s ∷ ss) (x ∷ xs) id y = if s.id == id then y ∷ xs else x ∷ changed ss xs id y
+changed ss xs id y = xs
+
+-- as a stream at a port
+abbrev pub end_at : PortEnd → Found → StreamEnd
+end_at e f = record {
+  side = e.name.side;
+  id = f.plan.id;
+  mode = f.plan.mode;
+  closed = f.plan.closed;
+  limit = e.limit;
+  state = f.state;
+  delivered = [];
+  calls = 0;
+}
+
+-- ---- a reset: no stream has keys, counts or a failure
+
+abbrev pub reset_port : PortEnd → PortEnd
+reset_port e = record e { states = map (λ (s : StreamPlan). no_stream) e.plans; delivered = [] }

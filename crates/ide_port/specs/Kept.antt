@@ -1,0 +1,109 @@
+-- The streams of a port as the code keeps them, beside their plans.
+use Rattle.std.specs.Prelude.{◌≡◌, ℕ, ◌==◌, ◌<◌, ◌≤◌, nat_lt, Bool, true, false, ◌&&◌, ◌||◌, List, [], ◌∷◌, map, length, slice_get, position, Option, Some, None, if◌then◌else◌}
+use Rattle.std.specs.Option.{option_map}
+use Rattle.ide_types.specs.Sub.{sent_direction}
+use Rattle.ide_types.specs.declared.port.Side.{Side}
+use Rattle.ide_types.specs.declared.sub.SubKind.{SubKind}
+use Rattle.ide_plan.specs.declared.stream.StreamPlan.{StreamPlan}
+use Rattle.ide_prefix.specs.Packet.{Packet}
+use Rattle.stream_rules.specs.Stream.{Slot, Armed, StreamState, at_sub}
+use Rattle.sub_stream.specs.declared.answer.Taken.{Taken}
+use Rattle.sub_stream.specs.declared.answer.Taken.TheVariants as taken
+use Rattle.ide_types.specs.declared.port.PortName.{PortName}
+use Rattle.link_verdicts.specs.declared.verdict.UnitName.{UnitName}
+use Rattle.ide_stream.specs.{StreamEnd, new_end, packet_lengths}
+use Rattle.ide_port.specs.declared.answer.Sent.{Sent}
+use Rattle.ide_port.specs.declared.answer.Arrival.{Arrival}
+use Rattle.ide_port.specs.declared.answer.Arrival.TheVariants.{Insecure, NotKeyed, Fail, Held, Accepted}
+use Rattle.ide_port.specs.Ends.{PortEnd}
+use Rattle.ide_port.specs.Sends.{SendStep, sent_verdict, lengths_sent}
+use Rattle.ide_port.specs.Calls.{sub_from}
+
+-- ---- streams and plans, one to one
+
+abbrev pub is_waiting : Slot → Bool
+is_waiting (Armed draw key) = true
+is_waiting slot = false
+
+-- a receiver's key never waits for the end of a unit
+abbrev pub NoneWaits : StreamState → Type 0
+NoneWaits st = (u : SubKind) → (is_waiting (at_sub st.rx u).slots.first || is_waiting (at_sub st.rx u).slots.second) ≡ false
+
+-- the stream of a plan at a port of this side, with what this one keeps
+abbrev pub stream_of : Side → ℕ → StreamPlan → StreamEnd → StreamEnd
+stream_of side limit s x = record {
+  side = side;
+  id = s.id;
+  mode = s.mode;
+  closed = s.closed;
+  limit = limit;
+  state = x.state;
+  delivered = x.delivered;
+  calls = x.calls;
+}
+
+-- it had at most so many calls
+pub record IsStreamOf (side : Side) (limit calls : ℕ) (s : StreamPlan) (x : StreamEnd) : Type 0 where
+  pub plan : x ≡ stream_of side limit s x
+  pub few : x.calls ≤ calls
+  pub receivers : NoneWaits x.state
+
+abbrev pub AreStreamsOf : Side → ℕ → ℕ → List StreamPlan → List StreamEnd → Type 0
+AreStreamsOf side limit calls [] [] = Unit {0}
+AreStreamsOf side limit calls (s ∷ ss) (x ∷ xs) = IsStreamOf side limit calls s x × AreStreamsOf side limit calls ss xs
+AreStreamsOf side limit calls ss xs = ⊥
+
+abbrev pub new_streams : Side → ℕ → List StreamPlan → List StreamEnd
+new_streams side limit plans = map (λ (s : StreamPlan). new_end side s.id s.mode s.closed limit) plans
+
+-- ---- what is lent
+
+abbrev pub lent_by : Option StreamEnd → List Packet
+lent_by None = []
+lent_by (Some x) = x.delivered
+
+-- by the stream at this place
+abbrev pub delivered_at : List StreamEnd → Option ℕ → List Packet
+delivered_at xs None = []
+delivered_at xs (Some place) = lent_by (slice_get xs place)
+
+-- the streams are those of the plans, one of them lends, and what was sealed has room
+pub record IsKept (side : Side) (limit calls : ℕ) (plans : List StreamPlan) (streams : List StreamEnd) (lent : Option ℕ)
+    (sealed : List ℕ) (capacity : ℕ) : Type 0 where
+  pub each : AreStreamsOf side limit calls plans streams
+  pub lends : (place : ℕ) → lent ≡ Some place → place < length streams
+  pub short : length sealed ≤ 4184
+  pub room : 4184 ≤ capacity
+
+-- ---- one stream
+
+-- the place of the first stream of an ID
+abbrev pub place_of : List StreamPlan → ℕ → Option ℕ
+place_of plans id = position (λ (s : StreamPlan). s.id == id) plans
+
+-- and the sub-stream of a number, where there is such a one
+abbrev pub lane_of : List StreamPlan → ℕ → ℕ → Option (ℕ × SubKind)
+lane_of plans id sub = if nat_lt sub 3 then option_map (λ place. (place, sub_from sub)) (place_of plans id) else None
+
+-- a host's port sets T as it is asked
+abbrev pub trusts : Side → Bool → Bool
+trusts side trusted = (sent_direction side == 0) && trusted
+
+-- ---- answers
+
+-- an answer, and the port after it, as a step says
+pub record IsStep (name : PortName) (number : ℕ) (answer : Sent) (new : PortEnd) (step : SendStep) : Type 0 where
+  pub answered : sent_verdict name number answer ≡ step.verdict
+  pub lengths : lengths_sent answer ≡ packet_lengths step.packets
+  pub port : new ≡ step.port
+
+abbrev pub unit_said : ℕ → SubKind → ℕ → ℕ → UnitName
+unit_said stream sub draw unit = record { stream = stream; sub = sub; draw = draw; unit = unit }
+
+-- what a stream says of a packet of a sub-stream
+abbrev pub arrival_said : ℕ → SubKind → Option Taken → Arrival
+arrival_said stream sub None = Insecure stream
+arrival_said stream sub (Some taken.NotKeyed) = NotKeyed stream sub
+arrival_said stream sub (Some (taken.Fail cause)) = Fail stream sub cause
+arrival_said stream sub (Some (taken.Held draw unit)) = Held (unit_said stream sub draw unit)
+arrival_said stream sub (Some (taken.Accepted draw unit count)) = Accepted (unit_said stream sub draw unit) count

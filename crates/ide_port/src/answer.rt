@@ -1,0 +1,41 @@
+//! What a port answers.
+
+use ide_prefix::PacketFault;
+use ide_stream::{Sealed, SendRefusal};
+use ide_types::{FailCause, SubKind};
+use link_verdicts::UnitName;
+use tlp_layout::TlpFault;
+
+/// What a send comes to.
+#[derive(Debug, Drop)]
+pub enum Sent {
+    /// The bytes are no TLP.
+    Malformed(TlpFault),
+    /// No stream takes the TLP; nothing is kept of it.
+    Plain,
+    /// It is not sealed, and nothing changes.
+    Refused(SendRefusal),
+    /// It is sealed, behind the sync packets that went first.
+    Sealed(Sealed),
+}
+
+/// What arriving bytes come to.
+#[derive(Clone, Copy, Debug, PartialEq, Eq)]
+pub enum Arrival {
+    /// They are no packet.
+    Malformed(PacketFault),
+    /// They are no packet of a stream.
+    Plain,
+    /// The port has no such stream.
+    Unknown(u8),
+    /// The stream is insecure at the port.
+    Insecure(u8),
+    /// The sub-stream has no Live key.
+    NotKeyed(u8, SubKind),
+    /// A check failed, and the stream is insecure from now on.
+    Fail(u8, SubKind, FailCause),
+    /// A packet of a unit that goes on.
+    Held(UnitName),
+    /// The unit was accepted, with so many packets, from 1 to 8.
+    Accepted(UnitName, u8),
+}

@@ -1,0 +1,100 @@
+//! Plans of streams: copies, and the places of streams among them.
+
+ghost use Rattle.std.specs.Prelude.{◌≡◌, IfOk, map, All};
+ghost use Rattle.ide_plan.specs.Fits.{FitsStream};
+ghost use Rattle.ide_port.specs.Calls.{sub_from};
+ghost use Rattle.ide_port.specs.Kept.{place_of, lane_of, new_streams};
+
+use ide_plan::{Selector, StreamPlan};
+use ide_stream::Stream;
+use ide_types::{Items, Memory, Side, SubKind};
+use std::alloc::Global;
+
+fn copied_selector(alloc: Global, selector: &Selector) -> Result<Selector, Memory>
+    ensures { IfOk result (λ s. s ≡ selector.now) }
+{
+    match selector {
+        Selector::Selective {
+            ids,
+            addresses,
+            default,
+        } => Ok(Selector::Selective {
+            ids: *ids,
+            addresses: Items::new(Vec::from_slice(alloc, addresses.as_slice())?),
+            default: *default,
+        }),
+        Selector::Link { classes } => Ok(Selector::Link {
+            classes: Items::new(Vec::from_slice(alloc, classes.as_slice())?),
+        }),
+    }
+}
+
+fn copied_plan(alloc: Global, plan: &StreamPlan) -> Result<StreamPlan, Memory>
+    ensures { IfOk result (λ s. s ≡ plan.now) }
+{
+    let selector = copied_selector(alloc, &plan.selector)?;
+    Ok(StreamPlan {
+        id: plan.id,
+        mode: plan.mode,
+        closed: plan.closed,
+        selector,
+    })
+}
+
+/// A copy of plans.
+pub fn copied(alloc: Global, plans: &[StreamPlan]) -> Result<Items<StreamPlan>, Memory>
+    ensures { IfOk result (λ p. p ≡ plans.now) }
+{
+    let mut copies = Vec::new(alloc);
+    for plan in plans {
+        copies.push(copied_plan(alloc, plan)?)?;
+    }
+    Ok(Items::new(copies))
+}
+
+/// The streams of these plans at a port of a side, without keys.
+pub fn planned(
+    alloc: Global,
+    side: Side,
+    plans: &[StreamPlan],
+    limit: u64,
+) -> Result<Vec<Stream>, Memory>
+    requires { All FitsStream plans.now }
+    ensures { IfOk result (λ v. v.items ≡ new_streams side limit plans.now) }
+{
+    let mut streams = Vec::new(alloc);
+    for plan in plans {
+        streams.push(Stream::make(alloc, side, plan.id, plan.mode, plan.closed, limit)?)?;
+    }
+    Ok(streams)
+}
+
+/// The place of the stream of an ID.
+pub fn place(plans: &[StreamPlan], id: u8) -> Option<usize>
+    ensures { result ≡ place_of plans.now id }
+{
+    plans.iter().position(|plan| plan.id == id)
+}
+
+fn sub_stream(number: u8) -> SubKind
+    ensures { result ≡ sub_from number }
+{
+    match number {
+        0 => SubKind::Pr,
+        1 => SubKind::Npr,
+        _ => SubKind::Cpl,
+    }
+}
+
+/// The place of the stream of an ID, and the sub-stream of a number below 3.
+pub fn lane(plans: &[StreamPlan], id: u8, sub: u8) -> Option<(usize, SubKind)>
+    ensures { result ≡ lane_of plans.now id sub }
+{
+    if sub >= 3 {
+        return None;
+    }
+    match place(plans, id) {
+        None => None,
+        Some(place) => Some((place, sub_stream(sub))),
+    }
+}

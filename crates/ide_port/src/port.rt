@@ -1,0 +1,435 @@
+//! A port.
+
+ghost use Rattle.std.specs.Prelude.{◌≡◌, ◌+◌, ◌<◌, ◌≤◌, ◌^◌, ℕ, [], Ok, Some, IfOk, All, length, map, slice_get};
+ghost use Rattle.tlp_layout.specs.Head.{head_bytes};
+ghost use Rattle.tlp_layout.specs.Tlp.{header, body, view_of};
+ghost use Rattle.tlp_layout.specs.Reading.{read_of};
+ghost use Rattle.association.specs.Choice.{chosen};
+ghost use Rattle.ide_plan.specs.Fits.{FitsStream};
+ghost use Rattle.ide_prefix.specs.Cut.{packet_of_view, IsView};
+ghost use Rattle.sub_stream.specs.{lent_parts, mark_of};
+ghost use Rattle.ide_stream.specs.{reset_end};
+ghost use Rattle.ide_port.specs.Kept.{trusts, arrival_said};
+
+use crate::answer::{Arrival, Sent};
+use crate::plans::{copied, lane, place, planned};
+use association::{Choice, choose};
+use ide_km::{ProgramFault, SlotPort};
+use ide_plan::StreamPlan;
+use ide_prefix::{Cut, PacketView, cut};
+use ide_stream::{SEND_ROOM, Stream};
+use ide_types::{Items, Memory, PortName, Side, StreamStatus, SubKind};
+use key_slots::{Key, OnlyLive};
+use link_verdicts::UnitName;
+use std::alloc::Global;
+use std::marker::Model;
+use sub_stream::{PacketMark, Taken};
+use tlp_layout::{TlpView, read};
+use tsm_host::HostPort;
+
+/// A port of a link with the link's streams.
+#[derive(Drop)]
+pub struct Port {
+    name: PortName,
+    limit: u64,
+    plans: Items<StreamPlan>,
+    // those of the plans, in order
+    streams: Vec<Stream>,
+    // what the last send sealed
+    sealed: Vec<u8>,
+    // the place of the stream that lends what it accepted
+    lent: Option<usize>,
+    calls: u64,
+}
+
+impl Model for Port {
+    ghost use Rattle.std.specs.Prelude.{map, vec_capacity};
+    ghost use Rattle.ide_stream.specs.{StreamEnd};
+    ghost use Rattle.ide_port.specs.Ends.{PortEnd};
+    ghost use Rattle.ide_port.specs.Kept.{IsKept, delivered_at};
+
+    ghost Value = { PortEnd };
+
+    ghost view = { λ p. record {
+      name = p.name;
+      plans = p.plans;
+      limit = p.limit;
+      states = map (λ (x : StreamEnd). x.state) p.streams.items;
+      sealed = p.sealed.items;
+      delivered = delivered_at p.streams.items p.lent;
+      calls = p.calls;
+    } };
+
+    ghost invariant = { λ p.
+        IsKept p.name.side p.limit p.calls p.plans p.streams.items p.lent p.sealed.items (vec_capacity p.sealed) };
+}
+
+// The stream that a choice names.
+fn named(choice: Choice) -> Option<u8>
+    ensures { result ≡ chosen choice }
+{
+    match choice {
+        Choice::Selective(id) | Choice::Default(id) | Choice::Link(id) => Some(id),
+        Choice::Plain => None,
+    }
+}
+
+// Whether a port of this side sets T of what is trusted.
+fn trusts(side: Side, trusted: bool) -> bool
+    ensures { result ≡ trusts side trusted }
+{
+    match side {
+        Side::Host => trusted,
+        Side::Device => false,
+    }
+}
+
+// The header and the payload of a TLP's bytes.
+#[tactic(auto, using(crate::proofs::Parts::parts_of))]
+fn parts<'a>(bytes: &'a [u8], tlp: &TlpView) -> (&'a [u8], &'a [u8])
+    requires { read_of bytes.now ≡ Ok (view_of tlp.now) }
+    ensures head { result.0.now ≡ head_bytes (header (view_of tlp.now)) }
+    ensures payload { result.1.now ≡ body (view_of tlp.now) }
+    ensures head_short { length result.0.now ≤ 16 }
+    ensures payload_short { length result.1.now ≤ 4096 }
+{
+    bytes.split_at(tlp.head().size())
+}
+
+// What a stream said of a packet of a sub-stream.
+fn arrival(stream: u8, sub: SubKind, taken: Option<Taken>) -> Arrival
+    ensures { result ≡ arrival_said stream sub taken }
+{
+    match taken {
+        None => Arrival::Insecure(stream),
+        Some(Taken::NotKeyed) => Arrival::NotKeyed(stream, sub),
+        Some(Taken::Fail(cause)) => Arrival::Fail(stream, sub, cause),
+        Some(Taken::Held { draw, unit }) => Arrival::Held(UnitName {
+            stream,
+            sub,
+            draw,
+            unit,
+        }),
+        Some(Taken::Accepted { draw, unit, count }) => Arrival::Accepted(
+            UnitName {
+                stream,
+                sub,
+                draw,
+                unit,
+            },
+            count,
+        ),
+    }
+}
+
+fn reset_streams(streams: &mut Vec<Stream>)
+    ensures { streams.new.items ≡ map reset_end streams.old.items }
+{
+    for stream in streams.iter_mut() {
+        stream.reset();
+    }
+}
+
+impl Port {
+    ghost use Rattle.ide_port.specs.Ends.{new_port, found, reset_port};
+    ghost use Rattle.ide_port.specs.Sends.{IsSent, unsealed, send_chosen, send_found, sent_verdict};
+    ghost use Rattle.ide_port.specs.Arrivals.{take_step, take_found};
+    ghost use Rattle.ide_port.specs.Calls.{status_in, live_in_port};
+    ghost use Rattle.ide_port.specs.Kept.{IsStep};
+
+    /// The port of this name with these streams of its link, without keys; a key seals at most `limit` units.
+    pub fn make(
+        alloc: Global,
+        name: PortName,
+        plans: &[StreamPlan],
+        limit: u64,
+    ) -> Result<Port, Memory>
+        requires { All FitsStream plans.now }
+        ensures { IfOk result (λ p. p ≡ new_port name plans.now limit) }
+    {
+        let streams = planned(alloc, name.side, plans, limit)?;
+        let plans = copied(alloc, plans)?;
+        let sealed = Vec::with_capacity(alloc, SEND_ROOM)?;
+        Ok(Port {
+            name,
+            limit,
+            plans,
+            streams,
+            sealed,
+            lent: None,
+            calls: 0,
+        })
+    }
+
+    /// How many TLPs it was to send, and arrivals it had.
+    pub fn calls(&self) -> u64
+        ensures { result ≡ self.now.calls }
+    {
+        self.calls
+    }
+
+    // Nothing is sealed.
+    fn unsealed(&mut self)
+        requires { self.old.calls < 2 ^ 40 }
+        ensures { self.new ≡ record self.old { sealed = []; calls = self.old.calls + 1 } }
+    {
+        self.sealed.clear();
+        self.calls += 1;
+    }
+
+    /// Sends a TLP's bytes: it takes a stream, which seals it behind the sync packets that must go first, or it goes
+    /// plain. A host's port sets T where the TLP is `trusted`; a device's port never does. `more` says that the unit goes
+    /// on where it has room. What was sealed is lent by `packets` until the next send.
+    pub fn send(&mut self, tlp: &[u8], trusted: bool, more: bool) -> Sent
+        requires { self.old.calls < 2 ^ 40 }
+        // Whatever the number of the next sealed packet is over the run.
+        ensures { (number : ℕ) → IsSent self.old tlp.now trusted more number result self.new }
+    {
+        match read(tlp) {
+            Err(fault) => {
+                self.unsealed();
+                Sent::Malformed(fault)
+            }
+            Ok(view) => {
+                let choice = choose(self.plans.as_slice(), self.name.side, &view.head());
+                self.send_chosen(named(choice), tlp, &view, trusted, more)
+            }
+        }
+    }
+
+    // Sends a TLP on the stream that it takes.
+    fn send_chosen(
+        &mut self,
+        id: Option<u8>,
+        bytes: &[u8],
+        tlp: &TlpView,
+        trusted: bool,
+        more: bool,
+    ) -> Sent
+        requires few { self.old.calls < 2 ^ 40 }
+        requires read { read_of bytes.now ≡ Ok (view_of tlp.now) }
+        ensures { (number : ℕ) → let step = send_chosen self.old (view_of tlp.now) trusted more number id in
+            IsStep self.old.name number result self.new step }
+    {
+        match id {
+            None => {
+                self.unsealed();
+                Sent::Plain
+            }
+            Some(id) => self.send_on(id, bytes, tlp, trusted, more),
+        }
+    }
+
+    // Sends a TLP on a stream.
+    fn send_on(&mut self, id: u8, bytes: &[u8], tlp: &TlpView, trusted: bool, more: bool) -> Sent
+        requires few { self.old.calls < 2 ^ 40 }
+        requires read { read_of bytes.now ≡ Ok (view_of tlp.now) }
+        ensures { (number : ℕ) → let f = found self.old.plans self.old.states id in
+            IsStep self.old.name number result self.new (send_found self.old (view_of tlp.now) trusted more number f) }
+    {
+        let Some(place) = place(self.plans.as_slice(), id) else {
+            self.unsealed();
+            return Sent::Plain;
+        };
+        let (head, payload) = parts(bytes, tlp);
+        let t = trusts(self.name.side, trusted);
+        let sealed = &mut self.sealed;
+        sealed.clear();
+        self.calls += 1;
+        let stream = &mut self.streams[place];
+        match stream.send(tlp.class(), head, payload, t, more, sealed) {
+            Ok(sealed) => Sent::Sealed(sealed),
+            Err(refusal) => Sent::Refused(refusal),
+        }
+    }
+
+    /// The bytes that the last send sealed, its packets joined.
+    pub fn packets(&self) -> &[u8]
+        ensures value { result.now ≡ self.now.sealed }
+        ensures short { length result.now ≤ 4184 }
+    {
+        &self.sealed
+    }
+
+    // Nothing of a stream changes, and nothing is lent any more.
+    fn untaken(&mut self)
+        requires { self.old.calls < 2 ^ 40 }
+        ensures { self.new ≡ record self.old { delivered = []; calls = self.old.calls + 1 } }
+    {
+        self.lent = None;
+        self.calls += 1;
+    }
+
+    /// Takes bytes that arrive. What an accepted unit carries is lent until the next arrival or call of key management.
+    pub fn take(&mut self, bytes: &[u8]) -> Arrival
+        requires { self.old.calls < 2 ^ 40 }
+        ensures answer { result ≡ (take_step self.old bytes.now).answer }
+        ensures port { self.new ≡ (take_step self.old bytes.now).port }
+    {
+        match cut(bytes) {
+            Err(fault) => {
+                self.untaken();
+                Arrival::Malformed(fault)
+            }
+            Ok(Cut::Plain) => {
+                self.untaken();
+                Arrival::Plain
+            }
+            Ok(Cut::Ide(packet)) => self.take_packet(&packet),
+        }
+    }
+
+    // Takes a packet of a stream.
+    fn take_packet(&mut self, packet: &PacketView) -> Arrival
+        requires few { self.old.calls < 2 ^ 40 }
+        requires view { IsView packet.now }
+        ensures answer { let f = found self.old.plans self.old.states packet.now.prefix.stream in
+            result ≡ (take_found self.old (packet_of_view packet.now) f).answer }
+        ensures port { let f = found self.old.plans self.old.states packet.now.prefix.stream in
+            self.new ≡ (take_found self.old (packet_of_view packet.now) f).port }
+    {
+        let id = packet.prefix.stream;
+        let Some(place) = place(self.plans.as_slice(), id) else {
+            self.untaken();
+            return Arrival::Unknown(id);
+        };
+        self.calls += 1;
+        self.lent = Some(place);
+        let stream = &mut self.streams[place];
+        arrival(id, packet.prefix.sub, stream.take(packet))
+    }
+
+    /// How many packets of an accepted unit are lent, at most 8.
+    pub fn delivered(&self) -> usize
+        ensures value { result ≡ length self.now.delivered }
+        ensures most { result ≤ 8 }
+    {
+        match self.lent {
+            None => 0,
+            Some(place) => self.streams[place].delivered(),
+        }
+    }
+
+    /// The header and the decrypted payload of packet `i` of the unit that was accepted last, counted from 0.
+    pub fn packet(&self, i: usize) -> (&[u8], &[u8])
+        requires { i < length self.now.delivered }
+        ensures { slice_get (map lent_parts self.now.delivered) i ≡ Some (result.0.now, result.1.now) }
+    {
+        let Some(place) = self.lent else {
+            unreachable!()
+        };
+        self.streams[place].packet(i)
+    }
+
+    /// Whether packet `i` of the unit that was accepted last, counted from 0, is trusted, and whether it is a sync
+    /// packet.
+    pub fn mark(&self, i: usize) -> PacketMark
+        requires { i < length self.now.delivered }
+        ensures { slice_get (map mark_of self.now.delivered) i ≡ Some result }
+    {
+        let Some(place) = self.lent else {
+            unreachable!()
+        };
+        self.streams[place].mark(i)
+    }
+
+    /// The status of a stream; `None` where the port has no such stream.
+    pub fn status(&self, stream: u8) -> Option<StreamStatus>
+        ensures { result ≡ status_in self.now stream }
+    {
+        match place(self.plans.as_slice(), stream) {
+            None => None,
+            Some(place) => Some(self.streams[place].status()),
+        }
+    }
+
+    /// The key set, 0 or 1, of the Live slot of a stream's sender in a sub-stream; `None` where none is Live.
+    pub fn live_set(&self, stream: u8, sub: SubKind) -> Option<u8>
+        ensures { result ≡ live_in_port self.now stream sub }
+    {
+        match place(self.plans.as_slice(), stream) {
+            None => None,
+            Some(place) => self.streams[place].live_set(sub),
+        }
+    }
+
+    /// Drops all keys, open units, held packets, counts and failures.
+    pub fn reset(&mut self)
+        ensures { self.new ≡ reset_port self.old }
+    {
+        reset_streams(&mut self.streams);
+        self.lent = None;
+    }
+}
+
+impl SlotPort for Port {
+    ghost use Rattle.std.specs.Prelude.{◌≡◌};
+    ghost use Rattle.ide_port.specs.Calls.{shown, unfinished_at, called_port};
+
+    ghost slots = { λ port place. shown port place };
+
+    ghost unfinished = { λ port place. unfinished_at port place };
+
+    ghost moves = { λ before call after. after ≡ called_port call before };
+
+    fn program(
+        &mut self,
+        stream: u8,
+        set: u8,
+        dir: u8,
+        sub: u8,
+        key: Key,
+        draw: u32,
+    ) -> Result<(), ProgramFault> {
+        self.lent = None;
+        match lane(self.plans.as_slice(), stream, sub) {
+            None => Err(ProgramFault::NoPlace(key)),
+            Some((place, sub)) => {
+                let stream = &mut self.streams[place];
+                match stream.program(set, dir, sub, key, draw) {
+                    Ok(()) => Ok(()),
+                    Err(OnlyLive { key }) => Err(ProgramFault::OnlyLive(key)),
+                }
+            }
+        }
+    }
+
+    fn go(&mut self, stream: u8, set: u8, dir: u8, sub: u8) -> bool {
+        self.lent = None;
+        match lane(self.plans.as_slice(), stream, sub) {
+            None => false,
+            Some((place, sub)) => {
+                let stream = &mut self.streams[place];
+                stream.go(set, dir, sub).is_ok()
+            }
+        }
+    }
+
+    fn halt(&mut self, stream: u8, set: u8, dir: u8, sub: u8) -> bool {
+        self.lent = None;
+        match lane(self.plans.as_slice(), stream, sub) {
+            None => false,
+            Some((place, sub)) => {
+                let stream = &mut self.streams[place];
+                stream.halt(set, dir, sub);
+                true
+            }
+        }
+    }
+}
+
+impl HostPort for Port {
+    ghost use Rattle.ide_port.specs.Calls.{status_in, live_in_port};
+
+    ghost status_of = { λ port stream. status_in port stream };
+
+    ghost live_of = { λ port stream sub. live_in_port port stream sub };
+
+    fn status(&self, stream: u8) -> Option<StreamStatus> {
+        Port::status(self, stream)
+    }
+
+    fn live_set(&self, stream: u8, sub: SubKind) -> Option<u8> {
+        Port::live_set(self, stream, sub)
+    }
+}

@@ -1,0 +1,5 @@
+pub mod Sealing
+pub mod Taking
+pub mod Sent
+pub mod Arriving
+pub mod Settling

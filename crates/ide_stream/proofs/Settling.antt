@@ -1,0 +1,155 @@
+-- What a stream keeps over its calls.
+use Rattle.std.proofs.Common.{◌≡◌, ℕ, ◌+◌, ◌<◌, ◌≤◌, Bool, true, false, not, ◌&&◌, ◌||◌, ◌==◌, nat_lt, nat_le, if◌then◌else◌, List, [], ◌∷◌, ◌++◌, length, Option, Some, None, Result, Ok, Err, refl, sym, ap, ◌∙◌, subst, arith}
+use Rattle.ide_types.specs.declared.sub.SubKind.{SubKind}
+use Rattle.ide_types.specs.declared.sub.SubKind.TheVariants.{Pr, Npr, Cpl}
+use Rattle.ide_types.specs.declared.port.Side.{Side}
+use Rattle.ide_types.specs.declared.sub.FailCause.TheVariants as fail
+use Rattle.ide_prefix.specs.Packet.{Packet}
+use Rattle.stream_rules.specs.Sending.{Sending, sealed_by}
+use Rattle.stream_rules.specs.Stream.{Slots, TxSub, RxSub, Three, StreamState, at_sub, set_sub, slot_in, live_in, Taken, Insecure, NotKeyed, Failed, Held, Accepted, dropped_held, taken_under, state_after}
+use Rattle.sub_stream.specs.{answer_of}
+use Rattle.sub_stream.specs.declared.answer.SealedPacket.{SealedPacket}
+use Rattle.sub_stream.specs.declared.answer.Taken.{Taken as Answer}
+use Rattle.sub_stream.specs.declared.answer.Taken.TheVariants as answers
+use Rattle.stream_calls.specs.Calls.{SlotCall}
+use Rattle.ide_stream.specs.declared.directions.Directions.{Directions}
+use Rattle.ide_stream.specs.Ends.{StreamEnd, lanes_in, opened_after, taken_in, end_taken}
+use Rattle.ide_stream.specs.Sends.{ok_unless, refused, unless, IsSealed, IsSent, packet_lengths, joined_packets, sealing}
+use Rattle.ide_stream.specs.Lanes.{SendEnds, any_out, settled_out}
+use Rattle.ide_stream.specs.Arrivals.{ReceiveEnds, receiving, taken_among, ends_after, is_fail}
+use Rattle.ide_stream.specs.Both.{called_directions, settled_directions, end_of, AtMost, IsStream}
+
+-- ---- calls of key management
+
+if_less : (b : Bool) (n calls : ℕ) → n ≤ calls → (if b then n else 0) ≤ calls
+if_less true n calls le = le
+if_less false n calls le = omega arith
+
+settled_few : (tx : Three TxSub) (calls : ℕ) → AtMost tx calls → AtMost (settled_out tx) calls
+settled_few tx calls few = record {
+  pr = if_less (any_out tx) tx.pr.total calls few.pr;
+  npr = if_less (any_out tx) tx.npr.total calls few.npr;
+  cpl = if_less (any_out tx) tx.cpl.total calls few.cpl;
+}
+
+slots_few : (u : SubKind) (tx : Three TxSub) (slots : Slots) (calls : ℕ) → AtMost tx calls
+    → AtMost (set_sub tx u (record { slots = slots; posted = (at_sub tx u).posted; total = (at_sub tx u).total })) calls
+slots_few Pr tx slots calls few = record { pr = few.pr; npr = few.npr; cpl = few.cpl }
+slots_few Npr tx slots calls few = record { pr = few.pr; npr = few.npr; cpl = few.cpl }
+slots_few Cpl tx slots calls few = record { pr = few.pr; npr = few.npr; cpl = few.cpl }
+
+pub call-kept : (sends : Bool) (u : SubKind) (call : SlotCall) (d : Directions) (calls : ℕ) → IsStream d calls
+    → IsStream (settled_directions (called_directions sends u call d)) calls
+call-kept true u call d calls inv = record {
+  same_mode = inv.same_mode;
+  same_closed = inv.same_closed;
+  few_totals = settled_few (called_directions true u call d).tx.tx calls (slots_few u d.tx.tx _ calls inv.few_totals);
+  few_takes = inv.few_takes;
+}
+call-kept false u call d calls inv = record {
+  same_mode = inv.same_mode;
+  same_closed = inv.same_closed;
+  few_totals = settled_few d.tx.tx calls inv.few_totals;
+  few_takes = inv.few_takes;
+}
+
+-- ---- a send
+
+pub send-kept : (d : Directions) (calls : ℕ) (new : SendEnds) → IsStream d calls → new ≡ record d.tx { tx = new.tx }
+    → ((u : SubKind) → (at_sub new.tx u).total ≤ (at_sub d.tx.tx u).total + 1)
+    → IsStream (record d { tx = new }) (calls + 1)
+send-kept d calls new inv same totals = record {
+  same_mode = inv.same_mode ∙ ap (λ (x : SendEnds). x.fixed.mode) (sym same);
+  same_closed = inv.same_closed ∙ ap (λ (x : SendEnds). x.fixed.closed) (sym same);
+  few_totals = record {
+    pr = omega (arith, totals Pr, inv.few_totals.pr);
+    npr = omega (arith, totals Npr, inv.few_totals.npr);
+    cpl = omega (arith, totals Cpl, inv.few_totals.cpl);
+  };
+  few_takes = omega (arith, inv.few_takes);
+}
+
+pub sent-so : (side : Side) (d : Directions) (calls : ℕ) (head payload : List ℕ) (s : Sending) (number : ℕ) (sealed : List SealedPacket) (before after : List ℕ) (new : SendEnds)
+    → refused (end_of side d calls) s ≡ None → IsSealed d.tx head payload s number sealed before after new
+    → IsSent (end_of side d calls) head payload s number (Ok sealed) before after (end_of side (record d { tx = new }) (calls + 1))
+sent-so side d calls head payload s number sealed before after new clear is =
+    let e : StreamEnd = end_of side d calls in
+    let all = sealing e head payload s number in
+    record {
+      answered = ap Ok is.answered ∙ ap (λ o. ok_unless o (sealed_by (lanes_in e) s number)) (sym clear);
+      lengths = is.lengths ∙ ap (λ o. packet_lengths (unless o [] all.0)) (sym clear);
+      bytes = is.bytes ∙ ap (λ o. before ++ joined_packets (unless o [] all.0)) (sym clear);
+      stream =
+          ap (λ (x : SendEnds). end_of side (record d { tx = x }) (calls + 1)) is.senders
+          ∙ ap (λ o. record e { state = unless o e.state (record e.state { tx = all.1 }); calls = calls + 1 }) (sym clear);
+    }
+
+-- ---- an arrival
+
+abbrev all_dropped : Three RxSub → Three RxSub
+all_dropped rx = record { pr = dropped_held rx.pr; npr = dropped_held rx.npr; cpl = dropped_held rx.cpl }
+
+pub take-kept : (d : Directions) (calls : ℕ) (p : Packet) (failed : Bool) → IsStream d calls
+    → IsStream (record d { rx = ends_after d.rx p (taken_among d.rx p); failed = failed }) (calls + 1)
+take-kept d calls p failed inv = record {
+  same_mode = inv.same_mode;
+  same_closed = inv.same_closed;
+  few_totals = record {
+    pr = omega (arith, inv.few_totals.pr);
+    npr = omega (arith, inv.few_totals.npr);
+    cpl = omega (arith, inv.few_totals.cpl);
+  };
+  few_takes = omega (arith, inv.few_takes);
+}
+
+-- the answer is that of the stream
+pub taken-among : (side : Side) (d : Directions) (calls : ℕ) (p : Packet) → IsStream d calls → d.failed ≡ false
+    → taken_among d.rx p ≡ taken_in (end_of side d calls) p
+taken-among side d calls p inv clear =
+    let slots = (at_sub d.rx.rx p.prefix.sub).slots in
+    (λ i. taken_under (inv.same_mode i) (inv.same_closed i) d.rx.rx p (live_in (slot_in slots p.prefix.k)) (live_in (slot_in slots (not p.prefix.k))))
+    ∙ ap (λ (b : Bool). if b then Insecure else taken_under d.tx.fixed.mode d.tx.fixed.closed d.rx.rx p (live_in (slot_in slots p.prefix.k)) (live_in (slot_in slots (not p.prefix.k)))) (sym clear)
+
+state_is : (tx : Three TxSub) (rx : Three RxSub) (failed : Bool) (p : Packet) (t : Taken) (a : Answer) → failed ≡ false → Some a ≡ answer_of t
+    → ◌≡◌ {A = StreamState} (record { tx = tx; rx = (state_after (record { tx = tx; rx = rx; failed = failed }) p t).rx; failed = is_fail a }) (state_after (record { tx = tx; rx = rx; failed = failed }) p t)
+state_is tx rx failed p Insecure a clear e = absurd (cc)
+state_is tx rx failed p NotKeyed a clear e = let same : a ≡ answers.NotKeyed = cc in λ i. record { tx = tx; rx = rx; failed = (ap is_fail same ∙ sym clear) i }
+state_is tx rx failed p (Failed cause) a clear e = let same : a ≡ answers.Fail cause = cc in λ i. record { tx = tx; rx = all_dropped rx; failed = is_fail (same i) }
+state_is tx rx failed p (Held j n) a clear e =
+    let same : a ≡ answers.Held j n = cc in
+    λ i. record { tx = tx; rx = (state_after (record { tx = tx; rx = rx; failed = failed }) p (Held j n)).rx; failed = (ap is_fail same ∙ sym clear) i }
+state_is tx rx failed p (Accepted j n unit) a clear e =
+    let same : a ≡ answers.Accepted j n (length unit) = cc in
+    λ i. record { tx = tx; rx = (state_after (record { tx = tx; rx = rx; failed = failed }) p (Accepted j n unit)).rx; failed = (ap is_fail same ∙ sym clear) i }
+
+rx_alone : (x : ReceiveEnds) (tx : Three TxSub) (failed : Bool) (p : Packet) (t : Taken)
+    → (state_after (receiving x) p t).rx ≡ (state_after (record { tx = tx; rx = x.rx; failed = failed }) p t).rx
+rx_alone x tx failed p Insecure = refl
+rx_alone x tx failed p NotKeyed = refl
+rx_alone x tx failed p (Failed cause) = refl
+rx_alone x tx failed p (Held j n) = refl
+rx_alone x tx failed p (Accepted j n unit) = refl
+
+lent_alone : (x : ReceiveEnds) (tx : Three TxSub) (failed : Bool) (p : Packet) (t : Taken)
+    → opened_after (receiving x) p t ≡ opened_after (record { tx = tx; rx = x.rx; failed = failed }) p t
+lent_alone x tx failed p Insecure = refl
+lent_alone x tx failed p NotKeyed = refl
+lent_alone x tx failed p (Failed cause) = refl
+lent_alone x tx failed p (Held j n) = refl
+lent_alone x tx failed p (Accepted j n unit) = refl
+
+pub end-taken : (side : Side) (d : Directions) (calls : ℕ) (p : Packet) (a : Answer) → IsStream d calls → d.failed ≡ false → Some a ≡ answer_of (taken_among d.rx p)
+    → end_of side (record d { rx = ends_after d.rx p (taken_among d.rx p); failed = is_fail a }) (calls + 1) ≡ end_taken (end_of side d calls) p
+end-taken side d calls p a inv clear e =
+    let old : StreamEnd = end_of side d calls in
+    (λ i. record old {
+      state = record { tx = d.tx.tx; rx = rx_alone d.rx d.tx.tx d.failed p (taken_among d.rx p) i; failed = is_fail a };
+      delivered = lent_alone d.rx d.tx.tx d.failed p (taken_among d.rx p) i;
+      calls = calls + 1;
+    })
+    ∙ (λ i. record old {
+      state = state_is d.tx.tx d.rx.rx d.failed p (taken_among d.rx p) a clear e i;
+      delivered = opened_after old.state p (taken_among d.rx p);
+      calls = calls + 1;
+    })
+    ∙ ap (λ (t : Taken). record old { state = state_after old.state p t; delivered = opened_after old.state p t; calls = calls + 1 }) (taken-among side d calls p inv clear)

@@ -1,0 +1,23 @@
+use Rattle.std.proofs.Common.{◌≡◌, ◌+◌, Some, Bool, sym, ap, ◌∙◌, subst}
+use Rattle.ide_prefix.specs.Packet.{Packet}
+use Rattle.ide_prefix.specs.Cut.{packet_of_view}
+use Rattle.sub_stream.specs.{answer_of}
+use Rattle.ide_stream.specs.Ends.{StreamEnd, end_taken}
+use Rattle.ide_stream.specs.Arrivals.{ReceiveEnds, taken_among}
+use Rattle.ide_stream.specs.Both.{end_of, IsStream}
+use Rattle.ide_stream.proofs.Settling.{take-kept, end-taken}
+use Rattle.ide_stream.proofs.stream.Stream.take.Goals as goal
+
+pub returns-clause-stream : goal.returns-clause-stream
+returns-clause-stream c =
+    let inside = c.self.inside in
+    let p = packet_of_view c.args.packet.now in
+    (λ i. end_of inside.side (record inside.directions { rx = c.take-taken.ensures.lanes i; failed = c.failed-self-inside.ensures i }) (inside.calls + 1))
+    ∙ end-taken inside.side inside.directions inside.calls p c.take-taken.result c.self.invariant c.if-self.false c.take-taken.ensures.answer
+    ∙ ap (λ (e : StreamEnd). end_taken e p) c.self.view_is
+
+pub invariant_of-self-2 : goal.invariant_of-self-2
+invariant_of-self-2 c =
+    let inside = c.self.inside in
+    subst (λ (x : ReceiveEnds). IsStream (record inside.directions { rx = x; failed = c.failed-self-inside.result }) (inside.calls + 1)) (sym c.take-taken.ensures.lanes)
+    (take-kept inside.directions inside.calls (packet_of_view c.args.packet.now) c.failed-self-inside.result c.self.invariant)

@@ -1,0 +1,53 @@
+-- Both directions of a stream, and what calls of key management make of them.
+use Rattle.std.specs.Prelude.{◌≡◌, ℕ, ◌+◌, ◌≤◌, ◌&&◌, ◌||◌, Bool, true, false, [], if◌then◌else◌}
+use Rattle.ide_types.specs.declared.sub.SubKind.{SubKind}
+use Rattle.ide_types.specs.declared.port.Side.{Side}
+use Rattle.key_slots.specs.{SlotPair}
+use Rattle.stream_rules.specs.Stream.{TxSub, RxSub, Three, StreamState, at_sub}
+use Rattle.sub_stream.specs.{slot_pair}
+use Rattle.stream_calls.specs.Calls.{SlotCall}
+use Rattle.ide_stream.specs.declared.directions.Directions.{Directions}
+use Rattle.ide_stream.specs.Ends.{StreamEnd}
+use Rattle.ide_stream.specs.Lanes.{SendEnds, any_out, settled_out, called_ends}
+use Rattle.ide_stream.specs.Arrivals.{ReceiveEnds, any_into, settled_into, called_receivers}
+
+-- the slots of a sender, or of a receiver
+abbrev pub pair_of : Bool → SubKind → Directions → SlotPair
+pair_of true u d = slot_pair true (at_sub d.tx.tx u).slots
+pair_of false u d = slot_pair false (at_sub d.rx.rx u).slots
+
+abbrev pub called_directions : Bool → SubKind → SlotCall → Directions → Directions
+called_directions true u call d = record d { tx = called_ends d.tx u call }
+called_directions false u call d = record d { rx = called_receivers d.rx u call }
+
+abbrev pub settled_directions : Directions → Directions
+settled_directions d = record {
+  tx = record d.tx { tx = settled_out d.tx.tx };
+  rx = record d.rx { rx = settled_into d.rx.rx; delivered = [] };
+  failed = d.failed && (any_out d.tx.tx || any_into d.rx.rx);
+}
+
+-- a stream of these directions
+abbrev pub end_of : Side → Directions → ℕ → StreamEnd
+end_of side d calls = record {
+  side = side;
+  id = d.tx.fixed.stream;
+  mode = d.tx.fixed.mode;
+  closed = d.tx.fixed.closed;
+  limit = d.tx.fixed.limit;
+  state = record { tx = d.tx.tx; rx = d.rx.rx; failed = d.failed };
+  delivered = d.rx.delivered;
+  calls = calls;
+}
+
+pub record AtMost (tx : Three TxSub) (calls : ℕ) : Type 0 where
+  pub pr : tx.pr.total ≤ calls
+  pub npr : tx.npr.total ≤ calls
+  pub cpl : tx.cpl.total ≤ calls
+
+-- both directions are of one stream, and no more units and packets were counted than there were calls
+pub record IsStream (d : Directions) (calls : ℕ) : Type 0 where
+  pub same_mode : d.rx.mode ≡ d.tx.fixed.mode
+  pub same_closed : d.rx.closed ≡ d.tx.fixed.closed
+  pub few_totals : AtMost d.tx.tx calls
+  pub few_takes : d.rx.takes ≤ calls

@@ -1,0 +1,59 @@
+-- One stream at a port: what is kept, and what each call makes of it (PCI Express Base 6.0 section 6.33, in this profile).
+use Rattle.std.specs.Prelude.{ℕ, ◌+◌, Bool, List, [], Option, Some, None}
+use Rattle.ide_types.specs.declared.sub.SubKind.{SubKind}
+use Rattle.ide_types.specs.declared.port.Side.{Side}
+use Rattle.ide_prefix.specs.Packet.{Packet}
+use Rattle.key_slots.specs.{SlotPair}
+use Rattle.stream_rules.specs.Sending.{Lanes}
+use Rattle.stream_rules.specs.Stream.{StreamState, Taken, Accepted, live_in, slot_in, at_sub, lanes_of, taken_by, state_after}
+use Rattle.sub_stream.specs.{opened_under}
+use Rattle.stream_calls.specs.Calls.{SlotCall, sends_in, pair_at, called, no_stream}
+
+-- Units of at most `mode` packets, and at most `limit` under one key; `delivered` are the packets of the last accepted
+-- unit, decrypted, until the next packet or call of key management; `calls` counts sends and packets that came.
+pub record StreamEnd : Type 0 where
+  pub side : Side
+  pub id : ℕ
+  pub mode : ℕ
+  pub closed : Bool
+  pub limit : ℕ
+  pub state : StreamState
+  pub delivered : List Packet
+  pub calls : ℕ
+
+abbrev pub new_end : Side → ℕ → ℕ → Bool → ℕ → StreamEnd
+new_end side id mode closed limit =
+    record { side = side; id = id; mode = mode; closed = closed; limit = limit; state = no_stream; delivered = []; calls = 0 }
+
+-- what the rules of sealing see of it
+abbrev pub lanes_in : StreamEnd → Lanes
+lanes_in e = lanes_of e.mode e.limit e.state
+
+-- ---- arrivals
+
+abbrev pub taken_in : StreamEnd → Packet → Taken
+taken_in e p = taken_by e.mode e.closed e.state p
+
+-- an accepted unit, decrypted
+abbrev pub opened_after : StreamState → Packet → Taken → List Packet
+opened_after st p (Accepted draw unit packets) =
+    opened_under (live_in (slot_in (at_sub st.rx p.prefix.sub).slots p.prefix.k)) p.prefix.sub packets
+opened_after st p taken = []
+
+abbrev pub end_taken : StreamEnd → Packet → StreamEnd
+end_taken e p =
+    let taken = taken_in e p in
+    record e { state = state_after e.state p taken; delivered = opened_after e.state p taken; calls = e.calls + 1 }
+
+-- ---- keys
+
+-- the slots of a direction and a sub-stream
+abbrev pub pair_in : StreamEnd → ℕ → SubKind → SlotPair
+pair_in e direction u = pair_at (sends_in e.side direction) u e.state
+
+abbrev pub called_end : StreamEnd → ℕ → SubKind → SlotCall → StreamEnd
+called_end e direction u call = record e { state = called (sends_in e.side direction) u call e.state; delivered = [] }
+
+-- without keys, counts and failure
+abbrev pub reset_end : StreamEnd → StreamEnd
+reset_end e = record e { state = no_stream; delivered = [] }

@@ -1,0 +1,96 @@
+-- What a send of a stream comes to: its answer, the packets' bytes, and the stream after it.
+use Rattle.std.specs.Prelude.{ℕ, ◌≡◌, ◌+◌, Bool, List, [], ◌∷◌, ◌++◌, length, map, Option, Some, None, Result, Ok, Err}
+use Rattle.std.specs.Result.{result_map_both}
+use Rattle.ide_types.specs.declared.sub.SubKind.{SubKind}
+use Rattle.ide_types.specs.declared.port.PortName.{PortName}
+use Rattle.link_verdicts.specs.declared.verdict.Verdict.{Verdict}
+use Rattle.link_verdicts.specs.declared.verdict.Verdict.TheVariants as v
+use Rattle.link_verdicts.specs.declared.verdict.SealedPacket.{SealedPacket as Described}
+use Rattle.ide_prefix.specs.Packet.{Packet, packet_bytes}
+use Rattle.stream_rules.specs.Sending.{Sending, refusals, first_that_holds, sealed_by}
+use Rattle.stream_rules.specs.Stream.{StreamState, sealed_all, Three, TxSub}
+use Rattle.sub_stream.specs.{numbered}
+use Rattle.sub_stream.specs.declared.answer.SealedPacket.{SealedPacket}
+use Rattle.ide_stream.specs.declared.refusal.SendRefusal.{SendRefusal}
+use Rattle.ide_stream.specs.declared.refusal.SendRefusal.TheVariants.{NoKey, Worn, Unfinished, Insecure}
+use Rattle.ide_stream.specs.Ends.{StreamEnd, lanes_in}
+use Rattle.ide_stream.specs.Lanes.{SendEnds, lanes_at}
+
+-- ---- the answer
+
+-- the verdict of a refusal
+abbrev pub refusal_verdict : SendRefusal → Verdict
+refusal_verdict (NoKey u) = v.RefusedNoKey u
+refusal_verdict (Worn u units) = v.RefusedWorn u units
+refusal_verdict Unfinished = v.RefusedUnfinished
+refusal_verdict Insecure = v.RefusedInsecure
+
+-- sealed packets as a port describes them, numbered from this number on
+abbrev pub numbered_from : PortName → ℕ → List SealedPacket → List Described
+numbered_from port number [] = []
+numbered_from port number (p ∷ ps) = numbered port number p ∷ numbered_from port (number + 1) ps
+
+-- an answer as a port says it, whose next sealed packet has this number
+abbrev pub answer_as : PortName → ℕ → Result (List SealedPacket) SendRefusal → Result (List Described) Verdict
+answer_as port number answer = result_map_both (numbered_from port number) refusal_verdict answer
+
+-- a TLP on its way out at this port, on this stream
+abbrev pub sending : PortName → ℕ → SubKind → Bool → Bool → Sending
+sending port stream u more trusted =
+    record { port = port; stream = stream; class = u; more = more; trusted = trusted }
+
+-- the refusal that comes first, or what is sealed
+abbrev pub ok_unless : {A : Type 0} → Option Verdict → A → Result A Verdict
+ok_unless None a = Ok a
+ok_unless (Some verdict) a = Err verdict
+
+abbrev pub refused : StreamEnd → Sending → Option Verdict
+refused e s = first_that_holds (refusals (lanes_in e) s.class)
+
+abbrev pub sent_descriptions : StreamEnd → Sending → ℕ → Result (List Described) Verdict
+sent_descriptions e s number = ok_unless (refused e s) (sealed_by (lanes_in e) s number)
+
+-- ---- packets, and the stream after them
+
+-- what is sealed of a TLP with this header and payload
+abbrev pub sealing : StreamEnd → List ℕ → List ℕ → Sending → ℕ → List Packet × Three TxSub
+sealing e head payload s number = sealed_all e.closed head payload (sealed_by (lanes_in e) s number) e.state.tx
+
+abbrev pub unless : {A : Type 0} → Option Verdict → A → A → A
+unless None none a = a
+unless (Some verdict) none a = none
+
+abbrev pub packets_sent : StreamEnd → List ℕ → List ℕ → Sending → ℕ → List Packet
+packets_sent e head payload s number = unless (refused e s) [] (sealing e head payload s number).0
+
+abbrev pub end_sent : StreamEnd → List ℕ → List ℕ → Sending → ℕ → StreamEnd
+end_sent e head payload s number =
+    record e { state = unless (refused e s) e.state (record e.state { tx = (sealing e head payload s number).1 }); calls = e.calls + 1 }
+
+abbrev pub joined_packets : List Packet → List ℕ
+joined_packets [] = []
+joined_packets (p ∷ ps) = packet_bytes p ++ joined_packets ps
+
+abbrev pub packet_lengths : List Packet → List ℕ
+packet_lengths ps = map (λ p. length (packet_bytes p)) ps
+
+-- the lengths that an answer says
+abbrev pub lengths_said : Result (List SealedPacket) SendRefusal → List ℕ
+lengths_said (Ok ps) = map (λ (p : SealedPacket). p.length) ps
+lengths_said (Err refusal) = []
+
+-- A send of a TLP with this header and payload, whose first packet has this number: the answer, the bytes that were
+-- appended, and the stream after it.
+pub record IsSent (old : StreamEnd) (head payload : List ℕ) (s : Sending) (number : ℕ) (answer : Result (List SealedPacket) SendRefusal) (before after : List ℕ) (new : StreamEnd) : Type 0 where
+  pub answered : answer_as s.port number answer ≡ sent_descriptions old s number
+  pub lengths : lengths_said answer ≡ packet_lengths (packets_sent old head payload s number)
+  pub bytes : after ≡ before ++ joined_packets (packets_sent old head payload s number)
+  pub stream : new ≡ end_sent old head payload s number
+
+-- ---- what the senders make of a TLP that is not refused
+
+pub record IsSealed (old : SendEnds) (head payload : List ℕ) (s : Sending) (number : ℕ) (sealed : List SealedPacket) (before after : List ℕ) (new : SendEnds) : Type 0 where
+  pub answered : numbered_from s.port number sealed ≡ sealed_by (lanes_at old) s number
+  pub lengths : map (λ (p : SealedPacket). p.length) sealed ≡ packet_lengths (sealed_all old.fixed.closed head payload (sealed_by (lanes_at old) s number) old.tx).0
+  pub bytes : after ≡ before ++ joined_packets (sealed_all old.fixed.closed head payload (sealed_by (lanes_at old) s number) old.tx).0
+  pub senders : new ≡ record old { tx = (sealed_all old.fixed.closed head payload (sealed_by (lanes_at old) s number) old.tx).1 }

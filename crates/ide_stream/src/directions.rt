@@ -1,0 +1,79 @@
+//! Both directions of a stream.
+
+ghost use Rattle.std.specs.Prelude.{◌≡◌, ◌<◌, not, is_ok, if◌then◌else◌};
+ghost use Rattle.key_slots.specs.{is_one, is_empty, program_answer, slot_in};
+ghost use Rattle.stream_calls.specs.Calls.{Program, Go, Halt};
+
+use crate::receive_lanes::ReceiveLanes;
+use crate::send_lanes::SendLanes;
+use ide_types::SubKind;
+use key_slots::{Key, OnlyLive, SlotEmpty};
+
+/// The senders and the receivers of a stream, and whether a check failed. In each call `sends` says that the senders
+/// are meant, and `set` is 0 or 1.
+#[derive(Drop)]
+pub struct Directions {
+    pub tx: SendLanes,
+    pub rx: ReceiveLanes,
+    pub failed: bool,
+}
+
+impl Directions {
+    ghost use Rattle.ide_stream.specs.Both.{pair_of, called_directions, settled_directions};
+
+    /// Puts a key of this draw into a slot.
+    pub fn program(
+        &mut self,
+        sends: bool,
+        sub: SubKind,
+        set: u8,
+        key: Key,
+        draw: u32,
+    ) -> Result<(), OnlyLive>
+        requires { set < 2 }
+        ensures answer { result ≡ program_answer (pair_of sends sub self.old) (is_one set) key }
+        ensures directions { self.new ≡ called_directions sends sub (Program (is_one set) key draw) self.old }
+    {
+        if sends {
+            self.tx.program(sub, set, key, draw)
+        } else {
+            self.rx.program(sub, set, key, draw)
+        }
+    }
+
+    /// GO.
+    pub fn go(&mut self, sends: bool, sub: SubKind, set: u8) -> Result<(), SlotEmpty>
+        requires { set < 2 }
+        ensures answer { is_ok result ≡ not (is_empty (slot_in (pair_of sends sub self.old) (is_one set))) }
+        ensures directions { self.new ≡ called_directions sends sub (Go (is_one set)) self.old }
+    {
+        if sends {
+            self.tx.go(sub, set)
+        } else {
+            self.rx.go(sub, set)
+        }
+    }
+
+    /// STOP.
+    pub fn halt(&mut self, sends: bool, sub: SubKind, set: u8)
+        requires { set < 2 }
+        ensures { self.new ≡ called_directions sends sub (Halt (is_one set)) self.old }
+    {
+        if sends {
+            self.tx.halt(sub, set);
+        } else {
+            self.rx.halt(sub, set);
+        }
+    }
+
+    /// What holds after each call: a direction of which no slot is Live counts from 0, a stream of which none is Live has
+    /// not failed, and nothing is lent.
+    pub fn settle(&mut self)
+        ensures { self.new ≡ settled_directions self.old }
+    {
+        self.tx.settle();
+        self.rx.settle();
+        self.rx.unlend();
+        self.failed = self.failed && (self.tx.any_live() || self.rx.any_live());
+    }
+}

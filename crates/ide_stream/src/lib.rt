@@ -1,0 +1,20 @@
+//! One IDE stream at a port: three sub-streams in both directions, with posted counts, sync packets, the sums by which
+//! order is checked, and the stream's status (PCI Express Base 6.0 section 6.33, in this profile). Only `make` takes
+//! memory.
+#![tactic(auto)]
+
+mod directions;
+mod fixed;
+mod list;
+mod receive_lane;
+mod receive_lanes;
+mod refusal;
+mod send_lane;
+mod send_lanes;
+mod stream;
+#[cfg(test)]
+mod tests;
+
+pub use list::Sealed;
+pub use refusal::SendRefusal;
+pub use stream::{SEND_ROOM, Stream};

@@ -1,0 +1,273 @@
+//! A stream at a port.
+
+ghost use Rattle.std.specs.Prelude.{◌≡◌, ◌==◌, ◌&&◌, ◌||◌, ◌+◌, ◌<◌, ◌≤◌, ◌^◌, ℕ, Bool, Some, IfOk, true, false, not, length, is_ok, slice_get, map, vec_len, vec_capacity};
+ghost use Rattle.std.specs.Option.{option_map};
+ghost use Rattle.ide_plan.specs.Fits.{is_mode};
+ghost use Rattle.ide_types.specs.declared.port.PortName.{PortName};
+ghost use Rattle.ide_prefix.specs.Cut.{packet_of_view, IsView};
+ghost use Rattle.key_slots.specs.{slot_in, is_one, is_empty, program_answer, live_set};
+ghost use Rattle.stream_rules.specs.Sending.{sets_trusted, refusals, first_that_holds};
+ghost use Rattle.stream_calls.specs.Calls.{SlotCall, Program, Go, Halt, pair_at, sends_in, status_by, stream_status};
+ghost use Rattle.sub_stream.specs.{answer_of, lent_parts, mark_of};
+
+use crate::directions::Directions;
+use crate::fixed::Fixed;
+use crate::list::Sealed;
+use crate::receive_lanes::{ReceiveLanes, failed};
+use crate::refusal::SendRefusal;
+use crate::send_lanes::SendLanes;
+use ide_prefix::PacketView;
+use ide_types::{Memory, Side, StreamStatus, SubKind};
+use key_slots::{Key, OnlyLive, SlotEmpty};
+use std::alloc::Global;
+use std::marker::Model;
+use sub_stream::{PACKET_ROOM, PacketMark, SYNC_ROOM, Taken};
+
+/// The most bytes that one send seals: a sync packet in each of two sub-streams, and the TLP's packet.
+pub const SEND_ROOM: usize = PACKET_ROOM + 2 * SYNC_ROOM;
+
+/// A stream at a port: its senders in the direction that the port sends, its receivers in the other. Directions are 0
+/// from the host to the device and 1 from the device to the host; in each call `set` and `dir` are 0 or 1.
+#[derive(Drop)]
+pub struct Stream {
+    side: Side,
+    directions: Directions,
+    calls: u64,
+}
+
+impl Model for Stream {
+    ghost use Rattle.ide_stream.specs.Ends.{StreamEnd};
+    ghost use Rattle.ide_stream.specs.Both.{end_of, IsStream};
+
+    ghost Value = { StreamEnd };
+
+    ghost view = { λ s. end_of s.side s.directions s.calls };
+
+    ghost invariant = { λ s. IsStream s.directions s.calls };
+}
+
+// Whether a port of this side sends in the direction.
+fn sends(side: Side, dir: u8) -> bool
+    ensures { result ≡ sends_in side dir }
+{
+    match side {
+        Side::Host => dir == 0,
+        Side::Device => dir == 1,
+    }
+}
+
+// The status of a stream that failed, of which some sub-stream has a Live key, of which all have.
+fn status_of(failed: bool, some: bool, all: bool) -> StreamStatus
+    ensures { result ≡ status_by failed some all }
+{
+    match (failed, some, all) {
+        (true, _, _) => StreamStatus::Insecure,
+        (false, _, true) => StreamStatus::Secure,
+        (false, true, false) => StreamStatus::Partial,
+        (false, false, false) => StreamStatus::Idle,
+    }
+}
+
+impl Stream {
+    ghost use Rattle.ide_stream.specs.Ends.{new_end, pair_in, taken_in, end_taken, called_end, reset_end};
+    ghost use Rattle.ide_stream.specs.Ends.{lanes_in};
+    ghost use Rattle.ide_stream.specs.Sends.{IsSent, sending, refusal_verdict};
+
+    /// The stream `id` of a port of this side, without keys: its units have at most `mode` packets, 1, 2, 4 or 8, a key
+    /// seals at most `limit` units, and of a closed one the total of units finished before stands ahead of what is
+    /// authenticated of a key's first unit.
+    pub fn make(
+        alloc: Global,
+        side: Side,
+        id: u8,
+        mode: u8,
+        closed: bool,
+        limit: u64,
+    ) -> Result<Stream, Memory>
+        requires { is_mode mode ≡ true }
+        ensures { IfOk result (λ s. s ≡ new_end side id mode closed limit) }
+    {
+        let fixed = Fixed {
+            stream: id,
+            mode,
+            limit,
+            closed,
+        };
+        let tx = SendLanes::make(alloc, fixed)?;
+        let rx = ReceiveLanes::make(alloc, fixed)?;
+        Ok(Stream {
+            side,
+            directions: Directions {
+                tx,
+                rx,
+                failed: false,
+            },
+            calls: 0,
+        })
+    }
+
+    /// Its ID, which its packets name.
+    pub fn id(&self) -> u8
+        ensures { result ≡ self.now.id }
+    {
+        self.directions.tx.fixed().stream
+    }
+
+    /// How many TLPs it was to send, and packets it was given.
+    pub fn calls(&self) -> u64
+        ensures { result ≡ self.now.calls }
+    {
+        self.calls
+    }
+
+    // Why a TLP of this sub-stream is not sealed, where it is not.
+    fn refusal(&self, sub: SubKind) -> Option<SendRefusal>
+        ensures { option_map refusal_verdict result ≡ first_that_holds (refusals (lanes_in self.now) sub) }
+    {
+        if self.directions.failed {
+            return Some(SendRefusal::Insecure);
+        }
+        self.directions.tx.refusal(sub)
+    }
+
+    /// Seals a TLP's header and payload, of at most 16 and 4,096 bytes, behind the sync packets that must go first, and
+    /// appends the packets to `out`, which has room for `SEND_ROOM` bytes more. `t` says that the TLP is trusted, `more`
+    /// that its unit goes on where it has room. A refusal changes nothing.
+    pub fn send(
+        &mut self,
+        sub: SubKind,
+        head: &[u8],
+        payload: &[u8],
+        t: bool,
+        more: bool,
+        out: &mut Vec<u8>,
+    ) -> Result<Sealed, SendRefusal>
+        requires head_short { length head.now ≤ 16 }
+        requires payload_short { length payload.now ≤ 4096 }
+        requires room { vec_len out.old + SEND_ROOM ≤ vec_capacity out.old }
+        requires few { self.old.calls < 2 ^ 40 }
+        // At each port of its side, whatever the number of the next sealed packet is over the run.
+        ensures sent { (port : PortName) (number : ℕ) (trusted : Bool) → port.side ≡ self.old.side → sets_trusted port trusted ≡ t
+            → IsSent self.old head.now payload.now (sending port self.old.id sub more trusted) number result out.old.items out.new.items self.new }
+        ensures capacity { vec_capacity out.old ≤ vec_capacity out.new }
+    {
+        self.calls += 1;
+        match self.refusal(sub) {
+            Some(refusal) => Err(refusal),
+            None => Ok(self.directions.tx.send(sub, head, payload, t, more, out)),
+        }
+    }
+
+    /// Takes a packet of the stream that `cut` gave, and answers what became of it; `None` where the stream is insecure.
+    /// Only an accepted unit moves a counter or empties a slot; what it carries is lent until the next packet or call of
+    /// key management. A failed check makes the stream insecure, and drops what its receivers hold.
+    pub fn take(&mut self, packet: &PacketView) -> Option<Taken>
+        requires view { IsView packet.now }
+        requires few { self.old.calls < 2 ^ 40 }
+        ensures answer { result ≡ answer_of (taken_in self.old (packet_of_view packet.now)) }
+        ensures stream { self.new ≡ end_taken self.old (packet_of_view packet.now) }
+    {
+        self.calls += 1;
+        if self.directions.failed {
+            self.directions.rx.unlend();
+            return None;
+        }
+        let taken = self.directions.rx.take(packet);
+        self.directions.failed = failed(&taken);
+        Some(taken)
+    }
+
+    /// How many packets of an accepted unit are lent, at most 8.
+    pub fn delivered(&self) -> usize
+        ensures value { result ≡ length self.now.delivered }
+        ensures most { result ≤ 8 }
+    {
+        self.directions.rx.delivered()
+    }
+
+    /// The header and the decrypted payload of packet `i` of the unit that was accepted last, counted from 0.
+    pub fn packet(&self, i: usize) -> (&[u8], &[u8])
+        requires { i < length self.now.delivered }
+        ensures { slice_get (map lent_parts self.now.delivered) i ≡ Some (result.0.now, result.1.now) }
+    {
+        self.directions.rx.packet(i)
+    }
+
+    /// Whether packet `i` of the unit that was accepted last, counted from 0, is trusted, and whether it is a sync
+    /// packet.
+    pub fn mark(&self, i: usize) -> PacketMark
+        requires { i < length self.now.delivered }
+        ensures { slice_get (map mark_of self.now.delivered) i ≡ Some result }
+    {
+        self.directions.rx.mark(i)
+    }
+
+    /// Puts a key of this draw into a slot. `OnlyLive` comes exactly where the slot is Live and the other is not a newer
+    /// Live one: the key comes back, and no slot changes.
+    pub fn program(
+        &mut self,
+        set: u8,
+        dir: u8,
+        sub: SubKind,
+        key: Key,
+        draw: u32,
+    ) -> Result<(), OnlyLive>
+        requires set { set < 2 }
+        requires dir { dir < 2 }
+        ensures answer { result ≡ program_answer (pair_in self.old dir sub) (is_one set) key }
+        ensures stream { self.new ≡ called_end self.old dir sub (Program (is_one set) key draw) }
+    {
+        let answer = self
+            .directions
+            .program(sends(self.side, dir), sub, set, key, draw);
+        self.directions.settle();
+        answer
+    }
+
+    /// GO: a Programmed key is Live, at a sender from the next unit on. `SlotEmpty` comes exactly of an Empty slot.
+    pub fn go(&mut self, set: u8, dir: u8, sub: SubKind) -> Result<(), SlotEmpty>
+        requires set { set < 2 }
+        requires dir { dir < 2 }
+        ensures answer { is_ok result ≡ not (is_empty (slot_in (pair_in self.old dir sub) (is_one set))) }
+        ensures stream { self.new ≡ called_end self.old dir sub (Go (is_one set)) }
+    {
+        let answer = self.directions.go(sends(self.side, dir), sub, set);
+        self.directions.settle();
+        answer
+    }
+
+    /// STOP: empties a slot, with the open unit or the held packets under its key.
+    pub fn halt(&mut self, set: u8, dir: u8, sub: SubKind)
+        requires set { set < 2 }
+        requires dir { dir < 2 }
+        ensures { self.new ≡ called_end self.old dir sub (Halt (is_one set)) }
+    {
+        self.directions.halt(sends(self.side, dir), sub, set);
+        self.directions.settle();
+    }
+
+    /// The stream's status: insecure where a check failed, secure where all six sub-streams have a Live key.
+    pub fn status(&self) -> StreamStatus
+        ensures { result ≡ stream_status self.now.state }
+    {
+        let some = self.directions.tx.any_live() || self.directions.rx.any_live();
+        let all = self.directions.tx.all_live() && self.directions.rx.all_live();
+        status_of(self.directions.failed, some, all)
+    }
+
+    /// The key set, 0 or 1, of the Live slot of a sender; `None` where none is Live.
+    pub fn live_set(&self, sub: SubKind) -> Option<u8>
+        ensures { result ≡ live_set (pair_at true sub self.now.state) }
+    {
+        self.directions.tx.live_set(sub)
+    }
+
+    /// Drops all keys, open units, held packets, counts, and a failure.
+    pub fn reset(&mut self)
+        ensures { self.new ≡ reset_end self.old }
+    {
+        self.directions.tx.clear();
+        self.directions.rx.clear();
+        self.directions.failed = false;
+    }
+}
