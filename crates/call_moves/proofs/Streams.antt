@@ -1,0 +1,148 @@
+-- Calls at a port, one after another: what they leave in each place, and that the stream is settled as it is by one
+-- settling at the end.
+use Rattle.std.proofs.Common.{◌≡◌, Bool, true, false, List, [], ◌∷◌, ◌++◌, refl, ap, sym, ◌∙◌}
+use Rattle.std.specs.Prelude.{if◌then◌else◌, not, ◌&&◌}
+use Rattle.ide_types.specs.Sub.{is_same_sub}
+use Rattle.ide_types.specs.declared.sub.SubKind.{SubKind}
+use Rattle.ide_types.specs.declared.sub.SubKind.TheVariants.{Pr, Npr, Cpl}
+use Rattle.stream_rules.specs.Stream.{Slots, StreamState}
+use Rattle.stream_rules.specs.Slots.{any_live}
+use Rattle.stream_calls.specs.Calls.{SlotCall, called, slots_called_out, slots_called_into}
+use Rattle.key_laws.proofs.Tests.{both-true}
+use Rattle.call_moves.specs.Calls.{StreamCall, all_called}
+use Rattle.call_moves.specs.Moves.{WaitsBesideLive}
+use Rattle.call_moves.proofs.Settling.{outs, ins, with_slots, settle, settled_last, stays_settled, any_each}
+use Rattle.call_moves.proofs.Slots.{is_halt, is_no_halt, out_keeps, into_keeps, out_halts, into_halts, halts_wait}
+
+-- ---- a place
+
+abbrev pub slots_by : Bool → SlotCall → Slots → Slots
+slots_by true call s = slots_called_out call s
+slots_by false call s = slots_called_into call s
+
+abbrev is_same_end : Bool → Bool → Bool
+is_same_end true b = b
+is_same_end false b = not b
+
+abbrev pub is_at : Bool → SubKind → StreamCall → Bool
+is_at sends u c = is_same_end sends c.sends && is_same_sub u c.sub
+
+abbrev pub place_called : Bool → SubKind → StreamCall → Slots → Slots
+place_called sends u c s = if is_at sends u c then slots_by sends c.call s else s
+
+abbrev pub places_called : Bool → SubKind → List StreamCall → Slots → Slots
+places_called sends u [] s = s
+places_called sends u (c ∷ cs) s = places_called sends u cs (place_called sends u c s)
+
+-- the calls of a place alone
+abbrev pub one_if : Bool → SlotCall → List SlotCall
+one_if true call = call ∷ []
+one_if false call = []
+
+abbrev pub calls_at : Bool → SubKind → List StreamCall → List SlotCall
+calls_at sends u [] = []
+calls_at sends u (c ∷ cs) = one_if (is_at sends u c) c.call ++ calls_at sends u cs
+
+abbrev pub called_by : Bool → List SlotCall → Slots → Slots
+called_by sends [] s = s
+called_by sends (call ∷ calls) s = called_by sends calls (slots_by sends call s)
+
+pub places_are : (sends : Bool) (u : SubKind) (cs : List StreamCall) (s : Slots) → places_called sends u cs s ≡ called_by sends (calls_at sends u cs) s
+places_are sends u [] s = refl
+places_are sends u (c ∷ cs) s = by_test (is_at sends u c) (places_are sends u cs)
+  where
+    by_test : (t : Bool) → ((a : Slots) → places_called sends u cs a ≡ called_by sends (calls_at sends u cs) a) → places_called sends u cs (if t then slots_by sends c.call s else s) ≡ called_by sends (one_if t c.call ++ calls_at sends u cs) s
+    by_test true more = more (slots_by sends c.call s)
+    by_test false more = more s
+
+pub calls_append : (sends : Bool) (u : SubKind) (xs ys : List StreamCall) → calls_at sends u (xs ++ ys) ≡ calls_at sends u xs ++ calls_at sends u ys
+calls_append sends u [] ys = refl
+calls_append sends u (c ∷ xs) ys = by_test (is_at sends u c) (calls_append sends u xs ys)
+  where
+    by_test : (t : Bool) → calls_at sends u (xs ++ ys) ≡ calls_at sends u xs ++ calls_at sends u ys → (one_if t c.call ++ calls_at sends u (xs ++ ys)) ≡ ((one_if t c.call ++ calls_at sends u xs) ++ calls_at sends u ys)
+    by_test true more = ap (λ (calls : List SlotCall). c.call ∷ calls) more
+    by_test false more = more
+
+-- ---- one call
+
+called_is : (sends : Bool) (u : SubKind) (call : SlotCall) (x : StreamState) → let c : StreamCall = record { sends = sends; sub = u; call = call } in
+    called sends u call x ≡ settle (with_slots (λ v. place_called true v c (outs x v)) (λ v. place_called false v c (ins x v)) x)
+called_is true Pr call x = refl
+called_is true Npr call x = refl
+called_is true Cpl call x = refl
+called_is false Pr call x = refl
+called_is false Npr call x = refl
+called_is false Cpl call x = refl
+
+keeps_at : (sends : Bool) (u : SubKind) (c : StreamCall) (s : Slots) → is_no_halt c.call ≡ true → any_live s ≡ true → any_live (place_called sends u c s) ≡ true
+keeps_at sends u c s kept some = by_test sends (is_at sends u c)
+  where
+    by_test : (e t : Bool) → any_live (if t then slots_by e c.call s else s) ≡ true
+    by_test true true = out_keeps c.call s kept some
+    by_test false true = into_keeps c.call s kept some
+    by_test e false = some
+
+halts_out : (u : SubKind) (c : StreamCall) (s : Slots) → is_halt c.call ≡ true → WaitsBesideLive s → any_live (place_called true u c s) ≡ true → any_live s ≡ true
+halts_out u c s is waits = by_test (is_at true u c)
+  where
+    by_test : (t : Bool) → any_live (if t then slots_called_out c.call s else s) ≡ true → any_live s ≡ true
+    by_test true some = out_halts c.call s is waits some
+    by_test false some = some
+
+halts_into : (u : SubKind) (c : StreamCall) (s : Slots) → is_halt c.call ≡ true → any_live (place_called false u c s) ≡ true → any_live s ≡ true
+halts_into u c s is = by_test (is_at false u c)
+  where
+    by_test : (t : Bool) → any_live (if t then slots_called_into c.call s else s) ≡ true → any_live s ≡ true
+    by_test true some = into_halts c.call s is some
+    by_test false some = some
+
+still_waits : (u : SubKind) (c : StreamCall) (s : Slots) → is_halt c.call ≡ true → WaitsBesideLive s → WaitsBesideLive (place_called true u c s)
+still_waits u c s is waits = by_test (is_at true u c)
+  where
+    by_test : (t : Bool) → WaitsBesideLive (if t then slots_called_out c.call s else s)
+    by_test true = halts_wait c.call s is
+    by_test false = waits
+
+-- ---- calls in order
+
+abbrev pub all_by : (SlotCall → Bool) → List StreamCall → Bool
+all_by test [] = true
+all_by test (c ∷ cs) = test c.call && all_by test cs
+
+pub all_append : (test : SlotCall → Bool) (xs ys : List StreamCall) → all_by test xs ≡ true → all_by test ys ≡ true → all_by test (xs ++ ys) ≡ true
+all_append test [] ys first second = second
+all_append test (c ∷ xs) ys first second = let each = both-true (test c.call) (all_by test xs) first in rw (each.0) (all_append test xs ys each.1 second)
+
+-- what all of them leave in the slots, settled once
+abbrev pub called_once : List StreamCall → StreamState → StreamState
+called_once cs x = settle (with_slots (λ u. places_called true u cs (outs x u)) (λ u. places_called false u cs (ins x u)) x)
+
+-- none empties a slot: a settled stream stays settled
+pub keyed_once : (cs : List StreamCall) (x : StreamState) → all_by is_no_halt cs ≡ true → settle x ≡ x → all_called cs x ≡ called_once cs x
+keyed_once [] x all is = sym is
+keyed_once (c ∷ cs) x all is =
+    let each = both-true (is_no_halt c.call) (all_by is_no_halt cs) all in
+    let f = λ (u : SubKind). place_called true u c (outs x u) in
+    let g = λ (u : SubKind). place_called false u c (ins x u) in
+    let stays : settle (with_slots f g x) ≡ with_slots f g x =
+    stays_settled f g x is (any_each (outs x) f (λ u. keeps_at true u c (outs x u) each.0)) (any_each (ins x) g (λ u. keeps_at false u c (ins x u) each.0)) in
+    ap (all_called cs) (called_is c.sends c.sub c.call x ∙ stays) ∙ keyed_once cs (with_slots f g x) each.1 stays
+
+waits_each : (f g : SubKind → Slots) (x : StreamState) → ((u : SubKind) → WaitsBesideLive (f u)) → (u : SubKind) → WaitsBesideLive (outs (with_slots f g x) u)
+waits_each f g x waits Pr = waits Pr
+waits_each f g x waits Npr = waits Npr
+waits_each f g x waits Cpl = waits Cpl
+
+-- each empties a slot: the last settling settles all
+halted_from : (cs : List StreamCall) (x : StreamState) → all_by is_halt cs ≡ true → ((u : SubKind) → WaitsBesideLive (outs x u)) → all_called cs (settle x) ≡ called_once cs x
+halted_from [] x all waits = refl
+halted_from (c ∷ cs) x all waits =
+    let each = both-true (is_halt c.call) (all_by is_halt cs) all in
+    let f = λ (u : SubKind). place_called true u c (outs x u) in
+    let g = λ (u : SubKind). place_called false u c (ins x u) in
+    ap (all_called cs) (called_is c.sends c.sub c.call (settle x)
+    ∙ settled_last f g x (any_each f (outs x) (λ u. halts_out u c (outs x u) each.0 (waits u))) (any_each g (ins x) (λ u. halts_into u c (ins x u) each.0)))
+    ∙ halted_from cs (with_slots f g x) each.1 (waits_each f g x (λ u. still_waits u c (outs x u) each.0 (waits u)))
+
+pub halted_once : (cs : List StreamCall) (x : StreamState) → all_by is_halt cs ≡ true → settle x ≡ x → ((u : SubKind) → WaitsBesideLive (outs x u)) → all_called cs x ≡ called_once cs x
+halted_once cs x all is waits = ap (all_called cs) (sym is) ∙ halted_from cs x all waits

@@ -1,0 +1,6 @@
+//! The law of posted counts.
+#![tactic(auto)]
+
+mod laws;
+
+pub use laws::count_law;

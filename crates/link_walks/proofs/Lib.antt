@@ -1,0 +1,10 @@
+pub mod Lanes
+pub mod Replies
+pub mod Slots
+pub mod Drawn
+pub mod Standing
+pub mod Walking
+pub mod Resting
+pub mod Works
+pub mod Kept
+pub mod Joins

@@ -1,0 +1,6 @@
+//! Operations on streams, exchange by exchange at both ends, come to what the machine of links says at once.
+#![tactic(auto)]
+
+mod laws;
+
+pub use laws::operations_join;
