@@ -1,3 +1,5 @@
 pub mod Scripts
+pub mod Events
+pub mod Plans
 pub mod Written
 mod Loads

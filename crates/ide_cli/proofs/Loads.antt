@@ -4,7 +4,7 @@ use Rattle.std.specs.Prelude.{IfOk, nat_lt}
 use Rattle.std.proofs.lemmas.Bool.Decides.{nat_tests}
 use Rattle.std.proofs.lemmas.List.{length-take-le, take_all}
 use Rattle.ide_base.specs.Outside.{Contents, Rose}
-use Rattle.starter.specs.declared.plan.Plan.{Plan}
+use Rattle.ide_plan.specs.declared.plan.Plan.{Plan}
 use Rattle.line_runs.specs.Gain.{Text, Gained}
 use Rattle.line_runs.specs.Front.{FrontIn, FrontOf, Gave}
 use Rattle.line_runs.specs.Outcome.{Due, Quiet, RanOn}
@@ -14,9 +14,10 @@ use Rattle.line_runs.specs.declared.ends.End.{End}
 use Rattle.line_runs.specs.declared.ends.End.TheVariants.{Done, TooLong}
 use Rattle.line_runs.specs.declared.ends.Fault.{Fault}
 use Rattle.line_runs.proofs.WholeFiles.{IsDue, SameDue, stopped}
-use Rattle.ide_cli.specs.declared.command.Loaded.TheVariants.{Sound, Long}
+use Rattle.ide_cli.specs.declared.topologies.Loaded.TheVariants.{Sound, Long}
 use Rattle.ide_cli.specs.Loading.{Loads, LoadedIn, LoadedOf, LoadCut, topology_limit, within}
-use Rattle.ide_cli.specs.Meaning.{loaded, run_due}
+use Rattle.ide_cli.specs.Topologies.{loaded}
+use Rattle.ide_cli.specs.Meaning.{run_due}
 use Rattle.ide_cli.specs.Reads.{GaveAtMost, RanPast}
 use Rattle.ide_cli.specs.Script.{script_due}
 

@@ -1,33 +1,34 @@
--- Running the lines of a script on a link gives the end and the text that are due.
+-- Running the lines of a script on the links of a plan gives the end and the text that are due.
 use Rattle.std.proofs.Common.{◌≡◌, ℕ, ◌+◌, ◌==◌, Bool, true, false, List, [], ◌∷◌, length, Option, Some, None, Result, Ok, Err, refl, sym, ap, ◌∙◌, subst, arith, append_assoc}
 use Rattle.std.specs.Prelude.{nat_lt, sum_by}
 use Rattle.std.proofs.lemmas.List.Sums.{sum_by-cons}
-use Rattle.starter.specs.declared.plan.Plan.{Plan}
-use Rattle.link_script.specs.declared.event.Event.{Event}
-use Rattle.link_script.specs.declared.verdict.Verdict.{Verdict}
-use Rattle.link_script.specs.declared.verdict.Totals.{Totals}
-use Rattle.link_script.specs.declared.fault.LineFault.{LineFault}
-use Rattle.link_script.specs.Parse.{line_meaning}
-use Rattle.link_script.specs.Lines.{line_of, totals_line_of}
-use Rattle.link_laws.specs.History.{History}
-use Rattle.link_laws.specs.Due.{due}
-use Rattle.link_laws.specs.Runs.{history_with, history_on, text_on, totals_of, sealed_in, accepted_in, failed_in, blocked_in}
-use Rattle.link_machine.specs.Machine.{first_state, step_of}
-use Rattle.link_machine.specs.Stands.{StandsFor}
-use Rattle.link_machine.proofs.Begins.{begins as first_begins}
-use Rattle.link_machine.proofs.Steps.{steps}
+use Rattle.ide_plan.specs.declared.plan.Plan.{Plan}
+use Rattle.link_events.specs.declared.event.Event.{Event}
+use Rattle.link_verdicts.specs.declared.verdict.Verdict.{Verdict}
+use Rattle.link_verdicts.specs.declared.verdict.Totals.{Totals}
+use Rattle.link_events.specs.declared.fault.LineFault.{LineFault}
+use Rattle.link_events.specs.Parse.{line_meaning}
+use Rattle.link_verdicts.specs.Lines.{line_of, totals_line_of}
+use Rattle.key_laws.specs.History.{History}
+use Rattle.link_history.specs.Due.{due}
+use Rattle.link_texts.specs.Runs.{history_with, history_on, text_on, totals_of, sealed_in, accepted_in, failed_in, blocked_in}
+use Rattle.link_ports.specs.Machine.{step_of}
+use Rattle.link_ports.specs.Stands.{StandsFor}
+use Rattle.port_operations.proofs.Resets.{begins as first_begins}
+use Rattle.port_operations.proofs.AllSteps.{steps}
+use Rattle.keyed_links.specs.Worlds.{new_world}
 use Rattle.line_runs.specs.Gain.{Text}
 use Rattle.line_runs.specs.Outcome.{Due}
 use Rattle.text_lines.specs.Pieces.{pieces}
 use Rattle.line_runs.specs.Lines.{after, cut_text, file_due, go_on, is_over, process, unended}
-use Rattle.link_machine.proofs.Kept.{kept_plan}
 use Rattle.ide_cli.specs.Script.{Script, AtEnd, stops, with_line, unended_line, script_in, end_at, last_line, due_after, script_due}
 use Rattle.ide_cli.specs.Works.{Running, totals_with, ran_event, by_meaning, ran_line}
 
--- the link stands for the history, and the totals are its totals
+-- the links stand for the history, so many events came, and the totals are its totals
 pub record Follows (plan : Plan) (r : Running) (h : History) : Type 0 where
-  pub stands : StandsFor r.world h
   pub plan_is : r.world.plan ≡ plan
+  pub stands : StandsFor r.world.plan r.world.state h
+  pub steps_are : r.world.steps ≡ length h
   pub totals_are : r.totals ≡ totals_of h
 
 abbrev pub closing : Running → Text
@@ -53,20 +54,22 @@ totals_more t h e v w same is =
 -- one more event
 follows_on : (plan : Plan) (r : Running) (h : History) (e : Event) → Follows plan r h → Follows plan (ran_event r e).0 (history_with plan h e)
 follows_on plan r h e follows =
-    let step = steps r.world h e follows.stands in
-    let is : (step_of r.world e).0 ≡ due plan h e = step.0 ∙ ap (λ (p : Plan). due p h e) follows.plan_is in
+    let next = step_of r.world.plan r.world.state e in
+    let step = steps r.world.plan r.world.state h e follows.stands in
+    let is : next.0 ≡ due plan h e = step.0 ∙ ap (λ (p : Plan). due p h e) follows.plan_is in
     record {
-      stands = subst (λ (v : Verdict). StandsFor (step_of r.world e).1 ((e, v) ∷ h)) is step.1;
-      plan_is = kept_plan r.world e ∙ follows.plan_is;
-      totals_are = totals_more r.totals h e (step_of r.world e).0 (due plan h e) is follows.totals_are;
+      plan_is = follows.plan_is;
+      stands = subst (λ (v : Verdict). StandsFor r.world.plan next.1 ((e, v) ∷ h)) is step.1;
+      steps_are = omega (arith, follows.steps_are);
+      totals_are = totals_more r.totals h e next.0 (due plan h e) is follows.totals_are;
     }
 
 event_line : (plan : Plan) (r : Running) (h : History) (e : Event) → Follows plan r h → (ran_event r e).1 ≡ line_of (length h + 1) (due plan h e)
 event_line plan r h e follows =
-    let step = steps r.world h e follows.stands in
-    let is : (step_of r.world e).0 ≡ due plan h e = step.0 ∙ ap (λ (p : Plan). due p h e) follows.plan_is in
-    let number : (step_of r.world e).1.steps ≡ length h + 1 = omega (arith, step.1.steps_is) in
-    ap (λ (n : ℕ). line_of n (step_of r.world e).0) number ∙ ap (line_of (length h + 1)) is
+    let next = step_of r.world.plan r.world.state e in
+    let step = steps r.world.plan r.world.state h e follows.stands in
+    let is : next.0 ≡ due plan h e = step.0 ∙ ap (λ (p : Plan). due p h e) follows.plan_is in
+    ap (λ (n : ℕ). line_of (n + 1) next.0) follows.steps_are ∙ ap (line_of (length h + 1)) is
 
 -- a line ahead of what comes later
 one_line : (plan : Plan) (n : ℕ) (r : Running) (h : History) (m : Result (Option Event) LineFault) (later : Running → Due) (script : Script) → Follows plan r h
@@ -104,12 +107,12 @@ script_runs plan over n r h (piece ∷ next ∷ rest) follows =
     one_line plan n r h (line_meaning piece) (λ t. process ran_line closing over (n + 1) t (next ∷ rest)) (script_in over (n + 1) (next ∷ rest)) follows
     (λ q g now. script_runs plan over (n + 1) q g (next ∷ rest) now)
 
--- the link before the first event follows no history
-begins : (plan : Plan) → Follows plan (record { world = first_state plan; totals = totals 0 0 0 0 }) []
+-- the links before the first event follow no history
+begins : (plan : Plan) → Follows plan (record { world = new_world plan; totals = totals 0 0 0 0 }) []
 unfolding totals
-begins plan = record { stands = first_begins plan; plan_is = refl; totals_are = refl }
+begins plan = record { plan_is = refl; stands = first_begins plan; steps_are = refl; totals_are = refl }
 
--- a script's file run on the link of a plan
-pub file_runs : (plan : Plan) (file : Text) → file_due ran_line closing (record { world = first_state plan; totals = record { sealed = 0; accepted = 0; failed = 0; blocked = 0 } }) file ≡ script_due plan file
+-- a script's file run on the links of a plan
+pub file_runs : (plan : Plan) (file : Text) → file_due ran_line closing (record { world = new_world plan; totals = record { sealed = 0; accepted = 0; failed = 0; blocked = 0 } }) file ≡ script_due plan file
 unfolding totals
-file_runs plan file = script_runs plan (is_over file) 1 (record { world = first_state plan; totals = totals 0 0 0 0 }) [] (pieces (cut_text file)) (begins plan)
+file_runs plan file = script_runs plan (is_over file) 1 (record { world = new_world plan; totals = totals 0 0 0 0 }) [] (pieces (cut_text file)) (begins plan)

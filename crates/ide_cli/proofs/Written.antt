@@ -1,46 +1,115 @@
--- The laws of the histories that are written.
-use Rattle.std.proofs.Common.{List, [], ◌∷◌, Option, Some, None, take, refl}
-use Rattle.starter.specs.declared.plan.Plan.{Plan}
-use Rattle.link_script.specs.declared.event.Event.{Event}
-use Rattle.link_laws.specs.History.{History}
-use Rattle.link_laws.specs.Laws.{CauseLaw}
-use Rattle.link_laws.specs.Runs.{history_with, history_on}
+-- Each verdict of a history that is written is the one that is due.
+use Rattle.std.proofs.Common.{◌≡◌, ◌≤◌, List, [], ◌++◌, length, length-append, Option, Some, Result, Ok, Err, option_map, refl, sym, ap, subst, ◌∙◌, arith, append_assoc}
+use Rattle.std.specs.Prelude.{IfOk}
+use Rattle.std.proofs.lemmas.List.{append-nil, append_cancel_left}
 use Rattle.ide_base.specs.Outside.{Contents}
-use Rattle.ide_words.specs.Words.{Asked, run, check, show, asked}
-use Rattle.line_runs.specs.Gain.{Text}
-use Rattle.ide_cli.specs.declared.command.Loaded.{Loaded}
-use Rattle.ide_cli.specs.declared.command.Loaded.TheVariants.{Sound, Faulty, Long}
-use Rattle.ide_cli.specs.Script.{script_of}
-use Rattle.ide_cli.specs.Meaning.{loaded}
-use Rattle.ide_cli.specs.Headline.{OfScript, OfLoaded, OfFiles, OfAsked, OfWritten}
+use Rattle.ide_plan.specs.declared.plan.Plan.{Plan}
+use Rattle.ide_plan.specs.Fits.{FitsPlan}
+use Rattle.link_events.specs.declared.event.Event.{Event}
+use Rattle.key_laws.specs.History.{History}
+use Rattle.link_history.specs.Cause.{CauseLaw}
+use Rattle.link_texts.specs.Runs.{history_on, text_on}
+use Rattle.link_texts.specs.Telling.{events_told, lines_told, AreAllowed}
+use Rattle.text_laws.specs.Statements.{LinesTell, AreTold}
+use Rattle.text_laws.proofs.Reading.{length-events}
+use Rattle.line_runs.specs.Gain.{Text, IsFront, Gained}
+use Rattle.line_runs.specs.Outcome.{Due, Ran, RanDue, RanOn, SomeFront}
+use Rattle.line_runs.specs.declared.ends.End.{End}
+use Rattle.line_runs.specs.declared.ends.Fault.{Fault}
+use Rattle.line_runs.specs.declared.ends.Fault.TheVariants as fault
+use Rattle.ide_cli.specs.Script.{Script, last_line, due_after}
+use Rattle.ide_cli.specs.Meaning.{due_of}
+use Rattle.ide_cli.specs.Headline.{AsksFor, AllWritten, Written}
+use Rattle.ide_cli.proofs.Events.{events_allowed}
+use Rattle.ide_cli.proofs.Plans.{loaded_fits}
 
--- each verdict of a history that is run on is the one that is due
-pub cause_on : (plan : Plan) (h : History) (events : List Event) → CauseLaw plan h → CauseLaw plan (history_on plan h events)
-cause_on plan h [] cause = cause
-cause_on plan h (e ∷ events) cause = cause_on plan (history_with plan h e) events (refl, cause)
+-- ---- what was gained is a front of the text that is due
 
--- ---- a law of every history in which each verdict is the one that is due
+front_of_front : (a b c : Text) → IsFront a b → IsFront b c → IsFront a c
+front_of_front a b c one two = (one.0 ++ two.0, sym (append_assoc a one.0 two.0) ∙ (ap (λ (t : Text). t ++ two.0) one.1 ∙ two.1))
 
-of_script : (law : Plan → History → Type 0) → ((plan : Plan) (h : History) → CauseLaw plan h → law plan h) → (plan : Plan) (script : Option Text) → OfScript plan law script
-of_script law holds plan None = tt
-of_script law holds plan (Some file) = λ n. holds plan _ (cause_on plan [] (take n (script_of file).events) tt)
+whole_front : (a : Text) → IsFront a a
+whole_front a = ([], append-nil a)
 
-of_loaded : (law : Plan → History → Type 0) → ((plan : Plan) (h : History) → CauseLaw plan h → law plan h) → (script : Option Text) (l : Loaded) → OfLoaded law script l
-of_loaded law holds script Long = tt
-of_loaded law holds script Faulty = tt
-of_loaded law holds script (Sound plan) = of_script law holds plan script
+same_gain : (before now : Option Text) (held gained text : Text) → before ≡ Some held → now ≡ Some (held ++ gained) → Gained before now text → gained ≡ text
+same_gain before now held gained text one two is =
+    let there : now ≡ Some (held ++ text) = is ∙ ap (option_map (λ (h : Text). h ++ text)) one in
+    let same : held ++ gained ≡ held ++ text = cc (two, there) in
+    append_cancel_left held gained text same
 
-of_files : (law : Plan → History → Type 0) → ((plan : Plan) (h : History) → CauseLaw plan h → law plan h) → (topology script : Option Text) → OfFiles law topology script
-of_files law holds None script = tt
-of_files law holds (Some topology) script = of_loaded law holds script (loaded topology)
+some_front : (before now : Option Text) (held gained text : Text) → before ≡ Some held → now ≡ Some (held ++ gained) → SomeFront (Gained before now) text → IsFront gained text
+some_front before now held gained text one two is = subst (λ (t : Text). IsFront t text) (sym (same_gain before now held gained is.0 one two is.2)) is.1
 
-of_asked : (law : Plan → History → Type 0) → ((plan : Plan) (h : History) → CauseLaw plan h → law plan h) → (contents : Contents) (a : Option Asked) → OfAsked law contents a
-of_asked law holds contents None = tt
-of_asked law holds contents (Some (run topology script)) = of_files law holds (contents topology) (contents script)
-of_asked law holds contents (Some (check topology)) = tt
-of_asked law holds contents (Some (show packets)) = tt
+gained_front : (due : Due) (read write quiet : Type 0) (before now : Option Text) (held gained : Text) (r : Result End Fault) → before ≡ Some held → now ≡ Some (held ++ gained)
+    → Ran due read write quiet (Gained before now) r → IsFront gained due.1
+gained_front due read write quiet before now held gained (Ok e) one two ran = subst (λ (t : Text). IsFront t due.1) (sym (same_gain before now held gained due.1 one two ran.1)) (whole_front due.1)
+gained_front due read write quiet before now held gained (Err fault.Read) one two ran = some_front before now held gained due.1 one two (ran.1.0, ran.1.1, ran.1.3)
+gained_front due read write quiet before now held gained (Err fault.Write) one two ran = some_front before now held gained due.1 one two ran.1
+gained_front due read write quiet before now held gained (Err fault.Memory) one two ran = some_front before now held gained due.1 one two ran
 
--- it holds of every history that is written
-pub of_written : (law : Plan → History → Type 0) → ((plan : Plan) (h : History) → CauseLaw plan h → law plan h) → (told : Option Contents) (words : List Text) → OfWritten told words law
-of_written law holds None words = tt
-of_written law holds (Some contents) words = of_asked law holds contents (asked words)
+-- ---- the run that the words ask for
+
+due_is : (told : Option Contents) (words : List Text) (plan : Plan) (script : Script) (a : AsksFor told words plan script) → due_of words a.contents ≡ Some (due_after plan [] script)
+due_is told words plan script a = rw (a.asks, a.topology_is, a.plan_is, a.script_is, a.read) refl
+
+ran_script : (told : Option Contents) (words : List Text) (read write quiet : Type 0) (gained : Text → Type 0) (r : Result End Fault) → RanOn told (due_of words) read write quiet gained r
+    → (plan : Plan) (script : Script) → AsksFor told words plan script → Ran (due_after plan [] script) read write quiet gained r
+ran_script told words read write quiet gained r ran plan script a =
+    let ran_there : RanDue (due_of words a.contents) read write quiet gained r = subst (λ (t : Option Contents). RanOn t (due_of words) read write quiet gained r) a.are_told ran in
+    subst (λ (d : Option Due). RanDue d read write quiet gained r) (due_is told words plan script a) ran_there
+
+plan_fits : (told : Option Contents) (words : List Text) (plan : Plan) (script : Script) → AsksFor told words plan script → FitsPlan plan
+plan_fits told words plan script a = loaded_fits a.topology plan a.plan_is
+
+script_allowed : (told : Option Contents) (words : List Text) (plan : Plan) (script : Script) → AsksFor told words plan script → AreAllowed script.events
+script_allowed told words plan script a = subst (λ (t : Script). AreAllowed t.events) (sym a.read) (events_allowed a.bytes)
+
+-- ---- the verdicts
+
+-- what the laws suppose of a history
+pub record IsDue (plan : Plan) (h : History) : Type 0 where
+  pub fits : FitsPlan plan
+  pub cause : CauseLaw plan h
+  pub few : length h ≤ 4294967296
+
+few_written : (h : History) (later : List Event) (script : Script) → events_told h ++ later ≡ script.events → AreAllowed script.events → length h ≤ 4294967296
+few_written h later script same allowed = omega (arith, length-events h, length-append (events_told h) later, ap length same, allowed.few)
+
+pub written_is_due : LinesTell → (told : Option Contents) (words : List Text) (read write quiet : Type 0) (before now : Option Text) (r : Result End Fault)
+    → RanOn told (due_of words) read write quiet (Gained before now) r → (plan : Plan) (h : History) → Written told words before now plan h → IsDue plan h
+written_is_due tell told words read write quiet before now r ran plan h w =
+    let script = w.script in
+    let due = due_after plan [] script in
+    let last = last_line script.stop (history_on plan [] script.events) in
+    let allowed = script_allowed told words plan script w.asks_for in
+    let fits = plan_fits told words plan script w.asks_for in
+    let gained = gained_front due read write quiet before now w.held w.gained r w.held_before w.holds_now (ran_script told words read write quiet (Gained before now) r ran plan script w.asks_for) in
+    let front = front_of_front (lines_told h) w.gained due.1 w.lines gained in
+    let text : lines_told h ++ front.0 ≡ text_on plan [] (events_told h ++ w.later) ++ last = front.1 ∙ ap (λ (es : List Event). text_on plan [] es ++ last) (sym w.events_are) in
+    record {
+      fits = fits;
+      cause = tell plan fits h w.later front.0 last (subst AreAllowed (sym w.events_are) allowed) w.verdicts_fit text;
+      few = few_written h w.later script w.events_are allowed;
+    }
+
+pub all_written : AreTold → (told : Option Contents) (words : List Text) (read write quiet : Type 0) (before now : Option Text) (r : Result End Fault)
+    → RanOn told (due_of words) read write quiet (Gained before now) r → IfOk r (λ e. AllWritten told words before now)
+all_written are_told told words read write quiet before now (Err f) ran = tt
+all_written are_told told words read write quiet before now (Ok e) ran = λ plan script held asks held_before.
+    let is = are_told plan (plan_fits told words plan script asks) script.events (script_allowed told words plan script asks) in
+    let due = due_after plan [] script in
+    let whole = (ran_script told words read write quiet (Gained before now) (Ok e) ran plan script asks).1 in
+    let h = history_on plan [] script.events in
+    let last = last_line script.stop h in
+    record {
+      script = script;
+      asks_for = asks;
+      later = [];
+      events_are = append-nil (events_told h) ∙ is.events_are;
+      verdicts_fit = is.verdicts_fit;
+      held = held;
+      held_before = held_before;
+      gained = due.1;
+      holds_now = whole ∙ ap (option_map (λ (t : Text). t ++ due.1)) held_before;
+      lines = (last, ap (λ (t : Text). t ++ last) is.lines_are);
+    }

@@ -1,47 +1,62 @@
 -- The histories that a run writes.
-use Rattle.std.specs.Prelude.{ℕ, List, [], take, Option, Some, None, Result, Ok, Err}
+use Rattle.std.specs.Prelude.{◌≡◌, List, [], ◌++◌, Option, Some, Result, Ok, Err}
 use Rattle.ide_base.specs.Outside.{Contents}
-use Rattle.ide_words.specs.Words.{Asked, run, check, show, asked}
-use Rattle.starter.specs.declared.plan.Plan.{Plan}
-use Rattle.link_laws.specs.History.{History}
-use Rattle.link_laws.specs.Runs.{history_on}
-use Rattle.line_runs.specs.Gain.{Text}
+use Rattle.ide_words.specs.Words.{run, asked}
+use Rattle.ide_plan.specs.declared.plan.Plan.{Plan}
+use Rattle.link_events.specs.declared.event.Event.{Event}
+use Rattle.key_laws.specs.History.{History}
+use Rattle.link_texts.specs.Runs.{history_on}
+use Rattle.link_texts.specs.Telling.{VerdictsFit, events_told, lines_told}
+use Rattle.line_runs.specs.Gain.{Text, IsFront}
 use Rattle.line_runs.specs.declared.ends.End.{End}
+use Rattle.line_runs.specs.declared.ends.End.TheVariants as end
 use Rattle.line_runs.specs.declared.ends.Fault.{Fault}
-use Rattle.ide_cli.specs.declared.command.Loaded.{Loaded}
-use Rattle.ide_cli.specs.declared.command.Loaded.TheVariants.{Sound, Faulty, Long}
+use Rattle.line_runs.specs.declared.ends.Fault.TheVariants as fault
+use Rattle.ide_cli.specs.declared.topologies.Loaded.TheVariants.{Sound}
 use Rattle.ide_cli.specs.declared.status.Status.{Status}
 use Rattle.ide_cli.specs.declared.status.Status.TheVariants as status
-use Rattle.line_runs.specs.declared.ends.End.TheVariants as end
-use Rattle.line_runs.specs.declared.ends.Fault.TheVariants as fault
-use Rattle.ide_cli.specs.Script.{script_of}
-use Rattle.ide_cli.specs.Meaning.{loaded}
+use Rattle.ide_cli.specs.Script.{Script, script_of}
+use Rattle.ide_cli.specs.Topologies.{loaded}
 
--- The law holds of the history of the first n events of the script, for every n: of each that is written before the
--- run ends, however it ends.
-abbrev pub OfScript : Plan → (Plan → History → Type 0) → Option Text → Type 0
-OfScript plan law None = Unit {0}
-OfScript plan law (Some file) = (n : ℕ) → law plan (history_on plan [] (take n (script_of file).events))
+-- The words ask for a run: the shelf tells its contents, in which the names that the words give are a sound topology of
+-- this plan, and this script.
+pub record AsksFor (told : Option Contents) (words : List Text) (plan : Plan) (script : Script) : Type 0 where
+  pub contents : Contents
+  pub are_told : told ≡ Some contents
+  pub topology_name : Text
+  pub script_name : Text
+  pub asks : asked words ≡ Some (run topology_name script_name)
+  pub topology : Text
+  pub topology_is : contents topology_name ≡ Some topology
+  pub plan_is : loaded topology ≡ Sound plan
+  pub bytes : Text
+  pub script_is : contents script_name ≡ Some bytes
+  pub read : script ≡ script_of bytes
 
-abbrev pub OfLoaded : (Plan → History → Type 0) → Option Text → Loaded → Type 0
-OfLoaded law script Long = Unit {0}
-OfLoaded law script Faulty = Unit {0}
-OfLoaded law script (Sound plan) = OfScript plan law script
+-- A run with these words wrote a history under a plan: its events are the first of the script's; and the sink, which
+-- tells what it held before and holds now, gained the lines of its verdicts, numbered from 1, and maybe more behind
+-- them.
+pub record Written (told : Option Contents) (words : List Text) (before now : Option Text) (plan : Plan) (h : History) : Type 0 where
+  pub script : Script
+  pub asks_for : AsksFor told words plan script
+  pub later : List Event
+  pub events_are : events_told h ++ later ≡ script.events
+  pub verdicts_fit : VerdictsFit h
+  pub held : Text
+  pub held_before : before ≡ Some held
+  pub gained : Text
+  pub holds_now : now ≡ Some (held ++ gained)
+  pub lines : IsFront (lines_told h) gained
 
-abbrev pub OfFiles : (Plan → History → Type 0) → Option Text → Option Text → Type 0
-OfFiles law None script = Unit {0}
-OfFiles law (Some topology) script = OfLoaded law script (loaded topology)
+-- the law holds of every history that was written
+abbrev pub InEvery : (Plan → History → Type 0) → (Plan → History → Type 0) → Type 0
+InEvery written law = (plan : Plan) (h : History) → written plan h → law plan h
 
-abbrev pub OfAsked : (Plan → History → Type 0) → Contents → Option Asked → Type 0
-OfAsked law contents None = Unit {0}
-OfAsked law contents (Some (run topology script)) = OfFiles law (contents topology) (contents script)
-OfAsked law contents (Some (check topology)) = Unit {0}
-OfAsked law contents (Some (show packets)) = Unit {0}
-
--- the law holds of every history that a run with these words writes, where the contents are told
-abbrev pub OfWritten : Option Contents → List Text → (Plan → History → Type 0) → Type 0
-OfWritten None words law = Unit {0}
-OfWritten (Some contents) words law = OfAsked law contents (asked words)
+-- the history of all events of the script was written, each with the verdict that is due
+abbrev pub AllWritten : Option Contents → List Text → Option Text → Option Text → Type 0
+AllWritten told words before now =
+    (plan : Plan) (script : Script) (held : Text) → AsksFor told words plan script → before ≡ Some held
+    → Written told words before now plan (history_on plan [] script.events)
 
 -- what a status says of the run
 abbrev pub outcome_of : Status → Result End Fault

@@ -1,37 +1,23 @@
 -- What the program should write and answer, by its words and the contents of its files.
-use Rattle.std.specs.Prelude.{◌≤◌, List, [], length, Option, Some, None, option_map, codes}
+use Rattle.std.specs.Prelude.{List, [], Option, Some, None, option_map, codes}
 use Rattle.ide_base.specs.Outside.{Contents}
 use Rattle.ide_words.specs.Words.{Asked, run, check, show, asked}
-use Rattle.starter.specs.Starter.{plan_of}
-use Rattle.starter.specs.declared.plan.Plan.{Plan}
 use Rattle.line_runs.specs.declared.ends.End.TheVariants as end
 use Rattle.line_runs.specs.Gain.{Text}
 use Rattle.line_runs.specs.Outcome.{Due}
 use Rattle.line_runs.specs.Lines.{file_due}
-use Rattle.ide_cli.specs.declared.command.Loaded.{Loaded}
-use Rattle.ide_cli.specs.declared.command.Loaded.TheVariants.{Sound, Faulty, Long}
-use Rattle.ide_cli.specs.Loading.{within}
+use Rattle.ide_cli.specs.declared.topologies.Loaded.{Loaded}
+use Rattle.ide_cli.specs.declared.topologies.Loaded.TheVariants.{Sound, Faulty, Long}
 use Rattle.ide_cli.specs.Script.{script_due}
-use Rattle.ide_cli.specs.Topologies.{check_due}
+use Rattle.ide_cli.specs.Topologies.{check_due, loaded, refusal}
 use Rattle.ide_cli.specs.Works.{shown_line, no_text}
-
-abbrev pub by_plan : Option Plan → Loaded
-by_plan None = Faulty
-by_plan (Some plan) = Sound plan
-
--- what the bytes of the keys of a run come to
-abbrev pub loaded : Text → Loaded
-loaded bytes = within Long (λ b. by_plan (plan_of b)) bytes
-
-abbrev pub fault_line : Text
-fault_line = codes "topology nottoml\n"
 
 abbrev pub usage_line : Text
 usage_line = codes "usage: run TOPOLOGY SCRIPT, check TOPOLOGY, show PACKETS, generate SEED COUNT\n"
 
 abbrev pub run_loaded : Option Text → Loaded → Option Due
 run_loaded script Long = Some (end.TooLong, [])
-run_loaded script Faulty = Some (end.Topology, fault_line)
+run_loaded script (Faulty fault) = Some (end.Topology, refusal fault)
 run_loaded script (Sound plan) = option_map (script_due plan) script
 
 abbrev pub run_due : Option Text → Option Text → Option Due
@@ -50,8 +36,3 @@ asked_due (Some (show packets)) contents = option_map show_due (contents packets
 -- what the words and the contents call for: an end and a text, or nothing where a name is not there
 abbrev pub due_of : List Text → Contents → Option Due
 due_of words contents = asked_due (asked words) contents
-
--- a plan has the keys of one draw
-abbrev pub HasKeys : Loaded → Type 0
-HasKeys (Sound plan) = 6 ≤ length plan.keys
-HasKeys _ = Unit {0}

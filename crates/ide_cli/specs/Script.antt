@@ -1,14 +1,15 @@
 -- A script: the events of its lines, and how its reading ends.
 use Rattle.std.specs.Prelude.{ℕ, ◌+◌, ◌==◌, nat_lt, Bool, List, [], ◌∷◌, ◌++◌, length, Option, Some, None, Result, Ok, Err, if◌then◌else◌}
 use Rattle.text_lines.specs.Pieces.{pieces}
-use Rattle.starter.specs.declared.plan.Plan.{Plan}
-use Rattle.link_script.specs.declared.event.Event.{Event}
-use Rattle.link_script.specs.declared.fault.LineFault.{LineFault}
-use Rattle.link_script.specs.declared.fault.LineFault.TheVariants as line
-use Rattle.link_script.specs.Parse.{line_meaning}
-use Rattle.link_script.specs.Lines.{fault_line_of, totals_line_of}
-use Rattle.link_laws.specs.History.{History}
-use Rattle.link_laws.specs.Runs.{history_on, text_on, totals_of}
+use Rattle.ide_plan.specs.declared.plan.Plan.{Plan}
+use Rattle.link_events.specs.declared.event.Event.{Event}
+use Rattle.link_events.specs.declared.fault.LineFault.{LineFault}
+use Rattle.link_events.specs.declared.fault.LineFault.TheVariants as line
+use Rattle.link_events.specs.Words.{fault_line_of}
+use Rattle.link_events.specs.Parse.{line_meaning}
+use Rattle.link_verdicts.specs.Lines.{totals_line_of}
+use Rattle.key_laws.specs.History.{History}
+use Rattle.link_texts.specs.Runs.{history_on, text_on, totals_of}
 use Rattle.line_runs.specs.declared.ends.End.{End}
 use Rattle.line_runs.specs.declared.ends.End.TheVariants as end
 use Rattle.line_runs.specs.Gain.{Text}

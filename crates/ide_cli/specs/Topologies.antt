@@ -1,6 +1,7 @@
 -- What a topology's bytes come to, and what is written for them.
 use Rattle.std.specs.Prelude.{[], ◌++◌, Result, Ok, Err, codes}
 use Rattle.ide_plan.specs.declared.plan.Plan.{Plan}
+use Rattle.ide_plan.specs.Fits.{FitsPlan}
 use Rattle.toml_walk.specs.declared.fault.PlanFault.{PlanFault}
 use Rattle.topology.specs.Meaning.{plan_of}
 use Rattle.topology.specs.Lines.{fault_line}
@@ -31,3 +32,8 @@ report Long = (end.TooLong, [])
 -- the end and the text of a topology that is checked
 abbrev pub check_due : Text → Due
 check_due file = report (loaded file)
+
+-- a plan meets every bound and rule
+abbrev pub HasFitting : Loaded → Type 0
+HasFitting (Sound plan) = FitsPlan plan
+HasFitting _ = Unit {0}

@@ -1,20 +1,22 @@
 -- What a line of a script, and of a packet file, comes to by what is kept.
 use Rattle.std.specs.Prelude.{ℕ, ◌+◌, ◌*◌, ◌<◌, ◌≤◌, [], Option, Some, None, Result, Ok, Err}
-use Rattle.link_script.specs.declared.event.Event.{Event}
-use Rattle.link_script.specs.declared.fault.LineFault.{LineFault}
-use Rattle.link_script.specs.declared.verdict.Verdict.{Verdict}
-use Rattle.link_script.specs.declared.verdict.Totals.{Totals}
-use Rattle.link_script.specs.Parse.{line_meaning}
-use Rattle.link_script.specs.Lines.{line_of}
-use Rattle.link_laws.specs.Runs.{sealed_in, accepted_in, failed_in, blocked_in}
-use Rattle.link_machine.specs.Machine.{LinkState, step_of}
+use Rattle.link_events.specs.declared.event.Event.{Event}
+use Rattle.link_events.specs.declared.fault.LineFault.{LineFault}
+use Rattle.link_events.specs.Parse.{line_meaning}
+use Rattle.link_events.specs.Spells.{IsAllowed}
+use Rattle.link_verdicts.specs.declared.verdict.Verdict.{Verdict}
+use Rattle.link_verdicts.specs.declared.verdict.Totals.{Totals}
+use Rattle.link_verdicts.specs.Lines.{line_of}
+use Rattle.link_texts.specs.Runs.{sealed_in, accepted_in, failed_in, blocked_in}
+use Rattle.link_ports.specs.Machine.{step_of}
+use Rattle.keyed_links.specs.Worlds.{WorldView}
 use Rattle.packet_lines.specs.Reading.{packet_meaning}
 use Rattle.packet_lines.specs.Showing.{shown}
 use Rattle.line_runs.specs.Gain.{Text}
 
--- the link and the totals so far
+-- the links and the totals so far
 pub record Running : Type 0 where
-  pub world : LinkState
+  pub world : WorldView
   pub totals : Totals
 
 -- the totals with one more verdict
@@ -28,8 +30,9 @@ totals_with t v = record {
 
 abbrev pub ran_event : Running → Event → Running × Text
 ran_event r e =
-    let step = step_of r.world e in
-    (record { world = step.1; totals = totals_with r.totals step.0 }, line_of step.1.steps step.0)
+    let step = step_of r.world.plan r.world.state e in
+    let number = r.world.steps + 1 in
+    (record { world = record { plan = r.world.plan; state = step.1; steps = number }; totals = totals_with r.totals step.0 }, line_of number step.0)
 
 abbrev pub by_meaning : Running → Result (Option Event) LineFault → Result (Running × Text) LineFault
 by_meaning r (Err fault) = Err fault
@@ -39,6 +42,11 @@ by_meaning r (Ok (Some e)) = Ok (ran_event r e)
 -- what a line comes to
 abbrev pub ran_line : Running → ℕ → Text → Result (Running × Text) LineFault
 ran_line r n line = by_meaning r (line_meaning line)
+
+-- the event of a line, if it has one, is one that a script may ask for
+abbrev pub MayAsk : Option Event → Type 0
+MayAsk None = Unit {0}
+MayAsk (Some e) = IsAllowed e
 
 -- fewer events than lines, and few packets an event
 pub record IsEarly (r : Running) (n : ℕ) : Type 0 where

@@ -5,7 +5,7 @@ ghost use Rattle.ide_cli.specs.Works.{shown_line, no_text};
 
 use ide_types::{Bytes, Memory};
 use line_runs::LineWork;
-use link_script::LineError;
+use link_events::LineError;
 use packet_lines::{parse_packet, show};
 use std::alloc::Global;
 use std::marker::Model;

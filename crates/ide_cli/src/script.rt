@@ -1,20 +1,21 @@
-//! The lines of a script, run on a link.
+//! The lines of a script, run on the links of a topology.
 
 ghost use Rattle.std.specs.Prelude.{◌≡◌, ◌<◌, ◌≤◌, ◌+◌, ◌^◌, length, count_by, IfErr, IfOk, OnOk};
-ghost use Rattle.link_laws.specs.Runs.{is_blocked, sealed_in, accepted_in, failed_in, blocked_in};
-ghost use Rattle.link_world.specs.Few.{IsFew};
-ghost use Rattle.line_runs.specs.Lines.{Came};
-ghost use Rattle.ide_cli.specs.Works.{Running, totals_with, ran_event, ran_line, IsEarly};
-ghost use Rattle.link_script.specs.Lines.{totals_line_of};
+ghost use Rattle.link_events.specs.Parse.{line_meaning, Gives};
+ghost use Rattle.link_events.specs.Spells.{IsAllowed};
+ghost use Rattle.link_verdicts.specs.Lines.{totals_line_of};
+ghost use Rattle.link_texts.specs.Runs.{is_blocked, sealed_in, accepted_in, failed_in, blocked_in};
+ghost use Rattle.ide_cli.specs.Works.{Running, totals_with, ran_event, ran_line, IsEarly, MayAsk};
 
 use ide_types::{Bytes, Memory};
+use keyed_links::World;
 use line_runs::LineWork;
-use link_script::{Effect, Event, LineError, Totals, Verdict, line, parse_line, totals_line};
-use link_world::World;
+use link_events::{Event, LineError, lines_spell, parse_line};
+use link_verdicts::{Effect, Totals, Verdict, line, totals_line};
 use std::alloc::Global;
 use std::marker::Model;
 
-/// A link, and the totals of its verdicts so far.
+/// The links, and the totals of its verdicts so far.
 #[derive(Drop)]
 pub(crate) struct ScriptWork {
     alloc: Global,
@@ -41,7 +42,6 @@ fn blocked(effects: &[Effect]) -> usize
 }
 
 fn with_verdict(totals: Totals, verdict: &Verdict) -> Totals
-    requires few { IsFew verdict.now }
     requires sealed { totals.sealed < 2 ^ 32 }
     requires accepted { totals.accepted < 2 ^ 32 }
     requires failed { totals.failed < 2 ^ 32 }
@@ -54,7 +54,7 @@ fn with_verdict(totals: Totals, verdict: &Verdict) -> Totals
 {
     match verdict {
         Verdict::Sealed { packets } => Totals {
-            sealed: totals.sealed + packets.as_slice().len() as u64,
+            sealed: totals.sealed + packets.len() as u64,
             ..totals
         },
         Verdict::Fail { .. } => Totals {
@@ -62,7 +62,7 @@ fn with_verdict(totals: Totals, verdict: &Verdict) -> Totals
             ..totals
         },
         Verdict::Accepted { effects, .. } => Totals {
-            accepted: totals.accepted + effects.as_slice().len() as u64,
+            accepted: totals.accepted + effects.len() as u64,
             blocked: totals.blocked + blocked(effects.as_slice()) as u64,
             ..totals
         },
@@ -70,8 +70,17 @@ fn with_verdict(totals: Totals, verdict: &Verdict) -> Totals
     }
 }
 
+// The event that a line asks for.
+fn asked(alloc: Global, line: &[u8]) -> Result<Option<Event>, LineError>
+    ensures gives { Gives (line_meaning line.now) result }
+    ensures allowed { IfOk result MayAsk }
+{
+    lines_spell();
+    parse_line(alloc, line)
+}
+
 impl ScriptWork {
-    /// The link before the first event.
+    /// The links before the first event.
     pub(crate) fn new(alloc: Global, world: World) -> ScriptWork
         ensures { result ≡ record { world = world; totals = record { sealed = 0; accepted = 0; failed = 0; blocked = 0 } } }
     {
@@ -91,6 +100,7 @@ impl ScriptWork {
     fn run_event(&mut self, event: &Event, number: u64) -> Result<Bytes, LineError>
         requires number { number < 2 ^ 26 }
         requires early { IsEarly self.old number }
+        requires allowed { IsAllowed event.now }
         ensures came { IfOk result (λ text. (self.new, text) ≡ ran_event self.old event.now) }
         ensures early { OnOk result (IsEarly self.new (number + 1)) }
         ensures memory { IfErr result (λ e. e ≡ LineError.Memory) }
@@ -114,7 +124,7 @@ impl LineWork for ScriptWork {
     ghost closing = { λ r. totals_line_of r.totals };
 
     fn line(&mut self, number: u64, line: &[u8]) -> Result<Bytes, LineError> {
-        match parse_line(self.alloc, line) {
+        match asked(self.alloc, line) {
             Err(e) => Err(e),
             Ok(None) => Ok(Bytes::new(Vec::new(self.alloc))),
             Ok(Some(event)) => self.run_event(&event, number),

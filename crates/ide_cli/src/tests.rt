@@ -1,6 +1,7 @@
-//! Worked scripts with their whole text, and each status.
+//! Worked scripts with their text, and each status.
 mod check;
 mod files;
+mod rows;
 
 use crate::{Status, run};
 use ide_base::{MemShelf, MemSink, NamedFile, TrueShelf, TrueSink};
@@ -32,20 +33,59 @@ fn add(alloc: Global, files: &mut Vec<NamedFile>, name: &str, bytes: Vec<u8>) ->
     Ok(())
 }
 
-// 24 keys that count from 0, one a line.
-fn key_lines(alloc: Global) -> Result<String, Fail> {
+// One link with a selective stream and an interface, and a region of memory; the pool of keys stands ahead of it.
+const LINK: &str = r#"[[link]]
+nonces = ["0101010101010101010101010101010101010101010101010101010101010101", "0202020202020202020202020202020202020202020202020202020202020202", "0303030303030303030303030303030303030303030303030303030303030303"]
+[[link.stream]]
+id = 5
+kind = "selective"
+rid = [0x0100, 0x0100]
+ranges = [[0x40000000, 0x400fffff]]
+[[link.interface]]
+rid = 0x0100
+stream = 5
+command = 6
+cacheline = 16
+info = "00000000000000000000000000000000000000000000000000000000000000000000000000000000000000000000000000000000000000000000000000000000"
+bars = [{ base = 0x40000000, pages = 16 }]
+[[memory]]
+base = 0x10000000
+size = 0x10000
+"#;
+
+// A line of so many different keys, or none.
+fn pool(alloc: Global, count: u32) -> Result<String, Fail> {
     let mut text = String::new(alloc);
-    for n in 0..24 {
-        let line = format!(in alloc; "{n:064x}\n")?;
-        text.push_str(&line)?;
+    if count == 0 {
+        return Ok(text);
     }
+    text.push_str("pool = [")?;
+    for n in 0..count {
+        let key = format!(in alloc; "\"{n:064x}\", ")?;
+        text.push_str(&key)?;
+    }
+    text.push_str("]\n")?;
     Ok(text)
 }
 
-// A file `keys` of them.
+// The topology of the tests, with so many keys.
+fn topology(alloc: Global, keys: u32) -> Result<String, Fail> {
+    let pool = pool(alloc, keys)?;
+    Ok(format!(in alloc; "version = 1\n{pool}{LINK}")?)
+}
+
+// The text with its first `from` changed to `to`.
+fn changed(alloc: Global, text: &str, from: &str, to: &str) -> Result<String, Fail> {
+    match text.split_once(from) {
+        Some((front, back)) => Ok(format!(in alloc; "{front}{to}{back}")?),
+        None => Ok(String::from_str(alloc, text)?),
+    }
+}
+
+// A file `keys` with the topology of 24 keys.
 fn keys(alloc: Global) -> Result<Vec<NamedFile>, Fail> {
     let mut files = Vec::new(alloc);
-    add(alloc, &mut files, "keys", key_lines(alloc)?.into_bytes())?;
+    add(alloc, &mut files, "keys", topology(alloc, 24)?.into_bytes())?;
     Ok(files)
 }
 
@@ -66,65 +106,6 @@ fn ran(alloc: Global, script: &str) -> Result<(Status, MemSink), Fail> {
 }
 
 #[test]
-fn runs_scripts(rt: HostRuntime) -> Result<(), Fail> {
-    let cases = [
-        ("", "", "total sealed 0 accepted 0 failed 0 blocked 0\n"),
-        (
-            SEND,
-            "pass 1\n# again\n  \npass 1\npass 1",
-            "1 sealed 1 d0 5 pr draw 0 unit 1 m1 k0 t0 p0\n2 accepted h0 5 pr draw 0 unit 1 blocked:nottrusted\n3 fail h0 5 pr tag\n4 insecure h0 5\ntotal sealed 1 accepted 1 failed 1 blocked 1\n",
-        ),
-        (
-            SEND,
-            "alter 1 1 20\n",
-            "1 sealed 1 d0 5 pr draw 0 unit 1 m1 k0 t0 p0\n2 fail h0 5 pr tag\ntotal sealed 1 accepted 0 failed 1 blocked 0\n",
-        ),
-        (
-            SEND,
-            "alter 1 1 40\n",
-            "1 sealed 1 d0 5 pr draw 0 unit 1 m1 k0 t0 p0\n2 fail h0 5 pr key\ntotal sealed 1 accepted 0 failed 1 blocked 0\n",
-        ),
-        (
-            SEND,
-            "cut 1 31\ncut 1 33\n",
-            "1 sealed 1 d0 5 pr draw 0 unit 1 m1 k0 t0 p0\n2 malformed h0 short 31\n3 none\ntotal sealed 1 accepted 0 failed 0 blocked 0\n",
-        ),
-        (
-            "send h0 400000010100000f1000000011223344\n",
-            "arrive h0 -\narrive h0 40\narrive h0 92\narrive h0 9288\narrive h0 9283\narrive h0 92800501\narrive h0 9280050000\narrive h0 92800500ff\n",
-            "1 plain h0\n2 malformed h0 short 0\n3 plain h0\n4 malformed h0 short 1\n5 malformed h0 reserved 1\n6 malformed h0 substream 1\n7 malformed h0 reserved 3\n8 malformed h0 class 4\n9 malformed h0 kind 4\ntotal sealed 0 accepted 0 failed 0 blocked 0\n",
-        ),
-        (
-            "arrive h0 92810900000000010100010f10000000000000000000000000000000\n",
-            "arrive h0 92810500000000010100010f10000000000000000000000000000000\n",
-            "1 unknown h0 9\n2 notkeyed h0 5 npr\ntotal sealed 0 accepted 0 failed 0 blocked 0\n",
-        ),
-    ];
-    for (first, rest, want) in cases {
-        let script = format!(in rt.alloc(); "{first}{rest}")?;
-        let (status, out) = ran(rt.alloc(), &script)?;
-        assert_eq!(rt; status, Status::Done, "at {script}");
-        assert_eq!(rt; out.bytes(), want.as_bytes(), "at {script}");
-    }
-    Ok(())
-}
-
-// Each posted packet is counted, and the 256th would not fit into a posted count.
-#[test]
-fn counts_posted_packets(rt: HostRuntime) -> Result<(), Fail> {
-    let mut script = String::new(rt.alloc());
-    for _ in 0..256 {
-        script.push_str(SEND)?;
-    }
-    let (status, out) = ran(rt.alloc(), &script)?;
-    assert_eq!(rt; status, Status::Done);
-    let last =
-        b"255 sealed 255 d0 5 pr draw 0 unit 255 m1 k0 t0 p0\n256 refused nokey npr\ntotal sealed 255 accepted 0 failed 0 blocked 0\n";
-    assert!(rt; out.bytes().ends_with(last));
-    Ok(())
-}
-
-#[test]
 fn refuses_lines_and_topologies(rt: HostRuntime) -> Result<(), Fail> {
     let (status, out) = ran(rt.alloc(), "dump 1\njump 0\ndump 1\n")?;
     assert_eq!(rt; status, Status::Script);
@@ -139,7 +120,7 @@ fn refuses_lines_and_topologies(rt: HostRuntime) -> Result<(), Fail> {
         run(rt.alloc(), &words, &mut shelf, &mut out),
         Status::Topology
     );
-    assert_eq!(rt; out.bytes(), b"topology nottoml\n".as_slice());
+    assert_eq!(rt; out.bytes(), b"topology missing pool\n".as_slice());
     let words = words_of(rt.alloc(), &["jump"])?;
     let mut out = MemSink::new(rt.alloc(), Vec::new(rt.alloc()));
     assert_eq!(rt;

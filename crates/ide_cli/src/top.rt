@@ -3,21 +3,32 @@
 ghost use Rattle.std.specs.Prelude.{◌≡◌, ◌+◌, ◌≤◌, IfOk, None, map, string_bytes};
 ghost use Rattle.ide_base.specs.Outside.{Rose};
 ghost use Rattle.ide_words.specs.Words.{asked};
-ghost use Rattle.link_laws.specs.Laws.{CauseLaw, DrawsNeverFall, NoForgery, PrefixLaw, WholeLaw};
+ghost use Rattle.count_laws.specs.Statements.{CountLaw};
+ghost use Rattle.key_laws.specs.Laws.{NeverAgain, Settled, StaysSecure, StreamFacts};
+ghost use Rattle.link_history.specs.Cause.{CauseLaw};
+ghost use Rattle.link_history.specs.Delivered.{DeliveryLaw};
+ghost use Rattle.link_history.specs.Laws.{DrawsNeverFall, NoForgery, OrderIsNoForgery, PrefixLaw, WholeLaw};
+ghost use Rattle.link_history.specs.Ordered.{OrderLaw};
 ghost use Rattle.line_runs.specs.Gain.{Gained};
 ghost use Rattle.line_runs.specs.Outcome.{Quiet, Ran, RanOn};
-ghost use Rattle.ide_cli.specs.Headline.{OfWritten, outcome_of};
+ghost use Rattle.ide_cli.specs.Headline.{AllWritten, InEvery, Written, outcome_of};
 ghost use Rattle.ide_cli.specs.Meaning.{due_of, usage_line};
 ghost use Rattle.ide_cli.specs.Reads.{ReadPast, most_counted, most_read};
 
 use crate::command::{run_files, show_packets};
 use crate::status::Status;
 use crate::topologies::check_topology;
+use count_laws::count_law;
+use delivery_laws::{delivery_law, draws_never_fall, order_is_no_forgery, prefix_law, whole_law};
 use ide_base::{Shelf, Sink};
 use ide_words::{Request, WordsError, read_words};
+use key_states::{never_again, settled, stays_secure, stream_facts};
 use line_runs::{End, Fault, finish};
-use link_laws::{draws_never_fall, prefix_law, whole_law};
+use link_keys::keys_have_causes;
+use order_laws::order_law;
+use sealing_laws::totals_fit;
 use std::alloc::Global;
+use text_laws::lines_tell;
 
 // Does what the words ask for.
 fn perform<S: Shelf, O: Sink>(
@@ -95,14 +106,46 @@ pub fn run<S: Shelf, O: Sink>(
     ensures too_long { result ≡ Status.TooLong → ReadPast (asked (map string_bytes words.now.items)) (S.given shelf.old) (S.given shelf.new) }
     ensures whole { result ≡ Status.Done → S.given shelf.new ≤ S.given shelf.old + most_counted (asked (map string_bytes words.now.items)) }
 
-    // The laws hold of every history that is written.
-    ensures cause_law { OfWritten (S.contents shelf.old) (map string_bytes words.now.items) CauseLaw }
-    ensures prefix_law { OfWritten (S.contents shelf.old) (map string_bytes words.now.items) (λ plan h. NoForgery plan h → PrefixLaw plan h) }
-    ensures draws_never_fall { OfWritten (S.contents shelf.old) (map string_bytes words.now.items) (λ plan h. DrawsNeverFall h) }
-    ensures whole_law { OfWritten (S.contents shelf.old) (map string_bytes words.now.items) WholeLaw }
+    // Where the run comes to an end of its own, the history of all events of the script was written.
+    ensures all_written { IfOk (outcome_of result) (λ e. AllWritten (S.contents shelf.old) (map string_bytes words.now.items) (O.held out.old) (O.held out.new)) }
+
+    // In every history that was written, each verdict is the one that is due, the draws of accepted units never fall,
+    // everything that arrived unchanged in order was taken, and is no forgery; an operation on keys ends in the key state
+    // of one without losses, and no move of a refresh takes a port out of Secure.
+    ensures cause_law { InEvery (Written (S.contents shelf.old) (map string_bytes words.now.items) (O.held out.old) (O.held out.new)) CauseLaw }
+    ensures draws_never_fall { InEvery (Written (S.contents shelf.old) (map string_bytes words.now.items) (O.held out.old) (O.held out.new)) (λ plan h. DrawsNeverFall h) }
+    ensures whole_law { InEvery (Written (S.contents shelf.old) (map string_bytes words.now.items) (O.held out.old) (O.held out.new)) WholeLaw }
+    ensures order_is_no_forgery { InEvery (Written (S.contents shelf.old) (map string_bytes words.now.items) (O.held out.old) (O.held out.new)) OrderIsNoForgery }
+    ensures count_law { InEvery (Written (S.contents shelf.old) (map string_bytes words.now.items) (O.held out.old) (O.held out.new)) CountLaw }
+    ensures settled { InEvery (Written (S.contents shelf.old) (map string_bytes words.now.items) (O.held out.old) (O.held out.new)) (λ plan h. Settled h) }
+    ensures stays_secure { InEvery (Written (S.contents shelf.old) (map string_bytes words.now.items) (O.held out.old) (O.held out.new)) (λ plan h. StaysSecure h) }
+    // A draw is kept in one key set of a place at most and on one stream, an unfinished operation has made its draw On where
+    // its GO came, and a draw that has ceased to be On at a place is never kept there again.
+    ensures stream_facts { InEvery (Written (S.contents shelf.old) (map string_bytes words.now.items) (O.held out.old) (O.held out.new)) (λ plan h. StreamFacts h) }
+    ensures never_again { InEvery (Written (S.contents shelf.old) (map string_bytes words.now.items) (O.held out.old) (O.held out.new)) (λ plan h. NeverAgain h) }
+
+    // In every history that was written, provided no tag verified on a unit its partner had not sealed, each sub-stream
+    // got, key by key, a prefix of what was sealed, and delivered a prefix of the TLPs that were sent; and, on a closed
+    // stream or where nothing of an overtaken key is missing, non-posted packets and completions came behind the posted
+    // packets that were sealed before them.
+    ensures prefix_law { InEvery (Written (S.contents shelf.old) (map string_bytes words.now.items) (O.held out.old) (O.held out.new)) (λ plan h. NoForgery plan h → PrefixLaw plan h) }
+    ensures delivery_law { InEvery (Written (S.contents shelf.old) (map string_bytes words.now.items) (O.held out.old) (O.held out.new)) (λ plan h. NoForgery plan h → DeliveryLaw plan h) }
+    ensures order_law { InEvery (Written (S.contents shelf.old) (map string_bytes words.now.items) (O.held out.old) (O.held out.new)) (λ plan h. NoForgery plan h → OrderLaw plan h) }
 {
+    lines_tell();
+    totals_fit();
+    keys_have_causes();
     prefix_law();
     draws_never_fall();
     whole_law();
+    delivery_law();
+    order_law();
+    order_is_no_forgery();
+    count_law();
+    settled();
+    stays_secure();
+    stream_facts();
+    never_again();
+    let words = words.as_slice();
     status_of(perform(alloc, words, shelf, out))
 }

@@ -7,7 +7,7 @@ ghost use Rattle.line_runs.specs.Gain.{Gained};
 ghost use Rattle.line_runs.specs.Outcome.{Quiet, Ran, RanOn};
 ghost use Rattle.ide_cli.specs.Loading.{LoadCause, Loads};
 ghost use Rattle.ide_cli.specs.Reads.{GaveAtMost};
-ghost use Rattle.ide_cli.specs.Topologies.{check_due, loaded, refusal as refusal_of, report as report_of};
+ghost use Rattle.ide_cli.specs.Topologies.{check_due, loaded, refusal as refusal_of, report as report_of, HasFitting};
 
 use ide_base::{Shelf, Sink};
 use ide_plan::Plan;
@@ -17,7 +17,7 @@ use std::alloc::Global;
 use topology::{PlanError, PlanFault};
 
 /// How many bytes of a topology count (this profile).
-pub(crate) const TOPOLOGY_LIMIT: usize = 1_048_576;
+const TOPOLOGY_LIMIT: usize = 1_048_576;
 
 /// What a topology's bytes come to: its plan, its first fault, or too many of them.
 #[derive(Drop)]
@@ -31,6 +31,7 @@ pub(crate) enum Loaded {
 fn judge(alloc: Global, front: &[u8]) -> Result<Loaded, Fault>
     ensures loaded { IfOk result (λ l. l ≡ loaded front.now) }
     ensures memory { IfErr result (λ e. e ≡ Fault.Memory) }
+    ensures fits { IfOk result HasFitting }
     ensures long { IfOk result (λ l. l ≡ Loaded.Long → 1048576 < length front.now) }
     ensures few { IfOk result (λ l. l ≢ Loaded.Long → length front.now ≤ 1048576) }
 {
@@ -44,11 +45,12 @@ fn judge(alloc: Global, front: &[u8]) -> Result<Loaded, Fault>
     }
 }
 
-// Reads a topology.
-fn load<S: Shelf>(alloc: Global, shelf: &mut S, name: &str) -> Result<Loaded, Fault>
+/// Reads a topology.
+pub(crate) fn load<S: Shelf>(alloc: Global, shelf: &mut S, name: &str) -> Result<Loaded, Fault>
     ensures same { S.contents shelf.new ≡ S.contents shelf.old }
     ensures loads { Loads loaded (S.contents shelf.old) name.now result }
     ensures cause { LoadCause (S.faults shelf.old) (S.faults shelf.new) (S.contents shelf.old) name.now result }
+    ensures fits { IfOk result HasFitting }
     ensures cap { S.given shelf.new ≤ S.given shelf.old + 1048577 }
     ensures long { IfOk result (λ l. l ≡ Loaded.Long → Gave (S.given shelf.old) 1048577 (S.given shelf.new)) }
     ensures few { IfOk result (λ l. l ≢ Loaded.Long → GaveAtMost (S.given shelf.old) 1048576 (S.given shelf.new)) }
@@ -69,6 +71,18 @@ fn refusal(alloc: Global, fault: &PlanFault) -> Result<Vec<u8>, Memory>
     Ok(line)
 }
 
+/// Writes the first fault of a topology.
+pub(crate) fn refuse<O: Sink>(alloc: Global, fault: &PlanFault, out: &mut O) -> Result<End, Fault>
+    ensures end { IfOk result (λ e. e ≡ End.Topology) }
+    ensures ran { Ran (End.Topology, refusal_of fault.now) ⊥ (Rose (O.faults out.old) (O.faults out.new)) (O.faults out.new ≡ O.faults out.old)
+        (Gained (O.held out.old) (O.held out.new)) result }
+{
+    match refusal(alloc, fault) {
+        Ok(line) => finish(out, End::Topology, &line),
+        Err(_) => Err(Fault::Memory),
+    }
+}
+
 // Writes what a topology comes to.
 fn report<O: Sink>(alloc: Global, loaded: &Loaded, out: &mut O) -> Result<End, Fault>
     ensures end { IfOk result (λ e. e ≢ End.Usage) }
@@ -79,10 +93,7 @@ fn report<O: Sink>(alloc: Global, loaded: &Loaded, out: &mut O) -> Result<End, F
 {
     match loaded {
         Loaded::Sound(_) => finish(out, End::Done, b"ok\n"),
-        Loaded::Faulty(fault) => match refusal(alloc, fault) {
-            Ok(line) => finish(out, End::Topology, &line),
-            Err(_) => Err(Fault::Memory),
-        },
+        Loaded::Faulty(fault) => refuse(alloc, fault, out),
         Loaded::Long => Ok(End::TooLong),
     }
 }

@@ -4,7 +4,7 @@ use Rattle.std.proofs.lemmas.List.{append-nil}
 use Rattle.ide_base.specs.Outside.{Rose}
 use Rattle.text_lines.specs.Pieces.{pieces}
 use Rattle.text_lines.proofs.Cuts.{some}
-use Rattle.link_script.specs.declared.fault.LineFault.{LineFault}
+use Rattle.link_events.specs.declared.fault.LineFault.{LineFault}
 use Rattle.line_runs.specs.declared.ends.End.{End}
 use Rattle.line_runs.specs.declared.ends.End.TheVariants.{Done}
 use Rattle.line_runs.specs.declared.ends.Fault.{Fault}

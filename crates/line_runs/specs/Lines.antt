@@ -2,11 +2,11 @@
 use Rattle.std.specs.Prelude.{ℕ, ◌+◌, ◌≡◌, ◌==◌, nat_lt, Bool, List, [], ◌∷◌, ◌++◌, length, take, Result, Ok, Err, if◌then◌else◌}
 use Rattle.std.specs.List.{slice_index_or}
 use Rattle.text_lines.specs.Pieces.{pieces}
-use Rattle.link_script.specs.declared.fault.LineFault.{LineFault}
-use Rattle.link_script.specs.declared.fault.LineFault.TheVariants as line
-use Rattle.link_script.specs.declared.fault.LineError.{LineError}
-use Rattle.link_script.specs.declared.fault.LineError.TheVariants as error
-use Rattle.link_script.specs.Lines.{fault_line_of}
+use Rattle.link_events.specs.declared.fault.LineFault.{LineFault}
+use Rattle.link_events.specs.declared.fault.LineFault.TheVariants as line
+use Rattle.link_events.specs.declared.fault.LineError.{LineError}
+use Rattle.link_events.specs.declared.fault.LineError.TheVariants as error
+use Rattle.link_events.specs.Words.{fault_line_of}
 use Rattle.line_runs.specs.declared.ends.End.TheVariants.{Done, Script, TooLong}
 use Rattle.line_runs.specs.Gain.{Text}
 use Rattle.line_runs.specs.Outcome.{Due}

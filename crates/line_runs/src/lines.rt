@@ -2,7 +2,7 @@
 ghost use Rattle.std.specs.Prelude.{◌≡◌, ◌≢◌, ◌∷◌, [], ◌+◌, ◌<◌, ◌^◌, ℕ, List, Result, IfOk, OnOk, length, true, false};
 ghost use Rattle.ide_base.specs.Outside.{Rose};
 ghost use Rattle.text_lines.specs.Pieces.{pieces};
-ghost use Rattle.link_script.specs.declared.fault.LineFault.{LineFault};
+ghost use Rattle.link_events.specs.declared.fault.LineFault.{LineFault};
 ghost use Rattle.line_runs.specs.Gain.{Gained};
 ghost use Rattle.line_runs.specs.Outcome.{Ran};
 ghost use Rattle.line_runs.specs.Lines.{Came, process, refusal, unended};
@@ -11,15 +11,12 @@ use crate::writing::{finish, write};
 use crate::{End, Fault};
 use ide_base::Sink;
 use ide_types::{Bytes, Memory};
-use link_script::{LineError, LineFault, fault_line};
+use link_events::{LINE_LIMIT, LineError, LineFault, fault_line};
 use std::alloc::Global;
 use text_lines::split_line;
 
 /// How many bytes of a file count (this profile).
 pub const FILE_LIMIT: usize = 16_777_216;
-
-/// The longest line, in bytes without its line feed (this profile).
-const LINE_LIMIT: usize = 20_000;
 
 /// What the lines of a file come to.
 pub trait LineWork {

@@ -4,7 +4,7 @@ ghost use Rattle.std.specs.Prelude.{Ok, codes};
 use crate::{End, Fault, LineWork, Stop, read_front, run_lines, write};
 use ide_base::{MemShelf, MemSink, NamedFile};
 use ide_types::{Bytes, Memory};
-use link_script::LineError;
+use link_events::LineError;
 use std::alloc::Global;
 use std::test::Fail;
 

@@ -3,7 +3,7 @@ use Rattle.std.proofs.Common.{◌≡◌, ◌==◌, ◌∙◌, ◌++◌, ℕ, Lis
 use Rattle.ide_prefix.specs.declared.fault.PacketFault.{PacketFault}
 use Rattle.ide_prefix.specs.Reading.{CutValue, cut_of}
 use Rattle.ide_prefix.specs.Packet.{Packet}
-use Rattle.link_script.specs.Words.{Text, joined}
+use Rattle.ide_types.specs.Names.{Text, joined}
 use Rattle.packet_lines.specs.Showing.{carried_words, cut_words, packet_words, prefix_words, shown_words}
 
 pub cut_shows : (bytes : List ℕ) (r : Result CutValue PacketFault) → (length bytes == 0) ≡ false → r ≡ cut_of bytes → shown_words bytes ≡ cut_words bytes r

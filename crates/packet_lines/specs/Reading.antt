@@ -2,9 +2,10 @@
 use Rattle.std.specs.Prelude.{nat_lt, List, [], ◌∷◌, length, not, Option, Some, None, Result, Ok, Err, if◌then◌else◌}
 use Rattle.std.specs.List.{list_all}
 use Rattle.std.specs.Option.{ok_or, option_map}
-use Rattle.link_script.specs.declared.fault.LineFault.{LineFault}
-use Rattle.link_script.specs.declared.fault.LineFault.TheVariants.{Hex, TooLong, NotAscii}
-use Rattle.link_script.specs.Words.{Text, is_printable, words_in, bytes_in}
+use Rattle.link_events.specs.declared.fault.LineFault.{LineFault}
+use Rattle.link_events.specs.declared.fault.LineFault.TheVariants.{Hex, TooLong, NotAscii}
+use Rattle.ide_types.specs.Names.{Text}
+use Rattle.link_events.specs.Words.{is_printable, words_in, bytes_in}
 
 -- one word of bytes; no words are no bytes to be shown
 abbrev pub bytes_of : List Text → Result (Option Text) LineFault

@@ -18,9 +18,8 @@ use Rattle.ide_prefix.specs.Faults.{packet_place}
 use Rattle.ide_prefix.specs.Packet.{Packet, is_sync_packet}
 use Rattle.ide_prefix.specs.Reading.{CutValue, PlainTlp, IdePacket, cut_of}
 use Rattle.fault_words.specs.FaultWords.{packet_word, tlp_word}
-use Rattle.ide_types.specs.Names.{fault_word}
-use Rattle.link_script.specs.Lines.{bit_of, sub_word}
-use Rattle.link_script.specs.Words.{Text, joined}
+use Rattle.ide_types.specs.Names.{Text, joined, sub_word, fault_word}
+use Rattle.link_verdicts.specs.Lines.{bit_of}
 
 -- ---- names
 

@@ -1,6 +1,6 @@
 //! The words that stand for sub-streams and kinds of TLPs.
 ghost use Rattle.std.specs.Prelude.{◌≡◌};
-ghost use Rattle.link_script.specs.Lines.{sub_word};
+ghost use Rattle.ide_types.specs.Names.{sub_word};
 ghost use Rattle.packet_lines.specs.Showing.{carried_word, kind_word};
 
 use ide_types::SubKind;

@@ -1,13 +1,12 @@
 //! The line that shows a packet or a plain TLP.
 ghost use Rattle.std.specs.Prelude.{◌≡◌, ◌++◌, ◌∷◌, [], List, IfOk, OnOk, codes, string_bytes};
 ghost use Rattle.std.specs.Fmt.{decimal};
-ghost use Rattle.link_script.specs.Words.{Text, joined};
 ghost use Rattle.tlp_layout.specs.Reading.{read_of};
 ghost use Rattle.ide_prefix.specs.Cut.{packet_of_view};
 ghost use Rattle.ide_prefix.specs.Packet.{is_sync_packet};
 ghost use Rattle.ide_prefix.specs.Faults.{packet_place};
 ghost use Rattle.fault_words.specs.FaultWords.{packet_word as packet_word_of};
-ghost use Rattle.ide_types.specs.Names.{fault_word};
+ghost use Rattle.ide_types.specs.Names.{Text, joined, fault_word};
 ghost use Rattle.packet_lines.specs.Showing.{carried, carried_word, carried_words, head_words, packet_words, plain_words, prefix_words, shown};
 
 use crate::names::{carried_name, kind_name, sub_name};

@@ -1,7 +1,7 @@
 //! Lines of packet files and what is written for them.
 use crate::{parse_packet, show};
 use ide_types::Bytes;
-use link_script::{LineError, LineFault};
+use link_events::{LineError, LineFault};
 use std::alloc::Global;
 use std::test::Fail;
 

@@ -1,29 +1,9 @@
 //! Topologies that are checked.
-use crate::tests::{add, words_of};
+use crate::tests::{add, changed, topology, words_of};
 use crate::{Status, run};
 use ide_base::{MemShelf, MemSink, TrueShelf, TrueSink};
 use std::alloc::Global;
 use std::test::Fail;
-
-// One link with a selective stream and an interface, and a region of memory; the pool of keys stands ahead of it.
-const LINK: &str = r#"[[link]]
-nonces = ["0101010101010101010101010101010101010101010101010101010101010101", "0202020202020202020202020202020202020202020202020202020202020202", "0303030303030303030303030303030303030303030303030303030303030303"]
-[[link.stream]]
-id = 5
-kind = "selective"
-rid = [0x0100, 0x0100]
-ranges = [[0x40000000, 0x400fffff]]
-[[link.interface]]
-rid = 0x0100
-stream = 5
-command = 6
-cacheline = 16
-info = "00000000000000000000000000000000000000000000000000000000000000000000000000000000000000000000000000000000000000000000000000000000"
-bars = [{ base = 0x40000000, pages = 16 }]
-[[memory]]
-base = 0x10000000
-size = 0x10000
-"#;
 
 // The interface once more, ahead of the memory.
 const AGAIN: &str = r#"[[link.interface]]
@@ -34,34 +14,6 @@ cacheline = 16
 info = "00000000000000000000000000000000000000000000000000000000000000000000000000000000000000000000000000000000000000000000000000000000"
 bars = [{ base = 0x40000000, pages = 16 }]
 [[memory]]"#;
-
-// A line of so many different keys, or none.
-fn pool(alloc: Global, count: u32) -> Result<String, Fail> {
-    let mut text = String::new(alloc);
-    if count == 0 {
-        return Ok(text);
-    }
-    text.push_str("pool = [")?;
-    for n in 0..count {
-        let key = format!(in alloc; "\"{n:064x}\", ")?;
-        text.push_str(&key)?;
-    }
-    text.push_str("]\n")?;
-    Ok(text)
-}
-
-fn topology(alloc: Global, keys: u32) -> Result<String, Fail> {
-    let pool = pool(alloc, keys)?;
-    Ok(format!(in alloc; "version = 1\n{pool}{LINK}")?)
-}
-
-// The text with its first `from` changed to `to`.
-fn changed(alloc: Global, text: &str, from: &str, to: &str) -> Result<String, Fail> {
-    match text.split_once(from) {
-        Some((front, back)) => Ok(format!(in alloc; "{front}{to}{back}")?),
-        None => Ok(String::from_str(alloc, text)?),
-    }
-}
 
 // The status and the text of a topology that is checked.
 fn checked(alloc: Global, text: &[u8]) -> Result<(Status, TrueSink), Fail> {

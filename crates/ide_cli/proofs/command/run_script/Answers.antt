@@ -1,5 +1,5 @@
 use Rattle.std.proofs.Common.{◌∙◌, ap, option_map}
-use Rattle.link_machine.specs.Machine.{LinkState}
+use Rattle.keyed_links.specs.Worlds.{WorldView}
 use Rattle.line_runs.specs.Lines.{file_due}
 use Rattle.line_runs.proofs.WholeFiles.{out_of_memory, redue}
 use Rattle.ide_cli.specs.Script.{script_due}
@@ -14,7 +14,7 @@ returns-in-Err-clause-answers g c = out_of_memory (g.S.Shelf.contents c.args.she
 pub returns-in-Ok-clause-answers : goal.returns-in-Ok-clause-answers
 returns-in-Ok-clause-answers g c =
     let told = g.S.Shelf.contents c.args.shelf.now in
-    let first : LinkState → Running = λ w. record { world = w; totals = record { sealed = 0; accepted = 0; failed = 0; blocked = 0 } } in
+    let first : WorldView → Running = λ w. record { world = w; totals = record { sealed = 0; accepted = 0; failed = 0; blocked = 0 } } in
     let work = c.new-work.ensures ∙ ap first c.in-Ok.ensures.state in
     redue told (λ contents. option_map (file_due ran_line closing c.new-work.result) (contents c.args.script.now)) (λ contents. option_map (script_due c.args.plan) (contents c.args.script.now)) _ _ _ _ c.run_file.result
     (same_due told c.args.script.now (file_due ran_line closing c.new-work.result) (script_due c.args.plan) (λ t. ap (λ (r : Running). file_due ran_line closing r t) work ∙ file_runs c.args.plan t))

@@ -1,11 +1,10 @@
-use Rattle.std.proofs.Common.{◌≡◌, ◌+◌, ap, sym, subst, arith, ◌∙◌}
+use Rattle.std.proofs.Common.{◌≡◌, ◌+◌, sym, subst, arith}
 use Rattle.ide_cli.specs.Works.{Running, IsEarly}
-use Rattle.link_machine.proofs.Kept.{counted_step}
 use Rattle.ide_cli.proofs.script.ScriptWork.run_event.Goals as goal
 
 pub returns-in-Ok-line-clause-early : goal.returns-in-Ok-line-clause-early
 returns-in-Ok-line-clause-early c =
-    let steps : c.step.new.self.steps ≡ c.self.inside.world.steps + 1 = ap (λ x. x.1.steps) c.in-Ok.ensures.machine ∙ counted_step c.self.inside.world c.args.event.now in
+    let steps : c.step.new.self.steps ≡ c.self.inside.world.steps + 1 = c.in-Ok.ensures.machine.2 in
     let early : IsEarly (record { world = c.self.inside.world; totals = c.self.inside.totals }) c.args.number = subst (λ (r : Running). IsEarly r c.args.number) (sym c.self.view_is) c.requires.early in
     let totals = c.with_verdict-self-inside.ensures in
     record {

@@ -1,0 +1,9 @@
+mod Marks
+mod Effects
+mod Managers
+mod Finds
+mod Arrivals
+mod Sends
+mod Resets
+mod Worlds
+mod Operations

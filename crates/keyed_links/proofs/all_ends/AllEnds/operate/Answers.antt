@@ -1,0 +1,19 @@
+use Rattle.std.proofs.Common.{◌≡◌, ◌∙◌, ap, sym, subst, refl, ◌<◌, length}
+use Rattle.std.specs.Prelude.{Some, slice_get, slice_set}
+use Rattle.std.proofs.lemmas.Option.{same_Some, slice_get_read}
+use Rattle.link_ends.specs.declared.ends.LinkEnds.{LinkEnds}
+use Rattle.link_ends.specs.Keepers.{Operates, SameCalls}
+use Rattle.keyed_links.proofs.all_ends.AllEnds.operate.Goals as goal
+
+pub returns : goal.returns
+returns c = λ l is.
+    let at : slice_get c.self.inside.links.items c.args.link ≡ Some c.index_mut-ends.result.now =
+    slice_get_read c.self.inside.links.items _ c.args.link c.index_mut-ends.result.now refl (subst (λ ls. c.args.link < length ls) (sym c.self.view_is) c.requires.here) c.index_mut-ends.ensures.value in
+    let same : c.index_mut-ends.result.now ≡ l = same_Some c.index_mut-ends.result.now l (sym at ∙ (ap (λ ls. slice_get ls c.args.link) c.self.view_is ∙ is)) in (
+      c.operate.new.ends,
+      ap (λ ls. slice_set ls c.args.link c.operate.new.ends) c.self.view_is,
+      (
+        subst (λ (x : LinkEnds). Operates c.args.keeper.now x c.args.op c.args.loss c.operate.result c.operate.new.self c.operate.new.ends) same c.operate.ensures.operates,
+        subst (λ (x : LinkEnds). SameCalls x c.operate.new.ends) same c.operate.ensures.calls,
+      ),
+    )

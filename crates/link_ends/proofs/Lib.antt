@@ -1,0 +1,9 @@
+pub mod Lists
+pub mod Names
+pub mod Streams
+pub mod Ports
+pub mod Calls
+mod Exchanges
+mod Carried
+mod Walks
+mod Operates

@@ -1,0 +1,3 @@
+pub mod Lost
+pub mod Ends
+pub mod Keepers

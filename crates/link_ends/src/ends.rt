@@ -1,0 +1,134 @@
+//! The two ends of a link.
+
+ghost use Rattle.std.specs.Prelude.{◌≡◌, ◌+◌, ◌<◌, ◌≤◌, ◌^◌, ℕ, Some, true, IfOk, All, length, map, slice_get};
+ghost use Rattle.ide_plan.specs.Fits.{FitsStream};
+ghost use Rattle.ide_types.specs.declared.port.Side.TheVariants.{Host};
+ghost use Rattle.sub_stream.specs.{lent_parts, mark_of};
+ghost use Rattle.ide_port.specs.{IsSent, take_step, status_in};
+
+use device_side::Device;
+use ide_plan::StreamPlan;
+use ide_port::{Arrival, Port, Sent};
+use ide_types::{Memory, PortName, Side, StreamStatus};
+use std::alloc::Global;
+use sub_stream::PacketMark;
+
+/// A link: its host's port, and its device.
+#[derive(Drop)]
+pub struct LinkEnds {
+    pub host: Port,
+    pub device: Device,
+}
+
+impl LinkEnds {
+    ghost use Rattle.link_ends.specs.Ends.{new_ends, port_in, with_port, reset_ends};
+
+    /// The ends of a link with these streams, without keys; a key seals at most `limit` units. `requester` is the
+    /// requester ID that the device names.
+    pub fn make(
+        alloc: Global,
+        link: u8,
+        plans: &[StreamPlan],
+        limit: u64,
+        requester: u16,
+    ) -> Result<LinkEnds, Memory>
+        requires { All FitsStream plans.now }
+        ensures { IfOk result (λ l. l ≡ new_ends link plans.now limit requester) }
+    {
+        let name = PortName {
+            side: Side::Host,
+            link,
+        };
+        let host = Port::make(alloc, name, plans, limit)?;
+        let device = Device::make(alloc, link, plans, limit, requester)?;
+        Ok(LinkEnds { host, device })
+    }
+
+    /// Sends a TLP's bytes at the port of this side. A device's port sets T of none.
+    pub fn send(&mut self, side: Side, tlp: &[u8], trusted: bool, more: bool) -> Sent
+        requires few { (port_in side self.old).calls < 2 ^ 40 }
+        requires hosts { trusted ≡ true → side ≡ Host }
+        ensures sent { (number : ℕ) → IsSent (port_in side self.old) tlp.now trusted more number result (port_in side self.new) }
+        ensures ends { self.new ≡ with_port side (port_in side self.new) self.old }
+    {
+        match side {
+            Side::Host => self.host.send(tlp, trusted, more),
+            Side::Device => self.device.send(tlp, more),
+        }
+    }
+
+    /// The bytes that the last send at the port of this side sealed, its packets joined.
+    pub fn packets(&self, side: Side) -> &[u8]
+        ensures value { result.now ≡ (port_in side self.now).sealed }
+        ensures short { length result.now ≤ 4184 }
+    {
+        match side {
+            Side::Host => self.host.packets(),
+            Side::Device => self.device.packets(),
+        }
+    }
+
+    /// Takes bytes that arrive at the port of this side. What an accepted unit carries is lent until the next arrival.
+    pub fn take(&mut self, side: Side, bytes: &[u8]) -> Arrival
+        requires { (port_in side self.old).calls < 2 ^ 40 }
+        ensures answer { result ≡ (take_step (port_in side self.old) bytes.now).answer }
+        ensures ends { self.new ≡ with_port side (take_step (port_in side self.old) bytes.now).port self.old }
+    {
+        match side {
+            Side::Host => self.host.take(bytes),
+            Side::Device => self.device.take(bytes),
+        }
+    }
+
+    /// How many packets of an accepted unit the port of this side lends, at most 8.
+    pub fn delivered(&self, side: Side) -> usize
+        ensures value { result ≡ length (port_in side self.now).delivered }
+        ensures most { result ≤ 8 }
+    {
+        match side {
+            Side::Host => self.host.delivered(),
+            Side::Device => self.device.delivered(),
+        }
+    }
+
+    /// The header of packet `i` of the unit that the port of this side accepted last, counted from 0, and its payload.
+    pub fn packet(&self, side: Side, i: usize) -> (&[u8], &[u8])
+        requires { i < length (port_in side self.now).delivered }
+        ensures { slice_get (map lent_parts (port_in side self.now).delivered) i ≡ Some (result.0.now, result.1.now) }
+    {
+        match side {
+            Side::Host => self.host.packet(i),
+            Side::Device => self.device.packet(i),
+        }
+    }
+
+    /// Whether packet `i` of the unit that the port of this side accepted last, counted from 0, is trusted, and whether
+    /// it is a sync packet.
+    pub fn mark(&self, side: Side, i: usize) -> PacketMark
+        requires { i < length (port_in side self.now).delivered }
+        ensures { slice_get (map mark_of (port_in side self.now).delivered) i ≡ Some result }
+    {
+        match side {
+            Side::Host => self.host.mark(i),
+            Side::Device => self.device.mark(i),
+        }
+    }
+
+    /// The status of a stream at the port of this side; `None` where the link has no such stream.
+    pub fn status(&self, side: Side, stream: u8) -> Option<StreamStatus>
+        ensures { result ≡ status_in (port_in side self.now) stream }
+    {
+        match side {
+            Side::Host => self.host.status(stream),
+            Side::Device => self.device.status(stream),
+        }
+    }
+
+    /// Both ports begin again.
+    pub fn reset(&mut self)
+        ensures { self.new ≡ reset_ends self.old }
+    {
+        self.host.reset();
+        self.device.reset();
+    }
+}

@@ -1,0 +1,183 @@
+//! The host's manager of key management, and the exchanges that it asks.
+
+ghost use Rattle.std.specs.Prelude.{◌≡◌, ◌+◌, ◌<◌, ◌≤◌, ℕ, [], Some, None, IfOk, IfSome, IsSome, is_some, length, vec_len, vec_capacity};
+ghost use Rattle.ide_km.specs.{spelling};
+ghost use Rattle.ide_km.specs.declared.object.KmView.{KmView};
+ghost use Rattle.tsm_host.specs.Judging.{judged};
+ghost use Rattle.tsm_host.specs.Operations.{op_name};
+ghost use Rattle.tsm_host.specs.Streams.{request_asked};
+ghost use Rattle.tsm_host.specs.Managers.{new_manager, named, current, reset_manager};
+ghost use Rattle.key_slots.specs.{new_pool};
+ghost use Rattle.device_side.specs.Ends.{asked_device, reply_given};
+ghost use Rattle.link_walks.specs.Walks.{judged_bytes};
+ghost use Rattle.link_ends.specs.Lost.{lost_in};
+
+use crate::ends::LinkEnds;
+use device_side::{Device, REPLY_ROOM};
+use ide_plan::Plan;
+use ide_types::Memory;
+use key_slots::KeyPool;
+use link_events::{Loss, Lost};
+use std::alloc::Global;
+use std::marker::Model;
+use tsm_host::{Carried, Manager, Op, Outcome};
+
+/// The room that a request needs, in bytes.
+const REQUEST_ROOM: usize = 49;
+
+/// The most exchanges of an operation.
+const MOST_EXCHANGES: u8 = 13;
+
+/// The manager of all links with the keys that it draws, and room for one exchange.
+#[derive(Drop)]
+pub struct Keeper {
+    manager: Manager,
+    pool: KeyPool,
+    request: Vec<u8>,
+    reply: Vec<u8>,
+}
+
+impl Model for Keeper {
+    ghost use Rattle.std.specs.Prelude.{◌≤◌, vec_capacity};
+    ghost use Rattle.link_ends.specs.Keepers.{KeeperView};
+
+    ghost Value = { KeeperView };
+
+    ghost view = { λ k. record { manager = k.manager; pool = k.pool } };
+
+    ghost invariant = { λ k. (49 ≤ vec_capacity k.request) × (8 ≤ vec_capacity k.reply) };
+}
+
+/// What is lost of the exchange of this number.
+pub fn lost_at(loss: Option<Loss>, exchange: u32) -> Option<Lost>
+    ensures { result ≡ lost_in loss exchange }
+{
+    match loss {
+        Some(loss) if loss.exchange == exchange as u64 => Some(loss.lost),
+        _ => None,
+    }
+}
+
+// A reply as it is carried; one without bytes is none.
+fn carried(reply: &[u8]) -> Carried<'_>
+    ensures { (request : KmView) → judged request result ≡ judged_bytes request reply.now }
+{
+    if reply.is_empty() {
+        Carried::Reply(None)
+    } else {
+        Carried::Reply(Some(reply))
+    }
+}
+
+// The request of the exchange that is next comes to the device, and `reply` holds what it answers.
+fn deliver(manager: &Manager, device: &mut Device, request: &mut Vec<u8>, reply: &mut Vec<u8>)
+    requires asking { IsSome (current manager.now) }
+    requires request_room { 49 ≤ vec_capacity request.old }
+    requires reply_room { 8 ≤ vec_capacity reply.old }
+    ensures device { IfSome (current manager.now) (λ c. device.new ≡ asked_device device.old (spelling (request_asked c.asked c.stream)) c.asked.draw) }
+    ensures reply { IfSome (current manager.now) (λ c. reply.new.items ≡ reply_given device.old (spelling (request_asked c.asked c.stream)) c.asked.draw) }
+    ensures request_room { 49 ≤ vec_capacity request.new }
+    ensures reply_room { 8 ≤ vec_capacity reply.new }
+{
+    request.clear();
+    let draw = manager.ask(request);
+    reply.clear();
+    device.answer(request, draw, reply);
+}
+
+impl Keeper {
+    ghost use Rattle.link_ends.specs.Keepers.{Exchanges, Walks, Operates, SameCalls};
+
+    /// A manager of the plan's links, and the plan's keys, none of them drawn.
+    pub fn make(alloc: Global, plan: &Plan) -> Result<Keeper, Memory>
+        requires links { length plan.now.links ≤ 8 }
+        requires pool { length plan.now.pool ≤ 6144 }
+        ensures { IfOk result (λ k. k ≡ record { manager = new_manager plan.now.links; pool = new_pool plan.now.pool }) }
+    {
+        let manager = Manager::make(alloc, &plan.links)?;
+        let pool = KeyPool::make(alloc, plan.pool.as_slice())?;
+        let request = Vec::with_capacity(alloc, REQUEST_ROOM)?;
+        let reply = Vec::with_capacity(alloc, REPLY_ROOM)?;
+        Ok(Keeper {
+            manager,
+            pool,
+            request,
+            reply,
+        })
+    }
+
+    /// Whether the link has the stream.
+    pub fn has_stream(&self, link: u8, stream: u8) -> bool
+        ensures { result ≡ is_some (named self.now.manager link stream) }
+    {
+        self.manager.has_stream(link, stream)
+    }
+
+    // The exchange that is next, of which `loss` is lost where it is that one.
+    fn exchange(&mut self, ends: &mut LinkEnds, loss: Option<Loss>) -> Outcome
+        requires { IsSome (current self.old.manager) }
+        ensures calls { SameCalls ends.old ends.new }
+        ensures exchange { Exchanges loss self.old.manager ends.old result self.new.manager ends.new }
+        ensures pool { self.new.pool ≡ self.old.pool }
+    {
+        match lost_at(loss, self.manager.exchange()) {
+            None => {
+                deliver(
+                    &self.manager,
+                    &mut ends.device,
+                    &mut self.request,
+                    &mut self.reply,
+                );
+                self.manager.take(&mut ends.host, carried(&self.reply))
+            }
+            Some(Lost::Request) => self.manager.take(&mut ends.host, Carried::Lost),
+            Some(Lost::Reply) => {
+                deliver(
+                    &self.manager,
+                    &mut ends.device,
+                    &mut self.request,
+                    &mut self.reply,
+                );
+                self.manager.take(&mut ends.host, Carried::Lost)
+            }
+        }
+    }
+
+    // Up to so many exchanges of the operation that is asked.
+    fn walk(&mut self, more: u8, ends: &mut LinkEnds, loss: Option<Loss>) -> Outcome
+        ensures calls { SameCalls ends.old ends.new }
+        ensures walk { Walks more loss self.old.manager ends.old result self.new.manager ends.new }
+        ensures pool { self.new.pool ≡ self.old.pool }
+    {
+        if more == 0 {
+            return Outcome::Next;
+        }
+        if !self.manager.is_asking() {
+            return Outcome::Next;
+        }
+        match self.exchange(ends, loss) {
+            Outcome::Next => self.walk(more - 1, ends, loss),
+            outcome => outcome,
+        }
+    }
+
+    /// An operation on a stream of the link with these ends begins or goes on, and its exchanges are carried until it is
+    /// done or refused, but for the one that is lost.
+    pub fn operate(&mut self, ends: &mut LinkEnds, op: Op, loss: Option<Loss>) -> Outcome
+        requires { IsSome (named self.old.manager (op_name op).link (op_name op).stream) }
+        ensures operates { Operates self.old ends.old op loss result self.new ends.new }
+        ensures calls { SameCalls ends.old ends.new }
+    {
+        match self.manager.begin(&mut ends.host, &mut self.pool, op) {
+            Err(refusal) => Outcome::Refused(refusal),
+            Ok(()) => self.walk(MOST_EXCHANGES, ends, loss),
+        }
+    }
+
+    /// The streams of a link are without keys again, and their operations dropped.
+    pub fn link_reset(&mut self, link: u8)
+        ensures { self.new ≡ record self.old { manager = reset_manager link self.old.manager } }
+    {
+        self.manager.link_reset(link);
+    }
+}

@@ -1,5 +1,0 @@
-pub mod Words
-pub mod Parse
-pub mod Spells
-pub mod Lines
-pub mod Apart

@@ -1,3 +1,0 @@
-pub mod Sender
-pub mod Receiver
-pub mod Keys

@@ -1,0 +1,7 @@
+mod FaultPlaces
+mod Draws
+mod OperationsFit
+mod SendsFit
+mod ArrivalsFit
+pub mod Fitting
+pub mod Reading

@@ -1,0 +1,185 @@
+-- The verdicts of sends fit.
+use Rattle.std.proofs.Common.{◌≡◌, ℕ, suc, ◌+◌, ◌-◌, ◌*◌, ◌<◌, ◌≤◌, ◌^◌, Bool, true, false, List, [], ◌∷◌, ◌++◌, length, filter, Some, None, Option, Ok, Err, Result, refl, ap, sym, subst, arith, length-append, length-drop}
+use Rattle.std.specs.Prelude.{if◌then◌else◌, not, unwrap_or}
+use Rattle.std.specs.List.{AllByRecursion, after_last, suffix_len}
+use Rattle.std.proofs.lemmas.List.{length-map}
+use Rattle.std.proofs.lemmas.Bool.Decides.{nat_tests}
+use Rattle.ide_types.specs.declared.sub.SubKind.{SubKind}
+use Rattle.ide_types.specs.declared.sub.SubKind.TheVariants.{Npr, Cpl}
+use Rattle.ide_types.specs.declared.port.PortName.{PortName}
+use Rattle.ide_plan.specs.declared.plan.Plan.{Plan}
+use Rattle.ide_plan.specs.Fits.{FitsPlan}
+use Rattle.link_events.specs.declared.event.Event.TheVariants.{Send}
+use Rattle.link_verdicts.specs.declared.verdict.Verdict.{Verdict}
+use Rattle.link_verdicts.specs.declared.verdict.Verdict.TheVariants as v
+use Rattle.link_verdicts.specs.declared.verdict.SealedPacket.{SealedPacket}
+use Rattle.link_verdicts.specs.Apart.{Fits, FitPackets, FitsPacket}
+use Rattle.tlp_layout.specs.declared.tlp.Tlp.{Tlp}
+use Rattle.tlp_layout.specs.declared.fault.TlpFault.{TlpFault}
+use Rattle.tlp_layout.specs.Class.{class_of}
+use Rattle.tlp_layout.specs.Tlp.{header}
+use Rattle.tlp_layout.specs.Reading.{read_of}
+use Rattle.ide_prefix.specs.Packet.{Packet}
+use Rattle.key_laws.specs.History.{History, base}
+use Rattle.link_history.specs.Plan.{SubStream, has_port, lane_out}
+use Rattle.link_history.specs.Units.{units, units_after}
+use Rattle.link_history.specs.History.{KeyName, SealedList, sealed_packets, with_sealed, packet_of, sub_stream_of, sent_in, is_under, ahead_in, keys_at, live_key, is_in, posted_in, posted_of}
+use Rattle.link_history.specs.Units.{open_unit}
+use Rattle.link_history.specs.Due.{Sending, Lanes, Lane, lanes_at, sent_under, choice, due, send_read, send_on, refusals, first_that_holds, sealed_by, described, needs_sync, no_key, is_posted, ends_unit, sets_trusted}
+use Rattle.link_history.specs.Cause.{CauseLaw}
+use Rattle.link_history.proofs.Choices.{choice_known}
+use Rattle.link_history.proofs.Senders.{listed, sealed_by_is, on_live}
+use Rattle.link_history.proofs.SealingIs.{IsSealing, sealing_is}
+use Rattle.text_laws.proofs.Draws.{on_below}
+use Rattle.text_laws.proofs.FaultPlaces.{tlp_place}
+use Rattle.text_laws.proofs.OperationsFit.{FitsStream, stream_fits}
+
+-- ---- how many packets were sealed
+
+listed_few : (x : Lanes) (s : Sending) (number : ℕ) (n c : Bool) → length (listed x s number n c) ≤ 3
+unfolding listed
+listed_few x s number false false = omega arith
+listed_few x s number true false = omega arith
+listed_few x s number false true = omega arith
+listed_few x s number true true = omega arith
+
+three_sealed : (plan : Plan) (h : History) (port : PortName) (bytes : List ℕ) (ds : List SealedPacket) → IsSealing plan h port bytes ds → length ds ≤ 3
+three_sealed plan h port bytes ds is =
+    let s = is.sending in
+    let x = lanes_at plan h s.port s.stream in
+    let size = ap length is.list in
+    let same = ap length (sealed_by_is x s is.number) in
+    omega (arith, size, same, listed_few x s is.number (needs_sync x s.class Npr) (needs_sync x s.class Cpl))
+
+sealed_length : (plan : Plan) (ahead : SealedPacket → List ℕ) (bytes : List ℕ) (ds : List SealedPacket) (xs : SealedList) → length (with_sealed plan ahead bytes ds xs) ≡ length xs + length ds
+sealed_length plan ahead bytes [] xs = omega arith
+sealed_length plan ahead bytes (d ∷ ds) xs =
+    let x : SealedPacket × Packet = (d, packet_of plan (ahead d) bytes d (open_unit (sent_in xs (sub_stream_of d) d.draw))) in
+    let rest = sealed_length plan ahead bytes ds (xs ++ x ∷ []) in
+    omega (arith, rest, length-append xs (x ∷ []))
+
+pub sealed_few : (plan : Plan) (h : History) → CauseLaw plan h → length (sealed_packets plan h) ≤ 3 * length h
+unfolding sealed_packets
+sealed_few plan [] law = omega arith
+sealed_few plan ((Send p bytes more trusted, v.Sealed ds) ∷ h) law =
+    let rest = sealed_few plan h law.1 in
+    let three = three_sealed plan h p bytes ds (sealing_is plan h p bytes more trusted ds law.0) in
+    let all = sealed_length plan (ahead_in plan (sealed_packets plan h) (base h)) bytes ds (sealed_packets plan h) in
+    omega (arith, rest, three, all)
+sealed_few plan ((e, w) ∷ h) law = let rest = sealed_few plan h law.1 in omega (arith, rest)
+
+-- ---- counts
+
+filter_few : {A : Type 0} (q : A → Bool) (xs : List A) → length (filter q xs) ≤ length xs
+filter_few q [] = omega arith
+filter_few q (x ∷ xs) = by_test (q x) (filter_few q xs)
+  where
+    by_test : (b : Bool) → length (filter q xs) ≤ length xs → length (if b then x ∷ filter q xs else filter q xs) ≤ suc (length xs)
+    by_test true rest = omega (arith, rest)
+    by_test false rest = omega (arith, rest)
+
+units_few : (front ps : List Packet) → length (units_after front ps) ≤ length ps
+units_few front [] = omega arith
+units_few front (p ∷ ps) = by_m p.prefix.m (units_few [] ps) (units_few (front ++ p ∷ []) ps)
+  where
+    by_m : (m : Bool) → length (units_after [] ps) ≤ length ps → length (units_after (front ++ p ∷ []) ps) ≤ length ps
+        → length (if m then (front ++ p ∷ []) ∷ units_after [] ps else units_after (front ++ p ∷ []) ps) ≤ suc (length ps)
+    by_m true ends more = omega (arith, ends)
+    by_m false ends more = omega (arith, more)
+
+under_few : (plan : Plan) (h : History) (s : SubStream) (o : Option KeyName) → length (units (sent_under plan h s o)) ≤ length (sealed_packets plan h)
+unfolding units sent_in
+under_few plan h s None = omega arith
+under_few plan h s (Some key) =
+    let xs = sealed_packets plan h in
+    omega (arith, units_few [] (sent_in xs s key.draw), length-map (filter (is_under s key.draw) xs) (λ (x : SealedPacket × Packet). x.1), filter_few (is_under s key.draw) xs)
+
+posted_few : (xs : SealedList) (s : SubStream) (from : ℕ) → posted_in xs s from ≤ length xs
+unfolding posted_in
+posted_few xs s from =
+    let last = after_last (is_in s from) xs in
+    omega (arith, filter_few (is_in (posted_of s) from) last, length-drop (length xs - suffix_len (λ (y : SealedPacket × Packet). not (is_in s from y)) xs) xs)
+
+live_few : (h : History) (port : PortName) (s : SubStream) (o : Option KeyName) → live_key h port s ≡ o → (unwrap_or o no_key).draw ≤ length h
+live_few h port s None is = omega arith
+live_few h port s (Some key) is =
+    let below = on_below h port s key.k key.draw (on_live (keys_at h port s).first (keys_at h port s).second key is) in
+    omega (arith, below)
+
+-- ---- one sealed packet
+
+record LaneFits (l : Lane) : Type 0 where
+  draw : (unwrap_or l.key no_key).draw < 2 ^ 63
+  units : l.units < 2 ^ 63
+  posted : l.posted < 2 ^ 63
+
+lane_fits : (plan : Plan) (h : History) → CauseLaw plan h → length h < 2 ^ 28 → (port : PortName) (stream : ℕ) (u : SubKind) → LaneFits ((lanes_at plan h port stream).lane u)
+lane_fits plan h cause few port stream u =
+    let s = lane_out port stream u in
+    let count = sealed_few plan h cause in
+    record {
+      draw = omega (arith, few, live_few h port s (live_key h port s) refl);
+      units = omega (arith, few, count, under_few plan h s (live_key h port s));
+      posted = omega (arith, few, count, posted_few (sealed_packets plan h) s (base h s.link s.stream));
+    }
+
+posted_fits : (b : Bool) (n : ℕ) → n < 2 ^ 63 → (if b then 0 else n) < 2 ^ 64
+posted_fits true n few = omega arith
+posted_fits false n few = omega (arith, few)
+
+described_fits : (x : Lanes) (s : Sending) (u : SubKind) (number : ℕ) (m t sync : Bool) → LaneFits (x.lane u) → FitsStream s.port.link s.stream → number < 2 ^ 64 → FitsPacket (described x s u number m t sync)
+described_fits x s u number m t sync fits at small =
+    (small, at.link_fits, at.stream_fits, omega (arith, fits.draw), omega (arith, fits.units), posted_fits (is_posted u) (x.lane u).posted fits.posted)
+
+listed_fits : (x : Lanes) (s : Sending) (number : ℕ) (n c : Bool) → ((u : SubKind) → LaneFits (x.lane u)) → FitsStream s.port.link s.stream → number < 2 ^ 63 → FitPackets (listed x s number n c)
+unfolding listed
+listed_fits x s number false false fits at small = (described_fits x s s.class _ (ends_unit x s) (sets_trusted s.port s.trusted) false (fits s.class) at (omega (arith, small)), tt)
+listed_fits x s number true false fits at small =
+    (described_fits x s Npr _ true false true (fits Npr) at (omega (arith, small)), (described_fits x s s.class _ (ends_unit x s) (sets_trusted s.port s.trusted) false (fits s.class) at (omega (arith, small)), tt))
+listed_fits x s number false true fits at small =
+    (described_fits x s Cpl _ true false true (fits Cpl) at (omega (arith, small)), (described_fits x s s.class _ (ends_unit x s) (sets_trusted s.port s.trusted) false (fits s.class) at (omega (arith, small)), tt))
+listed_fits x s number true true fits at small =
+    (described_fits x s Npr _ true false true (fits Npr) at (omega (arith, small)), (described_fits x s Cpl _ true false true (fits Cpl) at (omega (arith, small)), (described_fits x s s.class _ (ends_unit x s) (sets_trusted s.port s.trusted) false (fits s.class) at (omega (arith, small)), tt)))
+
+-- ---- sends
+
+-- what holds of each answer that may come first holds of the one that does
+first_holds : (P : Verdict → Type 0) (xs : List (Bool × Verdict)) (last : Verdict) → AllByRecursion (λ (x : Bool × Verdict). P x.1) xs → P last → P (unwrap_or (first_that_holds xs) last)
+first_holds P [] last all ends = ends
+first_holds P (x ∷ xs) last all ends = by_test x.0 (first_holds P xs last all.1 ends)
+  where
+    by_test : (b : Bool) → P (unwrap_or (first_that_holds xs) last) → P (unwrap_or (if b then Some x.1 else first_that_holds xs) last)
+    by_test true rest = all.0
+    by_test false rest = rest
+
+sent_fits : (plan : Plan) → FitsPlan plan → (h : History) → CauseLaw plan h → length h < 2 ^ 28 → (s : Sending) → FitsStream s.port.link s.stream → (number : ℕ) → number < 2 ^ 63
+    → let x = lanes_at plan h s.port s.stream in
+    Fits (unwrap_or (first_that_holds (refusals x s.class)) (v.Sealed (sealed_by x s number)))
+sent_fits plan fits h cause few s at number small =
+    let x = lanes_at plan h s.port s.stream in
+    let worn : plan.units_per_key < 2 ^ 64 = omega (arith, fits.units_most) in
+    first_holds Fits (refusals x s.class) (v.Sealed (sealed_by x s number)) (tt, (tt, (tt, (tt, (tt, (worn, (worn, (worn, tt))))))))
+    (subst FitPackets (sym (sealed_by_is x s number)) (listed_fits x s number (needs_sync x s.class Npr) (needs_sync x s.class Cpl) (lane_fits plan h cause few s.port s.stream) at small))
+
+send_fits : (plan : Plan) → FitsPlan plan → (h : History) → CauseLaw plan h → length h < 2 ^ 28 → (port : PortName) (t : Tlp) (more trusted : Bool) (o : Option ℕ) → choice plan port (header t) ≡ o → port.link < 2 ^ 64
+    → Fits (send_on plan h port (header t) more trusted o)
+send_fits plan fits h cause few port t more trusted None is small = small
+send_fits plan fits h cause few port t more trusted (Some stream) is small =
+    let s : Sending = record { port = port; stream = stream; class = class_of (header t); more = more; trusted = trusted } in
+    sent_fits plan fits h cause few s (stream_fits plan fits port.link stream (choice_known plan port (header t) stream is)) (length (sealed_packets plan h) + 1) (omega (arith, few, sealed_few plan h cause))
+
+pub port_fits : (plan : Plan) → FitsPlan plan → (port : PortName) → has_port plan port ≡ true → port.link < 2 ^ 64
+port_fits plan fits port is = let less : port.link < length plan.links = grind (arith, nat_tests) in omega (arith, less, fits.links_most)
+
+pub send_due_fits : (plan : Plan) → FitsPlan plan → (h : History) → CauseLaw plan h → length h < 2 ^ 28 → (port : PortName) (bytes : List ℕ) (more trusted : Bool) → length bytes < 2 ^ 64
+    → Fits (due plan h (Send port bytes more trusted))
+unfolding due
+send_due_fits plan fits h cause few port bytes more trusted small = by_port (has_port plan port) refl
+  where
+    by_reading : port.link < 2 ^ 64 → (r : Result Tlp TlpFault) → read_of bytes ≡ r → Fits (send_read plan h port r more trusted)
+    by_reading link (Err f) reads = (link, omega (arith, small, tlp_place bytes f reads))
+    by_reading link (Ok t) reads = send_fits plan fits h cause few port t more trusted (choice plan port (header t)) refl link
+
+    by_port : (b : Bool) → has_port plan port ≡ b → Fits (if b then send_read plan h port (read_of bytes) more trusted else v.Nothing)
+    by_port true is = by_reading (port_fits plan fits port is) (read_of bytes) refl
+    by_port false is = tt
