@@ -130,9 +130,13 @@ pub spread-round : (s k : List ℕ) (p q r t : ℕ)
     → spread (p ∷ q ∷ r ∷ t ∷ []) ≡ add_round_key k (mix_columns (shift_rows (sub_bytes (spread s))))
 unfolding spread add_round_key mix_columns shift_rows sub_bytes
 spread-round s k p q r t ep eq er et = λ i.
-    (column-bytes (word_byte (slice_index s 0) 0) (word_byte (slice_index s 1) 1) (word_byte (slice_index s 2) 2) (word_byte (slice_index s 3) 3) (slice_index k 0) p (at-lt (slice_index s 0) 16777216) (at-lt (slice_index s 1) 65536) (at-lt (slice_index s 2) 256) (low-lt (slice_index s 3)) ep i)
-    ++ ((column-bytes (word_byte (slice_index s 1) 0) (word_byte (slice_index s 2) 1) (word_byte (slice_index s 3) 2) (word_byte (slice_index s 0) 3) (slice_index k 1) q (at-lt (slice_index s 1) 16777216) (at-lt (slice_index s 2) 65536) (at-lt (slice_index s 3) 256) (low-lt (slice_index s 0)) eq i)
-    ++ ((column-bytes (word_byte (slice_index s 2) 0) (word_byte (slice_index s 3) 1) (word_byte (slice_index s 0) 2) (word_byte (slice_index s 1) 3) (slice_index k 2) r (at-lt (slice_index s 2) 16777216) (at-lt (slice_index s 3) 65536) (at-lt (slice_index s 0) 256) (low-lt (slice_index s 1)) er i) ++ (column-bytes (word_byte (slice_index s 3) 0) (word_byte (slice_index s 0) 1) (word_byte (slice_index s 1) 2) (word_byte (slice_index s 2) 3) (slice_index k 3) t (at-lt (slice_index s 3) 16777216) (at-lt (slice_index s 0) 65536) (at-lt (slice_index s 1) 256) (low-lt (slice_index s 2)) et i)))
+    (column-bytes (word_byte (slice_index s 0) 0) (word_byte (slice_index s 1) 1) (word_byte (slice_index s 2) 2) (word_byte (slice_index s 3) 3) (slice_index k 0) p (at-lt (slice_index s 0) 16777216) (at-lt (slice_index s 1) 65536)
+    (at-lt (slice_index s 2) 256) (low-lt (slice_index s 3)) ep i)
+    ++ ((column-bytes (word_byte (slice_index s 1) 0) (word_byte (slice_index s 2) 1) (word_byte (slice_index s 3) 2) (word_byte (slice_index s 0) 3) (slice_index k 1) q (at-lt (slice_index s 1) 16777216) (at-lt (slice_index s 2) 65536)
+    (at-lt (slice_index s 3) 256) (low-lt (slice_index s 0)) eq i)
+    ++ ((column-bytes (word_byte (slice_index s 2) 0) (word_byte (slice_index s 3) 1) (word_byte (slice_index s 0) 2) (word_byte (slice_index s 1) 3) (slice_index k 2) r (at-lt (slice_index s 2) 16777216) (at-lt (slice_index s 3) 65536)
+    (at-lt (slice_index s 0) 256) (low-lt (slice_index s 1)) er i) ++ (column-bytes (word_byte (slice_index s 3) 0) (word_byte (slice_index s 0) 1) (word_byte (slice_index s 1) 2) (word_byte (slice_index s 2) 3) (slice_index k 3) t
+    (at-lt (slice_index s 3) 16777216) (at-lt (slice_index s 0) 65536) (at-lt (slice_index s 1) 256) (low-lt (slice_index s 2)) et i)))
 
 pub spread-last_round : (s k : List ℕ) (p q r t : ℕ)
     → IsLastColumn (slice_index s 0) (slice_index s 1) (slice_index s 2) (slice_index s 3) (slice_index k 0) p
@@ -142,9 +146,13 @@ pub spread-last_round : (s k : List ℕ) (p q r t : ℕ)
     → spread (p ∷ q ∷ r ∷ t ∷ []) ≡ add_round_key k (shift_rows (sub_bytes (spread s)))
 unfolding spread add_round_key shift_rows sub_bytes
 spread-last_round s k p q r t ep eq er et = λ i.
-    (last_column-bytes (word_byte (slice_index s 0) 0) (word_byte (slice_index s 1) 1) (word_byte (slice_index s 2) 2) (word_byte (slice_index s 3) 3) (slice_index k 0) p (at-lt (slice_index s 0) 16777216) (at-lt (slice_index s 1) 65536) (at-lt (slice_index s 2) 256) (low-lt (slice_index s 3)) ep i)
-    ++ ((last_column-bytes (word_byte (slice_index s 1) 0) (word_byte (slice_index s 2) 1) (word_byte (slice_index s 3) 2) (word_byte (slice_index s 0) 3) (slice_index k 1) q (at-lt (slice_index s 1) 16777216) (at-lt (slice_index s 2) 65536) (at-lt (slice_index s 3) 256) (low-lt (slice_index s 0)) eq i)
-    ++ ((last_column-bytes (word_byte (slice_index s 2) 0) (word_byte (slice_index s 3) 1) (word_byte (slice_index s 0) 2) (word_byte (slice_index s 1) 3) (slice_index k 2) r (at-lt (slice_index s 2) 16777216) (at-lt (slice_index s 3) 65536) (at-lt (slice_index s 0) 256) (low-lt (slice_index s 1)) er i) ++ (last_column-bytes (word_byte (slice_index s 3) 0) (word_byte (slice_index s 0) 1) (word_byte (slice_index s 1) 2) (word_byte (slice_index s 2) 3) (slice_index k 3) t (at-lt (slice_index s 3) 16777216) (at-lt (slice_index s 0) 65536) (at-lt (slice_index s 1) 256) (low-lt (slice_index s 2)) et i)))
+    (last_column-bytes (word_byte (slice_index s 0) 0) (word_byte (slice_index s 1) 1) (word_byte (slice_index s 2) 2) (word_byte (slice_index s 3) 3) (slice_index k 0) p (at-lt (slice_index s 0) 16777216) (at-lt (slice_index s 1) 65536)
+    (at-lt (slice_index s 2) 256) (low-lt (slice_index s 3)) ep i)
+    ++ ((last_column-bytes (word_byte (slice_index s 1) 0) (word_byte (slice_index s 2) 1) (word_byte (slice_index s 3) 2) (word_byte (slice_index s 0) 3) (slice_index k 1) q (at-lt (slice_index s 1) 16777216)
+    (at-lt (slice_index s 2) 65536) (at-lt (slice_index s 3) 256) (low-lt (slice_index s 0)) eq i)
+    ++ ((last_column-bytes (word_byte (slice_index s 2) 0) (word_byte (slice_index s 3) 1) (word_byte (slice_index s 0) 2) (word_byte (slice_index s 1) 3) (slice_index k 2) r (at-lt (slice_index s 2) 16777216)
+    (at-lt (slice_index s 3) 65536) (at-lt (slice_index s 0) 256) (low-lt (slice_index s 1)) er i) ++ (last_column-bytes (word_byte (slice_index s 3) 0) (word_byte (slice_index s 0) 1) (word_byte (slice_index s 1) 2)
+    (word_byte (slice_index s 2) 3) (slice_index k 3) t (at-lt (slice_index s 3) 16777216) (at-lt (slice_index s 0) 65536) (at-lt (slice_index s 1) 256) (low-lt (slice_index s 2)) et i)))
 
 -- the first words added
 pub spread-first : (s k : List ℕ)

@@ -62,13 +62,15 @@ fn sub_bytes_word(a: u8, b: u8, c: u8, d: u8) -> u32
 }
 
 fn column(a: u32, b: u32, c: u32, d: u32, k: u32) -> u32
-    ensures { result ≡ bit_xor (mixed_word (sbox (word_byte a 0)) (sbox (word_byte b 1)) (sbox (word_byte c 2)) (sbox (word_byte d 3))) k }
+    ensures { result ≡ bit_xor (mixed_word (sbox (word_byte a 0)) (sbox (word_byte b 1)) (sbox (word_byte c 2))
+        (sbox (word_byte d 3))) k }
 {
     mixed_word(byte0(a), byte1(b), byte2(c), byte3(d)) ^ k
 }
 
 fn last_column(a: u32, b: u32, c: u32, d: u32, k: u32) -> u32
-    ensures { result ≡ bit_xor (word_of (sbox (word_byte a 0)) (sbox (word_byte b 1)) (sbox (word_byte c 2)) (sbox (word_byte d 3))) k }
+    ensures { result ≡ bit_xor (word_of (sbox (word_byte a 0)) (sbox (word_byte b 1)) (sbox (word_byte c 2))
+        (sbox (word_byte d 3))) k }
 {
     sub_bytes_word(byte0(a), byte1(b), byte2(c), byte3(d)) ^ k
 }

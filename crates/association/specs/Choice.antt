@@ -84,8 +84,8 @@ abbrev pub if_none : {A : Type 0} → Option ℕ → (ℕ → A) → A → A
 if_none None found other = other
 if_none (Some id) found other = found id
 
--- First the least-numbered selective stream with a range that holds the TLP's address or its ID; then the default stream;
--- then the link stream that lists the TLP's traffic class; else none.
+-- First the least-numbered selective stream with a range that holds the TLP's address or its ID; then the default
+-- stream; then the link stream that lists the TLP's traffic class; else none.
 unfoldable pub choice_of : List StreamPlan → Side → HeadView → Choice
 choice_of streams side head =
     if_none (least_of (takes_by_range side head) streams) choices.Selective

@@ -164,11 +164,12 @@ fn least_by(way: Way, streams: &[StreamPlan], side: Side, tlp: &HeadView) -> Opt
     least
 }
 
-/// The stream that takes a TLP at the port of a link's side, from the streams of that link. First the selective stream of
-/// the least ID that has an address range for a memory request's address or a requester range for the TLP's ID: at a
-/// host's port the destination of a configuration request or of a message routed by ID, the requester of a completion; at
-/// a device's port the requester of a request, the completer of a completion. Then the default stream, then the link
-/// stream that lists its traffic class (PCI Express Base 6.0 section 6.33, in this profile's order). It is never refused.
+/// The stream that takes a TLP at the port of a link's side, from the streams of that link. First the selective stream
+/// of the least ID that has an address range for a memory request's address or a requester range for the TLP's ID: at a
+/// host's port the destination of a configuration request or of a message routed by ID, the requester of a completion;
+/// at a device's port the requester of a request, the completer of a completion. Then the default stream, then the link
+/// stream that lists its traffic class (PCI Express Base 6.0 section 6.33, in this profile's order). It is never
+/// refused.
 #[tactic(auto, unfolding(crate::specs::Choice::choice_of))]
 pub fn choose(streams: &[StreamPlan], side: Side, tlp: &HeadView) -> Choice
     ensures { result ≡ choice_of streams.now side tlp.now }

@@ -51,7 +51,8 @@ pub places_are : (sends : Bool) (u : SubKind) (cs : List StreamCall) (s : Slots)
 places_are sends u [] s = refl
 places_are sends u (c ∷ cs) s = by_test (is_at sends u c) (places_are sends u cs)
   where
-    by_test : (t : Bool) → ((a : Slots) → places_called sends u cs a ≡ called_by sends (calls_at sends u cs) a) → places_called sends u cs (if t then slots_by sends c.call s else s) ≡ called_by sends (one_if t c.call ++ calls_at sends u cs) s
+    by_test : (t : Bool) → ((a : Slots) → places_called sends u cs a ≡ called_by sends (calls_at sends u cs) a) → places_called sends u cs (if t then slots_by sends c.call s else s) ≡ called_by sends (one_if t c.call
+        ++ calls_at sends u cs) s
     by_test true more = more (slots_by sends c.call s)
     by_test false more = more s
 

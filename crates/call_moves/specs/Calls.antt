@@ -54,7 +54,8 @@ lane_key plan draw lane = slice_index_or plan.pool (6 * draw + lane) []
 
 abbrev pub call_of_exchange : Plan → ℕ → Exchange → List StreamCall
 call_of_exchange plan draw exchange.Query = []
-call_of_exchange plan draw (exchange.Program set lane) = lane_call lane (Program set (lane_key plan draw lane) draw) ∷ []
+call_of_exchange plan draw (exchange.Program set lane) =
+    lane_call lane (Program set (lane_key plan draw lane) draw) ∷ []
 call_of_exchange plan draw (exchange.Go set lane) = lane_call lane (Go set) ∷ []
 call_of_exchange plan draw (exchange.Stop set lane) = lane_call lane (Halt set) ∷ []
 

@@ -39,14 +39,16 @@ pub record IsSound (x : StreamState) : Type 0 where
 -- what an operation reads of the ports is what this stream says
 abbrev pub ReadsStream : PortView → Side → ℕ → ℕ → StreamState → Type 0
 ReadsStream ports side link stream x =
-    (sends : Bool) (u : SubKind) (k : Bool) → ports.refuses (end_at link stream sends side u) k ≡ refuses_in (slots_of sends u x) k
+    (sends : Bool) (u : SubKind) (k : Bool) → ports.refuses (end_at link stream sends side u) k
+    ≡ refuses_in (slots_of sends u x) k
 
 -- ---- the calls of an event
 
 -- the host's local calls where an operation begins: the six keys of its set are put in; of a stop all slots are emptied
 abbrev pub begun_requests : Plan → ℕ → Work → List Request
 begun_requests plan stream w =
-    if w.begins then (if makes_draw w.operation then programs stream w.set (six_keys plan.pool w.draw) w.draw else halts stream)
+    if w.begins then (if makes_draw w.operation then programs stream w.set (six_keys plan.pool w.draw) w.draw
+    else halts stream)
     else []
 
 -- the exchange behind which the host's port gets its GOs
@@ -57,7 +59,8 @@ host_go o = go_at o (place_at Host 0 0 false Pr)
 abbrev pub host_requests : Plan → ℕ → Work → Reach → List Request
 host_requests plan stream w r =
     begun_requests plan stream w
-    ++ (if makes_draw w.operation then (if is_within w.first (host_go w.operation) r.acknowledged then goes stream w.set else []) else [])
+    ++ (if makes_draw w.operation then (if is_within w.first (host_go w.operation) r.acknowledged then goes stream w.set
+    else []) else [])
 
 -- the device's calls are those of the exchanges that were carried
 abbrev pub device_calls : Plan → Work → Reach → List StreamCall
@@ -78,11 +81,14 @@ IsWork w = (o : Operation) × (q : Op) × (next : ℕ) × (w ≡ work_of o q nex
 -- ---- the law
 
 -- The calls at a port, one after another, leave the stream as the moves of the machine do.
-pub record AreMoves (plan : Plan) (ports : PortView) (link stream : ℕ) (w : Work) (r : Reach) (host device : StreamState) : Type 0 where
+pub record AreMoves (plan : Plan) (ports : PortView) (link stream : ℕ) (w : Work) (r : Reach) (host device :
+    StreamState) : Type 0 where
   pub host_moved : requests_called Host (host_requests plan stream w r) host
-      ≡ moved_stream plan (port_at Host link) stream (λ u. moves_at ports w r (end_at link stream true Host u)) (λ u. moves_at ports w r (end_at link stream false Host u)) host
+      ≡ moved_stream plan (port_at Host link) stream (λ u. moves_at ports w r (end_at link stream true Host u))
+      (λ u. moves_at ports w r (end_at link stream false Host u)) host
   pub device_moved : all_called (device_calls plan w r) device
-      ≡ moved_stream plan (port_at Device link) stream (λ u. moves_at ports w r (end_at link stream true Device u)) (λ u. moves_at ports w r (end_at link stream false Device u)) device
+      ≡ moved_stream plan (port_at Device link) stream (λ u. moves_at ports w r (end_at link stream true Device u))
+      (λ u. moves_at ports w r (end_at link stream false Device u)) device
 
 abbrev pub CallsAreMoves : Type 0
 CallsAreMoves =

@@ -91,7 +91,11 @@ got_some plan ((e, Accepted port unit effects) ∷ h) s = by_test (is_same (rece
 
     by_test : (t : Bool) → AllByRecursion (λ (k : ℕ). 1 ≤ length (got plan h s k)) (draws_got h s)
         → AllByRecursion (λ (k : ℕ). 1 ≤ length (if t && (unit.draw == k) then got plan h s k ++ u k else got plan h s k)) (if t then unit.draw ∷ draws_got h s else draws_got h s)
-    by_test true all = (first, all_map (λ (k : ℕ). 1 ≤ length (got plan h s k)) (λ (k : ℕ). 1 ≤ length (if true && (unit.draw == k) then got plan h s k ++ u k else got plan h s k)) (draws_got h s) (λ k some. more true k some (unit.draw == k)) all)
+    by_test true all = (
+      first,
+      all_map (λ (k : ℕ). 1 ≤ length (got plan h s k)) (λ (k : ℕ). 1 ≤ length (if true && (unit.draw == k) then got plan h s k ++ u k else got plan h s k)) (draws_got h s)
+          (λ k some. more true k some (unit.draw == k)) all,
+    )
     by_test false all = all
 got_some plan (_ ∷ h) s = got_some plan h s
 
@@ -190,12 +194,14 @@ got_smaller plan h e port unit effects s k less = by_tests (is_same (received_in
     by_tests true false is = refl
     by_tests false false is = refl
 
-got_elsewhere : (plan : Plan) (h : History) (e : Event) (port : PortName) (unit : UnitName) (effects : List Effect) (s : SubStream) (k : ℕ) → is_same (received_in port unit) s ≡ false → got plan ((e, Accepted port unit effects) ∷ h) s k ≡ got plan h s k
+got_elsewhere : (plan : Plan) (h : History) (e : Event) (port : PortName) (unit : UnitName) (effects : List Effect) (s : SubStream) (k : ℕ) → is_same (received_in port unit) s ≡ false → got plan ((e, Accepted port unit effects) ∷ h) s k
+    ≡ got plan h s k
 unfolding got
 got_elsewhere plan h e port unit effects s k other = rw other refl
 
 -- the draw of the unit that is accepted was sealed
-accepted_sealed : (plan : Plan) (h : History) (e : Event) (port : PortName) (unit : UnitName) (effects : List Effect) → CauseLaw plan ((e, Accepted port unit effects) ∷ h) → NotForged plan h e → IsSealedIn plan h (received_in port unit) unit.draw
+accepted_sealed : (plan : Plan) (h : History) (e : Event) (port : PortName) (unit : UnitName) (effects : List Effect) → CauseLaw plan ((e, Accepted port unit effects) ∷ h) → NotForged plan h e
+    → IsSealedIn plan h (received_in port unit) unit.draw
 accepted_sealed plan h e port unit effects cause forged_here =
     let by = accepted_by plan h e port unit effects cause.0 in
     let was = forged_here (record { port = port; bytes = by.came.bytes }) (ending by.packet unit) by.came.arrival by.before by.verified in
@@ -236,7 +242,8 @@ accepted_older plan fits facts h e port unit effects cause forged_here forged fi
               (all_both (IsSealedIn plan h s) (λ (k : ℕ). k ≤ unit.draw) (λ (k : ℕ). IsSealedIn plan h s k × (k ≤ unit.draw)) (draws_got h s) (λ k x le. (x, le)) draws above) before,
         )
 
-pub all_older : (plan : Plan) → StreamsFit plan → DrawFacts plan → (h : History) → CauseLaw plan h → NoForgery plan h → TotalsFit plan h → (s : SubStream) → is_closed plan s.link s.stream ≡ true → AllByRecursion (Older plan h s) (draws_got h s)
+pub all_older : (plan : Plan) → StreamsFit plan → DrawFacts plan → (h : History) → CauseLaw plan h → NoForgery plan h → TotalsFit plan h → (s : SubStream) → is_closed plan s.link s.stream ≡ true → AllByRecursion (Older plan h s)
+    (draws_got h s)
 unfolding draws_got got
 all_older plan fits facts [] cause forged fit s closed = tt
 all_older plan fits facts ((e, Accepted port unit effects) ∷ h) cause forged fit s closed =

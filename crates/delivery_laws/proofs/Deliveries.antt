@@ -212,7 +212,8 @@ carried-cons : (s : SubStream) (j : ℕ) (bytes : List ℕ) (d : SealedPacket) (
     → map (λ (d : SealedPacket). bytes) (filter (carries s j) (d ∷ [])) ++ map (λ (d : SealedPacket). bytes) (filter (carries s j) ds) ≡ map (λ (d : SealedPacket). bytes) (filter (carries s j) (d ∷ ds))
 carried-cons s j bytes d ds = by_test (carries s j d)
   where
-    by_test : (b : Bool) → map (λ (d : SealedPacket). bytes) (if b then d ∷ [] else []) ++ map (λ (d : SealedPacket). bytes) (filter (carries s j) ds) ≡ map (λ (d : SealedPacket). bytes) (if b then d ∷ filter (carries s j) ds else filter (carries s j) ds)
+    by_test : (b : Bool) → map (λ (d : SealedPacket). bytes) (if b then d ∷ [] else []) ++ map (λ (d : SealedPacket). bytes) (filter (carries s j) ds) ≡ map (λ (d : SealedPacket). bytes) (if b then d ∷ filter (carries s j) ds else filter
+        (carries s j) ds)
     by_test true = refl
     by_test false = refl
 

@@ -122,7 +122,11 @@ sealing_fronted : (plan : Plan) → StreamsFit plan → DrawFacts plan → (h : 
 unfolding sealed_packets front_sent
 sealing_fronted plan fits facts h p bytes more trusted ds law place x at m before = elim (old_or_new plan ahead bytes ds (sealed_packets plan h) place x at) [
   | inl old ↦ was_old old (before old)
-  | inr new ↦ record { bytes = bytes; packet = new.packet ∙ ap (λ (f : List ℕ). packet_of plan f bytes x.0 (open_unit (sent_in (take place (sealed_packets plan g)) s j))) (sym (ap (λ (b : Bool). if b then front_of plan s n (total_in (sealed_packets plan h) s (base h s.link s.stream)) else front_sent plan h s j n) (new.among (is_of_unit s j n) (own x.0)))) }
+  | inr new ↦ record {
+    bytes = bytes;
+    packet = new.packet ∙ ap (λ (f : List ℕ). packet_of plan f bytes x.0 (open_unit (sent_in (take place (sealed_packets plan g)) s j)))
+        (sym (ap (λ (b : Bool). if b then front_of plan s n (total_in (sealed_packets plan h) s (base h s.link s.stream)) else front_sent plan h s j n) (new.among (is_of_unit s j n) (own x.0))));
+  }
 ]
   where
     g : History
@@ -158,7 +162,8 @@ sealing_fronted plan fits facts h p bytes more trusted ds law place x at m befor
         stays = by_test (list_any (is_of_unit (sub_stream_of x.0) x.0.draw x.0.unit) ds) refl
           where
             by_test : (b : Bool) → list_any (is_of_unit (sub_stream_of x.0) x.0.draw x.0.unit) ds ≡ b
-                → (if b then front_of plan (sub_stream_of x.0) x.0.unit (total_in (sealed_packets plan h) (sub_stream_of x.0) (base h (sub_stream_of x.0).link (sub_stream_of x.0).stream)) else front_sent plan h (sub_stream_of x.0) x.0.draw x.0.unit)
+                → (if b then front_of plan (sub_stream_of x.0) x.0.unit (total_in (sealed_packets plan h) (sub_stream_of x.0) (base h (sub_stream_of x.0).link (sub_stream_of x.0).stream)) else front_sent plan h (sub_stream_of x.0)
+                x.0.draw x.0.unit)
                 ≡ front_sent plan h (sub_stream_of x.0) x.0.draw x.0.unit
             by_test false none = refl
             by_test true some =
@@ -167,7 +172,8 @@ sealing_fronted plan fits facts h p bytes more trusted ds law place x at m befor
                 let of = three (is_same (sub_stream_of z.0) (sub_stream_of x.0)) (z.0.draw == x.0.draw) (z.0.unit == x.0.unit) new.3 in
                 let grown = packets_grow plan h (Send p bytes more trusted) (Sealed ds) in
                 let within = (at_front (sealed_packets plan h) grown.0 place x old).1 in
-                let later = later_unit plan (sealed_packets plan g) (placed plan fits facts g law) place new.0 x z at new.2 (omega (arith, within, new.4)) m (sub_stream_of x.0) x.0.draw refl refl (same_stream (sub_stream_of z.0) (sub_stream_of x.0) of.0) (eqb-true z.0.draw x.0.draw of.1) in
+                let later = later_unit plan (sealed_packets plan g) (placed plan fits facts g law) place new.0 x z at new.2 (omega (arith, within, new.4)) m (sub_stream_of x.0) x.0.draw refl refl
+                (same_stream (sub_stream_of z.0) (sub_stream_of x.0) of.0) (eqb-true z.0.draw x.0.draw of.1) in
                 absurd (omega (arith, later, eqb-true z.0.unit x.0.unit of.2))
 
 pub fronted : (plan : Plan) → StreamsFit plan → DrawFacts plan → (h : History) → CauseLaw plan h → (place : ℕ) (x : SealedPacket × Packet) → slice_get (sealed_packets plan h) place ≡ Some x → x.0.m ≡ true
@@ -195,7 +201,8 @@ unfolding front_of
 due_off plan h s n off = rw off refl
 
 -- what the receiver puts ahead is what the sender put ahead
-pub same_fronts : (plan : Plan) → StreamsFit plan → DrawFacts plan → (h : History) → CauseLaw plan h → (port : PortName) (s : SubStream) (j : ℕ) → (port.link ≡ s.link) × (received_direction port.side ≡ s.direction) → IsOn plan h port s j → IsSealedIn plan h s j
+pub same_fronts : (plan : Plan) → StreamsFit plan → DrawFacts plan → (h : History) → CauseLaw plan h → (port : PortName) (s : SubStream) (j : ℕ) → (port.link ≡ s.link) × (received_direction port.side ≡ s.direction) → IsOn plan h port s j
+    → IsSealedIn plan h s j
     → (units_got h s j ≡ 0 → is_closed plan s.link s.stream ≡ true → Older plan h s j) → front_sent plan h s j (units_got h s j + 1) ≡ front_due plan h s (units_got h s j + 1)
 same_fronts plan fits facts h law port s j receiver live x older = by_test (is_closed plan s.link s.stream && (units_got h s j + 1 == 1)) refl
   where

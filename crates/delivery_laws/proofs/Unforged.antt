@@ -93,7 +93,8 @@ in_order_not_forged plan fits facts h cause e s j m port p arrives a x is before
         → StandsAfter plan h s j (take m (sent plan h s j)) → record { port = port; bytes = packet_bytes p } ≡ a → WasSealed plan h a.port x
     by_m true ends passed after same =
         let same_ending = one_ending (ending p (unit_under h s j)) x (Ok (ending p (unit_under h s j))) refl passed in
-        subst (λ (b : Arrival). WasSealed plan h b.port x) same (subst (WasSealed plan h port) same_ending (in_order_was_sealed plan h cause s j m port p arrives.sealed ends after there (fronts_agree plan fits facts h cause e s j m port p arrives ends)))
+        subst (λ (b : Arrival). WasSealed plan h b.port x) same (subst (WasSealed plan h port) same_ending (in_order_was_sealed plan h cause s j m port p arrives.sealed ends after there (fronts_agree plan fits facts h cause e s j m port p
+        arrives ends)))
     by_m false more passed after same = absurd cc
 
 pub order_is_no_forgery : (plan : Plan) → StreamsFit plan → DrawFacts plan → (h : History) → CauseLaw plan h → OrderIsNoForgery plan h

@@ -43,7 +43,8 @@ same_body : (front : List Packet) (p q : Packet) → p.body ≡ q.body → encry
 same_body front p q same = rw (flat_map-append, flat_map-append) (ap (λ bs. encrypted front ++ (bs ++ [])) same)
 
 tag_is : (plan : Plan) (ahead bytes : List ℕ) (d : SealedPacket) (front : List Packet) → d.m ≡ true
-    → (packet_of plan ahead bytes d front).tag ≡ tag_of (key_of plan d.draw (sub_stream_of d)) (iv_of d.sub d.unit) (ahead ++ authenticated (front ++ packet_of plan ahead bytes d front ∷ [])) (encrypted (front ++ packet_of plan ahead bytes d front ∷ []))
+    → (packet_of plan ahead bytes d front).tag ≡ tag_of (key_of plan d.draw (sub_stream_of d)) (iv_of d.sub d.unit) (ahead ++ authenticated (front ++ packet_of plan ahead bytes d front ∷ []))
+    (encrypted (front ++ packet_of plan ahead bytes d front ∷ []))
 unfolding packet_of
 tag_is plan ahead bytes d front m =
     let key = key_of plan d.draw (sub_stream_of d) in
@@ -201,7 +202,8 @@ taken plan fits facts h cause e s j m port p arrives =
     let before = before_tag_is plan h port (packet_bytes p) p s j (is_cut p place.fits) may in
     let is = due_arrives plan h e (record { port = port; bytes = packet_bytes p }) arrives.unchanged ∙ ap (settled plan h port) before in
     let received : received_in port (unit_under h s j) ≡ s = λ i. record { link = arrives.receiver.0 i; stream = s.stream; direction = arrives.receiver.1 i; sub = s.sub } in
-    let tag = (λ (last : p.prefix.m ≡ true). sent_tag plan fits facts h cause s j m p (pending plan h s j) (units_got h s j + 1) place after.front (ap (λ k. k + 1) after.count) (fronts_agree plan fits facts h cause e s j m port p arrives last) last) in
+    let tag = (λ (last : p.prefix.m ≡ true). sent_tag plan fits facts h cause s j m p (pending plan h s j) (units_got h s j + 1) place after.front (ap (λ k. k + 1) after.count) (fronts_agree plan fits facts h cause e s j m port p arrives
+    last) last) in
     (λ more. is ∙ ap by_m more, λ last. is ∙ (ap by_m last ∙ accepted_is plan h port p s j received (tag last) (arrives.counts last)))
   where
     by_m : Bool → Verdict

@@ -66,8 +66,8 @@ impl Device {
         self.port.calls()
     }
 
-    /// Answers a request of key management: makes at most one call of its port, and appends the reply, or nothing. `draw`
-    /// is the number under which a KEY_PROG's key is kept. `reply` has room for `REPLY_ROOM` bytes.
+    /// Answers a request of key management: makes at most one call of its port, and appends the reply, or nothing.
+    /// `draw` is the number under which a KEY_PROG's key is kept. `reply` has room for `REPLY_ROOM` bytes.
     pub fn answer(&mut self, request: &[u8], draw: u32, reply: &mut Vec<u8>)
         requires { vec_len reply.old + REPLY_ROOM ≤ vec_capacity reply.old }
         ensures device { self.new ≡ asked_device self.old request.now draw }

@@ -13,7 +13,24 @@ use Rattle.gcm_seal.specs.Fold.{padded_block, padded_blocks}
 -- two strings with the same first 16 bytes spell the same block
 pub number_same : (a b : List ℕ) → ((k : ℕ) → k < 16 → slice_index a k ≡ slice_index b k) → from_be_bytes w128 a ≡ from_be_bytes w128 b
 number_same a b h =
-    rw (h 0 (lit< tt), h 1 (lit< tt), h 2 (lit< tt), h 3 (lit< tt), h 4 (lit< tt), h 5 (lit< tt), h 6 (lit< tt), h 7 (lit< tt), h 8 (lit< tt), h 9 (lit< tt), h 10 (lit< tt), h 11 (lit< tt), h 12 (lit< tt), h 13 (lit< tt), h 14 (lit< tt), h 15 (lit< tt)) refl
+    rw (
+      h 0 (lit< tt),
+      h 1 (lit< tt),
+      h 2 (lit< tt),
+      h 3 (lit< tt),
+      h 4 (lit< tt),
+      h 5 (lit< tt),
+      h 6 (lit< tt),
+      h 7 (lit< tt),
+      h 8 (lit< tt),
+      h 9 (lit< tt),
+      h 10 (lit< tt),
+      h 11 (lit< tt),
+      h 12 (lit< tt),
+      h 13 (lit< tt),
+      h 14 (lit< tt),
+      h 15 (lit< tt),
+    ) refl
 
 -- n elements from place i on, and then the rest
 abbrev pub items : List ℕ → ℕ → ℕ → List ℕ → List ℕ

@@ -94,7 +94,8 @@ fn block_at(s: &[u8], i: usize) -> u128
 // The hash `y` after the blocks of `s`.
 pub fn absorb(m: &[u128; 16], y: u128, s: &[u8]) -> u128
     requires { length s.now ≤ MAX_BYTES }
-    ensures { (h : ℕ) → AreMultiples h m.now → result ≡ absorbed h y (padded_blocks s.now (div_ceil (length s.now) 16)) }
+    ensures { (h : ℕ) → AreMultiples h m.now
+        → result ≡ absorbed h y (padded_blocks s.now (div_ceil (length s.now) 16)) }
 {
     let mut x = y;
     let n = (s.len() + 15) / 16;

@@ -96,7 +96,8 @@ impl Shelf for MemShelf {
         ensures bound { IfOk result (λ n. n ≤ length buf.new) }
         ensures bytes { ReadFrom (⟦<MemShelf as Shelf>⟧.contents self.old) name.now at result buf.new }
         ensures counted { Given (⟦<MemShelf as Shelf>⟧.given self.old) (⟦<MemShelf as Shelf>⟧.given self.new) result }
-        ensures cause { ShelfCause (⟦<MemShelf as Shelf>⟧.faults self.old) (⟦<MemShelf as Shelf>⟧.faults self.new) (⟦<MemShelf as Shelf>⟧.contents self.old) name.now result }
+        ensures cause { ShelfCause (⟦<MemShelf as Shelf>⟧.faults self.old) (⟦<MemShelf as Shelf>⟧.faults self.new)
+            (⟦<MemShelf as Shelf>⟧.contents self.old) name.now result }
         ensures calls { reads_of self.new ≡ called (reads_of self.old) }
         ensures fails { is_err result ≡ fails_now (reads_of self.old) || is_none (contents_of self.old name.now) }
     {

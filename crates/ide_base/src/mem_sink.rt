@@ -54,7 +54,8 @@ impl Sink for MemSink {
 
     fn put(&mut self, bytes: &[u8]) -> Result<usize, SinkFault>
         ensures some { TakesSome bytes.now result }
-        ensures bytes { PutInto (⟦<MemSink as Sink>⟧.held self.old) (⟦<MemSink as Sink>⟧.held self.new) bytes.now result }
+        ensures bytes { PutInto (⟦<MemSink as Sink>⟧.held self.old) (⟦<MemSink as Sink>⟧.held self.new)
+            bytes.now result }
         ensures cause { SinkCause (⟦<MemSink as Sink>⟧.faults self.old) (⟦<MemSink as Sink>⟧.faults self.new) result }
         ensures calls { puts_of self.new ≡ called (puts_of self.old) }
         ensures fails { (result ≡ Err SinkFault.Failed) ↔ IsTrue (fails_now (puts_of self.old)) }

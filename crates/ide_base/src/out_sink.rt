@@ -42,8 +42,10 @@ impl<W: Write> Sink for OutSink<W> {
 
     fn put(&mut self, bytes: &[u8]) -> Result<usize, SinkFault>
         ensures some { TakesSome bytes.now result }
-        ensures bytes { PutInto (⟦<OutSink<W> as Sink>⟧.held self.old) (⟦<OutSink<W> as Sink>⟧.held self.new) bytes.now result }
-        ensures cause { SinkCause (⟦<OutSink<W> as Sink>⟧.faults self.old) (⟦<OutSink<W> as Sink>⟧.faults self.new) result }
+        ensures bytes { PutInto (⟦<OutSink<W> as Sink>⟧.held self.old) (⟦<OutSink<W> as Sink>⟧.held self.new)
+            bytes.now result }
+        ensures cause { SinkCause (⟦<OutSink<W> as Sink>⟧.faults self.old)
+            (⟦<OutSink<W> as Sink>⟧.faults self.new) result }
         ensures failed { IfErr result (λ e. e ≡ SinkFault.Failed) }
     {
         match write_some(&mut self.writer, bytes) {

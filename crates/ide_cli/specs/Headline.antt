@@ -36,7 +36,8 @@ pub record AsksFor (told : Option Contents) (words : List Text) (plan : Plan) (s
 -- A run with these words wrote a history under a plan: its events are the first of the script's; and the sink, which
 -- tells what it held before and holds now, gained the lines of its verdicts, numbered from 1, and maybe more behind
 -- them.
-pub record Written (told : Option Contents) (words : List Text) (before now : Option Text) (plan : Plan) (h : History) : Type 0 where
+pub record Written (told : Option Contents) (words : List Text) (before now : Option Text) (plan : Plan)
+    (h : History) : Type 0 where
   pub script : Script
   pub asks_for : AsksFor told words plan script
   pub later : List Event

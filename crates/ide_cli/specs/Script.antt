@@ -63,9 +63,14 @@ last_line AtEnd h = totals_line_of (totals_of h)
 last_line (Refused n fault) h = fault_line_of n fault
 last_line AtLimit h = []
 
--- after a history, the end and the text of a script: the verdict lines of its events, each verdict the one that is due, and the last line
+-- after a history, the end and the text of a script: the verdict lines of its events, each verdict the one that is due,
+-- and the last line
 abbrev pub due_after : Plan → History → Script → Due
-due_after plan h script = (end_at script.stop, text_on plan h script.events ++ last_line script.stop (history_on plan h script.events))
+due_after plan h script = (
+  end_at script.stop,
+  text_on plan h script.events ++ last_line script.stop
+      (history_on plan h script.events),
+)
 
 -- the end and the text of a script's file
 abbrev pub script_due : Plan → Text → Due

@@ -31,8 +31,13 @@ totals_with t v = record {
 abbrev pub ran_event : Running → Event → Running × Text
 ran_event r e =
     let step = step_of r.world.plan r.world.state e in
-    let number = r.world.steps + 1 in
-    (record { world = record { plan = r.world.plan; state = step.1; steps = number }; totals = totals_with r.totals step.0 }, line_of number step.0)
+    let number = r.world.steps + 1 in (
+      record {
+        world = record { plan = r.world.plan; state = step.1; steps = number };
+        totals = totals_with r.totals step.0;
+      },
+      line_of number step.0,
+    )
 
 abbrev pub by_meaning : Running → Result (Option Event) LineFault → Result (Running × Text) LineFault
 by_meaning r (Err fault) = Err fault

@@ -82,7 +82,15 @@ fn asked(alloc: Global, line: &[u8]) -> Result<Option<Event>, LineError>
 impl ScriptWork {
     /// The links before the first event.
     pub(crate) fn new(alloc: Global, world: World) -> ScriptWork
-        ensures { result ≡ record { world = world; totals = record { sealed = 0; accepted = 0; failed = 0; blocked = 0 } } }
+        ensures { result ≡ record {
+          world = world;
+          totals = record {
+            sealed = 0;
+            accepted = 0;
+            failed = 0;
+            blocked = 0;
+          };
+        } }
     {
         ScriptWork {
             alloc,

@@ -38,15 +38,18 @@ fn perform<S: Shelf, O: Sink>(
     out: &mut O,
 ) -> Result<End, Fault>
     ensures usage { IfOk result (λ e. e ≡ End.Usage → asked (map string_bytes words.now) ≡ None) }
-    ensures refused { asked (map string_bytes words.now) ≡ None → Ran (End.Usage, usage_line) ⊥ (Rose (O.faults out.old) (O.faults out.new))
+    ensures refused { asked (map string_bytes words.now) ≡ None → Ran (End.Usage, usage_line) ⊥
+        (Rose (O.faults out.old) (O.faults out.new))
         (O.faults out.new ≡ O.faults out.old) (Gained (O.held out.old) (O.held out.new)) result }
     ensures answers { RanOn (S.contents shelf.old) (due_of (map string_bytes words.now))
         (Rose (S.faults shelf.old) (S.faults shelf.new)) (Rose (O.faults out.old) (O.faults out.new))
         (Quiet (S.faults shelf.old) (S.faults shelf.new) (O.faults out.old) (O.faults out.new))
         (Gained (O.held out.old) (O.held out.new)) result }
     ensures cap { S.given shelf.new ≤ S.given shelf.old + most_read (asked (map string_bytes words.now)) }
-    ensures too_long { IfOk result (λ e. e ≡ End.TooLong → ReadPast (asked (map string_bytes words.now)) (S.given shelf.old) (S.given shelf.new)) }
-    ensures whole { IfOk result (λ e. e ≡ End.Done → S.given shelf.new ≤ S.given shelf.old + most_counted (asked (map string_bytes words.now))) }
+    ensures too_long { IfOk result (λ e. e ≡ End.TooLong → ReadPast (asked (map string_bytes words.now))
+        (S.given shelf.old) (S.given shelf.new)) }
+    ensures whole { IfOk result (λ e. e ≡ End.Done → S.given shelf.new ≤ S.given shelf.old + most_counted
+        (asked (map string_bytes words.now))) }
 {
     match read_words(alloc, words) {
         Err(WordsError::Usage) => finish(
@@ -90,7 +93,8 @@ pub fn run<S: Shelf, O: Sink>(
 ) -> Status
     // Words that ask for nothing are answered with the usage line, and only those.
     ensures usage { result ≡ Status.Usage → asked (map string_bytes words.now.items) ≡ None }
-    ensures refused { asked (map string_bytes words.now.items) ≡ None → Ran (End.Usage, usage_line) ⊥ (Rose (O.faults out.old) (O.faults out.new))
+    ensures refused { asked (map string_bytes words.now.items) ≡ None → Ran (End.Usage, usage_line) ⊥
+        (Rose (O.faults out.old) (O.faults out.new))
         (O.faults out.new ≡ O.faults out.old) (Gained (O.held out.old) (O.held out.new)) (outcome_of result) }
 
     // Where the shelf tells its contents, the due status comes with all of the due text, and a fault or want of
@@ -103,34 +107,49 @@ pub fn run<S: Shelf, O: Sink>(
     // Of each file that the words name, one byte more is read than count, and of no other any. A file is too long
     // where that byte was given, and a file that was read to its end has no more than count.
     ensures cap { S.given shelf.new ≤ S.given shelf.old + most_read (asked (map string_bytes words.now.items)) }
-    ensures too_long { result ≡ Status.TooLong → ReadPast (asked (map string_bytes words.now.items)) (S.given shelf.old) (S.given shelf.new) }
-    ensures whole { result ≡ Status.Done → S.given shelf.new ≤ S.given shelf.old + most_counted (asked (map string_bytes words.now.items)) }
+    ensures too_long { result ≡ Status.TooLong → ReadPast (asked (map string_bytes words.now.items)) (S.given shelf.old)
+        (S.given shelf.new) }
+    ensures whole { result ≡ Status.Done → S.given shelf.new ≤ S.given shelf.old + most_counted
+        (asked (map string_bytes words.now.items)) }
 
     // Where the run comes to an end of its own, the history of all events of the script was written.
-    ensures all_written { IfOk (outcome_of result) (λ e. AllWritten (S.contents shelf.old) (map string_bytes words.now.items) (O.held out.old) (O.held out.new)) }
+    ensures all_written { IfOk (outcome_of result) (λ e. AllWritten (S.contents shelf.old)
+        (map string_bytes words.now.items) (O.held out.old) (O.held out.new)) }
 
     // In every history that was written, each verdict is the one that is due, the draws of accepted units never fall,
-    // everything that arrived unchanged in order was taken, and is no forgery; an operation on keys ends in the key state
-    // of one without losses, and no move of a refresh takes a port out of Secure.
-    ensures cause_law { InEvery (Written (S.contents shelf.old) (map string_bytes words.now.items) (O.held out.old) (O.held out.new)) CauseLaw }
-    ensures draws_never_fall { InEvery (Written (S.contents shelf.old) (map string_bytes words.now.items) (O.held out.old) (O.held out.new)) (λ plan h. DrawsNeverFall h) }
-    ensures whole_law { InEvery (Written (S.contents shelf.old) (map string_bytes words.now.items) (O.held out.old) (O.held out.new)) WholeLaw }
-    ensures order_is_no_forgery { InEvery (Written (S.contents shelf.old) (map string_bytes words.now.items) (O.held out.old) (O.held out.new)) OrderIsNoForgery }
-    ensures count_law { InEvery (Written (S.contents shelf.old) (map string_bytes words.now.items) (O.held out.old) (O.held out.new)) CountLaw }
-    ensures settled { InEvery (Written (S.contents shelf.old) (map string_bytes words.now.items) (O.held out.old) (O.held out.new)) (λ plan h. Settled h) }
-    ensures stays_secure { InEvery (Written (S.contents shelf.old) (map string_bytes words.now.items) (O.held out.old) (O.held out.new)) (λ plan h. StaysSecure h) }
-    // A draw is kept in one key set of a place at most and on one stream, an unfinished operation has made its draw On where
-    // its GO came, and a draw that has ceased to be On at a place is never kept there again.
-    ensures stream_facts { InEvery (Written (S.contents shelf.old) (map string_bytes words.now.items) (O.held out.old) (O.held out.new)) (λ plan h. StreamFacts h) }
-    ensures never_again { InEvery (Written (S.contents shelf.old) (map string_bytes words.now.items) (O.held out.old) (O.held out.new)) (λ plan h. NeverAgain h) }
+    // everything that arrived unchanged in order was taken, and is no forgery; an operation on keys ends in the key
+    // state of one without losses, and no move of a refresh takes a port out of Secure.
+    ensures cause_law { InEvery (Written (S.contents shelf.old) (map string_bytes words.now.items) (O.held out.old)
+        (O.held out.new)) CauseLaw }
+    ensures draws_never_fall { InEvery (Written (S.contents shelf.old) (map string_bytes words.now.items)
+        (O.held out.old) (O.held out.new)) (λ plan h. DrawsNeverFall h) }
+    ensures whole_law { InEvery (Written (S.contents shelf.old) (map string_bytes words.now.items) (O.held out.old)
+        (O.held out.new)) WholeLaw }
+    ensures order_is_no_forgery { InEvery (Written (S.contents shelf.old) (map string_bytes words.now.items)
+        (O.held out.old) (O.held out.new)) OrderIsNoForgery }
+    ensures count_law { InEvery (Written (S.contents shelf.old) (map string_bytes words.now.items) (O.held out.old)
+        (O.held out.new)) CountLaw }
+    ensures settled { InEvery (Written (S.contents shelf.old) (map string_bytes words.now.items) (O.held out.old)
+        (O.held out.new)) (λ plan h. Settled h) }
+    ensures stays_secure { InEvery (Written (S.contents shelf.old) (map string_bytes words.now.items) (O.held out.old)
+        (O.held out.new)) (λ plan h. StaysSecure h) }
+    // A draw is kept in one key set of a place at most and on one stream, an unfinished operation has made its draw On
+    // where its GO came, and a draw that has ceased to be On at a place is never kept there again.
+    ensures stream_facts { InEvery (Written (S.contents shelf.old) (map string_bytes words.now.items) (O.held out.old)
+        (O.held out.new)) (λ plan h. StreamFacts h) }
+    ensures never_again { InEvery (Written (S.contents shelf.old) (map string_bytes words.now.items) (O.held out.old)
+        (O.held out.new)) (λ plan h. NeverAgain h) }
 
     // In every history that was written, provided no tag verified on a unit its partner had not sealed, each sub-stream
     // got, key by key, a prefix of what was sealed, and delivered a prefix of the TLPs that were sent; and, on a closed
     // stream or where nothing of an overtaken key is missing, non-posted packets and completions came behind the posted
     // packets that were sealed before them.
-    ensures prefix_law { InEvery (Written (S.contents shelf.old) (map string_bytes words.now.items) (O.held out.old) (O.held out.new)) (λ plan h. NoForgery plan h → PrefixLaw plan h) }
-    ensures delivery_law { InEvery (Written (S.contents shelf.old) (map string_bytes words.now.items) (O.held out.old) (O.held out.new)) (λ plan h. NoForgery plan h → DeliveryLaw plan h) }
-    ensures order_law { InEvery (Written (S.contents shelf.old) (map string_bytes words.now.items) (O.held out.old) (O.held out.new)) (λ plan h. NoForgery plan h → OrderLaw plan h) }
+    ensures prefix_law { InEvery (Written (S.contents shelf.old) (map string_bytes words.now.items) (O.held out.old)
+        (O.held out.new)) (λ plan h. NoForgery plan h → PrefixLaw plan h) }
+    ensures delivery_law { InEvery (Written (S.contents shelf.old) (map string_bytes words.now.items) (O.held out.old)
+        (O.held out.new)) (λ plan h. NoForgery plan h → DeliveryLaw plan h) }
+    ensures order_law { InEvery (Written (S.contents shelf.old) (map string_bytes words.now.items) (O.held out.old)
+        (O.held out.new)) (λ plan h. NoForgery plan h → OrderLaw plan h) }
 {
     lines_tell();
     totals_fit();

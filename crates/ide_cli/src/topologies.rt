@@ -74,7 +74,8 @@ fn refusal(alloc: Global, fault: &PlanFault) -> Result<Vec<u8>, Memory>
 /// Writes the first fault of a topology.
 pub(crate) fn refuse<O: Sink>(alloc: Global, fault: &PlanFault, out: &mut O) -> Result<End, Fault>
     ensures end { IfOk result (λ e. e ≡ End.Topology) }
-    ensures ran { Ran (End.Topology, refusal_of fault.now) ⊥ (Rose (O.faults out.old) (O.faults out.new)) (O.faults out.new ≡ O.faults out.old)
+    ensures ran { Ran (End.Topology, refusal_of fault.now) ⊥ (Rose (O.faults out.old) (O.faults out.new))
+        (O.faults out.new ≡ O.faults out.old)
         (Gained (O.held out.old) (O.held out.new)) result }
 {
     match refusal(alloc, fault) {
@@ -88,7 +89,8 @@ fn report<O: Sink>(alloc: Global, loaded: &Loaded, out: &mut O) -> Result<End, F
     ensures end { IfOk result (λ e. e ≢ End.Usage) }
     ensures long { IfOk result (λ e. e ≡ End.TooLong → loaded.now ≡ Loaded.Long) }
     ensures few { IfOk result (λ e. e ≢ End.TooLong → loaded.now ≢ Loaded.Long) }
-    ensures ran { Ran (report_of loaded.now) ⊥ (Rose (O.faults out.old) (O.faults out.new)) (O.faults out.new ≡ O.faults out.old)
+    ensures ran { Ran (report_of loaded.now) ⊥ (Rose (O.faults out.old) (O.faults out.new))
+        (O.faults out.new ≡ O.faults out.old)
         (Gained (O.held out.old) (O.held out.new)) result }
 {
     match loaded {

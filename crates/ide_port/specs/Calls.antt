@@ -27,7 +27,8 @@ abbrev pub stream_at : PortEnd → Place → Option Found
 stream_at e place = if is_place place then found e.plans e.states place.stream else None
 
 abbrev pub shown : PortEnd → Place → Option SlotPair
-shown e place = option_map (λ (f : Found). pair_at (sends_in e.name.side place.direction) (sub_from place.sub) f.state) (stream_at e place)
+shown e place = option_map (λ (f : Found). pair_at (sends_in e.name.side place.direction) (sub_from place.sub) f.state)
+    (stream_at e place)
 
 -- a sender has begun a unit and not ended it
 abbrev pub is_unfinished : Slots → Bool
@@ -65,7 +66,8 @@ abbrev pub called_states : PortEnd → PortCall → Option Found → List Stream
 called_states e call None = e.states
 called_states e call (Some f) =
     let place = place_of call in
-    changed e.plans e.states f.plan.id (called (sends_in e.name.side place.direction) (sub_from place.sub) (slot_call call) f.state)
+    changed e.plans e.states f.plan.id (called (sends_in e.name.side place.direction) (sub_from place.sub)
+    (slot_call call) f.state)
 
 -- the stream of the place is called, and no other changes; nothing is lent any more
 abbrev pub called_port : PortCall → PortEnd → PortEnd

@@ -27,7 +27,8 @@ is_waiting slot = false
 
 -- a receiver's key never waits for the end of a unit
 abbrev pub NoneWaits : StreamState → Type 0
-NoneWaits st = (u : SubKind) → (is_waiting (at_sub st.rx u).slots.first || is_waiting (at_sub st.rx u).slots.second) ≡ false
+NoneWaits st = (u : SubKind) → (is_waiting (at_sub st.rx u).slots.first || is_waiting (at_sub st.rx u).slots.second)
+    ≡ false
 
 -- the stream of a plan at a port of this side, with what this one keeps
 abbrev pub stream_of : Side → ℕ → StreamPlan → StreamEnd → StreamEnd

@@ -63,7 +63,8 @@ send_chosen e t trusted more number (Some id) = send_found e t trusted more numb
 
 abbrev pub send_read : PortEnd → Bool → Bool → ℕ → Result Tlp TlpFault → SendStep
 send_read e trusted more number (Err fault) = unsealed e (v.Malformed e.name (tlp_word fault) (place_in fault))
-send_read e trusted more number (Ok t) = send_chosen e t trusted more number (chosen (choice_of e.plans e.name.side (header t)))
+send_read e trusted more number (Ok t) = send_chosen e t trusted more number
+    (chosen (choice_of e.plans e.name.side (header t)))
 
 -- a send of bytes, whose first sealed packet has this number over the run
 abbrev pub send_step : PortEnd → List ℕ → Bool → Bool → ℕ → SendStep
@@ -83,7 +84,8 @@ abbrev pub lengths_sent : Sent → List ℕ
 lengths_sent (Sealed packets) = map (λ (p : SealedPacket). p.length) packets
 lengths_sent answer = []
 
-pub record IsSent (old : PortEnd) (bytes : List ℕ) (trusted more : Bool) (number : ℕ) (answer : Sent) (new : PortEnd) : Type 0 where
+pub record IsSent (old : PortEnd) (bytes : List ℕ) (trusted more : Bool) (number : ℕ) (answer : Sent)
+    (new : PortEnd) : Type 0 where
   pub answered : sent_verdict old.name number answer ≡ (send_step old bytes trusted more number).verdict
   pub lengths : lengths_sent answer ≡ packet_lengths (send_step old bytes trusted more number).packets
   pub port : new ≡ (send_step old bytes trusted more number).port

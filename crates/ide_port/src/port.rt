@@ -178,8 +178,8 @@ impl Port {
     }
 
     /// Sends a TLP's bytes: it takes a stream, which seals it behind the sync packets that must go first, or it goes
-    /// plain. A host's port sets T where the TLP is `trusted`; a device's port never does. `more` says that the unit goes
-    /// on where it has room. What was sealed is lent by `packets` until the next send.
+    /// plain. A host's port sets T where the TLP is `trusted`; a device's port never does. `more` says that the unit
+    /// goes on where it has room. What was sealed is lent by `packets` until the next send.
     pub fn send(&mut self, tlp: &[u8], trusted: bool, more: bool) -> Sent
         requires { self.old.calls < 2 ^ 40 }
         // Whatever the number of the next sealed packet is over the run.

@@ -149,7 +149,8 @@ header_fault s f fit long early plain h =
           let e1 : 4 + p ≡ length s → ⊥ = λ e. omega arith in
           let e2 : p ≡ 0 → ⊥ = λ e. omega arith in
           let byte : get_or front p 0 ≡ get_or s (4 + p) 0 = get_or-take size (drop 4 s) p 0 less ∙ get_or-drop 4 s p 0 in
-          rw (ne_eqb p (length front) part, ne_eqb p 0 e2, first, lt-ltb p size less, ne_eqb (4 + p) (length s) e1, le-ltb (4 + p) 5 (omega arith), plain, lt-ltb (4 + p) (4 + size) (omega arith), four, byte) (shifted_cause p (get_or s (4 + p) 0))
+          rw (ne_eqb p (length front) part, ne_eqb p 0 e2, first, lt-ltb p size less, ne_eqb (4 + p) (length s) e1, le-ltb (4 + p) 5 (omega arith), plain, lt-ltb (4 + p) (4 + size) (omega arith), four, byte)
+          (shifted_cause p (get_or s (4 + p) 0))
     ] in
     (4 + p, place_of IsPacket wants_packet packet_may_follow s (4 + p) packets (halt s (4 + p) (omega arith) whole (head_walked s p fit long early plain within halts.walks) off), h.2 ∙ ap shifted h.1.2 ∙ shift)
 
@@ -183,8 +184,11 @@ total_is s size wanted z =
 
 pub short_fault : (s : List ℕ) (size wanted : ℕ) → IsBytes s → 5 ≤ length s → ((i : ℕ) → i < 5 → fits_early i s (get_or s i 0) ≡ true) → SizesAre s size wanted
     → length s < 4 + size + wanted + tag_part s → GoesOff s (Short (length s))
-short_fault s size wanted fit long early z lt =
-    (length s, place_of IsPacket wants_packet packet_may_follow s (length s) packets (halt s (length s) (omega arith) (omega (arith, total_is s size wanted z)) (whole_walk s size wanted fit long early z) (λ less t. omega arith)), rw (eq-eqb (length s) (length s) refl) refl)
+short_fault s size wanted fit long early z lt = (
+  length s,
+  place_of IsPacket wants_packet packet_may_follow s (length s) packets (halt s (length s) (omega arith) (omega (arith, total_is s size wanted z)) (whole_walk s size wanted fit long early z) (λ less t. omega arith)),
+  rw (eq-eqb (length s) (length s) refl) refl,
+)
 
 walked_part : (s : List ℕ) (n : ℕ) → n ≤ length s → IsWalkedPacket s (length s) → IsWalkedPacket s n
 walked_part s n le w = record {

@@ -233,7 +233,8 @@ size_sync s y =
     e ∙ omega arith
 
 pub carried_spells : (s : List ℕ) → 5 ≤ length s → IsWalkedPacket s (length s) → sync_at s ≡ false → length s ≡ packet_size s
-    → SpellsPacket (packet_of s (take (head_size (get_or (drop 4 s) 0 0)) (drop 4 s)) (take (rest_size (drop 4 s)) (drop (head_size (get_or (drop 4 s) 0 0)) (drop 4 s))) (drop (rest_size (drop 4 s)) (drop (head_size (get_or (drop 4 s) 0 0)) (drop 4 s)))) s
+    → SpellsPacket (packet_of s (take (head_size (get_or (drop 4 s) 0 0)) (drop 4 s)) (take (rest_size (drop 4 s)) (drop (head_size (get_or (drop 4 s) 0 0)) (drop 4 s))) (drop (rest_size (drop 4 s)) (drop (head_size (get_or (drop 4 s) 0 0))
+    (drop 4 s)))) s
 carried_spells s le w n size =
     let all : IsBytes s = bytes_of s w in
     let k = tail_walked s le w n in
@@ -282,7 +283,8 @@ flags_are true true e = absurd cc
 flags_are true false e = (refl, refl)
 flags_are false t e = absurd cc
 
-pub sync_spells : (s : List ℕ) → 5 ≤ length s → IsWalkedPacket s (length s) → sync_at s ≡ true → length s ≡ packet_size s → SpellsPacket (packet_of s (take 12 (drop 4 s)) [] (drop 12 (drop 4 s))) s × IsSync (packet_of s (take 12 (drop 4 s)) [] (drop 12 (drop 4 s)))
+pub sync_spells : (s : List ℕ) → 5 ≤ length s → IsWalkedPacket s (length s) → sync_at s ≡ true → length s ≡ packet_size s → SpellsPacket (packet_of s (take 12 (drop 4 s)) [] (drop 12 (drop 4 s))) s
+    × IsSync (packet_of s (take 12 (drop 4 s)) [] (drop 12 (drop 4 s)))
 sync_spells s le w y size =
     let all : IsBytes s = bytes_of s w in
     let long : length s ≡ 16 + tag_part s = size ∙ size_sync s y in

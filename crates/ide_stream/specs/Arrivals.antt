@@ -47,7 +47,8 @@ taken_at e got p (Some x) other =
 
 -- the answer to a packet of it, where so many posted packets were accepted
 abbrev pub taken_here : ReceiveEnd → ℕ → Packet → Taken
-taken_here e got p = taken_at e got p (live_in (slot_in e.kept.slots p.prefix.k)) (live_in (slot_in e.kept.slots (not p.prefix.k)))
+taken_here e got p = taken_at e got p (live_in (slot_in e.kept.slots p.prefix.k))
+    (live_in (slot_in e.kept.slots (not p.prefix.k)))
 
 abbrev pub kept_after : RxSub → Packet → Taken → RxSub
 kept_after rx p (Failed cause) = dropped_held rx
@@ -167,7 +168,12 @@ all_into rx = any_live rx.pr.slots && any_live rx.npr.slots && any_live rx.cpl.s
 abbrev pub settled_into : Three RxSub → Three RxSub
 settled_into rx =
     let into = any_into rx in
-    each_sub (λ u. record { slots = (at_sub rx u).slots; sum = if into then (at_sub rx u).sum else 0; got = if into then (at_sub rx u).got else 0; total = if into then (at_sub rx u).total else 0 })
+    each_sub (λ u. record {
+      slots = (at_sub rx u).slots;
+      sum = if into then (at_sub rx u).sum else 0;
+      got = if into then (at_sub rx u).got else 0;
+      total = if into then (at_sub rx u).total else 0;
+    })
 
 -- a call, after which nothing is lent
 abbrev pub called_receivers : ReceiveEnds → SubKind → SlotCall → ReceiveEnds

@@ -1,4 +1,5 @@
--- One stream at a port: what is kept, and what each call makes of it (PCI Express Base 6.0 section 6.33, in this profile).
+-- One stream at a port: what is kept, and what each call makes of it (PCI Express Base 6.0 section 6.33, in this
+-- profile).
 use Rattle.std.specs.Prelude.{ℕ, ◌+◌, Bool, List, [], Option, Some, None}
 use Rattle.ide_types.specs.declared.sub.SubKind.{SubKind}
 use Rattle.ide_types.specs.declared.port.Side.{Side}
@@ -23,7 +24,16 @@ pub record StreamEnd : Type 0 where
 
 abbrev pub new_end : Side → ℕ → ℕ → Bool → ℕ → StreamEnd
 new_end side id mode closed limit =
-    record { side = side; id = id; mode = mode; closed = closed; limit = limit; state = no_stream; delivered = []; calls = 0 }
+    record {
+      side = side;
+      id = id;
+      mode = mode;
+      closed = closed;
+      limit = limit;
+      state = no_stream;
+      delivered = [];
+      calls = 0;
+    }
 
 -- what the rules of sealing see of it
 abbrev pub lanes_in : StreamEnd → Lanes

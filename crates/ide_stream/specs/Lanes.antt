@@ -63,7 +63,8 @@ sync_said e = said e true false true
 
 -- the packet that is said, with this header and payload
 abbrev pub packet_in : SendEnd → List ℕ → List ℕ → Described → Packet
-packet_in e head payload d = packet_under (front_with e.fixed.closed d.unit e.kept.total) (live_sender e.kept.slots) d head payload
+packet_in e head payload d = packet_under (front_with e.fixed.closed d.unit e.kept.total) (live_sender e.kept.slots)
+    d head payload
 
 -- its own posted count begins again, and a finished unit counts
 abbrev pub sealed_kept : Described → Packet → TxSub → TxSub
@@ -95,7 +96,8 @@ pub record IsSendLane (tx : Sender) (limit : ℕ) (closed : Bool) (posted total 
   pub some_mode : 0 < tx.mode
   pub one_live : (is_live tx.slots.first && is_live tx.slots.second) ≡ false
   pub fits : length (open_packets tx) < tx.mode
-  pub ahead : (length (open_packets tx) == 0) ≡ false → tx.ahead ≡ front_with closed (open_unit (live_sender tx.slots)) total
+  pub ahead : (length (open_packets tx) == 0) ≡ false → tx.ahead
+      ≡ front_with closed (open_unit (live_sender tx.slots)) total
   pub no_count : is_posted tx.sub ≡ true → posted ≡ 0
 
 -- ---- three sub-streams
@@ -162,7 +164,11 @@ all_out tx = any_live tx.pr.slots && any_live tx.npr.slots && any_live tx.cpl.sl
 abbrev pub settled_out : Three TxSub → Three TxSub
 settled_out tx =
     let out = any_out tx in
-    each_sub (λ u. record { slots = (at_sub tx u).slots; posted = if out then (at_sub tx u).posted else 0; total = if out then (at_sub tx u).total else 0 })
+    each_sub (λ u. record {
+      slots = (at_sub tx u).slots;
+      posted = if out then (at_sub tx u).posted else 0;
+      total = if out then (at_sub tx u).total else 0;
+    })
 
 abbrev pub called_ends : SendEnds → SubKind → SlotCall → SendEnds
 called_ends x u call =

@@ -65,7 +65,10 @@ packets_sent e head payload s number = unless (refused e s) [] (sealing e head p
 
 abbrev pub end_sent : StreamEnd → List ℕ → List ℕ → Sending → ℕ → StreamEnd
 end_sent e head payload s number =
-    record e { state = unless (refused e s) e.state (record e.state { tx = (sealing e head payload s number).1 }); calls = e.calls + 1 }
+    record e {
+      state = unless (refused e s) e.state (record e.state { tx = (sealing e head payload s number).1 });
+      calls = e.calls + 1;
+    }
 
 abbrev pub joined_packets : List Packet → List ℕ
 joined_packets [] = []
@@ -81,7 +84,8 @@ lengths_said (Err refusal) = []
 
 -- A send of a TLP with this header and payload, whose first packet has this number: the answer, the bytes that were
 -- appended, and the stream after it.
-pub record IsSent (old : StreamEnd) (head payload : List ℕ) (s : Sending) (number : ℕ) (answer : Result (List SealedPacket) SendRefusal) (before after : List ℕ) (new : StreamEnd) : Type 0 where
+pub record IsSent (old : StreamEnd) (head payload : List ℕ) (s : Sending) (number : ℕ)
+    (answer : Result (List SealedPacket) SendRefusal) (before after : List ℕ) (new : StreamEnd) : Type 0 where
   pub answered : answer_as s.port number answer ≡ sent_descriptions old s number
   pub lengths : lengths_said answer ≡ packet_lengths (packets_sent old head payload s number)
   pub bytes : after ≡ before ++ joined_packets (packets_sent old head payload s number)
@@ -89,8 +93,12 @@ pub record IsSent (old : StreamEnd) (head payload : List ℕ) (s : Sending) (num
 
 -- ---- what the senders make of a TLP that is not refused
 
-pub record IsSealed (old : SendEnds) (head payload : List ℕ) (s : Sending) (number : ℕ) (sealed : List SealedPacket) (before after : List ℕ) (new : SendEnds) : Type 0 where
+pub record IsSealed (old : SendEnds) (head payload : List ℕ) (s : Sending) (number : ℕ) (sealed : List SealedPacket)
+    (before after : List ℕ) (new : SendEnds) : Type 0 where
   pub answered : numbered_from s.port number sealed ≡ sealed_by (lanes_at old) s number
-  pub lengths : map (λ (p : SealedPacket). p.length) sealed ≡ packet_lengths (sealed_all old.fixed.closed head payload (sealed_by (lanes_at old) s number) old.tx).0
-  pub bytes : after ≡ before ++ joined_packets (sealed_all old.fixed.closed head payload (sealed_by (lanes_at old) s number) old.tx).0
-  pub senders : new ≡ record old { tx = (sealed_all old.fixed.closed head payload (sealed_by (lanes_at old) s number) old.tx).1 }
+  pub lengths : map (λ (p : SealedPacket). p.length) sealed ≡ packet_lengths (sealed_all old.fixed.closed head payload
+      (sealed_by (lanes_at old) s number) old.tx).0
+  pub bytes : after ≡ before ++ joined_packets (sealed_all old.fixed.closed head payload
+      (sealed_by (lanes_at old) s number) old.tx).0
+  pub senders : new ≡ record old
+      { tx = (sealed_all old.fixed.closed head payload (sealed_by (lanes_at old) s number) old.tx).1 }

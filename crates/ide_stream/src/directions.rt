@@ -66,8 +66,8 @@ impl Directions {
         }
     }
 
-    /// What holds after each call: a direction of which no slot is Live counts from 0, a stream of which none is Live has
-    /// not failed, and nothing is lent.
+    /// What holds after each call: a direction of which no slot is Live counts from 0, a stream of which none is Live
+    /// has not failed, and nothing is lent.
     pub fn settle(&mut self)
         ensures { self.new ≡ settled_directions self.old }
     {

@@ -38,7 +38,19 @@ impl Model for ReceiveLane {
 
     ghost Value = { ReceiveEnd };
 
-    ghost view = { λ r. record { sub = r.sub; mode = r.rx.mode; closed = r.closed; kept = record { slots = r.rx.slots; sum = r.sum; got = r.got; total = r.total }; delivered = r.rx.delivered; takes = r.rx.takes } };
+    ghost view = { λ r. record {
+      sub = r.sub;
+      mode = r.rx.mode;
+      closed = r.closed;
+      kept = record {
+        slots = r.rx.slots;
+        sum = r.sum;
+        got = r.got;
+        total = r.total;
+      };
+      delivered = r.rx.delivered;
+      takes = r.rx.takes;
+    } };
 
     ghost invariant = { λ r. IsReceiveLane r.rx r.closed r.sum r.got r.total };
 }
@@ -113,7 +125,8 @@ impl ReceiveLane {
         requires few { self.old.takes < 2 ^ 40 }
         requires order { is_posted self.old.sub ≡ false → self.old.kept.sum ≤ got }
         ensures answer { Some result ≡ answer_of (taken_here self.old got (packet_of_view packet.now)) }
-        ensures lane { self.new ≡ end_after self.old (packet_of_view packet.now) (taken_here self.old got (packet_of_view packet.now)) }
+        ensures lane { self.new ≡ end_after self.old (packet_of_view packet.now)
+            (taken_here self.old got (packet_of_view packet.now)) }
     {
         let total = self.total.to_be_bytes();
         let front = front(self.closed, &total);
@@ -165,7 +178,14 @@ impl ReceiveLane {
     /// Counts from 0 again.
     pub fn forget(&mut self)
         requires { any_live self.old.kept.slots ≡ false }
-        ensures { self.new ≡ record self.old { kept = record { slots = self.old.kept.slots; sum = 0; got = 0; total = 0 } } }
+        ensures { self.new ≡ record self.old {
+          kept = record {
+            slots = self.old.kept.slots;
+            sum = 0;
+            got = 0;
+            total = 0;
+          };
+        } }
     {
         self.sum = 0;
         self.got = 0;

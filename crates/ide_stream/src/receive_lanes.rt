@@ -36,7 +36,17 @@ impl Model for ReceiveLanes {
 
     ghost Value = { ReceiveEnds };
 
-    ghost view = { λ r. record { mode = r.pr.mode; closed = r.pr.closed; rx = record { pr = r.pr.kept; npr = r.npr.kept; cpl = r.cpl.kept }; delivered = lent_from r.lent r.pr r.npr r.cpl; takes = r.takes } };
+    ghost view = { λ r. record {
+      mode = r.pr.mode;
+      closed = r.pr.closed;
+      rx = record {
+        pr = r.pr.kept;
+        npr = r.npr.kept;
+        cpl = r.cpl.kept;
+      };
+      delivered = lent_from r.lent r.pr r.npr r.cpl;
+      takes = r.takes;
+    } };
 
     ghost invariant = { λ r. IsReceiveLanes r.pr r.npr r.cpl r.takes };
 }
@@ -73,10 +83,15 @@ fn take_in(
     requires few_cpl { cpl.old.takes < 2 ^ 40 }
     requires npr_order { npr.old.kept.sum ≤ pr.old.kept.got }
     requires cpl_order { cpl.old.kept.sum ≤ pr.old.kept.got }
-    ensures answer { let p = packet_of_view packet.now in Some result ≡ answer_of (taken_here (picked p.prefix.sub pr.old npr.old cpl.old) pr.old.kept.got p) }
-    ensures pr { let p = packet_of_view packet.now in pr.new ≡ (if is_same_sub p.prefix.sub Pr then end_after pr.old p (taken_here pr.old pr.old.kept.got p) else pr.old) }
-    ensures npr { let p = packet_of_view packet.now in npr.new ≡ (if is_same_sub p.prefix.sub Npr then end_after npr.old p (taken_here npr.old pr.old.kept.got p) else npr.old) }
-    ensures cpl { let p = packet_of_view packet.now in cpl.new ≡ (if is_same_sub p.prefix.sub Cpl then end_after cpl.old p (taken_here cpl.old pr.old.kept.got p) else cpl.old) }
+    ensures answer { let p = packet_of_view packet.now in
+        Some result ≡ answer_of (taken_here (picked p.prefix.sub pr.old npr.old cpl.old) pr.old.kept.got p) }
+    ensures pr { let p = packet_of_view packet.now in
+        pr.new ≡ (if is_same_sub p.prefix.sub Pr then end_after pr.old p (taken_here pr.old pr.old.kept.got p)
+        else pr.old) }
+    ensures npr { let p = packet_of_view packet.now in npr.new ≡ (if is_same_sub p.prefix.sub Npr then end_after npr.old
+        p (taken_here npr.old pr.old.kept.got p) else npr.old) }
+    ensures cpl { let p = packet_of_view packet.now in cpl.new ≡ (if is_same_sub p.prefix.sub Cpl then end_after cpl.old
+        p (taken_here cpl.old pr.old.kept.got p) else cpl.old) }
 {
     let got = pr.got();
     match packet.prefix.sub {
@@ -152,7 +167,8 @@ impl ReceiveLanes {
         requires view { IsView packet.now }
         requires few { self.old.takes < 2 ^ 40 }
         ensures answer { Some result ≡ answer_of (taken_among self.old (packet_of_view packet.now)) }
-        ensures lanes { self.new ≡ ends_after self.old (packet_of_view packet.now) (taken_among self.old (packet_of_view packet.now)) }
+        ensures lanes { self.new ≡ ends_after self.old (packet_of_view packet.now)
+            (taken_among self.old (packet_of_view packet.now)) }
     {
         let sub = packet.prefix.sub;
         self.takes += 1;
@@ -232,7 +248,8 @@ impl ReceiveLanes {
     /// GO.
     pub fn go(&mut self, sub: SubKind, set: u8) -> Result<(), SlotEmpty>
         requires { set < 2 }
-        ensures answer { is_ok result ≡ not (is_empty (key_slot_in (slot_pair false (at_sub self.old.rx sub).slots) (is_one set))) }
+        ensures answer { is_ok result ≡ not (is_empty (key_slot_in (slot_pair false (at_sub self.old.rx sub).slots)
+            (is_one set))) }
         ensures lanes { self.new ≡ called_receivers self.old sub (Go (is_one set)) }
     {
         self.lent = None;

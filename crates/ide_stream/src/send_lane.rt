@@ -33,7 +33,21 @@ impl Model for SendLane {
 
     ghost Value = { SendEnd };
 
-    ghost view = { λ s. record { fixed = record { stream = s.tx.stream; mode = s.tx.mode; limit = s.tx.limit; closed = s.closed }; sub = s.tx.sub; kept = record { slots = s.tx.slots; posted = s.posted; total = s.total } } };
+    ghost view = { λ s. record {
+      fixed = record {
+        stream = s.tx.stream;
+        mode = s.tx.mode;
+        limit = s.tx.limit;
+        closed = s.closed;
+      };
+      sub = s.tx.sub;
+      kept = record {
+        slots = s.tx.slots;
+        posted = s.posted;
+        total =
+            s.total;
+      };
+    } };
 
     ghost invariant = { λ s. IsSendLane s.tx s.limit s.closed s.posted s.total };
 }
@@ -122,9 +136,11 @@ impl SendLane {
         requires head_short { length head.now ≤ 16 }
         requires payload_short { length payload.now ≤ 4096 }
         requires room { vec_len out.old + PACKET_ROOM ≤ vec_capacity out.old }
-        ensures answer { result ≡ measured (tlp_said self.old t more) (packet_in self.old head.now payload.now (tlp_said self.old t more)) }
+        ensures answer { result ≡ measured (tlp_said self.old t more) (packet_in self.old head.now payload.now
+            (tlp_said self.old t more)) }
         ensures lane { self.new ≡ sealed_end self.old head.now payload.now (tlp_said self.old t more) }
-        ensures bytes { out.new.items ≡ out.old.items ++ packet_bytes (packet_in self.old head.now payload.now (tlp_said self.old t more)) }
+        ensures bytes { out.new.items ≡ out.old.items ++ packet_bytes (packet_in self.old head.now payload.now
+            (tlp_said self.old t more)) }
         ensures capacity { vec_capacity out.old ≤ vec_capacity out.new }
         ensures fits { length (lane_in self.old).front < self.old.fixed.mode }
     {

@@ -39,7 +39,14 @@ impl Model for SendLanes {
 
     ghost Value = { SendEnds };
 
-    ghost view = { λ s. record { fixed = s.fixed; tx = record { pr = s.pr.kept; npr = s.npr.kept; cpl = s.cpl.kept } } };
+    ghost view = { λ s. record {
+      fixed = s.fixed;
+      tx = record {
+        pr = s.pr.kept;
+        npr = s.npr.kept;
+        cpl = s.cpl.kept;
+      };
+    } };
 
     ghost invariant = { λ s. IsSendLanes s.fixed s.pr s.npr s.cpl };
 }
@@ -113,7 +120,8 @@ impl SendLanes {
         requires { is_posted sub ≡ false }
         ensures value { result ≡ needs_sync (lanes_at self.now) class sub }
         // The posted packets of the unit that goes on, or begins, leave the count within a byte.
-        ensures room { is_posted class ≡ true → (if result then 0 else (at_sub self.now.tx sub).posted) + self.now.fixed.mode ≤ 255 + length (open_in self.now.tx.pr.slots) }
+        ensures room { is_posted class ≡ true → (if result then 0 else (at_sub self.now.tx sub).posted)
+            + self.now.fixed.mode ≤ 255 + length (open_in self.now.tx.pr.slots) }
     {
         let begins = self.lane(class).begins();
         let many = may_overflow(self.lane(sub).posted(), self.fixed.mode);
@@ -242,9 +250,11 @@ impl SendLanes {
         requires head_short { length head.now ≤ 16 }
         requires payload_short { length payload.now ≤ 4096 }
         requires room { vec_len out.old + PACKET_ROOM ≤ vec_capacity out.old }
-        ensures answer { let d = tlp_said (end_at self.old Pr) t more in result ≡ measured d (packet_at self.old head.now payload.now d) }
+        ensures answer { let d = tlp_said (end_at self.old Pr) t more in
+            result ≡ measured d (packet_at self.old head.now payload.now d) }
         ensures lanes { self.new ≡ sealed_ends self.old head.now payload.now (tlp_said (end_at self.old Pr) t more) }
-        ensures bytes { out.new.items ≡ out.old.items ++ packet_bytes (packet_at self.old head.now payload.now (tlp_said (end_at self.old Pr) t more)) }
+        ensures bytes { out.new.items ≡ out.old.items ++ packet_bytes (packet_at self.old head.now payload.now
+            (tlp_said (end_at self.old Pr) t more)) }
         ensures capacity { vec_capacity out.old ≤ vec_capacity out.new }
     {
         let packet = self.pr.seal(head, payload, t, more, out);
@@ -266,14 +276,18 @@ impl SendLanes {
         requires live { any_live (at_sub self.old.tx sub).slots ≡ true }
         requires unworn { is_spent (end_at self.old sub) ≡ false }
         requires few { (at_sub self.old.tx sub).total < 2 ^ 40 }
-        requires npr_room { is_posted sub ≡ true → self.old.tx.npr.posted + self.old.fixed.mode ≤ 255 + length (open_in self.old.tx.pr.slots) }
-        requires cpl_room { is_posted sub ≡ true → self.old.tx.cpl.posted + self.old.fixed.mode ≤ 255 + length (open_in self.old.tx.pr.slots) }
+        requires npr_room { is_posted sub ≡ true → self.old.tx.npr.posted + self.old.fixed.mode ≤ 255 + length
+            (open_in self.old.tx.pr.slots) }
+        requires cpl_room { is_posted sub ≡ true → self.old.tx.cpl.posted + self.old.fixed.mode ≤ 255 + length
+            (open_in self.old.tx.pr.slots) }
         requires head_short { length head.now ≤ 16 }
         requires payload_short { length payload.now ≤ 4096 }
         requires room { vec_len out.old + PACKET_ROOM ≤ vec_capacity out.old }
-        ensures answer { let d = tlp_said (end_at self.old sub) t more in result ≡ measured d (packet_at self.old head.now payload.now d) }
+        ensures answer { let d = tlp_said (end_at self.old sub) t more in
+            result ≡ measured d (packet_at self.old head.now payload.now d) }
         ensures lanes { self.new ≡ sealed_ends self.old head.now payload.now (tlp_said (end_at self.old sub) t more) }
-        ensures bytes { out.new.items ≡ out.old.items ++ packet_bytes (packet_at self.old head.now payload.now (tlp_said (end_at self.old sub) t more)) }
+        ensures bytes { out.new.items ≡ out.old.items ++ packet_bytes (packet_at self.old head.now payload.now
+            (tlp_said (end_at self.old sub) t more)) }
         ensures capacity { vec_capacity out.old ≤ vec_capacity out.new }
     {
         match sub {
@@ -298,7 +312,8 @@ impl SendLanes {
         requires head_short { length head.now ≤ 16 }
         requires payload_short { length payload.now ≤ 4096 }
         requires room { vec_len out.old + PACKET_ROOM + 2 * SYNC_ROOM ≤ vec_capacity out.old }
-        ensures sent { (s : Sending) (number : ℕ) → s.stream ≡ self.old.fixed.stream → s.class ≡ sub → s.more ≡ more → sets_trusted s.port s.trusted ≡ t
+        ensures sent { (s : Sending) (number : ℕ) → s.stream ≡ self.old.fixed.stream → s.class ≡ sub → s.more ≡ more
+            → sets_trusted s.port s.trusted ≡ t
             → IsSealed self.old head.now payload.now s number result out.old.items out.new.items self.new }
         ensures totals { (u : SubKind) → (at_sub self.new.tx u).total ≤ (at_sub self.old.tx u).total + 1 }
         ensures capacity { vec_capacity out.old ≤ vec_capacity out.new }
@@ -340,7 +355,8 @@ impl SendLanes {
     /// GO.
     pub fn go(&mut self, sub: SubKind, set: u8) -> Result<(), SlotEmpty>
         requires { set < 2 }
-        ensures answer { is_ok result ≡ not (is_empty (key_slot_in (slot_pair true (at_sub self.old.tx sub).slots) (is_one set))) }
+        ensures answer { is_ok result ≡ not (is_empty (key_slot_in (slot_pair true (at_sub self.old.tx sub).slots)
+            (is_one set))) }
         ensures lanes { self.new ≡ called_ends self.old sub (Go (is_one set)) }
     {
         match sub {

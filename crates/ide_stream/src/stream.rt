@@ -131,8 +131,8 @@ impl Stream {
     }
 
     /// Seals a TLP's header and payload, of at most 16 and 4,096 bytes, behind the sync packets that must go first, and
-    /// appends the packets to `out`, which has room for `SEND_ROOM` bytes more. `t` says that the TLP is trusted, `more`
-    /// that its unit goes on where it has room. A refusal changes nothing.
+    /// appends the packets to `out`, which has room for `SEND_ROOM` bytes more. `t` says that the TLP is trusted,
+    /// `more` that its unit goes on where it has room. A refusal changes nothing.
     pub fn send(
         &mut self,
         sub: SubKind,
@@ -147,8 +147,10 @@ impl Stream {
         requires room { vec_len out.old + SEND_ROOM ≤ vec_capacity out.old }
         requires few { self.old.calls < 2 ^ 40 }
         // At each port of its side, whatever the number of the next sealed packet is over the run.
-        ensures sent { (port : PortName) (number : ℕ) (trusted : Bool) → port.side ≡ self.old.side → sets_trusted port trusted ≡ t
-            → IsSent self.old head.now payload.now (sending port self.old.id sub more trusted) number result out.old.items out.new.items self.new }
+        ensures sent { (port : PortName) (number : ℕ) (trusted : Bool) → port.side ≡ self.old.side
+            → sets_trusted port trusted ≡ t
+            → IsSent self.old head.now payload.now (sending port self.old.id sub more trusted) number result
+            out.old.items out.new.items self.new }
         ensures capacity { vec_capacity out.old ≤ vec_capacity out.new }
     {
         self.calls += 1;
@@ -158,9 +160,9 @@ impl Stream {
         }
     }
 
-    /// Takes a packet of the stream that `cut` gave, and answers what became of it; `None` where the stream is insecure.
-    /// Only an accepted unit moves a counter or empties a slot; what it carries is lent until the next packet or call of
-    /// key management. A failed check makes the stream insecure, and drops what its receivers hold.
+    /// Takes a packet of the stream that `cut` gave, and answers what became of it; `None` where the stream is
+    /// insecure. Only an accepted unit moves a counter or empties a slot; what it carries is lent until the next packet
+    /// or call of key management. A failed check makes the stream insecure, and drops what its receivers hold.
     pub fn take(&mut self, packet: &PacketView) -> Option<Taken>
         requires view { IsView packet.now }
         requires few { self.old.calls < 2 ^ 40 }
@@ -202,8 +204,8 @@ impl Stream {
         self.directions.rx.mark(i)
     }
 
-    /// Puts a key of this draw into a slot. `OnlyLive` comes exactly where the slot is Live and the other is not a newer
-    /// Live one: the key comes back, and no slot changes.
+    /// Puts a key of this draw into a slot. `OnlyLive` comes exactly where the slot is Live and the other is not a
+    /// newer Live one: the key comes back, and no slot changes.
     pub fn program(
         &mut self,
         set: u8,

@@ -18,7 +18,11 @@ show_app = with_rule (new_app (codes "show")) (name_rule (codes "PACKETS"))
 
 -- a subcommand must be given, and neither help nor a version is offered
 abbrev pub top_app : App
-top_app = on_top (λ s. record s { disable_help_flag = true; disable_help_subcommand = true; subcommand_required = true }) (new_app (codes "ide"))
+top_app = on_top (λ s. record s {
+  disable_help_flag = true;
+  disable_help_subcommand = true;
+  subcommand_required = true;
+}) (new_app (codes "ide"))
 
 abbrev pub ide_app : App
 ide_app = with_subcommand (with_subcommand (with_subcommand top_app run_app.top) check_app.top) show_app.top

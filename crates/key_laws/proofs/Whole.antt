@@ -56,7 +56,8 @@ establish_turns plan (Stopping n) bs ports p ts loss at = at
 
 -- ---- a refresh
 
-refresh_turns : (plan : KeyPlan) (q : Op) (bs : List Begun) (ports : PortView) (host : StreamStatus) (p : Place) (ts : List Touch) (loss : Option Loss) → ((x : Bool) → ports.refuses p x ≡ refuses p.sends (keys p.sends ts) x) → ((x : Bool) → ports.is_live p x ≡ is_live (slot_of p.sends (keys p.sends ts) x))
+refresh_turns : (plan : KeyPlan) (q : Op) (bs : List Begun) (ports : PortView) (host : StreamStatus) (p : Place) (ts : List Touch) (loss : Option Loss) → ((x : Bool) → ports.refuses p x ≡ refuses p.sends (keys p.sends ts) x)
+    → ((x : Bool) → ports.is_live p x ≡ is_live (slot_of p.sends (keys p.sends ts) x))
     → FitsAt q (length bs) p ts → Turns op.Refresh q bs p.link p.stream p ts (reach_of op.Refresh (refresh_on plan q (length bs) ports host p.link p.stream loss))
 refresh_turns plan Idle bs ports host p ts loss same live at = at
 refresh_turns plan (Establishing j n) bs ports host p ts loss same live at = at
@@ -108,9 +109,11 @@ stop_starts q bs ports p ts loss at r reached = stops_fit p ts 1 true r (length 
 stop_turns : (q : Op) (bs : List Begun) (ports : PortView) (p : Place) (ts : List Touch) (loss : Option Loss)
     → FitsAt q (length bs) p ts → Turns op.Stop q bs p.link p.stream p ts (reach_of op.Stop (stop_on q (length bs) ports p.link p.stream loss))
 stop_turns Idle bs ports p ts loss at = let goes = performs ports p.link p.stream loss (work op.Stop false 0 1 true) (omega arith) in rw goes.says (stop_starts Idle bs ports p ts loss at goes.reached_to goes.reached)
-stop_turns (Establishing j n) bs ports p ts loss at = let goes = performs ports p.link p.stream loss (work op.Stop false 0 1 true) (omega arith) in rw goes.says (stop_starts (Establishing j n) bs ports p ts loss at goes.reached_to goes.reached)
+stop_turns (Establishing j n) bs ports p ts loss at = let goes = performs ports p.link p.stream loss (work op.Stop false 0 1 true) (omega arith) in rw goes.says (stop_starts (Establishing j n) bs ports p ts loss at goes.reached_to
+    goes.reached)
 stop_turns (Up set j) bs ports p ts loss at = let goes = performs ports p.link p.stream loss (work op.Stop false 0 1 true) (omega arith) in rw goes.says (stop_starts (Up set j) bs ports p ts loss at goes.reached_to goes.reached)
-stop_turns (Refreshing set j n) bs ports p ts loss at = let goes = performs ports p.link p.stream loss (work op.Stop false 0 1 true) (omega arith) in rw goes.says (stop_starts (Refreshing set j n) bs ports p ts loss at goes.reached_to goes.reached)
+stop_turns (Refreshing set j n) bs ports p ts loss at = let goes = performs ports p.link p.stream loss (work op.Stop false 0 1 true) (omega arith) in rw goes.says (stop_starts (Refreshing set j n) bs ports p ts loss at goes.reached_to
+    goes.reached)
 stop_turns (Stopping n) bs ports p ts loss at =
     let goes = performs ports p.link p.stream loss (work op.Stop false 0 n false) (let le = at.fits.0 in omega arith) in
     rw goes.says (stops_fit p ts n false goes.reached_to (length bs) at.below goes.reached (stop_goes_on p ts (length bs) n at))

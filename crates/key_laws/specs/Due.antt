@@ -36,7 +36,8 @@ ports_at h = record {
 -- whether the device refuses an exchange: a KEY_PROG at a place that refuses it
 abbrev pub is_refused : PortView → Operation → Bool → ℕ → ℕ → ℕ → Bool
 is_refused ports op.Stop set link stream n = false
-is_refused ports o set link stream n = list_any (λ p. (program_at o p == n) && ports.refuses p set) (places_of Device link stream)
+is_refused ports o set link stream n = list_any (λ p. (program_at o p == n) && ports.refuses p set)
+    (places_of Device link stream)
 
 abbrev pub is_lost : Option Loss → ℕ → Bool
 is_lost None n = false
@@ -71,7 +72,8 @@ comes_to link stream w loss (Some n) = cut_off loss n
 -- the exchange at which the operation stays
 abbrev pub stays_at : PortView → ℕ → ℕ → Option Loss → Work → Option ℕ
 stays_at ports link stream loss w =
-    first_from (λ n. is_lost loss n || is_refused ports w.operation w.set link stream n) w.first (last_of w.operation + 1 - w.first)
+    first_from (λ n. is_lost loss n || is_refused ports w.operation w.set link stream n) w.first
+    (last_of w.operation + 1 - w.first)
 
 abbrev pub performed : PortView → ℕ → ℕ → Option Loss → Work → Verdict
 performed ports link stream loss w = comes_to link stream w loss (stays_at ports link stream loss w)
@@ -106,14 +108,16 @@ may_establish plan next (Stopping n) verdict = v.RefusedBusy op.Stop
 abbrev pub may_refresh : KeyPlan → ℕ → Op → StreamStatus → (Verdict → Verdict) → Verdict → Verdict
 may_refresh plan next Idle host unless_busy verdict = v.RefusedNotSecure host
 may_refresh plan next (Establishing j n) host unless_busy verdict = v.RefusedBusy op.Establish
-may_refresh plan next (Up set j) host unless_busy verdict = if_secure host (unless_busy (begun_with_draw plan next verdict))
+may_refresh plan next (Up set j) host unless_busy verdict =
+    if_secure host (unless_busy (begun_with_draw plan next verdict))
 may_refresh plan next (Refreshing set j n) host unless_busy verdict = verdict
 may_refresh plan next (Stopping n) host unless_busy verdict = v.RefusedBusy op.Stop
 
 -- ---- the verdict, from what stands: the state of the stream, the number of draws, the ports, the host's status
 
 abbrev pub establish_on : KeyPlan → Op → ℕ → PortView → ℕ → ℕ → Option Loss → Verdict
-establish_on plan o next ports link stream loss = may_establish plan next o (performed ports link stream loss (work_of op.Establish o next))
+establish_on plan o next ports link stream loss = may_establish plan next o (performed ports link stream loss
+    (work_of op.Establish o next))
 
 abbrev pub refresh_on : KeyPlan → Op → ℕ → PortView → StreamStatus → ℕ → ℕ → Option Loss → Verdict
 refresh_on plan o next ports host link stream loss =
@@ -126,10 +130,13 @@ stop_on o next ports link stream loss = performed ports link stream loss (work_o
 -- the verdict that is due; of any other event it is given
 unfoldable pub due : KeyPlan → History → Event → Verdict → Verdict
 due plan h (event.Establish link stream loss) given =
-    if plan.has_stream link stream then establish_on plan (op_of h link stream) (draws h) (ports_at h) link stream loss else v.Nothing
+    if plan.has_stream link stream then establish_on plan (op_of h link stream) (draws h) (ports_at h) link stream loss
+    else v.Nothing
 due plan h (event.Refresh link stream loss) given =
-    if plan.has_stream link stream then refresh_on plan (op_of h link stream) (draws h) (ports_at h) (status_of h Host link stream) link stream loss else v.Nothing
+    if plan.has_stream link stream then refresh_on plan (op_of h link stream) (draws h) (ports_at h)
+    (status_of h Host link stream) link stream loss else v.Nothing
 due plan h (event.Stop link stream loss) given =
-    if plan.has_stream link stream then stop_on (op_of h link stream) (draws h) (ports_at h) link stream loss else v.Nothing
+    if plan.has_stream link stream then stop_on (op_of h link stream) (draws h) (ports_at h) link stream loss
+    else v.Nothing
 due plan h (event.Reset link) given = if plan.has_link link then v.Reset link else v.Nothing
 due plan h _ given = given

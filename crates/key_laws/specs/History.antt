@@ -87,7 +87,8 @@ keyed w r p =
 abbrev pub stopped : Work → Reach → Place → List Touch
 stopped w r p =
     if is_host p.side then when w.begins Clear
-    else when (is_within w.first (1 + lane p) r.carried) (Stop false) ++ when (is_within w.first (7 + lane p) r.carried) (Stop true)
+    else when (is_within w.first (1 + lane p) r.carried) (Stop false)
+    ++ when (is_within w.first (7 + lane p) r.carried) (Stop true)
 
 abbrev pub worked : Work → Option Reach → Place → List Touch
 worked w None p = []
@@ -103,7 +104,8 @@ on_it false ts = []
 
 -- whether a packet was sealed here
 abbrev pub is_sender : Place → SealedPacket → Bool
-is_sender p d = p.sends && is_same_side p.side d.port.side && is_on_stream p d.port.link d.stream && is_same_sub p.sub d.sub
+is_sender p d = p.sends && is_same_side p.side d.port.side && is_on_stream p d.port.link d.stream
+    && is_same_sub p.sub d.sub
 
 abbrev pub sealed_here : Place → List SealedPacket → List Touch
 sealed_here p [] = []
@@ -111,17 +113,22 @@ sealed_here p (d ∷ ds) = when (is_sender p d) (Seal d.draw d.m) ++ sealed_here
 
 abbrev pub came : Place → Verdict → List Touch
 came p (v.Sealed packets) = sealed_here p packets
-came p (v.Accepted port unit effects) = when (not p.sends && is_same_side p.side port.side && is_on_stream p port.link unit.stream && is_same_sub p.sub unit.sub) (Accept unit.draw)
+came p (v.Accepted port unit effects) = when (not p.sends && is_same_side p.side port.side && is_on_stream p port.link
+    unit.stream && is_same_sub p.sub unit.sub) (Accept unit.draw)
 came p _ = []
 
 abbrev pub operation_touches : Op → ℕ → Operation → ℕ → ℕ → Verdict → Place → List Touch
-operation_touches q next o link stream verdict p = on_it (is_on_stream p link stream) (worked (work_of o q next) (reach_of o verdict) p)
+operation_touches q next o link stream verdict p = on_it (is_on_stream p link stream)
+    (worked (work_of o q next) (reach_of o verdict) p)
 
 -- what an event does to a place, in order, where the streams' states and the number of draws are these
 abbrev pub touches : (ℕ → ℕ → Op) → ℕ → Event → Verdict → Place → List Touch
-touches ops next (event.Establish link stream loss) verdict p = operation_touches (ops link stream) next op.Establish link stream verdict p
-touches ops next (event.Refresh link stream loss) verdict p = operation_touches (ops link stream) next op.Refresh link stream verdict p
-touches ops next (event.Stop link stream loss) verdict p = operation_touches (ops link stream) next op.Stop link stream verdict p
+touches ops next (event.Establish link stream loss) verdict p = operation_touches (ops link stream) next op.Establish
+    link stream verdict p
+touches ops next (event.Refresh link stream loss) verdict p = operation_touches (ops link stream) next op.Refresh link
+    stream verdict p
+touches ops next (event.Stop link stream loss) verdict p = operation_touches (ops link stream) next op.Stop link
+    stream verdict p
 touches ops next (event.Reset link) (v.Reset l) p = when (p.link == link) Clear
 touches ops next (event.Reset link) _ p = []
 touches ops next _ verdict p = came p verdict
@@ -164,14 +171,16 @@ abbrev pub has_all : (Place → Keys) → Side → ℕ → ℕ → Bool
 has_all ks side link stream = list_all (λ p. is_keyed (ks p)) (places_of side link stream)
 
 abbrev pub fails_at : Side → ℕ → ℕ → Verdict → Bool
-fails_at side link stream (v.Fail port s sub cause) = is_same_side port.side side && (port.link == link) && (s == stream)
+fails_at side link stream (v.Fail port s sub cause) = is_same_side port.side side && (port.link == link)
+    && (s == stream)
 fails_at side link stream _ = false
 
 -- whether an arrival failed at the port, and since then the port always had a Live key on the stream
 unfoldable pub failed : History → Side → ℕ → ℕ → Bool
 failed [] side link stream = false
 failed ((e, verdict) ∷ h) side link stream =
-    (fails_at side link stream verdict || failed h side link stream) && has_key (keys_at ((e, verdict) ∷ h)) side link stream
+    (fails_at side link stream verdict || failed h side link stream) && has_key (keys_at ((e, verdict) ∷ h))
+    side link stream
 
 abbrev pub status_by : Bool → Bool → Bool → StreamStatus
 status_by true some all = status.Insecure
@@ -180,4 +189,5 @@ status_by false true false = status.Partial
 status_by false false false = status.Idle
 
 abbrev pub status_of : History → Side → ℕ → ℕ → StreamStatus
-status_of h side link stream = status_by (failed h side link stream) (has_key (keys_at h) side link stream) (has_all (keys_at h) side link stream)
+status_of h side link stream = status_by (failed h side link stream) (has_key (keys_at h) side link stream)
+    (has_all (keys_at h) side link stream)

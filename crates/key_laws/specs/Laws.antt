@@ -63,7 +63,8 @@ NeverFalls (j ∷ i ∷ js) = (i ≤ j) × NeverFalls (i ∷ js)
 pub record KeyFacts (h : History) : Type 0 where
   -- wherever a draw is On it is in one set, and on one stream
   pub one_set : (p q : Place) (k l : Bool) (j : ℕ) → on_draw h p k ≡ Some j → on_draw h q l ≡ Some j → k ≡ l
-  pub one_stream : (p q : Place) (k l : Bool) (j : ℕ) → on_draw h p k ≡ Some j → on_draw h q l ≡ Some j → (p.link ≡ q.link) × (p.stream ≡ q.stream)
+  pub one_stream : (p q : Place) (k l : Bool) (j : ℕ) → on_draw h p k ≡ Some j → on_draw h q l ≡ Some j
+      → (p.link ≡ q.link) × (p.stream ≡ q.stream)
   -- a draw that is On is at least each draw that was used there
   pub none_above : (p : Place) (k : Bool) (j : ℕ) → on_draw h p k ≡ Some j → NoneAbove j (uses_at h p)
   -- draws of sealed packets and of accepted units never fall
@@ -76,22 +77,27 @@ pub record KeyFacts (h : History) : Type 0 where
 pub record StreamFacts (h : History) : Type 0 where
   pub idle : (p : Place) → op_of h p.link p.stream ≡ Idle → (set : Bool) → kept_draw h p set ≡ None
   pub establishing : (p : Place) (j n : ℕ) → op_of h p.link p.stream ≡ Establishing j n
-      → (go_at op.Establish p < n → on_draw h p false ≡ Some j) × ((set : Bool) (i : ℕ) → on_draw h p set ≡ Some i → i ≡ j)
+      → (go_at op.Establish p < n → on_draw h p false ≡ Some j) × ((set : Bool) (i : ℕ)
+      → on_draw h p set ≡ Some i → i ≡ j)
   pub up : (p : Place) (set : Bool) (j : ℕ) → op_of h p.link p.stream ≡ Up set j
       → (on_draw h p set ≡ Some j) × ((other : Bool) (i : ℕ) → on_draw h p other ≡ Some i → i ≢ j → i < j)
-  pub refreshing : (p : Place) (set : Bool) (j n : ℕ) → op_of h p.link p.stream ≡ Refreshing set j n → go_at op.Refresh p < n → on_draw h p set ≡ Some j
+  pub refreshing : (p : Place) (set : Bool) (j n : ℕ) → op_of h p.link p.stream ≡ Refreshing set j n
+      → go_at op.Refresh p < n → on_draw h p set ≡ Some j
   -- a draw is kept in one slot of a place at most, and on one stream
-  pub one_slot : (p q : Place) (k l : Bool) (j : ℕ) → kept_draw h p k ≡ Some j → kept_draw h q l ≡ Some j → (k ≡ l) × (p.link ≡ q.link) × (p.stream ≡ q.stream)
+  pub one_slot : (p q : Place) (k l : Bool) (j : ℕ) → kept_draw h p k ≡ Some j → kept_draw h q l ≡ Some j → (k ≡ l)
+      × (p.link ≡ q.link) × (p.stream ≡ q.stream)
 
 -- Before each GO that comes to a place its draw is kept there.
 abbrev pub GoesKept : Bool → List Touch → List Touch → Type 0
 GoesKept sends ts [] = Unit {0}
-GoesKept sends ts (Go set j ∷ more) = (kept_in (key_in (keys sends ts) set) ≡ Some j) × GoesKept sends (Go set j ∷ ts) more
+GoesKept sends ts (Go set j ∷ more) = (kept_in (key_in (keys sends ts) set) ≡ Some j)
+    × GoesKept sends (Go set j ∷ ts) more
 GoesKept sends ts (t ∷ more) = GoesKept sends (t ∷ ts) more
 
 abbrev pub GosFindKeys : History → Type 0
 GosFindKeys [] = Unit {0}
-GosFindKeys ((e, verdict) ∷ h) = ((p : Place) → GoesKept p.sends (moments h p) (touches (manager h).ops (draws h) e verdict p)) × GosFindKeys h
+GosFindKeys ((e, verdict) ∷ h) =
+    ((p : Place) → GoesKept p.sends (moments h p) (touches (manager h).ops (draws h) e verdict p)) × GosFindKeys h
 
 -- whether the GO of a draw ever came
 abbrev pub went : List Touch → ℕ → Bool
@@ -101,7 +107,8 @@ went (_ ∷ ts) j = went ts j
 
 -- Where its GO came, a draw is kept only while it is On: once it has ceased to be On it is never kept there again.
 abbrev pub NeverAgain : History → Type 0
-NeverAgain h = (p : Place) (set : Bool) (j : ℕ) → kept_draw h p set ≡ Some j → went (moments h p) j ≡ true → on_draw h p set ≡ Some j
+NeverAgain h = (p : Place) (set : Bool) (j : ℕ) → kept_draw h p set ≡ Some j → went (moments h p) j ≡ true
+    → on_draw h p set ≡ Some j
 
 -- ---- ends of operations
 
@@ -111,14 +118,18 @@ abbrev pub SettledAt : History → Event → Verdict → Type 0
 SettledAt h (event.Establish link stream loss) (v.Established l t j) =
     (j ≡ (work_of op.Establish (op_of h link stream) (draws h)).draw)
     × ((p : Place) → p.link ≡ link → p.stream ≡ stream
-    → (on_draw ((event.Establish link stream loss, v.Established l t j) ∷ h) p false ≡ Some j) × (on_draw ((event.Establish link stream loss, v.Established l t j) ∷ h) p true ≡ None))
+    → (on_draw ((event.Establish link stream loss, v.Established l t j) ∷ h) p false ≡ Some j)
+    × (on_draw ((event.Establish link stream loss, v.Established l t j) ∷ h) p true ≡ None))
 SettledAt h (event.Refresh link stream loss) (v.Refreshed l t j) =
     (j ≡ (work_of op.Refresh (op_of h link stream) (draws h)).draw)
     × ((p : Place) → p.link ≡ link → p.stream ≡ stream
-    → (on_draw ((event.Refresh link stream loss, v.Refreshed l t j) ∷ h) p (work_of op.Refresh (op_of h link stream) (draws h)).set ≡ Some j)
-    × ((set : Bool) (i : ℕ) → on_draw ((event.Refresh link stream loss, v.Refreshed l t j) ∷ h) p set ≡ Some i → i ≢ j → i < j))
+    → (on_draw ((event.Refresh link stream loss, v.Refreshed l t j) ∷ h) p (work_of op.Refresh (op_of h link stream)
+    (draws h)).set ≡ Some j)
+    × ((set : Bool) (i : ℕ) → on_draw ((event.Refresh link stream loss, v.Refreshed l t j) ∷ h) p set ≡ Some i
+    → i ≢ j → i < j))
 SettledAt h (event.Stop link stream loss) (v.Stopped l t) =
-    (p : Place) → p.link ≡ link → p.stream ≡ stream → (set : Bool) → kept_draw ((event.Stop link stream loss, v.Stopped l t) ∷ h) p set ≡ None
+    (p : Place) → p.link ≡ link → p.stream ≡ stream → (set : Bool)
+    → kept_draw ((event.Stop link stream loss, v.Stopped l t) ∷ h) p set ≡ None
 SettledAt h e verdict = Unit {0}
 
 abbrev pub Settled : History → Type 0
@@ -128,7 +139,8 @@ Settled ((e, verdict) ∷ h) = SettledAt h e verdict × Settled h
 -- No move of a refresh takes a port out of Secure.
 abbrev pub StaysSecureAt : History → Event → Verdict → Type 0
 StaysSecureAt h (event.Refresh link stream loss) verdict =
-    (side : Side) → status_of h side link stream ≡ status.Secure → status_of ((event.Refresh link stream loss, verdict) ∷ h) side link stream ≡ status.Secure
+    (side : Side) → status_of h side link stream ≡ status.Secure → status_of ((event.Refresh link stream loss, verdict)
+    ∷ h) side link stream ≡ status.Secure
 StaysSecureAt h e verdict = Unit {0}
 
 abbrev pub StaysSecure : History → Type 0

@@ -96,7 +96,11 @@ makes_draw op.Stop = false
 makes_draw _ = true
 
 abbrev pub begun_after : List Begun → ℕ → ℕ → Work → List Begun
-begun_after bs link stream w = if w.begins && makes_draw w.operation then record { link = link; stream = stream; set = w.set } ∷ bs else bs
+begun_after bs link stream w = if w.begins && makes_draw w.operation then record {
+  link = link;
+  stream = stream;
+  set = w.set;
+} ∷ bs else bs
 
 abbrev pub operated : Manager → Operation → ℕ → ℕ → Option Reach → Manager
 operated m o link stream None = m
@@ -108,8 +112,13 @@ operated m o link stream (Some r) =
     }
 
 abbrev pub manager_after : Manager → Event → Verdict → Manager
-manager_after m (event.Establish link stream loss) verdict = operated m op.Establish link stream (reach_of op.Establish verdict)
-manager_after m (event.Refresh link stream loss) verdict = operated m op.Refresh link stream (reach_of op.Refresh verdict)
+manager_after m (event.Establish link stream loss) verdict = operated m op.Establish link stream
+    (reach_of op.Establish verdict)
+manager_after m (event.Refresh link stream loss) verdict = operated m op.Refresh link stream
+    (reach_of op.Refresh verdict)
 manager_after m (event.Stop link stream loss) verdict = operated m op.Stop link stream (reach_of op.Stop verdict)
-manager_after m (event.Reset link) (v.Reset l) = record { ops = λ a b. if a == link then Idle else m.ops a b; begun = m.begun }
+manager_after m (event.Reset link) (v.Reset l) = record {
+  ops = λ a b. if a == link then Idle else m.ops a b;
+  begun = m.begun;
+}
 manager_after m _ _ = m

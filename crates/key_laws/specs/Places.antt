@@ -39,7 +39,13 @@ abbrev pub lane : Place → ℕ
 lane p = (if is_upward p then 3 else 0) + sub_bits p.sub
 
 abbrev pub place_at : Side → ℕ → ℕ → Bool → SubKind → Place
-place_at side link stream upward u = record { side = side; link = link; stream = stream; sends = if is_host side then not upward else upward; sub = u }
+place_at side link stream upward u = record {
+  side = side;
+  link = link;
+  stream = stream;
+  sends = if is_host side then not upward else upward;
+  sub = u;
+}
 
 -- the six places of a stream at a port, in order
 abbrev pub places_of : Side → ℕ → ℕ → List Place

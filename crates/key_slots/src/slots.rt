@@ -42,7 +42,26 @@ impl Model for Slots {
 
 impl Slots {
     ghost use Rattle.key_slots.specs.declared.slot.Slot.TheVariants.{Empty};
-    ghost use Rattle.key_slots.specs.Slots.{may_stand, is_sound, empty_pair, slot_in, with_both, is_only_live, program_answer, programmed, is_empty, armed, halted, ended, accepted, live_set, state_of, held_key, live_held, shown_key};
+    ghost use Rattle.key_slots.specs.Slots.{
+      may_stand,
+      is_sound,
+      empty_pair,
+      slot_in,
+      with_both,
+      is_only_live,
+      program_answer,
+      programmed,
+      is_empty,
+      armed,
+      halted,
+      ended,
+      accepted,
+      live_set,
+      state_of,
+      held_key,
+      live_held,
+      shown_key,
+    };
 
     /// Both slots empty.
     pub fn make(sender: bool) -> Slots

@@ -133,7 +133,8 @@ establish_based : (plan : KeyPlan) (h : History) (l s : ℕ) (loss : Option Loss
 unfolding base manager
 establish_based plan h l s loss w p cause before = by_test ((l == p.link) && (s == p.stream) && begins_keyed (op_of h l s) (draws h) w) refl
   where
-    leads : (b : ℕ) → b ≤ draws h → OpFrom b (op_of h p.link p.stream) → Leads b p (operated (manager h) op.Establish l s (reach_of op.Establish w)) (on_it (is_on_stream p l s) (worked (work_of op.Establish ((manager h).ops l s) (draws h)) (reach_of op.Establish w) p))
+    leads : (b : ℕ) → b ≤ draws h → OpFrom b (op_of h p.link p.stream) → Leads b p (operated (manager h) op.Establish l s (reach_of op.Establish w)) (on_it (is_on_stream p l s) (worked (work_of op.Establish ((manager h).ops l s) (draws h))
+        (reach_of op.Establish w) p))
     leads b low from = operated_leads (manager h) op.Establish l s (reach_of op.Establish w) p b low from
 
     by_test : (f : Bool) → ((l == p.link) && (s == p.stream) && begins_keyed (op_of h l s) (draws h) w) ≡ f → Based ((event.Establish l s loss, w) ∷ h) p

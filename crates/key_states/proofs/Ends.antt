@@ -65,7 +65,8 @@ established_draw plan Idle next ports link stream loss l t j is = by_pool (nat_l
     w : Work
     w = work op.Establish false next 1 true
 
-    by_pool : (b : Bool) → v.Established l t j ≡ (if b then performed ports link stream loss (work op.Establish false next 1 true) else v.RefusedPoolEmpty next) → (j ≡ next) × (v.Established l t j ≡ performed ports link stream loss (work op.Establish false next 1 true))
+    by_pool : (b : Bool) → v.Established l t j ≡ (if b then performed ports link stream loss (work op.Establish false next 1 true) else v.RefusedPoolEmpty next) → (j ≡ next) × (v.Established l t j ≡ performed ports link stream loss
+        (work op.Establish false next 1 true))
     by_pool true is = (established_is l t link stream j next (ends_done ports link stream loss (work op.Establish false next 1 true) (v.Established l t j) is refl), is)
     by_pool false is = absurd cc
 established_draw plan (Establishing i n) next ports link stream loss l t j is = (established_is l t link stream j i (ends_done ports link stream loss (work op.Establish false i n false) (v.Established l t j) is refl), is)
@@ -222,7 +223,8 @@ ends_alone plan h p loss l t j at is = rw (on_its_stream p) (by_has (plan.has_st
         (established_alone plan (op_of h p.link p.stream) (draws h) p (moments h p) (ports_at h) loss l t j at is)
     by_has false is = absurd cc
 
-establish_settles : (plan : KeyPlan) (h : History) (link stream : ℕ) (loss : Option Loss) (l t j : ℕ) → CauseLaw plan ((event.Establish link stream loss, v.Established l t j) ∷ h) → SettledAt h (event.Establish link stream loss) (v.Established l t j)
+establish_settles : (plan : KeyPlan) (h : History) (link stream : ℕ) (loss : Option Loss) (l t j : ℕ) → CauseLaw plan ((event.Establish link stream loss, v.Established l t j) ∷ h) → SettledAt h (event.Establish link stream loss)
+    (v.Established l t j)
 unfolding manager moments due EndsAlone
 establish_settles plan h link stream loss l t j cause = (by_has (plan.has_stream link stream) cause.0, places)
   where

@@ -188,7 +188,8 @@ pub first_keys : (plan : KeyPlan) (h : History) (p : Place) (lose : Option Loss)
 unfolding base
 first_keys plan h p lose x r cause reached none = by_op (op_of h p.link p.stream) refl (state_of plan h p.link p.stream lose x r cause.0 reached)
   where
-    cond : (q : Op) (b : ℕ) → (if (p.link == p.link) && (p.stream == p.stream) && ((work_of op.Establish q (draws h)).begins && is_some (reach_of op.Establish x)) then draws h else b) ≡ (if (work_of op.Establish q (draws h)).begins then draws h else b)
+    cond : (q : Op) (b : ℕ) → (if (p.link == p.link) && (p.stream == p.stream) && ((work_of op.Establish q (draws h)).begins && is_some (reach_of op.Establish x)) then draws h else b)
+        ≡ (if (work_of op.Establish q (draws h)).begins then draws h else b)
     cond q b = rw (same-true p.link, same-true p.stream, reached) (by_begins (work_of op.Establish q (draws h)).begins)
       where
         by_begins : (f : Bool) → (if true && true && (f && true) then draws h else b) ≡ (if f then draws h else b)

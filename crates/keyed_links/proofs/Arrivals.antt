@@ -93,7 +93,8 @@ abbrev stepped : Plan → List LinkEnds → KeeperView → List LinkPacket → P
 stepped plan ends k packets port l t =
     (arrival_verdict port t.answer (map (effect_of port) t.port.delivered), state_of plan (slice_set ends port.link (with_port port.side t.port l)) k packets)
 
-pub arrives_as : (plan : Plan) (ends : List LinkEnds) (k : KeeperView) (packets : List LinkPacket) (port : PortName) (l : LinkEnds) (r : Result CutValue PacketFault) → slice_get ends port.link ≡ Some l → IsPort plan port (port_in port.side l)
+pub arrives_as : (plan : Plan) (ends : List LinkEnds) (k : KeeperView) (packets : List LinkPacket) (port : PortName) (l : LinkEnds) (r : Result CutValue PacketFault) → slice_get ends port.link ≡ Some l
+    → IsPort plan port (port_in port.side l)
     → arrive_read plan (state_of plan ends k packets) port r ≡ stepped plan ends k packets port l (take_read (port_in port.side l) r)
 arrives_as plan ends k packets port l (Err fault) is at_port =
     ap (λ (st : LinkState). ((arrive_read plan (state_of plan ends k packets) port (Err fault)).0, st)) (state_kept plan ends k packets port l _ is refl)

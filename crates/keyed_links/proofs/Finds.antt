@@ -129,8 +129,10 @@ pub bounded_after : (ends : List LinkEnds) (packets more : List LinkPacket) (ste
     → IsBounded (slice_set ends port.link (with_port port.side e l)) more (steps + 1)
 bounded_after ends packets more steps port l e bounded is keeps sealed = record {
   few = subst (λ (n : ℕ). n ≤ 8) (sym (length-set ends port.link (with_port port.side e l))) bounded.few;
-  host_calls = λ i x at. ⊎_elim (λ s. subst (λ (y : LinkEnds). y.host.calls ≤ steps + 1) s.1 (host_here port.side keeps)) (λ old. let le = bounded.host_calls i x old in omega (arith, le)) (set_cases ends port.link i (with_port port.side e l) x at);
-  device_calls = λ i x at. ⊎_elim (λ s. subst (λ (y : LinkEnds). y.device.port.calls ≤ steps + 1) s.1 (device_here port.side keeps)) (λ old. let le = bounded.device_calls i x old in omega (arith, le)) (set_cases ends port.link i (with_port port.side e l) x at);
+  host_calls = λ i x at. ⊎_elim (λ s. subst (λ (y : LinkEnds). y.host.calls ≤ steps + 1) s.1 (host_here port.side keeps)) (λ old. let le = bounded.host_calls i x old in omega (arith, le))
+      (set_cases ends port.link i (with_port port.side e l) x at);
+  device_calls = λ i x at. ⊎_elim (λ s. subst (λ (y : LinkEnds). y.device.port.calls ≤ steps + 1) s.1 (device_here port.side keeps)) (λ old. let le = bounded.device_calls i x old in omega (arith, le))
+      (set_cases ends port.link i (with_port port.side e l) x at);
   sealed_here = λ i p at. subst (λ (n : ℕ). p.port.link < n) (sym (length-set ends port.link (with_port port.side e l))) (sealed i p at);
 }
   where
@@ -185,7 +187,8 @@ find_at plan ends k packets port l id is at_port =
     ∙ ap (λ (ss : List StreamPlan). machine.found ss (port_in port.side l).states id) (sym at_port.plans)
     ∙ machine_found (port_in port.side l).plans (port_in port.side l).states id
 
-pub put_at : (plan : Plan) (ends : List LinkEnds) (k : KeeperView) (packets : List LinkPacket) (port : PortName) (l : LinkEnds) (id : ℕ) (x : StreamState) (e : PortEnd) → slice_get ends port.link ≡ Some l → IsPort plan port (port_in port.side l)
+pub put_at : (plan : Plan) (ends : List LinkEnds) (k : KeeperView) (packets : List LinkPacket) (port : PortName) (l : LinkEnds) (id : ℕ) (x : StreamState) (e : PortEnd) → slice_get ends port.link ≡ Some l
+    → IsPort plan port (port_in port.side l)
     → e.states ≡ changed (port_in port.side l).plans (port_in port.side l).states id x
     → put plan (state_of plan ends k packets) port id x ≡ state_of plan (slice_set ends port.link (with_port port.side e l)) k packets
 unfolding put

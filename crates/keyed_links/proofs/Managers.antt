@@ -94,7 +94,8 @@ op_found [] from i (v ∷ vs) id names = absurd (no_names _ _ (sym names))
 op_found (ss ∷ links) from zero vs id names =
     let later : first_named from id (behind ss vs) ≡ None = none_later links (from + 1) from (behind ss vs) id (omega arith) (behind_names from ss vs (names_from (from + 1) links) names) in
     let here : op_first from id vs ≡ machine.found ss (ops_of ss vs) id =
-    first_here from ss vs (names_from (from + 1) links) id names ∙ ap (λ (o : Option StreamView). or_else (machine.found ss (ops_of ss vs) id) (option_map (λ (v : StreamView). v.op) o)) later ∙ else_none (machine.found ss (ops_of ss vs) id) in
+    first_here from ss vs (names_from (from + 1) links) id names ∙ ap (λ (o : Option StreamView). or_else (machine.found ss (ops_of ss vs) id) (option_map (λ (v : StreamView). v.op) o)) later
+    ∙ else_none (machine.found ss (ops_of ss vs) id) in
     rw (add-zero from) here
 op_found (ss ∷ links) from (suc i) vs id names =
     let next : from + suc i ≡ from + 1 + i = omega arith in

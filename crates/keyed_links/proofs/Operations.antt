@@ -348,8 +348,10 @@ state_ops : (plan : Plan) (ends : List LinkEnds) (k k' : KeeperView) (packets : 
     → state_of plan es k' packets ≡ record (put_op plan (state_of plan es k packets) link id w.op) { draws = k'.pool.draws }
 unfolding put_op
 state_ops plan ends k k' packets n link id w links named streams es =
-    let all : ops_in (streams_by_link plan) k'.manager.streams ≡ slice_set (ops_in (streams_by_link plan) k.manager.streams) link (machine.changed (streams_of plan link) (slice_index_or (ops_in (streams_by_link plan) k.manager.streams) link []) id w.op) =
-    ap (λ (vs : List StreamView). ops_in (streams_by_link plan) vs) (streams ∙ named.sets w) ∙ ap (λ (m : ℕ). ops_in (streams_by_link plan) (set_named m id w k.manager.streams)) (sym (from_none link)) ∙ ops_set (streams_by_link plan) 0 link id w k.manager.streams links.names in
+    let all : ops_in (streams_by_link plan) k'.manager.streams ≡ slice_set (ops_in (streams_by_link plan) k.manager.streams) link (machine.changed (streams_of plan link) (slice_index_or (ops_in (streams_by_link plan) k.manager.streams) link
+    []) id w.op) =
+    ap (λ (vs : List StreamView). ops_in (streams_by_link plan) vs) (streams ∙ named.sets w) ∙ ap (λ (m : ℕ). ops_in (streams_by_link plan) (set_named m id w k.manager.streams)) (sym (from_none link)) ∙ ops_set (streams_by_link plan) 0 link
+    id w k.manager.streams links.names in
     ap (λ (os : List (List Op)). record (state_of plan es k' packets) { ops = os }) all
 
 -- ---- both ports of a link
@@ -426,7 +428,8 @@ state_by plan ends k k' packets link id l l' host device n x w None links is nam
     ∙ ap (λ (s : LinkState). record s { draws = st.draws }) (put_op_back plan st link id n.stream.op here))
 state_by plan ends k k' packets link id l l' host device n x w (Some r) links is named both streams here d =
     let st : LinkState = state_of plan ends k packets in
-    let moved = both_moved plan ends k packets link id l l' host device x.host x.device (λ side u. moves_at (ports_of plan st) w r (end_at link id true side u)) (λ side u. moves_at (ports_of plan st) w r (end_at link id false side u)) links is both d.host_is d.device_is in
+    let moved = both_moved plan ends k packets link id l l' host device x.host x.device (λ side u. moves_at (ports_of plan st) w r (end_at link id true side u)) (λ side u. moves_at (ports_of plan st) w r (end_at link id false side u)) links
+    is both d.host_is d.device_is in
     state_ops plan ends k k' packets n link id x.keeper links named streams (slice_set ends link l')
     ∙ (λ i. record (put_op plan (sym moved i) link id (d.op_is i)) { draws = d.draws_is i })
 
@@ -466,8 +469,10 @@ links_operated plan ends k k' link id l l' host device n x links is named both s
 bounded_operated : (ends : List LinkEnds) (packets : List LinkPacket) (steps link : ℕ) (l l' : LinkEnds) → IsBounded ends packets steps → slice_get ends link ≡ Some l → SameCalls l l' → IsBounded (slice_set ends link l') packets (steps + 1)
 bounded_operated ends packets steps link l l' bounded is same = record {
   few = subst (λ (n : ℕ). n ≤ 8) (sym (length-set ends link l')) bounded.few;
-  host_calls = λ i x at. ⊎_elim (λ s. subst (λ (y : LinkEnds). y.host.calls ≤ steps + 1) s.1 (let le = bounded.host_calls link l is in let c = same.host in omega (arith, le, c))) (λ old. let le = bounded.host_calls i x old in omega (arith, le)) (set_cases ends link i l' x at);
-  device_calls = λ i x at. ⊎_elim (λ s. subst (λ (y : LinkEnds). y.device.port.calls ≤ steps + 1) s.1 (let le = bounded.device_calls link l is in let c = same.device in omega (arith, le, c))) (λ old. let le = bounded.device_calls i x old in omega (arith, le)) (set_cases ends link i l' x at);
+  host_calls = λ i x at. ⊎_elim (λ s. subst (λ (y : LinkEnds). y.host.calls ≤ steps + 1) s.1 (let le = bounded.host_calls link l is in let c = same.host in omega (arith, le, c))) (λ old. let le = bounded.host_calls i x old in
+      omega (arith, le)) (set_cases ends link i l' x at);
+  device_calls = λ i x at. ⊎_elim (λ s. subst (λ (y : LinkEnds). y.device.port.calls ≤ steps + 1) s.1 (let le = bounded.device_calls link l is in let c = same.device in omega (arith, le, c))) (λ old. let le = bounded.device_calls i x old in
+      omega (arith, le)) (set_cases ends link i l' x at);
   sealed_here = λ i p at. subst (λ (n : ℕ). p.port.link < n) (sym (length-set ends link l')) (bounded.sealed_here i p at);
 }
 
@@ -549,7 +554,8 @@ ends_by plan old k' operation link id place q keys loss l l' host device x resul
       verdict_is = says ∙ (ap (λ (o : Outcome). verdict_of operation link id loss o) walked.outcome ∙ j.verdict_is);
       state_is = state_by plan old.ends old.keeper k' old.packets.packets link id l l' host device n x.ends w r links is named both walked.stands.streams here
           (record { host_is = j.host_is; device_is = j.device_is; op_is = j.op_is; draws_is = ap (λ (p : Pool). p.draws) pool ∙ j.draws_is });
-      links = links_operated plan old.ends old.keeper k' link id l l' host device n x.ends links is named both walked.stands.streams (λ i. (j.link_is i, j.id_is i)) j.keys_are (ap (λ (p : Pool). p.keys) pool ∙ pool_keys w r old.keeper.pool);
+      links = links_operated plan old.ends old.keeper k' link id l l' host device n x.ends links is named both walked.stands.streams (λ i. (j.link_is i, j.id_is i)) j.keys_are (ap (λ (p : Pool). p.keys) pool
+          ∙ pool_keys w r old.keeper.pool);
     }
 
 some_named : (o : Option Named) → IsSome o → (n : Named) × (o ≡ Some n)

@@ -116,7 +116,8 @@ unnamed plan ends k packets link stream links is = by_link (nat_lt link (length 
     by_stream true at is = by_name (is_some (named k.manager link stream)) refl is
     by_stream false at is = links_beyond plan.links link _ stream links.fits.each_link (false-le stream 255 at)
 
-    by_link : (t : Bool) → nat_lt link (length ends) ≡ t → None ≡ (if t then (if nat_le stream 255 then (if is_some (named k.manager link stream) then one else None) else None) else None) → find_op plan (state_of plan ends k packets) link stream ≡ None
+    by_link : (t : Bool) → nat_lt link (length ends) ≡ t → None ≡ (if t then (if nat_le stream 255 then (if is_some (named k.manager link stream) then one else None) else None) else None) → find_op plan (state_of plan ends k packets) link
+        stream ≡ None
     by_link true at is = by_stream (nat_le stream 255) refl is
     by_link false at is =
         let le : length plan.links ≤ link = subst (λ (n : ℕ). n ≤ link) links.many (false-lt link (length ends) at) in
@@ -162,7 +163,8 @@ at_side plan ends k packets h link stream l side links stands known is =
     let shown : status_at plan (state_of plan ends k packets) side link stream ≡ stream_status f.0.state = ap (λ (o : Option StreamState). machine.stream_status o) there ∙ status_same f.0.state in
     ap (λ (o : Option Found). option_map (λ (f : Found). stream_status f.state) o) f.1 ∙ ap (λ (s : StreamStatus). Some s) (sym shown)
 
-pub both_states : (old : Links) (plan : Plan) (h : History) (link stream : ℕ) (l : LinkEnds) → AreLinks plan old.ends old.keeper → StandsFor plan (links_state plan old) h → is_some (named old.keeper.manager link stream) ≡ true → slice_get old.ends link ≡ Some l
+pub both_states : (old : Links) (plan : Plan) (h : History) (link stream : ℕ) (l : LinkEnds) → AreLinks plan old.ends old.keeper → StandsFor plan (links_state plan old) h → is_some (named old.keeper.manager link stream) ≡ true
+    → slice_get old.ends link ≡ Some l
     → status_of l stream ≡ Some (status_at plan (links_state plan old) Host link stream, status_at plan (links_state plan old) Device link stream)
 both_states old plan h link stream l links stands there is =
     let q = some_op (named old.keeper.manager link stream) there in
@@ -337,8 +339,10 @@ links_reset plan ends k link l links is = record {
 bounded_reset : (ends : List LinkEnds) (packets : List LinkPacket) (steps link : ℕ) (l : LinkEnds) → IsBounded ends packets steps → slice_get ends link ≡ Some l → IsBounded (slice_set ends link (reset_ends l)) packets (steps + 1)
 bounded_reset ends packets steps link l bounded is = record {
   few = subst (λ (n : ℕ). n ≤ 8) (sym (length-set ends link (reset_ends l))) bounded.few;
-  host_calls = λ i x at. ⊎_elim (λ s. subst (λ (y : LinkEnds). y.host.calls ≤ steps + 1) s.1 (let le = bounded.host_calls link l is in omega (arith, le))) (λ old. let le = bounded.host_calls i x old in omega (arith, le)) (set_cases ends link i (reset_ends l) x at);
-  device_calls = λ i x at. ⊎_elim (λ s. subst (λ (y : LinkEnds). y.device.port.calls ≤ steps + 1) s.1 (let le = bounded.device_calls link l is in omega (arith, le))) (λ old. let le = bounded.device_calls i x old in omega (arith, le)) (set_cases ends link i (reset_ends l) x at);
+  host_calls = λ i x at. ⊎_elim (λ s. subst (λ (y : LinkEnds). y.host.calls ≤ steps + 1) s.1 (let le = bounded.host_calls link l is in omega (arith, le))) (λ old. let le = bounded.host_calls i x old in omega (arith, le))
+      (set_cases ends link i (reset_ends l) x at);
+  device_calls = λ i x at. ⊎_elim (λ s. subst (λ (y : LinkEnds). y.device.port.calls ≤ steps + 1) s.1 (let le = bounded.device_calls link l is in omega (arith, le))) (λ old. let le = bounded.device_calls i x old in omega (arith, le))
+      (set_cases ends link i (reset_ends l) x at);
   sealed_here = λ i p at. subst (λ (n : ℕ). p.port.link < n) (sym (length-set ends link (reset_ends l))) (bounded.sealed_here i p at);
 }
 

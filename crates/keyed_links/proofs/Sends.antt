@@ -129,7 +129,8 @@ on_stream e t f s n r =
 abbrev send_of : PortName → ℕ → Tlp → Bool → Bool → Sending
 send_of port id t more trusted = record { port = port; stream = id; class = class_of (header t); more = more; trusted = trusted }
 
-answered_as : (plan : Plan) (ends : List LinkEnds) (k : KeeperView) (packets : List LinkPacket) (port : PortName) (l : LinkEnds) (t : Tlp) (more trusted : Bool) (id : ℕ) (f : Found) (r : Option Verdict) → slice_get ends port.link ≡ Some l → IsPort plan port (port_in port.side l)
+answered_as : (plan : Plan) (ends : List LinkEnds) (k : KeeperView) (packets : List LinkPacket) (port : PortName) (l : LinkEnds) (t : Tlp) (more trusted : Bool) (id : ℕ) (f : Found) (r : Option Verdict) → slice_get ends port.link ≡ Some l
+    → IsPort plan port (port_in port.side l)
     → found (port_in port.side l).plans (port_in port.side l).states id ≡ Some f
     → let s = send_of port id t more trusted in let n = length packets + 1 in let e = port_in port.side l in
     answered plan (state_of plan ends k packets) s t f.state r (sealed_by (lanes_of f.plan.mode e.limit f.state) s n) ≡ sent plan ends k packets port l (on_stream e t f s n r)
@@ -152,7 +153,8 @@ choice_same : (plan : Plan) (port : PortName) (e : PortEnd) (t : Tlp) → IsPort
 unfolding choice
 choice_same plan port e t at_port = (λ i. chosen (choice_of (sym at_port.plans i) (sym at_port.name i).side (header t)))
 
-pub sends_as : (plan : Plan) (ends : List LinkEnds) (k : KeeperView) (packets : List LinkPacket) (port : PortName) (l : LinkEnds) (h : History) (r : Result Tlp TlpFault) (more trusted : Bool) → slice_get ends port.link ≡ Some l → IsPort plan port (port_in port.side l)
+pub sends_as : (plan : Plan) (ends : List LinkEnds) (k : KeeperView) (packets : List LinkPacket) (port : PortName) (l : LinkEnds) (h : History) (r : Result Tlp TlpFault) (more trusted : Bool) → slice_get ends port.link ≡ Some l
+    → IsPort plan port (port_in port.side l)
     → StandsFor plan (state_of plan ends k packets) h
     → machine.send_read plan (state_of plan ends k packets) port r more trusted ≡ sent plan ends k packets port l (send_read (port_in port.side l) trusted more (length packets + 1) r)
 sends_as plan ends k packets port l h (Err fault) more trusted is at_port stands = unsealed_as plan ends k packets port l (λ n. v.Malformed n (tlp_word fault) (place_in fault)) is at_port
@@ -163,7 +165,8 @@ sends_as plan ends k packets port l h (Ok t) more trusted is at_port stands =
     e = port_in port.side l
 
     by_found : (id : ℕ) (o : Option Found) → has_stream plan port id ≡ true → found (port_in port.side l).plans (port_in port.side l).states id ≡ o
-        → machine.send_found plan (state_of plan ends k packets) (send_of port id t more trusted) t (option_map (λ (f : Found). f.state) o) ≡ sent plan ends k packets port l (send_found (port_in port.side l) t trusted more (length packets + 1) o)
+        → machine.send_found plan (state_of plan ends k packets) (send_of port id t more trusted) t (option_map (λ (f : Found). f.state) o) ≡ sent plan ends k packets port l (send_found (port_in port.side l) t trusted more
+        (length packets + 1) o)
     by_found id None known at =
         let one : find plan (state_of plan ends k packets) port id ≡ Some (standing plan h port id) =
         stands.ports_stand.streams port id ∙ ap (λ (b : Bool). if b then Some (standing plan h port id) else None) known in
@@ -180,7 +183,8 @@ sends_as plan ends k packets port l h (Ok t) more trusted is at_port stands =
         ∙ answered_as plan ends k packets port l t more trusted id f (first_that_holds (refusals (lanes_of f.plan.mode x.limit f.state) s.class)) is at_port at
         ∙ ap (λ (y : Sending). sent plan ends k packets port l (sent_on x t f y (length packets + 1))) same
 
-    by_choice : (o : Option ℕ) → choice plan port (header t) ≡ o → machine.send_on plan (state_of plan ends k packets) port t more trusted o ≡ sent plan ends k packets port l (send_chosen (port_in port.side l) t trusted more (length packets + 1) o)
+    by_choice : (o : Option ℕ) → choice plan port (header t) ≡ o → machine.send_on plan (state_of plan ends k packets) port t more trusted o ≡ sent plan ends k packets port l (send_chosen (port_in port.side l) t trusted more
+        (length packets + 1) o)
     by_choice None at = unsealed_as plan ends k packets port l (λ n. v.Plain n) is at_port
     by_choice (Some id) at =
         ap (λ (o : Option StreamState). machine.send_found plan (state_of plan ends k packets) (send_of port id t more trusted) t o) (find_at plan ends k packets port l id is at_port)

@@ -208,7 +208,8 @@ next_step plan old new e verdict w x =
     let ended = x.ends plan w.history w.links w.stands in
     ((λ i. (ended.verdict_is i, ended.state_is i)), refl, x.counted)
 
-pub next_stands : (plan : Plan) (old new : Links) (e : Event) (verdict : Verdict) → StepStands → PointsStand → IsWorld plan old → EndsWith verdict old new (λ p st. event_step e p st) → IsStep (world_of plan old) e verdict (world_of plan new)
+pub next_stands : (plan : Plan) (old new : Links) (e : Event) (verdict : Verdict) → StepStands → PointsStand → IsWorld plan old → EndsWith verdict old new (λ p st. event_step e p st) → IsStep (world_of plan old) e verdict
+    (world_of plan new)
 next_stands plan old new e verdict step points w x = λ h stands.
     let ended = x.ends plan h w.links stands in
     let s = step plan (links_state plan old) h e stands in

@@ -19,21 +19,25 @@ use Rattle.keyed_links.specs.Requester.{requester_of}
 -- the ends of the links from this number on
 abbrev pub ends_from : ℕ → ℕ → List LinkPlan → List LinkEnds
 ends_from limit link [] = []
-ends_from limit link (l ∷ ls) = new_ends link l.streams limit (requester_of l.interfaces) ∷ ends_from limit (link + 1) ls
+ends_from limit link (l ∷ ls) = new_ends link l.streams limit (requester_of l.interfaces)
+    ∷ ends_from limit (link + 1) ls
 
 abbrev pub CallsBelow : ℕ → List LinkEnds → Type 0
-CallsBelow most ends = (i : ℕ) (l : LinkEnds) → slice_get ends i ≡ Some l → (l.host.calls < most) × (l.device.port.calls < most)
+CallsBelow most ends = (i : ℕ) (l : LinkEnds) → slice_get ends i ≡ Some l → (l.host.calls < most)
+    × (l.device.port.calls < most)
 
 -- the ends of this link change, and no others
 abbrev pub Changes : List LinkEnds → ℕ → List LinkEnds → (LinkEnds → LinkEnds → Type 0) → Type 0
-Changes old link new P = (l : LinkEnds) → slice_get old link ≡ Some l → (l' : LinkEnds) × (new ≡ slice_set old link l') × P l l'
+Changes old link new P = (l : LinkEnds) → slice_get old link ≡ Some l → (l' : LinkEnds)
+    × (new ≡ slice_set old link l') × P l l'
 
 pub record Sends (port : PortName) (tlp : List ℕ) (trusted more : Bool) (answer : Sent) (l l' : LinkEnds) : Type 0 where
   pub sent : (number : ℕ) → IsSent (port_in port.side l) tlp trusted more number answer (port_in port.side l')
   pub other : l' ≡ with_port port.side (port_in port.side l') l
 
 abbrev pub SendsAt : List LinkEnds → PortName → List ℕ → Bool → Bool → Sent → List LinkEnds → Type 0
-SendsAt old port tlp trusted more answer new = Changes old port.link new (λ l l'. Sends port tlp trusted more answer l l')
+SendsAt old port tlp trusted more answer new = Changes old port.link new
+    (λ l l'. Sends port tlp trusted more answer l l')
 
 pub record Arrives (port : PortName) (bytes : List ℕ) (verdict : Verdict) (l l' : LinkEnds) : Type 0 where
   pub ends : l' ≡ with_port port.side (take_step (port_in port.side l) bytes).port l
@@ -43,8 +47,10 @@ pub record Arrives (port : PortName) (bytes : List ℕ) (verdict : Verdict) (l l
 abbrev pub ArrivesAt : List LinkEnds → PortName → List ℕ → Verdict → List LinkEnds → Type 0
 ArrivesAt old port bytes verdict new = Changes old port.link new (λ l l'. Arrives port bytes verdict l l')
 
-abbrev pub OperatesAt : List LinkEnds → ℕ → KeeperView → Op → Option Loss → Outcome → List LinkEnds → KeeperView → Type 0
-OperatesAt old link k op loss outcome new k' = Changes old link new (λ l l'. Operates k l op loss outcome k' l' × SameCalls l l')
+abbrev pub OperatesAt : List LinkEnds → ℕ → KeeperView → Op → Option Loss → Outcome → List LinkEnds
+    → KeeperView → Type 0
+OperatesAt old link k op loss outcome new k' = Changes old link new (λ l l'. Operates k l op loss outcome k' l'
+    × SameCalls l l')
 
 abbrev pub ResetsAt : List LinkEnds → ℕ → List LinkEnds → Type 0
 ResetsAt old link new = Changes old link new (λ l l'. l' ≡ reset_ends l)

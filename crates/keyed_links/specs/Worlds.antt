@@ -34,7 +34,8 @@ pub record HasStood (plan : Plan) (h : History) (event : Event) (verdict : Verdi
   pub points : StreamPoints plan state ((event, verdict) ∷ h)
 
 abbrev pub IsStep : WorldView → Event → Verdict → WorldView → Type 0
-IsStep old event verdict new = (h : History) → StandsFor old.plan old.state h → HasStood old.plan h event verdict new.state
+IsStep old event verdict new = (h : History) → StandsFor old.plan old.state h
+    → HasStood old.plan h event verdict new.state
 
 -- ---- as it is kept
 

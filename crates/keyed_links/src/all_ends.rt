@@ -47,7 +47,15 @@ fn requester(link: &LinkPlan) -> u16
 }
 
 impl AllEnds {
-    ghost use Rattle.keyed_links.specs.AllEnds.{ends_from, CallsBelow, SendsAt, ArrivesAt, OperatesAt, ResetsAt, status_of};
+    ghost use Rattle.keyed_links.specs.AllEnds.{
+      ends_from,
+      CallsBelow,
+      SendsAt,
+      ArrivesAt,
+      OperatesAt,
+      ResetsAt,
+      status_of,
+    };
 
     /// The ends of the plan's links, without keys.
     pub fn make(alloc: Global, plan: &Plan) -> Result<AllEnds, Memory>
@@ -92,7 +100,8 @@ impl AllEnds {
     /// The bytes that the last send at the port sealed, its packets joined.
     pub fn packets(&self, port: PortName) -> &[u8]
         requires { port.link < length self.now }
-        ensures value { (l : LinkEnds) → slice_get self.now port.link ≡ Some l → result.now ≡ (port_in port.side l).sealed }
+        ensures value { (l : LinkEnds) → slice_get self.now port.link ≡ Some l
+            → result.now ≡ (port_in port.side l).sealed }
         ensures short { length result.now ≤ 4184 }
     {
         self.links[port.link as usize].packets(port.side)
@@ -109,7 +118,8 @@ impl AllEnds {
         taken_verdict(port, arrival, ends)
     }
 
-    /// The states of a stream of a link at the host's port and at the device's; `None` where the link has no such stream.
+    /// The states of a stream of a link at the host's port and at the device's; `None` where the link has no such
+    /// stream.
     pub fn status(&self, link: u8, stream: u8) -> Option<(StreamStatus, StreamStatus)>
         requires { link < length self.now }
         ensures { (l : LinkEnds) → slice_get self.now link ≡ Some l → result ≡ status_of l stream }

@@ -164,7 +164,8 @@ impl Links {
         requires here { port.link < length self.old.ends }
         requires marks { 3 ≤ self.old.packets.mark_room }
         requires bytes_room { 4184 ≤ self.old.packets.byte_room }
-        ensures { EndsWith result self.old self.new (λ plan st. step_of plan st (Event.Send port bytes.now more trusted)) }
+        ensures { EndsWith result self.old self.new
+            (λ plan st. step_of plan st (Event.Send port bytes.now more trusted)) }
     {
         let number = self.packets.count() as u64 + 1;
         let sent = self.ends.send(port, bytes, trusted, more);
@@ -183,7 +184,8 @@ impl Links {
         requires steps { self.old.steps < 2 ^ 28 }
         requires bounded { IsBounded self.old.ends self.old.packets.packets self.old.steps }
         requires here { port.link < length self.old.ends }
-        ensures { EndsWith result self.old self.new (λ plan st. arrive_step plan st (Some (record { port = port; bytes = bytes.now }))) }
+        ensures { EndsWith result self.old self.new
+            (λ plan st. arrive_step plan st (Some (record { port = port; bytes = bytes.now }))) }
     {
         let verdict = self.ends.arrive(port, bytes);
         self.steps += 1;
@@ -291,7 +293,8 @@ impl Links {
     ) -> Verdict
         requires steps { self.old.steps < 2 ^ 28 }
         requires bounded { IsBounded self.old.ends self.old.packets.packets self.old.steps }
-        ensures { EndsWith result self.old self.new (λ plan st. step_of plan st (operation_event operation link stream loss)) }
+        ensures { EndsWith result self.old self.new
+            (λ plan st. step_of plan st (operation_event operation link stream loss)) }
     {
         match self.named(link, stream) {
             None => self.only(Verdict::Nothing),
@@ -311,7 +314,8 @@ impl Links {
         requires bounded { IsBounded self.old.ends self.old.packets.packets self.old.steps }
         requires here { link < length self.old.ends }
         requires stream { IsSome (named self.old.keeper.manager link stream) }
-        ensures { EndsWith result self.old self.new (λ plan st. step_of plan st (operation_event operation link stream loss)) }
+        ensures { EndsWith result self.old self.new
+            (λ plan st. step_of plan st (operation_event operation link stream loss)) }
     {
         link_walks::operations_join();
         let op = named_op(operation, link, stream);

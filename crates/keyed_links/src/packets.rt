@@ -25,8 +25,8 @@ pub struct Mark {
     pub end: usize,
 }
 
-/// Packets by their numbers from 1, each with the port that sealed it. A packet costs its length and a mark of 24 bytes,
-/// and room for as much again.
+/// Packets by their numbers from 1, each with the port that sealed it. A packet costs its length and a mark of 24
+/// bytes, and room for as much again.
 #[derive(Drop)]
 pub struct Packets {
     bytes: Vec<u8>,
@@ -83,7 +83,8 @@ impl Packets {
         requires marks { length packets.now ≤ self.old.mark_room }
         requires bytes { length bytes.now ≤ self.old.byte_room }
         requires lengths { sum_by (λ (p : SealedPacket). p.length) packets.now ≡ length bytes.now }
-        ensures { self.new.packets ≡ self.old.packets ++ cut_packets port (map (λ (p : SealedPacket). p.length) packets.now) bytes.now }
+        ensures { self.new.packets ≡ self.old.packets ++ cut_packets port (map (λ (p : SealedPacket). p.length)
+            packets.now) bytes.now }
     {
         let start = self.bytes.len();
         self.bytes.extend_from_slice(bytes).unwrap();
@@ -92,7 +93,8 @@ impl Packets {
 
     /// The packet of this number, with the port that sealed it.
     pub fn get(&self, number: u64) -> Option<(PortName, &[u8])>
-        ensures { option_map (λ p. record { port = p.0; bytes = p.1.now }) result ≡ packet_numbered self.now.packets number }
+        ensures { option_map (λ p. record { port = p.0; bytes = p.1.now }) result ≡ packet_numbered
+            self.now.packets number }
     {
         if number == 0 || number > self.marks.len() as u64 {
             None
@@ -107,7 +109,8 @@ impl Packets {
 fn add_marks(marks: &mut Vec<Mark>, port: PortName, packets: &[SealedPacket], start: usize)
     requires room { vec_len marks.old + length packets.now ≤ vec_capacity marks.old }
     requires fits { start + sum_by (λ (p : SealedPacket). p.length) packets.now < 2 ^ 63 }
-    ensures { marks.new.items ≡ marks.old.items ++ marks_from port start (map (λ (p : SealedPacket). p.length) packets.now) }
+    ensures { marks.new.items ≡ marks.old.items ++ marks_from port start (map (λ (p : SealedPacket). p.length)
+        packets.now) }
 {
     let mut start = start;
     for packet in packets {

@@ -45,13 +45,15 @@ unended n piece = if nat_lt 20000 (length piece) then refusal n line.TooLong els
 
 -- The end and the text of the pieces between line feeds, by what a line of each number comes to (a state and a text, or
 -- a fault) and by the text behind the last one. The last piece is a line where it has bytes.
-abbrev pub process : {S : Type 0} → (S → ℕ → Text → Result (S × Text) LineFault) → (S → Text) → Bool → ℕ → S → List Text → Due
+abbrev pub process : {S : Type 0} → (S → ℕ → Text → Result (S × Text) LineFault) → (S → Text) → Bool → ℕ → S
+    → List Text → Due
 process advance closing over n s [] = (Done, closing s)
 process advance closing over n s (piece ∷ []) =
     if over then unended n piece
     else if length piece == 0 then (Done, closing s)
     else go_on n (advance s n piece) (λ t. (Done, closing t))
-process advance closing over n s (piece ∷ next ∷ rest) = go_on n (advance s n piece) (λ t. process advance closing over (n + 1) t (next ∷ rest))
+process advance closing over n s (piece ∷ next ∷ rest) = go_on n (advance s n piece) (λ t. process advance closing over
+    (n + 1) t (next ∷ rest))
 
 -- the end and the text of a file
 abbrev pub file_due : {S : Type 0} → (S → ℕ → Text → Result (S × Text) LineFault) → (S → Text) → S → Text → Due

@@ -65,7 +65,8 @@ RanBlind read write quiet (Ok e) = quiet
 RanBlind read write quiet (Err e) = CutCause read write e
 
 -- where the contents are told, by what they call for: an end and a text, or nothing where a file is not there
-abbrev pub RanOn : Option Contents → (Contents → Option Due) → (read write quiet : Type 0) → (Text → Type 0) → Result End Fault → Type 0
+abbrev pub RanOn : Option Contents → (Contents → Option Due) → (read write quiet : Type 0) → (Text → Type 0)
+    → Result End Fault → Type 0
 RanOn None due read write quiet gained r = RanBlind read write quiet r
 RanOn (Some contents) due read write quiet gained r = RanDue (due contents) read write quiet gained r
 

@@ -41,7 +41,8 @@ fn run_front<O: Sink, W: LineWork>(
     ensures end { IfOk result (λ e. e ≢ End.Usage) }
     ensures over { IfOk result (λ e. e ≡ End.TooLong → 16777216 < length front.now) }
     ensures whole { IfOk result (λ e. e ≡ End.Done → length front.now ≤ 16777216) }
-    ensures ran { Ran (file_due W.advance W.closing work.old front.now) ⊥ (Rose (O.faults out.old) (O.faults out.new)) (O.faults out.new ≡ O.faults out.old)
+    ensures ran { Ran (file_due W.advance W.closing work.old front.now) ⊥ (Rose (O.faults out.old) (O.faults out.new))
+        (O.faults out.new ≡ O.faults out.old)
         (Gained (O.held out.old) (O.held out.new)) result }
 {
     let bytes = cut_front(front, FILE_LIMIT);
@@ -60,7 +61,8 @@ pub fn run_file<S: Shelf, O: Sink, W: LineWork>(
 ) -> Result<End, Fault>
     requires { W.fits work.old 1 }
     ensures end { IfOk result (λ e. e ≢ End.Usage) }
-    ensures answers { RanOn (S.contents shelf.old) (λ contents. option_map (file_due W.advance W.closing work.old) (contents name.now))
+    ensures answers { RanOn (S.contents shelf.old) (λ contents. option_map (file_due W.advance W.closing work.old)
+        (contents name.now))
         (Rose (S.faults shelf.old) (S.faults shelf.new)) (Rose (O.faults out.old) (O.faults out.new))
         (Quiet (S.faults shelf.old) (S.faults shelf.new) (O.faults out.old) (O.faults out.new))
         (Gained (O.held out.old) (O.held out.new)) result }

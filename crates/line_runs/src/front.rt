@@ -30,7 +30,8 @@ fn read_on<S: Shelf>(
     ensures kept { OnErr result (bytes.new.items ≡ bytes.old.items) }
     ensures bound { IfOk result (λ n. n ≤ length piece.old) }
     ensures more { IfOk result (λ n. length bytes.new.items ≡ length bytes.old.items + n) }
-    ensures bytes { IsReadOf (S.contents shelf.old) name.now bytes.old.items → ReadsOn (S.contents shelf.old) name.now bytes.new.items result }
+    ensures bytes { IsReadOf (S.contents shelf.old) name.now bytes.old.items → ReadsOn (S.contents shelf.old) name.now
+        bytes.new.items result }
     ensures given { IfOk result (λ n. S.given shelf.new ≡ counted (S.given shelf.old) n) }
     ensures cap { S.given shelf.new ≤ S.given shelf.old + length piece.old }
     ensures cause { ReadCause (S.faults shelf.old) (S.faults shelf.new) (S.contents shelf.old) name.now result }

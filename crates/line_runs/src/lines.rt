@@ -44,7 +44,8 @@ pub trait LineWork {
 // Ends at a line that is not spelled.
 fn refuse<O: Sink>(alloc: Global, number: u64, fault: LineFault, out: &mut O) -> Result<End, Fault>
     ensures end { IfOk result (λ e. e ≡ End.Script) }
-    ensures ran { Ran (refusal number fault) ⊥ (Rose (O.faults out.old) (O.faults out.new)) (O.faults out.new ≡ O.faults out.old)
+    ensures ran { Ran (refusal number fault) ⊥ (Rose (O.faults out.old) (O.faults out.new))
+        (O.faults out.new ≡ O.faults out.old)
         (Gained (O.held out.old) (O.held out.new)) result }
 {
     match fault_line(alloc, number, fault) {
@@ -57,7 +58,8 @@ fn refuse<O: Sink>(alloc: Global, number: u64, fault: LineFault, out: &mut O) ->
 fn end_unended<O: Sink>(alloc: Global, number: u64, piece: &[u8], out: &mut O) -> Result<End, Fault>
     ensures end { IfOk result (λ e. e ≢ End.Usage) }
     ensures cut { IfOk result (λ e. e ≢ End.Done) }
-    ensures ran { Ran (unended number piece.now) ⊥ (Rose (O.faults out.old) (O.faults out.new)) (O.faults out.new ≡ O.faults out.old)
+    ensures ran { Ran (unended number piece.now) ⊥ (Rose (O.faults out.old) (O.faults out.new))
+        (O.faults out.new ≡ O.faults out.old)
         (Gained (O.held out.old) (O.held out.new)) result }
 {
     if piece.len() > LINE_LIMIT {
@@ -69,7 +71,8 @@ fn end_unended<O: Sink>(alloc: Global, number: u64, piece: &[u8], out: &mut O) -
 // Ends behind the last line.
 fn close<O: Sink, W: LineWork>(work: &W, out: &mut O) -> Result<End, Fault>
     ensures end { IfOk result (λ e. e ≡ End.Done) }
-    ensures ran { Ran (End.Done, W.closing work.now) ⊥ (Rose (O.faults out.old) (O.faults out.new)) (O.faults out.new ≡ O.faults out.old)
+    ensures ran { Ran (End.Done, W.closing work.now) ⊥ (Rose (O.faults out.old) (O.faults out.new))
+        (O.faults out.new ≡ O.faults out.old)
         (Gained (O.held out.old) (O.held out.new)) result }
 {
     match work.closing() {
@@ -92,7 +95,8 @@ fn run_last<O: Sink, W: LineWork>(
     ensures end { IfOk result (λ e. e ≢ End.Usage) }
     ensures over { IfOk result (λ e. e ≡ End.TooLong → over ≡ true) }
     ensures whole { IfOk result (λ e. e ≡ End.Done → over ≡ false) }
-    ensures ran { Ran (process W.advance W.closing over number work.old (piece.now ∷ [])) ⊥ (Rose (O.faults out.old) (O.faults out.new))
+    ensures ran { Ran (process W.advance W.closing over number work.old (piece.now ∷ [])) ⊥
+        (Rose (O.faults out.old) (O.faults out.new))
         (O.faults out.new ≡ O.faults out.old) (Gained (O.held out.old) (O.held out.new)) result }
 {
     if over {
@@ -124,7 +128,8 @@ pub fn run_lines<O: Sink, W: LineWork>(
     ensures end { IfOk result (λ e. e ≢ End.Usage) }
     ensures over { IfOk result (λ e. e ≡ End.TooLong → over ≡ true) }
     ensures whole { IfOk result (λ e. e ≡ End.Done → over ≡ false) }
-    ensures ran { Ran (process W.advance W.closing over 1 work.old (pieces bytes.now)) ⊥ (Rose (O.faults out.old) (O.faults out.new))
+    ensures ran { Ran (process W.advance W.closing over 1 work.old (pieces bytes.now)) ⊥
+        (Rose (O.faults out.old) (O.faults out.new))
         (O.faults out.new ≡ O.faults out.old) (Gained (O.held out.old) (O.held out.new)) result }
 {
     let mut rest = bytes;

@@ -35,7 +35,8 @@ pub fn write<O: Sink>(out: &mut O, text: &[u8]) -> Result<(), Fault>
 /// Writes the last text, and ends so.
 pub fn finish<O: Sink>(out: &mut O, end: End, text: &[u8]) -> Result<End, Fault>
     ensures end { IfOk result (λ e. e ≡ end) }
-    ensures ran { Ran (end, text.now) ⊥ (Rose (O.faults out.old) (O.faults out.new)) (O.faults out.new ≡ O.faults out.old)
+    ensures ran { Ran (end, text.now) ⊥ (Rose (O.faults out.old) (O.faults out.new))
+        (O.faults out.new ≡ O.faults out.old)
         (Gained (O.held out.old) (O.held out.new)) result }
 {
     match write(out, text) {

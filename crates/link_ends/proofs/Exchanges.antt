@@ -74,7 +74,8 @@ turn_same a b id draw keys o set n same (puts lane lt makes is e) =
 turn_same a b id draw keys o set n same (goes lane lt makes is e) =
     let at = lane_at id set lane lt in
     rw e (record {
-      same = ap (λ (s : Option SlotPair). Some (Go (place_of id (selector_of set lane)) (set_of (selector_of set lane)) (go_at (seen (place_of id (selector_of set lane)) s) (set_of (selector_of set lane))))) (same (place_of id (selector_of set lane)) at);
+      same = ap (λ (s : Option SlotPair). Some (Go (place_of id (selector_of set lane)) (set_of (selector_of set lane)) (go_at (seen (place_of id (selector_of set lane)) s) (set_of (selector_of set lane)))))
+          (same (place_of id (selector_of set lane)) at);
       at = at;
     })
 turn_same a b id draw keys o set n same (halts k lane lt is e) =

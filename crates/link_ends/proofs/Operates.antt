@@ -35,7 +35,8 @@ abbrev pub seen : PortEnd → ℕ → HostView
 seen e id = host_view (λ port stream. status_in port stream) (λ port stream sub. live_in_port port stream sub) e id
 
 host_seen : (e : PortEnd) (id : ℕ) (f : Found) → found e.plans e.states id ≡ Some f → seen e id ≡ host_of f.state
-host_seen e id f is = ap (λ (o : Option Found). let v : HostView = record { status = option_map (λ (g : Found). stream_status g.state) o; live = λ (u : SubKind). option_and_then (λ (g : Found). live_set (pair_at true u g.state)) o } in v) is
+host_seen e id f is = ap (λ (o : Option Found). let v : HostView = record { status = option_map (λ (g : Found). stream_status g.state) o; live = λ (u : SubKind). option_and_then (λ (g : Found). live_set (pair_at true u g.state)) o } in v)
+    is
 
 refused_by : (o : Option Refusal) (r : Refusal) → Err r ≡ ok_unless o → o ≡ Some r
 refused_by None r is = absurd cc

@@ -1,4 +1,5 @@
--- The manager at the two ends of a link: what an exchange and an operation make of one stream, and that no other changes.
+-- The manager at the two ends of a link: what an exchange and an operation make of one stream, and that no other
+-- changes.
 use Rattle.std.specs.Prelude.{ℕ, ◌≡◌, ◌<◌, length, slice_set, Option, Some}
 use Rattle.ide_types.specs.declared.port.Side.TheVariants.{Host, Device}
 use Rattle.link_events.specs.declared.event.Loss.{Loss}
@@ -36,7 +37,8 @@ pub record IsOn (m : ManagerView) (l : LinkEnds) (place id : ℕ) (host device :
   pub device_found : found l.device.port.plans l.device.port.states id ≡ Some device
 
 -- the manager and the ends with other parts of one stream
-pub record Stands (m : ManagerView) (l : LinkEnds) (place id : ℕ) (e : StreamEnds) (m' : ManagerView) (l' : LinkEnds) : Type 0 where
+pub record Stands (m : ManagerView) (l : LinkEnds) (place id : ℕ) (e : StreamEnds) (m' : ManagerView)
+    (l' : LinkEnds) : Type 0 where
   pub id_is : e.keeper.id ≡ id
   pub streams : m'.streams ≡ slice_set m.streams place e.keeper
   pub host : HasStream l.host id e.host l'.host
@@ -45,7 +47,8 @@ pub record Stands (m : ManagerView) (l : LinkEnds) (place id : ℕ) (e : StreamE
 
 -- ---- an exchange
 
-pub record IsExchanged (m0 : ManagerView) (l0 : LinkEnds) (place id : ℕ) (loss : Option Loss) (a : Asked) (e : StreamEnds) (result : Outcome) (m : ManagerView) (l : LinkEnds) : Type 0 where
+pub record IsExchanged (m0 : ManagerView) (l0 : LinkEnds) (place id : ℕ) (loss : Option Loss) (a : Asked)
+    (e : StreamEnds) (result : Outcome) (m : ManagerView) (l : LinkEnds) : Type 0 where
   pub outcome : result ≡ outcome_of a (exchanged loss l0.device.requester a e).judged
   pub stands : Stands m0 l0 place id (ends_after a (exchanged loss l0.device.requester a e) e) m l
   pub asking : m.asking ≡ asking_after place result
@@ -53,19 +56,22 @@ pub record IsExchanged (m0 : ManagerView) (l0 : LinkEnds) (place id : ℕ) (loss
 -- Whatever stream is asked.
 abbrev pub Exchanges : Option Loss → ManagerView → LinkEnds → Outcome → ManagerView → LinkEnds → Type 0
 Exchanges loss m l result m' l' =
-    (m0 : ManagerView) (l0 : LinkEnds) (place id : ℕ) (host device : Found) (e : StreamEnds) (a : Asked) → IsOn m0 l0 place id host device
+    (m0 : ManagerView) (l0 : LinkEnds) (place id : ℕ) (host device : Found) (e : StreamEnds) (a : Asked)
+    → IsOn m0 l0 place id host device
     → Stands m0 l0 place id e m l → m.asking ≡ Some place → asked_in e.keeper.op ≡ Some a → IsAsked (Some a)
     → IsExchanged m0 l0 place id loss a e result m' l'
 
 -- ---- one exchange after another
 
-pub record IsWalked (m0 : ManagerView) (l0 : LinkEnds) (place id : ℕ) (walked : Walked) (result : Outcome) (m : ManagerView) (l : LinkEnds) : Type 0 where
+pub record IsWalked (m0 : ManagerView) (l0 : LinkEnds) (place id : ℕ) (walked : Walked) (result : Outcome)
+    (m : ManagerView) (l : LinkEnds) : Type 0 where
   pub outcome : result ≡ walked.outcome
   pub stands : Stands m0 l0 place id walked.ends m l
 
 abbrev pub Walks : ℕ → Option Loss → ManagerView → LinkEnds → Outcome → ManagerView → LinkEnds → Type 0
 Walks more loss m l result m' l' =
-    (m0 : ManagerView) (l0 : LinkEnds) (place id : ℕ) (host device : Found) (e : StreamEnds) → IsOn m0 l0 place id host device
+    (m0 : ManagerView) (l0 : LinkEnds) (place id : ℕ) (host device : Found) (e : StreamEnds)
+    → IsOn m0 l0 place id host device
     → Stands m0 l0 place id e m l → m.asking ≡ Some place → IsAsked (asked_in e.keeper.op)
     → IsWalked m0 l0 place id (walk_on more loss l0.device.requester e) result m' l'
 
@@ -74,8 +80,10 @@ Walks more loss m l result m' l' =
 abbrev pub ends_found : Named → Found → Found → StreamEnds
 ends_found n host device = record { host = host.state; device = device.state; keeper = n.stream }
 
-pub record IsOperated (k : KeeperView) (l : LinkEnds) (op : Op) (loss : Option Loss) (n : Named) (host device : Found) (result : Outcome) (k' : KeeperView) (l' : LinkEnds) : Type 0 where
-  pub walked : IsWalked k.manager l n.place (op_name op).stream (event_walk (op_name op).operation (host_of host.state) k.pool loss l.device.requester (ends_found n host device)) result k'.manager l'
+pub record IsOperated (k : KeeperView) (l : LinkEnds) (op : Op) (loss : Option Loss) (n : Named) (host device : Found)
+    (result : Outcome) (k' : KeeperView) (l' : LinkEnds) : Type 0 where
+  pub walked : IsWalked k.manager l n.place (op_name op).stream (event_walk (op_name op).operation (host_of host.state)
+      k.pool loss l.device.requester (ends_found n host device)) result k'.manager l'
   pub pool : k'.pool ≡ pool_begun (op_name op).operation (host_of host.state) k.pool n
 
 abbrev pub Operates : KeeperView → LinkEnds → Op → Option Loss → Outcome → KeeperView → LinkEnds → Type 0

@@ -48,7 +48,8 @@ impl LinkEnds {
     pub fn send(&mut self, side: Side, tlp: &[u8], trusted: bool, more: bool) -> Sent
         requires few { (port_in side self.old).calls < 2 ^ 40 }
         requires hosts { trusted ≡ true → side ≡ Host }
-        ensures sent { (number : ℕ) → IsSent (port_in side self.old) tlp.now trusted more number result (port_in side self.new) }
+        ensures sent { (number : ℕ) → IsSent (port_in side self.old) tlp.now trusted more number result
+            (port_in side self.new) }
         ensures ends { self.new ≡ with_port side (port_in side self.new) self.old }
     {
         match side {

@@ -74,8 +74,10 @@ fn deliver(manager: &Manager, device: &mut Device, request: &mut Vec<u8>, reply:
     requires asking { IsSome (current manager.now) }
     requires request_room { 49 ≤ vec_capacity request.old }
     requires reply_room { 8 ≤ vec_capacity reply.old }
-    ensures device { IfSome (current manager.now) (λ c. device.new ≡ asked_device device.old (spelling (request_asked c.asked c.stream)) c.asked.draw) }
-    ensures reply { IfSome (current manager.now) (λ c. reply.new.items ≡ reply_given device.old (spelling (request_asked c.asked c.stream)) c.asked.draw) }
+    ensures device { IfSome (current manager.now) (λ c. device.new ≡ asked_device device.old
+        (spelling (request_asked c.asked c.stream)) c.asked.draw) }
+    ensures reply { IfSome (current manager.now) (λ c. reply.new.items ≡ reply_given device.old
+        (spelling (request_asked c.asked c.stream)) c.asked.draw) }
     ensures request_room { 49 ≤ vec_capacity request.new }
     ensures reply_room { 8 ≤ vec_capacity reply.new }
 {
@@ -92,7 +94,10 @@ impl Keeper {
     pub fn make(alloc: Global, plan: &Plan) -> Result<Keeper, Memory>
         requires links { length plan.now.links ≤ 8 }
         requires pool { length plan.now.pool ≤ 6144 }
-        ensures { IfOk result (λ k. k ≡ record { manager = new_manager plan.now.links; pool = new_pool plan.now.pool }) }
+        ensures { IfOk result (λ k. k ≡ record {
+          manager = new_manager plan.now.links;
+          pool = new_pool plan.now.pool;
+        }) }
     {
         let manager = Manager::make(alloc, &plan.links)?;
         let pool = KeyPool::make(alloc, plan.pool.as_slice())?;
@@ -161,8 +166,8 @@ impl Keeper {
         }
     }
 
-    /// An operation on a stream of the link with these ends begins or goes on, and its exchanges are carried until it is
-    /// done or refused, but for the one that is lost.
+    /// An operation on a stream of the link with these ends begins or goes on, and its exchanges are carried until it
+    /// is done or refused, but for the one that is lost.
     pub fn operate(&mut self, ends: &mut LinkEnds, op: Op, loss: Option<Loss>) -> Outcome
         requires { IsSome (named self.old.manager (op_name op).link (op_name op).stream) }
         ensures operates { Operates self.old ends.old op loss result self.new ends.new }

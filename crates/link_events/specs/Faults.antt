@@ -44,7 +44,8 @@ is_at_host Device = false
 
 -- trusted, behind a host's port
 abbrev pub is_trusted_at : Text → Text → Bool
-is_trusted_at port w = bytes_eq w (codes "trusted") && option_map_or (λ (p : PortName). is_at_host p.side) (port_in port) false
+is_trusted_at port w = bytes_eq w (codes "trusted") && option_map_or (λ (p : PortName). is_at_host p.side)
+    (port_in port) false
 
 abbrev pub trusted_place : Text → Place
 trusted_place port = record { is_spelled = is_trusted_at port; fault = Word }
@@ -53,11 +54,13 @@ trusted_place port = record { is_spelled = is_trusted_at port; fault = Word }
 abbrev pub mark_place : Text → Place
 mark_place port = record { is_spelled = λ w. bytes_eq w (codes "more") || is_trusted_at port w; fault = Word }
 
--- ---- the table: the places behind an event's word, by how many words stand there; nothing where it may not have so many
+-- ---- the table: the places behind an event's word, by how many words stand there; nothing where it may not have so
+-- many
 
 abbrev pub operation_places : List Text → Option (List Place)
 operation_places (l ∷ s ∷ []) = Some (number_place ∷ number_place ∷ [])
-operation_places (l ∷ s ∷ a ∷ n ∷ w ∷ []) = Some (number_place ∷ number_place ∷ word_place (codes "lose") ∷ number_place ∷ lost_place ∷ [])
+operation_places (l ∷ s ∷ a ∷ n ∷ w ∷ []) = Some (number_place ∷ number_place ∷ word_place (codes "lose") ∷ number_place
+    ∷ lost_place ∷ [])
 operation_places _ = None
 
 abbrev pub send_places : List Text → Option (List Place)
@@ -87,7 +90,10 @@ abbrev pub table : List (Text × (List Text → Option (List Place)))
 table =
     (codes "establish", operation_places) ∷ (codes "refresh", operation_places) ∷ (codes "stop", operation_places)
     ∷ (codes "reset", number_places) ∷ (codes "status", two_number_places)
-    ∷ (codes "pass", number_places) ∷ (codes "alter", alter_places) ∷ (codes "cut", two_number_places) ∷ (codes "dump", number_places)
+    ∷ (codes "pass", number_places) ∷ (codes "alter", alter_places) ∷ (codes "cut", two_number_places) ∷ (
+      codes "dump",
+      number_places,
+    )
     ∷ (codes "send", send_places) ∷ (codes "arrive", arrive_places) ∷ []
 
 -- ---- the first fault
@@ -107,18 +113,21 @@ RowFault (Some places) words fault = FirstOff places words fault
 abbrev pub TableFault : List (Text × (List Text → Option (List Place))) → Text → List Text → LineFault → Type 0
 TableFault [] first rest fault = Word ≡ fault
 TableFault (row ∷ rows) first rest fault =
-    ((bytes_eq first row.0 ≡ true) × RowFault (row.1 rest) rest fault) ⊎ ((bytes_eq first row.0 ≡ false) × TableFault rows first rest fault)
+    ((bytes_eq first row.0 ≡ true) × RowFault (row.1 rest) rest fault) ⊎ ((bytes_eq first row.0 ≡ false)
+    × TableFault rows first rest fault)
 
 abbrev pub WordsFault : List Text → LineFault → Type 0
 WordsFault [] fault = ⊥
 WordsFault (first ∷ rest) fault = TableFault table first rest fault
 
--- The first fault of a line, by the order of causes: its length, its bytes, its words. A comment has none behind its length.
+-- The first fault of a line, by the order of causes: its length, its bytes, its words. A comment has none behind its
+-- length.
 abbrev pub FirstFault : Text → LineFault → Type 0
 FirstFault line fault =
     ((20000 < length line) × (TooLong ≡ fault))
     ⊎ ((length line ≤ 20000) × (is_comment line ≡ false) × (list_all is_printable line ≡ false) × (NotAscii ≡ fault))
-    ⊎ ((length line ≤ 20000) × (is_comment line ≡ false) × (list_all is_printable line ≡ true) × WordsFault (words_in line) fault)
+    ⊎ ((length line ≤ 20000) × (is_comment line ≡ false) × (list_all is_printable line ≡ true)
+    × WordsFault (words_in line) fault)
 
 -- a line's fault is its first
 abbrev pub FaultsAreFirst : Type 0

@@ -60,7 +60,10 @@ marks_in Host (a ∷ []) =
     else if bytes_eq a (codes "trusted") then Some (false, true)
     else None
 marks_in Device (a ∷ []) = if bytes_eq a (codes "more") then Some (true, false) else None
-marks_in Host (a ∷ b ∷ []) = if bytes_eq a (codes "more") && bytes_eq b (codes "trusted") then Some (true, true) else None
+marks_in Host (a ∷ b ∷ []) = if bytes_eq a (codes "more") && bytes_eq b (codes "trusted") then Some (
+  true,
+  true,
+) else None
 marks_in _ _ = None
 
 abbrev pub send_in : List Text → Result Event LineFault

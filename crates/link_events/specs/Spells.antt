@@ -21,13 +21,15 @@ LossSpelledBy (Some loss) words =
 
 abbrev pub OperationSpelledBy : Text → ℕ → ℕ → Option Loss → List Text → Type 0
 OperationSpelledBy first link stream lose words =
-    (l : WordOf number_in link) × (s : WordOf number_in stream) × (rest : List Text) × LossSpelledBy lose rest × (words ≡ first ∷ l.0 ∷ s.0 ∷ rest)
+    (l : WordOf number_in link) × (s : WordOf number_in stream) × (rest : List Text) × LossSpelledBy lose rest
+    × (words ≡ first ∷ l.0 ∷ s.0 ∷ rest)
 
 abbrev pub OneSpelledBy : Text → ℕ → List Text → Type 0
 OneSpelledBy first number words = (n : WordOf number_in number) × (words ≡ first ∷ n.0 ∷ [])
 
 abbrev pub TwoSpelledBy : Text → ℕ → ℕ → List Text → Type 0
-TwoSpelledBy first one two words = (m : WordOf number_in one) × (n : WordOf number_in two) × (words ≡ first ∷ m.0 ∷ n.0 ∷ [])
+TwoSpelledBy first one two words = (m : WordOf number_in one) × (n : WordOf number_in two)
+    × (words ≡ first ∷ m.0 ∷ n.0 ∷ [])
 
 abbrev pub mark_words : Bool → Bool → List Text
 mark_words false false = []
@@ -41,12 +43,15 @@ SpelledBy (Establish link stream lose) words = OperationSpelledBy (codes "establ
 SpelledBy (Refresh link stream lose) words = OperationSpelledBy (codes "refresh") link stream lose words
 SpelledBy (Stop link stream lose) words = OperationSpelledBy (codes "stop") link stream lose words
 SpelledBy (Send port bytes more trusted) words =
-    (p : WordOf port_in port) × (b : WordOf bytes_in bytes) × (words ≡ codes "send" ∷ p.0 ∷ b.0 ∷ mark_words more trusted) × (trusted ≡ true → port.side ≡ Host)
+    (p : WordOf port_in port) × (b : WordOf bytes_in bytes) × (words ≡ codes "send" ∷ p.0 ∷ b.0
+    ∷ mark_words more trusted) × (trusted ≡ true → port.side ≡ Host)
 SpelledBy (Pass packet) words = OneSpelledBy (codes "pass") packet words
 SpelledBy (Alter packet at mask) words =
-    (n : WordOf number_in packet) × (a : WordOf number_in at) × (h : WordOf mask_in mask) × (words ≡ codes "alter" ∷ n.0 ∷ a.0 ∷ h.0 ∷ [])
+    (n : WordOf number_in packet) × (a : WordOf number_in at) × (h : WordOf mask_in mask)
+    × (words ≡ codes "alter" ∷ n.0 ∷ a.0 ∷ h.0 ∷ [])
 SpelledBy (Cut packet len) words = TwoSpelledBy (codes "cut") packet len words
-SpelledBy (Arrive port bytes) words = (p : WordOf port_in port) × (b : WordOf bytes_in bytes) × (words ≡ codes "arrive" ∷ p.0 ∷ b.0 ∷ [])
+SpelledBy (Arrive port bytes) words = (p : WordOf port_in port) × (b : WordOf bytes_in bytes)
+    × (words ≡ codes "arrive" ∷ p.0 ∷ b.0 ∷ [])
 SpelledBy (Dump packet) words = OneSpelledBy (codes "dump") packet words
 SpelledBy (Reset link) words = OneSpelledBy (codes "reset") link words
 SpelledBy (Status link stream) words = TwoSpelledBy (codes "status") link stream words
@@ -73,7 +78,8 @@ NothingIsSkipped = (line : Text) → (line_meaning line ≡ Ok None) ↔ IsSkipp
 -- The event's port is on one of eight links, trusted is asked of a host's port alone, and a place in the event's
 -- bytes has at most 64 bits.
 abbrev pub IsAllowed : Event → Type 0
-IsAllowed (Send port bytes more trusted) = (port.link < 8) × (trusted ≡ true → port.side ≡ Host) × (length bytes < 2 ^ 64)
+IsAllowed (Send port bytes more trusted) = (port.link < 8) × (trusted ≡ true → port.side ≡ Host)
+    × (length bytes < 2 ^ 64)
 IsAllowed (Arrive port bytes) = (port.link < 8) × (length bytes < 2 ^ 64)
 IsAllowed _ = Unit {0}
 

@@ -34,7 +34,8 @@ is_digit radix b = nat_lt (digit_value b) radix
 -- the number that digits write, at least one, below 2 ^ 64
 abbrev pub some_digits_value : ℕ → Text → Option ℕ
 some_digits_value radix ds =
-    if nat_le 1 (length ds) && list_all (is_digit radix) ds && nat_lt (digits_value radix ds) (2 ^ 64) then Some (digits_value radix ds) else None
+    if nat_le 1 (length ds) && list_all (is_digit radix) ds && nat_lt (digits_value radix ds) (2 ^ 64)
+    then Some (digits_value radix ds) else None
 
 -- the number that 1 to so many digits write
 abbrev pub digits_in : ℕ → ℕ → Text → Option ℕ

@@ -189,7 +189,8 @@ fn naming_event(first: &[u8], rest: &[&[u8]]) -> Option<Result<Event, LineFault>
 
 fn event(alloc: Global, first: &[u8], rest: &[&[u8]]) -> Result<Event, LineError>
     ensures gives { Gives (event_by first.now (map (λ w. w.now) rest.now)) result }
-    ensures exact { begins_bytes (first.now ∷ []) ≡ false → result ≡ answer_of (event_by first.now (map (λ w. w.now) rest.now)) }
+    ensures exact { begins_bytes (first.now ∷ []) ≡ false
+        → result ≡ answer_of (event_by first.now (map (λ w. w.now) rest.now)) }
 {
     match naming_event(first, rest) {
         Some(Ok(event)) => Ok(event),
@@ -201,7 +202,8 @@ fn event(alloc: Global, first: &[u8], rest: &[&[u8]]) -> Result<Event, LineError
 #[tactic(auto, using(crate::proofs::Sevens::same_error))]
 fn some_event(alloc: Global, first: &[u8], rest: &[&[u8]]) -> Result<Option<Event>, LineError>
     ensures gives { Gives (event_in (first.now ∷ map (λ w. w.now) rest.now)) result }
-    ensures exact { begins_bytes (first.now ∷ []) ≡ false → result ≡ answer_of (event_in (first.now ∷ map (λ w. w.now) rest.now)) }
+    ensures exact { begins_bytes (first.now ∷ []) ≡ false
+        → result ≡ answer_of (event_in (first.now ∷ map (λ w. w.now) rest.now)) }
 {
     match event(alloc, first, rest) {
         Ok(event) => Ok(Some(event)),
@@ -211,7 +213,8 @@ fn some_event(alloc: Global, first: &[u8], rest: &[&[u8]]) -> Result<Option<Even
 
 fn event_of(alloc: Global, words: &[&[u8]]) -> Result<Option<Event>, LineError>
     ensures gives { Gives (event_in (map (λ w. w.now) words.now)) result }
-    ensures exact { begins_bytes (map (λ w. w.now) words.now) ≡ false → result ≡ answer_of (event_in (map (λ w. w.now) words.now)) }
+    ensures exact { begins_bytes (map (λ w. w.now) words.now) ≡ false
+        → result ≡ answer_of (event_in (map (λ w. w.now) words.now)) }
 {
     match words {
         [] => Ok(None),
@@ -254,8 +257,8 @@ pub fn lines_spell()
     ensures allowed { SpelledAreAllowed }
 {}
 
-/// The fault of a line is its first: by the causes in their order, and then by the first word that is not what stands in
-/// its place behind its event's word (this profile).
+/// The fault of a line is its first: by the causes in their order, and then by the first word that is not what stands
+/// in its place behind its event's word (this profile).
 pub fn faults_are_first()
     ensures { FaultsAreFirst }
 {}

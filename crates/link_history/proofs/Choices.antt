@@ -49,8 +49,9 @@ one_of_three None None None id is = absurd cc
 
 pub choice_known : (plan : Plan) (port : PortName) (head : HeadView) (stream : ℕ) → choice plan port head ≡ Some stream → has_stream plan port stream ≡ true
 unfolding choice choice_of stream_plan
-choice_known plan port head stream is = elim (one_of_three (least_of (takes_by_range port.side head) (streams_of plan port.link)) (least_of takes_the_rest (streams_of plan port.link)) (least_of (takes_class head) (streams_of plan port.link)) stream is) [
-  | inl e ↦ least_known (takes_by_range port.side head) (streams_of plan port.link) stream e
-  | inr (inl e) ↦ least_known takes_the_rest (streams_of plan port.link) stream e
-  | inr (inr e) ↦ least_known (takes_class head) (streams_of plan port.link) stream e
-]
+choice_known plan port head stream is = elim (one_of_three (least_of (takes_by_range port.side head) (streams_of plan port.link)) (least_of takes_the_rest (streams_of plan port.link))
+    (least_of (takes_class head) (streams_of plan port.link)) stream is) [
+      | inl e ↦ least_known (takes_by_range port.side head) (streams_of plan port.link) stream e
+      | inr (inl e) ↦ least_known takes_the_rest (streams_of plan port.link) stream e
+      | inr (inr e) ↦ least_known (takes_class head) (streams_of plan port.link) stream e
+    ]

@@ -77,13 +77,15 @@ refresh_quiet kp (Stopping n) next host ports link stream set x is = refl
 pub establish_due_quiet : (plan : Plan) (h : History) (link stream : ℕ) (lose : Option Loss) → is_quiet (due plan h (Establish link stream lose)) ≡ true
 unfolding due key_due
 establish_due_quiet plan h link stream lose =
-    if_quiet (is_some (stream_plan plan link stream)) _ v.Nothing (establish_quiet (key_plan plan) (op_of h link stream) (draws h) _ (performed_quiet (ports_at h) link stream lose (work_of op.Establish (op_of h link stream) (draws h)))) refl
+    if_quiet (is_some (stream_plan plan link stream)) _ v.Nothing (establish_quiet (key_plan plan) (op_of h link stream) (draws h) _ (performed_quiet (ports_at h) link stream lose (work_of op.Establish (op_of h link stream) (draws h))))
+    refl
 
 pub refresh_due_quiet : (plan : Plan) (h : History) (link stream : ℕ) (lose : Option Loss) → is_quiet (due plan h (Refresh link stream lose)) ≡ true
 unfolding due key_due
 refresh_due_quiet plan h link stream lose =
     if_quiet (is_some (stream_plan plan link stream)) _ v.Nothing
-    (refresh_quiet (key_plan plan) (op_of h link stream) (draws h) (status_of h Host link stream) (ports_at h) link stream (work_of op.Refresh (op_of h link stream) (draws h)).set _ (performed_quiet (ports_at h) link stream lose (work_of op.Refresh (op_of h link stream) (draws h)))) refl
+    (refresh_quiet (key_plan plan) (op_of h link stream) (draws h) (status_of h Host link stream) (ports_at h) link stream (work_of op.Refresh (op_of h link stream) (draws h)).set _ (performed_quiet (ports_at h) link stream lose
+    (work_of op.Refresh (op_of h link stream) (draws h)))) refl
 
 pub stop_due_quiet : (plan : Plan) (h : History) (link stream : ℕ) (lose : Option Loss) → is_quiet (due plan h (Stop link stream lose)) ≡ true
 unfolding due key_due

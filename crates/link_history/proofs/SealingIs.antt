@@ -55,7 +55,8 @@ not_first (x ∷ xs) w none is = by_test x.0 is (not_first xs w none.1)
 same_list : (xs ys : List SealedPacket) → v.Sealed xs ≡ v.Sealed ys → xs ≡ ys
 same_list xs ys is = cc
 
-by_refusal : (plan : Plan) (h : History) (s : Sending) (bytes : List ℕ) (t : Tlp) → read_of bytes ≡ Ok t → s.class ≡ class_of (header t) → (number : ℕ) → number ≡ length (sealed_packets plan h) + 1 → (ds : List SealedPacket) → let x = lanes_at plan h s.port s.stream in
+by_refusal : (plan : Plan) (h : History) (s : Sending) (bytes : List ℕ) (t : Tlp) → read_of bytes ≡ Ok t → s.class ≡ class_of (header t) → (number : ℕ) → number ≡ length (sealed_packets plan h) + 1 → (ds : List SealedPacket) → let x =
+    lanes_at plan h s.port s.stream in
     (o : Option Verdict) → first_that_holds (refusals x s.class) ≡ o → v.Sealed ds ≡ unwrap_or o (v.Sealed (sealed_by x s number)) → IsSealing plan h s.port bytes ds
 by_refusal plan h s bytes t reads class number next ds (Some w) first is =
     let x = lanes_at plan h s.port s.stream in
@@ -66,13 +67,15 @@ by_refusal plan h s bytes t reads class number next ds None first is =
     let x = lanes_at plan h s.port s.stream in
     record { sending = s; tlp = t; reads = reads; class = class; at_port = refl; free = none_holds (refusals x s.class) first; number = number; next = next; list = same_list ds (sealed_by x s number) is }
 
-by_choice : (plan : Plan) (h : History) (port : PortName) (bytes : List ℕ) (t : Tlp) → read_of bytes ≡ Ok t → (more trusted : Bool) (ds : List SealedPacket) (c : Option ℕ) → v.Sealed ds ≡ send_on plan h port (header t) more trusted c → IsSealing plan h port bytes ds
+by_choice : (plan : Plan) (h : History) (port : PortName) (bytes : List ℕ) (t : Tlp) → read_of bytes ≡ Ok t → (more trusted : Bool) (ds : List SealedPacket) (c : Option ℕ) → v.Sealed ds ≡ send_on plan h port (header t) more trusted c
+    → IsSealing plan h port bytes ds
 by_choice plan h port bytes t reads more trusted ds None is = absurd cc
 by_choice plan h port bytes t reads more trusted ds (Some stream) is =
     let s : Sending = record { port = port; stream = stream; class = class_of (header t); more = more; trusted = trusted } in
     by_refusal plan h s bytes t reads refl (length (sealed_packets plan h) + 1) refl ds (first_that_holds (refusals (lanes_at plan h port stream) (class_of (header t)))) refl is
 
-by_reading : (plan : Plan) (h : History) (port : PortName) (bytes : List ℕ) (r : Result Tlp TlpFault) → read_of bytes ≡ r → (more trusted : Bool) (ds : List SealedPacket) → v.Sealed ds ≡ send_read plan h port r more trusted → IsSealing plan h port bytes ds
+by_reading : (plan : Plan) (h : History) (port : PortName) (bytes : List ℕ) (r : Result Tlp TlpFault) → read_of bytes ≡ r → (more trusted : Bool) (ds : List SealedPacket) → v.Sealed ds ≡ send_read plan h port r more trusted
+    → IsSealing plan h port bytes ds
 by_reading plan h port bytes (Err f) reads more trusted ds is = absurd cc
 by_reading plan h port bytes (Ok t) reads more trusted ds is = by_choice plan h port bytes t reads more trusted ds (choice plan port (header t)) is
 

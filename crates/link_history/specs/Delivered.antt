@@ -1,5 +1,5 @@
--- The TLPs that were sent, and those that were delivered: each is the bytes of its header and its payload in plain. Sync
--- packets carry none.
+-- The TLPs that were sent, and those that were delivered: each is the bytes of its header and its payload in plain.
+-- Sync packets carry none.
 use Rattle.std.specs.Prelude.{ℕ, Bool, not, ◌&&◌, ◌==◌, if◌then◌else◌, List, [], ◌∷◌, ◌++◌, length, take, drop, map, filter}
 use Rattle.ide_plan.specs.declared.plan.Plan.{Plan}
 use Rattle.link_history.specs.Plan.{SubStream, is_same, key_of}
@@ -44,7 +44,8 @@ opened plan s j n unit = with_payloads (open_of (key_of plan j s) (iv_of s.sub n
 unfoldable pub tlps_got : Plan → History → SubStream → ℕ → List (List ℕ)
 tlps_got plan [] s j = []
 tlps_got plan ((e, Accepted port unit effects) ∷ h) s j =
-    if is_of s j port unit then tlps_got plan h s j ++ opened plan s j unit.unit (held plan h s j unit.unit ++ arrived_packet plan h e ∷ [])
+    if is_of s j port unit then tlps_got plan h s j ++ opened plan s j unit.unit (held plan h s j unit.unit
+    ++ arrived_packet plan h e ∷ [])
     else tlps_got plan h s j
 tlps_got plan (_ ∷ h) s j = tlps_got plan h s j
 

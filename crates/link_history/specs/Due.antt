@@ -50,7 +50,12 @@ sent_under plan h s (Some key) = sent plan h s key.draw
 abbrev pub lane_at : Plan → History → PortName → SubStream → Lane
 lane_at plan h port s =
     let under = sent_under plan h s (live_key h port s) in
-    record { key = live_key h port s; front = open_unit under; units = length (units under); posted = posted_count plan h s }
+    record {
+      key = live_key h port s;
+      front = open_unit under;
+      units = length (units under);
+      posted = posted_count plan h s;
+    }
 
 abbrev pub lanes_at : Plan → History → PortName → ℕ → Lanes
 lanes_at plan h port stream = record {
@@ -103,7 +108,8 @@ under_keys plan h port p None None = Err (v.NotKeyed port p.prefix.stream p.pref
 under_keys plan h port p None (Some i) = Err (v.Fail port p.prefix.stream p.prefix.sub fail.Key)
 under_keys plan h port p (Some j) other =
     let s = receiving port p in
-    if is_mixed plan h s other || is_overfull plan h s j p.prefix.m then Err (v.Fail port p.prefix.stream p.prefix.sub fail.Unit)
+    if is_mixed plan h s other || is_overfull plan h s j p.prefix.m
+    then Err (v.Fail port p.prefix.stream p.prefix.sub fail.Unit)
     else if p.prefix.m then Ok (record { packet = p; unit = unit_under h s j })
     else Err (v.Held port (unit_under h s j))
 
@@ -113,7 +119,8 @@ before_tag_of plan h port (Ok PlainTlp) = Err (v.Plain port)
 before_tag_of plan h port (Ok (IdePacket p)) =
     if not (has_stream plan port p.prefix.stream) then Err (v.Unknown port p.prefix.stream)
     else if failed h port p.prefix.stream then Err (v.Insecure port p.prefix.stream)
-    else under_keys plan h port p (on_draw h port (receiving port p) p.prefix.k) (on_draw h port (receiving port p) (not p.prefix.k))
+    else under_keys plan h port p (on_draw h port (receiving port p) p.prefix.k) (on_draw h port (receiving port p)
+    (not p.prefix.k))
 
 -- the packet whose tag is to be verified and its unit, or the verdict without that
 unfoldable pub before_tag : Plan → History → Arrival → Result Ending Verdict
@@ -127,7 +134,8 @@ ended plan h port x = pending plan h (received_in port x.unit) x.unit.draw ++ x.
 unfoldable pub is_verified : Plan → History → PortName → Ending → Bool
 is_verified plan h port x =
     verifies (key_of plan x.unit.draw (received_in port x.unit)) (iv_of x.unit.sub x.unit.unit)
-    (front_due plan h (received_in port x.unit) x.unit.unit ++ authenticated (ended plan h port x)) (encrypted (ended plan h port x)) x.packet.tag
+    (front_due plan h (received_in port x.unit) x.unit.unit ++ authenticated (ended plan h port x))
+    (encrypted (ended plan h port x)) x.packet.tag
 
 -- A memory write that a host's port delivers is blocked: without T, and with it since no interface is in RUN.
 abbrev pub kind_in : Result HeadView TlpFault → Option TlpKind
@@ -149,7 +157,8 @@ abbrev pub settled : Plan → History → PortName → Result Ending Verdict →
 settled plan h port (Err verdict) = verdict
 settled plan h port (Ok x) =
     if not (is_verified plan h port x) then v.Fail port x.unit.stream x.unit.sub fail.Tag
-    else if not (meets_counts plan h (received_in port x.unit) (ended plan h port x)) then v.Fail port x.unit.stream x.unit.sub fail.Order
+    else if not (meets_counts plan h (received_in port x.unit) (ended plan h port x)) then v.Fail port x.unit.stream
+    x.unit.sub fail.Order
     else v.Accepted port x.unit (map (effect_of port) (ended plan h port x))
 
 abbrev pub arrival_due : Plan → History → Option Arrival → Verdict
@@ -173,5 +182,6 @@ due plan h (Refresh link stream lose) = key_due (key_plan plan) h (Refresh link 
 due plan h (Stop link stream lose) = key_due (key_plan plan) h (Stop link stream lose) v.Nothing
 due plan h (Reset link) = key_due (key_plan plan) h (Reset link) v.Nothing
 due plan h (Status link stream) =
-    if is_some (stream_plan plan link stream) then v.Status link stream (status_of h Host link stream) (status_of h Device link stream) else v.Nothing
+    if is_some (stream_plan plan link stream) then v.Status link stream (status_of h Host link stream)
+    (status_of h Device link stream) else v.Nothing
 due plan h e = arrival_due plan h (arrived plan h e)

@@ -51,7 +51,8 @@ untagged_packet plan bytes d front = record {
   prefix = prefix_of d;
   head = if d.sync then sync_head else head_in (read_of bytes);
   body =
-      masked (key_of plan d.draw (sub_stream_of d)) (iv_of d.sub d.unit) (length (encrypted front)) (if d.sync then [] else payload_in (read_of bytes));
+      masked (key_of plan d.draw (sub_stream_of d)) (iv_of d.sub d.unit) (length (encrypted front))
+      (if d.sync then [] else payload_in (read_of bytes));
   tag = [];
 }
 
@@ -85,7 +86,8 @@ sent_in xs s j = map (λ (x : SealedPacket × Packet). x.1) (filter (is_under s 
 abbrev pub with_sealed : Plan → (SealedPacket → List ℕ) → List ℕ → List SealedPacket → SealedList → SealedList
 with_sealed plan ahead bytes [] before = before
 with_sealed plan ahead bytes (d ∷ ds) before =
-    with_sealed plan ahead bytes ds (before ++ (d, packet_of plan (ahead d) bytes d (open_unit (sent_in before (sub_stream_of d) d.draw))) ∷ [])
+    with_sealed plan ahead bytes ds
+    (before ++ (d, packet_of plan (ahead d) bytes d (open_unit (sent_in before (sub_stream_of d) d.draw))) ∷ [])
 
 -- whether a sealed packet is of the sub-stream, and of a draw from this one on
 abbrev pub is_in : SubStream → ℕ → SealedPacket × Packet → Bool
@@ -120,7 +122,8 @@ is_of_unit s j n d = is_same (sub_stream_of d) s && (d.draw == j) && (d.unit == 
 unfoldable pub front_sent : Plan → History → SubStream → ℕ → ℕ → List ℕ
 front_sent plan [] s j n = []
 front_sent plan ((Send port bytes more trusted, Sealed ds) ∷ h) s j n =
-    if list_any (is_of_unit s j n) ds then front_of plan s n (total_in (sealed_packets plan h) s (base h s.link s.stream)) else front_sent plan h s j n
+    if list_any (is_of_unit s j n) ds then front_of plan s n (total_in (sealed_packets plan h) s
+    (base h s.link s.stream)) else front_sent plan h s j n
 front_sent plan (_ ∷ h) s j n = front_sent plan h s j n
 
 -- ---- what arrived
@@ -139,7 +142,8 @@ brought x bytes = record { port = partner x.0.port; bytes = bytes }
 abbrev pub altered : ℕ → ℕ → SealedPacket × Packet → Option Arrival
 altered at mask x =
     let bytes = packet_bytes x.1 in
-    if nat_lt at (length bytes) then Some (brought x (slice_set bytes at (bit_xor (slice_index bytes at) mask))) else None
+    if nat_lt at (length bytes) then Some (brought x (slice_set bytes at (bit_xor (slice_index bytes at) mask)))
+    else None
 
 abbrev pub shortened : ℕ → SealedPacket × Packet → Option Arrival
 shortened len x =
@@ -157,7 +161,12 @@ arrived plan h _ = None
 
 abbrev pub no_packet : Packet
 no_packet =
-    record { prefix = record { m = false; k = false; t = false; sub = Pr; stream = 0; posted = 0 }; head = []; body = []; tag = [] }
+    record {
+      prefix = record { m = false; k = false; t = false; sub = Pr; stream = 0; posted = 0 };
+      head = [];
+      body = [];
+      tag = [];
+    }
 
 abbrev pub cut_packet : Result CutValue PacketFault → Packet
 cut_packet (Ok (IdePacket p)) = p
@@ -183,14 +192,16 @@ is_of s j port unit = is_same (received_in port unit) s && (unit.draw == j)
 unfoldable pub held : Plan → History → SubStream → ℕ → ℕ → List Packet
 held plan [] s j n = []
 held plan ((e, Held port unit) ∷ h) s j n =
-    if is_of s j port unit && (unit.unit == n) then held plan h s j n ++ arrived_packet plan h e ∷ [] else held plan h s j n
+    if is_of s j port unit && (unit.unit == n) then held plan h s j n ++ arrived_packet plan h e ∷ []
+    else held plan h s j n
 held plan (_ ∷ h) s j n = held plan h s j n
 
 -- the packets of accepted units, in order
 unfoldable pub got : Plan → History → SubStream → ℕ → List Packet
 got plan [] s j = []
 got plan ((e, Accepted port unit effects) ∷ h) s j =
-    if is_of s j port unit then got plan h s j ++ (held plan h s j unit.unit ++ arrived_packet plan h e ∷ []) else got plan h s j
+    if is_of s j port unit then got plan h s j ++ (held plan h s j unit.unit ++ arrived_packet plan h e ∷ [])
+    else got plan h s j
 got plan (_ ∷ h) s j = got plan h s j
 
 -- how many units were accepted
@@ -277,11 +288,13 @@ is_keyed h port s = keeps_live (keys_at h port s)
 
 unfoldable pub has_live_out : History → PortName → ℕ → Bool
 has_live_out h port stream =
-    is_keyed h port (lane_out port stream Pr) || is_keyed h port (lane_out port stream Npr) || is_keyed h port (lane_out port stream Cpl)
+    is_keyed h port (lane_out port stream Pr) || is_keyed h port (lane_out port stream Npr)
+    || is_keyed h port (lane_out port stream Cpl)
 
 unfoldable pub has_live_in : History → PortName → ℕ → Bool
 has_live_in h port stream =
-    is_keyed h port (lane_in port stream Pr) || is_keyed h port (lane_in port stream Npr) || is_keyed h port (lane_in port stream Cpl)
+    is_keyed h port (lane_in port stream Pr) || is_keyed h port (lane_in port stream Npr)
+    || is_keyed h port (lane_in port stream Cpl)
 
 abbrev pub has_live : History → PortName → ℕ → Bool
 has_live h port stream = has_live_out h port stream || has_live_in h port stream
@@ -299,7 +312,8 @@ failed h port stream = failed_there h port.side port.link stream
 abbrev pub posted_of : SubStream → SubStream
 posted_of s = record s { sub = Pr }
 
--- how many posted packets were sealed in its direction since the last packet of the sub-stream, of draws from this one on
+-- how many posted packets were sealed in its direction since the last packet of the sub-stream, of draws from this one
+-- on
 unfoldable pub posted_in : SealedList → SubStream → ℕ → ℕ
 posted_in xs s from = length (filter (is_in (posted_of s) from) (after_last (is_in s from) xs))
 
@@ -311,10 +325,12 @@ unfoldable pub got_since : Plan → History → SubStream → ℕ → List Packe
 got_since plan [] s from = []
 got_since plan ((e, Accepted port unit effects) ∷ h) s from =
     if is_same (received_in port unit) s && nat_le from unit.draw
-    then got_since plan h s from ++ (held plan h s unit.draw unit.unit ++ arrived_packet plan h e ∷ []) else got_since plan h s from
+    then got_since plan h s from ++ (held plan h s unit.draw unit.unit ++ arrived_packet plan h e ∷ [])
+    else got_since plan h s from
 got_since plan (_ ∷ h) s from = got_since plan h s from
 
--- whether the posted counts of all packets of a non-posted or completion sub-stream, this unit among them, come to no more than the posted packets that were got
+-- whether the posted counts of all packets of a non-posted or completion sub-stream, this unit among them, come to no
+-- more than the posted packets that were got
 unfoldable pub meets_counts : Plan → History → SubStream → List Packet → Bool
 meets_counts plan h s unit =
     (sub_bits s.sub == 0)
@@ -325,7 +341,8 @@ meets_counts plan h s unit =
 unfoldable pub units_since : History → SubStream → ℕ → ℕ
 units_since [] s from = 0
 units_since ((e, Accepted port unit effects) ∷ h) s from =
-    if is_same (received_in port unit) s && nat_le from unit.draw then units_since h s from + 1 else units_since h s from
+    if is_same (received_in port unit) s && nat_le from unit.draw then units_since h s from + 1
+    else units_since h s from
 units_since (_ ∷ h) s from = units_since h s from
 
 -- what has to stand ahead of a unit that ends now

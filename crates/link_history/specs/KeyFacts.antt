@@ -57,7 +57,8 @@ pub record KeyFacts (plan : Plan) : Type 0 where
   pub accepted : (h : History) (e : Event) (port : PortName) (unit : UnitName) (effects : List Effect)
       → CauseLaw plan ((e, Accepted port unit effects) ∷ h)
       → (q : PortName) (s : SubStream) → keys_at ((e, Accepted port unit effects) ∷ h) q s
-      ≡ (if is_same_port port q && is_same (received_in port unit) s then accepted_keys unit.draw (keys_at h q s) else keys_at h q s)
+      ≡ (if is_same_port port q && is_same (received_in port unit) s then accepted_keys unit.draw (keys_at h q s)
+      else keys_at h q s)
   pub keyed : (h : History) (e : Event) (v : Verdict) → CauseLaw plan ((e, v) ∷ h) → (port : PortName) (s : SubStream)
       → operates e s.link s.stream ≡ false
       → is_keyed ((e, v) ∷ h) port s ≡ is_keyed h port s
@@ -80,7 +81,8 @@ pub record KeyFacts (plan : Plan) : Type 0 where
 abbrev pub BaseStays : Plan → SubStream → ℕ → History → Type 0
 BaseStays plan s from [] = Unit {0}
 BaseStays plan s from ((event, Sealed ds) ∷ h) =
-    AllByRecursion (λ (d : SealedPacket). is_same (sub_stream_of d) s ≡ true → from ≤ d.draw → base h s.link s.stream ≡ from) ds × BaseStays plan s from h
+    AllByRecursion (λ (d : SealedPacket). is_same (sub_stream_of d) s ≡ true → from ≤ d.draw
+    → base h s.link s.stream ≡ from) ds × BaseStays plan s from h
 BaseStays plan s from (_ ∷ h) = BaseStays plan s from h
 
 -- each packet of the stream that was sealed is of a draw below this one
@@ -105,7 +107,8 @@ pub record DrawFacts (plan : Plan) : Type 0 where
       → (live_key h port s ≡ Some key) ⊎ (sent plan ((e, v) ∷ h) s key.draw ≡ [])
   -- Base stays, or nothing from it on has been sealed
   pub base_fresh : (h : History) (e : Event) (v : Verdict) → CauseLaw plan ((e, v) ∷ h) → (link stream : ℕ)
-      → (base ((e, v) ∷ h) link stream ≡ base h link stream) ⊎ NoneFrom plan ((e, v) ∷ h) link stream (base ((e, v) ∷ h) link stream)
+      → (base ((e, v) ∷ h) link stream ≡ base h link stream) ⊎ NoneFrom plan ((e, v) ∷ h) link stream
+      (base ((e, v) ∷ h) link stream)
   -- a draw is On only where the plan has the stream
   pub known : (h : History) → CauseLaw plan h → (port : PortName) (s : SubStream) (k : Bool) (j : ℕ)
       → key_in (keys_at h port s) k ≡ On j
@@ -124,9 +127,9 @@ pub record DrawFacts (plan : Plan) : Type 0 where
       → is_same (sub_stream_of x.0) s ≡ true → is_same (sub_stream_of y.0) s ≡ true → x.0.draw ≤ y.0.draw
   -- the packets of draws from Base on were sealed since it is Base
   pub since_base : (h : History) → CauseLaw plan h → (s : SubStream) → BaseStays plan s (base h s.link s.stream) h
-  -- Where a draw is On at a receiver, and a packet of it was sealed, no unit of a smaller draw from Base on is open. (Without
-  -- the first this is false: a stop that is left in the middle drops a sender's open unit and makes its other key Live, when
-  -- the receiver's keys are gone.)
+  -- Where a draw is On at a receiver, and a packet of it was sealed, no unit of a smaller draw from Base on is open.
+  -- (Without the first this is false: a stop that is left in the middle drops a sender's open unit and makes its other
+  -- key Live, when the receiver's keys are gone.)
   pub ended : (h : History) → CauseLaw plan h
       → (port : PortName) (stream : ℕ) (u : SubKind) (k : Bool) (j i place : ℕ) (x : SealedPacket × Packet)
       → let s = lane_in port stream u in

@@ -29,7 +29,8 @@ pub record WasSealed (plan : Plan) (h : History) (port : PortName) (x : Ending) 
   pub finished : slice_get (units (sent plan h (received_in port x.unit) x.unit.draw)) place ≡ Some unit
   pub same_authenticated : authenticated unit ≡ authenticated (ended plan h port x)
   pub same_encrypted : encrypted unit ≡ encrypted (ended plan h port x)
-  pub same_front : front_sent plan h (received_in port x.unit) x.unit.draw x.unit.unit ≡ front_due plan h (received_in port x.unit) x.unit.unit
+  pub same_front : front_sent plan h (received_in port x.unit) x.unit.draw x.unit.unit
+      ≡ front_due plan h (received_in port x.unit) x.unit.unit
   pub same_tag : last_tag unit ≡ x.packet.tag
 
 -- A tag that verifies at this event was made by the partner.
@@ -85,7 +86,8 @@ IsOn plan h port s j = (k : Bool) × (on_draw h port s k ≡ Some j)
 
 -- Packet m of what was sealed in a sub-stream under a draw arrives unchanged and in order, where its key is
 -- Live, nothing of another draw is held, the stream has not failed and the posted counts are met.
-pub record ArrivesInOrder (plan : Plan) (h : History) (e : Event) (s : SubStream) (j m : ℕ) (port : PortName) (p : Packet) : Type 0 where
+pub record ArrivesInOrder (plan : Plan) (h : History) (e : Event) (s : SubStream) (j m : ℕ) (port : PortName)
+    (p : Packet) : Type 0 where
   pub receiver : (port.link ≡ s.link) × (received_direction port.side ≡ s.direction)
   pub sealed : slice_get (sent plan h s j) m ≡ Some p
   pub unchanged : arrived plan h e ≡ Some (record { port = port; bytes = packet_bytes p })
@@ -102,14 +104,16 @@ pub record ArrivesInOrder (plan : Plan) (h : History) (e : Event) (s : SubStream
 abbrev pub OrderIsNoForgery : Plan → History → Type 0
 OrderIsNoForgery plan [] = Unit {0}
 OrderIsNoForgery plan ((event, verdict) ∷ h) =
-    ((s : SubStream) (j m : ℕ) (port : PortName) (p : Packet) → ArrivesInOrder plan h event s j m port p → NotForged plan h event)
+    ((s : SubStream) (j m : ℕ) (port : PortName) (p : Packet) → ArrivesInOrder plan h event s j m port p
+    → NotForged plan h event)
     × OrderIsNoForgery plan h
 
 -- it is held, or ends its unit and is accepted
 abbrev pub IsTaken : Plan → History → SubStream → ℕ → PortName → Packet → Verdict → Type 0
 IsTaken plan h s j port p verdict =
     (p.prefix.m ≡ false → verdict ≡ Held port (unit_under h s j))
-    × (p.prefix.m ≡ true → verdict ≡ Accepted port (unit_under h s j) (map (effect_of port) (pending plan h s j ++ p ∷ [])))
+    × (p.prefix.m ≡ true → verdict ≡ Accepted port (unit_under h s j)
+    (map (effect_of port) (pending plan h s j ++ p ∷ [])))
 
 abbrev pub TakesWhole : Plan → History → Event → Verdict → Type 0
 TakesWhole plan h e verdict =

@@ -110,7 +110,8 @@ program_live ts k j i _ is (following_programs a l) live =
     ap live_draw (next_keys true ts (ProgramTouch k j) _ is.are ∙ following_programmed true k (is_open (ProgramTouch k j ∷ ts)) a j l) ∙ (is_followed k a j ∙ ap (λ (n : ℕ). Some n) (live_following k a l i live))
 program_live ts k j i _ is (older_programs e n) live =
     let sound = is.sound in
-    ap live_draw (next_keys true ts (ProgramTouch k j) _ is.are ∙ sender_keeps k (is_open (ProgramTouch k j ∷ ts)) e n j sound.0 (sound.2 refl)) ∙ (is_older (not k) e n sound.0 ∙ ap (λ (m : ℕ). Some m) (live_both (not k) e n i sound.0 live))
+    ap live_draw (next_keys true ts (ProgramTouch k j) _ is.are ∙ sender_keeps k (is_open (ProgramTouch k j ∷ ts)) e n j sound.0 (sound.2 refl)) ∙ (is_older (not k) e n sound.0 ∙ ap (λ (m : ℕ). Some m)
+    (live_both (not k) e n i sound.0 live))
 
 go_live : (ts : List Touch) (k : Bool) (j i : ℕ) (sh : Shape) → IsAt true ts sh → Goes k j sh → live_draw (keys_of sh) ≡ Some i → is_open ts i ≡ true → live_draw (keys true (GoTouch k j ∷ ts)) ≡ Some i
 unfolding is_open
@@ -124,7 +125,8 @@ go_live ts k j i _ is (following_goes a) live opens =
     ap live_draw (next_keys true ts (GoTouch k j) _ is.are ∙ following_gone true k (is_open (GoTouch k j ∷ ts)) a j sound.0 true open_a) ∙ (is_older k a j sound.0 ∙ ap (λ (n : ℕ). Some n) same)
 go_live ts k j i _ is (both_goes a) live opens =
     let sound = is.sound in
-    ap live_draw (next_keys true ts (GoTouch k j) _ is.are ∙ (ap (λ (ks : Keys). settled true (is_open (GoTouch k j ∷ ts)) ks) (both_gone true k (is_open (GoTouch k j ∷ ts)) a j) ∙ both_stay true k (is_open (GoTouch k j ∷ ts)) a j sound.0 (λ yes. sound.2 refl)))
+    ap live_draw (next_keys true ts (GoTouch k j) _ is.are ∙ (ap (λ (ks : Keys). settled true (is_open (GoTouch k j ∷ ts)) ks) (both_gone true k (is_open (GoTouch k j ∷ ts)) a j) ∙ both_stay true k (is_open (GoTouch k j ∷ ts)) a j sound.0
+    (λ yes. sound.2 refl)))
     ∙ (is_older k a j sound.0 ∙ ap (λ (n : ℕ). Some n) (live_both k a j i sound.0 live))
 
 live_stays : (ts more : List Touch) → AllCome true ts more → OnlyKeys more → (i : ℕ) → live_draw (keys true ts) ≡ Some i → is_open ts i ≡ true → live_draw (keys true (behind ts more)) ≡ Some i
@@ -203,7 +205,8 @@ moved h (Stop l s loss) w none p sends = by_reach (reach_of op.Stop w)
     by_reach None = inr (if_only (is_on_stream p l s) [] tt)
     by_reach (Some r) = by_test (is_on_stream p l s)
       where
-        by_test : (b : Bool) → (stops (if b then op_after (work_of op.Stop ((manager h).ops l s) (draws h)) r else (manager h).ops p.link p.stream) ≡ true) ⊎ OnlyKeys (on_it b (worked (work_of op.Stop ((manager h).ops l s) (draws h)) (Some r) p))
+        by_test : (b : Bool) → (stops (if b then op_after (work_of op.Stop ((manager h).ops l s) (draws h)) r else (manager h).ops p.link p.stream) ≡ true)
+            ⊎ OnlyKeys (on_it b (worked (work_of op.Stop ((manager h).ops l s) (draws h)) (Some r) p))
         by_test true = inl (stop_after (work_of op.Stop ((manager h).ops l s) (draws h)) r (stop_is ((manager h).ops l s) (draws h)))
         by_test false = inr tt
 moved h (Reset l) (v.Reset m) none p sends = by_test (p.link == l)
@@ -229,12 +232,14 @@ still_stops plan h (Establish l s loss) w law link stream is = by_reach (reach_o
     begins (Refreshing k j n) f stopped goes = absurd cc
 
     by_reach : (r : Option Reach) → reach_of op.Establish w ≡ r
-        → (stops ((operated (manager h) op.Establish l s r).ops link stream) ≡ true) ⊎ ((if (l == link) && (s == stream) && ((work_of op.Establish (op_of h l s) (draws h)).begins && is_some r) then draws h else base h link stream) ≡ draws h)
+        → (stops ((operated (manager h) op.Establish l s r).ops link stream) ≡ true) ⊎ ((if (l == link) && (s == stream) && ((work_of op.Establish (op_of h l s) (draws h)).begins && is_some r) then draws h else base h link
+        stream) ≡ draws h)
     by_reach None reached = inl is
     by_reach (Some r) reached = by_test ((link == l) && (stream == s)) refl
       where
         by_test : (b : Bool) → ((link == l) && (stream == s)) ≡ b
-            → (stops (if b then op_after (work_of op.Establish (op_of h l s) (draws h)) r else op_of h link stream) ≡ true) ⊎ ((if (l == link) && (s == stream) && ((work_of op.Establish (op_of h l s) (draws h)).begins && true) then draws h else base h link stream) ≡ draws h)
+            → (stops (if b then op_after (work_of op.Establish (op_of h l s) (draws h)) r else op_of h link stream) ≡ true) ⊎ ((if (l == link) && (s == stream) && ((work_of op.Establish (op_of h l s) (draws h)).begins && true) then draws
+            h else base h link stream) ≡ draws h)
         by_test false other = inl is
         by_test true here =
             let one : link ≡ l = grind (arith, nat_tests) in
@@ -315,7 +320,8 @@ open_left X i xs ys s new old left opens = elim opens [
   | inr (inr x) ↦ inr (inr x)
 ]
 
-others_leave : (plan : Plan) (h : History) (port : PortName) (stream : ℕ) (ahead : SealedPacket → List ℕ) (bytes : List ℕ) (u : SubKind) (ds : List SealedPacket) (xs : SealedList) (keys : Keys) → AllLive plan h port stream ds → AreOther u ds
+others_leave : (plan : Plan) (h : History) (port : PortName) (stream : ℕ) (ahead : SealedPacket → List ℕ) (bytes : List ℕ) (u : SubKind) (ds : List SealedPacket) (xs : SealedList) (keys : Keys) → AllLive plan h port stream ds
+    → AreOther u ds
     → Left xs (with_sealed plan ahead bytes ds xs) (lane_out port stream u) (after_ends port (lane_out port stream u) ds keys) keys
 others_leave plan h port stream ahead bytes u [] xs keys live other = record { sent = λ i. refl; keys = refl }
 others_leave plan h port stream ahead bytes u (d ∷ ds) xs keys live other =
@@ -376,7 +382,8 @@ m_is : (plan : Plan) (ahead bytes : List ℕ) (d : SealedPacket) (front : List P
 unfolding packet_of
 m_is plan ahead bytes d front = refl
 
-all_open : (X : Type 0) (i : ℕ) (plan : Plan) (h : History) (port : PortName) (stream : ℕ) (ahead : SealedPacket → List ℕ) (bytes : List ℕ) (u : SubKind) (ds : List SealedPacket) (xs : SealedList) → AllLive plan h port stream ds → AllApart ds
+all_open : (X : Type 0) (i : ℕ) (plan : Plan) (h : History) (port : PortName) (stream : ℕ) (ahead : SealedPacket → List ℕ) (bytes : List ℕ) (u : SubKind) (ds : List SealedPacket) (xs : SealedList) → AllLive plan h port stream ds
+    → AllApart ds
     → OpenIs X i xs (lane_out port stream u) (keys_at h port (lane_out port stream u))
     → OpenIs X i (with_sealed plan ahead bytes ds xs) (lane_out port stream u) (after_ends port (lane_out port stream u) ds (keys_at h port (lane_out port stream u)))
 all_open X i plan h port stream ahead bytes u [] xs live each opens = opens
@@ -388,7 +395,8 @@ all_open X i plan h port stream ahead bytes u (d ∷ ds) xs live each opens = by
     Holds : SubKind → Type 0
     Holds w =
         OpenIs X i (with_sealed plan ahead bytes ds (xs ++ (d, p) ∷ [])) (lane_out port stream w)
-        (after_ends port (lane_out port stream w) ds (if ends_at port (lane_out port stream w) d then ended_keys (keys_at h port (lane_out port stream w)).first (keys_at h port (lane_out port stream w)).second else keys_at h port (lane_out port stream w)))
+        (after_ends port (lane_out port stream w) ds (if ends_at port (lane_out port stream w) d then ended_keys (keys_at h port (lane_out port stream w)).first (keys_at h port (lane_out port stream w)).second else keys_at h port
+        (lane_out port stream w)))
 
     own : OpenIs X i xs (lane_out port stream d.sub) (keys_at h port (lane_out port stream d.sub)) → Holds d.sub
     own opens =
@@ -424,7 +432,8 @@ keys_elsewhere port stream u (d ∷ ds) keys out =
     let none : ends_at port (lane_out port stream u) d ≡ false = grind (arith, nat_tests) in
     ap (λ (b : Bool). after_ends port (lane_out port stream u) ds (if b then ended_keys keys.first keys.second else keys)) none ∙ keys_elsewhere port stream u ds keys rest
 
-sealing_open : (X : Type 0) (i : ℕ) (plan : Plan) (h : History) (p : PortName) (bytes : List ℕ) (more trusted : Bool) (ds : List SealedPacket) → v.Sealed ds ≡ due plan h (Send p bytes more trusted) → (ahead : SealedPacket → List ℕ) (port : PortName) (stream : ℕ) (u : SubKind)
+sealing_open : (X : Type 0) (i : ℕ) (plan : Plan) (h : History) (p : PortName) (bytes : List ℕ) (more trusted : Bool) (ds : List SealedPacket) → v.Sealed ds ≡ due plan h (Send p bytes more trusted) → (ahead : SealedPacket → List ℕ)
+    (port : PortName) (stream : ℕ) (u : SubKind)
     → OpenIs X i (sealed_packets plan h) (lane_out port stream u) (keys_at h port (lane_out port stream u))
     → OpenIs X i (with_sealed plan ahead bytes ds (sealed_packets plan h)) (lane_out port stream u) (after_ends port (lane_out port stream u) ds (keys_at h port (lane_out port stream u)))
 sealing_open X i plan h p bytes more trusted ds law ahead port stream u opens =
@@ -439,7 +448,10 @@ sealing_open X i plan h p bytes more trusted ds law ahead port stream u opens =
         all_open X i plan h port stream ahead bytes u ds (sealed_packets plan h) (subst (λ (q : PortName). AllLive plan h q stream ds) port_is (subst (λ (t : ℕ). AllLive plan h q t ds) stream_is live)) each opens
     by_test q t live each false other =
         let out = live_elsewhere plan h q port t stream ds live other in
-        open_left X i _ _ (lane_out port stream u) _ _ (record { sent = λ n. sent_elsewhere plan ahead bytes ds (sealed_packets plan h) port stream u n out; keys = keys_elsewhere port stream u ds (keys_at h port (lane_out port stream u)) out }) opens
+        open_left X i _ _ (lane_out port stream u) _ _ (record {
+          sent = λ n. sent_elsewhere plan ahead bytes ds (sealed_packets plan h) port stream u n out;
+          keys = keys_elsewhere port stream u ds (keys_at h port (lane_out port stream u)) out;
+        }) opens
 
 -- ---- in every history
 

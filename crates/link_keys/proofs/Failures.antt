@@ -61,10 +61,13 @@ live_is_key h port stream =
     (λ i. out Pr i || out Npr i || out Cpl i || (into Pr i || into Npr i || into Cpl i)) ∙ by_side port.side
   where
     by_side : (side : Side)
-        → (keyed_at h port.link stream side true Pr || keyed_at h port.link stream side true Npr || keyed_at h port.link stream side true Cpl || (keyed_at h port.link stream side false Pr || keyed_at h port.link stream side false Npr || keyed_at h port.link stream side false Cpl))
+        → (keyed_at h port.link stream side true Pr || keyed_at h port.link stream side true Npr || keyed_at h port.link stream side true Cpl || (keyed_at h port.link stream side false Pr || keyed_at h port.link stream side false Npr
+        || keyed_at h port.link stream side false Cpl))
         ≡ has_key (keys_there h) side port.link stream
-    by_side Host = six_or (keyed_at h port.link stream Host true Pr) (keyed_at h port.link stream Host true Npr) (keyed_at h port.link stream Host true Cpl) (keyed_at h port.link stream Host false Pr) (keyed_at h port.link stream Host false Npr) (keyed_at h port.link stream Host false Cpl)
-    by_side Device = six_or_back (keyed_at h port.link stream Device true Pr) (keyed_at h port.link stream Device true Npr) (keyed_at h port.link stream Device true Cpl) (keyed_at h port.link stream Device false Pr) (keyed_at h port.link stream Device false Npr) (keyed_at h port.link stream Device false Cpl)
+    by_side Host = six_or (keyed_at h port.link stream Host true Pr) (keyed_at h port.link stream Host true Npr) (keyed_at h port.link stream Host true Cpl) (keyed_at h port.link stream Host false Pr) (keyed_at h port.link stream Host false
+        Npr) (keyed_at h port.link stream Host false Cpl)
+    by_side Device = six_or_back (keyed_at h port.link stream Device true Pr) (keyed_at h port.link stream Device true Npr) (keyed_at h port.link stream Device true Cpl) (keyed_at h port.link stream Device false Pr)
+        (keyed_at h port.link stream Device false Npr) (keyed_at h port.link stream Device false Cpl)
 
 -- ---- failures
 

@@ -235,7 +235,8 @@ unfolding sealed_packets
 sent_before plan h (Send p bytes more trusted) (v.Sealed ds) law port stream u k j on waiting =
     let s = lane_out port stream u in
     let is = sealing_is plan h p bytes more trusted ds law.0 in
-    sent_still plan h port stream is.sending.port is.sending.stream u j (ahead_in plan (sealed_packets plan h) (base h)) bytes ds (sealed_packets plan h) (all_live plan h p bytes ds is) (λ key live. waits_behind plan h law.1 port s k j key on waiting live)
+    sent_still plan h port stream is.sending.port is.sending.stream u j (ahead_in plan (sealed_packets plan h) (base h)) bytes ds (sealed_packets plan h) (all_live plan h p bytes ds is) (λ key live. waits_behind plan h law.1 port s k j key
+    on waiting live)
 sent_before plan h e w law port stream u k j on waiting = refl
 
 abbrev IsFresh : Plan → History → Event → Verdict → SubStream → PortName → KeyName → Type 0

@@ -70,7 +70,8 @@ sends_lane port stream u = rw (eqb-refl port.link, eqb-refl (sent_direction port
 abbrev NoneIn : SubStream → ℕ → SealedList → Type 0
 NoneIn s from xs = filter (is_in s from) xs ≡ []
 
-none_one : (port : PortName) (s : SubStream) (from : ℕ) (xs : SealedList) (d : SealedPacket) (q : Packet) → sends_it port s ≡ true → (is_sender (place port s true) d ≡ true → d.draw < from) → NoneIn s from xs → NoneIn s from (xs ++ (d, q) ∷ [])
+none_one : (port : PortName) (s : SubStream) (from : ℕ) (xs : SealedList) (d : SealedPacket) (q : Packet) → sends_it port s ≡ true → (is_sender (place port s true) d ≡ true → d.draw < from) → NoneIn s from xs
+    → NoneIn s from (xs ++ (d, q) ∷ [])
 none_one port s from xs d q here small none = filter-append (is_in s from) xs ((d, q) ∷ []) ∙ (ap (λ (ys : SealedList). ys ++ filter (is_in s from) ((d, q) ∷ [])) none ∙ one)
   where
     by_test : (b : Bool) → is_sender (place port s true) d ≡ b → (b && nat_le from d.draw) ≡ false
@@ -83,7 +84,8 @@ none_one port s from xs d q here small none = filter-append (is_in s from) xs ((
     one : filter (is_in s from) ((d, q) ∷ []) ≡ []
     one = rw not_in refl
 
-none_more : (plan : Plan) (ahead : SealedPacket → List ℕ) (bytes : List ℕ) (port : PortName) (s : SubStream) (from : ℕ) (ds : List SealedPacket) (xs : SealedList) (ts : List Touch) → sends_it port s ≡ true → used (behind ts (sealed_here (place port s true) ds)) ≤ from
+none_more : (plan : Plan) (ahead : SealedPacket → List ℕ) (bytes : List ℕ) (port : PortName) (s : SubStream) (from : ℕ) (ds : List SealedPacket) (xs : SealedList) (ts : List Touch) → sends_it port s ≡ true
+    → used (behind ts (sealed_here (place port s true) ds)) ≤ from
     → NoneIn s from xs → NoneIn s from (with_sealed plan ahead bytes ds xs)
 unfolding used
 none_more plan ahead bytes port s from [] xs ts here le none = none
@@ -126,7 +128,8 @@ none_sent plan h port s j here le = rw (filter_less (is_in s j) (is_under s j) (
     implies x is = grind (arith, nat_tests)
 
 -- where no posted packet from a draw on was sealed the count from it on is 0
-pub none_posted : (plan : Plan) (h : History) (port : PortName) (stream : ℕ) (u : SubKind) (from : ℕ) → used (moments h (place port (lane_out port stream Pr) true)) ≤ from → posted_in (sealed_packets plan h) (lane_out port stream u) from ≡ 0
+pub none_posted : (plan : Plan) (h : History) (port : PortName) (stream : ℕ) (u : SubKind) (from : ℕ) → used (moments h (place port (lane_out port stream Pr) true)) ≤ from → posted_in (sealed_packets plan h)
+    (lane_out port stream u) from ≡ 0
 unfolding posted_in
 none_posted plan h port stream u from le =
     ap length (filter_drop (is_in (lane_out port stream Pr) from) (length (sealed_packets plan h) - suffix_len (λ x. not (is_in (lane_out port stream u) from x)) (sealed_packets plan h)) (sealed_packets plan h)
@@ -264,7 +267,8 @@ busy_more : (plan : Plan) (ahead : SealedPacket → List ℕ) (bytes : List ℕ)
 busy_more plan ahead bytes port s j [] xs ts here before = before
 busy_more plan ahead bytes port s j (d ∷ ds) xs ts here before =
     let front = open_unit (sent_in xs (sub_stream_of d) d.draw) in
-    let more = busy_more plan ahead bytes port s j ds (xs ++ (d, packet_of plan (ahead d) bytes d front) ∷ []) (behind ts (when (is_sender (place port s true) d) (Seal d.draw d.m))) here (busy_one plan ahead bytes port s j d front xs ts here before) in
+    let more = busy_more plan ahead bytes port s j ds (xs ++ (d, packet_of plan (ahead d) bytes d front) ∷ []) (behind ts (when (is_sender (place port s true) d) (Seal d.draw d.m))) here (busy_one plan ahead bytes port s j d front xs ts
+    here before) in
     more ∙ ap (λ (us : List Touch). is_open us j) (sym (behind-append ts (is_sender (place port s true) d) (Seal d.draw d.m) (sealed_here (place port s true) ds)))
 
 pub busy_is : (plan : Plan) (h : History) → CauseLaw plan h → (port : PortName) (s : SubStream) (j : ℕ) → sends_it port s ≡ true → Busy s j (sealed_packets plan h) (moments h (place port s true))
@@ -276,4 +280,5 @@ busy_is plan ((e, v.Sealed ds) ∷ h) law port s j here = by_event e (sealed_by_
     by_event (Send q bytes more trusted) send before = busy_more plan (ahead_in plan (sealed_packets plan h) (base h)) bytes port s j ds (sealed_packets plan h) (moments h (place port s true)) here before
     by_event _ send before = absurd cc
 busy_is plan ((e, w) ∷ h) law port s j here =
-    ap (λ (xs : SealedList). nat_lt 0 (length (open_unit (sent_in xs s j)))) (sealed_same plan h e w refl) ∙ busy_is plan h law.1 port s j here ∙ sym (open_behind (moments h (place port s true)) (touches (manager h).ops (draws_made h) e w (place port s true)) j (touches_no_seal (manager h).ops (draws_made h) e w (place port s true) refl))
+    ap (λ (xs : SealedList). nat_lt 0 (length (open_unit (sent_in xs s j)))) (sealed_same plan h e w refl) ∙ busy_is plan h law.1 port s j here ∙ sym (open_behind (moments h (place port s true)) (touches (manager h).ops (draws_made h) e w
+    (place port s true)) j (touches_no_seal (manager h).ops (draws_made h) e w (place port s true) refl))

@@ -96,8 +96,11 @@ pub total_is : (plan : Plan) (h : History) (port : PortName) (stream : ℕ) (u :
     → (at_sub (receivers plan h port stream) u).total ≡ units_since h (lane_in port stream u) (base h port.link stream)
 total_is plan h port stream u live = rw (at_each (λ (u : SubKind). rx_standing plan h port (lane_in port stream u)) u, live) refl
 
-taken_is : (plan : Plan) (h : History) (port : PortName) (p : Packet) (o other : Option ℕ) → ((j : ℕ) → o ≡ Some j → (at_sub (receivers plan h port p.prefix.stream) p.prefix.sub).total ≡ units_since h (receiving port p) (base h port.link p.prefix.stream)) → ((j : ℕ) → o ≡ Some j → is_allowed (receivers plan h port p.prefix.stream) p.prefix.sub (pending plan h (receiving port p) j ++ p ∷ []) ≡ meets_counts plan h (receiving port p) (pending plan h (receiving port p) j ++ p ∷ []))
-    → verdict_of port p (taken_under (mode_of plan port.link p.prefix.stream) (is_closed plan port.link p.prefix.stream) (receivers plan h port p.prefix.stream) p (option_map (key_for plan h (receiving port p)) o) (option_map (key_for plan h (receiving port p)) other))
+taken_is : (plan : Plan) (h : History) (port : PortName) (p : Packet) (o other : Option ℕ) → ((j : ℕ) → o ≡ Some j → (at_sub (receivers plan h port p.prefix.stream) p.prefix.sub).total ≡ units_since h (receiving port p)
+    (base h port.link p.prefix.stream)) → ((j : ℕ) → o ≡ Some j → is_allowed (receivers plan h port p.prefix.stream) p.prefix.sub (pending plan h (receiving port p) j ++ p ∷ []) ≡ meets_counts plan h (receiving port p)
+    (pending plan h (receiving port p) j ++ p ∷ []))
+    → verdict_of port p (taken_under (mode_of plan port.link p.prefix.stream) (is_closed plan port.link p.prefix.stream) (receivers plan h port p.prefix.stream) p (option_map (key_for plan h (receiving port p)) o)
+    (option_map (key_for plan h (receiving port p)) other))
     ≡ settled plan h port (under_keys plan h port p o other)
 unfolding is_verified front_of
 taken_is plan h port p None None totals allowed = refl
@@ -115,12 +118,14 @@ taken_is plan h port p (Some j) other totals allowed = rw (holds other, allowed 
     holds (Some i) = refl
 
     by_checks : (verified counts : Bool) → verdict_of port p (checked verified counts (key_for plan h s j) p)
-        ≡ (if not verified then v.Fail port p.prefix.stream p.prefix.sub fail.Tag else if not counts then v.Fail port p.prefix.stream p.prefix.sub fail.Order else v.Accepted port (unit_under h s j) (map (effect_of port) (pending plan h s j ++ p ∷ [])))
+        ≡ (if not verified then v.Fail port p.prefix.stream p.prefix.sub fail.Tag else if not counts then v.Fail port p.prefix.stream p.prefix.sub fail.Order else v.Accepted port (unit_under h s j)
+        (map (effect_of port) (pending plan h s j ++ p ∷ [])))
     by_checks false counts = refl
     by_checks true false = refl
     by_checks true true = refl
 
-    by_room : (full m : Bool) → verdict_of port p (if full then Failed fail.Unit else if m then checked (is_tagged (is_closed plan port.link p.prefix.stream) (units_since h s (base h port.link p.prefix.stream)) (key_for plan h s j) p) (meets_counts plan h s (pending plan h s j ++ p ∷ [])) (key_for plan h s j) p else Held j (units_got h s j + 1))
+    by_room : (full m : Bool) → verdict_of port p (if full then Failed fail.Unit else if m then checked (is_tagged (is_closed plan port.link p.prefix.stream) (units_since h s (base h port.link p.prefix.stream)) (key_for plan h s j) p)
+        (meets_counts plan h s (pending plan h s j ++ p ∷ [])) (key_for plan h s j) p else Held j (units_got h s j + 1))
         ≡ settled plan h port (if full then Err (v.Fail port p.prefix.stream p.prefix.sub fail.Unit) else if m then Ok x else Err (v.Held port (unit_under h s j)))
     by_room true m = refl
     by_room false false = refl
@@ -137,9 +142,11 @@ packet_due plan h port p =
 abbrev pub found_keys : Plan → History → PortName → Packet → Taken
 found_keys plan h port p =
     let s = receiving port p in
-    taken_under (mode_of plan port.link p.prefix.stream) (is_closed plan port.link p.prefix.stream) (receivers plan h port p.prefix.stream) p (option_map (key_for plan h s) (on_draw h port s p.prefix.k)) (option_map (key_for plan h s) (on_draw h port s (not p.prefix.k)))
+    taken_under (mode_of plan port.link p.prefix.stream) (is_closed plan port.link p.prefix.stream) (receivers plan h port p.prefix.stream) p (option_map (key_for plan h s) (on_draw h port s p.prefix.k))
+    (option_map (key_for plan h s) (on_draw h port s (not p.prefix.k)))
 
-pub taken_by_is : (plan : Plan) (h : History) (port : PortName) (p : Packet) → taken_by (mode_of plan port.link p.prefix.stream) (is_closed plan port.link p.prefix.stream) (standing plan h port p.prefix.stream) p ≡ (if failed h port p.prefix.stream then Insecure else found_keys plan h port p)
+pub taken_by_is : (plan : Plan) (h : History) (port : PortName) (p : Packet) → taken_by (mode_of plan port.link p.prefix.stream) (is_closed plan port.link p.prefix.stream) (standing plan h port p.prefix.stream) p
+    ≡ (if failed h port p.prefix.stream then Insecure else found_keys plan h port p)
 unfolding standing
 taken_by_is plan h port p = by_failure (failed h port p.prefix.stream) refl
   where
@@ -156,16 +163,19 @@ taken_by_is plan h port p = by_failure (failed h port p.prefix.stream) refl
     by_failure true bad = refl
     by_failure false secure =
         ap (λ (r : RxSub). under r.slots) (at_each rx u)
-        ∙ (λ i. taken_under (mode_of plan port.link p.prefix.stream) (is_closed plan port.link p.prefix.stream) (each_sub rx) p (live_is plan h port (receiving port p) p.prefix.k secure i) (live_is plan h port (receiving port p) (not p.prefix.k) secure i))
+        ∙ (λ i. taken_under (mode_of plan port.link p.prefix.stream) (is_closed plan port.link p.prefix.stream) (each_sub rx) p (live_is plan h port (receiving port p) p.prefix.k secure i) (live_is plan h port (receiving port p)
+        (not p.prefix.k) secure i))
 
-pub answer_is : (plan : Plan) (h : History) (port : PortName) (p : Packet) → verdict_of port p (taken_by (mode_of plan port.link p.prefix.stream) (is_closed plan port.link p.prefix.stream) (standing plan h port p.prefix.stream) p) ≡ packet_due plan h port p
+pub answer_is : (plan : Plan) (h : History) (port : PortName) (p : Packet) → verdict_of port p (taken_by (mode_of plan port.link p.prefix.stream) (is_closed plan port.link p.prefix.stream) (standing plan h port p.prefix.stream) p)
+    ≡ packet_due plan h port p
 answer_is plan h port p = ap (verdict_of port p) (taken_by_is plan h port p) ∙ by_failure (failed h port p.prefix.stream)
   where
     by_failure : (b : Bool) → verdict_of port p (if b then Insecure else found_keys plan h port p)
         ≡ settled plan h port (if b then Err (v.Insecure port p.prefix.stream) else under_keys plan h port p (on_draw h port (receiving port p) p.prefix.k) (on_draw h port (receiving port p) (not p.prefix.k)))
     by_failure true = refl
     by_failure false =
-        taken_is plan h port p (on_draw h port (receiving port p) p.prefix.k) (on_draw h port (receiving port p) (not p.prefix.k)) (λ j on. total_is plan h port p.prefix.stream p.prefix.sub (on_live plan h port p.prefix.stream p.prefix.sub p.prefix.k j on))
+        taken_is plan h port p (on_draw h port (receiving port p) p.prefix.k) (on_draw h port (receiving port p) (not p.prefix.k)) (λ j on. total_is plan h port p.prefix.stream p.prefix.sub (on_live plan h port p.prefix.stream p.prefix.sub
+        p.prefix.k j on))
         (λ j on. allowed_is plan h port p.prefix.stream p.prefix.sub (pending plan h (receiving port p) j ++ p ∷ []) (on_live plan h port p.prefix.stream p.prefix.sub p.prefix.k j on))
 
 -- ---- what an answer says
@@ -183,10 +193,12 @@ Says plan h port p (Accepted j n unit) =
 
 says_under : (plan : Plan) (h : History) (port : PortName) (p : Packet) → failed h port p.prefix.stream ≡ false → (o other : Option ℕ)
     → on_draw h port (receiving port p) p.prefix.k ≡ o → on_draw h port (receiving port p) (not p.prefix.k) ≡ other
-    → Says plan h port p (taken_under (mode_of plan port.link p.prefix.stream) (is_closed plan port.link p.prefix.stream) (receivers plan h port p.prefix.stream) p (option_map (key_for plan h (receiving port p)) o) (option_map (key_for plan h (receiving port p)) other))
+    → Says plan h port p (taken_under (mode_of plan port.link p.prefix.stream) (is_closed plan port.link p.prefix.stream) (receivers plan h port p.prefix.stream) p (option_map (key_for plan h (receiving port p)) o)
+    (option_map (key_for plan h (receiving port p)) other))
 says_under plan h port p secure None None on rest = tt
 says_under plan h port p secure None (Some i) on rest = on_live plan h port p.prefix.stream p.prefix.sub (not p.prefix.k) i rest
-says_under plan h port p secure (Some j) other on rest = by_room _ p.prefix.m (is_tagged (is_closed plan port.link p.prefix.stream) (at_sub (receivers plan h port p.prefix.stream) p.prefix.sub).total (key_for plan h s j) p) (is_allowed (receivers plan h port p.prefix.stream) p.prefix.sub (pending plan h s j ++ p ∷ []))
+says_under plan h port p secure (Some j) other on rest = by_room _ p.prefix.m (is_tagged (is_closed plan port.link p.prefix.stream) (at_sub (receivers plan h port p.prefix.stream) p.prefix.sub).total (key_for plan h s j) p)
+    (is_allowed (receivers plan h port p.prefix.stream) p.prefix.sub (pending plan h s j ++ p ∷ []))
   where
     s : SubStream
     s = receiving port p

@@ -48,7 +48,8 @@ after plan facts h e port p still law came (Failed cause) said is = after_failur
 after plan facts h e port p still law came (Held j n) said is =
     after_held plan facts h e port p j n (record { law = (is, law); before = law; still = still port.link p.prefix.stream; secure = said.0; on = said.1; next = said.2; came = packet_that_came plan h e port p came })
 after plan facts h e port p still law came (Accepted j n unit) said is =
-    subst (λ (ps : List Packet). verdict_of port p (Accepted j n ps) ≡ due plan h e → state_after (standing plan h port p.prefix.stream) p (Accepted j n ps) ≡ standing plan ((e, verdict_of port p (Accepted j n ps)) ∷ h) port p.prefix.stream)
+    subst (λ (ps : List Packet). verdict_of port p (Accepted j n ps) ≡ due plan h e → state_after (standing plan h port p.prefix.stream) p (Accepted j n ps) ≡ standing plan ((e, verdict_of port p (Accepted j n ps)) ∷ h) port
+    p.prefix.stream)
     (sym said.3)
     (λ due_is. after_accepted plan facts h e port p j n (map (effect_of port) (pending plan h (receiving port p) j ++ p ∷ []))
     (record { law = (due_is, law); before = law; still = still port.link p.prefix.stream; secure = said.0; on = said.1; next = said.2; came = packet_that_came plan h e port p came }))
@@ -96,6 +97,7 @@ cut_due : (plan : Plan) (h : History) (a : Arrival) → settled plan h a.port (b
 unfolding before_tag
 cut_due plan h a = refl
 
-pub arrives : (plan : Plan) → KeyFacts plan → (st : LinkState) (h : History) (e : Event) → IsNoOperation e → PortsStand plan st h → (o : Option Arrival) → arrived plan h e ≡ o → arrival_due plan h o ≡ due plan h e → Steps plan h e (arrive plan st o)
+pub arrives : (plan : Plan) → KeyFacts plan → (st : LinkState) (h : History) (e : Event) → IsNoOperation e → PortsStand plan st h → (o : Option Arrival) → arrived plan h e ≡ o → arrival_due plan h o ≡ due plan h e
+    → Steps plan h e (arrive plan st o)
 arrives plan facts st h e still stands None arrival is = quiet plan facts st h e v.Nothing stands refl is still
 arrives plan facts st h e still stands (Some a) arrival is = by_cut plan facts st h e still stands a arrival (cut_of a.bytes) refl (cut_due plan h a ∙ is)

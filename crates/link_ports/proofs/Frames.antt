@@ -108,7 +108,8 @@ keys_out plan facts h e (v.Sealed ds) cause port stream still u none = facts.sea
 keys_out plan facts h e (v.Accepted p unit effects) cause port stream still u none = facts.accepted h e p unit effects cause port (lane_out port stream u) ∙ rw (never_out p port stream u unit) refl
 keys_out plan facts h e w cause port stream still u none = facts.steady h e w cause refl port (lane_out port stream u) still
 
-pub keys_in : (plan : Plan) → KeyFacts plan → (h : History) (e : Event) (w : Verdict) → CauseLaw plan ((e, w) ∷ h) → (port : PortName) (stream : ℕ) → operates e port.link stream ≡ false → (u : SubKind) → takes_in port (lane_in port stream u) w ≡ false
+pub keys_in : (plan : Plan) → KeyFacts plan → (h : History) (e : Event) (w : Verdict) → CauseLaw plan ((e, w) ∷ h) → (port : PortName) (stream : ℕ) → operates e port.link stream ≡ false → (u : SubKind)
+    → takes_in port (lane_in port stream u) w ≡ false
     → keys_at ((e, w) ∷ h) port (lane_in port stream u) ≡ keys_at h port (lane_in port stream u)
 keys_in plan facts h e (v.Sealed ds) cause port stream still u none = facts.sealed h e ds cause port (lane_in port stream u) ∙ no_ends port (lane_in port stream u) ds _ (never_in port stream u)
 keys_in plan facts h e (v.Accepted p unit effects) cause port stream still u none = facts.accepted h e p unit effects cause port (lane_in port stream u) ∙ at (is_same_port p port)
@@ -118,12 +119,14 @@ keys_in plan facts h e (v.Accepted p unit effects) cause port stream still u non
     at false = refl
 keys_in plan facts h e w cause port stream still u none = facts.steady h e w cause refl port (lane_in port stream u) still
 
-pub live_out : (plan : Plan) → KeyFacts plan → (h : History) (e : Event) (w : Verdict) → CauseLaw plan ((e, w) ∷ h) → (port : PortName) (stream : ℕ) → operates e port.link stream ≡ false → has_live_out ((e, w) ∷ h) port stream ≡ has_live_out h port stream
+pub live_out : (plan : Plan) → KeyFacts plan → (h : History) (e : Event) (w : Verdict) → CauseLaw plan ((e, w) ∷ h) → (port : PortName) (stream : ℕ) → operates e port.link stream ≡ false → has_live_out ((e, w) ∷ h) port stream
+    ≡ has_live_out h port stream
 unfolding has_live_out
 live_out plan facts h e w cause port stream still =
     λ i. facts.keyed h e w cause port (lane_out port stream Pr) still i || facts.keyed h e w cause port (lane_out port stream Npr) still i || facts.keyed h e w cause port (lane_out port stream Cpl) still i
 
-pub live_in : (plan : Plan) → KeyFacts plan → (h : History) (e : Event) (w : Verdict) → CauseLaw plan ((e, w) ∷ h) → (port : PortName) (stream : ℕ) → operates e port.link stream ≡ false → has_live_in ((e, w) ∷ h) port stream ≡ has_live_in h port stream
+pub live_in : (plan : Plan) → KeyFacts plan → (h : History) (e : Event) (w : Verdict) → CauseLaw plan ((e, w) ∷ h) → (port : PortName) (stream : ℕ) → operates e port.link stream ≡ false → has_live_in ((e, w) ∷ h) port stream
+    ≡ has_live_in h port stream
 unfolding has_live_in
 live_in plan facts h e w cause port stream still =
     λ i. facts.keyed h e w cause port (lane_in port stream Pr) still i || facts.keyed h e w cause port (lane_in port stream Npr) still i || facts.keyed h e w cause port (lane_in port stream Cpl) still i
@@ -206,7 +209,8 @@ failed_live plan [] port stream = refl
 failed_live plan ((e, w) ∷ h) port stream =
     subst (λ (b : Bool). (b && has_live ((e, w) ∷ h) port stream) ≡ b) (sym (failed_next h e w port stream)) (and_again (fails_at port stream w || failed h port stream) (has_live ((e, w) ∷ h) port stream))
 
-pub has_live_same : (plan : Plan) → KeyFacts plan → (h : History) (e : Event) (w : Verdict) → CauseLaw plan ((e, w) ∷ h) → (port : PortName) (stream : ℕ) → operates e port.link stream ≡ false → has_live ((e, w) ∷ h) port stream ≡ has_live h port stream
+pub has_live_same : (plan : Plan) → KeyFacts plan → (h : History) (e : Event) (w : Verdict) → CauseLaw plan ((e, w) ∷ h) → (port : PortName) (stream : ℕ) → operates e port.link stream ≡ false → has_live ((e, w) ∷ h) port stream
+    ≡ has_live h port stream
 has_live_same plan facts h e w cause port stream still = λ i. live_out plan facts h e w cause port stream still i || live_in plan facts h e w cause port stream still i
 
 pub failed_more : (plan : Plan) → KeyFacts plan → (h : History) (e : Event) (w : Verdict) → CauseLaw plan ((e, w) ∷ h) → (port : PortName) (stream : ℕ) → operates e port.link stream ≡ false
@@ -234,7 +238,8 @@ pub rx_slots_same : (plan : Plan) (g h : History) (port : PortName) (s : SubStre
 rx_slots_same plan g h port s keys bad units held = slots_is _ _ (rx_slot_same plan g h port s keys.first bad units held) (rx_slot_same plan g h port s keys.second bad units held)
 
 -- a receiver stays as it is but for what it takes, and what fails on the stream
-pub rx_frame : (plan : Plan) → KeyFacts plan → (h : History) (e : Event) (w : Verdict) → CauseLaw plan ((e, w) ∷ h) → (port : PortName) (stream : ℕ) → operates e port.link stream ≡ false → (u : SubKind) → takes_in port (lane_in port stream u) w ≡ false
+pub rx_frame : (plan : Plan) → KeyFacts plan → (h : History) (e : Event) (w : Verdict) → CauseLaw plan ((e, w) ∷ h) → (port : PortName) (stream : ℕ) → operates e port.link stream ≡ false → (u : SubKind)
+    → takes_in port (lane_in port stream u) w ≡ false
     → rx_standing plan ((e, w) ∷ h) port (lane_in port stream u) ≡ rx_standing plan h port (lane_in port stream u)
 rx_frame plan facts h e w cause port stream still u none =
     let g = (e, w) ∷ h in
@@ -256,7 +261,8 @@ elsewhere port stream u (v.Accepted p unit effects) none = received_elsewhere p 
 elsewhere port stream u _ none = refl
 
 -- what a pair neither seals nor takes at a port and stream leaves all of it as it was
-pub frame : (plan : Plan) → KeyFacts plan → (h : History) (e : Event) (w : Verdict) → CauseLaw plan ((e, w) ∷ h) → (port : PortName) (stream : ℕ) → operates e port.link stream ≡ false → seals_at port stream w ≡ false → takes_at port stream w ≡ false
+pub frame : (plan : Plan) → KeyFacts plan → (h : History) (e : Event) (w : Verdict) → CauseLaw plan ((e, w) ∷ h) → (port : PortName) (stream : ℕ) → operates e port.link stream ≡ false → seals_at port stream w ≡ false
+    → takes_at port stream w ≡ false
     → standing plan ((e, w) ∷ h) port stream ≡ standing plan h port stream
 unfolding standing
 frame plan facts h e w cause port stream still seals takes =

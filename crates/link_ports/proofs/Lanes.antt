@@ -41,7 +41,8 @@ live_sender_is plan xs s keys = by_keys keys.first keys.second
     by_keys (On i) (On j) = by_test i j (nat_le i j)
 
 -- with any posted count
-lane_is : (plan : Plan) (h : History) (port : PortName) (stream : ℕ) (u : SubKind) (n : ℕ) → lane_of n (live_sender (tx_standing plan h port (lane_out port stream u)).slots) ≡ record (lane_at plan h port (lane_out port stream u)) { posted = n }
+lane_is : (plan : Plan) (h : History) (port : PortName) (stream : ℕ) (u : SubKind) (n : ℕ) → lane_of n (live_sender (tx_standing plan h port (lane_out port stream u)).slots) ≡ record (lane_at plan h port (lane_out port stream u))
+    { posted = n }
 unfolding units open_unit
 lane_is plan h port stream u n =
     ap (lane_of n) (live_sender_is plan (sealed_packets plan h) (lane_out port stream u) (keys_at h port (lane_out port stream u)))
@@ -64,7 +65,8 @@ lanes_is plan h port stream live =
     λ i. record { mode = mode_of plan port.link stream; limit = plan.units_per_key; failed = (standing plan h port stream).failed; lane = λ u. lane u i }
 
 -- whether a sub-stream has no key
-pub keyless_is : (plan : Plan) (h : History) (port : PortName) (stream : ℕ) (u : SubKind) → is_keyless (lanes_of (mode_of plan port.link stream) plan.units_per_key (standing plan h port stream)) u ≡ is_keyless (lanes_at plan h port stream) u
+pub keyless_is : (plan : Plan) (h : History) (port : PortName) (stream : ℕ) (u : SubKind) → is_keyless (lanes_of (mode_of plan port.link stream) plan.units_per_key (standing plan h port stream)) u
+    ≡ is_keyless (lanes_at plan h port stream) u
 unfolding standing
 keyless_is plan h port stream u =
     let tx : SubKind → TxSub = λ u. tx_standing plan h port (lane_out port stream u) in

@@ -48,7 +48,8 @@ within plan st port stream is = ⊎_elim (λ lt. lt) (λ le. absurd (past le)) (
 
 pub find-put : (plan : Plan) (st : LinkState) (port : PortName) (stream : ℕ) (x : StreamState) → is_some (find plan st port stream) ≡ true → find plan (put plan st port stream x) port stream ≡ Some x
 unfolding find put
-find-put plan st port stream x is = rw (get_or-set_same st.ports (port_place port) (changed (streams_of plan port.link) (slice_index_or st.ports (port_place port) []) stream x) [] (within plan st port stream is)) (found_same (streams_of plan port.link) _ stream x is)
+find-put plan st port stream x is = rw (get_or-set_same st.ports (port_place port) (changed (streams_of plan port.link) (slice_index_or st.ports (port_place port) []) stream x) [] (within plan st port stream is))
+    (found_same (streams_of plan port.link) _ stream x is)
 
 other_place : (p q : PortName) → port_place p ≡ port_place q → is_same_port p q ≡ true
 other_place p q same = by_side p.side q.side same
@@ -77,8 +78,10 @@ find-put_other plan st port stream x q t other = ⊎_elim here elsewhere (cases_
         subst (λ (r : PortName). found (streams_of plan r.link) (slice_index_or (slice_set st.ports (port_place port) ys) (port_place r) []) t ≡ found (streams_of plan r.link) (slice_index_or st.ports (port_place r) []) t) one
         (⊎_elim (inside apart) (outside apart) (cases_lt (port_place port) (length st.ports)))
       where
-        inside : (stream == t) ≡ false → port_place port < length st.ports → found (streams_of plan port.link) (slice_index_or (slice_set st.ports (port_place port) ys) (port_place port) []) t ≡ found (streams_of plan port.link) (slice_index_or st.ports (port_place port) []) t
+        inside : (stream == t) ≡ false → port_place port < length st.ports → found (streams_of plan port.link) (slice_index_or (slice_set st.ports (port_place port) ys) (port_place port) []) t ≡ found (streams_of plan port.link)
+            (slice_index_or st.ports (port_place port) []) t
         inside apart lt = rw (get_or-set_same st.ports (port_place port) ys [] lt) (found_other (streams_of plan port.link) _ stream t x apart)
 
-        outside : (stream == t) ≡ false → length st.ports ≤ port_place port → found (streams_of plan port.link) (slice_index_or (slice_set st.ports (port_place port) ys) (port_place port) []) t ≡ found (streams_of plan port.link) (slice_index_or st.ports (port_place port) []) t
+        outside : (stream == t) ≡ false → length st.ports ≤ port_place port → found (streams_of plan port.link) (slice_index_or (slice_set st.ports (port_place port) ys) (port_place port) []) t ≡ found (streams_of plan port.link)
+            (slice_index_or st.ports (port_place port) []) t
         outside apart le = rw (set_past st.ports (port_place port) ys le) refl

@@ -57,11 +57,13 @@ sent_own xs d p s j here draw = sent_in-snoc xs (d, p) s j ∙ rw (here, draw) r
 sent_other : (xs : SealedList) (d : SealedPacket) (p : Packet) (s : SubStream) (j : ℕ) → is_same (sub_stream_of d) s ≡ true → (d.draw == j) ≡ false → sent_in (xs ++ (d, p) ∷ []) s j ≡ sent_in xs s j
 sent_other xs d p s j here draw = sent_in-snoc xs (d, p) s j ∙ rw (here, draw) refl
 
-key_ended : (plan : Plan) (xs : SealedList) (d : SealedPacket) (p : Packet) (s : SubStream) → is_same (sub_stream_of d) s ≡ true → p.prefix.m ≡ true → counted (Live (sealing_key plan xs s d.draw)) ≡ Live (sealing_key plan (xs ++ (d, p) ∷ []) s d.draw)
+key_ended : (plan : Plan) (xs : SealedList) (d : SealedPacket) (p : Packet) (s : SubStream) → is_same (sub_stream_of d) s ≡ true → p.prefix.m ≡ true → counted (Live (sealing_key plan xs s d.draw))
+    ≡ Live (sealing_key plan (xs ++ (d, p) ∷ []) s d.draw)
 key_ended plan xs d p s here m =
     rw (sent_own xs d p s d.draw here (eqb-refl d.draw), units-end (sent_in xs s d.draw) p m, open_unit-end (sent_in xs s d.draw) p m, length-append (units (sent_in xs s d.draw)) ((open_unit (sent_in xs s d.draw) ++ p ∷ []) ∷ [])) refl
 
-key_more : (plan : Plan) (xs : SealedList) (d : SealedPacket) (p : Packet) (s : SubStream) → is_same (sub_stream_of d) s ≡ true → p.prefix.m ≡ false → gone_on p (Live (sealing_key plan xs s d.draw)) ≡ Live (sealing_key plan (xs ++ (d, p) ∷ []) s d.draw)
+key_more : (plan : Plan) (xs : SealedList) (d : SealedPacket) (p : Packet) (s : SubStream) → is_same (sub_stream_of d) s ≡ true → p.prefix.m ≡ false → gone_on p (Live (sealing_key plan xs s d.draw))
+    ≡ Live (sealing_key plan (xs ++ (d, p) ∷ []) s d.draw)
 key_more plan xs d p s here m =
     rw (sent_own xs d p s d.draw here (eqb-refl d.draw), units-more (sent_in xs s d.draw) p m, open_unit-more (sent_in xs s d.draw) p m) refl
 
@@ -158,8 +160,10 @@ sealed_slots_is plan xs d p s keys here false m fits = slots_more plan xs d p s 
 abbrev pub after_one : PortName → ℕ → SealedPacket → (SubKind → Keys) → SubKind → Keys
 after_one port stream d keys u = if ends_at port (lane_out port stream u) d then ended_keys (keys u).first (keys u).second else keys u
 
-own_sub : (plan : Plan) (closed : Bool) (ahead : SealedPacket → List ℕ) (port : PortName) (stream from : ℕ) (xs : SealedList) (keys : SubKind → Keys) (d : SealedPacket) (p : Packet) → Fits closed ahead port stream from xs keys d → p.prefix.m ≡ d.m
-    → record_tx (sealed_slots d.m p (tx_at plan port stream from xs keys d.sub).slots) 0 (if d.m then total_in xs (lane_out port stream d.sub) from + 1 else total_in xs (lane_out port stream d.sub) from) ≡ tx_at plan port stream from (xs ++ (d, p) ∷ []) (after_one port stream d keys) d.sub
+own_sub : (plan : Plan) (closed : Bool) (ahead : SealedPacket → List ℕ) (port : PortName) (stream from : ℕ) (xs : SealedList) (keys : SubKind → Keys) (d : SealedPacket) (p : Packet) → Fits closed ahead port stream from xs keys d
+    → p.prefix.m ≡ d.m
+    → record_tx (sealed_slots d.m p (tx_at plan port stream from xs keys d.sub).slots) 0 (if d.m then total_in xs (lane_out port stream d.sub) from + 1 else total_in xs (lane_out port stream d.sub) from) ≡ tx_at plan port stream from
+    (xs ++ (d, p) ∷ []) (after_one port stream d keys) d.sub
 own_sub plan closed ahead port stream from xs keys d p fits m =
     let s = lane_out port stream d.sub in
     let here : is_same (sub_stream_of d) s ≡ true = in_lane port stream d d.sub fits.port_is fits.stream_is ∙ eqb-refl (sub_bits d.sub) in
@@ -170,7 +174,8 @@ own_sub plan closed ahead port stream from xs keys d p fits m =
     (sym (posted-own xs (d, p) s from (rw (here, fits.counts) refl)))
     (sym (total-snoc xs (d, p) s from ∙ ap (λ (b : Bool). if b then total_in xs s from + 1 else total_in xs s from) (let counts : is_in s from (d, p) ≡ true = rw (here, fits.counts) refl in ap (λ (b : Bool). b && p.prefix.m) counts ∙ m)))
 
-other_sub : (plan : Plan) (closed : Bool) (ahead : SealedPacket → List ℕ) (port : PortName) (stream from : ℕ) (xs : SealedList) (keys : SubKind → Keys) (d : SealedPacket) (p : Packet) → Fits closed ahead port stream from xs keys d → (u : SubKind) → is_same_sub d.sub u ≡ false
+other_sub : (plan : Plan) (closed : Bool) (ahead : SealedPacket → List ℕ) (port : PortName) (stream from : ℕ) (xs : SealedList) (keys : SubKind → Keys) (d : SealedPacket) (p : Packet) → Fits closed ahead port stream from xs keys d
+    → (u : SubKind) → is_same_sub d.sub u ≡ false
     → (if is_same_sub d.sub Pr then record_tx (tx_at plan port stream from xs keys u).slots ((tx_at plan port stream from xs keys u).posted + 1) (tx_at plan port stream from xs keys u).total else tx_at plan port stream from xs keys u)
     ≡ tx_at plan port stream from (xs ++ (d, p) ∷ []) (after_one port stream d keys) u
 other_sub plan closed ahead port stream from xs keys d p fits u other = by_test (is_same_sub d.sub Pr) refl
@@ -193,7 +198,8 @@ other_sub plan closed ahead port stream from xs keys d p fits u other = by_test 
     total : total_in xs (lane_out port stream u) from ≡ total_in (xs ++ (d, p) ∷ []) (lane_out port stream u) from
     total = sym (total-same xs (d, p) (lane_out port stream u) from off)
 
-    by_test : (b : Bool) → is_same_sub d.sub Pr ≡ b → (if b then record_tx (tx_at plan port stream from xs keys u).slots ((tx_at plan port stream from xs keys u).posted + 1) (tx_at plan port stream from xs keys u).total else tx_at plan port stream from xs keys u)
+    by_test : (b : Bool) → is_same_sub d.sub Pr ≡ b → (if b then record_tx (tx_at plan port stream from xs keys u).slots ((tx_at plan port stream from xs keys u).posted + 1) (tx_at plan port stream from xs keys u).total else tx_at plan port
+        stream from xs keys u)
         ≡ tx_at plan port stream from (xs ++ (d, p) ∷ []) (after_one port stream d keys) u
     by_test true posted =
         let counted : is_in (posted_of (lane_out port stream u)) from (d, p) ≡ true = rw (in_lane port stream d Pr fits.port_is fits.stream_is, posted, fits.counts) refl in
@@ -202,7 +208,8 @@ other_sub plan closed ahead port stream from xs keys d p fits u other = by_test 
         let none : is_in (posted_of (lane_out port stream u)) from (d, p) ≡ false = rw (in_lane port stream d Pr fits.port_is fits.stream_is, posted) refl in
         tx_is _ _ slots (sym (posted-same xs (d, p) (lane_out port stream u) from not_in none)) total
 
-one_sub : (plan : Plan) (closed : Bool) (ahead : SealedPacket → List ℕ) (port : PortName) (stream from : ℕ) (xs : SealedList) (keys : SubKind → Keys) (d : SealedPacket) (p : Packet) → Fits closed ahead port stream from xs keys d → p.prefix.m ≡ d.m → (u : SubKind)
+one_sub : (plan : Plan) (closed : Bool) (ahead : SealedPacket → List ℕ) (port : PortName) (stream from : ℕ) (xs : SealedList) (keys : SubKind → Keys) (d : SealedPacket) (p : Packet) → Fits closed ahead port stream from xs keys d
+    → p.prefix.m ≡ d.m → (u : SubKind)
     → sealed_sub d p u (tx_at plan port stream from xs keys u) ≡ tx_at plan port stream from (xs ++ (d, p) ∷ []) (after_one port stream d keys) u
 one_sub plan closed ahead port stream from xs keys d p fits m u = by_test (is_same_sub d.sub u) refl
   where
@@ -211,13 +218,16 @@ one_sub plan closed ahead port stream from xs keys d p fits m u = by_test (is_sa
         else if is_same_sub d.sub Pr then record_tx (tx_at plan port stream from xs keys u).slots ((tx_at plan port stream from xs keys u).posted + 1) (tx_at plan port stream from xs keys u).total else tx_at plan port stream from xs keys u)
         ≡ tx_at plan port stream from (xs ++ (d, p) ∷ []) (after_one port stream d keys) u
     by_test true same =
-        subst (λ (x : SubKind). record_tx (sealed_slots d.m p (tx_at plan port stream from xs keys x).slots) 0 (if d.m then (tx_at plan port stream from xs keys x).total + 1 else (tx_at plan port stream from xs keys x).total) ≡ tx_at plan port stream from (xs ++ (d, p) ∷ []) (after_one port stream d keys) x) (same_sub d.sub u same)
+        subst (λ (x : SubKind). record_tx (sealed_slots d.m p (tx_at plan port stream from xs keys x).slots) 0 (if d.m then (tx_at plan port stream from xs keys x).total + 1 else (tx_at plan port stream from xs keys x).total) ≡ tx_at plan
+        port stream from (xs ++ (d, p) ∷ []) (after_one port stream d keys) x) (same_sub d.sub u same)
         (own_sub plan closed ahead port stream from xs keys d p fits m)
     by_test false other = other_sub plan closed ahead port stream from xs keys d p fits u other
 
 -- the packet that the machine makes is the one that was sealed
-next_packet : (plan : Plan) (closed : Bool) (ahead : SealedPacket → List ℕ) (port : PortName) (stream from : ℕ) (xs : SealedList) (keys : SubKind → Keys) (d : SealedPacket) (bytes : List ℕ) (t : Tlp) → Fits closed ahead port stream from xs keys d → read_of bytes ≡ Ok t
-    → packet_under (front_with closed d.unit (tx_at plan port stream from xs keys d.sub).total) (live_sender (tx_at plan port stream from xs keys d.sub).slots) d (head_bytes (header t)) (body t) ≡ packet_of plan (ahead d) bytes d (open_unit (sent_in xs (sub_stream_of d) d.draw))
+next_packet : (plan : Plan) (closed : Bool) (ahead : SealedPacket → List ℕ) (port : PortName) (stream from : ℕ) (xs : SealedList) (keys : SubKind → Keys) (d : SealedPacket) (bytes : List ℕ) (t : Tlp) → Fits closed ahead port stream from xs
+    keys d → read_of bytes ≡ Ok t
+    → packet_under (front_with closed d.unit (tx_at plan port stream from xs keys d.sub).total) (live_sender (tx_at plan port stream from xs keys d.sub).slots) d (head_bytes (header t)) (body t) ≡ packet_of plan (ahead d) bytes d
+    (open_unit (sent_in xs (sub_stream_of d) d.draw))
 unfolding packet_of
 next_packet plan closed ahead port stream from xs keys d bytes t fits reads =
     let s = lane_out port stream d.sub in
@@ -239,7 +249,8 @@ AllFit closed ahead port stream from xs keys [] = Unit {0}
 AllFit closed ahead port stream from xs keys (d ∷ ds) = Fits closed ahead port stream from xs keys d × AreOther d.sub ds × AllFit closed ahead port stream from xs keys ds
 
 -- what fits still fits behind a packet of another sub-stream
-fits_still : (closed : Bool) (ahead : SealedPacket → List ℕ) (port : PortName) (stream from : ℕ) (xs : SealedList) (keys : SubKind → Keys) (d x : SealedPacket) (p : Packet) → Fits closed ahead port stream from xs keys d → Fits closed ahead port stream from xs keys x → is_same_sub d.sub x.sub ≡ false
+fits_still : (closed : Bool) (ahead : SealedPacket → List ℕ) (port : PortName) (stream from : ℕ) (xs : SealedList) (keys : SubKind → Keys) (d x : SealedPacket) (p : Packet) → Fits closed ahead port stream from xs keys d
+    → Fits closed ahead port stream from xs keys x → is_same_sub d.sub x.sub ≡ false
     → Fits closed ahead port stream from (xs ++ (d, p) ∷ []) (after_one port stream d keys) x
 fits_still closed ahead port stream from xs keys d x p one fits other =
     let off : is_same (sub_stream_of d) (lane_out port stream x.sub) ≡ false = in_lane port stream d x.sub one.port_is one.stream_is ∙ other in
@@ -255,20 +266,23 @@ fits_still closed ahead port stream from xs keys d x p one fits other =
       front = fits.front ∙ ap (front_with closed x.unit) (sym (total-same xs (d, p) (lane_out port stream x.sub) from off));
     }
 
-all_fit_still : (closed : Bool) (ahead : SealedPacket → List ℕ) (port : PortName) (stream from : ℕ) (xs : SealedList) (keys : SubKind → Keys) (d : SealedPacket) (p : Packet) (ds : List SealedPacket) → Fits closed ahead port stream from xs keys d → AreOther d.sub ds → AllFit closed ahead port stream from xs keys ds
+all_fit_still : (closed : Bool) (ahead : SealedPacket → List ℕ) (port : PortName) (stream from : ℕ) (xs : SealedList) (keys : SubKind → Keys) (d : SealedPacket) (p : Packet) (ds : List SealedPacket) → Fits closed ahead port stream from xs
+    keys d → AreOther d.sub ds → AllFit closed ahead port stream from xs keys ds
     → AllFit closed ahead port stream from (xs ++ (d, p) ∷ []) (after_one port stream d keys) ds
 all_fit_still closed ahead port stream from xs keys d p [] one others all = tt
 all_fit_still closed ahead port stream from xs keys d p (x ∷ ds) one others all =
     (fits_still closed ahead port stream from xs keys d x p one all.0 others.0, all.1, all_fit_still closed ahead port stream from xs keys d p ds one others.1 all.2)
 
-pub all_sealed : (plan : Plan) (closed : Bool) (ahead : SealedPacket → List ℕ) (port : PortName) (stream from : ℕ) (bytes : List ℕ) (t : Tlp) → read_of bytes ≡ Ok t → (ds : List SealedPacket) (xs : SealedList) (keys : SubKind → Keys) → AllFit closed ahead port stream from xs keys ds
+pub all_sealed : (plan : Plan) (closed : Bool) (ahead : SealedPacket → List ℕ) (port : PortName) (stream from : ℕ) (bytes : List ℕ) (t : Tlp) → read_of bytes ≡ Ok t → (ds : List SealedPacket) (xs : SealedList) (keys : SubKind → Keys)
+    → AllFit closed ahead port stream from xs keys ds
     → IsSealed plan ahead port stream from bytes xs keys ds (sealed_all closed (head_bytes (header t)) (body t) ds (each_sub (tx_at plan port stream from xs keys)))
 all_sealed plan closed ahead port stream from bytes t reads [] xs keys all = record { packets = append-nil (kept_all xs); senders = refl }
 all_sealed plan closed ahead port stream from bytes t reads (d ∷ ds) xs keys all =
     let old : SubKind → TxSub = tx_at plan port stream from xs keys in
     let p = packet_of plan (ahead d) bytes d (open_unit (sent_in xs (sub_stream_of d) d.draw)) in
     let made = packet_under (front_with closed d.unit (at_sub (each_sub old) d.sub).total) (live_sender (at_sub (each_sub old) d.sub).slots) d (head_bytes (header t)) (body t) in
-    let same : made ≡ p = ap (λ (x : TxSub). packet_under (front_with closed d.unit x.total) (live_sender x.slots) d (head_bytes (header t)) (body t)) (at_each old d.sub) ∙ next_packet plan closed ahead port stream from xs keys d bytes t all.0 reads in
+    let same : made ≡ p = ap (λ (x : TxSub). packet_under (front_with closed d.unit x.total) (live_sender x.slots) d (head_bytes (header t)) (body t)) (at_each old d.sub) ∙ next_packet plan closed ahead port stream from xs keys d bytes t
+    all.0 reads in
     let m = prefix_is plan (ahead d) bytes d (open_unit (sent_in xs (sub_stream_of d) d.draw)) in
     let new : each_sub (λ u. sealed_sub d made u (at_sub (each_sub old) u)) ≡ each_sub (tx_at plan port stream from (xs ++ (d, p) ∷ []) (after_one port stream d keys)) =
     each_same _ _ (λ u. (λ i. sealed_sub d (same i) u (at_each old u i)) ∙ one_sub plan closed ahead port stream from xs keys d p all.0 m u) in

@@ -71,7 +71,8 @@ seals_live plan h port stream u keyed =
 
 -- a description under the key of its sub-stream
 describes : (plan : Plan) → KeyFacts plan → (h : History) → CauseLaw plan h → (s : Sending) (u : SubKind) (number : ℕ) (m t sync : Bool) → is_keyless (lanes_at plan h s.port s.stream) u ≡ false
-    → Fits (is_closed plan s.port.link s.stream) (ahead_in plan (sealed_packets plan h) (base h)) s.port s.stream (base h s.port.link s.stream) (sealed_packets plan h) (λ u. keys_at h s.port (lane_out s.port s.stream u)) (described (lanes_at plan h s.port s.stream) s u number m t sync)
+    → Fits (is_closed plan s.port.link s.stream) (ahead_in plan (sealed_packets plan h) (base h)) s.port s.stream (base h s.port.link s.stream) (sealed_packets plan h) (λ u. keys_at h s.port (lane_out s.port s.stream u))
+    (described (lanes_at plan h s.port s.stream) s u number m t sync)
 unfolding front_of
 describes plan facts h law s u number m t sync keyed =
     let place = lane_out s.port s.stream u in
@@ -90,7 +91,8 @@ describes plan facts h law s u number m t sync keyed =
 
 all_fit : (plan : Plan) → KeyFacts plan → (h : History) → CauseLaw plan h → (s : Sending) (number : ℕ) (n c : Bool) → let x = lanes_at plan h s.port s.stream in
     is_keyless x s.class ≡ false → (n ≡ true → (s.class ≡ Pr) × (is_keyless x Npr ≡ false)) → (c ≡ true → (s.class ≡ Pr) × (is_keyless x Cpl ≡ false))
-    → AllFit (is_closed plan s.port.link s.stream) (ahead_in plan (sealed_packets plan h) (base h)) s.port s.stream (base h s.port.link s.stream) (sealed_packets plan h) (λ u. keys_at h s.port (lane_out s.port s.stream u)) (listed x s number n c)
+    → AllFit (is_closed plan s.port.link s.stream) (ahead_in plan (sealed_packets plan h) (base h)) s.port s.stream (base h s.port.link s.stream) (sealed_packets plan h) (λ u. keys_at h s.port (lane_out s.port s.stream u))
+    (listed x s number n c)
 unfolding listed
 all_fit plan facts h law s number n c keyed requests completions = by_syncs n c requests completions
   where
@@ -98,7 +100,8 @@ all_fit plan facts h law s number n c keyed requests completions = by_syncs n c 
     x = lanes_at plan h s.port s.stream
 
     by_syncs : (n c : Bool) → (n ≡ true → (s.class ≡ Pr) × (is_keyless (lanes_at plan h s.port s.stream) Npr ≡ false)) → (c ≡ true → (s.class ≡ Pr) × (is_keyless (lanes_at plan h s.port s.stream) Cpl ≡ false))
-        → AllFit (is_closed plan s.port.link s.stream) (ahead_in plan (sealed_packets plan h) (base h)) s.port s.stream (base h s.port.link s.stream) (sealed_packets plan h) (λ u. keys_at h s.port (lane_out s.port s.stream u)) (listed (lanes_at plan h s.port s.stream) s number n c)
+        → AllFit (is_closed plan s.port.link s.stream) (ahead_in plan (sealed_packets plan h) (base h)) s.port s.stream (base h s.port.link s.stream) (sealed_packets plan h) (λ u. keys_at h s.port (lane_out s.port s.stream u))
+        (listed (lanes_at plan h s.port s.stream) s number n c)
     by_syncs false false r c = (describes plan facts h law s s.class _ _ _ _ keyed, tt, tt)
     by_syncs true false r c =
         let npr = r refl in
@@ -116,10 +119,12 @@ all_fit plan facts h law s number n c keyed requests completions = by_syncs n c 
 
 unrefused_fit : (plan : Plan) → KeyFacts plan → (h : History) → CauseLaw plan h → (s : Sending) (number : ℕ) → let x = lanes_at plan h s.port s.stream in
     AreFalse (refusals x s.class)
-    → AllFit (is_closed plan s.port.link s.stream) (ahead_in plan (sealed_packets plan h) (base h)) s.port s.stream (base h s.port.link s.stream) (sealed_packets plan h) (λ u. keys_at h s.port (lane_out s.port s.stream u)) (sealed_by x s number)
+    → AllFit (is_closed plan s.port.link s.stream) (ahead_in plan (sealed_packets plan h) (base h)) s.port s.stream (base h s.port.link s.stream) (sealed_packets plan h) (λ u. keys_at h s.port (lane_out s.port s.stream u))
+    (sealed_by x s number)
 unrefused_fit plan facts h law s number free =
     let x = lanes_at plan h s.port s.stream in
-    subst (AllFit (is_closed plan s.port.link s.stream) (ahead_in plan (sealed_packets plan h) (base h)) s.port s.stream (base h s.port.link s.stream) (sealed_packets plan h) (λ u. keys_at h s.port (lane_out s.port s.stream u))) (sym (sealed_by_is x s number))
+    subst (AllFit (is_closed plan s.port.link s.stream) (ahead_in plan (sealed_packets plan h) (base h)) s.port s.stream (base h s.port.link s.stream) (sealed_packets plan h) (λ u. keys_at h s.port (lane_out s.port s.stream u)))
+    (sym (sealed_by_is x s number))
     (all_fit plan facts h law s number (needs_sync x s.class Npr) (needs_sync x s.class Cpl) free.1.0
     (λ needs. (needs_posted x s.class Npr needs, and_false _ _ free.1.1.1.0 needs))
     (λ needs. (needs_posted x s.class Cpl needs, and_false _ _ free.1.1.1.1.0 needs)))
@@ -130,13 +135,15 @@ send_still : (port : PortName) (bytes : List ℕ) (more trusted : Bool) → IsNo
 unfolding operates
 send_still port bytes more trusted link stream = refl
 
-only_out : (closed : Bool) (ahead : SealedPacket → List ℕ) (port : PortName) (stream from : ℕ) (xs : SealedList) (keys : SubKind → Keys) (ds : List SealedPacket) → AllFit closed ahead port stream from xs keys ds → (q : PortName) (t : ℕ) → (is_same_port port q && (stream == t)) ≡ false → any_out q t ds ≡ false
+only_out : (closed : Bool) (ahead : SealedPacket → List ℕ) (port : PortName) (stream from : ℕ) (xs : SealedList) (keys : SubKind → Keys) (ds : List SealedPacket) → AllFit closed ahead port stream from xs keys ds → (q : PortName) (t : ℕ)
+    → (is_same_port port q && (stream == t)) ≡ false → any_out q t ds ≡ false
 only_out closed ahead port stream from xs keys [] all q t other = refl
 only_out closed ahead port stream from xs keys (d ∷ ds) all q t other =
     let off : is_out q t d ≡ false = (λ i. is_same_port (all.0.port_is i) q && (all.0.stream_is i == t)) ∙ other in
     rw (off, only_out closed ahead port stream from xs keys ds all.2 q t other) refl
 
-sealed_with : (plan : Plan) (h : History) (port : PortName) (bytes : List ℕ) (more trusted : Bool) (ds : List SealedPacket) → sealed_packets plan ((Send port bytes more trusted, v.Sealed ds) ∷ h) ≡ with_sealed plan (ahead_in plan (sealed_packets plan h) (base h)) bytes ds (sealed_packets plan h)
+sealed_with : (plan : Plan) (h : History) (port : PortName) (bytes : List ℕ) (more trusted : Bool) (ds : List SealedPacket) → sealed_packets plan ((Send port bytes more trusted, v.Sealed ds) ∷ h)
+    ≡ with_sealed plan (ahead_in plan (sealed_packets plan h) (base h)) bytes ds (sealed_packets plan h)
 unfolding sealed_packets
 sealed_with plan h port bytes more trusted ds = refl
 
@@ -156,7 +163,8 @@ senders_before plan h port stream live =
 senders_after : (plan : Plan) → KeyFacts plan → (h : History) (port : PortName) (bytes : List ℕ) (more trusted : Bool) (ds : List SealedPacket) (stream : ℕ)
     → CauseLaw plan ((Send port bytes more trusted, v.Sealed ds) ∷ h) → has_live_out h port stream ≡ true
     → (standing plan ((Send port bytes more trusted, v.Sealed ds) ∷ h) port stream).tx
-    ≡ each_sub (tx_at plan port stream (base h port.link stream) (with_sealed plan (ahead_in plan (sealed_packets plan h) (base h)) bytes ds (sealed_packets plan h)) (λ u. after_ends port (lane_out port stream u) ds (keys_at h port (lane_out port stream u))))
+    ≡ each_sub (tx_at plan port stream (base h port.link stream) (with_sealed plan (ahead_in plan (sealed_packets plan h) (base h)) bytes ds (sealed_packets plan h)) (λ u. after_ends port (lane_out port stream u) ds
+    (keys_at h port (lane_out port stream u))))
 unfolding standing
 senders_after plan facts h port bytes more trusted ds stream law live =
     let e = Send port bytes more trusted in
@@ -177,7 +185,8 @@ after_seals : (plan : Plan) → KeyFacts plan → (h : History) (s : Sending) (b
 unfolding standing
 after_seals plan facts h s bytes more trusted ds tx law same =
     let e = Send s.port bytes more trusted in
-    stream_is _ _ same (sym (each_same _ _ (λ u. rx_frame plan facts h e (v.Sealed ds) law s.port s.stream (send_still s.port bytes more trusted s.port.link s.stream) u refl))) (sym (failed_same plan facts h e (v.Sealed ds) law s.port s.stream (send_still s.port bytes more trusted s.port.link s.stream) refl))
+    stream_is _ _ same (sym (each_same _ _ (λ u. rx_frame plan facts h e (v.Sealed ds) law s.port s.stream (send_still s.port bytes more trusted s.port.link s.stream) u refl)))
+    (sym (failed_same plan facts h e (v.Sealed ds) law s.port s.stream (send_still s.port bytes more trusted s.port.link s.stream) refl))
 
 -- the packets are sealed
 seals : (plan : Plan) → KeyFacts plan → (st : LinkState) (h : History) (s : Sending) (bytes : List ℕ) (more trusted : Bool) (t : Tlp) (ds : List SealedPacket) → PortsStand plan st h
@@ -191,7 +200,8 @@ seals plan facts st h s bytes more trusted t ds stands known found reads is live
     let keys : SubKind → Keys = λ u. keys_at h s.port (lane_out s.port s.stream u) in
     let r = sealed_all (is_closed plan s.port.link s.stream) (head_bytes (header t)) (body t) ds (standing plan h s.port s.stream).tx in
     let done : IsSealed plan (ahead_in plan (sealed_packets plan h) (base h)) s.port s.stream from bytes (sealed_packets plan h) keys ds r =
-    subst (λ (tx : Three TxSub). IsSealed plan (ahead_in plan (sealed_packets plan h) (base h)) s.port s.stream from bytes (sealed_packets plan h) keys ds (sealed_all (is_closed plan s.port.link s.stream) (head_bytes (header t)) (body t) ds tx)) (sym (senders_before plan h s.port s.stream live))
+    subst (λ (tx : Three TxSub). IsSealed plan (ahead_in plan (sealed_packets plan h) (base h)) s.port s.stream from bytes (sealed_packets plan h) keys ds (sealed_all (is_closed plan s.port.link s.stream) (head_bytes (header t)) (body t) ds
+    tx)) (sym (senders_before plan h s.port s.stream live))
     (all_sealed plan (is_closed plan s.port.link s.stream) (ahead_in plan (sealed_packets plan h) (base h)) s.port s.stream from bytes t reads ds (sealed_packets plan h) keys all) in
     let x : StreamState = record (standing plan h s.port s.stream) { tx = r.1 } in
     let ps : List LinkPacket = st.packets ++ map (kept_at s.port) r.0 in
@@ -273,13 +283,15 @@ sends_as plan facts st h s bytes more trusted t stands reads is y found =
     let kept = kept_is plan st h s.port s.stream y stands found in
     let e = Send s.port bytes more trusted in
     let x = lanes_at plan h s.port s.stream in
-    let number : length st.packets + 1 ≡ length (sealed_packets plan h) + 1 = ap (λ (ks : List LinkPacket). length ks + 1) stands.packets ∙ ap (λ (n : ℕ). n + 1) (length-map (sealed_packets plan h) (λ (z : SealedPacket × Packet). kept_at z.0.port z.1)) in
+    let number : length st.packets + 1 ≡ length (sealed_packets plan h) + 1 = ap (λ (ks : List LinkPacket). length ks + 1) stands.packets ∙ ap (λ (n : ℕ). n + 1) (length-map (sealed_packets plan h) (λ (z : SealedPacket × Packet). kept_at
+    z.0.port z.1)) in
     let as_standing : Steps plan h e (answered plan st s t (standing plan h s.port s.stream) (first_that_holds (refusals x s.class)) (sealed_by x s (length st.packets + 1))) =
     answers plan facts st h s bytes more trusted t stands kept.known (rw found refl) reads (length st.packets + 1)
     (ap (sent_as x s) number ∙ is) (first_that_holds (refusals x s.class)) refl in
     subst (λ (z : StreamState). Steps plan h e (send_as plan st s t z)) (sym kept.same) (by_live as_standing (has_live_out h s.port s.stream) refl)
   where
-    by_live : Steps plan h (Send s.port bytes more trusted) (answered plan st s t (standing plan h s.port s.stream) (first_that_holds (refusals (lanes_at plan h s.port s.stream) s.class)) (sealed_by (lanes_at plan h s.port s.stream) s (length st.packets + 1)))
+    by_live : Steps plan h (Send s.port bytes more trusted) (answered plan st s t (standing plan h s.port s.stream) (first_that_holds (refusals (lanes_at plan h s.port s.stream) s.class)) (sealed_by (lanes_at plan h s.port s.stream) s
+        (length st.packets + 1)))
         → (b : Bool) → has_live_out h s.port s.stream ≡ b → Steps plan h (Send s.port bytes more trusted) (send_as plan st s t (standing plan h s.port s.stream))
     by_live done true live =
         subst (λ (l : Lanes). Steps plan h (Send s.port bytes more trusted) (answered plan st s t (standing plan h s.port s.stream) (first_that_holds (refusals l s.class)) (sealed_by l s (length st.packets + 1))))
@@ -296,7 +308,8 @@ by_choice : (plan : Plan) → KeyFacts plan → (st : LinkState) (h : History) (
     → (c : Option ℕ) → choice plan port (header t) ≡ c → due_on plan h port (header t) more trusted c ≡ due plan h (Send port bytes more trusted) → Steps plan h (Send port bytes more trusted) (send_on plan st port t more trusted c)
 by_choice plan facts st h port bytes more trusted t stands reads None chose is = quiet plan facts st h (Send port bytes more trusted) (v.Plain port) stands refl is (send_still port bytes more trusted)
 by_choice plan facts st h port bytes more trusted t stands reads (Some stream) chose is =
-    by_found plan facts st h (record { port = port; stream = stream; class = class_of (header t); more = more; trusted = trusted }) bytes more trusted t stands reads (choice_known plan port (header t) stream chose) is (find plan st port stream) refl
+    by_found plan facts st h (record { port = port; stream = stream; class = class_of (header t); more = more; trusted = trusted }) bytes more trusted t stands reads (choice_known plan port (header t) stream chose) is
+    (find plan st port stream) refl
 
 by_reading : (plan : Plan) → KeyFacts plan → (st : LinkState) (h : History) (port : PortName) (bytes : List ℕ) (more trusted : Bool) → PortsStand plan st h
     → (r : Result Tlp TlpFault) → read_of bytes ≡ r → due_read plan h port r more trusted ≡ due plan h (Send port bytes more trusted) → Steps plan h (Send port bytes more trusted) (send_read plan st port r more trusted)

@@ -60,7 +60,8 @@ got_failed plan h e p t u cause s from = refl
 if_same : (b c : Bool) (m n : ℕ) → b ≡ c → m ≡ n → (if b then m else 0) ≡ (if c then n else 0)
 if_same b c m n p q = λ i. if p i then q i else 0
 
-fails_live : (plan : Plan) → KeyFacts plan → (h : History) (e : Event) (port : PortName) (stream : ℕ) (u : SubKind) (cause : FailCause) → CauseLaw plan ((e, v.Fail port stream u cause) ∷ h) → operates e port.link stream ≡ false → has_live_in h port stream ≡ true
+fails_live : (plan : Plan) → KeyFacts plan → (h : History) (e : Event) (port : PortName) (stream : ℕ) (u : SubKind) (cause : FailCause) → CauseLaw plan ((e, v.Fail port stream u cause) ∷ h) → operates e port.link stream ≡ false
+    → has_live_in h port stream ≡ true
     → failed ((e, v.Fail port stream u cause) ∷ h) port stream ≡ true
 fails_live plan facts h e port stream u cause law still live = failed_more plan facts h e (v.Fail port stream u cause) law port stream still ∙ rw (is_same_port-refl port, eqb-refl stream, live) (or_true (has_live_out h port stream))
   where
@@ -68,7 +69,8 @@ fails_live plan facts h e port stream u cause law still live = failed_more plan 
     or_true true = refl
     or_true false = refl
 
-fails_lane : (plan : Plan) → KeyFacts plan → (h : History) (e : Event) (port : PortName) (stream : ℕ) (u : SubKind) (cause : FailCause) → CauseLaw plan ((e, v.Fail port stream u cause) ∷ h) → operates e port.link stream ≡ false → has_live_in h port stream ≡ true
+fails_lane : (plan : Plan) → KeyFacts plan → (h : History) (e : Event) (port : PortName) (stream : ℕ) (u : SubKind) (cause : FailCause) → CauseLaw plan ((e, v.Fail port stream u cause) ∷ h) → operates e port.link stream ≡ false
+    → has_live_in h port stream ≡ true
     → (x : SubKind) → rx_standing plan ((e, v.Fail port stream u cause) ∷ h) port (lane_in port stream x) ≡ dropped_held (rx_standing plan h port (lane_in port stream x))
 fails_lane plan facts h e port stream u cause law still live x =
     let w = v.Fail port stream u cause in
@@ -85,7 +87,8 @@ fails_lane plan facts h e port stream u cause law still live x =
     (if_same _ _ _ _ (live_in plan facts h e w law port stream still) (ap length got))
     (if_same _ _ _ _ (live_in plan facts h e w law port stream still) (ap (units_since g s) (facts.base_same h e w law port.link stream still) ∙ since_failed h e port stream u cause s (base h port.link stream)))
 
-pub after_failure : (plan : Plan) → KeyFacts plan → (h : History) (e : Event) (port : PortName) (p : Packet) (cause : FailCause) → CauseLaw plan ((e, v.Fail port p.prefix.stream p.prefix.sub cause) ∷ h) → operates e port.link p.prefix.stream ≡ false → has_live_in h port p.prefix.stream ≡ true
+pub after_failure : (plan : Plan) → KeyFacts plan → (h : History) (e : Event) (port : PortName) (p : Packet) (cause : FailCause) → CauseLaw plan ((e, v.Fail port p.prefix.stream p.prefix.sub cause) ∷ h)
+    → operates e port.link p.prefix.stream ≡ false → has_live_in h port p.prefix.stream ≡ true
     → state_after (standing plan h port p.prefix.stream) p (Failed cause) ≡ standing plan ((e, v.Fail port p.prefix.stream p.prefix.sub cause) ∷ h) port p.prefix.stream
 unfolding standing
 after_failure plan facts h e port p cause law still live =

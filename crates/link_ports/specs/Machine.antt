@@ -72,7 +72,10 @@ find plan st port stream = found (streams_of plan port.link) (slice_index_or st.
 
 unfoldable pub put : Plan → LinkState → PortName → ℕ → StreamState → LinkState
 put plan st port stream x =
-    record st { ports = slice_set st.ports (port_place port) (changed (streams_of plan port.link) (slice_index_or st.ports (port_place port) []) stream x) }
+    record st {
+      ports = slice_set st.ports (port_place port) (changed (streams_of plan port.link)
+          (slice_index_or st.ports (port_place port) []) stream x);
+    }
 
 -- the manager's operation on a stream of a link
 unfoldable pub find_op : Plan → LinkState → ℕ → ℕ → Option Op
@@ -115,7 +118,13 @@ send_found plan st s t (Some x) = send_as plan st s t x
 abbrev pub send_on : Plan → LinkState → PortName → Tlp → Bool → Bool → Option ℕ → Stepped
 send_on plan st port t more trusted None = (v.Plain port, st)
 send_on plan st port t more trusted (Some stream) =
-    send_found plan st (record { port = port; stream = stream; class = class_of (header t); more = more; trusted = trusted }) t (find plan st port stream)
+    send_found plan st (record {
+      port = port;
+      stream = stream;
+      class = class_of (header t);
+      more = more;
+      trusted = trusted;
+    }) t (find plan st port stream)
 
 abbrev pub send_read : Plan → LinkState → PortName → Result Tlp TlpFault → Bool → Bool → Stepped
 send_read plan st port (Err f) more trusted = (v.Malformed port (tlp_word f) (place_in f), st)
@@ -162,7 +171,11 @@ passed x = Some (record { port = partner x.port; bytes = x.bytes })
 
 abbrev pub altered_to : ℕ → ℕ → LinkPacket → Option Arrival
 altered_to at mask x =
-    if nat_lt at (length x.bytes) then Some (record { port = partner x.port; bytes = slice_set x.bytes at (bit_xor (slice_index x.bytes at) mask) }) else None
+    if nat_lt at (length x.bytes)
+    then Some (record {
+      port = partner x.port;
+      bytes = slice_set x.bytes at (bit_xor (slice_index x.bytes at) mask);
+    }) else None
 
 abbrev pub cut_short : ℕ → LinkPacket → Option Arrival
 cut_short len x =
@@ -268,7 +281,8 @@ work_done plan st link stream w None = st
 work_done plan st link stream w (Some r) =
     let ports = ports_of plan st in
     let moved =
-    moved_state plan st link stream (λ side u. moves_at ports w r (end_at link stream true side u)) (λ side u. moves_at ports w r (end_at link stream false side u)) in
+    moved_state plan st link stream (λ side u. moves_at ports w r (end_at link stream true side u))
+    (λ side u. moves_at ports w r (end_at link stream false side u)) in
     record (put_op plan moved link stream (op_after w r)) { draws = draws_after st.draws w }
 
 abbrev pub operated : Plan → LinkState → Operation → ℕ → ℕ → Op → Verdict → Stepped
@@ -278,12 +292,14 @@ operated plan st o link stream q verdict =
 abbrev pub establish_found : Plan → LinkState → ℕ → ℕ → Option Loss → Option Op → Stepped
 establish_found plan st link stream lose None = (v.Nothing, st)
 establish_found plan st link stream lose (Some q) =
-    operated plan st op.Establish link stream q (establish_on (key_plan plan) q st.draws (ports_of plan st) link stream lose)
+    operated plan st op.Establish link stream q (establish_on (key_plan plan) q st.draws (ports_of plan st)
+    link stream lose)
 
 abbrev pub refresh_found : Plan → LinkState → ℕ → ℕ → Option Loss → Option Op → Stepped
 refresh_found plan st link stream lose None = (v.Nothing, st)
 refresh_found plan st link stream lose (Some q) =
-    operated plan st op.Refresh link stream q (refresh_on (key_plan plan) q st.draws (ports_of plan st) (status_at plan st Host link stream) link stream lose)
+    operated plan st op.Refresh link stream q (refresh_on (key_plan plan) q st.draws (ports_of plan st)
+    (status_at plan st Host link stream) link stream lose)
 
 abbrev pub stop_found : Plan → LinkState → ℕ → ℕ → Option Loss → Option Op → Stepped
 stop_found plan st link stream lose None = (v.Nothing, st)
@@ -313,7 +329,8 @@ reset_state plan st link =
     let empty = map (λ (s : StreamPlan). empty_stream) (streams_of plan link) in
     record st {
       ports =
-          slice_set (slice_set st.ports (port_place (port_at Host link)) empty) (port_place (port_at Device link)) empty;
+          slice_set (slice_set st.ports (port_place (port_at Host link)) empty)
+          (port_place (port_at Device link)) empty;
       ops = slice_set st.ops link (map (λ (s : StreamPlan). Idle) (streams_of plan link));
     }
 

@@ -75,9 +75,19 @@ slots_moved_out plan s [] slots = slots
 slots_moved_out plan s (m ∷ ms) slots = slots_moved_out plan s ms (slot_moved_out plan s m slots)
 
 -- after the moves of each sub-stream
-abbrev pub moved_stream : Plan → PortName → ℕ → (SubKind → List Move) → (SubKind → List Move) → StreamState → StreamState
+abbrev pub moved_stream : Plan → PortName → ℕ → (SubKind → List Move) → (SubKind → List Move) → StreamState
+    → StreamState
 moved_stream plan port stream out into st =
     settled_stream
-    (each_sub (λ u. record { slots = slots_moved_out plan (lane_out port stream u) (out u) (at_sub st.tx u).slots; posted = (at_sub st.tx u).posted; total = (at_sub st.tx u).total }))
-    (each_sub (λ u. record { slots = slots_moved_in plan (lane_in port stream u) (into u) (at_sub st.rx u).slots; sum = (at_sub st.rx u).sum; got = (at_sub st.rx u).got; total = (at_sub st.rx u).total }))
+    (each_sub (λ u. record {
+      slots = slots_moved_out plan (lane_out port stream u) (out u) (at_sub st.tx u).slots;
+      posted = (at_sub st.tx u).posted;
+      total = (at_sub st.tx u).total;
+    }))
+    (each_sub (λ u. record {
+      slots = slots_moved_in plan (lane_in port stream u) (into u) (at_sub st.rx u).slots;
+      sum = (at_sub st.rx u).sum;
+      got = (at_sub st.rx u).got;
+      total = (at_sub st.rx u).total;
+    }))
     st.failed

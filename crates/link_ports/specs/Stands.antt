@@ -23,7 +23,12 @@ use Rattle.link_ports.specs.Machine.{LinkState, find, find_op, step_of, kept_at,
 -- the units and the open unit of what was sealed under a draw
 abbrev pub sealing_key : Plan → SealedList → SubStream → ℕ → LiveKey
 sealing_key plan xs s j =
-    record { draw = j; key = key_of plan j s; units = length (units (sent_in xs s j)); packets = open_unit (sent_in xs s j) }
+    record {
+      draw = j;
+      key = key_of plan j s;
+      units = length (units (sent_in xs s j));
+      packets = open_unit (sent_in xs s j);
+    }
 
 -- the slot of a set, beside what the other set holds
 abbrev pub tx_slot : Plan → SealedList → SubStream → Bool → Keyed → Keyed → Slot
@@ -33,7 +38,10 @@ tx_slot plan xs s k (On j) other = if waits k j other then Armed j (key_of plan 
 
 abbrev pub tx_slots : Plan → SealedList → SubStream → Keys → Slots
 tx_slots plan xs s keys =
-    record { first = tx_slot plan xs s false keys.first keys.second; second = tx_slot plan xs s true keys.second keys.first }
+    record {
+      first = tx_slot plan xs s false keys.first keys.second;
+      second = tx_slot plan xs s true keys.second keys.first;
+    }
 
 -- while none of a port's three sub-streams has a Live key, counts and sums are 0
 abbrev pub tx_standing : Plan → History → PortName → SubStream → TxSub
@@ -48,7 +56,13 @@ tx_standing plan h port s = record {
 -- the units that were got under a draw, and what is held for the next; nothing where the stream failed
 abbrev pub receiving_key : Plan → History → PortName → SubStream → ℕ → LiveKey
 receiving_key plan h port s j =
-    record { draw = j; key = key_of plan j s; units = units_got h s j; packets = if failed h port s.stream then [] else pending plan h s j }
+    record {
+      draw = j;
+      key = key_of plan j s;
+      units = units_got h s j;
+      packets = if failed h port s.stream then []
+          else pending plan h s j;
+    }
 
 abbrev pub rx_slot : Plan → History → PortName → SubStream → Keyed → Slot
 rx_slot plan h port s Off = Empty

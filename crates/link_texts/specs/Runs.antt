@@ -23,7 +23,8 @@ history_on plan h (event ∷ events) = history_on plan (history_with plan h even
 -- the verdict lines of events in order, numbered on
 abbrev pub text_on : Plan → History → List Event → List ℕ
 text_on plan h [] = []
-text_on plan h (event ∷ events) = line_of (length h + 1) (due plan h event) ++ text_on plan (history_with plan h event) events
+text_on plan h (event ∷ events) = line_of (length h + 1) (due plan h event)
+    ++ text_on plan (history_with plan h event) events
 
 -- ---- totals
 

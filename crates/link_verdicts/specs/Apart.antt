@@ -14,7 +14,8 @@ FitsUnit u = (u.stream < 2 ^ 64) × (u.draw < 2 ^ 64) × (u.unit < 2 ^ 64)
 
 abbrev pub FitsPacket : SealedPacket → Type 0
 FitsPacket p =
-    (p.number < 2 ^ 64) × (p.port.link < 2 ^ 64) × (p.stream < 2 ^ 64) × (p.draw < 2 ^ 64) × (p.unit < 2 ^ 64) × (p.posted < 2 ^ 64)
+    (p.number < 2 ^ 64) × (p.port.link < 2 ^ 64) × (p.stream < 2 ^ 64) × (p.draw < 2 ^ 64) × (p.unit < 2 ^ 64)
+    × (p.posted < 2 ^ 64)
 
 abbrev pub FitPackets : List SealedPacket → Type 0
 FitPackets [] = Unit {0}
@@ -53,8 +54,10 @@ Fits (Packet packet bytes) = (packet < 2 ^ 64) × IsBytes bytes
 Fits (Reset link) = link < 2 ^ 64
 Fits (Status link stream host device) = (link < 2 ^ 64) × (stream < 2 ^ 64)
 
--- Texts that are equal, and begin with the lines of two verdicts, begin with one verdict of one number, and go on alike.
+-- Texts that are equal, and begin with the lines of two verdicts, begin with one verdict of one number, and go on
+-- alike.
 abbrev pub LinesApart : Type 0
 LinesApart =
-    (m n : ℕ) (v w : Verdict) (xs ys : List ℕ) → m < 2 ^ 64 → n < 2 ^ 64 → Fits v → Fits w → line_of m v ++ xs ≡ line_of n w ++ ys
+    (m n : ℕ) (v w : Verdict) (xs ys : List ℕ) → m < 2 ^ 64 → n < 2 ^ 64 → Fits v → Fits w → line_of m v ++ xs
+    ≡ line_of n w ++ ys
     → (m ≡ n) × (v ≡ w) × (xs ≡ ys)

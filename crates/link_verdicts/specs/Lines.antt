@@ -48,7 +48,8 @@ bit_of true = 1
 -- ---- parts of a line, each ahead of the words that follow it
 
 abbrev pub unit_words : UnitName → List Text → List Text
-unit_words u after = decimal u.stream ∷ sub_word u.sub ∷ codes "draw" ∷ decimal u.draw ∷ codes "unit" ∷ decimal u.unit ∷ after
+unit_words u after = decimal u.stream ∷ sub_word u.sub ∷ codes "draw" ∷ decimal u.draw ∷ codes "unit"
+    ∷ decimal u.unit ∷ after
 
 abbrev pub sync_words : Bool → List Text → List Text
 sync_words true after = codes "sync" ∷ after
@@ -56,7 +57,8 @@ sync_words false after = after
 
 abbrev pub packet_words : SealedPacket → List Text → List Text
 packet_words p after =
-    decimal p.number ∷ port_word p.port ∷ decimal p.stream ∷ sub_word p.sub ∷ codes "draw" ∷ decimal p.draw ∷ codes "unit" ∷ decimal p.unit
+    decimal p.number ∷ port_word p.port ∷ decimal p.stream ∷ sub_word p.sub ∷ codes "draw" ∷ decimal p.draw
+    ∷ codes "unit" ∷ decimal p.unit
     ∷ (codes "m" ++ decimal (bit_of p.m)) ∷ (codes "k" ++ decimal (bit_of p.k)) ∷ (codes "t" ++ decimal (bit_of p.t))
     ∷ (codes "p" ++ decimal p.posted) ∷ sync_words p.sync after
 
@@ -90,7 +92,8 @@ verdict_words (Sealed packets) = codes "sealed" ∷ packets_words packets
 verdict_words (Unknown port stream) = codes "unknown" ∷ port_word port ∷ decimal stream ∷ []
 verdict_words (Insecure port stream) = codes "insecure" ∷ port_word port ∷ decimal stream ∷ []
 verdict_words (NotKeyed port stream sub) = codes "notkeyed" ∷ port_word port ∷ decimal stream ∷ sub_word sub ∷ []
-verdict_words (Fail port stream sub cause) = codes "fail" ∷ port_word port ∷ decimal stream ∷ sub_word sub ∷ fail_word cause ∷ []
+verdict_words (Fail port stream sub cause) = codes "fail" ∷ port_word port ∷ decimal stream ∷ sub_word sub
+    ∷ fail_word cause ∷ []
 verdict_words (Held port unit) = codes "held" ∷ port_word port ∷ unit_words unit []
 verdict_words (Accepted port unit effects) = codes "accepted" ∷ port_word port ∷ unit_words unit (effects_words effects)
 verdict_words (Established link stream draw) = keyed_words (codes "established") link stream draw
@@ -101,7 +104,8 @@ verdict_words (LostReply exchange) = codes "lost" ∷ codes "reply" ∷ decimal 
 verdict_words RefusedNotIdle = codes "refused" ∷ codes "notidle" ∷ []
 verdict_words (RefusedNotSecure status) = codes "refused" ∷ codes "notsecure" ∷ status_word status ∷ []
 verdict_words (RefusedPoolEmpty draws) = codes "refused" ∷ codes "poolempty" ∷ decimal draws ∷ []
-verdict_words (RefusedDevice exchange code) = codes "refused" ∷ codes "devicerefused" ∷ decimal exchange ∷ decimal code ∷ []
+verdict_words (RefusedDevice exchange code) = codes "refused" ∷ codes "devicerefused" ∷ decimal exchange
+    ∷ decimal code ∷ []
 verdict_words (RefusedBusy operation) = codes "refused" ∷ codes "busy" ∷ operation_word operation ∷ []
 verdict_words (RefusedUnitOpen sub) = codes "refused" ∷ codes "unitopen" ∷ sub_word sub ∷ []
 verdict_words (Packet packet bytes) = codes "packet" ∷ decimal packet ∷ bytes_word bytes ∷ []
@@ -151,7 +155,8 @@ abbrev pub line_of : ℕ → Verdict → Text
 line_of number v = decimal number ++ joined (verdict_words v)
 
 abbrev pub totals_words : Totals → List Text
-totals_words t = codes "sealed" ∷ decimal t.sealed ∷ codes "accepted" ∷ decimal t.accepted ∷ codes "failed" ∷ decimal t.failed ∷ codes "blocked" ∷ decimal t.blocked ∷ []
+totals_words t = codes "sealed" ∷ decimal t.sealed ∷ codes "accepted" ∷ decimal t.accepted ∷ codes "failed"
+    ∷ decimal t.failed ∷ codes "blocked" ∷ decimal t.blocked ∷ []
 
 -- the last line of a run that was read to its end
 abbrev pub totals_line_of : Totals → Text

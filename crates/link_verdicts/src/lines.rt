@@ -26,7 +26,8 @@ fn sync_text(sync: bool) -> &'static str
 }
 
 fn push_packet(text: &mut String, packet: &SealedPacket) -> Result<(), AllocError>
-    ensures { OnOk result ((after : List Text) → string_bytes text.new ++ joined after ≡ string_bytes text.old ++ joined (packet_words packet.now after)) }
+    ensures { OnOk result ((after : List Text) → string_bytes text.new ++ joined after ≡ string_bytes text.old
+        ++ joined (packet_words packet.now after)) }
 {
     let SealedPacket {
         number,

@@ -47,7 +47,8 @@ refresh_room plan Idle next ports host l s loss r is begins = absurd cc
 refresh_room plan (Establishing j n) next ports host l s loss r is begins = absurd cc
 refresh_room plan (Up set j) next ports host l s loss r is begins = by_status host is
   where
-    by_open : (a b c : Bool) → reach_of op.Refresh (if a then v.RefusedUnitOpen Pr else if b then v.RefusedUnitOpen Npr else if c then v.RefusedUnitOpen Cpl else begun_with_draw plan next (performed ports l s loss (work_of op.Refresh (Up set j) next))) ≡ Some r → next < plan.pool
+    by_open : (a b c : Bool) → reach_of op.Refresh (if a then v.RefusedUnitOpen Pr else if b then v.RefusedUnitOpen Npr else if c then v.RefusedUnitOpen Cpl else begun_with_draw plan next
+        (performed ports l s loss (work_of op.Refresh (Up set j) next))) ≡ Some r → next < plan.pool
     by_open true b c is = absurd cc
     by_open false true c is = absurd cc
     by_open false false true is = absurd cc

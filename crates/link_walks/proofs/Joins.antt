@@ -103,7 +103,8 @@ draws_on w pool room = by_test (draws_now w) (nat_lt pool.draws (draws_in pool.k
     by_test true false room = absurd (let none = room refl in cc)
     by_test false b room = refl
 
-module _ (plan : Plan) (st : LinkState) (h : History) (operation : Operation) (loss : Option Loss) (requester : ℕ) (e : StreamEnds) (found : Found plan st h requester e) (free : refusal_of operation e.keeper.op (host_of e.host) (pool_of plan st) ≡ None) where
+module _ (plan : Plan) (st : LinkState) (h : History) (operation : Operation) (loss : Option Loss) (requester : ℕ) (e : StreamEnds) (found : Found plan st h requester e) (free : refusal_of operation e.keeper.op (host_of e.host)
+    (pool_of plan st) ≡ None) where
   knows : let w = work_of operation e.keeper.op st.draws in Knows plan (ports_of plan st) w.operation w.set w.draw e.keeper.link e.keeper.id requester e.device
   knows =
       let link = e.keeper.link in
@@ -115,7 +116,8 @@ module _ (plan : Plan) (st : LinkState) (h : History) (operation : Operation) (l
         fits = work_fits operation q st.draws;
         small = id_fits plan found.fits link id (kept_is plan st h (port_at Device link) id e.device found.stands.ports_stand found.device).known;
         requester_most = found.requester_most;
-        keys = λ makes. lane_keys plan found.fits w.draw (draw_below plan st h found.stands link id q found.op_is operation (λ now. true-lt st.draws (length plan.pool / 6) (has_room operation q (host_of e.host) (pool_of plan st) free now)) makes);
+        keys = λ makes. lane_keys plan found.fits w.draw (draw_below plan st h found.stands link id q found.op_is operation (λ now. true-lt st.draws (length plan.pool / 6) (has_room operation q (host_of e.host) (pool_of plan st) free now))
+            makes);
         reads = λ lane lt.
             let sends = sends_in Device (lane / 3) in
             let u = sub_from (lane % 3) in

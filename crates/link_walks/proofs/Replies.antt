@@ -68,7 +68,8 @@ pub query_comes : (requester draw id : ℕ) (x : StreamState) → requester ≤ 
 query_comes requester draw id x most =
     answered requester draw id (Query 0) x (omega arith) ∙ (λ i. record { judged = query_read requester most i; device = x })
 
-module _ (requester draw id sel d u : ℕ) (set : Bool) (x : StreamState) (pair : SlotPair) (small : id < 256) (low : sel < 256) (direction_is : direction_of sel ≡ d) (sub_is : sub_of sel ≡ u) (set_is : is_one (set_of sel) ≡ set) (shown_is : shown_at (shown_stream id x) (place_at id d u) ≡ Some pair) where
+module _ (requester draw id sel d u : ℕ) (set : Bool) (x : StreamState) (pair : SlotPair) (small : id < 256) (low : sel < 256) (direction_is : direction_of sel ≡ d) (sub_is : sub_of sel ≡ u) (set_is : is_one (set_of sel) ≡ set) (shown_is :
+    shown_at (shown_stream id x) (place_at id d u) ≡ Some pair) where
   place_is : place_of id sel ≡ place_at id d u
   place_is = λ i. place_at id (direction_is i) (sub_is i)
 

@@ -249,11 +249,14 @@ module _ (plan : Plan) (ports : PortView) (o : Operation) (set : Bool) (draw f :
       (subst (λ (x : Exchanged). Rest plan (work o set draw f b) id n e (lost_at l.lost n) (told (asked_of o set draw n) Lost k e.keeper) (walked (asked_of o set draw n) x more e)) (sym l.left_is)
       (is_cut n more k e at least most l.lost r))
   cuts n more k e at least most rest false true is onward =
-      subst (λ (verdict : Verdict). Rest plan (work o set draw f b) id n e verdict (told (asked_of o set draw n) (Refused 3) k e.keeper) (walked (asked_of o set draw n) (unless_lost loss n (answered n true e) e.device) more e)) (sym (not_lost loss n is))
-      (subst (λ (x : Exchanged). Rest plan (work o set draw f b) id n e (v.RefusedDevice n 3) (told (asked_of o set draw n) (Refused 3) k e.keeper) (walked (asked_of o set draw n) x more e)) (sym (comes_back loss n e.device (answered n true e) is))
+      subst (λ (verdict : Verdict). Rest plan (work o set draw f b) id n e verdict (told (asked_of o set draw n) (Refused 3) k e.keeper) (walked (asked_of o set draw n) (unless_lost loss n (answered n true e) e.device) more e))
+      (sym (not_lost loss n is))
+      (subst (λ (x : Exchanged). Rest plan (work o set draw f b) id n e (v.RefusedDevice n 3) (told (asked_of o set draw n) (Refused 3) k e.keeper) (walked (asked_of o set draw n) x more e))
+      (sym (comes_back loss n e.device (answered n true e) is))
       (is_refused_there n more k e at least most))
   cuts n more k e at least most rest false false is onward =
-      subst (λ (x : Exchanged). Rest plan (work o set draw f b) id n e (comes_to link id (work o set draw f b) loss rest) (told (asked_of o set draw n) Expected k e.keeper) (walked (asked_of o set draw n) x more e)) (sym (comes_back loss n e.device (answered n false e) is))
+      subst (λ (x : Exchanged). Rest plan (work o set draw f b) id n e (comes_to link id (work o set draw f b) loss rest) (told (asked_of o set draw n) Expected k e.keeper) (walked (asked_of o set draw n) x more e))
+      (sym (comes_back loss n e.device (answered n false e) is))
       (onward refl refl)
 
   -- behind the last exchange
@@ -266,7 +269,8 @@ module _ (plan : Plan) (ports : PortView) (o : Operation) (set : Bool) (draw f :
       let a = asked_of o set draw n in
       let next = ends_after a (answered n false e) e in
       let s = acknowledged a e.keeper in
-      subst (λ (t : Bool). Rest plan w id n e (done link id w) (continued (if t then outcome.Done (shown_at_end a) else outcome.Next) s (walk k (answers loss (is_refused ports o set link id)) s)) (goes_on (if t then outcome.Done (shown_at_end a) else outcome.Next) next (walk_on more loss requester next))) (sym test)
+      subst (λ (t : Bool). Rest plan w id n e (done link id w) (continued (if t then outcome.Done (shown_at_end a) else outcome.Next) s (walk k (answers loss (is_refused ports o set link id)) s))
+      (goes_on (if t then outcome.Done (shown_at_end a) else outcome.Next) next (walk_on more loss requester next))) (sym test)
       (record {
         outcome_is = refl;
         keeper_is = refl;
@@ -283,12 +287,14 @@ module _ (plan : Plan) (ports : PortView) (o : Operation) (set : Bool) (draw f :
         device_is = one_carried plan w n (last_of o + 1) e.device (omega (arith, same));
         link_is = refl;
         id_is = refl;
-        keys_are = subst (λ (q : Op). KeysKeptIn plan q s.keys) (sym (taken (nat_lt (last_of o) (n + 1)) (op_ended (work o set draw n false)) (op_standing (work o set draw n false) (n + 1)) less ∙ ended_as o set draw n f b)) (kept_ended plan o set draw f b s.keys);
+        keys_are = subst (λ (q : Op). KeysKeptIn plan q s.keys) (sym (taken (nat_lt (last_of o) (n + 1)) (op_ended (work o set draw n false)) (op_standing (work o set draw n false) (n + 1)) less ∙ ended_as o set draw n f b))
+            (kept_ended plan o set draw f b s.keys);
       })
 
   -- behind another one the walk goes on
   further : (n more k : ℕ) (e : StreamEnds) → IsNext plan o set draw f b id before n e → 1 ≤ n → n < last_of o → (verdict : Verdict)
-      → Rest plan (work o set draw f b) id (n + 1) (ends_after (asked_of o set draw n) (answered n false e) e) verdict (walk k (answers loss (is_refused ports o set link id)) (acknowledged (asked_of o set draw n) e.keeper)) (walk_on more loss requester (ends_after (asked_of o set draw n) (answered n false e) e))
+      → Rest plan (work o set draw f b) id (n + 1) (ends_after (asked_of o set draw n) (answered n false e) e) verdict (walk k (answers loss (is_refused ports o set link id)) (acknowledged (asked_of o set draw n) e.keeper))
+      (walk_on more loss requester (ends_after (asked_of o set draw n) (answered n false e) e))
       → Rest plan (work o set draw f b) id n e verdict (told (asked_of o set draw n) Expected k e.keeper) (walked (asked_of o set draw n) (answered n false e) more e)
   further n more k e at least less verdict rest =
       let test : (n == last_of o) ≡ false = different-false n (last_of o) less in
@@ -298,7 +304,8 @@ module _ (plan : Plan) (ports : PortView) (o : Operation) (set : Bool) (draw f :
       let s = acknowledged a e.keeper in
       let on = rest.forward in
       let wide = rest.carried in
-      subst (λ (t : Bool). Rest plan w id n e verdict (continued (if t then outcome.Done (shown_at_end a) else outcome.Next) s (walk k (answers loss (is_refused ports o set link id)) s)) (goes_on (if t then outcome.Done (shown_at_end a) else outcome.Next) next (walk_on more loss requester next))) (sym test)
+      subst (λ (t : Bool). Rest plan w id n e verdict (continued (if t then outcome.Done (shown_at_end a) else outcome.Next) s (walk k (answers loss (is_refused ports o set link id)) s))
+      (goes_on (if t then outcome.Done (shown_at_end a) else outcome.Next) next (walk_on more loss requester next))) (sym test)
       (record {
         outcome_is = rest.outcome_is;
         keeper_is = rest.keeper_is;
@@ -317,8 +324,10 @@ module _ (plan : Plan) (ports : PortView) (o : Operation) (set : Bool) (draw f :
 
   -- one exchange, where the rest is known
   steps : (n more k : ℕ) (e : StreamEnds) → IsNext plan o set draw f b id before n e → 1 ≤ n → n ≤ last_of o → (rest : Option ℕ)
-      → (is_refused ports o set link id n ≡ false → Rest plan (work o set draw f b) id n e (comes_to link id (work o set draw f b) loss rest) (told (asked_of o set draw n) Expected k e.keeper) (walked (asked_of o set draw n) (answered n false e) more e))
-      → Rest plan (work o set draw f b) id n e (comes_to link id (work o set draw f b) loss (if is_lost loss n || is_refused ports o set link id n then Some n else rest)) (walk (suc k) (answers loss (is_refused ports o set link id)) e.keeper) (walk_on (suc more) loss requester e)
+      → (is_refused ports o set link id n ≡ false → Rest plan (work o set draw f b) id n e (comes_to link id (work o set draw f b) loss rest) (told (asked_of o set draw n) Expected k e.keeper)
+      (walked (asked_of o set draw n) (answered n false e) more e))
+      → Rest plan (work o set draw f b) id n e (comes_to link id (work o set draw f b) loss (if is_lost loss n || is_refused ports o set link id n then Some n else rest)) (walk (suc k) (answers loss (is_refused ports o set link id))
+      e.keeper) (walk_on (suc more) loss requester e)
   steps n more k e at least most rest onward =
       let w = work o set draw f b in
       let a = asked_of o set draw n in

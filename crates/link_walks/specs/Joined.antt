@@ -69,17 +69,24 @@ pool_by w None pool = pool
 pool_by w (Some r) pool = begun_pool w pool
 
 -- what an event comes to, by verdict, ports, operations, draws and keys
-pub record IsJoined (plan : Plan) (st : LinkState) (operation : Operation) (loss : Option Loss) (pool : Pool) (e : StreamEnds) (r : Walked) : Type 0 where
-  pub verdict_is : verdict_of operation e.keeper.link e.keeper.id loss r.outcome ≡ verdict_due plan st operation e.keeper.op e.keeper.link e.keeper.id loss
+pub record IsJoined (plan : Plan) (st : LinkState) (operation : Operation) (loss : Option Loss) (pool : Pool)
+    (e : StreamEnds) (r : Walked) : Type 0 where
+  pub verdict_is : verdict_of operation e.keeper.link e.keeper.id loss r.outcome ≡ verdict_due plan st operation
+      e.keeper.op e.keeper.link e.keeper.id loss
   pub op_is : let w = work_of operation e.keeper.op st.draws in
-      r.ends.keeper.op ≡ op_by e.keeper.op w (reach_of operation (verdict_due plan st operation e.keeper.op e.keeper.link e.keeper.id loss))
+      r.ends.keeper.op ≡ op_by e.keeper.op w
+      (reach_of operation (verdict_due plan st operation e.keeper.op e.keeper.link e.keeper.id loss))
   pub host_is : let w = work_of operation e.keeper.op st.draws in
-      r.ends.host ≡ moved_by plan st e.keeper.link e.keeper.id w Host (reach_of operation (verdict_due plan st operation e.keeper.op e.keeper.link e.keeper.id loss)) e.host
+      r.ends.host ≡ moved_by plan st e.keeper.link e.keeper.id w Host
+      (reach_of operation (verdict_due plan st operation e.keeper.op e.keeper.link e.keeper.id loss)) e.host
   pub device_is : let w = work_of operation e.keeper.op st.draws in
-      r.ends.device ≡ moved_by plan st e.keeper.link e.keeper.id w Device (reach_of operation (verdict_due plan st operation e.keeper.op e.keeper.link e.keeper.id loss)) e.device
+      r.ends.device ≡ moved_by plan st e.keeper.link e.keeper.id w Device
+      (reach_of operation (verdict_due plan st operation e.keeper.op e.keeper.link e.keeper.id loss)) e.device
   pub draws_is : let w = work_of operation e.keeper.op st.draws in
-      (pool_by w (reach_of operation (verdict_due plan st operation e.keeper.op e.keeper.link e.keeper.id loss)) pool).draws
-      ≡ draws_by st.draws w (reach_of operation (verdict_due plan st operation e.keeper.op e.keeper.link e.keeper.id loss))
+      (pool_by w (reach_of operation (verdict_due plan st operation e.keeper.op e.keeper.link e.keeper.id loss))
+      pool).draws
+      ≡ draws_by st.draws w (reach_of operation (verdict_due plan st operation e.keeper.op e.keeper.link
+      e.keeper.id loss))
   pub link_is : r.ends.keeper.link ≡ e.keeper.link
   pub id_is : r.ends.keeper.id ≡ e.keeper.id
   pub keys_are : KeysKept plan r.ends.keeper
@@ -87,7 +94,8 @@ pub record IsJoined (plan : Plan) (st : LinkState) (operation : Operation) (loss
 -- Where the state of the machine stands for a history, and both ends, the manager and the pool are as it says.
 abbrev pub OperationsJoin : Type 0
 OperationsJoin =
-    (plan : Plan) (st : LinkState) (h : History) (operation : Operation) (loss : Option Loss) (requester : ℕ) (pool : Pool) (e : StreamEnds)
+    (plan : Plan) (st : LinkState) (h : History) (operation : Operation) (loss : Option Loss) (requester : ℕ)
+    (pool : Pool) (e : StreamEnds)
     → FitsPlan plan → StandsFor plan st h → requester ≤ 65535
     → find plan st (port_at Host e.keeper.link) e.keeper.id ≡ Some e.host
     → find plan st (port_at Device e.keeper.link) e.keeper.id ≡ Some e.device

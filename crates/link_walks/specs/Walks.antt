@@ -52,7 +52,8 @@ place_of (Halt place set answer) = place
 -- the stream after a call of its port, if any
 abbrev pub port_called : Option PortCall → StreamState → StreamState
 port_called None x = x
-port_called (Some call) x = called (sends_in Device (place_of call).direction) (sub_from (place_of call).sub) (slot_call call) x
+port_called (Some call) x = called (sends_in Device (place_of call).direction) (sub_from (place_of call).sub)
+    (slot_call call) x
 
 -- ---- one exchange
 

@@ -394,7 +394,8 @@ from_base plan facts h e port unit effects cause =
     let same : p.prefix.stream ≡ unit.stream = ap (λ (t : SubStream). t.stream) (sym (received_there plan h port p unit by.passed)) in
     subst (λ (stream : ℕ). base h port.link stream ≤ unit.draw) same (leb-true _ _ least)
 
-behind_posted : (plan : Plan) → StreamsFit plan → DrawFacts plan → (h : History) (e : Event) (port : PortName) (unit : UnitName) (effects : List Effect) → CauseLaw plan ((e, Accepted port unit effects) ∷ h) → NoForgery plan ((e, Accepted port unit effects) ∷ h)
+behind_posted : (plan : Plan) → StreamsFit plan → DrawFacts plan → (h : History) (e : Event) (port : PortName) (unit : UnitName) (effects : List Effect) → CauseLaw plan ((e, Accepted port unit effects) ∷ h)
+    → NoForgery plan ((e, Accepted port unit effects) ∷ h)
     → base h port.link unit.stream ≤ unit.draw → TotalsFit plan ((e, Accepted port unit effects) ∷ h) → BehindPosted plan h e (Accepted port unit effects)
 behind_posted plan fits facts h e port unit effects cause forged least fit m place other if_open within stands j n earlier above before at =
     by_test (nat_lt n (length (got plan h (posted_of (received_in port unit)) j))) refl

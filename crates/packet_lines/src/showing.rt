@@ -59,7 +59,8 @@ fn carried_kind(packet: &PacketView<'_>) -> &'static str
 }
 
 fn push_prefix(text: &mut String, prefix: &Prefix) -> Result<(), AllocError>
-    ensures { OnOk result ((after : List Text) → string_bytes text.new ++ joined after ≡ string_bytes text.old ++ joined (prefix_words prefix.now after)) }
+    ensures { OnOk result ((after : List Text) → string_bytes text.new ++ joined after ≡ string_bytes text.old
+        ++ joined (prefix_words prefix.now after)) }
 {
     let Prefix {
         m,
@@ -78,7 +79,8 @@ fn push_prefix(text: &mut String, prefix: &Prefix) -> Result<(), AllocError>
 
 fn push_carried(text: &mut String, packet: &PacketView<'_>) -> Result<(), AllocError>
     requires { packet.now.sync ≡ is_sync_packet (packet_of_view packet.now) }
-    ensures { OnOk result (string_bytes text.new ≡ string_bytes text.old ++ joined (carried_words (packet_of_view packet.now))) }
+    ensures { OnOk result (string_bytes text.new ≡ string_bytes text.old
+        ++ joined (carried_words (packet_of_view packet.now))) }
 {
     let kind = carried_kind(packet);
     let head = packet.head.len();

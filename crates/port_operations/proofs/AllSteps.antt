@@ -80,7 +80,8 @@ unknown plan st h link stream stands is = by_plan (is_some (stream_plan plan lin
     by_plan false e = refl
 
 -- the state and the history after an operation, of which the ports are known to stand
-establishes : (plan : Plan) (st : LinkState) (h : History) (link stream : ℕ) (lose : Option Loss) → StandsFor plan st h → (o : Option Op) → find_op plan st link stream ≡ o → AllStep plan h (Establish link stream lose) (establish_found plan st link stream lose o)
+establishes : (plan : Plan) (st : LinkState) (h : History) (link stream : ℕ) (lose : Option Loss) → StandsFor plan st h → (o : Option Op) → find_op plan st link stream ≡ o → AllStep plan h (Establish link stream lose)
+    (establish_found plan st link stream lose o)
 unfolding due key_due manager
 establishes plan st h link stream lose stands None is =
     let none = unknown plan st h link stream stands is in
@@ -99,7 +100,8 @@ establishes plan st h link stream lose stands (Some q) is =
       }),
     )
 
-refreshes : (plan : Plan) (st : LinkState) (h : History) (link stream : ℕ) (lose : Option Loss) → StandsFor plan st h → (o : Option Op) → find_op plan st link stream ≡ o → AllStep plan h (Refresh link stream lose) (refresh_found plan st link stream lose o)
+refreshes : (plan : Plan) (st : LinkState) (h : History) (link stream : ℕ) (lose : Option Loss) → StandsFor plan st h → (o : Option Op) → find_op plan st link stream ≡ o → AllStep plan h (Refresh link stream lose)
+    (refresh_found plan st link stream lose o)
 unfolding due key_due manager
 refreshes plan st h link stream lose stands None is =
     let none = unknown plan st h link stream stands is in
@@ -119,7 +121,8 @@ refreshes plan st h link stream lose stands (Some q) is =
       }),
     )
 
-stops : (plan : Plan) (st : LinkState) (h : History) (link stream : ℕ) (lose : Option Loss) → StandsFor plan st h → (o : Option Op) → find_op plan st link stream ≡ o → AllStep plan h (Stop link stream lose) (stop_found plan st link stream lose o)
+stops : (plan : Plan) (st : LinkState) (h : History) (link stream : ℕ) (lose : Option Loss) → StandsFor plan st h → (o : Option Op) → find_op plan st link stream ≡ o → AllStep plan h (Stop link stream lose)
+    (stop_found plan st link stream lose o)
 unfolding due key_due manager
 stops plan st h link stream lose stands None is =
     let none = unknown plan st h link stream stands is in
@@ -149,7 +152,8 @@ tells plan st h link stream stands None is =
 tells plan st h link stream stands (Some q) is =
     let know = known plan st h link stream q stands is in
     let x = v.Status link stream (status_at plan st Host link stream) (status_at plan st Device link stream) in
-    let due_is : x ≡ due plan h (Status link stream) = (λ i. v.Status link stream (status_is plan st h stands.ports_stand Host link stream know.planned i) (status_is plan st h stands.ports_stand Device link stream know.planned i)) ∙ sym (rw know.planned refl) in
+    let due_is : x ≡ due plan h (Status link stream) = (λ i. v.Status link stream (status_is plan st h stands.ports_stand Host link stream know.planned i) (status_is plan st h stands.ports_stand Device link stream know.planned i))
+    ∙ sym (rw know.planned refl) in
     plain plan st h (Status link stream) (x, st) (none_status link stream) stands
     (quiet plan (facts plan) st h (Status link stream) x stands.ports_stand refl due_is (none_status link stream)) (refl, refl)
 
@@ -171,14 +175,16 @@ resets plan st h link stands = by_has (nat_lt link (length plan.links)) (due_res
 pub steps : StepStands
 unfolding step_of
 steps plan st h (Send port bytes more trusted) stands =
-    plain plan st h (Send port bytes more trusted) _ (none_send port bytes more trusted) stands (sends plan (facts plan) st h port bytes more trusted stands.ports_stand) (send_kept plan st port (read_of bytes) more trusted (has_port plan port))
+    plain plan st h (Send port bytes more trusted) _ (none_send port bytes more trusted) stands (sends plan (facts plan) st h port bytes more trusted stands.ports_stand) (send_kept plan st port (read_of bytes) more trusted
+    (has_port plan port))
 steps plan st h (Pass n) stands =
     plain plan st h (Pass n) _ (none_pass n) stands
     (brought_to plan (facts plan) st h (Pass n) (none_pass n) stands.ports_stand (option_and_then passed (packet_numbered st.packets n)) (pass_brings plan h st.packets n stands.ports_stand.packets) (pass_due plan h n))
     (arrive_kept plan st (option_and_then passed (packet_numbered st.packets n)))
 steps plan st h (Alter n at mask) stands =
     plain plan st h (Alter n at mask) _ (none_alter n at mask) stands
-    (brought_to plan (facts plan) st h (Alter n at mask) (none_alter n at mask) stands.ports_stand (option_and_then (altered_to at mask) (packet_numbered st.packets n)) (alter_brings plan h st.packets n at mask stands.ports_stand.packets) (alter_due plan h n at mask))
+    (brought_to plan (facts plan) st h (Alter n at mask) (none_alter n at mask) stands.ports_stand (option_and_then (altered_to at mask) (packet_numbered st.packets n)) (alter_brings plan h st.packets n at mask stands.ports_stand.packets)
+    (alter_due plan h n at mask))
     (arrive_kept plan st (option_and_then (altered_to at mask) (packet_numbered st.packets n)))
 steps plan st h (Cut n len) stands =
     plain plan st h (Cut n len) _ (none_cut n len) stands

@@ -34,7 +34,8 @@ find_op-put : (plan : Plan) (st : LinkState) (link stream : ℕ) (o : Op) → is
 unfolding find_op put_op
 find_op-put plan st link stream o is = rw (get_or-set_same st.ops link (changed (streams_of plan link) (slice_index_or st.ops link []) stream o) [] (op_within plan st link stream is)) (found_same (streams_of plan link) _ stream o is)
 
-find_op-put_other : (plan : Plan) (st : LinkState) (link stream : ℕ) (o : Op) (l s : ℕ) → is_some (find_op plan st link stream) ≡ true → ((l == link) && (s == stream)) ≡ false → find_op plan (put_op plan st link stream o) l s ≡ find_op plan st l s
+find_op-put_other : (plan : Plan) (st : LinkState) (link stream : ℕ) (o : Op) (l s : ℕ) → is_some (find_op plan st link stream) ≡ true → ((l == link) && (s == stream)) ≡ false → find_op plan (put_op plan st link stream o) l s
+    ≡ find_op plan st l s
 unfolding find_op put_op
 find_op-put_other plan st link stream o l s is other = by_link (l == link) refl
   where

@@ -240,7 +240,8 @@ posted_first : (plan : Plan) (h : History) (e : Event) (x : Verdict) (side : Sid
 posted_first plan h e x side link stream u j none is le =
     (λ i. posted_in (sealed_same plan h e x (quiet_seals_none x none) i) (lane_out (port_at side link) stream u) (is i)) ∙ none_posted plan h (port_at side link) stream u j le
 
-got_first : (plan : Plan) (h : History) (e : Event) (x : Verdict) (side : Side) (link stream : ℕ) (u : SubKind) (j : ℕ) → CauseLaw plan h → is_quiet x ≡ true → base ((e, x) ∷ h) link stream ≡ j → started (moments h (end_at link stream false side u)) ≤ j
+got_first : (plan : Plan) (h : History) (e : Event) (x : Verdict) (side : Side) (link stream : ℕ) (u : SubKind) (j : ℕ) → CauseLaw plan h → is_quiet x ≡ true → base ((e, x) ∷ h) link stream ≡ j
+    → started (moments h (end_at link stream false side u)) ≤ j
     → got_in plan ((e, x) ∷ h) (lane_in (port_at side link) stream u) ≡ []
 got_first plan h e x side link stream u j law none is le =
     ap (got_since plan ((e, x) ∷ h) (lane_in (port_at side link) stream u)) is ∙ (got_quiet plan h e x none (lane_in (port_at side link) stream u) j ∙ none_since plan h law (port_at side link) stream u j le)
@@ -248,9 +249,11 @@ got_first plan h e x side link stream u j law none is le =
 finished_first : (plan : Plan) (h : History) (e : Event) (x : Verdict) (side : Side) (link stream : ℕ) (u : SubKind) (j : ℕ) → is_quiet x ≡ true → base ((e, x) ∷ h) link stream ≡ j → used (moments h (end_at link stream true side u)) ≤ j
     → total_in (sealed_packets plan ((e, x) ∷ h)) (lane_out (port_at side link) stream u) (base ((e, x) ∷ h) link stream) ≡ 0
 finished_first plan h e x side link stream u j none is le =
-    (λ i. total_in (sealed_same plan h e x (quiet_seals_none x none) i) (lane_out (port_at side link) stream u) (is i)) ∙ none_finished plan h (port_at side link) (lane_out (port_at side link) stream u) j (sends_lane (port_at side link) stream u) le
+    (λ i. total_in (sealed_same plan h e x (quiet_seals_none x none) i) (lane_out (port_at side link) stream u) (is i)) ∙ none_finished plan h (port_at side link) (lane_out (port_at side link) stream u) j
+    (sends_lane (port_at side link) stream u) le
 
-since_first : (plan : Plan) (h : History) (e : Event) (x : Verdict) (side : Side) (link stream : ℕ) (u : SubKind) (j : ℕ) → CauseLaw plan h → is_quiet x ≡ true → base ((e, x) ∷ h) link stream ≡ j → started (moments h (end_at link stream false side u)) ≤ j
+since_first : (plan : Plan) (h : History) (e : Event) (x : Verdict) (side : Side) (link stream : ℕ) (u : SubKind) (j : ℕ) → CauseLaw plan h → is_quiet x ≡ true → base ((e, x) ∷ h) link stream ≡ j
+    → started (moments h (end_at link stream false side u)) ≤ j
     → units_since ((e, x) ∷ h) (lane_in (port_at side link) stream u) (base ((e, x) ∷ h) link stream) ≡ 0
 since_first plan h e x side link stream u j law none is le =
     ap (units_since ((e, x) ∷ h) (lane_in (port_at side link) stream u)) is ∙ (since_quiet h e x none (lane_in (port_at side link) stream u) j ∙ no_units plan h law (port_at side link) stream u j le)
@@ -312,9 +315,11 @@ refresh_operated plan h link stream lose x r law reached side =
       base_out = λ before now. refl;
       base_into = λ before now. refl;
       none_out = λ before now u.
-          absurd (let some : true ≡ false = sym (refresh_keyed (key_plan plan) h (end_at link stream true side Pr) lose x r cause reached) ∙ (sym (out_keyed h (port_at side link) stream Pr) ∙ no_out plan h side link stream before Pr) in cc);
+          absurd (let some : true ≡ false = sym (refresh_keyed (key_plan plan) h (end_at link stream true side Pr) lose x r cause reached) ∙ (sym (out_keyed h (port_at side link) stream Pr) ∙ no_out plan h side link stream before Pr) in
+          cc);
       no_units_out = λ before now u.
-          absurd (let some : true ≡ false = sym (refresh_keyed (key_plan plan) h (end_at link stream true side Pr) lose x r cause reached) ∙ (sym (out_keyed h (port_at side link) stream Pr) ∙ no_out plan h side link stream before Pr) in cc);
+          absurd (let some : true ≡ false = sym (refresh_keyed (key_plan plan) h (end_at link stream true side Pr) lose x r cause reached) ∙ (sym (out_keyed h (port_at side link) stream Pr) ∙ no_out plan h side link stream before Pr) in
+          cc);
       none_into = λ before now u.
           absurd (let some : true ≡ false = sym (refresh_keyed (key_plan plan) h (end_at link stream false side Pr) lose x r cause reached) ∙ (sym (in_keyed h (port_at side link) stream Pr) ∙ no_in plan h side link stream before Pr) in cc);
       no_units_into = λ before now u.
@@ -371,7 +376,8 @@ stop_halts r q next reach p = by_op q
     halves false true = tt
     halves false false = tt
 
-    by_side : (b begins : Bool) (first : ℕ) → AllHalt (moves_of r (if b then when begins ClearTouch else when (is_within first (1 + lane p) reach.carried) (StopTouch false) ++ when (is_within first (7 + lane p) reach.carried) (StopTouch true)))
+    by_side : (b begins : Bool) (first : ℕ) → AllHalt (moves_of r (if b then when begins ClearTouch else when (is_within first (1 + lane p) reach.carried) (StopTouch false) ++ when (is_within first (7 + lane p) reach.carried)
+        (StopTouch true)))
     by_side true begins first = clear begins
     by_side false begins first = halves (is_within first (1 + lane p) reach.carried) (is_within first (7 + lane p) reach.carried)
 

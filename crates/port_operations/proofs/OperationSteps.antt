@@ -80,7 +80,8 @@ at_place port q stream t P same here =
 another : (link stream : ℕ) (q : PortName) (t : ℕ) → (is_same_port (port_at Host link) q && (stream == t)) ≡ false → (is_same_port (port_at Device link) q && (stream == t)) ≡ false → ((link == q.link) && (stream == t)) ≡ false
 another link stream q t host device = by_side q.side host device
   where
-    by_side : (a : Side) → ((sent_direction Host == sent_direction a) && (link == q.link) && (stream == t)) ≡ false → ((sent_direction Device == sent_direction a) && (link == q.link) && (stream == t)) ≡ false → ((link == q.link) && (stream == t)) ≡ false
+    by_side : (a : Side) → ((sent_direction Host == sent_direction a) && (link == q.link) && (stream == t)) ≡ false → ((sent_direction Device == sent_direction a) && (link == q.link) && (stream == t)) ≡ false
+        → ((link == q.link) && (stream == t)) ≡ false
     by_side Host host device = host
     by_side Device host device = device
 

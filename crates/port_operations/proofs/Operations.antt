@@ -150,10 +150,14 @@ unfolding standing
 slots_new plan h e w port stream out into is =
     let tx : SubKind → TxSub = λ u. tx_standing plan h port (lane_out port stream u) in
     let rx : SubKind → RxSub = λ u. rx_standing plan h port (lane_in port stream u) in
-    let txs : each_sub (λ u. record_tx (slots_moved_out plan (lane_out port stream u) (out u) (at_sub (each_sub tx) u).slots) (at_sub (each_sub tx) u).posted (at_sub (each_sub tx) u).total) ≡ each_sub (tx_new plan h ((e, w) ∷ h) port stream) =
-    each_same _ _ (λ u. tx_is _ _ (ap (λ (x : TxSub). slots_moved_out plan (lane_out port stream u) (out u) x.slots) (at_each tx u) ∙ tx_moved plan h e w port stream out into is u) (ap (λ (x : TxSub). x.posted) (at_each tx u)) (ap (λ (x : TxSub). x.total) (at_each tx u))) in
-    let rxs : each_sub (λ u. record_rx (slots_moved_in plan (lane_in port stream u) (into u) (at_sub (each_sub rx) u).slots) (at_sub (each_sub rx) u).sum (at_sub (each_sub rx) u).got (at_sub (each_sub rx) u).total) ≡ each_sub (rx_new plan h ((e, w) ∷ h) port stream) =
-    each_same _ _ (λ u. rx_is _ _ (ap (λ (x : RxSub). slots_moved_in plan (lane_in port stream u) (into u) x.slots) (at_each rx u) ∙ rx_moved plan h e w port stream out into is u) (ap (λ (x : RxSub). x.sum) (at_each rx u)) (ap (λ (x : RxSub). x.got) (at_each rx u)) (ap (λ (x : RxSub). x.total) (at_each rx u))) in
+    let txs : each_sub (λ u. record_tx (slots_moved_out plan (lane_out port stream u) (out u) (at_sub (each_sub tx) u).slots) (at_sub (each_sub tx) u).posted (at_sub (each_sub tx) u).total)
+    ≡ each_sub (tx_new plan h ((e, w) ∷ h) port stream) =
+    each_same _ _ (λ u. tx_is _ _ (ap (λ (x : TxSub). slots_moved_out plan (lane_out port stream u) (out u) x.slots) (at_each tx u) ∙ tx_moved plan h e w port stream out into is u) (ap (λ (x : TxSub). x.posted) (at_each tx u))
+    (ap (λ (x : TxSub). x.total) (at_each tx u))) in
+    let rxs : each_sub (λ u. record_rx (slots_moved_in plan (lane_in port stream u) (into u) (at_sub (each_sub rx) u).slots) (at_sub (each_sub rx) u).sum (at_sub (each_sub rx) u).got (at_sub (each_sub rx) u).total)
+    ≡ each_sub (rx_new plan h ((e, w) ∷ h) port stream) =
+    each_same _ _ (λ u. rx_is _ _ (ap (λ (x : RxSub). slots_moved_in plan (lane_in port stream u) (into u) x.slots) (at_each rx u) ∙ rx_moved plan h e w port stream out into is u) (ap (λ (x : RxSub). x.sum) (at_each rx u))
+    (ap (λ (x : RxSub). x.got) (at_each rx u)) (ap (λ (x : RxSub). x.total) (at_each rx u))) in
     λ i. settled_stream (txs i) (rxs i) (failed h port stream)
 
 settled_is : (plan : Plan) (h : History) (e : Event) (w : Verdict) (port : PortName) (stream : ℕ) (out into : SubKind → List Move) → Operated plan h e w port stream out into

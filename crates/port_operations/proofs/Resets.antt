@@ -60,7 +60,8 @@ and_none false = refl
 not_failed : (plan : Plan) (h : History) (port : PortName) (stream : ℕ) → NoKeys plan h port stream → failed h port stream ≡ false
 unfolding failed_there
 not_failed plan [] port stream none = refl
-not_failed plan ((e, x) ∷ h) port stream none = failed_next h e x port stream ∙ (λ i. (fails_at port stream x || failed h port stream) && (dead_out plan ((e, x) ∷ h) port stream none i || dead_in plan ((e, x) ∷ h) port stream none i)) ∙ and_none (fails_at port stream x || failed h port stream)
+not_failed plan ((e, x) ∷ h) port stream none = failed_next h e x port stream ∙ (λ i. (fails_at port stream x || failed h port stream) && (dead_out plan ((e, x) ∷ h) port stream none i || dead_in plan ((e, x) ∷ h) port stream none i))
+    ∙ and_none (fails_at port stream x || failed h port stream)
 
 if_dead : (b : Bool) (n : ℕ) → b ≡ false → (if b then n else 0) ≡ 0
 if_dead b n is = rw is refl
@@ -128,7 +129,8 @@ reset_here plan st h side l t stands = by_known (is_some (with_id (streams_of pl
 
     lists : (side : Side) → port_place (port_at side l) < length st.ports → slice_index_or (slice_set (slice_set st.ports (port_place (port_at Host l)) empty) (port_place (port_at Device l)) empty) (port_place (port_at side l)) [] ≡ empty
     lists Device lt = get_or-set_same (slice_set st.ports (port_place (port_at Host l)) empty) (port_place (port_at Device l)) empty [] (let same = length-set st.ports (port_place (port_at Host l)) empty in omega (arith, lt, same))
-    lists Host lt = get_or-set_other (slice_set st.ports (port_place (port_at Host l)) empty) (port_place (port_at Device l)) (port_place (port_at Host l)) empty [] (apart_ends l) ∙ get_or-set_same st.ports (port_place (port_at Host l)) empty [] lt
+    lists Host lt = get_or-set_other (slice_set st.ports (port_place (port_at Host l)) empty) (port_place (port_at Device l)) (port_place (port_at Host l)) empty [] (apart_ends l) ∙ get_or-set_same st.ports
+        (port_place (port_at Host l)) empty [] lt
 
     by_known : (b : Bool) → is_some (with_id (streams_of plan l) t) ≡ b
         → found (streams_of plan l) (slice_index_or (slice_set (slice_set st.ports (port_place (port_at Host l)) empty) (port_place (port_at Device l)) empty) (port_place (port_at side l)) []) t ≡ (if b then Some empty_stream else None)
@@ -157,7 +159,8 @@ reset_there plan st l port t other =
     by_side Host Device same = absurd (omega (arith, same))
     by_side Device Host same = absurd (omega (arith, same))
 
-reset_streams : (plan : Plan) (st : LinkState) (h : History) (l : ℕ) → PortsStand plan st h → v.Reset l ≡ due plan h (Reset l) → (port : PortName) (t : ℕ) → find plan (reset_state plan st l) port t ≡ standing_at plan ((Reset l, v.Reset l) ∷ h) port t
+reset_streams : (plan : Plan) (st : LinkState) (h : History) (l : ℕ) → PortsStand plan st h → v.Reset l ≡ due plan h (Reset l) → (port : PortName) (t : ℕ) → find plan (reset_state plan st l) port t
+    ≡ standing_at plan ((Reset l, v.Reset l) ∷ h) port t
 unfolding operates
 reset_streams plan st h l stands is port t = by_link (l == port.link) refl
   where

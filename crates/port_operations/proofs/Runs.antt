@@ -248,7 +248,8 @@ out_later plan xs s r ts (ClearTouch ∷ more) knows come later =
     }
 out_later plan xs s r ts (_ ∷ more) knows come later = absurd later
 
-pub out_run : (plan : Plan) (xs : SealedList) (s : SubStream) (r : Bool → Bool) (ts more : List Touch) → ((k : Bool) → r k ≡ refuses true (keys true ts) k) → Knows xs s ts → AllCome true ts more → Heads more → OutRun plan xs s ts more (moves_of r more)
+pub out_run : (plan : Plan) (xs : SealedList) (s : SubStream) (r : Bool → Bool) (ts more : List Touch) → ((k : Bool) → r k ≡ refuses true (keys true ts) k) → Knows xs s ts → AllCome true ts more → Heads more
+    → OutRun plan xs s ts more (moves_of r more)
 unfolding used is_open
 out_run plan xs s r ts (ProgramTouch k j ∷ more) same knows come heads =
     by_answer (r k) (sym (ap (λ (ks : Keys). refuses true ks k) come.0.is.are) ∙ sym (same k))
@@ -345,7 +346,8 @@ in_later plan h port s r ts (ClearTouch ∷ more) new come last =
     record { keys_are = rest.keys_are ∙ ap (keys_moved_in (moves_of r more)) bare_is; allowed = (tt, (tt, subst (AllAllowedIn plan h port s (moves_of r more)) bare_is rest.allowed)) }
 in_later plan h port s r ts (_ ∷ more) new come last = absurd last
 
-pub in_run : (plan : Plan) (h : History) (port : PortName) (s : SubStream) (r : Bool → Bool) (ts more : List Touch) → ((k : Bool) → r k ≡ refuses false (keys false ts) k) → NewIn plan h port s ts → AllCome false ts more → OneGo more → InRun plan h port s ts more (moves_of r more)
+pub in_run : (plan : Plan) (h : History) (port : PortName) (s : SubStream) (r : Bool → Bool) (ts more : List Touch) → ((k : Bool) → r k ≡ refuses false (keys false ts) k) → NewIn plan h port s ts → AllCome false ts more → OneGo more
+    → InRun plan h port s ts more (moves_of r more)
 unfolding started
 in_run plan h port s r ts (ProgramTouch k j ∷ more) same new come one =
     by_answer (r k) (sym (ap (λ (ks : Keys). refuses false ks k) come.0.is.are) ∙ sym (same k))

@@ -80,7 +80,8 @@ IsNext xs s k j b = (sent_in xs s j ≡ []) × ((i : ℕ) → b ≡ On i → (wa
 begins_live : (plan : Plan) (xs : SealedList) (s : SubStream) (k : Bool) (j : ℕ) → sent_in xs s j ≡ [] → Live (new_key plan s j) ≡ tx_slot plan xs s k (On j) Off
 begins_live plan xs s k j none = rw (no_wait_off k j) (ap Live (sym (new_is plan xs s j none)))
 
-go_loaded : (plan : Plan) (xs : SealedList) (s : SubStream) (k : Bool) (j : ℕ) (b : Keyed) → IsNext xs s k j b → slot_gone k (Programmed j (key_of plan j s)) (tx_slot plan xs s (not k) b (Loaded j)) ≡ tx_slots plan xs s (both_keys k (On j) (left_by (busy_in xs s) b))
+go_loaded : (plan : Plan) (xs : SealedList) (s : SubStream) (k : Bool) (j : ℕ) (b : Keyed) → IsNext xs s k j b → slot_gone k (Programmed j (key_of plan j s)) (tx_slot plan xs s (not k) b (Loaded j))
+    ≡ tx_slots plan xs s (both_keys k (On j) (left_by (busy_in xs s) b))
 go_loaded plan xs s k j Off next = pair_is plan xs s k _ _ (On j) Off (begins_live plan xs s k j next.0) refl
 go_loaded plan xs s k j (Loaded i) next = pair_is plan xs s k _ _ (On j) Off (begins_live plan xs s k j next.0) refl
 go_loaded plan xs s k j (On i) next = rw (no_wait (not k) i j) (by_test (busy_in xs s i))

@@ -72,10 +72,12 @@ inward h side link stream u = keyed_there (keys_there h (end_at link stream fals
 
 -- ---- slots
 
-tx_live : (plan : Plan) (h : History) (side : Side) (link stream : ℕ) (u : SubKind) → let s = lane_out (port_at side link) stream u in any_live (tx_slots plan (sealed_packets plan h) s (keys_at h (port_at side link) s)) ≡ outward h side link stream u
+tx_live : (plan : Plan) (h : History) (side : Side) (link stream : ℕ) (u : SubKind) → let s = lane_out (port_at side link) stream u in any_live (tx_slots plan (sealed_packets plan h) s (keys_at h (port_at side link) s))
+    ≡ outward h side link stream u
 tx_live plan h side link stream u = let s = lane_out (port_at side link) stream u in live_out_is plan (sealed_packets plan h) s (keys_at h (port_at side link) s) ∙ out_keyed h (port_at side link) stream u
 
-rx_live : (plan : Plan) (h : History) (side : Side) (link stream : ℕ) (u : SubKind) → let s = lane_in (port_at side link) stream u in any_live (rx_slots plan h (port_at side link) s (keys_at h (port_at side link) s)) ≡ inward h side link stream u
+rx_live : (plan : Plan) (h : History) (side : Side) (link stream : ℕ) (u : SubKind) → let s = lane_in (port_at side link) stream u in any_live (rx_slots plan h (port_at side link) s (keys_at h (port_at side link) s))
+    ≡ inward h side link stream u
 rx_live plan h side link stream u = let s = lane_in (port_at side link) stream u in live_in_is plan h (port_at side link) s (keys_at h (port_at side link) s) ∙ in_keyed h (port_at side link) stream u
 
 some_is : (plan : Plan) (h : History) (side : Side) (link stream : ℕ) → some_live (standing plan h (port_at side link) stream) ≡ has_key (keys_there h) side link stream
@@ -83,9 +85,11 @@ unfolding standing
 some_is plan h side link stream =
     let out = tx_live plan h side link stream in
     let into = rx_live plan h side link stream in
-    (λ i. out Pr i || out Npr i || out Cpl i || into Pr i || into Npr i || into Cpl i) ∙ (row_or (outward h side link stream Pr) (outward h side link stream Npr) (outward h side link stream Cpl) (inward h side link stream Pr) (inward h side link stream Npr) (inward h side link stream Cpl) ∙ by_side side)
+    (λ i. out Pr i || out Npr i || out Cpl i || into Pr i || into Npr i || into Cpl i) ∙ (row_or (outward h side link stream Pr) (outward h side link stream Npr) (outward h side link stream Cpl) (inward h side link stream Pr)
+    (inward h side link stream Npr) (inward h side link stream Cpl) ∙ by_side side)
   where
-    by_side : (side : Side) → (outward h side link stream Pr || outward h side link stream Npr || outward h side link stream Cpl || (inward h side link stream Pr || inward h side link stream Npr || inward h side link stream Cpl)) ≡ has_key (keys_there h) side link stream
+    by_side : (side : Side) → (outward h side link stream Pr || outward h side link stream Npr || outward h side link stream Cpl || (inward h side link stream Pr || inward h side link stream Npr || inward h side link stream Cpl))
+        ≡ has_key (keys_there h) side link stream
     by_side Host = six_or (outward h Host link stream Pr) (outward h Host link stream Npr) (outward h Host link stream Cpl) (inward h Host link stream Pr) (inward h Host link stream Npr) (inward h Host link stream Cpl)
     by_side Device = six_or_back (outward h Device link stream Pr) (outward h Device link stream Npr) (outward h Device link stream Cpl) (inward h Device link stream Pr) (inward h Device link stream Npr) (inward h Device link stream Cpl)
 
@@ -96,7 +100,8 @@ all_is plan h side link stream =
     let into = rx_live plan h side link stream in
     (λ i. out Pr i && out Npr i && out Cpl i && into Pr i && into Npr i && into Cpl i) ∙ by_side side
   where
-    by_side : (side : Side) → (outward h side link stream Pr && outward h side link stream Npr && outward h side link stream Cpl && inward h side link stream Pr && inward h side link stream Npr && inward h side link stream Cpl) ≡ has_all (keys_there h) side link stream
+    by_side : (side : Side) → (outward h side link stream Pr && outward h side link stream Npr && outward h side link stream Cpl && inward h side link stream Pr && inward h side link stream Npr && inward h side link stream Cpl)
+        ≡ has_all (keys_there h) side link stream
     by_side Host = six_and (outward h Host link stream Pr) (outward h Host link stream Npr) (outward h Host link stream Cpl) (inward h Host link stream Pr) (inward h Host link stream Npr) (inward h Host link stream Cpl)
     by_side Device = six_and_back (outward h Device link stream Pr) (outward h Device link stream Npr) (outward h Device link stream Cpl) (inward h Device link stream Pr) (inward h Device link stream Npr) (inward h Device link stream Cpl)
 

@@ -142,7 +142,8 @@ known_refuses plan h law p false k =
     ∙ (ap (λ (ks : Keys). refuses_in (rx_slots plan h port s ks) k) at.is.are
     ∙ (refuses_into plan h port s at.shape (in_order false (moments h (place_of p false)) at.shape at.is.sound) k ∙ sym (ap (λ (ks : Keys). refuses false ks k) at.is.are)))
 
-known_live : (plan : Plan) (h : History) → CauseLaw plan h → (p : Place) (sends k : Bool) → is_live (slot_in (slots_of sends p.sub (standing plan h (port_at p.side p.link) p.stream)) k) ≡ is_live_there (slot_of sends (keys_there h (place_of p sends)) k)
+known_live : (plan : Plan) (h : History) → CauseLaw plan h → (p : Place) (sends k : Bool) → is_live (slot_in (slots_of sends p.sub (standing plan h (port_at p.side p.link) p.stream)) k)
+    ≡ is_live_there (slot_of sends (keys_there h (place_of p sends)) k)
 known_live plan h law p true k =
     let port = port_at p.side p.link in
     let s = lane_out port p.stream p.sub in

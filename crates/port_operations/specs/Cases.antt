@@ -24,7 +24,12 @@ plan = record {
   units_per_key = 4294967296;
   pool = replicate 18 (replicate 32 0);
   links =
-      record { nonces = []; streams = record { id = 5; mode = 4; closed = false; selector = Selective None [] true } ∷ []; interfaces = [] } ∷ [];
+      record {
+        nonces = [];
+        streams = record { id = 5; mode = 4; closed = false; selector = Selective None [] true }
+            ∷ [];
+        interfaces = [];
+      } ∷ [];
   memory = [];
 }
 
@@ -38,7 +43,19 @@ device = record { side = Device; link = 0 }
 
 abbrev pub packet : ℕ → ℕ → ℕ → Bool → Bool → SealedPacket
 packet number draw unit m k =
-    record { number = number; port = device; stream = 5; sub = Pr; draw = draw; unit = unit; m = m; k = k; t = false; posted = 0; sync = false }
+    record {
+      number = number;
+      port = device;
+      stream = 5;
+      sub = Pr;
+      draw = draw;
+      unit = unit;
+      m = m;
+      k = k;
+      t = false;
+      posted = 0;
+      sync = false;
+    }
 
 abbrev pub verdicts_on : History → List Event → List Verdict
 verdicts_on h [] = []
@@ -51,21 +68,26 @@ answers_on st (e ∷ es) = let r = step_of plan st e in r.0 ∷ answers_on r.1 e
 -- a refresh of a set whose unit is unfinished at the device is refused there, and goes on once the unit ended
 abbrev pub held_up : List Event
 held_up =
-    Establish 0 5 None ∷ Send device write true false ∷ Refresh 0 5 None ∷ Refresh 0 5 None ∷ Send device write false false ∷ Refresh 0 5 None ∷ []
+    Establish 0 5 None ∷ Send device write true false ∷ Refresh 0 5 None ∷ Refresh 0 5 None ∷ Send device write false
+    false ∷ Refresh 0 5 None ∷ []
 
 abbrev pub held_up_verdicts : List Verdict
 held_up_verdicts =
-    v.Established 0 5 0 ∷ v.Sealed (packet 1 0 1 false false ∷ []) ∷ v.Refreshed 0 5 1 ∷ v.RefusedDevice 4 3 ∷ v.Sealed (packet 2 0 1 true false ∷ []) ∷ v.Refreshed 0 5 2 ∷ []
+    v.Established 0 5 0 ∷ v.Sealed (packet 1 0 1 false false ∷ []) ∷ v.Refreshed 0 5 1 ∷ v.RefusedDevice 4 3
+    ∷ v.Sealed (packet 2 0 1 true false ∷ []) ∷ v.Refreshed 0 5 2 ∷ []
 
 -- losses, refusals, a stop and a reset
 abbrev pub lost_on_the_way : List Event
 lost_on_the_way =
-    Establish 0 5 (Some (record { exchange = 11; lost = Request })) ∷ Status 0 5 ∷ Refresh 0 5 None ∷ Establish 0 5 None ∷ Establish 0 5 None
-    ∷ Stop 0 5 (Some (record { exchange = 3; lost = Reply })) ∷ Establish 0 5 None ∷ Reset 0 ∷ Establish 0 6 None ∷ Status 0 5 ∷ []
+    Establish 0 5 (Some (record { exchange = 11; lost = Request })) ∷ Status 0 5 ∷ Refresh 0 5 None ∷ Establish 0 5 None
+    ∷ Establish 0 5 None
+    ∷ Stop 0 5 (Some (record { exchange = 3; lost = Reply })) ∷ Establish 0 5 None ∷ Reset 0 ∷ Establish 0 6 None
+    ∷ Status 0 5 ∷ []
 
 abbrev pub lost_verdicts : List Verdict
 lost_verdicts =
-    v.LostRequest 11 ∷ v.Status 0 5 status.Secure status.Partial ∷ v.RefusedBusy op.Establish ∷ v.Established 0 5 0 ∷ v.RefusedNotIdle
+    v.LostRequest 11 ∷ v.Status 0 5 status.Secure status.Partial ∷ v.RefusedBusy op.Establish ∷ v.Established 0 5 0
+    ∷ v.RefusedNotIdle
     ∷ v.LostReply 3 ∷ v.RefusedBusy op.Stop ∷ v.Reset 0 ∷ v.Nothing ∷ v.Status 0 5 status.Idle status.Idle ∷ []
 
 abbrev pub WorkedCases : Type 0

@@ -40,7 +40,8 @@ abbrev pub AllowedOut : Plan → SealedList → SubStream → Move → Keys → 
 AllowedOut plan xs s (Program k j) keys = (i : ℕ) → key_in keys (not k) ≡ On i → waits (not k) i (key_in keys k) ≡ false
 AllowedOut plan xs s (Go k) keys =
     (j : ℕ) → key_in keys k ≡ Loaded j
-    → (sent_in xs s j ≡ []) × ((i : ℕ) → key_in keys (not k) ≡ On i → (waits k j (On i) ≡ true) × (waits (not k) i (On j) ≡ false))
+    → (sent_in xs s j ≡ []) × ((i : ℕ) → key_in keys (not k) ≡ On i → (waits k j (On i) ≡ true)
+    × (waits (not k) i (On j) ≡ false))
 AllowedOut plan xs s (Halt k) keys =
     (i : ℕ) → key_in keys (not k) ≡ On i → waits (not k) i (key_in keys k) ≡ true → sent_in xs s i ≡ []
 
@@ -53,10 +54,12 @@ AllAllowedOut plan xs s (m ∷ ms) keys =
 
 -- What an operation's pair owes of its keys at a port and stream: they move, each move allowed; Base stays while a
 -- direction has a Live key; and where one comes to have one, nothing from Base on was sealed or got there.
-pub record Operated (plan : Plan) (h : History) (e : Event) (w : Verdict) (port : PortName) (stream : ℕ) (out into : SubKind → List Move) : Type 0 where
+pub record Operated (plan : Plan) (h : History) (e : Event) (w : Verdict) (port : PortName) (stream : ℕ) (out into :
+    SubKind → List Move) : Type 0 where
   pub quiet : is_quiet w ≡ true
   pub keys_out : (u : SubKind)
-      → let s = lane_out port stream u in keys_at ((e, w) ∷ h) port s ≡ keys_moved_out (busy_in (sealed_packets plan h) s) (out u) (keys_at h port s)
+      → let s = lane_out port stream u in keys_at ((e, w) ∷ h) port s
+      ≡ keys_moved_out (busy_in (sealed_packets plan h) s) (out u) (keys_at h port s)
   pub keys_into : (u : SubKind)
       → let s = lane_in port stream u in keys_at ((e, w) ∷ h) port s ≡ keys_moved_in (into u) (keys_at h port s)
   pub allowed_out : (u : SubKind)
@@ -79,13 +82,15 @@ pub record Operated (plan : Plan) (h : History) (e : Event) (w : Verdict) (port 
 -- The moves of an operation leave what stands for the history with it.
 abbrev pub OperationStands : Type 0
 OperationStands =
-    (plan : Plan) (h : History) (e : Event) (w : Verdict) (port : PortName) (stream : ℕ) (out into : SubKind → List Move) → Operated plan h e w port stream out into
+    (plan : Plan) (h : History) (e : Event) (w : Verdict) (port : PortName) (stream : ℕ) (out into : SubKind
+    → List Move) → Operated plan h e w port stream out into
     → moved_stream plan port stream out into (standing plan h port stream) ≡ standing plan ((e, w) ∷ h) port stream
 
 -- ---- an operation on a stream of a link
 
 -- the event is an operation on this stream alone, and its verdict is due
-pub record IsOperation (plan : Plan) (h : History) (e : Event) (w : Verdict) (link stream : ℕ) (out into : Side → SubKind → List Move) : Type 0 where
+pub record IsOperation (plan : Plan) (h : History) (e : Event) (w : Verdict) (link stream : ℕ) (out into : Side
+    → SubKind → List Move) : Type 0 where
   pub due_is : w ≡ due plan h e
   pub quiet : is_quiet w ≡ true
   pub alone : (l s : ℕ) → ((link == l) && (stream == s)) ≡ false → operates e l s ≡ false
@@ -95,6 +100,7 @@ pub record IsOperation (plan : Plan) (h : History) (e : Event) (w : Verdict) (li
 abbrev pub OperationSteps : Type 0
 OperationSteps =
     (plan : Plan) → KeyFacts plan
-    → (st : LinkState) (h : History) (e : Event) (w : Verdict) (link stream : ℕ) (out into : Side → SubKind → List Move) → PortsStand plan st h
+    → (st : LinkState) (h : History) (e : Event) (w : Verdict) (link stream : ℕ) (out into : Side → SubKind → List Move)
+    → PortsStand plan st h
     → IsOperation plan h e w link stream out into
     → PortsStand plan (moved_state plan st link stream out into) ((e, w) ∷ h)

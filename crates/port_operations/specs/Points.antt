@@ -27,7 +27,9 @@ pub record StreamPoints (plan : Plan) (st : LinkState) (h : History) : Type 0 wh
   -- a slot holds the key of a draw exactly where the draw is kept there
   pub kept : (side : Side) (link stream : ℕ) (x : StreamState) → find plan st (port_at side link) stream ≡ Some x
       → (sends : Bool) (u : SubKind) (k : Bool)
-      → key_held (slot_in (slots_of sends u x) k) ≡ option_map (λ j. (j, key_of plan j (lane_at side link stream sends u))) (kept_draw h (end_at link stream sends side u) k)
+      → key_held (slot_in (slots_of sends u x) k)
+      ≡ option_map (λ j. (j, key_of plan j (lane_at side link stream sends u)))
+      (kept_draw h (end_at link stream sends side u) k)
   -- while no operation was asked of a stream no slot holds a key
   pub idle : (link stream : ℕ) → find_op plan st link stream ≡ Some Idle → (side : Side) (x : StreamState)
       → find plan st (port_at side link) stream ≡ Some x → (sends : Bool) (u : SubKind) (k : Bool)

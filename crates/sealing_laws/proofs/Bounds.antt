@@ -263,7 +263,8 @@ none_posted xs s from none = ap length (none_filtered (is_in (posted_of s) from)
 none_from : (plan : Plan) (h : History) (port : PortName) (stream : ℕ) (u : SubKind) (from : ℕ) → NoneFrom plan h port.link stream from → posted_in (sealed_packets plan h) (lane_out port stream u) from ≡ 0
 none_from plan h port stream u from none = none_posted (sealed_packets plan h) (lane_out port stream u) from (λ i x is. by_test x (is_same (sub_stream_of x.0) (posted_of (lane_out port stream u))) refl (none i x is))
   where
-    by_test : (x : SealedPacket × Packet) (b : Bool) → is_same (sub_stream_of x.0) (posted_of (lane_out port stream u)) ≡ b → ((sub_stream_of x.0).link ≡ port.link → x.0.stream ≡ stream → x.0.draw < from) → (b && nat_le from x.0.draw) ≡ false
+    by_test : (x : SealedPacket × Packet) (b : Bool) → is_same (sub_stream_of x.0) (posted_of (lane_out port stream u)) ≡ b → ((sub_stream_of x.0).link ≡ port.link → x.0.stream ≡ stream → x.0.draw < from)
+        → (b && nat_le from x.0.draw) ≡ false
     by_test x true here less =
         let same = same_stream (sub_stream_of x.0) (posted_of (lane_out port stream u)) here in
         let below = less (ap (λ (s : SubStream). s.link) same) (ap (λ (s : SubStream). s.stream) same) in
@@ -298,7 +299,8 @@ keys_change plan fits facts h e w law port stream bounds = record {
     no_front : (u : SubKind) (key : KeyName) → sent plan ((e, w) ∷ h) (lane_out port stream u) key.draw ≡ [] → front_of port stream (sealed_packets plan ((e, w) ∷ h)) u key.draw ≡ 0
     no_front u key none = ap (λ (ps : List Packet). length (open_unit ps)) none
 
-    posted : (u : SubKind) → (posted_in (sealed_packets plan ((e, w) ∷ h)) (lane_out port stream u) (from_at plan ((e, w) ∷ h) port stream) ≡ posted_in (sealed_packets plan ((e, w) ∷ h)) (lane_out port stream u) (from_at plan h port stream))
+    posted : (u : SubKind) → (posted_in (sealed_packets plan ((e, w) ∷ h)) (lane_out port stream u) (from_at plan ((e, w) ∷ h) port stream) ≡ posted_in (sealed_packets plan ((e, w) ∷ h)) (lane_out port stream u)
+        (from_at plan h port stream))
         ⊎ (posted_in (sealed_packets plan ((e, w) ∷ h)) (lane_out port stream u) (from_at plan ((e, w) ∷ h) port stream) ≡ 0)
     posted u = elim (facts.base_fresh h e w law port.link stream) [
       | inl same ↦ inl (ap (posted_in (sealed_packets plan ((e, w) ∷ h)) (lane_out port stream u)) same)

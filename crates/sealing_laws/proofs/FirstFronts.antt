@@ -86,7 +86,8 @@ none_sent : length (units []) ≡ 0
 unfolding units
 none_sent = refl
 
-sealing_front : (plan : Plan) → StreamsFit plan → DrawFacts plan → (h : History) (p : PortName) (bytes : List ℕ) (more trusted : Bool) (ds : List SealedPacket) → CauseLaw plan ((Send p bytes more trusted, Sealed ds) ∷ h) → (s : SubStream) (j : ℕ)
+sealing_front : (plan : Plan) → StreamsFit plan → DrawFacts plan → (h : History) (p : PortName) (bytes : List ℕ) (more trusted : Bool) (ds : List SealedPacket) → CauseLaw plan ((Send p bytes more trusted, Sealed ds) ∷ h)
+    → (s : SubStream) (j : ℕ)
     → IsSealedIn plan ((Send p bytes more trusted, Sealed ds) ∷ h) s j → base ((Send p bytes more trusted, Sealed ds) ∷ h) s.link s.stream ≤ j
     → (IsSealedIn plan h s j → base h s.link s.stream ≤ j → front_sent plan h s j 1 ≡ front_of plan s 1 (sum_sent plan h s (base h s.link s.stream) j))
     → (if list_any (is_of_unit s j 1) ds then front_of plan s 1 (total_in (sealed_packets plan h) s (base h s.link s.stream)) else front_sent plan h s j 1)

@@ -145,7 +145,8 @@ one_draw plan h port stream d x one two same =
     let key : one.key ≡ two.key = cc in
     one.draw ∙ (ap (λ (k : KeyName). k.draw) key ∙ sym two.draw)
 
-pub others_kept : (plan : Plan) (ahead : SealedPacket → List ℕ) (bytes : List ℕ) (s : SubStream) (i j : ℕ) → i < j → (ds : List SealedPacket) (xs : SealedList) → AllByRecursion (λ (d : SealedPacket). is_same (sub_stream_of d) s ≡ true → d.draw ≡ j) ds
+pub others_kept : (plan : Plan) (ahead : SealedPacket → List ℕ) (bytes : List ℕ) (s : SubStream) (i j : ℕ) → i < j → (ds : List SealedPacket) (xs : SealedList) → AllByRecursion (λ (d : SealedPacket). is_same (sub_stream_of d) s ≡ true
+    → d.draw ≡ j) ds
     → sent_in (with_sealed plan ahead bytes ds xs) s i ≡ sent_in xs s i
 others_kept plan ahead bytes s i j less [] xs each = refl
 others_kept plan ahead bytes s i j less (d ∷ ds) xs each =

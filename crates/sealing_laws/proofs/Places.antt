@@ -129,7 +129,8 @@ next_placed plan port stream live from class xs d of bounds id ahead bytes t rea
     room_of : (n mode a b : ℕ) → n < mode → (n + 1 == mode) ≡ false → a ≡ n → b ≡ mode → a + 1 < b
     room_of n mode a b less differ same also = let other : n + 1 < mode = grind (arith, nat_tests) in omega (arith, other, same, also)
 
-all_placed : (plan : Plan) → StreamsFit plan → (port : PortName) (stream : ℕ) (live : SubKind → Option KeyName) (from : ℕ) (class : SubKind) (ahead : SealedPacket → List ℕ) (bytes : List ℕ) (t : Tlp) → read_of bytes ≡ Ok t → class ≡ class_of (header t) → IdFits stream live
+all_placed : (plan : Plan) → StreamsFit plan → (port : PortName) (stream : ℕ) (live : SubKind → Option KeyName) (from : ℕ) (class : SubKind) (ahead : SealedPacket → List ℕ) (bytes : List ℕ) (t : Tlp) → read_of bytes ≡ Ok t
+    → class ≡ class_of (header t) → IdFits stream live
     → (ds : List SealedPacket) (xs : SealedList) → AllOf plan port stream live from class xs ds → Bounds plan port stream live from xs → Placed plan xs → Placed plan (with_sealed plan ahead bytes ds xs)
 all_placed plan fits port stream live from class ahead bytes t reads is_class id [] xs all bounds placed = placed
 all_placed plan fits port stream live from class ahead bytes t reads is_class id (d ∷ ds) xs all bounds placed =
@@ -149,7 +150,8 @@ placed plan fits facts [] law i x is = absurd cc
 placed plan fits facts ((Send p bytes more trusted, Sealed ds) ∷ h) law i x at =
     let is = sealing_is plan h p bytes more trusted ds law.0 in
     let s = is.sending in
-    all_placed plan fits s.port s.stream (live_at plan h s.port s.stream) (from_at plan h s.port s.stream) s.class (ahead_in plan (sealed_packets plan h) (base h)) bytes is.tlp is.reads is.class (id_fits plan fits facts h law.1 s.port s.stream) ds (sealed_packets plan h)
+    all_placed plan fits s.port s.stream (live_at plan h s.port s.stream) (from_at plan h s.port s.stream) s.class (ahead_in plan (sealed_packets plan h) (base h)) bytes is.tlp is.reads is.class (id_fits plan fits facts h law.1 s.port
+    s.stream) ds (sealed_packets plan h)
     (all_of_sealing plan facts h law.1 p bytes ds is) (bounded plan fits facts h law.1 s.port s.stream) (placed plan fits facts h law.1) i x at
 placed plan fits facts ((e, w) ∷ h) law i x is = placed plan fits facts h law.1 i x is
 

@@ -86,7 +86,8 @@ units_count : (front ps : List Packet) → sum_by ends_one ps ≡ length (units_
 units_count front [] = refl
 units_count front (p ∷ ps) = by_m p.prefix.m refl (units_count [] ps) (units_count (front ++ p ∷ []) ps)
   where
-    by_m : (b : Bool) → p.prefix.m ≡ b → sum_by ends_one ps ≡ length (units_after [] ps) → sum_by ends_one ps ≡ length (units_after (front ++ p ∷ []) ps) → sum_by ends_one (p ∷ ps) ≡ length (if b then (front ++ p ∷ []) ∷ units_after [] ps else units_after (front ++ p ∷ []) ps)
+    by_m : (b : Bool) → p.prefix.m ≡ b → sum_by ends_one ps ≡ length (units_after [] ps) → sum_by ends_one ps ≡ length (units_after (front ++ p ∷ []) ps) → sum_by ends_one (p ∷ ps) ≡ length (if b then (front ++ p ∷ [])
+        ∷ units_after [] ps else units_after (front ++ p ∷ []) ps)
     by_m true is rest other = let one : ends_one p ≡ 1 = rw is refl in omega (arith, sum_by-cons ends_one p ps, one, rest)
     by_m false is other rest = let none : ends_one p ≡ 0 = rw is refl in omega (arith, sum_by-cons ends_one p ps, none, rest)
 

@@ -112,7 +112,8 @@ abbrev pub sealed_by : Lanes → Sending → ℕ → List SealedPacket
 sealed_by x s number =
     let first = sync_before x s Npr number in
     let second = sync_before x s Cpl (number + length first) in
-    first ++ second ++ described x s s.class (number + length first + length second) (ends_unit x s) (sets_trusted s.port s.trusted) false ∷ []
+    first ++ second ++ described x s s.class (number + length first + length second) (ends_unit x s)
+    (sets_trusted s.port s.trusted) false ∷ []
 
 -- the verdict of a TLP on a stream
 abbrev pub sent_as : Lanes → Sending → ℕ → Verdict

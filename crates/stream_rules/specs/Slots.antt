@@ -15,7 +15,8 @@ is_busy _ = false
 
 abbrev pub slot_gone : Bool → Slot → Slot → Slots
 slot_gone k (Programmed j key) other =
-    if is_busy other then both_slots k (Armed j key) other else both_slots k (Live (record { draw = j; key = key; units = 0; packets = [] })) Empty
+    if is_busy other then both_slots k (Armed j key) other
+    else both_slots k (Live (record { draw = j; key = key; units = 0; packets = [] })) Empty
 slot_gone k a other = both_slots k a other
 
 abbrev pub woken : Slot → Slot
@@ -35,7 +36,16 @@ settled_stream tx rx failed =
     let out = any_live tx.pr.slots || any_live tx.npr.slots || any_live tx.cpl.slots in
     let into = any_live rx.pr.slots || any_live rx.npr.slots || any_live rx.cpl.slots in
     record {
-      tx = each_sub (λ u. record { slots = (at_sub tx u).slots; posted = if out then (at_sub tx u).posted else 0; total = if out then (at_sub tx u).total else 0 });
-      rx = each_sub (λ u. record { slots = (at_sub rx u).slots; sum = if into then (at_sub rx u).sum else 0; got = if into then (at_sub rx u).got else 0; total = if into then (at_sub rx u).total else 0 });
+      tx = each_sub (λ u. record {
+        slots = (at_sub tx u).slots;
+        posted = if out then (at_sub tx u).posted else 0;
+        total = if out then (at_sub tx u).total else 0;
+      });
+      rx = each_sub (λ u. record {
+        slots = (at_sub rx u).slots;
+        sum = if into then (at_sub rx u).sum else 0;
+        got = if into then (at_sub rx u).got else 0;
+        total = if into then (at_sub rx u).total else 0;
+      });
       failed = failed && (out || into);
     }

@@ -94,7 +94,12 @@ live_sender s = first_live (live_in s.first) (live_in s.second)
 -- what the rules of sealing see of a sender
 abbrev pub lane_of : ℕ → Option (Bool × LiveKey) → Lane
 lane_of posted None = record { key = None; front = []; units = 0; posted = posted }
-lane_of posted (Some x) = record { key = Some (record { k = x.0; draw = x.1.draw }); front = x.1.packets; units = x.1.units; posted = posted }
+lane_of posted (Some x) = record {
+  key = Some (record { k = x.0; draw = x.1.draw });
+  front = x.1.packets;
+  units = x.1.units;
+  posted = posted;
+}
 
 abbrev pub lanes_of : ℕ → ℕ → StreamState → Lanes
 lanes_of mode limit st = record {
@@ -115,11 +120,15 @@ untagged_under key front d head payload = record {
 
 abbrev pub tagged_under : List ℕ → List ℕ → List Packet → SealedPacket → Packet → Packet
 tagged_under ahead key front d p =
-    record p { tag = if d.m then tag_of key (iv_of d.sub d.unit) (ahead ++ authenticated (front ++ p ∷ [])) (encrypted (front ++ p ∷ [])) else [] }
+    record p {
+      tag = if d.m then tag_of key (iv_of d.sub d.unit) (ahead ++ authenticated (front ++ p ∷ []))
+          (encrypted (front ++ p ∷ [])) else [];
+    }
 
 abbrev pub packet_under : List ℕ → Option (Bool × LiveKey) → SealedPacket → List ℕ → List ℕ → Packet
 packet_under ahead None d head payload = untagged_under [] [] d head payload
-packet_under ahead (Some x) d head payload = tagged_under ahead x.1.key x.1.packets d (untagged_under x.1.key x.1.packets d head payload)
+packet_under ahead (Some x) d head payload = tagged_under ahead x.1.key x.1.packets d
+    (untagged_under x.1.key x.1.packets d head payload)
 
 -- a unit goes on, or ends: then a slot that waited for that is Live
 abbrev pub gone_on : Packet → Slot → Slot
@@ -134,8 +143,14 @@ abbrev pub ended_slots : Slots → Slots
 ended_slots s = by_wait s.first s.second
   where
     by_wait : Slot → Slot → Slots
-    by_wait (Live x) (Armed j key) = record { first = Empty; second = Live (record { draw = j; key = key; units = 0; packets = [] }) }
-    by_wait (Armed j key) (Live x) = record { first = Live (record { draw = j; key = key; units = 0; packets = [] }); second = Empty }
+    by_wait (Live x) (Armed j key) = record {
+      first = Empty;
+      second = Live (record { draw = j; key = key; units = 0; packets = [] });
+    }
+    by_wait (Armed j key) (Live x) = record {
+      first = Live (record { draw = j; key = key; units = 0; packets = [] });
+      second = Empty;
+    }
     by_wait a b = record { first = counted a; second = counted b }
 
 abbrev pub sealed_slots : Bool → Packet → Slots → Slots
@@ -144,7 +159,11 @@ sealed_slots m p s = if m then ended_slots s else record { first = gone_on p s.f
 -- a sub-stream after a sealed packet of the stream: its own begins its posted count again, a posted one counts
 abbrev pub sealed_sub : SealedPacket → Packet → SubKind → TxSub → TxSub
 sealed_sub d p u tx =
-    if is_same_sub d.sub u then record { slots = sealed_slots d.m p tx.slots; posted = 0; total = if d.m then tx.total + 1 else tx.total }
+    if is_same_sub d.sub u then record {
+      slots = sealed_slots d.m p tx.slots;
+      posted = 0;
+      total = if d.m then tx.total + 1 else tx.total;
+    }
     else if is_same_sub d.sub Pr then record tx { posted = tx.posted + 1 } else tx
 
 -- on a closed stream the total stands ahead of unit 1
@@ -186,7 +205,8 @@ is_allowed rx u unit = (sub_bits u == 0) || nat_le ((at_sub rx u).sum + posted_s
 -- the tag is that of the unit, with the total ahead of unit 1 on a closed stream
 abbrev pub is_tagged : Bool → ℕ → LiveKey → Packet → Bool
 is_tagged closed total x p =
-    verifies x.key (iv_of p.prefix.sub (x.units + 1)) (front_with closed (x.units + 1) total ++ authenticated (x.packets ++ p ∷ [])) (encrypted (x.packets ++ p ∷ [])) p.tag
+    verifies x.key (iv_of p.prefix.sub (x.units + 1)) (front_with closed (x.units + 1) total
+    ++ authenticated (x.packets ++ p ∷ [])) (encrypted (x.packets ++ p ∷ [])) p.tag
 
 abbrev pub checked : Bool → Bool → LiveKey → Packet → Taken
 checked tagged allowed x p =
@@ -199,7 +219,8 @@ taken_under mode closed rx p None None = NotKeyed
 taken_under mode closed rx p None (Some y) = Failed fail.Key
 taken_under mode closed rx p (Some x) other =
     if holds_any other || (not p.prefix.m && nat_le mode (length x.packets + 1)) then Failed fail.Unit
-    else if p.prefix.m then checked (is_tagged closed (at_sub rx p.prefix.sub).total x p) (is_allowed rx p.prefix.sub (x.packets ++ p ∷ [])) x p
+    else if p.prefix.m then checked (is_tagged closed (at_sub rx p.prefix.sub).total x p)
+    (is_allowed rx p.prefix.sub (x.packets ++ p ∷ [])) x p
     else Held x.draw (x.units + 1)
 
 -- the answer to a packet of the stream
@@ -226,7 +247,12 @@ accepted_slots j true s = record { first = retired j s.first; second = counted s
 accepted_slots j false s = record { first = counted s.first; second = retired j s.second }
 
 abbrev pub accepted_sub : ℕ → Bool → List Packet → RxSub → RxSub
-accepted_sub j k unit rx = record { slots = accepted_slots j k rx.slots; sum = rx.sum + posted_sum unit; got = rx.got + length unit; total = rx.total + 1 }
+accepted_sub j k unit rx = record {
+  slots = accepted_slots j k rx.slots;
+  sum = rx.sum + posted_sum unit;
+  got = rx.got + length unit;
+  total = rx.total + 1;
+}
 
 abbrev pub held_sub : Bool → Packet → RxSub → RxSub
 held_sub k p rx = record rx { slots = with_slot rx.slots k (gone_on p (slot_in rx.slots k)) }
@@ -234,7 +260,12 @@ held_sub k p rx = record rx { slots = with_slot rx.slots k (gone_on p (slot_in r
 -- the receivers and what failed after that answer
 abbrev pub state_after : StreamState → Packet → Taken → StreamState
 state_after st p (Failed cause) =
-    record st { rx = record { pr = dropped_held st.rx.pr; npr = dropped_held st.rx.npr; cpl = dropped_held st.rx.cpl }; failed = true }
-state_after st p (Held j n) = record st { rx = set_sub st.rx p.prefix.sub (held_sub p.prefix.k p (at_sub st.rx p.prefix.sub)) }
-state_after st p (Accepted j n unit) = record st { rx = set_sub st.rx p.prefix.sub (accepted_sub j p.prefix.k unit (at_sub st.rx p.prefix.sub)) }
+    record st {
+      rx = record { pr = dropped_held st.rx.pr; npr = dropped_held st.rx.npr; cpl = dropped_held st.rx.cpl };
+      failed = true;
+    }
+state_after st p (Held j n) =
+    record st { rx = set_sub st.rx p.prefix.sub (held_sub p.prefix.k p (at_sub st.rx p.prefix.sub)) }
+state_after st p (Accepted j n unit) =
+    record st { rx = set_sub st.rx p.prefix.sub (accepted_sub j p.prefix.k unit (at_sub st.rx p.prefix.sub)) }
 state_after st p _ = st

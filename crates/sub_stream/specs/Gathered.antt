@@ -60,7 +60,8 @@ pub record IsGathered (prefixes : List Prefix) (posted : ℕ) (buf : Collected) 
 abbrev pub opened_from : List ℕ → List ℕ → ℕ → List Packet → List Packet
 opened_from key iv n [] = []
 opened_from key iv n (p ∷ ps) =
-    record { prefix = p.prefix; head = p.head; body = masked key iv n p.body; tag = [] } ∷ opened_from key iv (n + length p.body) ps
+    record { prefix = p.prefix; head = p.head; body = masked key iv n p.body; tag = [] }
+    ∷ opened_from key iv (n + length p.body) ps
 
 abbrev pub opened : List ℕ → List ℕ → List Packet → List Packet
 opened key iv unit = opened_from key iv 0 unit

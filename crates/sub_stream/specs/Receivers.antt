@@ -1,5 +1,5 @@
--- A receiver of one sub-stream as a machine: what it keeps, and what it answers to a packet (PCI Express Base 6.0 section
--- 6.33, in this profile).
+-- A receiver of one sub-stream as a machine: what it keeps, and what it answers to a packet (PCI Express Base 6.0
+-- section 6.33, in this profile).
 use Rattle.std.specs.Prelude.{◌≡◌, ℕ, ◌+◌, ◌≤◌, ◌<◌, Bool, true, false, not, ◌&&◌, ◌||◌, ◌==◌, nat_le, nat_lt, List, [], ◌∷◌, ◌++◌, length, Option, Some, None, if◌then◌else◌}
 use Rattle.ide_types.specs.declared.sub.SubKind.{SubKind}
 use Rattle.ide_types.specs.declared.sub.FailCause.TheVariants as fail
@@ -84,7 +84,10 @@ is_draw_below draw (Some other) = nat_lt other draw
 
 abbrev pub without_older : SlotPair → Bool → ℕ → SlotPair
 without_older pair k draw =
-    if is_draw_below draw (live_draw (key_slot_in pair (not k))) then with_both pair.sender k (key_slot_in pair k, key.Empty) else pair
+    if is_draw_below draw (live_draw (key_slot_in pair (not k))) then with_both pair.sender k (
+      key_slot_in pair k,
+      key.Empty,
+    ) else pair
 
 abbrev pub slots_after : Answer → Bool → SlotPair → SlotPair
 slots_after (answers.Accepted draw unit count) k pair = without_older pair k draw
@@ -119,7 +122,8 @@ HoldsFew pair mode Zero ps = (is_live_key pair.zero ≡ true) × (0 < length ps)
 HoldsFew pair mode One ps = (is_live_key pair.one ≡ true) × (0 < length ps) × (length ps < mode)
 HoldsFew pair mode h ps = Unit {0}
 
-pub record IsReceiver (mode units_zero units_one takes : ℕ) (pair : SlotPair) (h : Holds) (unit : Gathered) : Type 0 where
+pub record IsReceiver (mode units_zero units_one takes : ℕ) (pair : SlotPair) (h : Holds)
+    (unit : Gathered) : Type 0 where
   pub sender : pair.sender ≡ false
   pub never_armed : has_armed pair ≡ false
   pub some_mode : 1 ≤ mode
@@ -211,7 +215,8 @@ after_answer rx front p (Accepted draw unit packets) =
 after_answer rx front p answer = rx
 
 abbrev pub receiver_after : Receiver → ℕ → List ℕ → Packet → Receiver
-receiver_after rx allowed front p = record (after_answer rx front p (taken_of rx allowed front p)) { takes = rx.takes + 1 }
+receiver_after rx allowed front p = record (after_answer rx front p (taken_of rx allowed front p))
+    { takes = rx.takes + 1 }
 
 -- ---- keys: the held packets go with their slot, and what was delivered is lent no more
 

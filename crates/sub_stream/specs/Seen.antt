@@ -13,7 +13,12 @@ abbrev pub seen : ℕ → List Packet → KeySlot → Slot
 seen units packets key.Empty = Empty
 seen units packets (key.Programmed held) = Programmed held.draw held.key
 seen units packets (key.Armed held) = Armed held.draw held.key
-seen units packets (key.Live held) = Live (record { draw = held.draw; key = held.key; units = units; packets = packets })
+seen units packets (key.Live held) = Live (record {
+  draw = held.draw;
+  key = held.key;
+  units = units;
+  packets = packets;
+})
 
 -- the keys of a slot alone
 abbrev pub key_slot : Slot → KeySlot

@@ -148,7 +148,8 @@ sealing_as tx front x c m =
       sender = record tx { ahead = (if m then [] else ahead_for tx x.1 front); slots = sealed_slots m p tx.slots };
     }
 
-abbrev pub sealing_under : Sender → List ℕ → Content → Bool → Result (Bool × LiveKey) TxRefusal → Result Sealing TxRefusal
+abbrev pub sealing_under : Sender → List ℕ → Content → Bool → Result (Bool × LiveKey) TxRefusal
+    → Result Sealing TxRefusal
 sealing_under tx front c more (Err e) = Err e
 sealing_under tx front c more (Ok x) = Ok (sealing_as tx front x c (ends tx x.1 more))
 
@@ -177,7 +178,8 @@ halted_slots slots k = both_slots k Empty (woken (slot_in slots (not k)))
 
 abbrev pub programmed_sender : Sender → Bool → List ℕ → ℕ → Sender
 programmed_sender tx k key draw =
-    if is_only_live (slot_pair true tx.slots) k then tx else record tx { slots = with_slot tx.slots k (Programmed draw key) }
+    if is_only_live (slot_pair true tx.slots) k then tx
+    else record tx { slots = with_slot tx.slots k (Programmed draw key) }
 
 abbrev pub gone_sender : Sender → Bool → Sender
 gone_sender tx k = record tx { slots = gone_slots tx.slots k }

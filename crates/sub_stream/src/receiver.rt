@@ -40,7 +40,15 @@ impl Model for Rx {
 
     ghost Value = { Receiver };
 
-    ghost view = { λ r. record { stream = r.stream; sub = r.sub; mode = r.mode; ahead = ahead_by r.holds r.unit.front; slots = seen_in r.slots r.zero r.one r.holds r.unit.packets; delivered = lent_by r.holds r.unit.packets; takes = r.takes } };
+    ghost view = { λ r. record {
+      stream = r.stream;
+      sub = r.sub;
+      mode = r.mode;
+      ahead = ahead_by r.holds r.unit.front;
+      slots = seen_in r.slots r.zero r.one r.holds r.unit.packets;
+      delivered = lent_by r.holds r.unit.packets;
+      takes = r.takes;
+    } };
 
     ghost invariant = { λ r. IsReceiver r.mode r.zero r.one r.takes r.slots r.holds r.unit };
 }
@@ -48,7 +56,8 @@ impl Model for Rx {
 // No unit is counted yet under a Programmed key of this set.
 fn restart(slots: &Slots, set: u8, zero: &mut u64, one: &mut u64)
     requires { set < 2 }
-    ensures zero { zero.new ≡ (if is_programmed (key_slot_in slots.now (is_one set)) && not (is_one set) then 0 else zero.old) }
+    ensures zero { zero.new ≡ (if is_programmed (key_slot_in slots.now (is_one set)) && not (is_one set) then 0
+        else zero.old) }
     ensures one { one.new ≡ (if is_programmed (key_slot_in slots.now (is_one set)) && is_one set then 0 else one.old) }
 {
     if slots.slot(set).0 == SlotState::Programmed {
@@ -77,7 +86,16 @@ fn fits(holds: Holds, unit: &UnitPackets, mode: u8, packet: &PacketView) -> bool
 }
 
 impl Rx {
-    ghost use Rattle.sub_stream.specs.Receivers.{new_receiver, early_of, taken_of, receiver_after, dropped_receiver, programmed_receiver, gone_receiver, halted_receiver};
+    ghost use Rattle.sub_stream.specs.Receivers.{
+      new_receiver,
+      early_of,
+      taken_of,
+      receiver_after,
+      dropped_receiver,
+      programmed_receiver,
+      gone_receiver,
+      halted_receiver,
+    };
 
     /// A receiver with no key. `mode` is 1, 2, 4 or 8, with which `buf` was reserved.
     pub fn make(stream: u8, sub: SubKind, mode: u8, buf: UnitBuf) -> Rx
@@ -120,8 +138,10 @@ impl Rx {
     pub fn take(&mut self, packet: &PacketView, allowed: u64, front: Option<&[u8; 8]>) -> Taken
         requires view { IsView packet.now }
         requires few { self.old.takes < 2 ^ 40 }
-        ensures answer { Some result ≡ answer_of (taken_of self.old allowed (lent_front front.entry) (packet_of_view packet.now)) }
-        ensures receiver { self.new ≡ receiver_after self.old allowed (lent_front front.entry) (packet_of_view packet.now) }
+        ensures answer { Some result ≡ answer_of (taken_of self.old allowed (lent_front front.entry)
+            (packet_of_view packet.now)) }
+        ensures receiver { self.new ≡ receiver_after self.old allowed (lent_front front.entry)
+            (packet_of_view packet.now) }
     {
         match self.early(packet) {
             Some(taken) => {
@@ -138,8 +158,10 @@ impl Rx {
         requires view { IsView packet.now }
         requires few { self.old.takes < 2 ^ 40 }
         requires early { early_of self.old (packet_of_view packet.now) ≡ None }
-        ensures answer { Some result ≡ answer_of (taken_of self.old allowed (lent_front front.entry) (packet_of_view packet.now)) }
-        ensures receiver { self.new ≡ receiver_after self.old allowed (lent_front front.entry) (packet_of_view packet.now) }
+        ensures answer { Some result ≡ answer_of (taken_of self.old allowed (lent_front front.entry)
+            (packet_of_view packet.now)) }
+        ensures receiver { self.new ≡ receiver_after self.old allowed (lent_front front.entry)
+            (packet_of_view packet.now) }
     {
         let k = packet.prefix.k;
         let Some((cipher, draw)) = self.slots.live_key(set_of(k)) else {
@@ -200,8 +222,8 @@ impl Rx {
         }
     }
 
-    /// Puts a key of this draw into the slot, whose held packets go. `OnlyLive` comes exactly where the slot is Live and
-    /// the other is not a newer Live one: the key comes back, and nothing changes.
+    /// Puts a key of this draw into the slot, whose held packets go. `OnlyLive` comes exactly where the slot is Live
+    /// and the other is not a newer Live one: the key comes back, and nothing changes.
     pub fn program(&mut self, set: u8, key: Key, draw: u32) -> Result<(), OnlyLive>
         requires { set < 2 }
         ensures answer { result ≡ program_answer (slot_pair false self.old.slots) (is_one set) key }
@@ -238,7 +260,8 @@ impl Rx {
 
     /// Empties both slots, and drops what is held.
     pub fn clear(&mut self)
-        ensures { self.new ≡ record (new_receiver self.old.stream self.old.sub self.old.mode) { takes = self.old.takes } }
+        ensures { self.new ≡ record (new_receiver self.old.stream self.old.sub self.old.mode)
+            { takes = self.old.takes } }
     {
         self.holds = Holds::Nothing;
         self.slots = Slots::make(false);

@@ -89,8 +89,15 @@ pub fn append_packet(
     requires head_short { length head.now ≤ TLP_HEAD_BYTES }
     requires payload_short { length payload.now ≤ PAYLOAD_BYTES }
     requires room { vec_len out.old + 4 + length head.now + length payload.now ≤ vec_capacity out.old }
-    ensures items { out.new.items ≡ out.old.items ++ (prefix_bytes prefix.now ++ (head.now ++ masked cipher.now iv.now (length (encrypted unit.old.packets)) payload.now)) }
-    ensures unit { unit.new ≡ with_packet unit.old (record { prefix = prefix.now; head = head.now; body = masked cipher.now iv.now (length (encrypted unit.old.packets)) payload.now; tag = [] }) }
+    ensures items { out.new.items ≡ out.old.items
+        ++ (prefix_bytes prefix.now ++ (head.now ++ masked cipher.now iv.now (length (encrypted unit.old.packets))
+        payload.now)) }
+    ensures unit { unit.new ≡ with_packet unit.old (record {
+      prefix = prefix.now;
+      head = head.now;
+      body = masked cipher.now iv.now (length (encrypted unit.old.packets)) payload.now;
+      tag = [];
+    }) }
     ensures len { vec_len out.new ≡ vec_len out.old + 4 + length head.now + length payload.now }
     ensures capacity { vec_capacity out.old ≤ vec_capacity out.new }
 {
@@ -104,7 +111,8 @@ pub fn append_packet(
 /// Appends the tag of a unit behind its last packet.
 pub fn append_tag(out: &mut Vec<u8>, cipher: &Gcm, iv: &[u8; 12], unit: &UnitPackets, last: bool)
     requires { vec_len out.old + TAG_BYTES ≤ vec_capacity out.old }
-    ensures items { out.new.items ≡ out.old.items ++ (if last then tag_of cipher.now iv.now (clear_of unit.now) (encrypted unit.now.packets) else []) }
+    ensures items { out.new.items ≡ out.old.items ++ (if last then tag_of cipher.now iv.now (clear_of unit.now)
+        (encrypted unit.now.packets) else []) }
     ensures capacity { vec_capacity out.old ≤ vec_capacity out.new }
 {
     if last {

@@ -44,7 +44,14 @@ impl Model for Tx {
 
     ghost Value = { Sender };
 
-    ghost view = { λ s. record { stream = s.stream; sub = s.sub; mode = s.mode; limit = s.limit; ahead = s.unit.front; slots = seen_out s.slots s.units s.unit.packets } };
+    ghost view = { λ s. record {
+      stream = s.stream;
+      sub = s.sub;
+      mode = s.mode;
+      limit = s.limit;
+      ahead = s.unit.front;
+      slots = seen_out s.slots s.units s.unit.packets;
+    } };
 
     ghost invariant = { λ s. IsSender s.mode s.limit s.units s.slots s.unit };
 }
@@ -67,7 +74,8 @@ fn sealing_key<'a>(
     unit: &UnitPackets,
     limit: u64,
 ) -> Result<(bool, &'a Gcm, u32), TxRefusal>
-    ensures { result_map_both (λ x. (x.0, live_with units unit.now.packets (record { key = x.1.now; draw = x.2 }))) (λ e. e) result ≡ ready_under limit (live_sender (seen_out slots.now units unit.now.packets)) }
+    ensures { result_map_both (λ x. (x.0, live_with units unit.now.packets (record { key = x.1.now; draw = x.2 })))
+        (λ e. e) result ≡ ready_under limit (live_sender (seen_out slots.now units unit.now.packets)) }
 {
     match live_of(slots) {
         None => Err(TxRefusal::NoKey),
@@ -103,7 +111,9 @@ fn is_last(unit: &UnitPackets, mode: u8, more: bool) -> bool
 fn end_unit(slots: &mut Slots, units: &mut u64, unit: &mut UnitPackets, last: bool)
     requires live { has_live slots.old ≡ true }
     requires few { units.old + 1 < 2 ^ 64 }
-    ensures slots { seen_out slots.new units.new unit.new.packets ≡ (if last then ended_slots (seen_out slots.old units.old unit.old.packets) else seen_out slots.old units.old unit.old.packets) }
+    ensures slots { seen_out slots.new units.new unit.new.packets
+        ≡ (if last then ended_slots (seen_out slots.old units.old unit.old.packets) else seen_out slots.old units.old
+        unit.old.packets) }
     ensures unit { unit.new ≡ (if last then gathered.no_packets unit.old.mode else unit.old) }
     ensures sender { slots.new.sender ≡ slots.old.sender }
     ensures live { has_live slots.new ≡ true }
@@ -141,7 +151,8 @@ fn units_after_halt(slots: &Slots, set: u8, units: u64) -> u64
 // Drops an open unit under the key of this slot.
 fn drop_unit(slots: &Slots, set: u8, unit: &mut UnitPackets)
     requires { set < 2 }
-    ensures { unit.new ≡ (if is_live (key_slot_in slots.now (is_one set)) then gathered.no_packets unit.old.mode else unit.old) }
+    ensures { unit.new ≡ (if is_live (key_slot_in slots.now (is_one set)) then gathered.no_packets unit.old.mode
+        else unit.old) }
 {
     if slots.slot(set).0 == SlotState::Live {
         unit.clear();
@@ -149,7 +160,19 @@ fn drop_unit(slots: &Slots, set: u8, unit: &mut UnitPackets)
 }
 
 impl Tx {
-    ghost use Rattle.sub_stream.specs.Senders.{Content, new_sender, ready_of, is_unfinished, sealing_of, sealing_answer, sealing_bytes, sender_after, programmed_sender, gone_sender, halted_sender};
+    ghost use Rattle.sub_stream.specs.Senders.{
+      Content,
+      new_sender,
+      ready_of,
+      is_unfinished,
+      sealing_of,
+      sealing_answer,
+      sealing_bytes,
+      sender_after,
+      programmed_sender,
+      gone_sender,
+      halted_sender,
+    };
 
     /// A sender with no key. `mode` is 1, 2, 4 or 8, with which `buf` was reserved; `limit` is how many units one key
     /// may seal.
@@ -199,10 +222,14 @@ impl Tx {
         requires payload { (if carried.now.sync then [] else carried.now.payload.now) ≡ carried.now.payload.now }
         requires head_short { length carried.now.head.now ≤ TLP_HEAD_BYTES }
         requires payload_short { length carried.now.payload.now ≤ PAYLOAD_BYTES }
-        requires room { vec_len out.old + PREFIX_BYTES + length carried.now.head.now + length carried.now.payload.now + TAG_BYTES ≤ vec_capacity out.old }
-        ensures answer { result ≡ sealing_answer (sealing_of self.old (lent_front front.entry) (carried_content carried.now) more) }
-        ensures sender { self.new ≡ sender_after self.old (sealing_of self.old (lent_front front.entry) (carried_content carried.now) more) }
-        ensures bytes { out.new.items ≡ out.old.items ++ sealing_bytes (sealing_of self.old (lent_front front.entry) (carried_content carried.now) more) }
+        requires room { vec_len out.old + PREFIX_BYTES + length carried.now.head.now + length carried.now.payload.now
+            + TAG_BYTES ≤ vec_capacity out.old }
+        ensures answer { result ≡ sealing_answer (sealing_of self.old (lent_front front.entry)
+            (carried_content carried.now) more) }
+        ensures sender { self.new ≡ sender_after self.old (sealing_of self.old (lent_front front.entry)
+            (carried_content carried.now) more) }
+        ensures bytes { out.new.items ≡ out.old.items ++ sealing_bytes (sealing_of self.old (lent_front front.entry)
+            (carried_content carried.now) more) }
         ensures capacity { vec_capacity out.old ≤ vec_capacity out.new }
     {
         let (k, cipher, draw) = match sealing_key(&self.slots, self.units, &self.unit, self.limit) {
@@ -264,9 +291,12 @@ impl Tx {
         requires head_short { length head.now ≤ TLP_HEAD_BYTES }
         requires payload_short { length payload.now ≤ PAYLOAD_BYTES }
         requires room { vec_len out.old + PACKET_ROOM ≤ vec_capacity out.old }
-        ensures answer { result ≡ sealing_answer (sealing_of self.old (lent_front front.entry) (tlp_content head.now payload.now posted t) more) }
-        ensures sender { self.new ≡ sender_after self.old (sealing_of self.old (lent_front front.entry) (tlp_content head.now payload.now posted t) more) }
-        ensures bytes { out.new.items ≡ out.old.items ++ sealing_bytes (sealing_of self.old (lent_front front.entry) (tlp_content head.now payload.now posted t) more) }
+        ensures answer { result ≡ sealing_answer (sealing_of self.old (lent_front front.entry)
+            (tlp_content head.now payload.now posted t) more) }
+        ensures sender { self.new ≡ sender_after self.old (sealing_of self.old (lent_front front.entry)
+            (tlp_content head.now payload.now posted t) more) }
+        ensures bytes { out.new.items ≡ out.old.items ++ sealing_bytes (sealing_of self.old (lent_front front.entry)
+            (tlp_content head.now payload.now posted t) more) }
         ensures capacity { vec_capacity out.old ≤ vec_capacity out.new }
     {
         let carried = Carried {
@@ -288,9 +318,12 @@ impl Tx {
         out: &mut Vec<u8>,
     ) -> Result<SealedPacket, TxRefusal>
         requires { vec_len out.old + SYNC_ROOM ≤ vec_capacity out.old }
-        ensures answer { result ≡ sealing_answer (sealing_of self.old (lent_front front.entry) (sync_content posted) false) }
-        ensures sender { self.new ≡ sender_after self.old (sealing_of self.old (lent_front front.entry) (sync_content posted) false) }
-        ensures bytes { out.new.items ≡ out.old.items ++ sealing_bytes (sealing_of self.old (lent_front front.entry) (sync_content posted) false) }
+        ensures answer { result ≡ sealing_answer (sealing_of self.old (lent_front front.entry)
+            (sync_content posted) false) }
+        ensures sender { self.new ≡ sender_after self.old (sealing_of self.old (lent_front front.entry)
+            (sync_content posted) false) }
+        ensures bytes { out.new.items ≡ out.old.items ++ sealing_bytes (sealing_of self.old (lent_front front.entry)
+            (sync_content posted) false) }
         ensures capacity { vec_capacity out.old ≤ vec_capacity out.new }
     {
         let carried = Carried {

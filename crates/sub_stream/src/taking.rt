@@ -115,7 +115,8 @@ pub fn keep_held(unit: &mut UnitPackets, holds: Holds)
 
 // Whether there is a tag, and it is that of the unit.
 fn is_tagged(cipher: &Gcm, iv: &[u8; 12], unit: &UnitPackets, tag: Option<&[u8; 12]>) -> bool
-    ensures { result ≡ verifies cipher.now iv.now (clear_of unit.now) (encrypted unit.now.packets) (lent_tag tag.entry) }
+    ensures { result ≡ verifies cipher.now iv.now (clear_of unit.now) (encrypted unit.now.packets)
+        (lent_tag tag.entry) }
 {
     match tag {
         Some(tag) => cipher.verify(iv, unit.clear_bytes(), unit.body(), tag),

@@ -41,7 +41,11 @@ impl Model for UnitPackets {
 
     ghost Value = { Gathered };
 
-    ghost view = { λ u. record { mode = u.buf.mode; front = u.buf.front; packets = packets_in u.buf.packets u.prefixes } };
+    ghost view = { λ u. record {
+      mode = u.buf.mode;
+      front = u.buf.front;
+      packets = packets_in u.buf.packets u.prefixes;
+    } };
 
     ghost invariant = { λ u. IsGathered u.prefixes u.posted u.buf };
 }
@@ -82,7 +86,16 @@ fn mark_in(prefix: &Prefix, clear: &[u8]) -> PacketMark
 }
 
 impl UnitPackets {
-    ghost use Rattle.sub_stream.specs.Gathered.{no_packets, begun_unit, with_packet, clear_of, lent_front, opened, lent_parts, mark_of};
+    ghost use Rattle.sub_stream.specs.Gathered.{
+      no_packets,
+      begun_unit,
+      with_packet,
+      clear_of,
+      lent_front,
+      opened,
+      lent_parts,
+      mark_of,
+    };
 
     /// No packets, in a buffer for at most 8; what it holds is not used.
     pub fn new(mut buf: UnitBuf) -> UnitPackets
@@ -153,7 +166,12 @@ impl UnitPackets {
         requires room { length self.old.packets < self.old.mode }
         requires head_short { length head.now ≤ TLP_HEAD_BYTES }
         requires body_short { length body.now ≤ PAYLOAD_BYTES }
-        ensures { self.new ≡ with_packet self.old (record { prefix = prefix.now; head = head.now; body = body.now; tag = [] }) }
+        ensures { self.new ≡ with_packet self.old (record {
+          prefix = prefix.now;
+          head = head.now;
+          body = body.now;
+          tag = [];
+        }) }
     {
         let i = self.buf.count();
         let clear = clear_part(prefix, head);

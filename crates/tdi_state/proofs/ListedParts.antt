@@ -33,7 +33,8 @@ unchanged flags registers Pasid value e = grind arith
 unchanged flags registers Ats value e = grind arith
 unchanged flags registers (Bar n) value e = ap (λ (x : List ℕ). record (listed flags registers) { bars = x }) (set_back registers.bars n value (grind arith))
 
-changed_back : (flags : ℕ) (registers : Registers) (register : Register) (value : ℕ) → length registers.bars ≡ 6 → IsAmongSix register → listed flags (with_value registers register value) ≡ listed flags registers → changes_listed flags registers register value ≡ false
+changed_back : (flags : ℕ) (registers : Registers) (register : Register) (value : ℕ) → length registers.bars ≡ 6 → IsAmongSix register → listed flags (with_value registers register value) ≡ listed flags registers
+    → changes_listed flags registers register value ≡ false
 changed_back flags registers Command value six among e =
     let memory = ap (λ (x : Listed). x.memory_space) e in
     let master = ap (λ (x : Listed). x.bus_master) e in

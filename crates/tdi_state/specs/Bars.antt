@@ -44,11 +44,17 @@ pub record FitsReported (bar : BarPlan) : Type 0 where
   pub pages : bar.pages < 2 ^ 32
   pub attributes : bar.attributes < 2 ^ 16
 
--- the range of a BAR with its number, where it has pages: its first page is moved by the MMIO reporting offset, modulo 2^64
+-- the range of a BAR with its number, where it has pages: its first page is moved by the MMIO reporting offset, modulo
+-- 2^64
 abbrev pub reported_range : ℕ → ℕ × BarPlan → Option ReportRange
 reported_range offset (number, bar) =
     if bar.pages == 0 then None
-    else Some (record { first_page = (bar.base + offset) % 2 ^ 64 / 4096; pages = bar.pages; attributes = bar.attributes; id = number })
+    else Some (record {
+      first_page = (bar.base + offset) % 2 ^ 64 / 4096;
+      pages = bar.pages;
+      attributes = bar.attributes;
+      id = number;
+    })
 
 abbrev pub reported_ranges : ℕ → List BarPlan → List ReportRange
 reported_ranges offset bars = filter_map (reported_range offset) (enumerate_from 0 bars)

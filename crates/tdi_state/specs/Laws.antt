@@ -18,12 +18,15 @@ use Rattle.tdi_state.specs.Held.{FitsTdi, FitsShown}
 abbrev pub ChangesAreListed : Type 0
 ChangesAreListed = (flags : ℕ) (registers : Registers) (register : Register) (value : ℕ)
     → length registers.bars ≡ 6 → IsAmongSix register
-    → (changes_listed flags registers register value ≡ false) ↔ (listed flags (with_value registers register value) ≡ listed flags registers)
+    → (changes_listed flags registers register value ≡ false)
+    ↔ (listed flags (with_value registers register value) ≡ listed flags registers)
 
 -- in CONFIG_LOCKED and RUN a write that changes the listed part leaves ERROR behind it
 abbrev pub ChangeIsError : Type 0
-ChangeIsError = (tdi : Tdi) (lock : Lock) (register : Register) (value : ℕ) → length tdi.registers.bars ≡ 6 → IsAmongSix register
-    → lock_of tdi.state ≡ Some lock → listed lock.flags (with_value tdi.registers register value) ≢ listed lock.flags tdi.registers
+ChangeIsError = (tdi : Tdi) (lock : Lock) (register : Register) (value : ℕ) → length tdi.registers.bars ≡ 6
+    → IsAmongSix register
+    → lock_of tdi.state ≡ Some lock → listed lock.flags (with_value tdi.registers register value) ≢ listed lock.flags
+    tdi.registers
     → (written tdi register value).state ≡ Error
 
 -- a byte of a BAR's range
@@ -31,10 +34,12 @@ abbrev pub HasByte : BarPlan → ℕ → Type 0
 HasByte bar byte = (bar.base ≤ byte) × (byte < bar_end bar)
 
 abbrev pub OverlapIsShared : Type 0
-OverlapIsShared = (bar other : BarPlan) → (overlap bar other ≡ true) ↔ ((byte : ℕ) × HasByte bar byte × HasByte other byte)
+OverlapIsShared = (bar other : BarPlan) → (overlap bar other ≡ true)
+    ↔ ((byte : ℕ) × HasByte bar byte × HasByte other byte)
 
 abbrev pub OverlapsArePairs : Type 0
-OverlapsArePairs = (bars : List BarPlan) → (any_overlap bars ≡ false) ↔ AllPairs (λ bar other. overlap bar other ≡ false) bars
+OverlapsArePairs = (bars : List BarPlan) → (any_overlap bars ≡ false)
+    ↔ AllPairs (λ bar other. overlap bar other ≡ false) bars
 
 -- no call takes the listed registers away from those that the lock kept, while it stands
 abbrev pub ListedIsKept : Type 0
@@ -49,7 +54,8 @@ pub record EntersLock (tdi : Tdi) (call : Call) (lock : Lock) (nonce : List ℕ)
   pub kept : lock.registers ≡ tdi.registers
 
 abbrev pub LockIsEntered : Type 0
-LockIsEntered = (tdi : Tdi) (call : Call) (lock : Lock) (nonce : List ℕ) → (after tdi call).state ≡ ConfigLocked lock nonce
+LockIsEntered = (tdi : Tdi) (call : Call) (lock : Lock) (nonce : List ℕ) → (after tdi call).state
+    ≡ ConfigLocked lock nonce
     → (tdi.state ≡ ConfigLocked lock nonce) ⊎ EntersLock tdi call lock nonce
 
 -- RUN was just entered: from CONFIG_LOCKED, by START_INTERFACE with the nonce of its lock

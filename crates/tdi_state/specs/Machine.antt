@@ -1,5 +1,5 @@
--- A device interface as a machine: what it keeps, and what each call answers and makes of it (TDISP, PCI Express Base 6.0
--- chapter 11, in this profile).
+-- A device interface as a machine: what it keeps, and what each call answers and makes of it (TDISP, PCI Express Base
+-- 6.0 chapter 11, in this profile).
 use Rattle.std.specs.Prelude.{ℕ, ◌≡◌, ◌+◌, ◌%◌, ◌==◌, ◌&&◌, ◌||◌, nat_le, bit_and, Bool, true, false, not, List, length, take, drop, Option, Some, None, IfSome, Result, Ok, Err, if◌then◌else◌}
 use Rattle.std.specs.Option.{option_map, option_map_or}
 use Rattle.std.specs.Str.{bytes_eq}
@@ -69,7 +69,8 @@ lock_flags state = option_map_or (λ lock. lock.flags) (lock_of state) 0
 
 -- where a lock stands, the listed part of the registers is that of the registers that it kept
 abbrev pub KeepsListed : Registers → TdiState → Type 0
-KeepsListed registers state = IfSome (lock_of state) (λ lock. listed lock.flags registers ≡ listed lock.flags lock.registers)
+KeepsListed registers state = IfSome (lock_of state) (λ lock. listed lock.flags registers ≡ listed lock.flags
+    lock.registers)
 
 -- ---- LOCK_INTERFACE
 
@@ -91,7 +92,8 @@ abbrev pub lock_answer : Tdi → ℕ → ℕ → Bool → Option (List ℕ) → 
 lock_answer tdi flags offset secure drawn =
     if not (is_unlocked tdi.state) then Err (error_code InvalidInterfaceState)
     else if not (are_lock_flags flags && is_page offset) then Err (error_code InvalidRequest)
-    else if not (secure && not (any_overlap (bars_of tdi.plan tdi.registers))) then Err (error_code InvalidDeviceConfiguration)
+    else if not (secure && not (any_overlap (bars_of tdi.plan tdi.registers)))
+    then Err (error_code InvalidDeviceConfiguration)
     else nonce_answer drawn
 
 -- what a lock keeps: its flags, stream and offset, and the registers as they stand
@@ -104,7 +106,8 @@ locked_with tdi lock (Ok nonce) = with_state tdi (ConfigLocked lock nonce)
 locked_with tdi lock (Err code) = tdi
 
 abbrev pub locked : Tdi → ℕ → ℕ → ℕ → Bool → Option (List ℕ) → Tdi
-locked tdi flags stream offset secure drawn = locked_with tdi (new_lock tdi flags stream offset) (lock_answer tdi flags offset secure drawn)
+locked tdi flags stream offset secure drawn = locked_with tdi (new_lock tdi flags stream offset)
+    (lock_answer tdi flags offset secure drawn)
 
 -- ---- GET_DEVICE_INTERFACE_REPORT
 

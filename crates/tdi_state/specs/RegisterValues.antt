@@ -1,5 +1,5 @@
--- The registers of a device interface, and which of them a lock keeps (PCI Express Base 6.0 section 7.5.1 and chapter 11,
--- in this profile).
+-- The registers of a device interface, and which of them a lock keeps (PCI Express Base 6.0 section 7.5.1 and chapter
+-- 11, in this profile).
 use Rattle.std.specs.Prelude.{ℕ, ◌/◌, ◌%◌, ◌^◌, ◌==◌, ◌&&◌, ◌<◌, nat_lt, Bool, true, not, List, [], ◌∷◌, length, slice_get, slice_index, slice_set, Option, Some, None, if◌then◌else◌}
 use Rattle.std.specs.Option.{option_map_or}
 use Rattle.ide_plan.specs.declared.interface.InterfacePlan.{InterfacePlan}

@@ -101,7 +101,8 @@ fn reported_range(offset: u64, number: u16, bar: &BarPlan) -> Option<ReportRange
 // Appends the bytes of a BAR's range, where it has one.
 fn append_range(out: &mut ArrayVec<u8, RANGE_BYTES>, offset: u64, number: u16, bar: &BarPlan)
     requires { array_vec_len out.old + 16 ≤ RANGE_BYTES }
-    ensures items { out.new.items ≡ out.old.items ++ flat_map range_bytes (option_to_list (reported_range offset (number, bar.now))) }
+    ensures items { out.new.items ≡ out.old.items ++ flat_map range_bytes
+        (option_to_list (reported_range offset (number, bar.now))) }
     ensures len { array_vec_len out.new ≤ array_vec_len out.old + 16 }
 {
     if let Some(range) = reported_range(offset, number, bar) {

@@ -24,8 +24,8 @@ use tdisp_codec::{Ranges, ReportView};
 /// The flags that a lock may have in this profile: bits 0, 1, 2 and 4.
 const LOCK_FLAGS: u16 = 0x0017;
 
-/// A device interface (TDISP, PCI Express Base 6.0 chapter 11, in this profile): its registers, its state, and the report
-/// of the lock that stands, for which it has room from the start. No call but `make` takes memory.
+/// A device interface (TDISP, PCI Express Base 6.0 chapter 11, in this profile): its registers, its state, and the
+/// report of the lock that stands, for which it has room from the start. No call but `make` takes memory.
 #[derive(Drop)]
 pub struct Interface {
     plan: InterfacePlan,
@@ -133,7 +133,25 @@ fn portion(report: &[u8], offset: u16, size: u16) -> Result<(&[u8], u16), u32>
 
 impl Interface {
     ghost use Rattle.tdi_state.specs.declared.states.TdiState.TheVariants.{ConfigUnlocked, ConfigLocked};
-    ghost use Rattle.tdi_state.specs.Machine.{Tdi, new_tdi, with_state, lock_of, bound_stream, state_code, KeepsListed, lock_answer, locked, new_lock, report_answer, start_answer, started, failed, written, level_reset, firmware_updated};
+    ghost use Rattle.tdi_state.specs.Machine.{
+      Tdi,
+      new_tdi,
+      with_state,
+      lock_of,
+      bound_stream,
+      state_code,
+      KeepsListed,
+      lock_answer,
+      locked,
+      new_lock,
+      report_answer,
+      start_answer,
+      started,
+      failed,
+      written,
+      level_reset,
+      firmware_updated,
+    };
 
     /// An interface of this layout in CONFIG_UNLOCKED, with the registers that it gives; it takes the memory for all
     /// reports.
@@ -196,7 +214,8 @@ impl Interface {
         self.state = TdiState::ConfigLocked { lock, nonce };
     }
 
-    /// LOCK_INTERFACE with these flags, default stream and MMIO reporting offset in bytes: the answer is the lock's nonce.
+    /// LOCK_INTERFACE with these flags, default stream and MMIO reporting offset in bytes: the answer is the lock's
+    /// nonce.
     /// `secure` says that the stream is known and Secure at the device; `nonce` is the next of the device's list, none
     /// where the list is used up. Refused, in this order: INVALID_INTERFACE_STATE unless in CONFIG_UNLOCKED;
     /// INVALID_REQUEST at another flag than 0, 1, 2 and 4 or an offset that is no multiple of 4,096;
@@ -235,8 +254,8 @@ impl Interface {
     }
 
     /// GET_DEVICE_INTERFACE_REPORT: at most `length` bytes of the report that the lock kept, from `offset` on, and how
-    /// many bytes of it come behind them. Refused, in this order: INVALID_INTERFACE_STATE unless in CONFIG_LOCKED or RUN;
-    /// INVALID_REQUEST where the length is 0 or the offset at or past the report's end.
+    /// many bytes of it come behind them. Refused, in this order: INVALID_INTERFACE_STATE unless in CONFIG_LOCKED or
+    /// RUN; INVALID_REQUEST where the length is 0 or the offset at or past the report's end.
     pub fn report(&self, offset: u16, length: u16) -> Result<(&[u8], u16), u32>
         ensures answer { portion_shown result ≡ report_answer self.now offset length }
         ensures short { IfOk result (λ portion. IsShortReport portion.0.now) }
@@ -265,9 +284,9 @@ impl Interface {
         self.state = TdiState::ConfigUnlocked;
     }
 
-    /// Writes a register that the interface has, with a value of its width. In CONFIG_LOCKED and RUN a listed change also
-    /// sends the interface to ERROR: another value of command bit 1 or 2, of a BAR, of TPH, LNR, PASID or ATS control, of
-    /// MSI-X control under lock flag 2, of the cache line size under flag 1.
+    /// Writes a register that the interface has, with a value of its width. In CONFIG_LOCKED and RUN a listed change
+    /// also sends the interface to ERROR: another value of command bit 1 or 2, of a BAR, of TPH, LNR, PASID or ATS
+    /// control, of MSI-X control under lock flag 2, of the cache line size under flag 1.
     pub fn write_register(&mut self, register: Register, value: u64)
         requires exists { has_register self.old.plan register ≡ true }
         requires width { value < 2 ^ width_of register }

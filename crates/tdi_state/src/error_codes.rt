@@ -3,8 +3,8 @@
 ghost use Rattle.std.specs.Prelude.{◌≡◌};
 ghost use Rattle.tdi_state.specs.Machine.{error_code};
 
-/// Why a device refuses a request (TDISP section 11.3). BUSY, UNSPECIFIED and vendors' own codes are never given in this
-/// profile.
+/// Why a device refuses a request (TDISP section 11.3). BUSY, UNSPECIFIED and vendors' own codes are never given in
+/// this profile.
 #[derive(Clone, Copy, Debug, PartialEq, Eq)]
 pub enum ErrorCode {
     /// The request's length or a field of it is wrong.

@@ -26,7 +26,8 @@ pub enum Register {
     Bar(u8),
 }
 
-/// What the registers of a device interface hold (PCI Express Base 6.0 sections 7.5.1 and 7.7 to 7.9, and this profile).
+/// What the registers of a device interface hold (PCI Express Base 6.0 sections 7.5.1 and 7.7 to 7.9, and this
+/// profile).
 #[derive(Clone, Copy, Debug, PartialEq, Eq)]
 pub struct Registers {
     pub command: u16,

@@ -8,7 +8,8 @@ use std::alloc::Global;
 use std::marker::Model;
 use tdisp_codec::{ReportView, report_write};
 
-/// The most bytes of a report in this profile: 20, 16 for each of six ranges, and 1,024 of the device's own information.
+/// The most bytes of a report in this profile: 20, 16 for each of six ranges, and 1,024 of the device's own
+/// information.
 pub const REPORT_BYTES: usize = 1_140;
 
 /// The bytes of the last report that was written into it, for which there is room from the start.

@@ -36,9 +36,11 @@ pub header_octets : (type function : ℕ) (body s : List ℕ) → type < 256 →
 header_octets type function body s lt octets p =
     let a = p.first.bytes in
     let b = p.second.bytes in
-    let rest : All IsByte (a ++ (little_bytes 4 function ++ (b ++ body))) = All-append IsByte a (little_bytes 4 function ++ (b ++ body)) p.first.octets (All-append IsByte (little_bytes 4 function) (b ++ body) (four_bytes function) (All-append IsByte b body p.second.octets octets)) in
+    let rest : All IsByte (a ++ (little_bytes 4 function ++ (b ++ body))) = All-append IsByte a (little_bytes 4 function ++ (b ++ body)) p.first.octets (All-append IsByte (little_bytes 4 function) (b ++ body) (four_bytes function)
+    (All-append IsByte b body p.second.octets octets)) in
     let e = p.spelled in
-    rw e (all_bytes (message_bytes a b type function body) (All-cons IsByte 1 (16 ∷ type ∷ (a ++ (little_bytes 4 function ++ (b ++ body)))) (omega arith) (All-cons IsByte 16 (type ∷ (a ++ (little_bytes 4 function ++ (b ++ body)))) (omega arith) (All-cons IsByte type (a ++ (little_bytes 4 function ++ (b ++ body))) lt rest))))
+    rw e (all_bytes (message_bytes a b type function body) (All-cons IsByte 1 (16 ∷ type ∷ (a ++ (little_bytes 4 function ++ (b ++ body)))) (omega arith) (All-cons IsByte 16 (type ∷ (a ++ (little_bytes 4 function ++ (b ++ body))))
+    (omega arith) (All-cons IsByte type (a ++ (little_bytes 4 function ++ (b ++ body))) lt rest))))
 
 pub header_spells : (s : List ℕ) → IsBytes s → 17 ≤ length s → get_or s 0 0 ≡ 1 → get_or s 1 0 ≡ 16 → SpellsMessage (type_in s) (function_in s) (body_in s) s
 header_spells s f le e0 e1 =
@@ -123,22 +125,99 @@ right_first known s le f = (eqb-true _ _ (f 0 (omega arith)), eqb-true _ _ (f 1 
 pub messages_judged : (known : ℕ → Bool) (body_size : ℕ → List ℕ → ℕ) (s : List ℕ) → IsBytes s → IsJudged (message_fits known) (message_size body_size) message_fault_at s (message_fault (known (type_in s)) (message_size body_size s) s)
 messages_judged known body_size s octets =
     elim (cases_eq (length s) 0) [
-      | inl none ↦ record { answer = rw (eq-eqb _ _ none) (inr (0, ap (λ (x : TdispFault). Some x) (sym (short_cause s 0 (sym none))), record { within = omega arith; reaches = omega arith; before = λ i lt. absurd (omega arith); off = λ lt. absurd (omega arith); short = λ le. omega arith })) }
+      | inl none ↦ record {
+        answer = rw (eq-eqb _ _ none) (inr (
+          0,
+          ap (λ (x : TdispFault). Some x) (sym (short_cause s 0 (sym none))),
+          record {
+            within = omega arith;
+            reaches = omega arith;
+            before = λ i lt. absurd (omega arith);
+            off = λ lt. absurd (omega arith);
+            short = λ le. omega arith;
+          },
+        ));
+      }
       | inr one ↦ elim (cases_eq (get_or s 0 0) 1) [
-        | inr wrong ↦ record { answer = rw (ne_eqb _ _ one, ne_eqb _ _ wrong) (inr (0, ap (λ (x : TdispFault). Some x) (sym (kind_cause s 0 (λ e. omega arith) (λ e. omega arith) (omega arith))), record { within = omega arith; reaches = omega arith; before = λ i lt. absurd (omega arith); off = λ lt. inl (ne_eqb _ _ wrong); short = λ le. omega arith })) }
+        | inr wrong ↦ record {
+          answer = rw (ne_eqb _ _ one, ne_eqb _ _ wrong) (inr (
+            0,
+            ap (λ (x : TdispFault). Some x) (sym (kind_cause s 0 (λ e. omega arith) (λ e. omega arith) (omega arith))),
+            record { within = omega arith; reaches = omega arith; before = λ i lt. absurd (omega arith); off = λ lt. inl (ne_eqb _ _ wrong); short = λ le. omega arith },
+          ));
+        }
         | inl e0 ↦ elim (cases_eq (length s) 1) [
-          | inl end ↦ record { answer = rw (ne_eqb _ _ one, eq-eqb _ _ e0, eq-eqb _ _ end) (inr (1, ap (λ (x : TdispFault). Some x) (sym (short_cause s 1 (sym end))), record { within = omega arith; reaches = omega arith; before = right_one known s e0; off = λ lt. absurd (omega arith); short = λ le. omega arith })) }
+          | inl end ↦ record {
+            answer = rw (ne_eqb _ _ one, eq-eqb _ _ e0, eq-eqb _ _ end) (inr (
+              1,
+              ap (λ (x : TdispFault). Some x) (sym (short_cause s 1 (sym end))),
+              record {
+                within = omega arith;
+                reaches = omega arith;
+                before = right_one known s e0;
+                off = λ lt. absurd (omega arith);
+                short = λ le. omega arith;
+              },
+            ));
+          }
           | inr two ↦ elim (cases_eq (get_or s 1 0) 16) [
-            | inr wrong ↦ record { answer = rw (ne_eqb _ _ one, eq-eqb _ _ e0, ne_eqb _ _ two, ne_eqb _ _ wrong) (inr (1, ap (λ (x : TdispFault). Some x) (sym (version_cause s (λ e. omega arith))), record { within = omega arith; reaches = omega arith; before = right_one known s e0; off = λ lt. inl (ne_eqb _ _ wrong); short = λ le. omega arith })) }
+            | inr wrong ↦ record {
+              answer = rw (ne_eqb _ _ one, eq-eqb _ _ e0, ne_eqb _ _ two, ne_eqb _ _ wrong) (inr (
+                1,
+                ap (λ (x : TdispFault). Some x) (sym (version_cause s (λ e. omega arith))),
+                record { within = omega arith; reaches = omega arith; before = right_one known s e0; off = λ lt. inl (ne_eqb _ _ wrong); short = λ le. omega arith },
+              ));
+            }
             | inl e1 ↦ elim (cases_eq (length s) 2) [
-              | inl end ↦ record { answer = rw (ne_eqb _ _ one, eq-eqb _ _ e0, ne_eqb _ _ two, eq-eqb _ _ e1, eq-eqb _ _ end) (inr (2, ap (λ (x : TdispFault). Some x) (sym (short_cause s 2 (sym end))), record { within = omega arith; reaches = omega arith; before = right_two known s e0 e1; off = λ lt. absurd (omega arith); short = λ le. omega arith })) }
+              | inl end ↦ record {
+                answer = rw (ne_eqb _ _ one, eq-eqb _ _ e0, ne_eqb _ _ two, eq-eqb _ _ e1, eq-eqb _ _ end) (inr (
+                  2,
+                  ap (λ (x : TdispFault). Some x) (sym (short_cause s 2 (sym end))),
+                  record { within = omega arith; reaches = omega arith; before = right_two known s e0 e1; off = λ lt. absurd (omega arith); short = λ le. omega arith },
+                ));
+              }
               | inr three ↦ elim (cases_Bool (known (get_or s 2 0))) [
-                | inr wrong ↦ record { answer = rw (ne_eqb _ _ one, eq-eqb _ _ e0, ne_eqb _ _ two, eq-eqb _ _ e1, ne_eqb _ _ three, wrong) (inr (2, ap (λ (x : TdispFault). Some x) (sym (kind_cause s 2 (λ e. omega arith) (λ e. omega arith) (omega arith))), record { within = omega arith; reaches = omega arith; before = right_two known s e0 e1; off = λ lt. inl wrong; short = λ le. omega arith })) }
+                | inr wrong ↦ record {
+                  answer = rw (ne_eqb _ _ one, eq-eqb _ _ e0, ne_eqb _ _ two, eq-eqb _ _ e1, ne_eqb _ _ three, wrong)
+                      (inr (
+                        2,
+                        ap (λ (x : TdispFault). Some x) (sym (kind_cause s 2 (λ e. omega arith) (λ e. omega arith) (omega arith))),
+                        record {
+                          within = omega arith;
+                          reaches = omega arith;
+                          before = right_two known s e0 e1;
+                          off = λ lt. inl wrong;
+                          short = λ le. omega arith;
+                        },
+                      ));
+                }
                 | inl k ↦ elim (cases_lt (length s) (message_size body_size s)) [
-                  | inl less ↦ record { answer = rw (ne_eqb _ _ one, eq-eqb _ _ e0, ne_eqb _ _ two, eq-eqb _ _ e1, ne_eqb _ _ three, k, lt-ltb _ _ less) (inr (length s, ap (λ (x : TdispFault). Some x) (sym (short_cause s (length s) refl)), record { within = omega arith; reaches = omega arith; before = λ i lt. right_all known s e0 e1 k i; off = λ lt. absurd (omega arith); short = λ le. less })) }
+                  | inl less ↦ record {
+                    answer = rw (ne_eqb _ _ one, eq-eqb _ _ e0, ne_eqb _ _ two, eq-eqb _ _ e1, ne_eqb _ _ three, k, lt-ltb _ _ less) (inr (
+                      length s,
+                      ap (λ (x : TdispFault). Some x) (sym (short_cause s (length s) refl)),
+                      record { within = omega arith; reaches = omega arith; before = λ i lt. right_all known s e0 e1 k i; off = λ lt. absurd (omega arith); short = λ le. less },
+                    ));
+                  }
                   | inr enough ↦ elim (cases_lt (message_size body_size s) (length s)) [
-                    | inl more ↦ record { answer = rw (ne_eqb _ _ one, eq-eqb _ _ e0, ne_eqb _ _ two, eq-eqb _ _ e1, ne_eqb _ _ three, k, le-ltb _ _ enough, lt-ltb _ _ more) (inr (message_size body_size s, ap (λ (x : TdispFault). Some x) (sym (trailing_cause s (message_size body_size s) (λ e. omega arith) (omega arith))), record { within = omega arith; reaches = omega arith; before = λ i lt. right_all known s e0 e1 k i; off = λ lt. inr refl; short = λ le. absurd (omega arith) })) }
-                    | inr exact ↦ record { answer = rw (ne_eqb _ _ one, eq-eqb _ _ e0, ne_eqb _ _ two, eq-eqb _ _ e1, ne_eqb _ _ three, k, le-ltb _ _ enough, le-ltb _ _ exact) (inl (refl, record { octets = octets; fitting = λ i lt. right_all known s e0 e1 k i; long = omega arith })) }
+                    | inl more ↦ record {
+                      answer = rw (ne_eqb _ _ one, eq-eqb _ _ e0, ne_eqb _ _ two, eq-eqb _ _ e1, ne_eqb _ _ three, k, le-ltb _ _ enough, lt-ltb _ _ more) (inr (
+                        message_size body_size s,
+                        ap (λ (x : TdispFault). Some x) (sym (trailing_cause s (message_size body_size s) (λ e. omega arith) (omega arith))),
+                        record {
+                          within = omega arith;
+                          reaches = omega arith;
+                          before = λ i lt. right_all known s e0 e1 k
+                              i;
+                          off = λ lt. inr refl;
+                          short = λ le. absurd (omega arith);
+                        },
+                      ));
+                    }
+                    | inr exact ↦ record {
+                      answer = rw (ne_eqb _ _ one, eq-eqb _ _ e0, ne_eqb _ _ two, eq-eqb _ _ e1, ne_eqb _ _ three, k, le-ltb _ _ enough, le-ltb _ _ exact)
+                          (inl (refl, record { octets = octets; fitting = λ i lt. right_all known s e0 e1 k i; long = omega arith }));
+                    }
                   ]
                 ]
               ]

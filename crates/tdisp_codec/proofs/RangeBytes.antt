@@ -87,7 +87,8 @@ range_octets [] = no_bytes
 range_octets (r ∷ rs) =
     let rest = little_bytes 4 r.pages ++ (little_bytes 2 r.attributes ++ little_bytes 2 r.id) in
     let last = All-append IsByte (little_bytes 2 r.attributes) (little_bytes 2 r.id) (two_bytes r.attributes) (two_bytes r.id) in
-    All-append IsByte (range_bytes r) (flat_map range_bytes rs) (All-append IsByte (little_bytes 8 r.first_page) rest (eight_bytes r.first_page) (All-append IsByte (little_bytes 4 r.pages) (little_bytes 2 r.attributes ++ little_bytes 2 r.id) (four_bytes r.pages) last)) (range_octets rs)
+    All-append IsByte (range_bytes r) (flat_map range_bytes rs) (All-append IsByte (little_bytes 8 r.first_page) rest (eight_bytes r.first_page) (All-append IsByte (little_bytes 4 r.pages) (little_bytes 2 r.attributes
+    ++ little_bytes 2 r.id) (four_bytes r.pages) last)) (range_octets rs)
 
 pub ranges_again : (rs : List ReportRange) → All FitsRange rs → ranges_in (flat_map range_bytes rs) ≡ rs
 ranges_again rs f =

@@ -118,7 +118,8 @@ capabilities_back function b f long =
     let count : length (take 16 (drop 4 b)) ≡ 16 = ap length r in
     let octets : All IsByte (take 16 (drop 4 b)) = subst (λ (x : List ℕ). All IsByte x) (sym r) (ignored 16 4 b f).octets in
     let one : cells 28 0 b ≡ little_bytes 4 (little_number 4 b) ++ (cells 16 4 b ++ (little_bytes 2 (little_number 2 (drop 20 b)) ++ (cells 3 22 b ++ (get_or (drop 20 b) 5 0 ∷ get_or (drop 20 b) 6 0 ∷ get_or (drop 20 b) 7 0 ∷ [])))) = cc in
-    let whole : cells 28 0 b ≡ little_bytes 4 (little_number 4 b) ++ (take 16 (drop 4 b) ++ (little_bytes 2 (little_number 2 (drop 20 b)) ++ (cells 3 22 b ++ (get_or (drop 20 b) 5 0 ∷ get_or (drop 20 b) 6 0 ∷ get_or (drop 20 b) 7 0 ∷ [])))) = rw r one in
+    let whole : cells 28 0 b ≡ little_bytes 4 (little_number 4 b) ++ (take 16 (drop 4 b) ++ (little_bytes 2 (little_number 2 (drop 20 b)) ++ (cells 3 22 b ++ (get_or (drop 20 b) 5 0 ∷ get_or (drop 20 b) 6 0 ∷ get_or (drop 20 b) 7 0
+    ∷ [])))) = rw r one in
     record {
       counted = tt;
       fits = (below_4 0 b f, count, octets, below_2 20 b f, drop_octets 20 b f 5, drop_octets 20 b f 6, drop_octets 20 b f 7);

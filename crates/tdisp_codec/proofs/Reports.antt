@@ -59,7 +59,8 @@ front_read r s p =
 report_octets : (r : Report) (s : List ℕ) → SpellsReport r s → IsBytes s
 report_octets r s p =
     let x = p.reserved.bytes in
-    let rest : All IsByte (rest_bytes r) = All-append IsByte (flat_map range_bytes r.ranges) (little_bytes 4 (length r.device) ++ r.device) (range_octets r.ranges) (All-append IsByte (little_bytes 4 (length r.device)) r.device (four_bytes (length r.device)) p.fits.device) in
+    let rest : All IsByte (rest_bytes r) = All-append IsByte (flat_map range_bytes r.ranges) (little_bytes 4 (length r.device) ++ r.device) (range_octets r.ranges) (All-append IsByte (little_bytes 4 (length r.device)) r.device
+    (four_bytes (length r.device)) p.fits.device) in
     let d = little_bytes 4 (length r.ranges) ++ rest_bytes r in
     let c = little_bytes 4 r.tph ++ d in
     let b = little_bytes 2 r.lnr ++ c in
@@ -96,7 +97,14 @@ shape_of r s p =
         fitting = λ i lt. refl;
         long = let l = m.long in omega (arith, length-append bytes tail);
       },
-      ap (λ (k : ℕ). record { info = k; msix = little_number 2 (drop 4 s); lnr = little_number 2 (drop 6 s); tph = little_number 4 (drop 8 s); ranges = ranges_in (take (16 * range_count s) (drop 16 s)); device = drop (device_place s + 4) s }) info
+      ap (λ (k : ℕ). record {
+        info = k;
+        msix = little_number 2 (drop 4 s);
+        lnr = little_number 2 (drop 6 s);
+        tph = little_number 4 (drop 8 s);
+        ranges = ranges_in (take (16 * range_count s) (drop 16 s));
+        device = drop (device_place s + 4) s;
+      }) info
           ∙ ap (λ (k : ℕ). record { info = r.info; msix = k; lnr = little_number 2 (drop 6 s); tph = little_number 4 (drop 8 s); ranges = ranges_in (take (16 * range_count s) (drop 16 s)); device = drop (device_place s + 4) s }) msix
           ∙ ap (λ (k : ℕ). record { info = r.info; msix = r.msix; lnr = k; tph = little_number 4 (drop 8 s); ranges = ranges_in (take (16 * range_count s) (drop 16 s)); device = drop (device_place s + 4) s }) lnr
           ∙ ap (λ (k : ℕ). record { info = r.info; msix = r.msix; lnr = r.lnr; tph = k; ranges = ranges_in (take (16 * range_count s) (drop 16 s)); device = drop (device_place s + 4) s }) tph
@@ -125,14 +133,16 @@ spells_of s shape =
     let l : little_bytes 2 (little_number 2 (drop 6 s)) ≡ cells 2 6 s = number_2 6 s f in
     let t : little_bytes 4 (little_number 4 (drop 8 s)) ≡ cells 4 8 s = number_4 8 s f in
     let c : little_bytes 4 n ≡ cells 4 12 s = number_4 12 s f in
-    let front : cells 16 0 s ++ drop 16 s ≡ little_bytes 2 (little_number 2 s) ++ (cells 2 2 s ++ (little_bytes 2 (little_number 2 (drop 4 s)) ++ (little_bytes 2 (little_number 2 (drop 6 s)) ++ (little_bytes 4 (little_number 4 (drop 8 s)) ++ (little_bytes 4 n ++ drop 16 s))))) = cc in
+    let front : cells 16 0 s ++ drop 16 s ≡ little_bytes 2 (little_number 2 s) ++ (cells 2 2 s ++ (little_bytes 2 (little_number 2 (drop 4 s)) ++ (little_bytes 2 (little_number 2 (drop 6 s)) ++ (little_bytes 4 (little_number 4 (drop 8 s))
+    ++ (little_bytes 4 n ++ drop 16 s))))) = cc in
     let d : little_bytes 4 (length device) ≡ cells 4 place s = ap (λ (k : ℕ). little_bytes 4 k) sized ∙ number_4 place s f in
     let end : drop place s ≡ little_bytes 4 (length device) ++ device = drop_split_cells 4 place s (omega arith) ∙ ap (λ (x : List ℕ). x ++ device) (sym d) in
     let behind : drop (16 * n) (drop 16 s) ≡ drop place s = drop-drop (16 * n) 16 s in
     let middle : bytes ≡ flat_map range_bytes (ranges_in bytes) = sym (ranges_back bytes octets (omega arith)) in
     let rest : drop 16 s ≡ flat_map range_bytes (ranges_in bytes) ++ (little_bytes 4 (length device) ++ device) =
     sym (take-append-drop (16 * n) (drop 16 s)) ∙ ap (λ (x : List ℕ). bytes ++ x) (behind ∙ end) ∙ ap (λ (x : List ℕ). x ++ (little_bytes 4 (length device) ++ device)) middle in
-    let head : ℕ → List ℕ → List ℕ = λ (k : ℕ) (x : List ℕ). little_bytes 2 (little_number 2 s) ++ (cells 2 2 s ++ (little_bytes 2 (little_number 2 (drop 4 s)) ++ (little_bytes 2 (little_number 2 (drop 6 s)) ++ (little_bytes 4 (little_number 4 (drop 8 s)) ++ (little_bytes 4 k ++ x))))) in
+    let head : ℕ → List ℕ → List ℕ = λ (k : ℕ) (x : List ℕ). little_bytes 2 (little_number 2 s) ++ (cells 2 2 s ++ (little_bytes 2 (little_number 2 (drop 4 s)) ++ (little_bytes 2 (little_number 2 (drop 6 s))
+    ++ (little_bytes 4 (little_number 4 (drop 8 s)) ++ (little_bytes 4 k ++ x))))) in
     record {
       fits = record {
         info = below_2 0 s f;
@@ -169,11 +179,35 @@ found s = length_fault (report_size s) s
 judged : (s : List ℕ) → IsBytes s → IsJudged any report_size report_fault_at s (found s)
 judged s octets =
     elim (cases_lt (length s) (report_size s)) [
-      | inl less ↦ record { answer = rw (lt-ltb _ _ less) (inr (length s, rw (eq-eqb (length s) (length s) refl) refl, record { within = omega arith; reaches = omega arith; before = λ i lt. refl; off = λ lt. absurd (omega arith); short = λ le. less })) }
+      | inl less ↦ record {
+        answer = rw (lt-ltb _ _ less) (inr (
+          length s,
+          rw (eq-eqb (length s) (length s) refl) refl,
+          record {
+            within = omega arith;
+            reaches = omega arith;
+            before = λ i lt. refl;
+            off = λ lt. absurd (omega arith);
+            short = λ le. less;
+          },
+        ));
+      }
       | inr enough ↦ elim (cases_lt (report_size s) (length s)) [
         | inl more ↦
             let ne : report_size s ≡ length s → ⊥ = λ e. omega arith in
-            record { answer = rw (le-ltb _ _ enough, lt-ltb _ _ more) (inr (report_size s, rw (ne_eqb (report_size s) (length s) ne) refl, record { within = omega arith; reaches = omega arith; before = λ i lt. refl; off = λ lt. inr refl; short = λ le. absurd (omega arith) })) }
+            record {
+              answer = rw (le-ltb _ _ enough, lt-ltb _ _ more) (inr (
+                report_size s,
+                rw (ne_eqb (report_size s) (length s) ne) refl,
+                record {
+                  within = omega arith;
+                  reaches = omega arith;
+                  before = λ i lt. refl;
+                  off = λ lt. inr refl;
+                  short = λ le. absurd (omega arith);
+                },
+              ));
+            }
         | inr exact ↦ record { answer = rw (le-ltb _ _ enough, le-ltb _ _ exact) (inl (refl, record { octets = octets; fitting = λ i lt. refl; long = omega arith })) }
       ]
     ]

@@ -25,7 +25,8 @@ Written r x = IsWritten is_request body_size RequestView request_from (request_t
 
 lock_body : (flags stream offset mask : ℕ) (x : List ℕ) → stream < 256 → All IsByte x → All IsByte (little_bytes 2 flags ++ (stream ∷ (x ++ (little_bytes 8 offset ++ little_bytes 8 mask))))
 lock_body flags stream offset mask x lt all =
-    All-append IsByte (little_bytes 2 flags) (stream ∷ (x ++ (little_bytes 8 offset ++ little_bytes 8 mask))) (two_bytes flags) (All-cons IsByte stream (x ++ (little_bytes 8 offset ++ little_bytes 8 mask)) lt (All-append IsByte x (little_bytes 8 offset ++ little_bytes 8 mask) all (All-append IsByte (little_bytes 8 offset) (little_bytes 8 mask) (eight_bytes offset) (eight_bytes mask))))
+    All-append IsByte (little_bytes 2 flags) (stream ∷ (x ++ (little_bytes 8 offset ++ little_bytes 8 mask))) (two_bytes flags) (All-cons IsByte stream (x ++ (little_bytes 8 offset ++ little_bytes 8 mask)) lt
+    (All-append IsByte x (little_bytes 8 offset ++ little_bytes 8 mask) all (All-append IsByte (little_bytes 8 offset) (little_bytes 8 mask) (eight_bytes offset) (eight_bytes mask))))
 
 lock_again : (function flags stream offset mask : ℕ) (x : List ℕ) → FitsRequestBody (LockInterface function flags stream offset mask) → length x ≡ 1
     → request_from 0x83 function (little_bytes 2 flags ++ (stream ∷ (x ++ (little_bytes 8 offset ++ little_bytes 8 mask)))) ≡ LockInterface function flags stream offset mask
@@ -167,10 +168,12 @@ pub read : (r : RequestView) (s : List ℕ) → IsBytes s → request_reading s 
 read r s f e = read_spelled RequestView SpellsRequest request_in (message_fits is_request) (1 ∷ 16 ∷ 0x81 ∷ []) (message_size body_size) message_fault_at found sized shape_of spells_of (messages_judged is_request body_size) r s f e
 
 pub refused : (s : List ℕ) (fault : TdispFault) → IsBytes s → request_reading s ≡ Err fault → IsFirstFault SpellsRequest message_fault_at s fault
-refused s fault f e = refused_first RequestView SpellsRequest request_in (message_fits is_request) (1 ∷ 16 ∷ 0x81 ∷ []) (message_size body_size) message_fault_at found sized shape_of spells_of (messages_judged is_request body_size) s fault f e
+refused s fault f e = refused_first RequestView SpellsRequest request_in (message_fits is_request) (1 ∷ 16 ∷ 0x81 ∷ []) (message_size body_size) message_fault_at found sized shape_of spells_of
+    (messages_judged is_request body_size) s fault f e
 
 pub first : (s : List ℕ) (fault : TdispFault) → IsBytes s → IsFirstFault SpellsRequest message_fault_at s fault → request_reading s ≡ Err fault
-first s fault f p = first_refused RequestView SpellsRequest request_in (message_fits is_request) (1 ∷ 16 ∷ 0x81 ∷ []) (message_size body_size) message_fault_at found sized shape_of spells_of (messages_judged is_request body_size) s fault f p
+first s fault f p = first_refused RequestView SpellsRequest request_in (message_fits is_request) (1 ∷ 16 ∷ 0x81 ∷ []) (message_size body_size) message_fault_at found sized shape_of spells_of
+    (messages_judged is_request body_size) s fault f p
 
 pub written_spells : (r : RequestView) → FitsRequest r → SpellsRequest r (request_spelling r)
 written_spells r f = record { fits = f; reserved = zeros (request_reserved r); message = record { first = zeros 2; second = zeros 8; spelled = refl } }

@@ -166,7 +166,9 @@ same_grammar P Q there back s place f = record {
 pub record IsJudged (fits : ℕ → ℕ → Bool) (size : List ℕ → ℕ) (cause : List ℕ → ℕ → TdispFault) (s : List ℕ) (found : Option TdispFault) : Type 0 where
   pub answer : ((found ≡ None) × IsShaped fits size s) ⊎ ((place : ℕ) × (found ≡ Some (cause s place)) × Stops fits size s place)
 
-module _ (V : Type 0) (Spells : V → List ℕ → Type 0) (value : List ℕ → V) (fits : ℕ → ℕ → Bool) (head : List ℕ) (size : List ℕ → ℕ) (cause : List ℕ → ℕ → TdispFault) (found : List ℕ → Option TdispFault) (g : IsSized fits head size) (shape_of : (v : V) (s : List ℕ) → Spells v s → IsShaped fits size s × (value s ≡ v)) (spells_of : (s : List ℕ) → IsShaped fits size s → Spells (value s) s) (judged : (s : List ℕ) → IsBytes s → IsJudged fits size cause s (found s)) where
+module _ (V : Type 0) (Spells : V → List ℕ → Type 0) (value : List ℕ → V) (fits : ℕ → ℕ → Bool) (head : List ℕ) (size : List ℕ → ℕ) (cause : List ℕ → ℕ → TdispFault) (found : List ℕ → Option TdispFault) (g : IsSized fits head size)
+    (shape_of : (v : V) (s : List ℕ) → Spells v s → IsShaped fits size s × (value s ≡ v)) (spells_of : (s : List ℕ) → IsShaped fits size s → Spells (value s) s) (judged : (s : List ℕ) → IsBytes s
+    → IsJudged fits size cause s (found s)) where
   fault_place : (s : List ℕ) (place : ℕ) → IsBytes s → Stops fits size s place → IsFaultPlace (IsSpelled Spells) s place
   fault_place s place octets p =
       same_grammar (IsShaped fits size) (IsSpelled Spells) (λ t shape. record { value = value t; spells = spells_of t shape }) (λ t is. (shape_of is.value t is.spells).0) s place (stops_place fits head size g s place octets p)

@@ -76,6 +76,7 @@ message_fault_at bytes place =
     else Trailing place
 
 -- the bytes spell no value, and this is their first fault
-abbrev pub IsFirstFault : {V : Type 0} → (V → List ℕ → Type 0) → (List ℕ → ℕ → TdispFault) → List ℕ → TdispFault → Type 0
+abbrev pub IsFirstFault : {V : Type 0} → (V → List ℕ → Type 0) → (List ℕ → ℕ → TdispFault) → List ℕ
+    → TdispFault → Type 0
 IsFirstFault Spells cause bytes fault =
     (place : ℕ) × IsFaultPlace (IsSpelled Spells) bytes place × (fault ≡ cause bytes place)

@@ -5,7 +5,8 @@ use Rattle.tdisp_codec.specs.declared.report.ReportRange.{ReportRange}
 
 abbrev pub range_bytes : ReportRange → List ℕ
 range_bytes range =
-    little_bytes 8 range.first_page ++ (little_bytes 4 range.pages ++ (little_bytes 2 range.attributes ++ little_bytes 2 range.id))
+    little_bytes 8 range.first_page
+    ++ (little_bytes 4 range.pages ++ (little_bytes 2 range.attributes ++ little_bytes 2 range.id))
 
 -- its fields have their widths
 pub record FitsRange (range : ReportRange) : Type 0 where

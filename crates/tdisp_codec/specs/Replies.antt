@@ -22,7 +22,8 @@ reply_shown (views.Version function versions) = Version function versions.now
 reply_shown (views.Capabilities function device requests lock_flags width this all) =
     Capabilities function device requests lock_flags width this all
 reply_shown (views.LockInterface function nonce) = LockInterface function nonce
-reply_shown (views.DeviceInterfaceReport function remainder portion) = DeviceInterfaceReport function remainder portion.now
+reply_shown (views.DeviceInterfaceReport function remainder portion) = DeviceInterfaceReport function
+    remainder portion.now
 reply_shown (views.DeviceInterfaceState function state) = DeviceInterfaceState function state
 reply_shown (views.StartInterface function) = StartInterface function
 reply_shown (views.StopInterface function) = StopInterface function
@@ -85,7 +86,8 @@ IsCountedReply reply = Unit {0}
 abbrev pub FitsReplyBody : Reply → Type 0
 FitsReplyBody (Version function versions) = All (λ b. b < 256) versions
 FitsReplyBody (Capabilities function device requests lock_flags width this all) =
-    (device < 2 ^ 32) × (length requests ≡ 16) × All (λ b. b < 256) requests × (lock_flags < 2 ^ 16) × (width < 256) × (this < 256) × (all < 256)
+    (device < 2 ^ 32) × (length requests ≡ 16) × All (λ b. b < 256) requests × (lock_flags < 2 ^ 16) × (width < 256)
+    × (this < 256) × (all < 256)
 FitsReplyBody (LockInterface function nonce) = (length nonce ≡ 32) × All (λ b. b < 256) nonce
 FitsReplyBody (DeviceInterfaceReport function remainder portion) = (remainder < 2 ^ 16) × All (λ b. b < 256) portion
 FitsReplyBody (DeviceInterfaceState function state) = state < 256
@@ -120,7 +122,8 @@ reply_size type body =
 -- the fields of CAPABILITIES: those up to the requests, and those behind them
 abbrev pub capabilities_from : ℕ → List ℕ → List ℕ → Reply
 capabilities_from function body rest =
-    Capabilities function (little_number 4 body) (take 16 (drop 4 body)) (little_number 2 rest) (slice_index rest 5) (slice_index rest 6) (slice_index rest 7)
+    Capabilities function (little_number 4 body) (take 16 (drop 4 body)) (little_number 2 rest) (slice_index rest 5)
+    (slice_index rest 6) (slice_index rest 7)
 
 abbrev pub reply_from : ℕ → ℕ → List ℕ → Reply
 reply_from type function body =
@@ -139,4 +142,5 @@ reply_in bytes = reply_from (type_in bytes) (function_in bytes) (body_in bytes)
 -- the reply, or the first fault
 abbrev pub reply_reading : List ℕ → Result Reply TdispFault
 reply_reading bytes =
-    read_or (reply_in bytes) (message_fault (is_reply (type_in bytes)) (17 + reply_size (type_in bytes) (body_in bytes)) bytes)
+    read_or (reply_in bytes) (message_fault (is_reply (type_in bytes))
+    (17 + reply_size (type_in bytes) (body_in bytes)) bytes)

@@ -37,7 +37,10 @@ report_answer (Err fault) = Err fault
 -- information behind its length
 abbrev pub report_bytes : List ℕ → Report → List ℕ
 report_bytes reserved report =
-    little_bytes 2 report.info ++ (reserved ++ (little_bytes 2 report.msix ++ (little_bytes 2 report.lnr ++ (little_bytes 4 report.tph ++ (little_bytes 4 (length report.ranges) ++ (flat_map range_bytes report.ranges ++ (little_bytes 4 (length report.device) ++ report.device)))))))
+    little_bytes 2 report.info
+    ++ (reserved ++ (little_bytes 2 report.msix
+    ++ (little_bytes 2 report.lnr ++ (little_bytes 4 report.tph ++ (little_bytes 4 (length report.ranges)
+    ++ (flat_map range_bytes report.ranges ++ (little_bytes 4 (length report.device) ++ report.device)))))))
 
 -- as it is written, with 0 in the reserved bytes
 abbrev pub report_spelling : Report → List ℕ

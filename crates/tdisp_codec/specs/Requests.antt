@@ -42,7 +42,8 @@ request_body request reserved = []
 -- as it is written, with 0 in the reserved bytes
 abbrev pub request_spelling : RequestView → List ℕ
 request_spelling request =
-    message_spelling (request_type request) (request_function request) (request_body request (replicate (request_reserved request) 0))
+    message_spelling (request_type request) (request_function request)
+    (request_body request (replicate (request_reserved request) 0))
 
 -- the fields of the body have their widths
 abbrev pub FitsRequestBody : RequestView → Type 0
@@ -59,7 +60,8 @@ FitsRequest request = (request_function request < 2 ^ 32) × FitsRequestBody req
 pub record SpellsRequest (request : RequestView) (bytes : List ℕ) : Type 0 where
   pub fits : FitsRequest request
   pub reserved : Ignored (request_reserved request)
-  pub message : SpellsMessage (request_type request) (request_function request) (request_body request reserved.bytes) bytes
+  pub message : SpellsMessage (request_type request) (request_function request)
+      (request_body request reserved.bytes) bytes
 
 -- ---- reading
 
@@ -80,7 +82,8 @@ request_from type function body =
     if type == 0x81 then GetVersion function
     else if type == 0x82 then GetCapabilities function
     else if type == 0x83 then
-    LockInterface function (little_number 2 body) (slice_index body 2) (little_number 8 (drop 4 body)) (little_number 8 (drop 12 body))
+    LockInterface function (little_number 2 body) (slice_index body 2) (little_number 8 (drop 4 body))
+    (little_number 8 (drop 12 body))
     else if type == 0x84 then GetDeviceInterfaceReport function (little_number 2 body) (little_number 2 (drop 2 body))
     else if type == 0x85 then GetDeviceInterfaceState function
     else if type == 0x86 then StartInterface function (take 32 body)

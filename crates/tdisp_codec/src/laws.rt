@@ -23,7 +23,8 @@ pub fn request_is_grammar()
 /// What is written spells the request, and is read as it.
 pub fn request_read_again()
     ensures spells { (request : RequestView) → FitsRequest request → SpellsRequest request (request_spelling request) }
-    ensures reads { (request : RequestView) → FitsRequest request → request_reading (request_spelling request) ≡ Ok request }
+    ensures reads { (request : RequestView) → FitsRequest request → request_reading (request_spelling request)
+        ≡ Ok request }
 {}
 
 /// `reply_reading` reads exactly the bytes that spell a reply, as that reply, whatever the reserved bytes hold, and

@@ -162,7 +162,8 @@ fn capabilities<'a>(function: u32, body: &'a [u8]) -> ReplyView<'a>
 
 fn portion<'a>(function: u32, body: &'a [u8]) -> ReplyView<'a>
     requires { 4 ≤ length body.now }
-    ensures { reply_shown result ≡ DeviceInterfaceReport function (little_number 2 (drop 2 body.now)) (drop 4 body.now) }
+    ensures { reply_shown result ≡ DeviceInterfaceReport function (little_number 2 (drop 2 body.now))
+        (drop 4 body.now) }
 {
     ReplyView::DeviceInterfaceReport {
         function,

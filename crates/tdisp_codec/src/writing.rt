@@ -183,7 +183,8 @@ pub fn reply_write(reply: &ReplyView<'_>, out: &mut Vec<u8>)
 fn append_front(out: &mut Vec<u8>, report: &ReportView<'_>)
     requires counted { length report.now.ranges.bytes.now / 16 < 2 ^ 32 }
     requires room { vec_len out.old + 16 ≤ vec_capacity out.old }
-    ensures items { out.new.items ≡ out.old.items ++ (little_bytes 2 report.now.info ++ (0 ∷ (0 ∷ (little_bytes 2 report.now.msix
+    ensures items { out.new.items ≡ out.old.items ++ (little_bytes 2 report.now.info
+        ++ (0 ∷ (0 ∷ (little_bytes 2 report.now.msix
         ++ (little_bytes 2 report.now.lnr ++ (little_bytes 4 report.now.tph
         ++ little_bytes 4 (length report.now.ranges.bytes.now / 16))))))) }
     ensures len { vec_len out.new ≡ vec_len out.old + 16 }
@@ -197,11 +198,13 @@ fn append_front(out: &mut Vec<u8>, report: &ReportView<'_>)
     append32(out, (report.ranges.bytes.len() / 16) as u32);
 }
 
-/// Appends the report's bytes, with 0 in the reserved ones: 20, those of its ranges, and the device's own (this profile).
+/// Appends the report's bytes, with 0 in the reserved ones: 20, those of its ranges, and the device's own (this
+/// profile).
 pub fn report_write(report: &ReportView<'_>, out: &mut Vec<u8>)
     requires ranges { length report.now.ranges.bytes.now / 16 < 2 ^ 32 }
     requires device { length report.now.device.now < 2 ^ 32 }
-    requires room { vec_len out.old + (20 + length report.now.ranges.bytes.now + length report.now.device.now) ≤ vec_capacity out.old }
+    requires room { vec_len out.old + (20 + length report.now.ranges.bytes.now + length report.now.device.now)
+        ≤ vec_capacity out.old }
     ensures items { out.new.items ≡ out.old.items ++ report_spelling (report_shown report.now) }
     ensures capacity { vec_capacity out.old ≤ vec_capacity out.new }
 {

@@ -109,7 +109,8 @@ brought_fits plan h n x bytes a known small is =
     subst FitsArrival (same_arrival (brought x bytes) a is) (record { port = known.port; size = omega (arith, small, size_of_packet x.1 known.fits) })
 
 -- bytes of a packet that come or do not
-if_brought : (plan : Plan) (h : History) (n : ℕ) (x : SealedPacket × Packet) (bytes : List ℕ) (a : Arrival) → Known plan h n x → length bytes ≤ length (packet_bytes x.1) → (b : Bool) → (if b then Some (brought x bytes) else None) ≡ Some a → FitsArrival a
+if_brought : (plan : Plan) (h : History) (n : ℕ) (x : SealedPacket × Packet) (bytes : List ℕ) (a : Arrival) → Known plan h n x → length bytes ≤ length (packet_bytes x.1) → (b : Bool) → (if b then Some (brought x bytes) else None) ≡ Some a
+    → FitsArrival a
 if_brought plan h n x bytes a known small true is = brought_fits plan h n x bytes a known small is
 if_brought plan h n x bytes a known small false is = absurd cc
 
@@ -126,7 +127,8 @@ arrival_fits plan fits h cause (Alter n place mask) allowed a is = by_packet (pa
     by_packet None at is = absurd cc
     by_packet (Some x) at is =
         let bytes = packet_bytes x.1 in
-        if_brought plan h n x (slice_set bytes place (bit_xor (slice_index bytes place) mask)) a (known_at plan fits h cause n x at) (omega (arith, length-set bytes place (bit_xor (slice_index bytes place) mask))) (nat_lt place (length bytes)) is
+        if_brought plan h n x (slice_set bytes place (bit_xor (slice_index bytes place) mask)) a (known_at plan fits h cause n x at) (omega (arith, length-set bytes place (bit_xor (slice_index bytes place) mask)))
+        (nat_lt place (length bytes)) is
 arrival_fits plan fits h cause (Cut n size) allowed a is = by_packet (packet_at (sealed_packets plan h) n) refl is
   where
     by_packet : (o : Option (SealedPacket × Packet)) → packet_at (sealed_packets plan h) n ≡ o → option_and_then (shortened size) o ≡ Some a → FitsArrival a

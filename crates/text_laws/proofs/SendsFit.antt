@@ -138,8 +138,13 @@ listed_fits x s number true false fits at small =
     (described_fits x s Npr _ true false true (fits Npr) at (omega (arith, small)), (described_fits x s s.class _ (ends_unit x s) (sets_trusted s.port s.trusted) false (fits s.class) at (omega (arith, small)), tt))
 listed_fits x s number false true fits at small =
     (described_fits x s Cpl _ true false true (fits Cpl) at (omega (arith, small)), (described_fits x s s.class _ (ends_unit x s) (sets_trusted s.port s.trusted) false (fits s.class) at (omega (arith, small)), tt))
-listed_fits x s number true true fits at small =
-    (described_fits x s Npr _ true false true (fits Npr) at (omega (arith, small)), (described_fits x s Cpl _ true false true (fits Cpl) at (omega (arith, small)), (described_fits x s s.class _ (ends_unit x s) (sets_trusted s.port s.trusted) false (fits s.class) at (omega (arith, small)), tt)))
+listed_fits x s number true true fits at small = (
+  described_fits x s Npr _ true false true (fits Npr) at (omega (arith, small)),
+  (
+    described_fits x s Cpl _ true false true (fits Cpl) at (omega (arith, small)),
+    (described_fits x s s.class _ (ends_unit x s) (sets_trusted s.port s.trusted) false (fits s.class) at (omega (arith, small)), tt),
+  ),
+)
 
 -- ---- sends
 

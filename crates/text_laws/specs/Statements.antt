@@ -21,7 +21,8 @@ DueFits =
 -- the one that is due.
 abbrev pub LinesTell : Type 0
 LinesTell =
-    (plan : Plan) → FitsPlan plan → (h : History) (later : List Event) (rest last : List ℕ) → AreAllowed (events_told h ++ later)
+    (plan : Plan) → FitsPlan plan → (h : History) (later : List Event) (rest last : List ℕ)
+    → AreAllowed (events_told h ++ later)
     → VerdictsFit h → lines_told h ++ rest ≡ text_on plan [] (events_told h ++ later) ++ last → CauseLaw plan h
 
 -- The history of events, each with the verdict that is due, has these events, verdicts that fit, and the text of the

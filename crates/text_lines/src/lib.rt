@@ -9,7 +9,8 @@ use memchr::memchr;
 /// The bytes ahead of the first line feed and those behind it; nothing where there is no line feed.
 #[tactic(auto, using(crate::proofs::Cuts::line_at, crate::proofs::Cuts::no_line, crate::proofs::Cuts::within))]
 pub fn split_line(bytes: &[u8]) -> Option<(&[u8], &[u8])>
-    ensures pieces { MatchOption result (pieces bytes.now ≡ bytes.now ∷ []) (λ p. pieces bytes.now ≡ p.0.now ∷ pieces p.1.now) }
+    ensures pieces { MatchOption result (pieces bytes.now ≡ bytes.now ∷ []) (λ p. pieces bytes.now ≡ p.0.now
+        ∷ pieces p.1.now) }
     ensures shorter { IfSome result (λ p. length p.0.now + 1 + length p.1.now ≡ length bytes.now) }
 {
     match memchr(b'\n', bytes) {

@@ -201,7 +201,8 @@ back_8 layouts.Memory b0 b1 b2 b3 b4 b5 b6 b7 t r =
     let address = address_fits (is_wide b0) t behind (ap (λ (x : ℕ). x % 4) z ∙ last_clear s (is_wide b0) r refl) in
     let from_4 = b4 ∷ b5 ∷ b6 ∷ b7 ∷ t in
     let numbers : IsBytes from_4 = λ i. r.fit (suc (suc (suc (suc i)))) in
-    spelled_by layouts.Memory s r.fit (number_below from_4 numbers, tag_fits b1 b6 (r.fit 1) (r.fit 6), omega arith, omega arith, address.0, address.1) (eight (first_back layouts.Memory b0 (r.fit 0) r.kind) (second_back b1 b2 b6 (r.fit 1) z1 (r.fit 6))
+    spelled_by layouts.Memory s r.fit (number_below from_4 numbers, tag_fits b1 b6 (r.fit 1) (r.fit 6), omega arith, omega arith, address.0, address.1) (eight (first_back layouts.Memory b0 (r.fit 0) r.kind)
+    (second_back b1 b2 b6 (r.fit 1) z1 (r.fit 6))
     (third_back b1 b2 b3 z2 (r.fit 3)) (low_back (b2 % 4) b3 (r.fit 3)) (number_2 from_4 numbers) (tag_back b1 b6 (r.fit 6))
     (halves_back b7) (address_back (is_wide b0) t behind (rest_long (is_wide b0) (length t) (omega (arith, r.size)))))
 back_8 layouts.Config b0 b1 b2 b3 b4 b5 b6 b7 t r =
@@ -218,7 +219,8 @@ back_8 layouts.Config b0 b1 b2 b3 b4 b5 b6 b7 t r =
     let f11 : get_or t 3 0 < 256 = r.fit 11 in
     let from_4 = b4 ∷ b5 ∷ b6 ∷ b7 ∷ t in
     let numbers : IsBytes from_4 = λ i. r.fit (suc (suc (suc (suc i)))) in
-    spelled_by layouts.Config s r.fit (wide, omega (arith, z2.1), number_below from_4 numbers, tag_fits b1 b6 (r.fit 1) (r.fit 6), omega arith, omega arith, number_below t behind, omega arith) (eight (first_back layouts.Config b0 (r.fit 0) r.kind) (second_back b1 b2 b6 (r.fit 1) z1 (r.fit 6))
+    spelled_by layouts.Config s r.fit (wide, omega (arith, z2.1), number_below from_4 numbers, tag_fits b1 b6 (r.fit 1) (r.fit 6), omega arith, omega arith, number_below t behind, omega arith)
+    (eight (first_back layouts.Config b0 (r.fit 0) r.kind) (second_back b1 b2 b6 (r.fit 1) z1 (r.fit 6))
     (third_back b1 b2 b3 z2.0 (r.fit 3)) (low_back (b2 % 4) b3 (r.fit 3)) (number_2 from_4 numbers) (tag_back b1 b6 (r.fit 6))
     (halves_back b7) (config_tail t behind (omega arith) z11))
 back_8 layouts.Message b0 b1 b2 b3 b4 b5 b6 b7 t r =
@@ -232,7 +234,8 @@ back_8 layouts.Message b0 b1 b2 b3 b4 b5 b6 b7 t r =
     let kept : IsBytes (cells 8 0 t) = subst IsBytes (drop_cells 8 0 t (omega arith)) behind in
     let from_4 = b4 ∷ b5 ∷ b6 ∷ b7 ∷ t in
     let numbers : IsBytes from_4 = λ i. r.fit (suc (suc (suc (suc i)))) in
-    spelled_by layouts.Message s r.fit (wide, number_below from_4 numbers, tag_fits b1 b6 (r.fit 1) (r.fit 6), r.fit 7, number_below t behind, refl, All-from_get_or (λ (b : ℕ). b < 256) (cells 6 2 t) 0 (λ i lt. kept (suc (suc i)))) (eight (first_back layouts.Message b0 (r.fit 0) r.kind) (second_back b1 b2 b6 (r.fit 1) z1 (r.fit 6))
+    spelled_by layouts.Message s r.fit (wide, number_below from_4 numbers, tag_fits b1 b6 (r.fit 1) (r.fit 6), r.fit 7, number_below t behind, refl, All-from_get_or (λ (b : ℕ). b < 256) (cells 6 2 t) 0 (λ i lt. kept (suc (suc i))))
+    (eight (first_back layouts.Message b0 (r.fit 0) r.kind) (second_back b1 b2 b6 (r.fit 1) z1 (r.fit 6))
     (third_back b1 b2 b3 z2 (r.fit 3)) (low_back (b2 % 4) b3 (r.fit 3)) (number_2 from_4 numbers) (tag_back b1 b6 (r.fit 6))
     same (message_tail t behind (omega arith)))
 back_8 layouts.Completion b0 b1 b2 b3 b4 b5 b6 b7 t r =
@@ -248,7 +251,15 @@ back_8 layouts.Completion b0 b1 b2 b3 b4 b5 b6 b7 t r =
     let status = status_back (b6 / 32) (omega arith) in
     let from_4 = b4 ∷ b5 ∷ b6 ∷ b7 ∷ t in
     let numbers : IsBytes from_4 = λ i. r.fit (suc (suc (suc (suc i)))) in
-    spelled_by layouts.Completion s r.fit (wide, number_below from_4 numbers, (omega (arith, status), ap status_from status), omega arith, number_below t behind, tag_fits b1 (get_or t 2 0) (r.fit 1) (r.fit 10), z11) (eight (first_back layouts.Completion b0 (r.fit 0) r.kind) (second_back b1 b2 (get_or t 2 0) (r.fit 1) z1 (r.fit 10))
+    spelled_by layouts.Completion s r.fit (
+      wide,
+      number_below from_4 numbers,
+      (omega (arith, status), ap status_from status),
+      omega arith,
+      number_below t behind,
+      tag_fits b1 (get_or t 2 0) (r.fit 1) (r.fit 10),
+      z11,
+    ) (eight (first_back layouts.Completion b0 (r.fit 0) r.kind) (second_back b1 b2 (get_or t 2 0) (r.fit 1) z1 (r.fit 10))
     (third_back b1 b2 b3 z2 (r.fit 3)) (low_back (b2 % 4) b3 (r.fit 3)) (number_2 from_4 numbers) (status_byte_back b6 b7 f6 f7)
     (low_back (b6 % 16) b7 f7) (completion_tail b1 t behind (omega arith)))
 
@@ -528,14 +539,30 @@ again_fields l p (Config f) more fl ff =
     let k = first_is p l.wide (0x04 + bit f.one) (type_small f.one) in
     let lead = lead_again _ f.tag l (field_bytes l.wide (Config f) ++ more) fl ff.3 k.0 in
     let be = halves_again f.last_be f.first_be ff.5 in
-    head_is lead k.1 (λ i. Config (record { one = one_again p l.wide f.one i; requester = number_again f.requester ff.2 i; tag = tag_again l f.tag fl ff.3 i; last_be = be.0 i; first_be = be.1 i; destination = number_again f.destination ff.6 i; register = register_again f.register i }))
+    head_is lead k.1 (λ i. Config (record {
+      one = one_again p l.wide f.one i;
+      requester = number_again f.requester ff.2 i;
+      tag = tag_again l f.tag fl ff.3 i;
+      last_be = be.0 i;
+      first_be = be.1 i;
+      destination = number_again f.destination ff.6
+          i;
+      register = register_again f.register i;
+    }))
 again_fields l p (Message f) more fl ff =
     let r = routing_again f.routing in
     let k = first_is p l.wide (0x10 + routing_bits f.routing) (omega (arith, r.0)) in
     let lead = lead_again _ f.tag l (field_bytes l.wide (Message f) ++ more) fl ff.2 k.0 in
     let number : (0x40 * bit p + 0x20 * bit l.wide + (0x10 + routing_bits f.routing)) % 8 ≡ routing_bits f.routing = omega (arith, r.0) in
     let routing = ap routing_from number ∙ r.1 in
-    head_is lead k.1 (λ i. Message (record { routing = routing i; requester = number_again f.requester ff.1 i; tag = tag_again l f.tag fl ff.2 i; code = f.code; destination = number_again f.destination ff.4 i; kept = kept_again f.kept more ff.5 i }))
+    head_is lead k.1 (λ i. Message (record {
+      routing = routing i;
+      requester = number_again f.requester ff.1 i;
+      tag = tag_again l f.tag fl ff.2 i;
+      code = f.code;
+      destination = number_again f.destination ff.4 i;
+      kept = kept_again f.kept more ff.5 i;
+    }))
 again_fields l p (Completion f) more fl ff =
     let k = first_is p l.wide 0x0a (omega arith) in
     let lead = lead_again _ f.tag l (field_bytes l.wide (Completion f) ++ more) fl ff.5 k.0 in

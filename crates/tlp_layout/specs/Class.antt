@@ -1,5 +1,5 @@
--- What a header says of its TLP: its layout, one of six kinds, and the sub-stream (PCI Express Base 6.0 sections 2.2 and
--- 6.33).
+-- What a header says of its TLP: its layout, one of six kinds, and the sub-stream (PCI Express Base 6.0 sections 2.2
+-- and 6.33).
 use Rattle.std.specs.Prelude.{Bool, ℕ, Option, Some, None, if◌then◌else◌}
 use Rattle.ide_types.specs.declared.sub.SubKind.{SubKind}
 use Rattle.ide_types.specs.declared.sub.SubKind.TheVariants.{Pr, Npr, Cpl}

@@ -1,8 +1,8 @@
--- The spelling of a TLP's header (PCI Express Base 6.0 section 2.2). Rules that are this profile's and not the standard's:
--- a reserved bit that is set is refused, and so are TH, TD and EP; of a configuration request only Length is checked,
--- which is 1; AT is kept at every value; no rule is kept on byte enables, on 4 KiB boundaries or on the payload's size;
--- routings 6 and 7 are refused. Left out are I/O requests, locked reads, AtomicOps, deferrable memory writes, prefixes,
--- the digest, processing hints, poisoned TLPs, and the headers of flit mode.
+-- The spelling of a TLP's header (PCI Express Base 6.0 section 2.2). Rules that are this profile's and not the
+-- standard's: a reserved bit that is set is refused, and so are TH, TD and EP; of a configuration request only Length
+-- is checked, which is 1; AT is kept at every value; no rule is kept on byte enables, on 4 KiB boundaries or on the
+-- payload's size; routings 6 and 7 are refused. Left out are I/O requests, locked reads, AtomicOps, deferrable memory
+-- writes, prefixes, the digest, processing hints, poisoned TLPs, and the headers of flit mode.
 use Rattle.std.specs.Prelude.{◌≡◌, ℕ, ◌+◌, ◌*◌, ◌/◌, ◌%◌, ◌^◌, ◌<◌, Bool, true, false, List, [], ◌∷◌, ◌++◌, length, if◌then◌else◌, All}
 use Rattle.byteorder.specs.Endian.{big_bytes}
 use Rattle.tlp_layout.specs.declared.head.Lead.{Lead}

@@ -77,7 +77,8 @@ is_past (Some most) n = nat_lt most n
 abbrev pub counted : Span → Text → List Data → Result (List Data) PlanFault
 counted span path ds =
     if is_past span.most (length ds) then Err (Limit path)
-    else if nat_lt (length ds) span.least || (not span.allowed && nat_lt 0 (length ds)) then Err (Range path (pos (length ds)))
+    else if nat_lt (length ds) span.least || (not span.allowed && nat_lt 0 (length ds))
+    then Err (Range path (pos (length ds)))
     else Ok ds
 
 -- each element from place i on, up to the first fault

@@ -46,7 +46,8 @@ only_if allowed span = record span { allowed = allowed }
 -- [base, limit] with base at most limit
 abbrev pub ids_in_order : Text → ℕ × ℕ → Result (Option IdRange) PlanFault
 ids_in_order path (base, limit) =
-    if nat_le base limit then Ok (Some (record { base = base; limit = limit })) else Err (Range (place path 1) (pos limit))
+    if nat_le base limit then Ok (Some (record { base = base; limit = limit }))
+    else Err (Range (place path 1) (pos limit))
 
 abbrev pub id_range : Bool → Reader (Option IdRange)
 id_range allowed path d = do
@@ -78,7 +79,8 @@ selector_of kind.Selective ids addresses default classes = selector.Selective id
 selector_of kind.Link ids addresses default classes = selector.Link classes
 
 abbrev pub stream_names : List Text
-stream_names = codes "id" ∷ codes "kind" ∷ codes "mode" ∷ codes "rid" ∷ codes "ranges" ∷ codes "default" ∷ codes "tcs" ∷ codes "closed" ∷ []
+stream_names = codes "id" ∷ codes "kind" ∷ codes "mode" ∷ codes "rid" ∷ codes "ranges" ∷ codes "default" ∷ codes "tcs"
+    ∷ codes "closed" ∷ []
 
 -- a stream: rid, ranges and default are a selective stream's, tcs a link stream's
 unfoldable pub stream_keys : Text → Members → Result StreamPlan PlanFault
@@ -90,7 +92,8 @@ stream_keys t ms = do
   ids ← optional t ms (codes "rid") None (id_range (is_selective_kind kind))
   addresses ← optional t ms (codes "ranges") [] (list (only_if (is_selective_kind kind) (between 0 8)) address_range)
   default ← optional t ms (codes "default") false (truth_if (is_selective_kind kind))
-  classes ← optional t ms (codes "tcs") [] (list (only_if (not (is_selective_kind kind)) any_number) (number (within 0 7)))
+  classes ← optional t ms (codes "tcs") [] (list (only_if (not (is_selective_kind kind)) any_number)
+      (number (within 0 7)))
   closed ← optional t ms (codes "closed") false truth
   Ok (record { id = id; mode = mode; closed = closed; selector = selector_of kind ids addresses default classes })
 
@@ -113,7 +116,8 @@ id_of (negsuc n) = 0
 
 abbrev pub interface_names : List Text
 interface_names =
-    codes "rid" ∷ codes "stream" ∷ codes "flags" ∷ codes "offset" ∷ codes "command" ∷ codes "msix" ∷ codes "lnr" ∷ codes "cacheline"
+    codes "rid" ∷ codes "stream" ∷ codes "flags" ∷ codes "offset" ∷ codes "command" ∷ codes "msix" ∷ codes "lnr"
+    ∷ codes "cacheline"
     ∷ codes "tph" ∷ codes "info" ∷ codes "bars" ∷ []
 
 -- an interface, and the number at its key `stream`, whose bounds are a rule over several values
@@ -180,7 +184,8 @@ region_keys t ms = do
   region_within t base size
 
 abbrev pub top_names : List Text
-top_names = codes "version" ∷ codes "portion" ∷ codes "units_per_key" ∷ codes "pool" ∷ codes "link" ∷ codes "memory" ∷ []
+top_names = codes "version" ∷ codes "portion" ∷ codes "units_per_key" ∷ codes "pool" ∷ codes "link"
+    ∷ codes "memory" ∷ []
 
 -- the table at the top
 unfoldable pub top_keys : Text → Members → Result PlanDraft PlanFault

@@ -10,8 +10,8 @@ use Rattle.trusted_memory.specs.declared.grant.Grant.{Grant}
 use Rattle.trusted_memory.specs.Writes.{Write}
 use Rattle.trusted_memory.specs.Regions.{in_one_region, crosses}
 
--- the requester is no running interface; the packet came on another stream than the bound one; its draw is less than the
--- floor
+-- the requester is no running interface; the packet came on another stream than the bound one; its draw is less than
+-- the floor
 abbrev pub grant_cause : Option (ℕ × ℕ) → ℕ → ℕ → Option BlockCause
 grant_cause None stream draw = Some NotRunning
 grant_cause (Some bound) stream draw =

@@ -7,8 +7,8 @@ use Rattle.link_verdicts.specs.declared.verdict.Effect.TheVariants.{Applied}
 use Rattle.trusted_memory.specs.Writes.{Write, written, byte_after}
 use Rattle.trusted_memory.specs.Regions.{is_inside, in_one_region, crosses}
 
--- the regions, the bytes of each from its base on, and the numbers of the pages of 4,096 bytes for which a write needs no
--- memory
+-- the regions, the bytes of each from its base on, and the numbers of the pages of 4,096 bytes for which a write needs
+-- no memory
 pub record TrustedMemory : Type 0 where
   pub regions : List Region
   pub bytes : List (List ℕ)

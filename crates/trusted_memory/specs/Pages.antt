@@ -25,4 +25,5 @@ seen regions pages = record {
 
 -- the enabled bytes of a write stand in a page, the first of its payload at `start`, and all else is as before
 abbrev pub HasWritten : ℕ → Write → List ℕ → List ℕ → Type 0
-HasWritten start w old new = (k : ℕ) → slice_index new k ≡ written (record w { address = start }) (λ i. slice_index old i) k
+HasWritten start w old new = (k : ℕ) → slice_index new k ≡ written (record w { address = start })
+    (λ i. slice_index old i) k

@@ -4,8 +4,8 @@
 /// profile).
 #[derive(Clone, Copy, Debug, PartialEq, Eq)]
 pub struct Grant {
-    /// Where the requester is an interface in RUN by the manager's view: the ID of the stream that it is bound to, and its
-    /// floor, the least draw under which its writes are admitted.
+    /// Where the requester is an interface in RUN by the manager's view: the ID of the stream that it is bound to, and
+    /// its floor, the least draw under which its writes are admitted.
     pub bound: Option<(u8, u32)>,
     /// The ID of the stream that the packet came on.
     pub stream: u8,

@@ -41,7 +41,17 @@ impl Model for Trusted {
 impl Trusted {
     ghost use Rattle.trusted_memory.specs.Regions.{is_inside, in_region, in_one_region, crosses};
     ghost use Rattle.trusted_memory.specs.Causes.{block_cause, effect_of};
-    ghost use Rattle.trusted_memory.specs.Contents.{TrustedMemory, new_memory, byte_at, bytes_from, has_page, is_ready, byte_by, writes_by, IsLeftBy};
+    ghost use Rattle.trusted_memory.specs.Contents.{
+      TrustedMemory,
+      new_memory,
+      byte_at,
+      bytes_from,
+      has_page,
+      is_ready,
+      byte_by,
+      writes_by,
+      IsLeftBy,
+    };
 
     /// The regions of a plan, with 0 in every byte, and no page provided.
     pub fn make(alloc: Global, regions: &[Region]) -> Result<Trusted, Memory>
@@ -96,7 +106,8 @@ impl Trusted {
     }
 
     fn store(&mut self, write: &MemWriteView<'_>)
-        requires inside { in_one_region self.old.regions write.now.fields.address (length write.now.payload.now) ≡ true }
+        requires inside { in_one_region self.old.regions write.now.fields.address
+            (length write.now.payload.now) ≡ true }
         requires in_page { crosses (write_of write.now) ≡ false }
         requires there { has_page self.old (write.now.fields.address / 4096) ≡ true }
         ensures bytes { (a : ℕ) → byte_at self.new a ≡ written (write_of write.now) (byte_at self.old) a }
@@ -110,14 +121,15 @@ impl Trusted {
 
     /// Applies a memory write that was accepted at a host's port, or tells the first cause that blocks it: it is not
     /// trusted (T is clear); its requester is no running interface; it came on another stream than the bound one; its
-    /// draw is less than the floor; the bytes of its double words are not all in one region; they cross a 4 KiB boundary
-    /// (this profile). The payload's enabled bytes are written to ascending addresses. It takes no memory.
+    /// draw is less than the floor; the bytes of its double words are not all in one region; they cross a 4 KiB
+    /// boundary (this profile). The payload's enabled bytes are written to ascending addresses. It takes no memory.
     pub fn apply(&mut self, write: &MemWriteView<'_>, trusted: bool, grant: Grant) -> Effect
         requires { is_ready self.old (write_of write.now) ≡ true }
         ensures effect { result ≡ effect_of (block_cause self.old.regions (write_of write.now) trusted grant) }
         ensures bytes { (a : ℕ) → byte_at self.new a ≡ byte_by result (write_of write.now) (byte_at self.old) a }
         ensures kept { self.new ≡ record self.old { bytes = self.new.bytes } }
-        ensures blocked { IsSome (block_cause self.old.regions (write_of write.now) trusted grant) → self.new ≡ self.old }
+        ensures blocked { IsSome (block_cause self.old.regions (write_of write.now) trusted grant)
+            → self.new ≡ self.old }
         ensures stands { (writes : List Write) → IsLeftBy self.old writes
             → IsLeftBy self.new (writes_by result (write_of write.now) writes) }
     {
@@ -150,8 +162,8 @@ impl Trusted {
         }
     }
 
-    /// Copies the bytes from an address on into `buf`. It is false exactly where one region does not have the address and
-    /// all the bytes, and `buf` is then as before.
+    /// Copies the bytes from an address on into `buf`. It is false exactly where one region does not have the address
+    /// and all the bytes, and `buf` is then as before.
     pub fn peek(&self, at: u64, buf: &mut [u8]) -> bool
         ensures answer { result ≡ in_one_region self.now.regions at (length buf.old) }
         ensures bytes { OnTrue result (buf.new ≡ bytes_from (byte_at self.now) at (length buf.old)) }

@@ -122,7 +122,8 @@ ends o set draw f b link id loss before carried n s same =
     ap (op_by before (work o set draw f b)) (done_says o set draw f b link id) ∙ taken (nat_lt (last_of o) (last_of o + 1)) (op_ended (work o set draw f b)) (op_standing (work o set draw f b) (last_of o + 1)) end in
     let now : (acknowledged (asked_of o set draw n) s).op ≡ op_ended (work o set draw f b) =
     taken (nat_lt (last_of o) (n + 1)) (op_ended (work o set draw n false)) (op_standing (work o set draw n false) (n + 1)) less ∙ ended_as o set draw n f b in
-    subst (λ (t : Bool). Comes o set draw f b link id loss before None (continued (if t then outcome.Done (shown_at_end (asked_of o set draw n)) else outcome.Next) (acknowledged (asked_of o set draw n) s) (walk zero carried (acknowledged (asked_of o set draw n) s)))) (sym test)
+    subst (λ (t : Bool). Comes o set draw f b link id loss before None (continued (if t then outcome.Done (shown_at_end (asked_of o set draw n)) else outcome.Next) (acknowledged (asked_of o set draw n) s)
+    (walk zero carried (acknowledged (asked_of o set draw n) s)))) (sym test)
     (record { verdict_is = shows_done o set draw n f b link id loss; op_is = now ∙ sym by_end })
 
 -- behind another one the walk goes on
@@ -131,18 +132,21 @@ goes_on : (o : Operation) (set : Bool) (draw f : ℕ) (b : Bool) (link id : ℕ)
     → Comes o set draw f b link id loss before rest (answered_by (asked_of o set draw n) Expected carried more s)
 goes_on o set draw f b link id loss before carried more n s rest lt comes =
     let test : (n == last_of o) ≡ false = different-false n (last_of o) lt in
-    subst (λ (t : Bool). Comes o set draw f b link id loss before rest (continued (if t then outcome.Done (shown_at_end (asked_of o set draw n)) else outcome.Next) (acknowledged (asked_of o set draw n) s) (walk more carried (acknowledged (asked_of o set draw n) s)))) (sym test) comes
+    subst (λ (t : Bool). Comes o set draw f b link id loss before rest (continued (if t then outcome.Done (shown_at_end (asked_of o set draw n)) else outcome.Next) (acknowledged (asked_of o set draw n) s)
+    (walk more carried (acknowledged (asked_of o set draw n) s)))) (sym test) comes
 
 next_standing : (o : Operation) (set : Bool) (draw f : ℕ) (b : Bool) (n : ℕ) (s : StreamView) → n < last_of o → (acknowledged (asked_of o set draw n) s).op ≡ op_standing (work o set draw f b) (n + 1)
 next_standing o set draw f b n s lt =
     not_taken (nat_lt (last_of o) (n + 1)) (op_ended (work o set draw n false)) (op_standing (work o set draw n false) (n + 1)) (lt-false (last_of o) (n + 1) (omega (arith, lt))) ∙ standing_as o set draw n f b (n + 1)
 
-walk_is : (o : Operation) (set : Bool) (draw f : ℕ) (b : Bool) → WorkFits o set draw → (link id : ℕ) (loss : Option Loss) (refused : ℕ → Bool) (before : Op) (more n : ℕ) (s : StreamView) → n + more ≡ last_of o → s.op ≡ op_standing (work o set draw f b) n
+walk_is : (o : Operation) (set : Bool) (draw f : ℕ) (b : Bool) → WorkFits o set draw → (link id : ℕ) (loss : Option Loss) (refused : ℕ → Bool) (before : Op) (more n : ℕ) (s : StreamView) → n + more ≡ last_of o
+    → s.op ≡ op_standing (work o set draw f b) n
     → Comes o set draw f b link id loss before (first_from (λ x. is_lost loss x || refused x) n (suc more)) (walk (suc more) (answers loss refused) s)
 walk_is o set draw f b fits link id loss refused before zero n s count at =
     let le : n ≤ last_of o = omega (arith, count) in
     let same : n ≡ last_of o = omega (arith, count) in
-    subst (λ (q : Option Asked). Comes o set draw f b link id loss before (first_from (λ x. is_lost loss x || refused x) n (suc zero)) (continued (outcome_at q (answers loss refused)) (stream_at q (answers loss refused) s) (walk zero (answers loss refused) (stream_at q (answers loss refused) s))))
+    subst (λ (q : Option Asked). Comes o set draw f b link id loss before (first_from (λ x. is_lost loss x || refused x) n (suc zero)) (continued (outcome_at q (answers loss refused)) (stream_at q (answers loss refused) s)
+    (walk zero (answers loss refused) (stream_at q (answers loss refused) s))))
     (sym (ap asked_in at ∙ standing_asked o set draw f b n fits))
     (cuts o set draw f b link id loss before (answers loss refused) zero n s None le at (ends o set draw f b link id loss before (answers loss refused) n s same) (is_lost loss n) (refused n) refl)
 walk_is o set draw f b fits link id loss refused before (suc more) n s count at =
@@ -150,7 +154,8 @@ walk_is o set draw f b fits link id loss refused before (suc more) n s count at 
     let le : n ≤ last_of o = omega (arith, count) in
     let on : (n + 1) + more ≡ last_of o = omega (arith, count) in
     let rest = walk_is o set draw f b fits link id loss refused before more (n + 1) (acknowledged (asked_of o set draw n) s) on (next_standing o set draw f b n s lt) in
-    subst (λ (q : Option Asked). Comes o set draw f b link id loss before (first_from (λ x. is_lost loss x || refused x) n (suc (suc more))) (continued (outcome_at q (answers loss refused)) (stream_at q (answers loss refused) s) (walk (suc more) (answers loss refused) (stream_at q (answers loss refused) s))))
+    subst (λ (q : Option Asked). Comes o set draw f b link id loss before (first_from (λ x. is_lost loss x || refused x) n (suc (suc more))) (continued (outcome_at q (answers loss refused)) (stream_at q (answers loss refused) s)
+    (walk (suc more) (answers loss refused) (stream_at q (answers loss refused) s))))
     (sym (ap asked_in at ∙ standing_asked o set draw f b n fits))
     (cuts o set draw f b link id loss before (answers loss refused) (suc more) n s (first_from (λ x. is_lost loss x || refused x) (n + 1) (suc more)) le at
     (goes_on o set draw f b link id loss before (answers loss refused) (suc more) n s (first_from (λ x. is_lost loss x || refused x) (n + 1) (suc more)) lt rest) (is_lost loss n) (refused n) refl)

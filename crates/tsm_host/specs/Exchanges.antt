@@ -50,6 +50,7 @@ kept_key keys lane = slice_index_or keys lane None
 -- the request of an exchange: port index 0, and initial counter 1
 abbrev pub request_of : ℕ → WireKeys → Exchange → KmView
 request_of stream keys Query = km.Query 0
-request_of stream keys (Program set lane) = km.KeyProg stream (selector_of set lane) 0 (key_or_none (kept_key keys lane)) 1
+request_of stream keys (Program set lane) = km.KeyProg stream (selector_of set lane) 0
+    (key_or_none (kept_key keys lane)) 1
 request_of stream keys (Go set lane) = km.SetGo stream (selector_of set lane) 0
 request_of stream keys (Stop set lane) = km.SetStop stream (selector_of set lane) 0

@@ -30,20 +30,27 @@ is_in_use sender j mine other = false
 -- the host's port goes on behind the third GO of the device's receivers, exchange 10 of an establish and 9 of a refresh
 abbrev pub pair_fits : Op → SlotPair → Bool
 pair_fits Idle pair = are_empty pair.zero pair.one
-pair_fits (Establishing j n) pair = if nat_le n 10 then is_first j pair.zero pair.one else is_in_use pair.sender j pair.zero pair.one
+pair_fits (Establishing j n) pair = if nat_le n 10 then is_first j pair.zero pair.one else is_in_use pair.sender j
+    pair.zero pair.one
 pair_fits (Up k j) pair = is_in_use pair.sender j (slot_in pair k) (slot_in pair (not k))
-pair_fits (Refreshing k j n) pair = if nat_le n 9 then is_ahead j (slot_in pair k) (slot_in pair (not k)) else is_in_use pair.sender j (slot_in pair k) (slot_in pair (not k))
+pair_fits (Refreshing k j n) pair = if nat_le n 9 then is_ahead j (slot_in pair k) (slot_in pair (not k))
+    else is_in_use pair.sender j (slot_in pair k) (slot_in pair (not k))
 pair_fits (Stopping n) pair = are_empty pair.zero pair.one
 
 -- Each local call that the manager makes at a place is one that the port takes, and leaves slots that fit. A unit is
 -- unfinished only where a key is Live, and a refresh begins only where the slot of its set at a sender is not.
 pub record PairFits (pair : SlotPair) (key : List ℕ) (j : ℕ) : Type 0 where
-  pub establishes : pair_fits Idle pair ≡ true → (is_only_live pair false ≡ false) × (pair_fits (Establishing j 1) (programmed pair false (record { key = key; draw = j })) ≡ true)
-  pub refreshes : (k : Bool) (i : ℕ) → pair_fits (Up k i) pair ≡ true → i < j → (pair.sender && is_live (slot_in pair (not k))) ≡ false
-      → (is_only_live pair (not k) ≡ false) × (pair_fits (Refreshing (not k) j 1) (programmed pair (not k) (record { key = key; draw = j })) ≡ true)
-  pub goes_first : (unfinished : Bool) → (unfinished ≡ true → (is_live pair.zero || is_live pair.one) ≡ true) → pair_fits (Establishing j 10) pair ≡ true
+  pub establishes : pair_fits Idle pair ≡ true → (is_only_live pair false ≡ false)
+      × (pair_fits (Establishing j 1) (programmed pair false (record { key = key; draw = j })) ≡ true)
+  pub refreshes : (k : Bool) (i : ℕ) → pair_fits (Up k i) pair ≡ true → i < j
+      → (pair.sender && is_live (slot_in pair (not k))) ≡ false
+      → (is_only_live pair (not k) ≡ false)
+      × (pair_fits (Refreshing (not k) j 1) (programmed pair (not k) (record { key = key; draw = j })) ≡ true)
+  pub goes_first : (unfinished : Bool) → (unfinished ≡ true → (is_live pair.zero || is_live pair.one) ≡ true)
+      → pair_fits (Establishing j 10) pair ≡ true
       → pair_fits (Establishing j 11) (armed pair false unfinished) ≡ true
-  pub goes_ahead : (k unfinished : Bool) → pair_fits (Refreshing k j 9) pair ≡ true → pair_fits (Refreshing k j 10) (armed pair k unfinished) ≡ true
+  pub goes_ahead : (k unfinished : Bool) → pair_fits (Refreshing k j 9) pair ≡ true → pair_fits (Refreshing k j 10)
+      (armed pair k unfinished) ≡ true
   pub stops : pair_fits (Stopping 1) (halted (halted pair false) true) ≡ true
 
 abbrev pub PairsFit : Type 0

@@ -17,7 +17,8 @@ is_description port (QueryResp p device_function bus segment highest) = p == por
 is_description port reply = false
 
 abbrev pub is_key_acknowledgement : ℕ → ℕ → ℕ → KmView → Bool
-is_key_acknowledgement stream selector port (KpAck s status x p) = gives_back stream selector port s x p && (status == 0)
+is_key_acknowledgement stream selector port (KpAck s status x p) = gives_back stream selector port s x p
+    && (status == 0)
 is_key_acknowledgement stream selector port reply = false
 
 abbrev pub is_acknowledgement : ℕ → ℕ → ℕ → KmView → Bool

@@ -16,15 +16,18 @@ answered shown (AskGo place set) = Go place set (go_answer shown place set)
 answered shown (AskHalt place set) = Halt place set (halt_answer shown place)
 
 -- one call: the port moves by its own relation, and its slots by the call
-pub record CallMoves {Port : Type 0} (slots : Port → Shown) (unfinished : Port → Place → Bool) (moves : Port → PortCall → Port → Type 0) (before : Port) (request : Request) (after : Port) : Type 0 where
+pub record CallMoves {Port : Type 0} (slots : Port → Shown) (unfinished : Port → Place → Bool) (moves : Port → PortCall
+    → Port → Type 0) (before : Port) (request : Request) (after : Port) : Type 0 where
   pub moved : moves before (answered (slots before) request) after
   pub kept : SlotsAfter (slots before) (unfinished before) (answered (slots before) request) (slots after)
 
 -- the calls of a list, in order; with none the port is as before
-abbrev pub CallsMove : {Port : Type 0} → (Port → Shown) → (Port → Place → Bool) → (Port → PortCall → Port → Type 0) → Port → List Request → Port → Type 0
+abbrev pub CallsMove : {Port : Type 0} → (Port → Shown) → (Port → Place → Bool) → (Port → PortCall → Port → Type 0)
+    → Port → List Request → Port → Type 0
 CallsMove slots unfinished moves before [] after = after ≡ before
 CallsMove {Port} slots unfinished moves before (request ∷ more) after =
-    (next : Port) × (CallMoves slots unfinished moves before request next) × (CallsMove slots unfinished moves next more after)
+    (next : Port) × (CallMoves slots unfinished moves before request next)
+    × (CallsMove slots unfinished moves next more after)
 
 -- ---- what the operations ask
 
@@ -45,13 +48,17 @@ programs stream set keys draw =
 -- the host's receivers, which take direction 1, and then its senders
 abbrev pub goes : ℕ → Bool → List Request
 goes stream set =
-    AskGo (place_at stream 1 0) (set_number set) ∷ AskGo (place_at stream 1 1) (set_number set) ∷ AskGo (place_at stream 1 2) (set_number set)
-    ∷ AskGo (place_at stream 0 0) (set_number set) ∷ AskGo (place_at stream 0 1) (set_number set) ∷ AskGo (place_at stream 0 2) (set_number set) ∷ []
+    AskGo (place_at stream 1 0) (set_number set) ∷ AskGo (place_at stream 1 1) (set_number set)
+    ∷ AskGo (place_at stream 1 2) (set_number set)
+    ∷ AskGo (place_at stream 0 0) (set_number set) ∷ AskGo (place_at stream 0 1) (set_number set)
+    ∷ AskGo (place_at stream 0 2) (set_number set) ∷ []
 
 abbrev pub halts_in : ℕ → Bool → List Request
 halts_in stream set =
-    AskHalt (place_at stream 0 0) (set_number set) ∷ AskHalt (place_at stream 0 1) (set_number set) ∷ AskHalt (place_at stream 0 2) (set_number set)
-    ∷ AskHalt (place_at stream 1 0) (set_number set) ∷ AskHalt (place_at stream 1 1) (set_number set) ∷ AskHalt (place_at stream 1 2) (set_number set) ∷ []
+    AskHalt (place_at stream 0 0) (set_number set) ∷ AskHalt (place_at stream 0 1) (set_number set)
+    ∷ AskHalt (place_at stream 0 2) (set_number set)
+    ∷ AskHalt (place_at stream 1 0) (set_number set) ∷ AskHalt (place_at stream 1 1) (set_number set)
+    ∷ AskHalt (place_at stream 1 2) (set_number set) ∷ []
 
 -- all slots of a stream
 abbrev pub halts : ℕ → List Request

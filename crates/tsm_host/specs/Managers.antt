@@ -100,7 +100,10 @@ begin_work operation pool n = work_of operation n.stream.op pool.draws
 abbrev pub begun : ManagerView → Operation → HostView → Pool → Named → ManagerView
 begun m operation host pool n =
     unless (begin_refusal operation host pool n) m
-    (record { streams = slice_set m.streams n.place (begun_stream (begin_work operation pool n) pool n.stream); asking = Some n.place })
+    (record {
+      streams = slice_set m.streams n.place (begun_stream (begin_work operation pool n) pool n.stream);
+      asking = Some n.place;
+    })
 
 abbrev pub pool_begun : Operation → HostView → Pool → Named → Pool
 pool_begun operation host pool n =
@@ -126,7 +129,8 @@ outcome_now c carried = outcome_of c.asked (judged (request_asked c.asked c.stre
 
 abbrev pub taken : ManagerView → Current → Carried → ManagerView
 taken m c carried = record {
-  streams = slice_set m.streams c.place (taken_stream c.asked (judged (request_asked c.asked c.stream) carried) c.stream);
+  streams = slice_set m.streams c.place
+      (taken_stream c.asked (judged (request_asked c.asked c.stream) carried) c.stream);
   asking = asking_after c.place (outcome_now c carried);
 }
 

@@ -6,7 +6,8 @@ use Rattle.ide_km.specs.{Place}
 
 -- the lane of a place of stream 5
 abbrev pub lane_at : ℕ → ℕ → ℕ → Option ℕ
-lane_at stream direction sub = if ((stream == 5) && nat_lt direction 2) && nat_lt sub 3 then Some (3 * direction + sub) else None
+lane_at stream direction sub = if ((stream == 5) && nat_lt direction 2) && nat_lt sub 3
+    then Some (3 * direction + sub) else None
 
 abbrev pub shown_in : List SlotPair → Place → Option SlotPair
 shown_in slots place = option_and_then (slice_get slots) (lane_at place.stream place.direction place.sub)
@@ -17,4 +18,5 @@ is_live_at slots lane = is_some (live_set (slice_index_or slots lane (empty_pair
 
 abbrev pub is_live_throughout : List SlotPair → Bool
 is_live_throughout slots =
-    ((is_live_at slots 0 && is_live_at slots 1) && (is_live_at slots 2 && is_live_at slots 3)) && (is_live_at slots 4 && is_live_at slots 5)
+    ((is_live_at slots 0 && is_live_at slots 1) && (is_live_at slots 2 && is_live_at slots 3))
+    && (is_live_at slots 4 && is_live_at slots 5)

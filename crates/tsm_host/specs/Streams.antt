@@ -90,7 +90,12 @@ StageHolds s = Unit {0}
 
 -- of an unfinished operation
 abbrev pub asked_in : Op → Option Asked
-asked_in (Establishing draw next) = Some (record { operation = op.Establish; set = false; draw = draw; exchange = next })
+asked_in (Establishing draw next) = Some (record {
+  operation = op.Establish;
+  set = false;
+  draw = draw;
+  exchange = next;
+})
 asked_in (Refreshing set draw next) = Some (record { operation = op.Refresh; set = set; draw = draw; exchange = next })
 asked_in (Stopping next) = Some (record { operation = op.Stop; set = false; draw = 0; exchange = next })
 asked_in o = None
@@ -112,7 +117,8 @@ pub record HostView : Type 0 where
   pub status : Option StreamStatus
   pub live : SubKind → Option ℕ
 
-abbrev pub host_view : {Port : Type 0} → (Port → ℕ → Option StreamStatus) → (Port → ℕ → SubKind → Option ℕ) → Port → ℕ → HostView
+abbrev pub host_view : {Port : Type 0} → (Port → ℕ → Option StreamStatus) → (Port → ℕ → SubKind → Option ℕ) → Port
+    → ℕ → HostView
 host_view status_of live_of port stream = record { status = status_of port stream; live = live_of port stream }
 
 -- a port without the stream has no key of it
@@ -166,14 +172,16 @@ abbrev pub draws_now : Work → Bool
 draws_now w = w.begins && makes_draw w.operation
 
 abbrev pub pool_refusal : Work → Pool → Option Refusal
-pool_refusal w pool = if draws_now w && not (nat_lt pool.draws (draws_in pool.keys)) then Some (PoolEmpty pool.draws) else None
+pool_refusal w pool = if draws_now w && not (nat_lt pool.draws (draws_in pool.keys))
+    then Some (PoolEmpty pool.draws) else None
 
 abbrev pub first_of : Option Refusal → Option Refusal → Option Refusal
 first_of None second = second
 first_of (Some refusal) second = Some refusal
 
 abbrev pub refusal_of : Operation → Op → HostView → Pool → Option Refusal
-refusal_of operation o host pool = first_of (refusal_at operation o host) (pool_refusal (work_of operation o pool.draws) pool)
+refusal_of operation o host pool = first_of (refusal_at operation o host)
+    (pool_refusal (work_of operation o pool.draws) pool)
 
 -- ---- begin: what it does
 
@@ -199,7 +207,8 @@ begun_pool w pool = if draws_now w then pool_after pool else pool
 -- the host's slots of the set are programmed with the same keys; of a stop all are emptied
 abbrev pub begun_calls : Work → Pool → ℕ → List Request
 begun_calls w pool stream =
-    if w.begins then (if makes_draw w.operation then programs stream w.set (six_keys pool.keys w.draw) w.draw else halts stream)
+    if w.begins then (if makes_draw w.operation then programs stream w.set (six_keys pool.keys w.draw) w.draw
+    else halts stream)
     else []
 
 -- ---- take

@@ -49,7 +49,8 @@ continued o s rest = record { outcome = o; stream = s }
 abbrev pub walk : (more : ℕ) → (ℕ → Judged) → StreamView → Walked
 walk zero carried s = record { outcome = outcome.Next; stream = s }
 walk (suc more) carried s =
-    continued (outcome_at (asked_in s.op) carried) (stream_at (asked_in s.op) carried s) (walk more carried (stream_at (asked_in s.op) carried s))
+    continued (outcome_at (asked_in s.op) carried) (stream_at (asked_in s.op) carried s)
+    (walk more carried (stream_at (asked_in s.op) carried s))
 
 -- `begin`, and then the walk
 abbrev pub walked_unless : Option Refusal → StreamView → Walked → Walked
@@ -59,7 +60,8 @@ walked_unless None s walked = walked
 abbrev pub walked : Operation → HostView → Pool → (ℕ → Judged) → StreamView → Walked
 walked operation host pool carried s =
     let w = work_of operation s.op pool.draws in
-    walked_unless (refusal_of operation s.op host pool) s (walk (last_of operation + 1 - w.first) carried (begun_stream w pool s))
+    walked_unless (refusal_of operation s.op host pool) s (walk (last_of operation + 1 - w.first) carried
+    (begun_stream w pool s))
 
 -- ---- the verdict that it is
 
@@ -92,7 +94,8 @@ IsAsked None = Unit {0}
 IsAsked (Some a) = (1 ≤ a.exchange) × (a.exchange ≤ last_of a.operation)
 
 -- what the host's port and the pool show is what the definitions read of them
-pub record Reads (plan : KeyPlan) (ports : PortView) (link stream : ℕ) (status : StreamStatus) (host : HostView) (pool : Pool) : Type 0 where
+pub record Reads (plan : KeyPlan) (ports : PortView) (link stream : ℕ) (status : StreamStatus) (host : HostView)
+    (pool : Pool) : Type 0 where
   pub pool_is : plan.pool ≡ draws_in pool.keys
   pub status_is : host.status ≡ Some status
   pub live_is : (set : Bool) (u : SubKind) → is_set set (host.live u) ≡ is_live_sender ports link stream set u
@@ -109,13 +112,20 @@ op_by o w (Some reached) = op_after w reached
 
 -- Where each exchange is lost or refused as the definitions say, an event comes to the verdict that is due, and leaves
 -- the operations as the verdict says.
-pub record WalkIsDue (operation : Operation) (plan : KeyPlan) (ports : PortView) (status : StreamStatus) (host : HostView) (pool : Pool) (loss : Option Loss) (s : StreamView) : Type 0 where
-  pub verdict_is : verdict_of operation s.link s.id loss (walked operation host pool (answers loss (is_refused ports operation (work_of operation s.op pool.draws).set s.link s.id)) s).outcome
+pub record WalkIsDue (operation : Operation) (plan : KeyPlan) (ports : PortView) (status : StreamStatus)
+    (host : HostView) (pool : Pool) (loss : Option Loss) (s : StreamView) : Type 0 where
+  pub verdict_is : verdict_of operation s.link s.id loss
+      (walked operation host pool (answers loss (is_refused ports operation (work_of operation s.op pool.draws).set
+      s.link s.id)) s).outcome
       ≡ due_on operation plan s.op pool.draws ports status s.link s.id loss
-  pub op_is : (walked operation host pool (answers loss (is_refused ports operation (work_of operation s.op pool.draws).set s.link s.id)) s).stream.op
-      ≡ op_by s.op (work_of operation s.op pool.draws) (reach_of operation (due_on operation plan s.op pool.draws ports status s.link s.id loss))
+  pub op_is : (walked operation host pool
+      (answers loss (is_refused ports operation (work_of operation s.op pool.draws).set s.link s.id)) s).stream.op
+      ≡ op_by s.op (work_of operation s.op pool.draws)
+      (reach_of operation (due_on operation plan s.op pool.draws ports status s.link s.id loss))
 
 abbrev pub WalksAreDue : Type 0
 WalksAreDue =
-    (operation : Operation) (plan : KeyPlan) (ports : PortView) (status : StreamStatus) (host : HostView) (pool : Pool) (loss : Option Loss) (s : StreamView)
-    → IsAsked (asked_in s.op) → Reads plan ports s.link s.id status host pool → WalkIsDue operation plan ports status host pool loss s
+    (operation : Operation) (plan : KeyPlan) (ports : PortView) (status : StreamStatus) (host : HostView) (pool : Pool)
+    (loss : Option Loss) (s : StreamView)
+    → IsAsked (asked_in s.op) → Reads plan ports s.link s.id status host pool → WalkIsDue operation plan ports status
+    host pool loss s

@@ -10,8 +10,8 @@ pub fn walks_are_due()
     ensures { WalksAreDue }
 {}
 
-/// Where the slots of a place at the host's port fit the state of the stream, each local call of an establish, a refresh
-/// or a stop is one that the port takes, and leaves slots that fit the state behind it.
+/// Where the slots of a place at the host's port fit the state of the stream, each local call of an establish, a
+/// refresh or a stop is one that the port takes, and leaves slots that fit the state behind it.
 pub fn pairs_fit()
     ensures { PairsFit }
 {}

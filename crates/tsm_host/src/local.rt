@@ -12,21 +12,24 @@ use key_slots::{HostSix, Key};
 // One call, whose answer is not needed.
 fn program<P: SlotPort>(port: &mut P, stream: u8, set: bool, dir: u8, sub: u8, key: Key, draw: u32)
     requires { dir < 2 }
-    ensures { CallMoves P.slots P.unfinished P.moves port.old (AskProgram (place_at stream dir sub) (set_number set) key draw) port.new }
+    ensures { CallMoves P.slots P.unfinished P.moves port.old (AskProgram (place_at stream dir sub) (set_number set) key
+        draw) port.new }
 {
     let _ = port.program(stream, number(set), dir, sub, key, draw);
 }
 
 fn go<P: SlotPort>(port: &mut P, stream: u8, set: bool, dir: u8, sub: u8)
     requires { dir < 2 }
-    ensures { CallMoves P.slots P.unfinished P.moves port.old (AskGo (place_at stream dir sub) (set_number set)) port.new }
+    ensures { CallMoves P.slots P.unfinished P.moves port.old
+        (AskGo (place_at stream dir sub) (set_number set)) port.new }
 {
     let _ = port.go(stream, number(set), dir, sub);
 }
 
 fn halt<P: SlotPort>(port: &mut P, stream: u8, set: bool, dir: u8, sub: u8)
     requires { dir < 2 }
-    ensures { CallMoves P.slots P.unfinished P.moves port.old (AskHalt (place_at stream dir sub) (set_number set)) port.new }
+    ensures { CallMoves P.slots P.unfinished P.moves port.old (AskHalt (place_at stream dir sub)
+        (set_number set)) port.new }
 {
     let _ = port.halt(stream, number(set), dir, sub);
 }

@@ -45,7 +45,21 @@ fn add_streams(streams: &mut Vec<StreamKeys>, link: u8, plans: &[StreamPlan]) ->
 }
 
 impl Manager {
-    ghost use Rattle.tsm_host.specs.Managers.{new_manager, place_of, named, current, begin_refusal, begun, pool_begun, calls_begun, outcome_now, taken, calls_taken, reset_manager, asked_of};
+    ghost use Rattle.tsm_host.specs.Managers.{
+      new_manager,
+      place_of,
+      named,
+      current,
+      begin_refusal,
+      begun,
+      pool_begun,
+      calls_begun,
+      outcome_now,
+      taken,
+      calls_taken,
+      reset_manager,
+      asked_of,
+    };
 
     /// A manager of these links, of which there are up to 8; no stream has keys.
     pub fn make(alloc: Global, links: &Items<LinkPlan>) -> Result<Manager, Memory>
@@ -147,7 +161,8 @@ impl Manager {
     pub fn ask(&self, out: &mut Vec<u8>) -> u32
         requires asking { IsSome (current self.now) }
         requires room { vec_len out.old + 49 ≤ vec_capacity out.old }
-        ensures items { IfSome (current self.now) (λ c. out.new.items ≡ out.old.items ++ spelling (request_asked c.asked c.stream)) }
+        ensures items { IfSome (current self.now) (λ c. out.new.items ≡ out.old.items
+            ++ spelling (request_asked c.asked c.stream)) }
         ensures draw { IfSome (current self.now) (λ c. result ≡ c.asked.draw) }
         ensures capacity { vec_capacity out.old ≤ vec_capacity out.new }
     {
@@ -169,7 +184,8 @@ impl Manager {
         requires { IsSome (current self.old) }
         ensures outcome { IfSome (current self.old) (λ c. result ≡ outcome_now c carried.entry) }
         ensures manager { IfSome (current self.old) (λ c. self.new ≡ taken self.old c carried.entry) }
-        ensures calls { IfSome (current self.old) (λ c. CallsMove P.slots P.unfinished P.moves port.old (calls_taken c carried.entry) port.new) }
+        ensures calls { IfSome (current self.old) (λ c. CallsMove P.slots P.unfinished P.moves port.old
+            (calls_taken c carried.entry) port.new) }
     {
         let Some(place) = self.asking else {
             unreachable!()

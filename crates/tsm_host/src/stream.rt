@@ -39,7 +39,25 @@ impl Model for StreamKeys {
 impl StreamKeys {
     ghost use Rattle.tsm_host.specs.Exchanges.{request_of};
     ghost use Rattle.tsm_host.specs.Judging.{judged};
-    ghost use Rattle.tsm_host.specs.Streams.{new_stream, is_named, reset_stream, asked_in, exchange_asked, host_view, refusal_of, ok_unless, unless, begun_stream, begun_pool, begun_calls, outcome_of, taken_stream, acknowledged, request_asked, pool_refusal};
+    ghost use Rattle.tsm_host.specs.Streams.{
+      new_stream,
+      is_named,
+      reset_stream,
+      asked_in,
+      exchange_asked,
+      host_view,
+      refusal_of,
+      ok_unless,
+      unless,
+      begun_stream,
+      begun_pool,
+      begun_calls,
+      outcome_of,
+      taken_stream,
+      acknowledged,
+      request_asked,
+      pool_refusal,
+    };
 
     /// A stream without keys.
     pub fn new(link: u8, id: u8) -> StreamKeys
@@ -86,7 +104,8 @@ impl StreamKeys {
             result ≡ ok_unless (refusal_of operation self.old.op host pool.old) }
         ensures stream { let host = host_view P.status_of P.live_of port.old self.old.id in
             let w = work_of operation self.old.op pool.old.draws in
-            self.new ≡ unless (refusal_of operation self.old.op host pool.old) self.old (begun_stream w pool.old self.old) }
+            self.new ≡ unless (refusal_of operation self.old.op host pool.old) self.old
+            (begun_stream w pool.old self.old) }
         ensures pool { let host = host_view P.status_of P.live_of port.old self.old.id in
             let w = work_of operation self.old.op pool.old.draws in
             pool.new ≡ unless (refusal_of operation self.old.op host pool.old) pool.old (begun_pool w pool.old) }
@@ -175,7 +194,8 @@ impl StreamKeys {
         requires { asked_in self.old.op ≡ Some asked }
         ensures outcome { result ≡ outcome_of asked (judged (request_asked asked self.old) carried.entry) }
         ensures stream { self.new ≡ taken_stream asked (judged (request_asked asked self.old) carried.entry) self.old }
-        ensures calls { let calls = taken_calls asked (judged (request_asked asked self.old) carried.entry) self.old.id in
+        ensures calls { let calls = taken_calls asked (judged (request_asked asked self.old) carried.entry)
+            self.old.id in
             CallsMove P.slots P.unfinished P.moves port.old calls port.new }
     {
         let exchange = u32::from(asked.exchange);
@@ -194,7 +214,8 @@ impl StreamKeys {
         requires { asked_in self.old.op ≡ Some asked }
         ensures outcome { result ≡ outcome_of asked Expected }
         ensures stream { self.new ≡ acknowledged asked self.old }
-        ensures calls { CallsMove P.slots P.unfinished P.moves port.old (taken_calls asked Expected self.old.id) port.new }
+        ensures calls { CallsMove P.slots P.unfinished P.moves port.old
+            (taken_calls asked Expected self.old.id) port.new }
     {
         go_on(port, self.id, asked);
         self.advance(asked);

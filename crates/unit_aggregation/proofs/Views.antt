@@ -62,7 +62,8 @@ pub packet_at : (mode front : ℕ) (x y : List ℕ) (es : List PacketEnds) (i : 
     → slice_get v.packets i ≡ Some (slice_range x s.head t.head, slice_range y s.body t.body)
 packet_at mode front x y es i s t v is less es' et =
     rw (← is) (subst (λ (u : PacketEnds). slice_get (parts x y front 0 es) i ≡ Some (slice_range x u.head t.head, slice_range y u.body t.body)) (sym es')
-    (subst (λ (w : PacketEnds). slice_get (parts x y front 0 es) i ≡ Some (slice_range x (get_or (record { head = front; body = 0 } ∷ es) i s).head w.head, slice_range y (get_or (record { head = front; body = 0 } ∷ es) i s).body w.body)) (sym et)
+    (subst (λ (w : PacketEnds). slice_get (parts x y front 0 es) i ≡ Some (slice_range x (get_or (record { head = front; body = 0 } ∷ es) i s).head w.head, slice_range y (get_or (record { head = front; body = 0 } ∷ es) i s).body w.body))
+    (sym et)
     (parts_at x y front 0 es i s t less)))
 
 pub lies_within : (front : ℕ) (x y : List ℕ) (es : List PacketEnds) (i : ℕ) (s t : PacketEnds) → Rises front 0 es (length x) (length y)

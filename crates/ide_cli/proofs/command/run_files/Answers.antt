@@ -15,7 +15,8 @@ returns-in-Ok-Sound-clause-answers g c =
     let told = g.S.Shelf.contents c.args.shelf.now in
     redue told (λ contents. option_map (script_due c.in-Ok-Sound.plan) (contents c.args.script.now)) (λ contents. run_due (contents c.args.topology.now) (contents c.args.script.now)) _ _ _ _ c.run_script.result
     (run_after told c.args.topology.now c.args.script.now c.in-Ok-Sound.plan (rw c.in-Ok-Sound.field-0-is at c.in-Ok-Sound.ensures.loads))
-    (later told (g.S.Shelf.contents c.load.new.shelf) (λ contents. option_map (script_due c.in-Ok-Sound.plan) (contents c.args.script.now)) _ _ _ _ _ _ c.run_script.result c.in-Ok-Sound.ensures.same c.in-Ok-Sound.ensures.cause c.run_script.ensures.answers)
+    (later told (g.S.Shelf.contents c.load.new.shelf) (λ contents. option_map (script_due c.in-Ok-Sound.plan) (contents c.args.script.now)) _ _ _ _ _ _ c.run_script.result c.in-Ok-Sound.ensures.same c.in-Ok-Sound.ensures.cause
+    c.run_script.ensures.answers)
 
 pub returns-in-Ok-Sound-clause-too_long : goal.returns-in-Ok-Sound-clause-too_long
 returns-in-Ok-Sound-clause-too_long g c =

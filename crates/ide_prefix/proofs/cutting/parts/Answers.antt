@@ -38,5 +38,6 @@ returns-clause-ok c =
     let e3 = c.split_at-3.ensures in
     let back = e2.back ∙ ap (drop size) e1 in
     let rest = e3.back ∙ ap (drop wanted) back in
-    is_cut s c.split_at-2.result.0.now c.split_at-3.result.0.now c.split_at-3.result.1.now c.as_array.result size wanted c.prefix_at-prefix.result c.begins_sync-sync.result (λ i. omega (arith, c.type_inv.bytes i)) c.in_ok-early.ensures.long c.in_ok-early.ensures.fits c.in_ok-size.ensures.ok total
+    is_cut s c.split_at-2.result.0.now c.split_at-3.result.0.now c.split_at-3.result.1.now c.as_array.result size wanted c.prefix_at-prefix.result c.begins_sync-sync.result (λ i. omega (arith, c.type_inv.bytes i)) c.in_ok-early.ensures.long
+    c.in_ok-early.ensures.fits c.in_ok-size.ensures.ok total
     c.prefix_at-prefix.ensures (c.begins_sync-sync.ensures ∙ ap (λ (p : Prefix). begins_sync p.sub (get_or s 4 0)) c.prefix_at-prefix.ensures) (e2.front ∙ ap (take size) e1) (e3.front ∙ ap (take wanted) back) rest c.as_array.ensures.cases

@@ -38,7 +38,8 @@ returns-in_err-write-in-Ok-clause-ran g c =
     let due = stepped g.W.LineWork.advance g.W.LineWork.closing c.args.over _ _ _ _ _ c.in-Some.after.now _ so_far.0 _ so_far.1 c.in-Some.ensures.pieces c.in-Ok.ensures.came in
     let later = process g.W.LineWork.advance g.W.LineWork.closing c.args.over (c.loop-line.number + 1) c.line.new.self (pieces c.in-Some.after.now) in
     rw (p.1, p.2)
-    (cut_later c.in_err-write-in-Ok.field-0.0 (process g.W.LineWork.advance g.W.LineWork.closing c.args.over 1 c.args.work.now (pieces c.args.bytes.now)).1 _ _ _ _ _ _ so_far.0 c.in-Ok.text later.1 (ap (λ (d : Due). d.1) due ∙ simp append_assoc) so_far.2 c.loop-line.invariant.faults put)
+    (cut_later c.in_err-write-in-Ok.field-0.0 (process g.W.LineWork.advance g.W.LineWork.closing c.args.over 1 c.args.work.now (pieces c.args.bytes.now)).1 _ _ _ _ _ _ so_far.0 c.in-Ok.text later.1 (ap (λ (d : Due). d.1) due
+    ∙ simp append_assoc) so_far.2 c.loop-line.invariant.faults put)
 
 pub returns-clause-ran : goal.returns-clause-ran
 returns-clause-ran g c =

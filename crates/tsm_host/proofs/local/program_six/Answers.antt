@@ -8,5 +8,24 @@ parts a b c d e f a' b' c' d' e' f' same = (ap (λ x. x.0) same, ap (λ x. x.1) 
 
 pub returns : goal.returns
 returns g c =
-    let keys = parts _ _ _ _ _ _ _ _ _ _ _ _ c.six_of-a.ensures in
-    (c.program.new.port, rw (← c.keys.ensures, ← keys.0) c.program.ensures, (c.program-2.new.port, rw (← c.keys.ensures, ← keys.1) c.program-2.ensures, (c.program-3.new.port, rw (← c.keys.ensures, ← keys.2) c.program-3.ensures, (c.program-4.new.port, rw (← c.keys.ensures, ← keys.3) c.program-4.ensures, (c.program-5.new.port, rw (← c.keys.ensures, ← keys.4) c.program-5.ensures, (c.program-6.new.port, rw (← c.keys.ensures, ← keys.5) c.program-6.ensures, refl))))))
+    let keys = parts _ _ _ _ _ _ _ _ _ _ _ _ c.six_of-a.ensures in (
+      c.program.new.port,
+      rw (← c.keys.ensures, ← keys.0) c.program.ensures,
+      (
+        c.program-2.new.port,
+        rw (← c.keys.ensures, ← keys.1) c.program-2.ensures,
+        (
+          c.program-3.new.port,
+          rw (← c.keys.ensures, ← keys.2) c.program-3.ensures,
+          (
+            c.program-4.new.port,
+            rw (← c.keys.ensures, ← keys.3) c.program-4.ensures,
+            (
+              c.program-5.new.port,
+              rw (← c.keys.ensures, ← keys.4) c.program-5.ensures,
+              (c.program-6.new.port, rw (← c.keys.ensures, ← keys.5) c.program-6.ensures, refl),
+            ),
+          ),
+        ),
+      ),
+    )

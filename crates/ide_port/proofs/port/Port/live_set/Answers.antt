@@ -25,6 +25,7 @@ pub returns-in-Some : goal.returns-in-Some
 returns-in-Some c =
     let at : place_of c.self.inside.plans c.args.stream ≡ Some c.in-Some.place = rw (← c.as_slice.ensures) (sym c.place.ensures ∙ c.in-Some.is) in
     c.live_set.ensures
-    ∙ sym (read-some-of (λ (st : StreamState). live_set (pair_at true c.args.sub st)) c.self.inside.name c.self.inside.limit c.self.inside.plans c.self.inside.streams.items c.self.inside.calls c.args.stream c.in-Some.place c.index.result.now
+    ∙ sym (read-some-of (λ (st : StreamState). live_set (pair_at true c.args.sub st)) c.self.inside.name c.self.inside.limit c.self.inside.plans c.self.inside.streams.items c.self.inside.calls c.args.stream c.in-Some.place
+    c.index.result.now
     c.self.invariant.each at c.index.ensures)
     ∙ ap (λ (e : PortEnd). live_in_port e c.args.stream c.args.sub) c.self.view_is

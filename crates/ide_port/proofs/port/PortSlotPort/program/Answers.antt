@@ -46,7 +46,8 @@ pub invariant_of-self-in-Some : goal.invariant_of-self-in-Some
 invariant_of-self-in-Some c =
     let few = few-at _ _ _ _ _ c.args.stream _ _ c.self.invariant.each (at_lane c).place_is c.index_mut-stream.ensures.value in
     kept-with _ _ _ _ _ _ _ _ _ c.args.stream _ _ _ c.self.invariant.each (at_lane c).place_is c.index_mut-stream.ensures.value (omega arith)
-    (after-called c.self.inside.calls c.index_mut-stream.result.now c.program.new.self c.args.dir c.in-Some.sub (slot_call (Program (place_at c.args.stream c.args.dir c.args.sub) c.args.set c.args.key c.args.draw c.match-program.result)) c.program.ensures.stream few.0 few.1)
+    (after-called c.self.inside.calls c.index_mut-stream.result.now c.program.new.self c.args.dir c.in-Some.sub (slot_call (Program (place_at c.args.stream c.args.dir c.args.sub) c.args.set c.args.key c.args.draw c.match-program.result))
+    c.program.ensures.stream few.0 few.1)
     (lends-none c.self.inside.streams.items) c.self.invariant.short c.self.invariant.room
 
 called : (c : goal.Joined-program) → IsCalled c.args.self.now

@@ -21,9 +21,12 @@ after c =
     let inside = c.self.inside in
     let u = c.args.packet.now.prefix.sub in
     record {
-      pr_is = own-after u Pr (packet c) c.take_in-taken.result inside.pr inside.npr inside.cpl c.take_in-taken.new.pr c.drop_failed.new.lane inside.pr.kept.got c.take_in-taken.ensures.pr c.drop_failed.ensures.kept c.drop_failed.ensures.delivered c.drop_failed.ensures.rest;
-      npr_is = own-after u Npr (packet c) c.take_in-taken.result inside.pr inside.npr inside.cpl c.take_in-taken.new.npr c.drop_failed-2.new.lane inside.pr.kept.got c.take_in-taken.ensures.npr c.drop_failed-2.ensures.kept c.drop_failed-2.ensures.delivered c.drop_failed-2.ensures.rest;
-      cpl_is = own-after u Cpl (packet c) c.take_in-taken.result inside.pr inside.npr inside.cpl c.take_in-taken.new.cpl c.drop_failed-3.new.lane inside.pr.kept.got c.take_in-taken.ensures.cpl c.drop_failed-3.ensures.kept c.drop_failed-3.ensures.delivered c.drop_failed-3.ensures.rest;
+      pr_is = own-after u Pr (packet c) c.take_in-taken.result inside.pr inside.npr inside.cpl c.take_in-taken.new.pr c.drop_failed.new.lane inside.pr.kept.got c.take_in-taken.ensures.pr c.drop_failed.ensures.kept
+          c.drop_failed.ensures.delivered c.drop_failed.ensures.rest;
+      npr_is = own-after u Npr (packet c) c.take_in-taken.result inside.pr inside.npr inside.cpl c.take_in-taken.new.npr c.drop_failed-2.new.lane inside.pr.kept.got c.take_in-taken.ensures.npr c.drop_failed-2.ensures.kept
+          c.drop_failed-2.ensures.delivered c.drop_failed-2.ensures.rest;
+      cpl_is = own-after u Cpl (packet c) c.take_in-taken.result inside.pr inside.npr inside.cpl c.take_in-taken.new.cpl c.drop_failed-3.new.lane inside.pr.kept.got c.take_in-taken.ensures.cpl c.drop_failed-3.ensures.kept
+          c.drop_failed-3.ensures.delivered c.drop_failed-3.ensures.rest;
     }
 
 among : (c : goal.After-self-2-1) → here c ≡ taken_among (view c.self.inside.pr c.self.inside.npr c.self.inside.cpl c.self.inside.lent c.self.inside.takes) (packet c)

@@ -43,12 +43,15 @@ returns-clause-sent c s number stream class goes trusted =
     let said : c.push.new.self ≡ all_said x c.args.sub b d c.args.head.now c.args.payload.now c.args.t c.args.more =
     c.push.ensures
     ∙ (λ i. c.sync_cpl.ensures.sealed i ++ c.seal-packet.ensures.answer i ∷ [])
-    ∙ (λ i. (c.sync_npr.ensures.sealed i ++ sync_packets d Cpl (first i)) ++ measured (tlp_said (end_at (second i) c.args.sub) c.args.t c.args.more) (packet_at (second i) c.args.head.now c.args.payload.now (tlp_said (end_at (second i) c.args.sub) c.args.t c.args.more)) ∷ [])
-    ∙ (λ i. (c.new-sealed.ensures i ++ sync_packets b Npr x ++ sync_packets d Cpl (synced b Npr x)) ++ measured (tlp_said (end_at (synced d Cpl (synced b Npr x)) c.args.sub) c.args.t c.args.more) (packet_at (synced d Cpl (synced b Npr x)) c.args.head.now c.args.payload.now (tlp_said (end_at (synced d Cpl (synced b Npr x)) c.args.sub) c.args.t c.args.more)) ∷ []) in
+    ∙ (λ i. (c.sync_npr.ensures.sealed i ++ sync_packets d Cpl (first i)) ++ measured (tlp_said (end_at (second i) c.args.sub) c.args.t c.args.more) (packet_at (second i) c.args.head.now c.args.payload.now
+    (tlp_said (end_at (second i) c.args.sub) c.args.t c.args.more)) ∷ [])
+    ∙ (λ i. (c.new-sealed.ensures i ++ sync_packets b Npr x ++ sync_packets d Cpl (synced b Npr x)) ++ measured (tlp_said (end_at (synced d Cpl (synced b Npr x)) c.args.sub) c.args.t c.args.more) (packet_at (synced d Cpl (synced b Npr x))
+    c.args.head.now c.args.payload.now (tlp_said (end_at (synced d Cpl (synced b Npr x)) c.args.sub) c.args.t c.args.more)) ∷ []) in
     let bytes : c.seal-packet.new.out.items ≡ all_bytes x c.args.sub b d c.args.head.now c.args.payload.now c.args.t c.args.more c.args.out.now.items =
     c.seal-packet.ensures.bytes
     ∙ (λ i. c.sync_cpl.ensures.bytes i ++ packet_bytes (packet_at (second i) c.args.head.now c.args.payload.now (tlp_said (end_at (second i) c.args.sub) c.args.t c.args.more)))
-    ∙ (λ i. (c.sync_npr.ensures.bytes i ++ sync_bytes d Cpl (first i)) ++ packet_bytes (packet_at (synced d Cpl (synced b Npr x)) c.args.head.now c.args.payload.now (tlp_said (end_at (synced d Cpl (synced b Npr x)) c.args.sub) c.args.t c.args.more))) in
+    ∙ (λ i. (c.sync_npr.ensures.bytes i ++ sync_bytes d Cpl (first i)) ++ packet_bytes (packet_at (synced d Cpl (synced b Npr x)) c.args.head.now c.args.payload.now (tlp_said (end_at (synced d Cpl (synced b Npr x)) c.args.sub) c.args.t
+    c.args.more))) in
     let ends : c.seal-packet.new.self ≡ all_ends x c.args.sub b d c.args.head.now c.args.payload.now c.args.t c.args.more =
     c.seal-packet.ensures.lanes
     ∙ (λ i. sealed_ends (second i) c.args.head.now c.args.payload.now (tlp_said (end_at (second i) c.args.sub) c.args.t c.args.more)) in

@@ -14,7 +14,8 @@ returns-in-None-clause-sent c port number trusted side is_trusted =
     let inside = c.self.inside in
     let s = sending port inside.directions.tx.fixed.stream c.args.sub c.args.more trusted in
     let clear : refused (end_of inside.side inside.directions inside.calls) s ≡ None = sym c.refusal.ensures ∙ ap (option_map refusal_verdict) c.in-None.is in
-    subst (λ (e : StreamEnd). IsSent e c.args.head.now c.args.payload.now (sending port e.id c.args.sub c.args.more trusted) number (Ok c.send.result) c.args.out.now.items c.send.new.out.items (end_of inside.side (record inside.directions { tx = c.send.new.self }) (inside.calls + 1))) c.self.view_is
+    subst (λ (e : StreamEnd). IsSent e c.args.head.now c.args.payload.now (sending port e.id c.args.sub c.args.more trusted) number (Ok c.send.result) c.args.out.now.items c.send.new.out.items
+    (end_of inside.side (record inside.directions { tx = c.send.new.self }) (inside.calls + 1))) c.self.view_is
     (sent-so inside.side inside.directions inside.calls c.args.head.now c.args.payload.now s number c.send.result c.args.out.now.items c.send.new.out.items c.send.new.self clear
     (c.send.ensures.sent s number refl refl refl is_trusted))
 

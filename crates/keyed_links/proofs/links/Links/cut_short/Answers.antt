@@ -28,4 +28,5 @@ pub returns-else-length-bytes : goal.returns-else-length-bytes
 returns-else-length-bytes c =
     let past : nat_le c.args.length (length c.in-Some.bytes.now) ≡ false = grind (arith, nat_tests, c.if-length-bytes.false) in
     nothing_changes c.only-else-length-bytes.result c.args.self.now c.only-else-length-bytes.new.self (λ plan st. step_of plan st (Cut c.args.packet c.args.length)) c.only-else-length-bytes.ensures.links c.requires.bounded
-    (λ plan h links stands. cuts_past c.args.self.now plan c.args.packet c.args.length (record { port = c.in-Some.port; bytes = c.in-Some.bytes.now }) (sym c.in-Some.ensures) past ∙ ap (λ (w : Verdict). (w, links_state plan c.args.self.now)) (sym c.only-else-length-bytes.ensures.value))
+    (λ plan h links stands. cuts_past c.args.self.now plan c.args.packet c.args.length (record { port = c.in-Some.port; bytes = c.in-Some.bytes.now }) (sym c.in-Some.ensures) past
+    ∙ ap (λ (w : Verdict). (w, links_state plan c.args.self.now)) (sym c.only-else-length-bytes.ensures.value))

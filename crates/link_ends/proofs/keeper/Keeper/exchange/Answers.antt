@@ -23,7 +23,8 @@ returns-in-None-clause-exchange c = λ m0 l0 place id host device e a on st aski
     let number : c.exchange.result ≡ a.exchange = rw cur at c.exchange.ensures in
     let kept : lost_in c.args.loss a.exchange ≡ None = ap (λ n. lost_in c.args.loss n) (sym number) ∙ (sym c.lost_at.ensures ∙ c.in-None.is) in
     let d : IsDelivered l0 id a e c.deliver.new.device c.deref.result.now =
-    is_delivered m0 c.self.inside.manager l0 c.args.ends.now place id host device e a c.deliver.new.device c.deref.result.now on st' within (rw cur at c.deliver.ensures.device) (c.deref.ensures.value ∙ (rw cur at c.deliver.ensures.reply)) in
+    is_delivered m0 c.self.inside.manager l0 c.args.ends.now place id host device e a c.deliver.new.device c.deref.result.now on st' within (rw cur at c.deliver.ensures.device) (c.deref.ensures.value
+    ∙ (rw cur at c.deliver.ensures.reply)) in
     let judged = c.carried.ensures (request_asked a e.keeper) in
     exchange_ends m0 c.self.inside.manager c.take.new.self l0 c.args.ends.now (record { host = c.take.new.port; device = c.deliver.new.device }) place id host device e a c.args.loss c.take.result
     (judged_bytes (request_asked a e.keeper) c.deref.result.now) d.after on st'
@@ -41,7 +42,8 @@ returns-in-Some-Request-clause-exchange c = λ m0 l0 place id host device e a on
     asked_is c.self.inside.manager place e.keeper a asking' (keeper_read m0 c.self.inside.manager l0 c.args.ends.now place id host device e on st') asked in
     let number : c.exchange.result ≡ a.exchange = rw cur at c.exchange.ensures in
     let kept : lost_in c.args.loss a.exchange ≡ Some Request = ap (λ n. lost_in c.args.loss n) (sym number) ∙ (sym c.lost_at.ensures ∙ (c.in-Some-Request.is ∙ ap (λ k. Some k) c.in-Some-Request.field-0-is)) in
-    exchange_ends m0 c.self.inside.manager c.take-in-Some-Request.new.self l0 c.args.ends.now (record { host = c.take-in-Some-Request.new.port; device = c.args.ends.now.device }) place id host device e a c.args.loss c.take-in-Some-Request.result
+    exchange_ends m0 c.self.inside.manager c.take-in-Some-Request.new.self l0 c.args.ends.now (record { host = c.take-in-Some-Request.new.port; device = c.args.ends.now.device }) place id host device e a c.args.loss
+    c.take-in-Some-Request.result
     NotCarried e.device on st'
     (is_lost c.args.loss a.exchange (came_to l0.device.requester (request_asked a e.keeper) e.keeper.id a.draw e.device) e.device Request kept)
     (rw cur at c.take-in-Some-Request.ensures.outcome)
@@ -58,10 +60,13 @@ returns-in-Some-Reply-clause-exchange c = λ m0 l0 place id host device e a on s
     let number : c.exchange.result ≡ a.exchange = rw cur at c.exchange.ensures in
     let kept : lost_in c.args.loss a.exchange ≡ Some Reply = ap (λ n. lost_in c.args.loss n) (sym number) ∙ (sym c.lost_at.ensures ∙ (c.in-Some-Reply.is ∙ ap (λ k. Some k) c.in-Some-Reply.field-0-is)) in
     let d : IsDelivered l0 id a e c.deliver-in-Some-Reply.new.device c.deliver-in-Some-Reply.new.reply.items =
-    is_delivered m0 c.self.inside.manager l0 c.args.ends.now place id host device e a c.deliver-in-Some-Reply.new.device c.deliver-in-Some-Reply.new.reply.items on st' within (rw cur at c.deliver-in-Some-Reply.ensures.device) (rw cur at c.deliver-in-Some-Reply.ensures.reply) in
-    exchange_ends m0 c.self.inside.manager c.take-in-Some-Reply.new.self l0 c.args.ends.now (record { host = c.take-in-Some-Reply.new.port; device = c.deliver-in-Some-Reply.new.device }) place id host device e a c.args.loss c.take-in-Some-Reply.result
+    is_delivered m0 c.self.inside.manager l0 c.args.ends.now place id host device e a c.deliver-in-Some-Reply.new.device c.deliver-in-Some-Reply.new.reply.items on st' within (rw cur at c.deliver-in-Some-Reply.ensures.device)
+    (rw cur at c.deliver-in-Some-Reply.ensures.reply) in
+    exchange_ends m0 c.self.inside.manager c.take-in-Some-Reply.new.self l0 c.args.ends.now (record { host = c.take-in-Some-Reply.new.port; device = c.deliver-in-Some-Reply.new.device }) place id host device e a c.args.loss
+    c.take-in-Some-Reply.result
     NotCarried d.after on st'
-    (is_lost c.args.loss a.exchange (came_to l0.device.requester (request_asked a e.keeper) e.keeper.id a.draw e.device) e.device Reply kept ∙ ap (λ (x : Exchanged). let y : Exchanged = record { judged = NotCarried; device = x.device } in y) d.came)
+    (is_lost c.args.loss a.exchange (came_to l0.device.requester (request_asked a e.keeper) e.keeper.id a.draw e.device) e.device Reply kept ∙ ap (λ (x : Exchanged). let y : Exchanged = record { judged = NotCarried; device = x.device }
+    in y) d.came)
     (rw cur at c.take-in-Some-Reply.ensures.outcome)
     (rw cur at c.take-in-Some-Reply.ensures.manager)
     (rw cur at c.take-in-Some-Reply.ensures.calls)
@@ -88,5 +93,6 @@ returns-in-Some-Reply-clause-calls c =
     let there : IsSome (current c.self.inside.manager) = subst (λ (k : KeeperView). IsSome (current k.manager)) (sym c.self.view_is) c.requires in
     record {
       host = host_calls (current c.self.inside.manager) (λ (a : Current). calls_taken a carried.Lost) c.args.ends.now.host c.take-in-Some-Reply.new.port there c.take-in-Some-Reply.ensures.calls;
-      device = device_calls (current c.self.inside.manager) (λ (a : Current). spelling (request_asked a.asked a.stream)) (λ (a : Current). a.asked.draw) c.args.ends.now.device c.deliver-in-Some-Reply.new.device there c.deliver-in-Some-Reply.ensures.device;
+      device = device_calls (current c.self.inside.manager) (λ (a : Current). spelling (request_asked a.asked a.stream)) (λ (a : Current). a.asked.draw) c.args.ends.now.device c.deliver-in-Some-Reply.new.device there
+          c.deliver-in-Some-Reply.ensures.device;
     }

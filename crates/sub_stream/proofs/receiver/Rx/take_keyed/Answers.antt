@@ -45,12 +45,15 @@ answered : (c : goal.After-self-1) → Some c.take_under-taken.result ≡ answer
 unfolding packet held answer
 answered c =
     c.take_under-taken.ensures.answer
-    ∙ (λ i. answer_of (judged (begun_where_empty (c.keep_held.ensures i) (lent_front c.args.front) (c.units_in-units.ensures i + 1)).front c.args.allowed (live_with (c.units_in-units.ensures i) (c.keep_held.ensures i).packets (held c)) (packet c)))
+    ∙ (λ i. answer_of (judged (begun_where_empty (c.keep_held.ensures i) (lent_front c.args.front) (c.units_in-units.ensures i + 1)).front c.args.allowed (live_with (c.units_in-units.ensures i) (c.keep_held.ensures i).packets
+    (held c)) (packet c)))
 
-buffer : (c : goal.After-self-1) → BufferAfter (begun_where_empty (kept c.self.inside.holds c.self.inside.unit) (lent_front c.args.front) (units_of (packet c).prefix.k c.self.inside.zero c.self.inside.one + 1)) (live_with (units_of (packet c).prefix.k c.self.inside.zero c.self.inside.one) (kept c.self.inside.holds c.self.inside.unit).packets (held c)) (packet c) (answer c) c.take_under-taken.new.unit
+buffer : (c : goal.After-self-1) → BufferAfter (begun_where_empty (kept c.self.inside.holds c.self.inside.unit) (lent_front c.args.front) (units_of (packet c).prefix.k c.self.inside.zero c.self.inside.one + 1))
+    (live_with (units_of (packet c).prefix.k c.self.inside.zero c.self.inside.one) (kept c.self.inside.holds c.self.inside.unit).packets (held c)) (packet c) (answer c) c.take_under-taken.new.unit
 unfolding packet held answer
 buffer c =
-    let Left : ℕ × Gathered → Type 0 = λ y. BufferAfter (begun_where_empty y.1 (lent_front c.args.front) (y.0 + 1)) (live_with y.0 y.1.packets (held c)) (packet c) (judged (begun_where_empty y.1 (lent_front c.args.front) (y.0 + 1)).front c.args.allowed (live_with y.0 y.1.packets (held c)) (packet c)) c.take_under-taken.new.unit in
+    let Left : ℕ × Gathered → Type 0 = λ y. BufferAfter (begun_where_empty y.1 (lent_front c.args.front) (y.0 + 1)) (live_with y.0 y.1.packets (held c)) (packet c) (judged (begun_where_empty y.1 (lent_front c.args.front) (y.0 + 1)).front
+    c.args.allowed (live_with y.0 y.1.packets (held c)) (packet c)) c.take_under-taken.new.unit in
     subst Left (λ i. (c.units_in-units.ensures i, c.keep_held.ensures i)) c.take_under-taken.ensures.buffer
 
 tagless : (c : goal.After-self-1) → (packet c).prefix.m ≡ false → (packet c).tag ≡ []
@@ -75,7 +78,8 @@ returns-clause-answer c = answered c ∙ ap answer_of (sym (taken_is c))
 pub returns-clause-receiver : goal.returns-clause-receiver
 unfolding packet
 returns-clause-receiver c =
-    (λ i. view c.self.inside.stream c.self.inside.sub c.self.inside.mode (c.count_accepted.ensures.zero i) (c.count_accepted.ensures.one i) (c.count_accepted.ensures.slots i) (c.after-self-inside.ensures i) c.take_under-taken.new.unit (c.self.inside.takes + 1))
+    (λ i. view c.self.inside.stream c.self.inside.sub c.self.inside.mode (c.count_accepted.ensures.zero i) (c.count_accepted.ensures.one i) (c.count_accepted.ensures.slots i) (c.after-self-inside.ensures i) c.take_under-taken.new.unit
+    (c.self.inside.takes + 1))
     ∙ view-answered c.self.inside.stream c.self.inside.sub c.self.inside.mode c.self.inside.zero c.self.inside.one c.self.inside.slots c.self.inside.holds c.self.inside.unit c.take_under-taken.new.unit c.self.inside.takes
     (lent_front c.args.front) (packet c) (held c) c.take_under-taken.result (answer c) (key c)
     (not_apart c.self.inside.holds (length c.self.inside.unit.packets) c.self.inside.mode (packet c).prefix.k (packet c).prefix.m (fits c)) (tagless c) (judged_so c) (answered c) (buffer c)

@@ -10,14 +10,16 @@ returns-in-Ok-clause-slots c =
     let at : lane_at c.args.stream c.args.dir c.args.sub ≡ Some c.in-Some.lane = sym c.lane.ensures ∙ c.in-Some.is in
     let small : c.in-Some.lane < 6 = lane_small c.args.stream c.args.dir c.args.sub c.in-Some.lane at in
     let lt : c.in-Some.lane < length c.args.self.now.slots = omega arith in
-    moved_at c.args.self.now.slots (λ q. c.args.self.now.unfinished) (Program (place_at c.args.stream c.args.dir c.args.sub) c.args.set c.args.key c.args.draw (Ok tt)) c.args.stream c.args.dir c.args.sub c.in-Some.lane c.index-self-lane.result _ at refl lt c.index-self-lane.is c.program.ensures.slots
+    moved_at c.args.self.now.slots (λ q. c.args.self.now.unfinished) (Program (place_at c.args.stream c.args.dir c.args.sub) c.args.set c.args.key c.args.draw (Ok tt)) c.args.stream c.args.dir c.args.sub c.in-Some.lane
+    c.index-self-lane.result _ at refl lt c.index-self-lane.is c.program.ensures.slots
 
 pub returns-in-Err-clause-slots : goal.returns-in-Err-clause-slots
 returns-in-Err-clause-slots c =
     let at : lane_at c.args.stream c.args.dir c.args.sub ≡ Some c.in-Some.lane = sym c.lane.ensures ∙ c.in-Some.is in
     let small : c.in-Some.lane < 6 = lane_small c.args.stream c.args.dir c.args.sub c.in-Some.lane at in
     let lt : c.in-Some.lane < length c.args.self.now.slots = omega arith in
-    moved_at c.args.self.now.slots (λ q. c.args.self.now.unfinished) (Program (place_at c.args.stream c.args.dir c.args.sub) c.args.set c.args.key c.args.draw (Err (OnlyLive c.in-Err.field-0.key))) c.args.stream c.args.dir c.args.sub c.in-Some.lane c.index-self-lane.result _ at refl lt c.index-self-lane.is c.program.ensures.slots
+    moved_at c.args.self.now.slots (λ q. c.args.self.now.unfinished) (Program (place_at c.args.stream c.args.dir c.args.sub) c.args.set c.args.key c.args.draw (Err (OnlyLive c.in-Err.field-0.key))) c.args.stream c.args.dir c.args.sub
+    c.in-Some.lane c.index-self-lane.result _ at refl lt c.index-self-lane.is c.program.ensures.slots
 
 pub returns-in-Err-clause-answer : goal.returns-in-Err-clause-answer
 returns-in-Err-clause-answer c =
