@@ -6,7 +6,7 @@ use Rattle.std.proofs.lemmas.List.{drop_all}
 use Rattle.std.specs.Int.{w32, to_be_bytes}
 use Rattle.aes_block.specs.Field.{times}
 use Rattle.aes_block.specs.Aes.{sbox, mixed, word_byte, add_round_key, mix_columns, shift_rows, sub_bytes}
-use Rattle.aes_block.specs.Words.{word_of, mixed_word, spread}
+use Rattle.aes_block.specs.Inside.{word_of, mixed_word, spread}
 use Rattle.aes_block.proofs.Blocks.{IsByte}
 use Rattle.aes_block.proofs.Entries.{times-lt, sbox-lt, word0, word1, word2, word3}
 

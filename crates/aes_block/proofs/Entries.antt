@@ -4,7 +4,7 @@ use Rattle.std.proofs.lemmas.Bool.{and_parts, cases_lt, eqb-true, ltb-true}
 use Rattle.aes_block.specs.declared.tables.TheConstants.{SBOX, TABLES}
 use Rattle.aes_block.specs.Field.{times, inverse}
 use Rattle.aes_block.specs.Aes.{sbox}
-use Rattle.aes_block.specs.Words.{word_of}
+use Rattle.aes_block.specs.Inside.{word_of}
 
 -- the test holds of each number below n
 abbrev pub all_below : (ℕ → Bool) → ℕ → Bool

@@ -1,11 +1,11 @@
-//! The block cipher AES-256 (FIPS 197).
+//! The block cipher AES-256 (FIPS 197 of 2001, whose sections are cited).
 //!
 //! Only what the cipher computes is proved. Nothing is claimed of secrecy: its time and the entries
 //! of its tables that it reads depend on the key and on the block.
 #![tactic(auto)]
 
 ghost use Rattle.std.specs.Prelude.{◌≡◌, ℕ, List, [], ◌∷◌, ◌<◌, bit_xor};
-ghost use Rattle.aes_block.specs.Words.{AreRoundKeys, mixed_word, spread, word_of, words_of};
+ghost use Rattle.aes_block.specs.Inside.{AreRoundKeys, mixed_word, spread, word_of, words_of};
 ghost use Rattle.aes_block.specs.Aes.{add_round_key, aes, mix_columns, round_words, sbox, shift_rows, sub_bytes, sub_word, temp, word_byte};
 
 mod tables;

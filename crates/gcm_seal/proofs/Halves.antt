@@ -5,7 +5,7 @@ use Rattle.std.proofs.lemmas.Nat.{xor_comm, xor_mod, shr-shr, mod_below, and_mas
 use lib.Bits.{xor_assoc, xor_shifted, xor_zero_l}
 use Rattle.aes_block.proofs.Entries.{all_below}
 use Rattle.gcm_seal.specs.Polynomials.{bits}
-use Rattle.gcm_seal.specs.Fold.{step_x, act, raised, times, AreMultiples}
+use Rattle.gcm_seal.specs.Inside.{step_x, act, raised, block_product, AreMultiples}
 use Rattle.gcm_seal.proofs.Ring.{term, xor_four, step_x-xor, step_x-even, step_x-zero, length-bits}
 use Rattle.gcm_seal.proofs.Linear.{IsLinear, linear-sum, linear-after, linear-down, linear-up, linear_same}
 
@@ -171,8 +171,8 @@ halves-next m h v i z w are even held =
     ∙ xor_four a' (raised 64 b') (raised 4 k) (raised 4 (raised 64 l))
     ∙ sym (λ j. bit_xor (high j) ((ap (raised 64) low ∙ raised-xor 64 b' (raised 4 l) ∙ ap (bit_xor (raised 64 b')) (raised-turn 64 4 l)) j))
 
-pub halves-whole : (v h : ℕ) → halves 16 v h ≡ times h v
-unfolding times
+pub halves-whole : (v h : ℕ) → halves 16 v h ≡ block_product h v
+unfolding block_product
 halves-whole v h = sym (act-bits_append 64 64 v h)
 
 -- ---- the bits of w that are not yet shifted in

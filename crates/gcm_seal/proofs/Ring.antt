@@ -12,7 +12,7 @@ use Rattle.gcm_seal.specs.Gcm.{sum_of_products, ghash, blocks, hash_input}
 use Rattle.gcm_seal.proofs.Strings.{hashed_blocks}
 use Rattle.std.specs.Int.{div_ceil}
 use Rattle.std.proofs.lemmas.List.Sums.{fold-append}
-use Rattle.gcm_seal.specs.Fold.{step_x, act, times, absorbed, padded_blocks}
+use Rattle.gcm_seal.specs.Inside.{step_x, act, block_product, absorbed, padded_blocks}
 
 -- ---- xor
 
@@ -320,18 +320,18 @@ remainder-act p =
 -- ---- GHASH
 
 -- the product of two blocks, the other way round
-times-act : (h v : ℕ) → h < 2 ^ 128 → times h v ≡ act (polynomial h) (act (polynomial v) one)
-unfolding times
+times-act : (h v : ℕ) → h < 2 ^ 128 → block_product h v ≡ act (polynomial h) (act (polynomial v) one)
+unfolding block_product
 times-act h v lt =
     ap (act (polynomial v)) (sym (act-polynomial h lt)) ∙ act-act (polynomial v) (polynomial h) one
 
-pub times-lt : (h v : ℕ) → h < 2 ^ 128 → times h v < 2 ^ 128
-unfolding times
+pub times-lt : (h v : ℕ) → h < 2 ^ 128 → block_product h v < 2 ^ 128
+unfolding block_product
 times-lt h v lt = act-lt (polynomial v) h lt
 
 -- h times the sum of y and x
 times-xor : (h y x : ℕ) → h < 2 ^ 128 → y < 2 ^ 128
-    → times h (bit_xor y x) ≡ bit_xor (act (polynomial h) y) (act (polynomial h) (act (polynomial x) one))
+    → block_product h (bit_xor y x) ≡ bit_xor (act (polynomial h) y) (act (polynomial h) (act (polynomial x) one))
 times-xor h y x hl yl =
     times-act h (bit_xor y x) hl
     ∙ rw (polynomial-xor y x, act-plus (polynomial y) (polynomial x) one, act-polynomial y yl) (act-xor (polynomial h) y (act (polynomial x) one))
@@ -344,8 +344,8 @@ absorbed-sum h (x ∷ xs) y hl yl =
     let p = power hp (length xs) in
     let w = act (polynomial x) one in
     let rest = act (sum_of_products h xs) one in
-    let more = absorbed-sum h xs (times h (bit_xor y x)) hl (times-lt h (bit_xor y x) hl) in
-    let turn : act p (times h (bit_xor y x)) ≡ bit_xor (act (product hp p) y) (act (product hp p) w) =
+    let more = absorbed-sum h xs (block_product h (bit_xor y x)) hl (times-lt h (bit_xor y x) hl) in
+    let turn : act p (block_product h (bit_xor y x)) ≡ bit_xor (act (product hp p) y) (act (product hp p) w) =
     rw (times-xor h y x hl yl, act-product hp p y, act-product hp p w, act-act hp p y, act-act hp p w) (act-xor p (act hp y) (act hp w)) in
     let head : act (product (polynomial x) (product hp p)) one ≡ act (product hp p) w =
     act-product (polynomial x) (product hp p) one ∙ act-act (polynomial x) (product hp p) one in
@@ -361,14 +361,14 @@ absorbed-ghash h xs hl =
 
 -- the hash of additional data a and a ciphertext c, in the code's order
 pub hashed-ghash : (h : ℕ) (a c : List ℕ) → h < 2 ^ 128 → 8 * length a < 2 ^ 64 → 8 * length c < 2 ^ 64
-    → times h (bit_xor (absorbed h (absorbed h 0 (padded_blocks a (div_ceil (length a) 16))) (padded_blocks c (div_ceil (length c) 16))) (8 * length a * 2 ^ 64 + 8 * length c))
+    → block_product h (bit_xor (absorbed h (absorbed h 0 (padded_blocks a (div_ceil (length a) 16))) (padded_blocks c (div_ceil (length c) 16))) (8 * length a * 2 ^ 64 + 8 * length c))
     ≡ ghash h (blocks (hash_input a c) (length (hash_input a c) / 16))
 hashed-ghash h a c hl ha hc =
-    let step = λ (y x : ℕ). times h (bit_xor y x) in
+    let step = λ (y x : ℕ). block_product h (bit_xor y x) in
     let p : List ℕ = padded_blocks a (div_ceil (length a) 16) in
     let q : List ℕ = padded_blocks c (div_ceil (length c) 16) in
     let n : ℕ = 8 * length a * 2 ^ 64 + 8 * length c in
-    sym (ap (ghash h) (hashed_blocks a c ha hc) ∙ sym (absorbed-ghash h (p ++ q ++ n ∷ []) hl) ∙ fold-append step 0 (p ++ q) (n ∷ []) ∙ ap (λ (y : ℕ). times h (bit_xor y n)) (fold-append step 0 p q))
+    sym (ap (ghash h) (hashed_blocks a c ha hc) ∙ sym (absorbed-ghash h (p ++ q ++ n ∷ []) hl) ∙ fold-append step 0 (p ++ q) (n ∷ []) ∙ ap (λ (y : ℕ). block_product h (bit_xor y n)) (fold-append step 0 p q))
 
 -- ---- the loop over the bits, lowest first
 

@@ -8,7 +8,7 @@ use Rattle.std.specs.Int.{div_ceil, w32, w64, w128, from_be_bytes, to_be_bytes}
 use Rattle.aes_block.specs.Aes.{aes}
 use Rattle.aes_block.proofs.Blocks.{length-aes}
 use Rattle.gcm_seal.specs.Gcm.{counter, masked, combined, key_stream, padding, hash_input, block, blocks}
-use Rattle.gcm_seal.specs.Fold.{padded_block, padded_blocks}
+use Rattle.gcm_seal.specs.Inside.{padded_block, padded_blocks}
 
 -- two strings with the same first 16 bytes spell the same block
 pub number_same : (a b : List ℕ) → ((k : ℕ) → k < 16 → slice_index a k ≡ slice_index b k) → from_be_bytes w128 a ≡ from_be_bytes w128 b

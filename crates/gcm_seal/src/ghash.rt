@@ -3,7 +3,7 @@
 ghost use Rattle.std.specs.Prelude.{◌≡◌, ℕ, ◌*◌, ◌<◌, ◌≤◌, bit_xor, length};
 ghost use Rattle.std.specs.Int.{div_ceil, from_be_bytes, w128};
 ghost use Rattle.gcm_seal.specs.Polynomials.{bits};
-ghost use Rattle.gcm_seal.specs.Fold.{AreMultiples, absorbed, act, padded_block, padded_blocks, raised, step_x, times};
+ghost use Rattle.gcm_seal.specs.Inside.{AreMultiples, absorbed, act, padded_block, padded_blocks, raised, step_x, block_product};
 
 use crate::MAX_BYTES;
 
@@ -52,7 +52,7 @@ fn reduced(z: u128, w: u128) -> u128
 // The product of h, whose multiples are `m`, and a block: 4 bits of each of its halves at a time, and
 // reduced at the end.
 pub fn times(m: &[u128; 16], v: u128) -> u128
-    ensures { (h : ℕ) → AreMultiples h m.now → result ≡ times h v }
+    ensures { (h : ℕ) → AreMultiples h m.now → result ≡ block_product h v }
 {
     let mut z = 0u128;
     let mut w = 0u128;

@@ -9,7 +9,7 @@
 ghost use Rattle.std.specs.Prelude.{◌≡◌, ℕ, List, ◌+◌, ◌*◌, ◌^◌, ◌<◌, ◌≤◌, length};
 ghost use Rattle.aes_block.specs.Aes.{aes};
 ghost use Rattle.gcm_seal.specs.Gcm.{combined, counter, hash_key, masked, seal_of, tag_of, verifies};
-ghost use Rattle.gcm_seal.specs.Fold.{AreMultiples};
+ghost use Rattle.gcm_seal.specs.Inside.{AreMultiples};
 
 mod ghash;
 
@@ -99,7 +99,8 @@ impl Gcm {
     }
 
     /// Combines `buf` with the key stream from byte `from` of the plaintext on: bytes of the plaintext
-    /// become those of the ciphertext, and the other way round (SP 800-38D section 7.1, step 3).
+    /// become those of the ciphertext, and the other way round (GCTR of SP 800-38D section 6.5, for steps 3
+    /// of section 7.1 and 4 of 7.2). A ciphertext is masked only once `verify` holds of it (7.2, step 8).
     pub fn mask(&self, iv: &[u8; 12], from: u32, buf: &mut [u8])
         requires { from + length buf.old ≤ MAX_BYTES }
         ensures { buf.new ≡ masked self.now iv.now from buf.old }
@@ -138,7 +139,7 @@ impl Gcm {
     }
 
     /// Whether `tag` is the tag of additional data `a` and the ciphertext `c`, all 12 bytes of it (SP
-    /// 800-38D section 7.2, step 7).
+    /// 800-38D section 7.2, steps 5 to 8).
     pub fn verify(&self, iv: &[u8; 12], a: &[u8], c: &[u8], tag: &[u8; 12]) -> bool
         requires a_short { length a.now ≤ MAX_BYTES }
         requires c_short { length c.now ≤ MAX_BYTES }

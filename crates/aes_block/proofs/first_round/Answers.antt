@@ -1,6 +1,6 @@
 use Rattle.std.proofs.Common.{List, ℕ, ap, ◌∙◌}
 use Rattle.aes_block.specs.Aes.{add_round_key}
-use Rattle.aes_block.specs.Words.{spread}
+use Rattle.aes_block.specs.Inside.{spread}
 use Rattle.aes_block.proofs.Columns.{spread-first}
 use Rattle.aes_block.proofs.first_round.Goals as goal
 

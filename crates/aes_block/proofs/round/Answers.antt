@@ -1,6 +1,6 @@
 use Rattle.std.proofs.Common.{List, ℕ, ap, ◌∙◌}
 use Rattle.aes_block.specs.Aes.{add_round_key, mix_columns, shift_rows, sub_bytes}
-use Rattle.aes_block.specs.Words.{spread}
+use Rattle.aes_block.specs.Inside.{spread}
 use Rattle.aes_block.proofs.Columns.{spread-round}
 use Rattle.aes_block.proofs.round.Goals as goal
 

@@ -1,7 +1,7 @@
 use Rattle.std.proofs.Common.{◌≡◌, ◌<◌, ◌≤◌, ◌+◌, ◌*◌, length, sym, ap, ◌∙◌, arith, inl, inr}
 use Rattle.std.proofs.lemmas.Bool.{cases_lt}
 use Rattle.std.proofs.lemmas.List.{length-set, get_or-set_same, get_or-set_other}
-use Rattle.aes_block.specs.Words.{words_of}
+use Rattle.aes_block.specs.Inside.{words_of}
 use Rattle.aes_block.proofs.Columns.{four}
 use Rattle.aes_block.proofs.round_keys.Goals as goal
 

@@ -1,6 +1,6 @@
 use Rattle.std.proofs.Common.{◌≡◌, ◌<◌, ℕ, length, slice_index}
 use Rattle.aes_block.specs.Aes.{round_key}
-use Rattle.aes_block.specs.Words.{words_of}
+use Rattle.aes_block.specs.Inside.{words_of}
 use Rattle.aes_block.proofs.round_keys.Given as goal
 
 abbrev pub invariant-keys : goal.invariant-keys

@@ -1,6 +1,6 @@
 use Rattle.std.proofs.Common.{◌≡◌, ◌<◌, ◌*◌, ◌%◌, ◌^◌, length, refl, arith}
 use Rattle.gcm_seal.specs.Gcm.{tag_of, hash_key, counter}
-use Rattle.gcm_seal.specs.Fold.{AreMultiples}
+use Rattle.gcm_seal.specs.Inside.{AreMultiples}
 use Rattle.gcm_seal.proofs.Ring.{hashed-ghash}
 use Rattle.gcm_seal.proofs.Gcm.tag.Goals as goal
 

@@ -1,6 +1,6 @@
 use Rattle.std.proofs.Common.{◌≡◌, ℕ}
-use Rattle.gcm_seal.specs.Fold.{padded_blocks}
-use Rattle.gcm_seal.specs.Fold.{absorbed, AreMultiples}
+use Rattle.gcm_seal.specs.Inside.{padded_blocks}
+use Rattle.gcm_seal.specs.Inside.{absorbed, AreMultiples}
 use Rattle.gcm_seal.proofs.ghash.absorb.Given as goal
 
 abbrev pub invariant-loop-i : goal.invariant-loop-i

@@ -1,6 +1,6 @@
 use Rattle.std.proofs.Common.{◌≡◌}
 use Rattle.gcm_seal.specs.Polynomials.{bits}
-use Rattle.gcm_seal.specs.Fold.{act}
+use Rattle.gcm_seal.specs.Inside.{act}
 use Rattle.gcm_seal.proofs.ghash.multiple.Given as goal
 
 abbrev pub invariant-loop-i : goal.invariant-loop-i

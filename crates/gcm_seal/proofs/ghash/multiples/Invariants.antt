@@ -1,6 +1,6 @@
 use Rattle.std.proofs.Common.{◌≡◌, ◌<◌, ℕ, length, slice_index}
 use Rattle.gcm_seal.specs.Polynomials.{bits}
-use Rattle.gcm_seal.specs.Fold.{act}
+use Rattle.gcm_seal.specs.Inside.{act}
 use Rattle.gcm_seal.proofs.ghash.multiples.Given as goal
 
 abbrev pub invariant-loop-n : goal.invariant-loop-n

@@ -1,5 +1,5 @@
 use Rattle.std.proofs.Common.{◌≡◌, ◌-◌, ◌*◌, ◌/◌, ◌%◌, ◌^◌, ℕ, bit_xor}
-use Rattle.gcm_seal.specs.Fold.{raised, AreMultiples}
+use Rattle.gcm_seal.specs.Inside.{raised, AreMultiples}
 use Rattle.gcm_seal.proofs.Halves.{halves}
 use Rattle.gcm_seal.proofs.ghash.times.Given as goal
 

@@ -1,7 +1,7 @@
 use Rattle.std.proofs.Common.{◌*◌, ◌/◌, ◌%◌, ◌^◌, refl, eq-eqb}
 use Rattle.std.proofs.lemmas.Bool.{ne_eqb}
 use Rattle.std.proofs.lemmas.Nat.{xor_comm}
-use Rattle.gcm_seal.specs.Fold.{step_x}
+use Rattle.gcm_seal.specs.Inside.{step_x}
 use Rattle.gcm_seal.proofs.ghash.times_x.Goals as goal
 
 pub returns-then-b-eq1 : goal.returns-then-b-eq1
