@@ -103,7 +103,7 @@ fn event_text(alloc: Global, line: &[u8]) -> Result<String, Fail> {
 
 #[test]
 fn events(rt: HostRuntime) -> Result<(), Fail> {
-    let lines: [(&[u8], &str); 18] = [
+    let lines: [(&[u8], &str); 27] = [
         (b"pass 1", "Pass { packet: 1 }"),
         (b"  pass   0x1fA ", "Pass { packet: 506 }"),
         (b"pass 00000000000000000007", "Pass { packet: 7 }"),
@@ -123,12 +123,24 @@ fn events(rt: HostRuntime) -> Result<(), Fail> {
             "Arrive { port: PortName { side: Device, link: 7 }, bytes: Bytes { bytes: [] } }",
         ),
         (
+            b"arrive h0 92fF",
+            "Arrive { port: PortName { side: Host, link: 0 }, bytes: Bytes { bytes: [146, 255] } }",
+        ),
+        (
             b"send d0 0aFf",
             "Send { port: PortName { side: Device, link: 0 }, bytes: Bytes { bytes: [10, 255] }, more: false, trusted: false }",
         ),
         (
             b"send d0 - more",
             "Send { port: PortName { side: Device, link: 0 }, bytes: Bytes { bytes: [] }, more: true, trusted: false }",
+        ),
+        (
+            b"send h2 01",
+            "Send { port: PortName { side: Host, link: 2 }, bytes: Bytes { bytes: [1] }, more: false, trusted: false }",
+        ),
+        (
+            b"send h2 01 more",
+            "Send { port: PortName { side: Host, link: 2 }, bytes: Bytes { bytes: [1] }, more: true, trusted: false }",
         ),
         (
             b"send h1 00 trusted",
@@ -143,8 +155,26 @@ fn events(rt: HostRuntime) -> Result<(), Fail> {
             "Establish { link: 0, stream: 5, lose: None }",
         ),
         (
+            b"establish 0 5 lose 2 request",
+            "Establish { link: 0, stream: 5, lose: Some(Loss { exchange: 2, lost: Request }) }",
+        ),
+        (
+            b"establish 1 6 lose 3 reply",
+            "Establish { link: 1, stream: 6, lose: Some(Loss { exchange: 3, lost: Reply }) }",
+        ),
+        (b"refresh 1 6", "Refresh { link: 1, stream: 6, lose: None }"),
+        (
+            b"refresh 1 6 lose 4 request",
+            "Refresh { link: 1, stream: 6, lose: Some(Loss { exchange: 4, lost: Request }) }",
+        ),
+        (
             b"refresh 300 0x100 lose 9 reply",
             "Refresh { link: 300, stream: 256, lose: Some(Loss { exchange: 9, lost: Reply }) }",
+        ),
+        (b"stop 1 6", "Stop { link: 1, stream: 6, lose: None }"),
+        (
+            b"stop 1 6 lose 2 reply",
+            "Stop { link: 1, stream: 6, lose: Some(Loss { exchange: 2, lost: Reply }) }",
         ),
         (
             b"stop 0 5 lose 1 request",
