@@ -1,3 +1,5 @@
 pub mod Choice
 pub mod Ways
-pub use Rattle.association.specs.Choice.{choice_of, chosen}
+-- what clauses and crates above cite
+pub use Rattle.association.specs.Choice.{chosen}
+unfoldable pub use Rattle.association.specs.Choice.{choice_of}

@@ -1,4 +1,5 @@
--- The reading of packets is that of the grammar.
+-- The reading of packets is that of the grammar: the lengths of a packet's parts are read from its prefix and its header,
+-- and cutting by them gives the parts back, so first_fault's law of readings holds.
 use Rattle.std.proofs.Common.{◌≡◌, ℕ, ◌≤◌, Bool, true, false, cond, List, ◌++◌, length, get_or, take, drop, Result, Ok, Err, refl, sym, ap, subst, ◌∙◌, inl, inr, arith, true≢false}
 use Rattle.std.specs.Prelude.{◌↔◌, IfOk, IfErr, MatchResult}
 use Rattle.std.proofs.Math.Seq.{drop-append_seam, take-append_seam}

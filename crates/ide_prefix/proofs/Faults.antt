@@ -23,8 +23,8 @@ use denote.Ref.{Bor}
 use Rattle.std.proofs.lemmas.Bool.{cases_lt, cases_eq, cases_Bool, ltb-true, lt-ltb, le-ltb, eq-eqb, eqb-true, ne_eqb, and_from, true≢false}
 use Rattle.std.proofs.lemmas.List.{nil_from_length}
 use Rattle.tlp_layout.specs.declared.layout.Layout.{Layout}
-use Rattle.ide_types.specs.declared.sub.SubKind.{SubKind}
 use Rattle.tlp_layout.specs.declared.head.HeadView.{HeadView}
+use Rattle.ide_types.specs.declared.sub.SubKind.{SubKind}
 use Rattle.tlp_layout.specs.Head.{IsHead, head_bytes}
 use Rattle.first_fault.proofs.Fronts.{Walks, Halts, place_of, halts_of, walks_take}
 use Rattle.tlp_layout.proofs.Grammar.{heads, is_right, walked_of, rest_front}

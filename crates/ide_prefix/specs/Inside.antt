@@ -1,8 +1,8 @@
 -- What the reader's inner functions show of the bytes.
 use Rattle.std.specs.Prelude.{◌≡◌, ℕ, ◌+◌, ◌<◌, ◌≤◌, true, false, List, length, take, drop, slice_index, if◌then◌else◌}
 use Rattle.tlp_layout.specs.declared.fault.TlpFault.{TlpFault}
-use Rattle.tlp_layout.specs.declared.fault.TlpFault.TheVariants as tlps
 use Rattle.tlp_layout.specs.declared.head.HeadView.{HeadView}
+use Rattle.tlp_layout.specs.declared.fault.TlpFault.TheVariants as tlps
 use Rattle.tlp_layout.specs.Head.{SpellsHead}
 use Rattle.tlp_layout.specs.Tlp.{body_size}
 use Rattle.tlp_layout.specs.Causes.{head_size}

@@ -7,6 +7,12 @@ pub mod Cut
 pub mod Inside
 pub mod Iv
 -- what clauses and crates above cite
+pub use Rattle.ide_types.specs.Sub.{sub_bits}
+pub use Rattle.first_fault.specs.Fronts.{Begins, IsFaultPlace}
+pub use Rattle.tlp_layout.specs.Head.{SpellsHead}
+pub use Rattle.tlp_layout.specs.Class.{class_of}
+pub use Rattle.tlp_layout.specs.Tlp.{body_size}
+unfoldable pub use Rattle.tlp_layout.specs.Reading.{read_head_of}
 pub use Rattle.ide_prefix.specs.declared.fault.PacketFault.{PacketFault}
 pub use Rattle.ide_prefix.specs.declared.packet.Prefix.{Prefix}
 pub use Rattle.ide_prefix.specs.declared.packet.PacketView.{PacketView}

@@ -4,13 +4,13 @@ use Rattle.std.specs.Fmt.{decimal}
 use Rattle.ide_types.specs.declared.sub.SubKind.{SubKind}
 use Rattle.ide_types.specs.declared.sub.SubKind.TheVariants.{Pr, Npr, Cpl}
 use Rattle.ide_types.specs.declared.sub.FailCause.{FailCause}
-use Rattle.ide_types.specs.declared.sub.FailCause.TheVariants as fail
 use Rattle.ide_types.specs.declared.fault_word.FaultWord.{FaultWord}
-use Rattle.ide_types.specs.declared.fault_word.FaultWord.TheVariants as fault
 use Rattle.ide_types.specs.declared.port.Side.{Side}
 use Rattle.ide_types.specs.declared.port.Side.TheVariants.{Host, Device}
 use Rattle.ide_types.specs.declared.port.PortName.{PortName}
 use Rattle.ide_types.specs.declared.status.StreamStatus.{StreamStatus}
+use Rattle.ide_types.specs.declared.sub.FailCause.TheVariants as fail
+use Rattle.ide_types.specs.declared.fault_word.FaultWord.TheVariants as fault
 use Rattle.ide_types.specs.declared.status.StreamStatus.TheVariants as status
 
 -- the bytes of a text
@@ -29,10 +29,10 @@ side_word Device = codes "d"
 abbrev pub port_word : PortName → Text
 port_word p = side_word p.side ++ decimal p.link
 
-abbrev pub sub_word : SubKind → Text
-sub_word Pr = codes "pr"
-sub_word Npr = codes "npr"
-sub_word Cpl = codes "cpl"
+abbrev pub substream_word : SubKind → Text
+substream_word Pr = codes "pr"
+substream_word Npr = codes "npr"
+substream_word Cpl = codes "cpl"
 
 abbrev pub fail_word : FailCause → Text
 fail_word fail.Key = codes "key"

@@ -9,20 +9,17 @@ use Rattle.ide_types.specs.declared.port.Side.{Side}
 use Rattle.ide_types.specs.declared.port.Side.TheVariants.{Host, Device}
 use Rattle.ide_types.specs.declared.port.PortName.{PortName}
 use Rattle.ide_types.specs.Names.{Text}
-use Rattle.link_events.specs.declared.event.Event.{Event}
-use Rattle.link_events.specs.declared.event.Event.TheVariants.{Establish, Refresh, Stop, Send, Pass, Alter, Cut, Arrive, Dump, Reset, Status}
-use Rattle.link_events.specs.declared.event.Loss.{Loss}
-use Rattle.link_events.specs.declared.fault.LineFault.{LineFault}
-use Rattle.link_events.specs.declared.fault.LineFault.TheVariants as fault
+use Rattle.link_events.specs.Terms.{Event, Establish, Refresh, Stop, Send, Pass, Alter, Cut, Arrive, Dump, Reset, Status, Loss, LineFault}
+use Rattle.link_events.specs.Terms.fault
 use Rattle.link_events.specs.Words.{is_printable, words_in, number_in, mask_in, bytes_in, port_in, lost_in}
 use Rattle.link_events.specs.Parse.{◌>>=◌, lost_exchange_in, loss_in, operation_in, marks_in, send_in, one_number_in, two_numbers_in, alter_in, arrive_in, event_by, event_in, is_comment}
-use Rattle.link_events.specs.Faults.{Place, table, is_at_host, is_trusted_at, number_place, mask_place, bytes_place, port_place, lost_place, word_place, trusted_place, mark_place, operation_places, send_places, arrive_places, number_places, two_number_places, alter_places, FirstOff, RowFault, TableFault, WordsFault, FirstFault, FaultsAreFirst}
+use Rattle.link_events.specs.Faults.{WordTest, event_table, is_at_host, is_trusted_at, number_test, mask_test, bytes_test, port_test, lost_test, word_test, trusted_test, mark_test, operation_tests, send_tests, arrive_tests, number_tests, two_number_tests, alter_tests, FirstOff, RowFault, TableFault, WordsFault, FirstFault, FaultsAreFirst}
 use Rattle.link_events.proofs.Steps.{ok_err, err_err, false_true}
 
 -- ---- one way: a reading that ends in a fault ends in the first
 
 -- the reading of these words ends in a fault exactly where that is the first off these places
-abbrev Reads : {A : Type 0} → List Place → List Text → Result A LineFault → Type 0
+abbrev Reads : {A : Type 0} → List WordTest → List Text → Result A LineFault → Type 0
 Reads places words answer = (f : LineFault) → (answer ≡ Err f) ↔ FirstOff places words f
 
 -- all words are spelled
@@ -30,7 +27,7 @@ end_reads : {A : Type 0} (x : A) → Reads [] [] (Ok x)
 end_reads x f = (ok_err x f, λ off. absurd off)
 
 -- a word that is read in its place, and what follows
-step_reads : {A B : Type 0} (p : Place) (o : Option A) (w : Text) (ps : List Place) (ws : List Text) (k : A → Result B LineFault)
+step_reads : {A B : Type 0} (p : WordTest) (o : Option A) (w : Text) (ps : List WordTest) (ws : List Text) (k : A → Result B LineFault)
     → p.is_spelled w ≡ is_some o → ((x : A) → o ≡ Some x → Reads ps ws (k x)) → Reads (p ∷ ps) (w ∷ ws) (ok_or o p.fault >>= k)
 step_reads p None w ps ws k is later f = (
   λ e. inl (is, err_err p.fault f e),
@@ -48,7 +45,7 @@ step_reads p (Some x) w ps ws k is later f = (
 )
 
 -- the last word
-last_reads : {A : Type 0} (p : Place) (o : Option A) (w : Text) → p.is_spelled w ≡ is_some o → Reads (p ∷ []) (w ∷ []) (ok_or o p.fault)
+last_reads : {A : Type 0} (p : WordTest) (o : Option A) (w : Text) → p.is_spelled w ≡ is_some o → Reads (p ∷ []) (w ∷ []) (ok_or o p.fault)
 last_reads p None w is f = (
   λ e. inl (is, err_err p.fault f e),
   λ off. elim off [
@@ -67,57 +64,57 @@ last_reads p (Some x) w is f = (
 -- ---- the words behind the first
 
 -- the reading of the words ends in a fault exactly where that is the first off the event's places
-abbrev RowReads : {A : Type 0} → Option (List Place) → List Text → Result A LineFault → Type 0
+abbrev RowReads : {A : Type 0} → Option (List WordTest) → List Text → Result A LineFault → Type 0
 RowReads places words answer = (f : LineFault) → (answer ≡ Err f) ↔ RowFault places words f
 
 miscounted : {A : Type 0} (words : List Text) → RowReads {A = A} None words (Err fault.Count)
 miscounted words f = (err_err fault.Count f, ap Err)
 
 -- an event is made of what was read
-made_reads : {A : Type 0} (places : Option (List Place)) (words : List Text) (x : Result A LineFault) (event : A → Event)
+made_reads : {A : Type 0} (places : Option (List WordTest)) (words : List Text) (x : Result A LineFault) (event : A → Event)
     → RowReads places words x → RowReads places words (x >>= λ a. Ok (event a))
 made_reads places words (Ok a) event each f = (λ e. absurd (ok_err (event a) f e), λ off. absurd (ok_err a f ((each f).1 off)))
 made_reads places words (Err g) event each f = (λ e. (each f).0 (ap Err (err_err g f e)), λ off. ap Err (err_err g f ((each f).1 off)))
 
-one_number : (ws : List Text) → RowReads (number_places ws) ws (one_number_in ws)
+one_number : (ws : List Text) → RowReads (number_tests ws) ws (one_number_in ws)
 one_number [] = miscounted []
-one_number (n ∷ []) = last_reads number_place (number_in n) n refl
+one_number (n ∷ []) = last_reads number_test (number_in n) n refl
 one_number (n ∷ x ∷ ws) = miscounted (n ∷ x ∷ ws)
 
-two_numbers : (ws : List Text) → RowReads (two_number_places ws) ws (two_numbers_in ws)
+two_numbers : (ws : List Text) → RowReads (two_number_tests ws) ws (two_numbers_in ws)
 two_numbers [] = miscounted []
 two_numbers (m ∷ []) = miscounted (m ∷ [])
 two_numbers (m ∷ n ∷ []) =
-    step_reads number_place (number_in m) m (number_place ∷ []) (n ∷ []) (λ x. ok_or (number_in n) fault.Number >>= λ y. Ok (x, y)) refl (λ x is.
-    step_reads number_place (number_in n) n [] [] (λ y. Ok (x, y)) refl (λ y too. end_reads (x, y)))
+    step_reads number_test (number_in m) m (number_test ∷ []) (n ∷ []) (λ x. ok_or (number_in n) fault.Number >>= λ y. Ok (x, y)) refl (λ x is.
+    step_reads number_test (number_in n) n [] [] (λ y. Ok (x, y)) refl (λ y too. end_reads (x, y)))
 two_numbers (m ∷ n ∷ x ∷ ws) = miscounted (m ∷ n ∷ x ∷ ws)
 
-alter : (ws : List Text) → RowReads (alter_places ws) ws (alter_in ws)
+alter : (ws : List Text) → RowReads (alter_tests ws) ws (alter_in ws)
 alter [] = miscounted []
 alter (n ∷ []) = miscounted (n ∷ [])
 alter (n ∷ a ∷ []) = miscounted (n ∷ a ∷ [])
 alter (n ∷ a ∷ h ∷ []) =
-    step_reads number_place (number_in n) n (number_place ∷ mask_place ∷ []) (a ∷ h ∷ []) (λ x. ok_or (number_in a) fault.Number >>= λ y. ok_or (mask_in h) fault.Hex >>= λ z. Ok (Alter x y z)) refl (λ x is.
-    step_reads number_place (number_in a) a (mask_place ∷ []) (h ∷ []) (λ y. ok_or (mask_in h) fault.Hex >>= λ z. Ok (Alter x y z)) refl (λ y too.
-    step_reads mask_place (mask_in h) h [] [] (λ z. Ok (Alter x y z)) refl (λ z last. end_reads (Alter x y z))))
+    step_reads number_test (number_in n) n (number_test ∷ mask_test ∷ []) (a ∷ h ∷ []) (λ x. ok_or (number_in a) fault.Number >>= λ y. ok_or (mask_in h) fault.Hex >>= λ z. Ok (Alter x y z)) refl (λ x is.
+    step_reads number_test (number_in a) a (mask_test ∷ []) (h ∷ []) (λ y. ok_or (mask_in h) fault.Hex >>= λ z. Ok (Alter x y z)) refl (λ y too.
+    step_reads mask_test (mask_in h) h [] [] (λ z. Ok (Alter x y z)) refl (λ z last. end_reads (Alter x y z))))
 alter (n ∷ a ∷ h ∷ x ∷ ws) = miscounted (n ∷ a ∷ h ∷ x ∷ ws)
 
-arrive : (ws : List Text) → RowReads (arrive_places ws) ws (arrive_in ws)
+arrive : (ws : List Text) → RowReads (arrive_tests ws) ws (arrive_in ws)
 arrive [] = miscounted []
 arrive (p ∷ []) = miscounted (p ∷ [])
 arrive (p ∷ w ∷ []) =
-    step_reads port_place (port_in p) p (bytes_place ∷ []) (w ∷ []) (λ x. ok_or (bytes_in w) fault.Hex >>= λ y. Ok (Arrive x y)) refl (λ x is.
-    step_reads bytes_place (bytes_in w) w [] [] (λ y. Ok (Arrive x y)) refl (λ y too. end_reads (Arrive x y)))
+    step_reads port_test (port_in p) p (bytes_test ∷ []) (w ∷ []) (λ x. ok_or (bytes_in w) fault.Hex >>= λ y. Ok (Arrive x y)) refl (λ x is.
+    step_reads bytes_test (bytes_in w) w [] [] (λ y. Ok (Arrive x y)) refl (λ y too. end_reads (Arrive x y)))
 arrive (p ∷ w ∷ x ∷ ws) = miscounted (p ∷ w ∷ x ∷ ws)
 
 -- ---- operations
 
 -- a word that is to be this one, and what follows
-word_reads : {A : Type 0} (word w : Text) (ps : List Place) (ws : List Text) (rest : Result A LineFault) (k : A → Result (ℕ × ℕ × Option Loss) LineFault)
-    → Reads ps ws (rest >>= k) → Reads (word_place word ∷ ps) (w ∷ ws) ((if bytes_eq w word then rest else Err fault.Word) >>= k)
+word_reads : {A : Type 0} (word w : Text) (ps : List WordTest) (ws : List Text) (rest : Result A LineFault) (k : A → Result (ℕ × ℕ × Option Loss) LineFault)
+    → Reads ps ws (rest >>= k) → Reads (word_test word ∷ ps) (w ∷ ws) ((if bytes_eq w word then rest else Err fault.Word) >>= k)
 word_reads word w ps ws rest k later = by_test (bytes_eq w word) refl
   where
-    by_test : (b : Bool) → bytes_eq w word ≡ b → Reads (word_place word ∷ ps) (w ∷ ws) ((if b then rest else Err fault.Word) >>= k)
+    by_test : (b : Bool) → bytes_eq w word ≡ b → Reads (word_test word ∷ ps) (w ∷ ws) ((if b then rest else Err fault.Word) >>= k)
     by_test false is f = (
       λ e. inl (is, err_err fault.Word f e),
       λ off. elim off [
@@ -138,30 +135,30 @@ associated : {A B C : Type 0} (x : Option A) (c : LineFault) (g : A → Result B
 associated None c g k = refl
 associated (Some a) c g k = refl
 
-reads_same : {A : Type 0} (ps : List Place) (ws : List Text) (x y : Result A LineFault) → x ≡ y → Reads ps ws y → Reads ps ws x
+reads_same : {A : Type 0} (ps : List WordTest) (ws : List Text) (x y : Result A LineFault) → x ≡ y → Reads ps ws y → Reads ps ws x
 reads_same ps ws x y same reads = subst (λ z. Reads ps ws z) (sym same) reads
 
-lost : {A : Type 0} (n w : Text) (k : Option Loss → A) → Reads (number_place ∷ lost_place ∷ []) (n ∷ w ∷ []) (lost_exchange_in n w >>= λ z. Ok (k z))
+lost : {A : Type 0} (n w : Text) (k : Option Loss → A) → Reads (number_test ∷ lost_test ∷ []) (n ∷ w ∷ []) (lost_exchange_in n w >>= λ z. Ok (k z))
 lost n w k =
     let made : ℕ → Result (Option Loss) LineFault = λ i. ok_or (lost_in w) fault.Word >>= λ o. Ok (Some (record { exchange = i; lost = o })) in
-    reads_same (number_place ∷ lost_place ∷ []) (n ∷ w ∷ []) _ _ (associated (number_in n) fault.Number made (λ z. Ok (k z)))
-    (step_reads number_place (number_in n) n (lost_place ∷ []) (w ∷ []) (λ i. made i >>= λ z. Ok (k z)) refl (λ i is.
-    reads_same (lost_place ∷ []) (w ∷ []) _ _ (associated (lost_in w) fault.Word (λ o. Ok (Some (record { exchange = i; lost = o }))) (λ z. Ok (k z)))
-    (step_reads lost_place (lost_in w) w [] [] (λ o. Ok (k (Some (record { exchange = i; lost = o })))) refl (λ o too. end_reads (k (Some (record { exchange = i; lost = o })))))))
+    reads_same (number_test ∷ lost_test ∷ []) (n ∷ w ∷ []) _ _ (associated (number_in n) fault.Number made (λ z. Ok (k z)))
+    (step_reads number_test (number_in n) n (lost_test ∷ []) (w ∷ []) (λ i. made i >>= λ z. Ok (k z)) refl (λ i is.
+    reads_same (lost_test ∷ []) (w ∷ []) _ _ (associated (lost_in w) fault.Word (λ o. Ok (Some (record { exchange = i; lost = o }))) (λ z. Ok (k z)))
+    (step_reads lost_test (lost_in w) w [] [] (λ o. Ok (k (Some (record { exchange = i; lost = o })))) refl (λ o too. end_reads (k (Some (record { exchange = i; lost = o })))))))
 
-operation : (ws : List Text) → RowReads (operation_places ws) ws (operation_in ws)
+operation : (ws : List Text) → RowReads (operation_tests ws) ws (operation_in ws)
 operation [] = miscounted []
 operation (l ∷ []) = miscounted (l ∷ [])
 operation (l ∷ s ∷ []) =
-    step_reads number_place (number_in l) l (number_place ∷ []) (s ∷ []) (λ x. ok_or (number_in s) fault.Number >>= λ y. Ok (x, y, None)) refl (λ x is.
-    step_reads number_place (number_in s) s [] [] (λ y. Ok (x, y, None)) refl (λ y too. end_reads (x, y, None)))
+    step_reads number_test (number_in l) l (number_test ∷ []) (s ∷ []) (λ x. ok_or (number_in s) fault.Number >>= λ y. Ok (x, y, None)) refl (λ x is.
+    step_reads number_test (number_in s) s [] [] (λ y. Ok (x, y, None)) refl (λ y too. end_reads (x, y, None)))
 operation (l ∷ s ∷ a ∷ []) = miscounted (l ∷ s ∷ a ∷ [])
 operation (l ∷ s ∷ a ∷ n ∷ []) = miscounted (l ∷ s ∷ a ∷ n ∷ [])
 operation (l ∷ s ∷ a ∷ n ∷ w ∷ []) =
-    step_reads number_place (number_in l) l (number_place ∷ word_place (codes "lose") ∷ number_place ∷ lost_place ∷ []) (s ∷ a ∷ n ∷ w ∷ [])
+    step_reads number_test (number_in l) l (number_test ∷ word_test (codes "lose") ∷ number_test ∷ lost_test ∷ []) (s ∷ a ∷ n ∷ w ∷ [])
     (λ x. ok_or (number_in s) fault.Number >>= λ y. loss_in (a ∷ n ∷ w ∷ []) >>= λ z. Ok (x, y, z)) refl (λ x is.
-    step_reads number_place (number_in s) s (word_place (codes "lose") ∷ number_place ∷ lost_place ∷ []) (a ∷ n ∷ w ∷ []) (λ y. loss_in (a ∷ n ∷ w ∷ []) >>= λ z. Ok (x, y, z)) refl (λ y too.
-    word_reads (codes "lose") a (number_place ∷ lost_place ∷ []) (n ∷ w ∷ []) (lost_exchange_in n w) (λ z. Ok (x, y, z)) (lost n w (λ z. (x, y, z)))))
+    step_reads number_test (number_in s) s (word_test (codes "lose") ∷ number_test ∷ lost_test ∷ []) (a ∷ n ∷ w ∷ []) (λ y. loss_in (a ∷ n ∷ w ∷ []) >>= λ z. Ok (x, y, z)) refl (λ y too.
+    word_reads (codes "lose") a (number_test ∷ lost_test ∷ []) (n ∷ w ∷ []) (lost_exchange_in n w) (λ z. Ok (x, y, z)) (lost n w (λ z. (x, y, z)))))
 operation (l ∷ s ∷ a ∷ n ∷ w ∷ v ∷ ws) = miscounted (l ∷ s ∷ a ∷ n ∷ w ∷ v ∷ ws)
 
 -- ---- marks
@@ -189,11 +186,11 @@ never false = refl
 
 -- both marks are read as one
 marks_reads : (p m t : Text) (side : Side) (k : Bool × Bool → Event) → is_trusted_at p t ≡ (bytes_eq t (codes "trusted") && is_at_host side)
-    → Reads (word_place (codes "more") ∷ trusted_place p ∷ []) (m ∷ t ∷ []) (ok_or (marks_in side (m ∷ t ∷ [])) fault.Word >>= λ z. Ok (k z))
+    → Reads (word_test (codes "more") ∷ trusted_test p ∷ []) (m ∷ t ∷ []) (ok_or (marks_in side (m ∷ t ∷ [])) fault.Word >>= λ z. Ok (k z))
 marks_reads p m t Host k trusted = by_tests (bytes_eq m (codes "more")) (bytes_eq t (codes "trusted")) refl refl
   where
     by_tests : (b c : Bool) → bytes_eq m (codes "more") ≡ b → bytes_eq t (codes "trusted") ≡ c
-        → Reads (word_place (codes "more") ∷ trusted_place p ∷ []) (m ∷ t ∷ []) (ok_or (if b && c then Some (true, true) else None) fault.Word >>= λ z. Ok (k z))
+        → Reads (word_test (codes "more") ∷ trusted_test p ∷ []) (m ∷ t ∷ []) (ok_or (if b && c then Some (true, true) else None) fault.Word >>= λ z. Ok (k z))
     by_tests true true x y f = (
       λ e. absurd (ok_err (k (true, true)) f e),
       λ off. elim off [
@@ -224,7 +221,7 @@ marks_reads p m t Host k trusted = by_tests (bytes_eq m (codes "more")) (bytes_e
 marks_reads p m t Device k trusted = by_test (bytes_eq m (codes "more")) (bytes_eq t (codes "trusted")) refl refl
   where
     by_test : (b c : Bool) → bytes_eq m (codes "more") ≡ b → bytes_eq t (codes "trusted") ≡ c
-        → Reads {A = Event} (word_place (codes "more") ∷ trusted_place p ∷ []) (m ∷ t ∷ []) (Err fault.Word)
+        → Reads {A = Event} (word_test (codes "more") ∷ trusted_test p ∷ []) (m ∷ t ∷ []) (Err fault.Word)
     by_test true c x y f = (
       λ e. inr (x, inl (trusted ∙ (rw y (never c)), err_err fault.Word f e)),
       λ off. elim off [
@@ -244,32 +241,32 @@ marks_reads p m t Device k trusted = by_test (bytes_eq m (codes "more")) (bytes_
     )
 
 -- a port, bytes and marks
-sent : (p w : Text) (marks : List Text) (places : List Place)
+sent : (p w : Text) (marks : List Text) (places : List WordTest)
     → ((x : PortName) (bytes : List ℕ) → port_in p ≡ Some x → Reads places marks (ok_or (marks_in x.side marks) fault.Word >>= λ m. Ok (Send x bytes m.0 m.1)))
-    → Reads (port_place ∷ bytes_place ∷ places) (p ∷ w ∷ marks)
+    → Reads (port_test ∷ bytes_test ∷ places) (p ∷ w ∷ marks)
     (ok_or (port_in p) fault.Word >>= λ x. ok_or (bytes_in w) fault.Hex >>= λ y. ok_or (marks_in x.side marks) fault.Word >>= λ m. Ok (Send x y m.0 m.1))
 sent p w marks places later =
-    step_reads port_place (port_in p) p (bytes_place ∷ places) (w ∷ marks) (λ x. ok_or (bytes_in w) fault.Hex >>= λ y. ok_or (marks_in x.side marks) fault.Word >>= λ m. Ok (Send x y m.0 m.1)) refl (λ x is.
-    step_reads bytes_place (bytes_in w) w places marks (λ y. ok_or (marks_in x.side marks) fault.Word >>= λ m. Ok (Send x y m.0 m.1)) refl (λ y too. later x y is))
+    step_reads port_test (port_in p) p (bytes_test ∷ places) (w ∷ marks) (λ x. ok_or (bytes_in w) fault.Hex >>= λ y. ok_or (marks_in x.side marks) fault.Word >>= λ m. Ok (Send x y m.0 m.1)) refl (λ x is.
+    step_reads bytes_test (bytes_in w) w places marks (λ y. ok_or (marks_in x.side marks) fault.Word >>= λ m. Ok (Send x y m.0 m.1)) refl (λ y too. later x y is))
 
-send : (ws : List Text) → RowReads (send_places ws) ws (send_in ws)
+send : (ws : List Text) → RowReads (send_tests ws) ws (send_in ws)
 send [] = miscounted []
 send (p ∷ []) = miscounted (p ∷ [])
 send (p ∷ w ∷ []) = sent p w [] [] (λ x y is. end_reads (Send x y false false))
-send (p ∷ w ∷ m ∷ []) = sent p w (m ∷ []) (mark_place p ∷ []) (λ x y is.
-    step_reads (mark_place p) (marks_in x.side (m ∷ [])) m [] [] (λ z. Ok (Send x y z.0 z.1)) (rw is (one_mark x.side m)) (λ z too. end_reads (Send x y z.0 z.1)))
-send (p ∷ w ∷ m ∷ t ∷ []) = sent p w (m ∷ t ∷ []) (word_place (codes "more") ∷ trusted_place p ∷ []) (λ x y is. marks_reads p m t x.side (λ z. Send x y z.0 z.1) (trusted_by p t x is))
+send (p ∷ w ∷ m ∷ []) = sent p w (m ∷ []) (mark_test p ∷ []) (λ x y is.
+    step_reads (mark_test p) (marks_in x.side (m ∷ [])) m [] [] (λ z. Ok (Send x y z.0 z.1)) (rw is (one_mark x.side m)) (λ z too. end_reads (Send x y z.0 z.1)))
+send (p ∷ w ∷ m ∷ t ∷ []) = sent p w (m ∷ t ∷ []) (word_test (codes "more") ∷ trusted_test p ∷ []) (λ x y is. marks_reads p m t x.side (λ z. Send x y z.0 z.1) (trusted_by p t x is))
 send (p ∷ w ∷ m ∷ t ∷ v ∷ ws) = rw (lt-ltb 2 (length (m ∷ t ∷ v ∷ ws)) (omega arith)) (miscounted (p ∷ w ∷ m ∷ t ∷ v ∷ ws))
 
 -- ---- the table
 
 abbrev Row : Type 0
-Row = Text × (List Text → Option (List Place))
+Row = Text × (List Text → Option (List WordTest))
 
 abbrev TableReads : List Row → List Text → Text → Result Event LineFault → Type 0
 TableReads rows rest first answer = (f : LineFault) → (answer ≡ Err f) ↔ TableFault rows first rest f
 
-row_reads : (word : Text) (places : List Text → Option (List Place)) (rows : List Row) (rest : List Text) (first : Text) (x : Result Event LineFault) (y : Option (Result Event LineFault)) (z : Result Event LineFault)
+row_reads : (word : Text) (places : List Text → Option (List WordTest)) (rows : List Row) (rest : List Text) (first : Text) (x : Result Event LineFault) (y : Option (Result Event LineFault)) (z : Result Event LineFault)
     → RowReads (places rest) rest x → TableReads rows rest first (unwrap_or y z) → TableReads ((word, places) ∷ rows) rest first (unwrap_or (if bytes_eq first word then Some x else y) z)
 row_reads word places rows rest first x y z this others = by_test (bytes_eq first word) refl
   where
@@ -289,7 +286,7 @@ row_reads word places rows rest first x y z this others = by_test (bytes_eq firs
       ],
     )
 
-last_row : (word : Text) (places : List Text → Option (List Place)) (rows : List Row) (rest : List Text) (first : Text) (x y : Result Event LineFault)
+last_row : (word : Text) (places : List Text → Option (List WordTest)) (rows : List Row) (rest : List Text) (first : Text) (x y : Result Event LineFault)
     → RowReads (places rest) rest x → TableReads rows rest first y → TableReads ((word, places) ∷ rows) rest first (if bytes_eq first word then x else y)
 last_row word places rows rest first x y this others = by_test (bytes_eq first word) refl
   where
@@ -312,19 +309,19 @@ last_row word places rows rest first x y this others = by_test (bytes_eq first w
 no_row : (rest : List Text) (first : Text) → TableReads [] rest first (Err fault.Word)
 no_row rest first f = (err_err fault.Word f, ap Err)
 
-event_reads : (first : Text) (rest : List Text) → TableReads table rest first (event_by first rest)
+event_reads : (first : Text) (rest : List Text) → TableReads event_table rest first (event_by first rest)
 event_reads first rest =
-    row_reads (codes "establish") operation_places (drop 1 table) rest first _ _ _ (made_reads (operation_places rest) rest (operation_in rest) (λ o. Establish o.0 o.1 o.2) (operation rest))
-    (row_reads (codes "refresh") operation_places (drop 2 table) rest first _ _ _ (made_reads (operation_places rest) rest (operation_in rest) (λ o. Refresh o.0 o.1 o.2) (operation rest))
-    (row_reads (codes "stop") operation_places (drop 3 table) rest first _ _ _ (made_reads (operation_places rest) rest (operation_in rest) (λ o. Stop o.0 o.1 o.2) (operation rest))
-    (row_reads (codes "reset") number_places (drop 4 table) rest first _ _ _ (made_reads (number_places rest) rest (one_number_in rest) Reset (one_number rest))
-    (row_reads (codes "status") two_number_places (drop 5 table) rest first _ _ _ (made_reads (two_number_places rest) rest (two_numbers_in rest) (λ n. Status n.0 n.1) (two_numbers rest))
-    (row_reads (codes "pass") number_places (drop 6 table) rest first _ _ _ (made_reads (number_places rest) rest (one_number_in rest) Pass (one_number rest))
-    (row_reads (codes "alter") alter_places (drop 7 table) rest first _ _ _ (alter rest)
-    (row_reads (codes "cut") two_number_places (drop 8 table) rest first _ _ _ (made_reads (two_number_places rest) rest (two_numbers_in rest) (λ n. Cut n.0 n.1) (two_numbers rest))
-    (row_reads (codes "dump") number_places (drop 9 table) rest first _ _ _ (made_reads (number_places rest) rest (one_number_in rest) Dump (one_number rest))
-    (last_row (codes "send") send_places (drop 10 table) rest first _ _ (send rest)
-    (last_row (codes "arrive") arrive_places (drop 11 table) rest first _ _ (arrive rest) (no_row rest first)))))))))))
+    row_reads (codes "establish") operation_tests (drop 1 event_table) rest first _ _ _ (made_reads (operation_tests rest) rest (operation_in rest) (λ o. Establish o.0 o.1 o.2) (operation rest))
+    (row_reads (codes "refresh") operation_tests (drop 2 event_table) rest first _ _ _ (made_reads (operation_tests rest) rest (operation_in rest) (λ o. Refresh o.0 o.1 o.2) (operation rest))
+    (row_reads (codes "stop") operation_tests (drop 3 event_table) rest first _ _ _ (made_reads (operation_tests rest) rest (operation_in rest) (λ o. Stop o.0 o.1 o.2) (operation rest))
+    (row_reads (codes "reset") number_tests (drop 4 event_table) rest first _ _ _ (made_reads (number_tests rest) rest (one_number_in rest) Reset (one_number rest))
+    (row_reads (codes "status") two_number_tests (drop 5 event_table) rest first _ _ _ (made_reads (two_number_tests rest) rest (two_numbers_in rest) (λ n. Status n.0 n.1) (two_numbers rest))
+    (row_reads (codes "pass") number_tests (drop 6 event_table) rest first _ _ _ (made_reads (number_tests rest) rest (one_number_in rest) Pass (one_number rest))
+    (row_reads (codes "alter") alter_tests (drop 7 event_table) rest first _ _ _ (alter rest)
+    (row_reads (codes "cut") two_number_tests (drop 8 event_table) rest first _ _ _ (made_reads (two_number_tests rest) rest (two_numbers_in rest) (λ n. Cut n.0 n.1) (two_numbers rest))
+    (row_reads (codes "dump") number_tests (drop 9 event_table) rest first _ _ _ (made_reads (number_tests rest) rest (one_number_in rest) Dump (one_number rest))
+    (last_row (codes "send") send_tests (drop 10 event_table) rest first _ _ (send rest)
+    (last_row (codes "arrive") arrive_tests (drop 11 event_table) rest first _ _ (arrive rest) (no_row rest first)))))))))))
 
 -- ---- lines
 

@@ -8,14 +8,11 @@ use Rattle.std.proofs.lemmas.Bool.{cases_Bool, ltb-true, ltb-false}
 use Rattle.ide_types.specs.declared.port.Side.{Side}
 use Rattle.ide_types.specs.declared.port.Side.TheVariants.{Host, Device}
 use Rattle.ide_types.specs.Names.{Text}
-use Rattle.link_events.specs.declared.event.Event.{Event}
-use Rattle.link_events.specs.declared.event.Event.TheVariants.{Establish, Refresh, Stop, Send, Pass, Alter, Cut, Arrive, Dump, Reset, Status}
-use Rattle.link_events.specs.declared.event.Loss.{Loss}
-use Rattle.link_events.specs.declared.fault.LineFault.{LineFault}
-use Rattle.link_events.specs.declared.fault.LineFault.TheVariants as fault
+use Rattle.link_events.specs.Terms.{Event, Establish, Refresh, Stop, Send, Pass, Alter, Cut, Arrive, Dump, Reset, Status, Loss, LineFault}
+use Rattle.link_events.specs.Terms.fault
 use Rattle.link_events.specs.Words.{is_printable, words_in, number_in, mask_in, bytes_in, port_in, lost_in}
 use Rattle.link_events.specs.Parse.{◌>>=◌, lost_exchange_in, loss_in, is_loss_long, operation_in, marks_in, send_in, one_number_in, two_numbers_in, alter_in, arrive_in, event_by, event_in, is_comment, line_meaning}
-use Rattle.link_events.specs.Spells.{LossSpelledBy, OperationSpelledBy, OneSpelledBy, TwoSpelledBy, mark_words, SpelledBy, Spells, MeaningIsSpelling}
+use Rattle.link_events.specs.Spells.{LossSpelledBy, OperationSpelledBy, OneSpelledBy, TwoSpelledBy, mark_words, SpelledBy, SpellsEvent, MeaningIsSpelling}
 use Rattle.link_events.proofs.Steps.{err_ok, ok_ok, some_some, none_some, same_text, next_of, next_result, tested, tested_last}
 
 -- ---- what is lost
@@ -228,7 +225,7 @@ words_meant ws (Status l s) h = rw h.2 (rw h.0.1 (rw h.1.1 refl))
 line_step : (line : Text) (e : Event) (long comment printed : Bool)
     → nat_lt 20000 (length line) ≡ long → is_comment line ≡ comment → list_all is_printable line ≡ printed
     → (if long then Err fault.TooLong else if comment then Ok None else if not printed then Err fault.NotAscii else event_in (words_in line)) ≡ Ok (Some e)
-    → Spells e line
+    → SpellsEvent e line
 line_step line e true c p x y z h = absurd (err_ok fault.TooLong (Some e) h)
 line_step line e false true p x y z h = absurd (none_some e (ok_ok None (Some e) h))
 line_step line e false false false x y z h = absurd (err_ok fault.NotAscii (Some e) h)
@@ -239,7 +236,7 @@ line_step line e false false true x y z h = record {
   words = words_spelled (words_in line) e h;
 }
 
-line_spelled : (line : Text) (e : Event) → line_meaning line ≡ Ok (Some e) → Spells e line
+line_spelled : (line : Text) (e : Event) → line_meaning line ≡ Ok (Some e) → SpellsEvent e line
 line_spelled line e h = line_step line e _ _ _ refl refl refl h
 
 pub short_line : (n : ℕ) → n ≤ 20000 → nat_lt 20000 n ≡ false
@@ -248,7 +245,7 @@ short_line n h = elim (cases_Bool (nat_lt 20000 n)) [
   | inr short ↦ short
 ]
 
-line_meant : (line : Text) (e : Event) → Spells e line → line_meaning line ≡ Ok (Some e)
+line_meant : (line : Text) (e : Event) → SpellsEvent e line → line_meaning line ≡ Ok (Some e)
 line_meant line e h = rw (short_line (length line) h.short_enough, h.no_comment, h.printable, words_meant (words_in line) e h.words) refl
 
 pub meaning_is_spelling : MeaningIsSpelling

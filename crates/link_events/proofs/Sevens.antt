@@ -2,9 +2,7 @@
 use Rattle.std.proofs.Common.{◌≡◌, List, [], ◌∷◌, Some, Result, Ok, Err, length, take, refl, arith}
 use Rattle.std.proofs.lemmas.Bool.{lt-ltb}
 use Rattle.ide_types.specs.Names.{Text}
-use Rattle.link_events.specs.declared.event.Event.{Event}
-use Rattle.link_events.specs.declared.fault.LineFault.{LineFault}
-use Rattle.link_events.specs.declared.fault.LineError.{LineError}
+use Rattle.link_events.specs.Terms.{Event, LineFault, LineError}
 use Rattle.link_events.specs.Parse.{◌>>=◌, event_in, begins_bytes, answer_of}
 
 pub seven_words : (ws : List Text) → event_in (take 7 ws) ≡ event_in ws

@@ -3,9 +3,8 @@ use Rattle.std.proofs.Common.{true, false, nat_lt, not, ◌==◌, ◌≡◌, ℕ
 use Rattle.std.specs.Prelude.{filter, if◌then◌else◌}
 use Rattle.std.specs.List.{list_all, slice_split, onto_first}
 use Rattle.std.proofs.lemmas.Bool.{and_parts, cases_Bool, ltb-false, eqb-true}
-use Rattle.link_events.specs.declared.event.Event.{Event}
-use Rattle.link_events.specs.declared.fault.LineFault.{LineFault}
-use Rattle.link_events.specs.declared.fault.LineFault.TheVariants as fault
+use Rattle.link_events.specs.Terms.{Event, LineFault}
+use Rattle.link_events.specs.Terms.fault
 use Rattle.ide_types.specs.Names.{Text}
 use Rattle.link_events.specs.Words.{is_printable, words_in}
 use Rattle.link_events.specs.Parse.{◌>>=◌, event_by, event_in, is_comment, line_meaning}

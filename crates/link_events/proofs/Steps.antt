@@ -5,7 +5,7 @@ use Rattle.std.specs.Option.{ok_or, unwrap_or}
 use Rattle.std.specs.Str.{bytes_eq}
 use Rattle.std.proofs.lemmas.Slice.Eq.{bytes_eq-Decides}
 use Rattle.ide_types.specs.Names.{Text}
-use Rattle.link_events.specs.declared.fault.LineFault.{LineFault}
+use Rattle.link_events.specs.Terms.{LineFault}
 use Rattle.link_events.specs.Parse.{◌>>=◌}
 
 pub err_ok : {A : Type 0} (f : LineFault) (a : A) → ◌≡◌ {A = Result A LineFault} (Err f) (Ok a) → ⊥

@@ -6,14 +6,9 @@ use Rattle.std.specs.Str.{bytes_eq}
 use Rattle.ide_types.specs.declared.port.Side.{Side}
 use Rattle.ide_types.specs.declared.port.Side.TheVariants.{Host, Device}
 use Rattle.ide_types.specs.Names.{Text}
-use Rattle.link_events.specs.declared.event.Event.{Event}
-use Rattle.link_events.specs.declared.event.Event.TheVariants.{Establish, Refresh, Stop, Send, Pass, Alter, Cut, Arrive, Dump, Reset, Status}
-use Rattle.link_events.specs.declared.event.Loss.{Loss}
-use Rattle.link_events.specs.declared.fault.LineFault.{LineFault}
-use Rattle.link_events.specs.declared.fault.LineFault.TheVariants.{Word, Count, Number, Hex, TooLong, NotAscii}
-use Rattle.link_events.specs.declared.fault.LineError.{LineError}
-use Rattle.link_events.specs.declared.fault.LineError.TheVariants as error
-use Rattle.link_events.specs.Words.{is_printable, words_in, number_in, mask_in, bytes_in, port_in, lost_in}
+use Rattle.link_events.specs.Terms.{Event, Establish, Refresh, Stop, Send, Pass, Alter, Cut, Arrive, Dump, Reset, Status, Loss, LineFault, Word, Count, Number, Hex, TooLong, NotAscii, LineError}
+use Rattle.link_events.specs.Terms.error
+use Rattle.link_events.specs.Words.{line_limit, is_printable, words_in, number_in, mask_in, bytes_in, port_in, lost_in}
 
 -- a word after the other: the first fault from the left
 infixl 10 ◌>>=◌
@@ -147,7 +142,7 @@ is_comment (b ∷ bs) = b == 35
 -- the event, none on a comment and on a line of spaces, or the first fault
 abbrev pub line_meaning : Text → Result (Option Event) LineFault
 line_meaning line =
-    if nat_lt 20000 (length line) then Err TooLong
+    if nat_lt line_limit (length line) then Err TooLong
     else if is_comment line then Ok None
     else if not (list_all is_printable line) then Err NotAscii
     else event_in (words_in line)

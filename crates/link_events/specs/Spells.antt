@@ -3,10 +3,8 @@ use Rattle.std.specs.Prelude.{◌≡◌, ◌<◌, ◌≤◌, ◌^◌, ◌==◌, 
 use Rattle.std.specs.List.{list_all}
 use Rattle.ide_types.specs.declared.port.Side.TheVariants.{Host}
 use Rattle.ide_types.specs.Names.{Text}
-use Rattle.link_events.specs.declared.event.Event.{Event}
-use Rattle.link_events.specs.declared.event.Event.TheVariants.{Establish, Refresh, Stop, Send, Pass, Alter, Cut, Arrive, Dump, Reset, Status}
-use Rattle.link_events.specs.declared.event.Loss.{Loss}
-use Rattle.link_events.specs.Words.{is_printable, words_in, number_in, mask_in, bytes_in, port_in, lost_in}
+use Rattle.link_events.specs.Terms.{Event, Establish, Refresh, Stop, Send, Pass, Alter, Cut, Arrive, Dump, Reset, Status, Loss}
+use Rattle.link_events.specs.Words.{line_limit, is_printable, words_in, number_in, mask_in, bytes_in, port_in, lost_in}
 use Rattle.link_events.specs.Parse.{is_comment, line_meaning}
 
 -- a word that spells a value
@@ -57,19 +55,19 @@ SpelledBy (Reset link) words = OneSpelledBy (codes "reset") link words
 SpelledBy (Status link stream) words = TwoSpelledBy (codes "status") link stream words
 
 -- the line spells the event
-pub record Spells (event : Event) (line : Text) : Type 0 where
-  pub short_enough : length line ≤ 20000
+pub record SpellsEvent (event : Event) (line : Text) : Type 0 where
+  pub short_enough : length line ≤ line_limit
   pub no_comment : is_comment line ≡ false
   pub printable : list_all is_printable line ≡ true
   pub words : SpelledBy event (words_in line)
 
 -- a line means an event where it spells it
 abbrev pub MeaningIsSpelling : Type 0
-MeaningIsSpelling = (line : Text) (event : Event) → (line_meaning line ≡ Ok (Some event)) ↔ Spells event line
+MeaningIsSpelling = (line : Text) (event : Event) → (line_meaning line ≡ Ok (Some event)) ↔ SpellsEvent event line
 
 -- at most 20,000 bytes, a comment or spaces alone
 abbrev pub IsSkipped : Text → Type 0
-IsSkipped line = (length line ≤ 20000) × ((is_comment line ≡ true) ⊎ (list_all (λ b. b == 32) line ≡ true))
+IsSkipped line = (length line ≤ line_limit) × ((is_comment line ≡ true) ⊎ (list_all (λ b. b == 32) line ≡ true))
 
 -- a line means no event where it is skipped
 abbrev pub NothingIsSkipped : Type 0
@@ -84,4 +82,4 @@ IsAllowed (Arrive port bytes) = (port.link < 8) × (length bytes < 2 ^ 64)
 IsAllowed _ = Unit {0}
 
 abbrev pub SpelledAreAllowed : Type 0
-SpelledAreAllowed = (line : Text) (event : Event) → Spells event line → IsAllowed event
+SpelledAreAllowed = (line : Text) (event : Event) → SpellsEvent event line → IsAllowed event

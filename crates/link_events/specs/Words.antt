@@ -11,10 +11,11 @@ use Rattle.hex.specs.Hex.{decode_of, decode_sized}
 use Rattle.ide_types.specs.declared.port.Side.TheVariants.{Host, Device}
 use Rattle.ide_types.specs.declared.port.PortName.{PortName}
 use Rattle.ide_types.specs.Names.{Text, joined}
-use Rattle.link_events.specs.declared.event.Lost.{Lost}
-use Rattle.link_events.specs.declared.event.Lost.TheVariants.{Request, Reply}
-use Rattle.link_events.specs.declared.fault.LineFault.{LineFault}
-use Rattle.link_events.specs.declared.fault.LineFault.TheVariants.{Word, Count, Number, Hex, TooLong, NotAscii}
+use Rattle.link_events.specs.Terms.{Lost, Request, Reply, LineFault, Word, Count, Number, Hex, TooLong, NotAscii}
+
+-- how many bytes a line may have, its line feed aside
+abbrev pub line_limit : ℕ
+line_limit = 20000
 
 -- ---- words
 

@@ -1,4 +1,5 @@
--- Each verdict is read back from its words.
+-- Each verdict is read back from its words: the first words say which it is, and each field stands alone in a word or
+-- behind a letter. That what is read is the verdict is one line of proof for each kind.
 use Rattle.std.proofs.Common.{zero, suc, true, false, nat_eq, ◌&&◌, ◌==◌, slice_index, ◌≡◌, ◌<◌, ◌≤◌, ◌/◌, ◌^◌, ℕ, List, [], ◌∷◌, ◌++◌, Bool, length, drop, refl, ap, ap₂, ◌∙◌, arith, codes, get_or}
 use Rattle.std.specs.Prelude.{if◌then◌else◌}
 use Rattle.std.specs.Option.{unwrap_or}
@@ -11,28 +12,21 @@ use Rattle.hex.proofs.HexLemmas.{decode_of-encode_lower}
 use Rattle.ide_types.specs.declared.sub.SubKind.{SubKind}
 use Rattle.ide_types.specs.declared.sub.SubKind.TheVariants.{Pr, Npr, Cpl}
 use Rattle.ide_types.specs.declared.sub.FailCause.{FailCause}
-use Rattle.ide_types.specs.declared.sub.FailCause.TheVariants as fail
 use Rattle.ide_types.specs.declared.port.Side.{Side}
 use Rattle.ide_types.specs.declared.port.Side.TheVariants.{Host, Device}
 use Rattle.ide_types.specs.declared.port.PortName.{PortName}
 use Rattle.ide_types.specs.declared.fault_word.FaultWord.{FaultWord}
+use Rattle.ide_types.specs.declared.status.StreamStatus.{StreamStatus}
+use Rattle.ide_types.specs.declared.sub.FailCause.TheVariants as fail
 use Rattle.ide_types.specs.declared.fault_word.FaultWord.TheVariants as fault
-use Rattle.link_verdicts.specs.declared.verdict.BlockCause.TheVariants.{NotTrusted, NotRunning, WrongStream, Stale, Outside, Crosses}
-use Rattle.link_verdicts.specs.declared.verdict.Effect.{Effect}
-use Rattle.link_verdicts.specs.declared.verdict.Effect.TheVariants.{Sync, Delivered, Applied, Blocked}
-use Rattle.link_verdicts.specs.declared.verdict.SealedPacket.{SealedPacket}
-use Rattle.link_verdicts.specs.declared.verdict.UnitName.{UnitName}
-use Rattle.link_verdicts.specs.declared.verdict.Verdict.{Verdict}
-use Rattle.link_verdicts.specs.declared.verdict.Verdict.TheVariants.{Nothing, Malformed, Plain, RefusedInsecure, RefusedNoKey, RefusedUnfinished, RefusedWorn, Sealed, Unknown, Insecure, NotKeyed, Fail, Held, Accepted, Established, Refreshed, Stopped, LostRequest, LostReply, RefusedNotIdle, RefusedNotSecure, RefusedPoolEmpty, RefusedDevice, RefusedBusy, RefusedUnitOpen, Packet, Reset, Status}
+use Rattle.link_verdicts.specs.Terms.{NotTrusted, NotRunning, WrongStream, Stale, Outside, Crosses, Effect, Sync, Delivered, Applied, Blocked, SealedPacket, UnitName, Verdict, Nothing, Malformed, Plain, RefusedInsecure, RefusedNoKey, RefusedUnfinished, RefusedWorn, Sealed, Unknown, Insecure, NotKeyed, Fail, Held, Accepted, Established, Refreshed, Stopped, LostRequest, LostReply, RefusedNotIdle, RefusedNotSecure, RefusedPoolEmpty, RefusedDevice, RefusedBusy, RefusedUnitOpen, Packet, Reset, Status, Operation}
 use Rattle.hex.specs.Hex.{decode_of}
 use Rattle.std.specs.Result.{result_ok}
-use Rattle.ide_types.specs.declared.status.StreamStatus.{StreamStatus}
 use Rattle.ide_types.specs.declared.status.StreamStatus.TheVariants as status
-use Rattle.link_verdicts.specs.declared.verdict.Operation.{Operation}
-use Rattle.link_verdicts.specs.declared.verdict.Operation.TheVariants as operation
-use Rattle.ide_types.specs.Names.{Text, side_word, port_word, sub_word, fail_word, fault_word, status_word}
-use Rattle.link_verdicts.specs.Lines.{effect_word, operation_word, bytes_word, bit_of, unit_words, sync_words, packet_words, more_packets_words, packets_words, effects_words, verdict_words}
-use Rattle.link_verdicts.specs.Apart.{Fits, FitsUnit, FitsPacket, FitPackets}
+use Rattle.link_verdicts.specs.Terms.operation
+use Rattle.ide_types.specs.Names.{Text, side_word, port_word, substream_word, fail_word, fault_word, status_word}
+use Rattle.link_verdicts.specs.Lines.{effect_word, operation_word, bytes_word, bit_of, unit_words, sync_words, sealed_words, more_packets_words, packets_words, effects_words, verdict_words}
+use Rattle.link_verdicts.specs.Apart.{Fits, FitsUnit, FitsSealed, FitPackets}
 
 -- ---- words and what they stand for
 
@@ -193,7 +187,7 @@ bytes_back : (bs : List ℕ) → IsBytes bs → bytes (bytes_word bs) ≡ bs
 bytes_back [] h = refl
 bytes_back (b ∷ bs) h = rw (not_dash b bs, decode_of-encode_lower (b ∷ bs) h) refl
 
-sub_back : (s : SubKind) → sub (sub_word s) ≡ s
+sub_back : (s : SubKind) → sub (substream_word s) ≡ s
 sub_back Pr = refl
 sub_back Npr = refl
 sub_back Cpl = refl
@@ -249,7 +243,7 @@ sync_back true ps = refl
 sync_back false [] = refl
 sync_back false (p ∷ ps) = refl
 
-packet_back : (p : SealedPacket) (ps : List SealedPacket) → FitsPacket p → packet (packet_words p (more_packets_words ps)) ≡ p
+packet_back : (p : SealedPacket) (ps : List SealedPacket) → FitsSealed p → packet (sealed_words p (more_packets_words ps)) ≡ p
 packet_back p ps h =
     rw (
       number_back p.number h.0,
@@ -272,7 +266,7 @@ rest_back true (p ∷ ps) = refl
 rest_back false [] = refl
 rest_back false (p ∷ ps) = refl
 
-behind_back : (p : SealedPacket) (ps : List SealedPacket) → behind (packet_words p (more_packets_words ps)) ≡ packets_words ps
+behind_back : (p : SealedPacket) (ps : List SealedPacket) → behind (sealed_words p (more_packets_words ps)) ≡ packets_words ps
 behind_back p ps = rest_back p.sync ps
 
 packets_back : (n : ℕ) (ps : List SealedPacket) → length ps ≤ n → FitPackets ps → packets n (packets_words ps) ≡ ps

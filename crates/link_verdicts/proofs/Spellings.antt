@@ -1,34 +1,28 @@
--- Two verdicts with one line are equal.
-use Rattle.std.proofs.Common.{rules, zero, suc, true, false, nat_lt, ◌&&◌, ◌==◌, slice_index, ◌≡◌, ◌<◌, ◌/◌, ◌%◌, ◌^◌, ℕ, List, [], ◌∷◌, ◌++◌, Bool, refl, sym, ap, ◌∙◌, arith, codes}
+-- Two verdicts with one line are equal: no word of a line has a space in it, so a line gives its words back, and its
+-- words the verdict (see Readings).
+use Rattle.std.proofs.Common.{rules, suc, true, false, nat_lt, slice_index, ◌<◌, ◌/◌, ◌%◌, ◌^◌, ℕ, List, [], ◌∷◌, ◌++◌, Bool, refl, sym, ap, ◌∙◌, arith, codes}
 use Rattle.std.specs.Fmt.{decimal}
 use Rattle.std.specs.Str.Parse.{AllDigits}
-use Rattle.std.proofs.lemmas.Bool.{ltb-true, eqb-true, eqb-false}
+use Rattle.std.proofs.lemmas.Bool.{ltb-true, agree_below_at}
 use Rattle.std.proofs.lemmas.Fmt.{decimal_is_IsNumeral, decimal_injective}
 use Rattle.std.proofs.lemmas.Str.Parse.{digit_from_value}
 use Rattle.hex.specs.Hex.{encode_lower, encode_with, lower_digits, IsBytes}
 use Rattle.ide_types.specs.declared.sub.SubKind.{SubKind}
 use Rattle.ide_types.specs.declared.sub.SubKind.TheVariants.{Pr, Npr, Cpl}
 use Rattle.ide_types.specs.declared.sub.FailCause.{FailCause}
-use Rattle.ide_types.specs.declared.sub.FailCause.TheVariants as fail
 use Rattle.ide_types.specs.declared.port.Side.{Side}
 use Rattle.ide_types.specs.declared.port.Side.TheVariants.{Host, Device}
 use Rattle.ide_types.specs.declared.port.PortName.{PortName}
 use Rattle.ide_types.specs.declared.fault_word.FaultWord.{FaultWord}
-use Rattle.ide_types.specs.declared.fault_word.FaultWord.TheVariants as fault
-use Rattle.link_verdicts.specs.declared.verdict.BlockCause.TheVariants.{NotTrusted, NotRunning, WrongStream, Stale, Outside, Crosses}
-use Rattle.link_verdicts.specs.declared.verdict.Effect.{Effect}
-use Rattle.link_verdicts.specs.declared.verdict.Effect.TheVariants.{Sync, Delivered, Applied, Blocked}
-use Rattle.link_verdicts.specs.declared.verdict.SealedPacket.{SealedPacket}
-use Rattle.link_verdicts.specs.declared.verdict.UnitName.{UnitName}
-use Rattle.link_verdicts.specs.declared.verdict.Verdict.{Verdict}
-use Rattle.link_verdicts.specs.declared.verdict.Verdict.TheVariants.{Nothing, Malformed, Plain, RefusedInsecure, RefusedNoKey, RefusedUnfinished, RefusedWorn, Sealed, Unknown, Insecure, NotKeyed, Fail, Held, Accepted, Established, Refreshed, Stopped, LostRequest, LostReply, RefusedNotIdle, RefusedNotSecure, RefusedPoolEmpty, RefusedDevice, RefusedBusy, RefusedUnitOpen, Packet, Reset, Status}
 use Rattle.ide_types.specs.declared.status.StreamStatus.{StreamStatus}
+use Rattle.ide_types.specs.declared.sub.FailCause.TheVariants as fail
+use Rattle.ide_types.specs.declared.fault_word.FaultWord.TheVariants as fault
+use Rattle.link_verdicts.specs.Terms.{NotTrusted, NotRunning, WrongStream, Stale, Outside, Crosses, Effect, Sync, Delivered, Applied, Blocked, SealedPacket, UnitName, Verdict, Nothing, Malformed, Plain, RefusedInsecure, RefusedNoKey, RefusedUnfinished, RefusedWorn, Sealed, Unknown, Insecure, NotKeyed, Fail, Held, Accepted, Established, Refreshed, Stopped, LostRequest, LostReply, RefusedNotIdle, RefusedNotSecure, RefusedPoolEmpty, RefusedDevice, RefusedBusy, RefusedUnitOpen, Packet, Reset, Status, Operation}
 use Rattle.ide_types.specs.declared.status.StreamStatus.TheVariants as status
-use Rattle.link_verdicts.specs.declared.verdict.Operation.{Operation}
-use Rattle.link_verdicts.specs.declared.verdict.Operation.TheVariants as operation
-use Rattle.ide_types.specs.Names.{Text, side_word, port_word, sub_word, fail_word, fault_word, status_word}
-use Rattle.link_verdicts.specs.Lines.{effect_word, operation_word, bytes_word, keyed_words, bit_of, unit_words, sync_words, packet_words, more_packets_words, packets_words, effects_words, verdict_words}
-use Rattle.link_verdicts.specs.Apart.{LinesApart, Fits, FitsKeyed, FitsUnit, FitsPacket, FitPackets}
+use Rattle.link_verdicts.specs.Terms.operation
+use Rattle.ide_types.specs.Names.{Text, side_word, port_word, substream_word, fail_word, fault_word, status_word}
+use Rattle.link_verdicts.specs.Lines.{effect_word, operation_word, bytes_word, keyed_words, bit_of, unit_words, sync_words, sealed_words, more_packets_words, packets_words, effects_words, verdict_words}
+use Rattle.link_verdicts.specs.Apart.{LinesApart, Fits, FitsKeyed, FitsUnit, FitsSealed, FitPackets}
 use Rattle.link_verdicts.proofs.Joins.{IsWord, AreWords, line_apart}
 use Rattle.link_verdicts.proofs.Readings.{verdict, verdict_back}
 
@@ -39,31 +33,8 @@ digits_word (d ∷ ds) h = (omega (arith, digit_from_value d h.0), digits_word d
 decimal_word : (n : ℕ) → n < 2 ^ 64 → IsWord (decimal n)
 decimal_word n h = digits_word (decimal n) (decimal_is_IsNumeral n h).0.1
 
-glyphs_pass : ℕ → Bool
-glyphs_pass zero = true
-glyphs_pass (suc n) = nat_lt 32 (slice_index lower_digits n) && glyphs_pass n
-
-split : (a b : Bool) → (a && b) ≡ true → (a ≡ true) × (b ≡ true)
-split true b h = (refl, h)
-split false b h = absurd (false_true h)
-  where
-    false_true : false ≡ true → ⊥
-    false_true e = cc
-
-glyph_step : (n k : ℕ) (b : Bool) → (k == n) ≡ b → nat_lt 32 (slice_index lower_digits n) ≡ true → (k < n → 32 < slice_index lower_digits k) → k < suc n → 32 < slice_index lower_digits k
-glyph_step n k true e h later lt = rw (eqb-true k n e) (ltb-true _ _ h)
-glyph_step n k false e h later lt = let ne = eqb-false k n e in later (omega arith)
-
-glyph_at : (n k : ℕ) → glyphs_pass n ≡ true → k < n → 32 < slice_index lower_digits k
-unfolding glyphs_pass
-glyph_at zero k h lt = absurd (omega arith)
-glyph_at (suc n) k h lt =
-    let parts = split (nat_lt 32 (slice_index lower_digits n)) (glyphs_pass n) h in
-    glyph_step n k (k == n) refl parts.0 (λ less. glyph_at n k parts.1 less) lt
-
 glyph : (k : ℕ) → k < 16 → 32 < slice_index lower_digits k
-unfolding glyphs_pass
-glyph k lt = glyph_at 16 k refl lt
+glyph k lt = ltb-true _ _ (agree_below_at (λ n. nat_lt 32 (slice_index lower_digits n)) (λ n. true) 16 k refl lt)
 
 hex_word : (bs : List ℕ) → IsBytes bs → IsWord (encode_lower bs)
 unfolding encode_with
@@ -87,7 +58,7 @@ bit_word : (c : ℕ) (b : Bool) → 32 < c → IsWord (c ∷ decimal (bit_of b))
 bit_word c true h = let w = decimal_word 1 (omega arith) in search rules
 bit_word c false h = let w = decimal_word 0 (omega arith) in search rules
 
-sub_is_word : (s : SubKind) → IsWord (sub_word s)
+sub_is_word : (s : SubKind) → IsWord (substream_word s)
 sub_is_word Pr = search rules
 sub_is_word Npr = search rules
 sub_is_word Cpl = search rules
@@ -147,7 +118,7 @@ sync_is_words : (b : Bool) (after : List Text) → AreWords after → AreWords (
 sync_is_words true after later = search rules
 sync_is_words false after later = later
 
-packet_is_words : (p : SealedPacket) (after : List Text) → FitsPacket p → AreWords after → AreWords (packet_words p after)
+packet_is_words : (p : SealedPacket) (after : List Text) → FitsSealed p → AreWords after → AreWords (sealed_words p after)
 packet_is_words p after h later =
     let number = decimal_word p.number h.0 in
     let port = port_is_word p.port h.1 in

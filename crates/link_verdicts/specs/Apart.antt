@@ -1,10 +1,7 @@
 -- Verdicts by their lines.
 use Rattle.std.specs.Prelude.{ℕ, ◌≡◌, ◌<◌, ◌^◌, List, [], ◌∷◌, ◌++◌}
 use Rattle.hex.specs.Hex.{IsBytes}
-use Rattle.link_verdicts.specs.declared.verdict.SealedPacket.{SealedPacket}
-use Rattle.link_verdicts.specs.declared.verdict.UnitName.{UnitName}
-use Rattle.link_verdicts.specs.declared.verdict.Verdict.{Verdict}
-use Rattle.link_verdicts.specs.declared.verdict.Verdict.TheVariants.{Nothing, Malformed, Plain, RefusedInsecure, RefusedNoKey, RefusedUnfinished, RefusedWorn, Sealed, Unknown, Insecure, NotKeyed, Fail, Held, Accepted, Established, Refreshed, Stopped, LostRequest, LostReply, RefusedNotIdle, RefusedNotSecure, RefusedPoolEmpty, RefusedDevice, RefusedBusy, RefusedUnitOpen, Packet, Reset, Status}
+use Rattle.link_verdicts.specs.Terms.{SealedPacket, UnitName, Verdict, Nothing, Malformed, Plain, RefusedInsecure, RefusedNoKey, RefusedUnfinished, RefusedWorn, Sealed, Unknown, Insecure, NotKeyed, Fail, Held, Accepted, Established, Refreshed, Stopped, LostRequest, LostReply, RefusedNotIdle, RefusedNotSecure, RefusedPoolEmpty, RefusedDevice, RefusedBusy, RefusedUnitOpen, Packet, Reset, Status}
 use Rattle.link_verdicts.specs.Lines.{line_of}
 
 -- ---- each number has at most 64 bits, as those of every type here have, and each byte 8
@@ -12,14 +9,14 @@ use Rattle.link_verdicts.specs.Lines.{line_of}
 abbrev pub FitsUnit : UnitName → Type 0
 FitsUnit u = (u.stream < 2 ^ 64) × (u.draw < 2 ^ 64) × (u.unit < 2 ^ 64)
 
-abbrev pub FitsPacket : SealedPacket → Type 0
-FitsPacket p =
+abbrev pub FitsSealed : SealedPacket → Type 0
+FitsSealed p =
     (p.number < 2 ^ 64) × (p.port.link < 2 ^ 64) × (p.stream < 2 ^ 64) × (p.draw < 2 ^ 64) × (p.unit < 2 ^ 64)
     × (p.posted < 2 ^ 64)
 
 abbrev pub FitPackets : List SealedPacket → Type 0
 FitPackets [] = Unit {0}
-FitPackets (p ∷ ps) = FitsPacket p × FitPackets ps
+FitPackets (p ∷ ps) = FitsSealed p × FitPackets ps
 
 abbrev pub FitsKeyed : ℕ → ℕ → ℕ → Type 0
 FitsKeyed link stream draw = (link < 2 ^ 64) × (stream < 2 ^ 64) × (draw < 2 ^ 64)

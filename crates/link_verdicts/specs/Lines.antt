@@ -2,18 +2,9 @@
 use Rattle.std.specs.Prelude.{ℕ, Bool, true, false, List, [], ◌∷◌, ◌++◌, codes}
 use Rattle.std.specs.Fmt.{decimal}
 use Rattle.hex.specs.Hex.{encode_lower}
-use Rattle.ide_types.specs.Names.{Text, joined, port_word, sub_word, fail_word, fault_word, status_word}
-use Rattle.link_verdicts.specs.declared.verdict.BlockCause.{BlockCause}
-use Rattle.link_verdicts.specs.declared.verdict.BlockCause.TheVariants.{NotTrusted, NotRunning, WrongStream, Stale, Outside, Crosses}
-use Rattle.link_verdicts.specs.declared.verdict.Effect.{Effect}
-use Rattle.link_verdicts.specs.declared.verdict.Effect.TheVariants.{Sync, Delivered, Applied, Blocked}
-use Rattle.link_verdicts.specs.declared.verdict.Operation.{Operation}
-use Rattle.link_verdicts.specs.declared.verdict.Operation.TheVariants as operation
-use Rattle.link_verdicts.specs.declared.verdict.SealedPacket.{SealedPacket}
-use Rattle.link_verdicts.specs.declared.verdict.UnitName.{UnitName}
-use Rattle.link_verdicts.specs.declared.verdict.Totals.{Totals}
-use Rattle.link_verdicts.specs.declared.verdict.Verdict.{Verdict}
-use Rattle.link_verdicts.specs.declared.verdict.Verdict.TheVariants.{Nothing, Malformed, Plain, RefusedInsecure, RefusedNoKey, RefusedUnfinished, RefusedWorn, Sealed, Unknown, Insecure, NotKeyed, Fail, Held, Accepted, Established, Refreshed, Stopped, LostRequest, LostReply, RefusedNotIdle, RefusedNotSecure, RefusedPoolEmpty, RefusedDevice, RefusedBusy, RefusedUnitOpen, Packet, Reset, Status}
+use Rattle.ide_types.specs.Names.{Text, joined, port_word, substream_word, fail_word, fault_word, status_word}
+use Rattle.link_verdicts.specs.Terms.{BlockCause, NotTrusted, NotRunning, WrongStream, Stale, Outside, Crosses, Effect, Sync, Delivered, Applied, Blocked, Operation, SealedPacket, UnitName, Totals, Verdict, Nothing, Malformed, Plain, RefusedInsecure, RefusedNoKey, RefusedUnfinished, RefusedWorn, Sealed, Unknown, Insecure, NotKeyed, Fail, Held, Accepted, Established, Refreshed, Stopped, LostRequest, LostReply, RefusedNotIdle, RefusedNotSecure, RefusedPoolEmpty, RefusedDevice, RefusedBusy, RefusedUnitOpen, Packet, Reset, Status}
+use Rattle.link_verdicts.specs.Terms.operation
 
 -- ---- words
 
@@ -48,28 +39,28 @@ bit_of true = 1
 -- ---- parts of a line, each ahead of the words that follow it
 
 abbrev pub unit_words : UnitName → List Text → List Text
-unit_words u after = decimal u.stream ∷ sub_word u.sub ∷ codes "draw" ∷ decimal u.draw ∷ codes "unit"
+unit_words u after = decimal u.stream ∷ substream_word u.sub ∷ codes "draw" ∷ decimal u.draw ∷ codes "unit"
     ∷ decimal u.unit ∷ after
 
 abbrev pub sync_words : Bool → List Text → List Text
 sync_words true after = codes "sync" ∷ after
 sync_words false after = after
 
-abbrev pub packet_words : SealedPacket → List Text → List Text
-packet_words p after =
-    decimal p.number ∷ port_word p.port ∷ decimal p.stream ∷ sub_word p.sub ∷ codes "draw" ∷ decimal p.draw
+abbrev pub sealed_words : SealedPacket → List Text → List Text
+sealed_words p after =
+    decimal p.number ∷ port_word p.port ∷ decimal p.stream ∷ substream_word p.sub ∷ codes "draw" ∷ decimal p.draw
     ∷ codes "unit" ∷ decimal p.unit
     ∷ (codes "m" ++ decimal (bit_of p.m)) ∷ (codes "k" ++ decimal (bit_of p.k)) ∷ (codes "t" ++ decimal (bit_of p.t))
     ∷ (codes "p" ++ decimal p.posted) ∷ sync_words p.sync after
 
 abbrev pub more_packets_words : List SealedPacket → List Text
 more_packets_words [] = []
-more_packets_words (p ∷ ps) = codes ";" ∷ packet_words p (more_packets_words ps)
+more_packets_words (p ∷ ps) = codes ";" ∷ sealed_words p (more_packets_words ps)
 
 -- packets, and a semicolon between each two
 abbrev pub packets_words : List SealedPacket → List Text
 packets_words [] = []
-packets_words (p ∷ ps) = packet_words p (more_packets_words ps)
+packets_words (p ∷ ps) = sealed_words p (more_packets_words ps)
 
 abbrev pub effects_words : List Effect → List Text
 effects_words [] = []
@@ -85,14 +76,14 @@ verdict_words Nothing = codes "none" ∷ []
 verdict_words (Malformed port word place) = codes "malformed" ∷ port_word port ∷ fault_word word ∷ decimal place ∷ []
 verdict_words (Plain port) = codes "plain" ∷ port_word port ∷ []
 verdict_words RefusedInsecure = codes "refused" ∷ codes "insecure" ∷ []
-verdict_words (RefusedNoKey sub) = codes "refused" ∷ codes "nokey" ∷ sub_word sub ∷ []
+verdict_words (RefusedNoKey sub) = codes "refused" ∷ codes "nokey" ∷ substream_word sub ∷ []
 verdict_words RefusedUnfinished = codes "refused" ∷ codes "unfinished" ∷ []
-verdict_words (RefusedWorn sub units) = codes "refused" ∷ codes "worn" ∷ sub_word sub ∷ decimal units ∷ []
+verdict_words (RefusedWorn sub units) = codes "refused" ∷ codes "worn" ∷ substream_word sub ∷ decimal units ∷ []
 verdict_words (Sealed packets) = codes "sealed" ∷ packets_words packets
 verdict_words (Unknown port stream) = codes "unknown" ∷ port_word port ∷ decimal stream ∷ []
 verdict_words (Insecure port stream) = codes "insecure" ∷ port_word port ∷ decimal stream ∷ []
-verdict_words (NotKeyed port stream sub) = codes "notkeyed" ∷ port_word port ∷ decimal stream ∷ sub_word sub ∷ []
-verdict_words (Fail port stream sub cause) = codes "fail" ∷ port_word port ∷ decimal stream ∷ sub_word sub
+verdict_words (NotKeyed port stream sub) = codes "notkeyed" ∷ port_word port ∷ decimal stream ∷ substream_word sub ∷ []
+verdict_words (Fail port stream sub cause) = codes "fail" ∷ port_word port ∷ decimal stream ∷ substream_word sub
     ∷ fail_word cause ∷ []
 verdict_words (Held port unit) = codes "held" ∷ port_word port ∷ unit_words unit []
 verdict_words (Accepted port unit effects) = codes "accepted" ∷ port_word port ∷ unit_words unit (effects_words effects)
@@ -107,7 +98,7 @@ verdict_words (RefusedPoolEmpty draws) = codes "refused" ∷ codes "poolempty" �
 verdict_words (RefusedDevice exchange code) = codes "refused" ∷ codes "devicerefused" ∷ decimal exchange
     ∷ decimal code ∷ []
 verdict_words (RefusedBusy operation) = codes "refused" ∷ codes "busy" ∷ operation_word operation ∷ []
-verdict_words (RefusedUnitOpen sub) = codes "refused" ∷ codes "unitopen" ∷ sub_word sub ∷ []
+verdict_words (RefusedUnitOpen sub) = codes "refused" ∷ codes "unitopen" ∷ substream_word sub ∷ []
 verdict_words (Packet packet bytes) = codes "packet" ∷ decimal packet ∷ bytes_word bytes ∷ []
 verdict_words (Reset link) = codes "reset" ∷ decimal link ∷ []
 verdict_words (Status link stream host device) =

@@ -3,7 +3,7 @@
 ghost use Rattle.std.specs.Prelude.{◌≡◌, ◌++◌, ◌∷◌, ◌⊎◌, List, IfOk, OnOk, codes, string_bytes};
 ghost use Rattle.std.specs.Fmt.{decimal};
 ghost use Rattle.ide_types.specs.Names.{Text, joined, port_word};
-ghost use Rattle.link_verdicts.specs.Lines.{bytes_word, unit_words, packet_words, more_packets_words, packets_words, effects_words, sync_words, line_of, totals_line_of, IsSendRefusal, IsArrival, IsOperationRefusal, IsOutcome};
+ghost use Rattle.link_verdicts.specs.Lines.{bytes_word, unit_words, sealed_words, more_packets_words, packets_words, effects_words, sync_words, line_of, totals_line_of, IsSendRefusal, IsArrival, IsOperationRefusal, IsOutcome};
 ghost use Rattle.link_verdicts.specs.Apart.{LinesApart};
 
 use crate::{Effect, Memory, SealedPacket, Totals, UnitName, Verdict};
@@ -27,7 +27,7 @@ fn sync_text(sync: bool) -> &'static str
 
 fn push_packet(text: &mut String, packet: &SealedPacket) -> Result<(), AllocError>
     ensures { OnOk result ((after : List Text) → string_bytes text.new ++ joined after ≡ string_bytes text.old
-        ++ joined (packet_words packet.now after)) }
+        ++ joined (sealed_words packet.now after)) }
 {
     let SealedPacket {
         number,
@@ -84,7 +84,8 @@ fn push_effects(text: &mut String, effects: &[Effect]) -> Result<(), AllocError>
 }
 
 fn sealed_text(alloc: Global, number: u64, packets: &[SealedPacket]) -> Result<String, AllocError>
-    ensures { IfOk result (λ s. string_bytes s ≡ decimal number ++ joined (codes "sealed" ∷ packets_words packets.now)) }
+    ensures { IfOk result (λ s. string_bytes s ≡ decimal number
+        ++ joined (codes "sealed" ∷ packets_words packets.now)) }
 {
     let mut text = format!(in alloc; "{number} sealed")?;
     push_packets(&mut text, packets)?;
@@ -115,7 +116,8 @@ fn accepted_text(
     unit: UnitName,
     effects: &[Effect],
 ) -> Result<String, AllocError>
-    ensures { IfOk result (λ s. string_bytes s ≡ decimal number ++ joined (codes "accepted" ∷ port_word port ∷ unit_words unit (effects_words effects.now))) }
+    ensures { IfOk result (λ s. string_bytes s ≡ decimal number
+        ++ joined (codes "accepted" ∷ port_word port ∷ unit_words unit (effects_words effects.now))) }
 {
     let UnitName {
         stream,

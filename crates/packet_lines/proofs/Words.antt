@@ -1,9 +1,9 @@
 -- A line of bytes has one word, so that seven tell what all do.
 use Rattle.std.proofs.Common.{◌≡◌, List, [], ◌∷◌, take, refl}
 use Rattle.ide_types.specs.Names.{Text}
-use Rattle.packet_lines.specs.Reading.{bytes_of}
+use Rattle.packet_lines.specs.Reading.{only_bytes}
 
-pub seven_words : (ws : List Text) → bytes_of (take 7 ws) ≡ bytes_of ws
+pub seven_words : (ws : List Text) → only_bytes (take 7 ws) ≡ only_bytes ws
 seven_words [] = refl
 seven_words (a ∷ []) = refl
 seven_words (a ∷ b ∷ ws) = refl

@@ -5,17 +5,17 @@ use Rattle.std.specs.Option.{ok_or, option_map}
 use Rattle.link_events.specs.declared.fault.LineFault.{LineFault}
 use Rattle.link_events.specs.declared.fault.LineFault.TheVariants.{Hex, TooLong, NotAscii}
 use Rattle.ide_types.specs.Names.{Text}
-use Rattle.link_events.specs.Words.{is_printable, words_in, bytes_in}
+use Rattle.link_events.specs.Words.{line_limit, is_printable, words_in, bytes_in}
 
 -- one word of bytes; no words are no bytes to be shown
-abbrev pub bytes_of : List Text → Result (Option Text) LineFault
-bytes_of [] = Ok None
-bytes_of (word ∷ []) = ok_or (option_map (λ bytes. Some bytes) (bytes_in word)) Hex
-bytes_of (word ∷ other ∷ rest) = Err Hex
+abbrev pub only_bytes : List Text → Result (Option Text) LineFault
+only_bytes [] = Ok None
+only_bytes (word ∷ []) = ok_or (option_map (λ bytes. Some bytes) (bytes_in word)) Hex
+only_bytes (word ∷ other ∷ rest) = Err Hex
 
 -- the bytes, none on a line of spaces, or the first fault
 abbrev pub packet_meaning : Text → Result (Option Text) LineFault
 packet_meaning line =
-    if nat_lt 20000 (length line) then Err TooLong
+    if nat_lt line_limit (length line) then Err TooLong
     else if not (list_all is_printable line) then Err NotAscii
-    else bytes_of (words_in line)
+    else only_bytes (words_in line)

@@ -5,8 +5,8 @@ use Rattle.std.specs.Result.{result_ok}
 use Rattle.tlp_layout.specs.declared.fault.TlpFault.{TlpFault}
 use Rattle.tlp_layout.specs.declared.head.HeadView.{HeadView}
 use Rattle.tlp_layout.specs.declared.head.TlpKind.{TlpKind}
-use Rattle.tlp_layout.specs.declared.head.TlpKind.TheVariants.{MemRead, MemWrite, CfgRead, CfgWrite, Message, Completion}
 use Rattle.tlp_layout.specs.declared.tlp.Tlp.{Tlp}
+use Rattle.tlp_layout.specs.declared.head.TlpKind.TheVariants.{MemRead, MemWrite, CfgRead, CfgWrite, Message, Completion}
 use Rattle.tlp_layout.specs.Class.{kind_of}
 use Rattle.tlp_layout.specs.Faults.{place_in}
 use Rattle.tlp_layout.specs.Head.{head_length}
@@ -18,7 +18,7 @@ use Rattle.ide_prefix.specs.Faults.{packet_place}
 use Rattle.ide_prefix.specs.Packet.{Packet, is_sync_packet}
 use Rattle.ide_prefix.specs.Reading.{CutValue, PlainTlp, IdePacket, cut_of}
 use Rattle.fault_words.specs.FaultWords.{packet_word, tlp_word}
-use Rattle.ide_types.specs.Names.{Text, joined, sub_word, fault_word}
+use Rattle.ide_types.specs.Names.{Text, joined, substream_word, fault_word}
 use Rattle.link_verdicts.specs.Lines.{bit_of}
 
 -- ---- names
@@ -57,7 +57,7 @@ carried p = if is_sync_packet p then None else result_ok (read_head_of p.head)
 abbrev pub prefix_words : Prefix → List Text → List Text
 prefix_words p after =
     (codes "m" ++ decimal (bit_of p.m)) ∷ (codes "k" ++ decimal (bit_of p.k)) ∷ (codes "t" ++ decimal (bit_of p.t))
-    ∷ sub_word p.sub ∷ decimal p.stream ∷ (codes "p" ++ decimal p.posted) ∷ after
+    ∷ substream_word p.sub ∷ decimal p.stream ∷ (codes "p" ++ decimal p.posted) ∷ after
 
 -- what it carries, with the lengths of its header and body
 abbrev pub carried_words : Packet → List Text

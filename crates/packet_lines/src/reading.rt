@@ -2,7 +2,7 @@
 ghost use Rattle.std.specs.Prelude.{◌≡◌, map};
 ghost use Rattle.link_events.specs.Parse.{Gives};
 ghost use Rattle.link_events.specs.Words.{words_in};
-ghost use Rattle.packet_lines.specs.Reading.{bytes_of, packet_meaning};
+ghost use Rattle.packet_lines.specs.Reading.{only_bytes, packet_meaning};
 
 use ide_types::Bytes;
 use link_events::{LINE_LIMIT, LineError, LineFault, bytes_at, is_printed, words_of};
@@ -10,7 +10,7 @@ use std::alloc::Global;
 
 // The bytes of the only word.
 fn bytes_in_words(alloc: Global, words: &[&[u8]]) -> Result<Option<Bytes>, LineError>
-    ensures { Gives (bytes_of (map (λ w. w.now) words.now)) result }
+    ensures { Gives (only_bytes (map (λ w. w.now) words.now)) result }
 {
     match words {
         [] => Ok(None),
@@ -21,7 +21,7 @@ fn bytes_in_words(alloc: Global, words: &[&[u8]]) -> Result<Option<Bytes>, LineE
 
 // The bytes of the only word of a line.
 fn bytes_on(alloc: Global, line: &[u8]) -> Result<Option<Bytes>, LineError>
-    ensures { Gives (bytes_of (words_in line.now)) result }
+    ensures { Gives (only_bytes (words_in line.now)) result }
 {
     let words = words_of(line);
     bytes_in_words(alloc, words.as_slice())

@@ -9,7 +9,7 @@ ghost use Rattle.fault_words.specs.FaultWords.{packet_word as packet_word_of};
 ghost use Rattle.ide_types.specs.Names.{Text, joined, fault_word};
 ghost use Rattle.packet_lines.specs.Showing.{carried, carried_word, carried_words, head_words, packet_words, plain_words, prefix_words, shown};
 
-use crate::names::{carried_name, kind_name, sub_name};
+use crate::names::{carried_name, kind_name};
 use fault_words::{packet_word, tlp_word};
 use ide_prefix::{Cut, PacketFault, PacketView, Prefix, cut};
 use ide_types::{Bytes, Memory};
@@ -43,7 +43,8 @@ fn plain_text(alloc: Global, number: u64, bytes: &[u8]) -> Result<String, AllocE
 }
 
 fn packet_fault_text(alloc: Global, number: u64, fault: PacketFault) -> Result<String, AllocError>
-    ensures { IfOk result (λ s. string_bytes s ≡ decimal number ++ joined (codes "ide" ∷ fault_word (packet_word_of fault) ∷ decimal (packet_place fault) ∷ [])) }
+    ensures { IfOk result (λ s. string_bytes s ≡ decimal number ++ joined (codes "ide"
+        ∷ fault_word (packet_word_of fault) ∷ decimal (packet_place fault) ∷ [])) }
 {
     let place = fault.place();
     let fault = packet_word(fault);
@@ -73,7 +74,6 @@ fn push_prefix(text: &mut String, prefix: &Prefix) -> Result<(), AllocError>
     let m = u8::from(m);
     let k = u8::from(k);
     let t = u8::from(t);
-    let sub = sub_name(sub);
     write!(text, " m{m} k{k} t{t} {sub} {stream} p{posted}")
 }
 

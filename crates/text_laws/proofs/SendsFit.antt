@@ -13,7 +13,7 @@ use Rattle.link_events.specs.declared.event.Event.TheVariants.{Send}
 use Rattle.link_verdicts.specs.declared.verdict.Verdict.{Verdict}
 use Rattle.link_verdicts.specs.declared.verdict.Verdict.TheVariants as v
 use Rattle.link_verdicts.specs.declared.verdict.SealedPacket.{SealedPacket}
-use Rattle.link_verdicts.specs.Apart.{Fits, FitPackets, FitsPacket}
+use Rattle.link_verdicts.specs.Apart.{Fits, FitPackets, FitsSealed}
 use Rattle.tlp_layout.specs.declared.tlp.Tlp.{Tlp}
 use Rattle.tlp_layout.specs.declared.fault.TlpFault.{TlpFault}
 use Rattle.tlp_layout.specs.Class.{class_of}
@@ -127,7 +127,7 @@ posted_fits : (b : Bool) (n : ℕ) → n < 2 ^ 63 → (if b then 0 else n) < 2 ^
 posted_fits true n few = omega arith
 posted_fits false n few = omega (arith, few)
 
-described_fits : (x : Lanes) (s : Sending) (u : SubKind) (number : ℕ) (m t sync : Bool) → LaneFits (x.lane u) → FitsStream s.port.link s.stream → number < 2 ^ 64 → FitsPacket (described x s u number m t sync)
+described_fits : (x : Lanes) (s : Sending) (u : SubKind) (number : ℕ) (m t sync : Bool) → LaneFits (x.lane u) → FitsStream s.port.link s.stream → number < 2 ^ 64 → FitsSealed (described x s u number m t sync)
 described_fits x s u number m t sync fits at small =
     (small, at.link_fits, at.stream_fits, omega (arith, fits.draw), omega (arith, fits.units), posted_fits (is_posted u) (x.lane u).posted fits.posted)
 

@@ -2,7 +2,7 @@
 use Rattle.std.proofs.Common.{◌≡◌, ℕ, ◌+◌, ◌<◌, ◌≤◌, Bool, true, ltb, IsTrue, List, length, get_or, take, drop, Option, Some, None, is_some, refl, sym, ap, subst, ◌∙◌, inl, inr, arith, length-take, get_or-take, take-take}
 use Rattle.std.proofs.lemmas.Bool.{cases_eq, ltb-true, lt-ltb, le-ltb, eq-eqb, ne_eqb, and_parts}
 use Rattle.std.proofs.lemmas.List.{take_all}
-use Rattle.tlp_layout.specs.{Layout, HeadView, body_size, TlpFault, SpellsHead, IsHead, head_size, layout_at, IsFault, IsHeadFault, head_of, rest_size, wants_head, wants_tlp, whole_size, may_follow, Spells, IsTlp, with_payload}
+use Rattle.tlp_layout.specs.{Layout, HeadView, body_size, TlpFault, SpellsHead, IsHead, head_size, layout_at, IsFault, IsHeadFault, head_of, rest_size, wants_head, wants_tlp, whole_size, may_follow, SpellsTlp, IsTlp, with_payload}
 use Rattle.tlp_layout.specs.declared.fault.TlpFault.TheVariants as faults
 use Rattle.tlp_layout.specs.Inside.{Agrees, Stops, StopsAt}
 use Rattle.first_fault.proofs.Cells.{IsBytes}
@@ -158,7 +158,7 @@ tlp_trails k s n wanted h e lt =
     )
 
 pub tlp_found : (k : Layout) (s : List ℕ) (n wanted : ℕ) → HasHead k s n → wanted ≡ rest_size s → length s ≡ n + wanted
-    → Spells (with_payload (head_of k s) (drop n s)) s
+    → SpellsTlp (with_payload (head_of k s) (drop n s)) s
 tlp_found k s n wanted h e long =
-    subst (λ (m : ℕ). Spells (with_payload (head_of k s) (drop m s)) s) (sym h.size)
+    subst (λ (m : ℕ). SpellsTlp (with_payload (head_of k s) (drop m s)) s) (sym h.size)
     (parts_spell k s (walked k s n h) (omega (arith, whole_is k s n h)))

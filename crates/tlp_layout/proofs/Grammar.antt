@@ -5,9 +5,9 @@ use Rattle.std.specs.Prelude.{All}
 use Rattle.std.proofs.lemmas.Bool.{cases_lt, ltb-true, lt-ltb, le-ltb, and_parts}
 use Rattle.std.proofs.lemmas.List.{get_or_past, get_or_push, take_at, take_all, get_or_append_left, get_or-append_right}
 use Rattle.std.proofs.lemmas.List.Elements.{All-from_get_or}
-use Rattle.tlp_layout.specs.{Layout, HeadView, head_bytes, FitsHead, SpellsHead, IsHead, head_size, has_data, head_of, rest_size, wants_head, wants_tlp, whole_size, may_follow, layout_of, body_size, tlp_bytes, FitsTlp, Spells, IsTlp, header, body, with_payload}
-use Rattle.tlp_layout.specs.declared.tlp.Tlp.{Tlp}
-use Rattle.tlp_layout.specs.declared.layout.Layout.TheVariants as layouts
+use Rattle.tlp_layout.specs.{Layout, HeadView, head_bytes, FitsHead, SpellsHead, IsHead, head_size, has_data, head_of, rest_size, wants_head, wants_tlp, whole_size, may_follow, layout_of, body_size, tlp_bytes, FitsTlp, SpellsTlp, IsTlp, header, body, with_payload}
+use Rattle.tlp_layout.specs.Terms.{Tlp}
+use Rattle.tlp_layout.specs.Terms.layouts
 use Rattle.tlp_layout.specs.Reading.{fields_of}
 use Rattle.first_fault.proofs.Cells.{IsBytes, all_bytes}
 use Rattle.tlp_layout.proofs.Heads.{IsRight, back, kept, again, head_size_at_least}
@@ -112,7 +112,7 @@ heads = grammar_of IsHead wants_head may_follow next_tlp left_head heads_step
 -- ---- TLPs
 
 pub spells_with : (h : HeadView) (b : List ℕ) → FitsHead h → length b ≡ body_size h.has_payload h.lead.length
-    → All (λ x. x < 256) b → Spells (with_payload h b) (head_bytes h ++ b)
+    → All (λ x. x < 256) b → SpellsTlp (with_payload h b) (head_bytes h ++ b)
 spells_with h b fits e all = record { fits = record { head = fits; size = e; bytes = all }; spelled = refl }
 
 -- bytes that are a TLP: a right header, and as many bytes behind it as it wants
@@ -183,7 +183,7 @@ head_front k s n r =
 
 -- what walks and is as long as its header says is spelled by its parts
 pub parts_spell : (k : Layout) (s : List ℕ) → IsWalked k s (length s) → length s ≡ whole_size s
-    → Spells (with_payload (head_of k s) (drop (head_size (get_or s 0 0)) s)) s
+    → SpellsTlp (with_payload (head_of k s) (drop (head_size (get_or s 0 0)) s)) s
 parts_spell k s w size =
     let n = head_size (get_or s 0 0) in
     let r = back k (take n s) (take_right k s n refl (omega (arith, size)) w) in
@@ -194,7 +194,7 @@ parts_spell k s w size =
     let bytes = All-from_get_or (λ (x : ℕ). x < 256) (drop n s) 0 (λ i lt. rw get_or-drop (w.fit (n + i) (omega (arith, length-drop n s)))) in
     let one = spells_with v (drop n s) r.fits long bytes in
     let parts : head_bytes v ++ drop n s ≡ s = ap (λ (x : List ℕ). x ++ drop n s) (sym r.spelled) ∙ take-append-drop n s in
-    subst (λ (x : HeadView). Spells (with_payload x (drop n s)) s) (sym same) (subst (Spells (with_payload v (drop n s))) parts one)
+    subst (λ (x : HeadView). SpellsTlp (with_payload x (drop n s)) s) (sym same) (subst (SpellsTlp (with_payload v (drop n s))) parts one)
 
 pub tlp_whole : (s : List ℕ) → Walks wants_tlp may_follow s → (IsTrue (wants_tlp s) → ⊥) → IsTlp s
 tlp_whole [] w done = absurd (done refl)

@@ -10,16 +10,16 @@ use Rattle.byteorder.specs.Endian.{big_bytes, big_number}
 use Rattle.byteorder.specs.Numbers.{big_from-lt, big_number-reads_back}
 use Rattle.first_fault.proofs.Cells.{IsBytes, cells, drop_cells, all_bytes}
 use Rattle.tlp_layout.specs.{Layout, Lead, HeadView, Fields, Routing, bit, routing_bits, routing_from, status_bits, status_from, head_bytes, FitsLead, FitsFields, FitsHead, SpellsHead, is_wide, has_data, head_size, layout_at, allowed, reserved, layout_of, head_of}
-use Rattle.tlp_layout.specs.declared.layout.Layout.TheVariants as layouts
+use Rattle.tlp_layout.specs.Terms.layouts
 use Rattle.tlp_layout.specs.declared.head.MemoryFields.{MemoryFields}
 use Rattle.tlp_layout.specs.declared.head.ConfigFields.{ConfigFields}
 use Rattle.tlp_layout.specs.declared.head.MessageFields.{MessageFields}
 use Rattle.tlp_layout.specs.declared.head.CompletionFields.{CompletionFields}
-use Rattle.tlp_layout.specs.declared.head.Fields.TheVariants.{Memory, Config, Message, Completion}
-use Rattle.tlp_layout.specs.declared.head.Routing.TheVariants as routings
+use Rattle.tlp_layout.specs.Terms.{Memory, Config, Message, Completion}
+use Rattle.tlp_layout.specs.Terms.routings
 use Rattle.tlp_layout.specs.Head.{address_limit, lead_bytes, address_bytes, field_bytes}
 use Rattle.tlp_layout.specs.Inside.{Agrees}
-use Rattle.tlp_layout.specs.Reading.{address_of, lead_of, fields_of}
+use Rattle.tlp_layout.specs.Reading.{address_read, lead_of, fields_of}
 use Rattle.tlp_layout.proofs.Octets.{width_of, clear_3, clear_192, clear_195, clear_240, clear_128}
 
 -- a header of this layout, byte by byte
@@ -514,7 +514,7 @@ register_again : (n : ℕ) → 64 * (n / 64) + (0x04 * (n % 64)) / 4 ≡ n
 register_again n = omega arith
 
 address_again : (w : Bool) (first x1 x2 x3 requester tag be address : ℕ) (more : List ℕ) → address < address_limit w
-    → address_of w (first ∷ x1 ∷ x2 ∷ x3 ∷ (big_bytes 2 requester ++ tag ∷ be ∷ address_bytes w address ++ more)) ≡ address
+    → address_read w (first ∷ x1 ∷ x2 ∷ x3 ∷ (big_bytes 2 requester ++ tag ∷ be ∷ address_bytes w address ++ more)) ≡ address
 address_again true first x1 x2 x3 requester tag be address more lt = big_number-reads_back 8 address [] lt
 address_again false first x1 x2 x3 requester tag be address more lt = big_number-reads_back 4 address [] lt
 

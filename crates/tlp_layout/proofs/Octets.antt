@@ -3,7 +3,7 @@ use Rattle.std.proofs.Common.{◌≡◌, ℕ, ◌%◌, ◌<◌, Bool, true, ◌&
 use Rattle.std.specs.Prelude.{◌↔◌}
 use Rattle.std.proofs.lemmas.Bool.{agree_below, agree_below_at, eqb-true, ltb-true, eq-eqb, lt-ltb, and_parts, and_from}
 use Rattle.tlp_layout.specs.{is_wide, layout_at, Layout}
-use Rattle.tlp_layout.specs.declared.layout.Layout.TheVariants as layouts
+use Rattle.tlp_layout.specs.Terms.layouts
 
 mask_is : (m : ℕ) (test : ℕ → Bool) → agree_below (λ b. eqb (bit_and m b) 0) test 256 ≡ true → (b : ℕ) → b < 256 → eqb (bit_and m b) 0 ≡ test b
 mask_is m test e b lt = agree_below_at (λ b. eqb (bit_and m b) 0) test 256 b e lt

@@ -3,9 +3,9 @@ use Rattle.std.proofs.Common.{◌≡◌, ℕ, ◌≤◌, Bool, List, [], ◌++�
 use Rattle.std.specs.Prelude.{All, ◌↔◌, IfOk, IfErr, MatchResult}
 use Rattle.std.proofs.Math.Seq.{drop-append_seam, take-append_seam}
 use Rattle.first_fault.proofs.Walks.{IsReadable, reads, read_spells, refuses, refused_at}
-use Rattle.tlp_layout.specs.{Layout, TlpFault, HeadView, TlpView, head_bytes, head_length, FitsHead, SpellsHead, IsHead, body_size, FitsTlp, tlp_bytes, Spells, IsTlp, header, body, with_payload, view_of, viewed, head_size, fault_at, IsFault, IsHeadFault, head_of, head_read, tlp_read, may_follow, wants_head, wants_tlp, read_head_of, read_of}
-use Rattle.tlp_layout.specs.declared.tlp.Tlp.{Tlp}
-use Rattle.tlp_layout.specs.declared.layout.Layout.TheVariants as layouts
+use Rattle.tlp_layout.specs.{Layout, TlpFault, HeadView, TlpView, head_bytes, head_length, FitsHead, SpellsHead, IsHead, body_size, FitsTlp, tlp_bytes, SpellsTlp, IsTlp, header, body, with_payload, view_of, viewed, head_size, fault_at, IsFault, IsHeadFault, head_of, head_read, tlp_read, may_follow, wants_head, wants_tlp, read_head_of, read_of}
+use Rattle.tlp_layout.specs.Terms.{Tlp}
+use Rattle.tlp_layout.specs.Terms.layouts
 use Rattle.tlp_layout.proofs.Heads.{kept, again}
 use Rattle.tlp_layout.proofs.Walk.{body_at_most}
 use Rattle.tlp_layout.proofs.Grammar.{spells_with, heads, tlps, head_whole, tlp_whole}
@@ -33,16 +33,16 @@ head_sized h fits =
     (kept h fits).size ∙ ap (λ (w : Bool). cond w 16 12) wide
 
 -- the parts of a TLP
-pub front_is : (t : Tlp) (s : List ℕ) → Spells t s → SpellsHead (header t) (take (head_length (header t)) s)
+pub front_is : (t : Tlp) (s : List ℕ) → SpellsTlp t s → SpellsHead (header t) (take (head_length (header t)) s)
 front_is t s p = record {
   fits = p.fits.head;
   spelled = ap (take (head_length (header t))) p.spelled ∙ rw (← head_sized (header t) p.fits.head) (take-append_seam (head_bytes (header t)) (body t));
 }
 
-pub rest_is : (t : Tlp) (s : List ℕ) → Spells t s → drop (head_length (header t)) s ≡ body t
+pub rest_is : (t : Tlp) (s : List ℕ) → SpellsTlp t s → drop (head_length (header t)) s ≡ body t
 rest_is t s p = ap (drop (head_length (header t))) p.spelled ∙ drop_front (head_bytes (header t)) (body t) _ (sym (head_sized (header t) p.fits.head))
 
-pub tlp_value : (t : Tlp) (s : List ℕ) → Spells t s → tlp_read s ≡ t
+pub tlp_value : (t : Tlp) (s : List ℕ) → SpellsTlp t s → tlp_read s ≡ t
 tlp_value t s p =
     let h = head_again (header t) (body t) p.fits.head in
     let b : drop (head_size (get_or (tlp_bytes t) 0 0)) (tlp_bytes t) ≡ body t = drop_front (head_bytes (header t)) (body t) _ (sym (kept (header t) p.fits.head).size) in
@@ -53,12 +53,12 @@ small_body t f = omega (arith, f.size, body_at_most (header t).has_payload (head
 
 -- a header and the payload that it wants
 pub spells_whole : (h : HeadView) (b : List ℕ) → FitsHead h → length b ≡ body_size h.has_payload h.lead.length
-    → All (λ x. x < 256) b → (Spells (with_payload h b) (head_bytes h ++ b)) × (header (with_payload h b) ≡ h)
+    → All (λ x. x < 256) b → (SpellsTlp (with_payload h b) (head_bytes h ++ b)) × (header (with_payload h b) ≡ h)
 spells_whole h b fits size all = (spells_with h b fits size all, refl)
 
 -- ---- one value, one fault
 
-pub same_tlp : (t u : Tlp) (s : List ℕ) → Spells t s → Spells u s → t ≡ u
+pub same_tlp : (t u : Tlp) (s : List ℕ) → SpellsTlp t s → SpellsTlp u s → t ≡ u
 same_tlp t u s p q = sym (tlp_value t s p) ∙ tlp_value u s q
 
 pub same_head : (h k : HeadView) (s : List ℕ) → SpellsHead h s → SpellsHead k s → h ≡ k
@@ -82,13 +82,13 @@ read_head_refuses f s = (
   λ e. refused_at IsHead wants_head may_follow head_read fault_at s f readable_heads e,
 )
 
-pub read_spells_tlp : (t : Tlp) (s : List ℕ) → (Spells t s) ↔ (read_of s ≡ Ok t)
+pub read_spells_tlp : (t : Tlp) (s : List ℕ) → (SpellsTlp t s) ↔ (read_of s ≡ Ok t)
 unfolding read_of
 read_spells_tlp t s = (
   λ p. reads IsTlp wants_tlp may_follow tlp_read fault_at s readable_tlps (record { tlp = t; spells = p }) ∙ ap (λ (x : Tlp). Ok x) (tlp_value t s p),
   λ e.
       let r = read_spells IsTlp wants_tlp may_follow tlp_read fault_at s t readable_tlps e in
-      subst (λ (x : Tlp). Spells x s) (sym (tlp_value r.0.tlp s r.0.spells) ∙ r.1) r.0.spells,
+      subst (λ (x : Tlp). SpellsTlp x s) (sym (tlp_value r.0.tlp s r.0.spells) ∙ r.1) r.0.spells,
 )
 
 pub read_refuses : (f : TlpFault) (s : List ℕ) → (IsFault s f) ↔ (read_of s ≡ Err f)
@@ -100,11 +100,11 @@ read_refuses f s = (
 
 -- ---- what the readers answer
 
-pub read_again : (s : List ℕ) (r : Result TlpView TlpFault) → IfOk r (λ v. Spells (view_of v) s) → IfErr r (IsFault s) → (t : Tlp) → Spells t s → MatchResult r (λ v. view_of v ≡ t) (λ _. ⊥)
+pub read_again : (s : List ℕ) (r : Result TlpView TlpFault) → IfOk r (λ v. SpellsTlp (view_of v) s) → IfErr r (IsFault s) → (t : Tlp) → SpellsTlp t s → MatchResult r (λ v. view_of v ≡ t) (λ _. ⊥)
 read_again s (Ok v) ok err t p = same_tlp (view_of v) t s ok p
 read_again s (Err f) ok err t p = err.1.not_spelled (record { tlp = t; spells = p })
 
-pub read_is : (s : List ℕ) (r : Result TlpView TlpFault) → IfOk r (λ v. Spells (view_of v) s) → IfErr r (IsFault s) → viewed r ≡ read_of s
+pub read_is : (s : List ℕ) (r : Result TlpView TlpFault) → IfOk r (λ v. SpellsTlp (view_of v) s) → IfErr r (IsFault s) → viewed r ≡ read_of s
 read_is s (Ok v) ok err = sym ((read_spells_tlp (view_of v) s).0 ok)
 read_is s (Err f) ok err = sym ((read_refuses f s).0 err)
 

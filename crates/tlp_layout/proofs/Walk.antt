@@ -4,7 +4,7 @@ use Rattle.std.proofs.Common.{◌≡◌, ℕ, zero, suc, ◌<◌, ◌≤◌, Boo
 use Rattle.std.proofs.lemmas.Bool.{cases_lt, ltb-true, lt-ltb, le-ltb, ne_eqb, and_parts, and_from, cases_eq, eq-eqb}
 use Rattle.std.proofs.lemmas.Nat.{and_comm}
 use Rattle.tlp_layout.specs.{Layout, may_follow, whole_size, is_wide, head_size, layout_at, reserved, allowed, body_size}
-use Rattle.tlp_layout.specs.declared.layout.Layout.TheVariants as layouts
+use Rattle.tlp_layout.specs.Terms.layouts
 use Rattle.tlp_layout.specs.Reading.{stands_at}
 pub use Rattle.tlp_layout.proofs.Heads.{head_size_at_least}
 

@@ -1,10 +1,8 @@
 -- Which byte may stand at each place of a header, and why another may not (PCI Express Base 6.0 section 2.2, as this
 -- profile has it: see Head).
 use Rattle.std.specs.Prelude.{ℕ, ◌+◌, ◌/◌, ◌%◌, Bool, true, List, length, slice_index, Option, Some, None, nat_lt, nat_le, ◌==◌, ◌&&◌, not, bit_and, if◌then◌else◌}
-use Rattle.tlp_layout.specs.declared.layout.Layout.{Layout}
+use Rattle.tlp_layout.specs.Terms.{Layout, TlpFault, Short, Kind, Bit, Length, Trailing}
 use Rattle.tlp_layout.specs.declared.layout.Layout.TheVariants.{Memory, Config, Message, Completion}
-use Rattle.tlp_layout.specs.declared.fault.TlpFault.{TlpFault}
-use Rattle.tlp_layout.specs.declared.fault.TlpFault.TheVariants.{Short, Kind, Bit, Length, Trailing}
 
 -- ---- byte 0: Fmt in bits 7:5, Type in bits 4:0
 
@@ -24,10 +22,10 @@ head_size b = if is_wide b then 16 else 12
 abbrev pub layout_at : ℕ → Option Layout
 layout_at b =
     if nat_le 0x80 b then None
-    else if b % 32 == 0x00 then Some Memory
-    else if is_wide b && nat_le 0x10 (b % 32) && nat_lt (b % 32) 0x16 then Some Message
-    else if not (is_wide b) && (b % 32 / 2 == 0x02) then Some Config
-    else if not (is_wide b) && (b % 32 == 0x0a) then Some Completion
+    else if b % 0x20 == 0x00 then Some Memory
+    else if is_wide b && nat_le 0x10 (b % 0x20) && nat_lt (b % 0x20) 0x16 then Some Message
+    else if not (is_wide b) && (b % 0x20 / 2 == 0x02) then Some Config
+    else if not (is_wide b) && (b % 0x20 == 0x0a) then Some Completion
     else None
 
 -- ---- the bytes behind it

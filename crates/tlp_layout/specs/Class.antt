@@ -3,12 +3,9 @@
 use Rattle.std.specs.Prelude.{Bool, ℕ, Option, Some, None, if◌then◌else◌}
 use Rattle.ide_types.specs.declared.sub.SubKind.{SubKind}
 use Rattle.ide_types.specs.declared.sub.SubKind.TheVariants.{Pr, Npr, Cpl}
-use Rattle.tlp_layout.specs.declared.head.HeadView.{HeadView}
-use Rattle.tlp_layout.specs.declared.head.Fields.{Fields}
-use Rattle.tlp_layout.specs.declared.head.Fields.TheVariants as fields
-use Rattle.tlp_layout.specs.declared.layout.Layout.{Layout}
-use Rattle.tlp_layout.specs.declared.layout.Layout.TheVariants as layouts
-use Rattle.tlp_layout.specs.declared.head.TlpKind.{TlpKind}
+use Rattle.tlp_layout.specs.Terms.{HeadView, Fields, Layout, TlpKind}
+use Rattle.tlp_layout.specs.Terms.fields
+use Rattle.tlp_layout.specs.Terms.layouts
 use Rattle.tlp_layout.specs.declared.head.TlpKind.TheVariants.{MemRead, MemWrite, CfgRead, CfgWrite, Message, Completion}
 use Rattle.tlp_layout.specs.Causes.{layout_at, has_data}
 

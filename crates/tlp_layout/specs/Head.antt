@@ -5,10 +5,7 @@
 -- writes, prefixes, the digest, processing hints, poisoned TLPs, and the headers of flit mode.
 use Rattle.std.specs.Prelude.{◌≡◌, ℕ, ◌+◌, ◌*◌, ◌/◌, ◌%◌, ◌^◌, ◌<◌, Bool, true, false, List, [], ◌∷◌, ◌++◌, length, if◌then◌else◌, All}
 use Rattle.byteorder.specs.Endian.{big_bytes}
-use Rattle.tlp_layout.specs.declared.head.Lead.{Lead}
-use Rattle.tlp_layout.specs.declared.head.HeadView.{HeadView}
-use Rattle.tlp_layout.specs.declared.head.Fields.{Fields}
-use Rattle.tlp_layout.specs.declared.head.Fields.TheVariants.{Memory, Config, Message, Completion}
+use Rattle.tlp_layout.specs.Terms.{Lead, HeadView, Fields, Memory, Config, Message, Completion}
 use Rattle.tlp_layout.specs.Numbers.{bit, routing_bits, status_bits, FitsStatus}
 
 -- Type, in bits 4:0 of byte 0

@@ -1,7 +1,6 @@
 -- What the reader's inner functions show of the bytes.
 use Rattle.std.specs.Prelude.{◌≡◌, ℕ, ◌<◌, ◌≤◌, true, false, List, length, slice_index, Some, None}
-use Rattle.tlp_layout.specs.declared.layout.Layout.{Layout}
-use Rattle.tlp_layout.specs.declared.fault.TlpFault.{TlpFault}
+use Rattle.tlp_layout.specs.Terms.{Layout, TlpFault}
 use Rattle.tlp_layout.specs.Causes.{head_size, layout_at, allowed, fault_at}
 
 -- behind byte 0 the bytes below n are those of a header of this layout

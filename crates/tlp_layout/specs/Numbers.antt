@@ -1,9 +1,8 @@
 -- The numbers of flags, routings and statuses in a header (PCI Express Base 6.0 section 2.2).
 use Rattle.std.specs.Prelude.{◌≡◌, ℕ, ◌<◌, Bool, ◌==◌, if◌then◌else◌}
-use Rattle.tlp_layout.specs.declared.head.Routing.{Routing}
-use Rattle.tlp_layout.specs.declared.head.Routing.TheVariants as routings
-use Rattle.tlp_layout.specs.declared.head.CompletionStatus.{CompletionStatus}
-use Rattle.tlp_layout.specs.declared.head.CompletionStatus.TheVariants as statuses
+use Rattle.tlp_layout.specs.Terms.{Routing, CompletionStatus}
+use Rattle.tlp_layout.specs.Terms.routings
+use Rattle.tlp_layout.specs.Terms.statuses
 
 abbrev pub bit : Bool → ℕ
 bit b = if b then 1 else 0

@@ -2,14 +2,8 @@
 use Rattle.std.specs.Prelude.{ℕ, zero, suc, ◌+◌, ◌*◌, ◌/◌, ◌%◌, Bool, true, false, List, [], ◌∷◌, length, drop, slice_index, Option, Some, None, is_some, unwrap_or, Result, nat_lt, ◌==◌, ◌&&◌, if◌then◌else◌}
 use Rattle.byteorder.specs.Endian.{big_number}
 use Rattle.first_fault.specs.Walks.{reading}
-use Rattle.tlp_layout.specs.declared.layout.Layout.{Layout}
-use Rattle.tlp_layout.specs.declared.layout.Layout.TheVariants as layouts
-use Rattle.tlp_layout.specs.declared.fault.TlpFault.{TlpFault}
-use Rattle.tlp_layout.specs.declared.head.Lead.{Lead}
-use Rattle.tlp_layout.specs.declared.head.HeadView.{HeadView}
-use Rattle.tlp_layout.specs.declared.head.Fields.{Fields}
-use Rattle.tlp_layout.specs.declared.head.Fields.TheVariants.{Memory, Config, Message, Completion}
-use Rattle.tlp_layout.specs.declared.tlp.Tlp.{Tlp}
+use Rattle.tlp_layout.specs.Terms.{Layout, TlpFault, Lead, HeadView, Fields, Memory, Config, Message, Completion, Tlp}
+use Rattle.tlp_layout.specs.Terms.layouts
 use Rattle.tlp_layout.specs.Causes.{is_wide, has_data, head_size, layout_at, allowed, fault_at}
 use Rattle.tlp_layout.specs.Numbers.{routing_from, status_from}
 use Rattle.tlp_layout.specs.Tlp.{body_size, with_payload}
@@ -19,37 +13,37 @@ use Rattle.tlp_layout.specs.Tlp.{body_size, with_payload}
 abbrev pub lead_of : List ℕ → Lead
 lead_of s = record {
   wide = is_wide (slice_index s 0);
-  tc = slice_index s 1 / 16 % 8;
-  attr = 4 * (slice_index s 1 / 4 % 2) + slice_index s 2 / 16 % 4;
+  tc = slice_index s 1 / 0x10 % 8;
+  attr = 4 * (slice_index s 1 / 4 % 2) + slice_index s 2 / 0x10 % 4;
   at = slice_index s 2 / 4 % 4;
   length = 256 * (slice_index s 2 % 4) + slice_index s 3;
 }
 
 -- T9 and T8 of byte 1 above the byte at the place
 abbrev pub tag_at : List ℕ → ℕ → ℕ
-tag_at s i = 512 * (slice_index s 1 / 128) + 256 * (slice_index s 1 / 8 % 2) + slice_index s i
+tag_at s i = 512 * (slice_index s 1 / 0x80) + 256 * (slice_index s 1 / 8 % 2) + slice_index s i
 
 -- the number of the two bytes from the place on
 abbrev pub number_at : List ℕ → ℕ → ℕ
 number_at s i = big_number 2 (drop i s)
 
-abbrev pub address_of : Bool → List ℕ → ℕ
-address_of wide s = if wide then big_number 8 (drop 8 s) else big_number 4 (drop 8 s)
+abbrev pub address_read : Bool → List ℕ → ℕ
+address_read wide s = if wide then big_number 8 (drop 8 s) else big_number 4 (drop 8 s)
 
 abbrev pub fields_of : Layout → List ℕ → Fields
 fields_of layouts.Memory s = Memory (record {
   requester = number_at s 4;
   tag = tag_at s 6;
-  last_be = slice_index s 7 / 16;
-  first_be = slice_index s 7 % 16;
-  address = address_of (is_wide (slice_index s 0)) s;
+  last_be = slice_index s 7 / 0x10;
+  first_be = slice_index s 7 % 0x10;
+  address = address_read (is_wide (slice_index s 0)) s;
 })
 fields_of layouts.Config s = Config (record {
-  one = slice_index s 0 % 32 == 0x05;
+  one = slice_index s 0 % 0x20 == 0x05;
   requester = number_at s 4;
   tag = tag_at s 6;
-  last_be = slice_index s 7 / 16;
-  first_be = slice_index s 7 % 16;
+  last_be = slice_index s 7 / 0x10;
+  first_be = slice_index s 7 % 0x10;
   destination = number_at s 8;
   register = 64 * slice_index s 10 + slice_index s 11 / 4;
 })
@@ -64,9 +58,9 @@ fields_of layouts.Message s = Message (record {
 })
 fields_of layouts.Completion s = Completion (record {
   completer = number_at s 4;
-  status = status_from (slice_index s 6 / 32);
-  bcm = slice_index s 6 / 16 % 2 == 1;
-  count = 256 * (slice_index s 6 % 16) + slice_index s 7;
+  status = status_from (slice_index s 6 / 0x20);
+  bcm = slice_index s 6 / 0x10 % 2 == 1;
+  count = 256 * (slice_index s 6 % 0x10) + slice_index s 7;
   requester = number_at s 8;
   tag = tag_at s 10;
   lower = slice_index s 11;

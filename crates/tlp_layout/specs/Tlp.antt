@@ -1,9 +1,6 @@
 -- The spelling of a TLP: its header, then its payload (PCI Express Base 6.0 section 2.2, as this profile has it).
 use Rattle.std.specs.Prelude.{◌≡◌, ℕ, ◌*◌, ◌<◌, Bool, List, ◌++◌, length, ◌==◌, if◌then◌else◌, All, Result, Ok, Err}
-use Rattle.tlp_layout.specs.declared.fault.TlpFault.{TlpFault}
-use Rattle.tlp_layout.specs.declared.head.HeadView.{HeadView}
-use Rattle.tlp_layout.specs.declared.tlp.Tlp.{Tlp}
-use Rattle.tlp_layout.specs.declared.tlp.TlpView.{TlpView}
+use Rattle.tlp_layout.specs.Terms.{TlpFault, HeadView, Tlp, TlpView}
 use Rattle.tlp_layout.specs.Head.{head_bytes, FitsHead}
 
 abbrev pub header : Tlp → HeadView
@@ -31,14 +28,14 @@ pub record FitsTlp (t : Tlp) : Type 0 where
   pub bytes : All (λ b. b < 256) (body t)
 
 -- the bytes are this TLP's
-pub record Spells (t : Tlp) (bytes : List ℕ) : Type 0 where
+pub record SpellsTlp (t : Tlp) (bytes : List ℕ) : Type 0 where
   pub fits : FitsTlp t
   pub spelled : bytes ≡ tlp_bytes t
 
 -- the bytes are a TLP's
 pub record IsTlp (bytes : List ℕ) : Type 0 where
   pub tlp : Tlp
-  pub spells : Spells tlp bytes
+  pub spells : SpellsTlp tlp bytes
 
 -- the TLP that a view shows: lent bytes are the bytes
 abbrev pub view_of : TlpView → Tlp

@@ -5,14 +5,14 @@ ghost use Rattle.tlp_layout.specs.declared.head.HeadView.{HeadView};
 ghost use Rattle.tlp_layout.specs.declared.tlp.Tlp.{Tlp};
 ghost use Rattle.tlp_layout.specs.declared.fault.TlpFault.{TlpFault};
 ghost use Rattle.tlp_layout.specs.Head.{FitsHead, SpellsHead, head_bytes, head_length};
-ghost use Rattle.tlp_layout.specs.Tlp.{Spells, FitsTlp, header, body, body_size, with_payload};
+ghost use Rattle.tlp_layout.specs.Tlp.{SpellsTlp, FitsTlp, header, body, body_size, with_payload};
 ghost use Rattle.tlp_layout.specs.Faults.{IsFault, IsHeadFault};
 ghost use Rattle.tlp_layout.specs.Reading.{read_of, read_head_of};
 
 /// Bytes spell one TLP at most, and a TLP has one spelling; so do headers.
 pub fn one_spelling()
-    ensures one_tlp { (t u : Tlp) (bytes : List ℕ) → Spells t bytes → Spells u bytes → t ≡ u }
-    ensures one_list { (t : Tlp) (a b : List ℕ) → Spells t a → Spells t b → a ≡ b }
+    ensures one_tlp { (t u : Tlp) (bytes : List ℕ) → SpellsTlp t bytes → SpellsTlp u bytes → t ≡ u }
+    ensures one_list { (t : Tlp) (a b : List ℕ) → SpellsTlp t a → SpellsTlp t b → a ≡ b }
     ensures one_head { (h k : HeadView) (bytes : List ℕ)
         → SpellsHead h bytes → SpellsHead k bytes → h ≡ k }
     ensures one_head_list { (h : HeadView) (a b : List ℕ) → SpellsHead h a → SpellsHead h b → a ≡ b }
@@ -20,7 +20,7 @@ pub fn one_spelling()
 
 /// `read_of` reads exactly what the grammar spells, and refuses all else at its first fault.
 pub fn reading_is_grammar()
-    ensures reads { (t : Tlp) (bytes : List ℕ) → (Spells t bytes) ↔ (read_of bytes ≡ Ok t) }
+    ensures reads { (t : Tlp) (bytes : List ℕ) → (SpellsTlp t bytes) ↔ (read_of bytes ≡ Ok t) }
     ensures refuses { (fault : TlpFault) (bytes : List ℕ)
         → (IsFault bytes fault) ↔ (read_of bytes ≡ Err fault) }
 {}
@@ -38,13 +38,13 @@ pub fn head_reading_is_grammar()
 pub fn parts_of_spelling()
     ensures head_size { (h : HeadView) (bytes : List ℕ)
         → SpellsHead h bytes → length bytes ≡ head_length h }
-    ensures front { (t : Tlp) (bytes : List ℕ) → Spells t bytes
+    ensures front { (t : Tlp) (bytes : List ℕ) → SpellsTlp t bytes
         → SpellsHead (header t) (take (head_length (header t)) bytes) }
     ensures sizes { (t : Tlp) → FitsTlp t → length (body t) ≤ 4096 }
     ensures whole { (h : HeadView) (payload : List ℕ) → FitsHead h
         → length payload ≡ body_size h.has_payload h.lead.length → All (λ b. b < 256) payload
-        → Spells (with_payload h payload) (head_bytes h ++ payload)
+        → SpellsTlp (with_payload h payload) (head_bytes h ++ payload)
         × (header (with_payload h payload) ≡ h) }
-    ensures rest { (t : Tlp) (bytes : List ℕ) → Spells t bytes
+    ensures rest { (t : Tlp) (bytes : List ℕ) → SpellsTlp t bytes
         → drop (head_length (header t)) bytes ≡ body t }
 {}

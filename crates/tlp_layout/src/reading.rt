@@ -2,10 +2,10 @@
 
 ghost use Rattle.std.specs.Prelude.{◌≡◌, ◌<◌, ◌≤◌, ◌+◌, Some, IfOk, IfErr, MatchResult, length, slice_index, if◌then◌else◌};
 ghost use Rattle.tlp_layout.specs.Head.{SpellsHead};
-ghost use Rattle.tlp_layout.specs.Tlp.{Spells, view_of, viewed};
+ghost use Rattle.tlp_layout.specs.Tlp.{SpellsTlp, view_of, viewed};
 ghost use Rattle.tlp_layout.specs.Causes.{layout_at as layout_named, head_size as size_named};
 ghost use Rattle.tlp_layout.specs.Faults.{IsFault, IsHeadFault};
-ghost use Rattle.tlp_layout.specs.Reading.{read_of, read_head_of, head_of, lead_of, fields_of, address_of, number_at as number_named, tag_at as tag_named};
+ghost use Rattle.tlp_layout.specs.Reading.{read_of, read_head_of, head_of, lead_of, fields_of, address_read, number_at as number_named, tag_at as tag_named};
 ghost use Rattle.tlp_layout.specs.Inside.{Agrees, Stops};
 ghost use Rattle.tlp_layout.specs.declared.tlp.Tlp.{Tlp};
 ghost use Rattle.tlp_layout.specs.declared.head.Fields.TheVariants.{Memory, Config, Message, Completion};
@@ -67,7 +67,7 @@ fn tag_at(bytes: &[u8], place: usize) -> u16
 
 fn address_at(wide: bool, bytes: &[u8]) -> u64
     requires { (if wide then 16 else 12) ≤ length bytes.now }
-    ensures { result ≡ address_of wide bytes.now }
+    ensures { result ≡ address_read wide bytes.now }
 {
     if wide {
         BigEndian::read_u64(&bytes[8..])
@@ -174,7 +174,7 @@ fn head_view(layout: Layout, bytes: &[u8]) -> HeadView
 }
 
 fn whole(bytes: &[u8]) -> Result<TlpView<'_>, TlpFault>
-    ensures ok { IfOk result (λ v. Spells (view_of v) bytes.now) }
+    ensures ok { IfOk result (λ v. SpellsTlp (view_of v) bytes.now) }
     ensures err { IfErr result (IsFault bytes.now) }
 {
     let (layout, size) = head_at(bytes)?;
@@ -194,9 +194,9 @@ fn whole(bytes: &[u8]) -> Result<TlpView<'_>, TlpFault>
 /// (PCI Express Base 6.0 section 2.2).
 pub fn read(bytes: &[u8]) -> Result<TlpView<'_>, TlpFault>
     // What is read is spelled so.
-    ensures ok { IfOk result (λ v. Spells (view_of v) bytes.now) }
+    ensures ok { IfOk result (λ v. SpellsTlp (view_of v) bytes.now) }
     // What is spelled so is read.
-    ensures only { (t : Tlp) → Spells t bytes.now → MatchResult result (λ v. view_of v ≡ t) (λ _. ⊥) }
+    ensures only { (t : Tlp) → SpellsTlp t bytes.now → MatchResult result (λ v. view_of v ≡ t) (λ _. ⊥) }
     // Bytes that are no TLP are refused at their first fault.
     ensures err { IfErr result (IsFault bytes.now) }
     // It is this function of the bytes.
