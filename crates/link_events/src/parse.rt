@@ -6,7 +6,8 @@ ghost use Rattle.link_events.specs.declared.fault.LineFault.TheVariants as fault
 ghost use Rattle.link_events.specs.Words.{words_in};
 ghost use Rattle.link_events.specs.Parse.{loss_in, operation_in, marks_in, send_in, one_number_in, two_numbers_in, alter_in, arrive_in, bytes_event_in, packet_event_of, naming_event_of, event_by, event_in, line_meaning, begins_bytes, answer_of, Gives};
 ghost use Rattle.link_events.specs.Spells.{MeaningIsSpelling, NothingIsSkipped, SpelledAreAllowed};
-ghost use Rattle.link_events.specs.Faults.{FaultsAreFirst};
+ghost use Rattle.link_events.specs.Faults.{FirstFault, FaultsAreFirst};
+ghost use Rattle.link_events.specs.Terms.{LineFault};
 
 use crate::words::{bytes_at, is_printed, lost_at, mask_at, number_at, port_at, words_of};
 use crate::{Event, LINE_LIMIT, LineError, LineFault, Loss};
@@ -231,9 +232,8 @@ fn event_on(alloc: Global, line: &[u8]) -> Result<Option<Event>, LineError>
     event_of(alloc, words.as_slice())
 }
 
-/// The event that a line without its line feed spells, None on a line of spaces and on one that begins with
-/// `#`, or the first fault of any other line (this profile). Only the events `send` and `arrive` take memory.
-pub fn parse_line(alloc: Global, line: &[u8]) -> Result<Option<Event>, LineError>
+// The event that a line spells, or its fault.
+fn event_in_line(alloc: Global, line: &[u8]) -> Result<Option<Event>, LineError>
     ensures gives { Gives (line_meaning line.now) result }
     ensures exact { begins_bytes (words_in line.now) ≡ false → result ≡ answer_of (line_meaning line.now) }
 {
@@ -247,6 +247,17 @@ pub fn parse_line(alloc: Global, line: &[u8]) -> Result<Option<Event>, LineError
         return Err(LineError::Fault(LineFault::NotAscii));
     }
     event_on(alloc, line)
+}
+
+/// The event that a line without its line feed spells, None on a line of spaces and on one that begins with
+/// `#`, or the first fault of any other line (this profile). Only the events `send` and `arrive` take memory.
+pub fn parse_line(alloc: Global, line: &[u8]) -> Result<Option<Event>, LineError>
+    ensures gives { Gives (line_meaning line.now) result }
+    ensures exact { begins_bytes (words_in line.now) ≡ false → result ≡ answer_of (line_meaning line.now) }
+    ensures first { (f : LineFault) → result ≡ Err (LineError.Fault f) → FirstFault line.now f }
+{
+    faults_are_first();
+    event_in_line(alloc, line)
 }
 
 /// A line means an event exactly where it spells it, and none exactly where it is a comment or of spaces only.

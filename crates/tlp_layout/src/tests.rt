@@ -276,13 +276,7 @@ fn check_written(
 #[test]
 fn memory_reads(rt: HostRuntime) -> Result<(), Fail> {
     let head = HeadView {
-        lead: Lead {
-            wide: false,
-            tc: 5,
-            attr: 6,
-            at: 1,
-            length: 1,
-        },
+        lead: LEAD_ABOVE,
         has_payload: false,
         fields: Fields::Memory(MemoryFields {
             requester: 0x0203,
@@ -299,10 +293,7 @@ fn memory_reads(rt: HostRuntime) -> Result<(), Fail> {
     let head = HeadView {
         lead: Lead {
             wide: true,
-            tc: 5,
-            attr: 6,
-            at: 1,
-            length: 1,
+            ..LEAD_ABOVE
         },
         has_payload: false,
         fields: Fields::Memory(MemoryFields {
@@ -323,13 +314,7 @@ fn memory_reads(rt: HostRuntime) -> Result<(), Fail> {
 #[test]
 fn memory_writes(rt: HostRuntime) -> Result<(), Fail> {
     let head = HeadView {
-        lead: Lead {
-            wide: false,
-            tc: 5,
-            attr: 6,
-            at: 1,
-            length: 1,
-        },
+        lead: LEAD_ABOVE,
         has_payload: true,
         fields: Fields::Memory(MemoryFields {
             requester: 0x0203,
@@ -346,10 +331,7 @@ fn memory_writes(rt: HostRuntime) -> Result<(), Fail> {
     let head = HeadView {
         lead: Lead {
             wide: true,
-            tc: 5,
-            attr: 6,
-            at: 1,
-            length: 1,
+            ..LEAD_ABOVE
         },
         has_payload: true,
         fields: Fields::Memory(MemoryFields {
@@ -372,13 +354,7 @@ fn memory_writes(rt: HostRuntime) -> Result<(), Fail> {
 #[test]
 fn configuration_requests(rt: HostRuntime) -> Result<(), Fail> {
     let head = HeadView {
-        lead: Lead {
-            wide: false,
-            tc: 5,
-            attr: 6,
-            at: 1,
-            length: 1,
-        },
+        lead: LEAD_ABOVE,
         has_payload: false,
         fields: Fields::Config(ConfigFields {
             one: false,
@@ -393,13 +369,7 @@ fn configuration_requests(rt: HostRuntime) -> Result<(), Fail> {
     let wanted = [0x04, 0xdc, 0x24, 1, 2, 3, 9, 0x0f, 4, 8, 0x0b, 0x14];
     check_written(&rt, rt.alloc(), head, &[], &wanted)?;
     let head = HeadView {
-        lead: Lead {
-            wide: false,
-            tc: 5,
-            attr: 6,
-            at: 1,
-            length: 1,
-        },
+        lead: LEAD_ABOVE,
         has_payload: true,
         fields: Fields::Config(ConfigFields {
             one: true,
