@@ -11,7 +11,7 @@ use Rattle.stream_rules.specs.Sending.{Sending}
 use Rattle.stream_calls.specs.Calls.{SlotCall}
 use Rattle.sub_stream.specs.declared.answer.SealedPacket.{SealedPacket}
 use Rattle.ide_stream.specs.{StreamEnd, IsSent, packets_sent, joined_packets, taken_in, end_taken, called_end, reset_end}
-use Rattle.ide_stream.specs.declared.refusal.SendRefusal.{SendRefusal}
+use Rattle.stream_lanes.specs.declared.refusal.SendRefusal.{SendRefusal}
 use Rattle.ide_port.specs.Ends.{Found, found}
 use Rattle.ide_port.specs.Kept.{NoneWaits, IsStreamOf, AreStreamsOf, IsKept, new_streams, lent_by, delivered_at, place_of}
 use Rattle.ide_port.proofs.Waiting.{none-unless, none-taken, none-called}

@@ -29,7 +29,7 @@ use Rattle.ide_port.specs.declared.answer.Sent.{Sent}
 use Rattle.ide_port.specs.declared.answer.Sent.TheVariants.{Plain, Refused, Sealed}
 use Rattle.ide_port.specs.declared.answer.Arrival.{Arrival}
 use Rattle.ide_port.specs.declared.answer.Arrival.TheVariants.{Unknown}
-use Rattle.ide_stream.specs.declared.refusal.SendRefusal.{SendRefusal}
+use Rattle.stream_lanes.specs.declared.refusal.SendRefusal.{SendRefusal}
 use Rattle.ide_port.specs.Ends.{PortEnd, Found, found, changed}
 use Rattle.ide_port.specs.Sends.{as_verdict, sent_verdict, lengths_sent, send_found}
 use Rattle.ide_port.specs.Arrivals.{TakeStep, arrival_of, take_found}

@@ -1,5 +1,1 @@
-pub mod Sealing
-pub mod Taking
-pub mod Sent
-pub mod Arriving
 pub mod Settling

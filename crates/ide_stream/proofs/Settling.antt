@@ -1,9 +1,8 @@
 -- What a stream keeps over its calls.
-use Rattle.std.proofs.Common.{◌≡◌, ℕ, ◌+◌, ◌<◌, ◌≤◌, Bool, true, false, not, ◌&&◌, ◌||◌, ◌==◌, nat_lt, nat_le, if◌then◌else◌, List, [], ◌∷◌, ◌++◌, length, Option, Some, None, Result, Ok, Err, refl, sym, ap, ◌∙◌, subst, arith}
+use Rattle.std.proofs.Common.{◌≡◌, ℕ, ◌+◌, ◌≤◌, Bool, true, false, not, if◌then◌else◌, List, [], ◌++◌, length, Some, None, Ok, refl, sym, ap, ◌∙◌, arith}
 use Rattle.ide_types.specs.declared.sub.SubKind.{SubKind}
 use Rattle.ide_types.specs.declared.sub.SubKind.TheVariants.{Pr, Npr, Cpl}
 use Rattle.ide_types.specs.declared.port.Side.{Side}
-use Rattle.ide_types.specs.declared.sub.FailCause.TheVariants as fail
 use Rattle.ide_prefix.specs.Packet.{Packet}
 use Rattle.stream_rules.specs.Sending.{Sending, sealed_by}
 use Rattle.stream_rules.specs.Stream.{Slots, TxSub, RxSub, Three, StreamState, at_sub, set_sub, slot_in, live_in, Taken, Insecure, NotKeyed, Failed, Held, Accepted, dropped_held, taken_under, state_after}
@@ -13,10 +12,9 @@ use Rattle.sub_stream.specs.declared.answer.Taken.{Taken as Answer}
 use Rattle.sub_stream.specs.declared.answer.Taken.TheVariants as answers
 use Rattle.stream_calls.specs.Calls.{SlotCall}
 use Rattle.ide_stream.specs.declared.directions.Directions.{Directions}
-use Rattle.ide_stream.specs.Ends.{StreamEnd, lanes_in, opened_after, taken_in, end_taken}
-use Rattle.ide_stream.specs.Sends.{ok_unless, refused, unless, IsSealed, IsSent, packet_lengths, joined_packets, sealing}
-use Rattle.ide_stream.specs.Lanes.{SendEnds, any_out, settled_out}
-use Rattle.ide_stream.specs.Arrivals.{ReceiveEnds, receiving, taken_among, ends_after, is_fail}
+use Rattle.ide_stream.specs.Ends.{StreamEnd, lanes_in, taken_in, end_taken}
+use Rattle.ide_stream.specs.Sends.{ok_unless, refused, unless, IsSent, sealing}
+use Rattle.stream_lanes.specs.{SendEnds, any_out, settled_out, IsSealed, packet_lengths, joined_packets, ReceiveEnds, receiving, taken_among, opened_after, ends_after, is_fail}
 use Rattle.ide_stream.specs.Both.{called_directions, settled_directions, end_of, AtMost, IsStream}
 
 -- ---- calls of key management

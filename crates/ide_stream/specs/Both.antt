@@ -1,15 +1,14 @@
 -- Both directions of a stream, and what calls of key management make of them.
-use Rattle.std.specs.Prelude.{◌≡◌, ℕ, ◌+◌, ◌≤◌, ◌&&◌, ◌||◌, Bool, true, false, [], if◌then◌else◌}
+use Rattle.std.specs.Prelude.{◌≡◌, ℕ, ◌≤◌, ◌&&◌, ◌||◌, Bool, true, false, []}
 use Rattle.ide_types.specs.declared.sub.SubKind.{SubKind}
 use Rattle.ide_types.specs.declared.port.Side.{Side}
 use Rattle.key_slots.specs.{SlotPair}
-use Rattle.stream_rules.specs.Stream.{TxSub, RxSub, Three, StreamState, at_sub}
+use Rattle.stream_rules.specs.Stream.{TxSub, Three, at_sub}
 use Rattle.sub_stream.specs.{slot_pair}
 use Rattle.stream_calls.specs.Calls.{SlotCall}
 use Rattle.ide_stream.specs.declared.directions.Directions.{Directions}
 use Rattle.ide_stream.specs.Ends.{StreamEnd}
-use Rattle.ide_stream.specs.Lanes.{SendEnds, any_out, settled_out, called_ends}
-use Rattle.ide_stream.specs.Arrivals.{ReceiveEnds, any_into, settled_into, called_receivers}
+use Rattle.stream_lanes.specs.{any_out, settled_out, called_ends, any_into, settled_into, called_receivers}
 
 -- the slots of a sender, or of a receiver
 abbrev pub pair_of : Bool → SubKind → Directions → SlotPair

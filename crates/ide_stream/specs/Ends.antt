@@ -1,13 +1,13 @@
 -- One stream at a port: what is kept, and what each call makes of it (PCI Express Base 6.0 section 6.33, in this
 -- profile).
-use Rattle.std.specs.Prelude.{ℕ, ◌+◌, Bool, List, [], Option, Some, None}
+use Rattle.std.specs.Prelude.{ℕ, ◌+◌, Bool, List, []}
 use Rattle.ide_types.specs.declared.sub.SubKind.{SubKind}
 use Rattle.ide_types.specs.declared.port.Side.{Side}
 use Rattle.ide_prefix.specs.Packet.{Packet}
 use Rattle.key_slots.specs.{SlotPair}
 use Rattle.stream_rules.specs.Sending.{Lanes}
-use Rattle.stream_rules.specs.Stream.{StreamState, Taken, Accepted, live_in, slot_in, at_sub, lanes_of, taken_by, state_after}
-use Rattle.sub_stream.specs.{opened_under}
+use Rattle.stream_rules.specs.Stream.{StreamState, Taken, lanes_of, taken_by, state_after}
+use Rattle.stream_lanes.specs.{opened_after}
 use Rattle.stream_calls.specs.Calls.{SlotCall, sends_in, pair_at, called, no_stream}
 
 -- Units of at most `mode` packets, and at most `limit` under one key; `delivered` are the packets of the last accepted
@@ -43,12 +43,6 @@ lanes_in e = lanes_of e.mode e.limit e.state
 
 abbrev pub taken_in : StreamEnd → Packet → Taken
 taken_in e p = taken_by e.mode e.closed e.state p
-
--- an accepted unit, decrypted
-abbrev pub opened_after : StreamState → Packet → Taken → List Packet
-opened_after st p (Accepted draw unit packets) =
-    opened_under (live_in (slot_in (at_sub st.rx p.prefix.sub).slots p.prefix.k)) p.prefix.sub packets
-opened_after st p taken = []
 
 abbrev pub end_taken : StreamEnd → Packet → StreamEnd
 end_taken e p =

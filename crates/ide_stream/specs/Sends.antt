@@ -1,34 +1,19 @@
 -- What a send of a stream comes to: its answer, the packets' bytes, and the stream after it.
-use Rattle.std.specs.Prelude.{ℕ, ◌≡◌, ◌+◌, Bool, List, [], ◌∷◌, ◌++◌, length, map, Option, Some, None, Result, Ok, Err}
+use Rattle.std.specs.Prelude.{ℕ, ◌≡◌, ◌+◌, Bool, List, [], ◌++◌, map, Option, Some, None, Result, Ok, Err}
 use Rattle.std.specs.Result.{result_map_both}
 use Rattle.ide_types.specs.declared.sub.SubKind.{SubKind}
 use Rattle.ide_types.specs.declared.port.PortName.{PortName}
 use Rattle.link_verdicts.specs.declared.verdict.Verdict.{Verdict}
-use Rattle.link_verdicts.specs.declared.verdict.Verdict.TheVariants as v
 use Rattle.link_verdicts.specs.declared.verdict.SealedPacket.{SealedPacket as Described}
-use Rattle.ide_prefix.specs.Packet.{Packet, packet_bytes}
+use Rattle.ide_prefix.specs.Packet.{Packet}
 use Rattle.stream_rules.specs.Sending.{Sending, refusals, first_that_holds, sealed_by}
-use Rattle.stream_rules.specs.Stream.{StreamState, sealed_all, Three, TxSub}
-use Rattle.sub_stream.specs.{numbered}
+use Rattle.stream_rules.specs.Stream.{sealed_all, Three, TxSub}
 use Rattle.sub_stream.specs.declared.answer.SealedPacket.{SealedPacket}
-use Rattle.ide_stream.specs.declared.refusal.SendRefusal.{SendRefusal}
-use Rattle.ide_stream.specs.declared.refusal.SendRefusal.TheVariants.{NoKey, Worn, Unfinished, Insecure}
+use Rattle.stream_lanes.specs.declared.refusal.SendRefusal.{SendRefusal}
+use Rattle.stream_lanes.specs.{refusal_verdict, numbered_from, joined_packets, packet_lengths}
 use Rattle.ide_stream.specs.Ends.{StreamEnd, lanes_in}
-use Rattle.ide_stream.specs.Lanes.{SendEnds, lanes_at}
 
 -- ---- the answer
-
--- the verdict of a refusal
-abbrev pub refusal_verdict : SendRefusal → Verdict
-refusal_verdict (NoKey u) = v.RefusedNoKey u
-refusal_verdict (Worn u units) = v.RefusedWorn u units
-refusal_verdict Unfinished = v.RefusedUnfinished
-refusal_verdict Insecure = v.RefusedInsecure
-
--- sealed packets as a port describes them, numbered from this number on
-abbrev pub numbered_from : PortName → ℕ → List SealedPacket → List Described
-numbered_from port number [] = []
-numbered_from port number (p ∷ ps) = numbered port number p ∷ numbered_from port (number + 1) ps
 
 -- an answer as a port says it, whose next sealed packet has this number
 abbrev pub answer_as : PortName → ℕ → Result (List SealedPacket) SendRefusal → Result (List Described) Verdict
@@ -70,13 +55,6 @@ end_sent e head payload s number =
       calls = e.calls + 1;
     }
 
-abbrev pub joined_packets : List Packet → List ℕ
-joined_packets [] = []
-joined_packets (p ∷ ps) = packet_bytes p ++ joined_packets ps
-
-abbrev pub packet_lengths : List Packet → List ℕ
-packet_lengths ps = map (λ p. length (packet_bytes p)) ps
-
 -- the lengths that an answer says
 abbrev pub lengths_said : Result (List SealedPacket) SendRefusal → List ℕ
 lengths_said (Ok ps) = map (λ (p : SealedPacket). p.length) ps
@@ -90,15 +68,3 @@ pub record IsSent (old : StreamEnd) (head payload : List ℕ) (s : Sending) (num
   pub lengths : lengths_said answer ≡ packet_lengths (packets_sent old head payload s number)
   pub bytes : after ≡ before ++ joined_packets (packets_sent old head payload s number)
   pub stream : new ≡ end_sent old head payload s number
-
--- ---- what the senders make of a TLP that is not refused
-
-pub record IsSealed (old : SendEnds) (head payload : List ℕ) (s : Sending) (number : ℕ) (sealed : List SealedPacket)
-    (before after : List ℕ) (new : SendEnds) : Type 0 where
-  pub answered : numbered_from s.port number sealed ≡ sealed_by (lanes_at old) s number
-  pub lengths : map (λ (p : SealedPacket). p.length) sealed ≡ packet_lengths (sealed_all old.fixed.closed head payload
-      (sealed_by (lanes_at old) s number) old.tx).0
-  pub bytes : after ≡ before ++ joined_packets (sealed_all old.fixed.closed head payload
-      (sealed_by (lanes_at old) s number) old.tx).0
-  pub senders : new ≡ record old
-      { tx = (sealed_all old.fixed.closed head payload (sealed_by (lanes_at old) s number) old.tx).1 }

@@ -4,10 +4,9 @@ ghost use Rattle.std.specs.Prelude.{◌≡◌, ◌<◌, not, is_ok, if◌then◌
 ghost use Rattle.key_slots.specs.{is_one, is_empty, program_answer, slot_in};
 ghost use Rattle.stream_calls.specs.Calls.{Program, Go, Halt};
 
-use crate::receive_lanes::ReceiveLanes;
-use crate::send_lanes::SendLanes;
 use ide_types::SubKind;
 use key_slots::{Key, OnlyLive, SlotEmpty};
+use stream_lanes::{ReceiveLanes, SendLanes};
 
 /// The senders and the receivers of a stream, and whether a check failed. In each call `sends` says that the senders
 /// are meant, and `set` is 0 or 1.

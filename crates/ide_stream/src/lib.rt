@@ -4,17 +4,9 @@
 #![tactic(auto)]
 
 mod directions;
-mod fixed;
-mod list;
-mod receive_lane;
-mod receive_lanes;
-mod refusal;
-mod send_lane;
-mod send_lanes;
 mod stream;
 #[cfg(test)]
 mod tests;
 
-pub use list::Sealed;
-pub use refusal::SendRefusal;
 pub use stream::{SEND_ROOM, Stream};
+pub use stream_lanes::{Sealed, SendRefusal};

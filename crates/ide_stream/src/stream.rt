@@ -11,16 +11,12 @@ ghost use Rattle.stream_calls.specs.Calls.{SlotCall, Program, Go, Halt, pair_at,
 ghost use Rattle.sub_stream.specs.{answer_of, lent_parts, mark_of};
 
 use crate::directions::Directions;
-use crate::fixed::Fixed;
-use crate::list::Sealed;
-use crate::receive_lanes::{ReceiveLanes, failed};
-use crate::refusal::SendRefusal;
-use crate::send_lanes::SendLanes;
 use ide_prefix::PacketView;
 use ide_types::{Memory, Side, StreamStatus, SubKind};
 use key_slots::{Key, OnlyLive, SlotEmpty};
 use std::alloc::Global;
 use std::marker::Model;
+use stream_lanes::{Fixed, ReceiveLanes, Sealed, SendLanes, SendRefusal, failed};
 use sub_stream::{PACKET_ROOM, PacketMark, SYNC_ROOM, Taken};
 
 /// The most bytes that one send seals: a sync packet in each of two sub-streams, and the TLP's packet.
@@ -71,7 +67,8 @@ fn status_of(failed: bool, some: bool, all: bool) -> StreamStatus
 impl Stream {
     ghost use Rattle.ide_stream.specs.Ends.{new_end, pair_in, taken_in, end_taken, called_end, reset_end};
     ghost use Rattle.ide_stream.specs.Ends.{lanes_in};
-    ghost use Rattle.ide_stream.specs.Sends.{IsSent, sending, refusal_verdict};
+    ghost use Rattle.ide_stream.specs.Sends.{IsSent, sending};
+    ghost use Rattle.stream_lanes.specs.{refusal_verdict};
 
     /// The stream `id` of a port of this side, without keys: its units have at most `mode` packets, 1, 2, 4 or 8, a key
     /// seals at most `limit` units, and of a closed one the total of units finished before stands ahead of what is

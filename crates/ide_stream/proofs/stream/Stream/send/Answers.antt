@@ -1,10 +1,9 @@
 use Rattle.std.proofs.Common.{◌≡◌, ◌+◌, None, Ok, refl, sym, ap, ◌∙◌, subst}
 use Rattle.std.specs.Option.{option_map}
 use Rattle.ide_types.specs.declared.port.Side.TheVariants.{Host}
-use Rattle.stream_rules.specs.Sending.{Sending}
 use Rattle.ide_stream.specs.Ends.{StreamEnd}
-use Rattle.ide_stream.specs.Lanes.{SendEnds}
-use Rattle.ide_stream.specs.Sends.{IsSent, refused, refusal_verdict, sending}
+use Rattle.stream_lanes.specs.{refusal_verdict}
+use Rattle.ide_stream.specs.Sends.{IsSent, refused, sending}
 use Rattle.ide_stream.specs.Both.{end_of}
 use Rattle.ide_stream.proofs.Settling.{send-kept, sent-so}
 use Rattle.ide_stream.proofs.stream.Stream.send.Goals as goal

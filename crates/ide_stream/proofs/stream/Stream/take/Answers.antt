@@ -1,9 +1,7 @@
-use Rattle.std.proofs.Common.{◌≡◌, ◌+◌, Some, Bool, sym, ap, ◌∙◌, subst}
-use Rattle.ide_prefix.specs.Packet.{Packet}
+use Rattle.std.proofs.Common.{◌+◌, sym, ap, ◌∙◌, subst}
 use Rattle.ide_prefix.specs.Cut.{packet_of_view}
-use Rattle.sub_stream.specs.{answer_of}
 use Rattle.ide_stream.specs.Ends.{StreamEnd, end_taken}
-use Rattle.ide_stream.specs.Arrivals.{ReceiveEnds, taken_among}
+use Rattle.stream_lanes.specs.{ReceiveEnds}
 use Rattle.ide_stream.specs.Both.{end_of, IsStream}
 use Rattle.ide_stream.proofs.Settling.{take-kept, end-taken}
 use Rattle.ide_stream.proofs.stream.Stream.take.Goals as goal

@@ -1,0 +1,4 @@
+pub mod Sealing
+pub mod Taking
+pub mod Sent
+pub mod Arriving

@@ -1,0 +1,303 @@
+-- What the senders of a stream make of a TLP, packet by packet.
+use Rattle.std.proofs.Common.{◌≡◌, ℕ, ◌+◌, ◌≤◌, Bool, true, false, ◌&&◌, if◌then◌else◌, List, [], ◌∷◌, ◌++◌, length, map, Option, Some, None, refl, sym, ap, ◌∙◌, subst, arith, append_assoc, append-nil}
+use Rattle.ide_types.specs.declared.sub.SubKind.{SubKind}
+use Rattle.ide_types.specs.declared.sub.SubKind.TheVariants.{Pr, Npr, Cpl}
+use Rattle.ide_types.specs.declared.port.PortName.{PortName}
+use Rattle.link_verdicts.specs.declared.verdict.Verdict.{Verdict}
+use Rattle.link_verdicts.specs.declared.verdict.SealedPacket.{SealedPacket as Described}
+use Rattle.ide_prefix.specs.Packet.{Packet, packet_bytes}
+use Rattle.stream_rules.specs.Sending.{Sending, Lanes, front_with, is_keyless, is_worn, needs_sync, refusals, first_that_holds, described, ends_unit, sets_trusted, sealed_by}
+use Rattle.stream_rules.specs.Stream.{LiveKey, TxSub, at_sub, each_sub, live_sender, packet_under, sealed_sub, sealed_one, sealed_all}
+use Rattle.sub_stream.specs.declared.answer.SealedPacket.{SealedPacket}
+use Rattle.stream_lanes.specs.Sends.{numbered_from, joined_packets, packet_lengths, IsSealed}
+use Rattle.stream_lanes.specs.declared.fixed.Fixed.{Fixed}
+use Rattle.stream_lanes.specs.Lanes.{SendEnd, SendEnds, end_at, lanes_at, tlp_said, sync_said, packet_at, sealed_ends, measured, synced, sync_packets, sync_bytes}
+use Rattle.stream_lanes.proofs.Sealing.{sync-same}
+
+-- ---- what is not refused
+
+pub record IsClear (x : SendEnds) (sub : SubKind) : Type 0 where
+  pub keyed : is_keyless (lanes_at x) sub ≡ false
+  pub npr_keyed : (needs_sync (lanes_at x) sub Npr && is_keyless (lanes_at x) Npr) ≡ false
+  pub cpl_keyed : (needs_sync (lanes_at x) sub Cpl && is_keyless (lanes_at x) Cpl) ≡ false
+  pub unworn : is_worn (lanes_at x) sub ≡ false
+  pub npr_unworn : (needs_sync (lanes_at x) sub Npr && is_worn (lanes_at x) Npr) ≡ false
+  pub cpl_unworn : (needs_sync (lanes_at x) sub Cpl && is_worn (lanes_at x) Cpl) ≡ false
+
+not_first : (b : Bool) (v : Verdict) (rest : Option Verdict) → (if b then Some v else rest) ≡ None → (b ≡ false) × (rest ≡ None)
+not_first true v rest e = absurd (cc)
+not_first false v rest e = (refl, e)
+
+pub clear-facts : (x : SendEnds) (sub : SubKind) → first_that_holds (refusals (lanes_at x) sub) ≡ None → IsClear x sub
+clear-facts x sub e =
+    let a = not_first (is_keyless (lanes_at x) sub) _ _ e in
+    let b = not_first _ _ _ a.1 in
+    let c = not_first _ _ _ b.1 in
+    let d = not_first _ _ _ c.1 in
+    let f = not_first _ _ _ d.1 in
+    let g = not_first _ _ _ f.1 in
+    let h = not_first _ _ _ g.1 in
+    record {
+      keyed = a.0;
+      npr_keyed = c.0;
+      cpl_keyed = d.0;
+      unworn = f.0;
+      npr_unworn = g.0;
+      cpl_unworn = h.0;
+    }
+
+pub when-needed : (a b : Bool) → (a && b) ≡ false → a ≡ true → b ≡ false
+when-needed true b e f = e
+when-needed false b e f = absurd (cc)
+
+-- ---- what a sync packet leaves
+
+pub synced-cpl : (b : Bool) (x : SendEnds) → (synced b Npr x).tx.cpl ≡ x.tx.cpl
+synced-cpl true x = refl
+synced-cpl false x = refl
+
+pub synced-fixed : (b : Bool) (u : SubKind) (x : SendEnds) → (synced b u x).fixed ≡ x.fixed
+synced-fixed true u x = refl
+synced-fixed false u x = refl
+
+pub end-cpl : (b : Bool) (x : SendEnds) → end_at (synced b Npr x) Cpl ≡ end_at x Cpl
+end-cpl true x = refl
+end-cpl false x = refl
+
+-- behind the sync packets the sender of the TLP is as it was
+pub end-kept : (x : SendEnds) (sub : SubKind) (b c : Bool) → b ≡ needs_sync (lanes_at x) sub Npr → c ≡ needs_sync (lanes_at x) sub Cpl
+    → end_at (synced c Cpl (synced b Npr x)) sub ≡ end_at x sub
+end-kept x Pr true true e f = refl
+end-kept x Pr true false e f = refl
+end-kept x Pr false true e f = refl
+end-kept x Pr false false e f = refl
+end-kept x Npr b c e f = rw (e, f) refl
+end-kept x Cpl b c e f = rw (e, f) refl
+
+-- ---- the packets
+
+-- neither the number nor the port is in a packet
+renumbered : (ahead : List ℕ) (o : Option (Bool × LiveKey)) (d : Described) (number : ℕ) (port : PortName) (head payload : List ℕ)
+    → packet_under ahead o d head payload ≡ packet_under ahead o (record d { number = number; port = port }) head payload
+renumbered ahead None d number port head payload = refl
+renumbered ahead (Some x) d number port head payload = refl
+
+-- a sync packet as the senders seal it is that of the rules
+sync_packet : (x : SendEnds) (d : Described) (number : ℕ) (port : PortName) (head payload : List ℕ) → d.sync ≡ true
+    → packet_at x [] [] d ≡ (sealed_one x.fixed.closed head payload (record d { number = number; port = port }) x.tx).0
+sync_packet x d number port head payload e =
+    sync-same (front_with x.fixed.closed d.unit (at_sub x.tx d.sub).total) (live_sender (at_sub x.tx d.sub).slots) d [] [] head payload e
+    ∙ renumbered (front_with x.fixed.closed d.unit (at_sub x.tx d.sub).total) (live_sender (at_sub x.tx d.sub).slots) d number port head payload
+
+tlp_packet : (x : SendEnds) (d : Described) (number : ℕ) (port : PortName) (head payload : List ℕ)
+    → packet_at x head payload d ≡ (sealed_one x.fixed.closed head payload (record d { number = number; port = port }) x.tx).0
+tlp_packet x d number port head payload =
+    renumbered (front_with x.fixed.closed d.unit (at_sub x.tx d.sub).total) (live_sender (at_sub x.tx d.sub).slots) d number port head payload
+
+-- the senders after the TLP's packet
+after_packet : (x : SendEnds) (d : Described) (p q : Packet) → p ≡ q
+    → ◌≡◌ {A = SendEnds} (record x { tx = each_sub (λ u. sealed_sub d p u (at_sub x.tx u)) }) (record x { tx = each_sub (λ u. sealed_sub d q u (at_sub x.tx u)) })
+after_packet x d p q e = ap (λ (r : Packet). record x { tx = each_sub (λ u. sealed_sub d r u (at_sub x.tx u)) }) e
+
+-- the packets that were sealed, as the senders say them, and the bytes behind others
+abbrev pub last_ends : SendEnds → Bool → Bool → SendEnds
+last_ends x b c = synced c Cpl (synced b Npr x)
+
+abbrev pub all_said : SendEnds → SubKind → Bool → Bool → List ℕ → List ℕ → Bool → Bool → List SealedPacket
+all_said x sub b c head payload t more =
+    (([] ++ sync_packets b Npr x) ++ sync_packets c Cpl (synced b Npr x))
+    ++ measured (tlp_said (end_at (last_ends x b c) sub) t more) (packet_at (last_ends x b c) head payload (tlp_said (end_at (last_ends x b c) sub) t more)) ∷ []
+
+abbrev pub all_bytes : SendEnds → SubKind → Bool → Bool → List ℕ → List ℕ → Bool → Bool → List ℕ → List ℕ
+all_bytes x sub b c head payload t more before =
+    ((before ++ sync_bytes b Npr x) ++ sync_bytes c Cpl (synced b Npr x))
+    ++ packet_bytes (packet_at (last_ends x b c) head payload (tlp_said (end_at (last_ends x b c) sub) t more))
+
+abbrev pub all_ends : SendEnds → SubKind → Bool → Bool → List ℕ → List ℕ → Bool → Bool → SendEnds
+all_ends x sub b c head payload t more =
+    sealed_ends (last_ends x b c) head payload (tlp_said (end_at (last_ends x b c) sub) t more)
+
+-- the rules' descriptions, where it is known which sync packets go first
+abbrev flagged : Bool → Bool → Lanes → Sending → ℕ → List Described
+flagged b c x s number =
+    let first = if b then described x s Npr number true false true ∷ [] else [] in
+    let second = if c then described x s Cpl (number + length first) true false true ∷ [] else [] in
+    first ++ second ++ described x s s.class (number + length first + length second) (ends_unit x s) (sets_trusted s.port s.trusted) false ∷ []
+
+pub record IsSealedAs (x : SendEnds) (head payload : List ℕ) (port : PortName) (number : ℕ) (ds : List Described) (sealed : List SealedPacket) (before after : List ℕ) (new : SendEnds) : Type 0 where
+  pub answered : numbered_from port number sealed ≡ ds
+  pub lengths : map (λ (p : SealedPacket). p.length) sealed ≡ packet_lengths (sealed_all x.fixed.closed head payload ds x.tx).0
+  pub bytes : after ≡ before ++ joined_packets (sealed_all x.fixed.closed head payload ds x.tx).0
+  pub senders : new ≡ record x { tx = (sealed_all x.fixed.closed head payload ds x.tx).1 }
+
+abbrev Runs : SendEnds → List ℕ → List ℕ → Sending → ℕ → Bool → Bool → List ℕ → List Described → Type 0
+Runs x head payload s number b c before ds =
+    let t = sets_trusted s.port s.trusted in
+    IsSealedAs x head payload s.port number ds (all_said x s.class b c head payload t s.more) before (all_bytes x s.class b c head payload t s.more before) (all_ends x s.class b c head payload t s.more)
+
+one_more : (before a : List ℕ) → ((before ++ []) ++ []) ++ a ≡ before ++ (a ++ [])
+one_more before a = simp (append_assoc, append-nil)
+
+two_more : (before a b : List ℕ) → ((before ++ a) ++ []) ++ b ≡ before ++ (a ++ (b ++ []))
+two_more before a b = simp (append_assoc, append-nil)
+
+two_behind : (before a b : List ℕ) → ((before ++ []) ++ a) ++ b ≡ before ++ (a ++ (b ++ []))
+two_behind before a b = simp (append_assoc, append-nil)
+
+three_more : (before a b c : List ℕ) → ((before ++ a) ++ b) ++ c ≡ before ++ (a ++ (b ++ (c ++ [])))
+three_more before a b c = simp (append_assoc, append-nil)
+
+abbrev as_sent : SendEnds → PortName → SubKind → Bool → Bool → Sending
+as_sent x port class more trusted =
+    record { port = port; stream = x.fixed.stream; class = class; more = more; trusted = trusted }
+
+-- no sync packet goes first
+runs_alone : (x : SendEnds) (head payload : List ℕ) (port : PortName) (class : SubKind) (more trusted : Bool) (number : ℕ) (before : List ℕ)
+    → Runs x head payload (as_sent x port class more trusted) number false false before (flagged false false (lanes_at x) (as_sent x port class more trusted) number)
+runs_alone x head payload port class more trusted number before =
+    let d = tlp_said (end_at x class) (sets_trusted port trusted) more in
+    let e = tlp_packet x d (number + 0 + 0) port head payload in
+    let n : number ≡ number + 0 + 0 = omega arith in
+    record {
+      answered = λ i. record d { number = n i; port = port } ∷ [];
+      lengths = λ i. length (packet_bytes (e i)) ∷ [];
+      bytes = one_more before (packet_bytes (packet_at x head payload d)) ∙ (λ i. before ++ (packet_bytes (e i) ++ []));
+      senders = after_packet x d _ _ e;
+    }
+
+-- those of a posted TLP
+runs_posted : (b c : Bool) (x : SendEnds) (head payload : List ℕ) (port : PortName) (more trusted : Bool) (number : ℕ) (before : List ℕ)
+    → Runs x head payload (as_sent x port Pr more trusted) number b c before (flagged b c (lanes_at x) (as_sent x port Pr more trusted) number)
+runs_posted false false x head payload port more trusted number before = runs_alone x head payload port Pr more trusted number before
+runs_posted true false x head payload port more trusted number before =
+    let d1 = sync_said (end_at x Npr) in
+    let x1 = synced true Npr x in
+    let d = tlp_said (end_at x1 Pr) (sets_trusted port trusted) more in
+    let e1 = sync_packet x d1 number port head payload refl in
+    let e = tlp_packet x1 d (number + 1 + 0) port head payload in
+    let n : number + 1 ≡ number + 1 + 0 = omega arith in
+    record {
+      answered = λ i. record d1 { number = number; port = port } ∷ record d { number = n i; port = port } ∷ [];
+      lengths = λ i. length (packet_bytes (e1 i)) ∷ length (packet_bytes (e i)) ∷ [];
+      bytes =
+          two_more before (packet_bytes (packet_at x [] [] d1)) (packet_bytes (packet_at x1 head payload d))
+          ∙ (λ i. before ++ (packet_bytes (e1 i) ++ (packet_bytes (e i) ++ [])));
+      senders = after_packet x1 d _ _ e;
+    }
+runs_posted false true x head payload port more trusted number before =
+    let d1 = sync_said (end_at x Cpl) in
+    let x1 = synced true Cpl x in
+    let d = tlp_said (end_at x1 Pr) (sets_trusted port trusted) more in
+    let e1 = sync_packet x d1 (number + 0) port head payload refl in
+    let e = tlp_packet x1 d (number + 0 + 1) port head payload in
+    let m : number ≡ number + 0 = omega arith in
+    let n : number + 1 ≡ number + 0 + 1 = omega arith in
+    record {
+      answered = λ i. record d1 { number = m i; port = port } ∷ record d { number = n i; port = port } ∷ [];
+      lengths = λ i. length (packet_bytes (e1 i)) ∷ length (packet_bytes (e i)) ∷ [];
+      bytes =
+          two_behind before (packet_bytes (packet_at x [] [] d1)) (packet_bytes (packet_at x1 head payload d))
+          ∙ (λ i. before ++ (packet_bytes (e1 i) ++ (packet_bytes (e i) ++ [])));
+      senders = after_packet x1 d _ _ e;
+    }
+runs_posted true true x head payload port more trusted number before =
+    let d1 = sync_said (end_at x Npr) in
+    let x1 = synced true Npr x in
+    let d2 = sync_said (end_at x1 Cpl) in
+    let x2 = synced true Cpl x1 in
+    let d = tlp_said (end_at x2 Pr) (sets_trusted port trusted) more in
+    let e1 = sync_packet x d1 number port head payload refl in
+    let e2 = sync_packet x1 d2 (number + 1) port head payload refl in
+    let e = tlp_packet x2 d (number + 1 + 1) port head payload in
+    record {
+      answered = refl;
+      lengths = λ i. length (packet_bytes (e1 i)) ∷ length (packet_bytes (e2 i)) ∷ length (packet_bytes (e i)) ∷ [];
+      bytes =
+          three_more before (packet_bytes (packet_at x [] [] d1)) (packet_bytes (packet_at x1 [] [] d2)) (packet_bytes (packet_at x2 head payload d))
+          ∙ (λ i. before ++ (packet_bytes (e1 i) ++ (packet_bytes (e2 i) ++ (packet_bytes (e i) ++ []))));
+      senders = after_packet x2 d _ _ e;
+    }
+
+runs : (class : SubKind) (b c : Bool) (x : SendEnds) (head payload : List ℕ) (port : PortName) (more trusted : Bool) (number : ℕ) (before : List ℕ)
+    → b ≡ needs_sync (lanes_at x) class Npr → c ≡ needs_sync (lanes_at x) class Cpl
+    → Runs x head payload (as_sent x port class more trusted) number b c before (sealed_by (lanes_at x) (as_sent x port class more trusted) number)
+runs Pr b c x head payload port more trusted number before e f =
+    subst (λ (y : Bool × Bool). Runs x head payload (as_sent x port Pr more trusted) number b c before (flagged y.0 y.1 (lanes_at x) (as_sent x port Pr more trusted) number)) (λ i. (e i, f i))
+    (runs_posted b c x head payload port more trusted number before)
+runs Npr b c x head payload port more trusted number before e f =
+    subst (λ (y : Bool × Bool). Runs x head payload (as_sent x port Npr more trusted) number y.0 y.1 before (flagged false false (lanes_at x) (as_sent x port Npr more trusted) number)) (λ i. (sym e i, sym f i))
+    (runs_alone x head payload port Npr more trusted number before)
+runs Cpl b c x head payload port more trusted number before e f =
+    subst (λ (y : Bool × Bool). Runs x head payload (as_sent x port Cpl more trusted) number y.0 y.1 before (flagged false false (lanes_at x) (as_sent x port Cpl more trusted) number)) (λ i. (sym e i, sym f i))
+    (runs_alone x head payload port Cpl more trusted number before)
+
+abbrev SealedSo : SendEnds → List ℕ → List ℕ → Sending → ℕ → SubKind → Bool → Bool → Bool → Bool → List ℕ → Type 0
+SealedSo x head payload s number sub b c t more before =
+    IsSealed x head payload s number (all_said x sub b c head payload t more) before (all_bytes x sub b c head payload t more before) (all_ends x sub b c head payload t more)
+
+pub sent-right : (x : SendEnds) (head payload : List ℕ) (s : Sending) (number : ℕ) (sub : SubKind) (b c t more : Bool) (before : List ℕ)
+    → b ≡ needs_sync (lanes_at x) sub Npr → c ≡ needs_sync (lanes_at x) sub Cpl
+    → s.stream ≡ x.fixed.stream → s.class ≡ sub → s.more ≡ more → sets_trusted s.port s.trusted ≡ t
+    → SealedSo x head payload s number sub b c t more before
+sent-right x head payload s number sub b c t more before e f stream class goes trusted =
+    let ran = runs s.class b c x head payload s.port s.more s.trusted number before (e ∙ ap (λ (u : SubKind). needs_sync (lanes_at x) u Npr) (sym class)) (f ∙ ap (λ (u : SubKind). needs_sync (lanes_at x) u Cpl) (sym class)) in
+    let so : SealedSo x head payload (record s { stream = x.fixed.stream }) number s.class b c (sets_trusted s.port s.trusted) s.more before = record {
+      answered = ran.answered;
+      lengths = ran.lengths;
+      bytes = ran.bytes;
+      senders = ran.senders;
+    } in
+    let here : SealedSo x head payload s number s.class b c (sets_trusted s.port s.trusted) s.more before =
+    subst (λ (r : Sending). SealedSo x head payload r number s.class b c (sets_trusted s.port s.trusted) s.more before) (λ i. record s { stream = sym stream i }) so in
+    subst (λ (y : SubKind × Bool × Bool). SealedSo x head payload s number y.0 b c y.1 y.2 before) (λ i. (class i, trusted i, goes i)) here
+
+-- ---- totals
+
+total_more : (b : Bool) (n : ℕ) → (if b then n + 1 else n) ≤ n + 1
+total_more true n = omega arith
+total_more false n = omega arith
+
+same_total : (n : ℕ) → n ≤ n + 1
+same_total n = omega arith
+
+pub totals-after : (x : SendEnds) (head payload : List ℕ) (sub : SubKind) (b c t more : Bool) (u : SubKind) → b ≡ needs_sync (lanes_at x) sub Npr → c ≡ needs_sync (lanes_at x) sub Cpl
+    → (at_sub (all_ends x sub b c head payload t more).tx u).total ≤ (at_sub x.tx u).total + 1
+totals-after x head payload sub b c t more u e f = by_subs sub u e f
+  where
+    posted : (b c : Bool) (u : SubKind) → (at_sub (all_ends x Pr b c head payload t more).tx u).total ≤ (at_sub x.tx u).total + 1
+    posted true true Pr = total_more _ x.tx.pr.total
+    posted true false Pr = total_more _ x.tx.pr.total
+    posted false true Pr = total_more _ x.tx.pr.total
+    posted false false Pr = total_more _ x.tx.pr.total
+    posted true true Npr = omega arith
+    posted true false Npr = omega arith
+    posted false true Npr = same_total x.tx.npr.total
+    posted false false Npr = same_total x.tx.npr.total
+    posted true true Cpl = omega arith
+    posted true false Cpl = same_total x.tx.cpl.total
+    posted false true Cpl = omega arith
+    posted false false Cpl = same_total x.tx.cpl.total
+
+    alone : (sub u : SubKind) → (at_sub (all_ends x sub false false head payload t more).tx u).total ≤ (at_sub x.tx u).total + 1
+    alone Pr u = posted false false u
+    alone Npr Pr = same_total x.tx.pr.total
+    alone Npr Npr = total_more _ x.tx.npr.total
+    alone Npr Cpl = same_total x.tx.cpl.total
+    alone Cpl Pr = same_total x.tx.pr.total
+    alone Cpl Npr = same_total x.tx.npr.total
+    alone Cpl Cpl = total_more _ x.tx.cpl.total
+
+    by_subs : (sub u : SubKind) → b ≡ needs_sync (lanes_at x) sub Npr → c ≡ needs_sync (lanes_at x) sub Cpl
+        → (at_sub (all_ends x sub b c head payload t more).tx u).total ≤ (at_sub x.tx u).total + 1
+    by_subs Pr u e f = posted b c u
+    by_subs Npr u e f = rw (e, f) (alone Npr u)
+    by_subs Cpl u e f = rw (e, f) (alone Cpl u)
+
+-- ---- what always holds
+
+pub lane-kept : (fixed : Fixed) (u : SubKind) (old new : SendEnd) (kept : TxSub) → old ≡ record { fixed = fixed; sub = u; kept = old.kept } → new ≡ record old { kept = kept }
+    → new ≡ record { fixed = fixed; sub = u; kept = new.kept }
+lane-kept fixed u old new kept is e =
+    e
+    ∙ (λ i. record { fixed = (is i).fixed; sub = (is i).sub; kept = kept })
+    ∙ (λ i. record { fixed = fixed; sub = u; kept = (sym e i).kept })

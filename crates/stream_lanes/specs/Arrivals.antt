@@ -1,0 +1,187 @@
+-- The receivers of a stream, each with the counts beside it, and what a packet makes of them.
+use Rattle.std.specs.Prelude.{◌≡◌, ℕ, ◌+◌, ◌*◌, ◌^◌, ◌≤◌, ◌<◌, Bool, true, false, not, ◌&&◌, ◌||◌, ◌==◌, nat_le, if◌then◌else◌, List, [], ◌∷◌, ◌++◌, length, Option, Some, None}
+use Rattle.ide_types.specs.Sub.{sub_bits}
+use Rattle.ide_types.specs.declared.sub.SubKind.{SubKind}
+use Rattle.ide_types.specs.declared.sub.SubKind.TheVariants.{Pr, Npr, Cpl}
+use Rattle.ide_types.specs.declared.sub.FailCause.TheVariants as fail
+use Rattle.ide_prefix.specs.Packet.{Packet}
+use Rattle.stream_rules.specs.Sending.{front_with}
+use Rattle.stream_rules.specs.Stream.{Slot, Live, LiveKey, RxSub, Three, StreamState, at_sub, set_sub, each_sub, slot_in, live_in, Taken, NotKeyed, Failed, Held, Accepted, holds_any, posted_sum, is_tagged, checked, dropped_held, accepted_sub, held_sub, taken_by, state_after}
+use Rattle.stream_rules.specs.Slots.{any_live}
+use Rattle.sub_stream.specs.{Receiver, no_slots, opened_under}
+use Rattle.sub_stream.specs.declared.answer.Taken.{Taken as Answer}
+use Rattle.sub_stream.specs.declared.answer.Taken.TheVariants as answers
+use Rattle.stream_calls.specs.Calls.{SlotCall, slots_called_into, no_stream}
+
+-- ---- one sub-stream
+
+-- a receiver with its counts; `delivered` are the packets of the unit that it accepted last, decrypted, and `takes` is
+-- how many packets it was given
+pub record ReceiveEnd : Type 0 where
+  pub sub : SubKind
+  pub mode : ℕ
+  pub closed : Bool
+  pub kept : RxSub
+  pub delivered : List Packet
+  pub takes : ℕ
+
+abbrev pub no_rx : RxSub
+no_rx = record { slots = no_slots; sum = 0; got = 0; total = 0 }
+
+abbrev pub new_receive_end : SubKind → ℕ → Bool → ReceiveEnd
+new_receive_end sub mode closed =
+    record { sub = sub; mode = mode; closed = closed; kept = no_rx; delivered = []; takes = 0 }
+
+-- the posted counts, with those of a unit, come to at most as many as there are posted packets
+abbrev pub allows : ReceiveEnd → ℕ → List Packet → Bool
+allows e got unit = (sub_bits e.sub == 0) || nat_le (e.kept.sum + posted_sum unit) got
+
+abbrev pub taken_at : ReceiveEnd → ℕ → Packet → Option LiveKey → Option LiveKey → Taken
+taken_at e got p None None = NotKeyed
+taken_at e got p None (Some y) = Failed fail.Key
+taken_at e got p (Some x) other =
+    if holds_any other || (not p.prefix.m && nat_le e.mode (length x.packets + 1)) then Failed fail.Unit
+    else if p.prefix.m then checked (is_tagged e.closed e.kept.total x p) (allows e got (x.packets ++ p ∷ [])) x p
+    else Held x.draw (x.units + 1)
+
+-- the answer to a packet of it, where so many posted packets were accepted
+abbrev pub taken_here : ReceiveEnd → ℕ → Packet → Taken
+taken_here e got p = taken_at e got p (live_in (slot_in e.kept.slots p.prefix.k))
+    (live_in (slot_in e.kept.slots (not p.prefix.k)))
+
+abbrev pub kept_after : RxSub → Packet → Taken → RxSub
+kept_after rx p (Failed cause) = dropped_held rx
+kept_after rx p (Held j n) = held_sub p.prefix.k p rx
+kept_after rx p (Accepted j n unit) = accepted_sub j p.prefix.k unit rx
+kept_after rx p taken = rx
+
+abbrev pub delivered_after : ReceiveEnd → Packet → Taken → List Packet
+delivered_after e p (Accepted j n unit) = opened_under (live_in (slot_in e.kept.slots p.prefix.k)) p.prefix.sub unit
+delivered_after e p (Failed cause) = []
+delivered_after e p (Held j n) = []
+delivered_after e p taken = e.delivered
+
+abbrev pub end_after : ReceiveEnd → Packet → Taken → ReceiveEnd
+end_after e p taken =
+    record e { kept = kept_after e.kept p taken; delivered = delivered_after e p taken; takes = e.takes + 1 }
+
+abbrev pub called_into : ReceiveEnd → SlotCall → RxSub
+called_into e call = record e.kept { slots = slots_called_into call e.kept.slots }
+
+-- of held packets stands ahead what the rules say; they are few, and their posted counts are bytes
+pub record IsHeld (ahead : List ℕ) (mode : ℕ) (closed : Bool) (total : ℕ) (x : LiveKey) : Type 0 where
+  pub front : (length x.packets == 0) ≡ false → ahead ≡ front_with closed (x.units + 1) total
+  pub posted : posted_sum x.packets ≤ 255 * length x.packets
+  pub fits : length x.packets < mode
+
+abbrev pub HoldsRight : List ℕ → ℕ → Bool → ℕ → Slot → Type 0
+HoldsRight ahead mode closed total (Live x) = IsHeld ahead mode closed total x
+HoldsRight ahead mode closed total slot = Unit {0}
+
+pub record IsReceiveLane (rx : Receiver) (closed : Bool) (sum got total : ℕ) : Type 0 where
+  pub some_mode : 0 < rx.mode
+  pub small_mode : rx.mode ≤ 8
+  pub first : HoldsRight rx.ahead rx.mode closed total rx.slots.first
+  pub second : HoldsRight rx.ahead rx.mode closed total rx.slots.second
+  pub few : rx.takes ≤ 2 ^ 40
+  pub few_sum : sum ≤ 2040 * rx.takes
+  pub few_got : got ≤ 255 * rx.takes
+  pub few_total : total ≤ rx.takes
+
+-- ---- what the code counts of an answer
+
+abbrev pub count_in : Answer → ℕ
+count_in (answers.Accepted draw unit count) = count
+count_in answer = 0
+
+abbrev pub is_fail : Answer → Bool
+is_fail (answers.Fail cause) = true
+is_fail answer = false
+
+abbrev pub lent_after : SubKind → Answer → Option SubKind
+lent_after u (answers.Accepted draw unit count) = Some u
+lent_after u answer = None
+
+-- ---- three sub-streams
+
+-- `delivered` are the packets that are lent
+pub record ReceiveEnds : Type 0 where
+  pub mode : ℕ
+  pub closed : Bool
+  pub rx : Three RxSub
+  pub delivered : List Packet
+  pub takes : ℕ
+
+abbrev pub no_receivers : Three RxSub
+no_receivers = record { pr = no_rx; npr = no_rx; cpl = no_rx }
+
+abbrev pub new_receive_ends : ℕ → Bool → ReceiveEnds
+new_receive_ends mode closed = record { mode = mode; closed = closed; rx = no_receivers; delivered = []; takes = 0 }
+
+-- the one of a sub-stream
+abbrev pub picked : {A : Type 0} → SubKind → A → A → A → A
+picked Pr a b c = a
+picked Npr a b c = b
+picked Cpl a b c = c
+
+abbrev pub lent_from : Option SubKind → ReceiveEnd → ReceiveEnd → ReceiveEnd → List Packet
+lent_from None pr npr cpl = []
+lent_from (Some u) pr npr cpl = (picked u pr npr cpl).delivered
+
+pub record IsReceiveLanes (pr npr cpl : ReceiveEnd) (takes : ℕ) : Type 0 where
+  pub is_pr : pr.sub ≡ Pr
+  pub is_npr : npr.sub ≡ Npr
+  pub is_cpl : cpl.sub ≡ Cpl
+  pub npr_mode : npr.mode ≡ pr.mode
+  pub cpl_mode : cpl.mode ≡ pr.mode
+  pub npr_closed : npr.closed ≡ pr.closed
+  pub cpl_closed : cpl.closed ≡ pr.closed
+  pub npr_order : npr.kept.sum ≤ pr.kept.got
+  pub cpl_order : cpl.kept.sum ≤ pr.kept.got
+  pub few_pr : pr.takes ≤ takes
+  pub few_npr : npr.takes ≤ takes
+  pub few_cpl : cpl.takes ≤ takes
+  pub few : takes ≤ 2 ^ 40
+
+-- an accepted unit, decrypted
+abbrev pub opened_after : StreamState → Packet → Taken → List Packet
+opened_after st p (Accepted draw unit packets) =
+    opened_under (live_in (slot_in (at_sub st.rx p.prefix.sub).slots p.prefix.k)) p.prefix.sub packets
+opened_after st p taken = []
+
+-- a stream of which only the receivers are looked at
+abbrev pub receiving : ReceiveEnds → StreamState
+receiving x = record no_stream { rx = x.rx }
+
+abbrev pub taken_among : ReceiveEnds → Packet → Taken
+taken_among x p = taken_by x.mode x.closed (receiving x) p
+
+abbrev pub ends_after : ReceiveEnds → Packet → Taken → ReceiveEnds
+ends_after x p taken = record x {
+  rx = (state_after (receiving x) p taken).rx;
+  delivered = opened_after (receiving x) p taken;
+  takes = x.takes + 1;
+}
+
+abbrev pub any_into : Three RxSub → Bool
+any_into rx = any_live rx.pr.slots || any_live rx.npr.slots || any_live rx.cpl.slots
+
+abbrev pub all_into : Three RxSub → Bool
+all_into rx = any_live rx.pr.slots && any_live rx.npr.slots && any_live rx.cpl.slots
+
+-- they count from 0 where none has a Live slot
+abbrev pub settled_into : Three RxSub → Three RxSub
+settled_into rx =
+    let into = any_into rx in
+    each_sub (λ u. record {
+      slots = (at_sub rx u).slots;
+      sum = if into then (at_sub rx u).sum else 0;
+      got = if into then (at_sub rx u).got else 0;
+      total = if into then (at_sub rx u).total else 0;
+    })
+
+-- a call, after which nothing is lent
+abbrev pub called_receivers : ReceiveEnds → SubKind → SlotCall → ReceiveEnds
+called_receivers x u call =
+    let rx = at_sub x.rx u in
+    record x { rx = set_sub x.rx u (record rx { slots = slots_called_into call rx.slots }); delivered = [] }

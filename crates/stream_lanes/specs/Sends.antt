@@ -1,0 +1,44 @@
+-- What a send comes to at the senders of a stream: its answer, and the packets' bytes.
+use Rattle.std.specs.Prelude.{ℕ, ◌≡◌, ◌+◌, List, [], ◌∷◌, ◌++◌, length, map}
+use Rattle.ide_types.specs.declared.port.PortName.{PortName}
+use Rattle.link_verdicts.specs.declared.verdict.Verdict.{Verdict}
+use Rattle.link_verdicts.specs.declared.verdict.Verdict.TheVariants as v
+use Rattle.link_verdicts.specs.declared.verdict.SealedPacket.{SealedPacket as Described}
+use Rattle.ide_prefix.specs.Packet.{Packet, packet_bytes}
+use Rattle.stream_rules.specs.Sending.{Sending, sealed_by}
+use Rattle.stream_rules.specs.Stream.{sealed_all}
+use Rattle.sub_stream.specs.{numbered}
+use Rattle.sub_stream.specs.declared.answer.SealedPacket.{SealedPacket}
+use Rattle.stream_lanes.specs.declared.refusal.SendRefusal.{SendRefusal}
+use Rattle.stream_lanes.specs.declared.refusal.SendRefusal.TheVariants.{NoKey, Worn, Unfinished, Insecure}
+use Rattle.stream_lanes.specs.Lanes.{SendEnds, lanes_at}
+
+-- the verdict of a refusal
+abbrev pub refusal_verdict : SendRefusal → Verdict
+refusal_verdict (NoKey u) = v.RefusedNoKey u
+refusal_verdict (Worn u units) = v.RefusedWorn u units
+refusal_verdict Unfinished = v.RefusedUnfinished
+refusal_verdict Insecure = v.RefusedInsecure
+
+-- sealed packets as a port describes them, numbered from this number on
+abbrev pub numbered_from : PortName → ℕ → List SealedPacket → List Described
+numbered_from port number [] = []
+numbered_from port number (p ∷ ps) = numbered port number p ∷ numbered_from port (number + 1) ps
+
+abbrev pub joined_packets : List Packet → List ℕ
+joined_packets [] = []
+joined_packets (p ∷ ps) = packet_bytes p ++ joined_packets ps
+
+abbrev pub packet_lengths : List Packet → List ℕ
+packet_lengths ps = map (λ p. length (packet_bytes p)) ps
+
+-- what the senders make of a TLP that is not refused
+pub record IsSealed (old : SendEnds) (head payload : List ℕ) (s : Sending) (number : ℕ) (sealed : List SealedPacket)
+    (before after : List ℕ) (new : SendEnds) : Type 0 where
+  pub answered : numbered_from s.port number sealed ≡ sealed_by (lanes_at old) s number
+  pub lengths : map (λ (p : SealedPacket). p.length) sealed ≡ packet_lengths (sealed_all old.fixed.closed head payload
+      (sealed_by (lanes_at old) s number) old.tx).0
+  pub bytes : after ≡ before ++ joined_packets (sealed_all old.fixed.closed head payload
+      (sealed_by (lanes_at old) s number) old.tx).0
+  pub senders : new ≡ record old
+      { tx = (sealed_all old.fixed.closed head payload (sealed_by (lanes_at old) s number) old.tx).1 }

@@ -1,0 +1,234 @@
+//! The receiver of one sub-stream, with the counts beside it.
+
+ghost use Rattle.std.specs.Prelude.{◌≡◌, ◌+◌, ◌-◌, ◌*◌, ◌<◌, ◌≤◌, ◌^◌, ◌==◌, Some, true, false, not, length, map, slice_get, is_ok, if◌then◌else◌};
+ghost use Rattle.ide_types.specs.Sub.{sub_bits};
+ghost use Rattle.ide_prefix.specs.Cut.{packet_of_view, IsView};
+ghost use Rattle.key_slots.specs.{is_one, is_empty, program_answer, slot_in as key_slot_in};
+ghost use Rattle.stream_rules.specs.Sending.{is_posted};
+ghost use Rattle.stream_rules.specs.Stream.{dropped_held};
+ghost use Rattle.stream_rules.specs.Slots.{any_live};
+ghost use Rattle.sub_stream.specs.{answer_of, lent_parts, mark_of, slot_pair};
+ghost use Rattle.sub_stream.specs.Receivers.{is_accepted};
+ghost use Rattle.stream_calls.specs.Calls.{Program, Go, Halt};
+ghost use Rattle.stream_lanes.specs.Arrivals.{new_receive_end, no_rx, taken_here, end_after, called_into, count_in};
+
+use crate::fixed::{Fixed, front};
+use ide_prefix::PacketView;
+use ide_types::SubKind;
+use key_slots::{Key, OnlyLive, SlotEmpty};
+use std::marker::Model;
+use sub_stream::{PacketMark, Rx, Taken};
+use unit_aggregation::UnitBuf;
+
+/// A receiver of one sub-stream with its counts. In each call `set` is 0 or 1.
+#[derive(Drop)]
+pub struct ReceiveLane {
+    rx: Rx,
+    sub: SubKind,
+    closed: bool,
+    // of the units accepted while the direction had a Live key: the sum of the posted counts of their packets, how many
+    // packets, and how many units
+    sum: u64,
+    got: u64,
+    total: u64,
+}
+
+impl Model for ReceiveLane {
+    ghost use Rattle.stream_lanes.specs.Arrivals.{ReceiveEnd, IsReceiveLane};
+
+    ghost Value = { ReceiveEnd };
+
+    ghost view = { λ r. record {
+      sub = r.sub;
+      mode = r.rx.mode;
+      closed = r.closed;
+      kept = record {
+        slots = r.rx.slots;
+        sum = r.sum;
+        got = r.got;
+        total = r.total;
+      };
+      delivered = r.rx.delivered;
+      takes = r.rx.takes;
+    } };
+
+    ghost invariant = { λ r. IsReceiveLane r.rx r.closed r.sum r.got r.total };
+}
+
+// The sum to which the posted counts of a unit may come, where so many posted packets were accepted; any in the posted
+// sub-stream.
+fn allowed_sum(sub: SubKind, sum: u64, got: u64) -> u64
+    requires { is_posted sub ≡ false → sum ≤ got }
+    ensures { result ≡ (if sub_bits sub == 0 then u64.MAX else got - sum) }
+{
+    if sub == SubKind::Pr {
+        u64::MAX
+    } else {
+        got - sum
+    }
+}
+
+// Counts an accepted unit, whose posted counts come to `posted`.
+fn count(taken: &Taken, posted: u64, sum: &mut u64, got: &mut u64, total: &mut u64)
+    requires posted { posted ≤ 2040 }
+    requires sum { sum.old < 2 ^ 60 }
+    requires got { got.old < 2 ^ 60 }
+    requires total { total.old < 2 ^ 60 }
+    ensures sum { sum.new ≡ (if is_accepted taken.now then sum.old + posted else sum.old) }
+    ensures got { got.new ≡ (if is_accepted taken.now then got.old + count_in taken.now else got.old) }
+    ensures total { total.new ≡ (if is_accepted taken.now then total.old + 1 else total.old) }
+    ensures few { got.new ≤ got.old + 255 }
+{
+    if let Taken::Accepted { count, .. } = taken {
+        *sum += posted;
+        *got += u64::from(*count);
+        *total += 1;
+    }
+}
+
+impl ReceiveLane {
+    /// A receiver with no key, for whose units `buf` was reserved.
+    pub fn make(fixed: Fixed, sub: SubKind, buf: UnitBuf) -> ReceiveLane
+        requires some { 1 ≤ fixed.mode }
+        requires few { fixed.mode ≤ 8 }
+        requires same { buf.mode ≡ fixed.mode }
+        ensures { result ≡ new_receive_end sub fixed.mode fixed.closed }
+    {
+        ReceiveLane {
+            rx: Rx::make(fixed.stream, sub, fixed.mode, buf),
+            sub,
+            closed: fixed.closed,
+            sum: 0,
+            got: 0,
+            total: 0,
+        }
+    }
+
+    /// Whether a slot is Live.
+    pub fn is_live(&self) -> bool
+        ensures { result ≡ any_live self.now.kept.slots }
+    {
+        self.rx.slots().live().is_some()
+    }
+
+    /// How many packets of accepted units came.
+    pub fn got(&self) -> u64
+        ensures { result ≡ self.now.kept.got }
+    {
+        self.got
+    }
+
+    /// Takes a packet of this sub-stream, where `got` posted packets were accepted, and answers what became of it.
+    pub fn take(&mut self, packet: &PacketView, got: u64) -> Taken
+        requires view { IsView packet.now }
+        requires sub { packet.now.prefix.sub ≡ self.old.sub }
+        requires few { self.old.takes < 2 ^ 40 }
+        requires order { is_posted self.old.sub ≡ false → self.old.kept.sum ≤ got }
+        ensures answer { Some result ≡ answer_of (taken_here self.old got (packet_of_view packet.now)) }
+        ensures lane { self.new ≡ end_after self.old (packet_of_view packet.now)
+            (taken_here self.old got (packet_of_view packet.now)) }
+    {
+        let total = self.total.to_be_bytes();
+        let front = front(self.closed, &total);
+        let allowed = allowed_sum(self.sub, self.sum, got);
+        let taken = self.rx.take(packet, allowed, front);
+        let posted = self.rx.posted();
+        count(
+            &taken,
+            posted,
+            &mut self.sum,
+            &mut self.got,
+            &mut self.total,
+        );
+        taken
+    }
+
+    /// Drops what is held.
+    pub fn drop_held(&mut self)
+        ensures kept { self.new.kept ≡ dropped_held self.old.kept }
+        ensures rest { self.new ≡ record self.old { kept = self.new.kept; delivered = self.new.delivered } }
+    {
+        self.rx.drop_held();
+    }
+
+    /// How many packets the unit has that the last call accepted, at most 8.
+    pub fn delivered(&self) -> usize
+        ensures value { result ≡ length self.now.delivered }
+        ensures most { result ≤ 8 }
+    {
+        self.rx.delivered()
+    }
+
+    /// The header and the decrypted payload of packet `i` of that unit.
+    pub fn packet(&self, i: usize) -> (&[u8], &[u8])
+        requires { i < length self.now.delivered }
+        ensures { slice_get (map lent_parts self.now.delivered) i ≡ Some (result.0.now, result.1.now) }
+    {
+        self.rx.packet(i)
+    }
+
+    /// Whether packet `i` of that unit is trusted, and whether it is a sync packet.
+    pub fn mark(&self, i: usize) -> PacketMark
+        requires { i < length self.now.delivered }
+        ensures { slice_get (map mark_of self.now.delivered) i ≡ Some result }
+    {
+        self.rx.mark(i)
+    }
+
+    /// Counts from 0 again.
+    pub fn forget(&mut self)
+        requires { any_live self.old.kept.slots ≡ false }
+        ensures { self.new ≡ record self.old {
+          kept = record {
+            slots = self.old.kept.slots;
+            sum = 0;
+            got = 0;
+            total = 0;
+          };
+        } }
+    {
+        self.sum = 0;
+        self.got = 0;
+        self.total = 0;
+    }
+
+    /// Puts a key of this draw into the slot, as the receiver does.
+    pub fn program(&mut self, set: u8, key: Key, draw: u32) -> Result<(), OnlyLive>
+        requires { set < 2 }
+        ensures answer { result ≡ program_answer (slot_pair false self.old.kept.slots) (is_one set) key }
+        ensures kept { self.new.kept ≡ called_into self.old (Program (is_one set) key draw) }
+        ensures rest { self.new ≡ record self.old { kept = self.new.kept; delivered = self.new.delivered } }
+    {
+        self.rx.program(set, key, draw)
+    }
+
+    /// GO.
+    pub fn go(&mut self, set: u8) -> Result<(), SlotEmpty>
+        requires { set < 2 }
+        ensures answer { is_ok result ≡ not (is_empty (key_slot_in (slot_pair false self.old.kept.slots) (is_one set))) }
+        ensures kept { self.new.kept ≡ called_into self.old (Go (is_one set)) }
+        ensures rest { self.new ≡ record self.old { kept = self.new.kept; delivered = self.new.delivered } }
+    {
+        self.rx.go(set)
+    }
+
+    /// STOP.
+    pub fn halt(&mut self, set: u8)
+        requires { set < 2 }
+        ensures kept { self.new.kept ≡ called_into self.old (Halt (is_one set)) }
+        ensures rest { self.new ≡ record self.old { kept = self.new.kept; delivered = self.new.delivered } }
+    {
+        self.rx.halt(set);
+    }
+
+    /// Empties both slots, drops what is held, and counts from 0 again.
+    pub fn clear(&mut self)
+        ensures kept { self.new.kept ≡ no_rx }
+        ensures rest { self.new ≡ record self.old { kept = self.new.kept; delivered = self.new.delivered } }
+    {
+        self.rx.clear();
+        self.sum = 0;
+        self.got = 0;
+        self.total = 0;
+    }
+}

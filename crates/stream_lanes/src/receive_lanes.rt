@@ -1,0 +1,285 @@
+//! The receivers of a stream.
+
+ghost use Rattle.std.specs.Prelude.{◌≡◌, ◌+◌, ◌<◌, ◌≤◌, ◌^◌, [], Some, IfOk, true, false, not, length, map, slice_get, is_ok, if◌then◌else◌};
+ghost use Rattle.ide_types.specs.Sub.{is_same_sub};
+ghost use Rattle.ide_types.specs.declared.sub.SubKind.TheVariants.{Pr, Npr, Cpl};
+ghost use Rattle.ide_prefix.specs.Cut.{packet_of_view, IsView};
+ghost use Rattle.key_slots.specs.{is_one, is_empty, program_answer, slot_in as key_slot_in};
+ghost use Rattle.stream_rules.specs.Stream.{at_sub, dropped_held};
+ghost use Rattle.sub_stream.specs.{answer_of, lent_parts, mark_of, slot_pair};
+ghost use Rattle.stream_calls.specs.Calls.{Program, Go, Halt};
+ghost use Rattle.stream_lanes.specs.Arrivals.{new_receive_ends, picked, taken_here, end_after, taken_among, ends_after, is_fail, lent_after, any_into, all_into, settled_into, called_receivers, no_receivers};
+
+use crate::fixed::Fixed;
+use crate::receive_lane::ReceiveLane;
+use ide_prefix::PacketView;
+use ide_types::{Memory, SubKind};
+use key_slots::{Key, OnlyLive, SlotEmpty};
+use std::alloc::Global;
+use std::marker::Model;
+use sub_stream::{PacketMark, Taken};
+use unit_aggregation::UnitBuf;
+
+/// The receivers of a stream. In each call `set` is 0 or 1.
+#[derive(Drop)]
+pub struct ReceiveLanes {
+    pr: ReceiveLane,
+    npr: ReceiveLane,
+    cpl: ReceiveLane,
+    // the sub-stream whose last unit is lent
+    lent: Option<SubKind>,
+    takes: u64,
+}
+
+impl Model for ReceiveLanes {
+    ghost use Rattle.stream_lanes.specs.Arrivals.{ReceiveEnds, IsReceiveLanes, lent_from};
+
+    ghost Value = { ReceiveEnds };
+
+    ghost view = { λ r. record {
+      mode = r.pr.mode;
+      closed = r.pr.closed;
+      rx = record {
+        pr = r.pr.kept;
+        npr = r.npr.kept;
+        cpl = r.cpl.kept;
+      };
+      delivered = lent_from r.lent r.pr r.npr r.cpl;
+      takes = r.takes;
+    } };
+
+    ghost invariant = { λ r. IsReceiveLanes r.pr r.npr r.cpl r.takes };
+}
+
+// The one of a sub-stream.
+fn pick<'a>(
+    sub: SubKind,
+    pr: &'a ReceiveLane,
+    npr: &'a ReceiveLane,
+    cpl: &'a ReceiveLane,
+) -> &'a ReceiveLane
+    ensures { result.now ≡ picked sub pr.now npr.now cpl.now }
+{
+    match sub {
+        SubKind::Pr => pr,
+        SubKind::Npr => npr,
+        SubKind::Cpl => cpl,
+    }
+}
+
+// Takes a packet in its sub-stream.
+fn take_in(
+    packet: &PacketView,
+    pr: &mut ReceiveLane,
+    npr: &mut ReceiveLane,
+    cpl: &mut ReceiveLane,
+) -> Taken
+    requires view { IsView packet.now }
+    requires pr { pr.old.sub ≡ Pr }
+    requires npr { npr.old.sub ≡ Npr }
+    requires cpl { cpl.old.sub ≡ Cpl }
+    requires few_pr { pr.old.takes < 2 ^ 40 }
+    requires few_npr { npr.old.takes < 2 ^ 40 }
+    requires few_cpl { cpl.old.takes < 2 ^ 40 }
+    requires npr_order { npr.old.kept.sum ≤ pr.old.kept.got }
+    requires cpl_order { cpl.old.kept.sum ≤ pr.old.kept.got }
+    ensures answer { let p = packet_of_view packet.now in
+        Some result ≡ answer_of (taken_here (picked p.prefix.sub pr.old npr.old cpl.old) pr.old.kept.got p) }
+    ensures pr { let p = packet_of_view packet.now in
+        pr.new ≡ (if is_same_sub p.prefix.sub Pr then end_after pr.old p (taken_here pr.old pr.old.kept.got p)
+        else pr.old) }
+    ensures npr { let p = packet_of_view packet.now in npr.new ≡ (if is_same_sub p.prefix.sub Npr then end_after npr.old
+        p (taken_here npr.old pr.old.kept.got p) else npr.old) }
+    ensures cpl { let p = packet_of_view packet.now in cpl.new ≡ (if is_same_sub p.prefix.sub Cpl then end_after cpl.old
+        p (taken_here cpl.old pr.old.kept.got p) else cpl.old) }
+{
+    let got = pr.got();
+    match packet.prefix.sub {
+        SubKind::Pr => pr.take(packet, got),
+        SubKind::Npr => npr.take(packet, got),
+        SubKind::Cpl => cpl.take(packet, got),
+    }
+}
+
+/// Whether a check failed.
+pub fn failed(taken: &Taken) -> bool
+    ensures { result ≡ is_fail taken.now }
+{
+    matches!(taken, Taken::Fail(_))
+}
+
+// Drops what is held, where a check failed.
+fn drop_failed(taken: &Taken, lane: &mut ReceiveLane)
+    ensures kept { lane.new.kept ≡ (if is_fail taken.now then dropped_held lane.old.kept else lane.old.kept) }
+    ensures delivered { is_fail taken.now ≡ false → lane.new.delivered ≡ lane.old.delivered }
+    ensures rest { lane.new ≡ record lane.old { kept = lane.new.kept; delivered = lane.new.delivered } }
+{
+    if failed(taken) {
+        lane.drop_held();
+    }
+}
+
+// The sub-stream whose unit was accepted.
+fn lends(sub: SubKind, taken: &Taken) -> Option<SubKind>
+    ensures { result ≡ lent_after sub taken.now }
+{
+    match taken {
+        Taken::Accepted { .. } => Some(sub),
+        _ => None,
+    }
+}
+
+impl ReceiveLanes {
+    /// Receivers with no keys.
+    pub fn make(alloc: Global, fixed: Fixed) -> Result<ReceiveLanes, Memory>
+        requires some { 1 ≤ fixed.mode }
+        requires few { fixed.mode ≤ 8 }
+        ensures { IfOk result (λ r. r ≡ new_receive_ends fixed.mode fixed.closed) }
+    {
+        let pr = UnitBuf::reserve(alloc, fixed.mode)?;
+        let npr = UnitBuf::reserve(alloc, fixed.mode)?;
+        let cpl = UnitBuf::reserve(alloc, fixed.mode)?;
+        Ok(ReceiveLanes {
+            pr: ReceiveLane::make(fixed, SubKind::Pr, pr),
+            npr: ReceiveLane::make(fixed, SubKind::Npr, npr),
+            cpl: ReceiveLane::make(fixed, SubKind::Cpl, cpl),
+            lent: None,
+            takes: 0,
+        })
+    }
+
+    /// Whether a slot is Live.
+    pub fn any_live(&self) -> bool
+        ensures { result ≡ any_into self.now.rx }
+    {
+        self.pr.is_live() || self.npr.is_live() || self.cpl.is_live()
+    }
+
+    /// Whether each sub-stream has a Live slot.
+    pub fn all_live(&self) -> bool
+        ensures { result ≡ all_into self.now.rx }
+    {
+        self.pr.is_live() && self.npr.is_live() && self.cpl.is_live()
+    }
+
+    /// Takes a packet, while the stream has not failed, and answers what became of it.
+    pub fn take(&mut self, packet: &PacketView) -> Taken
+        requires view { IsView packet.now }
+        requires few { self.old.takes < 2 ^ 40 }
+        ensures answer { Some result ≡ answer_of (taken_among self.old (packet_of_view packet.now)) }
+        ensures lanes { self.new ≡ ends_after self.old (packet_of_view packet.now)
+            (taken_among self.old (packet_of_view packet.now)) }
+    {
+        let sub = packet.prefix.sub;
+        self.takes += 1;
+        let taken = take_in(packet, &mut self.pr, &mut self.npr, &mut self.cpl);
+        drop_failed(&taken, &mut self.pr);
+        drop_failed(&taken, &mut self.npr);
+        drop_failed(&taken, &mut self.cpl);
+        self.lent = lends(sub, &taken);
+        taken
+    }
+
+    /// Lends nothing any more.
+    pub fn unlend(&mut self)
+        ensures { self.new ≡ record self.old { delivered = [] } }
+    {
+        self.lent = None;
+    }
+
+    /// How many packets are lent, at most 8.
+    pub fn delivered(&self) -> usize
+        ensures value { result ≡ length self.now.delivered }
+        ensures most { result ≤ 8 }
+    {
+        match self.lent {
+            Some(sub) => pick(sub, &self.pr, &self.npr, &self.cpl).delivered(),
+            None => 0,
+        }
+    }
+
+    /// The header and the decrypted payload of packet `i` of what is lent.
+    pub fn packet(&self, i: usize) -> (&[u8], &[u8])
+        requires { i < length self.now.delivered }
+        ensures { slice_get (map lent_parts self.now.delivered) i ≡ Some (result.0.now, result.1.now) }
+    {
+        match self.lent {
+            Some(sub) => pick(sub, &self.pr, &self.npr, &self.cpl).packet(i),
+            None => unreachable!(),
+        }
+    }
+
+    /// Whether packet `i` of what is lent is trusted, and whether it is a sync packet.
+    pub fn mark(&self, i: usize) -> PacketMark
+        requires { i < length self.now.delivered }
+        ensures { slice_get (map mark_of self.now.delivered) i ≡ Some result }
+    {
+        match self.lent {
+            Some(sub) => pick(sub, &self.pr, &self.npr, &self.cpl).mark(i),
+            None => unreachable!(),
+        }
+    }
+
+    /// They count from 0 where none has a Live slot.
+    pub fn settle(&mut self)
+        ensures { self.new ≡ record self.old { rx = settled_into self.old.rx } }
+    {
+        if !self.any_live() {
+            self.pr.forget();
+            self.npr.forget();
+            self.cpl.forget();
+        }
+    }
+
+    /// Puts a key of this draw into a slot, as a receiver does.
+    pub fn program(&mut self, sub: SubKind, set: u8, key: Key, draw: u32) -> Result<(), OnlyLive>
+        requires { set < 2 }
+        ensures answer { result ≡ program_answer (slot_pair false (at_sub self.old.rx sub).slots) (is_one set) key }
+        ensures lanes { self.new ≡ called_receivers self.old sub (Program (is_one set) key draw) }
+    {
+        self.lent = None;
+        match sub {
+            SubKind::Pr => self.pr.program(set, key, draw),
+            SubKind::Npr => self.npr.program(set, key, draw),
+            SubKind::Cpl => self.cpl.program(set, key, draw),
+        }
+    }
+
+    /// GO.
+    pub fn go(&mut self, sub: SubKind, set: u8) -> Result<(), SlotEmpty>
+        requires { set < 2 }
+        ensures answer { is_ok result ≡ not (is_empty (key_slot_in (slot_pair false (at_sub self.old.rx sub).slots)
+            (is_one set))) }
+        ensures lanes { self.new ≡ called_receivers self.old sub (Go (is_one set)) }
+    {
+        self.lent = None;
+        match sub {
+            SubKind::Pr => self.pr.go(set),
+            SubKind::Npr => self.npr.go(set),
+            SubKind::Cpl => self.cpl.go(set),
+        }
+    }
+
+    /// STOP.
+    pub fn halt(&mut self, sub: SubKind, set: u8)
+        requires { set < 2 }
+        ensures { self.new ≡ called_receivers self.old sub (Halt (is_one set)) }
+    {
+        self.lent = None;
+        match sub {
+            SubKind::Pr => self.pr.halt(set),
+            SubKind::Npr => self.npr.halt(set),
+            SubKind::Cpl => self.cpl.halt(set),
+        }
+    }
+
+    /// Empties all slots, drops what is held or lent, and counts from 0 again.
+    pub fn clear(&mut self)
+        ensures { self.new ≡ record self.old { rx = no_receivers; delivered = [] } }
+    {
+        self.lent = None;
+        self.pr.clear();
+        self.npr.clear();
+        self.cpl.clear();
+    }
+}
