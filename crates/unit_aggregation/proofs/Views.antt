@@ -37,6 +37,7 @@ view-added mode front x y head body es n m v is less r en em =
     rw (en, em) (λ i. record { mode = mode; front = take-append-le front x head below.0 i; packets = parts-added x y head body front 0 es r i }) in
     rw room (one ∙ ap (λ (u : Collected). record u { packets = u.packets ++ (head, body) ∷ [] }) is)
 
+-- the new packet ends where the bytes now end, so all that stood before lies as it did
 pub laid-added : (mode front : ℕ) (x y head body : List ℕ) (es : List PacketEnds) (n m xs ys xs' ys' : ℕ)
     → IsLaidOut mode front es x y xs ys → length es < mode → length head ≤ 20 → length body ≤ 4096 → xs ≤ xs' → ys ≤ ys'
     → n ≡ length x + length head → m ≡ length y + length body
@@ -100,6 +101,7 @@ pub emptied : (mode mode' front : ℕ) (x y : List ℕ) (es : List PacketEnds) �
 emptied mode mode' front x y es is r =
     nothing_left front x y es (ap (λ (u : Collected). u.front) is) (ap (λ (u : Collected). u.packets) is) r
 
+-- there was no packet, so the front alone lies in the heads
 pub laid-front : (mode front : ℕ) (x y bytes : List ℕ) (es : List PacketEnds) (xs ys xs' : ℕ) → IsLaidOut mode front es x y xs ys → IsEmpty front x y es
     → length bytes ≡ 8 → xs ≤ xs' → IsLaidOut mode 8 es (x ++ bytes) y xs' ys
 laid-front mode front x y bytes es xs ys xs' p e long wider =

@@ -42,6 +42,31 @@ fn written_bodies_stand_in_the_packets(rt: HostRuntime) -> Result<(), Fail> {
     Ok(())
 }
 
+// A unit of a mode has that many packets at most, with a front and without.
+#[test]
+fn has_as_many_packets_as_its_mode(rt: HostRuntime) -> Result<(), Fail> {
+    for mode in [1, 2, 4, 8] {
+        let mut unit = UnitBuf::reserve(rt.alloc(), mode)?;
+        for front in [false, true] {
+            unit.clear();
+            if front {
+                unit.front(&[0xff; 8]);
+            }
+            for _ in 0..mode {
+                assert!(rt; unit.add(&[3], &[4, 5]).is_ok());
+            }
+            assert_eq!(rt; unit.add(&[3], &[4, 5]), Err(UnitFull));
+            assert_eq!(rt; unit.count(), mode as usize);
+            assert_eq!(rt;
+                unit.aad().len(),
+                (if front { 8 } else { 0 }) + mode as usize
+            );
+            assert_eq!(rt; unit.body().len(), 2 * mode as usize);
+        }
+    }
+    Ok(())
+}
+
 #[test]
 fn holds_the_largest_unit(rt: HostRuntime) -> Result<(), Fail> {
     let mut unit = UnitBuf::reserve(rt.alloc(), 8)?;
