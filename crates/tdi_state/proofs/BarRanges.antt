@@ -11,7 +11,7 @@ use Rattle.tdisp_codec.specs.Ranges.{range_bytes, FitsRange}
 use Rattle.ide_plan.specs.declared.interface.InterfacePlan.{InterfacePlan}
 use Rattle.ide_plan.specs.Fits.{FitsBar}
 use Rattle.tdi_state.specs.declared.register_set.Registers.{Registers}
-use Rattle.tdi_state.specs.Bars.{moved, bar_at, bars_of, FitsReported, reported_range, reported_ranges}
+use Rattle.tdi_state.specs.Bars.{bar_moved, bar_at, bars_of, FitsReported, reported_range, reported_ranges}
 
 -- the bytes of the ranges of BARs that are numbered from n
 abbrev bytes_from : ℕ → ℕ → List BarPlan → List ℕ
@@ -84,7 +84,7 @@ length-bytes (r ∷ rs) = let e = length-bytes rs in omega (arith, length-append
 
 -- ---- the BARs of an interface
 
-moved_fits : (bars : List BarPlan) (n base : ℕ) → AllByRecursion FitsBar bars → FitsReported (moved base (slice_get bars n))
+moved_fits : (bars : List BarPlan) (n base : ℕ) → AllByRecursion FitsBar bars → FitsReported (bar_moved base (slice_get bars n))
 moved_fits [] n base all = record { pages = omega arith; attributes = omega arith }
 moved_fits (bar ∷ bars) zero base all =
     let pages = all.0.pages in

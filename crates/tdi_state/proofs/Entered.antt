@@ -7,7 +7,7 @@ use Rattle.tdi_state.specs.declared.states.TdiState.{TdiState}
 use Rattle.tdi_state.specs.declared.states.TdiState.TheVariants.{ConfigUnlocked, ConfigLocked, Run, Error}
 use Rattle.tdi_state.specs.RegisterValues.{has_bit, changes_listed}
 use Rattle.tdi_state.specs.Bars.{any_overlap, bars_of}
-use Rattle.tdi_state.specs.Machine.{Tdi, is_unlocked, lock_flags, are_lock_flags, is_page, nonce_answer, lock_answer, new_lock, locked_with, started, failed, after_change, LockInterface, StartInterface, StopInterface, WriteRegister, LevelReset, FirmwareUpdate, StreamLeft, LinkReset}
+use Rattle.tdi_state.specs.Machine.{Tdi, is_unlocked, lock_flags, are_lock_flags, is_page, nonce_answer, lock_answer, new_lock, locked_with, after_start, after_failure, after_change, LockInterface, StartInterface, StopInterface, WriteRegister, LevelReset, FirmwareUpdate, StreamLeft, LinkReset}
 use Rattle.tdi_state.specs.Laws.{EntersLock, LockIsEntered, EntersRun, RunIsEntered}
 
 is_unlocked-true : (state : TdiState) → is_unlocked state ≡ true → state ≡ ConfigUnlocked
@@ -57,13 +57,13 @@ stays_locked : (lock held : Lock) (nonce kept : List ℕ) (b : Bool) → (if b t
 stays_locked lock held nonce kept true e = cc
 stays_locked lock held nonce kept false e = e
 
-started_locked : (state : TdiState) (asked nonce : List ℕ) (lock : Lock) → started state asked ≡ ConfigLocked lock nonce → state ≡ ConfigLocked lock nonce
+started_locked : (state : TdiState) (asked nonce : List ℕ) (lock : Lock) → after_start state asked ≡ ConfigLocked lock nonce → state ≡ ConfigLocked lock nonce
 started_locked ConfigUnlocked asked nonce lock e = e
 started_locked (ConfigLocked held kept) asked nonce lock e = stays_locked lock held nonce kept (bytes_eq asked kept) e
 started_locked (Run held) asked nonce lock e = e
 started_locked Error asked nonce lock e = e
 
-failed_locked : (state : TdiState) (lock : Lock) (nonce : List ℕ) → failed state ≡ ConfigLocked lock nonce → state ≡ ConfigLocked lock nonce
+failed_locked : (state : TdiState) (lock : Lock) (nonce : List ℕ) → after_failure state ≡ ConfigLocked lock nonce → state ≡ ConfigLocked lock nonce
 failed_locked ConfigUnlocked lock nonce e = e
 failed_locked (ConfigLocked held kept) lock nonce e = cc
 failed_locked (Run held) lock nonce e = cc
@@ -73,6 +73,7 @@ changed_locked : (b : Bool) (state : TdiState) (lock : Lock) (nonce : List ℕ) 
 changed_locked true state lock nonce e = failed_locked state lock nonce e
 changed_locked false state lock nonce e = e
 
+-- only the answer Ok enters the lock, and it comes where every refusal fails, the state among them
 enters : (tdi : Tdi) (flags stream offset : ℕ) (secure : Bool) (drawn : Option (List ℕ)) (lock : Lock) (nonce : List ℕ)
     → lock_answer tdi flags offset secure drawn ≡ Ok nonce → new_lock tdi flags stream offset ≡ lock
     → EntersLock tdi (LockInterface flags stream offset secure drawn) lock nonce
@@ -96,6 +97,7 @@ locked_enters : (tdi : Tdi) (flags stream offset : ℕ) (secure : Bool) (drawn :
 locked_enters tdi flags stream offset secure drawn lock nonce (inl stands) = inl stands
 locked_enters tdi flags stream offset secure drawn lock nonce (inr (is, new)) = inr (enters tdi flags stream offset secure drawn lock nonce is new)
 
+-- call by call: no other call than LOCK_INTERFACE ends in CONFIG_LOCKED where it did not begin there
 pub lock_is_entered : LockIsEntered
 lock_is_entered tdi (LockInterface flags stream offset secure drawn) lock nonce e =
     locked_enters tdi flags stream offset secure drawn lock nonce
@@ -115,7 +117,7 @@ locked_run : (tdi : Tdi) (lock new : Lock) (answer : Result (List ℕ) ℕ) → 
 locked_run tdi lock new (Ok n) e = cc
 locked_run tdi lock new (Err code) e = e
 
-failed_run : (state : TdiState) (lock : Lock) → failed state ≡ Run lock → state ≡ Run lock
+failed_run : (state : TdiState) (lock : Lock) → after_failure state ≡ Run lock → state ≡ Run lock
 failed_run ConfigUnlocked lock e = e
 failed_run (ConfigLocked held nonce) lock e = cc
 failed_run (Run held) lock e = cc
@@ -133,12 +135,13 @@ runs lock held nonce asked true same e =
     cc
 runs lock held nonce asked false same e = cc
 
-started_run : (tdi : Tdi) (state : TdiState) (nonce : List ℕ) (lock : Lock) → tdi.state ≡ state → started state nonce ≡ Run lock → (tdi.state ≡ Run lock) ⊎ EntersRun tdi (StartInterface nonce) lock
+started_run : (tdi : Tdi) (state : TdiState) (nonce : List ℕ) (lock : Lock) → tdi.state ≡ state → after_start state nonce ≡ Run lock → (tdi.state ≡ Run lock) ⊎ EntersRun tdi (StartInterface nonce) lock
 started_run tdi ConfigUnlocked nonce lock is e = cc
 started_run tdi (ConfigLocked held kept) nonce lock is e = inr (record { nonce = nonce; from = is ∙ runs lock held kept nonce (bytes_eq nonce kept) refl e; asked = refl })
 started_run tdi (Run held) nonce lock is e = inl (is ∙ e)
 started_run tdi Error nonce lock is e = cc
 
+-- call by call: no other call than START_INTERFACE ends in RUN where it did not begin there
 pub run_is_entered : RunIsEntered
 run_is_entered tdi (LockInterface flags stream offset secure drawn) lock e =
     inl (locked_run tdi lock (new_lock tdi flags stream offset) (lock_answer tdi flags offset secure drawn) e)

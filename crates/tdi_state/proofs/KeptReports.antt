@@ -18,6 +18,7 @@ kept_short plan lock fits =
     let info = fits.info in
     omega (arith, length-spelling (interface_report plan lock.registers lock.flags lock.offset))
 
+-- the plan bounds the ranges and the information, the widths of registers the rest
 pub report_fits : (plan : InterfacePlan) (lock : Lock) → FitsTdi plan → AreBytes plan.info → FitsShown lock.registers
     → FitsReport (interface_report plan lock.registers lock.flags lock.offset)
 report_fits plan lock fits octets shown =

@@ -10,7 +10,7 @@ use Rattle.tdi_state.specs.declared.states.Lock.{Lock}
 use Rattle.tdi_state.specs.declared.states.TdiState.{TdiState}
 use Rattle.tdi_state.specs.declared.states.TdiState.TheVariants.{ConfigUnlocked, ConfigLocked, Run, Error}
 use Rattle.tdi_state.specs.RegisterValues.{IsAmongSix, planned, with_value, has_bit, Listed, listed, changes_listed}
-use Rattle.tdi_state.specs.Machine.{Tdi, KeepsListed, lock_of, lock_flags, after_change, failed, started, lock_answer, new_lock, locked_with, LockInterface, StartInterface, StopInterface, WriteRegister, LevelReset, FirmwareUpdate, StreamLeft, LinkReset}
+use Rattle.tdi_state.specs.Machine.{Tdi, KeepsListed, lock_of, lock_flags, after_change, after_failure, after_start, lock_answer, new_lock, locked_with, LockInterface, StartInterface, StopInterface, WriteRegister, LevelReset, FirmwareUpdate, StreamLeft, LinkReset}
 use Rattle.tdi_state.specs.Laws.{ChangesAreListed, ChangeIsError, ListedIsKept}
 
 set_back : (bars : List ℕ) (n value : ℕ) → value ≡ slice_index bars n → slice_set bars n value ≡ bars
@@ -33,6 +33,7 @@ unchanged flags registers Pasid value e = grind arith
 unchanged flags registers Ats value e = grind arith
 unchanged flags registers (Bar n) value e = ap (λ (x : List ℕ). record (listed flags registers) { bars = x }) (set_back registers.bars n value (grind arith))
 
+-- register by register: the part of the list that the register is in tells its value
 changed_back : (flags : ℕ) (registers : Registers) (register : Register) (value : ℕ) → length registers.bars ≡ 6 → IsAmongSix register → listed flags (with_value registers register value) ≡ listed flags registers
     → changes_listed flags registers register value ≡ false
 changed_back flags registers Command value six among e =
@@ -77,7 +78,7 @@ change_is_error tdi lock register value six among is changes =
 
 -- ---- each call
 
-lost : (registers : Registers) (state : TdiState) → KeepsListed registers (failed state)
+lost : (registers : Registers) (state : TdiState) → KeepsListed registers (after_failure state)
 lost registers ConfigUnlocked = tt
 lost registers (ConfigLocked lock nonce) = tt
 lost registers (Run lock) = tt
@@ -100,7 +101,7 @@ kept_run : (registers : Registers) (lock : Lock) (held : List ℕ) (b : Bool) �
 kept_run registers lock held true kept = kept
 kept_run registers lock held false kept = kept
 
-kept_started : (registers : Registers) (state : TdiState) (nonce : List ℕ) → KeepsListed registers state → KeepsListed registers (started state nonce)
+kept_started : (registers : Registers) (state : TdiState) (nonce : List ℕ) → KeepsListed registers state → KeepsListed registers (after_start state nonce)
 kept_started registers ConfigUnlocked nonce kept = tt
 kept_started registers (ConfigLocked lock held) nonce kept = kept_run registers lock held (bytes_eq nonce held) kept
 kept_started registers (Run lock) nonce kept = kept

@@ -8,13 +8,13 @@ use Rattle.tdisp_codec.specs.declared.report.ReportRange.{ReportRange}
 use Rattle.tdi_state.specs.declared.register_set.Registers.{Registers}
 
 -- a BAR moved to this base; without pages where the interface has none
-abbrev pub moved : ℕ → Option BarPlan → BarPlan
-moved base (Some bar) = record { base = base; pages = bar.pages; attributes = bar.attributes }
-moved base None = record { base = base; pages = 0; attributes = 0 }
+abbrev pub bar_moved : ℕ → Option BarPlan → BarPlan
+bar_moved base (Some bar) = record { base = base; pages = bar.pages; attributes = bar.attributes }
+bar_moved base None = record { base = base; pages = 0; attributes = 0 }
 
 -- BAR n: its base by the registers, its range by the topology
 abbrev pub bar_at : List BarPlan → List ℕ → ℕ → BarPlan
-bar_at bars bases n = moved (slice_index bases n) (slice_get bars n)
+bar_at bars bases n = bar_moved (slice_index bases n) (slice_get bars n)
 
 -- the six BARs by their number
 abbrev pub bars_of : InterfacePlan → Registers → List BarPlan
@@ -29,13 +29,13 @@ abbrev pub bar_end : BarPlan → ℕ
 bar_end bar = bar.base + 4096 * bar.pages
 
 -- some byte is in both
-abbrev pub overlap : BarPlan → BarPlan → Bool
-overlap bar other = nat_lt (max bar.base other.base) (min (bar_end bar) (bar_end other))
+abbrev pub bars_overlap : BarPlan → BarPlan → Bool
+bars_overlap bar other = nat_lt (max bar.base other.base) (min (bar_end bar) (bar_end other))
 
 -- the bytes of two of them overlap
 abbrev pub any_overlap : List BarPlan → Bool
 any_overlap [] = false
-any_overlap (bar ∷ bars) = list_any (overlap bar) bars || any_overlap bars
+any_overlap (bar ∷ bars) = list_any (bars_overlap bar) bars || any_overlap bars
 
 -- ---- the report's ranges
 

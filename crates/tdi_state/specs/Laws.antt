@@ -9,9 +9,9 @@ use Rattle.tdi_state.specs.declared.register_set.Registers.{Registers}
 use Rattle.tdi_state.specs.declared.states.Lock.{Lock}
 use Rattle.tdi_state.specs.declared.states.TdiState.TheVariants.{ConfigUnlocked, ConfigLocked, Run, Error}
 use Rattle.tdi_state.specs.RegisterValues.{IsAmongSix, with_value, listed, changes_listed}
-use Rattle.tdi_state.specs.Bars.{bar_end, overlap, any_overlap}
+use Rattle.tdi_state.specs.Bars.{bar_end, bars_overlap, any_overlap}
 use Rattle.tdi_state.specs.Kept.{interface_report, kept_report, IsShortReport}
-use Rattle.tdi_state.specs.Machine.{Tdi, KeepsListed, lock_of, written, Call, LockInterface, StartInterface, after}
+use Rattle.tdi_state.specs.Machine.{Tdi, KeepsListed, lock_of, after_write, Call, LockInterface, StartInterface, tdi_after}
 use Rattle.tdi_state.specs.Held.{FitsTdi, FitsShown}
 
 -- a write changes the listed part exactly where it is a listed change
@@ -27,24 +27,24 @@ ChangeIsError = (tdi : Tdi) (lock : Lock) (register : Register) (value : ℕ) �
     → IsAmongSix register
     → lock_of tdi.state ≡ Some lock → listed lock.flags (with_value tdi.registers register value) ≢ listed lock.flags
     tdi.registers
-    → (written tdi register value).state ≡ Error
+    → (after_write tdi register value).state ≡ Error
 
 -- a byte of a BAR's range
 abbrev pub HasByte : BarPlan → ℕ → Type 0
 HasByte bar byte = (bar.base ≤ byte) × (byte < bar_end bar)
 
 abbrev pub OverlapIsShared : Type 0
-OverlapIsShared = (bar other : BarPlan) → (overlap bar other ≡ true)
+OverlapIsShared = (bar other : BarPlan) → (bars_overlap bar other ≡ true)
     ↔ ((byte : ℕ) × HasByte bar byte × HasByte other byte)
 
 abbrev pub OverlapsArePairs : Type 0
 OverlapsArePairs = (bars : List BarPlan) → (any_overlap bars ≡ false)
-    ↔ AllPairs (λ bar other. overlap bar other ≡ false) bars
+    ↔ AllPairs (λ bar other. bars_overlap bar other ≡ false) bars
 
 -- no call takes the listed registers away from those that the lock kept, while it stands
 abbrev pub ListedIsKept : Type 0
 ListedIsKept = (tdi : Tdi) (call : Call) → KeepsListed tdi.registers tdi.state
-    → KeepsListed (after tdi call).registers (after tdi call).state
+    → KeepsListed (tdi_after tdi call).registers (tdi_after tdi call).state
 
 -- CONFIG_LOCKED was just entered: from CONFIG_UNLOCKED, by a request with the lock's flags, stream and offset that was
 -- answered with this nonce; the lock kept the registers as they stood
@@ -54,7 +54,7 @@ pub record EntersLock (tdi : Tdi) (call : Call) (lock : Lock) (nonce : List ℕ)
   pub kept : lock.registers ≡ tdi.registers
 
 abbrev pub LockIsEntered : Type 0
-LockIsEntered = (tdi : Tdi) (call : Call) (lock : Lock) (nonce : List ℕ) → (after tdi call).state
+LockIsEntered = (tdi : Tdi) (call : Call) (lock : Lock) (nonce : List ℕ) → (tdi_after tdi call).state
     ≡ ConfigLocked lock nonce
     → (tdi.state ≡ ConfigLocked lock nonce) ⊎ EntersLock tdi call lock nonce
 
@@ -65,7 +65,7 @@ pub record EntersRun (tdi : Tdi) (call : Call) (lock : Lock) : Type 0 where
   pub asked : call ≡ StartInterface nonce
 
 abbrev pub RunIsEntered : Type 0
-RunIsEntered = (tdi : Tdi) (call : Call) (lock : Lock) → (after tdi call).state ≡ Run lock
+RunIsEntered = (tdi : Tdi) (call : Call) (lock : Lock) → (tdi_after tdi call).state ≡ Run lock
     → (tdi.state ≡ Run lock) ⊎ EntersRun tdi call lock
 
 -- a report has at most 1,140 bytes

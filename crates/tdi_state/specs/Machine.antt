@@ -124,8 +124,8 @@ portion_shown (Ok portion) = Ok (portion.0.now, portion.1)
 portion_shown (Err code) = Err code
 
 -- of the report that the lock kept
-abbrev pub report_answer : Tdi → ℕ → ℕ → Result (List ℕ × ℕ) ℕ
-report_answer tdi offset size = portion_of (option_map (kept_report tdi.plan) (lock_of tdi.state)) offset size
+abbrev pub portion_answer : Tdi → ℕ → ℕ → Result (List ℕ × ℕ) ℕ
+portion_answer tdi offset size = portion_of (option_map (kept_report tdi.plan) (lock_of tdi.state)) offset size
 
 -- ---- START_INTERFACE and STOP_INTERFACE
 
@@ -134,26 +134,26 @@ start_answer (ConfigLocked lock held) nonce = if bytes_eq nonce held then Ok tt 
 start_answer state nonce = Err (error_code InvalidInterfaceState)
 
 -- RUN under the same lock, from CONFIG_LOCKED with its nonce alone
-abbrev pub started : TdiState → List ℕ → TdiState
-started (ConfigLocked lock held) nonce = if bytes_eq nonce held then Run lock else ConfigLocked lock held
-started state nonce = state
+abbrev pub after_start : TdiState → List ℕ → TdiState
+after_start (ConfigLocked lock held) nonce = if bytes_eq nonce held then Run lock else ConfigLocked lock held
+after_start state nonce = state
 
 -- ---- what ends a lock
 
 -- ERROR, from CONFIG_LOCKED and RUN alone
-abbrev pub failed : TdiState → TdiState
-failed (ConfigLocked lock nonce) = Error
-failed (Run lock) = Error
-failed state = state
+abbrev pub after_failure : TdiState → TdiState
+after_failure (ConfigLocked lock nonce) = Error
+after_failure (Run lock) = Error
+after_failure state = state
 
 -- after a change that is listed or not
 abbrev pub after_change : Bool → TdiState → TdiState
-after_change true state = failed state
+after_change true state = after_failure state
 after_change false state = state
 
 -- a register is written: in CONFIG_LOCKED and RUN a listed change sends the interface to ERROR
-abbrev pub written : Tdi → Register → ℕ → Tdi
-written tdi register value = record {
+abbrev pub after_write : Tdi → Register → ℕ → Tdi
+after_write tdi register value = record {
   plan = tdi.plan;
   registers = with_value tdi.registers register value;
   state = after_change (changes_listed (lock_flags tdi.state) tdi.registers register value) tdi.state;
@@ -161,7 +161,7 @@ written tdi register value = record {
 
 -- a function level reset
 abbrev pub level_reset : Tdi → Tdi
-level_reset tdi = record { plan = tdi.plan; registers = planned tdi.plan; state = failed tdi.state }
+level_reset tdi = record { plan = tdi.plan; registers = planned tdi.plan; state = after_failure tdi.state }
 
 -- a firmware update, which lock flag 0 forbids
 abbrev pub firmware_updated : TdiState → TdiState
@@ -179,12 +179,12 @@ pub data Call : Type 0 where
   StreamLeft : Call
   LinkReset : Call
 
-abbrev pub after : Tdi → Call → Tdi
-after tdi (LockInterface flags stream offset secure drawn) = locked tdi flags stream offset secure drawn
-after tdi (StartInterface nonce) = with_state tdi (started tdi.state nonce)
-after tdi StopInterface = with_state tdi ConfigUnlocked
-after tdi (WriteRegister register value) = written tdi register value
-after tdi LevelReset = level_reset tdi
-after tdi FirmwareUpdate = with_state tdi (firmware_updated tdi.state)
-after tdi StreamLeft = with_state tdi (failed tdi.state)
-after tdi LinkReset = new_tdi tdi.plan
+abbrev pub tdi_after : Tdi → Call → Tdi
+tdi_after tdi (LockInterface flags stream offset secure drawn) = locked tdi flags stream offset secure drawn
+tdi_after tdi (StartInterface nonce) = with_state tdi (after_start tdi.state nonce)
+tdi_after tdi StopInterface = with_state tdi ConfigUnlocked
+tdi_after tdi (WriteRegister register value) = after_write tdi register value
+tdi_after tdi LevelReset = level_reset tdi
+tdi_after tdi FirmwareUpdate = with_state tdi (firmware_updated tdi.state)
+tdi_after tdi StreamLeft = with_state tdi (after_failure tdi.state)
+tdi_after tdi LinkReset = new_tdi tdi.plan

@@ -72,12 +72,12 @@ planned plan = record {
 -- ---- what a lock keeps of them
 
 -- bit n
-abbrev pub bit : ℕ → ℕ → ℕ
-bit n value = value / 2 ^ n % 2
+abbrev pub bit_at : ℕ → ℕ → ℕ
+bit_at n value = value / 2 ^ n % 2
 
 -- bit n is set
 abbrev pub has_bit : ℕ → ℕ → Bool
-has_bit n value = bit n value == 1
+has_bit n value = bit_at n value == 1
 
 -- The listed part of the registers under the flags of a lock: memory space and bus master of the command register, the
 -- BARs, TPH, LNR, PASID and ATS control; MSI-X control where lock flag 2 is set, the cache line size where flag 1 is.
@@ -94,8 +94,8 @@ pub record Listed : Type 0 where
 
 abbrev pub listed : ℕ → Registers → Listed
 listed flags registers = record {
-  memory_space = bit 1 registers.command;
-  bus_master = bit 2 registers.command;
+  memory_space = bit_at 1 registers.command;
+  bus_master = bit_at 2 registers.command;
   bars = registers.bars;
   tph = registers.tph;
   lnr = registers.lnr;
@@ -108,7 +108,7 @@ listed flags registers = record {
 -- the value, written into the register, changes what is listed
 abbrev pub changes_listed : ℕ → Registers → Register → ℕ → Bool
 changes_listed flags registers Command value =
-    not ((bit 1 value == bit 1 registers.command) && (bit 2 value == bit 2 registers.command))
+    not ((bit_at 1 value == bit_at 1 registers.command) && (bit_at 2 value == bit_at 2 registers.command))
 changes_listed flags registers Msix value = has_bit 2 flags && not (value == registers.msix)
 changes_listed flags registers CacheLine value = has_bit 1 flags && not (value == registers.cache_line)
 changes_listed flags registers register value = not (value == value_in registers register)

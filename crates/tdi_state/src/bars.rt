@@ -5,7 +5,7 @@ ghost use Rattle.std.specs.List.{list_any, flat_map};
 ghost use Rattle.std.specs.Option.{option_to_list};
 ghost use Rattle.arrayvec.specs.ArrayVec.{array_vec_len};
 ghost use Rattle.tdisp_codec.specs.Ranges.{range_bytes, ranges_in};
-ghost use Rattle.tdi_state.specs.Bars.{FitsReported, bar_at, bars_of, bar_end, overlap, any_overlap, reported_range, reported_ranges};
+ghost use Rattle.tdi_state.specs.Bars.{FitsReported, bar_at, bars_of, bar_end, bars_overlap, any_overlap, reported_range, reported_ranges};
 
 use crate::register_set::Registers;
 use arrayvec::ArrayVec;
@@ -59,14 +59,14 @@ fn bar_end(bar: &BarPlan) -> u128
 }
 
 fn overlap(bar: &BarPlan, other: &BarPlan) -> bool
-    ensures { result ≡ overlap bar.now other.now }
+    ensures { result ≡ bars_overlap bar.now other.now }
 {
     let first = bar.base.max(other.base) as u128;
     first < bar_end(bar).min(bar_end(other))
 }
 
 fn overlaps_any(bar: &BarPlan, others: &[BarPlan]) -> bool
-    ensures { result ≡ list_any (overlap bar.now) others.now }
+    ensures { result ≡ list_any (bars_overlap bar.now) others.now }
 {
     others.iter().any(|other| overlap(bar, other))
 }

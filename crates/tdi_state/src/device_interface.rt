@@ -144,11 +144,11 @@ impl Interface {
       lock_answer,
       locked,
       new_lock,
-      report_answer,
+      portion_answer,
       start_answer,
-      started,
-      failed,
-      written,
+      after_start,
+      after_failure,
+      after_write,
       level_reset,
       firmware_updated,
     };
@@ -257,7 +257,7 @@ impl Interface {
     /// many bytes of it come behind them. Refused, in this order: INVALID_INTERFACE_STATE unless in CONFIG_LOCKED or
     /// RUN; INVALID_REQUEST where the length is 0 or the offset at or past the report's end.
     pub fn report(&self, offset: u16, length: u16) -> Result<(&[u8], u16), u32>
-        ensures answer { portion_shown result ≡ report_answer self.now offset length }
+        ensures answer { portion_shown result ≡ portion_answer self.now offset length }
         ensures short { IfOk result (λ portion. IsShortReport portion.0.now) }
     {
         match self.kept() {
@@ -270,7 +270,7 @@ impl Interface {
     /// CONFIG_LOCKED; INVALID_NONCE at another nonce than the lock's. A refusal changes nothing.
     pub fn start(&mut self, nonce: &[u8; 32]) -> Result<(), u32>
         ensures answer { result ≡ start_answer self.old.state nonce.now }
-        ensures interface { self.new ≡ with_state self.old (started self.old.state nonce.now) }
+        ensures interface { self.new ≡ with_state self.old (after_start self.old.state nonce.now) }
     {
         let answer = self.state.start_answer(nonce);
         self.state = self.state.started(nonce);
@@ -290,7 +290,7 @@ impl Interface {
     pub fn write_register(&mut self, register: Register, value: u64)
         requires exists { has_register self.old.plan register ≡ true }
         requires width { value < 2 ^ width_of register }
-        ensures { self.new ≡ written self.old register value }
+        ensures { self.new ≡ after_write self.old register value }
     {
         let is_listed = self
             .registers
@@ -317,7 +317,7 @@ impl Interface {
 
     /// The bound stream ceased to be Secure at the device: CONFIG_LOCKED and RUN go to ERROR.
     pub fn stream_left(&mut self)
-        ensures { self.new ≡ with_state self.old (failed self.old.state) }
+        ensures { self.new ≡ with_state self.old (after_failure self.old.state) }
     {
         self.state = self.state.failed();
     }

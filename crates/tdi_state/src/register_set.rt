@@ -1,7 +1,7 @@
 //! The registers of a device interface.
 
 ghost use Rattle.std.specs.Prelude.{◌≡◌, ◌<◌, ◌^◌, ◌==◌, ◌&&◌, [], ◌∷◌};
-ghost use Rattle.tdi_state.specs.RegisterValues.{bit, has_bit, changes_listed, has_register, planned, planned_base, IsAmongSix, value_in, with_value, width_of};
+ghost use Rattle.tdi_state.specs.RegisterValues.{bit_at, has_bit, changes_listed, has_register, planned, planned_base, IsAmongSix, value_in, with_value, width_of};
 
 use ide_plan::{BarPlan, InterfacePlan};
 
@@ -98,7 +98,7 @@ pub(crate) fn has_bit(n: u8, value: u16) -> bool
 }
 
 fn same_enables(command: u16, other: u16) -> bool
-    ensures { result ≡ ((bit 1 command == bit 1 other) && (bit 2 command == bit 2 other)) }
+    ensures { result ≡ ((bit_at 1 command == bit_at 1 other) && (bit_at 2 command == bit_at 2 other)) }
 {
     (command >> 1) & 1 == (other >> 1) & 1 && (command >> 2) & 1 == (other >> 2) & 1
 }

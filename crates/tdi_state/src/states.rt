@@ -2,7 +2,7 @@
 
 ghost use Rattle.std.specs.Prelude.{◌≡◌};
 ghost use Rattle.std.specs.Str.{bytes_eq};
-ghost use Rattle.tdi_state.specs.Machine.{after_change, bound_stream, failed, is_unlocked, lock_flags, start_answer, started, state_code};
+ghost use Rattle.tdi_state.specs.Machine.{after_change, bound_stream, after_failure, is_unlocked, lock_flags, start_answer, after_start, state_code};
 
 use crate::error_codes::ErrorCode;
 use crate::register_set::Registers;
@@ -99,7 +99,7 @@ impl TdiState {
 
     /// The state after START_INTERFACE with this nonce.
     pub(crate) fn started(self, nonce: &[u8; 32]) -> TdiState
-        ensures { result ≡ started self nonce.now }
+        ensures { result ≡ after_start self nonce.now }
     {
         match self {
             TdiState::ConfigLocked { lock, nonce: held } => {
@@ -115,7 +115,7 @@ impl TdiState {
 
     /// The state after what ends a lock.
     pub(crate) fn failed(self) -> TdiState
-        ensures { result ≡ failed self }
+        ensures { result ≡ after_failure self }
     {
         match self {
             TdiState::ConfigLocked { .. } => TdiState::Error,

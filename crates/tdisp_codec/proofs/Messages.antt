@@ -21,6 +21,7 @@ pub record IsMessage (type function : ℕ) (body s : List ℕ) : Type 0 where
   pub body_is : body_in s ≡ body
   pub long : length s ≡ 17 + length body
 
+-- the reserved bytes are written out one by one, so that each field is computed at its place
 pub header_read : (type function : ℕ) (body s : List ℕ) → function < 2 ^ 32 → SpellsMessage type function body s → IsMessage type function body s
 header_read type function body s fits p =
     let a = p.first.bytes in
@@ -122,6 +123,7 @@ right_all known s e o k (suc (suc (suc i))) = past_three known (suc (suc (suc i)
 pub right_first : (known : ℕ → Bool) (s : List ℕ) → 3 ≤ length s → ((i : ℕ) → i < length s → message_fits known i (get_or s i 0) ≡ true) → (get_or s 0 0 ≡ 1) × (get_or s 1 0 ≡ 16) × (known (get_or s 2 0) ≡ true)
 right_first known s le f = (eqb-true _ _ (f 0 (omega arith)), eqb-true _ _ (f 1 (omega arith)), f 2 (omega arith))
 
+-- by the tests of the reader, one within the other: the first that fails is at the place up to which all bytes passed
 pub messages_judged : (known : ℕ → Bool) (body_size : ℕ → List ℕ → ℕ) (s : List ℕ) → IsBytes s → IsJudged (message_fits known) (message_size body_size) message_fault_at s (message_fault (known (type_in s)) (message_size body_size s) s)
 messages_judged known body_size s octets =
     elim (cases_eq (length s) 0) [
@@ -237,6 +239,7 @@ pub record IsWritten (known : ℕ → Bool) (body_size : ℕ → List ℕ → �
   pub size : length body ≡ body_size type body
   pub again : from type function body ≡ v
 
+-- what the header says of type, function and body fixes the length and the value
 pub message_shape : (known : ℕ → Bool) (body_size : ℕ → List ℕ → ℕ) (V : Type 0) (from : ℕ → ℕ → List ℕ → V) (type function : ℕ) (body : List ℕ) (v : V) (s : List ℕ)
     → function < 2 ^ 32 → SpellsMessage type function body s → IsWritten known body_size V from type function body v
     → IsShaped (message_fits known) (message_size body_size) s × (from (type_in s) (function_in s) (body_in s) ≡ v)

@@ -9,7 +9,7 @@ use Rattle.byteorder.specs.Numbers.{little_number-reads_back}
 use Rattle.first_fault.proofs.Cells.{IsBytes, cells}
 use Rattle.tdisp_codec.specs.declared.fault.TdispFault.{TdispFault}
 use Rattle.tdisp_codec.specs.Messages.{Ignored, type_in, function_in, body_in, message_fault, message_fault_at, IsFirstFault}
-use Rattle.tdisp_codec.specs.Replies.{Reply, Version, Capabilities, LockInterface, DeviceInterfaceReport, DeviceInterfaceState, StartInterface, StopInterface, Error, reply_type, reply_function, reply_reserved, reply_body, reply_spelling, IsCountedReply, FitsReplyBody, FitsReply, SpellsReply, is_reply, reply_size, capabilities_from, reply_from, reply_in, reply_reading}
+use Rattle.tdisp_codec.specs.Replies.{Reply, Version, Capabilities, LockInterface, DeviceInterfaceReport, DeviceInterfaceState, StartInterface, StopInterface, Error, reply_type, reply_function, reply_reserved, reply_body, reply_spelling, IsCountedReply, FitsReplyBody, FitsReply, SpellsReply, is_reply, reply_size, capabilities_from, reply_of_type, reply_in, reply_reading}
 use Rattle.tdisp_codec.proofs.Octets.{IsByte, list_cells, drop_split_cells, take_cells, drop_octets, all_of, number_2, number_4, below_2, below_4, two_bytes, four_bytes, no_bytes, ignored, zeros, same_2}
 use Rattle.tdisp_codec.proofs.Shapes.{IsSized, IsShaped, spelled_read, read_spelled, refused_first, first_refused}
 use Rattle.tdisp_codec.proofs.Messages.{message_fits, message_size, SaysItsSize, messages_sized, messages_judged, IsWritten, message_shape, message_whole, same_message}
@@ -17,7 +17,7 @@ use Rattle.tdisp_codec.proofs.Messages.{message_fits, message_size, SaysItsSize,
 -- ---- from a reply to its body, and back
 
 abbrev Written : Reply → List ℕ → Type 0
-Written r x = IsWritten is_reply reply_size Reply reply_from (reply_type r) (reply_function r) (reply_body r x) r
+Written r x = IsWritten is_reply reply_size Reply reply_of_type (reply_type r) (reply_function r) (reply_body r x) r
 
 abbrev limits : ℕ → List ℕ → ℕ → ℕ → ℕ → List ℕ
 limits lock_flags x width this all = little_bytes 2 lock_flags ++ (x ++ (width ∷ this ∷ all ∷ []))
@@ -29,8 +29,9 @@ capabilities_octets device lock_flags width this all requests x r i w t a =
     let some = All-append IsByte (little_bytes 2 lock_flags) (x ++ (width ∷ this ∷ all ∷ [])) (two_bytes lock_flags) (All-append IsByte x (width ∷ this ∷ all ∷ []) i last) in
     All-append IsByte (little_bytes 4 device) (requests ++ limits lock_flags x width this all) (four_bytes device) (All-append IsByte requests (limits lock_flags x width this all) r some)
 
+-- each list is written out to its length, so each field is computed at its place
 capabilities_again : (function device lock_flags width this all : ℕ) (requests x : List ℕ) → device < 2 ^ 32 → length requests ≡ 16 → lock_flags < 2 ^ 16 → length x ≡ 3
-    → reply_from 0x02 function (little_bytes 4 device ++ (requests ++ limits lock_flags x width this all)) ≡ Capabilities function device requests lock_flags width this all
+    → reply_of_type 0x02 function (little_bytes 4 device ++ (requests ++ limits lock_flags x width this all)) ≡ Capabilities function device requests lock_flags width this all
 capabilities_again function device lock_flags width this all requests x d long l three =
     let y = cells 3 0 x in
     let rest = limits lock_flags y width this all in
@@ -40,12 +41,13 @@ capabilities_again function device lock_flags width this all requests x d long l
     let c : drop 20 body ≡ rest = drop_at requests rest 16 long in
     let e : little_number 2 rest ≡ lock_flags = little_number-reads_back 2 lock_flags (y ++ (width ∷ this ∷ all ∷ [])) l in
     let one : x ≡ y = list_cells 3 x three in
-    ap (λ (z : List ℕ). reply_from 0x02 function (little_bytes 4 device ++ (requests ++ limits lock_flags z width this all))) one
+    ap (λ (z : List ℕ). reply_of_type 0x02 function (little_bytes 4 device ++ (requests ++ limits lock_flags z width this all))) one
     ∙ ap (λ (z : List ℕ). capabilities_from function body z) c
     ∙ ap (λ (n : ℕ). Capabilities function n (take 16 (drop 4 body)) (little_number 2 rest) width this all) a
     ∙ ap (λ (z : List ℕ). Capabilities function device z (little_number 2 rest) width this all) b
     ∙ ap (λ (n : ℕ). Capabilities function device requests n width this all) e
 
+-- reply by reply: the body as it is written has the length that is read of it, and gives the fields back
 written : (r : Reply) (x : Ignored (reply_reserved r)) → IsCountedReply r → FitsReplyBody r → Written r x.bytes
 written (Version function versions) x c f = record { known_is = refl; small = omega arith; octets = All-cons IsByte (length versions) versions c f; size = omega arith; again = refl }
 written (Capabilities function device requests lock_flags width this all) x c f = record {
@@ -92,7 +94,7 @@ record IsBack (type function : ℕ) (body : List ℕ) (r : Reply) : Type 0 where
   body_is : body ≡ reply_body r reserved.bytes
 
 abbrev Back : ℕ → ℕ → List ℕ → Type 0
-Back type function body = IsBack type function body (reply_from type function body)
+Back type function body = IsBack type function body (reply_of_type type function body)
 
 version_back : (function : ℕ) (b : List ℕ) → IsBytes b → length b ≡ 1 + get_or b 0 0 → Back 0x01 function b
 version_back function b f long =
@@ -107,6 +109,7 @@ version_back function b f long =
       body_is = drop_split_cells 1 0 b (omega arith) ∙ ap (λ (n : ℕ). n ∷ drop 1 b) (sym count);
     }
 
+-- its fields stand at fixed places, so the 28 bytes are cut there
 capabilities_back : (function : ℕ) (b : List ℕ) → IsBytes b → length b ≡ 28 → Back 0x02 function b
 capabilities_back function b f long =
     let x4 : little_bytes 4 (little_number 4 b) ≡ cells 4 0 b = number_4 0 b f in
@@ -134,6 +137,7 @@ nonce_back function b f long =
     let all : take 32 b ≡ b = take_all 32 b (omega arith) in
     record { counted = tt; fits = (ap length all ∙ long, subst (λ (x : List ℕ). All IsByte x) (sym all) (all_of b f)); reserved = zeros 0; type_is = refl; function_is = refl; body_is = sym all }
 
+-- the length stands in the first two bytes, so what lies behind four is the portion
 portion_back : (function : ℕ) (b : List ℕ) → IsBytes b → length b ≡ 4 + little_number 2 b → Back 0x04 function b
 portion_back function b f long =
     let count : length (drop 4 b) ≡ little_number 2 b = omega (arith, length-drop 4 b) in
@@ -163,6 +167,7 @@ back_at type k function b e p = subst (λ (t : ℕ). Back t function b) (sym e) 
 sized_as : (type k : ℕ) (b : List ℕ) → type ≡ k → length b ≡ reply_size type b → length b ≡ reply_size k b
 sized_as type k b e size = size ∙ ap (λ (t : ℕ). reply_size t b) e
 
+-- type by type: a body of the length that the type asks for is the spelling of what is read of it
 back_low : (type function : ℕ) (b : List ℕ) → 1 ≤ type → type ≤ 7 → IsBytes b → length b ≡ reply_size type b → Back type function b
 back_low type function b low high f size =
     elim (cases_eq type 1) [
@@ -213,7 +218,7 @@ says type b c agree =
 -- ---- the grammar
 
 shape_of : (r : Reply) (s : List ℕ) → SpellsReply r s → IsShaped (message_fits is_reply) (message_size reply_size) s × (reply_in s ≡ r)
-shape_of r s p = message_shape is_reply reply_size Reply reply_from (reply_type r) (reply_function r) (reply_body r p.reserved.bytes) r s p.fits.0 p.message (written r p.reserved p.fits.1 p.fits.2)
+shape_of r s p = message_shape is_reply reply_size Reply reply_of_type (reply_type r) (reply_function r) (reply_body r p.reserved.bytes) r s p.fits.0 p.message (written r p.reserved p.fits.1 p.fits.2)
 
 spells_of : (s : List ℕ) → IsShaped (message_fits is_reply) (message_size reply_size) s → SpellsReply (reply_in s) s
 spells_of s shape =

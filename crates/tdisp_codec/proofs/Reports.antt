@@ -36,6 +36,7 @@ record IsRead (r : Report) (s : List ℕ) : Type 0 where
   rest : drop 16 s ≡ rest_bytes r
   long : length s ≡ 16 + length (rest_bytes r)
 
+-- with the two reserved bytes written out each number stands at its own place, and is read back from its bytes
 front_read : (r : Report) (s : List ℕ) → SpellsReport r s → IsRead r s
 front_read r s p =
     let f = p.fits in
@@ -56,6 +57,7 @@ front_read r s p =
       long = omega arith;
     })
 
+-- each field's bytes are bytes, and a report is its fields joined
 report_octets : (r : Report) (s : List ℕ) → SpellsReport r s → IsBytes s
 report_octets r s p =
     let x = p.reserved.bytes in
@@ -72,6 +74,7 @@ report_octets r s p =
     let e = p.spelled in
     rw e (all_bytes (report_bytes x r) (All-append IsByte (little_bytes 2 r.info) (x ++ a) (two_bytes r.info) (All-append IsByte x a p.reserved.octets aa)))
 
+-- the count of ranges is read first; it says where the length of the device information stands, and that where the report ends
 shape_of : (r : Report) (s : List ℕ) → SpellsReport r s → IsShaped any report_size s × (report_in s ≡ r)
 shape_of r s p =
     let m = front_read r s p in
@@ -114,6 +117,7 @@ shape_of r s p =
 
 -- ---- from bytes to a report
 
+-- the bytes are cut at the places that the counts say, and each part is the spelling of what is read of it
 spells_of : (s : List ℕ) → IsShaped any report_size s → SpellsReport (report_in s) s
 spells_of s shape =
     let f = shape.octets in
@@ -159,6 +163,7 @@ spells_of s shape =
 
 -- ---- the grammar
 
+-- both counts lie within the length that they say, so bytes that agree up to there have one length
 sized : IsSized any [] report_size
 sized = record {
   octets = λ i. omega arith;
@@ -176,6 +181,7 @@ sized = record {
 abbrev found : List ℕ → Option TdispFault
 found s = length_fault (report_size s) s
 
+-- a report has no first byte that could be wrong: it is too short, too long or whole
 judged : (s : List ℕ) → IsBytes s → IsJudged any report_size report_fault_at s (found s)
 judged s octets =
     elim (cases_lt (length s) (report_size s)) [

@@ -41,6 +41,7 @@ lock_again function flags stream offset mask x f long =
     ∙ ap (λ (n : ℕ). LockInterface function flags stream offset n) c in
     ap (λ (y : List ℕ). request_from 0x83 function (little_bytes 2 flags ++ (stream ∷ (y ++ (little_bytes 8 offset ++ little_bytes 8 mask))))) one ∙ explicit
 
+-- request by request: the body as it is written has the length of its type, and gives the fields back
 written : (r : RequestView) (x : Ignored (request_reserved r)) → FitsRequestBody r → Written r x.bytes
 written (GetVersion function) x f = record { known_is = refl; small = omega arith; octets = no_bytes; size = refl; again = refl }
 written (GetCapabilities function) x f = record { known_is = refl; small = omega arith; octets = x.octets; size = x.long; again = refl }
@@ -113,6 +114,7 @@ start_back function b f long =
 back_at : (type k function : ℕ) (b : List ℕ) → type ≡ k → Back k function b → Back type function b
 back_at type k function b e p = subst (λ (t : ℕ). Back t function b) (sym e) p
 
+-- type by type: a body of the length of the type is the spelling of what is read of it
 back : (type function : ℕ) (b : List ℕ) → is_request type ≡ true → IsBytes b → length b ≡ request_size type → Back type function b
 back type function b known f size =
     let range = and_parts (nat_le 0x81 type) (nat_le type 0x87) known in

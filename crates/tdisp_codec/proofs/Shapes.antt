@@ -114,6 +114,7 @@ module _ (fits : ℕ → ℕ → Bool) (head : List ℕ) (size : List ℕ → �
         omega arith
   ]
 
+  -- the front up to the place goes on to a spelling, filled with zeros to its length; one byte more and a test or the length fails
   pub stops_place : (s : List ℕ) (place : ℕ) → IsBytes s → Stops fits size s place → IsFaultPlace (IsShaped fits size) s place
   stops_place s place octets p = record {
     within = p.within;

@@ -125,8 +125,8 @@ capabilities_from function body rest =
     Capabilities function (little_number 4 body) (take 16 (drop 4 body)) (little_number 2 rest) (slice_index rest 5)
     (slice_index rest 6) (slice_index rest 7)
 
-abbrev pub reply_from : ℕ → ℕ → List ℕ → Reply
-reply_from type function body =
+abbrev pub reply_of_type : ℕ → ℕ → List ℕ → Reply
+reply_of_type type function body =
     if type == 0x01 then Version function (drop 1 body)
     else if type == 0x02 then capabilities_from function body (drop 20 body)
     else if type == 0x03 then LockInterface function (take 32 body)
@@ -137,7 +137,7 @@ reply_from type function body =
     else StopInterface function
 
 abbrev pub reply_in : List ℕ → Reply
-reply_in bytes = reply_from (type_in bytes) (function_in bytes) (body_in bytes)
+reply_in bytes = reply_of_type (type_in bytes) (function_in bytes) (body_in bytes)
 
 -- the reply, or the first fault
 abbrev pub reply_reading : List ℕ → Result Reply TdispFault

@@ -4,7 +4,7 @@ ghost use Rattle.std.specs.Prelude.{◌≡◌, ◌+◌, ◌<◌, ◌≤◌, ◌^
 ghost use Rattle.byteorder.specs.Endian.{little_number};
 ghost use Rattle.tdisp_codec.specs.Messages.{length_fault as length_fault_of, message_fault as message_fault_of};
 ghost use Rattle.tdisp_codec.specs.Requests.{is_request as is_request_type, request_size as request_size_of, request_from, request_reading};
-ghost use Rattle.tdisp_codec.specs.Replies.{is_reply as is_reply_type, reply_size as reply_size_of, DeviceInterfaceReport, capabilities_from, reply_from, reply_shown, reply_answer, reply_reading};
+ghost use Rattle.tdisp_codec.specs.Replies.{is_reply as is_reply_type, reply_size as reply_size_of, DeviceInterfaceReport, capabilities_from, reply_of_type, reply_shown, reply_answer, reply_reading};
 
 use crate::fault::TdispFault;
 use crate::numbers::{behind, byte_at, number16, number32};
@@ -175,7 +175,7 @@ fn portion<'a>(function: u32, body: &'a [u8]) -> ReplyView<'a>
 /// The reply of this type with this body.
 fn reply<'a>(kind: u8, function: u32, body: &'a [u8]) -> ReplyView<'a>
     requires { length body.now ≡ reply_size_of kind body.now }
-    ensures { reply_shown result ≡ reply_from kind function body.now }
+    ensures { reply_shown result ≡ reply_of_type kind function body.now }
 {
     match kind {
         0x01 => ReplyView::Version {
