@@ -104,6 +104,7 @@ page_bytes-put n q new es es' puts = elim (cases_Bool (eqb n q)) [
   | inr e ↦ rw e (ap (λ (o : Option (List ℕ)). unwrap_or o []) (found n q false new es es' puts e))
 ]
 
+-- an address is in the page of the write or in another: there its place in the page is the one that is written, here the write does not reach it
 pub paged-written : (w : Write) (old new : List ℕ) (es es' : List (ℕ × List ℕ)) → crosses w ≡ false → page_bytes es (w.address / 4096) ≡ old
     → HasWritten (w.address % 4096) w old new → PutsPage (w.address / 4096) new es es' → (a : ℕ) → paged_byte es' a ≡ written w (paged_byte es) a
 paged-written w old new es es' whole was has puts a =
@@ -128,6 +129,7 @@ byte_at-seen rs es a h = byte_in-seen (paged_byte es) rs a ∙ rw h refl
 enables-reaches : (w : Write) (a : ℕ) → enables w a ≡ true → reaches w a ≡ true
 enables-reaches w a e = grind arith
 
+-- what is read through regions is what is read through pages, before and after
 pub byte_at-written : (rs : List Region) (es es' : List (ℕ × List ℕ)) (w : Write) → in_one_region rs w.address (length w.payload) ≡ true
     → ((a : ℕ) → paged_byte es' a ≡ written w (paged_byte es) a) → (a : ℕ) → byte_at (seen rs es') a ≡ written w (byte_at (seen rs es)) a
 byte_at-written rs es es' w inside h a = elim (cases_Bool (enables w a)) [

@@ -32,6 +32,6 @@ block_cause regions w false grant = Some NotTrusted
 block_cause regions w true grant =
     option_or (grant_cause grant.bound grant.stream grant.draw) (place_cause regions w)
 
-abbrev pub effect_of : Option BlockCause → Effect
-effect_of None = Applied
-effect_of (Some cause) = Blocked cause
+abbrev pub block_effect : Option BlockCause → Effect
+block_effect None = Applied
+block_effect (Some cause) = Blocked cause

@@ -15,15 +15,15 @@ pub record Write : Type 0 where
   pub payload : List ℕ
 
 -- bit k of byte enables
-abbrev pub is_set : ℕ → ℕ → Bool
-is_set bits k = bits / 2 ^ k % 2 == 1
+abbrev pub is_enable_set : ℕ → ℕ → Bool
+is_enable_set bits k = bits / 2 ^ k % 2 == 1
 
 -- byte i of the payload is enabled: in the first double word by the first byte enables; in the last double word of a
 -- longer write by the last byte enables; always in between
 abbrev pub is_enabled : Write → ℕ → Bool
 is_enabled w i =
-    if i / 4 == 0 then is_set w.first_be (i % 4)
-    else if i / 4 + 1 == length w.payload / 4 then is_set w.last_be (i % 4)
+    if i / 4 == 0 then is_enable_set w.first_be (i % 4)
+    else if i / 4 + 1 == length w.payload / 4 then is_enable_set w.last_be (i % 4)
     else true
 
 -- the address is one of the payload's, which ascend from the write's address on

@@ -40,7 +40,7 @@ impl Model for Trusted {
 
 impl Trusted {
     ghost use Rattle.trusted_memory.specs.Regions.{is_inside, in_region, in_one_region, crosses};
-    ghost use Rattle.trusted_memory.specs.Causes.{block_cause, effect_of};
+    ghost use Rattle.trusted_memory.specs.Causes.{block_cause, block_effect};
     ghost use Rattle.trusted_memory.specs.Contents.{
       TrustedMemory,
       new_memory,
@@ -125,7 +125,7 @@ impl Trusted {
     /// boundary (this profile). The payload's enabled bytes are written to ascending addresses. It takes no memory.
     pub fn apply(&mut self, write: &MemWriteView<'_>, trusted: bool, grant: Grant) -> Effect
         requires { is_ready self.old (write_of write.now) ≡ true }
-        ensures effect { result ≡ effect_of (block_cause self.old.regions (write_of write.now) trusted grant) }
+        ensures effect { result ≡ block_effect (block_cause self.old.regions (write_of write.now) trusted grant) }
         ensures bytes { (a : ℕ) → byte_at self.new a ≡ byte_by result (write_of write.now) (byte_at self.old) a }
         ensures kept { self.new ≡ record self.old { bytes = self.new.bytes } }
         ensures blocked { IsSome (block_cause self.old.regions (write_of write.now) trusted grant)

@@ -4,7 +4,7 @@ ghost use Rattle.std.specs.Prelude.{◌≡◌, ◌<◌, IfSome};
 ghost use Rattle.std.specs.Option.{option_map};
 ghost use Rattle.tlp_layout.specs.Tlp.{view_of};
 ghost use Rattle.tlp_layout.specs.declared.head.Fields.TheVariants.{Memory};
-ghost use Rattle.trusted_memory.specs.Writes.{is_set, is_enabled, write_in, write_of};
+ghost use Rattle.trusted_memory.specs.Writes.{is_enable_set, is_enabled, write_in, write_of};
 ghost use Rattle.trusted_memory.specs.Regions.{crosses};
 
 use tlp_layout::{Fields, MemoryFields, TlpView};
@@ -21,7 +21,7 @@ pub struct MemWriteView<'a> {
 // Bit `k` of byte enables.
 fn is_set(bits: u8, k: usize) -> bool
     requires { k < 4 }
-    ensures { result ≡ is_set bits k }
+    ensures { result ≡ is_enable_set bits k }
 {
     (bits >> k) & 1 == 1
 }

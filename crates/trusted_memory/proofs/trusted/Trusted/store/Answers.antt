@@ -9,6 +9,7 @@ use Rattle.trusted_memory.proofs.trusted.Trusted.store.Goals.{in-Some, in_defaul
 is_some_of : {X : Type 0} (o : Option X) (x : X) → Some x ≡ o → IsSome o
 is_some_of {X} o x e = subst (λ (p : Option X). IsSome p) e refl
 
+-- the write lies in one page, so the page that is provided takes all its bytes, and no other page changes
 pub returns-clause-bytes : goal.returns-clause-bytes
 returns-clause-bytes c = elim c.match-get_mut.branch [
   | in-Some w ↦
