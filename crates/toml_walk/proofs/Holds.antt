@@ -14,7 +14,7 @@ use Rattle.toml_walk.specs.declared.fault.PlanFault.{PlanFault}
 use Rattle.toml_walk.specs.declared.fault.PlanFault.TheVariants.{Range, Limit}
 use Rattle.toml_walk.specs.Fault.{◌>>=◌, or_fault}
 use Rattle.toml_walk.specs.Bounds.{admits, has_form}
-use Rattle.toml_walk.specs.Walk.{Text, Reader, place, required, found_or, optional, table, values_of, is_past, counted, each, list}
+use Rattle.toml_walk.specs.Walk.{Text, Reader, place, required, found_or, optional, table, values_of, is_past, within_span, each, list}
 use Rattle.toml_walk.specs.Values.{integer, bounded, number, text, or_length, key_bytes, hex_bytes, both, two_in, two}
 
 -- what a reading gives, if it gives a value
@@ -142,8 +142,8 @@ counted_holds span path ds false false p f = gives _ ds (ltb-false (length ds) s
 
 pub list_holds : {A : Type 0} (span : Span) (P : A → Type 0) (one : Reader A) → ((path : Text) (d : Data) → Holds P (one path d)) → (path : Text) (d : Data) → Holds (Listed span P) (list span one path d)
 list_holds {A} span P one h path d =
-    next (λ _. Unit {0}) (Listed span P) (values_of path d) (λ ds. counted span path ds >>= λ cs. each one path 0 cs) (anything _) (λ ds _.
-    next (λ (es : List Data). (span.least ≤ length es) × (is_past span.most (length es) ≡ false)) (Listed span P) (counted span path ds) (λ cs. each one path 0 cs)
+    next (λ _. Unit {0}) (Listed span P) (values_of path d) (λ ds. within_span span path ds >>= λ cs. each one path 0 cs) (anything _) (λ ds _.
+    next (λ (es : List Data). (span.least ≤ length es) × (is_past span.most (length es) ≡ false)) (Listed span P) (within_span span path ds) (λ cs. each one path 0 cs)
     (counted_holds span path ds (is_past span.most (length ds)) _ refl refl) (λ cs q.
     weaker _ (Listed span P) (each one path 0 cs) (each_holds P one h path 0 cs) (λ xs r.
     record { least = rw r.0 q.0; most = rw r.0 q.1; each = r.1 })))

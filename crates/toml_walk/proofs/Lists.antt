@@ -9,7 +9,7 @@ use Rattle.toml_walk.specs.declared.fault.PlanFault.{PlanFault}
 use Rattle.toml_walk.specs.declared.fault.PlanError.{PlanError}
 use Rattle.toml_walk.specs.declared.fault.PlanError.TheVariants as errors
 use Rattle.toml_walk.specs.Fault.{◌>>=◌, Fails}
-use Rattle.toml_walk.specs.Walk.{Text, Reader, place, list_of, each, keys_in}
+use Rattle.toml_walk.specs.Walk.{Text, Reader, place, list_of, each, key_names}
 
 pub list_of_items : (ds : List Data) → list_of (items_of ds) ≡ ds
 list_of_items [] = refl
@@ -18,11 +18,11 @@ list_of_items (d ∷ ds) = ap (λ (xs : List Data). d ∷ xs) (list_of_items ds)
 pub list_of_view : (vs : List Value) → list_of (items_view vs) ≡ map view vs
 list_of_view vs = list_of_items (map view vs)
 
-keys_of_members : (es : List (String Global × Value)) → keys_in (members_view es) ≡ map string_bytes (map (λ e. e.0) es)
+keys_of_members : (es : List (String Global × Value)) → key_names (members_view es) ≡ map string_bytes (map (λ e. e.0) es)
 keys_of_members [] = refl
 keys_of_members (e ∷ es) = ap (λ (ks : List Text). string_bytes e.0 ∷ ks) (keys_of_members es)
 
-pub keys_of_view : (m : BTreeMap (String Global) Value) → keys_in (table_view m) ≡ map string_bytes (keys m)
+pub keys_of_view : (m : BTreeMap (String Global) Value) → key_names (table_view m) ≡ map string_bytes (keys m)
 keys_of_view m = keys_of_members m.entries
 
 module _ {A : Type 0} where

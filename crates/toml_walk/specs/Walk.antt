@@ -1,8 +1,12 @@
 -- Walking through a table key by key, over toml's own view of it.
-use Rattle.std.specs.Prelude.{◌+◌, ℕ, Bool, true, false, not, ◌&&◌, ◌||◌, nat_lt, List, [], ◌∷◌, ◌++◌, length, Option, Some, None, option_map, Result, Ok, Err, if◌then◌else◌, codes, pos}
+use Rattle.std.specs.Prelude.{◌≡◌, ◌⊎◌, ◌+◌, ℕ, Bool, true, false, not, ◌&&◌, ◌||◌, nat_lt, All, Contains, List, [], ◌∷◌, ◌++◌, length, Option, Some, None, option_map, Result, Ok, Err, if◌then◌else◌, codes, pos}
 use Rattle.std.specs.Fmt.{decimal}
 use Rattle.std.specs.Str.{bytes_eq}
 use Rattle.std.specs.List.{list_any}
+use Rattle.std.specs.List.Sorted.{IsStrictlySortedBy}
+use Rattle.std.specs.Cmp.Lexicographic.{slice_cmp}
+use Rattle.std.specs.Ordering.{nat_cmp}
+use Rattle.std.specs.declared.cmp.Ordering.TheVariants.{Less}
 use Rattle.toml.specs.Data.{Data, Items, no_items, item, Members, no_members, member, get_member, as_array, as_table}
 use Rattle.toml_walk.specs.declared.fault.PlanFault.{PlanFault}
 use Rattle.toml_walk.specs.declared.fault.PlanFault.TheVariants.{Missing, Kind, Range, Unknown, Limit}
@@ -21,14 +25,24 @@ Reader A = Text → Data → Result A PlanFault
 abbrev pub place : Text → ℕ → Text
 place path i = path ++ 46 ∷ decimal i
 
-abbrev pub keys_in : Members → List Text
-keys_in no_members = []
-keys_in (member key d ms) = key ∷ keys_in ms
+abbrev pub key_names : Members → List Text
+key_names no_members = []
+key_names (member key d ms) = key ∷ key_names ms
 
 abbrev pub is_known : List Text → Text → Bool
 is_known known key = list_any (λ name. bytes_eq name key) known
 
--- the first key that is none of the known ones; the keys of a table ascend in byte order, so it is the least
+-- the keys ascend in byte order
+abbrev pub Ascend : List Text → Type 0
+Ascend keys = IsStrictlySortedBy (slice_cmp nat_cmp) keys
+
+-- the key is none of the known ones, and each other such key comes behind it in byte order
+pub record IsLeastUnknown (known keys : List Text) (key : Text) : Type 0 where
+  pub there : Contains keys key
+  pub unknown : is_known known key ≡ false
+  pub least : All (λ k. is_known known k ≡ false → (k ≡ key) ⊎ (slice_cmp nat_cmp key k ≡ Less)) keys
+
+-- the first key that is none of the known ones; the keys of a table ascend, so it is the least
 abbrev pub unknown_in : List Text → List Text → Option Text
 unknown_in known [] = None
 unknown_in known (key ∷ keys) = if is_known known key then unknown_in known keys else Some key
@@ -39,7 +53,7 @@ refused_key table (Some key) = Err (Unknown (table ++ key))
 
 -- a table has known keys alone; `table` is its path and a dot, or nothing for the table at the top
 abbrev pub only_known : Text → List Text → Members → Result (Unit {0}) PlanFault
-only_known table known ms = refused_key table (unknown_in known (keys_in ms))
+only_known table known ms = refused_key table (unknown_in known (key_names ms))
 
 -- the value of a key that has to be there
 abbrev pub required : {A : Type 0} → Text → Members → Text → Reader A → Result A PlanFault
@@ -74,8 +88,8 @@ is_past None n = false
 is_past (Some most) n = nat_lt most n
 
 -- a list may have so many elements: more are Limit; fewer are Range, and so is any at all where none are allowed
-abbrev pub counted : Span → Text → List Data → Result (List Data) PlanFault
-counted span path ds =
+abbrev pub within_span : Span → Text → List Data → Result (List Data) PlanFault
+within_span span path ds =
     if is_past span.most (length ds) then Err (Limit path)
     else if nat_lt (length ds) span.least || (not span.allowed && nat_lt 0 (length ds))
     then Err (Range path (pos (length ds)))
@@ -93,7 +107,7 @@ each one path i (d ∷ ds) = do
 abbrev pub list : {A : Type 0} → Span → Reader A → Reader (List A)
 list span one path d = do
   ds ← values_of path d
-  counted_ds ← counted span path ds
+  counted_ds ← within_span span path ds
   each one path 0 counted_ds
 
 -- so many elements, or any number from the least on

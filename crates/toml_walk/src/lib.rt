@@ -3,6 +3,7 @@
 
 mod bounds;
 mod fault;
+mod laws;
 mod list;
 mod numbers;
 mod path;
@@ -12,6 +13,7 @@ mod texts;
 
 pub use bounds::{Bounds, Form, GREATEST};
 pub use fault::{PlanError, PlanFault};
+pub use laws::unknown_is_least;
 pub use list::{ListOf, Span, items_of};
 pub use numbers::{Byte, Long, Wide, Word, integer_of, two_numbers};
 pub use path::{key_path, place_path};

@@ -4,7 +4,7 @@ ghost use Rattle.std.specs.Prelude.{◌≡◌, map, option_map, length};
 ghost use Rattle.toml.specs.Data.{as_array};
 ghost use Rattle.toml.specs.View.{view};
 ghost use Rattle.toml_walk.specs.Fault.{Gives};
-ghost use Rattle.toml_walk.specs.Walk.{list_of, values_of, counted, each, list, is_past, between, any_number};
+ghost use Rattle.toml_walk.specs.Walk.{list_of, values_of, within_span, each, list, is_past, between, any_number};
 
 use crate::{PlanError, PlanFault, Reader, place_path};
 use ide_types::{Bytes, Items};
@@ -77,7 +77,7 @@ pub fn items_of(path: Bytes, value: &Value) -> Result<&[Value], PlanError>
 
 // Refuses too many elements, and then too few.
 fn refuse_count(alloc: Global, span: &Span, path: &[u8], items: &[Value]) -> Result<(), PlanError>
-    ensures { Gives (λ _. map view items.now) result (counted span.now path.now (map view items.now)) }
+    ensures { Gives (λ _. map view items.now) result (within_span span.now path.now (map view items.now)) }
 {
     let count = items.len();
     if span.is_passed(count) {

@@ -1,12 +1,13 @@
 //! Walking through a table.
 
 ghost use Rattle.std.specs.Prelude.{◌≡◌, ◌++◌, map, option_map, codes, string_bytes};
-ghost use Rattle.std.specs.BTreeMap.{keys};
+ghost use Rattle.std.specs.BTreeMap.{IsOrdered, keys};
+ghost use Rattle.std.specs.String.{string_cmp};
 ghost use Rattle.toml.specs.Data.{get_member, as_table};
 ghost use Rattle.toml.specs.View.{view, table_view};
 ghost use Rattle.toml_walk.specs.declared.fault.PlanFault.TheVariants.{Kind};
 ghost use Rattle.toml_walk.specs.Fault.{Gives, or_fault};
-ghost use Rattle.toml_walk.specs.Walk.{is_known, unknown_in, only_known, required, optional};
+ghost use Rattle.toml_walk.specs.Walk.{is_known, unknown_in, only_known, key_names, Ascend, required, optional};
 
 use crate::{PlanError, PlanFault, Reader, key_path};
 use ide_types::Bytes;
@@ -26,8 +27,9 @@ fn is_in(known: &[&str], key: &str) -> bool
 
 // The first key that is none of the known ones.
 fn first_unknown<'a>(known: &[&str], table: &'a Table) -> Option<&'a str>
-    ensures { option_map (λ s. s.now) result
+    ensures first { option_map (λ s. s.now) result
         ≡ unknown_in (map (λ s. s.now) known.now) (map string_bytes (keys table.now)) }
+    ensures ordered { IsOrdered string_cmp table.now }
 {
     for key in table.keys() {
         if !is_in(known, key.as_str()) {
@@ -54,10 +56,12 @@ fn found<'a>(table: &'a Table, name: &str) -> Option<&'a Value>
 
 impl Keys<'_> {
     /// Refuses the least key of the table that is none of the known ones.
-    #[tactic(auto, using(crate::proofs::Lists::keys_of_view))]
+    #[tactic(auto, using(crate::proofs::Lists::keys_of_view, crate::proofs::Unknown::table_ascends))]
     pub fn only(&self, known: &[&str]) -> Result<(), PlanError>
-        ensures { Gives (λ u. u) result
+        ensures gives { Gives (λ u. u) result
             (only_known self.now.path (map (λ s. s.now) known.now) (table_view self.now.table.now)) }
+        // So the first unknown key is the least.
+        ensures ascend { Ascend (key_names (table_view self.now.table.now)) }
     {
         match first_unknown(known, self.table) {
             None => Ok(()),
