@@ -1,4 +1,5 @@
--- A column of a round, by words and by bytes.
+-- A column of a round, by words and by bytes: sums of words are sums byte by byte, so the four entries of a column add up
+-- to its bytes times the matrix, and states of 16 bytes are compared byte by byte.
 use Rattle.std.proofs.Common.{◌≡◌, ◌≤◌, ◌-◌, take, slice_range, ℕ, ◌+◌, ◌*◌, ◌/◌, ◌%◌, ◌^◌, List, [], ◌∷◌, ◌++◌, bit_xor, slice_index, zero, suc, length, drop, drop-cons, lit<, refl, sym, ap, ◌∙◌, arith}
 use Rattle.std.proofs.lemmas.Nat.{xor_comm, xor_lt, xor_block, xor_shr, xor_mod, mod_below}
 use lib.Bits.{xor_assoc}

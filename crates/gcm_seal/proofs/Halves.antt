@@ -1,4 +1,6 @@
--- Products 4 bits of each half at a time, reduced at the end.
+-- Products 4 bits of each half at a time, reduced at the end: a product is the sum over both halves, each step moves both
+-- up by x⁴ and adds one entry of the table to each, and bits that pass the end come back by linear maps that are tested at
+-- the 128 powers of x.
 use Rattle.std.proofs.Common.{◌≡◌, ℕ, zero, suc, ◌+◌, ◌-◌, ◌*◌, ◌/◌, ◌%◌, ◌^◌, ◌<◌, ◌≤◌, ◌==◌, Bool, true, List, [], ◌∷◌, ◌++◌, length, bit_and, bit_xor, slice_index, refl, sym, ap, ◌∙◌, arith, lit<}
 use Rattle.std.proofs.Math.Nat.{pow-suc, mul-mod_left}
 use Rattle.std.proofs.lemmas.Nat.{xor_comm, xor_mod, shr-shr, mod_below, and_mask, pow_pos, pow-add, div-add-mod', mod-pow-add}

@@ -22,6 +22,16 @@ xor_four a b c d =
     ∙ ap (bit_xor a) (sym (xor_assoc b c d) ∙ ap (λ (x : ℕ). bit_xor x d) (xor_comm b c) ∙ xor_assoc c b d)
     ∙ sym (xor_assoc a c (bit_xor b d))
 
+-- what holds of the four pairs of two bits
+by_bits : (P : ℕ → ℕ → Type 0) → P 0 0 → P 0 1 → P 1 0 → P 1 1 → (p q : ℕ) → p < 2 → q < 2 → P p q
+by_bits P a b c d zero zero hp hq = a
+by_bits P a b c d zero (suc zero) hp hq = b
+by_bits P a b c d (suc zero) zero hp hq = c
+by_bits P a b c d (suc zero) (suc zero) hp hq = d
+by_bits P a b c d zero (suc (suc q)) hp hq = absurd (omega arith)
+by_bits P a b c d (suc zero) (suc (suc q)) hp hq = absurd (omega arith)
+by_bits P a b c d (suc (suc p)) q hp hq = absurd (omega arith)
+
 -- ---- one step
 
 -- what stands for x¹²⁸ where the lowest bit is d
@@ -29,22 +39,7 @@ abbrev carry : ℕ → ℕ
 carry d = if d == 1 then 0xe1 * 2 ^ 120 else 0
 
 carry-xor : (p q : ℕ) → p < 2 → q < 2 → carry (bit_xor p q) ≡ bit_xor (carry p) (carry q)
-carry-xor p q hp hq =
-    elim (cases_lt p 1) [
-      | inl p0 ↦
-          let ep : p ≡ 0 = omega arith in
-          rw ep refl
-      | inr p1 ↦
-          let ep : p ≡ 1 = omega arith in
-          elim (cases_lt q 1) [
-            | inl q0 ↦
-                let eq : q ≡ 0 = omega arith in
-                rw (ep, eq) refl
-            | inr q1 ↦
-                let eq : q ≡ 1 = omega arith in
-                rw (ep, eq) refl
-          ]
-    ]
+carry-xor = by_bits (λ p q. carry (bit_xor p q) ≡ bit_xor (carry p) (carry q)) refl refl refl refl
 
 pub step_x-xor : (a b : ℕ) → step_x (bit_xor a b) ≡ bit_xor (step_x a) (step_x b)
 unfolding step_x
@@ -145,29 +140,7 @@ abbrev pub one : ℕ
 one = 2 ^ 127
 
 digit-differ : (p q : ℕ) → p < 2 → q < 2 → ((p + q) % 2 == 1) ≡ differ (p == 1) (q == 1)
-digit-differ p q hp hq =
-    elim (cases_lt p 1) [
-      | inl p0 ↦
-          let ep : p ≡ 0 = omega arith in
-          elim (cases_lt q 1) [
-            | inl q0 ↦
-                let eq : q ≡ 0 = omega arith in
-                rw (ep, eq) refl
-            | inr q1 ↦
-                let eq : q ≡ 1 = omega arith in
-                rw (ep, eq) refl
-          ]
-      | inr p1 ↦
-          let ep : p ≡ 1 = omega arith in
-          elim (cases_lt q 1) [
-            | inl q0 ↦
-                let eq : q ≡ 0 = omega arith in
-                rw (ep, eq) refl
-            | inr q1 ↦
-                let eq : q ≡ 1 = omega arith in
-                rw (ep, eq) refl
-          ]
-    ]
+digit-differ = by_bits (λ p q. ((p + q) % 2 == 1) ≡ differ (p == 1) (q == 1)) refl refl refl refl
 
 bits-xor : (n a b : ℕ) → bits n (bit_xor a b) ≡ plus (bits n a) (bits n b)
 unfolding bits

@@ -1,5 +1,5 @@
 -- Blocks, counters and masks as lists of bytes.
-use Rattle.std.proofs.Common.{replicate, append_assoc, append-nil, slice_range, ◌≡◌, ℕ, zero, suc, ◌+◌, ◌-◌, ◌*◌, ◌/◌, ◌%◌, ◌^◌, ◌<◌, ◌≤◌, List, [], ◌∷◌, ◌++◌, length, take, drop, bit_xor, slice_index, refl, sym, ap, ◌∙◌, arith, inl, inr, lit<, drop-cons}
+use Rattle.std.proofs.Common.{replicate, append_assoc, append-nil, slice_range, ◌≡◌, ℕ, zero, suc, ◌+◌, ◌-◌, ◌*◌, ◌/◌, ◌%◌, ◌^◌, ◌<◌, ◌≤◌, List, [], ◌∷◌, ◌++◌, length, take, drop, bit_xor, slice_index, refl, sym, ap, ◌∙◌, arith, inl, inr, lit<}
 use Rattle.std.proofs.lemmas.List.{get_or-take, get_or-replicate, get_or_past, length-replicate, get_or_append_left, get_or-append_right, get_or-drop, length-append, length-drop, drop_all, take_all, take-append-le, drop-append-le}
 use Rattle.std.proofs.lemmas.Bool.{cases_lt}
 use Rattle.std.proofs.lemmas.Grind.{same_number_lists, div_ceil_times}
@@ -31,16 +31,6 @@ number_same a b h =
       h 14 (lit< tt),
       h 15 (lit< tt),
     ) refl
-
--- n elements from place i on, and then the rest
-abbrev pub items : List ℕ → ℕ → ℕ → List ℕ → List ℕ
-items xs i zero rest = rest
-items xs i (suc n) rest = slice_index xs i ∷ items xs (suc i) n rest
-
-pub items-drop : (xs : List ℕ) (n i : ℕ) (rest : List ℕ) → i + n ≡ length xs → items xs i n rest ≡ drop i xs ++ rest
-items-drop xs zero i rest e = rw (drop_all i xs (omega arith)) refl
-items-drop xs (suc n) i rest e =
-    rw (items-drop xs n (suc i) rest (omega arith), drop-cons xs i 0 (omega arith)) refl
 
 -- the counter blocks count up in the last 4 bytes
 pub counter-at : (iv : List ℕ) (n : ℕ) → length iv ≡ 12 → n + 1 < 2 ^ 32 → counter iv n ≡ iv ++ to_be_bytes w32 (n + 1)

@@ -1,4 +1,5 @@
--- The fault of a line is its first: each event's words are read from the left, as the table of places has them.
+-- The fault of a line is its first: each event's words are read from the left, each by its test in the table, so a
+-- reading that ends in a fault ends at the first word that does not meet its test.
 use Rattle.std.proofs.Common.{true, false, nat_lt, not, ◌&&◌, ◌||◌, ◌≡◌, ◌≤◌, ◌↔◌, ℕ, List, [], ◌∷◌, Bool, Option, Some, None, Result, Ok, Err, length, drop, refl, sym, ◌∙◌, ap, subst, arith, codes, inl, inr}
 use Rattle.std.specs.Prelude.{if◌then◌else◌, is_some}
 use Rattle.std.specs.List.{list_all}
@@ -18,7 +19,7 @@ use Rattle.link_events.proofs.Steps.{ok_err, err_err, false_true}
 
 -- ---- one way: a reading that ends in a fault ends in the first
 
--- the reading of these words ends in a fault exactly where that is the first off these places
+-- the reading of these words ends in a fault exactly where that is the first off these tests
 abbrev Reads : {A : Type 0} → List WordTest → List Text → Result A LineFault → Type 0
 Reads places words answer = (f : LineFault) → (answer ≡ Err f) ↔ FirstOff places words f
 
@@ -26,44 +27,42 @@ Reads places words answer = (f : LineFault) → (answer ≡ Err f) ↔ FirstOff 
 end_reads : {A : Type 0} (x : A) → Reads [] [] (Ok x)
 end_reads x f = (ok_err x f, λ off. absurd off)
 
--- a word that is read in its place, and what follows
-step_reads : {A B : Type 0} (p : WordTest) (o : Option A) (w : Text) (ps : List WordTest) (ws : List Text) (k : A → Result B LineFault)
-    → p.is_spelled w ≡ is_some o → ((x : A) → o ≡ Some x → Reads ps ws (k x)) → Reads (p ∷ ps) (w ∷ ws) (ok_or o p.fault >>= k)
-step_reads p None w ps ws k is later f = (
+-- a word that does not meet its test
+off_reads : {A : Type 0} (p : WordTest) (w : Text) (ps : List WordTest) (ws : List Text) → p.is_spelled w ≡ false
+    → Reads {A = A} (p ∷ ps) (w ∷ ws) (Err p.fault)
+off_reads p w ps ws is f = (
   λ e. inl (is, err_err p.fault f e),
   λ off. elim off [
     | inl here ↦ ap Err here.1
     | inr on ↦ absurd (false_true (sym is ∙ on.0))
   ],
 )
-step_reads p (Some x) w ps ws k is later f = (
-  λ e. inr (is, (later x refl f).0 e),
+
+-- a word that meets its test, and what follows
+on_reads : {A : Type 0} (p : WordTest) (w : Text) (ps : List WordTest) (ws : List Text) (answer : Result A LineFault)
+    → p.is_spelled w ≡ true → Reads ps ws answer → Reads (p ∷ ps) (w ∷ ws) answer
+on_reads p w ps ws answer is later f = (
+  λ e. inr (is, (later f).0 e),
   λ off. elim off [
     | inl here ↦ absurd (false_true (sym here.0 ∙ is))
-    | inr on ↦ (later x refl f).1 on.1
+    | inr on ↦ (later f).1 on.1
   ],
 )
+
+-- a word that is read where it meets its test, and what follows
+step_reads : {A B : Type 0} (p : WordTest) (o : Option A) (w : Text) (ps : List WordTest) (ws : List Text) (k : A → Result B LineFault)
+    → p.is_spelled w ≡ is_some o → ((x : A) → o ≡ Some x → Reads ps ws (k x)) → Reads (p ∷ ps) (w ∷ ws) (ok_or o p.fault >>= k)
+step_reads p None w ps ws k is later = off_reads p w ps ws is
+step_reads p (Some x) w ps ws k is later = on_reads p w ps ws (k x) is (later x refl)
 
 -- the last word
 last_reads : {A : Type 0} (p : WordTest) (o : Option A) (w : Text) → p.is_spelled w ≡ is_some o → Reads (p ∷ []) (w ∷ []) (ok_or o p.fault)
-last_reads p None w is f = (
-  λ e. inl (is, err_err p.fault f e),
-  λ off. elim off [
-    | inl here ↦ ap Err here.1
-    | inr on ↦ absurd (false_true (sym is ∙ on.0))
-  ],
-)
-last_reads p (Some x) w is f = (
-  λ e. absurd (ok_err x f e),
-  λ off. elim off [
-    | inl here ↦ absurd (false_true (sym here.0 ∙ is))
-    | inr on ↦ absurd on.1
-  ],
-)
+last_reads p None w is = off_reads p w [] [] is
+last_reads p (Some x) w is = on_reads p w [] [] (Ok x) is (end_reads x)
 
 -- ---- the words behind the first
 
--- the reading of the words ends in a fault exactly where that is the first off the event's places
+-- the reading of the words ends in a fault exactly where that is the first off the event's tests
 abbrev RowReads : {A : Type 0} → Option (List WordTest) → List Text → Result A LineFault → Type 0
 RowReads places words answer = (f : LineFault) → (answer ≡ Err f) ↔ RowFault places words f
 
@@ -115,20 +114,8 @@ word_reads : {A : Type 0} (word w : Text) (ps : List WordTest) (ws : List Text) 
 word_reads word w ps ws rest k later = by_test (bytes_eq w word) refl
   where
     by_test : (b : Bool) → bytes_eq w word ≡ b → Reads (word_test word ∷ ps) (w ∷ ws) ((if b then rest else Err fault.Word) >>= k)
-    by_test false is f = (
-      λ e. inl (is, err_err fault.Word f e),
-      λ off. elim off [
-        | inl here ↦ ap Err here.1
-        | inr on ↦ absurd (false_true (sym is ∙ on.0))
-      ],
-    )
-    by_test true is f = (
-      λ e. inr (is, (later f).0 e),
-      λ off. elim off [
-        | inl here ↦ absurd (false_true (sym here.0 ∙ is))
-        | inr on ↦ (later f).1 on.1
-      ],
-    )
+    by_test false is = off_reads (word_test word) w ps ws is
+    by_test true is = on_reads (word_test word) w ps ws (rest >>= k) is later
 
 -- one bind after another is one
 associated : {A B C : Type 0} (x : Option A) (c : LineFault) (g : A → Result B LineFault) (k : B → Result C LineFault) → ((ok_or x c >>= g) >>= k) ≡ (ok_or x c >>= λ a. g a >>= k)
@@ -191,54 +178,21 @@ marks_reads p m t Host k trusted = by_tests (bytes_eq m (codes "more")) (bytes_e
   where
     by_tests : (b c : Bool) → bytes_eq m (codes "more") ≡ b → bytes_eq t (codes "trusted") ≡ c
         → Reads (word_test (codes "more") ∷ trusted_test p ∷ []) (m ∷ t ∷ []) (ok_or (if b && c then Some (true, true) else None) fault.Word >>= λ z. Ok (k z))
-    by_tests true true x y f = (
-      λ e. absurd (ok_err (k (true, true)) f e),
-      λ off. elim off [
-        | inl here ↦ absurd (false_true (sym here.0 ∙ x))
-        | inr on ↦ elim on.1 [
-          | inl here ↦ absurd (false_true (sym here.0 ∙ (trusted ∙ rw y refl)))
-          | inr both ↦ absurd both.1
-        ]
-      ],
-    )
-    by_tests true false x y f = (
-      λ e. inr (x, inl (trusted ∙ rw y refl, err_err fault.Word f e)),
-      λ off. elim off [
-        | inl here ↦ ap Err here.1
-        | inr on ↦ elim on.1 [
-          | inl here ↦ ap Err here.1
-          | inr both ↦ absurd both.1
-        ]
-      ],
-    )
-    by_tests false c x y f = (
-      λ e. inl (x, err_err fault.Word f e),
-      λ off. elim off [
-        | inl here ↦ ap Err here.1
-        | inr on ↦ absurd (false_true (sym x ∙ on.0))
-      ],
-    )
+    by_tests true true x y =
+        on_reads (word_test (codes "more")) m (trusted_test p ∷ []) (t ∷ []) (Ok (k (true, true))) x
+        (on_reads (trusted_test p) t [] [] (Ok (k (true, true))) (trusted ∙ rw y refl) (end_reads (k (true, true))))
+    by_tests true false x y =
+        on_reads (word_test (codes "more")) m (trusted_test p ∷ []) (t ∷ []) (Err fault.Word) x
+        (off_reads (trusted_test p) t [] [] (trusted ∙ rw y refl))
+    by_tests false c x y = off_reads (word_test (codes "more")) m (trusted_test p ∷ []) (t ∷ []) x
 marks_reads p m t Device k trusted = by_test (bytes_eq m (codes "more")) (bytes_eq t (codes "trusted")) refl refl
   where
     by_test : (b c : Bool) → bytes_eq m (codes "more") ≡ b → bytes_eq t (codes "trusted") ≡ c
         → Reads {A = Event} (word_test (codes "more") ∷ trusted_test p ∷ []) (m ∷ t ∷ []) (Err fault.Word)
-    by_test true c x y f = (
-      λ e. inr (x, inl (trusted ∙ (rw y (never c)), err_err fault.Word f e)),
-      λ off. elim off [
-        | inl here ↦ ap Err here.1
-        | inr on ↦ elim on.1 [
-          | inl here ↦ ap Err here.1
-          | inr both ↦ absurd both.1
-        ]
-      ],
-    )
-    by_test false c x y f = (
-      λ e. inl (x, err_err fault.Word f e),
-      λ off. elim off [
-        | inl here ↦ ap Err here.1
-        | inr on ↦ absurd (false_true (sym x ∙ on.0))
-      ],
-    )
+    by_test true c x y =
+        on_reads (word_test (codes "more")) m (trusted_test p ∷ []) (t ∷ []) (Err fault.Word) x
+        (off_reads (trusted_test p) t [] [] (trusted ∙ (rw y (never c))))
+    by_test false c x y = off_reads (word_test (codes "more")) m (trusted_test p ∷ []) (t ∷ []) x
 
 -- a port, bytes and marks
 sent : (p w : Text) (marks : List Text) (places : List WordTest)
