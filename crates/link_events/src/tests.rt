@@ -101,89 +101,91 @@ fn event_text(alloc: Global, line: &[u8]) -> Result<String, Fail> {
     }
 }
 
+// Each form of each event, as it prints.
+static EVENTS: [(&[u8], &str); 27] = [
+    (b"pass 1", "Pass { packet: 1 }"),
+    (b"  pass   0x1fA ", "Pass { packet: 506 }"),
+    (b"pass 00000000000000000007", "Pass { packet: 7 }"),
+    (
+        b"pass 18446744073709551615",
+        "Pass { packet: 18446744073709551615 }",
+    ),
+    (
+        b"pass 0xFFFFFFFFffffffff",
+        "Pass { packet: 18446744073709551615 }",
+    ),
+    (b"alter 1 0x2 A0", "Alter { packet: 1, at: 2, mask: 160 }"),
+    (b"cut 1 31", "Cut { packet: 1, length: 31 }"),
+    (b"dump 0", "Dump { packet: 0 }"),
+    (
+        b"arrive d7 -",
+        "Arrive { port: PortName { side: Device, link: 7 }, bytes: Bytes { bytes: [] } }",
+    ),
+    (
+        b"arrive h0 92fF",
+        "Arrive { port: PortName { side: Host, link: 0 }, bytes: Bytes { bytes: [146, 255] } }",
+    ),
+    (
+        b"send d0 0aFf",
+        "Send { port: PortName { side: Device, link: 0 }, bytes: Bytes { bytes: [10, 255] }, more: false, trusted: false }",
+    ),
+    (
+        b"send d0 - more",
+        "Send { port: PortName { side: Device, link: 0 }, bytes: Bytes { bytes: [] }, more: true, trusted: false }",
+    ),
+    (
+        b"send h2 01",
+        "Send { port: PortName { side: Host, link: 2 }, bytes: Bytes { bytes: [1] }, more: false, trusted: false }",
+    ),
+    (
+        b"send h2 01 more",
+        "Send { port: PortName { side: Host, link: 2 }, bytes: Bytes { bytes: [1] }, more: true, trusted: false }",
+    ),
+    (
+        b"send h1 00 trusted",
+        "Send { port: PortName { side: Host, link: 1 }, bytes: Bytes { bytes: [0] }, more: false, trusted: true }",
+    ),
+    (
+        b"send h1 00 more trusted",
+        "Send { port: PortName { side: Host, link: 1 }, bytes: Bytes { bytes: [0] }, more: true, trusted: true }",
+    ),
+    (
+        b"establish 0 5",
+        "Establish { link: 0, stream: 5, lose: None }",
+    ),
+    (
+        b"establish 0 5 lose 2 request",
+        "Establish { link: 0, stream: 5, lose: Some(Loss { exchange: 2, lost: Request }) }",
+    ),
+    (
+        b"establish 1 6 lose 3 reply",
+        "Establish { link: 1, stream: 6, lose: Some(Loss { exchange: 3, lost: Reply }) }",
+    ),
+    (b"refresh 1 6", "Refresh { link: 1, stream: 6, lose: None }"),
+    (
+        b"refresh 1 6 lose 4 request",
+        "Refresh { link: 1, stream: 6, lose: Some(Loss { exchange: 4, lost: Request }) }",
+    ),
+    (
+        b"refresh 300 0x100 lose 9 reply",
+        "Refresh { link: 300, stream: 256, lose: Some(Loss { exchange: 9, lost: Reply }) }",
+    ),
+    (b"stop 1 6", "Stop { link: 1, stream: 6, lose: None }"),
+    (
+        b"stop 1 6 lose 2 reply",
+        "Stop { link: 1, stream: 6, lose: Some(Loss { exchange: 2, lost: Reply }) }",
+    ),
+    (
+        b"stop 0 5 lose 1 request",
+        "Stop { link: 0, stream: 5, lose: Some(Loss { exchange: 1, lost: Request }) }",
+    ),
+    (b"reset 9", "Reset { link: 9 }"),
+    (b"status 0 5", "Status { link: 0, stream: 5 }"),
+];
+
 #[test]
 fn events(rt: HostRuntime) -> Result<(), Fail> {
-    let lines: [(&[u8], &str); 27] = [
-        (b"pass 1", "Pass { packet: 1 }"),
-        (b"  pass   0x1fA ", "Pass { packet: 506 }"),
-        (b"pass 00000000000000000007", "Pass { packet: 7 }"),
-        (
-            b"pass 18446744073709551615",
-            "Pass { packet: 18446744073709551615 }",
-        ),
-        (
-            b"pass 0xFFFFFFFFffffffff",
-            "Pass { packet: 18446744073709551615 }",
-        ),
-        (b"alter 1 0x2 A0", "Alter { packet: 1, at: 2, mask: 160 }"),
-        (b"cut 1 31", "Cut { packet: 1, length: 31 }"),
-        (b"dump 0", "Dump { packet: 0 }"),
-        (
-            b"arrive d7 -",
-            "Arrive { port: PortName { side: Device, link: 7 }, bytes: Bytes { bytes: [] } }",
-        ),
-        (
-            b"arrive h0 92fF",
-            "Arrive { port: PortName { side: Host, link: 0 }, bytes: Bytes { bytes: [146, 255] } }",
-        ),
-        (
-            b"send d0 0aFf",
-            "Send { port: PortName { side: Device, link: 0 }, bytes: Bytes { bytes: [10, 255] }, more: false, trusted: false }",
-        ),
-        (
-            b"send d0 - more",
-            "Send { port: PortName { side: Device, link: 0 }, bytes: Bytes { bytes: [] }, more: true, trusted: false }",
-        ),
-        (
-            b"send h2 01",
-            "Send { port: PortName { side: Host, link: 2 }, bytes: Bytes { bytes: [1] }, more: false, trusted: false }",
-        ),
-        (
-            b"send h2 01 more",
-            "Send { port: PortName { side: Host, link: 2 }, bytes: Bytes { bytes: [1] }, more: true, trusted: false }",
-        ),
-        (
-            b"send h1 00 trusted",
-            "Send { port: PortName { side: Host, link: 1 }, bytes: Bytes { bytes: [0] }, more: false, trusted: true }",
-        ),
-        (
-            b"send h1 00 more trusted",
-            "Send { port: PortName { side: Host, link: 1 }, bytes: Bytes { bytes: [0] }, more: true, trusted: true }",
-        ),
-        (
-            b"establish 0 5",
-            "Establish { link: 0, stream: 5, lose: None }",
-        ),
-        (
-            b"establish 0 5 lose 2 request",
-            "Establish { link: 0, stream: 5, lose: Some(Loss { exchange: 2, lost: Request }) }",
-        ),
-        (
-            b"establish 1 6 lose 3 reply",
-            "Establish { link: 1, stream: 6, lose: Some(Loss { exchange: 3, lost: Reply }) }",
-        ),
-        (b"refresh 1 6", "Refresh { link: 1, stream: 6, lose: None }"),
-        (
-            b"refresh 1 6 lose 4 request",
-            "Refresh { link: 1, stream: 6, lose: Some(Loss { exchange: 4, lost: Request }) }",
-        ),
-        (
-            b"refresh 300 0x100 lose 9 reply",
-            "Refresh { link: 300, stream: 256, lose: Some(Loss { exchange: 9, lost: Reply }) }",
-        ),
-        (b"stop 1 6", "Stop { link: 1, stream: 6, lose: None }"),
-        (
-            b"stop 1 6 lose 2 reply",
-            "Stop { link: 1, stream: 6, lose: Some(Loss { exchange: 2, lost: Reply }) }",
-        ),
-        (
-            b"stop 0 5 lose 1 request",
-            "Stop { link: 0, stream: 5, lose: Some(Loss { exchange: 1, lost: Request }) }",
-        ),
-        (b"reset 9", "Reset { link: 9 }"),
-        (b"status 0 5", "Status { link: 0, stream: 5 }"),
-    ];
-    for (line, event) in lines.iter() {
+    for (line, event) in EVENTS.iter() {
         assert_eq!(rt; event_text(rt.alloc(), line)?.as_str(), *event);
     }
     Ok(())

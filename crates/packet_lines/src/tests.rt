@@ -52,82 +52,86 @@ fn shows_packets_and_plain_tlps(rt: HostRuntime) -> Result<(), Fail> {
     Ok(())
 }
 
+// Each kind of TLP, with the header lengths that it has.
+static PLAIN: [(&str, &str); 8] = [
+    (
+        "200000010100000f0000000110000000",
+        "7 plain memread head 16 body 0\n",
+    ),
+    (
+        "600000010100000f000000011000000011223344",
+        "7 plain memwrite head 16 body 4\n",
+    ),
+    (
+        "040000010100050f02000004",
+        "7 plain cfgread head 12 body 0\n",
+    ),
+    (
+        "450000010100050f0200000411223344",
+        "7 plain cfgwrite head 12 body 4\n",
+    ),
+    (
+        "34000000010000140000000000000000",
+        "7 plain message head 16 body 0\n",
+    ),
+    (
+        "7200000101000014020000000000000011223344",
+        "7 plain message head 16 body 4\n",
+    ),
+    (
+        "0a0000000200000001000500",
+        "7 plain completion head 12 body 0\n",
+    ),
+    (
+        "4a00000202000008010005001122334455667788",
+        "7 plain completion head 12 body 8\n",
+    ),
+];
+
 #[test]
 fn shows_each_kind_of_plain_tlp(rt: HostRuntime) -> Result<(), Fail> {
-    let cases = [
-        (
-            "200000010100000f0000000110000000",
-            "7 plain memread head 16 body 0\n",
-        ),
-        (
-            "600000010100000f000000011000000011223344",
-            "7 plain memwrite head 16 body 4\n",
-        ),
-        (
-            "040000010100050f02000004",
-            "7 plain cfgread head 12 body 0\n",
-        ),
-        (
-            "450000010100050f0200000411223344",
-            "7 plain cfgwrite head 12 body 4\n",
-        ),
-        (
-            "34000000010000140000000000000000",
-            "7 plain message head 16 body 0\n",
-        ),
-        (
-            "7200000101000014020000000000000011223344",
-            "7 plain message head 16 body 4\n",
-        ),
-        (
-            "0a0000000200000001000500",
-            "7 plain completion head 12 body 0\n",
-        ),
-        (
-            "4a00000202000008010005001122334455667788",
-            "7 plain completion head 12 body 8\n",
-        ),
-    ];
-    for (line, want) in cases {
+    for (line, want) in PLAIN.iter() {
         let text = shown(rt.alloc(), line)?;
         assert_eq!(rt; text.as_slice(), want.as_bytes(), "at {line}");
     }
     Ok(())
 }
 
+// Each kind of packet, with and without a tag.
+static PACKETS: [(&str, &str); 7] = [
+    (
+        "92010503000000010100000f10000000",
+        "7 ide m0 k0 t0 npr 5 p3 memread head 12 body 0\n",
+    ),
+    (
+        "92000500600000010100000f000000011000000011223344",
+        "7 ide m0 k0 t0 pr 5 p0 memwrite head 16 body 4\n",
+    ),
+    (
+        "92610500040000010100050f02000004",
+        "7 ide m0 k1 t1 npr 5 p0 cfgread head 12 body 0\n",
+    ),
+    (
+        "92810500440000010100050f0200000411223344000000000000000000000000",
+        "7 ide m1 k0 t0 npr 5 p0 cfgwrite head 12 body 4\n",
+    ),
+    (
+        "9220ff0034000000010000140000000000000000",
+        "7 ide m0 k0 t1 pr 255 p0 message head 16 body 0\n",
+    ),
+    (
+        "920205074a00000202000008010005001122334455667788",
+        "7 ide m0 k0 t0 cpl 5 p7 completion head 12 body 8\n",
+    ),
+    (
+        "92c205ff340000000000000000000000000000000000000000000000",
+        "7 ide m1 k1 t0 cpl 5 p255 sync head 12 body 0\n",
+    ),
+];
+
 #[test]
 fn shows_each_kind_of_packet(rt: HostRuntime) -> Result<(), Fail> {
-    let cases = [
-        (
-            "92010503000000010100000f10000000",
-            "7 ide m0 k0 t0 npr 5 p3 memread head 12 body 0\n",
-        ),
-        (
-            "92000500600000010100000f000000011000000011223344",
-            "7 ide m0 k0 t0 pr 5 p0 memwrite head 16 body 4\n",
-        ),
-        (
-            "92610500040000010100050f02000004",
-            "7 ide m0 k1 t1 npr 5 p0 cfgread head 12 body 0\n",
-        ),
-        (
-            "92810500440000010100050f0200000411223344000000000000000000000000",
-            "7 ide m1 k0 t0 npr 5 p0 cfgwrite head 12 body 4\n",
-        ),
-        (
-            "9220ff0034000000010000140000000000000000",
-            "7 ide m0 k0 t1 pr 255 p0 message head 16 body 0\n",
-        ),
-        (
-            "920205074a00000202000008010005001122334455667788",
-            "7 ide m0 k0 t0 cpl 5 p7 completion head 12 body 8\n",
-        ),
-        (
-            "92c205ff340000000000000000000000000000000000000000000000",
-            "7 ide m1 k1 t0 cpl 5 p255 sync head 12 body 0\n",
-        ),
-    ];
-    for (line, want) in cases {
+    for (line, want) in PACKETS.iter() {
         let text = shown(rt.alloc(), line)?;
         assert_eq!(rt; text.as_slice(), want.as_bytes(), "at {line}");
     }
