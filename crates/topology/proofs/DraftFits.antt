@@ -15,11 +15,11 @@ use Rattle.toml_walk.proofs.Holds.{Holds, gives, anything, next, weaker, Admitte
 use Rattle.topology.specs.declared.draft.InterfaceDraft.{InterfaceDraft}
 use Rattle.topology.specs.declared.draft.LinkDraft.{LinkDraft}
 use Rattle.topology.specs.declared.draft.PlanDraft.{PlanDraft}
-use Rattle.topology.specs.Tables.{stream_keys, bar_keys, id_of, interface_names, interface_keys, link_names, link_keys, region_keys, top_names, top_keys}
+use Rattle.topology.specs.Tables.{stream_keys, bar_keys, stream_id_of, interface_names, interface_keys, link_names, link_keys, region_keys, top_names, top_keys}
 use Rattle.topology.specs.Rules.{is_id, is_bound}
 use Rattle.topology.proofs.TableFits.{Upto, upto, stream_holds, bar_holds, region_holds}
 
-id_is : (z : ℤ) (id : ℕ) → id ≤ 255 → is_id z id ≡ true → (id == id_of z) ≡ true
+id_is : (z : ℤ) (id : ℕ) → id ≤ 255 → is_id z id ≡ true → (id == stream_id_of z) ≡ true
 id_is (pos n) id small h =
     let e : n ≡ id = eqb-true n id h in
     let low : nat_le n 255 ≡ true = le-leb n 255 (omega arith) in
@@ -27,15 +27,15 @@ id_is (pos n) id small h =
 id_is (negsuc n) id small h = cc
 
 -- the interface is bound to a selective stream, by its ID
-bound_selective : (z : ℤ) (streams : List StreamPlan) → All FitsStream streams → is_bound streams z ≡ true → has_selective (id_of z) streams ≡ true
+bound_selective : (z : ℤ) (streams : List StreamPlan) → All FitsStream streams → is_bound streams z ≡ true → has_selective (stream_id_of z) streams ≡ true
 bound_selective z [] fits h = cc
 bound_selective z (s ∷ ss) fits h =
     elim (or_cases (is_selective s.selector && is_id z s.id) (is_bound ss z) h) [
       | inl here ↦
           let parts = and_parts (is_selective s.selector) (is_id z s.id) here in
-          let one : (is_selective s.selector && s.id == id_of z) ≡ true = and_from _ _ parts.0 (id_is z s.id (All-head FitsStream s ss fits).id parts.1) in
+          let one : (is_selective s.selector && s.id == stream_id_of z) ≡ true = and_from _ _ parts.0 (id_is z s.id (All-head FitsStream s ss fits).id parts.1) in
           rw one refl
-      | inr later ↦ or_right _ (has_selective (id_of z) ss) (bound_selective z ss (All-tail FitsStream s ss fits) later)
+      | inr later ↦ or_right _ (has_selective (stream_id_of z) ss) (bound_selective z ss (All-tail FitsStream s ss fits) later)
     ]
   where
     or_right : (a b : Bool) → b ≡ true → (a || b) ≡ true
@@ -50,6 +50,7 @@ bars_hold : (path : Text) (d : Data) → Holds (λ xs. (length xs ≤ 6) × All 
 bars_hold path d =
     weaker (Listed (between 0 6) FitsBar) _ _ (list_holds _ FitsBar (table bar_keys) (table_holds FitsBar bar_keys bar_holds) path d) (λ xs l. (ltb-false 6 (length xs) l.most, l.each))
 
+-- key by key, as the keys are read: each reader gives its bound, and the last step collects them
 pub interface_holds : (t : Text) (ms : Members) → Holds DraftFits (interface_keys t ms)
 unfolding interface_keys DraftFits
 interface_holds t ms =
@@ -103,6 +104,7 @@ nonces_hold path d = weaker (Listed (between 0 1024) IsKey) _ _ (list_holds _ Is
 interfaces_hold : (path : Text) (d : Data) → Holds (All DraftFits) (list any_number (table interface_keys) path d)
 interfaces_hold path d = weaker (Listed any_number DraftFits) _ _ (list_holds _ DraftFits (table interface_keys) (table_holds DraftFits interface_keys interface_holds) path d) (λ xs l. l.each)
 
+-- key by key, as the keys are read
 pub link_holds : (t : Text) (ms : Members) → Holds LinkHolds (link_keys t ms)
 unfolding link_keys
 link_holds t ms =
@@ -129,6 +131,7 @@ pub record TopHolds (d : PlanDraft) : Type 0 where
   pub links : Listed (between 1 8) LinkHolds d.links
   pub regions : Listed (between 0 16) FitsRegion d.memory
 
+-- key by key, as the keys are read
 pub top_holds : (t : Text) (ms : Members) → Holds TopHolds (top_keys t ms)
 unfolding top_keys
 top_holds t ms =

@@ -53,6 +53,7 @@ counts (l ∷ ls) =
     let one : length (link_of l).interfaces ≡ length l.interfaces = length-map l.interfaces (λ (d : InterfaceDraft). d.interface) in
     sum_by-cons (λ (p : LinkPlan). length p.interfaces) (link_of l) (map link_of ls) ∙ rw (one, counts ls) (sym (sum_by-cons (λ (d : LinkDraft). length d.interfaces) l ls))
 
+-- the bounds of each key come from its reading, the rest from the rule that names it
 plan_fits : (d : PlanDraft) → TopHolds d → Ruled d → FitsPlan (plan_from d)
 plan_fits d h r =
     let links : length (map link_of d.links) ≡ length d.links = length-map d.links link_of in

@@ -107,6 +107,7 @@ pub record Ruled (d : PlanDraft) : Type 0 where
   pub memory : sum_by (λ r. r.size) d.memory ≤ 16777216
   pub regions : no_clash (codes "memory") overlap d.memory ≡ Ok tt
 
+-- the rules gave no fault, so each of them, in its turn, gave none
 pub ruled : (d : PlanDraft) → rules d ≡ Ok tt → Ruled d
 unfolding rules
 ruled d e =

@@ -14,7 +14,7 @@ use Rattle.toml_walk.specs.Values.{number, truth, two}
 use Rattle.toml_walk.proofs.Holds.{Holds, gives, anything, next, weaker, checked, Admitted, Listed, number_holds, required_holds, optional_holds, list_holds, two_holds}
 use Rattle.topology.specs.declared.draft.StreamKind.{StreamKind}
 use Rattle.topology.specs.declared.draft.StreamKind.TheVariants as kind
-use Rattle.topology.specs.Tables.{stream_kind, is_selective_kind, only_if, id_range, ids_in_order, address_range, addresses_in_order, truth_if, selector_of, stream_names, stream_keys, bar_names, bar_keys, region_names, region_keys}
+use Rattle.topology.specs.Tables.{stream_kind, is_selective_kind, only_if, id_range, ids_in_order, address_range, addresses_in_order, truth_if, selector_for, stream_names, stream_keys, bar_names, bar_keys, region_names, region_keys}
 
 -- a number from 0 to the most
 abbrev pub Upto : ℕ → ℕ → Type 0
@@ -40,7 +40,7 @@ addresses_hold path d =
     }))
 
 selector_fits : (k : StreamKind) (ids : Option IdRange) (addresses : List AddressRange) (default : Bool) (classes : List ℕ) → FitsIds ids
-    → (length addresses ≤ 8) × All FitsAddresses addresses → All (λ c. c ≤ 7) classes → FitsSelector (selector_of k ids addresses default classes)
+    → (length addresses ≤ 8) × All FitsAddresses addresses → All (λ c. c ≤ 7) classes → FitsSelector (selector_for k ids addresses default classes)
 selector_fits kind.Selective ids addresses default classes i a c = (i, a.0, a.1)
 selector_fits kind.Link ids addresses default classes i a c = c
 
@@ -52,6 +52,7 @@ classes_hold : (allowed : Bool) (path : Text) (d : Data) → Holds (All (λ c. c
 classes_hold allowed path d =
     weaker (Listed (only_if allowed any_number) (Upto 7)) _ _ (list_holds _ (Upto 7) (number (within 0 7)) (upto 7) path d) (λ xs l. l.each)
 
+-- key by key, as the keys are read; the kind says which lists may have elements
 pub stream_holds : (t : Text) (ms : Members) → Holds FitsStream (stream_keys t ms)
 unfolding stream_keys
 stream_holds t ms =

@@ -74,9 +74,9 @@ truth_if allowed path d = do
   b ← truth path d
   true_if allowed path b
 
-abbrev pub selector_of : StreamKind → Option IdRange → List AddressRange → Bool → List ℕ → Selector
-selector_of kind.Selective ids addresses default classes = selector.Selective ids addresses default
-selector_of kind.Link ids addresses default classes = selector.Link classes
+abbrev pub selector_for : StreamKind → Option IdRange → List AddressRange → Bool → List ℕ → Selector
+selector_for kind.Selective ids addresses default classes = selector.Selective ids addresses default
+selector_for kind.Link ids addresses default classes = selector.Link classes
 
 abbrev pub stream_names : List Text
 stream_names = codes "id" ∷ codes "kind" ∷ codes "mode" ∷ codes "rid" ∷ codes "ranges" ∷ codes "default" ∷ codes "tcs"
@@ -95,7 +95,7 @@ stream_keys t ms = do
   classes ← optional t ms (codes "tcs") [] (list (only_if (not (is_selective_kind kind)) any_number)
       (number (within 0 7)))
   closed ← optional t ms (codes "closed") false truth
-  Ok (record { id = id; mode = mode; closed = closed; selector = selector_of kind ids addresses default classes })
+  Ok (record { id = id; mode = mode; closed = closed; selector = selector_for kind ids addresses default classes })
 
 abbrev pub bar_names : List Text
 bar_names = codes "base" ∷ codes "pages" ∷ codes "attributes" ∷ []
@@ -110,9 +110,9 @@ bar_keys t ms = do
   Ok (record { base = base; pages = pages; attributes = attributes })
 
 -- the stream ID that a number is, or 0 where it is none
-abbrev pub id_of : ℤ → ℕ
-id_of (pos n) = if nat_le n 255 then n else 0
-id_of (negsuc n) = 0
+abbrev pub stream_id_of : ℤ → ℕ
+stream_id_of (pos n) = if nat_le n 255 then n else 0
+stream_id_of (negsuc n) = 0
 
 abbrev pub interface_names : List Text
 interface_names =
@@ -139,7 +139,7 @@ interface_keys t ms = do
     stream = stream;
     interface = record {
       requester = rid;
-      stream = id_of stream;
+      stream = stream_id_of stream;
       flags = flags;
       offset = offset;
       command = command;

@@ -6,7 +6,7 @@ ghost use Rattle.toml_walk.specs.Bounds.{within, formed};
 ghost use Rattle.toml_walk.specs.Fault.{Gives};
 ghost use Rattle.toml_walk.specs.Values.{integer};
 ghost use Rattle.toml_walk.specs.Walk.{table};
-ghost use Rattle.topology.specs.Tables.{bar_keys, id_of, interface_keys};
+ghost use Rattle.topology.specs.Tables.{bar_keys, stream_id_of, interface_keys};
 
 use crate::draft::InterfaceDraft;
 use ide_plan::{BarPlan, InterfacePlan};
@@ -65,7 +65,7 @@ impl Reader for Integer {
 
 // The stream ID that a number is, or 0 where it is none.
 fn id_in(number: i64) -> u8
-    ensures { result ≡ id_of number }
+    ensures { result ≡ stream_id_of number }
 {
     if number >= 0 && number <= 255 {
         number as u8

@@ -576,6 +576,26 @@ fn reads_long_lists(rt: HostRuntime) -> Result<(), Fail> {
     Ok(())
 }
 
+// Fronts of a topology, which end within its first line or its pool.
+#[test]
+fn reads_fronts(rt: HostRuntime) -> Result<(), Fail> {
+    let alloc = rt.alloc();
+    let keys = pool(alloc, 24)?;
+    let text = changed(alloc, BASE, "POOL", &keys)?;
+    let bytes = text.as_bytes();
+    assert!(rt; bytes.len() >= 200);
+    for length in 0..200 {
+        let want = match length {
+            0 => "topology missing version",
+            11 | 12 => "topology missing pool",
+            _ => "topology nottoml",
+        };
+        let got = line(alloc, &bytes[..length])?;
+        assert_eq!(rt; got.as_slice(), want.as_bytes(), "{length}");
+    }
+    Ok(())
+}
+
 // Nine links' worth of interfaces, and what a plan has.
 #[test]
 fn reads_interfaces(rt: HostRuntime) -> Result<(), Fail> {
