@@ -7,8 +7,8 @@ use Rattle.ide_km.specs.declared.object.KmView.{KmView}
 use Rattle.ide_km.specs.declared.object.KmView.TheVariants.{Query, QueryResp, KeyProg, KpAck, SetGo, SetStop, GoStopAck}
 use Rattle.ide_km.specs.declared.object.KmFault.{KmFault}
 use Rattle.ide_km.specs.Objects.{reading}
-use Rattle.ide_km.specs.Calls.{Place, Program, Shown, shown_at, program_at, is_place, SlotsAfter}
-use Rattle.ide_km.specs.Replies.{set_of, place_of, key_call, call_from, call_of, Kept, status_code, status_after, status_of, reply_from, reply_object, HoldsKey, Acknowledged}
+use Rattle.ide_km.specs.Calls.{Place, Program, Shown, shown_at, program_at, is_same_place, SlotsAfter}
+use Rattle.ide_km.specs.Replies.{set_of, place_of, key_call, call_from, call_of, Kept, status_code, status_after, key_status_of, reply_from, reply_object, HoldsKey, Acknowledged}
 
 -- ---- replies that are no success
 
@@ -30,7 +30,7 @@ slot_with : (sender set : Bool) (mine other : Slot) → slot_in (with_both sende
 slot_with sender false mine other = refl
 slot_with sender true mine other = refl
 
-here : (place : Place) → is_place place place ≡ true
+here : (place : Place) → is_same_place place place ≡ true
 here place = and_from _ _ (and_from _ _ (eq-eqb place.stream place.stream refl) (eq-eqb place.direction place.direction refl)) (eq-eqb place.sub place.sub refl)
 
 key_at : (shown after : Shown) (unfinished : Place → Bool) (place : Place) (set : ℕ) (key : List ℕ) (draw : ℕ) (o : Option SlotPair) → shown_at shown place ≡ o
@@ -55,7 +55,7 @@ record Stands (r : Result KmView KmFault) (stream selector draw : ℕ) (after : 
 
 key_stands : (shown after : Shown) (unfinished : Place → Bool) (draw stream selector index : ℕ) (key : List ℕ) (counter : ℕ)
     → Kept shown unfinished (key_call shown draw stream selector index key counter) after
-    → status_code (status_of index (key_call shown draw stream selector index key counter)) ≡ 0
+    → status_code (key_status_of index (key_call shown draw stream selector index key counter)) ≡ 0
     → Stands (Ok (KeyProg stream selector index key counter)) stream selector draw after
 key_stands shown after unfinished draw stream selector index key counter h e = elim (cases_Bool (eqb index 0)) [
   | inr other ↦ let wrong : ◌≡◌ {A = ℕ} 2 0 = rw other at e in absurd (omega (arith, wrong))
@@ -68,6 +68,7 @@ key_stands shown after unfinished draw stream selector index key counter h e = e
   ]
 ]
 
+-- status 0 is only given for a KEY_PROG whose call was answered Ok, and such a call leaves the slot Programmed
 stands : (shown after : Shown) (unfinished : Place → Bool) (rid draw stream selector index : ℕ) (request : List ℕ) (r : Result KmView KmFault)
     → Kept shown unfinished (call_from shown draw r) after
     → reply_from rid request r (call_from shown draw r) ≡ Some (KpAck stream 0 selector index)
@@ -78,7 +79,7 @@ stands shown after unfinished rid draw stream selector index request (Ok (QueryR
 stands shown after unfinished rid draw stream selector index request (Ok (KeyProg s sel port key counter)) h e =
     let a : s ≡ stream = cc in
     let b : sel ≡ selector = cc in
-    let c : status_code (status_of port (key_call shown draw s sel port key counter)) ≡ 0 = cc in
+    let c : status_code (key_status_of port (key_call shown draw s sel port key counter)) ≡ 0 = cc in
     rw (← a, ← b) (key_stands shown after unfinished draw s sel port key counter h c)
 stands shown after unfinished rid draw stream selector index request (Ok (KpAck s status sel port)) h e = absurd cc
 stands shown after unfinished rid draw stream selector index request (Ok (SetGo s sel port)) h e = absurd (other_object _ _ _ _ _ (λ x. cc) e)

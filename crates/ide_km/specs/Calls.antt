@@ -65,14 +65,14 @@ slots_by (Program place set key draw answer) unfinished slots =
 slots_by (Go place set answer) unfinished slots = armed slots (is_one set) unfinished
 slots_by (Halt place set answer) unfinished slots = halted slots (is_one set)
 
-abbrev pub is_place : Place → Place → Bool
-is_place p q = ((p.stream == q.stream) && (p.direction == q.direction)) && (p.sub == q.sub)
+abbrev pub is_same_place : Place → Place → Bool
+is_same_place p q = ((p.stream == q.stream) && (p.direction == q.direction)) && (p.sub == q.sub)
 
-abbrev pub slots_at : Shown → (Place → Bool) → PortCall → Place → Option SlotPair
-slots_at shown unfinished call p =
-    if is_place p (called_place call) && nat_lt p.sub 3 then option_map (slots_by call (unfinished p)) (shown p)
+abbrev pub place_after : Shown → (Place → Bool) → PortCall → Place → Option SlotPair
+place_after shown unfinished call p =
+    if is_same_place p (called_place call) && nat_lt p.sub 3 then option_map (slots_by call (unfinished p)) (shown p)
     else shown p
 
 -- the slots move at the place that is called, and nowhere else
 abbrev pub SlotsAfter : Shown → (Place → Bool) → PortCall → Shown → Type 0
-SlotsAfter before unfinished call after = (p : Place) → after p ≡ slots_at before unfinished call p
+SlotsAfter before unfinished call after = (p : Place) → after p ≡ place_after before unfinished call p

@@ -77,10 +77,10 @@ object_of bytes =
     else if at 1 == 0x05 then SetStop (at 4) (at 6) (at 7)
     else GoStopAck (at 4) (at 6) (at 7)
 
-abbrev pub read_or : KmView → Option KmFault → Result KmView KmFault
-read_or object None = Ok object
-read_or object (Some fault) = Err fault
+abbrev pub object_or : KmView → Option KmFault → Result KmView KmFault
+object_or object None = Ok object
+object_or object (Some fault) = Err fault
 
 -- the object, or why there is none
 abbrev pub reading : List ℕ → Result KmView KmFault
-reading bytes = read_or (object_of bytes) (fault_of bytes)
+reading bytes = object_or (object_of bytes) (fault_of bytes)

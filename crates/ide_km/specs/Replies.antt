@@ -77,8 +77,8 @@ abbrev pub status_after : Option PortCall → KeyStatus
 status_after (Some (Program place set key draw (Ok done))) = status.Success
 status_after call = status.Refused
 
-abbrev pub status_of : ℕ → Option PortCall → KeyStatus
-status_of index call = if index == 0 then status_after call else status.Port
+abbrev pub key_status_of : ℕ → Option PortCall → KeyStatus
+key_status_of index call = if index == 0 then status_after call else status.Port
 
 abbrev pub is_done : Option PortCall → Bool
 is_done (Some (Go place set answer)) = answer
@@ -92,21 +92,21 @@ description rid = QueryResp 0 (rid % 256) (rid / 256) 0 0
 abbrev pub reply_for : ℕ → KmView → Option PortCall → Option KmView
 reply_for rid (Query port) call = if port == 0 then Some (description rid) else None
 reply_for rid (KeyProg stream selector port key counter) call =
-    Some (KpAck stream (status_code (status_of port call)) selector port)
+    Some (KpAck stream (status_code (key_status_of port call)) selector port)
 reply_for rid (SetGo stream selector port) call = if is_done call then Some (GoStopAck stream selector port) else None
 reply_for rid (SetStop stream selector port) call = if is_done call then Some (GoStopAck stream selector port) else None
 reply_for rid object call = None
 
 -- a KEY_PROG of another length, of which the fields that are missing are given back as 0; else nothing
-abbrev pub refusal_of : List ℕ → Option KmView
-refusal_of request =
+abbrev pub fault_reply : List ℕ → Option KmView
+fault_reply request =
     if (nat_lt 1 (length request) && (slice_index request 0 == 0x00)) && (slice_index request 1 == 0x02) then
     Some (KpAck (slice_index request 4) (status_code status.Length) (slice_index request 6) (slice_index request 7))
     else None
 
 abbrev pub reply_from : ℕ → List ℕ → Result KmView KmFault → Option PortCall → Option KmView
 reply_from rid request (Ok object) call = reply_for rid object call
-reply_from rid request (Err fault) call = refusal_of request
+reply_from rid request (Err fault) call = fault_reply request
 
 abbrev pub reply_object : ℕ → List ℕ → Option PortCall → Option KmView
 reply_object rid request call = reply_from rid request (reading request) call

@@ -2,7 +2,7 @@
 
 ghost use Rattle.std.specs.Prelude.{◌≡◌, ◌+◌, ◌<◌, ◌≤◌, ◌++◌, Some, None, length, slice_index, if◌then◌else◌, vec_len, vec_capacity};
 ghost use Rattle.ide_km.specs.Objects.{spelling};
-ghost use Rattle.ide_km.specs.Replies.{set_of, direction_of, sub_of, key_call, call_for, call_of, Moved, Kept, status_of, is_done, description, reply_for, refusal_of, reply_of, bytes_of};
+ghost use Rattle.ide_km.specs.Replies.{set_of, direction_of, sub_of, key_call, call_for, call_of, Moved, Kept, key_status_of, is_done, description, reply_for, fault_reply, reply_of, bytes_of};
 
 use crate::object::KmView;
 use crate::port::SlotPort;
@@ -50,7 +50,7 @@ fn program<P: SlotPort>(
         Moved P.moves port.old call port.new }
     ensures slots { let call = key_call (P.slots port.old) draw stream selector index key counter in
         Kept (P.slots port.old) (P.unfinished port.old) call (P.slots port.new) }
-    ensures status { result ≡ status_of index (key_call (P.slots port.old) draw stream selector index key counter) }
+    ensures status { result ≡ key_status_of index (key_call (P.slots port.old) draw stream selector index key counter) }
 {
     if index != 0 {
         return KeyStatus::Port;
@@ -115,7 +115,7 @@ fn byte(bytes: &[u8], place: usize) -> u8
 
 /// The reply to a request that is no object.
 fn refusal(request: &[u8]) -> Option<KmView>
-    ensures { result ≡ refusal_of request.now }
+    ensures { result ≡ fault_reply request.now }
 {
     if request.len() < 2 || request[0] != 0 || request[1] != 2 {
         return None;

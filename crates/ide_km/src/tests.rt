@@ -181,6 +181,18 @@ fn statuses_of_a_key(rt: HostRuntime) -> Result<(), Fail> {
         assert!(rt; port.slots.slot(0).0 == SlotState::Empty);
         assert!(rt; port.slots.slot(1).0 == SlotState::Empty);
     }
+    // A wrong length comes ahead of a wrong port index, and that ahead of a wrong counter.
+    let mut index = with_byte(7, 1);
+    index[40] = 2;
+    check(&rt, alloc, &mut port, &index, &[0, 3, 0, 0, 5, 2, 0x12, 1])?;
+    check(
+        &rt,
+        alloc,
+        &mut port,
+        &[0, 2, 0, 0, 5, 0, 0x12, 1],
+        &[0, 3, 0, 0, 5, 1, 0x12, 1],
+    )?;
+    assert!(rt; port.slots.slot(0).0 == SlotState::Empty);
     // Bits 3 and 2 of the selector are ignored, and given back.
     check(
         &rt,
@@ -237,10 +249,14 @@ fn requests_without_a_reply(rt: HostRuntime) -> Result<(), Fail> {
         &KEY_PROG,
         &[0, 3, 0, 0, 5, 0, 0x12, 0],
     )?;
-    let silent: [&[u8]; 12] = [
+    let silent: [&[u8]; 21] = [
+        &[],
         &[0],
         &[1, 2],
+        &[2, 5, 0, 0, 5, 0, 0x12, 0],
         &[0, 7],
+        &[0, 0xff, 0, 0, 5, 0, 0x12, 0],
+        &[0, 0],
         &[0, 0, 0],
         &[0, 0, 0, 1],
         &[0, 1, 0, 0, 0, 0, 0, 0],
@@ -249,6 +265,11 @@ fn requests_without_a_reply(rt: HostRuntime) -> Result<(), Fail> {
         &[0, 4, 0, 0, 5, 0, 0x12],
         &[0, 4, 0, 0, 5, 0, 0x12, 1],
         &[0, 4, 0, 0, 6, 0, 0x12, 0],
+        &[0, 4, 0, 0, 5, 0, 0x32, 0],
+        &[0, 4, 0, 0, 5, 0, 0x12, 0, 0],
+        &[0, 5, 0, 0, 5, 0, 0x12, 0, 0],
+        &[0, 5, 0, 0, 5, 0, 0x12, 1],
+        &[0, 5, 0, 0, 6, 0, 0x12, 0],
         &[0, 5, 0, 0, 5, 0, 0x32, 0],
     ];
     for request in silent {

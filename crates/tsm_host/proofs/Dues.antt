@@ -53,6 +53,7 @@ performs o set draw f b fits ports link id loss before s le at =
     let comes = walk_comes o set draw f b fits ports link id loss before s le at in
     record { verdict_is = comes.verdict_is; op_is = comes.op_is }
 
+-- by the state of the stream: where the operation is refused the cause is the one that is due, and else its walk is
 establishes : (plan : KeyPlan) (ports : PortView) (st : StreamStatus) (host : HostView) (pool : Pool) (loss : Option Loss) (link id : ℕ) (keys : WireKeys) (o : Op) → IsAsked (asked_in o)
     → Reads plan ports link id st host pool → WalkIsDue op.Establish plan ports st host pool loss (at_op link id o keys)
 unfolding WorkFits
@@ -69,6 +70,7 @@ establishes plan ports st host pool loss link id keys (Up k j) asked reads = rec
 establishes plan ports st host pool loss link id keys (Refreshing k j n) asked reads = record { verdict_is = refl; op_is = refl }
 establishes plan ports st host pool loss link id keys (Stopping n) asked reads = record { verdict_is = refl; op_is = refl }
 
+-- by the state of the stream: a stop begins in each but its own, where it goes on, and its walk comes to what is due
 stops : (plan : KeyPlan) (ports : PortView) (st : StreamStatus) (host : HostView) (pool : Pool) (loss : Option Loss) (link id : ℕ) (keys : WireKeys) (o : Op) → IsAsked (asked_in o)
     → WalkIsDue op.Stop plan ports st host pool loss (at_op link id o keys)
 unfolding WorkFits
@@ -88,6 +90,7 @@ stops plan ports st host pool loss link id keys (Refreshing k j n) asked =
     let both = performs op.Stop false 0 1 true (refl, refl) ports link id loss (Refreshing k j n) (begun_stream (work op.Stop false 0 1 true) pool (at_op link id (Refreshing k j n) keys)) (omega arith) refl in
     record { verdict_is = both.verdict_is; op_is = both.op_is }
 
+-- by the state of the stream: where the operation is refused the cause is the one that is due, and else its walk is
 refreshes : (plan : KeyPlan) (ports : PortView) (st : StreamStatus) (host : HostView) (pool : Pool) (loss : Option Loss) (link id : ℕ) (keys : WireKeys) (o : Op) → IsAsked (asked_in o)
     → Reads plan ports link id st host pool → WalkIsDue op.Refresh plan ports st host pool loss (at_op link id o keys)
 unfolding WorkFits

@@ -64,6 +64,7 @@ record Older (mine other : Slot) (i : ℕ) : Type 0 where
   draw_is : held.draw ≡ i
   below : (b : DrawnKey) → other ≡ Live b → b.draw < i
 
+-- slot by slot: a pair in use has its newer key in one slot, and in the other an older one or none
 older_of : (sender : Bool) (mine other : Slot) (i : ℕ) → is_in_use sender i mine other ≡ true → (sender && is_live other) ≡ false → Older mine other i
 older_of false (Live a) Empty i fits live = record { held = a; mine_is = refl; draw_is = true-same a.draw i fits; below = λ b e. absurd cc }
 older_of true (Live a) Empty i fits live = record { held = a; mine_is = refl; draw_is = true-same a.draw i fits; below = λ b e. absurd cc }

@@ -139,6 +139,7 @@ next_standing : (o : Operation) (set : Bool) (draw f : ℕ) (b : Bool) (n : ℕ)
 next_standing o set draw f b n s lt =
     not_taken (nat_lt (last_of o) (n + 1)) (op_ended (work o set draw n false)) (op_standing (work o set draw n false) (n + 1)) (lt-false (last_of o) (n + 1) (omega (arith, lt))) ∙ standing_as o set draw n f b (n + 1)
 
+-- by how many exchanges are left: at each the walk ends in a loss or a refusal or goes on to the next, and the last ends it
 walk_is : (o : Operation) (set : Bool) (draw f : ℕ) (b : Bool) → WorkFits o set draw → (link id : ℕ) (loss : Option Loss) (refused : ℕ → Bool) (before : Op) (more n : ℕ) (s : StreamView) → n + more ≡ last_of o
     → s.op ≡ op_standing (work o set draw f b) n
     → Comes o set draw f b link id loss before (first_from (λ x. is_lost loss x || refused x) n (suc more)) (walk (suc more) (answers loss refused) s)

@@ -16,11 +16,11 @@ exchange_of op.Refresh set n = if nat_lt n 7 then Program set (n - 1) else Go se
 exchange_of op.Stop set n = if nat_lt n 7 then Stop false (n - 1) else Stop true (n - 7)
 
 -- 0 where the exchange speaks of no slot
-abbrev pub lane_of : Exchange → ℕ
-lane_of Query = 0
-lane_of (Program set lane) = lane
-lane_of (Go set lane) = lane
-lane_of (Stop set lane) = lane
+abbrev pub exchange_lane : Exchange → ℕ
+exchange_lane Query = 0
+exchange_lane (Program set lane) = lane
+exchange_lane (Go set lane) = lane
+exchange_lane (Stop set lane) = lane
 
 -- whether it is the GO of the last of the device's three receivers
 abbrev pub is_last_receiver_go : Exchange → Bool

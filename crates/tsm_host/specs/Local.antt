@@ -32,18 +32,18 @@ CallsMove {Port} slots unfinished moves before (request ∷ more) after =
 -- ---- what the operations ask
 
 -- a key of six by lane
-abbrev pub key_in : List (List ℕ) → ℕ → List ℕ
-key_in keys lane = slice_index_or keys lane []
+abbrev pub six_key : List (List ℕ) → ℕ → List ℕ
+six_key keys lane = slice_index_or keys lane []
 
 -- the six slots of a set, by lane: what the device receives, and then what it sends
 abbrev pub programs : ℕ → Bool → List (List ℕ) → ℕ → List Request
 programs stream set keys draw =
-    AskProgram (place_at stream 0 0) (set_number set) (key_in keys 0) draw
-    ∷ AskProgram (place_at stream 0 1) (set_number set) (key_in keys 1) draw
-    ∷ AskProgram (place_at stream 0 2) (set_number set) (key_in keys 2) draw
-    ∷ AskProgram (place_at stream 1 0) (set_number set) (key_in keys 3) draw
-    ∷ AskProgram (place_at stream 1 1) (set_number set) (key_in keys 4) draw
-    ∷ AskProgram (place_at stream 1 2) (set_number set) (key_in keys 5) draw ∷ []
+    AskProgram (place_at stream 0 0) (set_number set) (six_key keys 0) draw
+    ∷ AskProgram (place_at stream 0 1) (set_number set) (six_key keys 1) draw
+    ∷ AskProgram (place_at stream 0 2) (set_number set) (six_key keys 2) draw
+    ∷ AskProgram (place_at stream 1 0) (set_number set) (six_key keys 3) draw
+    ∷ AskProgram (place_at stream 1 1) (set_number set) (six_key keys 4) draw
+    ∷ AskProgram (place_at stream 1 2) (set_number set) (six_key keys 5) draw ∷ []
 
 -- the host's receivers, which take direction 1, and then its senders
 abbrev pub goes : ℕ → Bool → List Request

@@ -58,10 +58,6 @@ abbrev pub op_named : Option Named → Option Op
 op_named None = None
 op_named (Some n) = Some n.stream.op
 
--- the state of the operations of a stream that its link has
-abbrev pub op_at : ManagerView → ℕ → ℕ → Option Op
-op_at m link id = op_named (named m link id)
-
 -- ---- the stream whose exchange is to be asked and taken
 
 pub record Current : Type 0 where
@@ -84,9 +80,9 @@ current_in streams (Some place) = current_at place (slice_get streams place)
 abbrev pub current : ManagerView → Option Current
 current m = current_in m.streams m.asking
 
-abbrev pub asked_of : Option Current → Option Asked
-asked_of None = None
-asked_of (Some c) = Some c.asked
+abbrev pub asked_now : Option Current → Option Asked
+asked_now None = None
+asked_now (Some c) = Some c.asked
 
 -- ---- begin
 

@@ -5,12 +5,12 @@ use Rattle.key_slots.specs.{SlotPair, live_set, empty_pair}
 use Rattle.ide_km.specs.{Place}
 
 -- the lane of a place of stream 5
-abbrev pub lane_at : ℕ → ℕ → ℕ → Option ℕ
-lane_at stream direction sub = if ((stream == 5) && nat_lt direction 2) && nat_lt sub 3
+abbrev pub only_lane : ℕ → ℕ → ℕ → Option ℕ
+only_lane stream direction sub = if ((stream == 5) && nat_lt direction 2) && nat_lt sub 3
     then Some (3 * direction + sub) else None
 
 abbrev pub shown_in : List SlotPair → Place → Option SlotPair
-shown_in slots place = option_and_then (slice_get slots) (lane_at place.stream place.direction place.sub)
+shown_in slots place = option_and_then (slice_get slots) (only_lane place.stream place.direction place.sub)
 
 -- each of the six lanes has a Live slot
 abbrev pub is_live_at : List SlotPair → ℕ → Bool

@@ -52,10 +52,10 @@ op_in (stage.Up set draw) = Up set draw
 op_in (stage.Refreshing set draw next keys) = Refreshing set draw next
 op_in (stage.Stopping next) = Stopping next
 
-abbrev pub keys_in : Stage → WireKeys
-keys_in (stage.Establishing draw next keys) = keys
-keys_in (stage.Refreshing set draw next keys) = keys
-keys_in s = []
+abbrev pub stage_keys : Stage → WireKeys
+stage_keys (stage.Establishing draw next keys) = keys
+stage_keys (stage.Refreshing set draw next keys) = keys
+stage_keys s = []
 
 -- the number of the exchange that is next, 0 where there is none
 abbrev pub next_in : Stage → ℕ

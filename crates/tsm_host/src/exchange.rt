@@ -2,7 +2,7 @@
 
 ghost use Rattle.std.specs.Prelude.{◌≡◌, ◌≤◌, ◌<◌};
 ghost use Rattle.key_laws.specs.Operations.{last_of};
-ghost use Rattle.tsm_host.specs.Exchanges.{set_number, selector_of, exchange_of, lane_of};
+ghost use Rattle.tsm_host.specs.Exchanges.{set_number, selector_of, exchange_of, exchange_lane};
 
 use link_verdicts::Operation;
 
@@ -46,7 +46,7 @@ pub fn exchange_at(operation: Operation, set: bool, n: u8) -> Exchange
     requires first { 1 ≤ n }
     requires last { n ≤ last_of operation }
     ensures exchange { result ≡ exchange_of operation set n }
-    ensures lane { lane_of result < 6 }
+    ensures lane { exchange_lane result < 6 }
 {
     match operation {
         Operation::Establish => {

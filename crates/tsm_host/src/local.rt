@@ -3,7 +3,7 @@
 ghost use Rattle.std.specs.Prelude.{◌≡◌, ◌<◌};
 ghost use Rattle.ide_km.specs.{place_at};
 ghost use Rattle.tsm_host.specs.Exchanges.{set_number};
-ghost use Rattle.tsm_host.specs.Local.{CallMoves, CallsMove, AskProgram, AskGo, AskHalt, key_in, programs, goes, halts_in, halts};
+ghost use Rattle.tsm_host.specs.Local.{CallMoves, CallsMove, AskProgram, AskGo, AskHalt, six_key, programs, goes, halts_in, halts};
 
 use crate::exchange::number;
 use ide_km::SlotPort;
@@ -37,7 +37,14 @@ fn halt<P: SlotPort>(port: &mut P, stream: u8, set: bool, dir: u8, sub: u8)
 // The keys of an array.
 #[tactic(auto, using(std::proofs::lemmas::List::get_or_default))]
 fn six_of(keys: [Key; 6]) -> (Key, Key, Key, Key, Key, Key)
-    ensures { result ≡ (key_in keys 0, key_in keys 1, key_in keys 2, key_in keys 3, key_in keys 4, key_in keys 5) }
+    ensures { result ≡ (
+      six_key keys 0,
+      six_key keys 1,
+      six_key keys 2,
+      six_key keys 3,
+      six_key keys 4,
+      six_key keys 5,
+    ) }
 {
     let [a, b, c, d, e, f] = keys;
     (a, b, c, d, e, f)

@@ -58,7 +58,7 @@ impl Manager {
       taken,
       calls_taken,
       reset_manager,
-      asked_of,
+      asked_now,
     };
 
     /// A manager of these links, of which there are up to 8; no stream has keys.
@@ -126,7 +126,7 @@ impl Manager {
 
     // The exchange that is next of the operation that is under way.
     fn asked(&self) -> Option<Asked>
-        ensures { result ≡ asked_of (current self.now) }
+        ensures { result ≡ asked_now (current self.now) }
     {
         match self.asking {
             None => None,

@@ -2,8 +2,8 @@
 
 ghost use Rattle.std.specs.Prelude.{◌≡◌, ◌+◌, ◌<◌, ◌≤◌, IsSome, IsTrue, true, not, if◌then◌else◌, [], slice_index_or};
 ghost use Rattle.key_laws.specs.Operations.{work_of, last_of, op_after, reach};
-ghost use Rattle.tsm_host.specs.Exchanges.{exchange_of, lane_of, kept_key, key_or_none};
-ghost use Rattle.tsm_host.specs.Streams.{op_in, keys_in, StageHolds, asked_in, exchange_asked, work_asked, host_view, refusal_at, open_unit, status_or_idle, unless_secure, is_set, keys_after, establish_refusal, refresh_refusal, current_set, next_in, op_advanced};
+ghost use Rattle.tsm_host.specs.Exchanges.{exchange_of, exchange_lane, kept_key, key_or_none};
+ghost use Rattle.tsm_host.specs.Streams.{op_in, stage_keys, StageHolds, asked_in, exchange_asked, work_asked, host_view, refusal_at, open_unit, status_or_idle, unless_secure, is_set, keys_after, establish_refusal, refresh_refusal, current_set, next_in, op_advanced};
 
 use crate::exchange::{Exchange, exchange_at, last, number};
 use crate::operation::{Refusal, Shown};
@@ -55,7 +55,7 @@ impl Asked {
         requires first { 1 ≤ self.now.exchange }
         requires last { self.now.exchange ≤ last_of self.now.operation }
         ensures exchange { result ≡ exchange_asked self.now }
-        ensures lane { lane_of result < 6 }
+        ensures lane { exchange_lane result < 6 }
     {
         exchange_at(self.operation, self.set, self.exchange)
     }
@@ -117,7 +117,7 @@ fn not_ready<P: HostPort>(port: &P, stream: u8, set: bool) -> Option<Refusal>
 
 /// The keys without the one that the exchange brought.
 fn spent(mut keys: WireSix, exchange: Exchange) -> WireSix
-    requires { lane_of exchange < 6 }
+    requires { exchange_lane exchange < 6 }
     ensures { result ≡ keys_after exchange keys }
 {
     if let Exchange::Program { lane, .. } = exchange {
@@ -233,8 +233,8 @@ impl Stage {
     /// The bytes of a key that the device has not acknowledged yet.
     pub fn key(&self, lane: u8) -> [u8; 32]
         requires lane { lane < 6 }
-        requires kept { IsSome (kept_key (keys_in self.now) lane) }
-        ensures { result ≡ key_or_none (kept_key (keys_in self.now) lane) }
+        requires kept { IsSome (kept_key (stage_keys self.now) lane) }
+        ensures { result ≡ key_or_none (kept_key (stage_keys self.now) lane) }
     {
         match self {
             Stage::Establishing { keys, .. } | Stage::Refreshing { keys, .. } => {
@@ -249,10 +249,10 @@ impl Stage {
 
     /// The state where the exchange that is next was acknowledged and is not the last.
     pub fn advanced(self, exchange: Exchange) -> Stage
-        requires lane { lane_of exchange < 6 }
+        requires lane { exchange_lane exchange < 6 }
         requires early { next_in self < 13 }
         ensures op { op_in result ≡ op_advanced (op_in self) }
-        ensures keys { keys_in result ≡ keys_after exchange (keys_in self) }
+        ensures keys { stage_keys result ≡ keys_after exchange (stage_keys self) }
     {
         match self {
             Stage::Establishing { draw, next, keys } => Stage::Establishing {

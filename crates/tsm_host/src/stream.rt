@@ -4,7 +4,7 @@ ghost use Rattle.std.specs.Prelude.{◌≡◌, ◌≤◌, true, [], Some};
 ghost use Rattle.key_laws.specs.Operations.{work_of, last_of, makes_draw, op_ended};
 ghost use Rattle.tsm_host.specs.declared.judge.Judged.TheVariants.{Expected};
 ghost use Rattle.tsm_host.specs.Local.{CallsMove};
-ghost use Rattle.tsm_host.specs.Streams.{op_in, keys_in, work_asked, StageHolds, keyed_stage, taken_calls};
+ghost use Rattle.tsm_host.specs.Streams.{op_in, stage_keys, work_asked, StageHolds, keyed_stage, taken_calls};
 
 use crate::exchange::{Exchange, selector};
 use crate::judge::{Judged, judge};
@@ -27,11 +27,11 @@ pub struct StreamKeys {
 }
 
 impl Model for StreamKeys {
-    ghost use Rattle.tsm_host.specs.Streams.{StreamView, op_in, keys_in, StageHolds};
+    ghost use Rattle.tsm_host.specs.Streams.{StreamView, op_in, stage_keys, StageHolds};
 
     ghost Value = { StreamView };
 
-    ghost view = { λ s. record { link = s.link; id = s.id; op = op_in s.stage; keys = keys_in s.stage } };
+    ghost view = { λ s. record { link = s.link; id = s.id; op = op_in s.stage; keys = stage_keys s.stage } };
 
     ghost invariant = { λ s. StageHolds s.stage };
 }
@@ -272,7 +272,7 @@ fn keyed(operation: Operation, set: bool, draw: u32, keys: WireSix) -> Stage
 /// The state at the end of an operation.
 fn ended(asked: Asked) -> Stage
     ensures op { op_in result ≡ op_ended (work_asked asked) }
-    ensures keys { keys_in result ≡ [] }
+    ensures keys { stage_keys result ≡ [] }
     ensures holds { StageHolds result }
 {
     match asked.operation {

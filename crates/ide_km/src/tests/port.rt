@@ -1,7 +1,7 @@
 //! A port of one place, for tests.
 
 ghost use Rattle.std.specs.Prelude.{◌≡◌, ◌&&◌, nat_lt, if◌then◌else◌, Some, None};
-ghost use Rattle.ide_km.specs.Calls.{is_place, place_at};
+ghost use Rattle.ide_km.specs.Calls.{is_same_place, place_at};
 
 use crate::{ProgramFault, SlotPort};
 use key_slots::{Key, OnlyLive, Slots};
@@ -18,7 +18,7 @@ pub struct OnePort {
 impl OnePort {
     fn has(&self, stream: u8, dir: u8, sub: u8) -> bool
         ensures { let own = place_at 5 self.now.direction self.now.sub in
-            result ≡ (is_place (place_at stream dir sub) own && nat_lt sub 3) }
+            result ≡ (is_same_place (place_at stream dir sub) own && nat_lt sub 3) }
     {
         ((stream == 5 && dir == self.direction) && sub == self.sub) && sub < 3
     }
@@ -28,7 +28,7 @@ impl SlotPort for OnePort {
     ghost use Rattle.ide_km.specs.Calls.{Place, PortCall};
 
     ghost slots = { λ port place.
-        if is_place place (place_at 5 port.direction port.sub) then Some port.slots else None };
+        if is_same_place place (place_at 5 port.direction port.sub) then Some port.slots else None };
 
     ghost unfinished = { λ port place. port.unfinished };
 

@@ -1,11 +1,11 @@
 //! A port of one stream, for tests.
 
-ghost use Rattle.std.specs.Prelude.{◌≡◌, ◌+◌, ◌*◌, ◌<◌, ◌==◌, ◌&&◌, nat_lt, false, length, if◌then◌else◌, Some, None, slice_get, slice_index_or};
+ghost use Rattle.std.specs.Prelude.{◌≡◌, ◌+◌, ◌*◌, ◌<◌, ◌==◌, ◌&&◌, nat_lt, false, not, [], ◌∷◌, length, if◌then◌else◌, Some, None, slice_get, slice_index_or};
 ghost use Rattle.ide_types.specs.Sub.{sub_bits};
 ghost use Rattle.ide_types.specs.declared.status.StreamStatus.TheVariants.{Secure, Partial};
 ghost use Rattle.key_slots.specs.{live_set, empty_pair};
 ghost use Rattle.ide_km.specs.{Place, PortCall};
-ghost use Rattle.tsm_host.specs.OnePort.{shown_in, lane_at, is_live_throughout};
+ghost use Rattle.tsm_host.specs.OnePort.{shown_in, only_lane, is_live_throughout};
 
 use crate::HostPort;
 use ide_km::{ProgramFault, SlotPort};
@@ -20,7 +20,7 @@ pub struct OneStream {
 }
 
 fn lane(stream: u8, dir: u8, sub: u8) -> Option<usize>
-    ensures { result ≡ lane_at stream dir sub }
+    ensures { result ≡ only_lane stream dir sub }
 {
     if (stream == 5 && dir < 2) && sub < 3 {
         Some(3 * dir as usize + sub as usize)
@@ -31,7 +31,11 @@ fn lane(stream: u8, dir: u8, sub: u8) -> Option<usize>
 
 impl OneStream {
     /// A port whose senders are the lanes 0 to 2, or else the lanes 3 to 5.
-    pub fn make(host: bool) -> OneStream {
+    pub fn make(host: bool) -> OneStream
+        ensures unfinished { result.unfinished ≡ false }
+        ensures slots { result.slots ≡ empty_pair host ∷ empty_pair host ∷ empty_pair host
+            ∷ empty_pair (not host) ∷ empty_pair (not host) ∷ empty_pair (not host) ∷ [] }
+    {
         OneStream {
             unfinished: false,
             slots: [

@@ -6,6 +6,7 @@ parts : (a b c d e f a' b' c' d' e' f' : List ℕ) → (let six : List ℕ × Li
     → (a ≡ a') × (b ≡ b') × (c ≡ c') × (d ≡ d') × (e ≡ e') × (f ≡ f')
 parts a b c d e f a' b' c' d' e' f' same = (ap (λ x. x.0) same, ap (λ x. x.1) same, ap (λ x. x.2) same, ap (λ x. x.3) same, ap (λ x. x.4) same, ap (λ x. x.5) same)
 
+-- the six calls one after another: the port behind each, with the clause of that call at the key of its lane
 pub returns : goal.returns
 returns g c =
     let keys = parts _ _ _ _ _ _ _ _ _ _ _ _ c.six_of-a.ensures in (

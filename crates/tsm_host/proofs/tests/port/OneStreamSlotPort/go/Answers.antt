@@ -1,12 +1,12 @@
 use Rattle.std.proofs.Common.{◌≡◌, ◌<◌, Some, length, refl, arith, sym, ◌∙◌}
 use Rattle.ide_km.specs.{place_at, Go}
-use Rattle.tsm_host.specs.OnePort.{lane_at}
+use Rattle.tsm_host.specs.OnePort.{only_lane}
 use Rattle.tsm_host.proofs.OnePorts.{lane_small, moved_at}
 use Rattle.tsm_host.proofs.tests.port.OneStreamSlotPort.go.Goals as goal
 
 pub returns-in-Some-clause-slots : goal.returns-in-Some-clause-slots
 returns-in-Some-clause-slots c =
-    let at : lane_at c.args.stream c.args.dir c.args.sub ≡ Some c.in-Some.lane = sym c.lane.ensures ∙ c.in-Some.is in
+    let at : only_lane c.args.stream c.args.dir c.args.sub ≡ Some c.in-Some.lane = sym c.lane.ensures ∙ c.in-Some.is in
     let small : c.in-Some.lane < 6 = lane_small c.args.stream c.args.dir c.args.sub c.in-Some.lane at in
     let lt : c.in-Some.lane < length c.args.self.now.slots = omega arith in
     moved_at c.args.self.now.slots (λ q. c.args.self.now.unfinished) (Go (place_at c.args.stream c.args.dir c.args.sub) c.args.set c.is_ok.result) c.args.stream c.args.dir c.args.sub c.in-Some.lane c.index-self-lane.result _ at refl lt
