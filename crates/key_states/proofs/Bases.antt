@@ -42,6 +42,7 @@ work_from b op.Refresh (Establishing j n) next from low draws = low
 work_from b op.Refresh (Stopping n) next from low draws = low
 work_from b op.Stop q next from low draws = absurd cc
 
+-- operation by operation: the state behind an event has the draw of the operation, or none
 after_from : (b : ℕ) (w : Work) (r : Reach) (o : Operation) → w.operation ≡ o → (makes_draw o ≡ true → b ≤ w.draw) → OpFrom b (op_after w r)
 after_from b w r op.Establish is from = by_test (nat_lt (last_of w.operation) r.acknowledged)
   where
@@ -65,6 +66,7 @@ pub record Leads (b : ℕ) (p : Place) (m : Manager) (more : List Touch) : Type 
   op_from : OpFrom b (m.ops p.link p.stream)
   from : AllOwned (From b) more
 
+-- what an event brings to a place is of the draw of the operation, which is not below the base
 operated_leads : (m : Manager) (o : Operation) (l s : ℕ) (r : Option Reach) (p : Place) (b : ℕ) → b ≤ length m.begun → OpFrom b (m.ops p.link p.stream)
     → Leads b p (operated m o l s r) (on_it (is_on_stream p l s) (worked (work_of o (m.ops l s) (length m.begun)) r p))
 operated_leads m o l s None p b low from = record { low = low; op_from = from; from = nothing (is_on_stream p l s) }
@@ -148,6 +150,7 @@ establish_based plan h l s loss w p cause before = by_test ((l == p.link) && (s 
         next_based h (event.Establish l s loss) w p (draws h) (rw new refl) (leads (draws h) (omega arith) (subst (OpFrom (draws h)) (sym idle) tt))
         (subst (OwnedKeys (From (draws h))) (sym none) (record { first_is = tt; second_is = tt }))
 
+-- event by event: an establish that begins finds no key and makes its draw the base, and all later draws are greater
 pub based : (plan : KeyPlan) (h : History) → CauseLaw plan h → (p : Place) → Based h p
 unfolding base manager moments keys
 based plan [] cause p = record { low = omega arith; op_from = tt; keys_from = record { first_is = tt; second_is = tt } }

@@ -96,6 +96,7 @@ no_reach false b = refl
 abbrev BaseIs : History → ℕ → ℕ → Type 0
 BaseIs h link stream = OpIs (base h link stream) (op_of h link stream)
 
+-- an establish that begins makes its draw both the base and the draw of the state; any other leaves both
 establish_base : (h : History) (l s : ℕ) (lose : Option Loss) (x : Verdict) (link stream : ℕ) → ((a b : ℕ) → BaseIs h a b) → BaseIs ((event.Establish l s lose, x) ∷ h) link stream
 unfolding base manager
 establish_base h l s lose x link stream is = by_reach (reach_of op.Establish x)
@@ -122,6 +123,7 @@ if_is : (b : ℕ) (f : Bool) (o q : Op) → OpIs b o → OpIs b q → OpIs b (if
 if_is b true o q one two = one
 if_is b false o q one two = two
 
+-- event by event: the base changes at an establish that begins, and there alone
 pub base_is : (h : History) (link stream : ℕ) → BaseIs h link stream
 unfolding base manager
 base_is [] link stream = tt
@@ -147,6 +149,7 @@ pub record Fresh (h : History) (p : Place) (j : ℕ) : Type 0 where
   pub used_below : used (moments h p) ≤ j
   pub started_below : started (moments h p) ≤ j
 
+-- shape by shape, as far as the operation has come: without a key that is On no GO has come past the draw
 fresh_rising : (ts : List Touch) (s : Bool) (j a b n : ℕ) (sh : Shape) → IsAt s ts sh → Rising false false j a b n (marks ts) sh → is_keyed (keys_of sh) ≡ false → (used ts ≤ j) × (started ts ≤ j)
 fresh_rising ts s j a b n sh is (before _ le low rest) none = by_rest false sh refl rest
   where
@@ -220,6 +223,7 @@ full_keyed true j _ (alone r) = refl
 full_keyed false j _ (both i) = refl
 full_keyed true j _ (both i) = refl
 
+-- shape by shape, as far as the operation has come: a place that had a key that is On keeps one
 rising_keyed : (k : Bool) (j a b n : ℕ) (u : Marks) (sh : Shape) → Rising true k j a b n u sh → is_keyed (keys_of sh) ≡ true
 rising_keyed k j a b n u sh (before _ le low rest) = by_rest true k sh refl rest
   where
