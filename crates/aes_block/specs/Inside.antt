@@ -1,5 +1,5 @@
--- Only private functions cite this: the state as four words, a column each, and the round keys, as the code keeps them.
--- Aes says what the cipher is.
+-- Only private functions, and what a type keeps of its private fields, cite this: the state as four words, a column
+-- each, and the round keys, as the code keeps them. Aes says what the cipher is.
 use Rattle.std.specs.Prelude.{◌≡◌, ℕ, ◌<◌, ◌/◌, ◌%◌, ◌^◌, List, [], ◌∷◌, ◌++◌, slice_index}
 use Rattle.std.specs.Int.{w32, from_be_bytes, to_be_bytes}
 use Rattle.aes_block.specs.Aes.{mixed, round_key}

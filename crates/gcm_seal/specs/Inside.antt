@@ -1,4 +1,5 @@
--- Only private functions cite this: GHASH block by block, as the code computes it. Gcm says what GHASH is.
+-- Only private functions, and what a type keeps of its private fields, cite this: GHASH block by block, as the code
+-- computes it. Gcm says what GHASH is.
 use Rattle.std.specs.Prelude.{◌≡◌, ℕ, zero, suc, ◌*◌, ◌/◌, ◌%◌, ◌^◌, ◌==◌, ◌<◌, slice_index, List, [], ◌∷◌, ◌++◌, drop, bit_xor, if◌then◌else◌, fold}
 use Rattle.std.specs.Int.{w128, from_be_bytes}
 use Rattle.gcm_seal.specs.Polynomials.{Polynomial, bits, polynomial}
