@@ -1,0 +1,5 @@
+mod Writes
+mod Counted
+mod Unit
+mod Refreshes
+mod Unforged

@@ -1,0 +1,193 @@
+-- Worked cases: the events of each, in order, with the verdicts that were worked out by hand.
+use Rattle.std.specs.Prelude.{ℕ, zero, suc, ◌==◌, Bool, false, true, Some, None, List, [], ◌∷◌, replicate, ◌++◌}
+use Rattle.ide_types.specs.declared.sub.SubKind.{SubKind}
+use Rattle.ide_types.specs.declared.sub.SubKind.TheVariants.{Pr, Npr, Cpl}
+use Rattle.ide_types.specs.declared.sub.FailCause.TheVariants as fail
+use Rattle.ide_types.specs.declared.port.Side.TheVariants.{Host, Device}
+use Rattle.ide_types.specs.declared.port.PortName.{PortName}
+use Rattle.ide_plan.specs.declared.plan.Plan.{Plan}
+use Rattle.ide_plan.specs.declared.stream.Selector.TheVariants.{Selective}
+use Rattle.link_events.specs.declared.event.Lost.TheVariants.{Reply}
+use Rattle.link_events.specs.declared.event.Event.{Event}
+use Rattle.link_events.specs.declared.event.Event.TheVariants.{Establish, Refresh, Send, Pass, Alter}
+use Rattle.link_verdicts.specs.declared.verdict.Operation.TheVariants as op
+use Rattle.link_verdicts.specs.declared.verdict.Verdict.{Verdict}
+use Rattle.link_verdicts.specs.declared.verdict.Verdict.TheVariants as v
+use Rattle.link_verdicts.specs.declared.verdict.SealedPacket.{SealedPacket}
+use Rattle.link_verdicts.specs.declared.verdict.UnitName.{UnitName}
+use Rattle.link_verdicts.specs.declared.verdict.Effect.TheVariants.{Delivered, Blocked}
+use Rattle.link_verdicts.specs.declared.verdict.BlockCause.TheVariants.{NotTrusted}
+use Rattle.key_laws.specs.History.{History}
+
+-- ---- what there is
+
+-- 31 zero bytes and this one
+abbrev pub small_key : ℕ → List ℕ
+small_key n = replicate 31 0 ++ n ∷ []
+
+-- link 0 has stream 5, which takes every TLP; the pool has two draws
+abbrev pub plan : ℕ → Bool → Plan
+plan mode closed = record {
+  portion = 16;
+  units_per_key = 4294967296;
+  pool =
+      small_key 0 ∷ small_key 1 ∷ small_key 2 ∷ small_key 3 ∷ small_key 4 ∷ small_key 5 ∷ small_key 6 ∷ small_key 7
+      ∷ small_key 8 ∷ small_key 9 ∷ small_key 10 ∷ small_key 11 ∷ [];
+  links =
+      record {
+        nonces = [];
+        streams = record { id = 5; mode = mode; closed = closed; selector = Selective None [] true } ∷ [];
+        interfaces = [];
+      } ∷ [];
+  memory = [];
+}
+
+-- the write of 11 22 33 44 at 10000000h, and a read there, both by the requester 0100h
+abbrev pub write : List ℕ
+write =
+    0x40 ∷ 0x00 ∷ 0x00 ∷ 0x01 ∷ 0x01 ∷ 0x00 ∷ 0x00 ∷ 0x0f ∷ 0x10 ∷ 0x00 ∷ 0x00 ∷ 0x00 ∷ 0x11 ∷ 0x22 ∷ 0x33 ∷ 0x44 ∷ []
+
+abbrev pub read : List ℕ
+read = 0x00 ∷ 0x00 ∷ 0x00 ∷ 0x01 ∷ 0x01 ∷ 0x00 ∷ 0x01 ∷ 0x0f ∷ 0x10 ∷ 0x00 ∷ 0x00 ∷ 0x00 ∷ []
+
+abbrev pub host : PortName
+host = record { side = Host; link = 0 }
+
+abbrev pub device : PortName
+device = record { side = Device; link = 0 }
+
+-- ---- pairs
+
+-- the device's packet of this number; draw 0 is in key set 0, draw 1 in key set 1
+abbrev pub packet : ℕ → SubKind → ℕ → ℕ → Bool → ℕ → SealedPacket
+packet number sub draw unit m posted = record {
+  number = number;
+  port = device;
+  stream = 5;
+  sub = sub;
+  draw = draw;
+  unit = unit;
+  m = m;
+  k = draw == 1;
+  t = false;
+  posted = posted;
+  sync = false;
+}
+
+abbrev pub sync_packet : ℕ → SubKind → ℕ → SealedPacket
+sync_packet number sub posted = record (packet number sub 0 1 true posted) { sync = true }
+
+abbrev pub established : Event × Verdict
+established = (Establish 0 5 None, v.Established 0 5 0)
+
+abbrev pub refreshed : Event × Verdict
+refreshed = (Refresh 0 5 None, v.Refreshed 0 5 1)
+
+-- a write that is a unit of its own
+abbrev pub sealed : ℕ → ℕ → ℕ → Event × Verdict
+sealed number draw unit = (Send device write false false, v.Sealed (packet number Pr draw unit true 0 ∷ []))
+
+-- a read whose unit goes on where it has room
+abbrev pub sealed_on : ℕ → Bool → Event × Verdict
+sealed_on number m = (Send device read true false, v.Sealed (packet number Npr 0 1 m 0 ∷ []))
+
+-- the write of this number, which is blocked since it has no T
+abbrev pub accepted : ℕ → ℕ → ℕ → Event × Verdict
+accepted number draw unit = (
+  Pass number,
+  v.Accepted host (record {
+    stream = 5;
+    sub = Pr;
+    draw = draw;
+    unit = unit;
+  }) (Blocked NotTrusted ∷ []),
+)
+
+-- the first of two reads that are one unit, and the second, which brings both
+abbrev pub reads : UnitName
+reads = record { stream = 5; sub = Npr; draw = 0; unit = 1 }
+
+abbrev pub held : Event × Verdict
+held = (Pass 1, v.Held host reads)
+
+abbrev pub both_accepted : Event × Verdict
+both_accepted = (Pass 2, v.Accepted host reads (Delivered ∷ Delivered ∷ []))
+
+-- a write whose unit goes on, and a read behind it
+abbrev pub unfinished_write : Event × Verdict
+unfinished_write = (Send device write true false, v.Sealed (packet 3 Pr 0 1 false 0 ∷ []))
+
+abbrev pub fails : Event → Event × Verdict
+fails e = (e, v.Fail host 5 Pr fail.Tag)
+
+abbrev pub fails_key : Event → Event × Verdict
+fails_key e = (e, v.Fail host 5 Pr fail.Key)
+
+abbrev pub insecure : Event × Verdict
+insecure = (Pass 1, v.Insecure host 5)
+
+-- the read, behind one write, and that it arrives ahead of it
+abbrev pub sealed_read : Event × Verdict
+sealed_read = (Send device read false false, v.Sealed (packet 2 Npr 0 1 true 1 ∷ []))
+
+abbrev pub fails_order : Event × Verdict
+fails_order = (Pass 2, v.Fail host 5 Npr fail.Order)
+
+abbrev pub unfinished : Event × Verdict
+unfinished = (Send device read false false, v.RefusedUnfinished)
+
+abbrev pub reply_9_lost : Event × Verdict
+reply_9_lost = (Refresh 0 5 (Some (record { exchange = 9; lost = Reply })), v.LostReply 9)
+
+abbrev pub busy : Event × Verdict
+busy = (Establish 0 5 None, v.RefusedBusy op.Refresh)
+
+-- NPR and CPL go first with the count of 255 posted packets, then the 256th
+abbrev pub count_reached : Event × Verdict
+count_reached = (
+  Send device write false false,
+  v.Sealed (sync_packet 256 Npr 255 ∷ sync_packet 257 Cpl 255 ∷ packet 258 Pr 0 256 true 0 ∷ []),
+)
+
+-- ---- cases
+
+abbrev pub accepted_once : List (Event × Verdict)
+accepted_once = established ∷ sealed 1 0 1 ∷ accepted 1 0 1 ∷ fails (Pass 1) ∷ insecure ∷ []
+
+-- byte 1 of a packet has T, 20h, and K, 40h
+abbrev pub trusted_on_the_way : List (Event × Verdict)
+trusted_on_the_way = established ∷ sealed 1 0 1 ∷ fails (Alter 1 1 0x20) ∷ []
+
+abbrev pub other_set_on_the_way : List (Event × Verdict)
+other_set_on_the_way = established ∷ sealed 1 0 1 ∷ fails_key (Alter 1 1 0x40) ∷ []
+
+abbrev pub one_missing : List (Event × Verdict)
+one_missing =
+    established ∷ sealed 1 0 1 ∷ sealed 2 0 2 ∷ sealed 3 0 3 ∷ accepted 1 0 1 ∷ fails (Pass 3) ∷ []
+
+abbrev pub read_ahead : List (Event × Verdict)
+read_ahead = established ∷ sealed 1 0 1 ∷ sealed_read ∷ fails_order ∷ []
+
+abbrev pub two_in_a_unit : List (Event × Verdict)
+two_in_a_unit =
+    established ∷ sealed_on 1 false ∷ sealed_on 2 true ∷ held ∷ both_accepted ∷ unfinished_write ∷ unfinished ∷ []
+
+abbrev pub late_packet : List (Event × Verdict)
+late_packet =
+    established ∷ sealed 1 0 1 ∷ sealed 2 0 2 ∷ refreshed ∷ sealed 3 1 1 ∷ accepted 1 0 1 ∷ accepted 3 1 1
+    ∷ fails_key (Pass 2) ∷ []
+
+abbrev pub reply_lost : List (Event × Verdict)
+reply_lost = established ∷ reply_9_lost ∷ busy ∷ refreshed ∷ []
+
+-- a unit under the older key is missing when the first one under the newer key arrives
+abbrev pub tail_missing : Event × Verdict → List (Event × Verdict)
+tail_missing arrival = established ∷ sealed 1 0 1 ∷ refreshed ∷ sealed 2 1 1 ∷ arrival ∷ []
+
+-- so many writes of one unit each, the newest first
+abbrev pub writes : ℕ → History
+writes zero = established ∷ []
+writes (suc n) = sealed (suc n) 0 (suc n) ∷ writes n
+
+abbrev pub count_full : List (Event × Verdict)
+count_full = count_reached ∷ sealed 259 0 257 ∷ []
