@@ -8,6 +8,19 @@ use Rattle.ide_base.specs.declared.sink.SinkFault.TheVariants.{Failed, Memory}
 abbrev pub Contents : Type 0
 Contents = List ℕ → Option (List ℕ)
 
+-- ---- what can be seen from outside
+
+-- of a shelf: its contents, which it need not tell, how many bytes it gave, and how many reads failed
+pub record ShelfSeen : Type 0 where
+  pub contents : Option Contents
+  pub given : ℕ
+  pub faults : ℕ
+
+-- of a sink: what it holds, which it need not tell, and how many calls failed
+pub record SinkSeen : Type 0 where
+  pub held : Option (List ℕ)
+  pub faults : ℕ
+
 -- ---- counts of 64 bits
 
 -- the count after n more, which stands still at its last value

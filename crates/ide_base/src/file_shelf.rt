@@ -9,15 +9,17 @@ use std::io;
 use std::io::{Read, Seek, SeekFrom};
 use std::rt::Files;
 
-// A file that was read, with its name.
+// A file that was read, with its name, and the place where its next read goes on, unless a read or seek has failed.
 #[derive(Drop)]
-struct OpenFile<F> {
-    name: String,
-    file: F,
+pub(crate) struct OpenFile<F> {
+    pub(crate) name: String,
+    pub(crate) file: F,
+    pub(crate) place: Option<u64>,
 }
 
 /// Files of the system by path. It tells no contents, and counts each read that fails. The file that was read
-/// last stays open.
+/// last stays open, and is sought only where a read does not go on from where the last one ended: so a pipe can be
+/// read from its beginning to its end.
 #[derive(Drop)]
 pub struct FileShelf<R: Files> {
     alloc: Global,
@@ -30,8 +32,8 @@ pub struct FileShelf<R: Files> {
 impl<R: Files> FileShelf<R> {
     /// Over the files of the system; none is open yet.
     pub fn new(alloc: Global, files: R) -> FileShelf<R>
-        ensures given { ⟦<FileShelf<R> as Shelf>⟧.given result ≡ 0 }
-        ensures faults { ⟦<FileShelf<R> as Shelf>⟧.faults result ≡ 0 }
+        ensures given { (⟦<FileShelf<R> as Shelf>⟧.seen result).given ≡ 0 }
+        ensures faults { (⟦<FileShelf<R> as Shelf>⟧.seen result).faults ≡ 0 }
     {
         FileShelf {
             alloc,
@@ -44,14 +46,24 @@ impl<R: Files> FileShelf<R> {
 }
 
 // Reads from a place on.
-fn read_at<F: Read + Seek>(file: &mut F, at: u64, buf: &mut [u8]) -> io::Result<usize>
+pub(crate) fn read_at<F: Read + Seek>(
+    open: &mut OpenFile<F>,
+    at: u64,
+    buf: &mut [u8],
+) -> io::Result<usize>
     ensures { ReadsAtMost result buf.new }
 {
-    file.seek(SeekFrom::Start(at))?;
-    file.read(buf)
+    let goes_on = open.place == Some(at);
+    open.place = None;
+    if !goes_on {
+        open.file.seek(SeekFrom::Start(at))?;
+    }
+    let n = open.file.read(buf)?;
+    open.place = at.checked_add(n as u64);
+    Ok(n)
 }
 
-// Reads the file of this name, which then stays open where there is memory for its name.
+// Reads the file of this name, which then stays open.
 fn read_named<R: Files>(
     alloc: Global,
     files: &R,
@@ -64,24 +76,24 @@ fn read_named<R: Files>(
 {
     if let Some(open) = last {
         if open.name.as_str() == name {
-            return read_at(&mut open.file, at, buf);
+            return read_at(open, at, buf);
         }
     }
     *last = None;
-    let mut file = File::open(files, name)?;
-    let n = read_at(&mut file, at, buf)?;
-    if let Ok(name) = String::from_str(alloc, name) {
-        *last = Some(OpenFile { name, file });
-    }
+    let name = String::from_str(alloc, name)?;
+    let file = File::open(files, name.as_str())?;
+    let mut open = OpenFile {
+        name,
+        file,
+        place: Some(0),
+    };
+    let n = read_at(&mut open, at, buf)?;
+    *last = Some(open);
     Ok(n)
 }
 
 impl<R: Files> Shelf for FileShelf<R> {
-    ghost contents = { λ s. None };
-
-    ghost given = { λ s. s.given };
-
-    ghost faults = { λ s. s.faults };
+    ghost seen = { λ s. record { contents = None; given = s.given; faults = s.faults } };
 
     fn read(&mut self, name: &str, at: u64, buf: &mut [u8]) -> Result<usize, ShelfFault> {
         match read_named(self.alloc, &self.files, &mut self.last, name, at, buf) {

@@ -71,9 +71,9 @@ pub struct MemShelf {
 impl MemShelf {
     /// The files, and the numbers of the reads that fail.
     pub fn new(files: Vec<NamedFile>, failing: Vec<u64>) -> MemShelf
-        ensures contents { ⟦<MemShelf as Shelf>⟧.contents result ≡ Some (held_under files.items) }
-        ensures given { ⟦<MemShelf as Shelf>⟧.given result ≡ 0 }
-        ensures faults { ⟦<MemShelf as Shelf>⟧.faults result ≡ 0 }
+        ensures contents { (⟦<MemShelf as Shelf>⟧.seen result).contents ≡ Some (held_under files.items) }
+        ensures given { (⟦<MemShelf as Shelf>⟧.seen result).given ≡ 0 }
+        ensures faults { (⟦<MemShelf as Shelf>⟧.seen result).faults ≡ 0 }
         ensures calls { IsNew (reads_of result) failing.items }
     {
         MemShelf {
@@ -85,19 +85,17 @@ impl MemShelf {
 }
 
 impl Shelf for MemShelf {
-    ghost contents = { λ s. Some (contents_of s) };
-
-    ghost given = { λ s. s.given };
-
-    ghost faults = { λ s. s.calls.faults };
+    ghost seen = { λ s. record { contents = Some (contents_of s); given = s.given; faults = s.calls.faults } };
 
     fn read(&mut self, name: &str, at: u64, buf: &mut [u8]) -> Result<usize, ShelfFault>
-        ensures same { ⟦<MemShelf as Shelf>⟧.contents self.new ≡ ⟦<MemShelf as Shelf>⟧.contents self.old }
+        ensures same { (⟦<MemShelf as Shelf>⟧.seen self.new).contents ≡ (⟦<MemShelf as Shelf>⟧.seen self.old).contents }
         ensures bound { IfOk result (λ n. n ≤ length buf.new) }
-        ensures bytes { ReadFrom (⟦<MemShelf as Shelf>⟧.contents self.old) name.now at result buf.new }
-        ensures counted { Given (⟦<MemShelf as Shelf>⟧.given self.old) (⟦<MemShelf as Shelf>⟧.given self.new) result }
-        ensures cause { ShelfCause (⟦<MemShelf as Shelf>⟧.faults self.old) (⟦<MemShelf as Shelf>⟧.faults self.new)
-            (⟦<MemShelf as Shelf>⟧.contents self.old) name.now result }
+        ensures bytes { ReadFrom (⟦<MemShelf as Shelf>⟧.seen self.old).contents name.now at result buf.new }
+        ensures counted { Given (⟦<MemShelf as Shelf>⟧.seen self.old).given (⟦<MemShelf as Shelf>⟧.seen self.new).given
+            result }
+        ensures cause { ShelfCause (⟦<MemShelf as Shelf>⟧.seen self.old).faults
+            (⟦<MemShelf as Shelf>⟧.seen self.new).faults
+            (⟦<MemShelf as Shelf>⟧.seen self.old).contents name.now result }
         ensures calls { reads_of self.new ≡ called (reads_of self.old) }
         ensures fails { is_err result ≡ fails_now (reads_of self.old) || is_none (contents_of self.old name.now) }
     {
@@ -118,19 +116,15 @@ pub struct TrueShelf {
 impl TrueShelf {
     /// The files.
     pub fn new(files: Vec<NamedFile>) -> TrueShelf
-        ensures contents { ⟦<TrueShelf as Shelf>⟧.contents result ≡ Some (held_under files.items) }
-        ensures given { ⟦<TrueShelf as Shelf>⟧.given result ≡ 0 }
+        ensures contents { (⟦<TrueShelf as Shelf>⟧.seen result).contents ≡ Some (held_under files.items) }
+        ensures given { (⟦<TrueShelf as Shelf>⟧.seen result).given ≡ 0 }
     {
         TrueShelf { files, given: 0 }
     }
 }
 
 impl Shelf for TrueShelf {
-    ghost contents = { λ s. Some (held_under s.files.items) };
-
-    ghost given = { λ s. s.given };
-
-    ghost faults = { λ s. 0 };
+    ghost seen = { λ s. record { contents = Some (held_under s.files.items); given = s.given; faults = 0 } };
 
     fn read(&mut self, name: &str, at: u64, buf: &mut [u8]) -> Result<usize, ShelfFault> {
         read_file(&self.files, &mut self.given, name, at, buf)

@@ -17,8 +17,8 @@ pub struct MemSink {
 impl MemSink {
     /// It holds nothing, and these calls will fail.
     pub fn new(alloc: Global, failing: Vec<u64>) -> MemSink
-        ensures held { ⟦<MemSink as Sink>⟧.held result ≡ Some [] }
-        ensures faults { ⟦<MemSink as Sink>⟧.faults result ≡ 0 }
+        ensures held { (⟦<MemSink as Sink>⟧.seen result).held ≡ Some [] }
+        ensures faults { (⟦<MemSink as Sink>⟧.seen result).faults ≡ 0 }
         ensures calls { IsNew (puts_of result) failing.items }
     {
         MemSink {
@@ -29,7 +29,7 @@ impl MemSink {
 
     /// The bytes that it holds.
     pub fn bytes(&self) -> &[u8]
-        ensures { Some result.now ≡ ⟦<MemSink as Sink>⟧.held self.now }
+        ensures { Some result.now ≡ (⟦<MemSink as Sink>⟧.seen self.now).held }
     {
         &self.bytes
     }
@@ -48,15 +48,14 @@ fn take_piece(held: &mut Vec<u8>, piece: &[u8]) -> Result<usize, SinkFault>
 }
 
 impl Sink for MemSink {
-    ghost held = { λ s. Some s.bytes.items };
-
-    ghost faults = { λ s. s.calls.faults };
+    ghost seen = { λ s. record { held = Some s.bytes.items; faults = s.calls.faults } };
 
     fn put(&mut self, bytes: &[u8]) -> Result<usize, SinkFault>
         ensures some { TakesSome bytes.now result }
-        ensures bytes { PutInto (⟦<MemSink as Sink>⟧.held self.old) (⟦<MemSink as Sink>⟧.held self.new)
+        ensures bytes { PutInto (⟦<MemSink as Sink>⟧.seen self.old).held (⟦<MemSink as Sink>⟧.seen self.new).held
             bytes.now result }
-        ensures cause { SinkCause (⟦<MemSink as Sink>⟧.faults self.old) (⟦<MemSink as Sink>⟧.faults self.new) result }
+        ensures cause { SinkCause (⟦<MemSink as Sink>⟧.seen self.old).faults (⟦<MemSink as Sink>⟧.seen self.new).faults
+            result }
         ensures calls { puts_of self.new ≡ called (puts_of self.old) }
         ensures fails { (result ≡ Err SinkFault.Failed) ↔ IsTrue (fails_now (puts_of self.old)) }
     {
@@ -76,7 +75,7 @@ pub struct TrueSink {
 impl TrueSink {
     /// It holds nothing.
     pub fn new(alloc: Global) -> TrueSink
-        ensures { ⟦<TrueSink as Sink>⟧.held result ≡ Some [] }
+        ensures { (⟦<TrueSink as Sink>⟧.seen result).held ≡ Some [] }
     {
         TrueSink {
             held: Vec::new(alloc),
@@ -85,16 +84,14 @@ impl TrueSink {
 
     /// The bytes that it holds.
     pub fn bytes(&self) -> &[u8]
-        ensures { Some result.now ≡ ⟦<TrueSink as Sink>⟧.held self.now }
+        ensures { Some result.now ≡ (⟦<TrueSink as Sink>⟧.seen self.now).held }
     {
         &self.held
     }
 }
 
 impl Sink for TrueSink {
-    ghost held = { λ s. Some s.held.items };
-
-    ghost faults = { λ s. 0 };
+    ghost seen = { λ s. record { held = Some s.held.items; faults = 0 } };
 
     fn put(&mut self, bytes: &[u8]) -> Result<usize, SinkFault> {
         take_piece(&mut self.held, bytes)

@@ -17,7 +17,7 @@ pub struct OutSink<W> {
 impl<W: Write> OutSink<W> {
     /// Over a writer, as standard output.
     pub fn new(writer: W) -> OutSink<W>
-        ensures { ⟦<OutSink<W> as Sink>⟧.faults result ≡ 0 }
+        ensures { (⟦<OutSink<W> as Sink>⟧.seen result).faults ≡ 0 }
     {
         OutSink { writer, faults: 0 }
     }
@@ -36,16 +36,14 @@ fn write_some<W: Write>(writer: &mut W, piece: &[u8]) -> io::Result<usize>
 }
 
 impl<W: Write> Sink for OutSink<W> {
-    ghost held = { λ s. None };
-
-    ghost faults = { λ s. s.faults };
+    ghost seen = { λ s. record { held = None; faults = s.faults } };
 
     fn put(&mut self, bytes: &[u8]) -> Result<usize, SinkFault>
         ensures some { TakesSome bytes.now result }
-        ensures bytes { PutInto (⟦<OutSink<W> as Sink>⟧.held self.old) (⟦<OutSink<W> as Sink>⟧.held self.new)
+        ensures bytes { PutInto (⟦<OutSink<W> as Sink>⟧.seen self.old).held (⟦<OutSink<W> as Sink>⟧.seen self.new).held
             bytes.now result }
-        ensures cause { SinkCause (⟦<OutSink<W> as Sink>⟧.faults self.old)
-            (⟦<OutSink<W> as Sink>⟧.faults self.new) result }
+        ensures cause { SinkCause (⟦<OutSink<W> as Sink>⟧.seen self.old).faults
+            (⟦<OutSink<W> as Sink>⟧.seen self.new).faults result }
         ensures failed { IfErr result (λ e. e ≡ SinkFault.Failed) }
     {
         match write_some(&mut self.writer, bytes) {

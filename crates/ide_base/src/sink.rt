@@ -1,6 +1,5 @@
 //! A sink of bytes.
-ghost use Rattle.std.specs.Prelude.{◌≡◌, ℕ, List, Option};
-ghost use Rattle.ide_base.specs.Outside.{PutInto, SinkCause, TakesSome};
+ghost use Rattle.ide_base.specs.Outside.{PutInto, SinkCause, SinkSeen, TakesSome};
 
 /// Why a sink took nothing: the writing failed, or there was no memory.
 #[derive(Clone, Copy, Debug, PartialEq, Eq)]
@@ -11,17 +10,15 @@ pub enum SinkFault {
 
 /// A taker of bytes, in pieces (this profile).
 pub trait Sink {
-    /// The bytes that were taken, which a sink need not tell.
-    ghost held: { Self → Option (List ℕ) };
-
-    /// How many calls failed, up to the last value of 64 bits.
-    ghost faults: { Self → ℕ };
+    /// The bytes that were taken, which a sink need not tell, and how many calls failed, up to the last value of
+    /// 64 bits.
+    ghost seen: { Self → SinkSeen };
 
     /// Takes the first bytes of a piece, at least one where it has any, and answers how many. After an
     /// error the sink holds what it held. `Failed` comes only where the count of faults rose, or stands
     /// at its last value; `Memory` is want of memory, and counts nothing.
     fn put(&mut self, bytes: &[u8]) -> Result<usize, SinkFault>
         ensures some { TakesSome bytes.now result }
-        ensures bytes { PutInto (held self.old) (held self.new) bytes.now result }
-        ensures cause { SinkCause (faults self.old) (faults self.new) result };
+        ensures bytes { PutInto (seen self.old).held (seen self.new).held bytes.now result }
+        ensures cause { SinkCause (seen self.old).faults (seen self.new).faults result };
 }

@@ -1,4 +1,5 @@
 //! Each shelf and each sink once, with a read or a write that fails in the middle.
+use crate::file_shelf::{OpenFile, read_at};
 use crate::{
     FileShelf, MemShelf, MemSink, NamedFile, OutSink, Shelf, ShelfFault, Sink, SinkFault,
     TrueShelf, TrueSink,
@@ -69,6 +70,46 @@ fn files_of_the_system(rt: HostRuntime) -> Result<(), Fail> {
         "it was closed"
     );
     assert_eq!(rt; shelf.read("letters", 1, &mut buf), Ok(2));
+    Ok(())
+}
+
+// A file that cannot be sought.
+#[derive(Drop)]
+struct Pipe<'a>(&'a [u8]);
+
+impl io::Read for Pipe<'_> {
+    fn read(&mut self, buf: &mut [u8]) -> io::Result<usize> {
+        let n = self.0.len().min(buf.len());
+        buf[..n].copy_from_slice(&self.0[..n]);
+        self.0 = &self.0[n..];
+        Ok(n)
+    }
+}
+
+impl io::Seek for Pipe<'_> {
+    fn seek(&mut self, _to: io::SeekFrom) -> io::Result<u64> {
+        Err(io::Error::from(io::ErrorKind::NotSeekable))
+    }
+}
+
+// A pipe is read from its beginning to its end, and no read goes back.
+#[test]
+fn pipe_is_not_sought(rt: HostRuntime) -> Result<(), Fail> {
+    let mut buf = [0u8; 4];
+    let mut open = OpenFile {
+        name: String::new(rt.alloc()),
+        file: Pipe(b"012345"),
+        place: Some(0),
+    };
+    assert_eq!(rt; read_at(&mut open, 0, &mut buf)?, 4);
+    assert_eq!(rt; read_at(&mut open, 4, &mut buf)?, 2);
+    assert_eq!(rt; buf, *b"4523");
+    assert_eq!(rt; read_at(&mut open, 6, &mut buf)?, 0);
+    assert!(rt; read_at(&mut open, 2, &mut buf).is_err());
+    assert!(rt;
+        read_at(&mut open, 6, &mut buf).is_err(),
+        "its place is lost"
+    );
     Ok(())
 }
 

@@ -2,4 +2,5 @@ pub mod Scripts
 pub mod Events
 pub mod Plans
 pub mod Written
+mod Stops
 mod Loads

@@ -1,21 +1,24 @@
 -- A topology that was read, and what runs after it.
-use Rattle.std.proofs.Common.{◌≡◌, ◌≢◌, ◌≤◌, ◌<◌, ◌+◌, ℕ, length, take, true, false, Bool, Option, Some, None, Result, Ok, Err, refl, sym, ap, inr, subst, ◌∙◌, arith, option_map}
-use Rattle.std.specs.Prelude.{IfOk, nat_lt}
+use Rattle.std.proofs.Common.{◌≡◌, ◌≢◌, ◌≤◌, ◌<◌, ◌+◌, ◌-◌, ℕ, [], length, length-take, take, true, false, Bool, Option, Some, None, Result, Ok, Err, refl, sym, ap, inr, subst, ◌∙◌, arith, option_map}
+use Rattle.std.specs.Prelude.{IfErr, IfOk, nat_lt}
 use Rattle.std.proofs.lemmas.Bool.Decides.{nat_tests}
 use Rattle.std.proofs.lemmas.List.{length-take-le, take_all}
-use Rattle.ide_base.specs.Outside.{Contents, Rose}
+use Rattle.ide_base.specs.Outside.{Contents, Rose, ShelfSeen, SinkSeen}
 use Rattle.ide_plan.specs.declared.plan.Plan.{Plan}
 use Rattle.line_runs.specs.Gain.{Text, Gained}
-use Rattle.line_runs.specs.Front.{FrontIn, FrontOf, Gave}
-use Rattle.line_runs.specs.Outcome.{Due, Quiet, RanOn}
+use Rattle.line_runs.specs.Front.{FrontIn, FrontOf, Gave, GaveOf, bytes_of}
+use Rattle.line_runs.specs.Gathering.{WroteEnded, WroteEndedIn, WroteEndedOf}
+use Rattle.line_runs.specs.Outcome.{Due, Quiet, EndsOn}
 use Rattle.line_runs.specs.declared.ends.Fault.TheVariants as fault
 use Rattle.line_runs.specs.declared.front.Stop.TheVariants as stop
 use Rattle.line_runs.specs.declared.ends.End.{End}
 use Rattle.line_runs.specs.declared.ends.End.TheVariants.{Done, TooLong}
 use Rattle.line_runs.specs.declared.ends.Fault.{Fault}
-use Rattle.line_runs.proofs.WholeFiles.{IsDue, SameDue, stopped}
-use Rattle.ide_cli.specs.declared.topologies.Loaded.TheVariants.{Sound, Long}
-use Rattle.ide_cli.specs.Loading.{Loads, LoadedIn, LoadedOf, LoadCut, topology_limit, within}
+use Rattle.line_runs.proofs.WholeFiles.{IsDue, SameDue, gained_nothing, stopped}
+use Rattle.ide_cli.specs.declared.topologies.Loaded.{Loaded}
+use Rattle.ide_cli.specs.SoFar.{WroteBy, WroteByIn, WroteByOf, loaded_so_far, run_so_far, script_so_far}
+use Rattle.ide_cli.specs.declared.topologies.Loaded.TheVariants.{Sound, Faulty, Long}
+use Rattle.ide_cli.specs.Loading.{GaveAllOf, Loads, LoadedIn, LoadedOf, LoadCut, topology_limit, within}
 use Rattle.ide_cli.specs.Topologies.{loaded}
 use Rattle.ide_cli.specs.Meaning.{run_due}
 use Rattle.ide_cli.specs.Reads.{GaveAtMost, RanPast}
@@ -89,7 +92,7 @@ due_loaded by due (Some contents) name l is = due_in by due (contents name) l is
 
 -- a topology could not be loaded
 pub cut_by_load : (told : Option Contents) (due : Contents → Option Due) (name : Text) (s0 s1 : ℕ) (write quiet : Type 0) (h : Option Text) (e : Fault)
-    → ((contents : Contents) → contents name ≡ None → due contents ≡ None) → LoadCut s0 s1 told name e → RanOn told due (Rose s0 s1) write quiet (Gained h h) (Err e)
+    → ((contents : Contents) → contents name ≡ None → due contents ≡ None) → LoadCut s0 s1 told name e → EndsOn told due (Rose s0 s1) write quiet (Gained h h) (Err e)
 cut_by_load told due name s0 s1 write quiet h fault.Read lacks c = stopped told due name s0 s1 write quiet h stop.Fault lacks c
 cut_by_load told due name s0 s1 write quiet h fault.Write lacks c = absurd c
 cut_by_load told due name s0 s1 write quiet h fault.Memory lacks c = stopped told due name s0 s1 write quiet h stop.Memory lacks c
@@ -116,8 +119,103 @@ run_after (Some contents) topology script plan is = run_in (contents topology) (
 
 -- what runs once a shelf was read that kept its contents and its count of faults
 pub later : (told now : Option Contents) (due : Contents → Option Due) (before after end o0 o1 : ℕ) (gained : Text → Type 0) (r : Result End Fault) → now ≡ told → after ≡ before
-    → RanOn now due (Rose after end) (Rose o0 o1) (Quiet after end o0 o1) gained r → RanOn told due (Rose before end) (Rose o0 o1) (Quiet before end o0 o1) gained r
+    → EndsOn now due (Rose after end) (Rose o0 o1) (Quiet after end o0 o1) gained r → EndsOn told due (Rose before end) (Rose o0 o1) (Quiet before end o0 o1) gained r
 later told now due before after end o0 o1 gained r same quiet ran =
-    let P : Option Contents → Type 0 = λ t. RanOn t due (Rose before end) (Rose o0 o1) (Quiet before end o0 o1) gained r in
-    let Q : ℕ → Type 0 = λ n. RanOn now due (Rose n end) (Rose o0 o1) (Quiet n end o0 o1) gained r in
+    let P : Option Contents → Type 0 = λ t. EndsOn t due (Rose before end) (Rose o0 o1) (Quiet before end o0 o1) gained r in
+    let Q : ℕ → Type 0 = λ n. EndsOn now due (Rose n end) (Rose o0 o1) (Quiet n end o0 o1) gained r in
     subst P same (subst Q quiet ran)
+
+-- ---- where a read fails
+
+gave_all_in : (file : Option Text) (read : Text) (before now : ℕ) → FrontIn 1048577 file read → length read ≤ 1048576 → Gave before (length read) now → Gave before (length (bytes_of file)) now
+gave_all_in None read before now is few gave = absurd is
+gave_all_in (Some file) read before now is few gave =
+    let same : length read ≡ length file = omega (arith, ap length is, length-take 1048577 file) in
+    let P : ℕ → Type 0 = λ n. Gave before n now in
+    subst P same gave
+
+gave_all_of : (told : Option Contents) (name read : Text) (before now : ℕ) → FrontOf told name 1048577 read → length read ≤ 1048576 → Gave before (length read) now → GaveAllOf told name before now
+gave_all_of None name read before now is few gave = tt
+gave_all_of (Some contents) name read before now is few gave = gave_all_in (contents name) read before now is few gave
+
+pub gave_all : {L : Type 0} (long : L) (told : Option Contents) (name read : Text) (r : Result L Fault) (before now : ℕ) → FrontOf told name 1048577 read → Gave before (length read) now → IfOk r (λ l. l ≢ long → length read ≤ 1048576)
+    → IfOk r (λ l. l ≢ long → GaveAllOf told name before now)
+gave_all long told name read (Ok l) before now is gave few = λ other. gave_all_of told name read before now is (few other) gave
+gave_all long told name read (Err e) before now is gave few = few
+
+-- nothing was written yet
+nothing_in : (text : ℕ → Text) (file : Text) (s0 s1 : ShelfSeen) (o : SinkSeen) → ((n : ℕ) → n ≤ length file → text n ≡ []) → (n : ℕ) × (n ≤ length file) × Gave s0.given n s1.given → WroteByIn text s0 s1 o o
+nothing_in text file s0 s1 o none (n, le, gave) = let P : Text → Type 0 = λ t. Gained o.held o.held t in (n, gave, subst P (sym (none n le)) (gained_nothing o.held))
+
+pub nothing_yet : (text : Contents → ℕ → Text) (name : Text) (s0 s1 : ShelfSeen) (o : SinkSeen) → ((contents : Contents) (n : ℕ) → n ≤ length (bytes_of (contents name)) → text contents n ≡ []) → GaveOf s0.contents name s0.given s1.given
+    → WroteBy text s0 s1 o o
+nothing_yet text name s0 s1 o none gave = by_told s0.contents gave
+  where
+    by_told : (told : Option Contents) → GaveOf told name s0.given s1.given → WroteByOf text told s0 s1 o o
+    by_told None gave = tt
+    by_told (Some contents) gave = nothing_in (text contents) (bytes_of (contents name)) s0 s1 o (none contents) gave
+
+no_line : (loaded : Loaded) → loaded_so_far loaded [] ≡ []
+no_line (Sound plan) = refl
+no_line (Faulty fault) = refl
+no_line Long = refl
+
+-- while the topology is read
+pub none_so_far : (topology script : Option Text) (n : ℕ) → n ≤ length (bytes_of topology) → run_so_far topology script n ≡ []
+none_so_far None script n le = refl
+none_so_far (Some file) script n le =
+    let zero : n - length file ≡ 0 = omega arith in
+    ap (λ (k : ℕ). loaded_so_far (loaded file) (take k (bytes_of script))) zero ∙ no_line (loaded file)
+
+-- the same text in other words
+same_ended_in : (f g : Text → Text) (file : Text) (s0 s1 : ShelfSeen) (o0 o1 : SinkSeen) → ((t : Text) → f t ≡ g t) → WroteEndedIn f file s0 s1 o0 o1 → WroteEndedIn g file s0 s1 o0 o1
+same_ended_in f g file s0 s1 o0 o1 same (n, le, gave, gained) = let P : Text → Type 0 = λ t. Gained o0.held o1.held t in (n, le, gave, subst P (same (take n file)) gained)
+
+same_ended : (f g : Text → Text) (name : Text) (s0 s1 : ShelfSeen) (o0 o1 : SinkSeen) → ((t : Text) → f t ≡ g t) → WroteEnded f name s0 s1 o0 o1 → WroteEnded g name s0 s1 o0 o1
+same_ended f g name s0 s1 o0 o1 same wrote = by_told s0.contents wrote
+  where
+    by_told : (told : Option Contents) → WroteEndedOf f told name s0 s1 o0 o1 → WroteEndedOf g told name s0 s1 o0 o1
+    by_told None wrote = tt
+    by_told (Some contents) wrote = same_ended_in f g (bytes_of (contents name)) s0 s1 o0 o1 same wrote
+
+pub ended_same : (f g : Text → Text) (name : Text) (s0 s1 : ShelfSeen) (o0 o1 : SinkSeen) (r : Result End Fault) → ((t : Text) → f t ≡ g t) → IfErr r (λ e. e ≡ fault.Read → WroteEnded f name s0 s1 o0 o1)
+    → IfErr r (λ e. e ≡ fault.Read → WroteEnded g name s0 s1 o0 o1)
+ended_same f g name s0 s1 o0 o1 (Ok e) same wrote = tt
+ended_same f g name s0 s1 o0 o1 (Err e) same wrote = λ is. same_ended f g name s0 s1 o0 o1 same (wrote is)
+
+-- of the one file that is read
+wrote_ended : (text : Text → Text) (name : Text) (s0 s1 : ShelfSeen) (o0 o1 : SinkSeen) → WroteEnded text name s0 s1 o0 o1 → WroteBy (λ contents n. text (take n (bytes_of (contents name)))) s0 s1 o0 o1
+wrote_ended text name s0 s1 o0 o1 wrote = by_told s0.contents wrote
+  where
+    by_told : (told : Option Contents) → WroteEndedOf text told name s0 s1 o0 o1 → WroteByOf (λ contents n. text (take n (bytes_of (contents name)))) told s0 s1 o0 o1
+    by_told None wrote = tt
+    by_told (Some contents) wrote = (wrote.0, wrote.2, wrote.3)
+
+pub ended_by : (text : Text → Text) (name : Text) (s0 s1 : ShelfSeen) (o0 o1 : SinkSeen) (r : Result End Fault) → IfErr r (λ e. e ≡ fault.Read → WroteEnded text name s0 s1 o0 o1)
+    → IfErr r (λ e. e ≡ fault.Read → WroteBy (λ contents n. text (take n (bytes_of (contents name)))) s0 s1 o0 o1)
+ended_by text name s0 s1 o0 o1 (Ok e) wrote = tt
+ended_by text name s0 s1 o0 o1 (Err e) wrote = λ is. wrote_ended text name s0 s1 o0 o1 (wrote is)
+
+-- of the script behind a topology that was wholly read
+run_ended_in : (topology script : Option Text) (plan : Plan) (s0 s1 s2 : ShelfSeen) (o0 o1 : SinkSeen) → LoadedIn loaded topology (Sound plan) → Gave s0.given (length (bytes_of topology)) s1.given
+    → WroteEndedIn (script_so_far plan) (bytes_of script) s1 s2 o0 o1 → WroteByIn (λ n. run_so_far topology script n) s0 s2 o0 o1
+run_ended_in None script plan s0 s1 s2 o0 o1 is all wrote = absurd is
+run_ended_in (Some file) script plan s0 s1 s2 o0 o1 is all (n, le, gave, gained) =
+    let rest : n ≡ (length file + n) - length file = omega arith in
+    let P : Text → Type 0 = λ t. Gained o0.held o1.held t in
+    let text : script_so_far plan (take n (bytes_of script)) ≡ run_so_far (Some file) script (length file + n) =
+    ap (λ (l : Loaded). loaded_so_far l (take n (bytes_of script))) is ∙ ap (λ (k : ℕ). loaded_so_far (loaded file) (take k (bytes_of script))) rest in
+    (length file + n, joined s0.given s1.given s2.given (length file) n all gave, subst P text gained)
+
+pub run_ended : (topology script : Text) (plan : Plan) (s0 s1 s2 : ShelfSeen) (o0 o1 : SinkSeen) (r : Result End Fault) → s1.contents ≡ s0.contents → LoadedOf loaded s0.contents topology (Sound plan) → GaveAllOf s0.contents topology
+    s0.given s1.given
+    → IfErr r (λ e. e ≡ fault.Read → WroteEnded (script_so_far plan) script s1 s2 o0 o1) → IfErr r (λ e. e ≡ fault.Read → WroteBy (λ contents n. run_so_far (contents topology) (contents script) n) s0 s2 o0 o1)
+run_ended topology script plan s0 s1 s2 o0 o1 (Ok e) same is all wrote = tt
+run_ended topology script plan s0 s1 s2 o0 o1 (Err e) same is all wrote =
+    let P : Option Contents → Type 0 = λ told. WroteEndedOf (script_so_far plan) told script s1 s2 o0 o1 in
+    λ read. by_told s0.contents is all (subst P same (wrote read))
+  where
+    by_told : (told : Option Contents) → LoadedOf loaded told topology (Sound plan) → GaveAllOf told topology s0.given s1.given → WroteEndedOf (script_so_far plan) told script s1 s2 o0 o1
+        → WroteByOf (λ contents n. run_so_far (contents topology) (contents script) n) told s0 s2 o0 o1
+    by_told None is all wrote = tt
+    by_told (Some contents) is all wrote = run_ended_in (contents topology) (contents script) plan s0 s1 s2 o0 o1 is all wrote

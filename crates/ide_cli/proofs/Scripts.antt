@@ -22,6 +22,8 @@ use Rattle.line_runs.specs.Outcome.{Due}
 use Rattle.text_lines.specs.Pieces.{pieces}
 use Rattle.line_runs.specs.Lines.{after, cut_text, file_due, go_on, is_over, process, unended}
 use Rattle.ide_cli.specs.Script.{Script, AtEnd, stops, with_line, unended_line, script_in, end_at, last_line, due_after, script_due}
+use Rattle.line_runs.specs.Gathering.{ended_text}
+use Rattle.ide_cli.specs.SoFar.{script_so_far}
 use Rattle.ide_cli.specs.Works.{Running, totals_with, ran_event, by_meaning, ran_line}
 
 -- the links stand for the history, so many events came, and the totals are its totals
@@ -116,3 +118,8 @@ begins plan = record { plan_is = refl; stands = first_begins plan; steps_are = r
 pub file_runs : (plan : Plan) (file : Text) → file_due ran_line closing (record { world = new_world plan; totals = record { sealed = 0; accepted = 0; failed = 0; blocked = 0 } }) file ≡ script_due plan file
 unfolding totals
 file_runs plan file = script_runs plan (is_over file) 1 (record { world = new_world plan; totals = totals 0 0 0 0 }) [] (pieces (cut_text file)) (begins plan)
+
+-- the lines of it that ended in some bytes
+pub ended_runs : (plan : Plan) (bytes : Text) → ended_text ran_line closing (record { world = new_world plan; totals = record { sealed = 0; accepted = 0; failed = 0; blocked = 0 } }) bytes ≡ script_so_far plan bytes
+unfolding totals
+ended_runs plan bytes = ap (λ (d : Due). d.1) (script_runs plan true 1 (record { world = new_world plan; totals = totals 0 0 0 0 }) [] (pieces bytes) (begins plan))

@@ -2,7 +2,7 @@
 use Rattle.std.proofs.Common.{◌≡◌, ◌≤◌, List, [], ◌++◌, length, length-append, Option, Some, Result, Ok, Err, option_map, refl, sym, ap, subst, ◌∙◌, arith, append_assoc}
 use Rattle.std.specs.Prelude.{IfOk}
 use Rattle.std.proofs.lemmas.List.{append-nil, append_cancel_left}
-use Rattle.ide_base.specs.Outside.{Contents}
+use Rattle.ide_base.specs.Outside.{Contents, ShelfSeen, SinkSeen}
 use Rattle.ide_plan.specs.declared.plan.Plan.{Plan}
 use Rattle.ide_plan.specs.Fits.{FitsPlan}
 use Rattle.link_events.specs.declared.event.Event.{Event}
@@ -13,7 +13,7 @@ use Rattle.link_texts.specs.Telling.{events_told, lines_told, AreAllowed}
 use Rattle.text_laws.specs.Statements.{LinesTell, AreTold}
 use Rattle.text_laws.proofs.Reading.{length-events}
 use Rattle.line_runs.specs.Gain.{Text, IsFront, Gained}
-use Rattle.line_runs.specs.Outcome.{Due, Ran, RanDue, RanOn, SomeFront}
+use Rattle.line_runs.specs.Outcome.{Due, EndsBy, EndsDue, EndsOn, RanOn, SomeFront}
 use Rattle.line_runs.specs.declared.ends.End.{End}
 use Rattle.line_runs.specs.declared.ends.Fault.{Fault}
 use Rattle.line_runs.specs.declared.ends.Fault.TheVariants as fault
@@ -41,7 +41,7 @@ some_front : (before now : Option Text) (held gained text : Text) → before ≡
 some_front before now held gained text one two is = subst (λ (t : Text). IsFront t text) (sym (same_gain before now held gained is.0 one two is.2)) is.1
 
 gained_front : (due : Due) (read write quiet : Type 0) (before now : Option Text) (held gained : Text) (r : Result End Fault) → before ≡ Some held → now ≡ Some (held ++ gained)
-    → Ran due read write quiet (Gained before now) r → IsFront gained due.1
+    → EndsBy due read write quiet (Gained before now) r → IsFront gained due.1
 gained_front due read write quiet before now held gained (Ok e) one two ran = subst (λ (t : Text). IsFront t due.1) (sym (same_gain before now held gained due.1 one two ran.1)) (whole_front due.1)
 gained_front due read write quiet before now held gained (Err fault.Read) one two ran = some_front before now held gained due.1 one two (ran.1.0, ran.1.1, ran.1.3)
 gained_front due read write quiet before now held gained (Err fault.Write) one two ran = some_front before now held gained due.1 one two ran.1
@@ -52,11 +52,11 @@ gained_front due read write quiet before now held gained (Err fault.Memory) one 
 due_is : (told : Option Contents) (words : List Text) (plan : Plan) (script : Script) (a : AsksFor told words plan script) → due_of words a.contents ≡ Some (due_after plan [] script)
 due_is told words plan script a = rw (a.asks, a.topology_is, a.plan_is, a.script_is, a.read) refl
 
-ran_script : (told : Option Contents) (words : List Text) (read write quiet : Type 0) (gained : Text → Type 0) (r : Result End Fault) → RanOn told (due_of words) read write quiet gained r
-    → (plan : Plan) (script : Script) → AsksFor told words plan script → Ran (due_after plan [] script) read write quiet gained r
+ran_script : (told : Option Contents) (words : List Text) (read write quiet : Type 0) (gained : Text → Type 0) (r : Result End Fault) → EndsOn told (due_of words) read write quiet gained r
+    → (plan : Plan) (script : Script) → AsksFor told words plan script → EndsBy (due_after plan [] script) read write quiet gained r
 ran_script told words read write quiet gained r ran plan script a =
-    let ran_there : RanDue (due_of words a.contents) read write quiet gained r = subst (λ (t : Option Contents). RanOn t (due_of words) read write quiet gained r) a.are_told ran in
-    subst (λ (d : Option Due). RanDue d read write quiet gained r) (due_is told words plan script a) ran_there
+    let ran_there : EndsDue (due_of words a.contents) read write quiet gained r = subst (λ (t : Option Contents). EndsOn t (due_of words) read write quiet gained r) a.are_told ran in
+    subst (λ (d : Option Due). EndsDue d read write quiet gained r) (due_is told words plan script a) ran_there
 
 plan_fits : (told : Option Contents) (words : List Text) (plan : Plan) (script : Script) → AsksFor told words plan script → FitsPlan plan
 plan_fits told words plan script a = loaded_fits a.topology plan a.plan_is
@@ -75,15 +75,15 @@ pub record IsDue (plan : Plan) (h : History) : Type 0 where
 few_written : (h : History) (later : List Event) (script : Script) → events_told h ++ later ≡ script.events → AreAllowed script.events → length h ≤ 4294967296
 few_written h later script same allowed = omega (arith, length-events h, length-append (events_told h) later, ap length same, allowed.few)
 
-pub written_is_due : LinesTell → (told : Option Contents) (words : List Text) (read write quiet : Type 0) (before now : Option Text) (r : Result End Fault)
-    → RanOn told (due_of words) read write quiet (Gained before now) r → (plan : Plan) (h : History) → Written told words before now plan h → IsDue plan h
-written_is_due tell told words read write quiet before now r ran plan h w =
+pub written_is_due : LinesTell → (words : List Text) (shelf shelf_now : ShelfSeen) (sink sink_now : SinkSeen) (r : Result End Fault) → RanOn (due_of words) shelf shelf_now sink sink_now r
+    → (plan : Plan) (h : History) → Written shelf words sink sink_now plan h → IsDue plan h
+written_is_due tell words shelf shelf_now sink sink_now r ran plan h w =
     let script = w.script in
     let due = due_after plan [] script in
     let last = last_line script.stop (history_on plan [] script.events) in
-    let allowed = script_allowed told words plan script w.asks_for in
-    let fits = plan_fits told words plan script w.asks_for in
-    let gained = gained_front due read write quiet before now w.held w.gained r w.held_before w.holds_now (ran_script told words read write quiet (Gained before now) r ran plan script w.asks_for) in
+    let allowed = script_allowed shelf.contents words plan script w.asks_for in
+    let fits = plan_fits shelf.contents words plan script w.asks_for in
+    let gained = gained_front due _ _ _ sink.held sink_now.held w.held w.gained r w.held_before w.holds_now (ran_script shelf.contents words _ _ _ (Gained sink.held sink_now.held) r ran plan script w.asks_for) in
     let front = front_of_front (lines_told h) w.gained due.1 w.lines gained in
     let text : lines_told h ++ front.0 ≡ text_on plan [] (events_told h ++ w.later) ++ last = front.1 ∙ ap (λ (es : List Event). text_on plan [] es ++ last) (sym w.events_are) in
     record {
@@ -92,13 +92,13 @@ written_is_due tell told words read write quiet before now r ran plan h w =
       few = few_written h w.later script w.events_are allowed;
     }
 
-pub all_written : AreTold → (told : Option Contents) (words : List Text) (read write quiet : Type 0) (before now : Option Text) (r : Result End Fault)
-    → RanOn told (due_of words) read write quiet (Gained before now) r → IfOk r (λ e. AllWritten told words before now)
-all_written are_told told words read write quiet before now (Err f) ran = tt
-all_written are_told told words read write quiet before now (Ok e) ran = λ plan script held asks held_before.
-    let is = are_told plan (plan_fits told words plan script asks) script.events (script_allowed told words plan script asks) in
+pub all_written : AreTold → (words : List Text) (shelf shelf_now : ShelfSeen) (sink sink_now : SinkSeen) (r : Result End Fault) → RanOn (due_of words) shelf shelf_now sink sink_now r
+    → IfOk r (λ e. AllWritten shelf words sink sink_now)
+all_written are_told words shelf shelf_now sink sink_now (Err f) ran = tt
+all_written are_told words shelf shelf_now sink sink_now (Ok e) ran = λ plan script held asks held_before.
+    let is = are_told plan (plan_fits shelf.contents words plan script asks) script.events (script_allowed shelf.contents words plan script asks) in
     let due = due_after plan [] script in
-    let whole = (ran_script told words read write quiet (Gained before now) (Ok e) ran plan script asks).1 in
+    let whole = (ran_script shelf.contents words _ _ _ (Gained sink.held sink_now.held) (Ok e) ran plan script asks).1 in
     let h = history_on plan [] script.events in
     let last = last_line script.stop h in
     record {

@@ -1,10 +1,12 @@
 -- The histories that a run writes.
-use Rattle.std.specs.Prelude.{◌≡◌, List, [], ◌++◌, Option, Some, Result, Ok, Err}
-use Rattle.ide_base.specs.Outside.{Contents}
+use Rattle.std.specs.Prelude.{◌≡◌, List, [], ◌++◌, map, Option, Some, Result, Ok, Err, String, Vec, string_bytes}
+use Rattle.std.proofs.Common.{Global}
+use Rattle.ide_base.specs.Outside.{Contents, ShelfSeen, SinkSeen}
 use Rattle.ide_words.specs.Words.{run, asked}
 use Rattle.ide_plan.specs.declared.plan.Plan.{Plan}
 use Rattle.link_events.specs.declared.event.Event.{Event}
 use Rattle.key_laws.specs.History.{History}
+use Rattle.link_history.specs.Laws.{NoForgery}
 use Rattle.link_texts.specs.Runs.{history_on}
 use Rattle.link_texts.specs.Telling.{VerdictsFit, events_told, lines_told}
 use Rattle.line_runs.specs.Gain.{Text, IsFront}
@@ -17,6 +19,10 @@ use Rattle.ide_cli.specs.declared.status.Status.{Status}
 use Rattle.ide_cli.specs.declared.status.Status.TheVariants as status
 use Rattle.ide_cli.specs.Script.{Script, script_of}
 use Rattle.ide_cli.specs.Topologies.{loaded}
+
+-- the bytes of the words
+abbrev pub said : Vec (String Global) Global → List Text
+said words = map string_bytes words.items
 
 -- The words ask for a run: the shelf tells its contents, in which the names that the words give are a sound topology of
 -- this plan, and this script.
@@ -36,28 +42,33 @@ pub record AsksFor (told : Option Contents) (words : List Text) (plan : Plan) (s
 -- A run with these words wrote a history under a plan: its events are the first of the script's; and the sink, which
 -- tells what it held before and holds now, gained the lines of its verdicts, numbered from 1, and maybe more behind
 -- them.
-pub record Written (told : Option Contents) (words : List Text) (before now : Option Text) (plan : Plan)
+pub record Written (shelf : ShelfSeen) (words : List Text) (before now : SinkSeen) (plan : Plan)
     (h : History) : Type 0 where
   pub script : Script
-  pub asks_for : AsksFor told words plan script
+  pub asks_for : AsksFor shelf.contents words plan script
   pub later : List Event
   pub events_are : events_told h ++ later ≡ script.events
   pub verdicts_fit : VerdictsFit h
   pub held : Text
-  pub held_before : before ≡ Some held
+  pub held_before : before.held ≡ Some held
   pub gained : Text
-  pub holds_now : now ≡ Some (held ++ gained)
+  pub holds_now : now.held ≡ Some (held ++ gained)
   pub lines : IsFront (lines_told h) gained
 
--- the law holds of every history that was written
-abbrev pub InEvery : (Plan → History → Type 0) → (Plan → History → Type 0) → Type 0
-InEvery written law = (plan : Plan) (h : History) → written plan h → law plan h
+-- the law holds of every history that a run with these words wrote
+abbrev pub InEvery : (Plan → History → Type 0) → ShelfSeen → Vec (String Global) Global → SinkSeen → SinkSeen → Type 0
+InEvery law shelf words before now = (plan : Plan) (h : History) → Written shelf (said words) before now plan h
+    → law plan h
+
+-- the law holds provided that no tag verified on a unit that its partner had not sealed
+abbrev pub Unforged : (Plan → History → Type 0) → Plan → History → Type 0
+Unforged law plan h = NoForgery plan h → law plan h
 
 -- the history of all events of the script was written, each with the verdict that is due
-abbrev pub AllWritten : Option Contents → List Text → Option Text → Option Text → Type 0
-AllWritten told words before now =
-    (plan : Plan) (script : Script) (held : Text) → AsksFor told words plan script → before ≡ Some held
-    → Written told words before now plan (history_on plan [] script.events)
+abbrev pub AllWritten : ShelfSeen → List Text → SinkSeen → SinkSeen → Type 0
+AllWritten shelf words before now =
+    (plan : Plan) (script : Script) (held : Text) → AsksFor shelf.contents words plan script → before.held ≡ Some held
+    → Written shelf words before now plan (history_on plan [] script.events)
 
 -- what a status says of the run
 abbrev pub outcome_of : Status → Result End Fault

@@ -3,6 +3,8 @@ pub mod Loading
 pub mod Topologies
 pub mod Script
 pub mod Works
+pub mod LineLaws
 pub mod Meaning
 pub mod Headline
 pub mod Reads
+pub mod SoFar

@@ -3,6 +3,7 @@ use Rattle.std.specs.Prelude.{ℕ, ◌≡◌, ◌⊎◌, ◌≤◌, nat_lt, if�
 use Rattle.ide_base.specs.Outside.{Contents, Rose, Lacks}
 use Rattle.line_runs.specs.declared.ends.Fault.{Fault}
 use Rattle.line_runs.specs.declared.ends.Fault.TheVariants as fault
+use Rattle.line_runs.specs.Front.{Gave, bytes_of}
 use Rattle.line_runs.specs.Gain.{Text}
 
 -- how many bytes of a topology count
@@ -35,3 +36,8 @@ LoadCut before now told name fault.Memory = now ≡ before
 abbrev pub LoadCause : {L : Type 0} → ℕ → ℕ → Option Contents → Text → Result L Fault → Type 0
 LoadCause before now told name (Ok l) = now ≡ before
 LoadCause before now told name (Err e) = LoadCut before now told name e
+
+-- where the contents are told, as many bytes were given as the file has
+abbrev pub GaveAllOf : Option Contents → Text → ℕ → ℕ → Type 0
+GaveAllOf None name before now = Unit {0}
+GaveAllOf (Some contents) name before now = Gave before (length (bytes_of (contents name))) now

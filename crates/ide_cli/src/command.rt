@@ -1,14 +1,14 @@
 //! The commands, each over the files that it reads.
 
-ghost use Rattle.std.specs.Prelude.{◌≡◌, ◌≢◌, ◌+◌, ◌≤◌, IfOk, option_map};
-ghost use Rattle.ide_base.specs.Outside.{Rose};
+ghost use Rattle.std.specs.Prelude.{◌≡◌, ◌≢◌, ◌+◌, ◌≤◌, IfErr, IfOk, option_map, take};
 ghost use Rattle.ide_plan.specs.Fits.{FitsPlan};
-ghost use Rattle.line_runs.specs.Front.{Gave};
-ghost use Rattle.line_runs.specs.Gain.{Gained};
-ghost use Rattle.line_runs.specs.Outcome.{Quiet, RanOn};
+ghost use Rattle.line_runs.specs.Front.{Gave, bytes_of};
+ghost use Rattle.line_runs.specs.Gathering.{WroteEnded};
+ghost use Rattle.line_runs.specs.Outcome.{RanOn};
 ghost use Rattle.ide_cli.specs.Script.{script_due};
 ghost use Rattle.ide_cli.specs.Meaning.{run_due, show_due};
 ghost use Rattle.ide_cli.specs.Reads.{RanPast};
+ghost use Rattle.ide_cli.specs.SoFar.{WroteBy, run_so_far, script_so_far, shown_so_far};
 
 use crate::packets::PacketWork;
 use crate::script::ScriptWork;
@@ -29,13 +29,14 @@ fn run_script<S: Shelf, O: Sink>(
 ) -> Result<End, Fault>
     requires { FitsPlan plan }
     ensures end { IfOk result (λ e. e ≢ End.Usage) }
-    ensures answers { RanOn (S.contents shelf.old) (λ contents. option_map (script_due plan) (contents script.now))
-        (Rose (S.faults shelf.old) (S.faults shelf.new)) (Rose (O.faults out.old) (O.faults out.new))
-        (Quiet (S.faults shelf.old) (S.faults shelf.new) (O.faults out.old) (O.faults out.new))
-        (Gained (O.held out.old) (O.held out.new)) result }
-    ensures cap { S.given shelf.new ≤ S.given shelf.old + 16777217 }
-    ensures too_long { IfOk result (λ e. e ≡ End.TooLong → Gave (S.given shelf.old) 16777217 (S.given shelf.new)) }
-    ensures whole { IfOk result (λ e. e ≡ End.Done → S.given shelf.new ≤ S.given shelf.old + 16777216) }
+    ensures answers { RanOn (λ contents. option_map (script_due plan) (contents script.now)) (S.seen shelf.old)
+        (S.seen shelf.new) (O.seen out.old) (O.seen out.new) result }
+    ensures read_fault { IfErr result (λ e. e ≡ Fault.Read → WroteEnded (script_so_far plan) script.now
+        (S.seen shelf.old) (S.seen shelf.new) (O.seen out.old) (O.seen out.new)) }
+    ensures cap { (S.seen shelf.new).given ≤ (S.seen shelf.old).given + 16777217 }
+    ensures too_long { IfOk result (λ e. e ≡ End.TooLong → Gave (S.seen shelf.old).given 16777217
+        (S.seen shelf.new).given) }
+    ensures whole { IfOk result (λ e. e ≡ End.Done → (S.seen shelf.new).given ≤ (S.seen shelf.old).given + 16777216) }
 {
     match World::make(alloc, plan) {
         Err(_) => Err(Fault::Memory),
@@ -55,13 +56,14 @@ pub(crate) fn run_files<S: Shelf, O: Sink>(
     out: &mut O,
 ) -> Result<End, Fault>
     ensures end { IfOk result (λ e. e ≢ End.Usage) }
-    ensures answers { RanOn (S.contents shelf.old) (λ contents. run_due (contents topology.now) (contents script.now))
-        (Rose (S.faults shelf.old) (S.faults shelf.new)) (Rose (O.faults out.old) (O.faults out.new))
-        (Quiet (S.faults shelf.old) (S.faults shelf.new) (O.faults out.old) (O.faults out.new))
-        (Gained (O.held out.old) (O.held out.new)) result }
-    ensures cap { S.given shelf.new ≤ S.given shelf.old + 17825794 }
-    ensures too_long { IfOk result (λ e. e ≡ End.TooLong → RanPast (S.given shelf.old) (S.given shelf.new)) }
-    ensures whole { IfOk result (λ e. e ≡ End.Done → S.given shelf.new ≤ S.given shelf.old + 17825792) }
+    ensures answers { RanOn (λ contents. run_due (contents topology.now) (contents script.now)) (S.seen shelf.old)
+        (S.seen shelf.new) (O.seen out.old) (O.seen out.new) result }
+    ensures read_fault { IfErr result (λ e. e ≡ Fault.Read → WroteBy (λ contents n. run_so_far (contents topology.now)
+        (contents script.now) n)
+        (S.seen shelf.old) (S.seen shelf.new) (O.seen out.old) (O.seen out.new)) }
+    ensures cap { (S.seen shelf.new).given ≤ (S.seen shelf.old).given + 17825794 }
+    ensures too_long { IfOk result (λ e. e ≡ End.TooLong → RanPast (S.seen shelf.old).given (S.seen shelf.new).given) }
+    ensures whole { IfOk result (λ e. e ≡ End.Done → (S.seen shelf.new).given ≤ (S.seen shelf.old).given + 17825792) }
 {
     match load(alloc, shelf, topology) {
         Err(e) => Err(e),
@@ -79,13 +81,15 @@ pub(crate) fn show_packets<S: Shelf, O: Sink>(
     out: &mut O,
 ) -> Result<End, Fault>
     ensures end { IfOk result (λ e. e ≢ End.Usage) }
-    ensures answers { RanOn (S.contents shelf.old) (λ contents. option_map show_due (contents packets.now))
-        (Rose (S.faults shelf.old) (S.faults shelf.new)) (Rose (O.faults out.old) (O.faults out.new))
-        (Quiet (S.faults shelf.old) (S.faults shelf.new) (O.faults out.old) (O.faults out.new))
-        (Gained (O.held out.old) (O.held out.new)) result }
-    ensures cap { S.given shelf.new ≤ S.given shelf.old + 16777217 }
-    ensures too_long { IfOk result (λ e. e ≡ End.TooLong → Gave (S.given shelf.old) 16777217 (S.given shelf.new)) }
-    ensures whole { IfOk result (λ e. e ≡ End.Done → S.given shelf.new ≤ S.given shelf.old + 16777216) }
+    ensures answers { RanOn (λ contents. option_map show_due (contents packets.now)) (S.seen shelf.old)
+        (S.seen shelf.new) (O.seen out.old) (O.seen out.new) result }
+    ensures read_fault { IfErr result (λ e. e ≡ Fault.Read → WroteBy (λ contents n. shown_so_far
+        (take n (bytes_of (contents packets.now))))
+        (S.seen shelf.old) (S.seen shelf.new) (O.seen out.old) (O.seen out.new)) }
+    ensures cap { (S.seen shelf.new).given ≤ (S.seen shelf.old).given + 16777217 }
+    ensures too_long { IfOk result (λ e. e ≡ End.TooLong → Gave (S.seen shelf.old).given 16777217
+        (S.seen shelf.new).given) }
+    ensures whole { IfOk result (λ e. e ≡ End.Done → (S.seen shelf.new).given ≤ (S.seen shelf.old).given + 16777216) }
 {
     let mut work = PacketWork::new(alloc);
     run_file(alloc, &mut work, packets, shelf, out)

@@ -1,6 +1,7 @@
 //! The lines of a packet file, shown.
 
 ghost use Rattle.std.specs.Prelude.{◌≡◌};
+ghost use Rattle.ide_cli.specs.LineLaws.{long_packet, whole_packet};
 ghost use Rattle.ide_cli.specs.Works.{shown_line, no_text};
 
 use ide_types::{Bytes, Memory};
@@ -34,6 +35,10 @@ impl LineWork for PacketWork {
     ghost advance = { λ w n line. shown_line w n line };
 
     ghost closing = { λ w. no_text w };
+
+    ghost long_lines = { λ w n line long. long_packet w n line long };
+
+    ghost whole_lines = { λ w n line. whole_packet w n line };
 
     fn line(&mut self, number: u64, line: &[u8]) -> Result<Bytes, LineError> {
         match parse_packet(self.alloc, line) {

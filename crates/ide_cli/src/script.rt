@@ -5,6 +5,7 @@ ghost use Rattle.link_events.specs.Parse.{line_meaning, Gives};
 ghost use Rattle.link_events.specs.Spells.{IsAllowed};
 ghost use Rattle.link_verdicts.specs.Lines.{totals_line_of};
 ghost use Rattle.link_texts.specs.Runs.{is_blocked, sealed_in, accepted_in, failed_in, blocked_in};
+ghost use Rattle.ide_cli.specs.LineLaws.{long_event, whole_event};
 ghost use Rattle.ide_cli.specs.Works.{Running, totals_with, ran_event, ran_line, IsEarly, MayAsk};
 
 use ide_types::{Bytes, Memory};
@@ -130,6 +131,10 @@ impl LineWork for ScriptWork {
     ghost advance = { λ r n line. ran_line r n line };
 
     ghost closing = { λ r. totals_line_of r.totals };
+
+    ghost long_lines = { λ r n line long. long_event r n line long };
+
+    ghost whole_lines = { λ r n line. whole_event r n line };
 
     fn line(&mut self, number: u64, line: &[u8]) -> Result<Bytes, LineError> {
         match asked(self.alloc, line) {

@@ -1,6 +1,7 @@
 //! Worked scripts with their text, and each status.
 mod check;
 mod files;
+mod outsides;
 mod rows;
 
 use crate::{Status, run};
@@ -156,7 +157,7 @@ fn shows_packets(rt: HostRuntime) -> Result<(), Fail> {
 #[test]
 fn reports_faults(rt: HostRuntime) -> Result<(), Fail> {
     let words = run_words(rt.alloc())?;
-    for failing in [0, 2, 3] {
+    for failing in [0, 1, 2] {
         let failing = Vec::from_slice(rt.alloc(), &[failing])?;
         let mut shelf = MemShelf::new(with_script(rt.alloc(), SEND)?, failing);
         let mut out = MemSink::new(rt.alloc(), Vec::new(rt.alloc()));
@@ -182,7 +183,7 @@ fn reports_faults(rt: HostRuntime) -> Result<(), Fail> {
         run(rt.alloc(), &words, &mut shelf, &mut out),
         Status::WriteFault
     );
-    assert_eq!(rt; out.bytes(), b"1 none\n".as_slice());
+    assert_eq!(rt; out.bytes(), b"1 none\n2 none\n".as_slice());
     Ok(())
 }
 

@@ -1,18 +1,17 @@
 //! The whole program.
 
-ghost use Rattle.std.specs.Prelude.{◌≡◌, ◌+◌, ◌≤◌, IfOk, None, map, string_bytes};
-ghost use Rattle.ide_base.specs.Outside.{Rose};
+ghost use Rattle.std.specs.Prelude.{◌≡◌, ◌+◌, ◌≤◌, IfErr, IfOk, None, map, string_bytes};
 ghost use Rattle.ide_words.specs.Words.{asked};
 ghost use Rattle.count_laws.specs.Statements.{CountLaw};
 ghost use Rattle.key_laws.specs.Laws.{NeverAgain, Settled, StaysSecure, StreamFacts};
 ghost use Rattle.link_history.specs.Cause.{CauseLaw};
 ghost use Rattle.link_history.specs.Delivered.{DeliveryLaw};
-ghost use Rattle.link_history.specs.Laws.{DrawsNeverFall, NoForgery, OrderIsNoForgery, PrefixLaw, WholeLaw};
+ghost use Rattle.link_history.specs.Laws.{DrawsNeverFall, OrderIsNoForgery, PrefixLaw, WholeLaw};
 ghost use Rattle.link_history.specs.Ordered.{OrderLaw};
-ghost use Rattle.line_runs.specs.Gain.{Gained};
-ghost use Rattle.line_runs.specs.Outcome.{Quiet, Ran, RanOn};
-ghost use Rattle.ide_cli.specs.Headline.{AllWritten, InEvery, Written, outcome_of};
+ghost use Rattle.line_runs.specs.Outcome.{Ran, RanOn};
+ghost use Rattle.ide_cli.specs.Headline.{AllWritten, InEvery, Unforged, outcome_of, said};
 ghost use Rattle.ide_cli.specs.Meaning.{due_of, usage_line};
+ghost use Rattle.ide_cli.specs.SoFar.{WroteSoFar};
 ghost use Rattle.ide_cli.specs.Reads.{ReadPast, most_counted, most_read};
 
 use crate::command::{run_files, show_packets};
@@ -38,17 +37,17 @@ fn perform<S: Shelf, O: Sink>(
     out: &mut O,
 ) -> Result<End, Fault>
     ensures usage { IfOk result (λ e. e ≡ End.Usage → asked (map string_bytes words.now) ≡ None) }
-    ensures refused { asked (map string_bytes words.now) ≡ None → Ran (End.Usage, usage_line) ⊥
-        (Rose (O.faults out.old) (O.faults out.new))
-        (O.faults out.new ≡ O.faults out.old) (Gained (O.held out.old) (O.held out.new)) result }
-    ensures answers { RanOn (S.contents shelf.old) (due_of (map string_bytes words.now))
-        (Rose (S.faults shelf.old) (S.faults shelf.new)) (Rose (O.faults out.old) (O.faults out.new))
-        (Quiet (S.faults shelf.old) (S.faults shelf.new) (O.faults out.old) (O.faults out.new))
-        (Gained (O.held out.old) (O.held out.new)) result }
-    ensures cap { S.given shelf.new ≤ S.given shelf.old + most_read (asked (map string_bytes words.now)) }
+    ensures refused { asked (map string_bytes words.now) ≡ None → Ran (End.Usage, usage_line) (O.seen out.old)
+        (O.seen out.new)
+        result }
+    ensures answers { RanOn (due_of (map string_bytes words.now)) (S.seen shelf.old) (S.seen shelf.new) (O.seen out.old)
+        (O.seen out.new) result }
+    ensures read_fault { IfErr result (λ e. e ≡ Fault.Read → WroteSoFar (map string_bytes words.now)
+        (S.seen shelf.old) (S.seen shelf.new) (O.seen out.old) (O.seen out.new)) }
+    ensures cap { (S.seen shelf.new).given ≤ (S.seen shelf.old).given + most_read (asked (map string_bytes words.now)) }
     ensures too_long { IfOk result (λ e. e ≡ End.TooLong → ReadPast (asked (map string_bytes words.now))
-        (S.given shelf.old) (S.given shelf.new)) }
-    ensures whole { IfOk result (λ e. e ≡ End.Done → S.given shelf.new ≤ S.given shelf.old + most_counted
+        (S.seen shelf.old).given (S.seen shelf.new).given) }
+    ensures whole { IfOk result (λ e. e ≡ End.Done → (S.seen shelf.new).given ≤ (S.seen shelf.old).given + most_counted
         (asked (map string_bytes words.now))) }
 {
     match read_words(alloc, words) {
@@ -92,64 +91,57 @@ pub fn run<S: Shelf, O: Sink>(
     out: &mut O,
 ) -> Status
     // Words that ask for nothing are answered with the usage line, and only those.
-    ensures usage { result ≡ Status.Usage → asked (map string_bytes words.now.items) ≡ None }
-    ensures refused { asked (map string_bytes words.now.items) ≡ None → Ran (End.Usage, usage_line) ⊥
-        (Rose (O.faults out.old) (O.faults out.new))
-        (O.faults out.new ≡ O.faults out.old) (Gained (O.held out.old) (O.held out.new)) (outcome_of result) }
+    ensures usage { result ≡ Status.Usage → asked (said words.now) ≡ None }
+    ensures refused { asked (said words.now) ≡ None → Ran (End.Usage, usage_line) (O.seen out.old) (O.seen out.new)
+        (outcome_of result) }
 
     // Where the shelf tells its contents, the due status comes with all of the due text, and a fault or want of
     // memory leaves a front of it. Each fault has its cause.
-    ensures answers { RanOn (S.contents shelf.old) (due_of (map string_bytes words.now.items))
-        (Rose (S.faults shelf.old) (S.faults shelf.new)) (Rose (O.faults out.old) (O.faults out.new))
-        (Quiet (S.faults shelf.old) (S.faults shelf.new) (O.faults out.old) (O.faults out.new))
-        (Gained (O.held out.old) (O.held out.new)) (outcome_of result) }
+    ensures answers { RanOn (due_of (said words.now)) (S.seen shelf.old) (S.seen shelf.new) (O.seen out.old)
+        (O.seen out.new) (outcome_of result) }
+
+    // Where a file could not be read on, the sink has gained exactly what is due to those lines of the script, or of
+    // the packet file, that ended in the bytes that were given; where the topology was not wholly read, nothing.
+    ensures read_fault { result ≡ Status.ReadFault → WroteSoFar (said words.now) (S.seen shelf.old) (S.seen shelf.new)
+        (O.seen out.old) (O.seen out.new) }
 
     // Of each file that the words name, one byte more is read than count, and of no other any. A file is too long
     // where that byte was given, and a file that was read to its end has no more than count.
-    ensures cap { S.given shelf.new ≤ S.given shelf.old + most_read (asked (map string_bytes words.now.items)) }
-    ensures too_long { result ≡ Status.TooLong → ReadPast (asked (map string_bytes words.now.items)) (S.given shelf.old)
-        (S.given shelf.new) }
-    ensures whole { result ≡ Status.Done → S.given shelf.new ≤ S.given shelf.old + most_counted
-        (asked (map string_bytes words.now.items)) }
+    ensures cap { (S.seen shelf.new).given ≤ (S.seen shelf.old).given + most_read (asked (said words.now)) }
+    ensures too_long { result ≡ Status.TooLong → ReadPast (asked (said words.now)) (S.seen shelf.old).given
+        (S.seen shelf.new).given }
+    ensures whole { result ≡ Status.Done → (S.seen shelf.new).given ≤ (S.seen shelf.old).given + most_counted
+        (asked (said words.now)) }
 
     // Where the run comes to an end of its own, the history of all events of the script was written.
-    ensures all_written { IfOk (outcome_of result) (λ e. AllWritten (S.contents shelf.old)
-        (map string_bytes words.now.items) (O.held out.old) (O.held out.new)) }
+    ensures all_written { IfOk (outcome_of result) (λ e. AllWritten (S.seen shelf.old) (said words.now)
+        (O.seen out.old) (O.seen out.new)) }
 
     // In every history that was written, each verdict is the one that is due, the draws of accepted units never fall,
     // everything that arrived unchanged in order was taken, and is no forgery; an operation on keys ends in the key
     // state of one without losses, and no move of a refresh takes a port out of Secure.
-    ensures cause_law { InEvery (Written (S.contents shelf.old) (map string_bytes words.now.items) (O.held out.old)
-        (O.held out.new)) CauseLaw }
-    ensures draws_never_fall { InEvery (Written (S.contents shelf.old) (map string_bytes words.now.items)
-        (O.held out.old) (O.held out.new)) (λ plan h. DrawsNeverFall h) }
-    ensures whole_law { InEvery (Written (S.contents shelf.old) (map string_bytes words.now.items) (O.held out.old)
-        (O.held out.new)) WholeLaw }
-    ensures order_is_no_forgery { InEvery (Written (S.contents shelf.old) (map string_bytes words.now.items)
-        (O.held out.old) (O.held out.new)) OrderIsNoForgery }
-    ensures count_law { InEvery (Written (S.contents shelf.old) (map string_bytes words.now.items) (O.held out.old)
-        (O.held out.new)) CountLaw }
-    ensures settled { InEvery (Written (S.contents shelf.old) (map string_bytes words.now.items) (O.held out.old)
-        (O.held out.new)) (λ plan h. Settled h) }
-    ensures stays_secure { InEvery (Written (S.contents shelf.old) (map string_bytes words.now.items) (O.held out.old)
-        (O.held out.new)) (λ plan h. StaysSecure h) }
+    ensures cause_law { InEvery CauseLaw (S.seen shelf.old) words.now (O.seen out.old) (O.seen out.new) }
+    ensures draws_never_fall { InEvery (λ p. DrawsNeverFall) (S.seen shelf.old) words.now (O.seen out.old)
+        (O.seen out.new) }
+    ensures whole_law { InEvery WholeLaw (S.seen shelf.old) words.now (O.seen out.old) (O.seen out.new) }
+    ensures order_is_no_forgery { InEvery OrderIsNoForgery (S.seen shelf.old) words.now (O.seen out.old)
+        (O.seen out.new) }
+    ensures count_law { InEvery CountLaw (S.seen shelf.old) words.now (O.seen out.old) (O.seen out.new) }
+    ensures settled { InEvery (λ p. Settled) (S.seen shelf.old) words.now (O.seen out.old) (O.seen out.new) }
+    ensures stays_secure { InEvery (λ p. StaysSecure) (S.seen shelf.old) words.now (O.seen out.old) (O.seen out.new) }
     // A draw is kept in one key set of a place at most and on one stream, an unfinished operation has made its draw On
     // where its GO came, and a draw that has ceased to be On at a place is never kept there again.
-    ensures stream_facts { InEvery (Written (S.contents shelf.old) (map string_bytes words.now.items) (O.held out.old)
-        (O.held out.new)) (λ plan h. StreamFacts h) }
-    ensures never_again { InEvery (Written (S.contents shelf.old) (map string_bytes words.now.items) (O.held out.old)
-        (O.held out.new)) (λ plan h. NeverAgain h) }
+    ensures stream_facts { InEvery (λ p. StreamFacts) (S.seen shelf.old) words.now (O.seen out.old) (O.seen out.new) }
+    ensures never_again { InEvery (λ p. NeverAgain) (S.seen shelf.old) words.now (O.seen out.old) (O.seen out.new) }
 
     // In every history that was written, provided no tag verified on a unit its partner had not sealed, each sub-stream
     // got, key by key, a prefix of what was sealed, and delivered a prefix of the TLPs that were sent; and, on a closed
     // stream or where nothing of an overtaken key is missing, non-posted packets and completions came behind the posted
     // packets that were sealed before them.
-    ensures prefix_law { InEvery (Written (S.contents shelf.old) (map string_bytes words.now.items) (O.held out.old)
-        (O.held out.new)) (λ plan h. NoForgery plan h → PrefixLaw plan h) }
-    ensures delivery_law { InEvery (Written (S.contents shelf.old) (map string_bytes words.now.items) (O.held out.old)
-        (O.held out.new)) (λ plan h. NoForgery plan h → DeliveryLaw plan h) }
-    ensures order_law { InEvery (Written (S.contents shelf.old) (map string_bytes words.now.items) (O.held out.old)
-        (O.held out.new)) (λ plan h. NoForgery plan h → OrderLaw plan h) }
+    ensures prefix_law { InEvery (Unforged PrefixLaw) (S.seen shelf.old) words.now (O.seen out.old) (O.seen out.new) }
+    ensures delivery_law { InEvery (Unforged DeliveryLaw) (S.seen shelf.old) words.now (O.seen out.old)
+        (O.seen out.new) }
+    ensures order_law { InEvery (Unforged OrderLaw) (S.seen shelf.old) words.now (O.seen out.old) (O.seen out.new) }
 {
     lines_tell();
     totals_fit();

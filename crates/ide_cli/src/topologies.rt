@@ -1,12 +1,11 @@
 //! A topology that is read and checked.
 
-ghost use Rattle.std.specs.Prelude.{◌≡◌, ◌≢◌, ◌+◌, ◌<◌, ◌≤◌, IfOk, IfErr, length, option_map};
-ghost use Rattle.ide_base.specs.Outside.{Rose};
-ghost use Rattle.line_runs.specs.Front.{Gave};
-ghost use Rattle.line_runs.specs.Gain.{Gained};
-ghost use Rattle.line_runs.specs.Outcome.{Quiet, Ran, RanOn};
-ghost use Rattle.ide_cli.specs.Loading.{LoadCause, Loads};
+ghost use Rattle.std.specs.Prelude.{◌≡◌, ◌≢◌, ◌+◌, ◌<◌, ◌≤◌, IfOk, IfErr, length, option_map, []};
+ghost use Rattle.line_runs.specs.Front.{Gave, GaveOf};
+ghost use Rattle.line_runs.specs.Outcome.{Ran, RanOn};
+ghost use Rattle.ide_cli.specs.Loading.{GaveAllOf, LoadCause, Loads};
 ghost use Rattle.ide_cli.specs.Reads.{GaveAtMost};
+ghost use Rattle.ide_cli.specs.SoFar.{WroteBy};
 ghost use Rattle.ide_cli.specs.Topologies.{check_due, loaded, refusal as refusal_of, report as report_of, HasFitting};
 
 use ide_base::{Shelf, Sink};
@@ -47,13 +46,19 @@ fn judge(alloc: Global, front: &[u8]) -> Result<Loaded, Fault>
 
 /// Reads a topology.
 pub(crate) fn load<S: Shelf>(alloc: Global, shelf: &mut S, name: &str) -> Result<Loaded, Fault>
-    ensures same { S.contents shelf.new ≡ S.contents shelf.old }
-    ensures loads { Loads loaded (S.contents shelf.old) name.now result }
-    ensures cause { LoadCause (S.faults shelf.old) (S.faults shelf.new) (S.contents shelf.old) name.now result }
+    ensures same { (S.seen shelf.new).contents ≡ (S.seen shelf.old).contents }
+    ensures loads { Loads loaded (S.seen shelf.old).contents name.now result }
+    ensures cause { LoadCause (S.seen shelf.old).faults (S.seen shelf.new).faults (S.seen shelf.old).contents name.now
+        result }
     ensures fits { IfOk result HasFitting }
-    ensures cap { S.given shelf.new ≤ S.given shelf.old + 1048577 }
-    ensures long { IfOk result (λ l. l ≡ Loaded.Long → Gave (S.given shelf.old) 1048577 (S.given shelf.new)) }
-    ensures few { IfOk result (λ l. l ≢ Loaded.Long → GaveAtMost (S.given shelf.old) 1048576 (S.given shelf.new)) }
+    ensures stopped { IfErr result (λ e. e ≡ Fault.Read → GaveOf (S.seen shelf.old).contents name.now
+        (S.seen shelf.old).given (S.seen shelf.new).given) }
+    ensures all { IfOk result (λ l. l ≢ Loaded.Long → GaveAllOf (S.seen shelf.old).contents name.now
+        (S.seen shelf.old).given (S.seen shelf.new).given) }
+    ensures cap { (S.seen shelf.new).given ≤ (S.seen shelf.old).given + 1048577 }
+    ensures long { IfOk result (λ l. l ≡ Loaded.Long → Gave (S.seen shelf.old).given 1048577 (S.seen shelf.new).given) }
+    ensures few { IfOk result (λ l. l ≢ Loaded.Long → GaveAtMost (S.seen shelf.old).given 1048576
+        (S.seen shelf.new).given) }
 {
     match read_front(alloc, shelf, name, TOPOLOGY_LIMIT + 1) {
         Err(Stop::Fault) => Err(Fault::Read),
@@ -74,9 +79,7 @@ fn refusal(alloc: Global, fault: &PlanFault) -> Result<Vec<u8>, Memory>
 /// Writes the first fault of a topology.
 pub(crate) fn refuse<O: Sink>(alloc: Global, fault: &PlanFault, out: &mut O) -> Result<End, Fault>
     ensures end { IfOk result (λ e. e ≡ End.Topology) }
-    ensures ran { Ran (End.Topology, refusal_of fault.now) ⊥ (Rose (O.faults out.old) (O.faults out.new))
-        (O.faults out.new ≡ O.faults out.old)
-        (Gained (O.held out.old) (O.held out.new)) result }
+    ensures ran { Ran (End.Topology, refusal_of fault.now) (O.seen out.old) (O.seen out.new) result }
 {
     match refusal(alloc, fault) {
         Ok(line) => finish(out, End::Topology, &line),
@@ -89,9 +92,7 @@ fn report<O: Sink>(alloc: Global, loaded: &Loaded, out: &mut O) -> Result<End, F
     ensures end { IfOk result (λ e. e ≢ End.Usage) }
     ensures long { IfOk result (λ e. e ≡ End.TooLong → loaded.now ≡ Loaded.Long) }
     ensures few { IfOk result (λ e. e ≢ End.TooLong → loaded.now ≢ Loaded.Long) }
-    ensures ran { Ran (report_of loaded.now) ⊥ (Rose (O.faults out.old) (O.faults out.new))
-        (O.faults out.new ≡ O.faults out.old)
-        (Gained (O.held out.old) (O.held out.new)) result }
+    ensures ran { Ran (report_of loaded.now) (O.seen out.old) (O.seen out.new) result }
 {
     match loaded {
         Loaded::Sound(_) => finish(out, End::Done, b"ok\n"),
@@ -108,13 +109,14 @@ pub(crate) fn check_topology<S: Shelf, O: Sink>(
     out: &mut O,
 ) -> Result<End, Fault>
     ensures end { IfOk result (λ e. e ≢ End.Usage) }
-    ensures answers { RanOn (S.contents shelf.old) (λ contents. option_map check_due (contents topology.now))
-        (Rose (S.faults shelf.old) (S.faults shelf.new)) (Rose (O.faults out.old) (O.faults out.new))
-        (Quiet (S.faults shelf.old) (S.faults shelf.new) (O.faults out.old) (O.faults out.new))
-        (Gained (O.held out.old) (O.held out.new)) result }
-    ensures cap { S.given shelf.new ≤ S.given shelf.old + 1048577 }
-    ensures too_long { IfOk result (λ e. e ≡ End.TooLong → Gave (S.given shelf.old) 1048577 (S.given shelf.new)) }
-    ensures whole { IfOk result (λ e. e ≡ End.Done → S.given shelf.new ≤ S.given shelf.old + 1048576) }
+    ensures answers { RanOn (λ contents. option_map check_due (contents topology.now)) (S.seen shelf.old)
+        (S.seen shelf.new) (O.seen out.old) (O.seen out.new) result }
+    ensures read_fault { IfErr result (λ e. e ≡ Fault.Read → WroteBy (λ contents n. [])
+        (S.seen shelf.old) (S.seen shelf.new) (O.seen out.old) (O.seen out.new)) }
+    ensures cap { (S.seen shelf.new).given ≤ (S.seen shelf.old).given + 1048577 }
+    ensures too_long { IfOk result (λ e. e ≡ End.TooLong → Gave (S.seen shelf.old).given 1048577
+        (S.seen shelf.new).given) }
+    ensures whole { IfOk result (λ e. e ≡ End.Done → (S.seen shelf.new).given ≤ (S.seen shelf.old).given + 1048576) }
 {
     match load(alloc, shelf, topology) {
         Ok(loaded) => report(alloc, &loaded, out),

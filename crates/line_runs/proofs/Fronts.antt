@@ -1,12 +1,14 @@
 -- A file that is read from its front.
-use Rattle.std.proofs.Common.{◌≡◌, ◌+◌, ◌<◌, ◌≤◌, ℕ, [], ◌∷◌, ◌++◌, Option, Some, None, Ok, refl, sym, ap, ◌∙◌, append_assoc, take, drop, length, arith, length-append}
+use Rattle.std.proofs.Common.{◌≡◌, ◌+◌, ◌<◌, ◌≤◌, ℕ, [], ◌∷◌, ◌++◌, Option, Some, None, Result, Ok, Err, subst, refl, sym, ap, ◌∙◌, append_assoc, take, drop, length, arith, length-append}
 use Rattle.std.proofs.Math.Seq.{drop-append_seam, take-append_seam}
-use Rattle.std.proofs.lemmas.List.{take-append-drop, append-nil, take_all}
+use Rattle.std.specs.Prelude.{IfOk}
+use Rattle.std.proofs.lemmas.List.{take-append-drop, take-append-le, append-nil, take_all}
+use Rattle.ide_base.specs.declared.shelf.ShelfFault.{ShelfFault}
 use Rattle.ide_base.specs.Outside.{Contents, ReadAt, ReadOf, ReadFrom, counted}
 use Rattle.line_runs.specs.Gain.{Text, IsFront}
-use Rattle.line_runs.specs.Front.{FrontIn, FrontOf, IsReadIn, IsReadOf, IsWholeIn, IsWholeOf}
+use Rattle.line_runs.specs.Front.{FrontIn, FrontOf, Gave, GaveOf, bytes_of, IsReadIn, IsReadOf, IsWholeIn, IsWholeOf, ReadsOn}
 
-empty : (xs : Text) → length xs ≡ 0 → xs ≡ []
+pub empty : (xs : Text) → length xs ≡ 0 → xs ≡ []
 empty [] e = refl
 empty (x ∷ xs) e = absurd (omega arith)
 
@@ -33,6 +35,13 @@ pub reads_on : (told : Option Contents) (name read buf : Text) (n : ℕ) → 0 <
     → IsReadOf told name (read ++ take n buf) × (n ≡ 0 → IsWholeOf told name (read ++ take n buf))
 reads_on None name read buf n room h front = (tt, λ z. tt)
 reads_on (Some contents) name read buf n room h front = more_in (contents name) read buf n room h front
+
+-- a piece at the front of a buffer
+pub piece_read : (told : Option Contents) (name : Text) (r : Result ℕ ShelfFault) (at : ℕ) (part rest : Text) → 0 < length part → IfOk r (λ n. n ≤ length part) → ReadFrom told name at r part
+    → IfOk r (λ n. (front : Text) → length front ≡ at → IsReadOf told name front → ReadsOn told name (front ++ take n (part ++ rest)) r)
+piece_read told name (Err e) at part rest some le read = tt
+piece_read told name (Ok n) at part rest some le read = λ front size is.
+    rw (take-append-le n part rest le) (reads_on told name front part n some (subst (λ (k : ℕ). ReadFrom told name k (Ok n) part) (sym size) read) is)
 
 -- ---- the first and the last piece
 
@@ -62,6 +71,14 @@ full None name read most h some long = tt
 full (Some contents) name read most h some long = full_in (contents name) read most h some long
 
 -- ---- counts
+
+gave_in : (file : Option Text) (read : Text) (before now : ℕ) → IsReadIn file read → Gave before (length read) now → (n : ℕ) × (n ≤ length (bytes_of file)) × Gave before n now
+gave_in None read before now none gave = (length read, omega (arith, ap length none), gave)
+gave_in (Some file) read before now (rest, e) gave = (length read, omega (arith, length-append read rest, ap length e), gave)
+
+pub gave_of : (told : Option Contents) (name read : Text) (before now : ℕ) → IsReadOf told name read → Gave before (length read) now → GaveOf told name before now
+gave_of None name read before now is gave = tt
+gave_of (Some contents) name read before now is gave = gave_in (contents name) read before now is gave
 
 pub counted-counted : (before m n : ℕ) → counted (counted before m) n ≡ counted before (m + n)
 counted-counted before m n = omega arith

@@ -10,12 +10,12 @@ use Rattle.line_runs.specs.declared.ends.End.TheVariants.{Done}
 use Rattle.line_runs.specs.declared.ends.Fault.{Fault}
 use Rattle.line_runs.specs.declared.ends.Fault.TheVariants as fault
 use Rattle.line_runs.specs.Gain.{Text, Gained}
-use Rattle.line_runs.specs.Outcome.{Due, CutOff, Ran, SomeFront}
+use Rattle.line_runs.specs.Outcome.{Due, CutOff, EndsBy, SomeFront}
 use Rattle.line_runs.specs.Lines.{after, go_on, process, refusal}
 use Rattle.line_runs.proofs.Gains.{gained_more}
 
 -- a line, and the pieces behind it
-process_line : {S : Type 0} (advance : S → ℕ → Text → Result (S × Text) LineFault) (closing : S → Text) (over : Bool) (n : ℕ) (s : S) (line rest : Text)
+pub process_line : {S : Type 0} (advance : S → ℕ → Text → Result (S × Text) LineFault) (closing : S → Text) (over : Bool) (n : ℕ) (s : S) (line rest : Text)
     → process advance closing over n s (line ∷ pieces rest) ≡ go_on n (advance s n line) (λ t. process advance closing over (n + 1) t (pieces rest))
 process_line advance closing over n s line rest = let p = some rest in rw p.is refl
 
@@ -52,7 +52,7 @@ cut_later fault.Memory whole h0 h1 h2 f0 f1 f2 w part rest e gain same h = front
 
 -- a later part came to its end, or was cut off
 pub ran_later : (r : Result End Fault) (due last : Due) (h0 h1 h2 : Option Text) (f0 f1 f2 : ℕ) (w : Text) → due ≡ after w last → Gained h0 h1 w → f1 ≡ f0
-    → Ran last ⊥ (Rose f1 f2) (f2 ≡ f1) (Gained h1 h2) r → Ran due ⊥ (Rose f0 f2) (f2 ≡ f0) (Gained h0 h2) r
+    → EndsBy last ⊥ (Rose f1 f2) (f2 ≡ f1) (Gained h1 h2) r → EndsBy due ⊥ (Rose f0 f2) (f2 ≡ f0) (Gained h0 h2) r
 ran_later (Ok s) due last h0 h1 h2 f0 f1 f2 w e gain same h = rw e (h.0, gained_more h0 h1 h2 w last.1 gain h.1, h.2 ∙ same)
 ran_later (Err f) due last h0 h1 h2 f0 f1 f2 w e gain same h =
     cut_later f due.1 h0 h1 h2 f0 f1 f2 w last.1 [] (ap (λ (d : Due). d.1) e ∙ simp append-nil) gain same h

@@ -1,5 +1,5 @@
 -- The front of a file.
-use Rattle.std.specs.Prelude.{ℕ, ◌+◌, ◌≤◌, ◌≡◌, ◌⊎◌, [], take, Option, Some, None, Result, Ok, Err}
+use Rattle.std.specs.Prelude.{ℕ, ◌+◌, ◌≤◌, ◌≡◌, ◌⊎◌, [], length, take, unwrap_or, Option, Some, None, Result, Ok, Err}
 use Rattle.ide_base.specs.Outside.{Contents, Rose, Lacks, counted}
 use Rattle.line_runs.specs.declared.front.Stop.{Stop}
 use Rattle.line_runs.specs.declared.front.Stop.TheVariants as stop
@@ -28,6 +28,15 @@ ReadCause before now told name (Err e) = StopCause before now told name e
 abbrev pub Gave : ℕ → ℕ → ℕ → Type 0
 Gave before n now = (counted before n ≤ now) × (now ≤ before + n)
 
+-- a file that is not there has no bytes
+abbrev pub bytes_of : Option Text → Text
+bytes_of file = unwrap_or file []
+
+-- where the contents are told, no more bytes were given than the file has
+abbrev pub GaveOf : Option Contents → Text → ℕ → ℕ → Type 0
+GaveOf None name before now = Unit {0}
+GaveOf (Some contents) name before now = (n : ℕ) × (n ≤ length (bytes_of (contents name))) × Gave before n now
+
 -- ---- piece by piece
 
 -- what was read is a front of the file
@@ -49,6 +58,6 @@ IsWholeOf None name read = Unit {0}
 IsWholeOf (Some contents) name read = IsWholeIn (contents name) read
 
 -- after one more piece it still is a front, and the whole file where the piece was empty
-abbrev pub ReadsOn : Option Contents → Text → Text → Result ℕ Stop → Type 0
+abbrev pub ReadsOn : {E : Type 0} → Option Contents → Text → Text → Result ℕ E → Type 0
 ReadsOn told name read (Ok n) = IsReadOf told name read × (n ≡ 0 → IsWholeOf told name read)
 ReadsOn told name read (Err e) = Unit {0}

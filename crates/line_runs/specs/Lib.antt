@@ -2,3 +2,5 @@ pub mod Gain
 pub mod Front
 pub mod Outcome
 pub mod Lines
+pub mod Copies
+pub mod Gathering

@@ -1,10 +1,10 @@
 -- What the end of a part promises, beside what the part should write.
 use Rattle.std.specs.Prelude.{ℕ, ◌≡◌, ◌⊎◌, Result, Ok, Err, [], ◌∷◌, ◌++◌, Option, Some, None}
-use Rattle.ide_base.specs.Outside.{Contents}
+use Rattle.ide_base.specs.Outside.{Contents, Rose, ShelfSeen, SinkSeen}
 use Rattle.line_runs.specs.declared.ends.End.{End}
 use Rattle.line_runs.specs.declared.ends.Fault.{Fault}
 use Rattle.line_runs.specs.declared.ends.Fault.TheVariants as fault
-use Rattle.line_runs.specs.Gain.{Text, IsFront}
+use Rattle.line_runs.specs.Gain.{Text, IsFront, Gained}
 
 -- the end and the text that are due
 abbrev pub Due : Type 0
@@ -32,14 +32,21 @@ CutOff text read write gained fault.Write = write × SomeFront gained text
 CutOff text read write gained fault.Memory = SomeFront gained text
 
 -- the due end with all of the due text and no fault counted, or cut off
-abbrev pub Ran : Due → (read write quiet : Type 0) → (Text → Type 0) → Result End Fault → Type 0
-Ran due read write quiet gained (Ok e) = (e ≡ due.0) × gained due.1 × quiet
-Ran due read write quiet gained (Err e) = CutOff due.1 read write gained e
+abbrev pub EndsBy : Due → (read write quiet : Type 0) → (Text → Type 0) → Result End Fault → Type 0
+EndsBy due read write quiet gained (Ok e) = (e ≡ due.0) × gained due.1 × quiet
+EndsBy due read write quiet gained (Err e) = CutOff due.1 read write gained e
+
+-- ---- of what is seen of a sink, before and now
+
+-- the due end with all of the due text and no fault counted, or cut off
+abbrev pub Ran : Due → SinkSeen → SinkSeen → Result End Fault → Type 0
+Ran due before now r = EndsBy due ⊥ (Rose before.faults now.faults) (now.faults ≡ before.faults)
+    (Gained before.held now.held) r
 
 -- a text was written, or cut off
-abbrev pub Wrote : Text → (write quiet : Type 0) → (Text → Type 0) → Result (Unit {0}) Fault → Type 0
-Wrote text write quiet gained (Ok u) = gained text × quiet
-Wrote text write quiet gained (Err e) = CutOff text ⊥ write gained e
+abbrev pub Wrote : Text → SinkSeen → SinkSeen → Result (Unit {0}) Fault → Type 0
+Wrote text before now (Ok u) = Gained before.held now.held text × (now.faults ≡ before.faults)
+Wrote text before now (Err e) = CutOff text ⊥ (Rose before.faults now.faults) (Gained before.held now.held) e
 
 -- ---- where a shelf may tell its contents
 
@@ -50,9 +57,9 @@ Unreadable gained (Err fault.Read) = gained []
 Unreadable gained (Err fault.Write) = ⊥
 Unreadable gained (Err fault.Memory) = gained []
 
-abbrev pub RanDue : Option Due → (read write quiet : Type 0) → (Text → Type 0) → Result End Fault → Type 0
-RanDue None read write quiet gained r = Unreadable gained r
-RanDue (Some due) read write quiet gained r = Ran due read write quiet gained r
+abbrev pub EndsDue : Option Due → (read write quiet : Type 0) → (Text → Type 0) → Result End Fault → Type 0
+EndsDue None read write quiet gained r = Unreadable gained r
+EndsDue (Some due) read write quiet gained r = EndsBy due read write quiet gained r
 
 abbrev pub CutCause : (read write : Type 0) → Fault → Type 0
 CutCause read write fault.Read = read
@@ -60,16 +67,23 @@ CutCause read write fault.Write = write
 CutCause read write fault.Memory = Unit {0}
 
 -- where nothing is told, the causes alone
-abbrev pub RanBlind : (read write quiet : Type 0) → Result End Fault → Type 0
-RanBlind read write quiet (Ok e) = quiet
-RanBlind read write quiet (Err e) = CutCause read write e
+abbrev pub EndsBlind : (read write quiet : Type 0) → Result End Fault → Type 0
+EndsBlind read write quiet (Ok e) = quiet
+EndsBlind read write quiet (Err e) = CutCause read write e
 
 -- where the contents are told, by what they call for: an end and a text, or nothing where a file is not there
-abbrev pub RanOn : Option Contents → (Contents → Option Due) → (read write quiet : Type 0) → (Text → Type 0)
+abbrev pub EndsOn : Option Contents → (Contents → Option Due) → (read write quiet : Type 0) → (Text → Type 0)
     → Result End Fault → Type 0
-RanOn None due read write quiet gained r = RanBlind read write quiet r
-RanOn (Some contents) due read write quiet gained r = RanDue (due contents) read write quiet gained r
+EndsOn None due read write quiet gained r = EndsBlind read write quiet r
+EndsOn (Some contents) due read write quiet gained r = EndsDue (due contents) read write quiet gained r
 
 -- no count of faults rose
 abbrev pub Quiet : ℕ → ℕ → ℕ → ℕ → Type 0
 Quiet shelf_before shelf_now sink_before sink_now = (shelf_now ≡ shelf_before) × (sink_now ≡ sink_before)
+
+-- by what is seen of a shelf and of a sink, before and now
+abbrev pub RanOn : (Contents → Option Due) → (shelf shelf_now : ShelfSeen) → (sink sink_now : SinkSeen)
+    → Result End Fault → Type 0
+RanOn due shelf shelf_now sink sink_now r =
+    EndsOn shelf.contents due (Rose shelf.faults shelf_now.faults) (Rose sink.faults sink_now.faults)
+    (Quiet shelf.faults shelf_now.faults sink.faults sink_now.faults) (Gained sink.held sink_now.held) r

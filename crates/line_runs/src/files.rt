@@ -1,57 +1,59 @@
 //! A file of lines, from its name to what is written for it.
-ghost use Rattle.std.specs.Prelude.{◌≡◌, ◌≢◌, ◌≤◌, ◌<◌, ◌+◌, ◌^◌, length, IfOk, option_map};
-ghost use Rattle.ide_base.specs.Outside.{Rose};
-ghost use Rattle.line_runs.specs.Front.{Gave};
-ghost use Rattle.line_runs.specs.Gain.{Gained};
-ghost use Rattle.line_runs.specs.Lines.{cut_at, file_due};
-ghost use Rattle.line_runs.specs.Outcome.{Quiet, Ran, RanOn};
+ghost use Rattle.std.specs.Prelude.{◌≡◌, ◌≢◌, ◌≤◌, ◌<◌, ◌+◌, ◌++◌, ℕ, List, Ok, IfOk, IfErr, length, option_map, take};
+ghost use Rattle.ide_base.specs.Outside.{Given, ShelfCause};
+ghost use Rattle.line_runs.specs.Front.{Gave, IsReadOf, ReadsOn};
+ghost use Rattle.line_runs.specs.Gathering.{WroteEnded, ended_text, limit_due};
+ghost use Rattle.line_runs.specs.Lines.{file_due};
+ghost use Rattle.line_runs.specs.Outcome.{Ran, RanOn};
 
-use crate::front::{Stop, read_front};
-use crate::lines::{LineWork, run_lines};
+use crate::front::PIECE;
+use crate::lines::{LineWork, refuse, run_last};
+use crate::pieces::{Lines, run_piece};
 use crate::{End, FILE_LIMIT, Fault};
-use ide_base::{Shelf, Sink};
+use ide_base::{Shelf, ShelfFault, Sink};
+use link_events::{LINE_LIMIT, LineFault};
 use std::alloc::Global;
 
-// The bytes that lines are cut from, of the front of a file with one byte more than those that count.
-fn cut_front(bytes: &[u8], limit: usize) -> &[u8]
-    requires small { limit < 2 ^ 32 }
-    requires front { length bytes.now ≤ limit + 1 }
-    ensures cut { result.now ≡ cut_at limit bytes.now }
-    ensures shorter { length result.now ≤ length bytes.now }
+// Reads on from a place of a file, up to the last byte that counts, or there the one behind it.
+fn read_piece<S: Shelf>(
+    shelf: &mut S,
+    name: &str,
+    at: usize,
+    buf: &mut [u8],
+) -> Result<usize, ShelfFault>
+    requires most { at ≤ 16777216 }
+    requires room { 0 < length buf.old }
+    ensures same { (S.seen shelf.new).contents ≡ (S.seen shelf.old).contents }
+    ensures bytes { IfOk result (λ n. (front : List ℕ) → length front ≡ at → IsReadOf (S.seen shelf.old).contents
+        name.now
+        front → ReadsOn (S.seen shelf.old).contents name.now (front ++ take n buf.new) result) }
+    ensures bound { IfOk result (λ n. n ≤ length buf.new) }
+    ensures counts { IfOk result (λ n. at < 16777216 → at + n ≤ 16777216) }
+    ensures one { IfOk result (λ n. at ≡ 16777216 → n ≤ 1) }
+    ensures counted { Given (S.seen shelf.old).given (S.seen shelf.new).given result }
+    ensures cause { ShelfCause (S.seen shelf.old).faults (S.seen shelf.new).faults (S.seen shelf.old).contents name.now
+        result }
 {
-    if bytes.len() <= limit {
-        return bytes;
-    }
-    if bytes[limit] == b'\n' {
-        &bytes[..limit]
-    } else {
-        bytes
-    }
+    let room = (FILE_LIMIT - at).min(buf.len()).max(1);
+    shelf.read(name, at as u64, &mut buf[..room])
 }
 
-// Runs the front of a file with one byte more than those that count.
-fn run_front<O: Sink, W: LineWork>(
-    alloc: Global,
-    work: &mut W,
-    front: &[u8],
-    out: &mut O,
-) -> Result<End, Fault>
-    requires size { length front.now ≤ 16777217 }
-    requires fits { W.fits work.old 1 }
+// Ends at the first byte that counts no more.
+fn run_limit<O: Sink>(alloc: Global, lines: &Lines, byte: u8, out: &mut O) -> Result<End, Fault>
     ensures end { IfOk result (λ e. e ≢ End.Usage) }
-    ensures over { IfOk result (λ e. e ≡ End.TooLong → 16777216 < length front.now) }
-    ensures whole { IfOk result (λ e. e ≡ End.Done → length front.now ≤ 16777216) }
-    ensures ran { Ran (file_due W.advance W.closing work.old front.now) ⊥ (Rose (O.faults out.old) (O.faults out.new))
-        (O.faults out.new ≡ O.faults out.old)
-        (Gained (O.held out.old) (O.held out.new)) result }
+    ensures cut { IfOk result (λ e. e ≢ End.Done) }
+    ensures ran { Ran (limit_due lines.now.number lines.now.unended.items byte) (O.seen out.old) (O.seen out.new)
+        result }
 {
-    let bytes = cut_front(front, FILE_LIMIT);
-    let over = front.len() > FILE_LIMIT;
-    run_lines(alloc, work, bytes, over, out)
+    if byte != b'\n' && lines.unended.len() == LINE_LIMIT {
+        return refuse(alloc, b"", lines.number, LineFault::TooLong, out);
+    }
+    Ok(End::TooLong)
 }
 
-/// What the lines of the file of this name come to, written line by line. The file is read before the first line
-/// is written, and no byte behind byte 16,777,217 of it.
+/// What the lines of the file of this name come to, written line by line. The file is read in pieces of at most 4,096
+/// bytes, and no byte behind byte 16,777,217 of it; what is due to the lines that end in a piece is written before the
+/// next one is read. A line is refused at its 20,001st byte.
 pub fn run_file<S: Shelf, O: Sink, W: LineWork>(
     alloc: Global,
     work: &mut W,
@@ -61,18 +63,36 @@ pub fn run_file<S: Shelf, O: Sink, W: LineWork>(
 ) -> Result<End, Fault>
     requires { W.fits work.old 1 }
     ensures end { IfOk result (λ e. e ≢ End.Usage) }
-    ensures answers { RanOn (S.contents shelf.old) (λ contents. option_map (file_due W.advance W.closing work.old)
-        (contents name.now))
-        (Rose (S.faults shelf.old) (S.faults shelf.new)) (Rose (O.faults out.old) (O.faults out.new))
-        (Quiet (S.faults shelf.old) (S.faults shelf.new) (O.faults out.old) (O.faults out.new))
-        (Gained (O.held out.old) (O.held out.new)) result }
-    ensures cap { S.given shelf.new ≤ S.given shelf.old + 16777217 }
-    ensures too_long { IfOk result (λ e. e ≡ End.TooLong → Gave (S.given shelf.old) 16777217 (S.given shelf.new)) }
-    ensures whole { IfOk result (λ e. e ≡ End.Done → S.given shelf.new ≤ S.given shelf.old + 16777216) }
+    ensures answers { RanOn (λ contents. option_map (file_due W.advance W.closing work.old) (contents name.now))
+        (S.seen shelf.old) (S.seen shelf.new) (O.seen out.old) (O.seen out.new) result }
+    ensures read_fault { IfErr result (λ e. e ≡ Fault.Read → WroteEnded (ended_text W.advance W.closing work.old)
+        name.now
+        (S.seen shelf.old) (S.seen shelf.new) (O.seen out.old) (O.seen out.new)) }
+    ensures cap { (S.seen shelf.new).given ≤ (S.seen shelf.old).given + 16777217 }
+    ensures too_long { IfOk result (λ e. e ≡ End.TooLong → Gave (S.seen shelf.old).given 16777217
+        (S.seen shelf.new).given) }
+    ensures whole { IfOk result (λ e. e ≡ End.Done → (S.seen shelf.new).given ≤ (S.seen shelf.old).given + 16777216) }
 {
-    match read_front(alloc, shelf, name, FILE_LIMIT + 1) {
-        Err(Stop::Fault) => Err(Fault::Read),
-        Err(Stop::Memory) => Err(Fault::Memory),
-        Ok(front) => run_front(alloc, work, &front, out),
+    let Ok(mut lines) = Lines::make(alloc) else {
+        return Err(Fault::Memory);
+    };
+    let mut gathered = Vec::new(alloc);
+    let mut buf = [0u8; PIECE];
+    let mut at = 0usize;
+    loop {
+        let Ok(n) = read_piece(shelf, name, at, &mut buf) else {
+            return Err(Fault::Read);
+        };
+        if n == 0 {
+            return run_last(alloc, work, lines.number, &lines.unended, out);
+        }
+        if at == FILE_LIMIT {
+            return run_limit(alloc, &lines, buf[0], out);
+        }
+        match run_piece(alloc, work, &mut lines, &buf[..n], &mut gathered, out) {
+            Err(e) => return Err(e),
+            Ok(Some(end)) => return Ok(end),
+            Ok(None) => at += n,
+        }
     }
 }

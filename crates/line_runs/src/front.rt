@@ -1,7 +1,7 @@
 //! The front of a file.
-ghost use Rattle.std.specs.Prelude.{◌≡◌, ◌≤◌, ◌<◌, ◌+◌, ◌^◌, length, IfOk, OnErr};
+ghost use Rattle.std.specs.Prelude.{◌≡◌, ◌≤◌, ◌<◌, ◌+◌, ◌^◌, length, IfOk, IfErr, OnErr};
 ghost use Rattle.ide_base.specs.Outside.{counted};
-ghost use Rattle.line_runs.specs.Front.{FrontOf, Gave, IsReadOf, ReadCause, ReadsOn};
+ghost use Rattle.line_runs.specs.Front.{FrontOf, Gave, GaveOf, IsReadOf, ReadCause, ReadsOn};
 
 use ide_base::Shelf;
 use std::alloc::Global;
@@ -15,8 +15,8 @@ pub enum Stop {
     Memory,
 }
 
-// How much of a piece is read at once.
-const PIECE: usize = 4096;
+/// How much of a file is read at once, in bytes (this profile).
+pub(crate) const PIECE: usize = 4096;
 
 // Reads on behind what was read, at most a piece, and answers how many bytes; none at the end of the file.
 fn read_on<S: Shelf>(
@@ -26,15 +26,18 @@ fn read_on<S: Shelf>(
     piece: &mut [u8],
 ) -> Result<usize, Stop>
     requires { 0 < length piece.old }
-    ensures same { S.contents shelf.new ≡ S.contents shelf.old }
+    ensures same { (S.seen shelf.new).contents ≡ (S.seen shelf.old).contents }
     ensures kept { OnErr result (bytes.new.items ≡ bytes.old.items) }
     ensures bound { IfOk result (λ n. n ≤ length piece.old) }
     ensures more { IfOk result (λ n. length bytes.new.items ≡ length bytes.old.items + n) }
-    ensures bytes { IsReadOf (S.contents shelf.old) name.now bytes.old.items → ReadsOn (S.contents shelf.old) name.now
+    ensures bytes { IsReadOf (S.seen shelf.old).contents name.now bytes.old.items → ReadsOn (S.seen shelf.old).contents
+        name.now
         bytes.new.items result }
-    ensures given { IfOk result (λ n. S.given shelf.new ≡ counted (S.given shelf.old) n) }
-    ensures cap { S.given shelf.new ≤ S.given shelf.old + length piece.old }
-    ensures cause { ReadCause (S.faults shelf.old) (S.faults shelf.new) (S.contents shelf.old) name.now result }
+    ensures given { IfOk result (λ n. (S.seen shelf.new).given ≡ counted (S.seen shelf.old).given n) }
+    ensures cap { (S.seen shelf.new).given ≤ (S.seen shelf.old).given + length piece.old }
+    ensures stopped { IfErr result (λ e. e ≡ Stop.Fault → (S.seen shelf.new).given ≡ (S.seen shelf.old).given) }
+    ensures cause { ReadCause (S.seen shelf.old).faults (S.seen shelf.new).faults (S.seen shelf.old).contents name.now
+        result }
 {
     match shelf.read(name, bytes.len() as u64, piece) {
         Err(_) => Err(Stop::Fault),
@@ -55,12 +58,15 @@ pub fn read_front<S: Shelf>(
 ) -> Result<Vec<u8>, Stop>
     requires some { 0 < most }
     requires size { most < 2 ^ 32 }
-    ensures same { S.contents shelf.new ≡ S.contents shelf.old }
-    ensures bytes { IfOk result (λ v. FrontOf (S.contents shelf.old) name.now most v.items) }
+    ensures same { (S.seen shelf.new).contents ≡ (S.seen shelf.old).contents }
+    ensures bytes { IfOk result (λ v. FrontOf (S.seen shelf.old).contents name.now most v.items) }
     ensures length { IfOk result (λ v. length v.items ≤ most) }
-    ensures given { IfOk result (λ v. Gave (S.given shelf.old) (length v.items) (S.given shelf.new)) }
-    ensures cap { S.given shelf.new ≤ S.given shelf.old + most }
-    ensures cause { ReadCause (S.faults shelf.old) (S.faults shelf.new) (S.contents shelf.old) name.now result }
+    ensures given { IfOk result (λ v. Gave (S.seen shelf.old).given (length v.items) (S.seen shelf.new).given) }
+    ensures cap { (S.seen shelf.new).given ≤ (S.seen shelf.old).given + most }
+    ensures stopped { IfErr result (λ e. e ≡ Stop.Fault → GaveOf (S.seen shelf.old).contents name.now
+        (S.seen shelf.old).given (S.seen shelf.new).given) }
+    ensures cause { ReadCause (S.seen shelf.old).faults (S.seen shelf.new).faults (S.seen shelf.old).contents name.now
+        result }
 {
     let mut buf = [0u8; PIECE];
     let mut bytes = Vec::new(alloc);

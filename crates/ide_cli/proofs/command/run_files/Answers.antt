@@ -1,21 +1,23 @@
 use Rattle.std.proofs.Common.{option_map, refl}
+use Rattle.line_runs.proofs.FileFronts.{not_read}
 use Rattle.line_runs.proofs.WholeFiles.{redue}
 use Rattle.ide_cli.specs.Script.{script_due}
 use Rattle.ide_cli.specs.Meaning.{run_due}
-use Rattle.ide_cli.proofs.Loads.{cut_by_load, gave_more, later, ran_whole, run_after, sound_is_short}
+use Rattle.ide_cli.specs.SoFar.{run_so_far}
+use Rattle.ide_cli.proofs.Loads.{cut_by_load, gave_more, later, none_so_far, nothing_yet, ran_whole, run_after, run_ended, sound_is_short}
 use Rattle.ide_cli.proofs.command.run_files.Goals as goal
 
 pub returns-in-Err-clause-answers : goal.returns-in-Err-clause-answers
 returns-in-Err-clause-answers g c =
-    cut_by_load (g.S.Shelf.contents c.args.shelf.now) (λ contents. run_due (contents c.args.topology.now) (contents c.args.script.now)) c.args.topology.now _ _ _ _ _ c.in-Err.e
+    cut_by_load (g.S.Shelf.seen c.args.shelf.now).contents (λ contents. run_due (contents c.args.topology.now) (contents c.args.script.now)) c.args.topology.now _ _ _ _ _ c.in-Err.e
     (λ contents e. rw e refl) c.in-Err.ensures.cause
 
 pub returns-in-Ok-Sound-clause-answers : goal.returns-in-Ok-Sound-clause-answers
 returns-in-Ok-Sound-clause-answers g c =
-    let told = g.S.Shelf.contents c.args.shelf.now in
+    let told = (g.S.Shelf.seen c.args.shelf.now).contents in
     redue told (λ contents. option_map (script_due c.in-Ok-Sound.plan) (contents c.args.script.now)) (λ contents. run_due (contents c.args.topology.now) (contents c.args.script.now)) _ _ _ _ c.run_script.result
     (run_after told c.args.topology.now c.args.script.now c.in-Ok-Sound.plan (rw c.in-Ok-Sound.field-0-is at c.in-Ok-Sound.ensures.loads))
-    (later told (g.S.Shelf.contents c.load.new.shelf) (λ contents. option_map (script_due c.in-Ok-Sound.plan) (contents c.args.script.now)) _ _ _ _ _ _ c.run_script.result c.in-Ok-Sound.ensures.same c.in-Ok-Sound.ensures.cause
+    (later told (g.S.Shelf.seen c.load.new.shelf).contents (λ contents. option_map (script_due c.in-Ok-Sound.plan) (contents c.args.script.now)) _ _ _ _ _ _ c.run_script.result c.in-Ok-Sound.ensures.same c.in-Ok-Sound.ensures.cause
     c.run_script.ensures.answers)
 
 pub returns-in-Ok-Sound-clause-too_long : goal.returns-in-Ok-Sound-clause-too_long
@@ -27,3 +29,17 @@ pub returns-in-Ok-Sound-clause-whole : goal.returns-in-Ok-Sound-clause-whole
 returns-in-Ok-Sound-clause-whole g c =
     let few = rw c.in-Ok-Sound.field-0-is at c.in-Ok-Sound.ensures.few in
     ran_whole c.run_script.result _ _ _ (few (sound_is_short c.in-Ok-Sound.plan)) c.run_script.ensures.whole
+
+pub returns-in-Err-clause-read_fault : goal.returns-in-Err-clause-read_fault
+returns-in-Err-clause-read_fault g c = λ is.
+    nothing_yet (λ contents n. run_so_far (contents c.args.topology.now) (contents c.args.script.now) n) c.args.topology.now (g.S.Shelf.seen c.args.shelf.now) (g.S.Shelf.seen c.load.new.shelf) (g.O.Sink.seen c.args.out.now)
+    (λ contents n le. none_so_far (contents c.args.topology.now) (contents c.args.script.now) n le) (c.in-Err.ensures.stopped is)
+
+pub returns-in-Ok-Sound-clause-read_fault : goal.returns-in-Ok-Sound-clause-read_fault
+returns-in-Ok-Sound-clause-read_fault g c =
+    let all = rw c.in-Ok-Sound.field-0-is at c.in-Ok-Sound.ensures.all in
+    run_ended c.args.topology.now c.args.script.now c.in-Ok-Sound.plan (g.S.Shelf.seen c.args.shelf.now) (g.S.Shelf.seen c.load.new.shelf) (g.S.Shelf.seen c.run_script.new.shelf) (g.O.Sink.seen c.args.out.now)
+    (g.O.Sink.seen c.run_script.new.out) c.run_script.result c.in-Ok-Sound.ensures.same (rw c.in-Ok-Sound.field-0-is at c.in-Ok-Sound.ensures.loads) (all (sound_is_short c.in-Ok-Sound.plan)) c.run_script.ensures.read_fault
+
+pub returns-in-Ok-Faulty-clause-read_fault : goal.returns-in-Ok-Faulty-clause-read_fault
+returns-in-Ok-Faulty-clause-read_fault g c = not_read _ _ _ c.refuse.result _ c.refuse.ensures.ran

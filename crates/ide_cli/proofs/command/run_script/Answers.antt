@@ -2,20 +2,30 @@ use Rattle.std.proofs.Common.{◌∙◌, ap, option_map}
 use Rattle.keyed_links.specs.Worlds.{WorldView}
 use Rattle.line_runs.specs.Lines.{file_due}
 use Rattle.line_runs.proofs.WholeFiles.{out_of_memory, redue}
+use Rattle.line_runs.specs.Gathering.{ended_text}
 use Rattle.ide_cli.specs.Script.{script_due}
+use Rattle.ide_cli.specs.SoFar.{script_so_far}
 use Rattle.ide_cli.specs.Works.{Running, ran_line}
-use Rattle.ide_cli.proofs.Loads.{same_due}
-use Rattle.ide_cli.proofs.Scripts.{closing, file_runs}
+use Rattle.ide_cli.proofs.Loads.{ended_same, same_due}
+use Rattle.ide_cli.proofs.Scripts.{closing, ended_runs, file_runs}
 use Rattle.ide_cli.proofs.command.run_script.Goals as goal
 
 pub returns-in-Err-clause-answers : goal.returns-in-Err-clause-answers
-returns-in-Err-clause-answers g c = out_of_memory (g.S.Shelf.contents c.args.shelf.now) (λ contents. option_map (script_due c.args.plan) (contents c.args.script.now)) _ _ _ _
+returns-in-Err-clause-answers g c = out_of_memory (g.S.Shelf.seen c.args.shelf.now).contents (λ contents. option_map (script_due c.args.plan) (contents c.args.script.now)) _ _ _ _
 
 pub returns-in-Ok-clause-answers : goal.returns-in-Ok-clause-answers
 returns-in-Ok-clause-answers g c =
-    let told = g.S.Shelf.contents c.args.shelf.now in
+    let told = (g.S.Shelf.seen c.args.shelf.now).contents in
     let first : WorldView → Running = λ w. record { world = w; totals = record { sealed = 0; accepted = 0; failed = 0; blocked = 0 } } in
     let work = c.new-work.ensures ∙ ap first c.in-Ok.ensures.state in
     redue told (λ contents. option_map (file_due ran_line closing c.new-work.result) (contents c.args.script.now)) (λ contents. option_map (script_due c.args.plan) (contents c.args.script.now)) _ _ _ _ c.run_file.result
     (same_due told c.args.script.now (file_due ran_line closing c.new-work.result) (script_due c.args.plan) (λ t. ap (λ (r : Running). file_due ran_line closing r t) work ∙ file_runs c.args.plan t))
     c.run_file.ensures.answers
+
+pub returns-in-Ok-clause-read_fault : goal.returns-in-Ok-clause-read_fault
+returns-in-Ok-clause-read_fault g c =
+    let first : WorldView → Running = λ w. record { world = w; totals = record { sealed = 0; accepted = 0; failed = 0; blocked = 0 } } in
+    let work = c.new-work.ensures ∙ ap first c.in-Ok.ensures.state in
+    ended_same (ended_text ran_line closing c.new-work.result) (script_so_far c.args.plan) c.args.script.now (g.S.Shelf.seen c.args.shelf.now) (g.S.Shelf.seen c.run_file.new.shelf) (g.O.Sink.seen c.args.out.now)
+    (g.O.Sink.seen c.run_file.new.out)
+    c.run_file.result (λ t. ap (λ (r : Running). ended_text ran_line closing r t) work ∙ ended_runs c.args.plan t) c.run_file.ensures.read_fault

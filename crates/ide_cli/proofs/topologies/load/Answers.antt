@@ -4,13 +4,13 @@ use Rattle.topology.specs.Meaning.{plan_of}
 use Rattle.line_runs.specs.Gain.{Text}
 use Rattle.ide_cli.specs.declared.topologies.Loaded.TheVariants.{Long}
 use Rattle.ide_cli.specs.Topologies.{by_plan, loaded}
-use Rattle.ide_cli.proofs.Loads.{gave_few, gave_long, loads_front}
+use Rattle.ide_cli.proofs.Loads.{gave_all, gave_few, gave_long, loads_front}
 use Rattle.ide_cli.proofs.topologies.load.Goals as goal
 
 pub returns-in-Ok-clause-loads : goal.returns-in-Ok-clause-loads
 returns-in-Ok-clause-loads g c =
     let P : Text → Type 0 = λ t. IfOk c.judge.result (λ l. l ≡ loaded t) in
-    loads_front Long (λ b. by_plan (plan_of b)) (g.S.Shelf.contents c.args.shelf.now) c.args.name.now c.in-Ok.front.items c.judge.result c.in-Ok.ensures.bytes (subst P c.deref.ensures.value c.judge.ensures.loaded)
+    loads_front Long (λ b. by_plan (plan_of b)) (g.S.Shelf.seen c.args.shelf.now).contents c.args.name.now c.in-Ok.front.items c.judge.result c.in-Ok.ensures.bytes (subst P c.deref.ensures.value c.judge.ensures.loaded)
 
 pub returns-in-Ok-clause-long : goal.returns-in-Ok-clause-long
 returns-in-Ok-clause-long g c =
@@ -21,3 +21,8 @@ pub returns-in-Ok-clause-few : goal.returns-in-Ok-clause-few
 returns-in-Ok-clause-few g c =
     let P : Text → Type 0 = λ t. IfOk c.judge.result (λ l. l ≢ Long → length t ≤ 1048576) in
     gave_few Long c.judge.result (length c.in-Ok.front.items) _ _ c.in-Ok.ensures.given (subst P c.deref.ensures.value c.judge.ensures.few)
+
+pub returns-in-Ok-clause-all : goal.returns-in-Ok-clause-all
+returns-in-Ok-clause-all g c =
+    let P : Text → Type 0 = λ t. IfOk c.judge.result (λ l. l ≢ Long → length t ≤ 1048576) in
+    gave_all Long (g.S.Shelf.seen c.args.shelf.now).contents c.args.name.now c.in-Ok.front.items c.judge.result _ _ c.in-Ok.ensures.bytes c.in-Ok.ensures.given (subst P c.deref.ensures.value c.judge.ensures.few)

@@ -1,43 +1,104 @@
-use Rattle.std.proofs.Common.{◌≡◌, ◌+◌, ◌<◌, ◌≤◌, ◌∙◌, option_map, ap, length, subst}
-use Rattle.std.specs.Prelude.{IfOk}
-use Rattle.ide_base.specs.Outside.{Rose}
-use Rattle.line_runs.specs.declared.ends.End.TheVariants.{Done, TooLong}
-use Rattle.line_runs.specs.declared.front.Stop.TheVariants as stop
-use Rattle.line_runs.specs.Gain.{Gained, Text}
-use Rattle.line_runs.specs.Outcome.{Ran}
-use Rattle.line_runs.specs.Lines.{file_due, file_limit}
-use Rattle.line_runs.proofs.Cuttings.{front_due}
-use Rattle.line_runs.proofs.WholeFiles.{due_front, given_long, given_whole, ran_after, stopped}
+use Rattle.std.proofs.Common.{◌≡◌, ◌<◌, ◌≤◌, ◌+◌, ◌∙◌, ◌++◌, ℕ, Ok, Err, option_map, take, length, length-take, refl, subst, true, [], arith}
+use Rattle.std.specs.List.{slice_index_or}
+use Rattle.line_runs.specs.Gathering.{due_behind}
+use Rattle.line_runs.specs.Lines.{file_due}
+use Rattle.line_runs.proofs.FileFronts.{end_at_limit, end_in_piece, end_of_file, fault_answers, fault_wrote, file_begins, file_goes_on, not_read, one_byte, whole_at}
+use Rattle.line_runs.proofs.WholeFiles.{out_of_memory}
 use Rattle.line_runs.proofs.files.run_file.Goals as goal
 
-pub returns-in-Err-Fault-clause-answers : goal.returns-in-Err-Fault-clause-answers
-returns-in-Err-Fault-clause-answers g c =
-    let due = file_due g.W.LineWork.advance g.W.LineWork.closing c.args.work.now in
-    stopped (g.S.Shelf.contents c.args.shelf.now) (λ contents. option_map due (contents c.args.name.now)) c.args.name.now _ _ _ _ _ stop.Fault
-    (λ contents e. ap (option_map due) e) (rw c.in-Err-Fault.field-0-is at c.in-Err-Fault.ensures.cause)
+pub returns-in_default-clause-answers : goal.returns-in_default-clause-answers
+returns-in_default-clause-answers g c = out_of_memory (g.S.Shelf.seen c.args.shelf.now).contents (λ contents. option_map (file_due g.W.LineWork.advance g.W.LineWork.closing c.args.work.now) (contents c.args.name.now)) _ _ _ _
 
-pub returns-in-Err-Memory-clause-answers : goal.returns-in-Err-Memory-clause-answers
-returns-in-Err-Memory-clause-answers g c =
-    let due = file_due g.W.LineWork.advance g.W.LineWork.closing c.args.work.now in
-    stopped (g.S.Shelf.contents c.args.shelf.now) (λ contents. option_map due (contents c.args.name.now)) c.args.name.now _ _ _ _ _ stop.Memory
-    (λ contents e. ap (option_map due) e) (rw c.in-Err-Memory.field-0-is at c.in-Err-Memory.ensures.cause)
+pub loop-n-init : goal.loop-n-init
+loop-n-init g c = record {
+  same = refl;
+  faults = refl;
+  given = omega arith;
+  cap = omega arith;
+  most = omega arith;
+  numbered = omega (arith, c.in-Ok.ensures.number);
+  fits = rw c.in-Ok.ensures.number c.requires;
+  empty = c.new-gathered.ensures.items;
+  so_far = file_begins g.W.LineWork.advance g.W.LineWork.closing c.args.work.now (g.S.Shelf.seen c.args.shelf.now).contents c.args.name.now c.in-Ok.lines.number c.in-Ok.lines.unended.items (g.O.Sink.seen c.args.out.now)
+      c.in-Ok.ensures.number
+      c.in-Ok.ensures.unended;
+}
 
-pub returns-in-Ok-clause-answers : goal.returns-in-Ok-clause-answers
-returns-in-Ok-clause-answers g c =
-    let due = file_due g.W.LineWork.advance g.W.LineWork.closing c.args.work.now in
-    let is = due_front (g.S.Shelf.contents c.args.shelf.now) c.args.name.now c.in-Ok.front.items (file_limit + 1) due c.in-Ok.ensures.bytes
-    (λ whole e. ap due e ∙ front_due g.W.LineWork.advance g.W.LineWork.closing c.args.work.now whole) in
-    let P : Text → Type 0 = λ t. Ran (due t) ⊥ (Rose (g.O.Sink.faults c.args.out.now) (g.O.Sink.faults c.run_front.new.out)) (g.O.Sink.faults c.run_front.new.out ≡ g.O.Sink.faults c.args.out.now)
-    (Gained (g.O.Sink.held c.args.out.now) (g.O.Sink.held c.run_front.new.out)) c.run_front.result in
-    let ran = subst P c.deref.ensures.value c.run_front.ensures.ran in
-    ran_after (g.S.Shelf.contents c.args.shelf.now) (λ contents. option_map due (contents c.args.name.now)) (due c.in-Ok.front.items) _ _ _ _ _ c.run_front.result is c.in-Ok.ensures.cause ran
+pub returns-in_default-read_piece-clause-answers : goal.returns-in_default-read_piece-clause-answers
+returns-in_default-read_piece-clause-answers g c =
+    let inv = c.loop-n.invariant in
+    fault_answers g.W.LineWork.advance g.W.LineWork.closing c.args.work.now c.args.name.now c.loop-n.at c.loop-n.lines.number c.loop-n.work c.loop-n.lines.unended.items (g.S.Shelf.seen c.args.shelf.now)
+    (g.S.Shelf.seen c.read_piece.new.shelf)
+    (g.O.Sink.seen c.args.out.now) (g.O.Sink.seen c.loop-n.out) c.in_default-read_piece.field-0 inv.so_far inv.most (omega arith) (rw (inv.same, inv.faults) at c.in_default-read_piece.ensures.cause)
 
-pub returns-in-Ok-clause-too_long : goal.returns-in-Ok-clause-too_long
-returns-in-Ok-clause-too_long g c =
-    let P : Text → Type 0 = λ t. IfOk c.run_front.result (λ e. e ≡ TooLong → 16777216 < length t) in
-    given_long c.run_front.result 16777216 _ _ _ (subst P c.deref.ensures.value c.run_front.ensures.over) c.in-Ok.ensures.given c.in-Ok.ensures.length
+pub returns-in_default-read_piece-clause-read_fault : goal.returns-in_default-read_piece-clause-read_fault
+returns-in_default-read_piece-clause-read_fault g c =
+    let inv = c.loop-n.invariant in
+    let same = c.in_default-read_piece.ensures.counted in
+    λ is. fault_wrote g.W.LineWork.advance g.W.LineWork.closing c.args.work.now c.args.name.now c.loop-n.at c.loop-n.lines.number c.loop-n.work c.loop-n.lines.unended.items (g.S.Shelf.seen c.args.shelf.now)
+    (g.S.Shelf.seen c.read_piece.new.shelf)
+    (g.O.Sink.seen c.args.out.now) (g.O.Sink.seen c.loop-n.out) inv.so_far (omega arith) (omega (arith, inv.given, same), omega (arith, inv.cap, same))
 
-pub returns-in-Ok-clause-whole : goal.returns-in-Ok-clause-whole
-returns-in-Ok-clause-whole g c =
-    let P : Text → Type 0 = λ t. IfOk c.run_front.result (λ e. e ≡ Done → length t ≤ 16777216) in
-    given_whole c.run_front.result 16777216 _ _ _ (subst P c.deref.ensures.value c.run_front.ensures.whole) c.in-Ok.ensures.given
+pub returns-then-n-eq0-clause-answers : goal.returns-then-n-eq0-clause-answers
+returns-then-n-eq0-clause-answers g c =
+    let inv = c.loop-n.invariant in
+    let reads = (rw inv.same at c.in-Ok-read_piece.ensures.bytes) inv.so_far.front inv.so_far.size inv.so_far.is_read in
+    end_of_file g.W.LineWork.advance g.W.LineWork.closing c.args.work.now c.args.name.now c.loop-n.at c.loop-n.lines.number c.loop-n.work c.loop-n.lines.unended.items (g.S.Shelf.seen c.args.shelf.now) (g.S.Shelf.seen c.read_piece.new.shelf)
+    (g.O.Sink.seen c.args.out.now) (g.O.Sink.seen c.loop-n.out) (g.O.Sink.seen c.run_last.new.out) c.run_last.result inv.so_far (whole_at (g.S.Shelf.seen c.args.shelf.now).contents c.args.name.now inv.so_far.front c.read_piece.new.buf
+    c.in-Ok-read_piece.n c.if-n-eq0.true reads) inv.most
+    (c.in-Ok-read_piece.ensures.cause ∙ inv.faults) (rw c.deref.ensures.value at c.run_last.ensures.ran)
+
+pub returns-then-at-eq-FILE_LIMIT-clause-answers : goal.returns-then-at-eq-FILE_LIMIT-clause-answers
+returns-then-at-eq-FILE_LIMIT-clause-answers g c =
+    let inv = c.loop-n.invariant in
+    let reads = (rw inv.same at c.in-Ok-read_piece.ensures.bytes) inv.so_far.front inv.so_far.size inv.so_far.is_read in
+    end_at_limit g.W.LineWork.advance g.W.LineWork.closing c.args.work.now c.args.name.now c.loop-n.at c.loop-n.lines.number c.loop-n.work c.loop-n.lines.unended.items (slice_index_or c.read_piece.new.buf 0 0)
+    (g.S.Shelf.seen c.args.shelf.now) (g.S.Shelf.seen c.read_piece.new.shelf) (g.O.Sink.seen c.args.out.now) (g.O.Sink.seen c.loop-n.out) (g.O.Sink.seen c.run_limit.new.out) c.run_limit.result inv.so_far c.if-at-eq-FILE_LIMIT.true
+    (one_byte (g.S.Shelf.seen c.args.shelf.now).contents c.args.name.now inv.so_far.front c.read_piece.new.buf c.in-Ok-read_piece.n c.if-n-eq0.false (c.in-Ok-read_piece.ensures.one c.if-at-eq-FILE_LIMIT.true)
+    c.in-Ok-read_piece.ensures.bound reads)
+    (c.in-Ok-read_piece.ensures.cause ∙ inv.faults) c.run_limit.ensures.ran
+
+pub returns-in-Err-clause-answers : goal.returns-in-Err-clause-answers
+returns-in-Err-clause-answers g c =
+    let inv = c.loop-n.invariant in
+    let reads = (rw inv.same at c.in-Ok-read_piece.ensures.bytes) inv.so_far.front inv.so_far.size inv.so_far.is_read in
+    let size : length (take c.in-Ok-read_piece.n c.read_piece.new.buf) ≡ c.in-Ok-read_piece.n = omega (arith, length-take c.in-Ok-read_piece.n c.read_piece.new.buf, c.in-Ok-read_piece.ensures.bound) in
+    end_in_piece g.W.LineWork.advance g.W.LineWork.closing c.args.work.now c.args.name.now c.loop-n.at c.loop-n.lines.number c.loop-n.work c.loop-n.lines.unended.items (take c.in-Ok-read_piece.n c.read_piece.new.buf)
+    (g.S.Shelf.seen c.args.shelf.now) (g.S.Shelf.seen c.read_piece.new.shelf) (g.O.Sink.seen c.args.out.now) (g.O.Sink.seen c.loop-n.out) (g.O.Sink.seen c.run_piece.new.out) (Err c.in-Err.e) inv.so_far reads.0 (omega (arith, size))
+    (omega (arith, size, c.in-Ok-read_piece.ensures.counts)) (c.in-Ok-read_piece.ensures.cause ∙ inv.faults) c.in-Err.ensures.ran
+
+pub returns-in-Err-clause-read_fault : goal.returns-in-Err-clause-read_fault
+returns-in-Err-clause-read_fault g c = not_read (due_behind g.W.LineWork.advance g.W.LineWork.closing true c.loop-n.lines.number c.loop-n.work c.loop-n.lines.unended.items (take c.in-Ok-read_piece.n c.read_piece.new.buf ++ [])) _ _
+    (Err c.in-Err.e) _ (c.in-Err.ensures.ran true [])
+
+pub returns-in-Ok-Some-clause-answers : goal.returns-in-Ok-Some-clause-answers
+returns-in-Ok-Some-clause-answers g c =
+    let inv = c.loop-n.invariant in
+    let reads = (rw inv.same at c.in-Ok-read_piece.ensures.bytes) inv.so_far.front inv.so_far.size inv.so_far.is_read in
+    let size : length (take c.in-Ok-read_piece.n c.read_piece.new.buf) ≡ c.in-Ok-read_piece.n = omega (arith, length-take c.in-Ok-read_piece.n c.read_piece.new.buf, c.in-Ok-read_piece.ensures.bound) in
+    let ran = rw c.in-Ok-Some.field-0-is at c.in-Ok-Some.ensures.ran in
+    end_in_piece g.W.LineWork.advance g.W.LineWork.closing c.args.work.now c.args.name.now c.loop-n.at c.loop-n.lines.number c.loop-n.work c.loop-n.lines.unended.items (take c.in-Ok-read_piece.n c.read_piece.new.buf)
+    (g.S.Shelf.seen c.args.shelf.now) (g.S.Shelf.seen c.read_piece.new.shelf) (g.O.Sink.seen c.args.out.now) (g.O.Sink.seen c.loop-n.out) (g.O.Sink.seen c.run_piece.new.out) (Ok c.in-Ok-Some.end) inv.so_far reads.0 (omega (arith, size))
+    (omega (arith, size, c.in-Ok-read_piece.ensures.counts)) (c.in-Ok-read_piece.ensures.cause ∙ inv.faults) ran
+
+pub loop-n-preserved : goal.loop-n-preserved
+loop-n-preserved g c =
+    let inv = c.loop-n.invariant in
+    let n = c.in-Ok-read_piece.n in
+    let reads = (rw inv.same at c.in-Ok-read_piece.ensures.bytes) inv.so_far.front inv.so_far.size inv.so_far.is_read in
+    let size : length (take c.in-Ok-read_piece.n c.read_piece.new.buf) ≡ c.in-Ok-read_piece.n = omega (arith, length-take c.in-Ok-read_piece.n c.read_piece.new.buf, c.in-Ok-read_piece.ensures.bound) in
+    let ran = rw c.in-Ok-None.field-0-is at c.in-Ok-None.ensures.ran in
+    let number = (rw c.in-Ok-None.field-0-is at c.in-Ok-None.ensures.number) refl in
+    record {
+      same = c.in-Ok-read_piece.ensures.same ∙ inv.same;
+      faults = c.in-Ok-read_piece.ensures.cause ∙ inv.faults;
+      given = omega (arith, inv.given, c.in-Ok-read_piece.ensures.counted);
+      cap = omega (arith, inv.cap, c.in-Ok-read_piece.ensures.counted);
+      most = omega (arith, c.in-Ok-read_piece.ensures.counts);
+      numbered = omega (arith, number, size, inv.numbered);
+      fits = (rw c.in-Ok-None.field-0-is at c.in-Ok-None.ensures.fits) refl;
+      empty = (rw c.in-Ok-None.field-0-is at c.in-Ok-None.ensures.empty) refl;
+      so_far = file_goes_on g.W.LineWork.advance g.W.LineWork.closing c.args.work.now (g.S.Shelf.seen c.args.shelf.now).contents c.args.name.now c.loop-n.at c.loop-n.lines.number c.run_piece.new.lines.number n c.loop-n.work
+          c.run_piece.new.work
+          c.loop-n.lines.unended.items c.run_piece.new.lines.unended.items (take n c.read_piece.new.buf) (g.O.Sink.seen c.args.out.now) (g.O.Sink.seen c.loop-n.out) (g.O.Sink.seen c.run_piece.new.out) inv.so_far reads.0 size ran;
+    }

@@ -5,12 +5,12 @@ use Rattle.line_runs.proofs.front.read_front.Given as goal
 
 abbrev pub invariant-loop-buf : goal.invariant-loop-buf
 invariant-loop-buf g l = record {
-  same : g.S.Shelf.contents l.shelf ≡ g.S.Shelf.contents l.initial.shelf;
-  faults : g.S.Shelf.faults l.shelf ≡ g.S.Shelf.faults l.initial.shelf;
-  given : counted (g.S.Shelf.given l.initial.shelf) (length l.bytes.items) ≤ g.S.Shelf.given l.shelf;
-  cap : g.S.Shelf.given l.shelf ≤ g.S.Shelf.given l.initial.shelf + length l.bytes.items;
+  same : (g.S.Shelf.seen l.shelf).contents ≡ (g.S.Shelf.seen l.initial.shelf).contents;
+  faults : (g.S.Shelf.seen l.shelf).faults ≡ (g.S.Shelf.seen l.initial.shelf).faults;
+  given : counted (g.S.Shelf.seen l.initial.shelf).given (length l.bytes.items) ≤ (g.S.Shelf.seen l.shelf).given;
+  cap : (g.S.Shelf.seen l.shelf).given ≤ (g.S.Shelf.seen l.initial.shelf).given + length l.bytes.items;
   most : length l.bytes.items ≤ l.most;
-  read : IsReadOf (g.S.Shelf.contents l.initial.shelf) l.name l.bytes.items;
+  read : IsReadOf (g.S.Shelf.seen l.initial.shelf).contents l.name l.bytes.items;
 }
 
 abbrev pub decreases-loop-buf : goal.decreases-loop-buf

@@ -6,7 +6,7 @@ use Rattle.line_runs.proofs.front.read_on.Goals as goal
 pub returns-in-Ok-extend_from_slice-clause-bytes :
     goal.returns-in-Ok-extend_from_slice-clause-bytes
 returns-in-Ok-extend_from_slice-clause-bytes g c =
-    let told = g.S.Shelf.contents c.args.shelf.now in
+    let told = (g.S.Shelf.seen c.args.shelf.now).contents in
     let at : c.len.result ≡ length c.args.bytes.now.items = search rules in
     let some : 0 < length c.read.new.buf = omega arith in
     let read = subst (λ (k : ℕ). ReadFrom told c.args.name.now k (Ok c.in-Ok.n) c.read.new.buf) at c.in-Ok.ensures.bytes in

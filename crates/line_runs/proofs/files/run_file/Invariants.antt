@@ -1,0 +1,20 @@
+use Rattle.std.proofs.Common.{◌≡◌, ◌≤◌, ◌-◌, ◌+◌, []}
+use Rattle.ide_base.specs.Outside.{counted}
+use Rattle.line_runs.proofs.FileFronts.{FileSoFar}
+use Rattle.line_runs.proofs.files.run_file.Given as goal
+
+abbrev pub invariant-loop-n : goal.invariant-loop-n
+invariant-loop-n g l = record {
+  same : (g.S.Shelf.seen l.shelf).contents ≡ (g.S.Shelf.seen l.initial.shelf).contents;
+  faults : (g.S.Shelf.seen l.shelf).faults ≡ (g.S.Shelf.seen l.initial.shelf).faults;
+  given : counted (g.S.Shelf.seen l.initial.shelf).given l.at ≤ (g.S.Shelf.seen l.shelf).given;
+  cap : (g.S.Shelf.seen l.shelf).given ≤ (g.S.Shelf.seen l.initial.shelf).given + l.at;
+  most : l.at ≤ 16777216;
+  numbered : l.lines.number ≤ l.at + 1;
+  fits : g.W.LineWork.fits l.work l.lines.number;
+  empty : l.gathered.items ≡ [];
+  so_far : FileSoFar g.W.LineWork.advance g.W.LineWork.closing l.initial.work (g.S.Shelf.seen l.initial.shelf).contents l.name l.at l.lines.number l.work l.lines.unended.items (g.O.Sink.seen l.initial.out) (g.O.Sink.seen l.out);
+}
+
+abbrev pub decreases-loop-n : goal.decreases-loop-n
+decreases-loop-n g l = 16777217 - l.at

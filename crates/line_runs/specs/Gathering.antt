@@ -1,0 +1,85 @@
+-- A file that is read in pieces, whose text is gathered before it is written.
+use Rattle.std.specs.Prelude.{ℕ, ◌+◌, ◌≡◌, ◌==◌, ◌≤◌, Bool, true, List, [], ◌∷◌, ◌++◌, length, take, Option, Some, None, Result, Ok, Err, if◌then◌else◌}
+use Rattle.ide_base.specs.Outside.{Contents, Rose, ShelfSeen, SinkSeen}
+use Rattle.text_lines.specs.Pieces.{pieces}
+use Rattle.link_events.specs.declared.fault.LineFault.{LineFault}
+use Rattle.line_runs.specs.declared.ends.End.{End}
+use Rattle.line_runs.specs.declared.ends.Fault.{Fault}
+use Rattle.line_runs.specs.Front.{Gave, bytes_of}
+use Rattle.line_runs.specs.Gain.{Text, Gained}
+use Rattle.line_runs.specs.Lines.{after, process, unended}
+use Rattle.line_runs.specs.Outcome.{CutOff, Due, IsWholeLines, Ran}
+
+-- ---- what is gathered
+
+-- a front of a text was written, and the rest of it is gathered
+abbrev pub Gathered : (text gathered : Text) → (before now : SinkSeen) → Type 0
+Gathered text gathered before now = (written : Text) × (written ++ gathered ≡ text)
+    × Gained before.held now.held written × (now.faults ≡ before.faults)
+
+-- the writing of a text was cut off
+abbrev pub CutIn : Text → SinkSeen → SinkSeen → Fault → Type 0
+CutIn text before now e = CutOff text ⊥ (Rose before.faults now.faults) (Gained before.held now.held) e
+
+-- a text was gathered behind an earlier one
+abbrev pub Gathers : (earlier text gathered : Text) → SinkSeen → SinkSeen → Result (Unit {0}) Fault → Type 0
+Gathers earlier text gathered before now (Ok u) = Gathered (earlier ++ text) gathered before now
+Gathers earlier text gathered before now (Err e) = CutIn (earlier ++ text) before now e
+
+-- ---- piece by piece
+
+-- pieces between line feeds, the first of which goes on from bytes that came before
+abbrev pub behind : Text → List Text → List Text
+behind before [] = before ∷ []
+behind before (piece ∷ rest) = (before ++ piece) ∷ rest
+
+-- what is due of the bytes that are left, from line n on, of which some bytes came before
+abbrev pub due_behind : {S : Type 0} → (S → ℕ → Text → Result (S × Text) LineFault) → (S → Text) → Bool → ℕ → S
+    → Text → Text → Due
+due_behind advance closing over n s before left = process advance closing over n s (behind before (pieces left))
+
+-- What is due is a text and what is due later, for whatever is left of the file; that text is whole lines, and was
+-- written but for what is gathered.
+pub record SoFar (due later : Bool → Text → Due) (gathered : Text) (before now : SinkSeen) : Type 0 where
+  pub text : Text
+  pub goes_on : (over : Bool) (left : Text) → due over left ≡ after text (later over left)
+  pub whole : IsWholeLines text
+  pub gained : Gathered text gathered before now
+
+-- an end at a piece
+abbrev pub EndsIn : Due → SinkSeen → SinkSeen → Result (Option End) Fault → Type 0
+EndsIn due before now (Ok None) = ⊥
+EndsIn due before now (Ok (Some e)) = Ran due before now (Ok e)
+EndsIn due before now (Err e) = Ran due before now (Err e)
+
+-- the text of the lines that end in a piece was written, or the run ends there, whatever is left of the file
+abbrev pub PieceRan : (due later : Bool → Text → Due) → SinkSeen → SinkSeen → Result (Option End) Fault → Type 0
+PieceRan due later before now (Ok None) = SoFar due later [] before now
+PieceRan due later before now (Ok (Some e)) = (over : Bool) (left : Text) → EndsIn (due over left) before now
+    (Ok (Some e))
+PieceRan due later before now (Err e) = (over : Bool) (left : Text) → EndsIn (due over left) before now (Err e)
+
+-- what is due of a line that has begun, at the first byte that counts no more: a line feed there ends nothing
+abbrev pub limit_due : ℕ → Text → ℕ → Due
+limit_due n before byte = unended n (if byte == 10 then before else before ++ byte ∷ [])
+
+-- ---- where the reading ends in a fault
+
+-- the text that is due of some bytes of a file that goes on behind them: that of the lines that ended in them
+abbrev pub ended_text : {S : Type 0} → (S → ℕ → Text → Result (S × Text) LineFault) → (S → Text) → S → Text → Text
+ended_text advance closing s bytes = (process advance closing true 1 s (pieces bytes)).1
+
+-- so many bytes of the file were given, and the sink gained the text of those; a file that is not there has no bytes
+abbrev pub WroteEndedIn : (Text → Text) → Text → ShelfSeen → ShelfSeen → SinkSeen → SinkSeen → Type 0
+WroteEndedIn text file shelf shelf_now sink sink_now = (n : ℕ) × (n ≤ length file) × Gave shelf.given n shelf_now.given
+    × Gained sink.held sink_now.held (text (take n file))
+
+abbrev pub WroteEndedOf : (Text → Text) → Option Contents → Text → ShelfSeen → ShelfSeen → SinkSeen → SinkSeen → Type 0
+WroteEndedOf text None name shelf shelf_now sink sink_now = Unit {0}
+WroteEndedOf text (Some contents) name shelf shelf_now sink sink_now = WroteEndedIn text (bytes_of (contents name))
+    shelf
+    shelf_now sink sink_now
+
+-- where the shelf tells its contents
+abbrev pub WroteEnded : (Text → Text) → Text → ShelfSeen → ShelfSeen → SinkSeen → SinkSeen → Type 0
+WroteEnded text name shelf shelf_now sink sink_now = WroteEndedOf text shelf.contents name shelf shelf_now sink sink_now

@@ -1,0 +1,119 @@
+//! The lines that end in a piece of a file.
+ghost use Rattle.std.specs.Prelude.{◌≡◌, [], ◌++◌, ◌+◌, ◌<◌, ◌≤◌, ◌^◌, IfOk, IfSome, OnOk, None, length, nat_lt, vec_capacity, vec_len};
+ghost use Rattle.line_runs.specs.Lines.{Came};
+ghost use Rattle.line_runs.specs.Gathering.{PieceRan, due_behind};
+
+use crate::gather::{end_for_memory, flush, gather};
+use crate::lines::refuse_in;
+use crate::{End, Fault, LineWork};
+use ide_base::Sink;
+use ide_types::{Bytes, Memory};
+use link_events::{LINE_LIMIT, LineError, LineFault};
+use std::alloc::Global;
+use text_lines::split_line;
+
+/// The lines of a file that is read in pieces: the number of the next one, and the bytes of it that came in earlier
+/// pieces, of which there are at most 20,000. Room for them is reserved once.
+#[derive(Drop)]
+pub(crate) struct Lines {
+    pub(crate) number: u64,
+    pub(crate) unended: Vec<u8>,
+    ghost short: { vec_len unended ≤ 20000 },
+    ghost room: { 20000 ≤ vec_capacity unended },
+}
+
+impl Lines {
+    /// Ahead of the first line.
+    pub(crate) fn make(alloc: Global) -> Result<Lines, Memory>
+        ensures number { IfOk result (λ l. l.number ≡ 1) }
+        ensures unended { IfOk result (λ l. l.unended.items ≡ []) }
+    {
+        let unended = Vec::with_capacity(alloc, LINE_LIMIT)?;
+        Ok(Lines { number: 1, unended })
+    }
+
+    // Whether a line that goes on with these bytes has more than a line may have.
+    fn is_long(&self, more: &[u8]) -> bool
+        ensures { result ≡ nat_lt 20000 (length self.now.unended.items + length more.now) }
+    {
+        more.len() > LINE_LIMIT - self.unended.len()
+    }
+
+    // Keeps more bytes of the line.
+    fn keep(&mut self, more: &[u8])
+        requires { length self.old.unended.items + length more.now ≤ 20000 }
+        ensures unended { self.new.unended.items ≡ self.old.unended.items ++ more.now }
+        ensures number { self.new.number ≡ self.old.number }
+    {
+        let _ = self.unended.extend_from_slice(more);
+    }
+
+    // What the line comes to that ends with these bytes. Where it lies in one piece, it is not copied.
+    fn run_line<W: LineWork>(&mut self, work: &mut W, end: &[u8]) -> Result<Bytes, LineError>
+        requires number { self.old.number < 2 ^ 26 }
+        requires fits { W.fits work.old self.old.number }
+        ensures came { Came (W.advance work.old self.old.number (self.old.unended.items ++ end.now)) work.new result }
+        ensures fits { OnOk result (W.fits work.new self.new.number) }
+        ensures unended { OnOk result (self.new.unended.items ≡ []) }
+        ensures number { self.new.number ≡ self.old.number + 1 }
+    {
+        let number = self.number;
+        self.number += 1;
+        if self.is_long(end) {
+            return Err(LineError::Fault(LineFault::TooLong));
+        }
+        if self.unended.is_empty() {
+            return work.line(number, end);
+        }
+        self.keep(end);
+        let text = work.line(number, &self.unended);
+        self.unended.clear();
+        text
+    }
+}
+
+/// Runs the lines that end in a piece, and writes their text.
+pub(crate) fn run_piece<O: Sink, W: LineWork>(
+    alloc: Global,
+    work: &mut W,
+    lines: &mut Lines,
+    piece: &[u8],
+    gathered: &mut Vec<u8>,
+    out: &mut O,
+) -> Result<Option<End>, Fault>
+    requires number { lines.old.number + length piece.now < 2 ^ 26 }
+    requires fits { W.fits work.old lines.old.number }
+    requires empty { gathered.old.items ≡ [] }
+    ensures end { IfOk result (λ o. IfSome o (λ e. e ≡ End.Script)) }
+    ensures ran { PieceRan (λ over left. due_behind W.advance W.closing over lines.old.number work.old
+        lines.old.unended.items (piece.now ++ left)) (λ over left. due_behind W.advance W.closing over lines.new.number
+        work.new lines.new.unended.items left) (O.seen out.old) (O.seen out.new) result }
+    ensures fits { IfOk result (λ o. o ≡ None → W.fits work.new lines.new.number) }
+    ensures number { IfOk result (λ o. o ≡ None → lines.new.number ≤ lines.old.number + length piece.now) }
+    ensures empty { IfOk result (λ o. o ≡ None → gathered.new.items ≡ []) }
+{
+    let mut rest = piece;
+    while let Some((end, after)) = split_line(rest) {
+        let number = lines.number;
+        match lines.run_line(work, end) {
+            Err(LineError::Memory) => return Err(end_for_memory(gathered.as_slice(), out)),
+            Err(LineError::Fault(fault)) => {
+                return refuse_in(alloc, gathered.as_slice(), number, fault, out);
+            }
+            Ok(text) => gather(gathered, text.as_slice(), out)?,
+        }
+        rest = after;
+    }
+    if lines.is_long(rest) {
+        return refuse_in(
+            alloc,
+            gathered.as_slice(),
+            lines.number,
+            LineFault::TooLong,
+            out,
+        );
+    }
+    lines.keep(rest);
+    flush(gathered, out)?;
+    Ok(None)
+}
