@@ -58,7 +58,7 @@ same_sub m n a b s = sym (sub_number m a) ∙ ap sub_kind s ∙ sub_number n b
 
 -- ---- places
 
-same_place : (p q : Place) → km.is_place p q ≡ true → p ≡ q
+same_place : (p q : Place) → km.is_same_place p q ≡ true → p ≡ q
 same_place p q e =
     let b = both-true (p.stream == q.stream && p.direction == q.direction) (p.sub == q.sub) e in
     let a = both-true (p.stream == q.stream) (p.direction == q.direction) b.0 in
@@ -67,10 +67,10 @@ same_place p q e =
     let sub = true-same p.sub q.sub b.1 in
     (λ i. record { stream = stream i; direction = direction i; sub = sub i })
 
-place_same : (p : Place) → km.is_place p p ≡ true
+place_same : (p : Place) → km.is_same_place p p ≡ true
 place_same p = rw (same-true p.stream, same-true p.direction, same-true p.sub) refl
 
-apart : (side : Side) (p q : Place) → is_place p ≡ true → is_place q ≡ true → p.stream ≡ q.stream → km.is_place p q ≡ false
+apart : (side : Side) (p q : Place) → is_place p ≡ true → is_place q ≡ true → p.stream ≡ q.stream → km.is_same_place p q ≡ false
     → sends_in side p.direction ≡ sends_in side q.direction → sub_from p.sub ≡ sub_from q.sub → ⊥
 apart side p q hp hq s differ d u =
     let a = both-true (nat_lt p.direction 2) (nat_lt p.sub 3) hp in
@@ -78,8 +78,8 @@ apart side p q hp hq s differ d u =
     let direction : p.direction ≡ q.direction = same_sends side p.direction q.direction (true-lt p.direction 2 a.0) (true-lt q.direction 2 b.0) d in
     let sub : p.sub ≡ q.sub = same_sub p.sub q.sub (true-lt p.sub 3 a.1) (true-lt q.sub 3 b.1) u in
     let is : p ≡ q = (λ i. record { stream = s i; direction = direction i; sub = sub i }) in
-    let yes : km.is_place p q ≡ true = rw is (place_same q) in
-    same_false (km.is_place p q) yes differ
+    let yes : km.is_same_place p q ≡ true = rw is (place_same q) in
+    same_false (km.is_same_place p q) yes differ
 
 -- ---- what is shown behind a call
 
@@ -110,7 +110,7 @@ shown_same e c q f h here is =
     let changed_to = found-changed e.plans e.states q.stream f (after e c q f) is in
     rw (here, changed_to, is) (ap Some (moved-pair (sends_in e.name.side q.direction) (sub_from q.sub) c f.state (h.none q.stream f is)))
 
-shown_other : (e : PortEnd) (c : PortCall) (p q : Place) (f : Found) → is_place q ≡ true → found e.plans e.states q.stream ≡ Some f → km.is_place p q ≡ false
+shown_other : (e : PortEnd) (c : PortCall) (p q : Place) (f : Found) → is_place q ≡ true → found e.plans e.states q.stream ≡ Some f → km.is_same_place p q ≡ false
     → shown (with_stream e q.stream (after e c q f)) p ≡ shown e p
 shown_other e c p q f here is differ = by (is_place p) refl (p.stream == q.stream) refl
   where
@@ -142,7 +142,7 @@ in_three : (q : Place) → is_place q ≡ true → nat_lt q.sub 3 ≡ true
 in_three q h = (both-true (nat_lt q.direction 2) (nat_lt q.sub 3) h).1
 
 -- an answer by the place that is called
-shown_there : (e : PortEnd) (c : PortCall) (f : Found) → Waitless e → stream_at e (place_of c) ≡ Some f → (p : Place) (b : Bool) → km.is_place p (place_of c) ≡ b
+shown_there : (e : PortEnd) (c : PortCall) (f : Found) → Waitless e → stream_at e (place_of c) ≡ Some f → (p : Place) (b : Bool) → km.is_same_place p (place_of c) ≡ b
     → shown (called_port c e) p ≡ (if b && nat_lt p.sub 3 then option_map (slots_by c (unfinished_at e p)) (shown e p) else shown e p)
 shown_there e c f h at p true same =
     let q = place_of c in
@@ -162,7 +162,7 @@ nothing : (b : Bool) (f : SlotPair → SlotPair) → (if b then option_map f Non
 nothing true f = refl
 nothing false f = refl
 
-shown_nowhere : (e : PortEnd) (c : PortCall) → stream_at e (place_of c) ≡ None → (p : Place) (b : Bool) → km.is_place p (place_of c) ≡ b
+shown_nowhere : (e : PortEnd) (c : PortCall) → stream_at e (place_of c) ≡ None → (p : Place) (b : Bool) → km.is_same_place p (place_of c) ≡ b
     → shown e p ≡ (if b && nat_lt p.sub 3 then option_map (slots_by c (unfinished_at e p)) (shown e p) else shown e p)
 shown_nowhere e c at p false other = refl
 shown_nowhere e c at p true same =
@@ -172,10 +172,10 @@ shown_nowhere e c at p true same =
 
 pub slots-after : (e : PortEnd) (c : PortCall) → Waitless e → SlotsAfter (shown e) (unfinished_at e) c (shown (called_port c e))
 slots-after e c h p =
-    let P : Place → Type 0 = λ q. shown (called_port c e) p ≡ (if km.is_place p q && nat_lt p.sub 3 then option_map (slots_by c (unfinished_at e p)) (shown e p) else shown e p) in
+    let P : Place → Type 0 = λ q. shown (called_port c e) p ≡ (if km.is_same_place p q && nat_lt p.sub 3 then option_map (slots_by c (unfinished_at e p)) (shown e p) else shown e p) in
     subst P (place_is c) (by (stream_at e (place_of c)) refl)
   where
     by : (o : Option Found) → stream_at e (place_of c) ≡ o
-        → shown (called_port c e) p ≡ (if km.is_place p (place_of c) && nat_lt p.sub 3 then option_map (slots_by c (unfinished_at e p)) (shown e p) else shown e p)
-    by None at = ap (λ x. shown x p) (called_nowhere e c at) ∙ shown_nowhere e c at p (km.is_place p (place_of c)) refl
-    by (Some f) at = shown_there e c f h at p (km.is_place p (place_of c)) refl
+        → shown (called_port c e) p ≡ (if km.is_same_place p (place_of c) && nat_lt p.sub 3 then option_map (slots_by c (unfinished_at e p)) (shown e p) else shown e p)
+    by None at = ap (λ x. shown x p) (called_nowhere e c at) ∙ shown_nowhere e c at p (km.is_same_place p (place_of c)) refl
+    by (Some f) at = shown_there e c f h at p (km.is_same_place p (place_of c)) refl

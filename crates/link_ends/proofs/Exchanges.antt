@@ -51,13 +51,13 @@ abbrev seen : Place → Option SlotPair → Option SlotPair
 seen place shows = if nat_lt place.sub 3 then shows else None
 
 program_at_all : (id sel draw : ℕ) (key : List ℕ) (a : Shown) (counter : ℕ) → IsAt id (place_of id sel) → (b : Bool) → (counter == 1) ≡ b
-    → CallAt id (call_from a draw (objects.read_or (KeyProg id sel 0 key counter) None))
+    → CallAt id (call_from a draw (objects.object_or (KeyProg id sel 0 key counter) None))
 program_at_all id sel draw key a counter at true e = rw e at
 program_at_all id sel draw key a counter at false e = rw e tt
 
 program_same : (id sel draw : ℕ) (key : List ℕ) (counter : ℕ) (a b : Shown) → SameShown id a b → IsAt id (place_of id sel) → (fault : Option KmFault)
-    → (call_from a draw (objects.read_or (KeyProg id sel 0 key counter) fault) ≡ call_from b draw (objects.read_or (KeyProg id sel 0 key counter) fault))
-    × CallAt id (call_from b draw (objects.read_or (KeyProg id sel 0 key counter) fault))
+    → (call_from a draw (objects.object_or (KeyProg id sel 0 key counter) fault) ≡ call_from b draw (objects.object_or (KeyProg id sel 0 key counter) fault))
+    × CallAt id (call_from b draw (objects.object_or (KeyProg id sel 0 key counter) fault))
 program_same id sel draw key counter a b same at None = (
   ap (λ (s : Option SlotPair). if (0 == 0) && (counter == 1) then Some (Program (place_of id sel) (set_of sel) key draw (program_at (seen (place_of id sel) s) (set_of sel) key)) else None) (same (place_of id sel) at),
   program_at_all id sel draw key b counter at (counter == 1) refl,
