@@ -88,11 +88,11 @@ fn written(script: &str, reads: usize) -> usize {
         .take(reads.saturating_sub(2))
         .filter(|b| *b == b'\n')
         .count();
-    LINES
-        .split_inclusive('\n')
-        .take(ended)
-        .map(|l| l.len())
-        .sum()
+    let mut size = 0usize;
+    for line in LINES.split_inclusive('\n').take(ended) {
+        size = size.saturating_add(line.len());
+    }
+    size
 }
 
 #[test]
