@@ -144,7 +144,8 @@ pub fn read_words<'a>(alloc: Global, words: &'a [String]) -> Result<Request<'a>,
 /// The program's forms are taken, whatever its own name is, with names that are not empty and do not begin
 /// with `-`.
 pub fn forms_are_taken()
-    ensures run { (program a b : List ℕ) → IsName a → IsName b → asked (program ∷ codes "run" ∷ a ∷ b ∷ []) ≡ Some (run a b) }
+    ensures run { (program a b : List ℕ) → IsName a → IsName b
+        → asked (program ∷ codes "run" ∷ a ∷ b ∷ []) ≡ Some (run a b) }
     ensures check { (program a : List ℕ) → IsName a → asked (program ∷ codes "check" ∷ a ∷ []) ≡ Some (check a) }
     ensures show { (program a : List ℕ) → IsName a → asked (program ∷ codes "show" ∷ a ∷ []) ≡ Some (show a) }
 {}

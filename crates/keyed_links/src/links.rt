@@ -147,7 +147,8 @@ impl Links {
         requires steps { self.old.steps < 2 ^ 28 }
         requires bounded { IsBounded self.old.ends self.old.packets.packets self.old.steps }
         requires hosts { trusted ≡ true → port.side ≡ Host }
-        ensures { EndsOr result self.old self.new (λ plan st. step_of plan st (Event.Send port bytes.now more trusted)) }
+        ensures { EndsOr result self.old self.new
+            (λ plan st. step_of plan st (Event.Send port bytes.now more trusted)) }
     {
         if !self.has_link(port.link as u64) {
             return Ok(self.only(Verdict::Nothing));

@@ -16,6 +16,7 @@ long_copy s n line long = rw long refl
 pub whole_copy : {S : Type 0} (s : S) (n : ℕ) (line : Text) → IfOk (copied s n line) (λ came. IsWholeLines came.1)
 whole_copy {S} s n line = by_test (nat_lt 20000 (length line))
   where
-    by_test : (b : Bool) → IfOk {T = S × Text} (if b then Err TooLong else Ok (s, line ++ 10 ∷ [])) (λ came. IsWholeLines came.1)
+    by_test : (b : Bool)
+        → IfOk {T = S × Text} (if b then Err TooLong else Ok (s, line ++ 10 ∷ [])) (λ came. IsWholeLines came.1)
     by_test true = tt
     by_test false = inr (line, refl)

@@ -205,7 +205,8 @@ impl ReceiveLane {
     /// GO.
     pub fn go(&mut self, set: u8) -> Result<(), SlotEmpty>
         requires { set < 2 }
-        ensures answer { is_ok result ≡ not (is_empty (key_slot_in (slot_pair false self.old.kept.slots) (is_one set))) }
+        ensures answer { is_ok result ≡ not (is_empty (key_slot_in (slot_pair false self.old.kept.slots)
+            (is_one set))) }
         ensures kept { self.new.kept ≡ called_into self.old (Go (is_one set)) }
         ensures rest { self.new ≡ record self.old { kept = self.new.kept; delivered = self.new.delivered } }
     {
