@@ -5,8 +5,6 @@
 
 mod directions;
 mod stream;
-#[cfg(test)]
-mod tests;
 
 pub use stream::{SEND_ROOM, Stream};
 pub use stream_lanes::{Sealed, SendRefusal};
