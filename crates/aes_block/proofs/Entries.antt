@@ -43,10 +43,6 @@ times-lt b lt =
     let both = and_parts (nat_lt (times 2 b) 256) (nat_lt (times 3 b) 256) (all_below_at (λ b. nat_lt (times 2 b) 256 && nat_lt (times 3 b) 256) 256 b bytes_test lt) in
     (ltb-true (times 2 b) 256 both.0, ltb-true (times 3 b) 256 both.1)
 
--- each byte but 0 has the inverse that the S-box takes
-inverse_test : all_below (λ b. times (b + 1) (inverse (b + 1)) == 1) 255 ≡ true
-inverse_test = refl
-
 -- ---- the tables of the rounds
 
 -- entry b of a table is the word that f makes of the S-box of b

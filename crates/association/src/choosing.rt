@@ -7,8 +7,11 @@ ghost use Rattle.association.specs.Ways.{test_of};
 
 use crate::Choice;
 use ide_plan::{AddressRange, IdRange, Selector, StreamPlan};
-use ide_types::Side;
+use ide_types::{Items, Side};
 use tlp_layout::{Fields, HeadView, Routing};
+
+/// The streams of a link, as its topology lists them.
+pub type Table = Items<StreamPlan>;
 
 /// How a stream takes a TLP: by a range, as the default stream, or by its traffic class.
 #[derive(Clone, Copy)]
@@ -164,16 +167,17 @@ fn least_by(way: Way, streams: &[StreamPlan], side: Side, tlp: &HeadView) -> Opt
     least
 }
 
-/// The stream that takes a TLP at the port of a link's side, from the streams of that link. First the selective stream
+/// The stream that takes a TLP at the port of a link's side, from the table of that link. First the selective stream
 /// of the least ID that has an address range for a memory request's address or a requester range for the TLP's ID: at a
 /// host's port the destination of a configuration request or of a message routed by ID, the requester of a completion;
 /// at a device's port the requester of a request, the completer of a completion. Then the default stream, then the link
 /// stream that lists its traffic class (PCI Express Base 6.0 section 6.33, in this profile's order). It is never
 /// refused.
 #[tactic(auto, unfolding(crate::specs::Choice::choice_of))]
-pub fn choose(streams: &[StreamPlan], side: Side, tlp: &HeadView) -> Choice
-    ensures { result ≡ choice_of streams.now side tlp.now }
+pub fn choose(table: &Table, side: Side, tlp: &HeadView) -> Choice
+    ensures { result ≡ choice_of table.now side tlp.now }
 {
+    let streams = table.as_slice();
     if let Some(id) = least_by(Way::ByRange, streams, side, tlp) {
         return Choice::Selective(id);
     }

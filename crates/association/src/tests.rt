@@ -1,6 +1,6 @@
 //! Which stream takes a TLP.
 
-use crate::{Choice, choose};
+use crate::{Choice, Table, choose};
 use ide_plan::{AddressRange, IdRange, Selector, StreamPlan};
 use ide_types::{Items, Side};
 use std::alloc::{AllocError, Global};
@@ -105,35 +105,35 @@ fn by_class(alloc: Global, id: u8, class: u8) -> Result<StreamPlan, AllocError> 
 #[test]
 fn selective_streams_come_first(rt: HostRuntime) -> Result<(), Fail> {
     let alloc = rt.alloc();
-    let streams = [
+    let table: Table = Items::new(vec![in alloc;
         by_class(alloc, 3, 0)?,
         by_id(alloc, 9, 0x0100),
         by_address(alloc, 5, 0x4000_0000, 0x400f_ffff)?,
         by_default(alloc, 1),
-    ];
+    ]?);
     let (host, device) = (Side::Host, Side::Device);
     assert_eq!(rt;
-        choose(&streams, host, &write(0, 0x0100, 0x400f_fffc)),
+        choose(&table, host, &write(0, 0x0100, 0x400f_fffc)),
         Choice::Selective(5)
     );
     assert_eq!(rt;
-        choose(&streams, device, &write(0, 0x0100, 0x4000_0000)),
+        choose(&table, device, &write(0, 0x0100, 0x4000_0000)),
         Choice::Selective(5)
     );
     assert_eq!(rt;
-        choose(&streams, device, &write(0, 0x0100, 0x4010_0000)),
+        choose(&table, device, &write(0, 0x0100, 0x4010_0000)),
         Choice::Selective(9)
     );
     assert_eq!(rt;
-        choose(&streams, host, &write(0, 0x0100, 0x4010_0000)),
+        choose(&table, host, &write(0, 0x0100, 0x4010_0000)),
         Choice::Default(1)
     );
     assert_eq!(rt;
-        choose(&streams, host, &configure(0, 0x0100)),
+        choose(&table, host, &configure(0, 0x0100)),
         Choice::Selective(9)
     );
     assert_eq!(rt;
-        choose(&streams, device, &configure(0, 0x0100)),
+        choose(&table, device, &configure(0, 0x0100)),
         Choice::Default(1)
     );
     Ok(())
@@ -142,9 +142,10 @@ fn selective_streams_come_first(rt: HostRuntime) -> Result<(), Fail> {
 #[test]
 fn link_streams_come_last(rt: HostRuntime) -> Result<(), Fail> {
     let alloc = rt.alloc();
-    let streams = [by_class(alloc, 3, 2)?, by_id(alloc, 9, 0x0100)];
+    let streams = vec![in alloc; by_class(alloc, 3, 2)?, by_id(alloc, 9, 0x0100)]?;
+    let table: Table = Items::new(streams);
     let host = Side::Host;
-    assert_eq!(rt; choose(&streams, host, &write(2, 0, 0)), Choice::Link(3));
-    assert_eq!(rt; choose(&streams, host, &write(0, 0, 0)), Choice::Plain);
+    assert_eq!(rt; choose(&table, host, &write(2, 0, 0)), Choice::Link(3));
+    assert_eq!(rt; choose(&table, host, &write(0, 0, 0)), Choice::Plain);
     Ok(())
 }

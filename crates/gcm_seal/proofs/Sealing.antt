@@ -1,4 +1,4 @@
--- Sealing and opening: lengths, bytes, pieces, and that each undoes the other.
+-- Sealing and opening: lengths and bytes, what masking twice gives, and when a tag verifies.
 use Rattle.std.proofs.Common.{◌≡◌, ℕ, ◌+◌, ◌-◌, ◌%◌, ◌<◌, true, List, ◌++◌, length, take, drop, bit_xor, slice_index, slice_range, refl, sym, ap, ◌∙◌, arith, inl, inr, length-append, length-take, length-drop, get_or-take}
 use Rattle.std.specs.Prelude.{All}
 use Rattle.std.specs.Int.{w128, to_be_bytes}
@@ -48,44 +48,6 @@ masked-append key iv n xs ys =
           ∙ rw place (sym (ap (λ (x : ℕ). bit_xor x (stream_byte key iv (n + i))) (get_or-append_right xs ys (length xs) i 0 refl back)))
     ]))
 
-pub masked-take : (key iv : List ℕ) (n k : ℕ) (xs : List ℕ) → masked key iv n (take k xs) ≡ take k (masked key iv n xs)
-masked-take key iv n k xs =
-    let whole = masked key iv n xs in
-    let long : length whole ≡ length xs = length-masked key iv n xs in
-    let all : length (take k whole) ≡ length (take k xs) = omega (arith, length-take k whole, length-take k xs, long) in
-    sym (masked_from key iv n (take k xs) (take k whole) all (λ i lt.
-    let below : i < k = omega (arith, length-take k xs) in
-    let within : i < length xs = omega (arith, length-take k xs) in
-    get_or-take k whole i 0 below
-    ∙ masked-at key iv n xs i within
-    ∙ sym (ap (λ (x : ℕ). bit_xor x (stream_byte key iv (n + i))) (get_or-take k xs i 0 below))))
-
-pub masked-drop : (key iv : List ℕ) (n k : ℕ) (xs : List ℕ) → masked key iv (n + k) (drop k xs) ≡ drop k (masked key iv n xs)
-masked-drop key iv n k xs =
-    let whole = masked key iv n xs in
-    let long : length whole ≡ length xs = length-masked key iv n xs in
-    let all : length (drop k whole) ≡ length (drop k xs) = omega (arith, length-drop k whole, length-drop k xs, long) in
-    sym (masked_from key iv (n + k) (drop k xs) (drop k whole) all (λ i lt.
-    let within : k + i < length xs = omega (arith, length-drop k xs) in
-    let place : n + (k + i) ≡ n + k + i = omega arith in
-    get_or-drop k whole i 0
-    ∙ masked-at key iv n xs (k + i) within
-    ∙ rw place (sym (ap (λ (x : ℕ). bit_xor x (stream_byte key iv (n + k + i))) (get_or-drop k xs i 0)))))
-
--- a piece of the plaintext, masked at its place, is that piece of the ciphertext
-pub masked-piece : (key iv p : List ℕ) (i j : ℕ) → masked key iv i (slice_range p i j) ≡ slice_range (ciphertext_of key iv p) i j
-unfolding ciphertext_of
-masked-piece key iv p i j =
-    let from : 0 + i ≡ i = omega arith in
-    masked-take key iv i (j - i) (drop i p) ∙ ap (take (j - i)) (rw from at (masked-drop key iv 0 i p))
-
--- a piece of the ciphertext, masked at its place, is that piece of the plaintext
-pub opened-piece : (key iv c : List ℕ) (i j : ℕ) → masked key iv i (slice_range c i j) ≡ slice_range (open_of key iv c) i j
-unfolding open_of
-opened-piece key iv c i j =
-    let from : 0 + i ≡ i = omega arith in
-    masked-take key iv i (j - i) (drop i c) ∙ ap (take (j - i)) (rw from at (masked-drop key iv 0 i c))
-
 -- ---- lengths and bytes
 
 stream_byte-byte : (key iv : List ℕ) (k : ℕ) → IsByte (stream_byte key iv k)
@@ -98,21 +60,9 @@ masked-bytes key iv n xs h =
     rw (masked-at key iv n xs i within)
     (xor_lt 8 (slice_index xs i) (stream_byte key iv (n + i)) (All-get_or IsByte xs i 0 within h) (stream_byte-byte key iv (n + i))))
 
-pub length-ciphertext_of : (key iv p : List ℕ) → length (ciphertext_of key iv p) ≡ length p
-unfolding ciphertext_of
-length-ciphertext_of key iv p = length-masked key iv 0 p
-
-pub ciphertext_of-bytes : (key iv p : List ℕ) → All IsByte p → All IsByte (ciphertext_of key iv p)
-unfolding ciphertext_of
-ciphertext_of-bytes key iv p h = masked-bytes key iv 0 p h
-
 pub length-open_of : (key iv c : List ℕ) → length (open_of key iv c) ≡ length c
 unfolding open_of
 length-open_of key iv c = length-masked key iv 0 c
-
-pub open_of-bytes : (key iv c : List ℕ) → All IsByte c → All IsByte (open_of key iv c)
-unfolding open_of
-open_of-bytes key iv c h = masked-bytes key iv 0 c h
 
 pub length-tag_of : (key iv a c : List ℕ) → length (tag_of key iv a c) ≡ 12
 unfolding tag_of
@@ -122,32 +72,7 @@ pub tag_of-bytes : (key iv a c : List ℕ) → All IsByte (tag_of key iv a c)
 unfolding tag_of
 tag_of-bytes key iv a c = All-take IsByte 12 (to_be_bytes w128 _) (bytes-high_first 16 _)
 
--- ---- each undoes the other
-
-pub open-ciphertext : (key iv p : List ℕ) → open_of key iv (ciphertext_of key iv p) ≡ p
-unfolding open_of ciphertext_of
-open-ciphertext key iv p = masked-masked key iv 0 p
-
-pub ciphertext-open : (key iv c : List ℕ) → ciphertext_of key iv (open_of key iv c) ≡ c
-unfolding open_of ciphertext_of
-ciphertext-open key iv c = masked-masked key iv 0 c
-
-pub seal-parts : (key iv a p : List ℕ) → seal_of key iv a p ≡ (ciphertext_of key iv p, tag_of key iv a (ciphertext_of key iv p))
-unfolding seal_of
-seal-parts key iv a p = refl
-
-pub ciphertext-sealed : (key iv a p c t : List ℕ) → seal_of key iv a p ≡ (c, t) → c ≡ ciphertext_of key iv p
-unfolding seal_of
-ciphertext-sealed key iv a p c t e = sym (ap (λ (s : List ℕ × List ℕ). s.0) e)
-
-pub tag-sealed : (key iv a p c t : List ℕ) → seal_of key iv a p ≡ (c, t) → t ≡ tag_of key iv a c
-unfolding seal_of
-tag-sealed key iv a p c t e =
-    sym (ap (λ (s : List ℕ × List ℕ). s.1) e) ∙ ap (tag_of key iv a) (ap (λ (s : List ℕ × List ℕ). s.0) e)
-
-pub open-seal : (key iv a p : List ℕ) → open_of key iv (seal_of key iv a p).0 ≡ p
-unfolding seal_of
-open-seal key iv a p = open-ciphertext key iv p
+-- ---- tags
 
 pub verifies-tag : (key iv a c t : List ℕ) → verifies key iv a c t ≡ true → t ≡ tag_of key iv a c
 unfolding verifies
@@ -156,7 +81,3 @@ verifies-tag key iv a c t e = (bytes_eq-Decides t (tag_of key iv a c)).0 e
 pub tag-verifies : (key iv a c t : List ℕ) → t ≡ tag_of key iv a c → verifies key iv a c t ≡ true
 unfolding verifies
 tag-verifies key iv a c t e = (bytes_eq-Decides t (tag_of key iv a c)).1 e
-
-pub verifies-seal : (key iv a p : List ℕ) → verifies key iv a (seal_of key iv a p).0 (seal_of key iv a p).1 ≡ true
-unfolding seal_of
-verifies-seal key iv a p = tag-verifies key iv a (ciphertext_of key iv p) (tag_of key iv a (ciphertext_of key iv p)) refl

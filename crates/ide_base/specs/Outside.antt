@@ -10,10 +10,12 @@ Contents = List ℕ → Option (List ℕ)
 
 -- ---- what can be seen from outside
 
--- of a shelf: its contents, which it need not tell, how many bytes it gave, and how many reads failed
+-- of a shelf: its contents, which it need not tell, how many bytes it gave, how many one read asked for at most, and how
+-- many reads failed
 pub record ShelfSeen : Type 0 where
   pub contents : Option Contents
   pub given : ℕ
+  pub longest : ℕ
   pub faults : ℕ
 
 -- of a sink: what it holds, which it need not tell, and how many calls failed

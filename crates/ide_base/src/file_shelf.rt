@@ -26,6 +26,7 @@ pub struct FileShelf<R: Files> {
     files: R,
     last: Option<OpenFile<R::File>>,
     given: u64,
+    longest: usize,
     faults: u64,
 }
 
@@ -33,6 +34,7 @@ impl<R: Files> FileShelf<R> {
     /// Over the files of the system; none is open yet.
     pub fn new(alloc: Global, files: R) -> FileShelf<R>
         ensures given { (⟦<FileShelf<R> as Shelf>⟧.seen result).given ≡ 0 }
+        ensures longest { (⟦<FileShelf<R> as Shelf>⟧.seen result).longest ≡ 0 }
         ensures faults { (⟦<FileShelf<R> as Shelf>⟧.seen result).faults ≡ 0 }
     {
         FileShelf {
@@ -40,6 +42,7 @@ impl<R: Files> FileShelf<R> {
             files,
             last: None,
             given: 0,
+            longest: 0,
             faults: 0,
         }
     }
@@ -93,9 +96,15 @@ fn read_named<R: Files>(
 }
 
 impl<R: Files> Shelf for FileShelf<R> {
-    ghost seen = { λ s. record { contents = None; given = s.given; faults = s.faults } };
+    ghost seen = { λ s. record {
+      contents = None;
+      given = s.given;
+      longest = s.longest;
+      faults = s.faults;
+    } };
 
     fn read(&mut self, name: &str, at: u64, buf: &mut [u8]) -> Result<usize, ShelfFault> {
+        self.longest = self.longest.max(buf.len());
         match read_named(self.alloc, &self.files, &mut self.last, name, at, buf) {
             Ok(n) => {
                 self.given = self.given.saturating_add(n as u64);

@@ -1,5 +1,5 @@
 //! Files in memory, of which chosen reads fail, or none.
-ghost use Rattle.std.specs.Prelude.{◌≡◌, ◌≤◌, ◌||◌, Some, is_err, is_none, option_map, length, IfOk};
+ghost use Rattle.std.specs.Prelude.{◌≡◌, ◌≤◌, ◌||◌, Some, is_err, is_none, option_map, length, max, IfOk};
 ghost use Rattle.ide_base.specs.Memory.{IsNew, called, contents_of, fails_now, held_under, reads_of};
 ghost use Rattle.ide_base.specs.Outside.{Given, ReadAt, ReadFrom, ReadOf, ShelfCause};
 
@@ -66,6 +66,7 @@ pub struct MemShelf {
     files: Vec<NamedFile>,
     calls: Calls,
     given: u64,
+    longest: usize,
 }
 
 impl MemShelf {
@@ -73,6 +74,7 @@ impl MemShelf {
     pub fn new(files: Vec<NamedFile>, failing: Vec<u64>) -> MemShelf
         ensures contents { (⟦<MemShelf as Shelf>⟧.seen result).contents ≡ Some (held_under files.items) }
         ensures given { (⟦<MemShelf as Shelf>⟧.seen result).given ≡ 0 }
+        ensures longest { (⟦<MemShelf as Shelf>⟧.seen result).longest ≡ 0 }
         ensures faults { (⟦<MemShelf as Shelf>⟧.seen result).faults ≡ 0 }
         ensures calls { IsNew (reads_of result) failing.items }
     {
@@ -80,12 +82,18 @@ impl MemShelf {
             files,
             calls: Calls::new(failing),
             given: 0,
+            longest: 0,
         }
     }
 }
 
 impl Shelf for MemShelf {
-    ghost seen = { λ s. record { contents = Some (contents_of s); given = s.given; faults = s.calls.faults } };
+    ghost seen = { λ s. record {
+      contents = Some (contents_of s);
+      given = s.given;
+      longest = s.longest;
+      faults = s.calls.faults;
+    } };
 
     fn read(&mut self, name: &str, at: u64, buf: &mut [u8]) -> Result<usize, ShelfFault>
         ensures same { (⟦<MemShelf as Shelf>⟧.seen self.new).contents ≡ (⟦<MemShelf as Shelf>⟧.seen self.old).contents }
@@ -93,12 +101,15 @@ impl Shelf for MemShelf {
         ensures bytes { ReadFrom (⟦<MemShelf as Shelf>⟧.seen self.old).contents name.now at result buf.new }
         ensures counted { Given (⟦<MemShelf as Shelf>⟧.seen self.old).given (⟦<MemShelf as Shelf>⟧.seen self.new).given
             result }
+        ensures asked { (⟦<MemShelf as Shelf>⟧.seen self.new).longest ≡ max (⟦<MemShelf as Shelf>⟧.seen self.old).longest
+            (length buf.new) }
         ensures cause { ShelfCause (⟦<MemShelf as Shelf>⟧.seen self.old).faults
             (⟦<MemShelf as Shelf>⟧.seen self.new).faults
             (⟦<MemShelf as Shelf>⟧.seen self.old).contents name.now result }
         ensures calls { reads_of self.new ≡ called (reads_of self.old) }
         ensures fails { is_err result ≡ fails_now (reads_of self.old) || is_none (contents_of self.old name.now) }
     {
+        self.longest = self.longest.max(buf.len());
         if self.calls.next_fails() {
             return Err(ShelfFault);
         }
@@ -111,6 +122,7 @@ impl Shelf for MemShelf {
 pub struct TrueShelf {
     files: Vec<NamedFile>,
     given: u64,
+    longest: usize,
 }
 
 impl TrueShelf {
@@ -118,15 +130,26 @@ impl TrueShelf {
     pub fn new(files: Vec<NamedFile>) -> TrueShelf
         ensures contents { (⟦<TrueShelf as Shelf>⟧.seen result).contents ≡ Some (held_under files.items) }
         ensures given { (⟦<TrueShelf as Shelf>⟧.seen result).given ≡ 0 }
+        ensures longest { (⟦<TrueShelf as Shelf>⟧.seen result).longest ≡ 0 }
     {
-        TrueShelf { files, given: 0 }
+        TrueShelf {
+            files,
+            given: 0,
+            longest: 0,
+        }
     }
 }
 
 impl Shelf for TrueShelf {
-    ghost seen = { λ s. record { contents = Some (held_under s.files.items); given = s.given; faults = 0 } };
+    ghost seen = { λ s. record {
+      contents = Some (held_under s.files.items);
+      given = s.given;
+      longest = s.longest;
+      faults = 0;
+    } };
 
     fn read(&mut self, name: &str, at: u64, buf: &mut [u8]) -> Result<usize, ShelfFault> {
+        self.longest = self.longest.max(buf.len());
         read_file(&self.files, &mut self.given, name, at, buf)
     }
 }

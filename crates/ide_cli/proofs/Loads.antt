@@ -7,7 +7,7 @@ use Rattle.ide_base.specs.Outside.{Contents, Rose, ShelfSeen, SinkSeen}
 use Rattle.ide_plan.specs.declared.plan.Plan.{Plan}
 use Rattle.line_runs.specs.Gain.{Text, Gained}
 use Rattle.line_runs.specs.Front.{FrontIn, FrontOf, Gave, GaveOf, bytes_of}
-use Rattle.line_runs.specs.Gathering.{WroteEnded, WroteEndedIn, WroteEndedOf}
+use Rattle.line_runs.specs.Gathering.{WroteEnded, WroteEndedIn, WroteEndedOf, begun}
 use Rattle.line_runs.specs.Outcome.{Due, Quiet, EndsOn}
 use Rattle.line_runs.specs.declared.ends.Fault.TheVariants as fault
 use Rattle.line_runs.specs.declared.front.Stop.TheVariants as stop
@@ -16,7 +16,7 @@ use Rattle.line_runs.specs.declared.ends.End.TheVariants.{Done, TooLong}
 use Rattle.line_runs.specs.declared.ends.Fault.{Fault}
 use Rattle.line_runs.proofs.WholeFiles.{IsDue, SameDue, gained_nothing, stopped}
 use Rattle.ide_cli.specs.declared.topologies.Loaded.{Loaded}
-use Rattle.ide_cli.specs.SoFar.{WroteBy, WroteByIn, WroteByOf, loaded_so_far, run_so_far, script_so_far}
+use Rattle.ide_cli.specs.SoFar.{WroteBy, WroteByIn, WroteByOf, loaded_so_far, run_so_far, script_given, script_so_far}
 use Rattle.ide_cli.specs.declared.topologies.Loaded.TheVariants.{Sound, Faulty, Long}
 use Rattle.ide_cli.specs.Loading.{GaveAllOf, Loads, LoadedIn, LoadedOf, LoadCut, topology_limit, within}
 use Rattle.ide_cli.specs.Topologies.{loaded}
@@ -143,17 +143,21 @@ pub gave_all : {L : Type 0} (long : L) (told : Option Contents) (name read : Tex
 gave_all long told name read (Ok l) before now is gave few = λ other. gave_all_of told name read before now is (few other) gave
 gave_all long told name read (Err e) before now is gave few = few
 
--- nothing was written yet
-nothing_in : (text : ℕ → Text) (file : Text) (s0 s1 : ShelfSeen) (o : SinkSeen) → ((n : ℕ) → n ≤ length file → text n ≡ []) → (n : ℕ) × (n ≤ length file) × Gave s0.given n s1.given → WroteByIn text s0 s1 o o
-nothing_in text file s0 s1 o none (n, le, gave) = let P : Text → Type 0 = λ t. Gained o.held o.held t in (n, gave, subst P (sym (none n le)) (gained_nothing o.held))
+-- nothing was written yet, and no line has begun
+nothing_in : (text lines : ℕ → Text) (file : Text) (s0 s1 : ShelfSeen) (o : SinkSeen) → ((n : ℕ) → n ≤ length file → (text n ≡ []) × (lines n ≡ [])) → (n : ℕ) × (n ≤ length file) × Gave s0.given n s1.given
+    → WroteByIn text lines s0 s1 o o
+nothing_in text lines file s0 s1 o none (n, le, gave) =
+    let P : Text → Type 0 = λ t. Gained o.held o.held t in
+    let short : length (begun (lines n)) ≤ 20000 = subst (λ (t : Text). length (begun t) ≤ 20000) (sym (none n le).1) (omega arith) in
+    record { n = n; gave = gave; short = short; gained = subst P (sym (none n le).0) (gained_nothing o.held) }
 
-pub nothing_yet : (text : Contents → ℕ → Text) (name : Text) (s0 s1 : ShelfSeen) (o : SinkSeen) → ((contents : Contents) (n : ℕ) → n ≤ length (bytes_of (contents name)) → text contents n ≡ []) → GaveOf s0.contents name s0.given s1.given
-    → WroteBy text s0 s1 o o
-nothing_yet text name s0 s1 o none gave = by_told s0.contents gave
+pub nothing_yet : (text lines : Contents → ℕ → Text) (name : Text) (s0 s1 : ShelfSeen) (o : SinkSeen)
+    → ((contents : Contents) (n : ℕ) → n ≤ length (bytes_of (contents name)) → (text contents n ≡ []) × (lines contents n ≡ [])) → GaveOf s0.contents name s0.given s1.given → WroteBy text lines s0 s1 o o
+nothing_yet text lines name s0 s1 o none gave = by_told s0.contents gave
   where
-    by_told : (told : Option Contents) → GaveOf told name s0.given s1.given → WroteByOf text told s0 s1 o o
+    by_told : (told : Option Contents) → GaveOf told name s0.given s1.given → WroteByOf text lines told s0 s1 o o
     by_told None gave = tt
-    by_told (Some contents) gave = nothing_in (text contents) (bytes_of (contents name)) s0 s1 o (none contents) gave
+    by_told (Some contents) gave = nothing_in (text contents) (lines contents) (bytes_of (contents name)) s0 s1 o (none contents) gave
 
 no_line : (loaded : Loaded) → loaded_so_far loaded [] ≡ []
 no_line (Sound plan) = refl
@@ -161,15 +165,18 @@ no_line (Faulty fault) = refl
 no_line Long = refl
 
 -- while the topology is read
-pub none_so_far : (topology script : Option Text) (n : ℕ) → n ≤ length (bytes_of topology) → run_so_far topology script n ≡ []
-none_so_far None script n le = refl
+pub none_so_far : (topology script : Option Text) (n : ℕ) → n ≤ length (bytes_of topology) → (run_so_far topology script n ≡ []) × (script_given topology script n ≡ [])
+none_so_far None script n le = (refl, refl)
 none_so_far (Some file) script n le =
     let zero : n - length file ≡ 0 = omega arith in
-    ap (λ (k : ℕ). loaded_so_far (loaded file) (take k (bytes_of script))) zero ∙ no_line (loaded file)
+    let none : script_given (Some file) script n ≡ [] = ap (λ (k : ℕ). take k (bytes_of script)) zero in
+    (ap (loaded_so_far (loaded file)) none ∙ no_line (loaded file), none)
 
 -- the same text in other words
 same_ended_in : (f g : Text → Text) (file : Text) (s0 s1 : ShelfSeen) (o0 o1 : SinkSeen) → ((t : Text) → f t ≡ g t) → WroteEndedIn f file s0 s1 o0 o1 → WroteEndedIn g file s0 s1 o0 o1
-same_ended_in f g file s0 s1 o0 o1 same (n, le, gave, gained) = let P : Text → Type 0 = λ t. Gained o0.held o1.held t in (n, le, gave, subst P (same (take n file)) gained)
+same_ended_in f g file s0 s1 o0 o1 same wrote =
+    let P : Text → Type 0 = λ t. Gained o0.held o1.held t in
+    record { n = wrote.n; within = wrote.within; gave = wrote.gave; short = wrote.short; gained = subst P (same (take wrote.n file)) wrote.gained }
 
 same_ended : (f g : Text → Text) (name : Text) (s0 s1 : ShelfSeen) (o0 o1 : SinkSeen) → ((t : Text) → f t ≡ g t) → WroteEnded f name s0 s1 o0 o1 → WroteEnded g name s0 s1 o0 o1
 same_ended f g name s0 s1 o0 o1 same wrote = by_told s0.contents wrote
@@ -184,38 +191,45 @@ ended_same f g name s0 s1 o0 o1 (Ok e) same wrote = tt
 ended_same f g name s0 s1 o0 o1 (Err e) same wrote = λ is. same_ended f g name s0 s1 o0 o1 same (wrote is)
 
 -- of the one file that is read
-wrote_ended : (text : Text → Text) (name : Text) (s0 s1 : ShelfSeen) (o0 o1 : SinkSeen) → WroteEnded text name s0 s1 o0 o1 → WroteBy (λ contents n. text (take n (bytes_of (contents name)))) s0 s1 o0 o1
+wrote_ended : (text : Text → Text) (name : Text) (s0 s1 : ShelfSeen) (o0 o1 : SinkSeen) → WroteEnded text name s0 s1 o0 o1 → WroteBy (λ contents n. text (take n (bytes_of (contents name)))) (λ contents n. take n (bytes_of (contents name))) s0 s1 o0 o1
 wrote_ended text name s0 s1 o0 o1 wrote = by_told s0.contents wrote
   where
-    by_told : (told : Option Contents) → WroteEndedOf text told name s0 s1 o0 o1 → WroteByOf (λ contents n. text (take n (bytes_of (contents name)))) told s0 s1 o0 o1
+    by_told : (told : Option Contents) → WroteEndedOf text told name s0 s1 o0 o1 → WroteByOf (λ contents n. text (take n (bytes_of (contents name)))) (λ contents n. take n (bytes_of (contents name))) told s0 s1 o0 o1
     by_told None wrote = tt
-    by_told (Some contents) wrote = (wrote.0, wrote.2, wrote.3)
+    by_told (Some contents) wrote = record { n = wrote.n; gave = wrote.gave; short = wrote.short; gained = wrote.gained }
 
 pub ended_by : (text : Text → Text) (name : Text) (s0 s1 : ShelfSeen) (o0 o1 : SinkSeen) (r : Result End Fault) → IfErr r (λ e. e ≡ fault.Read → WroteEnded text name s0 s1 o0 o1)
-    → IfErr r (λ e. e ≡ fault.Read → WroteBy (λ contents n. text (take n (bytes_of (contents name)))) s0 s1 o0 o1)
+    → IfErr r (λ e. e ≡ fault.Read → WroteBy (λ contents n. text (take n (bytes_of (contents name)))) (λ contents n. take n (bytes_of (contents name))) s0 s1 o0 o1)
 ended_by text name s0 s1 o0 o1 (Ok e) wrote = tt
 ended_by text name s0 s1 o0 o1 (Err e) wrote = λ is. wrote_ended text name s0 s1 o0 o1 (wrote is)
 
 -- of the script behind a topology that was wholly read
 run_ended_in : (topology script : Option Text) (plan : Plan) (s0 s1 s2 : ShelfSeen) (o0 o1 : SinkSeen) → LoadedIn loaded topology (Sound plan) → Gave s0.given (length (bytes_of topology)) s1.given
-    → WroteEndedIn (script_so_far plan) (bytes_of script) s1 s2 o0 o1 → WroteByIn (λ n. run_so_far topology script n) s0 s2 o0 o1
+    → WroteEndedIn (script_so_far plan) (bytes_of script) s1 s2 o0 o1 → WroteByIn (λ n. run_so_far topology script n) (λ n. script_given topology script n) s0 s2 o0 o1
 run_ended_in None script plan s0 s1 s2 o0 o1 is all wrote = absurd is
-run_ended_in (Some file) script plan s0 s1 s2 o0 o1 is all (n, le, gave, gained) =
-    let rest : n ≡ (length file + n) - length file = omega arith in
+run_ended_in (Some file) script plan s0 s1 s2 o0 o1 is all wrote =
+    let n = wrote.n in
     let P : Text → Type 0 = λ t. Gained o0.held o1.held t in
+    let rest : n ≡ (length file + n) - length file = omega arith in
+    let given : take n (bytes_of script) ≡ script_given (Some file) script (length file + n) = ap (λ (k : ℕ). take k (bytes_of script)) rest in
     let text : script_so_far plan (take n (bytes_of script)) ≡ run_so_far (Some file) script (length file + n) =
-    ap (λ (l : Loaded). loaded_so_far l (take n (bytes_of script))) is ∙ ap (λ (k : ℕ). loaded_so_far (loaded file) (take k (bytes_of script))) rest in
-    (length file + n, joined s0.given s1.given s2.given (length file) n all gave, subst P text gained)
+    ap (λ (l : Loaded). loaded_so_far l (take n (bytes_of script))) is ∙ ap (loaded_so_far (loaded file)) given in
+    record {
+      n = length file + n;
+      gave = joined s0.given s1.given s2.given (length file) n all wrote.gave;
+      short = subst (λ (t : Text). length (begun t) ≤ 20000) given wrote.short;
+      gained = subst P text wrote.gained;
+    }
 
 pub run_ended : (topology script : Text) (plan : Plan) (s0 s1 s2 : ShelfSeen) (o0 o1 : SinkSeen) (r : Result End Fault) → s1.contents ≡ s0.contents → LoadedOf loaded s0.contents topology (Sound plan) → GaveAllOf s0.contents topology
     s0.given s1.given
-    → IfErr r (λ e. e ≡ fault.Read → WroteEnded (script_so_far plan) script s1 s2 o0 o1) → IfErr r (λ e. e ≡ fault.Read → WroteBy (λ contents n. run_so_far (contents topology) (contents script) n) s0 s2 o0 o1)
+    → IfErr r (λ e. e ≡ fault.Read → WroteEnded (script_so_far plan) script s1 s2 o0 o1) → IfErr r (λ e. e ≡ fault.Read → WroteBy (λ contents n. run_so_far (contents topology) (contents script) n) (λ contents n. script_given (contents topology) (contents script) n) s0 s2 o0 o1)
 run_ended topology script plan s0 s1 s2 o0 o1 (Ok e) same is all wrote = tt
 run_ended topology script plan s0 s1 s2 o0 o1 (Err e) same is all wrote =
     let P : Option Contents → Type 0 = λ told. WroteEndedOf (script_so_far plan) told script s1 s2 o0 o1 in
     λ read. by_told s0.contents is all (subst P same (wrote read))
   where
     by_told : (told : Option Contents) → LoadedOf loaded told topology (Sound plan) → GaveAllOf told topology s0.given s1.given → WroteEndedOf (script_so_far plan) told script s1 s2 o0 o1
-        → WroteByOf (λ contents n. run_so_far (contents topology) (contents script) n) told s0 s2 o0 o1
+        → WroteByOf (λ contents n. run_so_far (contents topology) (contents script) n) (λ contents n. script_given (contents topology) (contents script) n) told s0 s2 o0 o1
     by_told None is all wrote = tt
     by_told (Some contents) is all wrote = run_ended_in (contents topology) (contents script) plan s0 s1 s2 o0 o1 is all wrote

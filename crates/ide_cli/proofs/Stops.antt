@@ -9,12 +9,12 @@ use Rattle.line_runs.specs.declared.ends.Fault.TheVariants as fault
 use Rattle.ide_cli.specs.declared.status.Status.{Status}
 use Rattle.ide_cli.specs.declared.status.Status.TheVariants as status
 use Rattle.ide_cli.specs.Headline.{outcome_of}
-use Rattle.ide_cli.specs.SoFar.{WroteBy, asked_so_far}
+use Rattle.ide_cli.specs.SoFar.{WroteBy, asked_so_far, lines_given}
 
-pub asked_wrote : (a : Option Asked) (b : Asked) (s0 s1 : ShelfSeen) (o0 o1 : SinkSeen) (r : Result End Fault) → a ≡ Some b → IfErr r (λ e. e ≡ fault.Read → WroteBy (asked_so_far (Some b)) s0 s1 o0 o1)
-    → IfErr r (λ e. e ≡ fault.Read → WroteBy (asked_so_far a) s0 s1 o0 o1)
+pub asked_wrote : (a : Option Asked) (b : Asked) (s0 s1 : ShelfSeen) (o0 o1 : SinkSeen) (r : Result End Fault) → a ≡ Some b → IfErr r (λ e. e ≡ fault.Read → WroteBy (asked_so_far (Some b)) (lines_given (Some b)) s0 s1 o0 o1)
+    → IfErr r (λ e. e ≡ fault.Read → WroteBy (asked_so_far a) (lines_given a) s0 s1 o0 o1)
 asked_wrote a b s0 s1 o0 o1 r is wrote =
-    let P : Option Asked → Type 0 = λ o. IfErr r (λ e. e ≡ fault.Read → WroteBy (asked_so_far o) s0 s1 o0 o1) in
+    let P : Option Asked → Type 0 = λ o. IfErr r (λ e. e ≡ fault.Read → WroteBy (asked_so_far o) (lines_given o) s0 s1 o0 o1) in
     subst P (sym is) wrote
 
 pub status_read : (s : Status) (r : Result End Fault) (X : Type 0) → outcome_of s ≡ r → IfErr r (λ e. e ≡ fault.Read → X) → s ≡ status.ReadFault → X

@@ -1,12 +1,12 @@
 -- What a run has written where a file could not be read on.
-use Rattle.std.specs.Prelude.{ℕ, ◌-◌, true, List, [], length, take, Option, Some, None}
+use Rattle.std.specs.Prelude.{ℕ, ◌-◌, ◌≤◌, true, List, [], length, take, Option, Some, None}
 use Rattle.ide_base.specs.Outside.{Contents, ShelfSeen, SinkSeen}
 use Rattle.ide_words.specs.Words.{Asked, run, check, show, asked}
 use Rattle.ide_plan.specs.declared.plan.Plan.{Plan}
 use Rattle.text_lines.specs.Pieces.{pieces}
 use Rattle.line_runs.specs.Front.{Gave, bytes_of}
 use Rattle.line_runs.specs.Gain.{Text, Gained}
-use Rattle.line_runs.specs.Gathering.{ended_text}
+use Rattle.line_runs.specs.Gathering.{begun, ended_text}
 use Rattle.ide_cli.specs.declared.topologies.Loaded.{Loaded}
 use Rattle.ide_cli.specs.declared.topologies.Loaded.TheVariants.{Sound, Faulty, Long}
 use Rattle.ide_cli.specs.Script.{due_after, script_in}
@@ -28,9 +28,13 @@ loaded_so_far (Faulty fault) bytes = []
 loaded_so_far Long bytes = []
 
 -- of n bytes that were given, those behind the topology are the script's
+abbrev pub script_given : Option Text → Option Text → ℕ → Text
+script_given None script n = []
+script_given (Some topology) script n = take (n - length topology) (bytes_of script)
+
 abbrev pub run_so_far : Option Text → Option Text → ℕ → Text
 run_so_far None script n = []
-run_so_far (Some topology) script n = loaded_so_far (loaded topology) (take (n - length topology) (bytes_of script))
+run_so_far (Some topology) script n = loaded_so_far (loaded topology) (script_given (Some topology) script n)
 
 abbrev pub asked_so_far : Option Asked → Contents → ℕ → Text
 asked_so_far None contents n = []
@@ -38,20 +42,34 @@ asked_so_far (Some (run topology script)) contents n = run_so_far (contents topo
 asked_so_far (Some (check topology)) contents n = []
 asked_so_far (Some (show packets)) contents n = shown_so_far (take n (bytes_of (contents packets)))
 
--- some number of bytes were given, and the sink gained the text that is due by then
-abbrev pub WroteByIn : (ℕ → Text) → ShelfSeen → ShelfSeen → SinkSeen → SinkSeen → Type 0
-WroteByIn text shelf shelf_now sink sink_now = (n : ℕ) × Gave shelf.given n shelf_now.given
-    × Gained sink.held sink_now.held (text n)
+-- of n bytes that were given, those of the script or of the packet file
+abbrev pub lines_given : Option Asked → Contents → ℕ → Text
+lines_given None contents n = []
+lines_given (Some (run topology script)) contents n = script_given (contents topology) (contents script) n
+lines_given (Some (check topology)) contents n = []
+lines_given (Some (show packets)) contents n = take n (bytes_of (contents packets))
 
-abbrev pub WroteByOf : (Contents → ℕ → Text) → Option Contents → ShelfSeen → ShelfSeen → SinkSeen → SinkSeen → Type 0
-WroteByOf text None shelf shelf_now sink sink_now = Unit {0}
-WroteByOf text (Some contents) shelf shelf_now sink sink_now = WroteByIn (text contents) shelf shelf_now sink sink_now
+-- Some number of bytes were given, the line that has begun in those that are cut into lines has at most 20,000, and the
+-- sink gained the text that is due by then.
+pub record WroteByIn (text lines : ℕ → Text) (shelf shelf_now : ShelfSeen) (sink sink_now : SinkSeen) : Type 0 where
+  pub n : ℕ
+  pub gave : Gave shelf.given n shelf_now.given
+  pub short : length (begun (lines n)) ≤ 20000
+  pub gained : Gained sink.held sink_now.held (text n)
+
+abbrev pub WroteByOf : (text lines : Contents → ℕ → Text) → Option Contents → ShelfSeen → ShelfSeen → SinkSeen
+    → SinkSeen → Type 0
+WroteByOf text lines None shelf shelf_now sink sink_now = Unit {0}
+WroteByOf text lines (Some contents) shelf shelf_now sink sink_now = WroteByIn (text contents) (lines contents) shelf
+    shelf_now sink sink_now
 
 -- where the shelf tells its contents
-abbrev pub WroteBy : (Contents → ℕ → Text) → ShelfSeen → ShelfSeen → SinkSeen → SinkSeen → Type 0
-WroteBy text shelf shelf_now sink sink_now = WroteByOf text shelf.contents shelf shelf_now sink sink_now
+abbrev pub WroteBy : (text lines : Contents → ℕ → Text) → ShelfSeen → ShelfSeen → SinkSeen → SinkSeen → Type 0
+WroteBy text lines shelf shelf_now sink sink_now = WroteByOf text lines shelf.contents shelf shelf_now sink sink_now
 
 -- What was written is exactly what is due to those lines of the script, or of the packet file, that ended in the bytes
--- that were given; where the topology was not wholly read, nothing.
+-- that were given, and of the next line at most 20,000 bytes were; where the topology was not wholly read, nothing was
+-- written.
 abbrev pub WroteSoFar : List Text → ShelfSeen → ShelfSeen → SinkSeen → SinkSeen → Type 0
-WroteSoFar words shelf shelf_now sink sink_now = WroteBy (asked_so_far (asked words)) shelf shelf_now sink sink_now
+WroteSoFar words shelf shelf_now sink sink_now = WroteBy (asked_so_far (asked words)) (lines_given (asked words)) shelf
+    shelf_now sink sink_now

@@ -2,13 +2,13 @@
 
 ghost use Rattle.std.specs.Prelude.{◌≡◌, ◌≢◌, ◌+◌, ◌≤◌, IfErr, IfOk, option_map, take};
 ghost use Rattle.ide_plan.specs.Fits.{FitsPlan};
-ghost use Rattle.line_runs.specs.Front.{Gave, bytes_of};
+ghost use Rattle.line_runs.specs.Front.{AskedPieces, Gave, bytes_of};
 ghost use Rattle.line_runs.specs.Gathering.{WroteEnded};
 ghost use Rattle.line_runs.specs.Outcome.{RanOn};
 ghost use Rattle.ide_cli.specs.Script.{script_due};
 ghost use Rattle.ide_cli.specs.Meaning.{run_due, show_due};
 ghost use Rattle.ide_cli.specs.Reads.{RanPast};
-ghost use Rattle.ide_cli.specs.SoFar.{WroteBy, run_so_far, script_so_far, shown_so_far};
+ghost use Rattle.ide_cli.specs.SoFar.{WroteBy, run_so_far, script_given, script_so_far, shown_so_far};
 
 use crate::packets::PacketWork;
 use crate::script::ScriptWork;
@@ -34,6 +34,7 @@ fn run_script<S: Shelf, O: Sink>(
     ensures read_fault { IfErr result (λ e. e ≡ Fault.Read → WroteEnded (script_so_far plan) script.now
         (S.seen shelf.old) (S.seen shelf.new) (O.seen out.old) (O.seen out.new)) }
     ensures cap { (S.seen shelf.new).given ≤ (S.seen shelf.old).given + 16777217 }
+    ensures pieces { AskedPieces (S.seen shelf.old).longest (S.seen shelf.new).longest }
     ensures too_long { IfOk result (λ e. e ≡ End.TooLong → Gave (S.seen shelf.old).given 16777217
         (S.seen shelf.new).given) }
     ensures whole { IfOk result (λ e. e ≡ End.Done → (S.seen shelf.new).given ≤ (S.seen shelf.old).given + 16777216) }
@@ -59,9 +60,10 @@ pub(crate) fn run_files<S: Shelf, O: Sink>(
     ensures answers { RanOn (λ contents. run_due (contents topology.now) (contents script.now)) (S.seen shelf.old)
         (S.seen shelf.new) (O.seen out.old) (O.seen out.new) result }
     ensures read_fault { IfErr result (λ e. e ≡ Fault.Read → WroteBy (λ contents n. run_so_far (contents topology.now)
-        (contents script.now) n)
+        (contents script.now) n) (λ contents n. script_given (contents topology.now) (contents script.now) n)
         (S.seen shelf.old) (S.seen shelf.new) (O.seen out.old) (O.seen out.new)) }
     ensures cap { (S.seen shelf.new).given ≤ (S.seen shelf.old).given + 17825794 }
+    ensures pieces { AskedPieces (S.seen shelf.old).longest (S.seen shelf.new).longest }
     ensures too_long { IfOk result (λ e. e ≡ End.TooLong → RanPast (S.seen shelf.old).given (S.seen shelf.new).given) }
     ensures whole { IfOk result (λ e. e ≡ End.Done → (S.seen shelf.new).given ≤ (S.seen shelf.old).given + 17825792) }
 {
@@ -84,9 +86,10 @@ pub(crate) fn show_packets<S: Shelf, O: Sink>(
     ensures answers { RanOn (λ contents. option_map show_due (contents packets.now)) (S.seen shelf.old)
         (S.seen shelf.new) (O.seen out.old) (O.seen out.new) result }
     ensures read_fault { IfErr result (λ e. e ≡ Fault.Read → WroteBy (λ contents n. shown_so_far
-        (take n (bytes_of (contents packets.now))))
+        (take n (bytes_of (contents packets.now)))) (λ contents n. take n (bytes_of (contents packets.now)))
         (S.seen shelf.old) (S.seen shelf.new) (O.seen out.old) (O.seen out.new)) }
     ensures cap { (S.seen shelf.new).given ≤ (S.seen shelf.old).given + 16777217 }
+    ensures pieces { AskedPieces (S.seen shelf.old).longest (S.seen shelf.new).longest }
     ensures too_long { IfOk result (λ e. e ≡ End.TooLong → Gave (S.seen shelf.old).given 16777217
         (S.seen shelf.new).given) }
     ensures whole { IfOk result (λ e. e ≡ End.Done → (S.seen shelf.new).given ≤ (S.seen shelf.old).given + 16777216) }

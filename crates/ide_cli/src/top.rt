@@ -8,6 +8,7 @@ ghost use Rattle.link_history.specs.Cause.{CauseLaw};
 ghost use Rattle.link_history.specs.Delivered.{DeliveryLaw};
 ghost use Rattle.link_history.specs.Laws.{DrawsNeverFall, OrderIsNoForgery, PrefixLaw, WholeLaw};
 ghost use Rattle.link_history.specs.Ordered.{OrderLaw};
+ghost use Rattle.line_runs.specs.Front.{AskedPieces};
 ghost use Rattle.line_runs.specs.Outcome.{Ran, RanOn};
 ghost use Rattle.ide_cli.specs.Headline.{AllWritten, InEvery, Unforged, outcome_of, said};
 ghost use Rattle.ide_cli.specs.Meaning.{due_of, usage_line};
@@ -45,6 +46,7 @@ fn perform<S: Shelf, O: Sink>(
     ensures read_fault { IfErr result (λ e. e ≡ Fault.Read → WroteSoFar (map string_bytes words.now)
         (S.seen shelf.old) (S.seen shelf.new) (O.seen out.old) (O.seen out.new)) }
     ensures cap { (S.seen shelf.new).given ≤ (S.seen shelf.old).given + most_read (asked (map string_bytes words.now)) }
+    ensures pieces { AskedPieces (S.seen shelf.old).longest (S.seen shelf.new).longest }
     ensures too_long { IfOk result (λ e. e ≡ End.TooLong → ReadPast (asked (map string_bytes words.now))
         (S.seen shelf.old).given (S.seen shelf.new).given) }
     ensures whole { IfOk result (λ e. e ≡ End.Done → (S.seen shelf.new).given ≤ (S.seen shelf.old).given + most_counted
@@ -101,13 +103,16 @@ pub fn run<S: Shelf, O: Sink>(
         (O.seen out.new) (outcome_of result) }
 
     // Where a file could not be read on, the sink has gained exactly what is due to those lines of the script, or of
-    // the packet file, that ended in the bytes that were given; where the topology was not wholly read, nothing.
+    // the packet file, that ended in the bytes that were given, and of the next line at most 20,000 bytes were; where
+    // the topology was not wholly read, the sink has gained nothing.
     ensures read_fault { result ≡ Status.ReadFault → WroteSoFar (said words.now) (S.seen shelf.old) (S.seen shelf.new)
         (O.seen out.old) (O.seen out.new) }
 
-    // Of each file that the words name, one byte more is read than count, and of no other any. A file is too long
-    // where that byte was given, and a file that was read to its end has no more than count.
+    // Of each file that the words name, one byte more is read than count, and of no other any; and no read asks for more
+    // than 4,096 bytes. A file is too long where that byte was given, and a file that was read to its end has no more
+    // than count.
     ensures cap { (S.seen shelf.new).given ≤ (S.seen shelf.old).given + most_read (asked (said words.now)) }
+    ensures pieces { AskedPieces (S.seen shelf.old).longest (S.seen shelf.new).longest }
     ensures too_long { result ≡ Status.TooLong → ReadPast (asked (said words.now)) (S.seen shelf.old).given
         (S.seen shelf.new).given }
     ensures whole { result ≡ Status.Done → (S.seen shelf.new).given ≤ (S.seen shelf.old).given + most_counted

@@ -1,7 +1,7 @@
 //! A topology that is read and checked.
 
 ghost use Rattle.std.specs.Prelude.{◌≡◌, ◌≢◌, ◌+◌, ◌<◌, ◌≤◌, IfOk, IfErr, length, option_map, []};
-ghost use Rattle.line_runs.specs.Front.{Gave, GaveOf};
+ghost use Rattle.line_runs.specs.Front.{AskedPieces, Gave, GaveOf};
 ghost use Rattle.line_runs.specs.Outcome.{Ran, RanOn};
 ghost use Rattle.ide_cli.specs.Loading.{GaveAllOf, LoadCause, Loads};
 ghost use Rattle.ide_cli.specs.Reads.{GaveAtMost};
@@ -56,6 +56,7 @@ pub(crate) fn load<S: Shelf>(alloc: Global, shelf: &mut S, name: &str) -> Result
     ensures all { IfOk result (λ l. l ≢ Loaded.Long → GaveAllOf (S.seen shelf.old).contents name.now
         (S.seen shelf.old).given (S.seen shelf.new).given) }
     ensures cap { (S.seen shelf.new).given ≤ (S.seen shelf.old).given + 1048577 }
+    ensures pieces { AskedPieces (S.seen shelf.old).longest (S.seen shelf.new).longest }
     ensures long { IfOk result (λ l. l ≡ Loaded.Long → Gave (S.seen shelf.old).given 1048577 (S.seen shelf.new).given) }
     ensures few { IfOk result (λ l. l ≢ Loaded.Long → GaveAtMost (S.seen shelf.old).given 1048576
         (S.seen shelf.new).given) }
@@ -111,9 +112,10 @@ pub(crate) fn check_topology<S: Shelf, O: Sink>(
     ensures end { IfOk result (λ e. e ≢ End.Usage) }
     ensures answers { RanOn (λ contents. option_map check_due (contents topology.now)) (S.seen shelf.old)
         (S.seen shelf.new) (O.seen out.old) (O.seen out.new) result }
-    ensures read_fault { IfErr result (λ e. e ≡ Fault.Read → WroteBy (λ contents n. [])
+    ensures read_fault { IfErr result (λ e. e ≡ Fault.Read → WroteBy (λ contents n. []) (λ contents n. [])
         (S.seen shelf.old) (S.seen shelf.new) (O.seen out.old) (O.seen out.new)) }
     ensures cap { (S.seen shelf.new).given ≤ (S.seen shelf.old).given + 1048577 }
+    ensures pieces { AskedPieces (S.seen shelf.old).longest (S.seen shelf.new).longest }
     ensures too_long { IfOk result (λ e. e ≡ End.TooLong → Gave (S.seen shelf.old).given 1048577
         (S.seen shelf.new).given) }
     ensures whole { IfOk result (λ e. e ≡ End.Done → (S.seen shelf.new).given ≤ (S.seen shelf.old).given + 1048576) }

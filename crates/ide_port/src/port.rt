@@ -191,7 +191,7 @@ impl Port {
                 Sent::Malformed(fault)
             }
             Ok(view) => {
-                let choice = choose(self.plans.as_slice(), self.name.side, &view.head());
+                let choice = choose(&self.plans, self.name.side, &view.head());
                 self.send_chosen(named(choice), tlp, &view, trusted, more)
             }
         }

@@ -82,10 +82,6 @@ else_none : (o : Option Op) → or_else o None ≡ o
 else_none None = refl
 else_none (Some a) = refl
 
-found_nothing : (ss : List StreamPlan) (id : ℕ) → machine.found {A = Op} ss [] id ≡ None
-found_nothing [] id = refl
-found_nothing (s ∷ ss) id = refl
-
 -- the operation on a stream of a link, by the machine
 pub op_found : (links : List (List StreamPlan)) (from i : ℕ) (vs : List StreamView) (id : ℕ) → map name_of vs ≡ names_from from links
     → op_first (from + i) id vs ≡ machine.found (slice_index_or links i []) (slice_index_or (ops_in links vs) i []) id

@@ -12,16 +12,6 @@ use Rattle.line_runs.specs.Lines.{cut_at, file_due, file_limit, process}
 pub cut_short : (limit : ℕ) (bytes : Text) → length bytes ≤ limit → bytes ≡ cut_at limit bytes
 cut_short limit bytes le = sym (rw (get_or_past bytes limit 10 le) (take_all limit bytes le))
 
-pub cut_behind : (limit : ℕ) (bytes : Text) → slice_index_or bytes limit 10 ≡ 10 → take limit bytes ≡ cut_at limit bytes
-cut_behind limit bytes e = rw e refl
-
-whole_step : (limit : ℕ) (bytes : Text) (b : Bool) → (slice_index_or bytes limit 10 == 10) ≡ b → length bytes ≤ limit + 1 → (slice_index_or bytes limit 10 ≡ 10 → ⊥) → bytes ≡ cut_at limit bytes
-whole_step limit bytes true e le ne = absurd (ne (eqb-true _ _ e))
-whole_step limit bytes false e le ne = rw e (sym (take_all (limit + 1) bytes le))
-
-pub cut_whole : (limit : ℕ) (bytes : Text) → length bytes ≤ limit + 1 → (slice_index_or bytes limit 10 ≡ 10 → ⊥) → bytes ≡ cut_at limit bytes
-cut_whole limit bytes le ne = whole_step limit bytes (slice_index_or bytes limit 10 == 10) refl le ne
-
 -- the front of a file is cut where the file is
 front_cut_at : (limit : ℕ) (file : Text) → cut_at limit (take (limit + 1) file) ≡ cut_at limit file
 front_cut_at limit file =

@@ -1,14 +1,15 @@
 -- A file of which a front was run.
 use Rattle.std.proofs.Common.{◌≡◌, ◌==◌, ◌∙◌, ℕ, zero, suc, ◌+◌, ◌-◌, ◌<◌, ◌≤◌, List, [], ◌∷◌, ◌++◌, length, Bool, true, false, Option, Some, None, Result, Ok, Err, refl, sym, ap, ap₂, inl, inr, ◌⊎◌, subst, arith, append_assoc, length-append, nat_lt, take, drop, option_map}
-use Rattle.std.specs.Prelude.{if◌then◌else◌, IfOk, IfErr}
+use Rattle.std.specs.Prelude.{if◌then◌else◌, nat_lt, IfOk, IfErr}
 use Rattle.std.specs.List.{slice_index_or}
 use Rattle.std.proofs.Math.Seq.{take-append_seam, take-append-add, get_or-append_seam}
 use Rattle.std.proofs.lemmas.List.{append-nil, take_all}
-use Rattle.std.proofs.lemmas.Bool.{lt-ltb, le-ltb}
+use Rattle.std.proofs.lemmas.Bool.{lt-ltb, le-ltb, ltb-false}
 use Rattle.ide_base.specs.Outside.{Contents, Rose, ShelfCause, ShelfSeen, SinkSeen}
 use Rattle.ide_base.specs.declared.shelf.ShelfFault.{ShelfFault}
 use Rattle.text_lines.specs.Pieces.{pieces}
 use Rattle.link_events.specs.declared.fault.LineFault.{LineFault}
+use Rattle.link_events.specs.declared.fault.LineFault.TheVariants as line
 use Rattle.line_runs.specs.declared.ends.End.{End}
 use Rattle.line_runs.specs.declared.ends.End.TheVariants as end
 use Rattle.line_runs.specs.declared.ends.Fault.{Fault}
@@ -16,8 +17,8 @@ use Rattle.line_runs.specs.declared.ends.Fault.TheVariants as fault
 use Rattle.line_runs.specs.Front.{Gave, bytes_of, IsReadIn, IsReadOf, IsWholeIn, IsWholeOf, ReadsOn}
 use Rattle.line_runs.specs.Gain.{Text, Gained, IsFront}
 use Rattle.line_runs.specs.Outcome.{Due, EndsDue, EndsOn, Quiet, IsWholeLines, Ran, RanOn, SomeLines}
-use Rattle.line_runs.specs.Lines.{after, cut_at, cut_text, file_due, file_limit, is_over, process, unended}
-use Rattle.line_runs.specs.Gathering.{EndsIn, Gathered, PieceRan, SoFar, WroteEnded, WroteEndedIn, WroteEndedOf, behind, due_behind, ended_text, limit_due}
+use Rattle.line_runs.specs.Lines.{after, cut_at, cut_text, file_due, file_limit, go_on, is_over, process, refusal, unended}
+use Rattle.line_runs.specs.Gathering.{EndsIn, Gathered, PieceRan, SoFar, WroteEnded, WroteEndedIn, WroteEndedOf, begun, behind, due_behind, ended_text, last_piece, limit_due}
 use Rattle.line_runs.proofs.Cuttings.{cut_short}
 use Rattle.line_runs.proofs.Fronts.{empty, start}
 use Rattle.line_runs.proofs.Parts.{begins, behind_none, comes, ends}
@@ -153,9 +154,6 @@ end_of_file advance closing first name at n s before s0 s1 o0 o1 o2 r f whole le
 
 -- ---- the first byte that counts no more
 
-test_is : (byte : ℕ) (front : Text) (b : Bool) → (byte == 10) ≡ b → (if byte == 10 then front else front ++ byte ∷ []) ≡ (if b then front else front ++ byte ∷ [])
-test_is byte front b is = rw is refl
-
 cut_seam : (limit : ℕ) (front rest : Text) (byte : ℕ) → length front ≡ limit → cut_at limit ((front ++ byte ∷ []) ++ rest) ≡ (if byte == 10 then front else front ++ byte ∷ [])
 cut_seam limit front rest byte size =
     let file = front ++ byte ∷ rest in
@@ -220,14 +218,38 @@ end_at_limit advance closing first name at n s before byte s0 s1 o0 o1 o2 r f is
 abbrev unended_short : Due
 unended_short = (end.TooLong, [])
 
+-- the lines that ended in the front have their text, and the one that has begun is not too long
+ended_there : {S : Type 0} (advance : S → ℕ → Text → Result (S × Text) LineFault) (closing : S → Text) (first : S) (told : Option Contents) (name : Text) (at n : ℕ) (s : S) (before : Text) (o0 o1 : SinkSeen)
+    → (f : FileSoFar advance closing first told name at n s before o0 o1) → length before ≤ 20000 → process advance closing true 1 first (pieces f.front) ≡ after f.so_far.text unended_short
+ended_there advance closing first told name at n s before o0 o1 f short =
+    let none : unended n before ≡ unended_short = rw (le-ltb 20000 (length before) short) refl in
+    ap (λ (t : Text). process advance closing true 1 first (pieces t)) (sym (append-nil f.front)) ∙ f.so_far.goes_on true [] ∙ ap (after f.so_far.text) (unended_at advance closing n s before ∙ none)
+
 -- what was written is the text of the lines that ended
 text_is : {S : Type 0} (advance : S → ℕ → Text → Result (S × Text) LineFault) (closing : S → Text) (first : S) (told : Option Contents) (name : Text) (at n : ℕ) (s : S) (before : Text) (o0 o1 : SinkSeen)
     → (f : FileSoFar advance closing first told name at n s before o0 o1) → length before ≤ 20000 → f.so_far.text ≡ ended_text advance closing first f.front
 text_is advance closing first told name at n s before o0 o1 f short =
-    let none : unended n before ≡ unended_short = rw (le-ltb 20000 (length before) short) refl in
-    let there : process advance closing true 1 first (pieces f.front) ≡ after f.so_far.text unended_short =
-    ap (λ (t : Text). process advance closing true 1 first (pieces t)) (sym (append-nil f.front)) ∙ f.so_far.goes_on true [] ∙ ap (after f.so_far.text) (unended_at advance closing n s before ∙ none) in
-    sym (ap (λ (d : Due). d.1) there ∙ append-nil f.so_far.text)
+    sym (ap (λ (d : Due). d.1) (ended_there advance closing first told name at n s before o0 o1 f short) ∙ append-nil f.so_far.text)
+
+-- pieces whose last one is refused for no length end in one of 20,000 bytes at most
+last_short : {S : Type 0} (advance : S → ℕ → Text → Result (S × Text) LineFault) (closing : S → Text) (n : ℕ) (s : S) (ps : List Text) → (process advance closing true n s ps).0 ≡ end.TooLong → length (last_piece ps) ≤ 20000
+last_short advance closing n s [] ends = omega arith
+last_short advance closing n s (piece ∷ []) ends = by_test (nat_lt 20000 (length piece)) refl ends
+  where
+    by_test : (b : Bool) → nat_lt 20000 (length piece) ≡ b → (if b then refusal n line.TooLong else unended_short).0 ≡ end.TooLong → length piece ≤ 20000
+    by_test true is ends = absurd cc
+    by_test false is ends = ltb-false 20000 (length piece) is
+last_short {S} advance closing n s (piece ∷ next ∷ rest) ends = by_line (advance s n piece) (λ t. last_short advance closing (n + 1) t (next ∷ rest)) ends
+  where
+    by_line : (r : Result (S × Text) LineFault) → ((t : S) → (process advance closing true (n + 1) t (next ∷ rest)).0 ≡ end.TooLong → length (last_piece (next ∷ rest)) ≤ 20000)
+        → (go_on n r (λ t. process advance closing true (n + 1) t (next ∷ rest))).0 ≡ end.TooLong → length (last_piece (next ∷ rest)) ≤ 20000
+    by_line (Ok came) later ends = later came.0 ends
+    by_line (Err fault) later ends = absurd cc
+
+begun_short : {S : Type 0} (advance : S → ℕ → Text → Result (S × Text) LineFault) (closing : S → Text) (first : S) (told : Option Contents) (name : Text) (at n : ℕ) (s : S) (before : Text) (o0 o1 : SinkSeen)
+    → (f : FileSoFar advance closing first told name at n s before o0 o1) → length before ≤ 20000 → length (begun f.front) ≤ 20000
+begun_short advance closing first told name at n s before o0 o1 f short =
+    last_short advance closing 1 first (pieces f.front) (ap (λ (d : Due). d.0) (ended_there advance closing first told name at n s before o0 o1 f short))
 
 all_gained : (o0 o1 : SinkSeen) (text : Text) → Gathered text [] o0 o1 → Gained o0.held o1.held text
 all_gained o0 o1 text g = let P : Text → Type 0 = λ t. Gained o0.held o1.held t in subst P (sym (append-nil g.0) ∙ g.1) g.2
@@ -238,16 +260,17 @@ gained_ended advance closing first told name at n s before o0 o1 f short =
     let P : Text → Type 0 = λ t. Gained o0.held o1.held t in
     subst P (text_is advance closing first told name at n s before o0 o1 f short) (all_gained o0 o1 f.so_far.text f.so_far.gained)
 
-wrote_all : (text : Text → Text) (file front : Text) (s0 s1 : ShelfSeen) (o0 o1 : SinkSeen) → IsFront front file → Gave s0.given (length front) s1.given → Gained o0.held o1.held (text front) → WroteEndedIn text file s0 s1 o0 o1
-wrote_all text file front s0 s1 o0 o1 (rest, e) gave gained =
+wrote_all : (text : Text → Text) (file front : Text) (s0 s1 : ShelfSeen) (o0 o1 : SinkSeen) → IsFront front file → Gave s0.given (length front) s1.given → length (begun front) ≤ 20000 → Gained o0.held o1.held (text front)
+    → WroteEndedIn text file s0 s1 o0 o1
+wrote_all text file front s0 s1 o0 o1 (rest, e) gave short gained =
     let P : Text → Type 0 = λ t. Gained o0.held o1.held (text t) in
     let is : front ≡ take (length front) file = sym (take-append_seam front rest) ∙ ap (take (length front)) e in
-    (length front, omega (arith, length-append front rest, ap length e), gave, subst P is gained)
+    record { n = length front; within = omega (arith, length-append front rest, ap length e); gave = gave; short = subst (λ (t : Text). length (begun t) ≤ 20000) is short; gained = subst P is gained }
 
-wrote_in : (text : Text → Text) (file : Option Text) (front : Text) (s0 s1 : ShelfSeen) (o0 o1 : SinkSeen) → IsReadIn file front → Gave s0.given (length front) s1.given → Gained o0.held o1.held (text front)
+wrote_in : (text : Text → Text) (file : Option Text) (front : Text) (s0 s1 : ShelfSeen) (o0 o1 : SinkSeen) → IsReadIn file front → Gave s0.given (length front) s1.given → length (begun front) ≤ 20000 → Gained o0.held o1.held (text front)
     → WroteEndedIn text (bytes_of file) s0 s1 o0 o1
-wrote_in text None front s0 s1 o0 o1 read gave gained = wrote_all text [] front s0 s1 o0 o1 ([], append-nil front ∙ read) gave gained
-wrote_in text (Some file) front s0 s1 o0 o1 read gave gained = wrote_all text file front s0 s1 o0 o1 read gave gained
+wrote_in text None front s0 s1 o0 o1 read gave short gained = wrote_all text [] front s0 s1 o0 o1 ([], append-nil front ∙ read) gave short gained
+wrote_in text (Some file) front s0 s1 o0 o1 read gave short gained = wrote_all text file front s0 s1 o0 o1 read gave short gained
 
 pub fault_wrote : {S : Type 0} (advance : S → ℕ → Text → Result (S × Text) LineFault) (closing : S → Text) (first : S) (name : Text) (at n : ℕ) (s : S) (before : Text) (s0 s1 : ShelfSeen) (o0 o1 : SinkSeen)
     → FileSoFar advance closing first s0.contents name at n s before o0 o1 → length before ≤ 20000 → Gave s0.given at s1.given → WroteEnded (ended_text advance closing first) name s0 s1 o0 o1
@@ -258,7 +281,7 @@ fault_wrote advance closing first name at n s before s0 s1 o0 o1 f short gave = 
 
     by_told : (told : Option Contents) → IsReadOf told name f.front → WroteEndedOf (ended_text advance closing first) told name s0 s1 o0 o1
     by_told None read = tt
-    by_told (Some contents) read = wrote_in (ended_text advance closing first) (contents name) f.front s0 s1 o0 o1 read given (gained_ended advance closing first s0.contents name at n s before o0 o1 f short)
+    by_told (Some contents) read = wrote_in (ended_text advance closing first) (contents name) f.front s0 s1 o0 o1 read given (begun_short advance closing first s0.contents name at n s before o0 o1 f short) (gained_ended advance closing first s0.contents name at n s before o0 o1 f short)
 
 -- the cause of a fault, and the whole lines that were written
 fault_in : {S : Type 0} (advance : S → ℕ → Text → Result (S × Text) LineFault) (closing : S → Text) (first : S) (contents : Contents) (file : Option Text) (name front text : Text) (later : Bool → Text → Due) (s0 s1 : ℕ) (o0 o1 : SinkSeen)

@@ -79,9 +79,3 @@ gave_in (Some file) read before now (rest, e) gave = (length read, omega (arith,
 pub gave_of : (told : Option Contents) (name read : Text) (before now : ℕ) → IsReadOf told name read → Gave before (length read) now → GaveOf told name before now
 gave_of None name read before now is gave = tt
 gave_of (Some contents) name read before now is gave = gave_in (contents name) read before now is gave
-
-pub counted-counted : (before m n : ℕ) → counted (counted before m) n ≡ counted before (m + n)
-counted-counted before m n = omega arith
-
-pub counted_within : (before n : ℕ) → counted before n ≤ before + n
-counted_within before n = omega arith

@@ -90,26 +90,3 @@ out_of_memory (Some contents) due read write quiet h = memory_told (due contents
 due_in : (file : Option Text) (read : Text) (most : ℕ) (due : Text → Due) → FrontIn most file read → ((whole : Text) → read ≡ take most whole → due read ≡ due whole) → option_map due file ≡ Some (due read)
 due_in None read most due h same = absurd h
 due_in (Some whole) read most due e same = ap (λ (d : Due). Some d) (sym (same whole e))
-
-pub due_front : (told : Option Contents) (name read : Text) (most : ℕ) (due : Text → Due) → FrontOf told name most read → ((whole : Text) → read ≡ take most whole → due read ≡ due whole)
-    → IsDue told (λ contents. option_map due (contents name)) (due read)
-due_front None name read most due h same = tt
-due_front (Some contents) name read most due h same = due_in (contents name) read most due h same
-
-pub over_long : (r : Result End Fault) (limit n : ℕ) → IfOk r (λ e. e ≡ TooLong → nat_lt limit n ≡ true) → IfOk r (λ e. e ≡ TooLong → limit < n)
-over_long (Ok e) limit n h = λ is. ltb-true limit n (h is)
-over_long (Err f) limit n h = h
-
-pub not_over : (r : Result End Fault) (limit n : ℕ) → IfOk r (λ e. e ≡ Done → nat_lt limit n ≡ false) → IfOk r (λ e. e ≡ Done → n ≤ limit)
-not_over (Ok e) limit n h = λ is. ltb-false limit n (h is)
-not_over (Err f) limit n h = h
-
--- where the program ends with the file, no more bytes were given than count
-pub given_whole : (r : Result End Fault) (limit n before now : ℕ) → IfOk r (λ e. e ≡ Done → n ≤ limit) → Gave before n now → IfOk r (λ e. e ≡ Done → now ≤ before + limit)
-given_whole (Ok e) limit n before now h gave = λ is. let le : n ≤ limit = h is in omega (arith, le, gave.1)
-given_whole (Err f) limit n before now h gave = h
-
--- where the program ends at the limit, so many bytes were given
-pub given_long : (r : Result End Fault) (limit n before now : ℕ) → IfOk r (λ e. e ≡ TooLong → limit < n) → Gave before n now → n ≤ limit + 1 → IfOk r (λ e. e ≡ TooLong → Gave before (limit + 1) now)
-given_long (Ok e) limit n before now h given le = λ is. let lt : limit < n = h is in let same : n ≡ limit + 1 = omega arith in rw same at given
-given_long (Err f) limit n before now h given le = h

@@ -1,5 +1,5 @@
 -- The front of a file.
-use Rattle.std.specs.Prelude.{ℕ, ◌+◌, ◌≤◌, ◌≡◌, ◌⊎◌, [], length, take, unwrap_or, Option, Some, None, Result, Ok, Err}
+use Rattle.std.specs.Prelude.{ℕ, ◌+◌, ◌≤◌, ◌≡◌, ◌⊎◌, [], length, max, take, unwrap_or, Option, Some, None, Result, Ok, Err}
 use Rattle.ide_base.specs.Outside.{Contents, Rose, Lacks, counted}
 use Rattle.line_runs.specs.declared.front.Stop.{Stop}
 use Rattle.line_runs.specs.declared.front.Stop.TheVariants as stop
@@ -27,6 +27,10 @@ ReadCause before now told name (Err e) = StopCause before now told name e
 -- n bytes were given: the count rose by n, or up to its last value
 abbrev pub Gave : ℕ → ℕ → ℕ → Type 0
 Gave before n now = (counted before n ≤ now) × (now ≤ before + n)
+
+-- no read asked for more than 4,096 bytes
+abbrev pub AskedPieces : ℕ → ℕ → Type 0
+AskedPieces before now = now ≤ max before 4096
 
 -- a file that is not there has no bytes
 abbrev pub bytes_of : Option Text → Text

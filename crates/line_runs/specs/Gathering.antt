@@ -69,10 +69,25 @@ limit_due n before byte = unended n (if byte == 10 then before else before ++ by
 abbrev pub ended_text : {S : Type 0} → (S → ℕ → Text → Result (S × Text) LineFault) → (S → Text) → S → Text → Text
 ended_text advance closing s bytes = (process advance closing true 1 s (pieces bytes)).1
 
--- so many bytes of the file were given, and the sink gained the text of those; a file that is not there has no bytes
-abbrev pub WroteEndedIn : (Text → Text) → Text → ShelfSeen → ShelfSeen → SinkSeen → SinkSeen → Type 0
-WroteEndedIn text file shelf shelf_now sink sink_now = (n : ℕ) × (n ≤ length file) × Gave shelf.given n shelf_now.given
-    × Gained sink.held sink_now.held (text (take n file))
+-- the last of some pieces
+abbrev pub last_piece : List Text → Text
+last_piece [] = []
+last_piece (piece ∷ []) = piece
+last_piece (piece ∷ next ∷ rest) = last_piece (next ∷ rest)
+
+-- the line that has begun: the bytes behind the last line feed
+abbrev pub begun : Text → Text
+begun bytes = last_piece (pieces bytes)
+
+-- So many bytes of the file were given, the line that has begun in them has at most 20,000, and the sink gained the text
+-- of those; a file that is not there has no bytes.
+pub record WroteEndedIn (text : Text → Text) (file : Text) (shelf shelf_now : ShelfSeen) (sink sink_now : SinkSeen)
+    : Type 0 where
+  pub n : ℕ
+  pub within : n ≤ length file
+  pub gave : Gave shelf.given n shelf_now.given
+  pub short : length (begun (take n file)) ≤ 20000
+  pub gained : Gained sink.held sink_now.held (text (take n file))
 
 abbrev pub WroteEndedOf : (Text → Text) → Option Contents → Text → ShelfSeen → ShelfSeen → SinkSeen → SinkSeen → Type 0
 WroteEndedOf text None name shelf shelf_now sink sink_now = Unit {0}

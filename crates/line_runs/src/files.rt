@@ -1,7 +1,7 @@
 //! A file of lines, from its name to what is written for it.
 ghost use Rattle.std.specs.Prelude.{◌≡◌, ◌≢◌, ◌≤◌, ◌<◌, ◌+◌, ◌++◌, ℕ, List, Ok, IfOk, IfErr, length, option_map, take};
 ghost use Rattle.ide_base.specs.Outside.{Given, ShelfCause};
-ghost use Rattle.line_runs.specs.Front.{Gave, IsReadOf, ReadsOn};
+ghost use Rattle.line_runs.specs.Front.{AskedPieces, Gave, IsReadOf, ReadsOn};
 ghost use Rattle.line_runs.specs.Gathering.{WroteEnded, ended_text, limit_due};
 ghost use Rattle.line_runs.specs.Lines.{file_due};
 ghost use Rattle.line_runs.specs.Outcome.{Ran, RanOn};
@@ -23,6 +23,7 @@ fn read_piece<S: Shelf>(
 ) -> Result<usize, ShelfFault>
     requires most { at ≤ 16777216 }
     requires room { 0 < length buf.old }
+    requires piece { length buf.old ≤ 4096 }
     ensures same { (S.seen shelf.new).contents ≡ (S.seen shelf.old).contents }
     ensures bytes { IfOk result (λ n. (front : List ℕ) → length front ≡ at → IsReadOf (S.seen shelf.old).contents
         name.now
@@ -31,6 +32,7 @@ fn read_piece<S: Shelf>(
     ensures counts { IfOk result (λ n. at < 16777216 → at + n ≤ 16777216) }
     ensures one { IfOk result (λ n. at ≡ 16777216 → n ≤ 1) }
     ensures counted { Given (S.seen shelf.old).given (S.seen shelf.new).given result }
+    ensures pieces { AskedPieces (S.seen shelf.old).longest (S.seen shelf.new).longest }
     ensures cause { ShelfCause (S.seen shelf.old).faults (S.seen shelf.new).faults (S.seen shelf.old).contents name.now
         result }
 {
@@ -69,6 +71,7 @@ pub fn run_file<S: Shelf, O: Sink, W: LineWork>(
         name.now
         (S.seen shelf.old) (S.seen shelf.new) (O.seen out.old) (O.seen out.new)) }
     ensures cap { (S.seen shelf.new).given ≤ (S.seen shelf.old).given + 16777217 }
+    ensures pieces { AskedPieces (S.seen shelf.old).longest (S.seen shelf.new).longest }
     ensures too_long { IfOk result (λ e. e ≡ End.TooLong → Gave (S.seen shelf.old).given 16777217
         (S.seen shelf.new).given) }
     ensures whole { IfOk result (λ e. e ≡ End.Done → (S.seen shelf.new).given ≤ (S.seen shelf.old).given + 16777216) }

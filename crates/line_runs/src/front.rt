@@ -1,7 +1,7 @@
 //! The front of a file.
 ghost use Rattle.std.specs.Prelude.{◌≡◌, ◌≤◌, ◌<◌, ◌+◌, ◌^◌, length, IfOk, IfErr, OnErr};
 ghost use Rattle.ide_base.specs.Outside.{counted};
-ghost use Rattle.line_runs.specs.Front.{FrontOf, Gave, GaveOf, IsReadOf, ReadCause, ReadsOn};
+ghost use Rattle.line_runs.specs.Front.{AskedPieces, FrontOf, Gave, GaveOf, IsReadOf, ReadCause, ReadsOn};
 
 use ide_base::Shelf;
 use std::alloc::Global;
@@ -25,7 +25,8 @@ fn read_on<S: Shelf>(
     bytes: &mut Vec<u8>,
     piece: &mut [u8],
 ) -> Result<usize, Stop>
-    requires { 0 < length piece.old }
+    requires room { 0 < length piece.old }
+    requires piece { length piece.old ≤ 4096 }
     ensures same { (S.seen shelf.new).contents ≡ (S.seen shelf.old).contents }
     ensures kept { OnErr result (bytes.new.items ≡ bytes.old.items) }
     ensures bound { IfOk result (λ n. n ≤ length piece.old) }
@@ -35,6 +36,7 @@ fn read_on<S: Shelf>(
         bytes.new.items result }
     ensures given { IfOk result (λ n. (S.seen shelf.new).given ≡ counted (S.seen shelf.old).given n) }
     ensures cap { (S.seen shelf.new).given ≤ (S.seen shelf.old).given + length piece.old }
+    ensures pieces { AskedPieces (S.seen shelf.old).longest (S.seen shelf.new).longest }
     ensures stopped { IfErr result (λ e. e ≡ Stop.Fault → (S.seen shelf.new).given ≡ (S.seen shelf.old).given) }
     ensures cause { ReadCause (S.seen shelf.old).faults (S.seen shelf.new).faults (S.seen shelf.old).contents name.now
         result }
@@ -63,6 +65,7 @@ pub fn read_front<S: Shelf>(
     ensures length { IfOk result (λ v. length v.items ≤ most) }
     ensures given { IfOk result (λ v. Gave (S.seen shelf.old).given (length v.items) (S.seen shelf.new).given) }
     ensures cap { (S.seen shelf.new).given ≤ (S.seen shelf.old).given + most }
+    ensures pieces { AskedPieces (S.seen shelf.old).longest (S.seen shelf.new).longest }
     ensures stopped { IfErr result (λ e. e ≡ Stop.Fault → GaveOf (S.seen shelf.old).contents name.now
         (S.seen shelf.old).given (S.seen shelf.new).given) }
     ensures cause { ReadCause (S.seen shelf.old).faults (S.seen shelf.new).faults (S.seen shelf.old).contents name.now

@@ -61,9 +61,6 @@ idle_walks more loss m l idle m0 l0 place id host device e on st asking within =
       stands = subst (λ (w : Walked). Stands m0 l0 place id w.ends m l) (sym walked) st;
     }
 
-pub ended_walks : (loss : Option Loss) (m : ManagerView) (l : LinkEnds) → Walks 0 loss m l outcome.Next m l
-ended_walks loss m l m0 l0 place id host device e on st asking within = record { outcome = refl; stands = st }
-
 -- the walk where an exchange is asked
 walk_asked : (more : ℕ) (loss : Option Loss) (requester : ℕ) (e : StreamEnds) (a : Asked) → asked_in e.keeper.op ≡ Some a
     → walk_on (suc more) loss requester e

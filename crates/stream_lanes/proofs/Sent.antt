@@ -56,10 +56,6 @@ pub synced-cpl : (b : Bool) (x : SendEnds) → (synced b Npr x).tx.cpl ≡ x.tx.
 synced-cpl true x = refl
 synced-cpl false x = refl
 
-pub synced-fixed : (b : Bool) (u : SubKind) (x : SendEnds) → (synced b u x).fixed ≡ x.fixed
-synced-fixed true u x = refl
-synced-fixed false u x = refl
-
 pub end-cpl : (b : Bool) (x : SendEnds) → end_at (synced b Npr x) Cpl ≡ end_at x Cpl
 end-cpl true x = refl
 end-cpl false x = refl

@@ -50,9 +50,6 @@ pub tag-seen : (ahead : List ℕ) (x : LiveKey) (p : Packet) (iv clear bodies : 
 tag-seen ahead x p iv clear bodies b is_iv is_clear is_bodies is =
     sym (is ∙ (λ i. verifies x.key (is_iv i) ((is_clear ∙ ap (λ y. ahead ++ y) (clear-untagged x.packets p)) i) ((is_bodies ∙ bodies-untagged x.packets p) i) p.tag))
 
-pub judged-held : (ahead : List ℕ) (allowed : ℕ) (x : LiveKey) (p : Packet) → p.prefix.m ≡ false → judged ahead allowed x p ≡ Held x.draw (x.units + 1)
-judged-held ahead allowed x p m = rw m refl
-
 pub judged-tag : (ahead : List ℕ) (allowed : ℕ) (x : LiveKey) (p : Packet) → p.prefix.m ≡ true → is_tagged_behind ahead x p ≡ false
     → judged ahead allowed x p ≡ Failed fail.Tag
 judged-tag ahead allowed x p m tag =

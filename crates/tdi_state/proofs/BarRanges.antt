@@ -26,21 +26,6 @@ one_more : (r : Option ReportRange) (rs : List ReportRange) → flat_map range_b
 one_more None rs = refl
 one_more (Some r) rs = sym (ap (λ (x : List ℕ). x ++ flat_map range_bytes rs) (append-nil (range_bytes r)))
 
-pub reported_more : (offset i : ℕ) (bars : List BarPlan) (bar : BarPlan) (out next : List ℕ) → drop i bars ≡ bar ∷ drop (i + 1) bars
-    → Reported offset bars out i → next ≡ out ++ flat_map range_bytes (option_to_list (reported_range offset (i, bar))) → length next ≤ length out + 16
-    → Reported offset bars next (i + 1)
-reported_more offset i bars bar out next split before is room = record {
-  bytes =
-      let rest = bytes_from offset (i + 1) (drop (i + 1) bars) in
-      let mine = flat_map range_bytes (option_to_list (reported_range offset (i, bar))) in
-      ap (λ (x : List ℕ). x ++ rest) is
-      ∙ (append_assoc out mine rest
-      ∙ (ap (λ (x : List ℕ). out ++ x) (sym (one_more (reported_range offset (i, bar)) (filter_map (reported_range offset) (enumerate_from (i + 1) (drop (i + 1) bars)))))
-      ∙ (ap (λ (x : List BarPlan). out ++ bytes_from offset i x) (sym split)
-      ∙ before.bytes)));
-  room = let b = before.room in omega arith;
-}
-
 pub reported_all : (offset i : ℕ) (bars : List BarPlan) (out : List ℕ) → Reported offset bars out i → length bars ≤ i
     → out ≡ flat_map range_bytes (reported_ranges offset bars)
 reported_all offset i bars out reported end =

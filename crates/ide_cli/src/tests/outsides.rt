@@ -26,13 +26,20 @@ fn text(alloc: Global) -> Result<String, Fail> {
 struct Narrow {
     inner: MemShelf,
     given: u64,
+    longest: usize,
     faults: u64,
 }
 
 impl Shelf for Narrow {
-    ghost seen = { λ s. record { contents = None; given = s.given; faults = s.faults } };
+    ghost seen = { λ s. record {
+      contents = None;
+      given = s.given;
+      longest = s.longest;
+      faults = s.faults;
+    } };
 
     fn read(&mut self, name: &str, at: u64, buf: &mut [u8]) -> Result<usize, ShelfFault> {
+        self.longest = self.longest.max(buf.len());
         let most = if name == "script" {
             buf.len().min(1)
         } else {
@@ -76,6 +83,7 @@ fn make_narrow(alloc: Global, failing: &[u64]) -> Result<Narrow, Fail> {
     Ok(Narrow {
         inner: MemShelf::new(files, Vec::from_slice(alloc, failing)?),
         given: 0,
+        longest: 0,
         faults: 0,
     })
 }

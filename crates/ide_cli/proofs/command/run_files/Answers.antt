@@ -3,7 +3,7 @@ use Rattle.line_runs.proofs.FileFronts.{not_read}
 use Rattle.line_runs.proofs.WholeFiles.{redue}
 use Rattle.ide_cli.specs.Script.{script_due}
 use Rattle.ide_cli.specs.Meaning.{run_due}
-use Rattle.ide_cli.specs.SoFar.{run_so_far}
+use Rattle.ide_cli.specs.SoFar.{run_so_far, script_given}
 use Rattle.ide_cli.proofs.Loads.{cut_by_load, gave_more, later, none_so_far, nothing_yet, ran_whole, run_after, run_ended, sound_is_short}
 use Rattle.ide_cli.proofs.command.run_files.Goals as goal
 
@@ -32,7 +32,8 @@ returns-in-Ok-Sound-clause-whole g c =
 
 pub returns-in-Err-clause-read_fault : goal.returns-in-Err-clause-read_fault
 returns-in-Err-clause-read_fault g c = λ is.
-    nothing_yet (λ contents n. run_so_far (contents c.args.topology.now) (contents c.args.script.now) n) c.args.topology.now (g.S.Shelf.seen c.args.shelf.now) (g.S.Shelf.seen c.load.new.shelf) (g.O.Sink.seen c.args.out.now)
+    nothing_yet (λ contents n. run_so_far (contents c.args.topology.now) (contents c.args.script.now) n)
+    (λ contents n. script_given (contents c.args.topology.now) (contents c.args.script.now) n) c.args.topology.now (g.S.Shelf.seen c.args.shelf.now) (g.S.Shelf.seen c.load.new.shelf) (g.O.Sink.seen c.args.out.now)
     (λ contents n le. none_so_far (contents c.args.topology.now) (contents c.args.script.now) n le) (c.in-Err.ensures.stopped is)
 
 pub returns-in-Ok-Sound-clause-read_fault : goal.returns-in-Ok-Sound-clause-read_fault

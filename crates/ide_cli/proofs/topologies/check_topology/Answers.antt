@@ -22,7 +22,7 @@ returns-in-Ok-clause-whole g c = checked_whole Long c.in-Ok.loaded c.report.resu
 
 pub returns-in-Err-clause-read_fault : goal.returns-in-Err-clause-read_fault
 returns-in-Err-clause-read_fault g c = λ is.
-    nothing_yet (λ contents n. []) c.args.topology.now (g.S.Shelf.seen c.args.shelf.now) (g.S.Shelf.seen c.load.new.shelf) (g.O.Sink.seen c.args.out.now) (λ contents n le. refl) (c.in-Err.ensures.stopped is)
+    nothing_yet (λ contents n. []) (λ contents n. []) c.args.topology.now (g.S.Shelf.seen c.args.shelf.now) (g.S.Shelf.seen c.load.new.shelf) (g.O.Sink.seen c.args.out.now) (λ contents n le. (refl, refl)) (c.in-Err.ensures.stopped is)
 
 pub returns-in-Ok-clause-read_fault : goal.returns-in-Ok-clause-read_fault
 returns-in-Ok-clause-read_fault g c = not_read (report c.in-Ok.loaded) _ _ c.report.result _ c.report.ensures.ran

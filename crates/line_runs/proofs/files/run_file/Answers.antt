@@ -1,4 +1,5 @@
 use Rattle.std.proofs.Common.{◌≡◌, ◌<◌, ◌≤◌, ◌+◌, ◌∙◌, ◌++◌, ℕ, Ok, Err, option_map, take, length, length-take, refl, subst, true, [], arith}
+use Rattle.std.proofs.Math.Nat.{le-max_left}
 use Rattle.std.specs.List.{slice_index_or}
 use Rattle.line_runs.specs.Gathering.{due_behind}
 use Rattle.line_runs.specs.Lines.{file_due}
@@ -15,6 +16,7 @@ loop-n-init g c = record {
   faults = refl;
   given = omega arith;
   cap = omega arith;
+  pieces = le-max_left _ 4096;
   most = omega arith;
   numbered = omega (arith, c.in-Ok.ensures.number);
   fits = rw c.in-Ok.ensures.number c.requires;
@@ -94,6 +96,7 @@ loop-n-preserved g c =
       faults = c.in-Ok-read_piece.ensures.cause ∙ inv.faults;
       given = omega (arith, inv.given, c.in-Ok-read_piece.ensures.counted);
       cap = omega (arith, inv.cap, c.in-Ok-read_piece.ensures.counted);
+      pieces = omega (arith, inv.pieces, c.in-Ok-read_piece.ensures.pieces);
       most = omega (arith, c.in-Ok-read_piece.ensures.counts);
       numbered = omega (arith, number, size, inv.numbered);
       fits = (rw c.in-Ok-None.field-0-is at c.in-Ok-None.ensures.fits) refl;

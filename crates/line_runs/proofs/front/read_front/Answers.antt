@@ -1,4 +1,5 @@
 use Rattle.std.proofs.Common.{arith, refl}
+use Rattle.std.proofs.Math.Nat.{le-max_left}
 use Rattle.std.proofs.lemmas.Result.{err_from_is_err_and}
 use Rattle.line_runs.proofs.Fronts.{gave_of, start, whole}
 use Rattle.line_runs.proofs.front.read_front.Goals as goal
@@ -9,6 +10,7 @@ loop-buf-init g c = rw c.new-bytes.ensures.items (record {
   faults = refl;
   given = omega arith;
   cap = omega arith;
+  pieces = le-max_left _ 4096;
   most = omega arith;
   read = start (g.S.Shelf.seen c.args.shelf.now).contents c.args.name.now;
 })
