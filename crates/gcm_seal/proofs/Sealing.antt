@@ -1,15 +1,15 @@
 -- Sealing and opening: lengths and bytes, what masking twice gives, and when a tag verifies.
-use Rattle.std.proofs.Common.{◌≡◌, ℕ, ◌+◌, ◌-◌, ◌%◌, ◌<◌, true, List, ◌++◌, length, take, drop, bit_xor, slice_index, slice_range, refl, sym, ap, ◌∙◌, arith, inl, inr, length-append, length-take, length-drop, get_or-take}
+use Rattle.std.proofs.Common.{◌≡◌, ℕ, ◌+◌, ◌-◌, ◌%◌, ◌<◌, true, List, ◌++◌, length, bit_xor, slice_index, refl, sym, ap, ◌∙◌, arith, inl, inr, length-append}
 use Rattle.std.specs.Prelude.{All}
 use Rattle.std.specs.Int.{w128, to_be_bytes}
 use Rattle.std.proofs.lemmas.Bool.{cases_lt}
 use Rattle.std.proofs.lemmas.Nat.{xor_lt}
-use Rattle.std.proofs.lemmas.List.{get_or_append_left, get_or-append_right, get_or-drop}
+use Rattle.std.proofs.lemmas.List.{get_or_append_left, get_or-append_right}
 use Rattle.std.proofs.lemmas.List.Elements.{All-get_or, All-from_get_or, All-take}
 use Rattle.std.proofs.lemmas.Slice.Eq.{bytes_eq-Decides}
 use lib.Bits.{xor_assoc, xor_self, xor_zero_r}
 use Rattle.aes_block.proofs.Blocks.{IsByte, aes-bytes, at-byte, bytes-high_first}
-use Rattle.gcm_seal.specs.Gcm.{masked, tag_of, ciphertext_of, seal_of, open_of, verifies}
+use Rattle.gcm_seal.specs.Gcm.{masked, tag_of, open_of, verifies}
 use Rattle.gcm_seal.proofs.Strings.{masked-at, masked_from, stream_byte}
 pub use Rattle.gcm_seal.proofs.Strings.{length-masked}
 

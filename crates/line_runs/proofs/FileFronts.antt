@@ -1,9 +1,9 @@
 -- A file of which a front was run.
-use Rattle.std.proofs.Common.{◌≡◌, ◌==◌, ◌∙◌, ℕ, zero, suc, ◌+◌, ◌-◌, ◌<◌, ◌≤◌, List, [], ◌∷◌, ◌++◌, length, Bool, true, false, Option, Some, None, Result, Ok, Err, refl, sym, ap, ap₂, inl, inr, ◌⊎◌, subst, arith, append_assoc, length-append, nat_lt, take, drop, option_map}
-use Rattle.std.specs.Prelude.{if◌then◌else◌, nat_lt, IfOk, IfErr}
+use Rattle.std.proofs.Common.{◌≡◌, ◌==◌, ◌∙◌, ℕ, zero, suc, ◌+◌, ◌-◌, ◌<◌, ◌≤◌, List, [], ◌∷◌, ◌++◌, length, Bool, true, false, Option, Some, None, Result, Ok, Err, refl, sym, ap, ap₂, inl, inr, ◌⊎◌, subst, arith, append_assoc, length-append, nat_lt, take, option_map}
+use Rattle.std.specs.Prelude.{if◌then◌else◌, nat_lt, IfErr}
 use Rattle.std.specs.List.{slice_index_or}
 use Rattle.std.proofs.Math.Seq.{take-append_seam, take-append-add, get_or-append_seam}
-use Rattle.std.proofs.lemmas.List.{append-nil, take_all}
+use Rattle.std.proofs.lemmas.List.{append-nil}
 use Rattle.std.proofs.lemmas.Bool.{lt-ltb, le-ltb, ltb-false}
 use Rattle.ide_base.specs.Outside.{Contents, Rose, ShelfCause, ShelfSeen, SinkSeen}
 use Rattle.ide_base.specs.declared.shelf.ShelfFault.{ShelfFault}
@@ -16,11 +16,11 @@ use Rattle.line_runs.specs.declared.ends.Fault.{Fault}
 use Rattle.line_runs.specs.declared.ends.Fault.TheVariants as fault
 use Rattle.line_runs.specs.Front.{Gave, bytes_of, IsReadIn, IsReadOf, IsWholeIn, IsWholeOf, ReadsOn}
 use Rattle.line_runs.specs.Gain.{Text, Gained, IsFront}
-use Rattle.line_runs.specs.Outcome.{Due, EndsDue, EndsOn, Quiet, IsWholeLines, Ran, RanOn, SomeLines}
+use Rattle.line_runs.specs.Outcome.{Due, EndsDue, EndsOn, Quiet, IsWholeLines, Ran, RanOn}
 use Rattle.line_runs.specs.Lines.{after, cut_at, cut_text, file_due, file_limit, go_on, is_over, process, refusal, unended}
-use Rattle.line_runs.specs.Gathering.{EndsIn, Gathered, PieceRan, SoFar, WroteEnded, WroteEndedIn, WroteEndedOf, begun, behind, due_behind, ended_text, last_piece, limit_due}
+use Rattle.line_runs.specs.Gathering.{Gathered, SoFar, WroteEnded, WroteEndedIn, WroteEndedOf, begun, behind, due_behind, ended_text, last_piece, limit_due}
 use Rattle.line_runs.proofs.Cuttings.{cut_short}
-use Rattle.line_runs.proofs.Fronts.{empty, start}
+use Rattle.line_runs.proofs.Fronts.{start}
 use Rattle.line_runs.proofs.Parts.{begins, behind_none, comes, ends}
 use Rattle.line_runs.proofs.WholeFiles.{ran_blind, ran_told}
 

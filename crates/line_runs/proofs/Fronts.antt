@@ -1,10 +1,10 @@
 -- A file that is read from its front.
-use Rattle.std.proofs.Common.{◌≡◌, ◌+◌, ◌<◌, ◌≤◌, ℕ, [], ◌∷◌, ◌++◌, Option, Some, None, Result, Ok, Err, subst, refl, sym, ap, ◌∙◌, append_assoc, take, drop, length, arith, length-append}
+use Rattle.std.proofs.Common.{◌≡◌, ◌<◌, ◌≤◌, ℕ, [], ◌∷◌, ◌++◌, Option, Some, None, Result, Ok, Err, subst, refl, sym, ap, ◌∙◌, append_assoc, take, drop, length, arith, length-append}
 use Rattle.std.proofs.Math.Seq.{drop-append_seam, take-append_seam}
 use Rattle.std.specs.Prelude.{IfOk}
 use Rattle.std.proofs.lemmas.List.{take-append-drop, take-append-le, append-nil, take_all}
 use Rattle.ide_base.specs.declared.shelf.ShelfFault.{ShelfFault}
-use Rattle.ide_base.specs.Outside.{Contents, ReadAt, ReadOf, ReadFrom, counted}
+use Rattle.ide_base.specs.Outside.{Contents, ReadAt, ReadOf, ReadFrom}
 use Rattle.line_runs.specs.Gain.{Text, IsFront}
 use Rattle.line_runs.specs.Front.{FrontIn, FrontOf, Gave, GaveOf, bytes_of, IsReadIn, IsReadOf, IsWholeIn, IsWholeOf, ReadsOn}
 

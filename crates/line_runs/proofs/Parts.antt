@@ -1,10 +1,10 @@
 -- A file that is run in pieces comes to what is due of the whole.
-use Rattle.std.proofs.Common.{◌≡◌, ◌==◌, ◌∙◌, ℕ, ◌+◌, ◌<◌, ◌≤◌, List, [], ◌∷◌, ◌++◌, length, Bool, true, false, cond, Option, Some, None, Result, Ok, Err, refl, sym, ap, inl, inr, arith, append_assoc, length-append, nat_lt}
-use Rattle.std.specs.Prelude.{if◌then◌else◌, IfOk}
+use Rattle.std.proofs.Common.{◌≡◌, ◌==◌, ◌∙◌, ℕ, ◌+◌, List, [], ◌∷◌, ◌++◌, length, Bool, true, false, cond, Option, Some, None, Result, Ok, Err, refl, sym, ap, inl, inr, arith, append_assoc, length-append, nat_lt}
+use Rattle.std.specs.Prelude.{IfOk}
 use Rattle.std.specs.List.{onto_first}
 use Rattle.std.proofs.lemmas.List.{append-nil}
 use Rattle.std.proofs.lemmas.Bool.Decides.{nat_tests}
-use Rattle.ide_base.specs.Outside.{Rose, SinkSeen}
+use Rattle.ide_base.specs.Outside.{SinkSeen}
 use Rattle.text_lines.specs.Pieces.{pieces}
 use Rattle.text_lines.proofs.Cuts.{HasFirst, ends_line, some}
 use Rattle.link_events.specs.declared.fault.LineFault.{LineFault}
@@ -13,7 +13,7 @@ use Rattle.line_runs.specs.declared.ends.End.{End}
 use Rattle.line_runs.specs.declared.ends.Fault.{Fault}
 use Rattle.line_runs.specs.Gain.{Text, Gained}
 use Rattle.line_runs.specs.Outcome.{Due, IsWholeLines, Ran}
-use Rattle.line_runs.specs.Lines.{after, go_on, process, refusal, unended}
+use Rattle.line_runs.specs.Lines.{after, process, refusal}
 use Rattle.line_runs.specs.Gathering.{CutIn, EndsIn, Gathered, PieceRan, SoFar, behind, due_behind}
 use Rattle.line_runs.proofs.Gains.{gained_more}
 use Rattle.line_runs.proofs.Runs.{cut_later, process_line, ran_later}

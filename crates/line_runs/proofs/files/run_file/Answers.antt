@@ -1,4 +1,4 @@
-use Rattle.std.proofs.Common.{◌≡◌, ◌<◌, ◌≤◌, ◌+◌, ◌∙◌, ◌++◌, ℕ, Ok, Err, option_map, take, length, length-take, refl, subst, true, [], arith}
+use Rattle.std.proofs.Common.{◌≡◌, ◌∙◌, ◌++◌, Ok, Err, option_map, take, length, length-take, refl, true, [], arith}
 use Rattle.std.proofs.Math.Nat.{le-max_left}
 use Rattle.std.specs.List.{slice_index_or}
 use Rattle.line_runs.specs.Gathering.{due_behind}
