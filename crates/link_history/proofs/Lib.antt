@@ -1,3 +1,4 @@
+pub mod Terms
 pub mod Tests
 pub mod UnitLemmas
 pub mod Sealed

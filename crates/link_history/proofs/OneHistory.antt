@@ -1,8 +1,5 @@
 -- Two histories of the same events that each obey the cause law are equal.
-use Rattle.std.proofs.Common.{◌≡◌, List, [], ◌∷◌, sym, ◌∙◌}
-use Rattle.link_events.specs.declared.event.Event.{Event}
-use Rattle.link_history.specs.Due.{due}
-use Rattle.link_history.specs.Cause.{OneHistory, events_of}
+use Rattle.link_history.proofs.Terms.{List, [], sym, ◌∙◌, ◌∷◌, ◌≡◌, OneHistory, events_of, due, Event}
 
 same_head : (e f : Event) (es fs : List Event) → (e ∷ es) ≡ (f ∷ fs) → (e ≡ f) × (es ≡ fs)
 same_head e f es fs is = (cc, cc)

@@ -1,28 +1,11 @@
 -- Tests of names: ports, sub-streams, draws.
-use Rattle.std.proofs.Common.{◌≡◌, ℕ, ◌==◌, true, false, refl, arith}
-use Rattle.std.proofs.lemmas.Bool.Decides.{nat_tests}
-use Rattle.ide_types.specs.Sub.{sub_bits}
-use Rattle.ide_types.specs.declared.sub.SubKind.{SubKind}
-use Rattle.ide_types.specs.declared.sub.SubKind.TheVariants.{Pr, Npr, Cpl}
-use Rattle.ide_types.specs.declared.port.Side.{Side}
-use Rattle.ide_types.specs.declared.port.Side.TheVariants.{Host, Device}
-use Rattle.ide_types.specs.declared.port.PortName.{PortName}
-use Rattle.link_history.specs.Plan.{SubStream, is_same, is_same_port}
-use Rattle.key_laws.specs.Places.{sent_direction, received_direction}
+use Rattle.link_history.proofs.Terms.{arith, false, refl, true, ℕ, ◌==◌, ◌≡◌, nat_tests, Side, SubStream, is_same, is_same_port, PortName, SubKind, received_direction, sent_direction, sub_bits}
 
 pub same_sub : (u v : SubKind) → (sub_bits u == sub_bits v) ≡ true → u ≡ v
-same_sub Pr Pr e = refl
-same_sub Npr Npr e = refl
-same_sub Cpl Cpl e = refl
-same_sub Pr _ e = absurd cc
-same_sub Npr _ e = absurd cc
-same_sub Cpl _ e = absurd cc
+same_sub u v e = grind arith
 
 pub same_side : (p q : Side) → (sent_direction p == sent_direction q) ≡ true → p ≡ q
-same_side Host Host e = refl
-same_side Device Device e = refl
-same_side Host Device e = absurd cc
-same_side Device Host e = absurd cc
+same_side p q e = grind arith
 
 pub same_stream : (s t : SubStream) → is_same s t ≡ true → s ≡ t
 same_stream s t is =
@@ -52,15 +35,17 @@ eqb-sym m n = grind (arith, nat_tests)
 
 -- what a port seals it does not receive
 pub out_not_in : (side : Side) → (received_direction side == sent_direction side) ≡ false
-out_not_in Host = refl
-out_not_in Device = refl
+out_not_in side = grind arith
 
 pub in_not_out : (side : Side) → (sent_direction side == received_direction side) ≡ false
-in_not_out Host = refl
-in_not_out Device = refl
+in_not_out side = grind arith
 
 pub same_in : (p q : Side) → (received_direction p == received_direction q) ≡ (sent_direction p == sent_direction q)
-same_in Host Host = refl
-same_in Host Device = refl
-same_in Device Host = refl
-same_in Device Device = refl
+same_in p q = grind arith
+
+-- two ports with one link and one direction are one
+pub same_sender : (p q : PortName) → p.link ≡ q.link → sent_direction p.side ≡ sent_direction q.side → p ≡ q
+same_sender p q link direction = same_port p q (grind (arith, nat_tests))
+
+pub same_receiver : (p q : PortName) → p.link ≡ q.link → received_direction p.side ≡ received_direction q.side → p ≡ q
+same_receiver p q link direction = let sides = same_in p.side q.side in same_port p q (grind (arith, nat_tests))

@@ -1,9 +1,5 @@
 -- Each verdict of a history is the one that is due after the pairs before it.
-use Rattle.std.specs.Prelude.{◌≡◌, List, [], ◌∷◌, map}
-use Rattle.link_events.specs.declared.event.Event.{Event}
-use Rattle.link_verdicts.specs.declared.verdict.Verdict.{Verdict}
-use Rattle.ide_plan.specs.declared.plan.Plan.{Plan}
-use Rattle.key_laws.specs.History.{History}
+use Rattle.link_history.specs.Terms.{List, [], map, ◌∷◌, ◌≡◌, Plan, Event, Verdict, History}
 use Rattle.link_history.specs.Due.{due}
 
 abbrev pub CauseLaw : Plan → History → Type 0

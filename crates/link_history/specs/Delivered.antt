@@ -1,18 +1,9 @@
 -- The TLPs that were sent, and those that were delivered: each is the bytes of its header and its payload in plain.
 -- Sync packets carry none.
-use Rattle.std.specs.Prelude.{ℕ, Bool, not, ◌&&◌, ◌==◌, if◌then◌else◌, List, [], ◌∷◌, ◌++◌, length, take, drop, map, filter}
-use Rattle.ide_plan.specs.declared.plan.Plan.{Plan}
+use Rattle.link_history.specs.Terms.{Bool, List, [], drop, filter, if◌then◌else◌, length, map, not, take, ℕ, ◌&&◌, ◌++◌, ◌==◌, ◌∷◌, Plan, Send, SealedPacket, Accepted, Sealed, iv_of, Packet, is_sync_packet, encrypted, open_of, History}
 use Rattle.link_history.specs.Plan.{SubStream, is_same, key_of}
 use Rattle.link_history.specs.Laws.{Begins}
-use Rattle.key_laws.specs.History.{History}
 use Rattle.link_history.specs.History.{sub_stream_of, arrived_packet, is_of, held}
-use Rattle.link_events.specs.declared.event.Event.TheVariants.{Send}
-use Rattle.link_verdicts.specs.declared.verdict.Verdict.TheVariants.{Sealed, Accepted}
-use Rattle.link_verdicts.specs.declared.verdict.SealedPacket.{SealedPacket}
-use Rattle.ide_prefix.specs.Packet.{Packet, is_sync_packet}
-use Rattle.ide_prefix.specs.Iv.{iv_of}
-use Rattle.ide_prefix.specs.Units.{encrypted}
-use Rattle.gcm_seal.specs.Gcm.{open_of}
 
 -- ---- sent
 

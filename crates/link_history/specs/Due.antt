@@ -1,43 +1,23 @@
 -- The one verdict that an event gets after a history.
-use Rattle.std.specs.Prelude.{ℕ, ◌+◌, Bool, true, false, not, ◌&&◌, ◌||◌, if◌then◌else◌, ◌==◌, nat_lt, nat_le, Option, Some, None, Result, Ok, Err, List, [], ◌∷◌, ◌++◌, length, map, is_some}
-use Rattle.std.specs.Option.{option_map_or}
-use Rattle.ide_types.specs.declared.sub.FailCause.TheVariants as fail
-use Rattle.ide_plan.specs.declared.plan.Plan.{Plan}
-use Rattle.link_history.specs.Plan.{SubStream, key_plan, streams_of, stream_plan, lane_out, has_port, has_stream, mode_of, key_of}
-use Rattle.key_laws.specs.Places.{sent_direction, received_direction}
-use Rattle.link_history.specs.Units.{units, open_unit}
-use Rattle.key_laws.specs.History.{History, status_of}
+use Rattle.link_history.specs.Terms.{option_map_or, Bool, Err, List, None, Ok, Option, Result, Some, [], false, if◌then◌else◌, is_some, length, map, nat_le, nat_lt, not, true, ℕ, ◌&&◌, ◌++◌, ◌+◌, ◌==◌, ◌||◌, ◌∷◌, PortName, Device, Host}
+use Rattle.link_history.specs.Terms.{Plan, Event, Dump, Establish, Refresh, Reset, Send, Status, Stop, Effect, SealedPacket, UnitName, Verdict, read_head_of, read_of, header, TlpFault, Tlp, iv_of, Packet, is_sync_packet, packet_bytes}
+use Rattle.link_history.specs.Terms.{CutValue, IdePacket, PlainTlp, cut_of, authenticated, encrypted, PacketFault, verifies, History, status_of, received_direction, sent_direction}
 use Rattle.key_laws.specs.Due.{due as key_due}
 use Rattle.association.specs.Choice.{choice_of, chosen}
-use Rattle.link_history.specs.History.{Arrival, KeyName, sealed_packets, sent, arrived, packet_at, pending, units_got, on_draw, live_key, failed, posted_count, meets_counts, received_in, front_due}
-use Rattle.ide_types.specs.declared.port.PortName.{PortName}
-use Rattle.ide_types.specs.declared.port.Side.TheVariants.{Host, Device}
-use Rattle.link_events.specs.declared.event.Event.{Event}
-use Rattle.link_events.specs.declared.event.Event.TheVariants.{Send, Dump, Establish, Refresh, Stop, Reset, Status}
-use Rattle.link_verdicts.specs.declared.verdict.Verdict.{Verdict}
-use Rattle.link_verdicts.specs.declared.verdict.Verdict.TheVariants as v
-use Rattle.link_verdicts.specs.declared.verdict.SealedPacket.{SealedPacket}
-use Rattle.link_verdicts.specs.declared.verdict.UnitName.{UnitName}
-use Rattle.link_verdicts.specs.declared.verdict.Effect.{Effect}
-use Rattle.link_verdicts.specs.declared.verdict.Effect.TheVariants as effect
-use Rattle.link_verdicts.specs.declared.verdict.BlockCause.TheVariants as block
 use Rattle.tlp_layout.specs.declared.head.HeadView.{HeadView}
 use Rattle.tlp_layout.specs.declared.head.TlpKind.{TlpKind}
-use Rattle.tlp_layout.specs.declared.head.TlpKind.TheVariants as kind
-use Rattle.tlp_layout.specs.declared.tlp.Tlp.{Tlp}
-use Rattle.tlp_layout.specs.declared.fault.TlpFault.{TlpFault}
 use Rattle.tlp_layout.specs.Class.{class_of, kind_of}
 use Rattle.tlp_layout.specs.Faults.{place_in}
-use Rattle.tlp_layout.specs.Tlp.{header}
-use Rattle.tlp_layout.specs.Reading.{read_of, read_head_of}
-use Rattle.ide_prefix.specs.declared.fault.PacketFault.{PacketFault}
 use Rattle.ide_prefix.specs.Faults.{packet_place}
-use Rattle.ide_prefix.specs.Packet.{Packet, packet_bytes, is_sync_packet}
-use Rattle.ide_prefix.specs.Iv.{iv_of}
-use Rattle.ide_prefix.specs.Units.{authenticated, encrypted}
-use Rattle.ide_prefix.specs.Reading.{CutValue, PlainTlp, IdePacket, cut_of}
 use Rattle.fault_words.specs.FaultWords.{tlp_word, packet_word}
-use Rattle.gcm_seal.specs.Gcm.{verifies}
+use Rattle.ide_types.specs.declared.sub.FailCause.TheVariants as fail
+use Rattle.link_history.specs.Plan.{SubStream, key_plan, streams_of, stream_plan, lane_out, has_port, has_stream, mode_of, key_of}
+use Rattle.link_history.specs.Units.{units, open_unit}
+use Rattle.link_history.specs.History.{Arrival, KeyName, sealed_packets, sent, arrived, packet_at, pending, units_got, on_draw, live_key, failed, posted_count, meets_counts, received_in, front_due}
+use Rattle.link_verdicts.specs.declared.verdict.Verdict.TheVariants as v
+use Rattle.link_verdicts.specs.declared.verdict.Effect.TheVariants as effect
+use Rattle.link_verdicts.specs.declared.verdict.BlockCause.TheVariants as block
+use Rattle.tlp_layout.specs.declared.head.TlpKind.TheVariants as kind
 pub use Rattle.stream_rules.specs.Sending.{first_that_holds, Sending, Lane, Lanes, is_posted, begins_unit, needs_sync, is_worn, is_keyless, refusals, no_key, described, ends_unit, sets_trusted, sync_before, sealed_by, sent_as}
 
 -- ---- sends

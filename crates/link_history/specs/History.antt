@@ -1,31 +1,10 @@
 -- What happened: filters of a history, which is a list of events with their verdicts, the newest first.
-use Rattle.std.specs.Prelude.{not, ℕ, ◌+◌, ◌-◌, Bool, true, false, ◌&&◌, ◌||◌, if◌then◌else◌, ◌==◌, nat_lt, nat_le, Option, Some, None, Result, Ok, Err, List, [], ◌∷◌, ◌++◌, length, filter, map, take, slice_get, slice_index, slice_set, bit_xor, option_map, sum_by}
-use Rattle.std.specs.List.{after_last, list_any}
-use Rattle.std.specs.Option.{option_and_then}
-use Rattle.ide_types.specs.Sub.{sub_bits}
+use Rattle.link_history.specs.Terms.{after_last, list_any, option_and_then, Bool, Err, List, None, Ok, Option, Result, Some, [], bit_xor, false, filter, if◌then◌else◌, length, map, nat_le, nat_lt, not, option_map, slice_get, slice_index}
+use Rattle.link_history.specs.Terms.{slice_set, sum_by, take, true, ℕ, ◌&&◌, ◌++◌, ◌+◌, ◌-◌, ◌==◌, ◌||◌, ◌∷◌, sub_bits, PortName, Plan, Event, Alter, Arrive, Cut, Pass, Send, SealedPacket, UnitName, Verdict, Accepted, Held, Sealed}
+use Rattle.link_history.specs.Terms.{read_of, body, header, TlpFault, Tlp, iv_of, Packet, packet_bytes, sync_head, CutValue, IdePacket, cut_of, authenticated, encrypted, PacketFault, masked, tag_of, History, base, failed_there}
+use Rattle.link_history.specs.Terms.{fails_there, keeps_live, keys_there, Keyed, Keys, Off, On, key_in, no_keys, on_in, unless_below, Place, received_direction, sent_direction}
 use Rattle.ide_types.specs.declared.sub.SubKind.TheVariants.{Pr, Npr, Cpl}
-use Rattle.ide_types.specs.declared.port.PortName.{PortName}
-use Rattle.ide_plan.specs.declared.plan.Plan.{Plan}
-use Rattle.link_events.specs.declared.event.Event.{Event}
-use Rattle.link_events.specs.declared.event.Event.TheVariants.{Send, Pass, Alter, Cut, Arrive}
-use Rattle.link_verdicts.specs.declared.verdict.Verdict.{Verdict}
-use Rattle.link_verdicts.specs.declared.verdict.Verdict.TheVariants.{Sealed, Held, Accepted}
-use Rattle.link_verdicts.specs.declared.verdict.SealedPacket.{SealedPacket}
-use Rattle.link_verdicts.specs.declared.verdict.UnitName.{UnitName}
 use Rattle.tlp_layout.specs.Head.{head_bytes}
-use Rattle.tlp_layout.specs.Tlp.{header, body}
-use Rattle.tlp_layout.specs.Reading.{read_of}
-use Rattle.tlp_layout.specs.declared.tlp.Tlp.{Tlp}
-use Rattle.tlp_layout.specs.declared.fault.TlpFault.{TlpFault}
-use Rattle.ide_prefix.specs.declared.fault.PacketFault.{PacketFault}
-use Rattle.ide_prefix.specs.Packet.{Packet, packet_bytes, sync_head}
-use Rattle.ide_prefix.specs.Iv.{iv_of}
-use Rattle.ide_prefix.specs.Units.{authenticated, encrypted}
-use Rattle.ide_prefix.specs.Reading.{CutValue, IdePacket, cut_of}
-use Rattle.gcm_seal.specs.Gcm.{masked, tag_of}
-use Rattle.key_laws.specs.Places.{Place, sent_direction, received_direction}
-use Rattle.key_laws.specs.Keys.{Keyed, Off, On, Keys, no_keys, key_in, on_in, unless_below}
-use Rattle.key_laws.specs.History.{History, base, is_keyed as keeps_live, keys_at as keys_there, fails_at as fails_there, failed as failed_there}
 use Rattle.link_history.specs.Plan.{SubStream, is_same, is_same_port, partner, lane_out, lane_in, has_port, key_of, is_closed}
 use Rattle.link_history.specs.Units.{open_unit}
 pub use Rattle.stream_rules.specs.Sending.{KeyName, prefix_of, front_with}

@@ -1,21 +1,9 @@
 -- All that is used of the keys of places: how a pair changes them, and what is known of those that are On.
-use Rattle.std.specs.Prelude.{◌≡◌, ◌<◌, ◌≤◌, ℕ, Bool, true, false, not, ◌&&◌, if◌then◌else◌, nat_le, ◌==◌, List, [], ◌∷◌, Some, is_some, slice_get, ◌⊎◌}
-use Rattle.std.specs.List.{AllByRecursion}
-use Rattle.ide_types.specs.declared.sub.SubKind.{SubKind}
-use Rattle.ide_types.specs.declared.port.PortName.{PortName}
-use Rattle.link_events.specs.declared.event.Event.{Event}
+use Rattle.link_history.specs.Terms.{AllByRecursion, Bool, List, Some, [], false, if◌then◌else◌, is_some, nat_le, not, slice_get, true, ℕ, ◌&&◌, ◌<◌, ◌==◌, ◌∷◌, ◌≡◌, ◌≤◌, ◌⊎◌, PortName, SubKind, Plan, Event, Effect, SealedPacket}
+use Rattle.link_history.specs.Terms.{UnitName, Verdict, Accepted, Fail, Held, Sealed, Packet, History, base, On, key_in}
 use Rattle.link_events.specs.declared.event.Event.TheVariants as event
-use Rattle.link_verdicts.specs.declared.verdict.Verdict.{Verdict}
-use Rattle.link_verdicts.specs.declared.verdict.Verdict.TheVariants.{Sealed, Fail, Held, Accepted}
-use Rattle.link_verdicts.specs.declared.verdict.SealedPacket.{SealedPacket}
-use Rattle.link_verdicts.specs.declared.verdict.UnitName.{UnitName}
-use Rattle.link_verdicts.specs.declared.verdict.Effect.{Effect}
-use Rattle.ide_prefix.specs.Packet.{Packet}
-use Rattle.ide_plan.specs.declared.plan.Plan.{Plan}
 use Rattle.link_history.specs.Plan.{SubStream, is_same, is_same_port, lane_out, lane_in, stream_plan}
 use Rattle.link_history.specs.History.{is_under, KeyName, live_key, sealed_packets, sub_stream_of, draws_got, keys_at, sent, received_in, is_keyed, after_ends, accepted_keys, waits}
-use Rattle.key_laws.specs.History.{History, base}
-use Rattle.key_laws.specs.Keys.{On, key_in}
 use Rattle.link_history.specs.Units.{open_unit}
 use Rattle.link_history.specs.Cause.{CauseLaw}
 

@@ -1,18 +1,10 @@
 -- The laws of a history.
-use Rattle.std.specs.Prelude.{ℕ, ◌≡◌, ◌≢◌, ◌+◌, ◌≤◌, ◌<◌, Bool, true, false, Some, Ok, List, [], ◌∷◌, ◌++◌, slice_get, take, map}
-use Rattle.ide_plan.specs.declared.plan.Plan.{Plan}
+use Rattle.link_history.specs.Terms.{Bool, List, Ok, Some, [], false, map, slice_get, take, true, ℕ, ◌++◌, ◌+◌, ◌<◌, ◌∷◌, ◌≡◌, ◌≢◌, ◌≤◌, PortName, Plan, Event, Verdict, Accepted, Held, Packet, packet_bytes, authenticated, encrypted}
+use Rattle.link_history.specs.Terms.{History, base, received_direction}
 use Rattle.link_history.specs.Plan.{SubStream, is_closed}
-use Rattle.key_laws.specs.Places.{received_direction}
 use Rattle.link_history.specs.Units.{units}
-use Rattle.key_laws.specs.History.{History, base}
 use Rattle.link_history.specs.History.{units_got, sealed_packets, total_in, front_sent, front_due, Arrival, arrived, sent, got, pending, draws_got, on_draw, failed, meets_counts, received_in}
 use Rattle.link_history.specs.Due.{Ending, before_tag, is_verified, ended, effect_of, unit_under}
-use Rattle.ide_types.specs.declared.port.PortName.{PortName}
-use Rattle.link_events.specs.declared.event.Event.{Event}
-use Rattle.link_verdicts.specs.declared.verdict.Verdict.{Verdict}
-use Rattle.link_verdicts.specs.declared.verdict.Verdict.TheVariants.{Held, Accepted}
-use Rattle.ide_prefix.specs.Packet.{Packet, packet_bytes}
-use Rattle.ide_prefix.specs.Units.{authenticated, encrypted}
 
 -- the tag of the last packet
 abbrev pub last_tag : List Packet → List ℕ

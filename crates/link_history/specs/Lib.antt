@@ -1,3 +1,4 @@
+pub mod Terms
 pub mod Plan
 pub mod Units
 pub mod History

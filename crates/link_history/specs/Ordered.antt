@@ -1,16 +1,7 @@
 -- Non-posted packets and completions are accepted behind the posted packets that were sealed before them.
-use Rattle.std.specs.Prelude.{ℕ, ◌≡◌, ◌≢◌, ◌<◌, ◌≤◌, true, false, Some, [], ◌∷◌, length, slice_get, take}
-use Rattle.std.specs.List.{AllByRecursion}
-use Rattle.ide_types.specs.Sub.{sub_bits}
-use Rattle.ide_plan.specs.declared.plan.Plan.{Plan}
+use Rattle.link_history.specs.Terms.{AllByRecursion, Some, [], false, length, slice_get, take, true, ℕ, ◌<◌, ◌∷◌, ◌≡◌, ◌≢◌, ◌≤◌, sub_bits, Plan, Event, SealedPacket, Verdict, Accepted, Packet, History, base}
 use Rattle.link_history.specs.Plan.{SubStream, is_closed}
-use Rattle.key_laws.specs.History.{History, base}
 use Rattle.link_history.specs.History.{SealedList, sealed_packets, sent, sent_in, is_under, got, draws_got, received_in, posted_of}
-use Rattle.link_events.specs.declared.event.Event.{Event}
-use Rattle.link_verdicts.specs.declared.verdict.Verdict.{Verdict}
-use Rattle.link_verdicts.specs.declared.verdict.Verdict.TheVariants.{Accepted}
-use Rattle.link_verdicts.specs.declared.verdict.SealedPacket.{SealedPacket}
-use Rattle.ide_prefix.specs.Packet.{Packet}
 
 -- the packet at this place of all that were sealed is packet m, from 0, of its sub-stream and draw
 pub record StandsAt (xs : SealedList) (s : SubStream) (j m place : ℕ) : Type 0 where

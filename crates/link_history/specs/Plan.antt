@@ -1,16 +1,9 @@
 -- What there is before the first event, by link, stream and sub-stream.
-use Rattle.std.specs.Prelude.{ℕ, ◌+◌, ◌*◌, ◌/◌, ◌==◌, ◌&&◌, Bool, false, List, [], ◌∷◌, Option, Some, None, is_some, if◌then◌else◌, length, map, nat_lt}
-use Rattle.std.specs.Option.{option_map_or}
-use Rattle.std.specs.List.{slice_index_or}
-use Rattle.ide_types.specs.Sub.{sub_bits}
-use Rattle.ide_types.specs.declared.sub.SubKind.{SubKind}
+use Rattle.link_history.specs.Terms.{slice_index_or, option_map_or, Bool, List, None, Option, Some, [], false, if◌then◌else◌, is_some, length, map, nat_lt, ℕ, ◌&&◌, ◌*◌, ◌+◌, ◌/◌, ◌==◌, ◌∷◌, sub_bits, PortName, Device, Host, SubKind}
+use Rattle.link_history.specs.Terms.{Plan, KeyPlan, received_direction, sent_direction}
 use Rattle.ide_types.specs.declared.port.Side.{Side}
-use Rattle.ide_types.specs.declared.port.Side.TheVariants.{Host, Device}
-use Rattle.ide_types.specs.declared.port.PortName.{PortName}
-use Rattle.ide_plan.specs.declared.plan.Plan.{Plan}
 use Rattle.ide_plan.specs.declared.plan.LinkPlan.{LinkPlan}
 use Rattle.ide_plan.specs.declared.stream.StreamPlan.{StreamPlan}
-use Rattle.key_laws.specs.Places.{KeyPlan, sent_direction, received_direction}
 
 -- one sub-stream in one direction: 0 is sealed by the host's port, 1 by the device's port
 pub record SubStream : Type 0 where

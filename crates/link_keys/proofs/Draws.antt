@@ -1,6 +1,5 @@
 -- All that the laws use of draws holds.
-use Rattle.ide_plan.specs.declared.plan.Plan.{Plan}
-use Rattle.link_history.specs.KeyFacts.{DrawFacts}
+use Rattle.link_history.proofs.Terms.{DrawFacts, Plan}
 use Rattle.link_keys.proofs.RealFacts.{apart}
 use Rattle.link_keys.proofs.AllFacts.{from_base}
 use Rattle.link_keys.proofs.Unplanned.{known}

@@ -1,34 +1,17 @@
 -- What is used of keys holds of the keys that operations, ends of units and accepted units leave.
-use Rattle.std.proofs.Common.{◌≡◌, ℕ, ◌<◌, ◌==◌, Bool, true, false, List, [], ◌∷◌, ◌++◌, Some, refl, ap, sym, ◌∙◌, subst, arith}
-use Rattle.std.specs.Prelude.{if◌then◌else◌, ◌&&◌, ◌||◌, not, nat_le, nat_lt}
-use Rattle.std.proofs.lemmas.Bool.Decides.{nat_tests}
-use Rattle.ide_types.specs.declared.port.PortName.{PortName}
-use Rattle.link_events.specs.declared.event.Event.{Event}
-use Rattle.link_events.specs.declared.event.Event.TheVariants.{Send, Establish, Refresh, Stop, Reset}
-use Rattle.link_verdicts.specs.declared.verdict.Verdict.{Verdict}
-use Rattle.link_verdicts.specs.declared.verdict.Verdict.TheVariants as v
-use Rattle.link_verdicts.specs.declared.verdict.SealedPacket.{SealedPacket}
-use Rattle.link_verdicts.specs.declared.verdict.UnitName.{UnitName}
-use Rattle.link_verdicts.specs.declared.verdict.Effect.{Effect}
-use Rattle.key_laws.specs.Places.{Place, is_same_side, is_same_sub, is_on_stream, sent_direction, received_direction}
-use Rattle.key_laws.specs.Keys.{Touch, Seal, Accept, key_in, on_in, keys, unless_below, live_draw, Keyed, Off, Loaded, On, Keys, no_keys, is_on}
-use Rattle.key_laws.specs.Operations.{Op}
-use Rattle.key_laws.specs.History.{manager, draws as draws_made, is_sender, sealed_here, when, behind, came, touches, moments, keys_at as keys_there, on_draw as on_there, History, base}
-use Rattle.key_laws.specs.Laws.{KeyFacts as FactsThere}
-use Rattle.key_laws.proofs.Tests.{both-true, true-same, le-true, le-false}
-use Rattle.key_laws.proofs.Shapes.{Shape, Bare, Waiting, Alone, Following, Both, keys_of, Sound, IsAt, sealed_shape, seals}
+use Rattle.link_history.proofs.Terms.{Bool, List, Some, [], ap, arith, false, refl, sym, true, ℕ, ◌++◌, ◌+◌, ◌<◌, ◌==◌, ◌∙◌, ◌∷◌, ◌≡◌, ◌≤◌, nat_tests, base, behind, came, draws as draws_made, is_sender, manager, moments, sealed_here}
+use Rattle.link_history.proofs.Terms.{touches, when, Accept, Seal, Touch, is_on, keys, live_draw, Op, is_on_stream, is_same_side, is_same_sub, CauseLaw, due, accepted_keys, after_ends, arrived, ended_keys, ends_at, is_keyed, keys_at}
+use Rattle.link_history.proofs.Terms.{keys_by, place, received_in, receives_it, sends_it, sub_stream_of, is_steady, operates, SubStream, is_same, is_same_port, key_plan, Effect, Establish, Event, History, Keyed, Keys, On, Place, Plan}
+use Rattle.link_history.proofs.Terms.{PortName, Refresh, Reset, SealedPacket, Send, Stop, UnitName, Verdict, if◌then◌else◌, keeps_live, key_in, keys_there, no_keys, not, on_in, ◌&&◌, ◌||◌}
+use Rattle.key_laws.proofs.Shapes.{used, used_bound, Shape, Both, keys_of, Sound, IsAt, sealed_shape, seals}
 use Rattle.key_laws.proofs.Touches.{AllCome}
 use Rattle.key_laws.proofs.Facts.{key_facts}
 use Rattle.key_laws.proofs.Whole.{fits, next_fits}
-use Rattle.ide_plan.specs.declared.plan.Plan.{Plan}
-use Rattle.link_history.specs.Plan.{SubStream, key_plan, is_same, is_same_port}
-use Rattle.link_history.specs.History.{place, sends_it, receives_it, keys_by, keys_at, sub_stream_of, received_in, ended_keys, ends_at, after_ends, accepted_keys, is_keyed, arrived}
-use Rattle.link_history.specs.Due.{due}
-use Rattle.link_history.specs.Cause.{CauseLaw}
-use Rattle.link_history.specs.KeyFacts.{operates, is_steady}
 use Rattle.link_history.proofs.Tests.{same_port, same_stream, eqb-sym, in_not_out, out_not_in, same_in}
-use Rattle.link_history.proofs.Causes.{accepted_by, is_send, sealed_by_send}
+use Rattle.link_history.proofs.Causes.{accepted_by, sealed_by_send}
 use Rattle.link_keys.proofs.Given.{accepted_on, key_cause}
+use Rattle.link_keys.proofs.Unplanned.{on_at}
+use Rattle.link_verdicts.specs.declared.verdict.Verdict.TheVariants as v
 
 -- ---- pairs that touch nothing
 
@@ -72,25 +55,14 @@ InOrder (Both k i j) = i < j
 InOrder sh = Unit {0}
 
 pub in_order : (s : Bool) (ts : List Touch) (sh : Shape) → Sound s ts sh → InOrder sh
-in_order s ts Bare sound = tt
-in_order s ts (Waiting k j) sound = tt
-in_order s ts (Alone k j) sound = tt
-in_order s ts (Following k i j) sound = tt
 in_order s ts (Both k i j) sound = sound.0
+in_order s ts _ sound = tt
 
 abbrev end_of : Keys → Keys
 end_of ks = ended_keys ks.first ks.second
 
 ended_both : (sh : Shape) → InOrder sh → end_of (keys_of sh) ≡ keys_of (sealed_shape true sh)
-ended_both Bare lt = refl
-ended_both (Waiting false j) lt = refl
-ended_both (Waiting true j) lt = refl
-ended_both (Alone false j) lt = refl
-ended_both (Alone true j) lt = refl
-ended_both (Following false i j) lt = refl
-ended_both (Following true i j) lt = refl
-ended_both (Both false i j) lt = rw (le-false j i lt) refl
-ended_both (Both true i j) lt = rw (le-true i j (omega (arith, lt))) refl
+ended_both sh lt = grind (arith, nat_tests)
 
 one_end : (ts : List Touch) (sh : Shape) (j : ℕ) (m : Bool) → IsAt true ts sh → live_draw (keys true ts) ≡ Some j
     → (keys true (Seal j m ∷ ts)) ≡ (if m then end_of (keys true ts) else (keys true ts))
@@ -98,11 +70,7 @@ one_end ts sh j true is live = (seals ts sh j true is live).are ∙ (sym (ended_
 one_end ts sh j false is live = (seals ts sh j false is live).are ∙ sym is.are
 
 pub seal_here : (port : PortName) (s : SubStream) (d : SealedPacket) → sends_it port s ≡ true → is_sender (place port s true) d ≡ (is_same_port d.port port && is_same (sub_stream_of d) s)
-seal_here port s d here =
-    let each = both-true (port.link == s.link) (sent_direction port.side == s.direction) here in
-    let link : port.link ≡ s.link = true-same _ _ each.0 in
-    let direction : sent_direction port.side ≡ s.direction = true-same _ _ each.1 in
-    grind (arith, nat_tests)
+seal_here port s d here = grind (arith, nat_tests)
 
 sealing : (port : PortName) (s : SubStream) → sends_it port s ≡ true → (ts : List Touch) (ds : List SealedPacket) → AllCome true ts (sealed_here (place port s true) ds)
     → (keys true (behind ts (sealed_here (place port s true) ds))) ≡ after_ends port s ds (keys true ts)
@@ -127,19 +95,20 @@ never_ends port s [] ks none = refl
 never_ends port s (d ∷ ds) ks none = rw (none d) (never_ends port s ds ks none)
 
 not_ending : (port : PortName) (s : SubStream) (d : SealedPacket) → receives_it port s ≡ true → ends_at port s d ≡ false
-not_ending port s d here =
-    let each = both-true (port.link == s.link) (received_direction port.side == s.direction) here in
-    let direction : received_direction port.side ≡ s.direction = true-same _ _ each.1 in
-    let other = in_not_out port.side in
-    grind (arith, nat_tests)
+not_ending port s d here = let other = in_not_out port.side in grind (arith, nat_tests)
+
+-- what each end of a unit keeps of the keys, all ends keep
+pub ends_keep : (P : Keys → Type 0) → ((ks : Keys) → P ks → P (ended_keys ks.first ks.second)) → (port : PortName) (s : SubStream)
+    (ds : List SealedPacket) (ks : Keys) → P ks → P (after_ends port s ds ks)
+ends_keep P kept port s [] ks holds = holds
+ends_keep P kept port s (d ∷ ds) ks holds = ends_keep P kept port s ds _ (by_test (ends_at port s d))
+  where
+    by_test : (b : Bool) → P (if b then ended_keys ks.first ks.second else ks)
+    by_test true = kept ks holds
+    by_test false = holds
 
 ends_bare : (port : PortName) (s : SubStream) (ds : List SealedPacket) → after_ends port s ds no_keys ≡ no_keys
-ends_bare port s [] = refl
-ends_bare port s (d ∷ ds) = by_test (ends_at port s d) (ends_bare port s ds)
-  where
-    by_test : (b : Bool) → after_ends port s ds no_keys ≡ no_keys → after_ends port s ds (if b then ended_keys Off Off else no_keys) ≡ no_keys
-    by_test true more = more
-    by_test false more = more
+ends_bare port s ds = ends_keep (λ ks. ks ≡ no_keys) (λ ks is. rw is refl) port s ds no_keys refl
 
 sent_keys : (plan : Plan) (h : History) (q : PortName) (bytes : List ℕ) (more trusted : Bool) (ds : List SealedPacket) → CauseLaw plan ((Send q bytes more trusted, v.Sealed ds) ∷ h) → (port : PortName) (s : SubStream)
     → keys_at ((Send q bytes more trusted, v.Sealed ds) ∷ h) port s ≡ after_ends port s ds (keys_at h port s)
@@ -159,11 +128,8 @@ sent_keys plan h q bytes more trusted ds law port s = by_seat (sends_it port s) 
 
 pub sealed : (plan : Plan) (h : History) (e : Event) (ds : List SealedPacket) → CauseLaw plan ((e, v.Sealed ds) ∷ h) → (port : PortName) (s : SubStream)
     → keys_at ((e, v.Sealed ds) ∷ h) port s ≡ after_ends port s ds (keys_at h port s)
-sealed plan h e ds law port s = by_event e (sealed_by_send plan h e ds law.0) law
-  where
-    by_event : (e : Event) → is_send e ≡ true → CauseLaw plan ((e, v.Sealed ds) ∷ h) → keys_at ((e, v.Sealed ds) ∷ h) port s ≡ after_ends port s ds (keys_at h port s)
-    by_event (Send q bytes more trusted) send law = sent_keys plan h q bytes more trusted ds law port s
-    by_event _ send law = absurd cc
+sealed plan h (Send q bytes more trusted) ds law port s = sent_keys plan h q bytes more trusted ds law port s
+sealed plan h e ds law port s = absurd (let send = sealed_by_send plan h e ds law.0 in cc)
 
 -- ---- accepted units
 
@@ -180,27 +146,18 @@ pub accepted_touches : (plan : Plan) (h : History) (e : Event) (port : PortName)
     → (p : Place) → touches (manager h).ops (draws_made h) e (v.Accepted port unit effects) p ≡ came p (v.Accepted port unit effects)
 accepted_touches plan h e port unit effects is p = let by = accepted_by plan h e port unit effects is in brings plan h e (v.Accepted port unit effects) p port by.came.bytes by.came.arrival
 
-accepted_end : (ts : List Touch) (j : ℕ) → (keys false (Accept j ∷ ts)) ≡ accepted_keys j (keys false ts)
+accept_when : (ts : List Touch) (j : ℕ) (b : Bool) → keys false (behind ts (when b (Accept j))) ≡ (if b then accepted_keys j (keys false ts) else keys false ts)
 unfolding keys
-accepted_end ts j = refl
+accept_when ts j true = refl
+accept_when ts j false = refl
 
 pub accept_here : (q : PortName) (s : SubStream) (port : PortName) (unit : UnitName) → receives_it q s ≡ true
     → (not false && is_same_side q.side port.side && is_on_stream (place q s false) port.link unit.stream && is_same_sub s.sub unit.sub) ≡ (is_same_port port q && is_same (received_in port unit) s)
-accept_here q s port unit here =
-    let each = both-true (q.link == s.link) (received_direction q.side == s.direction) here in
-    let link : q.link ≡ s.link = true-same _ _ each.0 in
-    let direction : received_direction q.side ≡ s.direction = true-same _ _ each.1 in
-    let sides = same_in port.side q.side in
-    grind (arith, nat_tests)
+accept_here q s port unit here = let sides = same_in port.side q.side in grind (arith, nat_tests)
 
 -- what a port seals it accepts nothing in
 accept_not : (q : PortName) (s : SubStream) (port : PortName) (unit : UnitName) → sends_it q s ≡ true → (is_same_port port q && is_same (received_in port unit) s) ≡ false
-accept_not q s port unit here =
-    let each = both-true (q.link == s.link) (sent_direction q.side == s.direction) here in
-    let direction : sent_direction q.side ≡ s.direction = true-same _ _ each.1 in
-    let sides = same_in port.side q.side in
-    let other = out_not_in q.side in
-    grind (arith, nat_tests)
+accept_not q s port unit here = let sides = same_in port.side q.side in let other = out_not_in q.side in grind (arith, nat_tests)
 
 pub accepted : (plan : Plan) (h : History) (e : Event) (port : PortName) (unit : UnitName) (effects : List Effect) → CauseLaw plan ((e, v.Accepted port unit effects) ∷ h)
     → (q : PortName) (s : SubStream) → keys_at ((e, v.Accepted port unit effects) ∷ h) q s
@@ -208,20 +165,8 @@ pub accepted : (plan : Plan) (h : History) (e : Event) (port : PortName) (unit :
 unfolding keys_at moments
 accepted plan h e port unit effects law q s = by_seat (sends_it q s) (receives_it q s) refl refl
   where
-    w : Verdict
-    w = v.Accepted port unit effects
-
     there : (p : Place) → touches (manager h).ops (draws_made h) e (v.Accepted port unit effects) p ≡ came p (v.Accepted port unit effects)
     there p = accepted_touches plan h e port unit effects law.0 p
-
-    by_test : (b : Bool) → (keys false (behind (moments h (place q s false)) (when b (Accept unit.draw))))
-        ≡ (if b then accepted_keys unit.draw (keys false (moments h (place q s false))) else (keys false (moments h (place q s false))))
-    by_test true = accepted_end (moments h (place q s false)) unit.draw
-    by_test false = refl
-
-    both_bare : (b : Bool) → no_keys ≡ (if b then accepted_keys unit.draw no_keys else no_keys)
-    both_bare true = refl
-    both_bare false = refl
 
     by_seat : (a b : Bool) → sends_it q s ≡ a → receives_it q s ≡ b → keys_by ((e, v.Accepted port unit effects) ∷ h) q s a b
         ≡ (if is_same_port port q && is_same (received_in port unit) s then accepted_keys unit.draw (keys_by h q s a b) else keys_by h q s a b)
@@ -230,98 +175,54 @@ accepted plan h e port unit effects law q s = by_seat (sends_it q s) (receives_i
         ∙ rw (accept_not q s port unit here) refl
     by_seat false true here other =
         ap (λ (ts : List Touch). (keys false (behind (moments h (place q s false)) ts))) (there (place q s false))
-        ∙ (by_test (not false && is_same_side q.side port.side && is_on_stream (place q s false) port.link unit.stream && is_same_sub s.sub unit.sub)
+        ∙ (accept_when (moments h (place q s false)) unit.draw _
         ∙ ap (λ (b : Bool). if b then accepted_keys unit.draw (keys false (moments h (place q s false))) else (keys false (moments h (place q s false)))) (accept_here q s port unit other))
-    by_seat false false here other = both_bare (is_same_port port q && is_same (received_in port unit) s)
+    by_seat false false here other = grind arith
 
 -- ---- a place stays keyed
 
 ended_keyed : (a b : Keyed) → (is_on (ended_keys a b).first || is_on (ended_keys a b).second) ≡ (is_on a || is_on b)
-ended_keyed (On i) (On j) = by_test (nat_le i j)
-  where
-    by_test : (t : Bool) → let keys : Keys = if t then record { first = Off; second = On j } else record { first = On i; second = Off } in (is_on keys.first || is_on keys.second) ≡ true
-    by_test true = refl
-    by_test false = refl
-ended_keyed Off b = refl
-ended_keyed (Loaded i) b = refl
-ended_keyed (On i) Off = refl
-ended_keyed (On i) (Loaded j) = refl
+ended_keyed a b = grind arith
 
-abbrev any_on : Keys → Bool
-any_on keys = is_on keys.first || is_on keys.second
+after_keyed : (port : PortName) (s : SubStream) (ds : List SealedPacket) (keys : Keys) → keeps_live (after_ends port s ds keys) ≡ keeps_live keys
+after_keyed port s ds keys = ends_keep (λ ks. keeps_live ks ≡ keeps_live keys) (λ ks same. ended_keyed ks.first ks.second ∙ same) port s ds keys refl
 
-after_keyed : (port : PortName) (s : SubStream) (ds : List SealedPacket) (keys : Keys) → any_on (after_ends port s ds keys) ≡ any_on keys
-after_keyed port s [] keys = refl
-after_keyed port s (d ∷ ds) keys = after_keyed port s ds (if ends_at port s d then ended_keys keys.first keys.second else keys) ∙ by_test (ends_at port s d)
-  where
-    by_test : (b : Bool) → any_on (if b then ended_keys keys.first keys.second else keys) ≡ any_on keys
-    by_test true = ended_keyed keys.first keys.second
-    by_test false = refl
-
-or_second : (a b : Bool) → b ≡ true → (a || b) ≡ true
-or_second true b is = refl
-or_second false b is = is
-
-stays_on : (a : Keyed) (j : ℕ) → on_in a ≡ Some j → (is_on (unless_below j a) ≡ true) × (is_on a ≡ true)
-stays_on Off j on = absurd cc
-stays_on (Loaded i) j on = absurd cc
-stays_on (On i) j on = let same : i ≡ j = cc in let none : nat_lt i j ≡ false = rw same (not_less j) in (rw none refl, refl)
-  where
-    not_less : (n : ℕ) → nat_lt n n ≡ false
-    not_less n = grind (arith, nat_tests)
-
-accepted_keyed : (keys : Keys) (k : Bool) (j : ℕ) → on_in (key_in keys k) ≡ Some j → any_on (accepted_keys j keys) ≡ any_on keys
-accepted_keyed keys true j on = let stays = stays_on keys.second j on in or_second _ _ stays.0 ∙ sym (or_second _ _ stays.1)
-accepted_keyed keys false j on = let stays = stays_on keys.first j on in rw (stays.0, stays.1) refl
+accepted_keyed : (keys : Keys) (k : Bool) (j : ℕ) → on_in (key_in keys k) ≡ Some j → keeps_live (accepted_keys j keys) ≡ keeps_live keys
+accepted_keyed keys k j on = grind (arith, nat_tests)
 
 pub keyed : (plan : Plan) (h : History) (e : Event) (w : Verdict) → CauseLaw plan ((e, w) ∷ h) → (port : PortName) (s : SubStream) → operates e s.link s.stream ≡ false → is_keyed ((e, w) ∷ h) port s ≡ is_keyed h port s
-keyed plan h e (v.Sealed ds) law port s still = ap any_on (sealed plan h e ds law port s) ∙ after_keyed port s ds (keys_at h port s)
-keyed plan h e (v.Accepted p unit effects) law port s still = ap any_on (accepted plan h e p unit effects law port s) ∙ by_test (is_same_port p port && is_same (received_in p unit) s) refl
+keyed plan h e (v.Sealed ds) law port s still = ap keeps_live (sealed plan h e ds law port s) ∙ after_keyed port s ds (keys_at h port s)
+keyed plan h e (v.Accepted p unit effects) law port s still = ap keeps_live (accepted plan h e p unit effects law port s) ∙ by_test (is_same_port p port && is_same (received_in p unit) s) refl
   where
-    by_test : (b : Bool) → (is_same_port p port && is_same (received_in p unit) s) ≡ b → any_on (if b then accepted_keys unit.draw (keys_at h port s) else keys_at h port s) ≡ any_on (keys_at h port s)
+    by_test : (b : Bool) → (is_same_port p port && is_same (received_in p unit) s) ≡ b → keeps_live (if b then accepted_keys unit.draw (keys_at h port s) else keys_at h port s) ≡ keeps_live (keys_at h port s)
     by_test true here =
         let on = accepted_on plan h e p unit effects law.0 in
         let same : received_in p unit ≡ s = same_stream (received_in p unit) s (grind arith) in
         let one : p ≡ port = same_port p port (grind arith) in
-        accepted_keyed (keys_at h port s) on.0 unit.draw
-        (subst (λ (q : PortName). on_in (key_in (keys_at h q s) on.0) ≡ Some unit.draw) one
-        (subst (λ (t : SubStream). on_in (key_in (keys_at h p t) on.0) ≡ Some unit.draw) same on.1))
+        accepted_keyed (keys_at h port s) on.0 unit.draw ((λ i. on_in (key_in (keys_at h (sym one i) (sym same i)) on.0)) ∙ on.1)
     by_test false other = refl
-keyed plan h e _ law port s still = ap any_on (steady plan h e _ refl port s still)
+keyed plan h e _ law port s still = ap keeps_live (steady plan h e _ refl port s still)
 
 -- ---- two draws differ, and one that waits has sealed nothing
 
-key_fits : (plan : Plan) (h : History) → CauseLaw plan h → FactsThere h
-key_fits plan h law = key_facts (key_plan plan) h (key_cause plan h law)
-
--- what is On in a seat
-on_first : (ks : Keys) (i : ℕ) → ks.first ≡ On i → on_in (key_in ks false) ≡ Some i
-on_first ks i is = ap on_in is
-
-on_second : (ks : Keys) (i : ℕ) → ks.second ≡ On i → on_in (key_in ks true) ≡ Some i
-on_second ks i is = ap on_in is
-
-apart_there : (h : History) → FactsThere h → (p : Place) (i j : ℕ) → on_there h p false ≡ Some i → on_there h p true ≡ Some j → (i == j) ≡ false
-apart_there h facts p i j first second = by_test (i == j) refl
-  where
-    by_test : (b : Bool) → (i == j) ≡ b → b ≡ false
-    by_test false e = refl
-    by_test true e =
-        let same : j ≡ i = sym (true-same i j e) in
-        absurd (let sets : false ≡ true = facts.one_set p p false true i first (second ∙ ap (λ (n : ℕ). Some n) same) in cc)
+different : (i j : ℕ) → (i ≡ j → ⊥) → (i == j) ≡ false
+different i j other = grind (arith, nat_tests)
 
 pub apart : (plan : Plan) (h : History) → CauseLaw plan h → (port : PortName) (s : SubStream) (i j : ℕ) → (keys_at h port s).first ≡ On i → (keys_at h port s).second ≡ On j → (i == j) ≡ false
-unfolding keys_at
-apart plan h law port s i j first second = by_seat (sends_it port s) (receives_it port s) first second
+apart plan h law port s i j first second = different i j one_set
   where
-    at : (sends : Bool) → ((keys_there h (place port s sends))).first ≡ On i → ((keys_there h (place port s sends))).second ≡ On j → (i == j) ≡ false
-    at sends first second =
-        apart_there h (key_fits plan h law) (place port s sends) i j (on_first (keys_there h (place port s sends)) i first) (on_second (keys_there h (place port s sends)) j second)
+    one_set : i ≡ j → ⊥
+    one_set same =
+        let one = on_at h port s false i first in
+        let two = on_at h port s true j second in
+        let sets : false ≡ true = (key_facts (key_plan plan) h (key_cause plan h law)).one_set (place port s one.sends) (place port s two.sends) false true i
+        (ap on_in one.on) (ap on_in two.on ∙ ap (λ (n : ℕ). Some n) (sym same)) in
+        cc
 
-    by_seat : (a b : Bool) → (keys_by h port s a b).first ≡ On i → (keys_by h port s a b).second ≡ On j → (i == j) ≡ false
-    by_seat true b first second = at true first second
-    by_seat false true first second = at false first second
-    by_seat false false first second = absurd cc
+-- ---- a draw that is On
+
+pub used_most : (plan : Plan) (h : History) → CauseLaw plan h → (p : Place) (k : Bool) (j : ℕ) → key_in (keys_there h p) k ≡ On j → used (moments h p) ≤ j + 1
+used_most plan h law p k j on = let at = fits (key_plan plan) h (key_cause plan h law) p in used_bound p.sends (moments h p) at.shape k j at.is (ap on_in on)
 
 -- ---- the base
 

@@ -1,25 +1,8 @@
 -- The draws of sealed packets: whose they are, and that they never fall.
-use Rattle.std.proofs.Common.{◌≡◌, ℕ, ◌<◌, ◌==◌, Bool, true, false, List, [], ◌∷◌, ◌++◌, Option, Some, slice_get, refl, ap, sym, ◌∙◌, subst, inl, inr, ◌⊎◌}
-use Rattle.std.specs.Prelude.{if◌then◌else◌, ◌&&◌}
-use Rattle.std.specs.List.{AllByRecursion}
-use Rattle.ide_types.specs.declared.port.PortName.{PortName}
-use Rattle.link_events.specs.declared.event.Event.{Event}
-use Rattle.link_events.specs.declared.event.Event.TheVariants.{Send, Establish}
-use Rattle.link_events.specs.declared.event.Loss.{Loss}
-use Rattle.link_verdicts.specs.declared.verdict.Verdict.{Verdict}
-use Rattle.link_verdicts.specs.declared.verdict.Verdict.TheVariants as v
-use Rattle.link_verdicts.specs.declared.verdict.SealedPacket.{SealedPacket}
-use Rattle.ide_prefix.specs.Packet.{Packet}
-use Rattle.ide_plan.specs.declared.plan.Plan.{Plan}
-use Rattle.key_laws.specs.Keys.{On, key_in, on_in}
-use Rattle.key_laws.specs.Operations.{Begun}
-use Rattle.key_laws.specs.History.{History, manager, draws, base, begins_keyed}
+use Rattle.link_history.proofs.Terms.{Bool, List, Option, Some, [], ap, false, inl, inr, refl, slice_get, subst, sym, true, ℕ, ◌++◌, ◌<◌, ◌==◌, ◌∙◌, ◌∷◌, ◌≡◌, ◌⊎◌, Loss, base, begins_keyed, draws, manager, Begun, CauseLaw, SealedList}
+use Rattle.link_history.proofs.Terms.{ahead_in, keys_at, packet_of, place, sealed_packets, sent_in, sub_stream_of, with_sealed, NoneFrom, SubStream, lane_out, AllByRecursion, Establish, Event, History, On, Packet, Plan, PortName, Sealed}
+use Rattle.link_history.proofs.Terms.{SealedPacket, Send, Verdict, if◌then◌else◌, key_in, on_in, ◌&&◌, open_unit}
 use Rattle.key_laws.proofs.Owners.{Owner, owner, begun_below, after_longer, on_owned}
-use Rattle.link_history.specs.Plan.{SubStream, lane_out}
-use Rattle.link_history.specs.Units.{open_unit}
-use Rattle.link_history.specs.History.{ahead_in, SealedList, keys_at, place, sent_in, sealed_packets, with_sealed, packet_of, sub_stream_of}
-use Rattle.link_history.specs.Cause.{CauseLaw}
-use Rattle.link_history.specs.KeyFacts.{NoneFrom}
 use Rattle.link_history.proofs.LastPlaces.{place_of_last}
 use Rattle.link_history.proofs.Senders.{on_live}
 use Rattle.link_history.proofs.SealingIs.{IsLive, AllLive, sealing_is, all_live}
@@ -70,11 +53,11 @@ owned_later h e w d is = after_longer (manager h) e w d.draw (owner d.port.link 
 pub all_owned : (plan : Plan) (h : History) → CauseLaw plan h → (i : ℕ) (x : SealedPacket × Packet) → slice_get (sealed_packets plan h) i ≡ Some x → IsOwned h x.0
 unfolding sealed_packets
 all_owned plan [] law i x is = absurd cc
-all_owned plan ((Send p bytes more trusted, v.Sealed ds) ∷ h) law i x is =
+all_owned plan ((Send p bytes more trusted, Sealed ds) ∷ h) law i x is =
     let sealing = sealing_is plan h p bytes more trusted ds law.0 in
     let port = sealing.sending.port in
     let stream = sealing.sending.stream in
-    owned_later h (Send p bytes more trusted) (v.Sealed ds) x.0
+    owned_later h (Send p bytes more trusted) (Sealed ds) x.0
     (each_more (IsOwned h) plan (ahead_in plan (sealed_packets plan h) (base h)) bytes ds (sealed_packets plan h) (live_all (IsOwned h) plan h port stream ds (live_owned plan h port stream) (all_live plan h p bytes ds sealing))
     (all_owned plan h law.1) i x is)
 all_owned plan ((e, w) ∷ h) law i x is = owned_later h e w x.0 (all_owned plan h law.1 i x is)

@@ -1,0 +1,29 @@
+-- What is said of elsewhere, and spoken of in the definitions here.
+pub use Rattle.std.specs.List.{AllByRecursion, after_last, list_any, slice_index_or}
+pub use Rattle.std.specs.Option.{option_and_then, option_map_or}
+pub use Rattle.std.specs.Prelude.{Bool, Err, List, None, Ok, Option, Result, Some, [], bit_xor, drop, false, filter, if◌then◌else◌, is_some, length, map, nat_le, nat_lt, not, option_map, slice_get, slice_index, slice_set, sum_by, take, true, ℕ, ◌&&◌, ◌*◌, ◌++◌, ◌+◌, ◌-◌, ◌/◌, ◌<◌, ◌==◌, ◌||◌, ◌∷◌, ◌≡◌, ◌≢◌, ◌≤◌, ◌⊎◌}
+pub use Rattle.ide_types.specs.Sub.{sub_bits}
+pub use Rattle.ide_types.specs.declared.port.PortName.{PortName}
+pub use Rattle.ide_types.specs.declared.port.Side.TheVariants.{Device, Host}
+pub use Rattle.ide_types.specs.declared.sub.SubKind.{SubKind}
+pub use Rattle.ide_plan.specs.declared.plan.Plan.{Plan}
+pub use Rattle.link_events.specs.declared.event.Event.{Event}
+pub use Rattle.link_events.specs.declared.event.Event.TheVariants.{Alter, Arrive, Cut, Dump, Establish, Pass, Refresh, Reset, Send, Status, Stop}
+pub use Rattle.link_verdicts.specs.declared.verdict.Effect.{Effect}
+pub use Rattle.link_verdicts.specs.declared.verdict.SealedPacket.{SealedPacket}
+pub use Rattle.link_verdicts.specs.declared.verdict.UnitName.{UnitName}
+pub use Rattle.link_verdicts.specs.declared.verdict.Verdict.{Verdict}
+pub use Rattle.link_verdicts.specs.declared.verdict.Verdict.TheVariants.{Accepted, Fail, Held, Sealed}
+pub use Rattle.tlp_layout.specs.Reading.{read_head_of, read_of}
+pub use Rattle.tlp_layout.specs.Tlp.{body, header}
+pub use Rattle.tlp_layout.specs.declared.fault.TlpFault.{TlpFault}
+pub use Rattle.tlp_layout.specs.declared.tlp.Tlp.{Tlp}
+pub use Rattle.ide_prefix.specs.Iv.{iv_of}
+pub use Rattle.ide_prefix.specs.Packet.{Packet, is_sync_packet, packet_bytes, sync_head}
+pub use Rattle.ide_prefix.specs.Reading.{CutValue, IdePacket, PlainTlp, cut_of}
+pub use Rattle.ide_prefix.specs.Units.{authenticated, encrypted}
+pub use Rattle.ide_prefix.specs.declared.fault.PacketFault.{PacketFault}
+pub use Rattle.gcm_seal.specs.Gcm.{masked, open_of, tag_of, verifies}
+pub use Rattle.key_laws.specs.History.{History, base, failed as failed_there, fails_at as fails_there, is_keyed as keeps_live, keys_at as keys_there, status_of}
+pub use Rattle.key_laws.specs.Keys.{Keyed, Keys, Off, On, key_in, no_keys, on_in, unless_below}
+pub use Rattle.key_laws.specs.Places.{KeyPlan, Place, received_direction, sent_direction}
