@@ -1,7 +1,7 @@
 -- The posted counts of what was got come to no more than the posted packets that were got.
 use Rattle.std.proofs.Common.{◌≡◌, ◌≢◌, ℕ, ◌<◌, ◌≤◌, ◌==◌, ◌&&◌, ◌||◌, Bool, true, false, nat_le, List, [], ◌∷◌, ◌++◌, length, sum_by, Some, refl, ap, sym, ◌∙◌, subst, inl, inr, ◌⊎◌, arith, length-append}
 use Rattle.std.specs.Prelude.{if◌then◌else◌}
-use Rattle.std.proofs.lemmas.Bool.{eqb-true, leb-true}
+use Rattle.std.proofs.lemmas.Bool.Decides.{nat_tests}
 use Rattle.ide_types.specs.Sub.{sub_bits}
 use Rattle.ide_types.specs.declared.port.PortName.{PortName}
 use Rattle.link_events.specs.declared.event.Event.{Event}
@@ -12,7 +12,7 @@ use Rattle.link_verdicts.specs.declared.verdict.UnitName.{UnitName}
 use Rattle.link_verdicts.specs.declared.verdict.Effect.{Effect}
 use Rattle.ide_prefix.specs.Packet.{Packet}
 use Rattle.ide_plan.specs.declared.plan.Plan.{Plan}
-use Rattle.key_laws.specs.Keys.{Keyed, Off, Loaded, On, key_in, on_in}
+use Rattle.key_laws.specs.Keys.{Keyed, On, key_in, on_in}
 use Rattle.key_laws.specs.Operations.{Begun}
 use Rattle.key_laws.specs.History.{History, manager, draws, base, begun_at, begins_keyed}
 use Rattle.key_laws.proofs.Owners.{begun_below, after_longer}
@@ -48,9 +48,7 @@ unfolding manager
 made_before h e w from below j x is = below j x (after_longer (manager h) e w j x is)
 
 on_of : (a : Keyed) (j : ℕ) → on_in a ≡ Some j → a ≡ On j
-on_of Off j is = absurd cc
-on_of (Loaded i) j is = absurd cc
-on_of (On i) j is = let same : i ≡ j = cc in ap On same
+on_of a j is = grind arith
 
 got_below : (plan : Plan) (h : History) (e : Event) (port : PortName) (unit : UnitName) (effects : List Effect) (from : ℕ)
     → Accepted port unit effects ≡ due plan h e → MadeBelow h from → unit.draw < from
@@ -62,16 +60,8 @@ got_below plan h e port unit effects from is below =
 none_more : (plan : Plan) (h : History) (e : Event) (w : Verdict) (s : SubStream) (from : ℕ)
     → w ≡ due plan h e → MadeBelow h from → got_since plan h s from ≡ [] → got_since plan ((e, w) ∷ h) s from ≡ []
 unfolding got_since
-none_more plan h e (Accepted port unit effects) s from is below none = by_test (is_same (received_in port unit) s) (nat_le from unit.draw) refl
-  where
-    by_test : (a b : Bool) → nat_le from unit.draw ≡ b
-        → (if a && b then got_since plan h s from ++ added plan h e s unit else got_since plan h s from) ≡ []
-    by_test a true above =
-        let least = leb-true from unit.draw above in
-        let less = got_below plan h e port unit effects from is below in
-        absurd (omega arith)
-    by_test true false above = none
-    by_test false false above = none
+none_more plan h e (Accepted port unit effects) s from is below none =
+    grind (arith, nat_tests, got_below plan h e port unit effects from is below, none)
 none_more plan h e w s from is below none = none
 
 none_from : (plan : Plan) (h : History) → CauseLaw plan h → (s : SubStream) (from : ℕ) → MadeBelow h from → got_since plan h s from ≡ []
@@ -87,12 +77,7 @@ none_from plan ((e, w) ∷ h) cause s from below =
 base_moves : (h : History) (e : Event) (w : Verdict) (link stream : ℕ)
     → (base ((e, w) ∷ h) link stream ≡ base h link stream) ⊎ (base ((e, w) ∷ h) link stream ≡ draws h)
 unfolding base
-base_moves h (Establish l t loss) w link stream =
-    by_test ((l == link) && (t == stream) && begins_keyed ((manager h).ops l t) (draws h) w)
-  where
-    by_test : (b : Bool) → ((if b then draws h else base h link stream) ≡ base h link stream) ⊎ ((if b then draws h else base h link stream) ≡ draws h)
-    by_test true = inr refl
-    by_test false = inl refl
+base_moves h (Establish l t loss) w link stream = grind arith
 base_moves h e w link stream = inl refl
 
 -- what the verdict that accepts a unit has tested
@@ -103,16 +88,7 @@ IsMetWith plan h s unit =
 tested : (plan : Plan) (h : History) (s : SubStream) (unit : List Packet) → sub_bits s.sub ≢ 0
     → meets_counts plan h s unit ≡ true → IsMetWith plan h s unit
 unfolding meets_counts
-tested plan h s unit other met = by_test (sub_bits s.sub == 0) refl met
-  where
-    from : ℕ
-    from = base h s.link s.stream
-
-    by_test : (b : Bool) → (sub_bits s.sub == 0) ≡ b
-        → (b || nat_le (posted_sum (got_since plan h s from ++ unit)) (length (got_since plan h (posted_of s) from))) ≡ true
-        → IsMetWith plan h s unit
-    by_test true is met = absurd (other (eqb-true (sub_bits s.sub) 0 is))
-    by_test false is met = leb-true _ _ met
+tested plan h s unit other met = grind (arith, nat_tests, met, other)
 
 added_is : (plan : Plan) (h : History) (e : Event) (port : PortName) (unit : UnitName) (effects : List Effect)
     → (by : AcceptedBy plan h e port unit effects)
@@ -126,55 +102,26 @@ with_unit : (plan : Plan) (h : History) (e : Event) (port : PortName) (unit : Un
     → Accepted port unit effects ≡ due plan h e
     → (s : SubStream) → sub_bits s.sub ≢ 0 → received_in port unit ≡ s → IsMetWith plan h s (added plan h e s unit)
 with_unit plan h e port unit effects is s other same =
-    subst (λ (t : SubStream). sub_bits t.sub ≢ 0 → IsMetWith plan h t (added plan h e t unit)) same here other
-  where
-    r : SubStream
-    r = received_in port unit
-
-    here : sub_bits r.sub ≢ 0 → IsMetWith plan h r (added plan h e r unit)
-    here other =
-        let by = accepted_by plan h e port unit effects is in
-        let unit_is = added_is plan h e port unit effects by in
-        subst (IsMetWith plan h r) (sym unit_is) (tested plan h r (ended plan h port (ending by.packet unit)) other by.counts)
+    let by = accepted_by plan h e port unit effects is in
+    subst (λ (t : SubStream). sub_bits t.sub ≢ 0 → IsMetWith plan h t (added plan h e t unit)) same
+    (λ other. rw (added_is plan h e port unit effects by) (tested plan h (received_in port unit) _ other by.counts)) other
 
 -- at the base before the pair
 kept : (plan : Plan) (h : History) (e : Event) (w : Verdict) → w ≡ due plan h e → (s : SubStream) → sub_bits s.sub ≢ 0
     → IsMet plan h s (base h s.link s.stream) → IsMet plan ((e, w) ∷ h) s (base h s.link s.stream)
 unfolding got_since
 kept plan h e (Accepted port unit effects) is s other before =
-    by_tests (is_same (received_in port unit) s) (nat_le from unit.draw) (is_same (received_in port unit) q) refl
-  where
-    from : ℕ
-    from = base h s.link s.stream
-
-    q : SubStream
-    q = posted_of s
-
-    posted : Bool → List Packet
-    posted b = if b then got_since plan h q from ++ added plan h e q unit else got_since plan h q from
-
-    grown : (b : Bool) → length (got_since plan h q from) ≤ length (posted b)
-    grown true = omega (arith, length-append (got_since plan h q from) (added plan h e q unit))
-    grown false = omega arith
-
-    by_tests : (a b c : Bool) → is_same (received_in port unit) s ≡ a
-        → posted_sum (if a && b then got_since plan h s from ++ added plan h e s unit else got_since plan h s from) ≤ length (posted (c && b))
-    by_tests true true c same =
-        let sum = with_unit plan h e port unit effects is s other (same_stream (received_in port unit) s same) in
-        omega (arith, sum, grown (c && true))
-    by_tests true false c same = omega (arith, before, grown (c && false))
-    by_tests false b c same = omega (arith, before, grown (c && b))
+    let from = base h s.link s.stream in
+    let sum = λ (same : is_same (received_in port unit) s ≡ true).
+    with_unit plan h e port unit effects is s other (same_stream (received_in port unit) s same) in
+    grind (arith, nat_tests, sum, before, length-append (got_since plan h (posted_of s) from) (added plan h e (posted_of s) unit))
 kept plan h e w is s other before = before
-
-none_met : (plan : Plan) (h : History) (s : SubStream) (from : ℕ) → got_since plan h s from ≡ [] → IsMet plan h s from
-none_met plan h s from none =
-    subst (λ (ps : List Packet). posted_sum ps ≤ length (got_since plan h (posted_of s) from)) (sym none) (omega arith)
 
 next_met : (plan : Plan) (h : History) (e : Event) (w : Verdict) → CauseLaw plan ((e, w) ∷ h) → CountsMet plan h
     → CountsMet plan ((e, w) ∷ h)
 next_met plan h e w cause before s other = elim (base_moves h e w s.link s.stream) [
   | inl same ↦ subst (IsMet plan ((e, w) ∷ h) s) (sym same) (kept plan h e w cause.0 s other (before s other))
-  | inr new ↦ subst (IsMet plan ((e, w) ∷ h) s) (sym new) (none_met plan ((e, w) ∷ h) s (draws h) none)
+  | inr new ↦ subst (IsMet plan ((e, w) ∷ h) s) (sym new) (rw none (omega arith))
 ]
   where
     below : MadeBelow h (draws h)

@@ -1,17 +1,6 @@
 -- What was got are finished units, and what is pending finishes none.
-use Rattle.std.proofs.Common.{◌≡◌, ℕ, ◌+◌, Bool, true, false, List, [], ◌∷◌, ◌++◌, length, refl, ap, sym, ◌∙◌, subst, length-append, append_assoc}
-use Rattle.std.specs.Prelude.{if◌then◌else◌}
-use Rattle.std.proofs.lemmas.List.{append-nil}
-use Rattle.ide_plan.specs.declared.plan.Plan.{Plan}
-use Rattle.link_history.specs.Plan.{SubStream}
-use Rattle.link_history.specs.Units.{units, open_unit}
-use Rattle.key_laws.specs.History.{History}
-use Rattle.link_history.specs.History.{arrived_packet, is_of, held, got, pending, units_got}
-use Rattle.link_history.specs.Cause.{CauseLaw}
-use Rattle.link_history.proofs.UnitLemmas.{IsFront, units-end, units-more, open_unit-end, open_unit-front}
-use Rattle.link_history.proofs.Causes.{accepted_by, packet_that_came}
-use Rattle.link_verdicts.specs.declared.verdict.Verdict.TheVariants.{Accepted}
-use Rattle.ide_prefix.specs.Packet.{Packet}
+use Rattle.sealing_laws.proofs.Terms.{◌≡◌, ℕ, ◌+◌, true, List, [], ◌∷◌, ◌++◌, length, refl, ap, sym, ◌∙◌, length-append, append_assoc, inl, inr, cases_Bool, append-nil}
+use Rattle.sealing_laws.proofs.Terms.{Plan, SubStream, units, open_unit, History, arrived_packet, is_of, held, got, pending, units_got, CauseLaw, IsFront, units-end, units-more, open_unit-end, open_unit-front, accepted_by, packet_that_came, Accepted, Packet}
 use Rattle.delivery_laws.proofs.Received.{held_front}
 
 -- ---- what was got are finished units, and what is pending finishes none
@@ -33,25 +22,23 @@ one_unit ps front p none is m =
     ∙ (units-end (ps ++ front) p m ∙ (ap (λ us. us ++ (open_unit (ps ++ front) ++ p ∷ []) ∷ []) (units-front_append ps front is) ∙ ap (λ qs. units ps ++ (qs ++ p ∷ []) ∷ []) open_is))
 
 one_unit_more : (ps front : List Packet) (p : Packet) (n : ℕ) → AreUnits ps n → IsFront front → p.prefix.m ≡ true → AreUnits (ps ++ (front ++ p ∷ [])) (n + 1)
-one_unit_more ps front p n are is m =
-    let all : (ps ++ front) ++ p ∷ [] ≡ ps ++ (front ++ p ∷ []) = append_assoc ps front (p ∷ []) in
-    let us = ap length (units-end (ps ++ front) p m ∙ ap (λ vs. vs ++ (open_unit (ps ++ front) ++ p ∷ []) ∷ []) (units-front_append ps front is)) in
-    subst (λ qs. AreUnits qs (n + 1)) all (record {
-      count = us ∙ (length-append (units ps) ((open_unit (ps ++ front) ++ p ∷ []) ∷ []) ∙ ap (λ k. k + 1) are.count);
-      none = open_unit-end (ps ++ front) p m;
-    })
+one_unit_more ps front p n are is m = record {
+  count = rw (one_unit ps front p are.none is m, ← are.count) (length-append (units ps) ((front ++ p ∷ []) ∷ []));
+  none = rw (← append_assoc) (open_unit-end (ps ++ front) p m);
+}
 
 pub got_units : (plan : Plan) (h : History) → CauseLaw plan h → (s : SubStream) (j : ℕ) → AreUnits (got plan h s j) (units_got h s j)
 unfolding got units_got units open_unit
 got_units plan [] cause s j = record { count = refl; none = refl }
 got_units plan ((e, Accepted port unit effects) ∷ h) cause s j =
     let by = accepted_by plan h e port unit effects cause.0 in
-    by_test (is_of s j port unit) (got_units plan h cause.1 s j) (held_front plan h cause.1 s j unit.unit) (ap (λ (p : Packet). p.prefix.m) (packet_that_came plan h e port by.packet by.came) ∙ by.ends)
-  where
-    by_test : (b : Bool) → AreUnits (got plan h s j) (units_got h s j) → IsFront (held plan h s j unit.unit) → (arrived_packet plan h e).prefix.m ≡ true
-        → AreUnits (if b then got plan h s j ++ (held plan h s j unit.unit ++ arrived_packet plan h e ∷ []) else got plan h s j) (if b then units_got h s j + 1 else units_got h s j)
-    by_test true are front m = one_unit_more (got plan h s j) (held plan h s j unit.unit) (arrived_packet plan h e) (units_got h s j) are front m
-    by_test false are front m = are
+    let are = got_units plan h cause.1 s j in
+    elim (cases_Bool (is_of s j port unit)) [
+      | inl here ↦
+          let m = ap (λ (p : Packet). p.prefix.m) (packet_that_came plan h e port by.packet by.came) ∙ by.ends in
+          rw here (one_unit_more (got plan h s j) (held plan h s j unit.unit) (arrived_packet plan h e) _ are (held_front plan h cause.1 s j unit.unit) m)
+      | inr other ↦ rw other are
+    ]
 got_units plan (_ ∷ h) cause s j = got_units plan h cause.1 s j
 
 -- the packets so far are the units that were got and what is pending

@@ -1,29 +1,9 @@
 -- Each packet that is not posted carries the number of posted packets behind the last one of its sub-stream.
-use Rattle.std.proofs.Common.{◌≡◌, ◌≢◌, ℕ, ◌≤◌, Bool, true, false, List, [], ◌∷◌, ◌++◌, Option, Some, slice_get, take, refl, ap, sym, ◌∙◌, subst, inl, inr}
-use Rattle.std.specs.List.{AllByRecursion}
-use Rattle.std.proofs.lemmas.Bool.{eqb-true}
-use Rattle.ide_types.specs.Sub.{sub_bits}
-use Rattle.ide_types.specs.declared.sub.SubKind.{SubKind}
-use Rattle.ide_types.specs.declared.port.PortName.{PortName}
-use Rattle.link_events.specs.declared.event.Event.{Event}
-use Rattle.link_events.specs.declared.event.Event.TheVariants.{Send}
-use Rattle.link_verdicts.specs.declared.verdict.Verdict.{Verdict}
-use Rattle.link_verdicts.specs.declared.verdict.Verdict.TheVariants.{Sealed}
-use Rattle.link_verdicts.specs.declared.verdict.SealedPacket.{SealedPacket}
-use Rattle.ide_prefix.specs.declared.packet.Prefix.{Prefix}
-use Rattle.ide_prefix.specs.Packet.{Packet}
-use Rattle.ide_plan.specs.declared.plan.Plan.{Plan}
-use Rattle.link_history.specs.Plan.{SubStream, is_same, lane_out}
-use Rattle.link_history.specs.Units.{open_unit}
-use Rattle.key_laws.specs.History.{History, base}
-use Rattle.link_history.specs.History.{ahead_in, SealedList, KeyName, sealed_packets, sent_in, with_sealed, packet_of, sub_stream_of, posted_in}
-use Rattle.link_history.specs.Due.{is_posted}
-use Rattle.link_history.specs.Cause.{CauseLaw}
-use Rattle.link_history.specs.KeyFacts.{DrawFacts, BaseStays}
-use Rattle.link_history.proofs.Tests.{same_stream}
-use Rattle.link_history.proofs.SealingIs.{sealing_is}
+use Rattle.sealing_laws.proofs.Terms.{◌≡◌, ◌≢◌, ℕ, ◌≤◌, true, List, [], ◌∷◌, ◌++◌, Option, Some, slice_get, take, ap, sym, ◌∙◌, inl, inr, AllByRecursion, ne_eqb}
+use Rattle.sealing_laws.proofs.Terms.{sub_bits, SubKind, PortName, Event, Send, Verdict, Sealed, SealedPacket, Prefix, Packet, Plan, SubStream, is_same, lane_out, open_unit, History, base, ahead_in, SealedList, KeyName, sealed_packets, sent_in, with_sealed, packet_of, sub_stream_of, posted_in, CauseLaw, DrawFacts, BaseStays, same_stream, sealing_is}
 use Rattle.sealing_laws.proofs.Sealings.{AllOf, live_at, from_at, all_of_sealing}
-use Rattle.sealing_laws.proofs.Places.{last_place, prefix_is}
+use Rattle.sealing_laws.proofs.Places.{last_place}
+use Rattle.sealing_laws.proofs.Bounds.{prefix_is}
 
 -- each packet of the sub-stream, of a draw from this one on, carries their number
 abbrev pub IsCounted : ℕ → SubStream → SealedList → Type 0
@@ -32,22 +12,13 @@ IsCounted from s xs = (i : ℕ) (x : SealedPacket × Packet) → slice_get xs i 
 counted-snoc : (from : ℕ) (s : SubStream) (xs : SealedList) (x : SealedPacket × Packet) → IsCounted from s xs
     → (is_same (sub_stream_of x.0) s ≡ true → from ≤ x.0.draw → x.1.prefix.posted ≡ posted_in xs s from) → IsCounted from s (xs ++ x ∷ [])
 counted-snoc from s xs x before here i y is in_y up = elim (last_place xs x y i is) [
-  | inl p ↦ subst (λ (ys : SealedList). y.1.prefix.posted ≡ posted_in ys s from) (sym p.1) (before i y p.0 in_y up)
-  | inr p ↦
-      let of_x = here (ap (λ (z : SealedPacket × Packet). is_same (sub_stream_of z.0) s) (sym p.0) ∙ in_y) (subst (λ (z : SealedPacket × Packet). from ≤ z.0.draw) p.0 up) in
-      subst (λ (ys : SealedList). y.1.prefix.posted ≡ posted_in ys s from) (sym p.1) (ap (λ (z : SealedPacket × Packet). z.1.prefix.posted) p.0 ∙ of_x)
+  | inl p ↦ rw p.1 (before i y p.0 in_y up)
+  | inr p ↦ rw (p.0, p.1) (here (rw p.0 at in_y) (rw p.0 at up))
 ]
 
 -- Base is this where a packet of the list is of the sub-stream and of a draw from it on
 abbrev Stays : Plan → History → ℕ → SubStream → List SealedPacket → Type 0
 Stays plan h from s ds = AllByRecursion (λ (d : SealedPacket). is_same (sub_stream_of d) s ≡ true → from ≤ d.draw → base h s.link s.stream ≡ from) ds
-
-not_posted : (u : SubKind) → sub_bits u ≢ 0 → is_posted u ≡ false
-not_posted u other = by_test (is_posted u) refl
-  where
-    by_test : (b : Bool) → is_posted u ≡ b → b ≡ false
-    by_test true is = absurd (other (eqb-true (sub_bits u) 0 is))
-    by_test false is = refl
 
 -- the packets of one send
 all_counted : (plan : Plan) (h : History) (port : PortName) (stream : ℕ) (live : SubKind → Option KeyName) (class : SubKind) (ahead : SealedPacket → List ℕ) (bytes : List ℕ) (from : ℕ) (s : SubStream) → sub_bits s.sub ≢ 0
@@ -66,7 +37,7 @@ all_counted plan h port stream live class ahead bytes from s other (d ∷ ds) xs
         let lane : lane_out port stream d.sub ≡ s = sym (λ i. lane_out (of.port_is i) (of.stream_is i) d.sub) ∙ same_stream (sub_stream_of d) s here in
         let sub : d.sub ≡ s.sub = ap (λ (t : SubStream). t.sub) lane in
         let from_is : from_at plan h port stream ≡ from = ap (λ (t : SubStream). base h t.link t.stream) lane ∙ is in
-        of.posted (not_posted d.sub (λ zero_is. other (sym (ap sub_bits sub) ∙ zero_is))) ∙ (λ i. posted_in xs (lane i) (from_is i))
+        of.posted (ne_eqb (sub_bits d.sub) 0 (λ zero_is. other (sym (ap sub_bits sub) ∙ zero_is))) ∙ (λ i. posted_in xs (lane i) (from_is i))
 
 later_stays : (plan : Plan) (s : SubStream) (from : ℕ) (e : Event) (w : Verdict) (h : History) → BaseStays plan s from ((e, w) ∷ h) → BaseStays plan s from h
 later_stays plan s from e (Sealed ds) h stays = stays.1

@@ -1,4 +1,5 @@
 pub mod Fits
+pub mod Terms
 pub mod Below
 pub mod Sealings
 pub mod Bounds

@@ -1,25 +1,6 @@
 -- Each packet of a send, seen from what was sealed before it.
-use Rattle.std.proofs.Common.{◌≡◌, ◌≢◌, ℕ, ◌+◌, ◌≤◌, ◌==◌, Bool, true, false, List, [], ◌∷◌, ◌++◌, length, Option, Some, inl, inr, ◌⊎◌, refl, ap, sym, ◌∙◌, subst, arith}
-use Rattle.std.specs.Prelude.{if◌then◌else◌, not, ◌||◌, nat_lt, nat_le, unwrap_or}
-use Rattle.std.proofs.lemmas.Bool.Decides.{nat_tests}
-use Rattle.ide_types.specs.declared.sub.SubKind.{SubKind}
-use Rattle.ide_types.specs.declared.sub.SubKind.TheVariants.{Pr, Npr, Cpl}
-use Rattle.ide_types.specs.declared.port.PortName.{PortName}
-use Rattle.link_verdicts.specs.declared.verdict.SealedPacket.{SealedPacket}
-use Rattle.ide_prefix.specs.Packet.{Packet}
-use Rattle.ide_plan.specs.declared.plan.Plan.{Plan}
-use Rattle.link_history.specs.Plan.{lane_out, mode_of}
-use Rattle.link_history.specs.Units.{units, open_unit}
-use Rattle.key_laws.specs.History.{History, base}
-use Rattle.link_history.specs.History.{SealedList, KeyName, sealed_packets, sent_in, posted_in, posted_count, live_key, is_in}
-use Rattle.link_history.specs.Due.{Sending, Lanes, lanes_at, sent_under, described, needs_sync, is_keyless, is_posted, ends_unit, begins_unit, sets_trusted, no_key}
-use Rattle.link_history.specs.Cause.{CauseLaw}
-use Rattle.link_history.specs.KeyFacts.{DrawFacts}
-use Rattle.key_laws.specs.Places.{is_same_sub}
-use Rattle.link_history.proofs.Tests.{same_sub}
-use Rattle.link_history.proofs.Sealed.{sent-same, posted-own, posted-same}
-use Rattle.link_history.proofs.Senders.{in_lane, has_key, on_live, listed, sealed_by_is, and_false, needs_posted}
-use Rattle.link_history.proofs.SealingIs.{IsSealing}
+use Rattle.sealing_laws.proofs.Terms.{◌≡◌, ◌≢◌, ℕ, ◌+◌, ◌≤◌, ◌==◌, Bool, true, false, List, [], ◌∷◌, ◌++◌, length, Option, Some, inl, inr, ◌⊎◌, refl, ap, sym, ◌∙◌, subst, append_assoc, if◌then◌else◌, not, nat_lt, nat_le, unwrap_or, eq-eqb, ltb-false, or_parts}
+use Rattle.sealing_laws.proofs.Terms.{sub_bits, SubKind, Pr, Npr, Cpl, PortName, SealedPacket, Packet, Plan, SubStream, lane_out, mode_of, units, open_unit, History, base, SealedList, KeyName, sealed_packets, sent_in, posted_in, posted_count, live_key, Sending, Lanes, lanes_at, sent_under, described, needs_sync, is_keyless, is_posted, ends_unit, begins_unit, sets_trusted, no_key, CauseLaw, DrawFacts, is_same_sub, eqb-refl, sent-same, posted-own, posted-same, in_lane, has_key, on_live, listed, sealed_by_is, and_false, needs_posted, IsSealing}
 
 pub record IsSyncOf (d : SealedPacket) : Type 0 where
   pub sub : d.sub ≢ Pr
@@ -47,25 +28,6 @@ AllOf plan port stream live from class xs [] = Unit {0}
 AllOf plan port stream live from class xs (d ∷ ds) =
     IsOf plan port stream live from class xs d × ((p : Packet) → AllOf plan port stream live from class (xs ++ (d, p) ∷ []) ds)
 
--- ---- what packets of other sub-streams leave
-
-record Same (port : PortName) (stream from : ℕ) (u : SubKind) (xs ys : SealedList) : Type 0 where
-  sent : (j : ℕ) → sent_in ys (lane_out port stream u) j ≡ sent_in xs (lane_out port stream u) j
-  posted : posted_in ys (lane_out port stream u) from ≡ posted_in xs (lane_out port stream u) from
-
-same-refl : (port : PortName) (stream from : ℕ) (u : SubKind) (xs : SealedList) → Same port stream from u xs xs
-same-refl port stream from u xs = record { sent = λ j. refl; posted = refl }
-
-same-snoc : (port : PortName) (stream from : ℕ) (u : SubKind) (xs ys : SealedList) (d : SealedPacket) (p : Packet) → Same port stream from u xs ys → d.port ≡ port → d.stream ≡ stream
-    → is_same_sub d.sub u ≡ false → is_same_sub d.sub Pr ≡ false → Same port stream from u xs (ys ++ (d, p) ∷ [])
-same-snoc port stream from u xs ys d p same port_is stream_is other not_posted =
-    let off = in_lane port stream d u port_is stream_is ∙ other in
-    let off_posted = in_lane port stream d Pr port_is stream_is ∙ not_posted in
-    record {
-      sent = λ j. sent-same ys (d, p) (lane_out port stream u) j off ∙ same.sent j;
-      posted = posted-same ys (d, p) (lane_out port stream u) from (rw off refl) (rw off_posted refl) ∙ same.posted;
-    }
-
 -- ---- a description
 
 abbrev pub live_at : Plan → History → PortName → ℕ → SubKind → Option KeyName
@@ -74,189 +36,120 @@ live_at plan h port stream u = live_key h port (lane_out port stream u)
 abbrev pub from_at : Plan → History → PortName → ℕ → ℕ
 from_at plan h port stream = base h port.link stream
 
--- that no posted count gets too large within a unit that begins
-abbrev Clear : Plan → History → Sending → SealedList → Type 0
-Clear plan h s xs =
-    begins_unit ((lanes_at plan h s.port s.stream).lane s.class) ≡ true → (u : SubKind) → is_posted u ≡ false
-    → posted_in xs (lane_out s.port s.stream u) (from_at plan h s.port s.stream) + mode_of plan s.port.link s.stream ≤ 255 ⊎ (posted_in xs (lane_out s.port s.stream u) (from_at plan h s.port s.stream) ≡ 0)
-
-eqb-zero : (n : ℕ) → n ≡ 0 → (n == 0) ≡ true
-eqb-zero n is = grind (arith, nat_tests)
-
-describes : (plan : Plan) → DrawFacts plan → (h : History) → CauseLaw plan h → (s : Sending) (xs : SealedList) (u : SubKind) (number : ℕ) (m t sync : Bool)
-    → is_keyless (lanes_at plan h s.port s.stream) u ≡ false → Same s.port s.stream (from_at plan h s.port s.stream) u (sealed_packets plan h) xs
-    → (m ≡ false → (length ((lanes_at plan h s.port s.stream).lane u).front + 1 == mode_of plan s.port.link s.stream) ≡ false)
-    → (sync ≡ true → (u ≢ Pr) × (m ≡ true) × (t ≡ false)) → (sync ≡ false → s.class ≡ u) → (is_posted u ≡ true → (s.class ≡ u) × Clear plan h s xs)
-    → IsOf plan s.port s.stream (live_at plan h s.port s.stream) (from_at plan h s.port s.stream) s.class xs (described (lanes_at plan h s.port s.stream) s u number m t sync)
-describes plan facts h law s xs u number m t sync keyed same more is_sync class clear =
-    let place = lane_out s.port s.stream u in
-    let x = has_key (lanes_at plan h s.port s.stream) u keyed in
-    let key : unwrap_or (live_key h s.port place) no_key ≡ x.key = ap (λ (o : Option KeyName). unwrap_or o no_key) x.is in
-    let live_is : live_key h s.port place ≡ Some (unwrap_or (live_key h s.port place) no_key) = x.is ∙ ap (λ (n : KeyName). Some n) (sym key) in
-    let j = (unwrap_or (live_key h s.port place) no_key).draw in
-    let under : sent_in xs place j ≡ sent_under plan h place (live_key h s.port place) = same.sent j ∙ ap (sent_under plan h place) (sym live_is) in
-    record {
-      port_is = refl;
-      stream_is = refl;
-      live_is = live_is;
-      counts = facts.from_base h law s.port place _ _ (on_live _ _ _ live_is);
-      unit = ap (λ (ps : List Packet). length (units ps) + 1) (sym under);
-      none = λ posted. ap (λ (b : Bool). if b then 0 else posted_count plan h place) posted;
-      posted = λ other. ap (λ (b : Bool). if b then 0 else posted_count plan h place) other ∙ sym same.posted;
-      more = λ not_m. ap (λ (ps : List Packet). length (open_unit ps) + 1 == mode_of plan s.port.link s.stream) under ∙ more not_m;
-      sync = λ is. let parts = is_sync is in record { sub = parts.0; m = parts.1; t = parts.2 };
-      class_is = class;
-      clear = λ posted empty w other.
-          let front : length (open_unit (sent_under plan h place (live_key h s.port place))) ≡ 0 = sym (ap (λ (ps : List Packet). length (open_unit ps)) under) ∙ empty in
-          let known = clear posted in
-          known.1 (ap (λ (c : SubKind). begins_unit ((lanes_at plan h s.port s.stream).lane c)) known.0 ∙ eqb-zero _ front) w other;
-    }
-
--- ---- all of a send
+-- what packets of other sub-streams leave
+record Same (port : PortName) (stream from : ℕ) (u : SubKind) (xs ys : SealedList) : Type 0 where
+  sent : (j : ℕ) → sent_in ys (lane_out port stream u) j ≡ sent_in xs (lane_out port stream u) j
+  posted : posted_in ys (lane_out port stream u) from ≡ posted_in xs (lane_out port stream u) from
 
 not_pr : (u : SubKind) → is_posted u ≡ false → u ≢ Pr
 not_pr u other same = let posted : is_posted u ≡ true = ap is_posted same in absurd cc
 
-posted_pr : (u : SubKind) → is_posted u ≡ true → u ≡ Pr
-posted_pr u posted = same_sub u Pr posted
+module _ (plan : Plan) (facts : DrawFacts plan) (h : History) (law : CauseLaw plan h) (s : Sending) where
+  abbrev x : Lanes
+  x = lanes_at plan h s.port s.stream
 
-ends_more : (plan : Plan) (h : History) (s : Sending) → let x = lanes_at plan h s.port s.stream in
-    ends_unit x s ≡ false → (length (x.lane s.class).front + 1 == mode_of plan s.port.link s.stream) ≡ false
-ends_more plan h s is = off_second (not s.more) _ is
-  where
-    off_second : (a b : Bool) → (a || b) ≡ false → b ≡ false
-    off_second true b is = absurd cc
-    off_second false b is = is
+  abbrev lane : SubKind → SubStream
+  lane u = lane_out s.port s.stream u
 
--- the list by what needs a sync packet
-all_of : (plan : Plan) → DrawFacts plan → (h : History) → CauseLaw plan h → (s : Sending) (number : ℕ) (n c : Bool) → let x = lanes_at plan h s.port s.stream in
-    needs_sync x s.class Npr ≡ n → needs_sync x s.class Cpl ≡ c
-    → is_keyless x s.class ≡ false → (n ≡ true → (s.class ≡ Pr) × (is_keyless x Npr ≡ false)) → (c ≡ true → (s.class ≡ Pr) × (is_keyless x Cpl ≡ false))
-    → AllOf plan s.port s.stream (live_at plan h s.port s.stream) (from_at plan h s.port s.stream) s.class (sealed_packets plan h) (listed x s number n c)
-unfolding listed
-all_of plan facts h law s number n c n_is c_is keyed requests completions = by_syncs n c n_is c_is requests completions
-  where
-    xs : SealedList
-    xs = sealed_packets plan h
+  abbrev from : ℕ
+  from = from_at plan h s.port s.stream
 
-    x : Lanes
-    x = lanes_at plan h s.port s.stream
+  abbrev mode : ℕ
+  mode = mode_of plan s.port.link s.stream
 
-    from : ℕ
-    from = from_at plan h s.port s.stream
+  -- that the posted count gets not too large within a unit that begins
+  abbrev Clear : SealedList → SubKind → Type 0
+  Clear xs u =
+      is_posted s.class ≡ true → begins_unit (x.lane s.class) ≡ true
+      → posted_in xs (lane u) from + mode ≤ 255 ⊎ (posted_in xs (lane u) from ≡ 0)
 
-    mode : ℕ
-    mode = mode_of plan s.port.link s.stream
+  stays : (u : SubKind) (xs : SealedList) → Same s.port s.stream from u xs xs
+  stays u xs = record { sent = λ j. refl; posted = refl }
 
-    Sames : SubKind → SealedList → Type 0
-    Sames u ys = Same s.port s.stream (from_at plan h s.port s.stream) u (sealed_packets plan h) ys
+  describes : (xs : SealedList) (u : SubKind) (number : ℕ) (m t sync : Bool) → is_keyless x u ≡ false → Same s.port s.stream from u (sealed_packets plan h) xs
+      → (m ≡ false → (length (x.lane u).front + 1 == mode) ≡ false)
+      → (sync ≡ true → IsSyncOf (described x s u number m t sync)) → (sync ≡ false → s.class ≡ u)
+      → (is_posted u ≡ true → (s.class ≡ u) × ((w : SubKind) → is_posted w ≡ false → Clear xs w))
+      → IsOf plan s.port s.stream (live_at plan h s.port s.stream) from s.class xs (described x s u number m t sync)
+  describes xs u number m t sync keyed same more is_sync class clear =
+      let place = lane u in
+      let held = has_key x u keyed in
+      let key : unwrap_or (live_key h s.port place) no_key ≡ held.key = ap (λ (o : Option KeyName). unwrap_or o no_key) held.is in
+      let live_is : live_key h s.port place ≡ Some (unwrap_or (live_key h s.port place) no_key) = held.is ∙ ap (λ (n : KeyName). Some n) (sym key) in
+      let j = (unwrap_or (live_key h s.port place) no_key).draw in
+      let under : sent_in xs place j ≡ sent_under plan h place (live_key h s.port place) = same.sent j ∙ ap (sent_under plan h place) (sym live_is) in
+      record {
+        port_is = refl;
+        stream_is = refl;
+        live_is = live_is;
+        counts = facts.from_base h law s.port place _ _ (on_live _ _ _ live_is);
+        unit = ap (λ (ps : List Packet). length (units ps) + 1) (sym under);
+        none = λ posted. ap (λ (b : Bool). if b then 0 else posted_count plan h place) posted;
+        posted = λ other. ap (λ (b : Bool). if b then 0 else posted_count plan h place) other ∙ sym same.posted;
+        more = λ not_m. ap (λ (ps : List Packet). length (open_unit ps) + 1 == mode) under ∙ more not_m;
+        sync = is_sync;
+        class_is = class;
+        clear = λ posted empty w other.
+            let front = sym (ap (λ (ps : List Packet). length (open_unit ps)) under) ∙ empty in
+            let known = clear posted in
+            known.1 w other (ap is_posted known.0 ∙ posted) (ap (λ (c : SubKind). begins_unit (x.lane c)) known.0 ∙ eq-eqb _ 0 front);
+      }
 
-    Of : SealedList → SealedPacket → Type 0
-    Of ys d = IsOf plan s.port s.stream (live_at plan h s.port s.stream) (from_at plan h s.port s.stream) s.class ys d
+  -- ---- all of a send
 
-    -- a sync packet
-    sync_of : (u : SubKind) (number : ℕ) (ys : SealedList) → is_posted u ≡ false → is_keyless (lanes_at plan h s.port s.stream) u ≡ false → Sames u ys
-        → Of ys (described (lanes_at plan h s.port s.stream) s u number true false true)
-    sync_of u number ys other keyed same =
-        describes plan facts h law s ys u number true false true keyed same (λ is. absurd cc) (λ is. (not_pr u other, refl, refl)) (λ is. absurd cc) (λ posted. absurd cc)
+  -- the list by what needs a sync packet
+  abbrev All : SealedList → List SealedPacket → Type 0
+  All xs ds = AllOf plan s.port s.stream (live_at plan h s.port s.stream) from s.class xs ds
 
-    -- the TLP's packet
-    last_of : (number : ℕ) (ys : SealedList) → Sames s.class ys → (is_posted s.class ≡ true → Clear plan h s ys)
-        → Of ys (described (lanes_at plan h s.port s.stream) s s.class number (ends_unit (lanes_at plan h s.port s.stream) s) (sets_trusted s.port s.trusted) false)
-    last_of number ys same clear =
-        describes plan facts h law s ys s.class number (ends_unit (lanes_at plan h s.port s.stream) s) (sets_trusted s.port s.trusted) false keyed same (ends_more plan h s) (λ is. absurd cc) (λ is. refl)
-        (λ posted. (refl, clear posted))
+  -- a sync packet of a sub-stream, where one is needed, and what comes behind it
+  with_sync : (u : SubKind) (b : Bool) (number : ℕ) (ys : SealedList) (rest : List SealedPacket) → is_posted u ≡ false → needs_sync x s.class u ≡ b
+      → (b ≡ true → is_keyless x u ≡ false) → Same s.port s.stream from u (sealed_packets plan h) ys
+      → ((zs : SealedList) → Clear zs u → ((w : SubKind) → (b ≡ true → is_same_sub u w ≡ false) → Same s.port s.stream from w ys zs) → All zs rest)
+      → All ys ((if b then described x s u number true false true ∷ [] else []) ++ rest)
+  with_sync u true number ys rest other needed keyed same next =
+      let d = described x s u number true false true in
+      let one = describes ys u number true false true (keyed refl) same (λ is. absurd cc) (λ is. record { sub = not_pr u other; m = refl; t = refl })
+      (λ is. absurd cc) (λ posted. absurd cc) in
+      let here = in_lane s.port s.stream d u refl refl ∙ eqb-refl (sub_bits u) in
+      let off_posted = in_lane s.port s.stream d Pr refl refl ∙ other in (
+        one,
+        λ p. next (ys ++ (d, p) ∷ []) (λ posted begins. inr (posted-own ys (d, p) (lane u) from (rw (here, one.counts) refl))) (λ w behind.
+            let off = in_lane s.port s.stream d w refl refl ∙ behind refl in
+            record { sent = λ j. sent-same ys (d, p) (lane w) j off; posted = posted-same ys (d, p) (lane w) from (rw off refl) (rw off_posted refl) }),
+      )
+  with_sync u false number ys rest other none keyed same next = next ys (λ posted begins. inl (room posted begins)) (λ w behind. stays w ys)
+    where
+      room : is_posted s.class ≡ true → begins_unit (x.lane s.class) ≡ true → posted_in ys (lane u) from + mode ≤ 255
+      room posted begins =
+          let test : nat_lt 255 (posted_count plan h (lane u) + mode) ≡ false = rw (posted, begins) at none in
+          rw same.posted (ltb-false 255 _ test)
 
-    -- where no sync packet is needed
-    room : (u : SubKind) → is_posted s.class ≡ true → begins_unit ((lanes_at plan h s.port s.stream).lane s.class) ≡ true → needs_sync (lanes_at plan h s.port s.stream) s.class u ≡ false
-        → posted_in (sealed_packets plan h) (lane_out s.port s.stream u) (from_at plan h s.port s.stream) + mode_of plan s.port.link s.stream ≤ 255
-    room u posted begins not_needed =
-        let test : nat_lt 255 (posted_count plan h (lane_out s.port s.stream u) + mode_of plan s.port.link s.stream) ≡ false = rw (posted, begins) at not_needed in
-        grind (arith, nat_tests)
-
-    room_still : (u : SubKind) (ys : SealedList) → Sames u ys → is_posted s.class ≡ true → begins_unit ((lanes_at plan h s.port s.stream).lane s.class) ≡ true → needs_sync (lanes_at plan h s.port s.stream) s.class u ≡ false
-        → posted_in ys (lane_out s.port s.stream u) (from_at plan h s.port s.stream) + mode_of plan s.port.link s.stream ≤ 255
-    room_still u ys same posted begins not_needed = let before = room u posted begins not_needed in omega (arith, same.posted, before)
-
-    -- each of the two that are not posted
-    clear_of : (ys : SealedList)
-        → (is_posted s.class ≡ true → begins_unit ((lanes_at plan h s.port s.stream).lane s.class) ≡ true
-        → posted_in ys (lane_out s.port s.stream Npr) (from_at plan h s.port s.stream) + mode_of plan s.port.link s.stream ≤ 255 ⊎ (posted_in ys (lane_out s.port s.stream Npr) (from_at plan h s.port s.stream) ≡ 0))
-        → (is_posted s.class ≡ true → begins_unit ((lanes_at plan h s.port s.stream).lane s.class) ≡ true
-        → posted_in ys (lane_out s.port s.stream Cpl) (from_at plan h s.port s.stream) + mode_of plan s.port.link s.stream ≤ 255 ⊎ (posted_in ys (lane_out s.port s.stream Cpl) (from_at plan h s.port s.stream) ≡ 0))
-        → is_posted s.class ≡ true → Clear plan h s ys
-    clear_of ys npr cpl posted begins Pr other = absurd cc
-    clear_of ys npr cpl posted begins Npr other = npr posted begins
-    clear_of ys npr cpl posted begins Cpl other = cpl posted begins
-
-    -- behind a sync packet of the sub-stream its count is 0
-    emptied : (u : SubKind) (number : ℕ) (ys : SealedList) (p : Packet) → Of ys (described (lanes_at plan h s.port s.stream) s u number true false true)
-        → posted_in (ys ++ (described (lanes_at plan h s.port s.stream) s u number true false true, p) ∷ []) (lane_out s.port s.stream u) (from_at plan h s.port s.stream) ≡ 0
-    emptied u number ys p of =
-        let d = described (lanes_at plan h s.port s.stream) s u number true false true in
-        let here = in_lane s.port s.stream d u refl refl ∙ self u in
-        posted-own ys (d, p) (lane_out s.port s.stream u) (from_at plan h s.port s.stream) (rw (here, of.counts) refl)
-      where
-        self : (u : SubKind) → is_same_sub u u ≡ true
-        self Pr = refl
-        self Npr = refl
-        self Cpl = refl
-
-    behind : (u w : SubKind) (number : ℕ) (ys : SealedList) (p : Packet) → Sames w ys → is_same_sub u w ≡ false → is_same_sub u Pr ≡ false
-        → Sames w (ys ++ (described (lanes_at plan h s.port s.stream) s u number true false true, p) ∷ [])
-    behind u w number ys p same other posted = same-snoc s.port s.stream (from_at plan h s.port s.stream) w (sealed_packets plan h) ys (described (lanes_at plan h s.port s.stream) s u number true false true) p same refl refl other posted
-
-    class_sub : (u : SubKind) → s.class ≡ Pr → is_same_sub u Pr ≡ false → is_same_sub u s.class ≡ false
-    class_sub u class other = ap (is_same_sub u) class ∙ other
-
-    by_syncs : (n c : Bool) → needs_sync (lanes_at plan h s.port s.stream) s.class Npr ≡ n → needs_sync (lanes_at plan h s.port s.stream) s.class Cpl ≡ c
-        → (n ≡ true → (s.class ≡ Pr) × (is_keyless (lanes_at plan h s.port s.stream) Npr ≡ false)) → (c ≡ true → (s.class ≡ Pr) × (is_keyless (lanes_at plan h s.port s.stream) Cpl ≡ false))
-        → AllOf plan s.port s.stream (live_at plan h s.port s.stream) (from_at plan h s.port s.stream) s.class (sealed_packets plan h) (listed (lanes_at plan h s.port s.stream) s number n c)
-    by_syncs false false n_is c_is r k =
-        let none : (u : SubKind) → Sames u xs = λ u. same-refl s.port s.stream from u xs in
-        (last_of _ xs (none s.class) (clear_of xs (λ posted begins. inl (room Npr posted begins n_is)) (λ posted begins. inl (room Cpl posted begins c_is))), λ p. tt)
-    by_syncs true false n_is c_is r k =
-        let needed = r refl in
-        let one = sync_of Npr _ xs refl needed.1 (same-refl s.port s.stream from Npr xs) in (
-          one,
-          λ p.
-              let ys = xs ++ (described x s Npr number true false true, p) ∷ [] in (
-                last_of _ ys (behind Npr s.class number xs p (same-refl s.port s.stream from s.class xs) (class_sub Npr needed.0 refl) refl)
-                    (clear_of ys (λ posted begins. inr (emptied Npr number xs p one)) (λ posted begins. inl (room_still Cpl ys (behind Npr Cpl number xs p (same-refl s.port s.stream from Cpl xs) refl refl) posted begins c_is))),
-                λ q. tt,
-              ),
-        )
-    by_syncs false true n_is c_is r k =
-        let needed = k refl in
-        let one = sync_of Cpl (number + 0) xs refl needed.1 (same-refl s.port s.stream from Cpl xs) in (
-          one,
-          λ p.
-              let ys = xs ++ (described x s Cpl (number + 0) true false true, p) ∷ [] in (
-                last_of _ ys (behind Cpl s.class (number + 0) xs p (same-refl s.port s.stream from s.class xs) (class_sub Cpl needed.0 refl) refl)
-                    (clear_of ys (λ posted begins. inl (room_still Npr ys (behind Cpl Npr (number + 0) xs p (same-refl s.port s.stream from Npr xs) refl refl) posted begins n_is)) (λ posted begins. inr (emptied Cpl (number + 0) xs p one))),
-                λ q. tt,
-              ),
-        )
-    by_syncs true true n_is c_is r k =
-        let first = r refl in
-        let second = k refl in
-        let one = sync_of Npr number xs refl first.1 (same-refl s.port s.stream from Npr xs) in (
-          one,
-          λ p.
-              let ys = xs ++ (described x s Npr number true false true, p) ∷ [] in
-              let two = sync_of Cpl (number + 1) ys refl second.1 (behind Npr Cpl number xs p (same-refl s.port s.stream from Cpl xs) refl refl) in (
-                two,
-                λ q.
-                    let zs = ys ++ (described x s Cpl (number + 1) true false true, q) ∷ [] in
-                    let class_same = behind Cpl s.class (number + 1) ys q (behind Npr s.class number xs p (same-refl s.port s.stream from s.class xs) (class_sub Npr first.0 refl) refl) (class_sub Cpl first.0 refl) refl in
-                    let empty : posted_in zs (lane_out s.port s.stream Npr) from ≡ 0 =
-                    posted-same ys (described x s Cpl (number + 1) true false true, q) (lane_out s.port s.stream Npr) from (off Npr q refl) (off Pr q refl) ∙ emptied Npr number xs p one in
-                    (last_of _ zs class_same (clear_of zs (λ posted begins. inr empty) (λ posted begins. inr (emptied Cpl (number + 1) ys q two))), λ o. tt),
-              ),
-        )
-      where
-        off : (w : SubKind) (q : Packet) → is_same_sub Cpl w ≡ false → is_in (lane_out s.port s.stream w) (from_at plan h s.port s.stream) (described (lanes_at plan h s.port s.stream) s Cpl (number + 1) true false true, q) ≡ false
-        off w q other = let out = in_lane s.port s.stream (described (lanes_at plan h s.port s.stream) s Cpl (number + 1) true false true) w refl refl ∙ other in rw out refl
+  all_of : (number : ℕ) (n c : Bool) → needs_sync x s.class Npr ≡ n → needs_sync x s.class Cpl ≡ c → is_keyless x s.class ≡ false
+      → (n ≡ true → (s.class ≡ Pr) × (is_keyless x Npr ≡ false)) → (c ≡ true → (s.class ≡ Pr) × (is_keyless x Cpl ≡ false))
+      → All (sealed_packets plan h) (listed x s number n c)
+  unfolding listed
+  all_of number n c n_is c_is keyed requests completions =
+      let first : List SealedPacket = if n then described x s Npr number true false true ∷ [] else [] in
+      let second : List SealedPacket = if c then described x s Cpl (number + length first) true false true ∷ [] else [] in
+      let last = described x s s.class (number + length first + length second) (ends_unit x s) (sets_trusted s.port s.trusted) false in
+      subst (All (sealed_packets plan h)) (sym (append_assoc first second (last ∷ [])))
+      (with_sync Npr n number (sealed_packets plan h) (second ++ last ∷ []) refl n_is (λ is. (requests is).1) (stays Npr _) (λ ys npr one.
+      with_sync Cpl c (number + length first) ys (last ∷ []) refl c_is (λ is. (completions is).1) (one Cpl (λ is. refl)) (λ zs cpl two.
+      let before = one s.class (λ is. ap (is_same_sub Npr) (requests is).0) in
+      let after = two s.class (λ is. ap (is_same_sub Cpl) (completions is).0) in
+      let same : Same s.port s.stream from s.class (sealed_packets plan h) zs =
+      record { sent = λ j. after.sent j ∙ before.sent j; posted = after.posted ∙ before.posted } in
+      let clear = each zs (λ posted begins. rw (two Npr (λ is. refl)).posted (npr posted begins)) cpl in (
+        describes zs s.class _ (ends_unit x s) (sets_trusted s.port s.trusted) false keyed same (λ is. (or_parts (not s.more) _ is).1)
+            (λ is. absurd cc) (λ is. refl)
+            (λ posted. (refl, clear)),
+        λ p. tt,
+      ))))
+    where
+      each : (zs : SealedList) → Clear zs Npr → Clear zs Cpl → (w : SubKind) → is_posted w ≡ false → Clear zs w
+      each zs npr cpl Pr other = absurd cc
+      each zs npr cpl Npr other = npr
+      each zs npr cpl Cpl other = cpl
 
 -- ---- of a verdict that was due
 

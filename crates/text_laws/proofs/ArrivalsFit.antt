@@ -31,11 +31,12 @@ use Rattle.link_keys.proofs.SealedKeys.{each_more, live_all, live_on}
 use Rattle.link_keys.proofs.Unplanned.{known as on_known}
 use Rattle.sealing_laws.proofs.Below.{cut_fits}
 use Rattle.sealing_laws.proofs.OfPlans.{streams_fit}
-use Rattle.sealing_laws.proofs.Places.{placed, placed_fits}
+use Rattle.sealing_laws.proofs.Places.{placed}
 use Rattle.text_laws.proofs.Draws.{on_below}
 use Rattle.text_laws.proofs.FaultPlaces.{cut_place}
 use Rattle.text_laws.proofs.OperationsFit.{stream_fits}
-use Rattle.text_laws.proofs.SendsFit.{port_fits, sealed_few}
+use Rattle.text_laws.proofs.SendsFit.{port_fits}
+use Rattle.sealing_laws.proofs.Few.{sealed_few}
 
 -- ---- what was sealed
 
@@ -77,7 +78,7 @@ known_at plan fits h cause n x is = by_number (n == 0) is
         record {
           number = omega (arith, within (sealed_packets plan h) (n - 1) at, sealed_few plan h cause);
           port = (stream_fits plan fits x.0.port.link x.0.stream (all_known plan h cause (n - 1) x at)).link_fits;
-          fits = placed_fits plan _ x is_placed;
+          fits = is_placed.fits;
         }
 
 size_of_packet : (p : Packet) → FitsPacket p → length (packet_bytes p) ≤ 4128

@@ -1,5 +1,5 @@
 -- The verdicts of sends fit.
-use Rattle.std.proofs.Common.{◌≡◌, ℕ, suc, ◌+◌, ◌-◌, ◌*◌, ◌<◌, ◌≤◌, ◌^◌, Bool, true, false, List, [], ◌∷◌, ◌++◌, length, filter, Some, None, Option, Ok, Err, Result, refl, ap, sym, subst, arith, length-append, length-drop}
+use Rattle.std.proofs.Common.{◌≡◌, ℕ, ◌+◌, ◌-◌, ◌<◌, ◌≤◌, ◌^◌, Bool, true, false, List, [], ◌∷◌, ◌++◌, length, filter, Some, None, Option, Ok, Err, Result, refl, sym, subst, arith, length-drop}
 use Rattle.std.specs.Prelude.{if◌then◌else◌, not, unwrap_or}
 use Rattle.std.specs.List.{AllByRecursion, after_last, suffix_len}
 use Rattle.std.proofs.lemmas.List.{length-map}
@@ -23,69 +23,21 @@ use Rattle.ide_prefix.specs.Packet.{Packet}
 use Rattle.key_laws.specs.History.{History, base}
 use Rattle.link_history.specs.Plan.{SubStream, has_port, lane_out}
 use Rattle.link_history.specs.Units.{units, units_after}
-use Rattle.link_history.specs.History.{KeyName, SealedList, sealed_packets, with_sealed, packet_of, sub_stream_of, sent_in, is_under, ahead_in, keys_at, live_key, is_in, posted_in, posted_of}
-use Rattle.link_history.specs.Units.{open_unit}
+use Rattle.link_history.specs.History.{KeyName, SealedList, sealed_packets, sent_in, is_under, keys_at, live_key, is_in, posted_in, posted_of}
 use Rattle.link_history.specs.Due.{Sending, Lanes, Lane, lanes_at, sent_under, choice, due, send_read, send_on, refusals, first_that_holds, sealed_by, described, needs_sync, no_key, is_posted, ends_unit, sets_trusted}
 use Rattle.link_history.specs.Cause.{CauseLaw}
 use Rattle.link_history.proofs.Choices.{choice_known}
 use Rattle.link_history.proofs.Senders.{listed, sealed_by_is, on_live}
-use Rattle.link_history.proofs.SealingIs.{IsSealing, sealing_is}
+use Rattle.sealing_laws.proofs.Few.{sealed_few, filter_few}
 use Rattle.text_laws.proofs.Draws.{on_below}
 use Rattle.text_laws.proofs.FaultPlaces.{tlp_place}
 use Rattle.text_laws.proofs.OperationsFit.{FitsStream, stream_fits}
 
--- ---- how many packets were sealed
-
-listed_few : (x : Lanes) (s : Sending) (number : ℕ) (n c : Bool) → length (listed x s number n c) ≤ 3
-unfolding listed
-listed_few x s number false false = omega arith
-listed_few x s number true false = omega arith
-listed_few x s number false true = omega arith
-listed_few x s number true true = omega arith
-
-three_sealed : (plan : Plan) (h : History) (port : PortName) (bytes : List ℕ) (ds : List SealedPacket) → IsSealing plan h port bytes ds → length ds ≤ 3
-three_sealed plan h port bytes ds is =
-    let s = is.sending in
-    let x = lanes_at plan h s.port s.stream in
-    let size = ap length is.list in
-    let same = ap length (sealed_by_is x s is.number) in
-    omega (arith, size, same, listed_few x s is.number (needs_sync x s.class Npr) (needs_sync x s.class Cpl))
-
-sealed_length : (plan : Plan) (ahead : SealedPacket → List ℕ) (bytes : List ℕ) (ds : List SealedPacket) (xs : SealedList) → length (with_sealed plan ahead bytes ds xs) ≡ length xs + length ds
-sealed_length plan ahead bytes [] xs = omega arith
-sealed_length plan ahead bytes (d ∷ ds) xs =
-    let x : SealedPacket × Packet = (d, packet_of plan (ahead d) bytes d (open_unit (sent_in xs (sub_stream_of d) d.draw))) in
-    let rest = sealed_length plan ahead bytes ds (xs ++ x ∷ []) in
-    omega (arith, rest, length-append xs (x ∷ []))
-
-pub sealed_few : (plan : Plan) (h : History) → CauseLaw plan h → length (sealed_packets plan h) ≤ 3 * length h
-unfolding sealed_packets
-sealed_few plan [] law = omega arith
-sealed_few plan ((Send p bytes more trusted, v.Sealed ds) ∷ h) law =
-    let rest = sealed_few plan h law.1 in
-    let three = three_sealed plan h p bytes ds (sealing_is plan h p bytes more trusted ds law.0) in
-    let all = sealed_length plan (ahead_in plan (sealed_packets plan h) (base h)) bytes ds (sealed_packets plan h) in
-    omega (arith, rest, three, all)
-sealed_few plan ((e, w) ∷ h) law = let rest = sealed_few plan h law.1 in omega (arith, rest)
-
 -- ---- counts
-
-filter_few : {A : Type 0} (q : A → Bool) (xs : List A) → length (filter q xs) ≤ length xs
-filter_few q [] = omega arith
-filter_few q (x ∷ xs) = by_test (q x) (filter_few q xs)
-  where
-    by_test : (b : Bool) → length (filter q xs) ≤ length xs → length (if b then x ∷ filter q xs else filter q xs) ≤ suc (length xs)
-    by_test true rest = omega (arith, rest)
-    by_test false rest = omega (arith, rest)
 
 units_few : (front ps : List Packet) → length (units_after front ps) ≤ length ps
 units_few front [] = omega arith
-units_few front (p ∷ ps) = by_m p.prefix.m (units_few [] ps) (units_few (front ++ p ∷ []) ps)
-  where
-    by_m : (m : Bool) → length (units_after [] ps) ≤ length ps → length (units_after (front ++ p ∷ []) ps) ≤ length ps
-        → length (if m then (front ++ p ∷ []) ∷ units_after [] ps else units_after (front ++ p ∷ []) ps) ≤ suc (length ps)
-    by_m true ends more = omega (arith, ends)
-    by_m false ends more = omega (arith, more)
+units_few front (p ∷ ps) = grind (arith, units_few [] ps, units_few (front ++ p ∷ []) ps)
 
 under_few : (plan : Plan) (h : History) (s : SubStream) (o : Option KeyName) → length (units (sent_under plan h s o)) ≤ length (sealed_packets plan h)
 unfolding units sent_in

@@ -1,0 +1,64 @@
+-- The words that these proofs share.
+-- ---- numbers, lists and tests
+pub use Rattle.std.proofs.Common.{◌≡◌, ℕ, ◌<◌, List, length, map, refl, All, Ok, ◌+◌, ◌≤◌, ◌==◌, Bool, true, false, [], ◌∷◌, ◌++◌, Option, Some, inl, inr, ◌⊎◌, ap, sym, ◌∙◌, arith, length-append, ◌&&◌, nat_le, ◌≢◌, slice_get, take, ◌*◌, filter, zero, suc, subst, append_assoc, slice_index_or, nat_lt, drop, sum_by, length-drop, add-one, Err, None, Result}
+pub use Rattle.std.proofs.lemmas.List.Elements.{All-from_recursion, All-nil, filter-append}
+pub use Rattle.std.specs.List.{AllByRecursion, after_last, list_any}
+pub use Rattle.std.specs.Prelude.{if◌then◌else◌, is_some, not, unwrap_or, slice_index, ◌||◌}
+pub use Rattle.std.proofs.lemmas.Bool.{and_parts, cases_Bool, eqb-true, leb-true, ne_eqb, both_ways, or_cases, or_left, or_right, eq-eqb, ltb-false, or_parts, false_from_ne_true, le-leb, cases_lt, cases_eq}
+pub use Rattle.std.proofs.lemmas.Bool.Decides.{nat_tests}
+pub use Rattle.std.proofs.lemmas.List.{take_at, append-nil, take-append-le, nil_from_length, map-append, take-append-drop, take-take, take_all, drop-append-le}
+pub use Rattle.std.proofs.lemmas.Option.{slice_get_cases}
+pub use Rattle.std.proofs.lemmas.List.Sums.{sum_by-cons, sum_by-append}
+pub use Rattle.std.proofs.lemmas.List.Concat.{flat_map-append}
+-- ---- plans, events, packets and histories
+pub use Rattle.tlp_layout.specs.declared.tlp.Tlp.{Tlp}
+pub use Rattle.tlp_layout.specs.Head.{SpellsHead, head_bytes}
+pub use Rattle.tlp_layout.specs.Tlp.{header, body, body_size}
+pub use Rattle.tlp_layout.specs.Reading.{read_of}
+pub use Rattle.ide_prefix.specs.Packet.{Packet, FitsPacket, packet_bytes, FitsPrefix, is_sync_packet, begins_sync}
+pub use Rattle.ide_prefix.specs.Units.{authenticated, encrypted, untagged}
+pub use Rattle.ide_prefix.specs.Reading.{IdePacket, cut_of}
+pub use Rattle.ide_types.specs.declared.sub.SubKind.{SubKind}
+pub use Rattle.ide_types.specs.declared.sub.SubKind.TheVariants.{Pr, Npr, Cpl}
+pub use Rattle.ide_types.specs.declared.port.PortName.{PortName}
+pub use Rattle.link_events.specs.declared.event.Event.{Event}
+pub use Rattle.link_events.specs.declared.event.Event.TheVariants.{Send, Pass, Alter, Cut, Arrive}
+pub use Rattle.link_verdicts.specs.declared.verdict.Verdict.{Verdict}
+pub use Rattle.link_verdicts.specs.declared.verdict.SealedPacket.{SealedPacket}
+pub use Rattle.ide_prefix.specs.declared.packet.Prefix.{Prefix}
+pub use Rattle.ide_plan.specs.declared.plan.Plan.{Plan}
+pub use Rattle.link_history.specs.Plan.{SubStream, lane_out, mode_of, is_same, is_same_port, streams_of, with_id, is_closed, key_of, lane_in, has_stream}
+unfoldable pub use Rattle.link_history.specs.Plan.{stream_plan}
+pub use Rattle.link_history.specs.Units.{units_after}
+unfoldable pub use Rattle.link_history.specs.Units.{open_unit, units}
+pub use Rattle.key_laws.specs.History.{History, base}
+pub use Rattle.link_history.specs.History.{ahead_in, SealedList, KeyName, with_sealed, prefix_of, posted_of, is_in, sub_stream_of, ends_in, sent, is_under, is_of_unit, live_key, untagged_packet, unit_tag, keys_at, posted_count, received_in, arrived_packet, is_of, front_due, pending, Arrival, on_draw, failed}
+unfoldable pub use Rattle.link_history.specs.History.{sealed_packets, packet_of, sent_in, posted_in, total_in, front_of, front_sent, units_got, draws_got, units_since, held, got, got_since, arrived, meets_counts}
+pub use Rattle.link_history.specs.Due.{is_posted, Sending, Lanes, lanes_at, needs_sync, sent_under, described, is_keyless, ends_unit, begins_unit, sets_trusted, no_key, receiving, ended, unit_under, Ending, arrival_due, settled, under_keys, is_mixed, is_overfull, effect_of}
+unfoldable pub use Rattle.link_history.specs.Due.{due, before_tag, is_verified}
+pub use Rattle.link_history.specs.Cause.{CauseLaw}
+pub use Rattle.link_history.specs.KeyFacts.{DrawFacts, NoneFrom, BaseStays}
+pub use Rattle.key_laws.specs.Places.{is_same_sub, received_direction}
+pub use Rattle.ide_types.specs.Sub.{sub_bits}
+pub use Rattle.link_verdicts.specs.declared.verdict.Verdict.TheVariants.{Sealed, Accepted, Held, Fail}
+pub use Rattle.link_history.specs.Laws.{TotalsFit, NoForgery, NotForged, ClosedLaw, Begins, NeverFalls, WasSealed, last_tag, IsOn, ArrivesInOrder, OrderIsNoForgery, WholeLaw, IsTaken}
+pub use Rattle.tlp_layout.specs.Class.{class_of, layout_of}
+pub use Rattle.link_verdicts.specs.declared.verdict.UnitName.{UnitName}
+pub use Rattle.link_verdicts.specs.declared.verdict.Effect.{Effect}
+pub use Rattle.ide_prefix.specs.Iv.{iv_of}
+pub use Rattle.gcm_seal.specs.Gcm.{masked, tag_of, verifies}
+unfoldable pub use Rattle.gcm_seal.specs.Gcm.{open_of}
+pub use Rattle.key_laws.specs.Keys.{Keyed, On, key_in, on_in}
+-- ---- lemmas of the crates below
+pub use Rattle.tlp_layout.proofs.Readings.{read_spells_tlp}
+pub use Rattle.ide_prefix.proofs.Units.{one_list, not_sync}
+pub use Rattle.link_history.proofs.Tests.{same_sub, same_stream, same_port, eqb-refl, is_same-refl}
+pub use Rattle.link_history.proofs.UnitLemmas.{open_unit-snoc, units-append, joined, joined_units, units-end, units-more, open_unit-end, open_unit-more, IsFront, open_unit-front, EndsInM, EndsInM-snoc, All-snoc, units_all, units_end, unit_at, take_next, below, joined_take, joined-snoc}
+pub use Rattle.link_history.proofs.Sealed.{sent_in-snoc, sent-same, posted-own, posted-more, sent_elsewhere, posted_elsewhere, any_out, is_out, posted-same}
+pub use Rattle.link_history.proofs.Senders.{in_lane, sealed_by_is, on_live, lane_is, has_key, and_false, needs_posted}
+unfoldable pub use Rattle.link_history.proofs.Senders.{listed}
+pub use Rattle.link_history.proofs.SealingIs.{sealing_is, IsSealing, IsLive, AllLive, all_live, sealed_same}
+pub use Rattle.sealing_laws.proofs.Fits.{StreamsFit}
+pub use Rattle.gcm_seal.proofs.Strings.{length-masked}
+pub use Rattle.gcm_seal.proofs.Sealing.{masked-bytes, length-tag_of, tag_of-bytes, length-open_of, masked-masked, masked-append, tag-verifies}
+pub use Rattle.link_history.proofs.Causes.{ending, accepted_by, received_there, numbered, packet_that_came, AcceptedBy, Came, Passed, HeldBy, held_by}
