@@ -1,64 +1,27 @@
 -- The answer of the machine to a packet is the one that is due.
-use Rattle.std.proofs.Common.{◌≡◌, ℕ, ◌+◌, Bool, true, false, List, [], ◌∷◌, ◌++◌, map, Option, Some, None, Ok, Err, option_map, refl, ap, sym, ◌∙◌, subst}
-use Rattle.std.specs.Prelude.{if◌then◌else◌, not, ◌||◌}
-use Rattle.std.proofs.lemmas.List.Sums.{sum_by-append}
-use Rattle.ide_types.specs.declared.sub.SubKind.{SubKind}
-use Rattle.ide_types.specs.declared.sub.SubKind.TheVariants.{Pr, Npr, Cpl}
+use Rattle.link_ports.proofs.Terms.{◌≡◌, ℕ, ◌+◌, Bool, true, false, List, [], ◌∷◌, ◌++◌, map, Option, Some, None, Ok, Err, option_map, refl, ap, sym, ◌∙◌, subst, arith, if◌then◌else◌, not, ◌||◌, Accepted, at_sub, base, checked, Cpl, each_sub, effect_of, Failed, failed, front_of, got_in, has_live_in, Held, History, holds_any, Insecure, is_allowed, is_closed, is_keyed, is_mixed, is_on, is_overfull, is_tagged, is_verified, key_in, key_of, Keys, keys_at, lane_in, live_in, LiveKey, meets_counts, mode_of, NotKeyed, Npr, on_draw, on_in, Packet, pending, Plan, PortName, Pr, receiving, rx_slots, rx_standing, RxSub, settled, slot_in, Slots, standing, SubKind, SubStream, sum_by-append, Taken, taken_by, taken_under, Three, under_keys, unit_under, units_got, units_since, Verdict, verdict_of}
 use Rattle.ide_types.specs.declared.sub.FailCause.TheVariants as fail
-use Rattle.ide_types.specs.declared.port.PortName.{PortName}
-use Rattle.link_verdicts.specs.declared.verdict.Verdict.{Verdict}
 use Rattle.link_verdicts.specs.declared.verdict.Verdict.TheVariants as v
-use Rattle.ide_prefix.specs.Packet.{Packet}
-use Rattle.ide_plan.specs.declared.plan.Plan.{Plan}
-use Rattle.link_history.specs.Plan.{SubStream, lane_in, key_of, mode_of, is_closed}
-use Rattle.key_laws.specs.History.{History, base}
-use Rattle.key_laws.specs.Keys.{Keyed, Off, Loaded, On, Keys, key_in, on_in, is_on}
-use Rattle.link_history.specs.History.{keys_at, on_draw, is_keyed, has_live_in, failed, pending, units_got, units_since, meets_counts, front_of}
-use Rattle.link_history.specs.Due.{Ending, settled, under_keys, receiving, is_verified, is_mixed, is_overfull, unit_under, effect_of}
-use Rattle.link_ports.specs.Stream.{Slots, LiveKey, RxSub, Three, Taken, Insecure, NotKeyed, Failed, Held, Accepted, each_sub, at_sub, slot_in, live_in, taken_by, taken_under, checked, holds_any, is_tagged, is_allowed}
-use Rattle.link_ports.specs.Machine.{verdict_of}
-use Rattle.link_ports.specs.Stands.{rx_slot, rx_slots, rx_standing, got_in, standing}
 
 pub at_each : {A : Type 0} → (f : SubKind → A) (u : SubKind) → at_sub (each_sub f) u ≡ f u
 at_each f Pr = refl
 at_each f Npr = refl
 at_each f Cpl = refl
 
+pub any_of : (f : SubKind → Bool) (u : SubKind) → f u ≡ true → (f Pr || f Npr || f Cpl) ≡ true
+any_of f u is = grind arith
+
+pub any_on : (k : Bool) (ks : Keys) (j : ℕ) → on_in (key_in ks k) ≡ Some j → (is_on ks.first || is_on ks.second) ≡ true
+any_on k ks j on = grind arith
+
 -- a port with a key of a sub-stream that it receives has a Live key on the stream
 pub keyed_in : (plan : Plan) (h : History) (port : PortName) (stream : ℕ) (u : SubKind) → is_keyed h port (lane_in port stream u) ≡ true → has_live_in h port stream ≡ true
 unfolding has_live_in
-keyed_in plan h port stream u keyed = by_sub u keyed
-  where
-    second : (a b c : Bool) → b ≡ true → (a || b || c) ≡ true
-    second true b c is = refl
-    second false b c is = rw is refl
-
-    third : (a b c : Bool) → c ≡ true → (a || b || c) ≡ true
-    third true b c is = refl
-    third false true c is = refl
-    third false false c is = is
-
-    by_sub : (u : SubKind) → is_keyed h port (lane_in port stream u) ≡ true → (is_keyed h port (lane_in port stream Pr) || is_keyed h port (lane_in port stream Npr) || is_keyed h port (lane_in port stream Cpl)) ≡ true
-    by_sub Pr keyed = rw keyed refl
-    by_sub Npr keyed = second (is_keyed h port (lane_in port stream Pr)) (is_keyed h port (lane_in port stream Npr)) (is_keyed h port (lane_in port stream Cpl)) keyed
-    by_sub Cpl keyed = third (is_keyed h port (lane_in port stream Pr)) (is_keyed h port (lane_in port stream Npr)) (is_keyed h port (lane_in port stream Cpl)) keyed
+keyed_in plan h port stream u keyed = any_of (λ w. is_keyed h port (lane_in port stream w)) u keyed
 
 -- one that is On in a set is enough
 pub on_live : (plan : Plan) (h : History) (port : PortName) (stream : ℕ) (u : SubKind) (k : Bool) (j : ℕ) → on_draw h port (lane_in port stream u) k ≡ Some j → has_live_in h port stream ≡ true
-on_live plan h port stream u k j on = let keys = keys_at h port (lane_in port stream u) in keyed_in plan h port stream u (in_one k keys.first keys.second on)
-  where
-    is_on_draw : (a : Keyed) → on_in a ≡ Some j → is_on a ≡ true
-    is_on_draw Off on = absurd cc
-    is_on_draw (Loaded i) on = absurd cc
-    is_on_draw (On i) on = refl
-
-    or_second : (a b : Bool) → b ≡ true → (a || b) ≡ true
-    or_second true b is = refl
-    or_second false b is = is
-
-    in_one : (k : Bool) (a b : Keyed) → on_in (key_in (record { first = a; second = b }) k) ≡ Some j → (is_on a || is_on b) ≡ true
-    in_one true a b on = or_second (is_on a) (is_on b) (is_on_draw b on)
-    in_one false a b on = rw (is_on_draw a on) refl
+on_live plan h port stream u k j on = keyed_in plan h port stream u (any_on k (keys_at h port (lane_in port stream u)) j on)
 
 -- ---- the keys of a receiver
 
@@ -66,117 +29,119 @@ on_live plan h port stream u k j on = let keys = keys_at h port (lane_in port st
 abbrev pub key_for : Plan → History → SubStream → ℕ → LiveKey
 key_for plan h s j = record { draw = j; key = key_of plan j s; units = units_got h s j; packets = pending plan h s j }
 
-slot_of_set : (plan : Plan) (h : History) (port : PortName) (s : SubStream) (keys : Keys) (k : Bool) → slot_in (rx_slots plan h port s keys) k ≡ rx_slot plan h port s (key_in keys k)
-slot_of_set plan h port s keys true = refl
-slot_of_set plan h port s keys false = refl
-
-live_of_slot : (plan : Plan) (h : History) (port : PortName) (s : SubStream) (a : Keyed) → failed h port s.stream ≡ false → live_in (rx_slot plan h port s a) ≡ option_map (key_for plan h s) (on_in a)
-live_of_slot plan h port s Off secure = refl
-live_of_slot plan h port s (Loaded j) secure = refl
-live_of_slot plan h port s (On j) secure = rw secure refl
+live_of : (plan : Plan) (h : History) (port : PortName) (s : SubStream) (ks : Keys) (k : Bool) → failed h port s.stream ≡ false
+    → live_in (slot_in (rx_slots plan h port s ks) k) ≡ option_map (key_for plan h s) (on_in (key_in ks k))
+live_of plan h port s ks k secure = grind arith
 
 pub live_is : (plan : Plan) (h : History) (port : PortName) (s : SubStream) (k : Bool) → failed h port s.stream ≡ false
     → live_in (slot_in (rx_slots plan h port s (keys_at h port s)) k) ≡ option_map (key_for plan h s) (on_draw h port s k)
-live_is plan h port s k secure =
-    ap live_in (slot_of_set plan h port s (keys_at h port s) k) ∙ live_of_slot plan h port s (key_in (keys_at h port s) k) secure
+live_is plan h port s k secure = live_of plan h port s (keys_at h port s) k secure
 
 -- ---- the checks
 
 -- the receivers that stand for a history
-abbrev pub receivers : Plan → History → PortName → ℕ → Three RxSub
+abbrev receivers : Plan → History → PortName → ℕ → Three RxSub
 receivers plan h port stream = each_sub (λ u. rx_standing plan h port (lane_in port stream u))
 
-pub allowed_is : (plan : Plan) (h : History) (port : PortName) (stream : ℕ) (u : SubKind) (unit : List Packet) → has_live_in h port stream ≡ true
+-- what the machine makes of a packet there, under the draws of its set and of the other one
+abbrev taken_from : Plan → History → PortName → Packet → Option ℕ → Option ℕ → Taken
+taken_from plan h port p o other =
+    taken_under (mode_of plan port.link p.prefix.stream) (is_closed plan port.link p.prefix.stream) (receivers plan h port p.prefix.stream) p
+    (option_map (key_for plan h (receiving port p)) o) (option_map (key_for plan h (receiving port p)) other)
+
+allowed_is : (plan : Plan) (h : History) (port : PortName) (stream : ℕ) (u : SubKind) (unit : List Packet) → has_live_in h port stream ≡ true
     → is_allowed (receivers plan h port stream) u unit ≡ meets_counts plan h (lane_in port stream u) unit
 unfolding meets_counts
 allowed_is plan h port stream u unit live =
-    rw (at_each (λ (u : SubKind). rx_standing plan h port (lane_in port stream u)) u, live, sum_by-append (λ (p : Packet). p.prefix.posted) (got_in plan h (lane_in port stream u)) unit) refl
+    rw (
+      at_each (λ (u : SubKind). rx_standing plan h port (lane_in port stream u)) u,
+      live,
+      sum_by-append (λ (p : Packet). p.prefix.posted) (got_in plan h (lane_in port stream u)) unit,
+    ) refl
 
-pub total_is : (plan : Plan) (h : History) (port : PortName) (stream : ℕ) (u : SubKind) → has_live_in h port stream ≡ true
+total_is : (plan : Plan) (h : History) (port : PortName) (stream : ℕ) (u : SubKind) → has_live_in h port stream ≡ true
     → (at_sub (receivers plan h port stream) u).total ≡ units_since h (lane_in port stream u) (base h port.link stream)
 total_is plan h port stream u live = rw (at_each (λ (u : SubKind). rx_standing plan h port (lane_in port stream u)) u, live) refl
 
-taken_is : (plan : Plan) (h : History) (port : PortName) (p : Packet) (o other : Option ℕ) → ((j : ℕ) → o ≡ Some j → (at_sub (receivers plan h port p.prefix.stream) p.prefix.sub).total ≡ units_since h (receiving port p)
-    (base h port.link p.prefix.stream)) → ((j : ℕ) → o ≡ Some j → is_allowed (receivers plan h port p.prefix.stream) p.prefix.sub (pending plan h (receiving port p) j ++ p ∷ []) ≡ meets_counts plan h (receiving port p)
-    (pending plan h (receiving port p) j ++ p ∷ []))
-    → verdict_of port p (taken_under (mode_of plan port.link p.prefix.stream) (is_closed plan port.link p.prefix.stream) (receivers plan h port p.prefix.stream) p (option_map (key_for plan h (receiving port p)) o)
-    (option_map (key_for plan h (receiving port p)) other))
-    ≡ settled plan h port (under_keys plan h port p o other)
+taken_is : (plan : Plan) (h : History) (port : PortName) (p : Packet) (o other : Option ℕ) → ((j : ℕ) → o ≡ Some j → has_live_in h port p.prefix.stream ≡ true)
+    → verdict_of port p (taken_from plan h port p o other) ≡ settled plan h port (under_keys plan h port p o other)
 unfolding is_verified front_of
-taken_is plan h port p None None totals allowed = refl
-taken_is plan h port p None (Some i) totals allowed = refl
-taken_is plan h port p (Some j) other totals allowed = rw (holds other, allowed j refl, totals j refl) (by_room (is_mixed plan h s other || is_overfull plan h s j p.prefix.m) p.prefix.m)
+taken_is plan h port p None None live = refl
+taken_is plan h port p None (Some i) live = refl
+taken_is plan h port p (Some j) other live =
+    let unit = pending plan h s j ++ p ∷ [] in
+    rw (holds other, allowed_is plan h port p.prefix.stream p.prefix.sub unit (live j refl), total_is plan h port p.prefix.stream p.prefix.sub (live j refl))
+    (by_room (is_mixed plan h s other || is_overfull plan h s j p.prefix.m) p.prefix.m)
   where
     s : SubStream
     s = receiving port p
-
-    x : Ending
-    x = record { packet = p; unit = unit_under h s j }
 
     holds : (o : Option ℕ) → holds_any (option_map (key_for plan h s) o) ≡ is_mixed plan h s o
     holds None = refl
     holds (Some i) = refl
 
     by_checks : (verified counts : Bool) → verdict_of port p (checked verified counts (key_for plan h s j) p)
-        ≡ (if not verified then v.Fail port p.prefix.stream p.prefix.sub fail.Tag else if not counts then v.Fail port p.prefix.stream p.prefix.sub fail.Order else v.Accepted port (unit_under h s j)
-        (map (effect_of port) (pending plan h s j ++ p ∷ [])))
-    by_checks false counts = refl
-    by_checks true false = refl
-    by_checks true true = refl
+        ≡ (if not verified then v.Fail port p.prefix.stream p.prefix.sub fail.Tag else if not counts then v.Fail port p.prefix.stream p.prefix.sub fail.Order
+        else v.Accepted port (unit_under h s j) (map (effect_of port) (pending plan h s j ++ p ∷ [])))
+    by_checks verified counts = grind arith
 
-    by_room : (full m : Bool) → verdict_of port p (if full then Failed fail.Unit else if m then checked (is_tagged (is_closed plan port.link p.prefix.stream) (units_since h s (base h port.link p.prefix.stream)) (key_for plan h s j) p)
+    by_room : (full m : Bool) → verdict_of port p (if full then Failed fail.Unit
+        else if m then checked (is_tagged (is_closed plan port.link p.prefix.stream) (units_since h s (base h port.link p.prefix.stream))
+        (key_for plan h s j) p)
         (meets_counts plan h s (pending plan h s j ++ p ∷ [])) (key_for plan h s j) p else Held j (units_got h s j + 1))
-        ≡ settled plan h port (if full then Err (v.Fail port p.prefix.stream p.prefix.sub fail.Unit) else if m then Ok x else Err (v.Held port (unit_under h s j)))
+        ≡ settled plan h port (if full then Err (v.Fail port p.prefix.stream p.prefix.sub fail.Unit)
+        else if m then Ok (record { packet = p; unit = unit_under h s j }) else Err (v.Held port (unit_under h s j)))
     by_room true m = refl
     by_room false false = refl
-    by_room false true = by_checks (is_tagged (is_closed plan port.link p.prefix.stream) (units_since h s (base h port.link p.prefix.stream)) (key_for plan h s j) p) (meets_counts plan h s (pending plan h s j ++ p ∷ []))
+    by_room false true = by_checks (is_tagged (is_closed plan port.link p.prefix.stream) (units_since h s (base h port.link p.prefix.stream))
+        (key_for plan h s j) p)
+        (meets_counts plan h s (pending plan h s j ++ p ∷ []))
 
 -- what is due of a packet of a stream that the port has
 abbrev pub packet_due : Plan → History → PortName → Packet → Verdict
 packet_due plan h port p =
-    settled plan h port (
-    if failed h port p.prefix.stream then Err (v.Insecure port p.prefix.stream)
+    settled plan h port (if failed h port p.prefix.stream then Err (v.Insecure port p.prefix.stream)
     else under_keys plan h port p (on_draw h port (receiving port p) p.prefix.k) (on_draw h port (receiving port p) (not p.prefix.k)))
 
 -- what the machine finds in the receivers that stand for the history
-abbrev pub found_keys : Plan → History → PortName → Packet → Taken
-found_keys plan h port p =
-    let s = receiving port p in
-    taken_under (mode_of plan port.link p.prefix.stream) (is_closed plan port.link p.prefix.stream) (receivers plan h port p.prefix.stream) p (option_map (key_for plan h s) (on_draw h port s p.prefix.k))
-    (option_map (key_for plan h s) (on_draw h port s (not p.prefix.k)))
+abbrev found_keys : Plan → History → PortName → Packet → Taken
+found_keys plan h port p = taken_from plan h port p (on_draw h port (receiving port p) p.prefix.k) (on_draw h port (receiving port p) (not p.prefix.k))
 
-pub taken_by_is : (plan : Plan) (h : History) (port : PortName) (p : Packet) → taken_by (mode_of plan port.link p.prefix.stream) (is_closed plan port.link p.prefix.stream) (standing plan h port p.prefix.stream) p
-    ≡ (if failed h port p.prefix.stream then Insecure else found_keys plan h port p)
+-- the answer of the machine
+abbrev pub taken_at : Plan → History → PortName → Packet → Taken
+taken_at plan h port p = taken_by (mode_of plan port.link p.prefix.stream) (is_closed plan port.link p.prefix.stream) (standing plan h port p.prefix.stream) p
+
+taken_by_is : (plan : Plan) (h : History) (port : PortName) (p : Packet)
+    → taken_at plan h port p ≡ (if failed h port p.prefix.stream then Insecure else found_keys plan h port p)
 unfolding standing
 taken_by_is plan h port p = by_failure (failed h port p.prefix.stream) refl
   where
-    u : SubKind
-    u = p.prefix.sub
-
     rx : SubKind → RxSub
     rx = λ w. rx_standing plan h port (lane_in port p.prefix.stream w)
 
     under : Slots → Taken
-    under slots = taken_under (mode_of plan port.link p.prefix.stream) (is_closed plan port.link p.prefix.stream) (each_sub rx) p (live_in (slot_in slots p.prefix.k)) (live_in (slot_in slots (not p.prefix.k)))
+    under slots =
+        taken_under (mode_of plan port.link p.prefix.stream) (is_closed plan port.link p.prefix.stream) (each_sub rx) p
+        (live_in (slot_in slots p.prefix.k)) (live_in (slot_in slots (not p.prefix.k)))
 
-    by_failure : (b : Bool) → failed h port p.prefix.stream ≡ b → (if b then Insecure else under (at_sub (each_sub rx) u).slots) ≡ (if b then Insecure else found_keys plan h port p)
+    by_failure : (b : Bool) → failed h port p.prefix.stream ≡ b
+        → (if b then Insecure else under (at_sub (each_sub rx) p.prefix.sub).slots) ≡ (if b then Insecure else found_keys plan h port p)
     by_failure true bad = refl
     by_failure false secure =
-        ap (λ (r : RxSub). under r.slots) (at_each rx u)
-        ∙ (λ i. taken_under (mode_of plan port.link p.prefix.stream) (is_closed plan port.link p.prefix.stream) (each_sub rx) p (live_is plan h port (receiving port p) p.prefix.k secure i) (live_is plan h port (receiving port p)
-        (not p.prefix.k) secure i))
+        ap (λ (r : RxSub). under r.slots) (at_each rx p.prefix.sub)
+        ∙ (λ i. taken_under (mode_of plan port.link p.prefix.stream) (is_closed plan port.link p.prefix.stream) (each_sub rx) p
+        (live_is plan h port (receiving port p) p.prefix.k secure i) (live_is plan h port (receiving port p) (not p.prefix.k) secure i))
 
-pub answer_is : (plan : Plan) (h : History) (port : PortName) (p : Packet) → verdict_of port p (taken_by (mode_of plan port.link p.prefix.stream) (is_closed plan port.link p.prefix.stream) (standing plan h port p.prefix.stream) p)
-    ≡ packet_due plan h port p
+pub answer_is : (plan : Plan) (h : History) (port : PortName) (p : Packet) → verdict_of port p (taken_at plan h port p) ≡ packet_due plan h port p
 answer_is plan h port p = ap (verdict_of port p) (taken_by_is plan h port p) ∙ by_failure (failed h port p.prefix.stream)
   where
+    draw : Bool → Option ℕ
+    draw k = on_draw h port (receiving port p) k
+
     by_failure : (b : Bool) → verdict_of port p (if b then Insecure else found_keys plan h port p)
-        ≡ settled plan h port (if b then Err (v.Insecure port p.prefix.stream) else under_keys plan h port p (on_draw h port (receiving port p) p.prefix.k) (on_draw h port (receiving port p) (not p.prefix.k)))
+        ≡ settled plan h port (if b then Err (v.Insecure port p.prefix.stream) else under_keys plan h port p (draw p.prefix.k) (draw (not p.prefix.k)))
     by_failure true = refl
-    by_failure false =
-        taken_is plan h port p (on_draw h port (receiving port p) p.prefix.k) (on_draw h port (receiving port p) (not p.prefix.k)) (λ j on. total_is plan h port p.prefix.stream p.prefix.sub (on_live plan h port p.prefix.stream p.prefix.sub
-        p.prefix.k j on))
-        (λ j on. allowed_is plan h port p.prefix.stream p.prefix.sub (pending plan h (receiving port p) j ++ p ∷ []) (on_live plan h port p.prefix.stream p.prefix.sub p.prefix.k j on))
+    by_failure false = taken_is plan h port p (draw p.prefix.k) (draw (not p.prefix.k)) (on_live plan h port p.prefix.stream p.prefix.sub p.prefix.k)
 
 -- ---- what an answer says
 
@@ -193,11 +158,12 @@ Says plan h port p (Accepted j n unit) =
 
 says_under : (plan : Plan) (h : History) (port : PortName) (p : Packet) → failed h port p.prefix.stream ≡ false → (o other : Option ℕ)
     → on_draw h port (receiving port p) p.prefix.k ≡ o → on_draw h port (receiving port p) (not p.prefix.k) ≡ other
-    → Says plan h port p (taken_under (mode_of plan port.link p.prefix.stream) (is_closed plan port.link p.prefix.stream) (receivers plan h port p.prefix.stream) p (option_map (key_for plan h (receiving port p)) o)
-    (option_map (key_for plan h (receiving port p)) other))
+    → Says plan h port p (taken_from plan h port p o other)
 says_under plan h port p secure None None on rest = tt
 says_under plan h port p secure None (Some i) on rest = on_live plan h port p.prefix.stream p.prefix.sub (not p.prefix.k) i rest
-says_under plan h port p secure (Some j) other on rest = by_room _ p.prefix.m (is_tagged (is_closed plan port.link p.prefix.stream) (at_sub (receivers plan h port p.prefix.stream) p.prefix.sub).total (key_for plan h s j) p)
+says_under plan h port p secure (Some j) other on rest =
+    by_room _ p.prefix.m (is_tagged (is_closed plan port.link p.prefix.stream) (at_sub (receivers plan h port p.prefix.stream) p.prefix.sub).total
+    (key_for plan h s j) p)
     (is_allowed (receivers plan h port p.prefix.stream) p.prefix.sub (pending plan h s j ++ p ∷ []))
   where
     s : SubStream
@@ -206,14 +172,15 @@ says_under plan h port p secure (Some j) other on rest = by_room _ p.prefix.m (i
     live : has_live_in h port p.prefix.stream ≡ true
     live = on_live plan h port p.prefix.stream p.prefix.sub p.prefix.k j on
 
-    by_room : (full m tagged allowed : Bool) → Says plan h port p (if full then Failed fail.Unit else if m then checked tagged allowed (key_for plan h s j) p else Held j (units_got h s j + 1))
+    by_room : (full m tagged allowed : Bool)
+        → Says plan h port p (if full then Failed fail.Unit else if m then checked tagged allowed (key_for plan h s j) p else Held j (units_got h s j + 1))
     by_room true m tagged allowed = live
     by_room false false tagged allowed = (secure, on, refl)
     by_room false true false allowed = live
     by_room false true true false = live
     by_room false true true true = (secure, on, refl, refl)
 
-pub says : (plan : Plan) (h : History) (port : PortName) (p : Packet) → Says plan h port p (taken_by (mode_of plan port.link p.prefix.stream) (is_closed plan port.link p.prefix.stream) (standing plan h port p.prefix.stream) p)
+pub says : (plan : Plan) (h : History) (port : PortName) (p : Packet) → Says plan h port p (taken_at plan h port p)
 says plan h port p = subst (Says plan h port p) (sym (taken_by_is plan h port p)) (by_failure (failed h port p.prefix.stream) refl)
   where
     by_failure : (b : Bool) → failed h port p.prefix.stream ≡ b → Says plan h port p (if b then Insecure else found_keys plan h port p)

@@ -1,17 +1,5 @@
 -- What the rules of sealing see of the senders that stand for a history is what the history says.
-use Rattle.std.proofs.Common.{◌≡◌, ℕ, Bool, true, false, length, Option, Some, None, refl, ap, ◌∙◌}
-use Rattle.std.specs.Prelude.{is_none, if◌then◌else◌, not, nat_le}
-use Rattle.ide_types.specs.declared.sub.SubKind.{SubKind}
-use Rattle.ide_types.specs.declared.port.PortName.{PortName}
-use Rattle.ide_plan.specs.declared.plan.Plan.{Plan}
-use Rattle.link_history.specs.Plan.{SubStream, lane_out, mode_of, key_of}
-use Rattle.link_history.specs.Units.{units, open_unit}
-use Rattle.link_history.specs.History.{has_live_out, posted_count, failed, SealedList, keys_at, KeyName, lesser, sealed_packets}
-use Rattle.key_laws.specs.History.{History}
-use Rattle.key_laws.specs.Keys.{Keyed, Off, Loaded, On, Keys}
-use Rattle.link_history.specs.Due.{Lane, lane_at, lanes_at, sent_under, is_keyless}
-use Rattle.link_ports.specs.Stream.{Armed, Live, LiveKey, TxSub, at_sub, each_sub, live_sender, lane_of, lanes_of}
-use Rattle.link_ports.specs.Stands.{sealing_key, tx_slots, tx_standing, standing}
+use Rattle.link_ports.proofs.Terms.{◌≡◌, ℕ, Bool, true, length, Option, Some, None, refl, ap, ◌∙◌, arith, is_none, if◌then◌else◌, at_sub, each_sub, failed, has_live_out, History, is_keyless, KeyName, Keys, keys_at, Lane, lane_at, lane_of, lane_out, lanes_at, lanes_of, lesser, live_sender, LiveKey, mode_of, open_unit, Plan, PortName, posted_count, sealed_packets, SealedList, sealing_key, sent_under, standing, SubKind, SubStream, tx_slots, tx_standing, TxSub, units}
 use Rattle.link_ports.proofs.Answers.{at_each}
 
 -- the key of a sender that stands for a list of sealed packets
@@ -20,25 +8,7 @@ sealer plan xs s None = None
 sealer plan xs s (Some key) = Some (key.k, sealing_key plan xs s key.draw)
 
 pub live_sender_is : (plan : Plan) (xs : SealedList) (s : SubStream) (keys : Keys) → live_sender (tx_slots plan xs s keys) ≡ sealer plan xs s (lesser keys.first keys.second)
-live_sender_is plan xs s keys = by_keys keys.first keys.second
-  where
-    by_test : (i j : ℕ) (b : Bool) → live_sender (record {
-      first = if not b then Armed i (key_of plan i s) else Live (sealing_key plan xs s i);
-      second = if b then Armed j (key_of plan j s) else Live (sealing_key plan xs s j);
-    }) ≡ sealer plan xs s (Some (if b then record { k = false; draw = i } else record { k = true; draw = j }))
-    by_test i j true = refl
-    by_test i j false = refl
-
-    by_keys : (a b : Keyed) → live_sender (tx_slots plan xs s (record { first = a; second = b })) ≡ sealer plan xs s (lesser a b)
-    by_keys Off Off = refl
-    by_keys Off (Loaded j) = refl
-    by_keys Off (On j) = refl
-    by_keys (Loaded i) Off = refl
-    by_keys (Loaded i) (Loaded j) = refl
-    by_keys (Loaded i) (On j) = refl
-    by_keys (On i) Off = refl
-    by_keys (On i) (Loaded j) = refl
-    by_keys (On i) (On j) = by_test i j (nat_le i j)
+live_sender_is plan xs s keys = grind arith
 
 -- with any posted count
 lane_is : (plan : Plan) (h : History) (port : PortName) (stream : ℕ) (u : SubKind) (n : ℕ) → lane_of n (live_sender (tx_standing plan h port (lane_out port stream u)).slots) ≡ record (lane_at plan h port (lane_out port stream u))

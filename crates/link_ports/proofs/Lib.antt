@@ -1,3 +1,4 @@
+pub mod Terms
 pub mod Puts
 pub mod Frames
 pub mod Changes

@@ -1,36 +1,15 @@
 -- Each step gives the verdict that is due, and its state stands for the history with it.
-use Rattle.std.proofs.Common.{◌≡◌, ℕ, ◌==◌, Bool, true, false, Option, Some, None, List, [], ◌∷◌, length, option_and_then, refl, ap, sym, ◌∙◌, subst}
-use Rattle.std.specs.Prelude.{if◌then◌else◌, ◌&&◌, is_some, nat_lt}
-use Rattle.std.specs.List.{slice_index_or}
-use Rattle.ide_types.specs.declared.port.Side.TheVariants.{Host, Device}
-use Rattle.link_events.specs.declared.event.Event.{Event}
-use Rattle.link_events.specs.declared.event.Event.TheVariants.{Send, Pass, Alter, Cut, Arrive, Dump, Establish, Refresh, Stop, Reset, Status}
-use Rattle.link_events.specs.declared.event.Loss.{Loss}
+use Rattle.port_operations.proofs.Terms.{◌≡◌, ℕ, Bool, true, false, Option, Some, None, List, [], ◌∷◌, length, refl, ap, sym, ◌∙◌, subst, arith, if◌then◌else◌, is_some, nat_lt, Device, due, Establish, establish_found, establish_on, Event, facts, find_op, found, History, Host, is_of_packets, is_quiet, IsNoOperation, key_due, key_plan, LinkState, Loss, Manager, manager, nat_tests, none_of_packets, Op, op_at, op_of, operated, operated_manager, operates, Operation, Plan, ports_of, quiet, reach_of, Refresh, refresh_found, refresh_on, Reset, reset_state, Side, slice_index_or, StandsFor, Status, status_at, status_found, step_of, Stepped, Steps, StepStands, Stop, stop_found, stop_on, stream_plan, streams_of, Verdict, work_done, work_of}
 use Rattle.link_verdicts.specs.declared.verdict.Operation.TheVariants as op
-use Rattle.link_verdicts.specs.declared.verdict.Verdict.{Verdict}
 use Rattle.link_verdicts.specs.declared.verdict.Verdict.TheVariants as v
-use Rattle.tlp_layout.specs.Reading.{read_of}
-use Rattle.key_laws.specs.Operations.{Op, Manager, work_of, reach_of}
-use Rattle.key_laws.specs.History.{manager, op_of, draws as draws_made, History}
-use Rattle.key_laws.specs.Due.{establish_on, refresh_on, stop_on, due as key_due}
-use Rattle.ide_plan.specs.declared.plan.Plan.{Plan}
-use Rattle.link_history.specs.Plan.{key_plan, stream_plan, streams_of, has_port}
-use Rattle.link_history.specs.Due.{due}
-use Rattle.link_history.specs.KeyFacts.{operates, IsNoOperation}
-use Rattle.link_ports.specs.Machine.{LinkState, Stepped, found, find_op, work_done, ports_of, status_at, reset_state, establish_found, refresh_found, stop_found, status_found, step_of, passed, altered_to, cut_short, packet_numbered}
-use Rattle.link_ports.specs.Stands.{StandsFor, StepStands}
-use Rattle.link_history.proofs.Tests.{eqb-refl}
-use Rattle.link_ports.proofs.Changes.{Steps, quiet}
-use Rattle.link_ports.proofs.Numbers.{pass_brings, alter_brings, cut_brings}
-use Rattle.link_ports.proofs.Sends.{sends}
-use Rattle.link_ports.proofs.Steps.{brought_to, given, dumps, none_pass, none_alter, none_cut, none_arrive, none_dump, none_send, none_status, pass_due, alter_due, cut_due}
-use Rattle.link_keys.proofs.AllFacts.{facts}
-use Rattle.port_operations.proofs.Kept.{Kept, send_kept, arrive_kept, given_kept}
+use Rattle.link_ports.proofs.Steps.{none_status, packets_stand}
+use Rattle.port_operations.proofs.Operates.{asked, asked_work}
+use Rattle.port_operations.proofs.Kept.{Kept, step_kept}
 use Rattle.port_operations.proofs.Managed.{ops_worked, draws_worked}
 use Rattle.port_operations.proofs.Views.{ports_is}
 use Rattle.port_operations.proofs.Statuses.{status_is}
 use Rattle.port_operations.proofs.Resets.{reset_stands, reset_nothing}
-use Rattle.port_operations.proofs.Worked.{establish_stands, refresh_stands, stop_stands}
+use Rattle.port_operations.proofs.Worked.{asked_stands}
 
 abbrev AllStep : Plan → History → Event → Stepped → Type 0
 AllStep plan h e r = (r.0 ≡ due plan h e) × StandsFor plan r.1 ((e, r.0) ∷ h)
@@ -39,11 +18,14 @@ AllStep plan h e r = (r.0 ≡ due plan h e) × StandsFor plan r.1 ((e, r.0) ∷ 
 
 manager_same : (h : History) (e : Event) (x : Verdict) → IsNoOperation e → manager ((e, x) ∷ h) ≡ manager h
 unfolding manager operates
-manager_same h (Establish l s lose) x still = absurd (let no : ((l == l) && (s == s)) ≡ false = still l s in let here : ((l == l) && (s == s)) ≡ true = rw (eqb-refl l, eqb-refl s) refl in cc)
-manager_same h (Refresh l s lose) x still = absurd (let no : ((l == l) && (s == s)) ≡ false = still l s in let here : ((l == l) && (s == s)) ≡ true = rw (eqb-refl l, eqb-refl s) refl in cc)
-manager_same h (Stop l s lose) x still = absurd (let no : ((l == l) && (s == s)) ≡ false = still l s in let here : ((l == l) && (s == s)) ≡ true = rw (eqb-refl l, eqb-refl s) refl in cc)
-manager_same h (Reset l) x still = absurd (let no : (l == l) ≡ false = still l 0 in let here = eqb-refl l in cc)
+manager_same h (Establish l s lose) x still = absurd (grind (arith, nat_tests, still l s))
+manager_same h (Refresh l s lose) x still = absurd (grind (arith, nat_tests, still l s))
+manager_same h (Stop l s lose) x still = absurd (grind (arith, nat_tests, still l s))
+manager_same h (Reset l) x still = absurd (grind (arith, nat_tests, still l 0))
 manager_same h _ x still = refl
+
+abbrev ops_of : Plan → ℕ → ℕ → Manager → Option Op
+ops_of plan l s m = if is_some (stream_plan plan l s) then Some (m.ops l s) else None
 
 plain : (plan : Plan) (st : LinkState) (h : History) (e : Event) (r : Stepped) → IsNoOperation e → StandsFor plan st h → Steps plan h e r → Kept st r → AllStep plan h e r
 unfolding find_op
@@ -53,109 +35,97 @@ plain plan st h e r still stands step kept = (
     ports_stand = step.1;
     ops_is = λ l s.
         ap (λ (zs : List (List Op)). found (streams_of plan l) (slice_index_or zs l []) s) kept.0
-        ∙ (stands.ops_is l s ∙ ap (λ (m : Manager). if is_some (stream_plan plan l s) then Some (m.ops l s) else None) (sym (manager_same h e r.0 still)));
+        ∙ (stands.ops_is l s ∙ ap (ops_of plan l s) (sym (manager_same h e r.0 still)));
     draws_is = kept.1 ∙ (stands.draws_is ∙ ap (λ (m : Manager). length m.begun) (sym (manager_same h e r.0 still)));
   },
 )
 
 -- ---- operations
 
--- the manager knows an operation exactly of the streams of the plan
-record Known (plan : Plan) (h : History) (link stream : ℕ) (q : Op) : Type 0 where
-  planned : is_some (stream_plan plan link stream) ≡ true
-  same : q ≡ op_of h link stream
+manager_asked : (h : History) (o : Operation) (link stream : ℕ) (lose : Option Loss) (x : Verdict)
+    → operated_manager (manager h) o link stream (reach_of o x) ≡ manager ((asked o link stream lose, x) ∷ h)
+unfolding manager
+manager_asked h op.Establish link stream lose x = refl
+manager_asked h op.Refresh link stream lose x = refl
+manager_asked h op.Stop link stream lose x = refl
 
-known : (plan : Plan) (st : LinkState) (h : History) (link stream : ℕ) (q : Op) → StandsFor plan st h → find_op plan st link stream ≡ Some q → Known plan h link stream q
-known plan st h link stream q stands is = by_plan (is_some (stream_plan plan link stream)) refl (sym is ∙ stands.ops_is link stream)
-  where
-    by_plan : (b : Bool) → is_some (stream_plan plan link stream) ≡ b → Some q ≡ (if b then Some (op_of h link stream) else None) → Known plan h link stream q
-    by_plan true planned e = record { planned = planned; same = cc }
-    by_plan false planned e = absurd cc
+module _ (plan : Plan) (st : LinkState) (h : History) (stands : StandsFor plan st h) (link stream : ℕ) where
+  -- the manager knows an operation exactly of the streams of the plan
+  known : (q : Op) → find_op plan st link stream ≡ Some q → (is_some (stream_plan plan link stream) ≡ true) × (q ≡ op_of h link stream)
+  known q found = let is : Some q ≡ op_at plan h link stream = sym found ∙ stands.ops_is link stream in grind arith
 
-unknown : (plan : Plan) (st : LinkState) (h : History) (link stream : ℕ) → StandsFor plan st h → find_op plan st link stream ≡ None → is_some (stream_plan plan link stream) ≡ false
-unknown plan st h link stream stands is = by_plan (is_some (stream_plan plan link stream)) (sym is ∙ stands.ops_is link stream)
-  where
-    by_plan : (b : Bool) → None ≡ (if b then Some (op_of h link stream) else None) → b ≡ false
-    by_plan true e = absurd cc
-    by_plan false e = refl
+  unknown : find_op plan st link stream ≡ None → is_some (stream_plan plan link stream) ≡ false
+  unknown found = let is : None ≡ op_at plan h link stream = sym found ∙ stands.ops_is link stream in grind arith
 
--- the state and the history after an operation, of which the ports are known to stand
-establishes : (plan : Plan) (st : LinkState) (h : History) (link stream : ℕ) (lose : Option Loss) → StandsFor plan st h → (o : Option Op) → find_op plan st link stream ≡ o → AllStep plan h (Establish link stream lose)
-    (establish_found plan st link stream lose o)
-unfolding due key_due manager
-establishes plan st h link stream lose stands None is =
-    let none = unknown plan st h link stream stands is in
-    let due_is : v.Nothing ≡ due plan h (Establish link stream lose) = rw none refl in
-    (due_is, record { ports_stand = establish_stands plan st h link stream lose v.Nothing stands.ports_stand due_is; ops_is = stands.ops_is; draws_is = stands.draws_is })
-establishes plan st h link stream lose stands (Some q) is =
-    let know = known plan st h link stream q stands is in
-    let x = establish_on (key_plan plan) q st.draws (ports_of plan st) link stream lose in
-    let w_is : work_of op.Establish q st.draws ≡ work_of op.Establish (op_of h link stream) (draws_made h) = λ i. work_of op.Establish (know.same i) (stands.draws_is i) in
-    let due_is : x ≡ due plan h (Establish link stream lose) = (λ i. establish_on (key_plan plan) (know.same i) (stands.draws_is i) (ports_is plan st h stands.ports_stand i) link stream lose) ∙ sym (rw know.planned refl) in (
-      due_is,
-      subst (λ w. StandsFor plan (work_done plan st link stream w (reach_of op.Establish x)) ((Establish link stream lose, x) ∷ h)) (sym w_is) (record {
-        ports_stand = establish_stands plan st h link stream lose x stands.ports_stand due_is;
-        ops_is = ops_worked plan st h op.Establish link stream (reach_of op.Establish x) stands.ops_is (ap is_some is);
-        draws_is = draws_worked plan st h op.Establish link stream (reach_of op.Establish x) stands.draws_is;
-      }),
-    )
+  -- the state and the history after an operation that is due, and after one of a stream that the plan has not
+  does : (o : Operation) (lose : Option Loss) (q : Op) (x : Verdict) → find_op plan st link stream ≡ Some q → x ≡ due plan h (asked o link stream lose)
+      → AllStep plan h (asked o link stream lose) (operated plan st o link stream q x)
+  does o lose q x found is =
+      let w_is : work_of o q st.draws ≡ asked_work h o link stream = λ i. work_of o ((known q found).1 i) (stands.draws_is i) in
+      let after = manager_asked h o link stream lose x in (
+        is,
+        subst (λ w. StandsFor plan (work_done plan st link stream w (reach_of o x)) ((asked o link stream lose, x) ∷ h)) (sym w_is) (record {
+          ports_stand = asked_stands plan st h o link stream lose x stands.ports_stand is;
+          ops_is = λ l s. ops_worked plan st h o link stream (reach_of o x) stands.ops_is (ap is_some found) l s ∙ ap (ops_of plan l s) after;
+          draws_is = draws_worked plan st h o link stream (reach_of o x) stands.draws_is ∙ ap (λ (m : Manager). length m.begun) after;
+        }),
+      )
 
-refreshes : (plan : Plan) (st : LinkState) (h : History) (link stream : ℕ) (lose : Option Loss) → StandsFor plan st h → (o : Option Op) → find_op plan st link stream ≡ o → AllStep plan h (Refresh link stream lose)
-    (refresh_found plan st link stream lose o)
-unfolding due key_due manager
-refreshes plan st h link stream lose stands None is =
-    let none = unknown plan st h link stream stands is in
-    let due_is : v.Nothing ≡ due plan h (Refresh link stream lose) = rw none refl in
-    (due_is, record { ports_stand = refresh_stands plan st h link stream lose v.Nothing stands.ports_stand due_is; ops_is = stands.ops_is; draws_is = stands.draws_is })
-refreshes plan st h link stream lose stands (Some q) is =
-    let know = known plan st h link stream q stands is in
-    let x = refresh_on (key_plan plan) q st.draws (ports_of plan st) (status_at plan st Host link stream) link stream lose in
-    let w_is : work_of op.Refresh q st.draws ≡ work_of op.Refresh (op_of h link stream) (draws_made h) = λ i. work_of op.Refresh (know.same i) (stands.draws_is i) in
-    let host = status_is plan st h stands.ports_stand Host link stream know.planned in
-    let due_is : x ≡ due plan h (Refresh link stream lose) = (λ i. refresh_on (key_plan plan) (know.same i) (stands.draws_is i) (ports_is plan st h stands.ports_stand i) (host i) link stream lose) ∙ sym (rw know.planned refl) in (
-      due_is,
-      subst (λ w. StandsFor plan (work_done plan st link stream w (reach_of op.Refresh x)) ((Refresh link stream lose, x) ∷ h)) (sym w_is) (record {
-        ports_stand = refresh_stands plan st h link stream lose x stands.ports_stand due_is;
-        ops_is = ops_worked plan st h op.Refresh link stream (reach_of op.Refresh x) stands.ops_is (ap is_some is);
-        draws_is = draws_worked plan st h op.Refresh link stream (reach_of op.Refresh x) stands.draws_is;
-      }),
-    )
+  does_nothing : (o : Operation) (lose : Option Loss) → v.Nothing ≡ due plan h (asked o link stream lose)
+      → AllStep plan h (asked o link stream lose) (v.Nothing, st)
+  does_nothing o lose is =
+      let after = manager_asked h o link stream lose v.Nothing in (
+        is,
+        record {
+          ports_stand = asked_stands plan st h o link stream lose v.Nothing stands.ports_stand is;
+          ops_is = λ l s. stands.ops_is l s ∙ ap (ops_of plan l s) after;
+          draws_is = stands.draws_is ∙ ap (λ (m : Manager). length m.begun) after;
+        },
+      )
 
-stops : (plan : Plan) (st : LinkState) (h : History) (link stream : ℕ) (lose : Option Loss) → StandsFor plan st h → (o : Option Op) → find_op plan st link stream ≡ o → AllStep plan h (Stop link stream lose)
-    (stop_found plan st link stream lose o)
-unfolding due key_due manager
-stops plan st h link stream lose stands None is =
-    let none = unknown plan st h link stream stands is in
-    let due_is : v.Nothing ≡ due plan h (Stop link stream lose) = rw none refl in
-    (due_is, record { ports_stand = stop_stands plan st h link stream lose v.Nothing stands.ports_stand due_is; ops_is = stands.ops_is; draws_is = stands.draws_is })
-stops plan st h link stream lose stands (Some q) is =
-    let know = known plan st h link stream q stands is in
-    let x = stop_on q st.draws (ports_of plan st) link stream lose in
-    let w_is : work_of op.Stop q st.draws ≡ work_of op.Stop (op_of h link stream) (draws_made h) = λ i. work_of op.Stop (know.same i) (stands.draws_is i) in
-    let due_is : x ≡ due plan h (Stop link stream lose) = (λ i. stop_on (know.same i) (stands.draws_is i) (ports_is plan st h stands.ports_stand i) link stream lose) ∙ sym (rw know.planned refl) in (
-      due_is,
-      subst (λ w. StandsFor plan (work_done plan st link stream w (reach_of op.Stop x)) ((Stop link stream lose, x) ∷ h)) (sym w_is) (record {
-        ports_stand = stop_stands plan st h link stream lose x stands.ports_stand due_is;
-        ops_is = ops_worked plan st h op.Stop link stream (reach_of op.Stop x) stands.ops_is (ap is_some is);
-        draws_is = draws_worked plan st h op.Stop link stream (reach_of op.Stop x) stands.draws_is;
-      }),
-    )
+  establishes : (lose : Option Loss) (o : Option Op) → find_op plan st link stream ≡ o
+      → AllStep plan h (Establish link stream lose) (establish_found plan st link stream lose o)
+  unfolding due key_due
+  establishes lose None is = does_nothing op.Establish lose (rw (unknown is) refl)
+  establishes lose (Some q) is =
+      let know = known q is in
+      does op.Establish lose q (establish_on (key_plan plan) q st.draws (ports_of plan st) link stream lose) is
+      ((λ i. establish_on (key_plan plan) (know.1 i) (stands.draws_is i) (ports_is plan st h stands.ports_stand i) link stream lose) ∙ sym (rw know.0 refl))
 
--- ---- a status
+  refreshes : (lose : Option Loss) (o : Option Op) → find_op plan st link stream ≡ o
+      → AllStep plan h (Refresh link stream lose) (refresh_found plan st link stream lose o)
+  unfolding due key_due
+  refreshes lose None is = does_nothing op.Refresh lose (rw (unknown is) refl)
+  refreshes lose (Some q) is =
+      let know = known q is in
+      let host = status_is plan st h stands.ports_stand Host link stream know.0 in
+      let ports = ports_is plan st h stands.ports_stand in
+      does op.Refresh lose q (refresh_on (key_plan plan) q st.draws (ports_of plan st) (status_at plan st Host link stream) link stream lose) is
+      ((λ i. refresh_on (key_plan plan) (know.1 i) (stands.draws_is i) (ports i) (host i) link stream lose) ∙ sym (rw know.0 refl))
 
-tells : (plan : Plan) (st : LinkState) (h : History) (link stream : ℕ) → StandsFor plan st h → (o : Option Op) → find_op plan st link stream ≡ o → AllStep plan h (Status link stream) (status_found plan st link stream o)
-unfolding due
-tells plan st h link stream stands None is =
-    let none = unknown plan st h link stream stands is in
-    plain plan st h (Status link stream) (v.Nothing, st) (none_status link stream) stands
-    (quiet plan (facts plan) st h (Status link stream) v.Nothing stands.ports_stand refl (rw none refl) (none_status link stream)) (refl, refl)
-tells plan st h link stream stands (Some q) is =
-    let know = known plan st h link stream q stands is in
-    let x = v.Status link stream (status_at plan st Host link stream) (status_at plan st Device link stream) in
-    let due_is : x ≡ due plan h (Status link stream) = (λ i. v.Status link stream (status_is plan st h stands.ports_stand Host link stream know.planned i) (status_is plan st h stands.ports_stand Device link stream know.planned i))
-    ∙ sym (rw know.planned refl) in
-    plain plan st h (Status link stream) (x, st) (none_status link stream) stands
-    (quiet plan (facts plan) st h (Status link stream) x stands.ports_stand refl due_is (none_status link stream)) (refl, refl)
+  stops : (lose : Option Loss) (o : Option Op) → find_op plan st link stream ≡ o
+      → AllStep plan h (Stop link stream lose) (stop_found plan st link stream lose o)
+  unfolding due key_due
+  stops lose None is = does_nothing op.Stop lose (rw (unknown is) refl)
+  stops lose (Some q) is =
+      let know = known q is in
+      does op.Stop lose q (stop_on q st.draws (ports_of plan st) link stream lose) is
+      ((λ i. stop_on (know.1 i) (stands.draws_is i) (ports_is plan st h stands.ports_stand i) link stream lose) ∙ sym (rw know.0 refl))
+
+  -- a status
+  tells : (x : Verdict) → is_quiet x ≡ true → x ≡ due plan h (Status link stream) → AllStep plan h (Status link stream) (x, st)
+  tells x none is =
+      plain plan st h (Status link stream) (x, st) (none_status link stream) stands
+      (quiet plan (facts plan) st h (Status link stream) x stands.ports_stand none is (none_status link stream)) (refl, refl)
+
+  told : (o : Option Op) → find_op plan st link stream ≡ o → AllStep plan h (Status link stream) (status_found plan st link stream o)
+  unfolding due
+  told None is = tells v.Nothing refl (rw (unknown is) refl)
+  told (Some q) is =
+      let planned = (known q is).0 in
+      let there = λ (side : Side). status_is plan st h stands.ports_stand side link stream planned in
+      tells (v.Status link stream (status_at plan st Host link stream) (status_at plan st Device link stream)) refl
+      ((λ i. v.Status link stream (there Host i) (there Device i)) ∙ sym (rw planned refl))
 
 -- ---- a reset
 
@@ -172,29 +142,15 @@ resets plan st h link stands = by_has (nat_lt link (length plan.links)) (due_res
 
 -- ---- all events
 
+packets_step : (plan : Plan) (st : LinkState) (h : History) (e : Event) → is_of_packets e ≡ true → StandsFor plan st h → AllStep plan h e (step_of plan st e)
+packets_step plan st h e is stands =
+    plain plan st h e (step_of plan st e) (none_of_packets e is) stands (packets_stand plan (facts plan) st h e is stands.ports_stand) (step_kept plan st e is)
+
 pub steps : StepStands
 unfolding step_of
-steps plan st h (Send port bytes more trusted) stands =
-    plain plan st h (Send port bytes more trusted) _ (none_send port bytes more trusted) stands (sends plan (facts plan) st h port bytes more trusted stands.ports_stand) (send_kept plan st port (read_of bytes) more trusted
-    (has_port plan port))
-steps plan st h (Pass n) stands =
-    plain plan st h (Pass n) _ (none_pass n) stands
-    (brought_to plan (facts plan) st h (Pass n) (none_pass n) stands.ports_stand (option_and_then passed (packet_numbered st.packets n)) (pass_brings plan h st.packets n stands.ports_stand.packets) (pass_due plan h n))
-    (arrive_kept plan st (option_and_then passed (packet_numbered st.packets n)))
-steps plan st h (Alter n at mask) stands =
-    plain plan st h (Alter n at mask) _ (none_alter n at mask) stands
-    (brought_to plan (facts plan) st h (Alter n at mask) (none_alter n at mask) stands.ports_stand (option_and_then (altered_to at mask) (packet_numbered st.packets n)) (alter_brings plan h st.packets n at mask stands.ports_stand.packets)
-    (alter_due plan h n at mask))
-    (arrive_kept plan st (option_and_then (altered_to at mask) (packet_numbered st.packets n)))
-steps plan st h (Cut n len) stands =
-    plain plan st h (Cut n len) _ (none_cut n len) stands
-    (brought_to plan (facts plan) st h (Cut n len) (none_cut n len) stands.ports_stand (option_and_then (cut_short len) (packet_numbered st.packets n)) (cut_brings plan h st.packets n len stands.ports_stand.packets) (cut_due plan h n len))
-    (arrive_kept plan st (option_and_then (cut_short len) (packet_numbered st.packets n)))
-steps plan st h (Arrive port bytes) stands =
-    plain plan st h (Arrive port bytes) _ (none_arrive port bytes) stands (given plan (facts plan) st h port bytes stands.ports_stand) (given_kept plan st (Some (record { port = port; bytes = bytes })) (has_port plan port))
-steps plan st h (Dump n) stands = plain plan st h (Dump n) _ (none_dump n) stands (dumps plan (facts plan) st h n stands.ports_stand) (refl, refl)
-steps plan st h (Establish link stream lose) stands = establishes plan st h link stream lose stands (find_op plan st link stream) refl
-steps plan st h (Refresh link stream lose) stands = refreshes plan st h link stream lose stands (find_op plan st link stream) refl
-steps plan st h (Stop link stream lose) stands = stops plan st h link stream lose stands (find_op plan st link stream) refl
-steps plan st h (Status link stream) stands = tells plan st h link stream stands (find_op plan st link stream) refl
+steps plan st h (Establish link stream lose) stands = establishes plan st h stands link stream lose (find_op plan st link stream) refl
+steps plan st h (Refresh link stream lose) stands = refreshes plan st h stands link stream lose (find_op plan st link stream) refl
+steps plan st h (Stop link stream lose) stands = stops plan st h stands link stream lose (find_op plan st link stream) refl
+steps plan st h (Status link stream) stands = told plan st h stands link stream (find_op plan st link stream) refl
 steps plan st h (Reset link) stands = resets plan st h link stands
+steps plan st h e stands = packets_step plan st h e refl stands

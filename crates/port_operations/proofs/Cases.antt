@@ -1,16 +1,7 @@
 -- The worked cases by computation.
-use Rattle.std.proofs.Common.{◌≡◌, [], refl}
-use Rattle.tlp_layout.specs.Reading.{read_of}
+use Rattle.port_operations.proofs.Terms.{◌≡◌, [], refl, base, choice, due, failed_there, find, find_op, first_state, has_live_in, has_live_out, is_open, key_due, keys, keys_at, manager, moments, open_unit, packet_of, posted_in, put, put_op, read_of, sealed_packets, sent_in, step_of, stream_plan, units}
 use Rattle.first_fault.specs.Walks.{walked_from, walk_length, reading}
-use Rattle.key_laws.specs.Keys.{is_open, keys}
-use Rattle.key_laws.specs.History.{manager, moments, base, failed as failed_there}
 use Rattle.association.specs.Choice.{choice_of}
-use Rattle.key_laws.specs.Due.{due as key_due}
-use Rattle.link_history.specs.Plan.{stream_plan}
-use Rattle.link_history.specs.Units.{units, open_unit}
-use Rattle.link_history.specs.Due.{choice, due}
-use Rattle.link_history.specs.History.{packet_of, sent_in, sealed_packets, posted_in, keys_at, has_live_out, has_live_in}
-use Rattle.link_ports.specs.Machine.{step_of, find, put, find_op, put_op, first_state}
 use Rattle.port_operations.specs.Cases.{plan, held_up, held_up_verdicts, lost_on_the_way, lost_verdicts, verdicts_on, answers_on, WorkedCases}
 
 held_up_due : verdicts_on [] held_up ≡ held_up_verdicts

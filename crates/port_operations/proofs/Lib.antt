@@ -1,3 +1,4 @@
+pub mod Terms
 pub mod SlotMoves
 pub mod Operations
 pub mod OperationSteps

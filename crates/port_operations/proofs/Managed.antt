@@ -1,56 +1,27 @@
 -- The manager's operations and the number of draws stand for the history.
-use Rattle.std.proofs.Common.{◌≡◌, ◌≢◌, ℕ, ◌+◌, ◌<◌, ◌≤◌, ◌==◌, Bool, true, false, Option, Some, None, List, [], ◌∷◌, length, refl, ap, sym, ◌∙◌, subst, arith, ⊎_elim}
-use Rattle.std.specs.Prelude.{if◌then◌else◌, ◌&&◌, is_some, slice_set}
-use Rattle.std.specs.List.{slice_index_or}
-use Rattle.std.proofs.lemmas.Bool.{cases_lt}
-use Rattle.std.proofs.lemmas.Bool.Decides.{nat_tests}
-use Rattle.std.proofs.lemmas.List.{get_or-set_same, get_or-set_other, get_or_past}
-use Rattle.ide_types.specs.declared.sub.SubKind.{SubKind}
-use Rattle.ide_types.specs.declared.port.Side.{Side}
-use Rattle.ide_types.specs.declared.port.Side.TheVariants.{Host, Device}
-use Rattle.ide_types.specs.declared.port.PortName.{PortName}
-use Rattle.link_verdicts.specs.declared.verdict.Operation.{Operation}
-use Rattle.key_laws.specs.Operations.{Op, Work, Reach, Begun, work_of, op_after, makes_draw, operated}
-use Rattle.key_laws.specs.History.{manager, op_of, draws as draws_made, History}
-use Rattle.ide_plan.specs.declared.plan.Plan.{Plan}
-use Rattle.link_history.specs.Plan.{streams_of, stream_plan}
-use Rattle.link_ports.specs.Stream.{StreamState}
-use Rattle.link_ports.specs.Moves.{Move}
-use Rattle.link_ports.specs.Machine.{LinkState, found, changed, find, put, find_op, put_op, port_at, moved_found, moved_at, moved_state, draws_after, work_done, moves_at, end_at, ports_of}
-use Rattle.link_ports.specs.Stands.{op_at}
-use Rattle.link_history.proofs.Tests.{eqb-refl}
-use Rattle.link_ports.proofs.Puts.{found_same, found_other, none_found}
+use Rattle.port_operations.proofs.Terms.{◌≡◌, ℕ, ◌+◌, ◌==◌, Bool, true, false, Option, Some, None, List, [], ◌∷◌, length, refl, ap, sym, ◌∙◌, subst, arith, if◌then◌else◌, ◌&&◌, is_some, slice_set, Begun, changed, Device, draws_after, draws_made, end_at, find, find_op, found, get_or-set_other, History, Host, LinkState, makes_draw, manager, Move, moved_at, moved_found, moved_state, moves_at, nat_tests, Op, op_after, op_at, op_of, Operation, Plan, port_at, PortName, ports_of, put, put_beside, put_op, put_same, Reach, Side, slice_index_or, stream_plan, streams_of, StreamState, SubKind, Work, work_done, work_of}
+use Rattle.key_laws.specs.Operations.{operated}
 
 -- ---- one operation is put, and no other
 
-pub op_within : (plan : Plan) (st : LinkState) (link stream : ℕ) → is_some (find_op plan st link stream) ≡ true → link < length st.ops
-unfolding find_op
-op_within plan st link stream is = ⊎_elim (λ lt. lt) (λ le. absurd (past le)) (cases_lt link (length st.ops))
-  where
-    past : length st.ops ≤ link → ⊥
-    past le = let none : false ≡ true = ap is_some (sym (none_found (streams_of plan link) stream)) ∙ rw (get_or_past st.ops link [] le) at is in cc
-
 find_op-put : (plan : Plan) (st : LinkState) (link stream : ℕ) (o : Op) → is_some (find_op plan st link stream) ≡ true → find_op plan (put_op plan st link stream o) link stream ≡ Some o
 unfolding find_op put_op
-find_op-put plan st link stream o is = rw (get_or-set_same st.ops link (changed (streams_of plan link) (slice_index_or st.ops link []) stream o) [] (op_within plan st link stream is)) (found_same (streams_of plan link) _ stream o is)
+find_op-put plan st link stream o is = put_same (streams_of plan link) st.ops link stream o is
 
-find_op-put_other : (plan : Plan) (st : LinkState) (link stream : ℕ) (o : Op) (l s : ℕ) → is_some (find_op plan st link stream) ≡ true → ((l == link) && (s == stream)) ≡ false → find_op plan (put_op plan st link stream o) l s
-    ≡ find_op plan st l s
+find_op-put_other : (plan : Plan) (st : LinkState) (link stream : ℕ) (o : Op) (l s : ℕ) → ((l == link) && (s == stream)) ≡ false
+    → find_op plan (put_op plan st link stream o) l s ≡ find_op plan st l s
 unfolding find_op put_op
-find_op-put_other plan st link stream o l s is other = by_link (l == link) refl
+find_op-put_other plan st link stream o l s other = by_link (l == link) refl
   where
-    ys : List Op
-    ys = changed (streams_of plan link) (slice_index_or st.ops link []) stream o
+    new : List (List Op)
+    new = slice_set st.ops link (changed (streams_of plan link) (slice_index_or st.ops link []) stream o)
 
-    by_link : (b : Bool) → (l == link) ≡ b → found (streams_of plan l) (slice_index_or (slice_set st.ops link ys) l []) s ≡ found (streams_of plan l) (slice_index_or st.ops l []) s
-    by_link false e =
-        let apart : l ≢ link = λ same. absurd (let here : (l == link) ≡ true = ap (λ (n : ℕ). l == n) (sym same) ∙ eqb-refl l in cc) in
-        ap (λ (zs : List Op). found (streams_of plan l) zs s) (get_or-set_other st.ops link l ys [] apart)
+    by_link : (b : Bool) → (l == link) ≡ b → found (streams_of plan l) (slice_index_or new l []) s ≡ found (streams_of plan l) (slice_index_or st.ops l []) s
+    by_link false e = ap (λ (zs : List Op). found (streams_of plan l) zs s) (get_or-set_other st.ops link l _ [] (λ same. grind (arith, nat_tests)))
     by_link true e =
         let same : link ≡ l = grind (arith, nat_tests) in
-        let apart : (stream == s) ≡ false = grind (arith, nat_tests) in
-        subst (λ (n : ℕ). found (streams_of plan n) (slice_index_or (slice_set st.ops link ys) n []) s ≡ found (streams_of plan n) (slice_index_or st.ops n []) s) same
-        (rw (get_or-set_same st.ops link ys [] (op_within plan st link stream is)) (found_other (streams_of plan link) _ stream s o apart))
+        subst (λ (n : ℕ). found (streams_of plan n) (slice_index_or new n []) s ≡ found (streams_of plan n) (slice_index_or st.ops n []) s) same
+        (put_beside (streams_of plan link) st.ops link stream s o (grind (arith, nat_tests)))
 
 -- ---- the moves of slots leave them
 
@@ -87,14 +58,10 @@ ops_after plan st moved h link stream n o is stands known l s = put_ops plan mov
     there = ap is_some (same_ops plan st moved is link stream) ∙ known
 
     planned : is_some (stream_plan plan link stream) ≡ true
-    planned = by_plan (is_some (stream_plan plan link stream)) (ap is_some (sym (stands link stream)) ∙ known)
-      where
-        by_plan : (b : Bool) → is_some (if b then Some (op_of h link stream) else None) ≡ true → b ≡ true
-        by_plan true e = refl
-        by_plan false e = absurd cc
+    planned = let is : is_some (op_at plan h link stream) ≡ true = ap is_some (sym (stands link stream)) ∙ known in grind arith
 
     by_test : (b : Bool) → ((l == link) && (s == stream)) ≡ b → find_op plan (put_op plan moved link stream o) l s ≡ (if is_some (stream_plan plan l s) then Some (if b then o else op_of h l s) else None)
-    by_test false other = find_op-put_other plan moved link stream o l s there other ∙ (same_ops plan st moved is l s ∙ stands l s)
+    by_test false other = find_op-put_other plan moved link stream o l s other ∙ (same_ops plan st moved is l s ∙ stands l s)
     by_test true here =
         let one : link ≡ l = grind (arith, nat_tests) in
         let two : stream ≡ s = grind (arith, nat_tests) in
@@ -103,8 +70,7 @@ ops_after plan st moved h link stream n o is stands known l s = put_ops plan mov
         (find_op-put plan moved link stream o there ∙ sym (rw planned refl)))
 
 drawn_one : (bs : List Begun) (link stream : ℕ) (w : Work) (f : Bool) → (if f then length bs + 1 else length bs) ≡ length (if f then record { link = link; stream = stream; set = w.set } ∷ bs else bs)
-drawn_one bs link stream w true = omega arith
-drawn_one bs link stream w false = refl
+drawn_one bs link stream w f = grind arith
 
 -- the state after an operation, by how far it came
 pub ops_worked : (plan : Plan) (st : LinkState) (h : History) (o : Operation) (link stream : ℕ) (r : Option Reach) → OpsStand plan st h → is_some (find_op plan st link stream) ≡ true → (l s : ℕ)

@@ -1,90 +1,18 @@
 -- An event of an operation moves the keys of its stream at both ports, each move allowed.
-use Rattle.std.proofs.Common.{◌≡◌, ℕ, ◌+◌, ◌≤◌, Bool, true, false, Option, Some, List, [], ◌∷◌, ◌++◌, refl, ap, sym, ◌∙◌, subst}
-use Rattle.std.specs.Prelude.{◌||◌, if◌then◌else◌}
-use Rattle.ide_types.specs.declared.sub.SubKind.{SubKind}
-use Rattle.ide_types.specs.declared.sub.SubKind.TheVariants.{Pr, Npr, Cpl}
-use Rattle.ide_types.specs.declared.port.Side.{Side}
-use Rattle.ide_types.specs.declared.port.PortName.{PortName}
-use Rattle.link_events.specs.declared.event.Event.{Event}
-use Rattle.link_events.specs.declared.event.Event.TheVariants.{Establish, Refresh, Stop}
-use Rattle.link_events.specs.declared.event.Loss.{Loss}
-use Rattle.link_verdicts.specs.declared.verdict.Operation.{Operation}
+use Rattle.port_operations.proofs.Terms.{◌≡◌, ℕ, ◌≤◌, Bool, true, false, Option, Some, List, [], ◌∷◌, refl, ap, sym, ◌∙◌, subst, arith, ◌||◌, ◌&&◌, ◌==◌, if◌then◌else◌, AllAllowedIn, AllAllowedOut, AllCome, base, behind, busy_in, CauseLaw, ClearTouch, Cpl, draws_made, due, end_at, eqb-refl, Establish, Event, failed, got_same, got_since, has_live_in, has_live_out, History, in_keyed, is_quiet, IsOperation, key_cause, key_of, key_plan, keyed_there, Keys, keys, keys_at, keys_into, keys_moved_in, keys_moved_out, keys_out, keys_there, lane_in, lane_out, Loss, manager, moments, Move, moves_at, Npr, Off, Op, op_of, Operated, operates, Operation, out_keyed, pending, Place, place, Plan, port_at, PortName, ports_at, posted_in, Pr, quiet_seals_none, Reach, reach_of, Refresh, sealed_packets, sealed_same, Side, since_same, started, Stop, StopTouch, SubKind, SubStream, total_in, Touch, touches, units_since, used, Verdict, with_key, Work, work_of, worked}
 use Rattle.link_verdicts.specs.declared.verdict.Operation.TheVariants as op
-use Rattle.link_verdicts.specs.declared.verdict.Verdict.{Verdict}
-use Rattle.key_laws.specs.Places.{Place, is_host, lane}
-use Rattle.key_laws.specs.Keys.{Touch, Program as ProgramTouch, Go as GoTouch, Stop as StopTouch, Clear as ClearTouch, keys, Off, Keys, is_on, with_key}
-use Rattle.key_laws.specs.Operations.{Op, Idle, Establishing, Up, Refreshing, Stopping, Work, Reach, work_of, reach_of}
-use Rattle.key_laws.specs.History.{manager, op_of, draws as draws_made, when, behind, is_within, stopped, worked, touches, moments, History, base}
-use Rattle.key_laws.specs.Due.{ports_at}
-use Rattle.key_laws.proofs.Shapes.{used, started}
-use Rattle.key_laws.proofs.Touches.{AllCome}
+use Rattle.ide_prefix.specs.Packet.{Packet}
 use Rattle.key_laws.proofs.Whole.{fits, next_fits}
-use Rattle.ide_plan.specs.declared.plan.Plan.{Plan}
-use Rattle.link_history.specs.Plan.{SubStream, key_plan, lane_out, lane_in, key_of}
-use Rattle.link_history.specs.History.{place, keys_at, is_keyed, has_live_out, has_live_in, sealed_packets, failed, pending, posted_in, posted_count, got_since, total_in, units_since}
-use Rattle.link_history.specs.Cause.{CauseLaw}
-use Rattle.link_history.specs.KeyFacts.{operates}
-use Rattle.link_ports.specs.Machine.{port_at, end_at, moves_at, moves_of}
-use Rattle.link_ports.specs.Moves.{Move, Halt, keys_moved_in, keys_moved_out}
-use Rattle.link_ports.specs.Stands.{got_in}
 use Rattle.key_states.proofs.Firsts.{first_keys, refresh_keyed, base_kept}
 use Rattle.link_history.proofs.KeyVerdicts.{establish_due_quiet, refresh_due_quiet, stop_due_quiet}
-use Rattle.link_history.proofs.SealingIs.{sealed_same, quiet_seals_none}
-use Rattle.link_history.proofs.Tests.{eqb-refl}
-use Rattle.link_keys.proofs.Seats.{keys_out, keys_into}
-use Rattle.link_keys.proofs.Given.{key_cause}
 use Rattle.link_keys.proofs.Moments.{none_sent, none_posted, none_finished, none_since, no_units, none_held, none_got, busy_is, sends_lane}
-use Rattle.link_keys.proofs.Failures.{out_keyed, in_keyed}
-use Rattle.port_operations.specs.Operations.{busy_in, AllAllowedIn, AllAllowedOut, Operated, IsOperation}
-use Rattle.link_history.specs.KeyFacts.{is_quiet}
-use Rattle.port_operations.proofs.Operations.{got_quiet, since_quiet}
-use Rattle.port_operations.proofs.Runs.{Heads, OneGo, OutRun, InRun, NewIn, out_run, in_run}
+use Rattle.port_operations.proofs.Operations.{takes_nothing}
+use Rattle.port_operations.proofs.Runs.{are_first, NewIn, out_run, in_run, halted_is, cleared_are}
 
 -- ---- what an operation touches
 
-keyed_heads : (f g k : Bool) (j : ℕ) → Heads (when f (ProgramTouch k j) ++ when g (GoTouch k j))
-keyed_heads false false k j = tt
-keyed_heads false true k j = tt
-keyed_heads true false k j = tt
-keyed_heads true true k j = tt
-
-keyed_one : (f g k : Bool) (j : ℕ) → OneGo (when f (ProgramTouch k j) ++ when g (GoTouch k j))
-keyed_one false false k j = tt
-keyed_one false true k j = tt
-keyed_one true false k j = tt
-keyed_one true true k j = tt
-
-halved_heads : (f g : Bool) → Heads (when f (StopTouch false) ++ when g (StopTouch true))
-halved_heads false false = tt
-halved_heads false true = tt
-halved_heads true false = tt
-halved_heads true true = tt
-
-halved_one : (f g : Bool) → OneGo (when f (StopTouch false) ++ when g (StopTouch true))
-halved_one false false = tt
-halved_one false true = tt
-halved_one true false = tt
-halved_one true true = tt
-
-clear_heads : (f : Bool) → Heads (when f ClearTouch)
-clear_heads true = tt
-clear_heads false = tt
-
-clear_one : (f : Bool) → OneGo (when f ClearTouch)
-clear_one true = tt
-clear_one false = tt
-
-stopped_heads : (w : Work) (r : Reach) (p : Place) → Heads (stopped w r p) × OneGo (stopped w r p)
-stopped_heads w r p = by_side (is_host p.side)
-  where
-    by_side : (b : Bool) → let ts = if b then when w.begins ClearTouch else when (is_within w.first (1 + lane p) r.carried) (StopTouch false) ++ when (is_within w.first (7 + lane p) r.carried) (StopTouch true) in Heads ts × OneGo ts
-    by_side true = (clear_heads w.begins, clear_one w.begins)
-    by_side false = (halved_heads (is_within w.first (1 + lane p) r.carried) (is_within w.first (7 + lane p) r.carried), halved_one (is_within w.first (1 + lane p) r.carried) (is_within w.first (7 + lane p) r.carried))
-
-worked_heads : (w : Work) (r : Reach) (p : Place) (o : Operation) → w.operation ≡ o → Heads (worked w (Some r) p) × OneGo (worked w (Some r) p)
-worked_heads w r p op.Stop is = rw is (stopped_heads w r p)
-worked_heads w r p op.Establish is = rw is (keyed_heads _ _ w.set w.draw, keyed_one _ _ w.set w.draw)
-worked_heads w r p op.Refresh is = rw is (keyed_heads _ _ w.set w.draw, keyed_one _ _ w.set w.draw)
+worked_first : (w : Work) (r : Reach) (p : Place) → are_first (worked w (Some r) p) ≡ true
+worked_first w r p = grind arith
 
 -- an event that brought an operation this far
 pub record Works (plan : Plan) (h : History) (e : Event) (x : Verdict) (link stream : ℕ) (w : Work) (r : Reach) : Type 0 where
@@ -99,366 +27,225 @@ outs h link stream w r side u = moves_at (ports_at h) w r (end_at link stream tr
 abbrev pub ins : History → ℕ → ℕ → Work → Reach → Side → SubKind → List Move
 ins h link stream w r side u = moves_at (ports_at h) w r (end_at link stream false side u)
 
-come_there : (plan : Plan) (h : History) (e : Event) (x : Verdict) (link stream : ℕ) (w : Work) (r : Reach) → Works plan h e x link stream w r → (side : Side) (sends : Bool) (u : SubKind)
-    → AllCome sends (moments h (end_at link stream sends side u)) (worked w (Some r) (end_at link stream sends side u))
-come_there plan h e x link stream w r is side sends u =
-    let p = end_at link stream sends side u in
-    let cause = key_cause plan ((e, x) ∷ h) is.law in
-    subst (AllCome sends (moments h p)) (is.touched side sends u) (next_fits (key_plan plan) h e x cause p (fits (key_plan plan) h cause.2 p)).come
+if_none : (b : Bool) (ps : List Packet) → ps ≡ [] → (if b then [] else ps) ≡ []
+if_none b ps none = grind arith
 
-moments_after : (plan : Plan) (h : History) (e : Event) (x : Verdict) (link stream : ℕ) (w : Work) (r : Reach) → Works plan h e x link stream w r → (side : Side) (sends : Bool) (u : SubKind)
-    → moments ((e, x) ∷ h) (end_at link stream sends side u) ≡ behind (moments h (end_at link stream sends side u)) (worked w (Some r) (end_at link stream sends side u))
-unfolding moments
-moments_after plan h e x link stream w r is side sends u = ap (behind (moments h (end_at link stream sends side u))) (is.touched side sends u)
-
-run_out : (plan : Plan) (h : History) (e : Event) (x : Verdict) (link stream : ℕ) (w : Work) (r : Reach) → Works plan h e x link stream w r → (side : Side) (u : SubKind) → let p = end_at link stream true side u in
-    OutRun plan (sealed_packets plan h) (lane_out (port_at side link) stream u) (moments h p) (worked w (Some r) p) (outs h link stream w r side u)
-run_out plan h e x link stream w r is side u =
-    let p = end_at link stream true side u in
-    let port = port_at side link in
-    let s = lane_out port stream u in
-    out_run plan (sealed_packets plan h) s ((ports_at h).refuses p) (moments h p) (worked w (Some r) p) (λ k. refl)
-    (record { busy = λ j. busy_is plan h is.law.1 port s j (sends_lane port stream u); unsent = λ j le. none_sent plan h port s j (sends_lane port stream u) le })
-    (come_there plan h e x link stream w r is side true u) (worked_heads w r p w.operation refl).0
-
-if_none : (plan : Plan) (h : History) (port : PortName) (s : SubStream) (j : ℕ) → pending plan h s j ≡ [] → (if failed h port s.stream then [] else pending plan h s j) ≡ []
-if_none plan h port s j none = by_test (failed h port s.stream)
-  where
-    by_test : (b : Bool) → (if b then [] else pending plan h s j) ≡ []
-    by_test true = refl
-    by_test false = none
-
-new_in : (plan : Plan) (h : History) → CauseLaw plan h → (port : PortName) (stream : ℕ) (u : SubKind) → NewIn plan h port (lane_in port stream u) (moments h (place port (lane_in port stream u) false))
+new_in : (plan : Plan) (h : History) → CauseLaw plan h → (port : PortName) (stream : ℕ) (u : SubKind)
+    → NewIn plan h port (lane_in port stream u) (moments h (place port (lane_in port stream u) false))
 new_in plan h law port stream u j le =
     let s = lane_in port stream u in
     let units = none_got plan h law port stream u j le in
     let none : pending plan h s j ≡ [] = none_held plan h law port stream u j _ le in
-    let packets = if_none plan h port s j none in
+    let packets = if_none (failed h port s.stream) (pending plan h s j) none in
     λ i. record { draw = j; key = key_of plan j s; units = units i; packets = packets i }
 
-run_in : (plan : Plan) (h : History) (e : Event) (x : Verdict) (link stream : ℕ) (w : Work) (r : Reach) → Works plan h e x link stream w r → (side : Side) (u : SubKind) → let p = end_at link stream false side u in
-    InRun plan h (port_at side link) (lane_in (port_at side link) stream u) (moments h p) (worked w (Some r) p) (ins h link stream w r side u)
-run_in plan h e x link stream w r is side u =
-    let p = end_at link stream false side u in
-    let port = port_at side link in
-    in_run plan h port (lane_in port stream u) ((ports_at h).refuses p) (moments h p) (worked w (Some r) p) (λ k. refl)
-    (new_in plan h is.law.1 port stream u) (come_there plan h e x link stream w r is side false u) (worked_heads w r p w.operation refl).1
+module _ (plan : Plan) (h : History) (e : Event) (x : Verdict) (link stream : ℕ) (w : Work) (r : Reach) (is : Works plan h e x link stream w r)
+    (side : Side) where
+  come_there : (sends : Bool) (u : SubKind) → let p = end_at link stream sends side u in AllCome sends (moments h p) (worked w (Some r) p)
+  come_there sends u =
+      let p = end_at link stream sends side u in
+      let cause = key_cause plan ((e, x) ∷ h) is.law in
+      subst (AllCome sends (moments h p)) (is.touched side sends u) (next_fits (key_plan plan) h e x cause p (fits (key_plan plan) h cause.2 p)).come
 
--- ---- what it owes of keys
+  moments_after : (sends : Bool) (u : SubKind) → let p = end_at link stream sends side u in moments ((e, x) ∷ h) p ≡ behind (moments h p) (worked w (Some r) p)
+  unfolding moments
+  moments_after sends u = ap (behind (moments h (end_at link stream sends side u))) (is.touched side sends u)
 
-pub moves_keys_out : (plan : Plan) (h : History) (e : Event) (x : Verdict) (link stream : ℕ) (w : Work) (r : Reach) → Works plan h e x link stream w r → (side : Side) (u : SubKind) → let s = lane_out (port_at side link) stream u in
-    keys_at ((e, x) ∷ h) (port_at side link) s ≡ keys_moved_out (busy_in (sealed_packets plan h) s) (outs h link stream w r side u) (keys_at h (port_at side link) s)
-moves_keys_out plan h e x link stream w r is side u =
-    let port = port_at side link in
-    let s = lane_out port stream u in
-    keys_out ((e, x) ∷ h) port stream u
-    ∙ (ap (λ (ts : List Touch). (keys true ts)) (moments_after plan h e x link stream w r is side true u)
-    ∙ ((run_out plan h e x link stream w r is side u).keys_are
-    ∙ ap (keys_moved_out (busy_in (sealed_packets plan h) s) (outs h link stream w r side u)) (sym (keys_out h port stream u))))
+  -- its moves at a sender, and at a receiver
+  moves_out : (u : SubKind) → let port = port_at side link in let s = lane_out port stream u in
+      (keys_at ((e, x) ∷ h) port s ≡ keys_moved_out (busy_in (sealed_packets plan h) s) (outs h link stream w r side u) (keys_at h port s))
+      × AllAllowedOut plan (sealed_packets plan h) s (outs h link stream w r side u) (keys_at h port s)
+  moves_out u =
+      let p = end_at link stream true side u in
+      let port = port_at side link in
+      let s = lane_out port stream u in
+      let here = sends_lane port stream u in
+      let run = out_run plan (sealed_packets plan h) s ((ports_at h).refuses p) (moments h p) (worked w (Some r) p) (λ k. refl)
+      (record { busy = λ i j. busy_is plan h is.law.1 port s j here i; unsent = λ j le. none_sent plan h port s j here le })
+      (come_there true u) (worked_first w r p) in (
+        keys_out ((e, x) ∷ h) port stream u ∙ (ap (keys true) (moments_after true u)
+            ∙ (run.keys_are ∙ ap (keys_moved_out (busy_in (sealed_packets plan h) s) (outs h link stream w r side u)) (sym (keys_out h port stream u)))),
+        subst (AllAllowedOut plan (sealed_packets plan h) s (outs h link stream w r side u)) (sym (keys_out h port stream u)) run.allowed,
+      )
 
-pub moves_keys_in : (plan : Plan) (h : History) (e : Event) (x : Verdict) (link stream : ℕ) (w : Work) (r : Reach) → Works plan h e x link stream w r → (side : Side) (u : SubKind) → let s = lane_in (port_at side link) stream u in
-    keys_at ((e, x) ∷ h) (port_at side link) s ≡ keys_moved_in (ins h link stream w r side u) (keys_at h (port_at side link) s)
-moves_keys_in plan h e x link stream w r is side u =
-    let port = port_at side link in
-    keys_into ((e, x) ∷ h) port stream u
-    ∙ (ap (λ (ts : List Touch). (keys false ts)) (moments_after plan h e x link stream w r is side false u)
-    ∙ ((run_in plan h e x link stream w r is side u).keys_are
-    ∙ ap (keys_moved_in (ins h link stream w r side u)) (sym (keys_into h port stream u))))
-
-pub moves_allowed_out : (plan : Plan) (h : History) (e : Event) (x : Verdict) (link stream : ℕ) (w : Work) (r : Reach) → Works plan h e x link stream w r → (side : Side) (u : SubKind) → let s = lane_out (port_at side link) stream u in
-    AllAllowedOut plan (sealed_packets plan h) s (outs h link stream w r side u) (keys_at h (port_at side link) s)
-moves_allowed_out plan h e x link stream w r is side u =
-    let port = port_at side link in
-    let s = lane_out port stream u in
-    subst (AllAllowedOut plan (sealed_packets plan h) s (outs h link stream w r side u)) (sym (keys_out h port stream u)) (run_out plan h e x link stream w r is side u).allowed
-
-pub moves_allowed_in : (plan : Plan) (h : History) (e : Event) (x : Verdict) (link stream : ℕ) (w : Work) (r : Reach) → Works plan h e x link stream w r → (side : Side) (u : SubKind) → let s = lane_in (port_at side link) stream u in
-    AllAllowedIn plan h (port_at side link) s (ins h link stream w r side u) (keys_at h (port_at side link) s)
-moves_allowed_in plan h e x link stream w r is side u =
-    let port = port_at side link in
-    let s = lane_in port stream u in
-    subst (AllAllowedIn plan h port s (ins h link stream w r side u)) (sym (keys_into h port stream u)) (run_in plan h e x link stream w r is side u).allowed
+  moves_in : (u : SubKind) → let port = port_at side link in let s = lane_in port stream u in
+      (keys_at ((e, x) ∷ h) port s ≡ keys_moved_in (ins h link stream w r side u) (keys_at h port s))
+      × AllAllowedIn plan h port s (ins h link stream w r side u) (keys_at h port s)
+  moves_in u =
+      let p = end_at link stream false side u in
+      let port = port_at side link in
+      let s = lane_in port stream u in
+      let run = in_run plan h port s ((ports_at h).refuses p) (moments h p) (worked w (Some r) p) (λ k. refl)
+      (new_in plan h is.law.1 port stream u) (come_there false u) (worked_first w r p) in (
+        keys_into ((e, x) ∷ h) port stream u ∙ (ap (keys false) (moments_after false u)
+            ∙ (run.keys_are ∙ ap (keys_moved_in (ins h link stream w r side u)) (sym (keys_into h port stream u)))),
+        subst (AllAllowedIn plan h port s (ins h link stream w r side u)) (sym (keys_into h port stream u)) run.allowed,
+      )
 
 -- ---- whether a direction has a Live key
 
-abbrev any_on : Keys → Bool
-any_on ks = is_on ks.first || is_on ks.second
+abbrev any_sub : (SubKind → Bool) → Bool
+any_sub f = f Pr || f Npr || f Cpl
 
-one_of : (f : SubKind → Bool) → (f Pr || f Npr || f Cpl) ≡ true → (u : SubKind) × (f u ≡ true)
-one_of f is = by_tests (f Pr) (f Npr) (f Cpl) refl refl refl is
-  where
-    by_tests : (a b c : Bool) → f Pr ≡ a → f Npr ≡ b → f Cpl ≡ c → (a || b || c) ≡ true → (u : SubKind) × (f u ≡ true)
-    by_tests true b c one two three is = (Pr, one)
-    by_tests false true c one two three is = (Npr, two)
-    by_tests false false true one two three is = (Cpl, three)
-    by_tests false false false one two three is = absurd cc
+one_of : (f : SubKind → Bool) → any_sub f ≡ true → (u : SubKind) × (f u ≡ true)
+one_of f is = grind arith
 
-none_of : (f : SubKind → Bool) → (f Pr || f Npr || f Cpl) ≡ false → (u : SubKind) → f u ≡ false
-none_of f is u = by_sub u
-  where
-    first : (a b : Bool) → (a || b) ≡ false → a ≡ false
-    first false b e = refl
-    first true b e = absurd cc
+none_of : (f : SubKind → Bool) → any_sub f ≡ false → (u : SubKind) → f u ≡ false
+none_of f is u = grind arith
 
-    second : (a b : Bool) → (a || b) ≡ false → b ≡ false
-    second false b e = e
-    second true b e = absurd cc
+abbrev keyed_at : History → Side → ℕ → ℕ → Bool → SubKind → Bool
+keyed_at h side link stream sends u = keyed_there (keys_there h (end_at link stream sends side u))
 
-    by_sub : (u : SubKind) → f u ≡ false
-    by_sub Pr = first (f Pr) (f Npr) (first (f Pr || f Npr) (f Cpl) is)
-    by_sub Npr = second (f Pr) (f Npr) (first (f Pr || f Npr) (f Cpl) is)
-    by_sub Cpl = second (f Pr || f Npr) (f Cpl) is
-
-some_out : (plan : Plan) (h : History) (side : Side) (link stream : ℕ) → has_live_out h (port_at side link) stream ≡ true → (u : SubKind) × (is_keyed h (port_at side link) (lane_out (port_at side link) stream u) ≡ true)
+lives_out : (h : History) (side : Side) (link stream : ℕ) → any_sub (keyed_at h side link stream true) ≡ has_live_out h (port_at side link) stream
 unfolding has_live_out
-some_out plan h side link stream is = one_of (λ u. is_keyed h (port_at side link) (lane_out (port_at side link) stream u)) is
+lives_out h side link stream = let one = out_keyed h (port_at side link) stream in sym (λ i. one Pr i || one Npr i || one Cpl i)
 
-some_in : (plan : Plan) (h : History) (side : Side) (link stream : ℕ) → has_live_in h (port_at side link) stream ≡ true → (u : SubKind) × (is_keyed h (port_at side link) (lane_in (port_at side link) stream u) ≡ true)
+lives_in : (h : History) (side : Side) (link stream : ℕ) → any_sub (keyed_at h side link stream false) ≡ has_live_in h (port_at side link) stream
 unfolding has_live_in
-some_in plan h side link stream is = one_of (λ u. is_keyed h (port_at side link) (lane_in (port_at side link) stream u)) is
+lives_in h side link stream = let one = in_keyed h (port_at side link) stream in sym (λ i. one Pr i || one Npr i || one Cpl i)
 
-no_out : (plan : Plan) (h : History) (side : Side) (link stream : ℕ) → has_live_out h (port_at side link) stream ≡ false → (u : SubKind) → is_keyed h (port_at side link) (lane_out (port_at side link) stream u) ≡ false
-unfolding has_live_out
-no_out plan h side link stream is u = none_of (λ u. is_keyed h (port_at side link) (lane_out (port_at side link) stream u)) is u
+-- ---- a stop leaves no key On that was not
 
-no_in : (plan : Plan) (h : History) (side : Side) (link stream : ℕ) → has_live_in h (port_at side link) stream ≡ false → (u : SubKind) → is_keyed h (port_at side link) (lane_in (port_at side link) stream u) ≡ false
-unfolding has_live_in
-no_in plan h side link stream is u = none_of (λ u. is_keyed h (port_at side link) (lane_in (port_at side link) stream u)) is u
+abbrev are_halts : List Touch → Bool
+are_halts [] = true
+are_halts (StopTouch k ∷ ts) = are_halts ts
+are_halts (ClearTouch ∷ ts) = are_halts ts
+are_halts (_ ∷ ts) = false
 
--- ---- an establish
+stop_halts : (q : Op) (next : ℕ) (r : Reach) (p : Place) → are_halts (worked (work_of op.Stop q next) (Some r) p) ≡ true
+stop_halts q next r p = grind arith
 
-pub establish_works : (plan : Plan) (h : History) (link stream : ℕ) (lose : Option Loss) (x : Verdict) (r : Reach) → CauseLaw plan ((Establish link stream lose, x) ∷ h) → reach_of op.Establish x ≡ Some r
-    → Works plan h (Establish link stream lose) x link stream (work_of op.Establish (op_of h link stream) (draws_made h)) r
-establish_works plan h link stream lose x r law reached = record {
-  law = law;
-  quiet = ap is_quiet law.0 ∙ establish_due_quiet plan h link stream lose;
-  touched = λ side sends u. rw (eqb-refl link, eqb-refl stream, reached) refl;
-}
+halted_keyed : (k : Bool) (ks : Keys) → keyed_there (with_key ks k Off) ≡ true → keyed_there ks ≡ true
+halted_keyed k ks is = grind arith
 
-posted_first : (plan : Plan) (h : History) (e : Event) (x : Verdict) (side : Side) (link stream : ℕ) (u : SubKind) (j : ℕ) → is_quiet x ≡ true → base ((e, x) ∷ h) link stream ≡ j → used (moments h (end_at link stream true side Pr)) ≤ j
-    → posted_count plan ((e, x) ∷ h) (lane_out (port_at side link) stream u) ≡ 0
-posted_first plan h e x side link stream u j none is le =
-    (λ i. posted_in (sealed_same plan h e x (quiet_seals_none x none) i) (lane_out (port_at side link) stream u) (is i)) ∙ none_posted plan h (port_at side link) stream u j le
+halts : (s : Bool) (ts more : List Touch) → are_halts more ≡ true → keyed_there (keys s (behind ts more)) ≡ true → keyed_there (keys s ts) ≡ true
+halts s ts [] are is = is
+halts s ts (StopTouch k ∷ more) are is = halted_keyed k (keys s ts) (ap keyed_there (sym (halted_is s k ts)) ∙ halts s (StopTouch k ∷ ts) more are is)
+halts s ts (ClearTouch ∷ more) are is = absurd (let none = ap keyed_there (sym (cleared_are s ts)) ∙ halts s (ClearTouch ∷ ts) more are is in cc)
+halts s ts (_ ∷ more) are is = absurd cc
 
-got_first : (plan : Plan) (h : History) (e : Event) (x : Verdict) (side : Side) (link stream : ℕ) (u : SubKind) (j : ℕ) → CauseLaw plan h → is_quiet x ≡ true → base ((e, x) ∷ h) link stream ≡ j
-    → started (moments h (end_at link stream false side u)) ≤ j
-    → got_in plan ((e, x) ∷ h) (lane_in (port_at side link) stream u) ≡ []
-got_first plan h e x side link stream u j law none is le =
-    ap (got_since plan ((e, x) ∷ h) (lane_in (port_at side link) stream u)) is ∙ (got_quiet plan h e x none (lane_in (port_at side link) stream u) j ∙ none_since plan h law (port_at side link) stream u j le)
+-- ---- each operation
 
-finished_first : (plan : Plan) (h : History) (e : Event) (x : Verdict) (side : Side) (link stream : ℕ) (u : SubKind) (j : ℕ) → is_quiet x ≡ true → base ((e, x) ∷ h) link stream ≡ j → used (moments h (end_at link stream true side u)) ≤ j
-    → total_in (sealed_packets plan ((e, x) ∷ h)) (lane_out (port_at side link) stream u) (base ((e, x) ∷ h) link stream) ≡ 0
-finished_first plan h e x side link stream u j none is le =
-    (λ i. total_in (sealed_same plan h e x (quiet_seals_none x none) i) (lane_out (port_at side link) stream u) (is i)) ∙ none_finished plan h (port_at side link) (lane_out (port_at side link) stream u) j
-    (sends_lane (port_at side link) stream u) le
+-- the event that asks for it
+abbrev pub asked : Operation → ℕ → ℕ → Option Loss → Event
+asked op.Establish link stream lose = Establish link stream lose
+asked op.Refresh link stream lose = Refresh link stream lose
+asked op.Stop link stream lose = Stop link stream lose
 
-since_first : (plan : Plan) (h : History) (e : Event) (x : Verdict) (side : Side) (link stream : ℕ) (u : SubKind) (j : ℕ) → CauseLaw plan h → is_quiet x ≡ true → base ((e, x) ∷ h) link stream ≡ j
-    → started (moments h (end_at link stream false side u)) ≤ j
-    → units_since ((e, x) ∷ h) (lane_in (port_at side link) stream u) (base ((e, x) ∷ h) link stream) ≡ 0
-since_first plan h e x side link stream u j law none is le =
-    ap (units_since ((e, x) ∷ h) (lane_in (port_at side link) stream u)) is ∙ (since_quiet h e x none (lane_in (port_at side link) stream u) j ∙ no_units plan h law (port_at side link) stream u j le)
+pub asked_quiet : (plan : Plan) (h : History) (o : Operation) (link stream : ℕ) (lose : Option Loss) → is_quiet (due plan h (asked o link stream lose)) ≡ true
+asked_quiet plan h op.Establish link stream lose = establish_due_quiet plan h link stream lose
+asked_quiet plan h op.Refresh link stream lose = refresh_due_quiet plan h link stream lose
+asked_quiet plan h op.Stop link stream lose = stop_due_quiet plan h link stream lose
 
-pub establish_operated : (plan : Plan) (h : History) (link stream : ℕ) (lose : Option Loss) (x : Verdict) (r : Reach) → CauseLaw plan ((Establish link stream lose, x) ∷ h) → reach_of op.Establish x ≡ Some r → (side : Side)
-    → let w = work_of op.Establish (op_of h link stream) (draws_made h) in Operated plan h (Establish link stream lose) x (port_at side link) stream (outs h link stream w r side) (ins h link stream w r side)
-unfolding base
-establish_operated plan h link stream lose x r law reached side =
-    let e = Establish link stream lose in
-    let w = work_of op.Establish (op_of h link stream) (draws_made h) in
-    let is = establish_works plan h link stream lose x r law reached in
-    let cause = key_cause plan ((e, x) ∷ h) law in
-    record {
-      quiet = is.quiet;
-      keys_out = moves_keys_out plan h e x link stream w r is side;
-      keys_into = moves_keys_in plan h e x link stream w r is side;
-      allowed_out = moves_allowed_out plan h e x link stream w r is side;
-      allowed_into = moves_allowed_in plan h e x link stream w r is side;
-      base_out = λ before now. let some = some_out plan h side link stream before in base_kept (key_plan plan) h (end_at link stream true side some.0) lose x cause (sym (out_keyed h (port_at side link) stream some.0) ∙ some.1);
-      base_into = λ before now. let some = some_in plan h side link stream before in base_kept (key_plan plan) h (end_at link stream false side some.0) lose x cause (sym (in_keyed h (port_at side link) stream some.0) ∙ some.1);
-      none_out = λ before now u.
-          let first = first_keys (key_plan plan) h (end_at link stream true side Pr) lose x r cause reached (sym (out_keyed h (port_at side link) stream Pr) ∙ no_out plan h side link stream before Pr) in
-          posted_first plan h e x side link stream u w.draw is.quiet first.base_of first.fresh.used_below;
-      no_units_out = λ before now u.
-          let first = first_keys (key_plan plan) h (end_at link stream true side u) lose x r cause reached (sym (out_keyed h (port_at side link) stream u) ∙ no_out plan h side link stream before u) in
-          finished_first plan h e x side link stream u w.draw is.quiet first.base_of first.fresh.used_below;
-      none_into = λ before now u.
-          let first = first_keys (key_plan plan) h (end_at link stream false side u) lose x r cause reached (sym (in_keyed h (port_at side link) stream u) ∙ no_in plan h side link stream before u) in
-          got_first plan h e x side link stream u w.draw law.1 is.quiet first.base_of first.fresh.started_below;
-      no_units_into = λ before now u.
-          let first = first_keys (key_plan plan) h (end_at link stream false side u) lose x r cause reached (sym (in_keyed h (port_at side link) stream u) ∙ no_in plan h side link stream before u) in
-          since_first plan h e x side link stream u w.draw law.1 is.quiet first.base_of first.fresh.started_below;
-    }
-
--- ---- a refresh
-
-pub refresh_works : (plan : Plan) (h : History) (link stream : ℕ) (lose : Option Loss) (x : Verdict) (r : Reach) → CauseLaw plan ((Refresh link stream lose, x) ∷ h) → reach_of op.Refresh x ≡ Some r
-    → Works plan h (Refresh link stream lose) x link stream (work_of op.Refresh (op_of h link stream) (draws_made h)) r
-refresh_works plan h link stream lose x r law reached = record {
-  law = law;
-  quiet = ap is_quiet law.0 ∙ refresh_due_quiet plan h link stream lose;
-  touched = λ side sends u. rw (eqb-refl link, eqb-refl stream, reached) refl;
-}
-
-pub refresh_operated : (plan : Plan) (h : History) (link stream : ℕ) (lose : Option Loss) (x : Verdict) (r : Reach) → CauseLaw plan ((Refresh link stream lose, x) ∷ h) → reach_of op.Refresh x ≡ Some r → (side : Side)
-    → let w = work_of op.Refresh (op_of h link stream) (draws_made h) in Operated plan h (Refresh link stream lose) x (port_at side link) stream (outs h link stream w r side) (ins h link stream w r side)
-unfolding base
-refresh_operated plan h link stream lose x r law reached side =
-    let e = Refresh link stream lose in
-    let w = work_of op.Refresh (op_of h link stream) (draws_made h) in
-    let is = refresh_works plan h link stream lose x r law reached in
-    let cause = key_cause plan ((e, x) ∷ h) law in
-    record {
-      quiet = is.quiet;
-      keys_out = moves_keys_out plan h e x link stream w r is side;
-      keys_into = moves_keys_in plan h e x link stream w r is side;
-      allowed_out = moves_allowed_out plan h e x link stream w r is side;
-      allowed_into = moves_allowed_in plan h e x link stream w r is side;
-      base_out = λ before now. refl;
-      base_into = λ before now. refl;
-      none_out = λ before now u.
-          absurd (let some : true ≡ false = sym (refresh_keyed (key_plan plan) h (end_at link stream true side Pr) lose x r cause reached) ∙ (sym (out_keyed h (port_at side link) stream Pr) ∙ no_out plan h side link stream before Pr) in
-          cc);
-      no_units_out = λ before now u.
-          absurd (let some : true ≡ false = sym (refresh_keyed (key_plan plan) h (end_at link stream true side Pr) lose x r cause reached) ∙ (sym (out_keyed h (port_at side link) stream Pr) ∙ no_out plan h side link stream before Pr) in
-          cc);
-      none_into = λ before now u.
-          absurd (let some : true ≡ false = sym (refresh_keyed (key_plan plan) h (end_at link stream false side Pr) lose x r cause reached) ∙ (sym (in_keyed h (port_at side link) stream Pr) ∙ no_in plan h side link stream before Pr) in cc);
-      no_units_into = λ before now u.
-          absurd (let some : true ≡ false = sym (refresh_keyed (key_plan plan) h (end_at link stream false side Pr) lose x r cause reached) ∙ (sym (in_keyed h (port_at side link) stream Pr) ∙ no_in plan h side link stream before Pr) in cc);
-    }
-
--- ---- a stop
-
-pub stop_works : (plan : Plan) (h : History) (link stream : ℕ) (lose : Option Loss) (x : Verdict) (r : Reach) → CauseLaw plan ((Stop link stream lose, x) ∷ h) → reach_of op.Stop x ≡ Some r
-    → Works plan h (Stop link stream lose) x link stream (work_of op.Stop (op_of h link stream) (draws_made h)) r
-stop_works plan h link stream lose x r law reached = record {
-  law = law;
-  quiet = ap is_quiet law.0 ∙ stop_due_quiet plan h link stream lose;
-  touched = λ side sends u. rw (eqb-refl link, eqb-refl stream, reached) refl;
-}
-
-abbrev AllHalt : List Move → Type 0
-AllHalt [] = Unit {0}
-AllHalt (Halt k ∷ ms) = AllHalt ms
-AllHalt (_ ∷ ms) = ⊥
-
-halted_keyed : (k : Bool) (ks : Keys) → any_on (with_key ks k Off) ≡ true → any_on ks ≡ true
-halted_keyed true ks is = by_tests (is_on ks.first) (is_on ks.second) is
-  where
-    by_tests : (a b : Bool) → (a || false) ≡ true → (a || b) ≡ true
-    by_tests true b is = refl
-    by_tests false b is = absurd cc
-halted_keyed false ks is = by_tests (is_on ks.first) (is_on ks.second) is
-  where
-    by_tests : (a b : Bool) → (false || b) ≡ true → (a || b) ≡ true
-    by_tests true b is = refl
-    by_tests false b is = is
-
-halts_out : (busy : ℕ → Bool) (ms : List Move) (ks : Keys) → AllHalt ms → any_on (keys_moved_out busy ms ks) ≡ true → any_on ks ≡ true
-halts_out busy [] ks all is = is
-halts_out busy (Halt k ∷ ms) ks all is = halted_keyed k ks (halts_out busy ms (with_key ks k Off) all is)
-halts_out busy (_ ∷ ms) ks all is = absurd all
-
-halts_in : (ms : List Move) (ks : Keys) → AllHalt ms → any_on (keys_moved_in ms ks) ≡ true → any_on ks ≡ true
-halts_in [] ks all is = is
-halts_in (Halt k ∷ ms) ks all is = halted_keyed k ks (halts_in ms (with_key ks k Off) all is)
-halts_in (_ ∷ ms) ks all is = absurd all
-
-stop_halts : (r : Bool → Bool) (q : Op) (next : ℕ) (reach : Reach) (p : Place) → AllHalt (moves_of r (worked (work_of op.Stop q next) (Some reach) p))
-stop_halts r q next reach p = by_op q
-  where
-    clear : (f : Bool) → AllHalt (moves_of r (when f ClearTouch))
-    clear true = tt
-    clear false = tt
-
-    halves : (f g : Bool) → AllHalt (moves_of r (when f (StopTouch false) ++ when g (StopTouch true)))
-    halves true true = tt
-    halves true false = tt
-    halves false true = tt
-    halves false false = tt
-
-    by_side : (b begins : Bool) (first : ℕ) → AllHalt (moves_of r (if b then when begins ClearTouch else when (is_within first (1 + lane p) reach.carried) (StopTouch false) ++ when (is_within first (7 + lane p) reach.carried)
-        (StopTouch true)))
-    by_side true begins first = clear begins
-    by_side false begins first = halves (is_within first (1 + lane p) reach.carried) (is_within first (7 + lane p) reach.carried)
-
-    by_op : (q : Op) → AllHalt (moves_of r (worked (work_of op.Stop q next) (Some reach) p))
-    by_op Idle = by_side (is_host p.side) true 1
-    by_op (Establishing j n) = by_side (is_host p.side) true 1
-    by_op (Up k j) = by_side (is_host p.side) true 1
-    by_op (Refreshing k j n) = by_side (is_host p.side) true 1
-    by_op (Stopping n) = by_side (is_host p.side) false n
-
-pub stop_operated : (plan : Plan) (h : History) (link stream : ℕ) (lose : Option Loss) (x : Verdict) (r : Reach) → CauseLaw plan ((Stop link stream lose, x) ∷ h) → reach_of op.Stop x ≡ Some r → (side : Side)
-    → let w = work_of op.Stop (op_of h link stream) (draws_made h) in Operated plan h (Stop link stream lose) x (port_at side link) stream (outs h link stream w r side) (ins h link stream w r side)
-unfolding base
-stop_operated plan h link stream lose x r law reached side =
-    let e = Stop link stream lose in
-    let q = op_of h link stream in
-    let w = work_of op.Stop q (draws_made h) in
-    let is = stop_works plan h link stream lose x r law reached in
-    let port = port_at side link in
-    record {
-      quiet = is.quiet;
-      keys_out = moves_keys_out plan h e x link stream w r is side;
-      keys_into = moves_keys_in plan h e x link stream w r is side;
-      allowed_out = moves_allowed_out plan h e x link stream w r is side;
-      allowed_into = moves_allowed_in plan h e x link stream w r is side;
-      base_out = λ before now. refl;
-      base_into = λ before now. refl;
-      none_out = λ before now u.
-          absurd (let some = some_out plan ((e, x) ∷ h) side link stream now in
-          let s = lane_out port stream some.0 in
-          let on : any_on (keys_at h port s) ≡ true = halts_out (busy_in (sealed_packets plan h) s) (outs h link stream w r side some.0) (keys_at h port s)
-          (stop_halts ((ports_at h).refuses (end_at link stream true side some.0)) q (draws_made h) r (end_at link stream true side some.0)) (sym (ap any_on (moves_keys_out plan h e x link stream w r is side some.0)) ∙ some.1) in
-          let both : true ≡ false = sym on ∙ no_out plan h side link stream before some.0 in cc);
-      no_units_out = λ before now u.
-          absurd (let some = some_out plan ((e, x) ∷ h) side link stream now in
-          let s = lane_out port stream some.0 in
-          let on : any_on (keys_at h port s) ≡ true = halts_out (busy_in (sealed_packets plan h) s) (outs h link stream w r side some.0) (keys_at h port s)
-          (stop_halts ((ports_at h).refuses (end_at link stream true side some.0)) q (draws_made h) r (end_at link stream true side some.0)) (sym (ap any_on (moves_keys_out plan h e x link stream w r is side some.0)) ∙ some.1) in
-          let both : true ≡ false = sym on ∙ no_out plan h side link stream before some.0 in cc);
-      none_into = λ before now u.
-          absurd (let some = some_in plan ((e, x) ∷ h) side link stream now in
-          let s = lane_in port stream some.0 in
-          let on : any_on (keys_at h port s) ≡ true = halts_in (ins h link stream w r side some.0) (keys_at h port s)
-          (stop_halts ((ports_at h).refuses (end_at link stream false side some.0)) q (draws_made h) r (end_at link stream false side some.0)) (sym (ap any_on (moves_keys_in plan h e x link stream w r is side some.0)) ∙ some.1) in
-          let both : true ≡ false = sym on ∙ no_in plan h side link stream before some.0 in cc);
-      no_units_into = λ before now u.
-          absurd (let some = some_in plan ((e, x) ∷ h) side link stream now in
-          let s = lane_in port stream some.0 in
-          let on : any_on (keys_at h port s) ≡ true = halts_in (ins h link stream w r side some.0) (keys_at h port s)
-          (stop_halts ((ports_at h).refuses (end_at link stream false side some.0)) q (draws_made h) r (end_at link stream false side some.0)) (sym (ap any_on (moves_keys_in plan h e x link stream w r is side some.0)) ∙ some.1) in
-          let both : true ≡ false = sym on ∙ no_in plan h side link stream before some.0 in cc);
-    }
-
--- ---- each of them is an operation on its stream alone
-
-pub establish_is_operation : (plan : Plan) (h : History) (link stream : ℕ) (lose : Option Loss) (x : Verdict) (r : Reach) → CauseLaw plan ((Establish link stream lose, x) ∷ h) → reach_of op.Establish x ≡ Some r
-    → let w = work_of op.Establish (op_of h link stream) (draws_made h) in IsOperation plan h (Establish link stream lose) x link stream (outs h link stream w r) (ins h link stream w r)
+asked_alone : (o : Operation) (link stream : ℕ) (lose : Option Loss) (l s : ℕ) → ((link == l) && (stream == s)) ≡ false
+    → operates (asked o link stream lose) l s ≡ false
 unfolding operates
-establish_is_operation plan h link stream lose x r law reached = record {
-  due_is = law.0;
-  quiet = ap is_quiet law.0 ∙ establish_due_quiet plan h link stream lose;
-  alone = λ l s other. other;
-  each = establish_operated plan h link stream lose x r law reached;
-}
+asked_alone o link stream lose l s other = grind arith
 
-pub refresh_is_operation : (plan : Plan) (h : History) (link stream : ℕ) (lose : Option Loss) (x : Verdict) (r : Reach) → CauseLaw plan ((Refresh link stream lose, x) ∷ h) → reach_of op.Refresh x ≡ Some r
-    → let w = work_of op.Refresh (op_of h link stream) (draws_made h) in IsOperation plan h (Refresh link stream lose) x link stream (outs h link stream w r) (ins h link stream w r)
-unfolding operates
-refresh_is_operation plan h link stream lose x r law reached = record {
-  due_is = law.0;
-  quiet = ap is_quiet law.0 ∙ refresh_due_quiet plan h link stream lose;
-  alone = λ l s other. other;
-  each = refresh_operated plan h link stream lose x r law reached;
-}
+-- the operation of an event, as it stands at the history before it
+abbrev pub asked_work : History → Operation → ℕ → ℕ → Work
+asked_work h o link stream = work_of o (op_of h link stream) (draws_made h)
 
-pub stop_is_operation : (plan : Plan) (h : History) (link stream : ℕ) (lose : Option Loss) (x : Verdict) (r : Reach) → CauseLaw plan ((Stop link stream lose, x) ∷ h) → reach_of op.Stop x ≡ Some r
-    → let w = work_of op.Stop (op_of h link stream) (draws_made h) in IsOperation plan h (Stop link stream lose) x link stream (outs h link stream w r) (ins h link stream w r)
-unfolding operates
-stop_is_operation plan h link stream lose x r law reached = record {
-  due_is = law.0;
-  quiet = ap is_quiet law.0 ∙ stop_due_quiet plan h link stream lose;
-  alone = λ l s other. other;
-  each = stop_operated plan h link stream lose x r law reached;
-}
+works : (plan : Plan) (h : History) (o : Operation) (link stream : ℕ) (lose : Option Loss) (x : Verdict) (r : Reach)
+    → CauseLaw plan ((asked o link stream lose, x) ∷ h) → reach_of o x ≡ Some r
+    → Works plan h (asked o link stream lose) x link stream (asked_work h o link stream) r
+works plan h o link stream lose x r law reached =
+    record { law = law; quiet = ap is_quiet law.0 ∙ asked_quiet plan h o link stream lose; touched = touched o reached }
+  where
+    touched : (o : Operation) → reach_of o x ≡ Some r → (side : Side) (sends : Bool) (u : SubKind) → let p = end_at link stream sends side u in
+        touches (manager h).ops (draws_made h) (asked o link stream lose) x p ≡ worked (asked_work h o link stream) (Some r) p
+    touched op.Establish reached side sends u = rw (eqb-refl link, eqb-refl stream, reached) refl
+    touched op.Refresh reached side sends u = rw (eqb-refl link, eqb-refl stream, reached) refl
+    touched op.Stop reached side sends u = rw (eqb-refl link, eqb-refl stream, reached) refl
+
+-- the first key of a direction that is On: Base is its draw, and nothing of a draw from it on was used or started
+record First (h g : History) (p : Place) (j : ℕ) : Type 0 where
+  base_of : base g p.link p.stream ≡ j
+  used_below : used (moments h p) ≤ j
+  started_below : started (moments h p) ≤ j
+
+module _ (plan : Plan) (h : History) (link stream : ℕ) (lose : Option Loss) (x : Verdict) (r : Reach) (side : Side) (sends : Bool) where
+  -- Base stays while the direction has a key that is On
+  base_stays : (o : Operation) → CauseLaw plan ((asked o link stream lose, x) ∷ h) → any_sub (keyed_at h side link stream sends) ≡ true
+      → base ((asked o link stream lose, x) ∷ h) link stream ≡ base h link stream
+  unfolding base
+  base_stays op.Establish law before =
+      let some = one_of (keyed_at h side link stream sends) before in
+      base_kept (key_plan plan) h (end_at link stream sends side some.0) lose x (key_cause plan ((Establish link stream lose, x) ∷ h) law) some.1
+  base_stays op.Refresh law before = refl
+  base_stays op.Stop law before = refl
+
+  firsts : (o : Operation) → CauseLaw plan ((asked o link stream lose, x) ∷ h) → reach_of o x ≡ Some r → any_sub (keyed_at h side link stream sends) ≡ false
+      → any_sub (keyed_at ((asked o link stream lose, x) ∷ h) side link stream sends) ≡ true → (u : SubKind)
+      → First h ((asked o link stream lose, x) ∷ h) (end_at link stream sends side u) (asked_work h o link stream).draw
+  firsts op.Establish law reached before now u =
+      let cause = key_cause plan ((Establish link stream lose, x) ∷ h) law in
+      let none = none_of (keyed_at h side link stream sends) before u in
+      let first = first_keys (key_plan plan) h (end_at link stream sends side u) lose x r cause reached none in
+      record { base_of = first.base_of; used_below = first.fresh.used_below; started_below = first.fresh.started_below }
+  firsts op.Refresh law reached before now u =
+      let cause = key_cause plan ((Refresh link stream lose, x) ∷ h) law in
+      let some = refresh_keyed (key_plan plan) h (end_at link stream sends side u) lose x r cause reached in
+      let none = none_of (keyed_at h side link stream sends) before u in
+      absurd cc
+  firsts op.Stop law reached before now u =
+      let e = Stop link stream lose in
+      let w = asked_work h op.Stop link stream in
+      let some = one_of (keyed_at ((e, x) ∷ h) side link stream sends) now in
+      let p = end_at link stream sends side some.0 in
+      let after = moments_after plan h e x link stream w r (works plan h op.Stop link stream lose x r law reached) side sends some.0 in
+      let kept = halts sends (moments h p) (worked w (Some r) p) (stop_halts (op_of h link stream) (draws_made h) r p)
+      (ap (λ (ts : List Touch). keyed_there (keys sends ts)) (sym after) ∙ some.1) in
+      let none = none_of (keyed_at h side link stream sends) before some.0 in
+      absurd cc
+
+module _ (plan : Plan) (h : History) (o : Operation) (link stream : ℕ) (lose : Option Loss) (x : Verdict) (r : Reach)
+    (law : CauseLaw plan ((asked o link stream lose, x) ∷ h)) (reached : reach_of o x ≡ Some r) where
+  each_operated : (side : Side) → let w = asked_work h o link stream in
+      Operated plan h (asked o link stream lose) x (port_at side link) stream (outs h link stream w r side) (ins h link stream w r side)
+  each_operated side =
+      let e = asked o link stream lose in
+      let g = (e, x) ∷ h in
+      let port = port_at side link in
+      let w = asked_work h o link stream in
+      let is = works plan h o link stream lose x r law reached in
+      let xs = sealed_same plan h e x (quiet_seals_none x is.quiet) in
+      let none = λ (s : SubStream). (takes_nothing x is.quiet s).0 in
+      let out : has_live_out h port stream ≡ false → has_live_out g port stream ≡ true → (u : SubKind) → First h g (end_at link stream true side u) w.draw =
+      λ before now. firsts plan h link stream lose x r side true o law reached (lives_out h side link stream ∙ before) (lives_out g side link stream ∙ now) in
+      let into : has_live_in h port stream ≡ false → has_live_in g port stream ≡ true → (u : SubKind) → First h g (end_at link stream false side u) w.draw =
+      λ before now. firsts plan h link stream lose x r side false o law reached (lives_in h side link stream ∙ before) (lives_in g side link stream ∙ now) in
+      record {
+        quiet = is.quiet;
+        keys_out = λ u. (moves_out plan h e x link stream w r is side u).0;
+        keys_into = λ u. (moves_in plan h e x link stream w r is side u).0;
+        allowed_out = λ u. (moves_out plan h e x link stream w r is side u).1;
+        allowed_into = λ u. (moves_in plan h e x link stream w r is side u).1;
+        base_out = λ before now. base_stays plan h link stream lose x r side true o law (lives_out h side link stream ∙ before);
+        base_into = λ before now. base_stays plan h link stream lose x r side false o law (lives_in h side link stream ∙ before);
+        none_out = λ before now u.
+            let first = out before now Pr in
+            (λ i. posted_in (xs i) (lane_out port stream u) (first.base_of i)) ∙ none_posted plan h port stream u w.draw first.used_below;
+        no_units_out = λ before now u.
+            let first = out before now u in
+            let s = lane_out port stream u in
+            (λ i. total_in (xs i) s (first.base_of i)) ∙ none_finished plan h port s w.draw (sends_lane port stream u) first.used_below;
+        none_into = λ before now u.
+            let first = into before now u in
+            let s = lane_in port stream u in
+            ap (got_since plan g s) first.base_of ∙ (got_same plan h e x s w.draw (none s) ∙ none_since plan h law.1 port stream u w.draw first.started_below);
+        no_units_into = λ before now u.
+            let first = into before now u in
+            let s = lane_in port stream u in
+            ap (units_since g s) first.base_of ∙ (since_same h e x s w.draw (none s) ∙ no_units plan h law.1 port stream u w.draw first.started_below);
+      }
+
+  -- it is an operation on its stream alone
+  pub is_operation : let w = asked_work h o link stream in
+      IsOperation plan h (asked o link stream lose) x link stream (outs h link stream w r) (ins h link stream w r)
+  is_operation = record {
+    due_is = law.0;
+    quiet = ap is_quiet law.0 ∙ asked_quiet plan h o link stream lose;
+    alone = asked_alone o link stream lose;
+    each = each_operated;
+  }

@@ -1,57 +1,14 @@
 -- A stream at a port stands for a history with an operation, after the moves of its slots.
-use Rattle.std.proofs.Common.{◌≡◌, ℕ, Bool, true, false, List, ◌∷◌, length, refl, ap, sym, ◌∙◌}
-use Rattle.std.specs.Prelude.{if◌then◌else◌, ◌&&◌, ◌||◌}
-use Rattle.ide_types.specs.declared.sub.SubKind.{SubKind}
-use Rattle.ide_types.specs.declared.sub.SubKind.TheVariants.{Pr, Npr, Cpl}
-use Rattle.ide_types.specs.declared.port.PortName.{PortName}
-use Rattle.link_events.specs.declared.event.Event.{Event}
-use Rattle.link_verdicts.specs.declared.verdict.Verdict.{Verdict}
-use Rattle.link_verdicts.specs.declared.verdict.Verdict.TheVariants as v
-use Rattle.ide_plan.specs.declared.plan.Plan.{Plan}
-use Rattle.link_history.specs.Plan.{SubStream, lane_out, lane_in}
-use Rattle.key_laws.specs.History.{History, base}
-use Rattle.key_laws.specs.Keys.{Keyed, Off, Loaded, On, is_on}
-use Rattle.link_history.specs.History.{keys_at, is_keyed, sealed_packets, posted_in, posted_count, units_got, held, got_since, units_since, total_in, has_live, has_live_out, has_live_in, failed, fails_at}
-use Rattle.link_ports.specs.Stream.{Slots, TxSub, RxSub, at_sub, each_sub, posted_sum}
-use Rattle.link_ports.specs.Moves.{Move, slots_moved_in, slots_moved_out, any_live, settled_stream, moved_stream}
-use Rattle.link_ports.specs.Stands.{tx_slots, tx_standing, rx_slot, rx_slots, rx_standing, got_in, standing}
-use Rattle.link_ports.proofs.Frames.{each_same, tx_is, rx_is, slots_is, stream_is}
-use Rattle.link_history.proofs.SealingIs.{sealed_same, seals_none}
-use Rattle.link_keys.proofs.Failures.{failed_next}
-use Rattle.link_ports.proofs.Answers.{at_each, keyed_in}
-use Rattle.port_operations.specs.Operations.{Operated, OperationStands}
-use Rattle.link_history.specs.KeyFacts.{is_quiet}
+use Rattle.port_operations.proofs.Terms.{◌≡◌, ℕ, Bool, true, false, List, ◌∷◌, length, ap, sym, ◌∙◌, arith, if◌then◌else◌, ◌&&◌, ◌||◌, accepts_in, any_live, any_on, base, Cpl, each_sub, Event, failed, failed_next, fails_at, got_in, got_same, got_since, has_live, has_live_in, has_live_out, held_same, History, holds_in, is_keyed, is_quiet, key_in, keyed_in, keys_at, lane_in, lane_out, Move, moved_stream, Npr, on_in, Operated, OperationStands, Plan, PortName, posted_count, posted_in, posted_sum, Pr, quiet_seals_none, rx_slot, rx_slot_same, rx_slots, rx_standing, RxSub, sealed_packets, sealed_same, settled_stream, since_same, Slots, slots_is, slots_moved_in, slots_moved_out, standing, SubKind, SubStream, total_in, tx_slots, tx_standing, TxSub, units_same, units_since, Verdict}
 use Rattle.port_operations.proofs.SlotMoves.{all_moved_in, all_moved_out, live_in_is, live_out_is}
 
 -- ---- quiet verdicts
 
-seals_nothing : (w : Verdict) → is_quiet w ≡ true → seals_none w ≡ true
-seals_nothing (v.Sealed ds) none = none
-seals_nothing _ none = refl
+fails_nothing : (w : Verdict) → is_quiet w ≡ true → (port : PortName) (stream : ℕ) → fails_at port stream w ≡ false
+fails_nothing w none port stream = grind arith
 
-pub fails_nothing : (w : Verdict) → is_quiet w ≡ true → (port : PortName) (stream : ℕ) → fails_at port stream w ≡ false
-fails_nothing (v.Fail p s sub cause) none port stream = absurd cc
-fails_nothing _ none port stream = refl
-
-pub units_quiet : (h : History) (e : Event) (w : Verdict) → is_quiet w ≡ true → (s : SubStream) (j : ℕ) → units_got ((e, w) ∷ h) s j ≡ units_got h s j
-unfolding units_got
-units_quiet h e (v.Accepted p unit effects) none s j = absurd cc
-units_quiet h e _ none s j = refl
-
-pub held_quiet : (plan : Plan) (h : History) (e : Event) (w : Verdict) → is_quiet w ≡ true → (s : SubStream) (j n : ℕ) → held plan ((e, w) ∷ h) s j n ≡ held plan h s j n
-unfolding held
-held_quiet plan h e (v.Held p unit) none s j n = absurd cc
-held_quiet plan h e _ none s j n = refl
-
-pub got_quiet : (plan : Plan) (h : History) (e : Event) (w : Verdict) → is_quiet w ≡ true → (s : SubStream) (from : ℕ) → got_since plan ((e, w) ∷ h) s from ≡ got_since plan h s from
-unfolding got_since
-got_quiet plan h e (v.Accepted p unit effects) none s from = absurd cc
-got_quiet plan h e _ none s from = refl
-
-pub since_quiet : (h : History) (e : Event) (w : Verdict) → is_quiet w ≡ true → (s : SubStream) (from : ℕ) → units_since ((e, w) ∷ h) s from ≡ units_since h s from
-unfolding units_since
-since_quiet h e (v.Accepted p unit effects) none s from = absurd cc
-since_quiet h e _ none s from = refl
+pub takes_nothing : (w : Verdict) → is_quiet w ≡ true → (s : SubStream) → (accepts_in s w ≡ false) × (holds_in s w ≡ false)
+takes_nothing w none s = grind arith
 
 pub failed_quiet : (plan : Plan) (h : History) (e : Event) (w : Verdict) → is_quiet w ≡ true → (port : PortName) (stream : ℕ) → failed ((e, w) ∷ h) port stream ≡ (failed h port stream && has_live ((e, w) ∷ h) port stream)
 failed_quiet plan h e w none port stream = failed_next h e w port stream ∙ ap (λ (b : Bool). (b || failed h port stream) && has_live ((e, w) ∷ h) port stream) (fails_nothing w none port stream)
@@ -60,42 +17,19 @@ failed_quiet plan h e w none port stream = failed_next h e w port stream ∙ ap 
 
 -- a count that goes on while a direction is Live, and begins at 0
 counts_on : (before now : Bool) (m n : ℕ) → (before ≡ true → now ≡ true → m ≡ n) → (before ≡ false → now ≡ true → n ≡ 0) → (if now then (if before then m else 0) else 0) ≡ (if now then n else 0)
-counts_on before false m n goes begins = refl
-counts_on true true m n goes begins = goes refl refl
-counts_on false true m n goes begins = sym (begins refl refl)
+counts_on before now m n goes begins = grind (arith, goes, begins)
 
 -- ---- slots
+
+and_live : (a b : Bool) → (a && (b || true)) ≡ a
+and_live a b = grind arith
 
 -- where a draw is On, what failed before still does
 failed_on : (plan : Plan) (h : History) (e : Event) (w : Verdict) → is_quiet w ≡ true → (port : PortName) (stream : ℕ) (u : SubKind) → is_keyed ((e, w) ∷ h) port (lane_in port stream u) ≡ true
     → failed ((e, w) ∷ h) port stream ≡ failed h port stream
 failed_on plan h e w none port stream u keyed = failed_quiet plan h e w none port stream ∙ rw (keyed_in plan ((e, w) ∷ h) port stream u keyed) (and_live (failed h port stream) (has_live_out ((e, w) ∷ h) port stream))
-  where
-    and_live : (a b : Bool) → (a && (b || true)) ≡ a
-    and_live true true = refl
-    and_live true false = refl
-    and_live false b = refl
-
-slot_still : (plan : Plan) (g h : History) (port : PortName) (s : SubStream) (a : Keyed) → (is_on a ≡ true → failed g port s.stream ≡ failed h port s.stream) → ((j : ℕ) → units_got g s j ≡ units_got h s j)
-    → ((j n : ℕ) → held plan g s j n ≡ held plan h s j n) → rx_slot plan h port s a ≡ rx_slot plan g port s a
-slot_still plan g h port s Off bad units same = refl
-slot_still plan g h port s (Loaded j) bad units same = refl
-slot_still plan g h port s (On j) bad units same = sym (rw (bad refl, units j, same j _) refl)
-
-or_first : (a b : Bool) → a ≡ true → (a || b) ≡ true
-or_first a b is = rw is refl
-
-or_second : (a b : Bool) → b ≡ true → (a || b) ≡ true
-or_second true b is = refl
-or_second false b is = is
 
 -- ---- the stream
-
-abbrev record_tx : Slots → ℕ → ℕ → TxSub
-record_tx slots posted total = record { slots = slots; posted = posted; total = total }
-
-abbrev record_rx : Slots → ℕ → ℕ → ℕ → RxSub
-record_rx slots sum got total = record { slots = slots; sum = sum; got = got; total = total }
 
 abbrev live_of : (SubKind → Slots) → Bool
 live_of slots = any_live (slots Pr) || any_live (slots Npr) || any_live (slots Cpl)
@@ -113,7 +47,7 @@ tx_moved : (plan : Plan) (h : History) (e : Event) (w : Verdict) (port : PortNam
 tx_moved plan h e w port stream out into is u =
     let s = lane_out port stream u in
     all_moved_out plan (sealed_packets plan h) s (out u) (keys_at h port s) (is.allowed_out u)
-    ∙ (λ i. tx_slots plan (sym (sealed_same plan h e w (seals_nothing w is.quiet)) i) s (sym (is.keys_out u) i))
+    ∙ (λ i. tx_slots plan (sym (sealed_same plan h e w (quiet_seals_none w is.quiet)) i) s (sym (is.keys_out u) i))
 
 rx_moved : (plan : Plan) (h : History) (e : Event) (w : Verdict) (port : PortName) (stream : ℕ) (out into : SubKind → List Move) → Operated plan h e w port stream out into → (u : SubKind) → let s = lane_in port stream u in
     slots_moved_in plan s (into u) (rx_slots plan h port s (keys_at h port s)) ≡ rx_slots plan ((e, w) ∷ h) port s (keys_at ((e, w) ∷ h) port s)
@@ -121,11 +55,16 @@ rx_moved plan h e w port stream out into is u =
     let g = (e, w) ∷ h in
     let s = lane_in port stream u in
     let keys = keys_at g port s in
-    let still : (a : Keyed) → (is_on a ≡ true → is_keyed g port s ≡ true) → rx_slot plan h port s a ≡ rx_slot plan g port s a =
-    λ a on. slot_still plan g h port s a (λ a_on. failed_on plan h e w is.quiet port stream u (on a_on)) (units_quiet h e w is.quiet s) (held_quiet plan h e w is.quiet s) in
+    let none = takes_nothing w is.quiet s in
+    let still : (k : Bool) → rx_slot plan g port s (key_in keys k) ≡ rx_slot plan h port s (key_in keys k) =
+    λ k. rx_slot_same plan g h port s (key_in keys k) (λ j on. (
+      failed_on plan h e w is.quiet port stream u
+          (any_on k keys j (ap on_in on)),
+      units_same h e w s j none.0,
+      λ n. held_same plan h e w s j n none.1,
+    )) in
     all_moved_in plan h port s (into u) (keys_at h port s) (is.allowed_into u)
-    ∙ (ap (rx_slots plan h port s) (sym (is.keys_into u))
-    ∙ slots_is _ _ (still keys.first (or_first (is_on keys.first) (is_on keys.second))) (still keys.second (or_second (is_on keys.first) (is_on keys.second))))
+    ∙ (ap (rx_slots plan h port s) (sym (is.keys_into u)) ∙ sym (slots_is _ _ (still false) (still true)))
 
 -- the senders and receivers with their new slots, and the counts as they were
 abbrev tx_new : Plan → History → History → PortName → ℕ → SubKind → TxSub
@@ -148,49 +87,54 @@ slots_new : (plan : Plan) (h : History) (e : Event) (w : Verdict) (port : PortNa
     ≡ settled_stream (each_sub (tx_new plan h ((e, w) ∷ h) port stream)) (each_sub (rx_new plan h ((e, w) ∷ h) port stream)) (failed h port stream)
 unfolding standing
 slots_new plan h e w port stream out into is =
-    let tx : SubKind → TxSub = λ u. tx_standing plan h port (lane_out port stream u) in
-    let rx : SubKind → RxSub = λ u. rx_standing plan h port (lane_in port stream u) in
-    let txs : each_sub (λ u. record_tx (slots_moved_out plan (lane_out port stream u) (out u) (at_sub (each_sub tx) u).slots) (at_sub (each_sub tx) u).posted (at_sub (each_sub tx) u).total)
-    ≡ each_sub (tx_new plan h ((e, w) ∷ h) port stream) =
-    each_same _ _ (λ u. tx_is _ _ (ap (λ (x : TxSub). slots_moved_out plan (lane_out port stream u) (out u) x.slots) (at_each tx u) ∙ tx_moved plan h e w port stream out into is u) (ap (λ (x : TxSub). x.posted) (at_each tx u))
-    (ap (λ (x : TxSub). x.total) (at_each tx u))) in
-    let rxs : each_sub (λ u. record_rx (slots_moved_in plan (lane_in port stream u) (into u) (at_sub (each_sub rx) u).slots) (at_sub (each_sub rx) u).sum (at_sub (each_sub rx) u).got (at_sub (each_sub rx) u).total)
-    ≡ each_sub (rx_new plan h ((e, w) ∷ h) port stream) =
-    each_same _ _ (λ u. rx_is _ _ (ap (λ (x : RxSub). slots_moved_in plan (lane_in port stream u) (into u) x.slots) (at_each rx u) ∙ rx_moved plan h e w port stream out into is u) (ap (λ (x : RxSub). x.sum) (at_each rx u))
-    (ap (λ (x : RxSub). x.got) (at_each rx u)) (ap (λ (x : RxSub). x.total) (at_each rx u))) in
-    λ i. settled_stream (txs i) (rxs i) (failed h port stream)
+    let g = (e, w) ∷ h in
+    λ i. settled_stream (each_sub (λ u. record (tx_new plan h g port stream u) { slots = tx_moved plan h e w port stream out into is u i }))
+    (each_sub (λ u. record (rx_new plan h g port stream u) { slots = rx_moved plan h e w port stream out into is u i })) (failed h port stream)
 
 settled_is : (plan : Plan) (h : History) (e : Event) (w : Verdict) (port : PortName) (stream : ℕ) (out into : SubKind → List Move) → Operated plan h e w port stream out into
     → settled_stream (each_sub (tx_new plan h ((e, w) ∷ h) port stream)) (each_sub (rx_new plan h ((e, w) ∷ h) port stream)) (failed h port stream) ≡ standing plan ((e, w) ∷ h) port stream
 unfolding standing
 settled_is plan h e w port stream out into is =
     let g = (e, w) ∷ h in
-    let tx = tx_new plan h g port stream in
-    let rx = rx_new plan h g port stream in
     let outs = outs_live plan h g port stream in
     let ins = ins_live plan h g port stream in
-    let xs = sealed_same plan h e w (seals_nothing w is.quiet) in
-    stream_is _ _
-    (each_same _ _ (λ u. let s = lane_out port stream u in
-    tx_is _ _ (ap (λ (x : TxSub). x.slots) (at_each tx u))
-    ((λ i. if outs i then (at_each tx u i).posted else 0)
-    ∙ counts_on (has_live_out h port stream) (has_live_out g port stream) (posted_count plan h s) (posted_count plan g s)
-    (λ before now. λ i. posted_in (sym xs i) s (sym (is.base_out before now) i)) (λ before now. is.none_out before now u))
-    ((λ i. if outs i then (at_each tx u i).total else 0)
-    ∙ counts_on (has_live_out h port stream) (has_live_out g port stream) (total_in (sealed_packets plan h) s (base h port.link stream)) (total_in (sealed_packets plan g) s (base g port.link stream))
-    (λ before now. λ i. total_in (sym xs i) s (sym (is.base_out before now) i)) (λ before now. is.no_units_out before now u))))
-    (each_same _ _ (λ u. let s = lane_in port stream u in
-    let goes : has_live_in h port stream ≡ true → has_live_in g port stream ≡ true → got_in plan h s ≡ got_in plan g s =
-    λ before now. sym (ap (got_since plan g s) (is.base_into before now) ∙ got_quiet plan h e w is.quiet s (base h port.link stream)) in
-    rx_is _ _ (ap (λ (x : RxSub). x.slots) (at_each rx u))
-    ((λ i. if ins i then (at_each rx u i).sum else 0)
-    ∙ counts_on (has_live_in h port stream) (has_live_in g port stream) (posted_sum (got_in plan h s)) (posted_sum (got_in plan g s)) (λ before now. ap posted_sum (goes before now)) (λ before now. ap posted_sum (is.none_into before now u)))
-    ((λ i. if ins i then (at_each rx u i).got else 0)
-    ∙ counts_on (has_live_in h port stream) (has_live_in g port stream) (length (got_in plan h s)) (length (got_in plan g s)) (λ before now. ap length (goes before now)) (λ before now. ap length (is.none_into before now u)))
-    ((λ i. if ins i then (at_each rx u i).total else 0)
-    ∙ counts_on (has_live_in h port stream) (has_live_in g port stream) (units_since h s (base h port.link stream)) (units_since g s (base g port.link stream))
-    (λ before now. sym (ap (units_since g s) (is.base_into before now) ∙ since_quiet h e w is.quiet s (base h port.link stream))) (λ before now. is.no_units_into before now u))))
-    ((λ i. failed h port stream && (outs i || ins i)) ∙ sym (failed_quiet plan h e w is.quiet port stream))
+    let xs = sealed_same plan h e w (quiet_seals_none w is.quiet) in
+    let sends = counts_on (has_live_out h port stream) (has_live_out g port stream) in
+    let receives = counts_on (has_live_in h port stream) (has_live_in g port stream) in
+    let got : (u : SubKind) → has_live_in h port stream ≡ true → has_live_in g port stream ≡ true → let s
+    = lane_in port stream u in got_in plan h s ≡ got_in plan g s =
+    λ u before now. let s = lane_in port stream u in
+    sym (ap (got_since plan g s) (is.base_into before now) ∙ got_same plan h e w s (base h port.link stream) (takes_nothing w is.quiet s).0) in
+    let units : (u : SubKind) → has_live_in h port stream ≡ true → has_live_in g port stream ≡ true → let s = lane_in port stream u in
+    units_since h s (base h port.link stream) ≡ units_since g s (base g port.link stream) =
+    λ u before now. let s = lane_in port stream u in
+    sym (ap (units_since g s) (is.base_into before now) ∙ since_same h e w s (base h port.link stream) (takes_nothing w is.quiet s).0) in
+    let posted = λ (u : SubKind). let s = lane_out port stream u in
+    (λ i. if outs i then (tx_new plan h g port stream u).posted else 0)
+    ∙ sends (posted_count plan h s) (posted_count plan g s) (λ before now i. posted_in (sym xs i) s (sym (is.base_out before now) i))
+    (λ before now. is.none_out before now u) in
+    let total = λ (u : SubKind). let s = lane_out port stream u in
+    (λ i. if outs i then (tx_new plan h g port stream u).total else 0)
+    ∙ sends (total_in (sealed_packets plan h) s (base h port.link stream)) (total_in (sealed_packets plan g) s (base g port.link stream))
+    (λ before now i. total_in (sym xs i) s (sym (is.base_out before now) i)) (λ before now. is.no_units_out before now u) in
+    let sum = λ (u : SubKind). let s = lane_in port stream u in
+    (λ i. if ins i then (rx_new plan h g port stream u).sum else 0)
+    ∙ receives (posted_sum (got_in plan h s)) (posted_sum (got_in plan g s)) (λ before now. ap posted_sum (got u before now))
+    (λ before now. ap posted_sum (is.none_into before now u)) in
+    let lengths = λ (u : SubKind). let s = lane_in port stream u in
+    (λ i. if ins i then (rx_new plan h g port stream u).got else 0)
+    ∙ receives (length (got_in plan h s)) (length (got_in plan g s)) (λ before now. ap length (got u before now))
+    (λ before now. ap length (is.none_into before now u)) in
+    let since = λ (u : SubKind). let s = lane_in port stream u in
+    (λ i. if ins i then (rx_new plan h g port stream u).total else 0)
+    ∙ receives (units_since h s (base h port.link stream)) (units_since g s (base g port.link stream)) (units u)
+    (λ before now. is.no_units_into before now u) in
+    let fails = (λ i. failed h port stream && (outs i || ins i)) ∙ sym (failed_quiet plan h e w is.quiet port stream) in
+    λ i. record {
+      tx = each_sub (λ u. record (tx_standing plan g port (lane_out port stream u)) { posted = posted u i; total = total u i });
+      rx = each_sub (λ u. record (rx_standing plan g port (lane_in port stream u)) { sum = sum u i; got = lengths u i; total = since u i });
+      failed = fails i;
+    }
 
 -- The moves of an operation leave what stands for the history with it.
 pub operated : OperationStands

@@ -1,35 +1,10 @@
 -- The state after an operation stands for the history with its pair, whether it was refused or came somewhere.
-use Rattle.std.proofs.Common.{◌≡◌, ℕ, ◌==◌, Bool, true, false, Option, Some, None, [], ◌∷◌, length, refl, ap, sym, ◌∙◌, subst}
-use Rattle.std.specs.Prelude.{if◌then◌else◌, ◌&&◌, ◌||◌}
-use Rattle.ide_types.specs.declared.sub.SubKind.TheVariants.{Pr, Npr, Cpl}
-use Rattle.ide_types.specs.declared.port.PortName.{PortName}
-use Rattle.link_events.specs.declared.event.Event.{Event}
-use Rattle.link_events.specs.declared.event.Event.TheVariants.{Establish, Refresh, Stop}
-use Rattle.link_events.specs.declared.event.Loss.{Loss}
+use Rattle.port_operations.proofs.Terms.{◌≡◌, ℕ, ◌==◌, Bool, true, false, Option, Some, None, [], ◌∷◌, length, refl, ap, sym, ◌∙◌, subst, arith, if◌then◌else◌, ◌&&◌, ◌||◌, base, behind, Cpl, draws_after, draws_made, due, each_sub, end_at, Event, facts, failed, failed_live, find, got_same, got_since, has_live_in, has_live_out, has_stream, held_same, History, is_on, is_on_stream, is_quiet, kept_all, Keys, keys_at, lane_in, lane_out, LinkState, Loss, manager, moments, moved_state, moves_at, Npr, on_it, Op, op_after, Operation, Place, place, Plan, PortName, PortsStand, PortView, posted_in, posted_sum, Pr, put_op, quiet_seals_none, Reach, reach_of, rx_slots, rx_slots_same, sealed_same, since_same, standing, StreamState, SubKind, SubStream, total_in, touches, tx_slots, units_same, units_since, Verdict, Work, work_done}
 use Rattle.link_verdicts.specs.declared.verdict.Operation.TheVariants as op
-use Rattle.link_verdicts.specs.declared.verdict.Verdict.{Verdict}
-use Rattle.key_laws.specs.Places.{Place, is_on_stream}
-use Rattle.key_laws.specs.Operations.{Op, Work, Reach, work_of, reach_of, op_after}
-use Rattle.key_laws.specs.History.{manager, op_of, draws as draws_made, behind, on_it, touches, moments, History, base}
-use Rattle.key_laws.specs.Due.{PortView}
-use Rattle.ide_plan.specs.declared.plan.Plan.{Plan}
-use Rattle.link_history.specs.Plan.{SubStream, lane_out, lane_in, has_stream}
-use Rattle.link_history.specs.History.{place, keys_at, has_live_out, has_live_in, failed, posted_in, got_since, total_in, units_since}
-use Rattle.key_laws.specs.Keys.{Keys, is_on}
-use Rattle.link_history.specs.Due.{due}
-use Rattle.link_ports.specs.Stream.{StreamState, posted_sum}
-use Rattle.link_ports.specs.Machine.{LinkState, find, put_op, end_at, moves_at, moved_state, draws_after, work_done}
-use Rattle.link_ports.specs.Stands.{tx_slots, rx_slots, got_in, standing, PortsStand}
-use Rattle.link_ports.proofs.Frames.{each_same, tx_is, rx_is, stream_is, if_same, rx_slots_same, failed_live}
-use Rattle.link_ports.proofs.Changes.{kept_all}
-use Rattle.link_history.proofs.SealingIs.{sealed_same, quiet_seals_none}
-use Rattle.link_keys.proofs.AllFacts.{facts}
-use Rattle.link_history.proofs.KeyVerdicts.{establish_due_quiet, refresh_due_quiet, stop_due_quiet}
 use Rattle.link_keys.proofs.RealFacts.{seat_same}
-use Rattle.link_history.specs.KeyFacts.{is_quiet}
-use Rattle.port_operations.proofs.Operations.{got_quiet, since_quiet, units_quiet, held_quiet, failed_quiet}
+use Rattle.port_operations.proofs.Operations.{takes_nothing, failed_quiet}
 use Rattle.port_operations.proofs.OperationSteps.{operation_steps}
-use Rattle.port_operations.proofs.Operates.{outs, ins, establish_is_operation, refresh_is_operation, stop_is_operation}
+use Rattle.port_operations.proofs.Operates.{outs, ins, asked, asked_quiet, asked_work, is_operation}
 use Rattle.port_operations.proofs.Views.{ports_is}
 
 -- ---- a pair that changes nothing anywhere
@@ -42,35 +17,45 @@ pub record Still (plan : Plan) (h : History) (e : Event) (x : Verdict) : Type 0 
 abbrev any_on : Keys → Bool
 any_on ks = is_on ks.first || is_on ks.second
 
-still_out : (plan : Plan) (h : History) (e : Event) (x : Verdict) → Still plan h e x → (port : PortName) (stream : ℕ) → has_live_out ((e, x) ∷ h) port stream ≡ has_live_out h port stream
-unfolding has_live_out
-still_out plan h e x is port stream = λ i. any_on (is.keys port (lane_out port stream Pr) i) || any_on (is.keys port (lane_out port stream Npr) i) || any_on (is.keys port (lane_out port stream Cpl) i)
+module _ (plan : Plan) (h : History) (e : Event) (x : Verdict) (is : Still plan h e x) (port : PortName) (stream : ℕ) where
+  still_out : has_live_out ((e, x) ∷ h) port stream ≡ has_live_out h port stream
+  unfolding has_live_out
+  still_out = let keys = λ (u : SubKind). is.keys port (lane_out port stream u) in λ i. any_on (keys Pr i) || any_on (keys Npr i) || any_on (keys Cpl i)
 
-still_in : (plan : Plan) (h : History) (e : Event) (x : Verdict) → Still plan h e x → (port : PortName) (stream : ℕ) → has_live_in ((e, x) ∷ h) port stream ≡ has_live_in h port stream
-unfolding has_live_in
-still_in plan h e x is port stream = λ i. any_on (is.keys port (lane_in port stream Pr) i) || any_on (is.keys port (lane_in port stream Npr) i) || any_on (is.keys port (lane_in port stream Cpl) i)
+  still_in : has_live_in ((e, x) ∷ h) port stream ≡ has_live_in h port stream
+  unfolding has_live_in
+  still_in = let keys = λ (u : SubKind). is.keys port (lane_in port stream u) in λ i. any_on (keys Pr i) || any_on (keys Npr i) || any_on (keys Cpl i)
 
-still_failed : (plan : Plan) (h : History) (e : Event) (x : Verdict) → Still plan h e x → (port : PortName) (stream : ℕ) → failed ((e, x) ∷ h) port stream ≡ failed h port stream
-still_failed plan h e x is port stream =
-    failed_quiet plan h e x is.quiet port stream ∙ ((λ i. failed h port stream && (still_out plan h e x is port stream i || still_in plan h e x is port stream i)) ∙ failed_live plan h port stream)
+  still_failed : failed ((e, x) ∷ h) port stream ≡ failed h port stream
+  still_failed = failed_quiet plan h e x is.quiet port stream ∙ ((λ i. failed h port stream && (still_out i || still_in i)) ∙ failed_live plan h port stream)
 
-still_standing : (plan : Plan) (h : History) (e : Event) (x : Verdict) → Still plan h e x → (port : PortName) (stream : ℕ) → standing plan ((e, x) ∷ h) port stream ≡ standing plan h port stream
-unfolding standing
-still_standing plan h e x is port stream =
-    let g = (e, x) ∷ h in
-    let xs = sealed_same plan h e x (quiet_seals_none x is.quiet) in
-    stream_is _ _
-    (each_same _ _ (λ u. let s = lane_out port stream u in
-    tx_is _ _ (λ i. tx_slots plan (xs i) s (is.keys port s i)) (if_same _ _ _ _ (still_out plan h e x is port stream) (λ i. posted_in (xs i) s (is.based port.link stream i)))
-    (if_same _ _ _ _ (still_out plan h e x is port stream) (λ i. total_in (xs i) s (is.based port.link stream i)))))
-    (each_same _ _ (λ u. let s = lane_in port stream u in
-    let got : got_in plan g s ≡ got_in plan h s = ap (got_since plan g s) (is.based port.link stream) ∙ got_quiet plan h e x is.quiet s (base h port.link stream) in
-    rx_is _ _
-    (rx_slots_same plan g h port s (keys_at g port s) (still_failed plan h e x is port stream) (units_quiet h e x is.quiet s) (held_quiet plan h e x is.quiet s) ∙ ap (rx_slots plan h port s) (is.keys port s))
-    (if_same _ _ _ _ (still_in plan h e x is port stream) (ap posted_sum got))
-    (if_same _ _ _ _ (still_in plan h e x is port stream) (ap length got))
-    (if_same _ _ _ _ (still_in plan h e x is port stream) (ap (units_since g s) (is.based port.link stream) ∙ since_quiet h e x is.quiet s (base h port.link stream)))))
-    (still_failed plan h e x is port stream)
+  still_standing : standing plan ((e, x) ∷ h) port stream ≡ standing plan h port stream
+  unfolding standing
+  still_standing =
+      let g = (e, x) ∷ h in
+      let xs = sealed_same plan h e x (quiet_seals_none x is.quiet) in
+      let from = is.based port.link stream in
+      let none = λ (u : SubKind). takes_nothing x is.quiet (lane_in port stream u) in
+      let slots = λ (u : SubKind). let s = lane_in port stream u in
+      rx_slots_same plan g h port s (keys_at g port s) still_failed (λ j. units_same h e x s j (none u).0) (λ j n. held_same plan h e x s j n (none u).1)
+      ∙ ap (rx_slots plan h port s) (is.keys port s) in
+      let got = λ (u : SubKind). let s = lane_in port stream u in ap (got_since plan g s) from ∙ got_same plan h e x s (base h port.link stream) (none u).0 in
+      let units = λ (u : SubKind). let s = lane_in port stream u in ap (units_since g s) from ∙ since_same h e x s (base h port.link stream) (none u).0 in
+      λ i. record {
+        tx = each_sub (λ u. let s = lane_out port stream u in
+            record {
+              slots = tx_slots plan (xs i) s (is.keys port s i);
+              posted = if still_out i then posted_in (xs i) s (from i) else 0;
+              total = if still_out i then total_in (xs i) s (from i) else 0;
+            });
+        rx = each_sub (λ u. record {
+          slots = slots u i;
+          sum = if still_in i then posted_sum (got u i) else 0;
+          got = if still_in i then length (got u i) else 0;
+          total = if still_in i then units u i else 0;
+        });
+        failed = still_failed i;
+      }
 
 pub still_stands : (plan : Plan) (st : LinkState) (h : History) (e : Event) (x : Verdict) → PortsStand plan st h → x ≡ due plan h e → Still plan h e x → PortsStand plan st ((e, x) ∷ h)
 still_stands plan st h e x stands is still = record {
@@ -82,41 +67,33 @@ still_stands plan st h e x stands is still = record {
 -- ---- a refused operation
 
 no_touch : (b : Bool) → on_it b [] ≡ []
-no_touch true = refl
-no_touch false = refl
+no_touch b = grind arith
 
 pub untouched : (plan : Plan) (h : History) (e : Event) (x : Verdict) → ((p : Place) → touches (manager h).ops (draws_made h) e x p ≡ []) → (port : PortName) (s : SubStream) → keys_at ((e, x) ∷ h) port s ≡ keys_at h port s
 unfolding moments
 untouched plan h e x none port s = seat_same plan ((e, x) ∷ h) h port s (λ sends. ap (behind (moments h (place port s sends))) (none (place port s sends)))
 
 no_end : (a b : Bool) → (a && (b && false)) ≡ false
-no_end true true = refl
-no_end true false = refl
-no_end false b = refl
+no_end a b = grind arith
 
-establish_still : (plan : Plan) (h : History) (link stream : ℕ) (lose : Option Loss) (x : Verdict) → x ≡ due plan h (Establish link stream lose) → reach_of op.Establish x ≡ None → Still plan h (Establish link stream lose) x
+asked_still : (plan : Plan) (h : History) (o : Operation) (link stream : ℕ) (lose : Option Loss) (x : Verdict)
+    → x ≡ due plan h (asked o link stream lose) → reach_of o x ≡ None → Still plan h (asked o link stream lose) x
 unfolding base
-establish_still plan h link stream lose x is refused = record {
-  quiet = ap is_quiet is ∙ establish_due_quiet plan h link stream lose;
-  keys = untouched plan h (Establish link stream lose) x (λ p. rw refused (no_touch (is_on_stream p link stream)));
-  based = λ l s. rw (refused, no_end ((link == l) && (stream == s)) (work_of op.Establish (op_of h link stream) (draws_made h)).begins) refl;
+asked_still plan h o link stream lose x is refused = record {
+  quiet = ap is_quiet is ∙ asked_quiet plan h o link stream lose;
+  keys = untouched plan h (asked o link stream lose) x (none o refused);
+  based = based o refused;
 }
+  where
+    none : (o : Operation) → reach_of o x ≡ None → (p : Place) → touches (manager h).ops (draws_made h) (asked o link stream lose) x p ≡ []
+    none op.Establish refused p = rw refused (no_touch (is_on_stream p link stream))
+    none op.Refresh refused p = rw refused (no_touch (is_on_stream p link stream))
+    none op.Stop refused p = rw refused (no_touch (is_on_stream p link stream))
 
-refresh_still : (plan : Plan) (h : History) (link stream : ℕ) (lose : Option Loss) (x : Verdict) → x ≡ due plan h (Refresh link stream lose) → reach_of op.Refresh x ≡ None → Still plan h (Refresh link stream lose) x
-unfolding base
-refresh_still plan h link stream lose x is refused = record {
-  quiet = ap is_quiet is ∙ refresh_due_quiet plan h link stream lose;
-  keys = untouched plan h (Refresh link stream lose) x (λ p. rw refused (no_touch (is_on_stream p link stream)));
-  based = λ l s. refl;
-}
-
-stop_still : (plan : Plan) (h : History) (link stream : ℕ) (lose : Option Loss) (x : Verdict) → x ≡ due plan h (Stop link stream lose) → reach_of op.Stop x ≡ None → Still plan h (Stop link stream lose) x
-unfolding base
-stop_still plan h link stream lose x is refused = record {
-  quiet = ap is_quiet is ∙ stop_due_quiet plan h link stream lose;
-  keys = untouched plan h (Stop link stream lose) x (λ p. rw refused (no_touch (is_on_stream p link stream)));
-  based = λ l s. refl;
-}
+    based : (o : Operation) → reach_of o x ≡ None → (l s : ℕ) → base ((asked o link stream lose, x) ∷ h) l s ≡ base h l s
+    based op.Establish refused l s = rw (refused, no_end ((link == l) && (stream == s)) (asked_work h op.Establish link stream).begins) refl
+    based op.Refresh refused l s = refl
+    based op.Stop refused l s = refl
 
 -- ---- one that came somewhere
 
@@ -132,35 +109,20 @@ by_ports plan st h g link stream w r stands moved =
     (subst (λ (ports : PortView). PortsStand plan (moved_state plan st link stream (λ side u. moves_at ports w r (end_at link stream true side u)) (λ side u. moves_at ports w r (end_at link stream false side u))) g)
     (sym (ports_is plan st h stands)) moved)
 
-pub establish_stands : (plan : Plan) (st : LinkState) (h : History) (link stream : ℕ) (lose : Option Loss) (x : Verdict) → PortsStand plan st h → x ≡ due plan h (Establish link stream lose)
-    → PortsStand plan (work_done plan st link stream (work_of op.Establish (op_of h link stream) (draws_made h)) (reach_of op.Establish x)) ((Establish link stream lose, x) ∷ h)
-establish_stands plan st h link stream lose x stands is = by_reach (reach_of op.Establish x) refl
+pub asked_stands : (plan : Plan) (st : LinkState) (h : History) (o : Operation) (link stream : ℕ) (lose : Option Loss) (x : Verdict) → PortsStand plan st h
+    → x ≡ due plan h (asked o link stream lose)
+    → PortsStand plan (work_done plan st link stream (asked_work h o link stream) (reach_of o x)) ((asked o link stream lose, x) ∷ h)
+asked_stands plan st h o link stream lose x stands is = by_reach (reach_of o x) refl
   where
-    by_reach : (r : Option Reach) → reach_of op.Establish x ≡ r → PortsStand plan (work_done plan st link stream (work_of op.Establish (op_of h link stream) (draws_made h)) r) ((Establish link stream lose, x) ∷ h)
-    by_reach None refused = still_stands plan st h (Establish link stream lose) x stands is (establish_still plan h link stream lose x is refused)
-    by_reach (Some r) reached =
-        let w = work_of op.Establish (op_of h link stream) (draws_made h) in
-        by_ports plan st h ((Establish link stream lose, x) ∷ h) link stream w r stands
-        (operation_steps plan (facts plan) st h (Establish link stream lose) x link stream (outs h link stream w r) (ins h link stream w r) stands (establish_is_operation plan h link stream lose x r (is, stands.cause) reached))
+    e : Event
+    e = asked o link stream lose
 
-pub refresh_stands : (plan : Plan) (st : LinkState) (h : History) (link stream : ℕ) (lose : Option Loss) (x : Verdict) → PortsStand plan st h → x ≡ due plan h (Refresh link stream lose)
-    → PortsStand plan (work_done plan st link stream (work_of op.Refresh (op_of h link stream) (draws_made h)) (reach_of op.Refresh x)) ((Refresh link stream lose, x) ∷ h)
-refresh_stands plan st h link stream lose x stands is = by_reach (reach_of op.Refresh x) refl
-  where
-    by_reach : (r : Option Reach) → reach_of op.Refresh x ≡ r → PortsStand plan (work_done plan st link stream (work_of op.Refresh (op_of h link stream) (draws_made h)) r) ((Refresh link stream lose, x) ∷ h)
-    by_reach None refused = still_stands plan st h (Refresh link stream lose) x stands is (refresh_still plan h link stream lose x is refused)
-    by_reach (Some r) reached =
-        let w = work_of op.Refresh (op_of h link stream) (draws_made h) in
-        by_ports plan st h ((Refresh link stream lose, x) ∷ h) link stream w r stands
-        (operation_steps plan (facts plan) st h (Refresh link stream lose) x link stream (outs h link stream w r) (ins h link stream w r) stands (refresh_is_operation plan h link stream lose x r (is, stands.cause) reached))
+    w : Work
+    w = asked_work h o link stream
 
-pub stop_stands : (plan : Plan) (st : LinkState) (h : History) (link stream : ℕ) (lose : Option Loss) (x : Verdict) → PortsStand plan st h → x ≡ due plan h (Stop link stream lose)
-    → PortsStand plan (work_done plan st link stream (work_of op.Stop (op_of h link stream) (draws_made h)) (reach_of op.Stop x)) ((Stop link stream lose, x) ∷ h)
-stop_stands plan st h link stream lose x stands is = by_reach (reach_of op.Stop x) refl
-  where
-    by_reach : (r : Option Reach) → reach_of op.Stop x ≡ r → PortsStand plan (work_done plan st link stream (work_of op.Stop (op_of h link stream) (draws_made h)) r) ((Stop link stream lose, x) ∷ h)
-    by_reach None refused = still_stands plan st h (Stop link stream lose) x stands is (stop_still plan h link stream lose x is refused)
+    by_reach : (r : Option Reach) → reach_of o x ≡ r → PortsStand plan (work_done plan st link stream w r) ((e, x) ∷ h)
+    by_reach None refused = still_stands plan st h e x stands is (asked_still plan h o link stream lose x is refused)
     by_reach (Some r) reached =
-        let w = work_of op.Stop (op_of h link stream) (draws_made h) in
-        by_ports plan st h ((Stop link stream lose, x) ∷ h) link stream w r stands
-        (operation_steps plan (facts plan) st h (Stop link stream lose) x link stream (outs h link stream w r) (ins h link stream w r) stands (stop_is_operation plan h link stream lose x r (is, stands.cause) reached))
+        by_ports plan st h ((e, x) ∷ h) link stream w r stands
+        (operation_steps plan (facts plan) st h e x link stream (outs h link stream w r) (ins h link stream w r) stands
+        (is_operation plan h o link stream lose x r (is, stands.cause) reached))
