@@ -1,3 +1,4 @@
+pub mod Terms
 pub mod Tests
 pub mod Shapes
 pub mod Touches

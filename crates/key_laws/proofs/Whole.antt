@@ -1,29 +1,16 @@
 -- After each pair of a history each place fits the state of its stream.
-use Rattle.std.proofs.Common.{◌≡◌, ℕ, suc, ◌≤◌, ◌==◌, Bool, true, false, Option, Some, None, List, [], ◌∷◌, ◌++◌, length, refl, sym, subst, arith}
-use Rattle.std.specs.Prelude.{nat_lt, not, ◌&&◌, if◌then◌else◌}
-use Rattle.ide_types.specs.declared.sub.SubKind.{SubKind}
-use Rattle.ide_types.specs.declared.sub.SubKind.TheVariants.{Pr, Npr, Cpl}
-use Rattle.ide_types.specs.declared.port.Side.TheVariants.{Host}
-use Rattle.link_events.specs.declared.event.Event.{Event}
+use Rattle.key_laws.proofs.Terms.{and-false, ◌≡◌, ℕ, suc, ◌≤◌, ◌==◌, ◌⊎◌, inl, inr, Bool, true, false, Option, Some, None, List, [], ◌∷◌, ◌++◌, length, refl, subst, arith, nat_lt, not, ◌&&◌, if◌then◌else◌, SubKind, Pr, Npr, Cpl, Host}
+use Rattle.key_laws.proofs.Terms.{Event, Loss, Operation, SealedPacket, Verdict, KeyPlan, Place, lane, is_same_side, is_same_sub, is_on_stream, Touch, Seal, Accept, Clear, keys, refuses, is_live, slot_of, Op, Idle, Establishing, Up}
+use Rattle.key_laws.proofs.Terms.{Refreshing, Work, Reach, Manager, Begun, work, work_of, reach_of, op_after, begun_after, operated, History, manager, op_of, draws, worked, on_it, when, is_sender, sealed_here, came, touches, moments}
+use Rattle.key_laws.proofs.Terms.{status_of, PortView, ports_at, performed, begun_with_draw, is_live_sender, unless_open, if_secure, establish_on, refresh_on, stop_on, due, UsesFit, CauseLaw}
 use Rattle.link_events.specs.declared.event.Event.TheVariants as event
-use Rattle.link_events.specs.declared.event.Loss.{Loss}
-use Rattle.link_verdicts.specs.declared.verdict.Operation.{Operation}
 use Rattle.link_verdicts.specs.declared.verdict.Operation.TheVariants as op
-use Rattle.link_verdicts.specs.declared.verdict.SealedPacket.{SealedPacket}
 use Rattle.ide_types.specs.declared.status.StreamStatus.{StreamStatus}
-use Rattle.ide_types.specs.declared.status.StreamStatus.TheVariants as status
-use Rattle.link_verdicts.specs.declared.verdict.Verdict.{Verdict}
 use Rattle.link_verdicts.specs.declared.verdict.Verdict.TheVariants as v
-use Rattle.key_laws.specs.Places.{KeyPlan, Place, is_same_side, is_same_sub, is_on_stream}
-use Rattle.key_laws.specs.Keys.{Touch, Seal, Accept, Clear, keys, refuses, is_live, slot_of}
-use Rattle.key_laws.specs.Operations.{Op, Idle, Establishing, Up, Refreshing, Stopping, Work, Reach, Manager, Begun, work, work_of, reach_of, op_after, begun_after, operated}
-use Rattle.key_laws.specs.History.{History, manager, op_of, draws, stopped, worked, on_it, when, is_sender, sealed_here, came, touches, moments, status_of}
-use Rattle.key_laws.specs.Due.{PortView, ports_at, performed, begun_with_draw, is_live_sender, unless_open, if_secure, establish_on, refresh_on, stop_on, due}
-use Rattle.key_laws.specs.Laws.{UsesFit, CauseLaw}
-use Rattle.key_laws.proofs.Shapes.{Bare, at_start, used, started}
-use Rattle.key_laws.proofs.Fits.{FitsAt, Turned, Reached, below_more, establishes, refreshes, stops_fit, resets_fit, establish_begins, establish_goes_on, establish_takes, refresh_begins, refresh_goes_on, stop_begins, stop_goes_on}
+use Rattle.key_laws.proofs.Shapes.{Marks, marks, Shape, Bare, at_start, used, started}
+use Rattle.key_laws.proofs.Fits.{Fits, FindsHalted, FitsAt, Turned, Reached, below_more, establishes, refreshes, stops_fit, resets_fit, establish_begins, establish_goes_on, establish_takes, refresh_begins, refresh_goes_on}
 use Rattle.key_laws.proofs.Uses.{live_is_on, use_first, seals_fit, accepts_fit, raise}
-use Rattle.key_laws.proofs.Owners.{OwnedKeys, Owner, begun_below, behind_owned, owned_on, keys_owned, same_place}
+use Rattle.key_laws.proofs.Owners.{OwnedKeys, Owner, begun_below, behind_owned, owned_on, keys_owned, same_place, by_stream}
 use Rattle.key_laws.proofs.Performs.{performs}
 use Rattle.key_laws.proofs.Takes.{refresh_first_takes, refresh_again_takes}
 
@@ -50,93 +37,77 @@ establish_turns plan (Establishing j n) bs ports p ts loss at =
     let goes = performs ports p.link p.stream loss (work_of op.Establish (Establishing j n) (length bs)) (let le = at.fits.1 in omega arith) in
     let from = establish_goes_on p ts (length bs) j n at in
     rw goes.says (establishes p ts j n false goes.reached_to (length bs) at.fits.0 at.below goes.reached (establish_takes p ts j n false goes.reached_to from) from)
-establish_turns plan (Up set j) bs ports p ts loss at = at
-establish_turns plan (Refreshing set j n) bs ports p ts loss at = at
-establish_turns plan (Stopping n) bs ports p ts loss at = at
+establish_turns plan q bs ports p ts loss at = at
 
 -- ---- a refresh
+
+-- a refresh of a stream that is up comes nowhere, or no Live key of the host's sender is in the set
+refresh_or : (plan : KeyPlan) (host : StreamStatus) (ports : PortView) (link stream next : ℕ) (set : Bool) (u : SubKind) (x : Verdict)
+    → (reach_of op.Refresh (if_secure host (unless_open ports link stream set (begun_with_draw plan next x))) ≡ None)
+    ⊎ ((if_secure host (unless_open ports link stream set (begun_with_draw plan next x)) ≡ x) × (is_live_sender ports link stream set u ≡ false))
+refresh_or plan host ports link stream next set Pr x = grind arith
+refresh_or plan host ports link stream next set Npr x = grind arith
+refresh_or plan host ports link stream next set Cpl x = grind arith
 
 refresh_turns : (plan : KeyPlan) (q : Op) (bs : List Begun) (ports : PortView) (host : StreamStatus) (p : Place) (ts : List Touch) (loss : Option Loss) → ((x : Bool) → ports.refuses p x ≡ refuses p.sends (keys p.sends ts) x)
     → ((x : Bool) → ports.is_live p x ≡ is_live (slot_of p.sends (keys p.sends ts) x))
     → FitsAt q (length bs) p ts → Turns op.Refresh q bs p.link p.stream p ts (reach_of op.Refresh (refresh_on plan q (length bs) ports host p.link p.stream loss))
-refresh_turns plan Idle bs ports host p ts loss same live at = at
-refresh_turns plan (Establishing j n) bs ports host p ts loss same live at = at
-refresh_turns plan (Up set j) bs ports host p ts loss same live at = by_status host
+refresh_turns plan (Up set j) bs ports host p ts loss same live at = by_case _ (refresh_or plan host ports p.link p.stream (length bs) (not set) p.sub _)
   where
-    begun : (b : Bool) → ((x : SubKind) → is_live_sender ports p.link p.stream (not set) x ≡ false) → Turns op.Refresh (Up set j) bs p.link p.stream p ts
-        (reach_of op.Refresh (if b then performed ports p.link p.stream loss (work_of op.Refresh (Up set j) (length bs)) else v.RefusedPoolEmpty (length bs)))
-    begun false dead = at
-    begun true dead =
+    by_case : (x : Verdict) → (reach_of op.Refresh x ≡ None)
+        ⊎ ((x ≡ performed ports p.link p.stream loss (work_of op.Refresh (Up set j) (length bs)))
+        × (is_live_sender ports p.link p.stream (not set) p.sub ≡ false))
+        → Turns op.Refresh (Up set j) bs p.link p.stream p ts (reach_of op.Refresh x)
+    by_case x (inl none) = rw none at
+    by_case x (inr (is, dead)) =
         let goes = performs ports p.link p.stream loss (work_of op.Refresh (Up set j) (length bs)) (omega arith) in
         let from = refresh_begins p ts (length bs) set j at in
-        rw goes.says (refreshes p ts (not set) (length bs) 1 true goes.reached_to (suc (length bs)) (omega arith) (below_more ts (length bs) _ (omega arith) at.below) (omega arith) goes.reached
+        rw (is, goes.says) (refreshes p ts (not set) (length bs) 1 true goes.reached_to (suc (length bs)) (omega arith)
+        (below_more ts (length bs) _ (omega arith) at.below) (omega arith) goes.reached
         (refresh_first_takes p.side p.link p.stream p.sends p.sub ports ts (not set) (length bs) goes.reached_to same live dead goes.taken from) from)
-
-    by_open : (a b c : Bool) → is_live_sender ports p.link p.stream (not set) Pr ≡ a → is_live_sender ports p.link p.stream (not set) Npr ≡ b → is_live_sender ports p.link p.stream (not set) Cpl ≡ c
-        → Turns op.Refresh (Up set j) bs p.link p.stream p ts
-        (reach_of op.Refresh (if a then v.RefusedUnitOpen Pr else if b then v.RefusedUnitOpen Npr else if c then v.RefusedUnitOpen Cpl
-        else begun_with_draw plan (length bs) (performed ports p.link p.stream loss (work_of op.Refresh (Up set j) (length bs)))))
-    by_open true b c e f g = at
-    by_open false true c e f g = at
-    by_open false false true e f g = at
-    by_open false false false e f g = begun (nat_lt (length bs) plan.pool) all
-      where
-        all : (x : SubKind) → is_live_sender ports p.link p.stream (not set) x ≡ false
-        all Pr = e
-        all Npr = f
-        all Cpl = g
-
-    by_status : (s : StreamStatus) → Turns op.Refresh (Up set j) bs p.link p.stream p ts
-        (reach_of op.Refresh (if_secure s (unless_open ports p.link p.stream (not set) (begun_with_draw plan (length bs) (performed ports p.link p.stream loss (work_of op.Refresh (Up set j) (length bs)))))))
-    by_status status.Secure = by_open _ _ _ refl refl refl
-    by_status status.Idle = at
-    by_status status.Partial = at
-    by_status status.Insecure = at
 refresh_turns plan (Refreshing set j n) bs ports host p ts loss same live at =
     let goes = performs ports p.link p.stream loss (work_of op.Refresh (Refreshing set j n) (length bs)) (let le = at.fits.2 in omega arith) in
     let from = refresh_goes_on p ts (length bs) set j n at in
     rw goes.says (refreshes p ts set j n false goes.reached_to (length bs) at.fits.0 at.below at.fits.1 goes.reached
     (refresh_again_takes p.side p.link p.stream p.sends p.sub ports ts set j n goes.reached_to at.fits.1 same goes.taken) from)
-refresh_turns plan (Stopping n) bs ports host p ts loss same live at = at
+refresh_turns plan q bs ports host p ts loss same live at = at
 
 -- ---- a stop
 
-stop_starts : (q : Op) (bs : List Begun) (ports : PortView) (p : Place) (ts : List Touch) (loss : Option Loss) → FitsAt q (length bs) p ts
-    → (let w = work op.Stop false 0 1 true in
-    (r : Reach) → Reached 1 12 r → Turned (op_after w r) (length bs) p ts (stopped w r p))
-stop_starts q bs ports p ts loss at r reached = stops_fit p ts 1 true r (length bs) at.below reached (stop_begins p.side _ p.sends ts at.shape at.is)
+stop_is : (q : Op) (next : ℕ) → work_of op.Stop q next ≡ work op.Stop false 0 (work_of op.Stop q next).first (work_of op.Stop q next).begins
+stop_is q next = grind arith
+
+stop_finds : (q : Op) (top : ℕ) (u : Marks) (p : Place) (sh : Shape) → Fits q top u p sh
+    → ((work_of op.Stop q top).first ≤ 13) × FindsHalted p.side (lane p) (work_of op.Stop q top).first (work_of op.Stop q top).begins sh
+stop_finds q top u p sh fits = grind arith
+
+stop_ends : (q : Op) (bs : List Begun) (p : Place) (ts : List Touch) (r : Reach) → Reached (work_of op.Stop q (length bs)).first 12 r
+    → FitsAt q (length bs) p ts → Turns op.Stop q bs p.link p.stream p ts (Some r)
+stop_ends q bs p ts r reached at =
+    rw (stop_is q (length bs), and-false (work_of op.Stop q (length bs)).begins)
+    (stops_fit p ts _ _ r (length bs) at.below reached
+    (record { shape = at.shape; is = at.is; fits = (stop_finds q (length bs) (marks ts) p at.shape at.fits).1 }))
 
 stop_turns : (q : Op) (bs : List Begun) (ports : PortView) (p : Place) (ts : List Touch) (loss : Option Loss)
     → FitsAt q (length bs) p ts → Turns op.Stop q bs p.link p.stream p ts (reach_of op.Stop (stop_on q (length bs) ports p.link p.stream loss))
-stop_turns Idle bs ports p ts loss at = let goes = performs ports p.link p.stream loss (work op.Stop false 0 1 true) (omega arith) in rw goes.says (stop_starts Idle bs ports p ts loss at goes.reached_to goes.reached)
-stop_turns (Establishing j n) bs ports p ts loss at = let goes = performs ports p.link p.stream loss (work op.Stop false 0 1 true) (omega arith) in rw goes.says (stop_starts (Establishing j n) bs ports p ts loss at goes.reached_to
-    goes.reached)
-stop_turns (Up set j) bs ports p ts loss at = let goes = performs ports p.link p.stream loss (work op.Stop false 0 1 true) (omega arith) in rw goes.says (stop_starts (Up set j) bs ports p ts loss at goes.reached_to goes.reached)
-stop_turns (Refreshing set j n) bs ports p ts loss at = let goes = performs ports p.link p.stream loss (work op.Stop false 0 1 true) (omega arith) in rw goes.says (stop_starts (Refreshing set j n) bs ports p ts loss at goes.reached_to
-    goes.reached)
-stop_turns (Stopping n) bs ports p ts loss at =
-    let goes = performs ports p.link p.stream loss (work op.Stop false 0 n false) (let le = at.fits.0 in omega arith) in
-    rw goes.says (stops_fit p ts n false goes.reached_to (length bs) at.below goes.reached (stop_goes_on p ts (length bs) n at))
+stop_turns q bs ports p ts loss at =
+    let goes = performs ports p.link p.stream loss (work op.Stop false 0 (work_of op.Stop q (length bs)).first (work_of op.Stop q (length bs)).begins)
+    (stop_finds q (length bs) (marks ts) p at.shape at.fits).0 in
+    rw (stop_is q (length bs), goes.says) (stop_ends q bs p ts goes.reached_to goes.reached at)
 
 -- ---- one operation and all places
 
 pub more_begun : (bs : List Begun) (link stream : ℕ) (w : Work) → length bs ≤ length (begun_after bs link stream w)
-more_begun bs link stream w = by_test _
-  where
-    by_test : (b : Bool) → length bs ≤ length (if b then record { link = link; stream = stream; set = w.set } ∷ bs else bs)
-    by_test true = omega arith
-    by_test false = omega arith
+more_begun bs link stream w = grind arith
 
 -- on its stream it does what it does, elsewhere nothing
 operated_fits : (m : Manager) (o : Operation) (link stream : ℕ) (r : Option Reach) (p : Place) (ts : List Touch)
     → ((p.link ≡ link) × (p.stream ≡ stream) → Turns o (m.ops link stream) m.begun link stream p ts r)
     → FitsAt (m.ops p.link p.stream) (length m.begun) p ts
     → Turned ((operated m o link stream r).ops p.link p.stream) (length (operated m o link stream r).begun) p ts (on_it (is_on_stream p link stream) (worked (work_of o (m.ops link stream) (length m.begun)) r p))
-operated_fits m o link stream None p ts turns at = nothing (is_on_stream p link stream)
-  where
-    nothing : (b : Bool) → Turned (m.ops p.link p.stream) (length m.begun) p ts (on_it b [])
-    nothing true = record { now = at; come = tt }
-    nothing false = record { now = at; come = tt }
+operated_fits m o link stream None p ts turns at =
+    let none : Turned (m.ops p.link p.stream) (length m.begun) p ts [] = record { now = at; come = tt } in
+    by_stream p.link p.stream (λ x y f. Turned (m.ops p.link p.stream) (length m.begun) p ts (on_it f [])) none (λ x y. none) link stream
 operated_fits m o link stream (Some r) p ts turns at = by_test (is_on_stream p link stream) refl
   where
     by_test : (b : Bool) → is_on_stream p link stream ≡ b
@@ -148,20 +119,18 @@ operated_fits m o link stream (Some r) p ts turns at = by_test (is_on_stream p l
 -- ---- sends and arrivals
 
 sends_there : (p : Place) (d : SealedPacket) → is_sender p d ≡ true → p.sends ≡ true
-sends_there p d e = by_sends p.sends refl
-  where
-    by_sends : (b : Bool) → p.sends ≡ b → p.sends ≡ true
-    by_sends true is = is
-    by_sends false is = absurd (let none : is_sender p d ≡ false = rw is refl in cc)
+sends_there p d e = grind arith
 
-sealed_fits : (o : Op) (bs : List Begun) (p : Place) (ts : List Touch) (ds : List SealedPacket) → UsesFit p.sends ts (sealed_here p ds)
-    → OwnedKeys (Owner bs p.link p.stream) (keys p.sends ts) → FitsAt o (length bs) p ts → Turned o (length bs) p ts (sealed_here p ds)
+-- uses that fit, at a place whose keys are of its stream, leave it fit for the same state
+abbrev UsesLeave : Op → List Begun → Place → List Touch → List Touch → Type 0
+UsesLeave o bs p ts more =
+    UsesFit p.sends ts more → OwnedKeys (Owner bs p.link p.stream) (keys p.sends ts) → FitsAt o (length bs) p ts → Turned o (length bs) p ts more
+
+sealed_fits : (o : Op) (bs : List Begun) (p : Place) (ts : List Touch) (ds : List SealedPacket) → UsesLeave o bs p ts (sealed_here p ds)
 sealed_fits o bs p ts [] uses owned at = record { now = at; come = tt }
 sealed_fits o bs p ts (d ∷ ds) uses owned at = by_test (sealed_fits o bs p ts ds) (sealed_fits o bs p (Seal d.draw d.m ∷ ts) ds) (is_sender p d) refl uses
   where
-    by_test : (UsesFit p.sends ts (sealed_here p ds) → OwnedKeys (Owner bs p.link p.stream) (keys p.sends ts) → FitsAt o (length bs) p ts → Turned o (length bs) p ts (sealed_here p ds))
-        → (UsesFit p.sends (Seal d.draw d.m ∷ ts) (sealed_here p ds) → OwnedKeys (Owner bs p.link p.stream) (keys p.sends (Seal d.draw d.m ∷ ts)) → FitsAt o (length bs) p (Seal d.draw d.m ∷ ts)
-        → Turned o (length bs) p (Seal d.draw d.m ∷ ts) (sealed_here p ds))
+    by_test : UsesLeave o bs p ts (sealed_here p ds) → UsesLeave o bs p (Seal d.draw d.m ∷ ts) (sealed_here p ds)
         → (b : Bool) → is_sender p d ≡ b → UsesFit p.sends ts (when b (Seal d.draw d.m) ++ sealed_here p ds) → Turned o (length bs) p ts (when b (Seal d.draw d.m) ++ sealed_here p ds)
     by_test without with_it false e uses = without uses owned at
     by_test without with_it true e uses =
@@ -171,22 +140,22 @@ sealed_fits o bs p ts (d ∷ ds) uses owned at = by_test (sealed_fits o bs p ts 
         (with_it uses.1 (behind_owned (Owner bs p.link p.stream) p.sends ts (Seal d.draw d.m ∷ []) owned (tt, tt))
         (seals_fit o (length bs) p ts d.draw d.m (sends_there p d e) uses.0 (begun_below bs d.draw _ mine) at))
 
-accepted_fits : (o : Op) (bs : List Begun) (p : Place) (ts : List Touch) (j : ℕ) (a b c : Bool) → UsesFit p.sends ts (when (not p.sends && a && b && c) (Accept j))
-    → OwnedKeys (Owner bs p.link p.stream) (keys p.sends ts) → FitsAt o (length bs) p ts → Turned o (length bs) p ts (when (not p.sends && a && b && c) (Accept j))
-accepted_fits o bs p ts j a b c uses owned at = by_sends p.sends refl uses
+receives_there : (sends a b c : Bool) → (not sends && a && b && c) ≡ true → sends ≡ false
+receives_there sends a b c e = grind arith
+
+accepted_fits : (o : Op) (bs : List Begun) (p : Place) (ts : List Touch) (j : ℕ) (a b c : Bool)
+    → UsesLeave o bs p ts (when (not p.sends && a && b && c) (Accept j))
+accepted_fits o bs p ts j a b c uses owned at = by_test (not p.sends && a && b && c) refl uses
   where
-    by_test : p.sends ≡ false → (f : Bool) → UsesFit p.sends ts (when f (Accept j)) → Turned o (length bs) p ts (when f (Accept j))
-    by_test e false uses = record { now = at; come = tt }
-    by_test e true uses =
+    by_test : (f : Bool) → (not p.sends && a && b && c) ≡ f → UsesFit p.sends ts (when f (Accept j)) → Turned o (length bs) p ts (when f (Accept j))
+    by_test false e uses = record { now = at; come = tt }
+    by_test true e uses =
+        let receives = receives_there p.sends a b c e in
         let mine : Owner bs p.link p.stream uses.0.0 j = owned_on (Owner bs p.link p.stream) (keys p.sends ts) uses.0.0 j owned uses.0.1 in
-        use_first o (length bs) p ts (Accept j) [] at (e, uses.0) (record { now = accepts_fit o (length bs) p ts uses.0.0 j e uses.0.1 (begun_below bs j _ mine) at; come = tt })
+        use_first o (length bs) p ts (Accept j) [] at (receives, uses.0)
+        (record { now = accepts_fit o (length bs) p ts uses.0.0 j receives uses.0.1 (begun_below bs j _ mine) at; come = tt })
 
-    by_sends : (s : Bool) → p.sends ≡ s → UsesFit p.sends ts (when (not s && a && b && c) (Accept j)) → Turned o (length bs) p ts (when (not s && a && b && c) (Accept j))
-    by_sends true e uses = record { now = at; come = tt }
-    by_sends false e uses = by_test e (a && b && c) uses
-
-came_fits : (o : Op) (bs : List Begun) (p : Place) (ts : List Touch) (verdict : Verdict) → UsesFit p.sends ts (came p verdict)
-    → OwnedKeys (Owner bs p.link p.stream) (keys p.sends ts) → FitsAt o (length bs) p ts → Turned o (length bs) p ts (came p verdict)
+came_fits : (o : Op) (bs : List Begun) (p : Place) (ts : List Touch) (verdict : Verdict) → UsesLeave o bs p ts (came p verdict)
 came_fits o bs p ts (v.Sealed packets) uses owned at = sealed_fits o bs p ts packets uses owned at
 came_fits o bs p ts (v.Accepted port unit effects) uses owned at = accepted_fits o bs p ts unit.draw (is_same_side p.side port.side) (is_on_stream p port.link unit.stream) (is_same_sub p.sub unit.sub) uses owned at
 came_fits o bs p ts _ uses owned at = record { now = at; come = tt }
@@ -211,55 +180,37 @@ pub elsewhere : (p : Place) (link stream : ℕ) (P : ℕ → ℕ → Type 0) →
 elsewhere p link stream P same here = subst (λ (y : ℕ). P link y) same.1 (subst (λ (x : ℕ). P x p.stream) same.0 here)
 
 -- the operation on a stream that may not exist
-establish_fits : (plan : KeyPlan) (h : History) (p : Place) (link stream : ℕ) (loss : Option Loss) (verdict : Verdict) → verdict ≡ due plan h (event.Establish link stream loss) verdict
-    → Fit h p → (p.link ≡ link) × (p.stream ≡ stream) → Turns op.Establish ((manager h).ops link stream) (manager h).begun link stream p (moments h p) (reach_of op.Establish verdict)
-unfolding due
-establish_fits plan h p link stream loss verdict is at same =
-    subst (λ (w : Verdict). Turns op.Establish ((manager h).ops link stream) (manager h).begun link stream p (moments h p) (reach_of op.Establish w)) (sym is)
-    (elsewhere p link stream (λ (x y : ℕ). Turns op.Establish ((manager h).ops x y) (manager h).begun x y p (moments h p)
-    (reach_of op.Establish (if plan.has_stream x y then establish_on plan ((manager h).ops x y) (length (manager h).begun) (ports_at h) x y loss else v.Nothing))) same (by_has (plan.has_stream p.link p.stream)))
+due_fits : (h : History) (o : Operation) (p : Place) (has : ℕ → ℕ → Bool) (its : ℕ → ℕ → Verdict) (link stream : ℕ) (x : Verdict)
+    → x ≡ (if has link stream then its link stream else v.Nothing) → Fit h p
+    → Turns o (op_of h p.link p.stream) (manager h).begun p.link p.stream p (moments h p) (reach_of o (its p.link p.stream))
+    → Turned ((operated (manager h) o link stream (reach_of o x)).ops p.link p.stream) (length (operated (manager h) o link stream (reach_of o x)).begun) p
+    (moments h p)
+    (on_it (is_on_stream p link stream) (worked (work_of o (op_of h link stream) (draws h)) (reach_of o x) p))
+due_fits h o p has its link stream x is at turns =
+    operated_fits (manager h) o link stream (reach_of o x) p (moments h p)
+    (λ same. rw is (elsewhere p link stream (λ (a b : ℕ). Turns o (op_of h a b) (manager h).begun a b p (moments h p)
+    (reach_of o (if has a b then its a b else v.Nothing))) same (by_has (has p.link p.stream)))) at
   where
-    by_has : (b : Bool) → Turns op.Establish ((manager h).ops p.link p.stream) (manager h).begun p.link p.stream p (moments h p)
-        (reach_of op.Establish (if b then establish_on plan ((manager h).ops p.link p.stream) (length (manager h).begun) (ports_at h) p.link p.stream loss else v.Nothing))
+    by_has : (b : Bool) → Turns o (op_of h p.link p.stream) (manager h).begun p.link p.stream p (moments h p)
+        (reach_of o (if b then its p.link p.stream else v.Nothing))
     by_has false = at
-    by_has true = establish_turns plan ((manager h).ops p.link p.stream) (manager h).begun (ports_at h) p (moments h p) loss at
-
-refresh_fits : (plan : KeyPlan) (h : History) (p : Place) (link stream : ℕ) (loss : Option Loss) (verdict : Verdict) → verdict ≡ due plan h (event.Refresh link stream loss) verdict
-    → Fit h p → (p.link ≡ link) × (p.stream ≡ stream) → Turns op.Refresh ((manager h).ops link stream) (manager h).begun link stream p (moments h p) (reach_of op.Refresh verdict)
-unfolding due
-refresh_fits plan h p link stream loss verdict is at same =
-    subst (λ (w : Verdict). Turns op.Refresh ((manager h).ops link stream) (manager h).begun link stream p (moments h p) (reach_of op.Refresh w)) (sym is)
-    (elsewhere p link stream (λ (x y : ℕ). Turns op.Refresh ((manager h).ops x y) (manager h).begun x y p (moments h p)
-    (reach_of op.Refresh (if plan.has_stream x y then refresh_on plan ((manager h).ops x y) (length (manager h).begun) (ports_at h) (status_of h Host x y) x y loss else v.Nothing))) same (by_has (plan.has_stream p.link p.stream)))
-  where
-    by_has : (b : Bool) → Turns op.Refresh ((manager h).ops p.link p.stream) (manager h).begun p.link p.stream p (moments h p)
-        (reach_of op.Refresh (if b then refresh_on plan ((manager h).ops p.link p.stream) (length (manager h).begun) (ports_at h) (status_of h Host p.link p.stream) p.link p.stream loss else v.Nothing))
-    by_has false = at
-    by_has true = refresh_turns plan ((manager h).ops p.link p.stream) (manager h).begun (ports_at h) (status_of h Host p.link p.stream) p (moments h p) loss (λ x. refl) (λ x. refl) at
-
-stop_fits : (plan : KeyPlan) (h : History) (p : Place) (link stream : ℕ) (loss : Option Loss) (verdict : Verdict) → verdict ≡ due plan h (event.Stop link stream loss) verdict
-    → Fit h p → (p.link ≡ link) × (p.stream ≡ stream) → Turns op.Stop ((manager h).ops link stream) (manager h).begun link stream p (moments h p) (reach_of op.Stop verdict)
-unfolding due
-stop_fits plan h p link stream loss verdict is at same =
-    subst (λ (w : Verdict). Turns op.Stop ((manager h).ops link stream) (manager h).begun link stream p (moments h p) (reach_of op.Stop w)) (sym is)
-    (elsewhere p link stream (λ (x y : ℕ). Turns op.Stop ((manager h).ops x y) (manager h).begun x y p (moments h p)
-    (reach_of op.Stop (if plan.has_stream x y then stop_on ((manager h).ops x y) (length (manager h).begun) (ports_at h) x y loss else v.Nothing))) same (by_has (plan.has_stream p.link p.stream)))
-  where
-    by_has : (b : Bool) → Turns op.Stop ((manager h).ops p.link p.stream) (manager h).begun p.link p.stream p (moments h p)
-        (reach_of op.Stop (if b then stop_on ((manager h).ops p.link p.stream) (length (manager h).begun) (ports_at h) p.link p.stream loss else v.Nothing))
-    by_has false = at
-    by_has true = stop_turns ((manager h).ops p.link p.stream) (manager h).begun (ports_at h) p (moments h p) loss at
+    by_has true = turns
 
 -- each touch of the next pair comes where it may, and leads to the next state
 pub next_fits : (plan : KeyPlan) (h : History) (e : Event) (x : Verdict) → CauseLaw plan ((e, x) ∷ h) → (p : Place) → Fit h p
     → Turned (op_of ((e, x) ∷ h) p.link p.stream) (draws ((e, x) ∷ h)) p (moments h p) (touches (manager h).ops (draws h) e x p)
-unfolding manager
+unfolding manager due
 next_fits plan h (event.Establish link stream loss) x cause p at =
-    operated_fits (manager h) op.Establish link stream (reach_of op.Establish x) p (moments h p) (establish_fits plan h p link stream loss x cause.0 at) at
+    due_fits h op.Establish p plan.has_stream (λ a b. establish_on plan (op_of h a b) (draws h) (ports_at h) a b loss) link stream x cause.0 at
+    (establish_turns plan (op_of h p.link p.stream) (manager h).begun (ports_at h) p (moments h p) loss at)
 next_fits plan h (event.Refresh link stream loss) x cause p at =
-    operated_fits (manager h) op.Refresh link stream (reach_of op.Refresh x) p (moments h p) (refresh_fits plan h p link stream loss x cause.0 at) at
+    due_fits h op.Refresh p plan.has_stream (λ a b. refresh_on plan (op_of h a b) (draws h) (ports_at h) (status_of h Host a b) a b loss)
+    link stream x cause.0 at
+    (refresh_turns plan (op_of h p.link p.stream) (manager h).begun (ports_at h) (status_of h Host p.link p.stream) p (moments h p) loss
+    (λ x. refl) (λ x. refl) at)
 next_fits plan h (event.Stop link stream loss) x cause p at =
-    operated_fits (manager h) op.Stop link stream (reach_of op.Stop x) p (moments h p) (stop_fits plan h p link stream loss x cause.0 at) at
+    due_fits h op.Stop p plan.has_stream (λ a b. stop_on (op_of h a b) (draws h) (ports_at h) a b loss) link stream x cause.0 at
+    (stop_turns (op_of h p.link p.stream) (manager h).begun (ports_at h) p (moments h p) loss at)
 next_fits plan h (event.Reset link) (v.Reset l) cause p at = reset_fits (manager h) link p (moments h p) at
 next_fits plan h (event.Reset link) _ cause p at = record { now = at; come = tt }
 next_fits plan h _ x cause p at = came_fits (op_of h p.link p.stream) (manager h).begun p (moments h p) x (cause.1 p) (keys_owned h p) at

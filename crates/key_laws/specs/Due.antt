@@ -1,19 +1,9 @@
 -- The one verdict that an operation or a reset gets after a history.
-use Rattle.std.specs.Prelude.{ℕ, suc, zero, ◌+◌, ◌-◌, ◌==◌, nat_lt, Bool, false, ◌&&◌, ◌||◌, if◌then◌else◌, Option, Some, None}
-use Rattle.std.specs.List.{list_any}
-use Rattle.ide_types.specs.declared.sub.SubKind.{SubKind}
-use Rattle.ide_types.specs.declared.sub.SubKind.TheVariants.{Pr, Npr, Cpl}
-use Rattle.ide_types.specs.declared.port.Side.TheVariants.{Host, Device}
-use Rattle.link_events.specs.declared.event.Event.{Event}
+use Rattle.key_laws.specs.Terms.{ℕ, suc, zero, ◌+◌, ◌-◌, ◌==◌, nat_lt, Bool, false, ◌&&◌, ◌||◌, if◌then◌else◌, Option, Some, None, list_any, SubKind, Pr, Npr, Cpl, Host, Device, Event, Loss, Lost, Request, Reply, Operation, StreamStatus}
+use Rattle.key_laws.specs.Terms.{Verdict}
 use Rattle.link_events.specs.declared.event.Event.TheVariants as event
-use Rattle.link_events.specs.declared.event.Loss.{Loss}
-use Rattle.link_events.specs.declared.event.Lost.{Lost}
-use Rattle.link_events.specs.declared.event.Lost.TheVariants.{Request, Reply}
-use Rattle.link_verdicts.specs.declared.verdict.Operation.{Operation}
 use Rattle.link_verdicts.specs.declared.verdict.Operation.TheVariants as op
-use Rattle.ide_types.specs.declared.status.StreamStatus.{StreamStatus}
 use Rattle.ide_types.specs.declared.status.StreamStatus.TheVariants as status
-use Rattle.link_verdicts.specs.declared.verdict.Verdict.{Verdict}
 use Rattle.link_verdicts.specs.declared.verdict.Verdict.TheVariants as v
 use Rattle.key_laws.specs.Places.{KeyPlan, Place, place_at, places_of}
 use Rattle.key_laws.specs.Keys.{refuses, is_live}

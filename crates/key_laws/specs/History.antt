@@ -1,15 +1,9 @@
 -- What happened to the keys: a history is a list of events with their verdicts, the newest first.
-use Rattle.std.specs.Prelude.{ℕ, ◌+◌, ◌==◌, nat_lt, nat_le, Bool, true, false, not, ◌&&◌, ◌||◌, if◌then◌else◌, Option, Some, None, List, [], ◌∷◌, ◌++◌, length, is_some}
-use Rattle.std.specs.List.{list_any, list_all}
-use Rattle.ide_types.specs.declared.port.Side.{Side}
-use Rattle.link_events.specs.declared.event.Event.{Event}
+use Rattle.key_laws.specs.Terms.{ℕ, ◌+◌, ◌==◌, nat_lt, nat_le, Bool, true, false, not, ◌&&◌, ◌||◌, if◌then◌else◌, Option, Some, None, List, [], ◌∷◌, ◌++◌, length, is_some, list_any, list_all, Side, Event, Operation, SealedPacket}
+use Rattle.key_laws.specs.Terms.{StreamStatus, Verdict}
 use Rattle.link_events.specs.declared.event.Event.TheVariants as event
-use Rattle.link_verdicts.specs.declared.verdict.Operation.{Operation}
 use Rattle.link_verdicts.specs.declared.verdict.Operation.TheVariants as op
-use Rattle.link_verdicts.specs.declared.verdict.SealedPacket.{SealedPacket}
-use Rattle.ide_types.specs.declared.status.StreamStatus.{StreamStatus}
 use Rattle.ide_types.specs.declared.status.StreamStatus.TheVariants as status
-use Rattle.link_verdicts.specs.declared.verdict.Verdict.{Verdict}
 use Rattle.link_verdicts.specs.declared.verdict.Verdict.TheVariants as v
 use Rattle.key_laws.specs.Places.{Place, is_host, is_same_side, is_same_sub, is_on_stream, lane, places_of}
 use Rattle.key_laws.specs.Keys.{Touch, Program, Go, Stop, Clear, Seal, Accept, Keys, keys, key_in, kept_in, on_in, is_on, Slot, slot_of}

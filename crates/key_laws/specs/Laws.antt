@@ -1,11 +1,8 @@
 -- What the keys of a history obey.
-use Rattle.std.specs.Prelude.{ℕ, ◌≡◌, ◌≢◌, ◌≤◌, ◌<◌, Bool, true, false, Some, None, List, [], ◌∷◌, ◌==◌, if◌then◌else◌}
-use Rattle.ide_types.specs.declared.port.Side.{Side}
-use Rattle.link_events.specs.declared.event.Event.{Event}
+use Rattle.key_laws.specs.Terms.{ℕ, ◌≡◌, ◌≢◌, ◌≤◌, ◌<◌, Bool, true, false, Some, None, List, [], ◌∷◌, ◌==◌, if◌then◌else◌, Side, Event, Verdict}
 use Rattle.link_events.specs.declared.event.Event.TheVariants as event
 use Rattle.link_verdicts.specs.declared.verdict.Operation.TheVariants as op
 use Rattle.ide_types.specs.declared.status.StreamStatus.TheVariants as status
-use Rattle.link_verdicts.specs.declared.verdict.Verdict.{Verdict}
 use Rattle.link_verdicts.specs.declared.verdict.Verdict.TheVariants as v
 use Rattle.key_laws.specs.Places.{KeyPlan, Place}
 use Rattle.key_laws.specs.Keys.{Touch, Go, Seal, Accept, keys, key_in, kept_in, on_in, live_draw}

@@ -1,10 +1,7 @@
 -- The manager's operations on streams, said by their verdicts.
-use Rattle.std.specs.Prelude.{ℕ, ◌+◌, ◌==◌, nat_lt, Bool, true, false, not, ◌&&◌, if◌then◌else◌, Option, Some, None, List, ◌∷◌, length}
-use Rattle.link_events.specs.declared.event.Event.{Event}
+use Rattle.key_laws.specs.Terms.{ℕ, ◌+◌, ◌==◌, nat_lt, Bool, true, false, not, ◌&&◌, if◌then◌else◌, Option, Some, None, List, ◌∷◌, length, Event, Operation, Verdict}
 use Rattle.link_events.specs.declared.event.Event.TheVariants as event
-use Rattle.link_verdicts.specs.declared.verdict.Operation.{Operation}
 use Rattle.link_verdicts.specs.declared.verdict.Operation.TheVariants as op
-use Rattle.link_verdicts.specs.declared.verdict.Verdict.{Verdict}
 use Rattle.link_verdicts.specs.declared.verdict.Verdict.TheVariants as v
 
 -- What the manager knows of a stream: it has no keys; it is being keyed with a draw in set 0, and which exchange

@@ -1,10 +1,6 @@
 -- Where keys are: at a port, and there in a sub-stream that it sends or receives.
-use Rattle.std.specs.Prelude.{ℕ, ◌+◌, ◌==◌, ◌&&◌, Bool, true, false, not, if◌then◌else◌, List, [], ◌∷◌}
+use Rattle.key_laws.specs.Terms.{ℕ, ◌+◌, ◌==◌, ◌&&◌, Bool, true, false, not, if◌then◌else◌, List, [], ◌∷◌, SubKind, Pr, Npr, Cpl, Side, Host, Device}
 use Rattle.ide_types.specs.Sub.{sub_bits}
-use Rattle.ide_types.specs.declared.sub.SubKind.{SubKind}
-use Rattle.ide_types.specs.declared.sub.SubKind.TheVariants.{Pr, Npr, Cpl}
-use Rattle.ide_types.specs.declared.port.Side.{Side}
-use Rattle.ide_types.specs.declared.port.Side.TheVariants.{Host, Device}
 pub use Rattle.ide_types.specs.Sub.{sent_direction, received_direction, is_same_sub}
 
 -- what there is before the first event: how many draws the pool has, and which links and streams exist

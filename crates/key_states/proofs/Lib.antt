@@ -1,3 +1,4 @@
+pub mod Terms
 pub mod Ends
 pub mod States
 pub mod Gos
