@@ -1,3 +1,4 @@
+pub mod Terms
 pub mod Settling
 pub mod Slots
 pub mod Streams

@@ -1,24 +1,13 @@
 -- Calls at a port, one after another: what they leave in each place, and that the stream is settled as it is by one
 -- settling at the end.
-use Rattle.std.proofs.Common.{◌≡◌, Bool, true, false, List, [], ◌∷◌, ◌++◌, refl, ap, sym, ◌∙◌}
-use Rattle.std.specs.Prelude.{if◌then◌else◌, not, ◌&&◌}
+use Rattle.call_moves.proofs.Terms.{◌≡◌, Bool, arith, true, List, ◌++◌, false, ◌∙◌, sym, [], refl, ap, ◌∷◌, SubKind, SlotCall, called, StreamCall, all_called, Slots, StreamState, WaitsBesideLive, if◌then◌else◌, ◌&&◌, not, Pr, Npr, Cpl}
+use Rattle.call_moves.proofs.Terms.{any_live}
 use Rattle.ide_types.specs.Sub.{is_same_sub}
-use Rattle.ide_types.specs.declared.sub.SubKind.{SubKind}
-use Rattle.ide_types.specs.declared.sub.SubKind.TheVariants.{Pr, Npr, Cpl}
-use Rattle.stream_rules.specs.Stream.{Slots, StreamState}
-use Rattle.stream_rules.specs.Slots.{any_live}
-use Rattle.stream_calls.specs.Calls.{SlotCall, called, slots_called_out, slots_called_into}
 use Rattle.key_laws.proofs.Tests.{both-true}
-use Rattle.call_moves.specs.Calls.{StreamCall, all_called}
-use Rattle.call_moves.specs.Moves.{WaitsBesideLive}
-use Rattle.call_moves.proofs.Settling.{outs, ins, with_slots, settle, settled_last, stays_settled, any_each}
-use Rattle.call_moves.proofs.Slots.{is_halt, is_no_halt, out_keeps, into_keeps, out_halts, into_halts, halts_wait}
+use Rattle.call_moves.proofs.Settling.{outs, ins, with_slots, settle, settled_again, stays_settled, any_each}
+use Rattle.call_moves.proofs.Slots.{slots_by, is_halt, is_no_halt, slots_keep, slots_halt, halts_wait}
 
 -- ---- a place
-
-abbrev pub slots_by : Bool → SlotCall → Slots → Slots
-slots_by true call s = slots_called_out call s
-slots_by false call s = slots_called_into call s
 
 abbrev is_same_end : Bool → Bool → Bool
 is_same_end true b = b
@@ -49,60 +38,32 @@ called_by sends (call ∷ calls) s = called_by sends calls (slots_by sends call 
 
 pub places_are : (sends : Bool) (u : SubKind) (cs : List StreamCall) (s : Slots) → places_called sends u cs s ≡ called_by sends (calls_at sends u cs) s
 places_are sends u [] s = refl
-places_are sends u (c ∷ cs) s = by_test (is_at sends u c) (places_are sends u cs)
-  where
-    by_test : (t : Bool) → ((a : Slots) → places_called sends u cs a ≡ called_by sends (calls_at sends u cs) a) → places_called sends u cs (if t then slots_by sends c.call s else s) ≡ called_by sends (one_if t c.call
-        ++ calls_at sends u cs) s
-    by_test true more = more (slots_by sends c.call s)
-    by_test false more = more s
+places_are sends u (c ∷ cs) s = grind (arith, places_are sends u cs)
 
 pub calls_append : (sends : Bool) (u : SubKind) (xs ys : List StreamCall) → calls_at sends u (xs ++ ys) ≡ calls_at sends u xs ++ calls_at sends u ys
 calls_append sends u [] ys = refl
-calls_append sends u (c ∷ xs) ys = by_test (is_at sends u c) (calls_append sends u xs ys)
-  where
-    by_test : (t : Bool) → calls_at sends u (xs ++ ys) ≡ calls_at sends u xs ++ calls_at sends u ys → (one_if t c.call ++ calls_at sends u (xs ++ ys)) ≡ ((one_if t c.call ++ calls_at sends u xs) ++ calls_at sends u ys)
-    by_test true more = ap (λ (calls : List SlotCall). c.call ∷ calls) more
-    by_test false more = more
+calls_append sends u (c ∷ xs) ys = grind (arith, calls_append sends u xs ys)
 
 -- ---- one call
 
 called_is : (sends : Bool) (u : SubKind) (call : SlotCall) (x : StreamState) → let c : StreamCall = record { sends = sends; sub = u; call = call } in
     called sends u call x ≡ settle (with_slots (λ v. place_called true v c (outs x v)) (λ v. place_called false v c (ins x v)) x)
-called_is true Pr call x = refl
-called_is true Npr call x = refl
-called_is true Cpl call x = refl
-called_is false Pr call x = refl
-called_is false Npr call x = refl
-called_is false Cpl call x = refl
+called_is sends u call x = grind arith
+
+-- what holds of both holds of the one that a test chooses
+chosen : (P : Slots → Type 0) (t : Bool) (a b : Slots) → P a → P b → P (if t then a else b)
+chosen P true a b first second = first
+chosen P false a b first second = second
 
 keeps_at : (sends : Bool) (u : SubKind) (c : StreamCall) (s : Slots) → is_no_halt c.call ≡ true → any_live s ≡ true → any_live (place_called sends u c s) ≡ true
-keeps_at sends u c s kept some = by_test sends (is_at sends u c)
-  where
-    by_test : (e t : Bool) → any_live (if t then slots_by e c.call s else s) ≡ true
-    by_test true true = out_keeps c.call s kept some
-    by_test false true = into_keeps c.call s kept some
-    by_test e false = some
+keeps_at sends u c s kept some = chosen (λ a. any_live a ≡ true) (is_at sends u c) _ _ (slots_keep sends c.call s kept some) some
 
-halts_out : (u : SubKind) (c : StreamCall) (s : Slots) → is_halt c.call ≡ true → WaitsBesideLive s → any_live (place_called true u c s) ≡ true → any_live s ≡ true
-halts_out u c s is waits = by_test (is_at true u c)
-  where
-    by_test : (t : Bool) → any_live (if t then slots_called_out c.call s else s) ≡ true → any_live s ≡ true
-    by_test true some = out_halts c.call s is waits some
-    by_test false some = some
-
-halts_into : (u : SubKind) (c : StreamCall) (s : Slots) → is_halt c.call ≡ true → any_live (place_called false u c s) ≡ true → any_live s ≡ true
-halts_into u c s is = by_test (is_at false u c)
-  where
-    by_test : (t : Bool) → any_live (if t then slots_called_into c.call s else s) ≡ true → any_live s ≡ true
-    by_test true some = into_halts c.call s is some
-    by_test false some = some
+halts_at : (sends : Bool) (u : SubKind) (c : StreamCall) (s : Slots) → is_halt c.call ≡ true → (sends ≡ true → WaitsBesideLive s)
+    → any_live (place_called sends u c s) ≡ true → any_live s ≡ true
+halts_at sends u c s is waits = chosen (λ a. any_live a ≡ true → any_live s ≡ true) (is_at sends u c) _ _ (slots_halt sends c.call s is waits) (λ some. some)
 
 still_waits : (u : SubKind) (c : StreamCall) (s : Slots) → is_halt c.call ≡ true → WaitsBesideLive s → WaitsBesideLive (place_called true u c s)
-still_waits u c s is waits = by_test (is_at true u c)
-  where
-    by_test : (t : Bool) → WaitsBesideLive (if t then slots_called_out c.call s else s)
-    by_test true = halts_wait c.call s is
-    by_test false = waits
+still_waits u c s is waits = chosen WaitsBesideLive (is_at true u c) _ _ (halts_wait c.call s is) waits
 
 -- ---- calls in order
 
@@ -141,8 +102,9 @@ halted_from (c ∷ cs) x all waits =
     let each = both-true (is_halt c.call) (all_by is_halt cs) all in
     let f = λ (u : SubKind). place_called true u c (outs x u) in
     let g = λ (u : SubKind). place_called false u c (ins x u) in
-    ap (all_called cs) (called_is c.sends c.sub c.call (settle x)
-    ∙ settled_last f g x (any_each f (outs x) (λ u. halts_out u c (outs x u) each.0 (waits u))) (any_each g (ins x) (λ u. halts_into u c (ins x u) each.0)))
+    let out = any_each f (outs x) (λ u. halts_at true u c (outs x u) each.0 (λ same. waits u)) in
+    let into = any_each g (ins x) (λ u. halts_at false u c (ins x u) each.0 (λ never. absurd cc)) in
+    ap (all_called cs) (called_is c.sends c.sub c.call (settle x) ∙ settled_again f g x _ _ _ _ out into)
     ∙ halted_from cs (with_slots f g x) each.1 (waits_each f g x (λ u. still_waits u c (outs x u) each.0 (waits u)))
 
 pub halted_once : (cs : List StreamCall) (x : StreamState) → all_by is_halt cs ≡ true → settle x ≡ x → ((u : SubKind) → WaitsBesideLive (outs x u)) → all_called cs x ≡ called_once cs x

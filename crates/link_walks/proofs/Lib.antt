@@ -1,6 +1,6 @@
+pub mod Terms
 pub mod Lanes
 pub mod Replies
-pub mod Slots
 pub mod Drawn
 pub mod Standing
 pub mod Walking
