@@ -1,114 +1,91 @@
 -- How far bytes walk, and what a reading answers: the value of a spelling, or the cause at the first fault.
-use Rattle.std.proofs.Common.{◌≡◌, ℕ, ◌<◌, ◌≤◌, Bool, cond, IsTrue, ◌&&◌, List, [], ◌∷◌, ◌++◌, length, get_or, take, Result, Ok, Err, refl, sym, ap, subst, ◌∙◌, arith, inl, inr, append_assoc, true≢false, length-append, take_at, take_all}
-use Rattle.std.specs.Prelude.{◌⊎◌}
-use Rattle.std.proofs.lemmas.Bool.{cases_eq, cases_Bool, eq-eqb, ne_eqb, and_parts, and_from}
-use Rattle.std.proofs.lemmas.List.{get_or-append_right}
+use Rattle.std.proofs.Common.{◌≡◌, ℕ, ◌<◌, ◌≤◌, Bool, ltb, IsTrue, ◌&&◌, List, [], ◌∷◌, ◌++◌, length, get_or, take, Ok, Err, refl, sym, ap, subst, ◌∙◌, arith, inl, inr, append_assoc, true≢false, length-append, take_at}
+use Rattle.std.specs.Prelude.{◌⊎◌, ◌↔◌}
+use Rattle.std.proofs.lemmas.Bool.{cases_eq, cases_lt, cases_Bool, eq-eqb, ne_eqb, ltb-true, lt-ltb, le-ltb, and_parts, and_from}
+use Rattle.std.proofs.lemmas.List.{take-append-le, get_or-append_right}
 use Rattle.first_fault.specs.Fronts.{IsFaultPlace}
 use Rattle.first_fault.specs.Walks.{walked_from, walk_length, reading}
-use Rattle.first_fault.proofs.Fronts.{Walks, IsGrammar, place_of, walks_push, same_place}
+use Rattle.first_fault.proofs.Fronts.{IsGrammar, EndsAt, Walks, fitting_like, size_like, walks_push, place_of, same_place}
 
--- a grammar given by its two tests: what walks and wants no more is a spelling, and the other way round
-pub record IsReadable (Spelled : List ℕ → Type 0) (wants : List ℕ → Bool) (may_follow : List ℕ → ℕ → Bool) : Type 0 where
-  pub grammar : IsGrammar Spelled wants may_follow
-  pub whole : (s : List ℕ) → Walks wants may_follow s → (IsTrue (wants s) → ⊥) → Spelled s
+-- a front wants more where it is shorter than it says
+abbrev pub wants : (List ℕ → ℕ) → List ℕ → Bool
+wants size s = ltb (length s) (size s)
 
--- the walk of the bytes ends at this place
-record EndsAt (wants : List ℕ → Bool) (may_follow : List ℕ → ℕ → Bool) (s : List ℕ) (place : ℕ) : Type 0 where
-  within : place ≤ length s
-  walks : Walks wants may_follow (take place s)
-  off : place < length s → IsTrue (wants (take place s)) → IsTrue (may_follow (take place s) (get_or s place 0)) → ⊥
+module _ {Spelled : List ℕ → Type 0} {size : List ℕ → ℕ} {fits : List ℕ → ℕ → Bool} {few : ℕ} (g : IsGrammar Spelled size fits few) where
+  ends_here : (front rest : List ℕ) → Walks size fits front → (0 < length rest → length front < size front → IsTrue (fits front (get_or rest 0 0)) → ⊥)
+      → EndsAt size fits (front ++ rest) (length front)
+  ends_here front rest w stop =
+      let whole : take (length front) (front ++ rest) ≡ front = take_at front rest (length front) refl in
+      let one : length front ≤ length front = omega arith in
+      let same : take (length front) front ≡ take (length front) (front ++ rest) = sym (take-append-le (length front) front rest one) in
+      let byte : get_or (front ++ rest) (length front) 0 ≡ get_or rest 0 0 = get_or-append_right front rest _ _ 0 refl one ∙ ap (λ (i : ℕ). get_or rest i 0) (omega arith) in
+      record {
+        within = omega (arith, length-append front rest);
+        sized = omega (arith, w.sized, size_like g (length front) front (front ++ rest) same, g.least (front ++ rest));
+        fitting = fitting_like fits (length front) front (front ++ rest) same w.fitting;
+        off = λ lt more t.
+            let here : length front < size front = omega (arith, size_like g (length front) front (front ++ rest) same, g.least front) in
+            stop (omega (arith, length-append front rest)) here (rw (whole, byte) at t);
+      }
 
-walked_nil : (wants : List ℕ → Bool) (may_follow : List ℕ → ℕ → Bool) (front : List ℕ) → walked_from wants may_follow front [] ≡ length front
-unfolding walked_from
-walked_nil wants may_follow front = refl
+  ends_at : (front rest : List ℕ) → Walks size fits front → EndsAt size fits (front ++ rest) (walked_from (wants size) fits front rest)
+  unfolding walked_from
+  ends_at front [] w = ends_here front [] w (λ lt more f. absurd (omega arith))
+  ends_at front (b ∷ rest) w = elim (cases_Bool (wants size front && fits front b)) [
+    | inl on ↦
+        let p = and_parts (wants size front) (fits front b) on in
+        let next = ends_at (front ++ b ∷ []) rest (walks_push g front b w (ltb-true _ _ p.0) p.1) in
+        let place = walked_from (wants size) fits (front ++ b ∷ []) rest in
+        rw on (subst (λ (s : List ℕ). EndsAt size fits s place) (append_assoc front (b ∷ []) rest) next)
+    | inr off ↦ rw off (ends_here front (b ∷ rest) w (λ lt more f. true≢false (sym (and_from (wants size front) (fits front b) (lt-ltb _ _ more) f) ∙ off)))
+  ]
 
-walked_cons : (wants : List ℕ → Bool) (may_follow : List ℕ → ℕ → Bool) (front : List ℕ) (b : ℕ) (rest : List ℕ)
-    → walked_from wants may_follow front (b ∷ rest) ≡ cond (wants front && may_follow front b) (walked_from wants may_follow (front ++ b ∷ []) rest) (length front)
-unfolding walked_from
-walked_cons wants may_follow front b rest = refl
-
-ends_here : (wants : List ℕ → Bool) (may_follow : List ℕ → ℕ → Bool) (front rest : List ℕ) → Walks wants may_follow front
-    → (0 < length rest → IsTrue (wants front) → IsTrue (may_follow front (get_or rest 0 0)) → ⊥) → EndsAt wants may_follow (front ++ rest) (length front)
-ends_here wants may_follow front rest w stop =
-    let front' : take (length front) (front ++ rest) ≡ front = take_at front rest (length front) refl in
-    let byte : get_or (front ++ rest) (length front) 0 ≡ get_or rest 0 0 = get_or-append_right front rest (length front) (length front) 0 refl (omega arith) ∙ ap (λ (i : ℕ). get_or rest i 0) (omega arith) in
-    record {
-      within = omega (arith, length-append front rest);
-      walks = rw front' w;
-      off = λ lt n f. stop (omega (arith, length-append front rest)) (rw front' at n) (rw (front', byte) at f);
-    }
-
-ends_at : (wants : List ℕ → Bool) (may_follow : List ℕ → ℕ → Bool) (front rest : List ℕ) → Walks wants may_follow front
-    → EndsAt wants may_follow (front ++ rest) (walked_from wants may_follow front rest)
-ends_at wants may_follow front [] w = rw (walked_nil wants may_follow front) (ends_here wants may_follow front [] w (λ lt n f. absurd (omega arith)))
-ends_at wants may_follow front (b ∷ rest) w =
-    elim (cases_Bool (wants front && may_follow front b)) [
-      | inl on ↦
-          let p = and_parts (wants front) (may_follow front b) on in
-          let next = ends_at wants may_follow (front ++ b ∷ []) rest (walks_push wants may_follow front b w p.0 p.1) in
-          let same : walked_from wants may_follow front (b ∷ rest) ≡ walked_from wants may_follow (front ++ b ∷ []) rest = walked_cons wants may_follow front b rest ∙ rw on refl in
-          rw same (subst (λ (s : List ℕ). EndsAt wants may_follow s (walked_from wants may_follow (front ++ b ∷ []) rest)) (append_assoc front (b ∷ []) rest) next)
-      | inr off ↦
-          let same : walked_from wants may_follow front (b ∷ rest) ≡ length front = walked_cons wants may_follow front b rest ∙ rw off refl in
-          rw same (ends_here wants may_follow front (b ∷ rest) w (λ lt n f. true≢false (sym (and_from (wants front) (may_follow front b) n f) ∙ off)))
-    ]
-
-walk_ends : (wants : List ℕ → Bool) (may_follow : List ℕ → ℕ → Bool) (s : List ℕ) → EndsAt wants may_follow s (walk_length wants may_follow s)
-unfolding walk_length
-walk_ends wants may_follow s = ends_at wants may_follow [] s (record { needed = λ i lt. absurd (omega arith); fitting = λ i lt. absurd (omega arith) })
-
--- what a reading of these bytes answers
-record Answers {V F : Type 0} (Spelled : List ℕ → Type 0) (value : List ℕ → V) (cause : List ℕ → ℕ → F) (s : List ℕ) (r : Result V F) : Type 0 where
-  answer : (Spelled s × (r ≡ Ok (value s))) ⊎ ((place : ℕ) × IsFaultPlace Spelled s place × (r ≡ Err (cause s place)))
-
-answers : {V F : Type 0} (Spelled : List ℕ → Type 0) (wants : List ℕ → Bool) (may_follow : List ℕ → ℕ → Bool) (value : List ℕ → V) (cause : List ℕ → ℕ → F) (s : List ℕ)
-    → IsReadable Spelled wants may_follow → Answers Spelled value cause s (reading wants may_follow value cause s)
-unfolding reading
-answers Spelled wants may_follow value cause s g =
-    let place = walk_length wants may_follow s in
-    let e = walk_ends wants may_follow s in
-    let faulty : (length s ≤ place → IsTrue (wants s)) → IsFaultPlace Spelled s place = λ short.
-    place_of Spelled wants may_follow s place g.grammar (record { within = e.within; walks = e.walks; off = e.off; short = short }) in
-    elim (cases_eq place (length s)) [
-      | inl all ↦ elim (cases_Bool (wants s)) [
-        | inl more ↦ record { answer = rw (eq-eqb _ _ all, more) (inr (place, faulty (λ _. more), refl)) }
-        | inr done ↦
-            let whole : take place s ≡ s = take_all place s (omega arith) in
-            record { answer = rw (eq-eqb _ _ all, done) (inl (g.whole s (rw whole at e.walks) (λ t. true≢false (sym t ∙ done)), refl)) }
+  -- what a reading of these bytes answers
+  answer : {V F : Type 0} (value : List ℕ → V) (cause : List ℕ → ℕ → F) (s : List ℕ)
+      → (Spelled s × (reading (wants size) fits value cause s ≡ Ok (value s)))
+      ⊎ ((place : ℕ) × IsFaultPlace Spelled s place × (reading (wants size) fits value cause s ≡ Err (cause s place)))
+  unfolding reading walk_length
+  answer value cause s =
+      let place = walked_from (wants size) fits [] s in
+      let e : EndsAt size fits s place = ends_at [] s (record { fitting = λ i lt. absurd (omega arith); sized = omega arith }) in
+      elim (cases_eq place (length s)) [
+        | inl all ↦ elim (cases_lt (length s) (size s)) [
+          | inl more ↦ rw (eq-eqb _ _ all, lt-ltb _ _ more) (inr (place, place_of g s place e (λ _. omega arith), refl))
+          | inr done ↦ rw (eq-eqb _ _ all, le-ltb _ _ done) (inl (g.whole s (rw all at e.fitting) (omega (arith, e.sized)), refl))
+        ]
+        | inr part ↦ rw (ne_eqb _ _ part) (inr (place, place_of g s place e (λ all. absurd (part all)), refl))
       ]
-      | inr part ↦
-          let within = e.within in
-          record { answer = rw (ne_eqb _ _ part) (inr (place, faulty (λ le. absurd (omega arith)), refl)) }
-    ]
 
--- a spelling is read as its value
-pub reads : {V F : Type 0} (Spelled : List ℕ → Type 0) (wants : List ℕ → Bool) (may_follow : List ℕ → ℕ → Bool) (value : List ℕ → V) (cause : List ℕ → ℕ → F) (s : List ℕ)
-    → IsReadable Spelled wants may_follow → Spelled s → reading wants may_follow value cause s ≡ Ok (value s)
-reads Spelled wants may_follow value cause s g spelled = elim (answers Spelled wants may_follow value cause s g).answer [
-  | inl ok ↦ ok.1
-  | inr err ↦ absurd (err.1.not_spelled spelled)
-]
+  -- what is spelled is read as its value, and nothing else is read
+  pub reads_iff : {V F : Type 0} (value : List ℕ → V) (cause : List ℕ → ℕ → F) (Spells : V → List ℕ → Type 0)
+      → ((s : List ℕ) → Spelled s → (v : V) × Spells v s) → ((v : V) (s : List ℕ) → Spells v s → Spelled s × (value s ≡ v))
+      → (v : V) (s : List ℕ) → (Spells v s) ↔ (reading (wants size) fits value cause s ≡ Ok v)
+  reads_iff value cause Spells some only v s = (
+    λ p. elim (answer value cause s) [
+      | inl ok ↦ ok.1 ∙ ap (λ x. Ok x) (only v s p).1
+      | inr err ↦ absurd (err.1.not_spelled (only v s p).0)
+    ],
+    λ e. elim (answer value cause s) [
+      | inl ok ↦
+          let is = some s ok.0 in
+          let one = (only is.0 s is.1).1 in
+          let read : Ok (value s) ≡ Ok v = sym ok.1 ∙ e in
+          let same : is.0 ≡ v = cc in
+          subst (λ x. Spells x s) same is.1
+      | inr err ↦ let wrong : Err (cause s err.0) ≡ Ok v = sym err.2 ∙ e in absurd cc
+    ],
+  )
 
--- and no other bytes are read
-pub read_spells : {V F : Type 0} (Spelled : List ℕ → Type 0) (wants : List ℕ → Bool) (may_follow : List ℕ → ℕ → Bool) (value : List ℕ → V) (cause : List ℕ → ℕ → F) (s : List ℕ) (v : V)
-    → IsReadable Spelled wants may_follow → reading wants may_follow value cause s ≡ Ok v → Spelled s × (value s ≡ v)
-read_spells Spelled wants may_follow value cause s v g e = elim (answers Spelled wants may_follow value cause s g).answer [
-  | inl ok ↦ let same : Ok (value s) ≡ Ok v = sym ok.1 ∙ e in (ok.0, cc)
-  | inr err ↦ let wrong : Err (cause s err.0) ≡ Ok v = sym err.2 ∙ e in absurd cc
-]
-
--- bytes that go off at a place are refused for the cause there
-pub refuses : {V F : Type 0} (Spelled : List ℕ → Type 0) (wants : List ℕ → Bool) (may_follow : List ℕ → ℕ → Bool) (value : List ℕ → V) (cause : List ℕ → ℕ → F) (s : List ℕ) (place : ℕ)
-    → IsReadable Spelled wants may_follow → IsFaultPlace Spelled s place → reading wants may_follow value cause s ≡ Err (cause s place)
-refuses Spelled wants may_follow value cause s place g fault = elim (answers Spelled wants may_follow value cause s g).answer [
-  | inl ok ↦ absurd (fault.not_spelled ok.0)
-  | inr err ↦ err.2 ∙ ap (λ (p : ℕ). Err (cause s p)) (same_place Spelled s err.0 place err.1 fault)
-]
-
--- and no others are refused
-pub refused_at : {V F : Type 0} (Spelled : List ℕ → Type 0) (wants : List ℕ → Bool) (may_follow : List ℕ → ℕ → Bool) (value : List ℕ → V) (cause : List ℕ → ℕ → F) (s : List ℕ) (f : F)
-    → IsReadable Spelled wants may_follow → reading wants may_follow value cause s ≡ Err f → (place : ℕ) × IsFaultPlace Spelled s place × (f ≡ cause s place)
-refused_at Spelled wants may_follow value cause s f g e = elim (answers Spelled wants may_follow value cause s g).answer [
-  | inl ok ↦ let wrong : Ok (value s) ≡ Err f = sym ok.1 ∙ e in absurd cc
-  | inr err ↦ let same : Err f ≡ Err (cause s err.0) = sym e ∙ err.2 in (err.0, err.1, cc)
-]
+  -- and what goes off is refused for the cause there, and nothing else is refused
+  pub refuses_iff : {V F : Type 0} (value : List ℕ → V) (cause : List ℕ → ℕ → F) (f : F) (s : List ℕ)
+      → ((place : ℕ) × IsFaultPlace Spelled s place × (f ≡ cause s place)) ↔ (reading (wants size) fits value cause s ≡ Err f)
+  refuses_iff value cause f s = (
+    λ p. elim (answer value cause s) [
+      | inl ok ↦ absurd (p.1.not_spelled ok.0)
+      | inr err ↦ err.2 ∙ ap (λ q. Err (cause s q)) (same_place Spelled s err.0 p.0 err.1 p.1) ∙ ap (λ x. Err x) (sym p.2)
+    ],
+    λ e. elim (answer value cause s) [
+      | inl ok ↦ let wrong : Ok (value s) ≡ Err f = sym ok.1 ∙ e in absurd cc
+      | inr err ↦ let same : Err f ≡ Err (cause s err.0) = sym e ∙ err.2 in (err.0, err.1, cc)
+    ],
+  )

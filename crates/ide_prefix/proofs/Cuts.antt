@@ -6,30 +6,17 @@ use Rattle.std.proofs.Math.Seq.{drop-append_seam, take-append_seam}
 use Rattle.std.proofs.lemmas.Bool.{cases_Bool}
 use Rattle.std.proofs.lemmas.List.{get_or_append_left}
 use Rattle.first_fault.specs.Walks.{reading}
-use Rattle.first_fault.proofs.Walks.{IsReadable, reads, read_spells, refuses, refused_at}
-use Rattle.tlp_layout.specs.declared.head.HeadView.{HeadView}
-use Rattle.tlp_layout.specs.Class.{class_of}
-use Rattle.tlp_layout.specs.Tlp.{body_size}
-use Rattle.tlp_layout.specs.Causes.{head_size}
-use Rattle.tlp_layout.specs.Reading.{head_of, rest_size, read_head_of}
-use Rattle.tlp_layout.specs.Class.{layout_of}
-use Rattle.tlp_layout.proofs.Heads.{IsRight, kept, again}
-use Rattle.tlp_layout.proofs.Walk.{head_size_at_least, head_size_at_most, body_at_most}
+use Rattle.first_fault.proofs.Walks.{reads_iff, refuses_iff as refused}
+use Rattle.tlp_layout.specs.{class_of, body_size, head_size, head_of, rest_size, layout_of}
+use Rattle.ide_prefix.specs.{Prefix, PacketFault, packet_bytes, begins_sync, is_sync_packet, IsCarried, IsSync, FitsPacket, SpellsPacket, IsPacket, is_plain, packet_fault_at, IsPacketFault, sync_at, packet_read, wants_packet, packet_may_follow, CutValue, PlainTlp, IdePacket, packet_of_view, cut_value, cut_values, IsCut}
+use Rattle.tlp_layout.specs.Reading.{read_head_of}
 use Rattle.tlp_layout.proofs.Readings.{read_head_spells}
 use Rattle.ide_prefix.specs.declared.packet.Cut.{Cut}
 use Rattle.ide_prefix.specs.declared.packet.Cut.TheVariants.{Plain, Ide}
-use Rattle.ide_prefix.specs.declared.packet.Prefix.{Prefix}
-use Rattle.ide_prefix.specs.declared.fault.PacketFault.{PacketFault}
-use Rattle.ide_prefix.specs.Packet.{Packet, packet_bytes, begins_sync, is_sync_packet, IsCarried, IsSync, FitsPacket, SpellsPacket, IsPacket}
-use Rattle.ide_prefix.specs.Causes.{is_plain, packet_fault_at}
-use Rattle.ide_prefix.specs.Faults.{IsPacketFault}
-use Rattle.ide_prefix.specs.Reading.{sync_at, head_part, body_part, packet_read, wants_packet, packet_may_follow, CutValue, PlainTlp, IdePacket, cut_of}
-use Rattle.ide_prefix.specs.Cut.{packet_of_view, cut_value, cut_values, IsCut}
+use Rattle.ide_prefix.specs.Reading.{head_part, body_part, cut_of}
 use Rattle.ide_prefix.proofs.Units.{not_sync}
-use Rattle.ide_prefix.proofs.Grammar.{packets, packet_whole, prefix_again, sync_is, sync_begins}
-
-readable_packets : IsReadable IsPacket wants_packet packet_may_follow
-readable_packets = record { grammar = packets; whole = packet_whole }
+use Rattle.ide_prefix.proofs.Grammar.{packets, prefix_again, sync_is, sync_begins}
+use Rattle.ide_prefix.proofs.Terms.{HeadView, IsRight, kept, again, head_size_at_least, head_size_at_most, body_at_most, Packet}
 
 -- ---- the value of what is spelled
 
@@ -141,41 +128,42 @@ cut_ide : (s : List ℕ) → is_plain s ≡ false → cut_of s ≡ reading wants
 unfolding cut_of
 cut_ide s e = rw e refl
 
+-- a value that is read is a packet's
+abbrev SpellsValue : CutValue → List ℕ → Type 0
+SpellsValue PlainTlp s = ⊥
+SpellsValue (IdePacket p) s = SpellsPacket p s
+
+value_is : (v : CutValue) (s : List ℕ) → SpellsValue v s → IsPacket s × (value_in s ≡ v)
+value_is PlainTlp s sp = absurd sp
+value_is (IdePacket p) s sp = (record { packet = p; spells = sp }, ap (λ (x : Packet). IdePacket x) (packet_value p s sp))
+
+reads_value : (v : CutValue) (s : List ℕ) → (SpellsValue v s) ↔ (reading wants_packet packet_may_follow value_in packet_fault_at s ≡ Ok v)
+reads_value = reads_iff packets value_in packet_fault_at SpellsValue (λ s x. (IdePacket x.packet, x.spells)) value_is
+
 pub plain_iff : (s : List ℕ) → (is_plain s ≡ true) ↔ (cut_of s ≡ Ok PlainTlp)
 plain_iff s = (
   cut_plain s,
   λ e. elim (cases_Bool (is_plain s)) [
     | inl yes' ↦ yes'
-    | inr no' ↦
-        let r = read_spells IsPacket wants_packet packet_may_follow value_in packet_fault_at s PlainTlp readable_packets (sym (cut_ide s no') ∙ e) in
-        let wrong : IdePacket (packet_read s) ≡ PlainTlp = r.1 in
-        absurd cc
+    | inr no' ↦ absurd ((reads_value PlainTlp s).1 (sym (cut_ide s no') ∙ e))
   ],
 )
 
 pub cuts_iff : (p : Packet) (s : List ℕ) → (SpellsPacket p s) ↔ (cut_of s ≡ Ok (IdePacket p))
 cuts_iff p s = (
-  λ sp. cut_ide s (not_plain p s sp) ∙ reads IsPacket wants_packet packet_may_follow value_in packet_fault_at s readable_packets (record { packet = p; spells = sp }) ∙ ap (λ (x : Packet). Ok (IdePacket x)) (packet_value p s sp),
+  λ sp. cut_ide s (not_plain p s sp) ∙ (reads_value (IdePacket p) s).0 sp,
   λ e. elim (cases_Bool (is_plain s)) [
-    | inl yes' ↦
-        let wrong : Ok PlainTlp ≡ Ok (IdePacket p) = sym (cut_plain s yes') ∙ e in
-        absurd cc
-    | inr no' ↦
-        let r = read_spells IsPacket wants_packet packet_may_follow value_in packet_fault_at s (IdePacket p) readable_packets (sym (cut_ide s no') ∙ e) in
-        let given : IdePacket (packet_read s) ≡ IdePacket p = r.1 in
-        let same : packet_read s ≡ p = cc in
-        subst (λ (x : Packet). SpellsPacket x s) (sym (packet_value r.0.packet s r.0.spells) ∙ same) r.0.spells
+    | inl yes' ↦ let wrong : Ok PlainTlp ≡ Ok (IdePacket p) = sym (cut_plain s yes') ∙ e in absurd cc
+    | inr no' ↦ (reads_value (IdePacket p) s).1 (sym (cut_ide s no') ∙ e)
   ],
 )
 
 pub refuses_iff : (f : PacketFault) (s : List ℕ) → (IsPacketFault s f) ↔ (cut_of s ≡ Err f)
 refuses_iff f s = (
-  λ p. cut_ide s p.0 ∙ refuses IsPacket wants_packet packet_may_follow value_in packet_fault_at s p.1.0 readable_packets p.1.1 ∙ ap (λ (x : PacketFault). Err x) (sym p.1.2),
+  λ p. cut_ide s p.0 ∙ (refused packets value_in packet_fault_at f s).0 p.1,
   λ e. elim (cases_Bool (is_plain s)) [
-    | inl yes' ↦
-        let wrong : Ok PlainTlp ≡ Err f = sym (cut_plain s yes') ∙ e in
-        absurd cc
-    | inr no' ↦ (no', refused_at IsPacket wants_packet packet_may_follow value_in packet_fault_at s f readable_packets (sym (cut_ide s no') ∙ e))
+    | inl yes' ↦ let wrong : Ok PlainTlp ≡ Err f = sym (cut_plain s yes') ∙ e in absurd cc
+    | inr no' ↦ (no', (refused packets value_in packet_fault_at f s).1 (sym (cut_ide s no') ∙ e))
   ],
 )
 

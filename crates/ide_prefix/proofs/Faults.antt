@@ -1,70 +1,50 @@
 -- Where a packet goes wrong: each byte ahead of the place was judged good by its place, and the one there is not; a fault of
 -- the header is the same fault four bytes on.
-use Rattle.std.proofs.Common.{◌≡◌, ℕ, ◌+◌, ◌-◌, ◌<◌, ◌≤◌, Bool, true, false, cond, IsTrue, List, [], length, get_or, take, drop, Option, Some, None, is_some, refl, sym, ap, subst, ◌∙◌, inl, inr, arith, length-take, length-drop, get_or-take, get_or-drop, take-append-drop, take-take, take_all, append-nil, min, not, add_comm}
+use Rattle.std.proofs.Common.{◌≡◌, ℕ, ◌+◌, ◌-◌, ◌<◌, ◌≤◌, Bool, true, false, cond, IsTrue, List, [], length, get_or, take, drop, Option, Some, None, is_some, refl, sym, ap, subst, ◌∙◌, inl, inr, arith, length-take, length-drop, get_or-take, get_or-drop, take-append-drop, take-take, append-nil, min, not, add_comm}
 use Rattle.std.specs.Prelude.{MatchOption}
 use Rattle.std.specs.Array.{IsWholeChunk}
-use Rattle.ide_prefix.specs.Causes.{prefix_read, clear_size, fits_early, packet_fault_at, belongs, moved}
-use Rattle.tlp_layout.specs.Class.{kind_at, kind_among}
-use Rattle.ide_prefix.specs.Cut.{lent_tag}
-use Rattle.ide_prefix.specs.Faults.{GoesOff}
+use Rattle.tlp_layout.specs.{kind_at, head_size, has_data, layout_at, fault_at, cause_at, head_of, rest_size, may_follow, body_size, layout_of, head_bytes}
+use Rattle.ide_prefix.specs.{prefix_read, clear_size, fits_early, packet_fault_at, lent_tag, GoesOff, FitsPacket, is_sync_packet, SpellsPacket, begins_sync, sync_at, tag_part, packet_size, packet_may_follow, PacketFault, Prefix}
 use Rattle.ide_prefix.specs.Inside.{StopsEarly, StopsSync, StopsInHead, HasHeader, SizesAre, head_slice, shifted}
-use Rattle.tlp_layout.proofs.Readings.{readable_heads}
-use Rattle.ide_prefix.specs.Packet.{FitsPacket, is_sync_packet, Packet, IsPacket, SpellsPacket, begins_sync}
-use Rattle.ide_prefix.specs.Reading.{sync_at, tag_part, packet_size, wants_packet, packet_may_follow}
-use Rattle.tlp_layout.specs.Causes.{head_size, has_data, layout_at, fault_at, cause_at}
-use Rattle.tlp_layout.specs.Reading.{head_of, rest_size, wants_head, may_follow}
-use Rattle.tlp_layout.specs.Tlp.{body_size}
 use Rattle.first_fault.proofs.Cells.{IsBytes}
-use Rattle.ide_prefix.proofs.Grammar.{IsWalkedPacket, needs_at, walks_from, walked_early, walked_late, size_at_least, size_front, size_carried, size_sync, packets, packet_of, sync_spells, carried_spells}
-use Rattle.tlp_layout.specs.Class.{layout_of}
-use Rattle.tlp_layout.proofs.Heads.{IsRight, kept, again}
-use Rattle.tlp_layout.proofs.Walk.{body_at_most, IsWalked, fits_from, head_size_at_least}
+use Rattle.ide_prefix.proofs.Grammar.{IsWalkedPacket, walks_from, walked_early, walked_late, size_at_least, size_carried, size_sync, packets, packet_of, sync_spells, carried_spells}
 use denote.Ref.{Bor}
-use Rattle.std.proofs.lemmas.Bool.{cases_lt, cases_eq, cases_Bool, ltb-true, lt-ltb, le-ltb, eq-eqb, eqb-true, ne_eqb, and_from, true≢false}
+use Rattle.std.proofs.lemmas.Bool.{cases_lt, cases_eq, cases_Bool, lt-ltb, le-ltb, eq-eqb, eqb-true, ne_eqb, and_from, true≢false}
 use Rattle.std.proofs.lemmas.List.{nil_from_length}
-use Rattle.tlp_layout.specs.declared.layout.Layout.{Layout}
-use Rattle.tlp_layout.specs.declared.head.HeadView.{HeadView}
-use Rattle.ide_types.specs.declared.sub.SubKind.{SubKind}
-use Rattle.tlp_layout.specs.Head.{IsHead, head_bytes}
-use Rattle.first_fault.proofs.Fronts.{Walks, Halts, place_of, halts_of, walks_take}
-use Rattle.tlp_layout.proofs.Grammar.{heads, is_right, walked_of, rest_front}
-use Rattle.ide_prefix.specs.declared.fault.PacketFault.{PacketFault}
+use Rattle.first_fault.proofs.Fronts.{Fitting, EndsAt, place_of, ends_of}
 use Rattle.ide_prefix.specs.declared.fault.PacketFault.TheVariants.{Short, Trailing, Tlp}
-use Rattle.ide_prefix.specs.declared.packet.Prefix.{Prefix}
+use Rattle.ide_prefix.proofs.Terms.{Layout, HeadView, belongs, moved, kind_among, Packet, IsRight, kept, again, body_at_most, IsWalked, fits_from, head_size_at_least, rest_front, SubKind, heads, is_right, walked_of}
 
 -- a walk up to a place, and no further
-halt : (s : List ℕ) (place : ℕ) → place ≤ length s → place < packet_size s → IsWalkedPacket s place
-    → (place < length s → IsTrue (packet_may_follow (take place s) (get_or s place 0)) → ⊥) → Halts wants_packet packet_may_follow s place
-halt s place le size w off = record {
-  within = le;
-  walks = walks_take wants_packet packet_may_follow s place le (λ i lt. needs_at s i (omega arith) (omega arith)) (walks_from s place le w);
-  off = λ less n f. off less f;
-  short = λ past. let all : take place s ≡ s = take_all place s past in rw all at (needs_at s place size le);
-}
+halt : (s : List ℕ) (place : ℕ) → place ≤ length s → place ≤ packet_size s → IsWalkedPacket s place
+    → (place < length s → place < packet_size s → IsTrue (packet_may_follow (take place s) (get_or s place 0)) → ⊥) → EndsAt packet_size packet_may_follow s place
+halt s place le size w off = record { within = le; sized = size; fitting = walks_from s place le w; off = off }
 
 pub early_fault : (s : List ℕ) (f : PacketFault) (place : ℕ) → IsBytes s → StopsEarly s f place → GoesOff s f
 early_fault s f place fit h =
-    let early = h.early in (
+    let early = h.early in
+    let size : place < packet_size s = omega (arith, size_at_least s) in (
       place,
-      place_of IsPacket wants_packet packet_may_follow s place packets (halt s place h.within (omega (arith, size_at_least s)) (record {
+      place_of packets s place (halt s place h.within (omega arith) (record {
         fit = λ i lt. fit i;
         early = λ i lt few. h.before i lt;
         zeros = λ y i many lt less. absurd (omega arith);
         late = λ n i many lt. absurd (omega arith);
-      }) (λ less t. true≢false (sym (walked_early s place less early t) ∙ h.off less))),
+      }) (λ less more t. true≢false (sym (walked_early s place less early t) ∙ h.off less))) (λ _. size),
       h.cause,
     )
 
 pub sync_fault : (s : List ℕ) (f : PacketFault) (place : ℕ) → IsBytes s → ((i : ℕ) → i < 5 → fits_early i s (get_or s i 0) ≡ true) → sync_at s ≡ true → StopsSync s f place → GoesOff s f
 sync_fault s f place fit early y h =
-    let b = h.behind in (
+    let b = h.behind in
+    let size : place < packet_size s = omega (arith, size_at_least s) in (
       place,
-      place_of IsPacket wants_packet packet_may_follow s place packets (halt s place h.within (omega (arith, size_at_least s)) (record {
+      place_of packets s place (halt s place h.within (omega arith) (record {
         fit = λ i lt. fit i;
         early = λ i lt few. early i few;
         zeros = λ y' i many lt less. h.before i many lt;
         late = λ n i many lt. absurd (true≢false (sym y ∙ n));
-      }) (λ less t. h.off less (eqb-true _ _ (rw (y, lt-ltb place 16 b.1) at (walked_late s place less b.0 t))))),
+      }) (λ less more t. h.off less (eqb-true _ _ (rw (y, lt-ltb place 16 b.1) at (walked_late s place less b.0 t))))) (λ _. size),
       h.cause,
     )
 
@@ -72,7 +52,7 @@ sync_fault s f place fit early y h =
 
 -- the walk of a header's front, as the packet's
 head_walked : (s : List ℕ) (place : ℕ) → IsBytes s → 5 ≤ length s → ((i : ℕ) → i < 5 → fits_early i s (get_or s i 0) ≡ true) → sync_at s ≡ false
-    → place ≤ length (head_slice s) → Walks wants_head may_follow (take place (head_slice s)) → IsWalkedPacket s (4 + place)
+    → place ≤ length (head_slice s) → Fitting may_follow (head_slice s) place → IsWalkedPacket s (4 + place)
 head_walked s place fit long early plain le w = record {
   fit = λ i lt. fit i;
   early = λ i lt few. early i few;
@@ -80,14 +60,11 @@ head_walked s place fit long early plain le w = record {
   late = λ n i many lt.
       let size = head_size (get_or s 4 0) in
       let len : length (head_slice s) ≤ size = omega (arith, length-take size (drop 4 s)) in
-      let inside : i - 4 < length (take place (head_slice s)) = omega (arith, length-take place (head_slice s)) in
-      let t : may_follow (take (i - 4) (take place (head_slice s))) (get_or (take place (head_slice s)) (i - 4) 0) ≡ true = w.fitting (i - 4) inside in
-      let l1 : i - 4 < place = omega arith in
+      let t : may_follow (take (i - 4) (head_slice s)) (get_or (head_slice s) (i - 4) 0) ≡ true = w (i - 4) (omega arith) in
       let l2 : i - 4 < size = omega arith in
-      let l3 : i - 4 ≤ place = omega arith in
       let l4 : i - 4 ≤ size = omega arith in
       let j : 4 + (i - 4) ≡ i = omega arith in
-      rw (take-take (i - 4) place (head_slice s) l3, take-take (i - 4) size (drop 4 s) l4, get_or-take place (head_slice s) (i - 4) 0 l1, get_or-take size (drop 4 s) (i - 4) 0 l2, get_or-drop 4 s (i - 4) 0, j) at t;
+      rw (take-take (i - 4) size (drop 4 s) l4, get_or-take size (drop 4 s) (i - 4) 0 l2, get_or-drop 4 s (i - 4) 0, j) at t;
 }
 
 -- a header's front is not off at its first byte, where the packet's byte 4 is right
@@ -118,32 +95,30 @@ header_fault s f fit long early plain h =
     let front = head_slice s in
     let size = head_size (get_or s 4 0) in
     let p = h.1.0 in
-    let halts = halts_of IsHead wants_head may_follow front p heads readable_heads.whole h.1.1 in
-    let within = halts.within in
+    let ends = ends_of heads front p h.1.1 in
+    let within = ends.0.within in
     let some : 12 ≤ size = head_size_at_least (get_or s 4 0) in
     let len : length front ≡ min size (length s - 4) = omega (arith, length-take size (drop 4 s), length-drop 4 s) in
     let first : get_or front 0 0 ≡ get_or s 4 0 = get_or-take size (drop 4 s) 0 0 (omega arith) ∙ get_or-drop 4 s 0 0 in
     let pos : 0 < p = elim (cases_eq p 0) [
       | inl none ↦
-          let off = subst (λ (q : ℕ). q < length front → IsTrue (wants_head (take q front)) → IsTrue (may_follow (take q front) (get_or front q 0)) → ⊥) none halts.off in
-          absurd (off (omega arith) refl (rw first (begins_head s fit long early plain)))
+          let off = subst (λ (q : ℕ). q < length front → q < head_size (get_or front 0 0) → IsTrue (may_follow (take q front) (get_or front q 0)) → ⊥) none ends.0.off in
+          absurd (off (omega arith) (omega (arith, ap head_size first)) (rw first (begins_head s fit long early plain)))
       | inr other ↦ omega arith
     ] in
-    let short : length front ≤ p → length front < size = λ le. let n : length front < head_size (get_or front 0 0) = ltb-true _ _ (halts.short le) in omega (arith, n, ap head_size first) in
-    let less : p < size = elim (cases_lt p (length front)) [ inl lt ↦ omega arith | inr past ↦ omega (arith, short past) ] in
-    let front0 : get_or (take p front) 0 0 ≡ get_or s 4 0 = get_or-take p front 0 0 pos ∙ first in
-    let needs : IsTrue (wants_head (take p front)) = lt-ltb _ _ (omega (arith, length-take p front, ap head_size front0, less)) in
+    let less : p < size = elim (cases_eq p (length front)) [ inl all ↦ omega (arith, ends.1 all, ap head_size first) | inr part ↦ omega arith ] in
+    let needs : p < head_size (get_or front 0 0) = omega (arith, ap head_size first) in
     let whole : 4 + p < packet_size s = omega (arith, size_carried s plain, ap head_size (get_or-drop 4 s 0 0)) in
     let four : 4 + p - 4 ≡ p = omega arith in
     let inside : 4 + p < length s → p < length front = λ lt. omega arith in
-    let off : 4 + p < length s → IsTrue (packet_may_follow (take (4 + p) s) (get_or s (4 + p) 0)) → ⊥ = λ lt t.
+    let off : 4 + p < length s → 4 + p < packet_size s → IsTrue (packet_may_follow (take (4 + p) s) (get_or s (4 + p) 0)) → ⊥ = λ lt more t.
     let there : may_follow (take (4 + p - 4) (drop 4 s)) (get_or s (4 + p) 0) ≡ true = rw plain at (walked_late s (4 + p) lt (omega arith) t) in
     let le : p ≤ size = omega arith in
     let here : may_follow (take p front) (get_or front p 0) ≡ true = rw (take-take p size (drop 4 s) le, get_or-take size (drop 4 s) p 0 less, get_or-drop 4 s p 0) (rw four at there) in
-    halts.off (inside lt) needs here in
+    ends.0.off (inside lt) needs here in
     let shift : shifted (fault_at front p) ≡ packet_fault_at s (4 + p) = elim (cases_eq p (length front)) [
       | inl all ↦
-          let end : 4 + p ≡ length s = omega (arith, short (omega arith)) in
+          let end : 4 + p ≡ length s = omega arith in
           rw (eq-eqb p (length front) all, eq-eqb (4 + p) (length s) end, add_comm 4 p) refl
       | inr part ↦
           let e1 : 4 + p ≡ length s → ⊥ = λ e. omega arith in
@@ -152,7 +127,8 @@ header_fault s f fit long early plain h =
           rw (ne_eqb p (length front) part, ne_eqb p 0 e2, first, lt-ltb p size less, ne_eqb (4 + p) (length s) e1, le-ltb (4 + p) 5 (omega arith), plain, lt-ltb (4 + p) (4 + size) (omega arith), four, byte)
           (shifted_cause p (get_or s (4 + p) 0))
     ] in
-    (4 + p, place_of IsPacket wants_packet packet_may_follow s (4 + p) packets (halt s (4 + p) (omega arith) whole (head_walked s p fit long early plain within halts.walks) off), h.2 ∙ ap shifted h.1.2 ∙ shift)
+    let end = halt s (4 + p) (omega arith) (omega arith) (head_walked s p fit long early plain within ends.0.fitting) off in
+    (4 + p, place_of packets s (4 + p) end (λ _. whole), h.2 ∙ ap shifted h.1.2 ∙ shift)
 
 -- ---- the whole packet
 
@@ -184,36 +160,26 @@ total_is s size wanted z =
 
 pub short_fault : (s : List ℕ) (size wanted : ℕ) → IsBytes s → 5 ≤ length s → ((i : ℕ) → i < 5 → fits_early i s (get_or s i 0) ≡ true) → SizesAre s size wanted
     → length s < 4 + size + wanted + tag_part s → GoesOff s (Short (length s))
-short_fault s size wanted fit long early z lt = (
-  length s,
-  place_of IsPacket wants_packet packet_may_follow s (length s) packets (halt s (length s) (omega arith) (omega (arith, total_is s size wanted z)) (whole_walk s size wanted fit long early z) (λ less t. omega arith)),
-  rw (eq-eqb (length s) (length s) refl) refl,
-)
-
-walked_part : (s : List ℕ) (n : ℕ) → n ≤ length s → IsWalkedPacket s (length s) → IsWalkedPacket s n
-walked_part s n le w = record {
-  fit = λ i lt. w.fit i (omega arith);
-  early = λ i lt few. w.early i (omega arith) few;
-  zeros = λ y i many lt less. w.zeros y i many (omega arith) less;
-  late = λ plain i many lt. w.late plain i many (omega arith);
-}
+short_fault s size wanted fit long early z lt =
+    let more : length s < packet_size s = omega (arith, total_is s size wanted z) in
+    let end = halt s (length s) (omega arith) (omega arith) (whole_walk s size wanted fit long early z) (λ less most t. omega arith) in
+    (length s, place_of packets s (length s) end (λ _. more), rw (eq-eqb (length s) (length s) refl) refl)
 
 pub trailing_fault : (s : List ℕ) (size wanted place : ℕ) → IsBytes s → 5 ≤ length s → ((i : ℕ) → i < 5 → fits_early i s (get_or s i 0) ≡ true) → SizesAre s size wanted
     → place ≡ 4 + size + wanted + tag_part s → place < length s → GoesOff s (Trailing place)
 trailing_fault s size wanted place fit long early z e lt =
     let total : packet_size s ≡ place = total_is s size wanted z ∙ sym e in
     let some : 16 ≤ packet_size s = size_at_least s in
-    let front : packet_size (take place s) ≡ packet_size s = size_front place s (omega arith) in
-    let len : length (take place s) ≡ place = omega (arith, length-take place s) in
-    let w = walked_part s place (omega arith) (whole_walk s size wanted fit long early z) in
+    let w = walks_from s (length s) (omega arith) (whole_walk s size wanted fit long early z) in
+    let end : EndsAt packet_size packet_may_follow s place = record {
+      within = omega arith;
+      sized = omega arith;
+      fitting = λ i less. w i (omega arith);
+      off = λ less more t. omega arith;
+    } in
     let clear : 4 + clear_size (prefix_read s).sub (get_or s 4 0) ≤ place = omega (arith, z.size_is) in (
       place,
-      place_of IsPacket wants_packet packet_may_follow s place packets (record {
-        within = omega arith;
-        walks = walks_take wants_packet packet_may_follow s place (omega arith) (λ i less. needs_at s i (omega arith) (omega arith)) (walks_from s place (omega arith) w);
-        off = λ less n t. let more : length (take place s) < packet_size (take place s) = ltb-true _ _ n in omega (arith, more, len, front);
-        short = λ past. absurd (omega arith);
-      }),
+      place_of packets s place end (λ all. absurd (omega arith)),
       rw (ne_eqb place (length s) (λ x. omega arith), le-ltb place 5 (omega arith), le-ltb place (4 + clear_size (prefix_read s).sub (get_or s 4 0)) clear) refl,
     )
 

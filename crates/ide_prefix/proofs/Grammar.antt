@@ -3,30 +3,16 @@
 use Rattle.std.proofs.Common.{◌≡◌, ℕ, zero, suc, ◌+◌, ◌-◌, ◌*◌, ◌/◌, ◌%◌, ◌<◌, ◌≤◌, Bool, true, false, cond, eqb, ltb, IsTrue, ◌&&◌, not, List, [], ◌∷◌, ◌++◌, length, get_or, take, drop, replicate, Option, Some, None, refl, sym, ap, subst, ◌∙◌, inl, inr, arith, length-append, length-take, length-drop, get_or-take, get_or-drop, take-append-drop}
 use Rattle.std.specs.Prelude.{All}
 use Rattle.std.proofs.lemmas.Bool.{true≢false, cases_lt, cases_eq, cases_Bool, ltb-true, lt-ltb, le-ltb, eq-eqb, eqb-true, ne_eqb, and_parts, and_from, agree_below_at}
-use Rattle.std.proofs.lemmas.List.{ext_get_or, drop-take, get_or_past, get_or-replicate, get_or_append_left, get_or-append_right, get_or_push, take_at}
+use Rattle.std.proofs.lemmas.List.{ext_get_or, drop-take, get_or_past, get_or-replicate, get_or_append_left, get_or-append_right}
 use Rattle.std.proofs.lemmas.List.Elements.{All-from_get_or}
-use Rattle.tlp_layout.specs.declared.layout.Layout.{Layout}
-use Rattle.tlp_layout.specs.declared.head.HeadView.{HeadView}
+use Rattle.tlp_layout.specs.{bit, head_size, has_data, layout_at, class_of, kind_class, kind_with, kind_at, head_of, rest_size, may_follow, whole_size, body_size, layout_of}
+use Rattle.ide_prefix.specs.{sub_bits, sync_at, tag_part, packet_size, packet_may_follow, sub_from, prefix_read, fits_first, fits_early, prefix_bytes, packet_bytes, IsCarried, IsSync, FitsPrefix, FitsPacket, SpellsPacket, IsPacket, sync_head, begins_sync, Prefix}
 use Rattle.tlp_layout.specs.declared.layout.Layout.TheVariants as layouts
-use Rattle.ide_types.specs.declared.sub.SubKind.{SubKind}
-use Rattle.ide_types.specs.declared.sub.SubKind.TheVariants.{Pr, Npr, Cpl}
-use Rattle.tlp_layout.specs.Numbers.{bit}
-use Rattle.ide_prefix.specs.Reading.{sync_at, tag_part, packet_size, wants_packet, fits_late, packet_may_follow}
-use Rattle.ide_prefix.specs.Causes.{sub_from, prefix_read, belongs, fits_first, fits_early}
-use Rattle.ide_prefix.specs.Packet.{prefix_bytes, packet_bytes, Packet, IsCarried, IsSync, FitsPrefix, FitsPacket, SpellsPacket, IsPacket, sync_head, begins_sync}
-use Rattle.ide_types.specs.Sub.{sub_bits}
-use Rattle.tlp_layout.specs.Causes.{head_size, has_data, layout_at}
-use Rattle.tlp_layout.specs.Class.{class_of, kind_class, kind_with, kind_at, kind_among}
-use Rattle.tlp_layout.specs.Reading.{head_of, rest_size, may_follow, whole_size}
-use Rattle.tlp_layout.specs.Tlp.{body_size}
+use Rattle.ide_prefix.specs.Reading.{fits_late}
 use Rattle.first_fault.proofs.Cells.{IsBytes, cells, drop_cells, all_bytes}
 use Rattle.ide_prefix.proofs.Units.{Prefix-of, flags, parts_of, bit_small, sub_small, sub_again, low_flags, not_sync}
-use Rattle.tlp_layout.specs.Class.{layout_of}
-use Rattle.tlp_layout.proofs.Heads.{IsRight, kept, again, back}
-use Rattle.tlp_layout.proofs.Walk.{IsWalked, fits_from, agrees_there, head_size_at_least, head_size_at_most, body_at_most, next_tlp, next_fits}
-use Rattle.first_fault.proofs.Fronts.{Walks, IsGrammar, IsStepped, grammar_of}
-use Rattle.tlp_layout.proofs.Grammar.{take_right, rest_front, walked_of}
-use Rattle.ide_prefix.specs.declared.packet.Prefix.{Prefix}
+use Rattle.first_fault.proofs.Fronts.{Fitting, IsGrammar}
+use Rattle.ide_prefix.proofs.Terms.{Layout, HeadView, SubKind, Pr, Npr, Cpl, belongs, Packet, kind_among, IsRight, kept, again, back, IsWalked, fits_from, agrees_there, head_size_at_least, next_fits, rest_front, take_right, walked_of}
 
 -- ---- what a walk says
 
@@ -80,17 +66,9 @@ size_front n s le =
     let first : 0 < n - 4 = omega arith in
     rw (sync_front n s five, drop_front n s four, rest_front (n - 4) (drop 4 s) some, get_or-take (n - 4) (drop 4 s) 0 0 first, ap (λ (x : Prefix). x.m) (prefix_front n s four)) refl
 
-pub needs_at : (s : List ℕ) (i : ℕ) → i < packet_size s → i ≤ length s → IsTrue (wants_packet (take i s))
-needs_at s i size lt =
-    let long : length (take i s) ≡ i = omega (arith, length-take i s) in
-    elim (cases_lt i 8) [
-      | inl few ↦ lt-ltb _ _ (omega (arith, long, size_at_least (take i s)))
-      | inr many ↦ lt-ltb _ _ (omega (arith, long, size_front i s many))
-    ]
-
 -- ---- a walk, and what is known of its bytes
 
-pub walks_from : (s : List ℕ) (n : ℕ) → n ≤ length s → IsWalkedPacket s n → (i : ℕ) → i < n → IsTrue (packet_may_follow (take i s) (get_or s i 0))
+pub walks_from : (s : List ℕ) (n : ℕ) → n ≤ length s → IsWalkedPacket s n → Fitting packet_may_follow s n
 walks_from s n le w i lt =
     let long : length (take i s) ≡ i = omega (arith, length-take i s) in
     and_from _ _ (lt-ltb _ _ (w.fit i lt)) (elim (cases_lt i 5) [
@@ -117,12 +95,12 @@ walked_late s i lt many t =
     let there : cond (ltb (length (take i s)) 5) (fits_early (length (take i s)) (take i s) (get_or s i 0)) (fits_late (take i s) (get_or s i 0)) ≡ true = (and_parts _ _ t).1 in
     rw (long, le-ltb i 5 many, sync_front i s many, drop_front i s four) at there
 
-walked : (s : List ℕ) → Walks wants_packet packet_may_follow s → IsWalkedPacket s (length s)
+walked : (s : List ℕ) → Fitting packet_may_follow s (length s) → IsWalkedPacket s (length s)
 walked s w = record {
-  fit = λ i lt. ltb-true _ _ (and_parts _ _ (w.fitting i lt)).0;
-  early = λ i lt few. walked_early s i lt few (w.fitting i lt);
-  zeros = λ y i many lt less. eqb-true _ _ (rw (y, lt-ltb i 16 less) at (walked_late s i lt many (w.fitting i lt)));
-  late = λ n i many lt. rw n at (walked_late s i lt many (w.fitting i lt));
+  fit = λ i lt. ltb-true _ _ (and_parts _ _ (w i lt)).0;
+  early = λ i lt few. walked_early s i lt few (w i lt);
+  zeros = λ y i many lt less. eqb-true _ _ (rw (y, lt-ltb i 16 less) at (walked_late s i lt many (w i lt)));
+  late = λ n i many lt. rw n at (walked_late s i lt many (w i lt));
 }
 
 -- ---- the parts of a walk
@@ -310,25 +288,11 @@ sync_spells s le w y size =
       record { head = head; body = refl; sub = f.1; m = mt.0; t = mt.1 },
     )
 
--- what walks is at most as long as it says
-walk_size : (s : List ℕ) → Walks wants_packet packet_may_follow s → (n : ℕ) → length s ≡ suc n → length s ≤ packet_size s
-walk_size s w n e =
-    let long : length (take n s) ≡ n = omega (arith, length-take n s) in
-    elim (cases_lt n 8) [
-      | inl few ↦ omega (arith, size_at_least s)
-      | inr many ↦
-          let less : length (take n s) < packet_size (take n s) = ltb-true _ _ (w.needed n (omega arith)) in
-          omega (arith, less, long, size_front n s many)
-    ]
-
-pub packet_whole : (s : List ℕ) → Walks wants_packet packet_may_follow s → (IsTrue (wants_packet s) → ⊥) → IsPacket s
-packet_whole s w done =
-    let le : packet_size s ≤ length s = elim (cases_lt (length s) (packet_size s)) [ inl less ↦ absurd (done (lt-ltb _ _ less)) | inr past ↦ past ] in
+packet_whole : (s : List ℕ) → Fitting packet_may_follow s (length s) → length s ≡ packet_size s → IsPacket s
+packet_whole s w size =
     let some : 16 ≤ length s = omega (arith, size_at_least s) in
-    let e : length s ≡ suc (length s - 1) = omega arith in
-    let size : length s ≡ packet_size s = omega (arith, walk_size s w (length s - 1) e) in
     elim (cases_Bool (sync_at s)) [
-      | inl y ↦ record { packet = packet_of s (take 12 (drop 4 s)) [] (drop 12 (drop 4 s)); spells = (sync_spells s (omega arith) (walked s w) y size).0 }
+      | inl y ↦ record { packet = _; spells = (sync_spells s (omega arith) (walked s w) y size).0 }
       | inr n ↦ record { packet = _; spells = carried_spells s (omega arith) (walked s w) n size }
     ]
 
@@ -467,12 +431,6 @@ first_of Pr = 64
 first_of Npr = 0
 first_of Cpl = 10
 
-abbrev next_early : ℕ → List ℕ → ℕ
-next_early n s = cond (eqb n 0) 0x92 (cond (eqb n 4) (first_of (prefix_read s).sub) 0)
-
-abbrev pub next_packet : List ℕ → ℕ
-next_packet s = cond (ltb (length s) 5) (next_early (length s) s) (cond (sync_at s) 0 (next_tlp (drop 4 s)))
-
 first_fits : (p : Prefix) (sub : SubKind) → p.sub ≡ sub → (first_of p.sub < 256) × (fits_first p (first_of p.sub) ≡ true)
 first_fits p Pr e = rw e (omega arith, refl)
 first_fits p Npr e = rw e (omega arith, refl)
@@ -482,73 +440,31 @@ either : (x : Bool) → cond x true true ≡ true
 either true = refl
 either false = refl
 
-early_next : (n : ℕ) (s : List ℕ) → n < 5 → (next_early n s < 256) × (fits_early n s (next_early n s) ≡ true)
-early_next zero s lt = (omega arith, refl)
-early_next (suc zero) s lt = (omega arith, refl)
-early_next (suc (suc zero)) s lt = (omega arith, refl)
-early_next (suc (suc (suc zero))) s lt = (omega arith, either (eqb (get_or s 1 0 % 8) 0))
-early_next (suc (suc (suc (suc zero)))) s lt = first_fits (prefix_read s) (prefix_read s).sub refl
+early_next : (n : ℕ) (s : List ℕ) → n < 5 → (b : ℕ) × (b < 256) × (fits_early n s b ≡ true)
+early_next zero s lt = (0x92, omega arith, refl)
+early_next (suc zero) s lt = (0, omega arith, refl)
+early_next (suc (suc zero)) s lt = (0, omega arith, refl)
+early_next (suc (suc (suc zero))) s lt = (0, omega arith, either (eqb (get_or s 1 0 % 8) 0))
+early_next (suc (suc (suc (suc zero)))) s lt = let f = first_fits (prefix_read s) (prefix_read s).sub refl in (_, f.0, f.1)
 early_next (suc (suc (suc (suc (suc n))))) s lt = absurd (omega arith)
 
-packet_fills : (s : List ℕ) → Walks wants_packet packet_may_follow s → IsTrue (wants_packet s) → IsTrue (packet_may_follow s (next_packet s))
-packet_fills s w needs = elim (cases_lt (length s) 5) [
-  | inl few ↦
-      let e = early_next (length s) s few in
-      rw (lt-ltb _ _ few) (and_from _ _ (lt-ltb _ _ e.0) e.1)
-  | inr many ↦ rw (le-ltb _ _ many) (elim (cases_Bool (sync_at s)) [
-    | inl y ↦ rw y (either (ltb (length s) 16))
+packet_next : (s : List ℕ) → Fitting packet_may_follow s (length s) → (b : ℕ) × IsTrue (packet_may_follow s b)
+packet_next s w = elim (cases_lt (length s) 5) [
+  | inl few ↦ let e = early_next (length s) s few in (e.0, rw (lt-ltb _ _ few) (and_from _ _ (lt-ltb _ _ e.1) e.2))
+  | inr many ↦ elim (cases_Bool (sync_at s)) [
+    | inl y ↦ (0, rw (le-ltb _ _ many, y) (either (ltb (length s) 16)))
     | inr n ↦
         let k = tail_walked s many (walked s w) n in
-        let t : may_follow (drop 4 s) (next_tlp (drop 4 s)) ≡ true = next_fits (drop 4 s) (fits_from k.0 (drop 4 s) (length (drop 4 s)) k.1 (omega arith)) in
-        rw n (and_from _ _ (and_parts _ _ t).0 t)
-  ])
+        let b = next_fits (drop 4 s) (fits_from k.0 (drop 4 s) (length (drop 4 s)) k.1 (omega arith)) in
+        (b.0, rw (le-ltb _ _ many, n) (and_from _ _ (and_parts _ _ b.1).0 b.1))
+  ]
 ]
 
-tag_at_most : (m : Bool) → cond m 12 0 ≤ 12
-tag_at_most true = omega arith
-tag_at_most false = omega arith
-
--- a packet has 4,128 bytes at most
-size_at_most : (s : List ℕ) → get_or s 7 0 < 256 → packet_size s ≤ 4128
-size_at_most s fit =
-    let b : get_or (drop 4 s) 3 0 < 256 = rw get_or-drop fit in
-    let body = body_at_most (has_data (get_or (drop 4 s) 0 0)) (256 * (get_or (drop 4 s) 2 0 % 4) + get_or (drop 4 s) 3 0) (omega arith) in
-    let head = head_size_at_most (get_or (drop 4 s) 0 0) in
-    let tag = tag_at_most (prefix_read s).m in
-    elim (cases_Bool (sync_at s)) [
-      | inl y ↦ omega (arith, size_sync s y, tag)
-      | inr n ↦ omega (arith, size_carried s n, tag, head, body)
-    ]
-
-abbrev pub left_of : List ℕ → ℕ
-left_of s = cond (ltb (length s) 8) (10000 - length s) (packet_size s - length s)
-
-packet_falls : (s : List ℕ) → Walks wants_packet packet_may_follow s → IsTrue (wants_packet s) → left_of (s ++ next_packet s ∷ []) < left_of s
-packet_falls s w needs =
-    let more : length (s ++ next_packet s ∷ []) ≡ length s + 1 = length-append s (next_packet s ∷ []) in
-    let less : length s < packet_size s = ltb-true _ _ needs in
-    elim (cases_lt (length s) 8) [
-      | inl few ↦ elim (cases_lt (length s) 7) [
-        | inl fewer ↦ rw (lt-ltb (length s) 8 few, lt-ltb (length (s ++ next_packet s ∷ [])) 8 (omega arith)) (omega arith)
-        | inr seven ↦
-            let last : get_or (s ++ next_packet s ∷ []) 7 0 ≡ next_packet s = get_or_push s (next_packet s) 0 7 (omega arith) in
-            let fit : get_or (s ++ next_packet s ∷ []) 7 0 < 256 = rw last (ltb-true _ _ (and_parts _ _ (packet_fills s w needs)).0) in
-            rw (lt-ltb (length s) 8 few, le-ltb (length (s ++ next_packet s ∷ [])) 8 (omega arith)) (omega (arith, more, size_at_most (s ++ next_packet s ∷ []) fit))
-      ]
-      | inr many ↦
-          let front : packet_size (take (length s) (s ++ next_packet s ∷ [])) ≡ packet_size (s ++ next_packet s ∷ []) = size_front (length s) (s ++ next_packet s ∷ []) many in
-          let whole : take (length s) (s ++ next_packet s ∷ []) ≡ s = take_at s (next_packet s ∷ []) (length s) refl in
-          rw (le-ltb (length s) 8 many, le-ltb (length (s ++ next_packet s ∷ [])) 8 (omega arith)) (omega (arith, more, less, front, ap packet_size whole))
-    ]
-
-stepped : IsStepped IsPacket wants_packet packet_may_follow next_packet left_of
-stepped = record {
-  walks = λ s i. let r = spelled_whole s i in record { needed = λ i lt. needs_at s i (omega (arith, r.size)) (omega arith); fitting = walks_from s (length s) (omega arith) r.walked };
-  ends = λ s i n. let r = spelled_whole s i in let less : length s < packet_size s = ltb-true _ _ n in omega (arith, r.size, less);
+pub packets : IsGrammar IsPacket packet_size packet_may_follow 8
+packets = record {
+  least = λ s. omega (arith, size_at_least s);
+  front = size_front;
+  walks = λ s i. let r = spelled_whole s i in (walks_from s (length s) (omega arith) r.walked, r.size);
   whole = packet_whole;
-  fills = packet_fills;
-  falls = packet_falls;
+  next = λ s w lt. packet_next s w;
 }
-
-pub packets : IsGrammar IsPacket wants_packet packet_may_follow
-packets = grammar_of IsPacket wants_packet packet_may_follow next_packet left_of stepped

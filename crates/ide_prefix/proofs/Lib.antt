@@ -1,3 +1,4 @@
+pub mod Terms
 pub mod Units
 pub mod Grammar
 pub mod Faults

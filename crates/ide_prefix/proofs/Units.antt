@@ -6,25 +6,10 @@ use Rattle.std.specs.Prelude.{All}
 use Rattle.std.proofs.lemmas.Bool.{ne_eqb, eq-eqb}
 use Rattle.std.proofs.lemmas.List.{get_or_append_left}
 use Rattle.std.proofs.lemmas.List.Concat.{flat_map-cons}
-use Rattle.tlp_layout.specs.declared.layout.Layout.{Layout}
-use Rattle.tlp_layout.specs.declared.head.HeadView.{HeadView}
+use Rattle.tlp_layout.specs.{head_bytes, bit, layout_at, class_of, kind_with, kind_class, head_of, rest_size, body_size, layout_of}
+use Rattle.ide_prefix.specs.{sub_bits, clear_size, sub_from, begins_sync, prefix_bytes, IsCarried, IsSync, FitsPacket, clear_bytes, authenticated, encrypted, untagged, Prefix}
 use Rattle.tlp_layout.specs.declared.layout.Layout.TheVariants as layouts
-use Rattle.ide_types.specs.declared.sub.SubKind.{SubKind}
-use Rattle.ide_types.specs.declared.sub.SubKind.TheVariants.{Pr, Npr, Cpl}
-use Rattle.tlp_layout.specs.Head.{head_bytes}
-use Rattle.tlp_layout.specs.Numbers.{bit}
-use Rattle.ide_prefix.specs.Causes.{clear_size, sub_from}
-use Rattle.ide_prefix.specs.Packet.{begins_sync, prefix_bytes, Packet, IsCarried, IsSync, FitsPacket}
-use Rattle.ide_prefix.specs.Units.{clear_bytes, authenticated, encrypted, untagged}
-use Rattle.ide_types.specs.Sub.{sub_bits}
-use Rattle.tlp_layout.specs.Causes.{layout_at}
-use Rattle.tlp_layout.specs.Class.{class_of, kind_with, kind_class}
-use Rattle.tlp_layout.specs.Reading.{head_of, rest_size}
-use Rattle.tlp_layout.specs.Tlp.{body_size}
-use Rattle.tlp_layout.specs.Class.{layout_of}
-use Rattle.tlp_layout.proofs.Heads.{IsRight, kept, again}
-use Rattle.tlp_layout.proofs.Walk.{head_size_at_least}
-use Rattle.ide_prefix.specs.declared.packet.Prefix.{Prefix}
+use Rattle.ide_prefix.proofs.Terms.{Layout, HeadView, SubKind, Pr, Npr, Cpl, Packet, IsRight, kept, again, head_size_at_least}
 
 -- ---- the prefix
 

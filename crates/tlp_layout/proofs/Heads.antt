@@ -2,7 +2,8 @@
 -- byte 0, of which all 256 values are tried; bytes 1 to 3, whose fields are sums and remainders; and the fields of its
 -- layout, whose numbers come back by the laws of std and of byteorder.
 use Rattle.std.proofs.Common.{◌≡◌, ℕ, zero, suc, ◌+◌, ◌*◌, ◌/◌, ◌%◌, ◌^◌, ◌<◌, ◌≤◌, Bool, true, false, cond, ◌&&◌, eqb, bit_and, List, [], ◌∷◌, ◌++◌, length, get_or, drop, add-zero, add-suc, suc-add, add-one, one-add, Option, Some, None, refl, sym, ap, subst, ◌∙◌, inl, inr, arith}
-use Rattle.std.proofs.lemmas.Bool.{not-true, eqb-true, eq-eqb, ne_eqb, agree_below_at, cases_lt, and_parts, and_from}
+use Rattle.std.proofs.lemmas.Bool.{not-true, eqb-true, eq-eqb, agree_below_at, cases_lt, and_parts, and_from}
+use Rattle.std.proofs.lemmas.Bool.Decides.{nat_tests}
 use Rattle.std.proofs.lemmas.List.{get_or_past, drop_more}
 use Rattle.std.proofs.lemmas.List.Elements.{All-from_get_or}
 use Rattle.std.proofs.lemmas.Nat.{be_bytes_2, be_bytes_4, be_bytes_8}
@@ -16,8 +17,7 @@ use Rattle.tlp_layout.specs.declared.head.ConfigFields.{ConfigFields}
 use Rattle.tlp_layout.specs.declared.head.MessageFields.{MessageFields}
 use Rattle.tlp_layout.specs.declared.head.CompletionFields.{CompletionFields}
 use Rattle.tlp_layout.specs.Terms.{Memory, Config, Message, Completion}
-use Rattle.tlp_layout.specs.Terms.routings
-use Rattle.tlp_layout.specs.Head.{address_limit, lead_bytes, address_bytes, field_bytes}
+use Rattle.tlp_layout.specs.Head.{type_of, tag_in, address_limit, lead_bytes, address_bytes, field_bytes}
 use Rattle.tlp_layout.specs.Inside.{Agrees}
 use Rattle.tlp_layout.specs.Reading.{address_read, lead_of, fields_of}
 use Rattle.tlp_layout.proofs.Octets.{width_of, clear_3, clear_192, clear_195, clear_240, clear_128}
@@ -140,16 +140,11 @@ pub head_size_at_least : (b : ℕ) → 12 ≤ head_size b
 head_size_at_least b =
     elim (is_wide b) as (λ (w : Bool). 12 ≤ cond w 16 12) [ true ↦ omega arith | false ↦ omega arith ]
 
--- eight bytes and what follows them
-eight : {a b c d e f g h a' b' c' d' e' f' g' h' : ℕ} {s t : List ℕ} → a ≡ a' → b ≡ b' → c ≡ c' → d ≡ d'
-    → e ∷ f ∷ [] ≡ e' ∷ f' ∷ [] → g ≡ g' → h ≡ h' → s ≡ t
-    → a ∷ b ∷ c ∷ d ∷ e ∷ f ∷ g ∷ h ∷ s ≡ a' ∷ b' ∷ c' ∷ d' ∷ e' ∷ f' ∷ g' ∷ h' ∷ t
-eight ea eb ec ed ee eg eh es = cc
+two_and : {a b a' b' : ℕ} {s t : List ℕ} → a ≡ a' → b ≡ b' → s ≡ t → a ∷ b ∷ s ≡ a' ∷ b' ∷ t
+two_and ea eb es = cc
 
 bit_is : (x : ℕ) → x < 2 → bit (eqb x 1) ≡ x
-bit_is zero lt = refl
-bit_is (suc zero) lt = refl
-bit_is (suc (suc x)) lt = absurd (omega arith)
+bit_is x lt = grind (arith, nat_tests)
 
 status_back : (n : ℕ) → n < 8 → status_bits (status_from n) ≡ n
 status_back n lt =
@@ -183,91 +178,90 @@ last_in : (w : Bool) (b0 b1 b2 b3 b4 b5 b6 b7 : ℕ) (t : List ℕ)
 last_in true b0 b1 b2 b3 b4 b5 b6 b7 t = refl
 last_in false b0 b1 b2 b3 b4 b5 b6 b7 t = refl
 
-spelled_by : (k : Layout) (s : List ℕ) → IsBytes s → FitsFields (lead_of s) (fields_of k s) → head_bytes (head_of k s) ≡ s
-    → SpellsHead (head_of k s) s
-spelled_by k s fit fields e = record { fits = record { lead = fits_lead s fit; fields = fields }; spelled = sym e }
+early_clear : (k : Layout) (size b1 b2 : ℕ) → b1 < 256 → b2 < 256 → allowed k size 1 b1 ≡ true → allowed k size 2 b2 ≡ true
+    → (b1 % 4 ≡ 0) × (b2 < 64)
+early_clear layouts.Memory size b1 b2 f1 f2 a1 a2 = ((clear_3 b1 f1).0 (and_parts _ _ a1).0, (clear_192 b2 f2).0 (and_parts _ _ a2).0)
+early_clear layouts.Config size b1 b2 f1 f2 a1 a2 = ((clear_3 b1 f1).0 (and_parts _ _ a1).0, ((clear_195 b2 f2).0 (and_parts _ _ a2).0).0)
+early_clear layouts.Message size b1 b2 f1 f2 a1 a2 = ((clear_3 b1 f1).0 (and_parts _ _ a1).0, (clear_192 b2 f2).0 (and_parts _ _ a2).0)
+early_clear layouts.Completion size b1 b2 f1 f2 a1 a2 = ((clear_3 b1 f1).0 (and_parts _ _ a1).0, (clear_192 b2 f2).0 (and_parts _ _ a2).0)
+
+-- the first six bytes come back in each layout; low is the byte of the tag, and x what is written behind them
+back_by : (k : Layout) (b0 b1 b2 b3 b4 b5 low : ℕ) (r x : List ℕ) → IsRight k (b0 ∷ b1 ∷ b2 ∷ b3 ∷ b4 ∷ b5 ∷ r) → low < 256
+    → type_of (fields_of k (b0 ∷ b1 ∷ b2 ∷ b3 ∷ b4 ∷ b5 ∷ r)) ≡ type_from k b0
+    → tag_in (fields_of k (b0 ∷ b1 ∷ b2 ∷ b3 ∷ b4 ∷ b5 ∷ r)) ≡ 512 * (b1 / 128) + 256 * (b1 / 8 % 2) + low
+    → field_bytes (is_wide b0) (fields_of k (b0 ∷ b1 ∷ b2 ∷ b3 ∷ b4 ∷ b5 ∷ r)) ≡ big_bytes 2 (big_number 2 (b4 ∷ b5 ∷ r)) ++ x → x ≡ r
+    → FitsFields (lead_of (b0 ∷ b1 ∷ b2 ∷ b3 ∷ b4 ∷ b5 ∷ r)) (fields_of k (b0 ∷ b1 ∷ b2 ∷ b3 ∷ b4 ∷ b5 ∷ r))
+    → SpellsHead (head_of k (b0 ∷ b1 ∷ b2 ∷ b3 ∷ b4 ∷ b5 ∷ r)) (b0 ∷ b1 ∷ b2 ∷ b3 ∷ b4 ∷ b5 ∷ r)
+back_by k b0 b1 b2 b3 b4 b5 low r x right lt type tag fields rest fit =
+    let z = early_clear k _ b1 b2 (right.fit 1) (right.fit 2) (right.agrees 1 (omega arith) (omega arith)) (right.agrees 2 (omega arith) (omega arith)) in
+    let e0 = first_back k b0 (right.fit 0) right.kind in
+    let e1 = second_back b1 b2 low (right.fit 1) z.0 lt in
+    let e2 = third_back b1 b2 b3 z.1 (right.fit 3) in
+    let e3 = low_back (b2 % 4) b3 (right.fit 3) in
+    let number = number_2 (b4 ∷ b5 ∷ r) (λ i. right.fit (suc (suc (suc (suc i))))) in
+    let behind = fields ∙ ap (λ (l : List ℕ). l ++ x) number ∙ ap (λ (l : List ℕ). b4 ∷ b5 ∷ l) rest in
+    record { fits = record { lead = fits_lead (b0 ∷ b1 ∷ b2 ∷ b3 ∷ b4 ∷ b5 ∷ r) right.fit; fields = fit }; spelled = sym (rw (type, tag, behind, e0, e1, e2, e3) refl) }
 
 back_8 : (k : Layout) (b0 b1 b2 b3 b4 b5 b6 b7 : ℕ) (t : List ℕ)
-    → IsRight k (b0 ∷ b1 ∷ b2 ∷ b3 ∷ b4 ∷ b5 ∷ b6 ∷ b7 ∷ t)
+    → IsRight k (b0 ∷ b1 ∷ b2 ∷ b3 ∷ b4 ∷ b5 ∷ b6 ∷ b7 ∷ t) → length (b0 ∷ b1 ∷ b2 ∷ b3 ∷ b4 ∷ b5 ∷ b6 ∷ b7 ∷ t) ≡ head_size b0
+    → big_number 2 (b4 ∷ b5 ∷ b6 ∷ b7 ∷ t) < 2 ^ 16 → IsBytes t
     → SpellsHead (head_of k (b0 ∷ b1 ∷ b2 ∷ b3 ∷ b4 ∷ b5 ∷ b6 ∷ b7 ∷ t)) (b0 ∷ b1 ∷ b2 ∷ b3 ∷ b4 ∷ b5 ∷ b6 ∷ b7 ∷ t)
-back_8 layouts.Memory b0 b1 b2 b3 b4 b5 b6 b7 t r =
-    let s = b0 ∷ b1 ∷ b2 ∷ b3 ∷ b4 ∷ b5 ∷ b6 ∷ b7 ∷ t in
+back_8 layouts.Memory b0 b1 b2 b3 b4 b5 b6 b7 t r size number behind =
     let f7 : b7 < 256 = r.fit 7 in
-    let behind : IsBytes t = λ i. r.fit (suc (suc (suc (suc (suc (suc (suc (suc i)))))))) in
-    let some : 8 ≤ length s = omega arith in
-    let z1 = (clear_3 b1 (r.fit 1)).0 (clear_at layouts.Memory s 1 r (omega arith) (omega arith)) in
-    let z2 = (clear_192 b2 (r.fit 2)).0 (clear_at layouts.Memory s 2 r (omega arith) (omega arith)) in
     let z = sym (last_in (is_wide b0) b0 b1 b2 b3 b4 b5 b6 b7 t) in
-    let address = address_fits (is_wide b0) t behind (ap (λ (x : ℕ). x % 4) z ∙ last_clear s (is_wide b0) r refl) in
-    let from_4 = b4 ∷ b5 ∷ b6 ∷ b7 ∷ t in
-    let numbers : IsBytes from_4 = λ i. r.fit (suc (suc (suc (suc i)))) in
-    spelled_by layouts.Memory s r.fit (number_below from_4 numbers, tag_fits b1 b6 (r.fit 1) (r.fit 6), omega arith, omega arith, address.0, address.1) (eight (first_back layouts.Memory b0 (r.fit 0) r.kind)
-    (second_back b1 b2 b6 (r.fit 1) z1 (r.fit 6))
-    (third_back b1 b2 b3 z2 (r.fit 3)) (low_back (b2 % 4) b3 (r.fit 3)) (number_2 from_4 numbers) (tag_back b1 b6 (r.fit 6))
-    (halves_back b7) (address_back (is_wide b0) t behind (rest_long (is_wide b0) (length t) (omega (arith, r.size)))))
-back_8 layouts.Config b0 b1 b2 b3 b4 b5 b6 b7 t r =
+    let last = last_clear (b0 ∷ b1 ∷ b2 ∷ b3 ∷ b4 ∷ b5 ∷ b6 ∷ b7 ∷ t) (is_wide b0) r refl in
+    let address = address_fits (is_wide b0) t behind (ap (λ (x : ℕ). x % 4) z ∙ last) in
+    let tail = address_back (is_wide b0) t behind (rest_long (is_wide b0) (length t) (omega arith)) in
+    back_by layouts.Memory b0 b1 b2 b3 b4 b5 b6 _ _ r (r.fit 6) refl refl refl (two_and (tag_back b1 b6 (r.fit 6)) (halves_back b7) tail)
+    (number, tag_fits b1 b6 (r.fit 1) (r.fit 6), omega arith, omega arith, address.0, address.1)
+back_8 layouts.Config b0 b1 b2 b3 b4 b5 b6 b7 t r size number behind =
     let s = b0 ∷ b1 ∷ b2 ∷ b3 ∷ b4 ∷ b5 ∷ b6 ∷ b7 ∷ t in
     let f7 : b7 < 256 = r.fit 7 in
     let wide : is_wide b0 ≡ false = not-true _ (width_of layouts.Config b0 (r.fit 0) r.kind) in
-    let long : length s ≡ 12 = r.size ∙ ap (λ (w : Bool). cond w 16 12) wide in
-    let behind : IsBytes t = λ i. r.fit (suc (suc (suc (suc (suc (suc (suc (suc i)))))))) in
-    let z1 = (clear_3 b1 (r.fit 1)).0 (clear_at layouts.Config s 1 r (omega arith) (omega arith)) in
+    let long : length s ≡ 12 = size ∙ ap (λ (w : Bool). cond w 16 12) wide in
     let z2 = (clear_195 b2 (r.fit 2)).0 (clear_at layouts.Config s 2 r (omega arith) (omega arith)) in
     let z10 = (clear_240 (get_or t 2 0) (r.fit 10)).0 (clear_at layouts.Config s 10 r (omega arith) (omega arith)) in
     let z11 = (clear_3 (get_or t 3 0) (r.fit 11)).0 (clear_at layouts.Config s 11 r (omega arith) (omega arith)) in
     let one : b3 ≡ 1 = eqb-true _ _ (and_parts (eqb (bit_and 0 b3) 0) (eqb b3 1) (r.agrees 3 (omega arith) (omega arith))).1 in
     let f11 : get_or t 3 0 < 256 = r.fit 11 in
-    let from_4 = b4 ∷ b5 ∷ b6 ∷ b7 ∷ t in
-    let numbers : IsBytes from_4 = λ i. r.fit (suc (suc (suc (suc i)))) in
-    spelled_by layouts.Config s r.fit (wide, omega (arith, z2.1), number_below from_4 numbers, tag_fits b1 b6 (r.fit 1) (r.fit 6), omega arith, omega arith, number_below t behind, omega arith)
-    (eight (first_back layouts.Config b0 (r.fit 0) r.kind) (second_back b1 b2 b6 (r.fit 1) z1 (r.fit 6))
-    (third_back b1 b2 b3 z2.0 (r.fit 3)) (low_back (b2 % 4) b3 (r.fit 3)) (number_2 from_4 numbers) (tag_back b1 b6 (r.fit 6))
-    (halves_back b7) (config_tail t behind (omega arith) z11))
-back_8 layouts.Message b0 b1 b2 b3 b4 b5 b6 b7 t r =
-    let s = b0 ∷ b1 ∷ b2 ∷ b3 ∷ b4 ∷ b5 ∷ b6 ∷ b7 ∷ t in
+    let tail = config_tail t behind (omega arith) z11 in
+    back_by layouts.Config b0 b1 b2 b3 b4 b5 b6 _ _ r (r.fit 6) refl refl refl (two_and (tag_back b1 b6 (r.fit 6)) (halves_back b7) tail)
+    (wide, omega (arith, z2.1), number, tag_fits b1 b6 (r.fit 1) (r.fit 6), omega arith, omega arith, number_below t behind, omega arith)
+back_8 layouts.Message b0 b1 b2 b3 b4 b5 b6 b7 t r size number behind =
     let wide : is_wide b0 ≡ true = width_of layouts.Message b0 (r.fit 0) r.kind in
-    let long : length s ≡ 16 = r.size ∙ ap (λ (w : Bool). cond w 16 12) wide in
-    let behind : IsBytes t = λ i. r.fit (suc (suc (suc (suc (suc (suc (suc (suc i)))))))) in
-    let z1 = (clear_3 b1 (r.fit 1)).0 (clear_at layouts.Message s 1 r (omega arith) (omega arith)) in
-    let z2 = (clear_192 b2 (r.fit 2)).0 (clear_at layouts.Message s 2 r (omega arith) (omega arith)) in
-    let same : b7 ≡ b7 = refl in
-    let kept : IsBytes (cells 8 0 t) = subst IsBytes (drop_cells 8 0 t (omega arith)) behind in
-    let from_4 = b4 ∷ b5 ∷ b6 ∷ b7 ∷ t in
-    let numbers : IsBytes from_4 = λ i. r.fit (suc (suc (suc (suc i)))) in
-    spelled_by layouts.Message s r.fit (wide, number_below from_4 numbers, tag_fits b1 b6 (r.fit 1) (r.fit 6), r.fit 7, number_below t behind, refl, All-from_get_or (λ (b : ℕ). b < 256) (cells 6 2 t) 0 (λ i lt. kept (suc (suc i))))
-    (eight (first_back layouts.Message b0 (r.fit 0) r.kind) (second_back b1 b2 b6 (r.fit 1) z1 (r.fit 6))
-    (third_back b1 b2 b3 z2 (r.fit 3)) (low_back (b2 % 4) b3 (r.fit 3)) (number_2 from_4 numbers) (tag_back b1 b6 (r.fit 6))
-    same (message_tail t behind (omega arith)))
-back_8 layouts.Completion b0 b1 b2 b3 b4 b5 b6 b7 t r =
+    let long : length t ≡ 8 = rest_long true (length t) (omega (arith, size ∙ ap (λ (w : Bool). cond w 16 12) wide)) in
+    let kept : IsBytes (cells 8 0 t) = subst IsBytes (drop_cells 8 0 t long) behind in
+    let bytes = All-from_get_or (λ (b : ℕ). b < 256) (cells 6 2 t) 0 (λ i lt. kept (suc (suc i))) in
+    back_by layouts.Message b0 b1 b2 b3 b4 b5 b6 _ _ r (r.fit 6) refl refl refl (two_and (tag_back b1 b6 (r.fit 6)) refl (message_tail t behind long))
+    (wide, number, tag_fits b1 b6 (r.fit 1) (r.fit 6), r.fit 7, number_below t behind, refl, bytes)
+back_8 layouts.Completion b0 b1 b2 b3 b4 b5 b6 b7 t r size number behind =
     let s = b0 ∷ b1 ∷ b2 ∷ b3 ∷ b4 ∷ b5 ∷ b6 ∷ b7 ∷ t in
     let f6 : b6 < 256 = r.fit 6 in
     let f7 : b7 < 256 = r.fit 7 in
     let wide : is_wide b0 ≡ false = not-true _ (width_of layouts.Completion b0 (r.fit 0) r.kind) in
-    let long : length s ≡ 12 = r.size ∙ ap (λ (w : Bool). cond w 16 12) wide in
-    let behind : IsBytes t = λ i. r.fit (suc (suc (suc (suc (suc (suc (suc (suc i)))))))) in
-    let z1 = (clear_3 b1 (r.fit 1)).0 (clear_at layouts.Completion s 1 r (omega arith) (omega arith)) in
-    let z2 = (clear_192 b2 (r.fit 2)).0 (clear_at layouts.Completion s 2 r (omega arith) (omega arith)) in
+    let long : length s ≡ 12 = size ∙ ap (λ (w : Bool). cond w 16 12) wide in
     let z11 = (clear_128 (get_or t 3 0) (r.fit 11)).0 (clear_at layouts.Completion s 11 r (omega arith) (omega arith)) in
     let status = status_back (b6 / 32) (omega arith) in
-    let from_4 = b4 ∷ b5 ∷ b6 ∷ b7 ∷ t in
-    let numbers : IsBytes from_4 = λ i. r.fit (suc (suc (suc (suc i)))) in
-    spelled_by layouts.Completion s r.fit (
+    let tail = completion_tail b1 t behind (omega arith) in
+    back_by layouts.Completion b0 b1 b2 b3 b4 b5 (get_or t 2 0) _ _ r (r.fit 10) refl refl refl
+    (two_and (status_byte_back b6 b7 f6 f7) (low_back (b6 % 16) b7 f7) tail) (
       wide,
-      number_below from_4 numbers,
+      number,
       (omega (arith, status), ap status_from status),
       omega arith,
       number_below t behind,
       tag_fits b1 (get_or t 2 0) (r.fit 1) (r.fit 10),
       z11,
-    ) (eight (first_back layouts.Completion b0 (r.fit 0) r.kind) (second_back b1 b2 (get_or t 2 0) (r.fit 1) z1 (r.fit 10))
-    (third_back b1 b2 b3 z2 (r.fit 3)) (low_back (b2 % 4) b3 (r.fit 3)) (number_2 from_4 numbers) (status_byte_back b6 b7 f6 f7)
-    (low_back (b6 % 16) b7 f7) (completion_tail b1 t behind (omega arith)))
+    )
 
 pub back : (k : Layout) (s : List ℕ) → IsRight k s → SpellsHead (head_of k s) s
 back k s r =
     let some : 12 ≤ length s = omega (arith, r.size, head_size_at_least (get_or s 0 0)) in
     let is : s ≡ cells 8 0 s ++ drop 8 s = front_cells 8 0 s (omega arith) in
-    subst (λ (x : List ℕ). SpellsHead (head_of k x) x) (sym is) (back_8 k _ _ _ _ _ _ _ _ (drop 8 s) (subst (IsRight k) is r))
+    let right = subst (IsRight k) is r in
+    let bytes : IsBytes (drop 8 s) = λ i. right.fit (suc (suc (suc (suc (suc (suc (suc (suc i)))))))) in
+    let number = number_below (cells 4 4 s ++ drop 8 s) (λ i. right.fit (suc (suc (suc (suc i))))) in
+    subst (λ (x : List ℕ). SpellsHead (head_of k x) x) (sym is) (back_8 k _ _ _ _ _ _ _ _ (drop 8 s) right right.size number bytes)
 
 -- ---- what is written is right
 
@@ -298,10 +292,7 @@ agrees_of k b bs f n le (suc i) pos lt = rw one-add at ((fit_at k (head_size b) 
 first_is : (p w : Bool) (t : ℕ) → t < 32
     → (is_wide (0x40 * bit p + 0x20 * bit w + t) ≡ w) × (has_data (0x40 * bit p + 0x20 * bit w + t) ≡ p)
     × (0x40 * bit p + 0x20 * bit w + t < 256)
-first_is true true t lt = (eq-eqb _ _ (omega arith), eq-eqb _ _ (omega arith), omega arith)
-first_is true false t lt = (ne_eqb _ _ (λ e. omega arith), eq-eqb _ _ (omega arith), omega arith)
-first_is false true t lt = (eq-eqb _ _ (omega arith), ne_eqb _ _ (λ e. omega arith), omega arith)
-first_is false false t lt = (ne_eqb _ _ (λ e. omega arith), ne_eqb _ _ (λ e. omega arith), omega arith)
+first_is p w t lt = grind (arith, nat_tests)
 
 -- byte 0, and bytes that may stand behind it
 right : (k : Layout) (p w : Bool) (t : ℕ) (bs : List ℕ) → layout_at (0x40 * bit p + 0x20 * bit w + t) ≡ Some k → t < 32
@@ -320,35 +311,16 @@ right k p w t bs kind lt long f =
 
 -- the layout that byte 0 of a header names
 memory_kind : (p w : Bool) → layout_at (0x40 * bit p + 0x20 * bit w + 0x00) ≡ Some layouts.Memory
-memory_kind true true = refl
-memory_kind true false = refl
-memory_kind false true = refl
-memory_kind false false = refl
+memory_kind p w = grind arith
 
 config_kind : (p one : Bool) → layout_at (0x40 * bit p + 0x20 * bit false + (0x04 + bit one)) ≡ Some layouts.Config
-config_kind true true = refl
-config_kind true false = refl
-config_kind false true = refl
-config_kind false false = refl
+config_kind p one = grind arith
 
-message_kind : (r : Routing) (p : Bool)
-    → layout_at (0x40 * bit p + 0x20 * bit true + (0x10 + routing_bits r)) ≡ Some layouts.Message
-message_kind routings.ToRootComplex true = refl
-message_kind routings.ToRootComplex false = refl
-message_kind routings.ByAddress true = refl
-message_kind routings.ByAddress false = refl
-message_kind routings.ById true = refl
-message_kind routings.ById false = refl
-message_kind routings.FromRootComplex true = refl
-message_kind routings.FromRootComplex false = refl
-message_kind routings.Local true = refl
-message_kind routings.Local false = refl
-message_kind routings.Gathered true = refl
-message_kind routings.Gathered false = refl
+message_at : (n : ℕ) (p : Bool) → n < 6 → layout_at (0x40 * bit p + 0x20 * bit true + (0x10 + n)) ≡ Some layouts.Message
+message_at n p lt = grind (arith, nat_tests)
 
 completion_kind : (p : Bool) → layout_at (0x40 * bit p + 0x20 * bit false + 0x0a) ≡ Some layouts.Completion
-completion_kind true = refl
-completion_kind false = refl
+completion_kind p = grind arith
 
 low_byte : (n : ℕ) → n % 256 < 256
 low_byte n = omega arith
@@ -379,29 +351,17 @@ status_again : (status : ℕ) (bcm : Bool) (count : ℕ) → status < 8 → coun
     × (eqb ((0x20 * status + 0x10 * bit bcm + count / 256) / 16 % 2) 1 ≡ bcm)
     × (256 * ((0x20 * status + 0x10 * bit bcm + count / 256) % 16) + count % 256 ≡ count)
     × (0x20 * status + 0x10 * bit bcm + count / 256 < 256)
-status_again status true count ls lc = (omega arith, eq-eqb _ _ (omega arith), omega arith, omega arith)
-status_again status false count ls lc = (omega arith, ne_eqb _ _ (λ e. omega arith), omega arith, omega arith)
+status_again status bcm count ls lc = grind (arith, nat_tests)
 
 memory_fit : (w : Bool) (f : MemoryFields) (l : Lead) → FitsLead l → FitsFields l (Memory f)
     → FitFrom layouts.Memory (cond w 16 12) 1 (lead_bytes l f.tag ++ field_bytes w (Memory f))
 memory_fit w f l fl ff =
     let be = halves_small f.last_be f.first_be ff.2 ff.3 in
     let last = cleared (f.address % 256) (low_byte f.address) (omega (arith, ff.4)) in
+    let third = and_from _ _ (plain_third l fl) refl in
     elim w as (λ (v : Bool). FitFrom layouts.Memory (cond v 16 12) 1 (lead_bytes l f.tag ++ field_bytes v (Memory f))) [
-      | true ↦
-          let low : FitFrom layouts.Memory 16 12 (big_bytes 4 f.address) =
-          (low_byte _, refl, (low_byte _, refl, (low_byte _, refl, (low_byte _, last, tt)))) in
-          let high : FitFrom layouts.Memory 16 8 (big_bytes 8 f.address) =
-          (low_byte _, refl, (low_byte _, refl, (low_byte _, refl, (low_byte _, refl, low)))) in
-          let more : FitFrom layouts.Memory 16 4 (field_bytes true (Memory f)) =
-          (low_byte _, refl, (low_byte _, refl, (low_byte _, refl, (be, refl, high)))) in
-          lead_fit layouts.Memory 16 l f.tag (field_bytes true (Memory f)) cleared (and_from _ _ (plain_third l fl) refl) refl fl ff.1 more
-      | false ↦
-          let low : FitFrom layouts.Memory 12 8 (big_bytes 4 f.address) =
-          (low_byte _, refl, (low_byte _, refl, (low_byte _, refl, (low_byte _, last, tt)))) in
-          let more : FitFrom layouts.Memory 12 4 (field_bytes false (Memory f)) =
-          (low_byte _, refl, (low_byte _, refl, (low_byte _, refl, (be, refl, low)))) in
-          lead_fit layouts.Memory 12 l f.tag (field_bytes false (Memory f)) cleared (and_from _ _ (plain_third l fl) refl) refl fl ff.1 more
+      | true ↦ lead_fit layouts.Memory 16 l f.tag (field_bytes true (Memory f)) cleared third refl fl ff.1 (search (low_byte, last, be) depth 20)
+      | false ↦ lead_fit layouts.Memory 12 l f.tag (field_bytes false (Memory f)) cleared third refl fl ff.1 (search (low_byte, last, be) depth 20)
     ]
 
 memory_long : (w : Bool) (f : MemoryFields) → suc (suc (suc (suc (length (field_bytes w (Memory f)))))) ≡ cond w 16 12
@@ -419,23 +379,18 @@ config_fit f l fl ff =
     let low : 0x04 * (f.register % 64) < 256 = omega arith in
     let be = halves_small f.last_be f.first_be ff.4 ff.5 in
     let h = and_from _ _ ((clear_240 _ (omega arith)).1 high) refl in
-    let rest : FitFrom layouts.Config 12 8 (drop 4 (field_bytes false (Config f))) =
-    (low_byte _, refl, (low_byte _, refl, (omega arith, h, (low, cleared _ low (omega arith), tt)))) in
-    let more : FitFrom layouts.Config 12 4 (field_bytes false (Config f)) =
-    (low_byte _, refl, (low_byte _, refl, (low_byte _, refl, (be, refl, rest)))) in
+    let small : f.register / 64 < 256 = omega arith in
+    let last = cleared _ low (omega arith) in
+    let more : FitFrom layouts.Config 12 4 (field_bytes false (Config f)) = search (low_byte, be, small, h, low, last) depth 20 in
     lead_fit layouts.Config 12 l f.tag (field_bytes false (Config f)) cleared (and_from _ _ clear refl) one fl ff.3 more
 
 message_fit : (f : MessageFields) (l : Lead) → FitsLead l → FitsFields l (Message f)
     → FitFrom layouts.Message 16 1 (lead_bytes l f.tag ++ field_bytes true (Message f))
 message_fit f l fl ff =
     let k = all_bytes f.kept ff.6 in
-    let six : FitFrom layouts.Message 16 10 (cells 6 0 f.kept) =
-    (k 0, refl, (k 1, refl, (k 2, refl, (k 3, refl, (k 4, refl, (k 5, refl, tt)))))) in
+    let six : FitFrom layouts.Message 16 10 (cells 6 0 f.kept) = search k depth 20 in
     let rest = subst (FitFrom layouts.Message 16 10) (sym (drop_cells 6 0 f.kept ff.5)) six in
-    let ids : FitFrom layouts.Message 16 8 (big_bytes 2 f.destination ++ f.kept) =
-    (low_byte _, refl, (low_byte _, refl, rest)) in
-    let more : FitFrom layouts.Message 16 4 (field_bytes true (Message f)) =
-    (low_byte _, refl, (low_byte _, refl, (low_byte _, refl, (ff.3, refl, ids)))) in
+    let more : FitFrom layouts.Message 16 4 (field_bytes true (Message f)) = search (low_byte, ff.3, rest) depth 20 in
     lead_fit layouts.Message 16 l f.tag (field_bytes true (Message f)) cleared (and_from _ _ (plain_third l fl) refl) refl fl ff.2 more
 
 completion_fit : (f : CompletionFields) (l : Lead) → FitsLead l → FitsFields l (Completion f)
@@ -444,26 +399,17 @@ completion_fit f l fl ff =
     let status = (status_again (status_bits f.status) f.bcm f.count ff.2.0 ff.3).3 in
     let lower : f.lower < 256 = omega (arith, ff.6) in
     let clear = and_from _ _ ((clear_128 f.lower lower).1 ff.6) refl in
-    let rest : FitFrom layouts.Completion 12 8 (drop 4 (field_bytes false (Completion f))) =
-    (low_byte _, refl, (low_byte _, refl, (low_byte _, refl, (lower, clear, tt)))) in
-    let more : FitFrom layouts.Completion 12 4 (field_bytes false (Completion f)) =
-    (low_byte _, refl, (low_byte _, refl, (status, refl, (low_byte _, refl, rest)))) in
+    let more : FitFrom layouts.Completion 12 4 (field_bytes false (Completion f)) = search (low_byte, status, lower, clear) depth 20 in
     lead_fit layouts.Completion 12 l f.tag (field_bytes false (Completion f)) cleared (and_from _ _ (plain_third l fl) refl) refl fl ff.5 more
 
-routing_again : (r : Routing) → (routing_bits r < 8) × (routing_from (routing_bits r) ≡ r)
-routing_again routings.ToRootComplex = (omega arith, refl)
-routing_again routings.ByAddress = (omega arith, refl)
-routing_again routings.ById = (omega arith, refl)
-routing_again routings.FromRootComplex = (omega arith, refl)
-routing_again routings.Local = (omega arith, refl)
-routing_again routings.Gathered = (omega arith, refl)
+routing_again : (r : Routing) → (routing_bits r < 6) × (routing_from (routing_bits r) ≡ r)
+routing_again r = grind arith
 
 abbrev head_with : Lead → Bool → Fields → HeadView
 head_with l p f = record { lead = l; has_payload = p; fields = f }
 
 type_small : (one : Bool) → 0x04 + bit one < 32
-type_small true = omega arith
-type_small false = omega arith
+type_small one = grind arith
 
 kept_fields : (l : Lead) (p : Bool) (f : Fields) → FitsLead l → FitsFields l f
     → IsRight (layout_of f) (head_bytes (head_with l p f))
@@ -473,8 +419,8 @@ kept_fields l p (Config f) fl ff =
     let type = type_small f.one in
     rw ff.0 (right layouts.Config p false (0x04 + bit f.one) _ (config_kind p f.one) type refl (config_fit f l fl ff))
 kept_fields l p (Message f) fl ff =
-    let type : 0x10 + routing_bits f.routing < 32 = omega (arith, (routing_again f.routing).0) in
-    rw ff.0 (right layouts.Message p true (0x10 + routing_bits f.routing) _ (message_kind f.routing p) type (rw ff.5 refl) (message_fit f l fl ff))
+    let small : routing_bits f.routing < 6 = (routing_again f.routing).0 in
+    rw ff.0 (right layouts.Message p true (0x10 + routing_bits f.routing) _ (message_at (routing_bits f.routing) p small) (omega arith) (rw ff.5 refl) (message_fit f l fl ff))
 kept_fields l p (Completion f) fl ff =
     rw ff.0 (right layouts.Completion p false 0x0a _ (completion_kind p) (omega arith) refl (completion_fit f l fl ff))
 
@@ -504,8 +450,7 @@ tag_again : (l : Lead) (tag : ℕ) → FitsLead l → tag < 1024
 tag_again l tag fl lt = omega (arith, fl.tc, fl.attr)
 
 one_again : (p w one : Bool) → eqb ((0x40 * bit p + 0x20 * bit w + (0x04 + bit one)) % 32) 0x05 ≡ one
-one_again p w true = eq-eqb _ _ (omega arith)
-one_again p w false = ne_eqb _ _ (λ e. omega arith)
+one_again p w one = grind (arith, nat_tests)
 
 halves_again : (a b : ℕ) → b < 16 → ((0x10 * a + b) / 16 ≡ a) × ((0x10 * a + b) % 16 ≡ b)
 halves_again a b lt = (omega arith, omega arith)

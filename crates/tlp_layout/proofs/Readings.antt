@@ -1,20 +1,14 @@
 -- The readings are those of the grammar: what they read is spelled so, and what they refuse goes off there.
-use Rattle.std.proofs.Common.{◌≡◌, ℕ, ◌≤◌, Bool, List, [], ◌++◌, length, cond, get_or, take, drop, Option, unwrap_or, Result, Ok, Err, refl, sym, ap, subst, ◌∙◌, arith, append-nil, ◌<◌}
+use Rattle.std.proofs.Common.{◌≡◌, ℕ, ◌≤◌, Bool, List, [], ◌++◌, length, cond, get_or, take, drop, Option, unwrap_or, Result, Ok, Err, refl, sym, ap, ◌∙◌, arith, append-nil, ◌<◌}
 use Rattle.std.specs.Prelude.{All, ◌↔◌, IfOk, IfErr, MatchResult}
 use Rattle.std.proofs.Math.Seq.{drop-append_seam, take-append_seam}
-use Rattle.first_fault.proofs.Walks.{IsReadable, reads, read_spells, refuses, refused_at}
-use Rattle.tlp_layout.specs.{Layout, TlpFault, HeadView, TlpView, head_bytes, head_length, FitsHead, SpellsHead, IsHead, body_size, FitsTlp, tlp_bytes, SpellsTlp, IsTlp, header, body, with_payload, view_of, viewed, head_size, fault_at, IsFault, IsHeadFault, head_of, head_read, tlp_read, may_follow, wants_head, wants_tlp, read_head_of, read_of}
+use Rattle.first_fault.proofs.Walks.{reads_iff, refuses_iff}
+use Rattle.tlp_layout.specs.{Layout, TlpFault, HeadView, TlpView, head_bytes, head_length, FitsHead, SpellsHead, body_size, FitsTlp, tlp_bytes, SpellsTlp, header, body, with_payload, view_of, viewed, head_size, fault_at, IsFault, IsHeadFault, head_of, head_read, tlp_read, read_head_of, read_of}
 use Rattle.tlp_layout.specs.Terms.{Tlp}
 use Rattle.tlp_layout.specs.Terms.layouts
 use Rattle.tlp_layout.proofs.Heads.{kept, again}
 use Rattle.tlp_layout.proofs.Walk.{body_at_most}
-use Rattle.tlp_layout.proofs.Grammar.{spells_with, heads, tlps, head_whole, tlp_whole}
-
-pub readable_heads : IsReadable IsHead wants_head may_follow
-readable_heads = record { grammar = heads; whole = head_whole }
-
-pub readable_tlps : IsReadable IsTlp wants_tlp may_follow
-readable_tlps = record { grammar = tlps; whole = tlp_whole }
+use Rattle.tlp_layout.proofs.Grammar.{spells_with, heads, tlps}
 
 -- ---- the value of what is spelled
 
@@ -68,35 +62,19 @@ same_head h k s p q = sym (head_value h s p) ∙ head_value k s q
 
 pub read_head_spells : (h : HeadView) (s : List ℕ) → (SpellsHead h s) ↔ (read_head_of s ≡ Ok h)
 unfolding read_head_of
-read_head_spells h s = (
-  λ p. reads IsHead wants_head may_follow head_read fault_at s readable_heads (record { head = h; spells = p }) ∙ ap (λ (x : HeadView). Ok x) (head_value h s p),
-  λ e.
-      let r = read_spells IsHead wants_head may_follow head_read fault_at s h readable_heads e in
-      subst (λ (x : HeadView). SpellsHead x s) (sym (head_value r.0.head s r.0.spells) ∙ r.1) r.0.spells,
-)
+read_head_spells = reads_iff heads head_read fault_at SpellsHead (λ s x. (x.head, x.spells)) (λ h s p. (record { head = h; spells = p }, head_value h s p))
 
 pub read_head_refuses : (f : TlpFault) (s : List ℕ) → (IsHeadFault s f) ↔ (read_head_of s ≡ Err f)
 unfolding read_head_of
-read_head_refuses f s = (
-  λ p. refuses IsHead wants_head may_follow head_read fault_at s p.0 readable_heads p.1 ∙ ap (λ (x : TlpFault). Err x) (sym p.2),
-  λ e. refused_at IsHead wants_head may_follow head_read fault_at s f readable_heads e,
-)
+read_head_refuses = refuses_iff heads head_read fault_at
 
 pub read_spells_tlp : (t : Tlp) (s : List ℕ) → (SpellsTlp t s) ↔ (read_of s ≡ Ok t)
 unfolding read_of
-read_spells_tlp t s = (
-  λ p. reads IsTlp wants_tlp may_follow tlp_read fault_at s readable_tlps (record { tlp = t; spells = p }) ∙ ap (λ (x : Tlp). Ok x) (tlp_value t s p),
-  λ e.
-      let r = read_spells IsTlp wants_tlp may_follow tlp_read fault_at s t readable_tlps e in
-      subst (λ (x : Tlp). SpellsTlp x s) (sym (tlp_value r.0.tlp s r.0.spells) ∙ r.1) r.0.spells,
-)
+read_spells_tlp = reads_iff tlps tlp_read fault_at SpellsTlp (λ s x. (x.tlp, x.spells)) (λ t s p. (record { tlp = t; spells = p }, tlp_value t s p))
 
 pub read_refuses : (f : TlpFault) (s : List ℕ) → (IsFault s f) ↔ (read_of s ≡ Err f)
 unfolding read_of
-read_refuses f s = (
-  λ p. refuses IsTlp wants_tlp may_follow tlp_read fault_at s p.0 readable_tlps p.1 ∙ ap (λ (x : TlpFault). Err x) (sym p.2),
-  λ e. refused_at IsTlp wants_tlp may_follow tlp_read fault_at s f readable_tlps e,
-)
+read_refuses = refuses_iff tlps tlp_read fault_at
 
 -- ---- what the readers answer
 

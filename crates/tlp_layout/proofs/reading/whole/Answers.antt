@@ -1,7 +1,6 @@
 use Rattle.std.proofs.Common.{arith, length-drop}
 use Rattle.std.proofs.lemmas.List.{take_rest}
 use Rattle.std.proofs.lemmas.Result.{err_from_is_err_and}
-use Rattle.first_fault.proofs.Cells.{IsBytes}
 use Rattle.tlp_layout.proofs.Found.{has_head, wanted_is, tlp_fault, tlp_short, tlp_trails, tlp_found}
 use Rattle.tlp_layout.proofs.reading.whole.Goals as goal
 
@@ -13,8 +12,7 @@ returns-in_err-layout-clause-err c =
 pub returns-then-payload-wanted-clause-err : goal.returns-then-payload-wanted-clause-err
 returns-then-payload-wanted-clause-err c =
     let h = c.in_ok-layout.ensures in
-    let fit : IsBytes c.args.bytes.now = λ i. omega (arith, c.type_inv.bytes i) in
-    let begun = has_head c.in_ok-layout.layout c.args.bytes.now c.in_ok-layout.size fit h.layout h.size h.agrees in
+    let begun = has_head c.in_ok-layout.layout c.args.bytes.now c.in_ok-layout.size h.layout h.size h.agrees (λ i. omega (arith, c.type_inv.bytes i)) in
     let wanted = wanted_is c.in_ok-layout.layout c.args.bytes.now c.head_view-head.ensures c.payload_size-wanted.ensures in
     let less = rw take_rest at c.if-payload-wanted.true in
     tlp_short _ _ _ _ begun wanted (omega (arith, less, length-drop c.in_ok-layout.size c.args.bytes.now))
@@ -22,8 +20,7 @@ returns-then-payload-wanted-clause-err c =
 pub returns-then-payload-wanted-2-clause-err : goal.returns-then-payload-wanted-2-clause-err
 returns-then-payload-wanted-2-clause-err c =
     let h = c.in_ok-layout.ensures in
-    let fit : IsBytes c.args.bytes.now = λ i. omega (arith, c.type_inv.bytes i) in
-    let begun = has_head c.in_ok-layout.layout c.args.bytes.now c.in_ok-layout.size fit h.layout h.size h.agrees in
+    let begun = has_head c.in_ok-layout.layout c.args.bytes.now c.in_ok-layout.size h.layout h.size h.agrees (λ i. omega (arith, c.type_inv.bytes i)) in
     let wanted = wanted_is c.in_ok-layout.layout c.args.bytes.now c.head_view-head.ensures c.payload_size-wanted.ensures in
     let more = rw take_rest at c.if-payload-wanted-2.true in
     tlp_trails _ _ _ _ begun wanted (omega (arith, more, length-drop c.in_ok-layout.size c.args.bytes.now))
@@ -31,8 +28,7 @@ returns-then-payload-wanted-2-clause-err c =
 pub returns-clause-ok : goal.returns-clause-ok
 returns-clause-ok c =
     let h = c.in_ok-layout.ensures in
-    let fit : IsBytes c.args.bytes.now = λ i. omega (arith, c.type_inv.bytes i) in
-    let begun = has_head c.in_ok-layout.layout c.args.bytes.now c.in_ok-layout.size fit h.layout h.size h.agrees in
+    let begun = has_head c.in_ok-layout.layout c.args.bytes.now c.in_ok-layout.size h.layout h.size h.agrees (λ i. omega (arith, c.type_inv.bytes i)) in
     let wanted = wanted_is c.in_ok-layout.layout c.args.bytes.now c.head_view-head.ensures c.payload_size-wanted.ensures in
     let less = rw take_rest at c.if-payload-wanted.false in
     let more = rw take_rest at c.if-payload-wanted-2.false in
