@@ -1,11 +1,14 @@
 /* Answers one call of malloc or realloc of the program with no memory: that whose number, from 1, is in REFUSED_GROWTH.
-   Calls that the C library makes itself are not counted. */
+   Calls that the C library makes itself are not counted. Where the program ends before that call, the file named in
+   REFUSED_NONE is made. */
 #define _GNU_SOURCE
 #include <dlfcn.h>
 #include <errno.h>
+#include <fcntl.h>
 #include <link.h>
 #include <stdint.h>
 #include <stdlib.h>
+#include <unistd.h>
 
 static uintptr_t first, last; /* where the program lies */
 static long left;             /* how many of its calls come up to the one that is refused */
@@ -32,6 +35,14 @@ __attribute__((constructor)) static void begin(void)
     const char *number = getenv("REFUSED_GROWTH");
     left = number ? strtol(number, NULL, 10) : 0;
     dl_iterate_phdr(find_program, NULL);
+}
+
+__attribute__((destructor)) static void end(void)
+{
+    const char *none = getenv("REFUSED_NONE");
+    int file = left > 0 && none ? open(none, O_CREAT | O_WRONLY, 0600) : -1;
+    if (file >= 0)
+        close(file);
 }
 
 static int is_refused(void *caller)
