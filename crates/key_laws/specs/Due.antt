@@ -1,5 +1,6 @@
 -- The one verdict that an operation or a reset gets after a history.
-use Rattle.key_laws.specs.Terms.{ℕ, suc, zero, ◌+◌, ◌-◌, ◌==◌, nat_lt, Bool, false, ◌&&◌, ◌||◌, if◌then◌else◌, Option, Some, None, list_any, SubKind, Pr, Npr, Cpl, Host, Device, Event, Loss, Lost, Request, Reply, Operation, StreamStatus}
+use Rattle.std.specs.Prelude.{◌+◌, ◌-◌, ◌==◌, ◌&&◌, ◌||◌, if◌then◌else◌, ℕ, suc, zero, nat_lt, Bool, false, Option, Some, None}
+use Rattle.key_laws.specs.Terms.{list_any, SubKind, Pr, Npr, Cpl, Host, Device, Event, Loss, Lost, Request, Reply, Operation, StreamStatus}
 use Rattle.key_laws.specs.Terms.{Verdict}
 use Rattle.link_events.specs.declared.event.Event.TheVariants as event
 use Rattle.link_verdicts.specs.declared.verdict.Operation.TheVariants as op

@@ -1,5 +1,6 @@
 -- What happened to the keys: a history is a list of events with their verdicts, the newest first.
-use Rattle.key_laws.specs.Terms.{ℕ, ◌+◌, ◌==◌, nat_lt, nat_le, Bool, true, false, not, ◌&&◌, ◌||◌, if◌then◌else◌, Option, Some, None, List, [], ◌∷◌, ◌++◌, length, is_some, list_any, list_all, Side, Event, Operation, SealedPacket}
+use Rattle.std.specs.Prelude.{◌+◌, ◌==◌, ◌&&◌, ◌||◌, if◌then◌else◌, ◌∷◌, ◌++◌, ℕ, nat_lt, nat_le, Bool, true, false, not, Option, Some, None, List, [], length, is_some}
+use Rattle.key_laws.specs.Terms.{list_any, list_all, Side, Event, Operation, SealedPacket}
 use Rattle.key_laws.specs.Terms.{StreamStatus, Verdict}
 use Rattle.link_events.specs.declared.event.Event.TheVariants as event
 use Rattle.link_verdicts.specs.declared.verdict.Operation.TheVariants as op

@@ -1,5 +1,6 @@
 -- What the keys of a history obey.
-use Rattle.key_laws.specs.Terms.{ℕ, ◌≡◌, ◌≢◌, ◌≤◌, ◌<◌, Bool, true, false, Some, None, List, [], ◌∷◌, ◌==◌, if◌then◌else◌, Side, Event, Verdict}
+use Rattle.std.specs.Prelude.{◌≡◌, ◌≢◌, ◌≤◌, ◌<◌, ◌∷◌, ◌==◌, if◌then◌else◌, ℕ, Bool, true, false, Some, None, List, []}
+use Rattle.key_laws.specs.Terms.{Side, Event, Verdict}
 use Rattle.link_events.specs.declared.event.Event.TheVariants as event
 use Rattle.link_verdicts.specs.declared.verdict.Operation.TheVariants as op
 use Rattle.ide_types.specs.declared.status.StreamStatus.TheVariants as status

@@ -1,5 +1,6 @@
 -- Where keys are: at a port, and there in a sub-stream that it sends or receives.
-use Rattle.key_laws.specs.Terms.{ℕ, ◌+◌, ◌==◌, ◌&&◌, Bool, true, false, not, if◌then◌else◌, List, [], ◌∷◌, SubKind, Pr, Npr, Cpl, Side, Host, Device}
+use Rattle.std.specs.Prelude.{◌+◌, ◌==◌, ◌&&◌, if◌then◌else◌, ◌∷◌, ℕ, Bool, true, false, not, List, []}
+use Rattle.key_laws.specs.Terms.{SubKind, Pr, Npr, Cpl, Side, Host, Device}
 use Rattle.ide_types.specs.Sub.{sub_bits}
 pub use Rattle.ide_types.specs.Sub.{sent_direction, received_direction, is_same_sub}
 

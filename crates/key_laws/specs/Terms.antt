@@ -1,5 +1,4 @@
 -- The types and words that the definitions of keys speak of.
-pub use Rattle.std.specs.Prelude.{ℕ, ◌+◌, ◌==◌, ◌&&◌, Bool, true, false, not, if◌then◌else◌, List, [], ◌∷◌, nat_lt, nat_le, Option, Some, None, length, ◌||◌, ◌++◌, is_some, suc, zero, ◌-◌, ◌≡◌, ◌≢◌, ◌≤◌, ◌<◌}
 pub use Rattle.ide_types.specs.declared.sub.SubKind.{SubKind}
 pub use Rattle.ide_types.specs.declared.sub.SubKind.TheVariants.{Pr, Npr, Cpl}
 pub use Rattle.ide_types.specs.declared.port.Side.{Side}

@@ -1,4 +1,5 @@
 -- What proofs on histories and their keys speak of.
+pub use Rattle.std.specs.Prelude.{if◌then◌else◌, is_some, map, nat_le, nat_lt, not, ◌&&◌, ◌||◌}
 pub use Rattle.std.proofs.Common.{Bool, Err, List, None, Ok, Option, Result, Some, [], ap, append_assoc, arith, drop, false, filter, inl, inr, length, length-append, refl, slice_get, subst, subst₂, suc, sym, take, true, zero}
 pub use Rattle.std.proofs.Common.{ℕ, ◌++◌, ◌+◌, ◌-◌, ◌<◌, ◌==◌, ◌∙◌, ◌∷◌, ◌≡◌, ◌≤◌, ◌⊎◌}
 pub use Rattle.std.proofs.lemmas.Bool.Decides.{nat_tests}
@@ -33,7 +34,7 @@ unfoldable pub use Rattle.link_history.specs.KeyFacts.{operates}
 pub use Rattle.link_history.specs.Plan.{SubStream, has_link, has_port, has_stream, is_same, is_same_port, key_plan, lane_in, lane_out, partner, streams_of, with_id}
 unfoldable pub use Rattle.link_history.specs.Plan.{stream_plan}
 pub use Rattle.link_history.specs.Terms.{Accepted, AllByRecursion, Device, Dump, Effect, Establish, Event, Held, History, Host, KeyPlan, Keyed, Keys, Off, On, Packet, Place, Plan, PortName, Refresh, Reset, Sealed, SealedPacket}
-pub use Rattle.link_history.specs.Terms.{Send, Status, Stop, SubKind, UnitName, Verdict, after_last, if◌then◌else◌, is_some, keeps_live, key_in, keys_there, list_any, map, nat_le, nat_lt, no_keys, not, on_in}
-pub use Rattle.link_history.specs.Terms.{received_direction, sent_direction, status_of, sub_bits, ◌&&◌, ◌||◌}
+pub use Rattle.link_history.specs.Terms.{Send, Status, Stop, SubKind, UnitName, Verdict, after_last, keeps_live, key_in, keys_there, list_any, no_keys, on_in}
+pub use Rattle.link_history.specs.Terms.{received_direction, sent_direction, status_of, sub_bits}
 pub use Rattle.link_history.specs.Units.{rest_after, units_after}
 unfoldable pub use Rattle.link_history.specs.Units.{open_unit, units}

@@ -1,5 +1,6 @@
 -- Each verdict of a history is the one that is due after the pairs before it.
-use Rattle.link_history.specs.Terms.{List, [], map, ◌∷◌, ◌≡◌, Plan, Event, Verdict, History}
+use Rattle.std.specs.Prelude.{◌∷◌, ◌≡◌, List, [], map}
+use Rattle.link_history.specs.Terms.{Plan, Event, Verdict, History}
 use Rattle.link_history.specs.Due.{due}
 
 abbrev pub CauseLaw : Plan → History → Type 0

@@ -1,5 +1,6 @@
 -- The one verdict that an event gets after a history.
-use Rattle.link_history.specs.Terms.{option_map_or, Bool, Err, List, None, Ok, Option, Result, Some, [], false, if◌then◌else◌, is_some, length, map, nat_le, nat_lt, not, true, ℕ, ◌&&◌, ◌++◌, ◌+◌, ◌==◌, ◌||◌, ◌∷◌, PortName, Device, Host}
+use Rattle.std.specs.Prelude.{if◌then◌else◌, ◌&&◌, ◌++◌, ◌+◌, ◌==◌, ◌||◌, ◌∷◌, Bool, Err, List, None, Ok, Option, Result, Some, [], false, is_some, length, map, nat_le, nat_lt, not, true, ℕ}
+use Rattle.link_history.specs.Terms.{option_map_or, PortName, Device, Host}
 use Rattle.link_history.specs.Terms.{Plan, Event, Dump, Establish, Refresh, Reset, Send, Status, Stop, Effect, SealedPacket, UnitName, Verdict, read_head_of, read_of, header, TlpFault, Tlp, iv_of, Packet, is_sync_packet, packet_bytes}
 use Rattle.link_history.specs.Terms.{CutValue, IdePacket, PlainTlp, cut_of, authenticated, encrypted, PacketFault, verifies, History, status_of, received_direction, sent_direction}
 use Rattle.key_laws.specs.Due.{due as key_due}

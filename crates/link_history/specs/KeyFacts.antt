@@ -1,5 +1,6 @@
 -- All that is used of the keys of places: how a pair changes them, and what is known of those that are On.
-use Rattle.link_history.specs.Terms.{AllByRecursion, Bool, List, Some, [], false, if◌then◌else◌, is_some, nat_le, not, slice_get, true, ℕ, ◌&&◌, ◌<◌, ◌==◌, ◌∷◌, ◌≡◌, ◌≤◌, ◌⊎◌, PortName, SubKind, Plan, Event, Effect, SealedPacket}
+use Rattle.std.specs.Prelude.{if◌then◌else◌, ◌&&◌, ◌<◌, ◌==◌, ◌∷◌, ◌≡◌, ◌≤◌, ◌⊎◌, Bool, List, Some, [], false, is_some, nat_le, not, slice_get, true, ℕ}
+use Rattle.link_history.specs.Terms.{AllByRecursion, PortName, SubKind, Plan, Event, Effect, SealedPacket}
 use Rattle.link_history.specs.Terms.{UnitName, Verdict, Accepted, Fail, Held, Sealed, Packet, History, base, On, key_in}
 use Rattle.link_events.specs.declared.event.Event.TheVariants as event
 use Rattle.link_history.specs.Plan.{SubStream, is_same, is_same_port, lane_out, lane_in, stream_plan}

@@ -1,5 +1,6 @@
 -- The laws of a history.
-use Rattle.link_history.specs.Terms.{Bool, List, Ok, Some, [], false, map, slice_get, take, true, ℕ, ◌++◌, ◌+◌, ◌<◌, ◌∷◌, ◌≡◌, ◌≢◌, ◌≤◌, PortName, Plan, Event, Verdict, Accepted, Held, Packet, packet_bytes, authenticated, encrypted}
+use Rattle.std.specs.Prelude.{◌++◌, ◌+◌, ◌<◌, ◌∷◌, ◌≡◌, ◌≢◌, ◌≤◌, Bool, List, Ok, Some, [], false, map, slice_get, take, true, ℕ}
+use Rattle.link_history.specs.Terms.{PortName, Plan, Event, Verdict, Accepted, Held, Packet, packet_bytes, authenticated, encrypted}
 use Rattle.link_history.specs.Terms.{History, base, received_direction}
 use Rattle.link_history.specs.Plan.{SubStream, is_closed}
 use Rattle.link_history.specs.Units.{units}

@@ -1,5 +1,6 @@
 -- Non-posted packets and completions are accepted behind the posted packets that were sealed before them.
-use Rattle.link_history.specs.Terms.{AllByRecursion, Some, [], false, length, slice_get, take, true, ℕ, ◌<◌, ◌∷◌, ◌≡◌, ◌≢◌, ◌≤◌, sub_bits, Plan, Event, SealedPacket, Verdict, Accepted, Packet, History, base}
+use Rattle.std.specs.Prelude.{◌<◌, ◌∷◌, ◌≡◌, ◌≢◌, ◌≤◌, Some, [], false, length, slice_get, take, true, ℕ}
+use Rattle.link_history.specs.Terms.{AllByRecursion, sub_bits, Plan, Event, SealedPacket, Verdict, Accepted, Packet, History, base}
 use Rattle.link_history.specs.Plan.{SubStream, is_closed}
 use Rattle.link_history.specs.History.{SealedList, sealed_packets, sent, sent_in, is_under, got, draws_got, received_in, posted_of}
 

@@ -1,7 +1,6 @@
 -- What is said of elsewhere, and spoken of in the definitions here.
 pub use Rattle.std.specs.List.{AllByRecursion, after_last, list_any, slice_index_or}
 pub use Rattle.std.specs.Option.{option_and_then, option_map_or}
-pub use Rattle.std.specs.Prelude.{Bool, Err, List, None, Ok, Option, Result, Some, [], bit_xor, drop, false, filter, if◌then◌else◌, is_some, length, map, nat_le, nat_lt, not, option_map, slice_get, slice_index, slice_set, sum_by, take, true, ℕ, ◌&&◌, ◌*◌, ◌++◌, ◌+◌, ◌-◌, ◌/◌, ◌<◌, ◌==◌, ◌||◌, ◌∷◌, ◌≡◌, ◌≢◌, ◌≤◌, ◌⊎◌}
 pub use Rattle.ide_types.specs.Sub.{sub_bits}
 pub use Rattle.ide_types.specs.declared.port.PortName.{PortName}
 pub use Rattle.ide_types.specs.declared.port.Side.TheVariants.{Device, Host}
