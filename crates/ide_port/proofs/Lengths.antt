@@ -1,23 +1,17 @@
 -- What one send seals has at most 4,184 bytes.
-use Rattle.std.proofs.Common.{◌≡◌, ℕ, ◌+◌, ◌≤◌, Bool, true, false, List, [], ◌∷◌, ◌++◌, length, Option, Some, None, arith, length-append}
-use Rattle.std.specs.Prelude.{if◌then◌else◌}
+use Rattle.ide_port.proofs.Terms.{◌≡◌, ℕ, ◌+◌, ◌≤◌, true, false, List, [], ◌∷◌, ◌++◌, length, Option, Some, None, arith, length-append, if◌then◌else◌, SubKind, Packet, packet_bytes, sync_head, Verdict, Sending, Lanes, described}
+use Rattle.ide_port.proofs.Terms.{needs_sync, sync_before, ends_unit, sets_trusted, front_with, sealed_by, LiveKey, Three, TxSub, at_sub, live_sender, untagged_under, tagged_under, packet_under, sealed_one, sealed_all, StreamEnd}
+use Rattle.ide_port.proofs.Terms.{joined_packets, packets_sent, lanes_in, unless, sealing, refused}
+use Rattle.std.proofs.Common.{Bool}
 use Rattle.gcm_seal.specs.Gcm.{masked, tag_of}
 use Rattle.gcm_seal.proofs.Sealing.{length-masked, length-tag_of}
-use Rattle.ide_types.specs.declared.sub.SubKind.{SubKind}
 use Rattle.ide_types.specs.declared.sub.SubKind.TheVariants.{Npr, Cpl}
-use Rattle.ide_prefix.specs.Packet.{Packet, packet_bytes, sync_head}
 use Rattle.ide_prefix.specs.Iv.{iv_of}
 use Rattle.ide_prefix.specs.Units.{authenticated, encrypted}
-use Rattle.link_verdicts.specs.declared.verdict.Verdict.{Verdict}
 use Rattle.link_verdicts.specs.declared.verdict.SealedPacket.{SealedPacket}
-use Rattle.stream_rules.specs.Sending.{Sending, Lanes, described, needs_sync, sync_before, ends_unit, sets_trusted, front_with, sealed_by}
-use Rattle.stream_rules.specs.Stream.{LiveKey, Three, TxSub, at_sub, live_sender, untagged_under, tagged_under, packet_under, sealed_one, sealed_all}
-use Rattle.ide_stream.specs.{StreamEnd, joined_packets, packets_sent, lanes_in}
-use Rattle.ide_stream.specs.Sends.{unless, sealing, refused}
 
 tag_length : (m : Bool) (key iv a c : List ℕ) → length (if m then tag_of key iv a c else []) ≤ 12
-tag_length true key iv a c = omega (arith, length-tag_of key iv a c)
-tag_length false key iv a c = omega arith
+tag_length m key iv a c = grind (arith, length-tag_of key iv a c)
 
 -- how many bytes a packet of a description has at most
 abbrev room_of : SealedPacket → ℕ
@@ -70,8 +64,7 @@ room_append (x ∷ xs) ys = omega (arith, room_append xs ys)
 
 sync_room : (b : Bool) (x : Lanes) (s : Sending) (u : SubKind) (number : ℕ) → room_all (if b then described x s u number true false true ∷ [] else []) ≤ 28
 unfolding room_all
-sync_room true x s u number = omega arith
-sync_room false x s u number = omega arith
+sync_room b x s u number = grind arith
 
 sealed_room : (x : Lanes) (s : Sending) (number : ℕ) → room_all (sealed_by x s number) ≤ 4184
 unfolding room_all
@@ -88,8 +81,7 @@ sealed_room x s number =
     )
 
 unless_length : (o : Option Verdict) (ps : List Packet) (n : ℕ) → length (joined_packets ps) ≤ n → length (joined_packets (unless o [] ps)) ≤ n
-unless_length None ps n le = le
-unless_length (Some verdict) ps n le = omega arith
+unless_length o ps n le = grind arith
 
 pub sent-length : (e : StreamEnd) (head payload : List ℕ) (s : Sending) (number : ℕ) → length head ≤ 16 → length payload ≤ 4096
     → length (joined_packets (packets_sent e head payload s number)) ≤ 4184

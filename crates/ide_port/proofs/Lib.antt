@@ -1,6 +1,5 @@
-pub mod Numbers
+pub mod Terms
 pub mod Parts
-pub mod Lists
 pub mod Waiting
 pub mod Streams
 pub mod Moves

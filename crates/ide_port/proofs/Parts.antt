@@ -1,9 +1,6 @@
 -- The header and the payload of a TLP's bytes.
-use Rattle.std.proofs.Common.{◌≡◌, ℕ, ◌+◌, ◌≤◌, List, length, take, drop, ap, ◌∙◌, arith, length-append}
-use Rattle.std.specs.Prelude.{Ok, Bool, true, false, if◌then◌else◌}
-use Rattle.tlp_layout.specs.declared.tlp.Tlp.{Tlp}
-use Rattle.tlp_layout.specs.Head.{head_bytes, head_length}
-use Rattle.tlp_layout.specs.Tlp.{header, body}
+use Rattle.ide_port.proofs.Terms.{◌≡◌, ℕ, ◌+◌, ◌≤◌, List, length, take, drop, ap, ◌∙◌, arith, length-append, if◌then◌else◌, Tlp, head_bytes, head_length, header, body}
+use Rattle.std.specs.Prelude.{Ok, Bool}
 use Rattle.tlp_layout.specs.Reading.{read_of}
 use Rattle.tlp_layout.proofs.Readings.{read_spells_tlp, front_is, rest_is, small_body, head_sized}
 
@@ -15,8 +12,7 @@ pub record AreParts (t : Tlp) (bytes : List ℕ) : Type 0 where
   pub short : length (body t) ≤ 4096
 
 small_of : (wide : Bool) → (if wide then 16 else 12) ≤ 16
-small_of true = omega arith
-small_of false = omega arith
+small_of wide = grind arith
 
 pub parts_of : (bytes : List ℕ) (t : Tlp) → read_of bytes ≡ Ok t → AreParts t bytes
 parts_of bytes t is =

@@ -1,27 +1,23 @@
 -- No exchange of an operation sends or takes at a port.
-use Rattle.std.proofs.Common.{◌≡◌, ℕ, List, [], ◌∷◌, refl, ap, ◌∙◌}
-use Rattle.std.specs.Prelude.{Option, Some, None, IsSome, IfSome}
-use Rattle.ide_km.specs.{PortCall}
+use Rattle.link_ends.proofs.Terms.{◌≡◌, ℕ, List, [], ◌∷◌, ◌∙◌, arith, Option, Some, None, IsSome, IfSome, PortCall, PortEnd, DeviceEnd, asked_device, after_call, LinkEnds, SameCalls, ap}
 use Rattle.tsm_host.specs.Local.{Request}
-use Rattle.ide_port.specs.{PortEnd}
-use Rattle.device_side.specs.Ends.{DeviceEnd, asked_device, after_call, call_asked}
-use Rattle.link_ends.specs.declared.ends.LinkEnds.{LinkEnds}
-use Rattle.link_ends.specs.Keepers.{SameCalls}
+use Rattle.device_side.specs.Ends.{call_asked}
 use Rattle.link_ends.proofs.Ports.{PortMoves}
 
 moved_calls : (e e' : PortEnd) (rs : List Request) → PortMoves e rs e' → e'.calls ≡ e.calls
 moved_calls e e' [] moves = ap (λ (p : PortEnd). p.calls) moves
 moved_calls e e' (r ∷ rs) moves = moved_calls moves.0 e' rs moves.2 ∙ ap (λ (p : PortEnd). p.calls) moves.1.moved
 
-pub host_calls : {A : Type 0} (o : Option A) (asks : A → List Request) (e e' : PortEnd) → IsSome o → IfSome o (λ (a : A). PortMoves e (asks a) e') → e'.calls ≡ e.calls
+pub host_calls : {A : Type 0} (o : Option A) (asks : A → List Request) (e e' : PortEnd) → IsSome o → IfSome o (λ (a : A). PortMoves e (asks a) e')
+    → e'.calls ≡ e.calls
 host_calls None asks e e' there moves = absurd cc
 host_calls (Some a) asks e e' there moves = moved_calls e e' (asks a) moves
 
 after_calls : (e : PortEnd) (o : Option PortCall) → (after_call e o).calls ≡ e.calls
-after_calls e None = refl
-after_calls e (Some call) = refl
+after_calls e o = grind arith
 
-pub device_calls : {A : Type 0} (o : Option A) (request : A → List ℕ) (draw : A → ℕ) (d d' : DeviceEnd) → IsSome o → IfSome o (λ (a : A). d' ≡ asked_device d (request a) (draw a)) → d'.port.calls ≡ d.port.calls
+pub device_calls : {A : Type 0} (o : Option A) (request : A → List ℕ) (draw : A → ℕ) (d d' : DeviceEnd) → IsSome o
+    → IfSome o (λ (a : A). d' ≡ asked_device d (request a) (draw a)) → d'.port.calls ≡ d.port.calls
 device_calls None request draw d d' there is = absurd cc
 device_calls (Some a) request draw d d' there is = ap (λ (x : DeviceEnd). x.port.calls) is ∙ after_calls d.port (call_asked d (request a) (draw a))
 

@@ -1,35 +1,25 @@
 -- One exchange: the request comes to the device or is lost, and the manager takes what is carried back.
-use Rattle.std.proofs.Common.{◌≡◌, ℕ, ◌==◌, ◌<◌, Bool, true, false, List, refl, ap, sym, ◌∙◌, subst}
-use Rattle.std.specs.Prelude.{Option, Some, None, nat_lt, ◌&&◌, if◌then◌else◌, slice_range}
+use Rattle.link_ends.proofs.Terms.{◌≡◌, ℕ, ◌==◌, ◌<◌, Bool, true, false, List, refl, ◌∙◌, Option, Some, None, nat_lt, ◌&&◌, if◌then◌else◌, slice_range, Side, SlotPair, Place, PortCall, Shown, call_of, call_from, spelling, direction_of}
+use Rattle.link_ends.proofs.Terms.{sub_of, Operation, same-true, exchange_of, selector_of, request_of, WireKeys, StreamView, request_asked, IsAsked, Asked, StreamState, shown_stream, port_called, PortEnd, Found, found, shown}
+use Rattle.link_ends.proofs.Terms.{called_port, after_call, HasStream, ap, subst}
 use Rattle.std.specs.Int.{w64, from_le_bytes}
-use Rattle.ide_types.specs.declared.port.Side.{Side}
 use Rattle.ide_types.specs.declared.port.Side.TheVariants.{Device}
-use Rattle.key_slots.specs.{SlotPair}
 use Rattle.ide_km.specs.declared.object.KmFault.{KmFault}
 use Rattle.ide_km.specs.declared.object.KmView.TheVariants.{KeyProg}
 use Rattle.ide_km.specs.Objects as objects
-use Rattle.ide_km.specs.{Place, PortCall, Program, Go, Halt, Shown, call_of, call_from, spelling, place_of, set_of, direction_of, sub_of, program_at, go_at, is_there}
-use Rattle.link_verdicts.specs.declared.verdict.Operation.{Operation}
-use Rattle.key_laws.proofs.Tests.{same-true}
+use Rattle.ide_km.specs.{place_of}
 use Rattle.tsm_host.specs.declared.exchange.Exchange.TheVariants as exchange
-use Rattle.tsm_host.specs.Exchanges.{exchange_of, selector_of, request_of, WireKeys}
-use Rattle.tsm_host.specs.Streams.{StreamView, request_asked}
-use Rattle.tsm_host.specs.Walk.{IsAsked}
-use Rattle.tsm_host.specs.declared.stage.Asked.{Asked}
-use Rattle.stream_rules.specs.Stream.{StreamState}
 use Rattle.link_walks.proofs.Lanes.{by_lane, Turn, asks, puts, goes, halts, turn}
-use Rattle.link_walks.specs.Walks.{shown_stream, port_called}
-use Rattle.ide_port.specs.{PortEnd, Found, found, shown, called_port}
 use Rattle.ide_port.specs.Calls as port
-use Rattle.device_side.specs.Ends.{after_call}
-use Rattle.link_ends.specs.Keepers.{HasStream}
 use Rattle.link_ends.proofs.Ports.{IsAt, moved, called_there, found_there}
 
 -- ---- the place of a lane
 
 there : (set : Bool) (lane : ℕ) → lane < 6 → (nat_lt (direction_of (selector_of set lane)) 2 && nat_lt (sub_of (selector_of set lane)) 3) ≡ true
-there true = by_lane (λ lane. (nat_lt (direction_of (selector_of true lane)) 2 && nat_lt (sub_of (selector_of true lane)) 3) ≡ true) refl refl refl refl refl refl
-there false = by_lane (λ lane. (nat_lt (direction_of (selector_of false lane)) 2 && nat_lt (sub_of (selector_of false lane)) 3) ≡ true) refl refl refl refl refl refl
+there true =
+    by_lane (λ lane. (nat_lt (direction_of (selector_of true lane)) 2 && nat_lt (sub_of (selector_of true lane)) 3) ≡ true) refl refl refl refl refl refl
+there false =
+    by_lane (λ lane. (nat_lt (direction_of (selector_of false lane)) 2 && nat_lt (sub_of (selector_of false lane)) 3) ≡ true) refl refl refl refl refl refl
 
 lane_at : (id : ℕ) (set : Bool) (lane : ℕ) → lane < 6 → IsAt id (place_of id (selector_of set lane))
 lane_at id set lane lt = record { stream_is = refl; is_there = there set lane lt }
@@ -58,64 +48,48 @@ program_at_all id sel draw key a counter at false e = rw e tt
 program_same : (id sel draw : ℕ) (key : List ℕ) (counter : ℕ) (a b : Shown) → SameShown id a b → IsAt id (place_of id sel) → (fault : Option KmFault)
     → (call_from a draw (objects.object_or (KeyProg id sel 0 key counter) fault) ≡ call_from b draw (objects.object_or (KeyProg id sel 0 key counter) fault))
     × CallAt id (call_from b draw (objects.object_or (KeyProg id sel 0 key counter) fault))
-program_same id sel draw key counter a b same at None = (
-  ap (λ (s : Option SlotPair). if (0 == 0) && (counter == 1) then Some (Program (place_of id sel) (set_of sel) key draw (program_at (seen (place_of id sel) s) (set_of sel) key)) else None) (same (place_of id sel) at),
-  program_at_all id sel draw key b counter at (counter == 1) refl,
-)
+program_same id sel draw key counter a b same at None = (rw (same (place_of id sel) at) refl, program_at_all id sel draw key b counter at (counter == 1) refl)
 program_same id sel draw key counter a b same at (Some fault) = (refl, tt)
 
-turn_same : (a b : Shown) (id draw : ℕ) (keys : WireKeys) (o : Operation) (set : Bool) (n : ℕ) → SameShown id a b → Turn o set n → SameCall id a b (spelling (request_of id keys (exchange_of o set n))) draw
+turn_same : (a b : Shown) (id draw : ℕ) (keys : WireKeys) (o : Operation) (set : Bool) (n : ℕ) → SameShown id a b → Turn o set n
+    → SameCall id a b (spelling (request_of id keys (exchange_of o set n))) draw
 turn_same a b id draw keys o set n same (asks is first e) = rw e (record { same = refl; at = tt })
 turn_same a b id draw keys o set n same (puts lane lt makes is e) =
     let at = lane_at id set lane lt in
     let request : List ℕ = spelling (request_of id keys (exchange.Program set lane)) in
-    let both = program_same id (selector_of set lane) draw (slice_range request 8 40) (from_le_bytes w64 (slice_range request 40 48)) a b same at (objects.fault_of request) in
+    let both = program_same id (selector_of set lane) draw (slice_range request 8 40) (from_le_bytes w64 (slice_range request 40 48)) a b same at
+    (objects.fault_of request) in
     rw e (record { same = both.0; at = both.1 })
 turn_same a b id draw keys o set n same (goes lane lt makes is e) =
     let at = lane_at id set lane lt in
-    rw e (record {
-      same = ap (λ (s : Option SlotPair). Some (Go (place_of id (selector_of set lane)) (set_of (selector_of set lane)) (go_at (seen (place_of id (selector_of set lane)) s) (set_of (selector_of set lane)))))
-          (same (place_of id (selector_of set lane)) at);
-      at = at;
-    })
+    rw e (record { same = rw (same (place_of id (selector_of set lane)) at) refl; at = at })
 turn_same a b id draw keys o set n same (halts k lane lt is e) =
     let at = lane_at id k lane lt in
-    rw e (record {
-      same = ap (λ (s : Option SlotPair). Some (Halt (place_of id (selector_of k lane)) (set_of (selector_of k lane)) (is_there (seen (place_of id (selector_of k lane)) s)))) (same (place_of id (selector_of k lane)) at);
-      at = at;
-    })
+    rw e (record { same = rw (same (place_of id (selector_of k lane)) at) refl; at = at })
 
 -- ---- the device's port shows the stream
 
-shown_there : (e : PortEnd) (id : ℕ) (f : Found) → e.name.side ≡ Device → found e.plans e.states id ≡ Some f → SameShown id (λ place. shown e place) (shown_stream id f.state)
+shown_there : (e : PortEnd) (id : ℕ) (f : Found) → e.name.side ≡ Device → found e.plans e.states id ≡ Some f
+    → SameShown id (λ place. shown e place) (shown_stream id f.state)
 shown_there e id f side is place at = rw (at.is_there, at.stream_is, side, is, same-true id) refl
 
 pub record DeviceGoes (e : PortEnd) (id : ℕ) (x : StreamState) (request : List ℕ) (draw : ℕ) (e' : PortEnd) : Type 0 where
   pub call : call_of (λ place. shown e' place) request draw ≡ call_of (shown_stream id x) request draw
   pub port : HasStream e id (port_called (call_of (shown_stream id x) request draw) x) (after_call e' (call_of (λ place. shown e' place) request draw))
 
-moved_there : (e e' : PortEnd) (id : ℕ) (f : Found) (x : StreamState) (call : Option PortCall) → e.name.side ≡ Device → found e.plans e.states id ≡ Some f → HasStream e id x e' → CallAt id call
+moved_there : (e e' : PortEnd) (id : ℕ) (f : Found) (x : StreamState) (call : Option PortCall) → e.name.side ≡ Device → found e.plans e.states id ≡ Some f
+    → HasStream e id x e' → CallAt id call
     → HasStream e id (port_called call x) (after_call e' call)
 moved_there e e' id f x None side is has at = has
-moved_there e e' id f x (Some (Program place set key draw answer)) side is has at =
-    subst (λ (s : Side). HasStream e id (moved (Program place set key draw answer) s x) (called_port (Program place set key draw answer) e')) side (called_there e e' id f x (Program place set key draw answer) is has at)
-moved_there e e' id f x (Some (Go place set answer)) side is has at =
-    subst (λ (s : Side). HasStream e id (moved (Go place set answer) s x) (called_port (Go place set answer) e')) side (called_there e e' id f x (Go place set answer) is has at)
-moved_there e e' id f x (Some (Halt place set answer)) side is has at =
-    subst (λ (s : Side). HasStream e id (moved (Halt place set answer) s x) (called_port (Halt place set answer) e')) side (called_there e e' id f x (Halt place set answer) is has at)
+moved_there e e' id f x (Some call) side is has at =
+    subst (λ (s : Side). HasStream e id (moved call s x) (called_port call e')) side (called_there e e' id f x call is has at)
 
-pub device_goes : (e e' : PortEnd) (id : ℕ) (f : Found) (x : StreamState) (a : Asked) (keeper : StreamView) → e.name.side ≡ Device → found e.plans e.states id ≡ Some f → HasStream e id x e'
+pub device_goes : (e e' : PortEnd) (id : ℕ) (f : Found) (x : StreamState) (a : Asked) (keeper : StreamView) → e.name.side ≡ Device
+    → found e.plans e.states id ≡ Some f → HasStream e id x e'
     → keeper.id ≡ id → IsAsked (Some a) → DeviceGoes e id x (spelling (request_asked a keeper)) a.draw e'
 device_goes e e' id f x a keeper side is has named asked =
-    let g : Found = record f { state = x } in
     let side' : e'.name.side ≡ Device = ap (λ (p : PortEnd). p.name.side) has ∙ side in
-    let shows : SameShown id (λ place. shown e' place) (shown_stream id x) = shown_there e' id g side' (found_there e e' id f x is has) in
-    let c : SameCall id (λ place. shown e' place) (shown_stream id x) (spelling (request_of id keeper.keys (exchange_of a.operation a.set a.exchange))) a.draw =
-    turn_same (λ place. shown e' place) (shown_stream id x) id a.draw keeper.keys a.operation a.set a.exchange shows (turn a.operation a.set a.exchange asked.0 asked.1) in
+    let shows : SameShown id (λ place. shown e' place) (shown_stream id x) = shown_there e' id _ side' (found_there e e' id f x is has) in
     let d : SameCall id (λ place. shown e' place) (shown_stream id x) (spelling (request_asked a keeper)) a.draw =
-    subst (λ (k : ℕ). SameCall id (λ place. shown e' place) (shown_stream id x) (spelling (request_of k keeper.keys (exchange_of a.operation a.set a.exchange))) a.draw) (sym named) c in
-    record {
-      call = d.same;
-      port = subst (λ (o : Option PortCall). HasStream e id (port_called (call_of (shown_stream id x) (spelling (request_asked a keeper)) a.draw) x) (after_call e' o)) (sym d.same)
-          (moved_there e e' id f x (call_of (shown_stream id x) (spelling (request_asked a keeper)) a.draw) side is has d.at);
-    }
+    rw named (turn_same _ _ id a.draw keeper.keys a.operation a.set a.exchange shows (turn a.operation a.set a.exchange asked.0 asked.1)) in
+    record { call = d.same; port = rw d.same (moved_there e e' id f x _ side is has d.at) }

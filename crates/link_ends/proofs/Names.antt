@@ -1,12 +1,10 @@
 -- A stream of the manager by its name: the first of the list that has it, and its place.
-use Rattle.std.proofs.Common.{◌≡◌, ℕ, suc, ◌+◌, ◌==◌, Bool, true, false, List, [], ◌∷◌, refl, ap, sym, ◌∙◌, subst, arith}
-use Rattle.std.specs.Prelude.{Option, Some, None, option_map, if◌then◌else◌, position, slice_get, slice_set, cond}
+use Rattle.link_ends.proofs.Terms.{◌≡◌, ℕ, suc, zero, ◌+◌, ◌<◌, ◌==◌, length, get_or, true, false, List, [], ◌∷◌, refl, sym, ◌∙◌, arith, Option, Some, None, option_map, if◌then◌else◌, position, slice_get, slice_set, same_Some}
+use Rattle.link_ends.proofs.Terms.{nat_tests, true-same, both-true, StreamView, is_named, ManagerView, Named, named, named_in, op_named, ap, subst}
 use Rattle.std.specs.List.{position_from}
-use Rattle.std.proofs.lemmas.Option.{same_Some}
 use Rattle.std.proofs.lemmas.Iterator.Adapters.{position_from-zero}
-use Rattle.key_laws.proofs.Tests.{true-same, both-true}
-use Rattle.tsm_host.specs.Streams.{StreamView, is_named}
-use Rattle.tsm_host.specs.Managers.{ManagerView, Named, named, named_in, place_of, op_named}
+use Rattle.std.proofs.lemmas.List.Quantifiers.{position-Some}
+use Rattle.tsm_host.specs.Managers.{place_of}
 
 -- the first stream of this name, and the list with another in its place
 abbrev pub first_named : ℕ → ℕ → List StreamView → Option StreamView
@@ -25,53 +23,29 @@ pub record IsPlaced (link id : ℕ) (vs : List StreamView) (place : ℕ) : Type 
   pub is_it : is_named link id stream ≡ true
   pub sets : (w : StreamView) → slice_set vs place w ≡ set_named link id w vs
 
--- the place, counted from the list's beginning
-pub record IsFrom (link id : ℕ) (vs : List StreamView) (from at : ℕ) : Type 0 where
-  pub place : ℕ
-  pub at_is : at ≡ from + place
-  pub placed : IsPlaced link id vs place
-
-placed_step : (link id : ℕ) (v : StreamView) (vs : List StreamView) (from at : ℕ) (b : Bool) → is_named link id v ≡ b
-    → (position_from (is_named link id) (from + 1) vs ≡ Some at → IsFrom link id vs (from + 1) at)
-    → cond b (Some from) (position_from (is_named link id) (from + 1) vs) ≡ Some at → IsFrom link id (v ∷ vs) from at
-placed_step link id v vs from at true e more is = record {
-  place = 0;
-  at_is = omega (arith, same_Some from at is);
-  placed = record { stream = v; read = refl; first = rw e refl; is_it = e; sets = λ w. rw e refl };
-}
-placed_step link id v vs from at false e more is =
-    let f : IsFrom link id vs (from + 1) at = more is in
+placed_at : (link id : ℕ) (vs : List StreamView) (place : ℕ) (d : StreamView) → place < length vs → is_named link id (get_or vs place d) ≡ true
+    → ((k : ℕ) → k < place → is_named link id (get_or vs k d) ≡ false) → IsPlaced link id vs place
+placed_at link id [] place d lt at before = absurd (omega arith)
+placed_at link id (v ∷ vs) zero d lt at before = record { stream = v; read = refl; first = rw at refl; is_it = at; sets = λ w. rw at refl }
+placed_at link id (v ∷ vs) (suc place) d lt at before =
+    let no : is_named link id v ≡ false = before 0 (omega arith) in
+    let r = placed_at link id vs place d (omega arith) at (λ k l. before (suc k) (omega arith)) in
     record {
-      place = suc f.place;
-      at_is = omega (arith, f.at_is);
-      placed = record {
-        stream = f.placed.stream;
-        read = f.placed.read;
-        first = rw e f.placed.first;
-        is_it = f.placed.is_it;
-        sets = λ w. rw e (ap (λ (us : List StreamView). v ∷ us) (f.placed.sets w));
-      };
+      stream = r.stream;
+      read = r.read;
+      first = rw no r.first;
+      is_it = r.is_it;
+      sets = λ w. rw no (ap (λ (us : List StreamView). v ∷ us) (r.sets w));
     }
-
-placed_from : (link id : ℕ) (vs : List StreamView) (from at : ℕ) → position_from (is_named link id) from vs ≡ Some at → IsFrom link id vs from at
-placed_from link id [] from at is = absurd cc
-placed_from link id (v ∷ vs) from at is = placed_step link id v vs from at (is_named link id v) refl (placed_from link id vs (from + 1) at) is
-
-unplaced_step : (link id : ℕ) (v : StreamView) (vs : List StreamView) (from : ℕ) (b : Bool) → is_named link id v ≡ b
-    → (position_from (is_named link id) (from + 1) vs ≡ None → first_named link id vs ≡ None)
-    → cond b (Some from) (position_from (is_named link id) (from + 1) vs) ≡ None → first_named link id (v ∷ vs) ≡ None
-unplaced_step link id v vs from true e more is = absurd cc
-unplaced_step link id v vs from false e more is = rw e (more is)
 
 unplaced : (link id : ℕ) (vs : List StreamView) (from : ℕ) → position_from (is_named link id) from vs ≡ None → first_named link id vs ≡ None
 unplaced link id [] from is = refl
-unplaced link id (v ∷ vs) from is = unplaced_step link id v vs from (is_named link id v) refl (unplaced link id vs (from + 1)) is
+unplaced link id (v ∷ vs) from is = grind (arith, nat_tests, unplaced link id vs (from + 1))
 
 pub placed : (link id : ℕ) (vs : List StreamView) (place : ℕ) → position (is_named link id) vs ≡ Some place → IsPlaced link id vs place
-placed link id vs place is =
-    let f : IsFrom link id vs 0 place = placed_from link id vs 0 place (sym (position_from-zero (is_named link id) vs) ∙ is) in
-    let same : f.place ≡ place = omega (arith, f.at_is) in
-    subst (λ (p : ℕ). IsPlaced link id vs p) same f.placed
+placed link id [] place is = absurd cc
+placed link id (v ∷ vs) place is =
+    let p = position-Some (is_named link id) (v ∷ vs) place v is in placed_at link id (v ∷ vs) place v p.0 p.1 p.2
 
 -- a stream that was named stands at its place
 pub record IsNamed (m : ManagerView) (link id : ℕ) (n : Named) : Type 0 where
@@ -99,7 +73,8 @@ by_place m link id n (Some place) at is =
 pub named_stands : (m : ManagerView) (link id : ℕ) (n : Named) → named m link id ≡ Some n → IsNamed m link id n
 named_stands m link id n is = by_place m link id n (place_of m link id) refl is
 
-op_by_place : (m : ManagerView) (link id : ℕ) (o : Option ℕ) → place_of m link id ≡ o → option_map (λ (v : StreamView). v.op) (first_named link id m.streams) ≡ op_named (named_in m.streams o)
+op_by_place : (m : ManagerView) (link id : ℕ) (o : Option ℕ) → place_of m link id ≡ o
+    → option_map (λ (v : StreamView). v.op) (first_named link id m.streams) ≡ op_named (named_in m.streams o)
 op_by_place m link id None at = rw (unplaced link id m.streams 0 (sym (position_from-zero (is_named link id) m.streams) ∙ at)) refl
 op_by_place m link id (Some place) at =
     let p : IsPlaced link id m.streams place = placed link id m.streams place at in

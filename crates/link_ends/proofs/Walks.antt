@@ -1,42 +1,21 @@
 -- One exchange after another.
-use Rattle.std.proofs.Common.{◌≡◌, ℕ, suc, zero, ◌+◌, ◌≤◌, ◌==◌, Bool, true, false, refl, ap, sym, ◌∙◌, subst, arith}
-use Rattle.std.specs.Prelude.{Option, Some, None, is_some, nat_lt}
-use Rattle.link_events.specs.declared.event.Loss.{Loss}
-use Rattle.link_verdicts.specs.declared.verdict.Operation.{Operation}
-use Rattle.link_verdicts.specs.declared.verdict.Operation.TheVariants as op
-use Rattle.key_laws.specs.Operations.{op_standing, work, last_of}
-use Rattle.key_laws.proofs.Tests.{lt-false, same-true}
-use Rattle.tsm_host.specs.declared.judge.Judged.{Judged}
-use Rattle.tsm_host.specs.declared.judge.Judged.TheVariants.{Expected, Refused, Bad, Lost as NotCarried}
-use Rattle.tsm_host.specs.declared.operation.Outcome.{Outcome}
+use Rattle.link_ends.proofs.Terms.{◌≡◌, ℕ, suc, zero, ◌+◌, ◌≤◌, Bool, true, false, refl, sym, ◌∙◌, arith, Option, Some, None, is_some, Loss, Operation, op_standing, work, last_of, nat_tests, Judged, Expected, Refused, Bad, Outcome}
+use Rattle.link_ends.proofs.Terms.{Asked, StreamView, asked_in, outcome_of, taken_stream, ManagerView, current, current_asked, asking_after, IsAsked, StreamEnds, Exchanged, exchanged, ends_after, Walked, walk_on, goes_on, Found}
+use Rattle.link_ends.proofs.Terms.{LinkEnds, IsOn, Stands, IsExchanged, Exchanges, IsWalked, Walks, ap, subst}
+use Rattle.tsm_host.specs.declared.judge.Judged.TheVariants.{Lost as NotCarried}
 use Rattle.tsm_host.specs.declared.operation.Outcome.TheVariants as outcome
-use Rattle.tsm_host.specs.declared.stage.Asked.{Asked}
-use Rattle.tsm_host.specs.Streams.{StreamView, asked_in, outcome_of, taken_stream}
-use Rattle.tsm_host.specs.Managers.{ManagerView, current, current_asked, asking_after}
-use Rattle.tsm_host.specs.Walk.{IsAsked}
-use Rattle.link_walks.specs.Walks.{StreamEnds, Exchanged, exchanged, ends_after, Walked, walk_on, goes_on}
-use Rattle.ide_port.specs.{Found}
-use Rattle.link_ends.specs.declared.ends.LinkEnds.{LinkEnds}
-use Rattle.link_ends.specs.Keepers.{IsOn, Stands, IsExchanged, Exchanges, IsWalked, Walks}
 use Rattle.link_ends.proofs.Carried.{keeper_read, current_is}
 
 -- ---- the exchange behind one that was acknowledged
 
 next_asked : (o : Operation) (set : Bool) (draw n k : ℕ) → 1 ≤ k → k ≤ last_of o → IsAsked (asked_in (op_standing (work o set draw n false) k))
-next_asked op.Establish set draw n k least most = (least, most)
-next_asked op.Refresh set draw n k least most = (least, most)
-next_asked op.Stop set draw n k least most = (least, most)
+next_asked o set draw n k least most = grind arith
 
-goes_next : (a : Asked) (s : StreamView) (b : Bool) → (a.exchange == last_of a.operation) ≡ b → IsAsked (Some a) → outcome_of a Expected ≡ outcome.Next
-    → IsAsked (asked_in (taken_stream a Expected s).op)
-goes_next a s true e asked is = let done = rw e at is in absurd cc
-goes_next a s false e asked is =
-    let differ : a.exchange ≡ last_of a.operation → ⊥ = λ same. let here : (a.exchange == last_of a.operation) ≡ true = subst (λ (z : ℕ). (a.exchange == z) ≡ true) same (same-true a.exchange) in cc in
-    let below : nat_lt (last_of a.operation) (a.exchange + 1) ≡ false = lt-false (last_of a.operation) (a.exchange + 1) (omega (arith, asked.1, differ)) in
-    rw below (next_asked a.operation a.set a.draw a.exchange (a.exchange + 1) (omega arith) (omega (arith, asked.1, differ)))
+goes_next : (a : Asked) (s : StreamView) → IsAsked (Some a) → outcome_of a Expected ≡ outcome.Next → IsAsked (asked_in (taken_stream a Expected s).op)
+goes_next a s asked is = grind (arith, nat_tests, next_asked a.operation a.set a.draw a.exchange (a.exchange + 1))
 
 pub still_asked : (a : Asked) (j : Judged) (s : StreamView) → IsAsked (Some a) → outcome_of a j ≡ outcome.Next → IsAsked (asked_in (taken_stream a j s).op)
-still_asked a Expected s asked is = goes_next a s (a.exchange == last_of a.operation) refl asked is
+still_asked a Expected s asked is = goes_next a s asked is
 still_asked a NotCarried s asked is = absurd cc
 still_asked a (Refused code) s asked is = absurd cc
 still_asked a Bad s asked is = absurd cc
@@ -44,43 +23,45 @@ still_asked a Bad s asked is = absurd cc
 -- ---- walks
 
 -- nothing is asked
-stays_on : (more : ℕ) (loss : Option Loss) (requester : ℕ) (e : StreamEnds) → asked_in e.keeper.op ≡ None → walk_on more loss requester e ≡ record { outcome = outcome.Next; ends = e }
+stays_on : (more : ℕ) (loss : Option Loss) (requester : ℕ) (e : StreamEnds) → asked_in e.keeper.op ≡ None
+    → walk_on more loss requester e ≡ record { outcome = outcome.Next; ends = e }
 stays_on zero loss requester e none = refl
 stays_on (suc more) loss requester e none = rw none (stays_on more loss requester e none)
 
 none_asked : (place : ℕ) (s : StreamView) (o : Option Asked) → is_some (current_asked place s o) ≡ false → o ≡ None
-none_asked place s None is = refl
-none_asked place s (Some a) is = absurd cc
+none_asked place s o is = grind arith
 
 pub idle_walks : (more : ℕ) (loss : Option Loss) (m : ManagerView) (l : LinkEnds) → is_some (current m) ≡ false → Walks more loss m l outcome.Next m l
 idle_walks more loss m l idle m0 l0 place id host device e on st asking within =
-    let none : asked_in e.keeper.op ≡ None = none_asked place e.keeper (asked_in e.keeper.op) (ap is_some (sym (current_is m place e.keeper asking (keeper_read m0 m l0 l place id host device e on st))) ∙ idle) in
-    let walked : walk_on more loss l0.device.requester e ≡ record { outcome = outcome.Next; ends = e } = stays_on more loss l0.device.requester e none in
-    record {
-      outcome = sym (ap (λ (w : Walked). w.outcome) walked);
-      stands = subst (λ (w : Walked). Stands m0 l0 place id w.ends m l) (sym walked) st;
-    }
+    let cur = current_is m place e.keeper asking (keeper_read m0 m l0 l place id host device e on st) in
+    let none : asked_in e.keeper.op ≡ None = none_asked place e.keeper (asked_in e.keeper.op) (ap is_some (sym cur) ∙ idle) in
+    subst (λ (v : Walked). IsWalked m0 l0 place id v outcome.Next m l) (sym (stays_on more loss l0.device.requester e none))
+    (record { outcome = refl; stands = st })
 
 -- the walk where an exchange is asked
 walk_asked : (more : ℕ) (loss : Option Loss) (requester : ℕ) (e : StreamEnds) (a : Asked) → asked_in e.keeper.op ≡ Some a
     → walk_on (suc more) loss requester e
-    ≡ goes_on (outcome_of a (exchanged loss requester a e).judged) (ends_after a (exchanged loss requester a e) e) (walk_on more loss requester (ends_after a (exchanged loss requester a e) e))
+    ≡ goes_on (outcome_of a (exchanged loss requester a e).judged) (ends_after a (exchanged loss requester a e) e)
+    (walk_on more loss requester (ends_after a (exchanged loss requester a e) e))
 walk_asked more loss requester e a asked = rw asked refl
 
 some_asked : (place : ℕ) (s : StreamView) (o : Option Asked) → is_some (current_asked place s o) ≡ true → (a : Asked) × (o ≡ Some a)
 some_asked place s None is = absurd cc
 some_asked place s (Some a) is = (a, refl)
 
-module _ (more : ℕ) (loss : Option Loss) (m m1 : ManagerView) (l l1 : LinkEnds) (r : Outcome) (asks : is_some (current m) ≡ true) (goes : Exchanges loss m l r m1 l1) where
+module _ (more : ℕ) (loss : Option Loss) (m m1 : ManagerView) (l l1 : LinkEnds) (r : Outcome) (asks : is_some (current m) ≡ true)
+    (goes : Exchanges loss m l r m1 l1) where
   record One (m0 : ManagerView) (l0 : LinkEnds) (place id : ℕ) (e : StreamEnds) : Type 0 where
     asked : Asked
     asked_is : asked_in e.keeper.op ≡ Some asked
     within : IsAsked (Some asked)
     exchange : IsExchanged m0 l0 place id loss asked e r m1 l1
     walk : walk_on (suc more) loss l0.device.requester e
-        ≡ goes_on r (ends_after asked (exchanged loss l0.device.requester asked e) e) (walk_on more loss l0.device.requester (ends_after asked (exchanged loss l0.device.requester asked e) e))
+        ≡ goes_on r (ends_after asked (exchanged loss l0.device.requester asked e) e)
+        (walk_on more loss l0.device.requester (ends_after asked (exchanged loss l0.device.requester asked e) e))
 
-  one : (m0 : ManagerView) (l0 : LinkEnds) (place id : ℕ) (host device : Found) (e : StreamEnds) → IsOn m0 l0 place id host device → Stands m0 l0 place id e m l → m.asking ≡ Some place
+  one : (m0 : ManagerView) (l0 : LinkEnds) (place id : ℕ) (host device : Found) (e : StreamEnds) → IsOn m0 l0 place id host device
+      → Stands m0 l0 place id e m l → m.asking ≡ Some place
       → IsAsked (asked_in e.keeper.op) → One m0 l0 place id e
   one m0 l0 place id host device e on st asking within =
       let some = some_asked place e.keeper (asked_in e.keeper.op) (ap is_some (sym (current_is m place e.keeper asking (keeper_read m0 m l0 l place id host device e on st))) ∙ asks) in
@@ -99,27 +80,19 @@ module _ (more : ℕ) (loss : Option Loss) (m m1 : ManagerView) (l l1 : LinkEnds
   -- it goes on
   pub walks_on : (m2 : ManagerView) (l2 : LinkEnds) (r2 : Outcome) → r ≡ outcome.Next → Walks more loss m1 l1 r2 m2 l2 → Walks (suc more) loss m l r2 m2 l2
   walks_on m2 l2 r2 is rest m0 l0 place id host device e on st asking within =
-      let o : One m0 l0 place id e = one m0 l0 place id host device e on st asking within in
-      let a = o.asked in
-      let x : Exchanged = exchanged loss l0.device.requester a e in
-      let later : IsAsked (asked_in (ends_after a x e).keeper.op) = still_asked a x.judged e.keeper o.within (sym o.exchange.outcome ∙ is) in
-      let w : IsWalked m0 l0 place id (walk_on more loss l0.device.requester (ends_after a x e)) r2 m2 l2 =
-      rest m0 l0 place id host device (ends_after a x e) on o.exchange.stands (o.exchange.asking ∙ ap (λ (q : Outcome). asking_after place q) is) later in
-      let walk : walk_on (suc more) loss l0.device.requester e ≡ walk_on more loss l0.device.requester (ends_after a x e) =
-      o.walk ∙ ap (λ (q : Outcome). goes_on q (ends_after a x e) (walk_on more loss l0.device.requester (ends_after a x e))) is in
-      subst (λ (v : Walked). IsWalked m0 l0 place id v r2 m2 l2) (sym walk) w
+      let o = one m0 l0 place id host device e on st asking within in
+      let x : Exchanged = exchanged loss l0.device.requester o.asked e in
+      let later = still_asked o.asked x.judged e.keeper o.within (sym o.exchange.outcome ∙ is) in
+      let walk = o.walk ∙ ap (λ (q : Outcome). goes_on q (ends_after o.asked x e) (walk_on more loss l0.device.requester (ends_after o.asked x e))) is in
+      subst (λ (v : Walked). IsWalked m0 l0 place id v r2 m2 l2) (sym walk)
+      (rest m0 l0 place id host device (ends_after o.asked x e) on o.exchange.stands (o.exchange.asking ∙ ap (λ (q : Outcome). asking_after place q) is) later)
 
   ends_there : (q : Outcome) (e : StreamEnds) (rest : Walked) → (q ≡ outcome.Next → ⊥) → goes_on q e rest ≡ record { outcome = q; ends = e }
-  ends_there outcome.Next e rest other = absurd (other refl)
-  ends_there (outcome.Done s) e rest other = refl
-  ends_there (outcome.Refused s) e rest other = refl
+  ends_there q e rest other = grind arith
 
   -- it is done or refused
   pub walks_out : (r ≡ outcome.Next → ⊥) → Walks (suc more) loss m l r m1 l1
   walks_out other m0 l0 place id host device e on st asking within =
-      let o : One m0 l0 place id e = one m0 l0 place id host device e on st asking within in
-      let a = o.asked in
-      let x : Exchanged = exchanged loss l0.device.requester a e in
-      let walk : walk_on (suc more) loss l0.device.requester e ≡ record { outcome = r; ends = ends_after a x e } =
-      o.walk ∙ ends_there r (ends_after a x e) (walk_on more loss l0.device.requester (ends_after a x e)) other in
+      let o = one m0 l0 place id host device e on st asking within in
+      let walk = o.walk ∙ ends_there r _ (walk_on more loss l0.device.requester (ends_after o.asked (exchanged loss l0.device.requester o.asked e) e)) other in
       subst (λ (v : Walked). IsWalked m0 l0 place id v r m1 l1) (sym walk) (record { outcome = refl; stands = o.exchange.stands })

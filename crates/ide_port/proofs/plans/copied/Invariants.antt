@@ -1,4 +1,4 @@
-use Rattle.std.proofs.Common.{◌≡◌, take}
+use Rattle.ide_port.proofs.Terms.{◌≡◌, take}
 use Rattle.ide_port.proofs.plans.copied.Given as goal
 
 abbrev pub invariant-loop-plan : goal.invariant-loop-plan

@@ -1,5 +1,4 @@
-use Rattle.std.proofs.Common.{◌≡◌, take}
-use Rattle.ide_port.specs.Kept.{new_streams}
+use Rattle.ide_port.proofs.Terms.{◌≡◌, take, new_streams}
 use Rattle.ide_port.proofs.plans.planned.Given as goal
 
 abbrev pub invariant-loop-plan : goal.invariant-loop-plan

@@ -1,6 +1,5 @@
-use Rattle.std.proofs.Common.{arith, length, ◌<◌}
-use Rattle.ide_stream.specs.{reset_end}
-use Rattle.ide_port.proofs.Lists.{one_more}
+use Rattle.ide_port.proofs.Terms.{arith, length, ◌<◌, reset_end}
+use Rattle.tsm_host.proofs.Lists.{one_more}
 use Rattle.ide_port.proofs.port.reset_streams.Goals as goal
 
 pub loop-stream-preserved : goal.loop-stream-preserved

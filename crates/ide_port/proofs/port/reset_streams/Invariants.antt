@@ -1,5 +1,4 @@
-use Rattle.std.proofs.Common.{◌≡◌, ◌++◌, map, take, drop}
-use Rattle.ide_stream.specs.{reset_end}
+use Rattle.ide_port.proofs.Terms.{◌≡◌, ◌++◌, map, take, drop, reset_end}
 use Rattle.ide_port.proofs.port.reset_streams.Given as goal
 
 abbrev pub invariant-loop-stream : goal.invariant-loop-stream

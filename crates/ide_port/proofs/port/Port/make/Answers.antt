@@ -1,12 +1,15 @@
-use Rattle.std.proofs.Common.{[], map, ap, sym, ◌∙◌}
-use Rattle.ide_port.specs.Kept.{new_streams}
-use Rattle.ide_port.proofs.Streams.{state_of, states-new}
-use Rattle.ide_port.proofs.Keeping.{kept-new}
+use Rattle.ide_port.proofs.Terms.{[], ap, ◌∙◌, length, map, arith}
+use Rattle.ide_port.proofs.Streams.{state_of, streams-new, states-new}
+use Rattle.ide_port.proofs.Keeping.{lends-none}
 use Rattle.ide_port.proofs.port.Port.make.Goals as goal
 
 pub invariant_of-result : goal.invariant_of-result
-invariant_of-result c =
-    kept-new _ _ _ _ _ _ (c.in_ok-streams.ensures ∙ ap (new_streams c.args.name.side c.args.limit) (sym c.in_ok-plans.ensures)) c.in_ok-sealed.ensures.items c.in_ok-sealed.ensures.capacity
+invariant_of-result c = record {
+  each = rw (c.in_ok-streams.ensures, c.in_ok-plans.ensures) (streams-new c.args.name.side c.args.limit c.args.plans.now);
+  lends = lends-none _;
+  short = omega (arith, ap length c.in_ok-sealed.ensures.items);
+  room = c.in_ok-sealed.ensures.capacity;
+}
 
 pub returns : goal.returns
 returns c =

@@ -1,11 +1,15 @@
-use Rattle.std.proofs.Common.{[], map, ap, ◌∙◌}
-use Rattle.ide_port.specs.Ends.{reset_port}
-use Rattle.ide_port.proofs.Streams.{state_of, states-reset}
-use Rattle.ide_port.proofs.Keeping.{kept-reset}
+use Rattle.ide_port.proofs.Terms.{[], map, ap, ◌∙◌, reset_port}
+use Rattle.ide_port.proofs.Streams.{state_of, resets}
+use Rattle.ide_port.proofs.Keeping.{lends-none}
 use Rattle.ide_port.proofs.port.Port.reset.Goals as goal
 
 pub invariant_of-self : goal.invariant_of-self
-invariant_of-self c = kept-reset _ _ _ _ c.self.inside.streams.items _ c.self.inside.lent _ _ c.self.invariant c.reset_streams.ensures
+invariant_of-self c = record {
+  each = rw c.reset_streams.ensures (resets _ _ _ _ _ c.self.invariant.each).each;
+  lends = lends-none _;
+  short = c.self.invariant.short;
+  room = c.self.invariant.room;
+}
 
 pub returns : goal.returns
 returns c =
@@ -13,7 +17,7 @@ returns c =
       name = c.self.inside.name;
       plans = c.self.inside.plans;
       limit = c.self.inside.limit;
-      states = (ap (map state_of) c.reset_streams.ensures ∙ states-reset _ _ _ c.self.inside.plans c.self.inside.streams.items c.self.invariant.each) i;
+      states = (ap (map state_of) c.reset_streams.ensures ∙ (resets _ _ _ c.self.inside.plans c.self.inside.streams.items c.self.invariant.each).states) i;
       sealed = c.self.inside.sealed.items;
       delivered = [];
       calls = c.self.inside.calls;

@@ -1,28 +1,16 @@
-use Rattle.std.proofs.Common.{◌≡◌, Some, None, sym, ap, ◌∙◌, arith}
-use Rattle.std.specs.Option.{option_map}
-use Rattle.stream_calls.specs.Calls.{stream_status}
-use Rattle.ide_port.specs.Ends.{PortEnd, Found}
-use Rattle.ide_port.specs.Calls.{status_in}
-use Rattle.ide_port.specs.Kept.{place_of}
-use Rattle.ide_port.proofs.Streams.{absent, within}
-use Rattle.ide_port.proofs.Steps.{read-some}
+use Rattle.ide_port.proofs.Terms.{Some, sym, ap, ◌∙◌, arith, option_map, stream_status, Found}
+use Rattle.ide_port.proofs.Keeping.{inside}
+use Rattle.ide_port.proofs.Steps.{gone, reads}
 use Rattle.ide_port.proofs.port.Port.status.Goals as goal
 
 pub index-requires : goal.index-requires
-index-requires c =
-    let at : place_of c.self.inside.plans c.args.stream ≡ Some c.in-Some.place = rw (← c.as_slice.ensures) (sym c.place.ensures ∙ c.in-Some.is) in
-    omega (arith, within _ _ _ _ _ c.args.stream _ c.self.invariant.each at, c.self.inside.streams.ok.0)
+index-requires c = omega (arith, inside c.self.inside c.args.stream c.in-Some.place c.self.invariant (cc), c.self.inside.streams.ok.0)
 
 pub returns-in-None : goal.returns-in-None
-returns-in-None c =
-    let at : place_of c.self.inside.plans c.args.stream ≡ None = rw (← c.as_slice.ensures) (sym c.place.ensures ∙ c.in-None.is) in
-    sym (ap (option_map (λ (f : Found). stream_status f.state)) (absent c.self.inside.plans _ c.args.stream at))
-    ∙ ap (λ (e : PortEnd). status_in e c.args.stream) c.self.view_is
+returns-in-None c = sym (ap (option_map (λ (f : Found). stream_status f.state)) (gone c.self.inside c.args.self.now c.self.view_is c.args.stream (cc)))
 
 pub returns-in-Some : goal.returns-in-Some
 returns-in-Some c =
-    let at : place_of c.self.inside.plans c.args.stream ≡ Some c.in-Some.place = rw (← c.as_slice.ensures) (sym c.place.ensures ∙ c.in-Some.is) in
     ap Some c.status.ensures
-    ∙ sym (read-some stream_status c.self.inside.name c.self.inside.limit c.self.inside.plans c.self.inside.streams.items c.self.inside.calls c.args.stream c.in-Some.place c.index.result.now
-    c.self.invariant.each at c.index.ensures)
-    ∙ ap (λ (e : PortEnd). status_in e c.args.stream) c.self.view_is
+    ∙ sym (reads c.self.inside c.args.self.now c.self.view_is c.self.invariant c.args.stream c.in-Some.place c.index.result.now (cc) c.index.ensures
+    (option_map (λ (f : Found). stream_status f.state)))

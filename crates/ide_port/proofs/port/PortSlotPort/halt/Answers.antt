@@ -1,69 +1,33 @@
-use Rattle.std.proofs.Common.{◌≡◌, Some, None, true, false, sym, ap, ◌∙◌, arith}
-use Rattle.std.specs.Prelude.{slice_set}
-use Rattle.ide_km.specs.{Halt, place_at}
-use Rattle.ide_km.specs.Calls.{is_there}
-use Rattle.ide_stream.specs.{pair_in}
-use Rattle.ide_port.specs.Ends.{PortEnd}
-use Rattle.ide_port.specs.Calls.{slot_call, stream_at}
-use Rattle.ide_port.specs.Kept.{lane_of}
-use Rattle.ide_port.proofs.Streams.{within}
-use Rattle.ide_port.proofs.Keeping.{few-at, after-called, kept-with, lends-none}
-use Rattle.ide_port.proofs.Steps.{seen, IsLane, lane-some, lane-none, IsCalled, called-step, nowhere-step, slots-step, shown-none, shown-some}
+use Rattle.ide_port.proofs.Terms.{true, false, sym, ap, arith, Halt, place_at, is_there, slot_call}
+use Rattle.ide_port.proofs.Keeping.{kept-called}
+use Rattle.ide_port.proofs.Steps.{IsLane, lane-some, lane-inside, nowhere-step, called-step}
 use Rattle.ide_port.proofs.port.PortSlotPort.halt.Goals as goal
 
 pub index_mut-stream-requires : goal.index_mut-stream-requires
 index_mut-stream-requires c =
-    let at : lane_of c.self.inside.plans c.args.stream c.args.sub ≡ Some (c.in-Some.place, c.in-Some.sub) = rw (← c.as_slice.ensures) (sym c.lane.ensures ∙ c.in-Some.is) in
-    omega (arith, within _ _ _ _ _ c.args.stream _ c.self.invariant.each (lane-some c.self.inside.plans c.args.stream c.args.sub _ _ at).place_is, c.self.inside.streams.ok.0)
+    omega (arith, lane-inside c.self.inside c.args.stream c.args.sub c.in-Some.place c.in-Some.sub c.self.invariant (cc), c.self.inside.streams.ok.0)
 
-nowhere : (c : goal.In-None) → stream_at c.args.self.now (place_at c.args.stream c.args.dir c.args.sub) ≡ None
-nowhere c =
-    let at : lane_of c.self.inside.plans c.args.stream c.args.sub ≡ None = rw (← c.as_slice.ensures) (sym c.lane.ensures ∙ c.in-None.is) in
-    lane-none c.args.self.now c.self.inside.plans (place_at c.args.stream c.args.dir c.args.sub) (sym (ap (λ (e : PortEnd). e.plans) c.self.view_is)) at
-
-pub returns-in-None-clause-answer : goal.returns-in-None-clause-answer
-returns-in-None-clause-answer c = sym (ap (λ o. is_there o) (shown-none c.args.self.now (place_at c.args.stream c.args.dir c.args.sub) (nowhere c)))
-
-pub returns-in-None-clause-moves : goal.returns-in-None-clause-moves
-returns-in-None-clause-moves c =
-    nowhere-step c.args.self.now c.self.inside.name c.self.inside.limit c.self.inside.plans c.self.inside.streams.items c.self.inside.sealed.items c.self.inside.lent c.self.inside.calls
-    (Halt (place_at c.args.stream c.args.dir c.args.sub) c.args.set false) c.self.view_is (nowhere c)
-
-pub returns-in-None-clause-slots : goal.returns-in-None-clause-slots
-returns-in-None-clause-slots c =
-    slots-step c.args.self.now _ c.self.inside.name c.self.inside.limit c.self.inside.plans c.self.inside.streams.items c.self.inside.sealed.items c.self.inside.lent c.self.inside.calls
-    (Halt (place_at c.args.stream c.args.dir c.args.sub) c.args.set false) c.self.view_is c.self.invariant.each (returns-in-None-clause-moves c)
+pub returns-in-None : goal.returns-in-None
+returns-in-None c =
+    let x = nowhere-step c.self.inside c.args.self.now c.self.view_is c.self.invariant
+    (Halt (place_at c.args.stream c.args.dir c.args.sub) c.args.set false) (cc) in
+    record { answer = sym (ap (λ o. is_there o) x.shows); moves = x.moves; slots = x.slots }
 
 -- the place that is called
-at_lane : (c : goal.After-self-in-Some-1) → IsLane c.self.inside.plans c.args.stream c.args.sub c.in-Some.place c.in-Some.sub
-at_lane c =
-    let at : lane_of c.self.inside.plans c.args.stream c.args.sub ≡ Some (c.in-Some.place, c.in-Some.sub) = rw (← c.as_slice.ensures) (sym c.lane.ensures ∙ c.in-Some.is) in
-    lane-some c.self.inside.plans c.args.stream c.args.sub _ _ at
+lane : (c : goal.After-self-in-Some-1) → IsLane c.self.inside.plans c.args.stream c.args.sub c.in-Some.place c.in-Some.sub
+lane c = lane-some c.self.inside.plans c.args.stream c.args.sub _ _ (cc)
 
 pub invariant_of-self-in-Some : goal.invariant_of-self-in-Some
 invariant_of-self-in-Some c =
-    let few = few-at _ _ _ _ _ c.args.stream _ _ c.self.invariant.each (at_lane c).place_is c.index_mut-stream.ensures.value in
-    kept-with _ _ _ _ _ _ _ _ _ c.args.stream _ _ _ c.self.invariant.each (at_lane c).place_is c.index_mut-stream.ensures.value (omega arith)
-    (after-called c.self.inside.calls c.index_mut-stream.result.now c.halt.new.self c.args.dir c.in-Some.sub (slot_call (Halt (place_at c.args.stream c.args.dir c.args.sub) c.args.set true)) c.halt.ensures few.0 few.1)
-    (lends-none c.self.inside.streams.items) c.self.invariant.short c.self.invariant.room
+    kept-called c.self.inside c.self.invariant c.args.stream c.in-Some.place c.index_mut-stream.result.now (lane c).place_is c.index_mut-stream.ensures.value
+    c.halt.new.self c.args.dir c.in-Some.sub (slot_call (Halt (place_at c.args.stream c.args.dir c.args.sub) c.args.set true)) c.halt.ensures
 
-called : (c : goal.After-self-in-Some-1) → IsCalled c.args.self.now
-    (seen c.self.inside.name c.self.inside.limit c.self.inside.plans (slice_set c.self.inside.streams.items c.in-Some.place c.halt.new.self) c.self.inside.sealed.items None c.self.inside.calls)
-    (Halt (place_at c.args.stream c.args.dir c.args.sub) c.args.set true) (pair_in c.index_mut-stream.result.now c.args.dir c.in-Some.sub)
-called c =
-    called-step c.args.self.now c.self.inside.name c.self.inside.limit c.self.inside.plans c.self.inside.streams.items c.self.inside.sealed.items c.self.inside.lent c.self.inside.calls
-    c.in-Some.place c.in-Some.sub c.index_mut-stream.result.now c.halt.new.self (Halt (place_at c.args.stream c.args.dir c.args.sub) c.args.set true)
-    c.self.view_is c.self.invariant.each c.requires.dir (at_lane c) c.index_mut-stream.ensures.value c.halt.ensures
-
-pub returns-in-Some-clause-answer : goal.returns-in-Some-clause-answer
-returns-in-Some-clause-answer c =
-    let was = shown-some c.args.self.now (place_at c.args.stream c.args.dir c.args.sub) _ (at_lane c).three (called c).was in
-    sym (ap is_there was)
-
-pub returns-in-Some-clause-moves : goal.returns-in-Some-clause-moves
-returns-in-Some-clause-moves c = (called c).port
-
-pub returns-in-Some-clause-slots : goal.returns-in-Some-clause-slots
-returns-in-Some-clause-slots c =
-    slots-step c.args.self.now _ c.self.inside.name c.self.inside.limit c.self.inside.plans c.self.inside.streams.items c.self.inside.sealed.items c.self.inside.lent c.self.inside.calls
-    (Halt (place_at c.args.stream c.args.dir c.args.sub) c.args.set true) c.self.view_is c.self.invariant.each (called c).port
+pub returns-in-Some : goal.returns-in-Some
+returns-in-Some c =
+    let x = called-step c.self.inside c.args.self.now c.self.view_is c.self.invariant (Halt (place_at c.args.stream c.args.dir c.args.sub) c.args.set true)
+    c.in-Some.place c.in-Some.sub c.index_mut-stream.result.now c.halt.new.self c.requires.dir (lane c) c.index_mut-stream.ensures.value c.halt.ensures in
+    record {
+      answer = sym (ap (λ o. is_there o) x.shows);
+      moves = x.moves;
+      slots = x.slots;
+    }
