@@ -1,31 +1,10 @@
 -- The states of the ports of all links, as the machine has them, and one port changed.
-use Rattle.std.proofs.Common.{◌≡◌, ℕ, suc, zero, ◌+◌, ◌*◌, ◌<◌, ◌≤◌, ◌⊎◌, inl, inr, false, List, [], ◌∷◌, length, refl, ap, sym, ◌∙◌, subst, arith, ⊎_elim, add-zero}
-use Rattle.std.specs.Prelude.{Option, Some, option_map, slice_get, slice_set}
-use Rattle.std.specs.List.{slice_index_or}
-use Rattle.std.specs.Option.{option_map_or}
-use Rattle.std.proofs.lemmas.Option.{same_Some, none-some}
-use Rattle.std.proofs.lemmas.List.{length-set, set-get_or}
-use Rattle.ide_types.specs.declared.port.Side.{Side}
-use Rattle.ide_types.specs.declared.port.Side.TheVariants.{Host, Device}
-use Rattle.ide_types.specs.declared.port.PortName.{PortName}
-use Rattle.ide_plan.specs.declared.plan.Plan.{Plan}
-use Rattle.ide_plan.specs.declared.stream.StreamPlan.{StreamPlan}
-use Rattle.key_laws.specs.Places.{sent_direction}
-use Rattle.stream_rules.specs.Stream.{StreamState}
-use Rattle.link_history.specs.Plan.{streams_of, stream_plan, with_id, mode_of, is_closed}
+use Rattle.keyed_links.proofs.Terms.{◌≡◌, ℕ, suc, zero, ◌+◌, ◌*◌, ◌<◌, ◌≤◌, false, List, [], ◌∷◌, length, refl, ap, sym, ◌∙◌, subst, arith, Option, Some, option_map, map, slice_get, slice_set, slice_index_or, option_map_or}
+use Rattle.keyed_links.proofs.Terms.{same_Some, none-some, slice_get_within, length-set, set-get_or, Side, Host, Device, PortName, Plan, StreamPlan, sent_direction, StreamState, streams_of, stream_plan, with_id, mode_of, is_closed}
+use Rattle.keyed_links.proofs.Terms.{LinkState, LinkPacket, Stepped, port_at, port_place, find, put, PortEnd, Found, found, changed, Verdict, History, StandsFor, LinkEnds, Links, port_in, with_port, KeeperView, ports_in, state_of}
+use Rattle.keyed_links.proofs.Terms.{name_of, IsBounded, IsLink, AreLinks, links_state, EndsWith, StreamView, KeysKept, machine_found, machine_changed, found_plan}
 use Rattle.link_ports.specs.Machine as machine
-use Rattle.link_ports.specs.Machine.{LinkState, LinkPacket, Stepped, port_at, port_place, find, put}
-use Rattle.ide_port.specs.{PortEnd, Found, found, changed}
-use Rattle.link_verdicts.specs.declared.verdict.Verdict.{Verdict}
-use Rattle.key_laws.specs.History.{History}
-use Rattle.link_ports.specs.Stands.{StandsFor}
-use Rattle.link_ends.specs.declared.ends.LinkEnds.{LinkEnds}
-use Rattle.keyed_links.specs.declared.links.Links.{Links}
-use Rattle.link_ends.specs.Ends.{port_in, with_port}
-use Rattle.link_ends.specs.Keepers.{KeeperView}
-use Rattle.keyed_links.specs.States.{ports_in, state_of, IsBounded, IsLink, AreLinks}
-use Rattle.keyed_links.specs.Links.{links_state, EndsWith}
-use Rattle.link_ends.proofs.Streams.{machine_found, machine_changed, found_plan}
+use Rattle.link_ends.proofs.Lists.{read_set, set_again}
 
 -- ---- lists
 
@@ -35,70 +14,52 @@ there (x ∷ xs) zero lt = (x, refl)
 there (x ∷ xs) (suc i) lt = there xs i (omega (arith, lt))
 
 pub set_there : {A : Type 0} (xs : List A) (i : ℕ) (x y : A) → slice_get xs i ≡ Some x → slice_get (slice_set xs i y) i ≡ Some y
-set_there [] i x y is = absurd (none-some x is)
-set_there (z ∷ xs) zero x y is = refl
-set_there (z ∷ xs) (suc i) x y is = set_there xs i x y is
+set_there xs i x y is = read_set xs i y (slice_get_within xs i x is)
 
-pub set_cases : {A : Type 0} (xs : List A) (i j : ℕ) (y z : A) → slice_get (slice_set xs i y) j ≡ Some z → ((j ≡ i) × (y ≡ z)) ⊎ (slice_get xs j ≡ Some z)
-set_cases [] i j y z is = inr is
-set_cases (x ∷ xs) zero zero y z is = inl (refl, same_Some y z is)
-set_cases (x ∷ xs) zero (suc j) y z is = inr is
-set_cases (x ∷ xs) (suc i) zero y z is = inr is
-set_cases (x ∷ xs) (suc i) (suc j) y z is = ⊎_elim (λ e. inl (ap suc e.0, e.1)) (λ e. inr e) (set_cases xs i j y z is)
+-- what holds of the new item and of all old ones
+pub each_set : {A : Type 0} (P : ℕ → A → Type 0) (xs : List A) (i : ℕ) (y : A) → P i y → ((j : ℕ) (x : A) → slice_get xs j ≡ Some x → P j x)
+    → (j : ℕ) (z : A) → slice_get (slice_set xs i y) j ≡ Some z → P j z
+each_set P [] i y new old j z is = old j z is
+each_set P (x ∷ xs) zero y new old zero z is = subst (P 0) (same_Some y z is) new
+each_set P (x ∷ xs) zero y new old (suc j) z is = old (suc j) z is
+each_set P (x ∷ xs) (suc i) y new old zero z is = old 0 z is
+each_set P (x ∷ xs) (suc i) y new old (suc j) z is = each_set (λ k. P (suc k)) xs i y new (λ k. old (suc k)) j z is
 
 -- ---- the states of one port
 
-twice : (i : ℕ) → 2 * suc i ≡ suc (suc (2 * i))
-twice i = omega arith
+twice : (i d : ℕ) → 2 * suc i + d ≡ suc (suc (2 * i + d))
+twice i d = omega arith
 
-twice_more : (i : ℕ) → 2 * suc i + 1 ≡ suc (suc (2 * i + 1))
-twice_more i = omega arith
+states_at : (ls : List LinkEnds) (s : Side) (i : ℕ) (l : LinkEnds) → slice_get ls i ≡ Some l
+    → slice_index_or (ports_in ls) (2 * i + sent_direction s) [] ≡ (port_in s l).states
+states_at [] s i l is = absurd (none-some l is)
+states_at (x ∷ ls) Host zero l is = ap (λ (y : LinkEnds). y.host.states) (same_Some x l is)
+states_at (x ∷ ls) Device zero l is = ap (λ (y : LinkEnds). y.device.port.states) (same_Some x l is)
+states_at (x ∷ ls) s (suc i) l is = ap (λ (n : ℕ). slice_index_or (ports_in (x ∷ ls)) n []) (twice i (sent_direction s)) ∙ states_at ls s i l is
 
-host_states : (ls : List LinkEnds) (i : ℕ) (l : LinkEnds) → slice_get ls i ≡ Some l → slice_index_or (ports_in ls) (2 * i) [] ≡ l.host.states
-host_states [] i l is = absurd (none-some l is)
-host_states (x ∷ ls) zero l is = ap (λ (y : LinkEnds). y.host.states) (same_Some x l is)
-host_states (x ∷ ls) (suc i) l is = ap (λ (n : ℕ). slice_index_or (ports_in (x ∷ ls)) n []) (twice i) ∙ host_states ls i l is
+states_set : (ls : List LinkEnds) (s : Side) (i : ℕ) (l : LinkEnds) (e : PortEnd) → slice_get ls i ≡ Some l
+    → ports_in (slice_set ls i (with_port s e l)) ≡ slice_set (ports_in ls) (2 * i + sent_direction s) e.states
+states_set [] s i l e is = absurd (none-some l is)
+states_set (x ∷ ls) Host zero l e is = ap (λ (y : LinkEnds). e.states ∷ y.device.port.states ∷ ports_in ls) (sym (same_Some x l is))
+states_set (x ∷ ls) Device zero l e is = ap (λ (y : LinkEnds). y.host.states ∷ e.states ∷ ports_in ls) (sym (same_Some x l is))
+states_set (x ∷ ls) s (suc i) l e is =
+    ap (λ (zs : List (List StreamState)). x.host.states ∷ x.device.port.states ∷ zs) (states_set ls s i l e is)
+    ∙ ap (λ (n : ℕ). slice_set (ports_in (x ∷ ls)) n e.states) (sym (twice i (sent_direction s)))
 
-device_states : (ls : List LinkEnds) (i : ℕ) (l : LinkEnds) → slice_get ls i ≡ Some l → slice_index_or (ports_in ls) (2 * i + 1) [] ≡ l.device.port.states
-device_states [] i l is = absurd (none-some l is)
-device_states (x ∷ ls) zero l is = ap (λ (y : LinkEnds). y.device.port.states) (same_Some x l is)
-device_states (x ∷ ls) (suc i) l is = ap (λ (n : ℕ). slice_index_or (ports_in (x ∷ ls)) n []) (twice_more i) ∙ device_states ls i l is
+-- one port after the other
+pub ends_both : (ends : List LinkEnds) (link : ℕ) (l l' : LinkEnds) → l'.device.requester ≡ l.device.requester
+    → slice_set (slice_set ends link (with_port Host l'.host l)) link (with_port Device l'.device.port (with_port Host l'.host l)) ≡ slice_set ends link l'
+ends_both ends link l l' requester =
+    set_again ends link _ _ ∙ (λ i. slice_set ends link (record l' { device = record l'.device { requester = sym requester i } }))
 
-host_set : (ls : List LinkEnds) (i : ℕ) (l : LinkEnds) (e : PortEnd) → slice_get ls i ≡ Some l → ports_in (slice_set ls i (with_port Host e l)) ≡ slice_set (ports_in ls) (2 * i) e.states
-host_set [] i l e is = absurd (none-some l is)
-host_set (x ∷ ls) zero l e is = ap (λ (y : LinkEnds). e.states ∷ y.device.port.states ∷ ports_in ls) (sym (same_Some x l is))
-host_set (x ∷ ls) (suc i) l e is =
-    ap (λ (zs : List (List StreamState)). x.host.states ∷ x.device.port.states ∷ zs) (host_set ls i l e is)
-    ∙ ap (λ (n : ℕ). slice_set (ports_in (x ∷ ls)) n e.states) (sym (twice i))
-
-device_set : (ls : List LinkEnds) (i : ℕ) (l : LinkEnds) (e : PortEnd) → slice_get ls i ≡ Some l → ports_in (slice_set ls i (with_port Device e l)) ≡ slice_set (ports_in ls) (2 * i + 1) e.states
-device_set [] i l e is = absurd (none-some l is)
-device_set (x ∷ ls) zero l e is = ap (λ (y : LinkEnds). y.host.states ∷ e.states ∷ ports_in ls) (sym (same_Some x l is))
-device_set (x ∷ ls) (suc i) l e is =
-    ap (λ (zs : List (List StreamState)). x.host.states ∷ x.device.port.states ∷ zs) (device_set ls i l e is)
-    ∙ ap (λ (n : ℕ). slice_set (ports_in (x ∷ ls)) n e.states) (sym (twice_more i))
-
-pub port_states : (ls : List LinkEnds) (port : PortName) (l : LinkEnds) → slice_get ls port.link ≡ Some l → slice_index_or (ports_in ls) (port_place port) [] ≡ (port_in port.side l).states
-port_states ls port l is = by_side port.side
-  where
-    by_side : (s : Side) → slice_index_or (ports_in ls) (2 * port.link + sent_direction s) [] ≡ (port_in s l).states
-    by_side Host = ap (λ (n : ℕ). slice_index_or (ports_in ls) n []) (add-zero (2 * port.link)) ∙ host_states ls port.link l is
-    by_side Device = device_states ls port.link l is
-
-pub ports_set : (ls : List LinkEnds) (port : PortName) (l : LinkEnds) (e : PortEnd) → slice_get ls port.link ≡ Some l
-    → ports_in (slice_set ls port.link (with_port port.side e l)) ≡ slice_set (ports_in ls) (port_place port) e.states
-ports_set ls port l e is = by_side port.side
-  where
-    by_side : (s : Side) → ports_in (slice_set ls port.link (with_port s e l)) ≡ slice_set (ports_in ls) (2 * port.link + sent_direction s) e.states
-    by_side Host = host_set ls port.link l e is ∙ ap (λ (n : ℕ). slice_set (ports_in ls) n e.states) (sym (add-zero (2 * port.link)))
-    by_side Device = device_set ls port.link l e is
-
-pub ports_kept : (ls : List LinkEnds) (port : PortName) (l : LinkEnds) (e : PortEnd) → slice_get ls port.link ≡ Some l → e.states ≡ (port_in port.side l).states
-    → ports_in (slice_set ls port.link (with_port port.side e l)) ≡ ports_in ls
-ports_kept ls port l e is same =
-    ports_set ls port l e is
-    ∙ ap (λ (xs : List StreamState). slice_set (ports_in ls) (port_place port) xs) (same ∙ sym (port_states ls port l is))
-    ∙ set-get_or (ports_in ls) (port_place port) []
+pub both_set : (ends : List LinkEnds) (link : ℕ) (l l' : LinkEnds) → l'.device.requester ≡ l.device.requester → slice_get ends link ≡ Some l
+    → ports_in (slice_set ends link l') ≡ slice_set (slice_set (ports_in ends) (port_place (port_at Host link)) l'.host.states)
+    (port_place (port_at Device link)) l'.device.port.states
+both_set ends link l l' requester is =
+    let l1 : LinkEnds = with_port Host l'.host l in
+    sym (ap ports_in (ends_both ends link l l' requester))
+    ∙ states_set (slice_set ends link l1) Device link l1 l'.device.port (set_there ends link l l1 is)
+    ∙ ap (λ (ps : List (List StreamState)). slice_set ps (port_place (port_at Device link)) l'.device.port.states) (states_set ends Host link l l'.host is)
 
 -- ---- the port of a plan
 
@@ -107,75 +68,84 @@ pub record IsPort (plan : Plan) (port : PortName) (e : PortEnd) : Type 0 where
   pub plans : e.plans ≡ streams_of plan port.link
   pub limit : e.limit ≡ plan.units_per_key
 
-pub port_is : (plan : Plan) (ends : List LinkEnds) (k : KeeperView) (port : PortName) (l : LinkEnds) → AreLinks plan ends k → slice_get ends port.link ≡ Some l → IsPort plan port (port_in port.side l)
-port_is plan ends k port l links is = by_side port.side
-  where
-    by_side : (s : Side) → IsPort plan (port_at s port.link) (port_in s l)
-    by_side Host = let x = links.each_link port.link l is in record { name = x.host_name; plans = x.host_plans; limit = x.host_limit }
-    by_side Device = let x = links.each_link port.link l is in record { name = x.device_name; plans = x.device_plans; limit = x.device_limit }
+port_of : (plan : Plan) (i : ℕ) (l : LinkEnds) (s : Side) → IsLink plan i l → IsPort plan (port_at s i) (port_in s l)
+port_of plan i l Host x = record { name = x.host_name; plans = x.host_plans; limit = x.host_limit }
+port_of plan i l Device x = record { name = x.device_name; plans = x.device_plans; limit = x.device_limit }
 
--- one more call, and the same streams
+pub port_is : (plan : Plan) (ends : List LinkEnds) (k : KeeperView) (port : PortName) (l : LinkEnds) → AreLinks plan ends k → slice_get ends port.link ≡ Some l → IsPort plan port (port_in port.side l)
+port_is plan ends k port l links is = port_of plan port.link l port.side (links.each_link port.link l is)
+
+-- ---- one link changed
+
+-- the same streams, and at the most one more call
 pub record Keeps (e e' : PortEnd) : Type 0 where
   pub name : e'.name ≡ e.name
   pub plans : e'.plans ≡ e.plans
   pub limit : e'.limit ≡ e.limit
-  pub calls : e'.calls ≡ e.calls + 1
+  pub calls : e'.calls ≤ e.calls + 1
 
-pub port_after : (plan : Plan) (port : PortName) (e e' : PortEnd) → IsPort plan port e → Keeps e e' → IsPort plan port e'
-port_after plan port e e' is keeps = record { name = keeps.name ∙ is.name; plans = keeps.plans ∙ is.plans; limit = keeps.limit ∙ is.limit }
+pub record KeepsEnds (l l' : LinkEnds) : Type 0 where
+  pub host : Keeps l.host l'.host
+  pub device : Keeps l.device.port l'.device.port
+  pub requester : l'.device.requester ≡ l.device.requester
 
-pub bounded_after : (ends : List LinkEnds) (packets more : List LinkPacket) (steps : ℕ) (port : PortName) (l : LinkEnds) (e : PortEnd) → IsBounded ends packets steps
-    → slice_get ends port.link ≡ Some l → Keeps (port_in port.side l) e → ((i : ℕ) (p : LinkPacket) → slice_get more i ≡ Some p → p.port.link < length ends)
-    → IsBounded (slice_set ends port.link (with_port port.side e l)) more (steps + 1)
-bounded_after ends packets more steps port l e bounded is keeps sealed = record {
-  few = subst (λ (n : ℕ). n ≤ 8) (sym (length-set ends port.link (with_port port.side e l))) bounded.few;
-  host_calls = λ i x at. ⊎_elim (λ s. subst (λ (y : LinkEnds). y.host.calls ≤ steps + 1) s.1 (host_here port.side keeps)) (λ old. let le = bounded.host_calls i x old in omega (arith, le))
-      (set_cases ends port.link i (with_port port.side e l) x at);
-  device_calls = λ i x at. ⊎_elim (λ s. subst (λ (y : LinkEnds). y.device.port.calls ≤ steps + 1) s.1 (device_here port.side keeps)) (λ old. let le = bounded.device_calls i x old in omega (arith, le))
-      (set_cases ends port.link i (with_port port.side e l) x at);
-  sealed_here = λ i p at. subst (λ (n : ℕ). p.port.link < n) (sym (length-set ends port.link (with_port port.side e l))) (sealed i p at);
-}
-  where
-    host_here : (s : Side) → Keeps (port_in s l) e → (with_port s e l).host.calls ≤ steps + 1
-    host_here Host keeps = let le = bounded.host_calls port.link l is in let c = keeps.calls in omega (arith, le, c)
-    host_here Device keeps = let le = bounded.host_calls port.link l is in omega (arith, le)
+as_before : (e : PortEnd) → Keeps e e
+as_before e = record { name = refl; plans = refl; limit = refl; calls = omega arith }
 
-    device_here : (s : Side) → Keeps (port_in s l) e → (with_port s e l).device.port.calls ≤ steps + 1
-    device_here Host keeps = let le = bounded.device_calls port.link l is in omega (arith, le)
-    device_here Device keeps = let le = bounded.device_calls port.link l is in let c = keeps.calls in omega (arith, le, c)
+pub keeps_port : (s : Side) (l : LinkEnds) (e : PortEnd) → Keeps (port_in s l) e → KeepsEnds l (with_port s e l)
+keeps_port Host l e keeps = record { host = keeps; device = as_before l.device.port; requester = refl }
+keeps_port Device l e keeps = record { host = as_before l.host; device = keeps; requester = refl }
 
-link_after : (plan : Plan) (s : Side) (i : ℕ) (l : LinkEnds) (e : PortEnd) → IsLink plan i l → IsPort plan (port_at s i) e → IsLink plan i (with_port s e l)
-link_after plan Host i l e x is = record {
-  host_name = is.name;
-  host_plans = is.plans;
-  host_limit = is.limit;
-  device_name = x.device_name;
-  device_plans = x.device_plans;
-  device_limit = x.device_limit;
-  requester = x.requester;
-}
-link_after plan Device i l e x is = record {
-  host_name = x.host_name;
-  host_plans = x.host_plans;
-  host_limit = x.host_limit;
-  device_name = is.name;
-  device_plans = is.plans;
-  device_limit = is.limit;
-  requester = x.requester;
+link_kept : (plan : Plan) (i : ℕ) (l l' : LinkEnds) → IsLink plan i l → KeepsEnds l l' → IsLink plan i l'
+link_kept plan i l l' is keeps = record {
+  host_name = keeps.host.name ∙ is.host_name;
+  host_plans = keeps.host.plans ∙ is.host_plans;
+  host_limit = keeps.host.limit ∙ is.host_limit;
+  device_name = keeps.device.name ∙ is.device_name;
+  device_plans = keeps.device.plans ∙ is.device_plans;
+  device_limit = keeps.device.limit ∙ is.device_limit;
+  requester = subst (λ (n : ℕ). n ≤ 65535) (sym keeps.requester) is.requester;
 }
 
-pub links_after : (plan : Plan) (ends : List LinkEnds) (k : KeeperView) (port : PortName) (l : LinkEnds) (e : PortEnd) → AreLinks plan ends k → slice_get ends port.link ≡ Some l → IsPort plan port e
-    → AreLinks plan (slice_set ends port.link (with_port port.side e l)) k
-links_after plan ends k port l e links is at_port = record {
+pub links_kept : (plan : Plan) (ends : List LinkEnds) (k k' : KeeperView) (link : ℕ) (l l' : LinkEnds) → AreLinks plan ends k → slice_get ends link ≡ Some l
+    → KeepsEnds l l'
+    → map name_of k'.manager.streams ≡ map name_of k.manager.streams → ((i : ℕ) (v : StreamView) → slice_get k'.manager.streams i ≡ Some v → KeysKept plan v)
+    → k'.pool.keys ≡ k.pool.keys
+    → AreLinks plan (slice_set ends link l') k'
+links_kept plan ends k k' link l l' links is keeps names kept keys = record {
   fits = links.fits;
-  many = length-set ends port.link (with_port port.side e l) ∙ links.many;
-  each_link = λ i x at. ⊎_elim
-      (λ s. subst (λ (j : ℕ). IsLink plan j x) (sym s.0) (subst (λ (y : LinkEnds). IsLink plan port.link y) s.1 (link_after plan port.side port.link l e (links.each_link port.link l is) at_port)))
-      (λ old. links.each_link i x old) (set_cases ends port.link i (with_port port.side e l) x at);
-  names = links.names;
-  kept = links.kept;
-  keys = links.keys;
+  many = length-set ends link l' ∙ links.many;
+  each_link = each_set (IsLink plan) ends link l' (link_kept plan link l l' (links.each_link link l is) keeps) links.each_link;
+  names = names ∙ links.names;
+  kept = kept;
+  keys = keys ∙ links.keys;
 }
+
+pub bounded_kept : (ends : List LinkEnds) (packets more : List LinkPacket) (steps link : ℕ) (l l' : LinkEnds) → IsBounded ends packets steps
+    → slice_get ends link ≡ Some l → l'.host.calls ≤ l.host.calls + 1
+    → l'.device.port.calls ≤ l.device.port.calls + 1 → ((i : ℕ) (p : LinkPacket) → slice_get more i ≡ Some p → p.port.link < length ends)
+    → IsBounded (slice_set ends link l') more (steps + 1)
+bounded_kept ends packets more steps link l l' bounded is host_calls device_calls sealed =
+    let host = bounded.host_calls link l is in
+    let device = bounded.device_calls link l is in
+    record {
+      few = omega (arith, bounded.few, length-set ends link l');
+      host_calls = each_set (λ i x. x.host.calls ≤ steps + 1) ends link l' (omega (arith, host, host_calls))
+          (λ i x at. omega (arith, bounded.host_calls i x at));
+      device_calls = each_set (λ i x. x.device.port.calls ≤ steps + 1) ends link l' (omega (arith, device, device_calls))
+          (λ i x at. omega (arith, bounded.device_calls i x at));
+      sealed_here = λ i p at. omega (arith, sealed i p at, length-set ends link l');
+    }
+
+-- ---- the same links
+
+pub bounded_same : (xs ys : List LinkEnds) (ps qs : List LinkPacket) (m n : ℕ) → xs ≡ ys → ps ≡ qs → m ≡ n → IsBounded xs ps m → IsBounded ys qs n
+bounded_same xs ys ps qs m n ends packets steps is =
+    subst (λ (x : List LinkEnds). IsBounded x qs n) ends
+    (subst (λ (x : List LinkPacket). IsBounded xs x n) packets (subst (λ (x : ℕ). IsBounded xs ps x) steps is))
+
+pub links_same : (plan : Plan) (xs ys : List LinkEnds) (k j : KeeperView) → xs ≡ ys → k ≡ j → AreLinks plan xs k → AreLinks plan ys j
+links_same plan xs ys k j ends keeper is = subst (λ (x : List LinkEnds). AreLinks plan x j) ends (subst (λ (x : KeeperView). AreLinks plan xs x) keeper is)
 
 -- ---- the machine's streams of a port
 
@@ -183,7 +153,7 @@ pub find_at : (plan : Plan) (ends : List LinkEnds) (k : KeeperView) (packets : L
     → find plan (state_of plan ends k packets) port id ≡ option_map (λ (f : Found). f.state) (found (port_in port.side l).plans (port_in port.side l).states id)
 unfolding find
 find_at plan ends k packets port l id is at_port =
-    ap (λ (xs : List StreamState). machine.found (streams_of plan port.link) xs id) (port_states ends port l is)
+    ap (λ (xs : List StreamState). machine.found (streams_of plan port.link) xs id) (states_at ends port.side port.link l is)
     ∙ ap (λ (ss : List StreamPlan). machine.found ss (port_in port.side l).states id) (sym at_port.plans)
     ∙ machine_found (port_in port.side l).plans (port_in port.side l).states id
 
@@ -194,16 +164,20 @@ pub put_at : (plan : Plan) (ends : List LinkEnds) (k : KeeperView) (packets : Li
 unfolding put
 put_at plan ends k packets port l id x e is at_port states =
     let here : machine.changed (streams_of plan port.link) (slice_index_or (ports_in ends) (port_place port) []) id x ≡ e.states =
-    ap (λ (xs : List StreamState). machine.changed (streams_of plan port.link) xs id x) (port_states ends port l is)
+    ap (λ (xs : List StreamState). machine.changed (streams_of plan port.link) xs id x) (states_at ends port.side port.link l is)
     ∙ ap (λ (ss : List StreamPlan). machine.changed ss (port_in port.side l).states id x) (sym at_port.plans)
     ∙ machine_changed (port_in port.side l).plans (port_in port.side l).states id x ∙ sym states in
-    let all = ap (λ (xs : List StreamState). slice_set (ports_in ends) (port_place port) xs) here ∙ sym (ports_set ends port l e is) in
+    let all = ap (λ (xs : List StreamState). slice_set (ports_in ends) (port_place port) xs) here ∙ sym (states_set ends port.side port.link l e is) in
     ap (λ (ps : List (List StreamState)). record (state_of plan ends k packets) { ports = ps }) all
 
 pub state_kept : (plan : Plan) (ends : List LinkEnds) (k : KeeperView) (packets : List LinkPacket) (port : PortName) (l : LinkEnds) (e : PortEnd) → slice_get ends port.link ≡ Some l → e.states ≡ (port_in port.side l).states
     → state_of plan ends k packets ≡ state_of plan (slice_set ends port.link (with_port port.side e l)) k packets
 state_kept plan ends k packets port l e is same =
-    ap (λ (ps : List (List StreamState)). record (state_of plan ends k packets) { ports = ps }) (sym (ports_kept ends port l e is same))
+    let kept : ports_in (slice_set ends port.link (with_port port.side e l)) ≡ ports_in ends =
+    states_set ends port.side port.link l e is
+    ∙ ap (λ (xs : List StreamState). slice_set (ports_in ends) (port_place port) xs) (same ∙ sym (states_at ends port.side port.link l is))
+    ∙ set-get_or (ports_in ends) (port_place port) [] in
+    ap (λ (ps : List (List StreamState)). record (state_of plan ends k packets) { ports = ps }) (sym kept)
 
 plan_at : (plan : Plan) (port : PortName) (e : PortEnd) (id : ℕ) (f : Found) → IsPort plan port e → found e.plans e.states id ≡ Some f → stream_plan plan port.link id ≡ Some f.plan
 unfolding stream_plan
@@ -217,24 +191,23 @@ closed_at plan port e id f is at = ap (λ (o : Option StreamPlan). option_map_or
 
 -- ---- events that change nothing
 
-pub bounded_on : (old : Links) → IsBounded old.ends old.packets.packets old.steps → IsBounded old.ends old.packets.packets (old.steps + 1)
-bounded_on old bounded = record {
-  few = bounded.few;
-  host_calls = λ i x at. let le = bounded.host_calls i x at in omega (arith, le);
-  device_calls = λ i x at. let le = bounded.device_calls i x at in omega (arith, le);
-  sealed_here = bounded.sealed_here;
-}
-
-pub nothing_changes : (verdict : Verdict) (old new : Links) (step : Plan → LinkState → Stepped) → new ≡ record old { steps = old.steps + 1 } → IsBounded old.ends old.packets.packets old.steps
-    → ((plan : Plan) (h : History) → AreLinks plan old.ends old.keeper → StandsFor plan (links_state plan old) h → step plan (links_state plan old) ≡ (verdict, links_state plan old))
-    → EndsWith verdict old new step
-nothing_changes verdict old new step is bounded same =
+pub nothing_changes : {verdict w : Verdict} {old new : Links} {step : Plan → LinkState → Stepped} → verdict ≡ w → new ≡ record old { steps = old.steps + 1 }
+    → IsBounded old.ends old.packets.packets old.steps
+    → ((plan : Plan) (h : History) → AreLinks plan old.ends old.keeper → StandsFor plan (links_state plan old) h
+    → step plan (links_state plan old) ≡ (w, links_state plan old)) → EndsWith verdict old new step
+nothing_changes {verdict} {w} {old} {new} {step} says is bounded same =
     subst (λ (s : Links). EndsWith verdict old s step) (sym is) (record {
       counted = refl;
-      bounded = bounded_on old bounded;
-      ends = λ plan h links stands. record {
-        verdict_is = ap (λ (x : Stepped). x.0) (sym (same plan h links stands));
-        state_is = ap (λ (x : Stepped). x.1) (sym (same plan h links stands));
-        links = links;
+      bounded = record {
+        few = bounded.few;
+        host_calls = λ i x at. omega (arith, bounded.host_calls i x at);
+        device_calls = λ i x at. omega (arith, bounded.device_calls i x at);
+        sealed_here = bounded.sealed_here;
       };
+      ends = λ plan h links stands.
+          let e = same plan h links stands in record {
+            verdict_is = says ∙ ap (λ (x : Stepped). x.0) (sym e);
+            state_is = ap (λ (x : Stepped). x.1) (sym e);
+            links = links;
+          };
     })

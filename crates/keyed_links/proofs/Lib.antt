@@ -1,3 +1,4 @@
+mod Terms
 mod Marks
 mod Effects
 mod Managers

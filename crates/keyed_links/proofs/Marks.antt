@@ -1,16 +1,7 @@
 -- Marks of packets that stand joined.
-use Rattle.std.proofs.Common.{◌≡◌, ℕ, ◌+◌, ◌-◌, ◌≤◌, List, [], ◌∷◌, ◌++◌, length, take, drop, refl, ap, sym, ◌∙◌, arith, length-append}
-use Rattle.std.specs.Prelude.{map, slice_range, sum_by, All}
-use Rattle.std.proofs.Common.{length-drop}
-use Rattle.std.proofs.lemmas.List.{drop-drop, drop-append-le, take-append-le, map-append}
-use Rattle.std.proofs.lemmas.List.Sums.{sum_by-cons}
-use Rattle.std.proofs.lemmas.List.Elements.{All-append, All-cons, All-nil, All-weaker, All-head, All-tail}
-use Rattle.ide_types.specs.declared.port.PortName.{PortName}
-use Rattle.link_ports.specs.Machine.{LinkPacket}
-use Rattle.sub_stream.specs.declared.answer.SealedPacket.{SealedPacket}
+use Rattle.keyed_links.proofs.Terms.{◌≡◌, ℕ, ◌+◌, ◌-◌, ◌≤◌, List, [], ◌∷◌, ◌++◌, length, take, drop, refl, ap, sym, ◌∙◌, arith, length-append, map, slice_range, sum_by, All, length-drop, drop-append_seam, drop-drop, drop-append-le}
+use Rattle.keyed_links.proofs.Terms.{take-append-le, map-append, sum_by-cons, All-append, All-cons, All-nil, All-weaker, All-head, All-tail, PortName, LinkPacket, SealedPacket, cut_packets, packet_at, IsWithin, marks_from}
 use Rattle.keyed_links.specs.declared.packets.Mark.{Mark}
-use Rattle.keyed_links.specs.Cuts.{cut_packets}
-use Rattle.keyed_links.specs.Packets.{packet_at, IsWithin, marks_from}
 
 cut_at : (start n : ℕ) (all : List ℕ) → slice_range all start (start + n) ≡ take n (drop start all)
 cut_at start n all = let e : start + n - start ≡ n = omega arith in rw e refl
@@ -19,11 +10,8 @@ cut_at start n all = let e : start + n - start ≡ n = omega arith in rw e refl
 cuts_from : (port : PortName) (ns : List ℕ) (start : ℕ) (all : List ℕ) → map (packet_at all) (marks_from port start ns) ≡ cut_packets port ns (drop start all)
 cuts_from port [] start all = refl
 cuts_from port (n ∷ ns) start all =
-    let first : packet_at all (record { port = port; start = start; end = start + n }) ≡ record { port = port; bytes = take n (drop start all) } = ap (λ (b : List ℕ). record { port = port; bytes = b }) (cut_at start n all) in
-    let rest : map (packet_at all) (marks_from port (start + n) ns) ≡ cut_packets port ns (drop n (drop start all)) =
-    cuts_from port ns (start + n) all ∙ ap (λ (b : List ℕ). cut_packets port ns b) (sym (drop-drop n start all)) in
-    ap (λ (x : LinkPacket). x ∷ map (packet_at all) (marks_from port (start + n) ns)) first
-    ∙ ap (λ (xs : List LinkPacket). record { port = port; bytes = take n (drop start all) } ∷ xs) rest
+    let rest = cuts_from port ns (start + n) all ∙ ap (λ (b : List ℕ). cut_packets port ns b) (sym (drop-drop n start all)) in
+    (λ i. record { port = port; bytes = cut_at start n all i } ∷ rest i)
 
 -- older marks do not see bytes that come behind
 kept_at_marks : (marks : List Mark) (old more : List ℕ) → All (IsWithin old) marks → map (packet_at (old ++ more)) marks ≡ map (packet_at old) marks
@@ -33,13 +21,8 @@ kept_at_marks (m ∷ ms) old more within =
     let front : drop m.start (old ++ more) ≡ drop m.start old ++ more = drop-append-le m.start old more (omega arith) in
     let part : take (m.end - m.start) (drop m.start old ++ more) ≡ take (m.end - m.start) (drop m.start old) =
     take-append-le (m.end - m.start) (drop m.start old) more (omega (arith, length-drop m.start old)) in
-    let first : slice_range (old ++ more) m.start m.end ≡ slice_range old m.start m.end = ap (λ (b : List ℕ). take (m.end - m.start) b) front ∙ part in
-    ap (λ (b : List ℕ). record { port = m.port; bytes = b } ∷ map (packet_at (old ++ more)) ms) first
-    ∙ ap (λ (xs : List LinkPacket). packet_at old m ∷ xs) (kept_at_marks ms old more (All-tail (IsWithin old) m ms within))
-
-behind : (old more : List ℕ) → drop (length old) (old ++ more) ≡ more
-behind [] more = refl
-behind (b ∷ old) more = behind old more
+    (λ i. record { port = m.port; bytes = (ap (λ (b : List ℕ). take (m.end - m.start) b) front ∙ part) i }
+    ∷ kept_at_marks ms old more (All-tail (IsWithin old) m ms within) i)
 
 pub kept_and_cut : (port : PortName) (marks : List Mark) (ps : List SealedPacket) (old more : List ℕ) → All (IsWithin old) marks
     → map (packet_at (old ++ more)) (marks ++ marks_from port (length old) (map (λ (p : SealedPacket). p.length) ps))
@@ -49,7 +32,7 @@ kept_and_cut port marks ps old more within =
     map-append (packet_at (old ++ more)) marks (marks_from port (length old) ns)
     ∙ ap (λ (xs : List LinkPacket). xs ++ map (packet_at (old ++ more)) (marks_from port (length old) ns)) (kept_at_marks marks old more within)
     ∙ ap (λ (xs : List LinkPacket). map (packet_at old) marks ++ xs)
-    (cuts_from port ns (length old) (old ++ more) ∙ ap (λ (b : List ℕ). cut_packets port ns b) (behind old more))
+    (cuts_from port ns (length old) (old ++ more) ∙ ap (λ (b : List ℕ). cut_packets port ns b) (drop-append_seam old more))
 
 marks_within : (port : PortName) (ps : List SealedPacket) (start : ℕ) (all : List ℕ) → start + sum_by (λ (p : SealedPacket). p.length) ps ≤ length all
     → All (IsWithin all) (marks_from port start (map (λ (p : SealedPacket). p.length) ps))

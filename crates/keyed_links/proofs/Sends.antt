@@ -1,14 +1,9 @@
 -- Sends at a port, as the machine has them.
-use Rattle.std.proofs.Common.{◌≡◌, ℕ, suc, zero, ◌+◌, ◌<◌, Bool, true, List, [], ◌∷◌, ◌++◌, length, drop, refl, ap, sym, ◌∙◌, subst, length-append}
-use Rattle.std.specs.Prelude.{Option, Some, None, Result, Ok, Err, option_map, slice_get, slice_set, map, sum_by, if◌then◌else◌}
-use Rattle.std.specs.List.{slice_index_or}
-use Rattle.std.proofs.lemmas.Option.{none-some, same_Some}
-use Rattle.std.proofs.lemmas.List.{append-nil}
-use Rattle.std.proofs.Math.Seq.{take-append_seam, drop-append_seam}
-use Rattle.std.proofs.lemmas.List.Sums.{sum_by-cons}
-use Rattle.ide_types.specs.declared.port.PortName.{PortName}
-use Rattle.ide_plan.specs.declared.plan.Plan.{Plan}
-use Rattle.ide_prefix.specs.Packet.{Packet, packet_bytes}
+use Rattle.keyed_links.proofs.Terms.{◌≡◌, ℕ, suc, zero, ◌+◌, ◌<◌, Bool, true, List, [], ◌∷◌, ◌++◌, length, refl, ap, sym, ◌∙◌, subst, arith, length-append, Option, Some, None, Result, Ok, Err, option_map, slice_get, slice_set, map}
+use Rattle.keyed_links.proofs.Terms.{sum_by, nat_lt, if◌then◌else◌, none-some, same_Some, append-nil, take-append_seam, drop-append_seam, sum_by-cons, PortName, Plan, Packet, packet_bytes, Verdict, SealedPacket, StreamState, TxSub}
+use Rattle.keyed_links.proofs.Terms.{Three, lanes_of, sealed_all, mode_of, is_closed, has_stream, choice, History, LinkPacket, LinkState, Stepped, kept_at, answered, sealed_in, find, step_of, StandsFor, standing, sending}
+use Rattle.keyed_links.proofs.Terms.{packet_lengths, joined_packets, Sent, PortEnd, Found, found, changed, SendStep, send_step, sent_verdict, lengths_sent, IsSent, LinkEnds, Links, cut_packets, port_in, with_port, KeeperView}
+use Rattle.keyed_links.proofs.Terms.{SendsAt, state_of, IsBounded, AreLinks, links_state, EndsWith, lt-true, Send, found_id, changed_same}
 use Rattle.tlp_layout.specs.declared.tlp.Tlp.{Tlp}
 use Rattle.tlp_layout.specs.declared.fault.TlpFault.{TlpFault}
 use Rattle.tlp_layout.specs.Class.{class_of}
@@ -18,81 +13,40 @@ use Rattle.tlp_layout.specs.Tlp.{header, body}
 use Rattle.tlp_layout.specs.Reading.{read_of}
 use Rattle.fault_words.specs.FaultWords.{tlp_word}
 use Rattle.association.specs.Choice.{choice_of, chosen}
-use Rattle.link_verdicts.specs.declared.verdict.Verdict.{Verdict}
 use Rattle.link_verdicts.specs.declared.verdict.Verdict.TheVariants as v
 use Rattle.link_verdicts.specs.declared.verdict.SealedPacket.{SealedPacket as Described}
-use Rattle.sub_stream.specs.declared.answer.SealedPacket.{SealedPacket}
 use Rattle.stream_rules.specs.Sending.{Sending, Lanes, refusals, first_that_holds, sealed_by}
-use Rattle.stream_rules.specs.Stream.{StreamState, TxSub, Three, lanes_of, sealed_all}
-use Rattle.link_history.specs.Plan.{mode_of, is_closed, has_stream}
-use Rattle.link_history.specs.Due.{choice}
 use Rattle.link_history.proofs.Choices.{choice_known}
-use Rattle.key_laws.specs.History.{History}
 use Rattle.link_ports.specs.Machine as machine
-use Rattle.link_ports.specs.Machine.{LinkPacket, LinkState, Stepped, kept_at, answered, sealed_in, put, find}
-use Rattle.link_ports.specs.Stands.{StandsFor, standing}
-use Rattle.ide_stream.specs.{sending, packet_lengths, joined_packets}
 use Rattle.ide_stream.specs.Sends.{ok_unless, unless}
-use Rattle.ide_port.specs.declared.answer.Sent.{Sent}
-use Rattle.ide_port.specs.declared.answer.Sent.TheVariants.{Malformed, Plain, Refused, Sealed}
-use Rattle.ide_port.specs.{PortEnd, Found, found, changed, SendStep, send_step, sent_verdict, lengths_sent, IsSent}
+use Rattle.ide_port.specs.declared.answer.Sent.TheVariants.{Sealed}
 use Rattle.ide_port.specs.Sends.{unsealed, as_verdict, sent_on, send_found, send_chosen, send_read}
-use Rattle.link_ends.specs.declared.ends.LinkEnds.{LinkEnds}
-use Rattle.keyed_links.specs.declared.links.Links.{Links}
-use Rattle.keyed_links.specs.Cuts.{cut_packets}
-use Rattle.link_ends.specs.Ends.{port_in, with_port}
-use Rattle.link_ends.specs.Keepers.{KeeperView}
-use Rattle.keyed_links.specs.AllEnds.{SendsAt}
-use Rattle.keyed_links.specs.States.{state_of, IsBounded, AreLinks}
-use Rattle.keyed_links.specs.Links.{EndsWith}
-use Rattle.link_ends.proofs.Streams.{found_id, changed_same}
-use Rattle.keyed_links.proofs.Finds.{there, set_there, IsPort, Keeps, port_is, port_after, bounded_after, links_after, find_at, put_at, state_kept, mode_at, closed_at}
+use Rattle.keyed_links.proofs.Finds.{there, set_there, IsPort, Keeps, KeepsEnds, keeps_port, port_is, bounded_kept, links_kept, bounded_same, links_same, find_at, put_at, state_kept, mode_at, closed_at}
 
 -- ---- packets, cut from their bytes
 
 pub cut_joined : (port : PortName) (ps : List Packet) → cut_packets port (packet_lengths ps) (joined_packets ps) ≡ map (kept_at port) ps
 cut_joined port [] = refl
 cut_joined port (p ∷ ps) =
-    ap (λ (bs : List ℕ). record { port = port; bytes = bs } ∷ cut_packets port (packet_lengths ps) (drop (length (packet_bytes p)) (packet_bytes p ++ joined_packets ps))) (take-append_seam (packet_bytes p) (joined_packets ps))
-    ∙ ap (λ (bs : List ℕ). kept_at port p ∷ cut_packets port (packet_lengths ps) bs) (drop-append_seam (packet_bytes p) (joined_packets ps))
-    ∙ ap (λ (xs : List LinkPacket). kept_at port p ∷ xs) (cut_joined port ps)
+    (λ i. record { port = port; bytes = take-append_seam (packet_bytes p) (joined_packets ps) i }
+    ∷ (ap (λ (bs : List ℕ). cut_packets port (packet_lengths ps) bs) (drop-append_seam (packet_bytes p) (joined_packets ps)) ∙ cut_joined port ps) i)
 
 pub lengths_join : (ps : List SealedPacket) (qs : List Packet) → map (λ (p : SealedPacket). p.length) ps ≡ packet_lengths qs → sum_by (λ (p : SealedPacket). p.length) ps ≡ length (joined_packets qs)
 lengths_join [] [] is = refl
 lengths_join [] (q ∷ qs) is = absurd cc
 lengths_join (p ∷ ps) [] is = absurd cc
 lengths_join (p ∷ ps) (q ∷ qs) is =
-    let first : p.length ≡ length (packet_bytes q) = ap (λ (ns : List ℕ). slice_index_or ns 0 0) is in
-    let rest : sum_by (λ (p : SealedPacket). p.length) ps ≡ length (joined_packets qs) = lengths_join ps qs (ap (λ (ns : List ℕ). drop 1 ns) is) in
-    let sums : sum_by (λ (p : SealedPacket). p.length) (p ∷ ps) ≡ p.length + sum_by (λ (p : SealedPacket). p.length) ps = sum_by-cons (λ (p : SealedPacket). p.length) p ps in
-    let joined : length (packet_bytes q ++ joined_packets qs) ≡ length (packet_bytes q) + length (joined_packets qs) = length-append (packet_bytes q) (joined_packets qs) in
-    sums ∙ (λ i. first i + rest i) ∙ sym joined
+    let first : p.length ≡ length (packet_bytes q) = cc in
+    let rest : sum_by (λ (p : SealedPacket). p.length) ps ≡ length (joined_packets qs) = lengths_join ps qs cc in
+    omega (arith, sum_by-cons (λ (p : SealedPacket). p.length) p ps, length-append (packet_bytes q) (joined_packets qs))
 
 -- ---- one step
 
 send_keeps : (e : PortEnd) (trusted more : Bool) (n : ℕ) (r : Result Tlp TlpFault) → Keeps e (send_read e trusted more n r).port
-send_keeps e trusted more n (Err fault) = record { name = refl; plans = refl; limit = refl; calls = refl }
-send_keeps e trusted more n (Ok t) = by_choice (chosen (choice_of e.plans e.name.side (header t)))
-  where
-    by_found : (o : Option Found) → Keeps e (send_found e t trusted more n o).port
-    by_found None = record { name = refl; plans = refl; limit = refl; calls = refl }
-    by_found (Some f) = record { name = refl; plans = refl; limit = refl; calls = refl }
-
-    by_choice : (o : Option ℕ) → Keeps e (send_chosen e t trusted more n o).port
-    by_choice None = record { name = refl; plans = refl; limit = refl; calls = refl }
-    by_choice (Some id) = by_found (found e.plans e.states id)
+send_keeps e trusted more n r = grind arith
 
 pub send_joins : (e : PortEnd) (trusted more : Bool) (n : ℕ) (r : Result Tlp TlpFault) → (send_read e trusted more n r).port.sealed ≡ joined_packets (send_read e trusted more n r).packets
-send_joins e trusted more n (Err fault) = refl
-send_joins e trusted more n (Ok t) = by_choice (chosen (choice_of e.plans e.name.side (header t)))
-  where
-    by_found : (o : Option Found) → (send_found e t trusted more n o).port.sealed ≡ joined_packets (send_found e t trusted more n o).packets
-    by_found None = refl
-    by_found (Some f) = refl
-
-    by_choice : (o : Option ℕ) → (send_chosen e t trusted more n o).port.sealed ≡ joined_packets (send_chosen e t trusted more n o).packets
-    by_choice None = refl
-    by_choice (Some id) = by_found (found e.plans e.states id)
+send_joins e trusted more n r = grind arith
 
 -- what a step of the port makes of all links
 abbrev sent : Plan → List LinkEnds → KeeperView → List LinkPacket → PortName → LinkEnds → SendStep → Stepped
@@ -159,11 +113,10 @@ pub sends_as : (plan : Plan) (ends : List LinkEnds) (k : KeeperView) (packets : 
     → machine.send_read plan (state_of plan ends k packets) port r more trusted ≡ sent plan ends k packets port l (send_read (port_in port.side l) trusted more (length packets + 1) r)
 sends_as plan ends k packets port l h (Err fault) more trusted is at_port stands = unsealed_as plan ends k packets port l (λ n. v.Malformed n (tlp_word fault) (place_in fault)) is at_port
 sends_as plan ends k packets port l h (Ok t) more trusted is at_port stands =
-    by_choice (choice plan port (header t)) refl ∙ ap (λ (o : Option ℕ). sent plan ends k packets port l (send_chosen e t trusted more (length packets + 1) o)) (choice_same plan port e t at_port)
+    by_choice (choice plan port (header t)) refl
+    ∙ ap (λ (o : Option ℕ). sent plan ends k packets port l (send_chosen (port_in port.side l) t trusted more (length packets + 1) o))
+    (choice_same plan port (port_in port.side l) t at_port)
   where
-    e : PortEnd
-    e = port_in port.side l
-
     by_found : (id : ℕ) (o : Option Found) → has_stream plan port id ≡ true → found (port_in port.side l).plans (port_in port.side l).states id ≡ o
         → machine.send_found plan (state_of plan ends k packets) (send_of port id t more trusted) t (option_map (λ (f : Found). f.state) o) ≡ sent plan ends k packets port l (send_found (port_in port.side l) t trusted more
         (length packets + 1) o)
@@ -192,32 +145,30 @@ sends_as plan ends k packets port l h (Ok t) more trusted is at_port stands =
 
 -- ---- what is kept
 
-more_kept : (P : LinkPacket → Type 0) (xs ys : List LinkPacket) → ((i : ℕ) (p : LinkPacket) → slice_get xs i ≡ Some p → P p) → ((i : ℕ) (p : LinkPacket) → slice_get ys i ≡ Some p → P p)
-    → (i : ℕ) (p : LinkPacket) → slice_get (xs ++ ys) i ≡ Some p → P p
-more_kept P [] ys first second i p is = second i p is
-more_kept P (x ∷ xs) ys first second zero p is = first zero p is
-more_kept P (x ∷ xs) ys first second (suc i) p is = more_kept P xs ys (λ j q at. first (suc j) q at) second i p is
+-- each packet is sealed on one of the links, those of this send as well
+sealed_on : (port : PortName) (most : ℕ) (xs : List LinkPacket) (ps : List Packet) → port.link < most
+    → ((i : ℕ) (p : LinkPacket) → slice_get xs i ≡ Some p → p.port.link < most)
+    → (i : ℕ) (p : LinkPacket) → slice_get (xs ++ map (kept_at port) ps) i ≡ Some p → p.port.link < most
+sealed_on port most [] [] here before i p is = before i p is
+sealed_on port most [] (q ∷ qs) here before zero p is = subst (λ (x : LinkPacket). x.port.link < most) (same_Some (kept_at port q) p is) here
+sealed_on port most [] (q ∷ qs) here before (suc i) p is = sealed_on port most [] qs here before i p is
+sealed_on port most (x ∷ xs) ps here before zero p is = before zero p is
+sealed_on port most (x ∷ xs) ps here before (suc i) p is = sealed_on port most xs ps here (λ j q at. before (suc j) q at) i p is
 
-kept_here : (port : PortName) (ps : List Packet) (i : ℕ) (p : LinkPacket) → slice_get (map (kept_at port) ps) i ≡ Some p → p.port ≡ port
-kept_here port [] i p is = absurd (none-some p is)
-kept_here port (q ∷ qs) zero p is = ap (λ (x : LinkPacket). x.port) (sym (same_Some (kept_at port q) p is))
-kept_here port (q ∷ qs) (suc i) p is = kept_here port qs i p is
-
-bounded_same : (xs ys : List LinkEnds) (ps qs : List LinkPacket) (m n : ℕ) → xs ≡ ys → ps ≡ qs → m ≡ n → IsBounded xs ps m → IsBounded ys qs n
-bounded_same xs ys ps qs m n ends packets steps is =
-    subst (λ (x : List LinkEnds). IsBounded x qs n) ends (subst (λ (x : List LinkPacket). IsBounded xs x n) packets (subst (λ (x : ℕ). IsBounded xs ps x) steps is))
-
-links_same : (plan : Plan) (xs ys : List LinkEnds) (k j : KeeperView) → xs ≡ ys → k ≡ j → AreLinks plan xs k → AreLinks plan ys j
-links_same plan xs ys k j ends keeper is = subst (λ (x : List LinkEnds). AreLinks plan x j) ends (subst (λ (x : KeeperView). AreLinks plan xs x) keeper is)
-
-abbrev pub send_bytes : PortName → List ℕ → Bool → Bool → Plan → LinkState → Stepped
-send_bytes port bytes more trusted plan st = machine.send_read plan st port (read_of bytes) more trusted
+pub given : (old : Links) (plan : Plan) (port : PortName) (bytes : List ℕ) (more trusted b : Bool) → AreLinks plan old.ends old.keeper
+    → b ≡ nat_lt port.link (length old.ends)
+    → step_of plan (links_state plan old) (Send port bytes more trusted)
+    ≡ (if b then machine.send_read plan (links_state plan old) port (read_of bytes) more trusted else (v.Nothing, links_state plan old))
+unfolding step_of
+given old plan port bytes more trusted b links is =
+    ap (λ (t : Bool). if t then machine.send_read plan (links_state plan old) port (read_of bytes) more trusted else (v.Nothing, links_state plan old))
+    (ap (λ (n : ℕ). nat_lt port.link n) (sym links.many) ∙ sym is)
 
 -- a send at a port that there is, whose packets were cut from the port's bytes
 pub seals : (old new : Links) (port : PortName) (bytes : List ℕ) (trusted more : Bool) (answer : Sent) (verdict : Verdict) → IsBounded old.ends old.packets.packets old.steps → port.link < length old.ends
     → SendsAt old.ends port bytes trusted more answer new.ends → verdict ≡ sent_verdict port (length old.packets.packets + 1) answer → new.keeper ≡ old.keeper → new.steps ≡ old.steps + 1
     → ((l : LinkEnds) → slice_get new.ends port.link ≡ Some l → new.packets.packets ≡ old.packets.packets ++ cut_packets port (lengths_sent answer) (port_in port.side l).sealed)
-    → EndsWith verdict old new (λ plan st. send_bytes port bytes more trusted plan st)
+    → EndsWith verdict old new (λ plan st. step_of plan st (Send port bytes more trusted))
 seals old new port bytes trusted more answer verdict bounded here sends says keeper steps kept =
     let found_link = there old.ends port.link here in
     let l : LinkEnds = found_link.0 in
@@ -232,31 +183,29 @@ seals old new port bytes trusted more answer verdict bounded here sends says kee
     let joined : (port_in port.side a.0).sealed ≡ joined_packets step.packets = ap (λ (x : PortEnd). x.sealed) sent_is.port ∙ send_joins e trusted more n (read_of bytes) in
     let packets_is : new.packets.packets ≡ old.packets.packets ++ map (kept_at port) step.packets =
     kept a.0 at ∙ (λ i. old.packets.packets ++ cut_packets port (sent_is.lengths i) (joined i)) ∙ ap (λ (ps : List LinkPacket). old.packets.packets ++ ps) (cut_joined port step.packets) in
-    let keeps : Keeps e step.port = send_keeps e trusted more n (read_of bytes) in
+    let both : KeepsEnds l (with_port port.side step.port l) = keeps_port port.side l step.port (send_keeps e trusted more n (read_of bytes)) in
     let after : IsBounded (slice_set old.ends port.link (with_port port.side step.port l)) (old.packets.packets ++ map (kept_at port) step.packets) (old.steps + 1) =
-    bounded_after old.ends old.packets.packets _ old.steps port l step.port bounded found_link.1 keeps
-    (more_kept (λ p. p.port.link < length old.ends) old.packets.packets (map (kept_at port) step.packets) bounded.sealed_here
-    (λ i p is. subst (λ (q : PortName). q.link < length old.ends) (sym (kept_here port step.packets i p is)) here)) in
+    bounded_kept old.ends old.packets.packets _ old.steps port.link l _ bounded found_link.1 both.host.calls both.device.calls
+    (sealed_on port (length old.ends) old.packets.packets step.packets here bounded.sealed_here) in
     record {
       counted = steps;
       bounded = bounded_same _ new.ends _ new.packets.packets _ new.steps (sym ends_is) (sym packets_is) (sym steps) after;
       ends = λ plan h links stands.
           let at_port = port_is plan old.ends old.keeper port l links found_link.1 in
-          let as_machine = sends_as plan old.ends old.keeper old.packets.packets port l h (read_of bytes) more trusted found_link.1 at_port stands in
+          let as_machine = given old plan port bytes more trusted true links (sym (lt-true port.link (length old.ends) here))
+          ∙ sends_as plan old.ends old.keeper old.packets.packets port l h (read_of bytes) more trusted found_link.1 at_port stands in
           record {
             verdict_is = says ∙ ap (λ (p : PortName). sent_verdict p n answer) (sym at_port.name) ∙ sent_is.answered ∙ ap (λ (x : Stepped). x.0) (sym as_machine);
             state_is = (λ i. state_of plan (ends_is i) (keeper i) (packets_is i)) ∙ ap (λ (x : Stepped). x.1) (sym as_machine);
-            links = links_same plan _ new.ends _ new.keeper (sym ends_is) (sym keeper) (links_after plan old.ends old.keeper port l step.port links found_link.1 (port_after plan port e step.port at_port keeps));
+            links = links_same plan _ new.ends _ new.keeper (sym ends_is) (sym keeper)
+                (links_kept plan old.ends old.keeper old.keeper port.link l _ links found_link.1 both refl links.kept refl);
           };
     }
 
 -- ---- the answer
 
 pub not_sealed : (answer : Sent) → ((ps : List SealedPacket) → answer ≡ Sealed ps → ⊥) → lengths_sent answer ≡ []
-not_sealed (Malformed fault) none = refl
-not_sealed Plain none = refl
-not_sealed (Refused refusal) none = refl
-not_sealed (Sealed ps) none = absurd (none ps refl)
+not_sealed answer none = grind (arith, none)
 
 -- the lengths of what was sealed come to what the port lends
 pub sealed_length : (old : Links) (ends : List LinkEnds) (port : PortName) (bytes : List ℕ) (trusted more : Bool) (answer : Sent) (ps : List SealedPacket) (lent : List ℕ) → port.link < length old.ends

@@ -1,7 +1,4 @@
-use Rattle.std.proofs.Common.{◌≡◌, ◌+◌, ◌≤◌, length, drop, ◌++◌}
-use Rattle.std.specs.Prelude.{map, sum_by, vec_len, vec_capacity}
-use Rattle.sub_stream.specs.declared.answer.SealedPacket.{SealedPacket}
-use Rattle.keyed_links.specs.Packets.{marks_from}
+use Rattle.keyed_links.proofs.Terms.{◌≡◌, ◌+◌, ◌≤◌, length, drop, ◌++◌, map, sum_by, vec_len, vec_capacity, SealedPacket, marks_from}
 use Rattle.keyed_links.proofs.packets.add_marks.Given as goal
 
 abbrev pub invariant-loop-packet : goal.invariant-loop-packet

@@ -1,5 +1,4 @@
-use Rattle.std.proofs.Common.{◌≡◌, ◌+◌, ◌++◌, length, drop}
-use Rattle.ide_stream.specs.{numbered_from}
+use Rattle.keyed_links.proofs.Terms.{◌≡◌, ◌+◌, ◌++◌, length, drop, numbered_from}
 use Rattle.keyed_links.proofs.verdicts.descriptions.Given as goal
 
 abbrev pub invariant-loop-packet : goal.invariant-loop-packet

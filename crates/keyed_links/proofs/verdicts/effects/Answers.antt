@@ -1,6 +1,4 @@
-use Rattle.std.proofs.Common.{◌∙◌, ap, sym, List, ◌++◌, [], ◌∷◌, arith, length-append}
-use Rattle.link_verdicts.specs.declared.verdict.Effect.{Effect}
-use Rattle.link_ends.specs.Ends.{port_in}
+use Rattle.keyed_links.proofs.Terms.{◌∙◌, ap, sym, List, ◌++◌, [], ◌∷◌, arith, length-append, Effect, port_in}
 use Rattle.keyed_links.proofs.Effects.{one_more}
 use Rattle.keyed_links.proofs.verdicts.effects.Goals as goal
 

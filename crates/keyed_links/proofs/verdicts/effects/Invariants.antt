@@ -1,7 +1,4 @@
-use Rattle.std.proofs.Common.{◌≡◌, length, take}
-use Rattle.std.specs.Prelude.{map}
-use Rattle.link_history.specs.Due.{effect_of}
-use Rattle.link_ends.specs.Ends.{port_in}
+use Rattle.keyed_links.proofs.Terms.{◌≡◌, length, take, map, effect_of, port_in}
 use Rattle.keyed_links.proofs.verdicts.effects.Given as goal
 
 abbrev pub invariant-loop-i : goal.invariant-loop-i

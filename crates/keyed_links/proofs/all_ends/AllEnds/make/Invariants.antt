@@ -1,5 +1,4 @@
-use Rattle.std.proofs.Common.{◌≡◌, ◌++◌, drop}
-use Rattle.keyed_links.specs.AllEnds.{ends_from}
+use Rattle.keyed_links.proofs.Terms.{◌≡◌, ◌++◌, drop, ends_from}
 use Rattle.keyed_links.proofs.all_ends.AllEnds.make.Given as goal
 
 abbrev pub invariant-loop-link : goal.invariant-loop-link

@@ -1,8 +1,4 @@
-use Rattle.std.proofs.Common.{◌≡◌, ◌∙◌, ap, sym, subst, refl, ◌<◌, length}
-use Rattle.std.specs.Prelude.{Some, slice_get, slice_set}
-use Rattle.std.proofs.lemmas.Option.{same_Some, slice_get_read}
-use Rattle.link_ends.specs.declared.ends.LinkEnds.{LinkEnds}
-use Rattle.link_ends.specs.Keepers.{Operates, SameCalls}
+use Rattle.keyed_links.proofs.Terms.{◌≡◌, ◌∙◌, ap, sym, subst, refl, ◌<◌, length, Some, slice_get, slice_set, same_Some, slice_get_read, LinkEnds, Operates, SameCalls}
 use Rattle.keyed_links.proofs.all_ends.AllEnds.operate.Goals as goal
 
 pub returns : goal.returns

@@ -1,8 +1,4 @@
-use Rattle.std.proofs.Common.{ap, sym, ◌∙◌}
-use Rattle.link_verdicts.specs.declared.verdict.Verdict.{Verdict}
-use Rattle.link_ports.specs.Machine.{step_of}
-use Rattle.keyed_links.specs.Events.{operation_event}
-use Rattle.keyed_links.specs.Links.{links_state}
+use Rattle.keyed_links.proofs.Terms.{links_state}
 use Rattle.keyed_links.proofs.Finds.{nothing_changes}
 use Rattle.keyed_links.proofs.Resets.{unnamed}
 use Rattle.keyed_links.proofs.Operations.{step_none}
@@ -10,7 +6,6 @@ use Rattle.keyed_links.proofs.links.Links.operate.Goals as goal
 
 pub returns-in-None : goal.returns-in-None
 returns-in-None c =
-    nothing_changes c.only.result c.args.self.now c.only.new.self (λ plan st. step_of plan st (operation_event c.args.operation c.args.link c.args.stream c.args.loss)) c.only.ensures.links c.requires.bounded
+    nothing_changes c.only.ensures.value c.only.ensures.links c.requires.bounded
     (λ plan h links stands. step_none plan (links_state plan c.args.self.now) c.args.operation c.args.link c.args.stream c.args.loss
-    (unnamed plan c.args.self.now.ends c.args.self.now.keeper c.args.self.now.packets.packets c.args.link c.args.stream links c.in-None.ensures)
-    ∙ ap (λ (w : Verdict). (w, links_state plan c.args.self.now)) (sym c.only.ensures.value))
+    (unnamed plan c.args.self.now.ends c.args.self.now.keeper c.args.self.now.packets.packets c.args.link c.args.stream links c.in-None.ensures))

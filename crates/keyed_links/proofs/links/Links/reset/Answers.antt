@@ -1,16 +1,12 @@
-use Rattle.std.proofs.Common.{ap, sym, ◌∙◌}
-use Rattle.link_verdicts.specs.declared.verdict.Verdict.{Verdict}
-use Rattle.link_ports.specs.Machine.{step_of}
-use Rattle.link_events.specs.declared.event.Event.TheVariants.{Reset}
-use Rattle.keyed_links.specs.Links.{links_state}
+use Rattle.keyed_links.proofs.Terms.{sym, false}
 use Rattle.keyed_links.proofs.Finds.{nothing_changes}
-use Rattle.keyed_links.proofs.Resets.{reset_nowhere, resets}
+use Rattle.keyed_links.proofs.Resets.{reset_step, resets}
 use Rattle.keyed_links.proofs.links.Links.reset.Goals as goal
 
 pub returns-then-not-has_link : goal.returns-then-not-has_link
 returns-then-not-has_link c =
-    nothing_changes c.only.result c.args.self.now c.only.new.self (λ plan st. step_of plan st (Reset c.args.link)) c.only.ensures.links c.requires.bounded
-    (λ plan h links stands. reset_nowhere c.args.self.now plan c.args.link links (sym c.if-not-has_link.ensures) ∙ ap (λ (w : Verdict). (w, links_state plan c.args.self.now)) (sym c.only.ensures.value))
+    nothing_changes c.only.ensures.value c.only.ensures.links c.requires.bounded
+    (λ plan h links stands. reset_step c.args.self.now plan c.args.link false links c.if-not-has_link.ensures)
 
 pub returns : goal.returns
 returns c = resets c.args.self.now c.args.link c.reset.new.self c.link_reset.new.self c.requires.bounded (sym c.if-not-has_link.ensures) c.reset.ensures c.link_reset.ensures

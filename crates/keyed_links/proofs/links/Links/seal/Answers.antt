@@ -1,20 +1,7 @@
-use Rattle.std.proofs.Common.{ap, sym, ◌∙◌, ◌≡◌, ◌<◌, ◌+◌, ℕ, length, subst, List, ◌++◌}
-use Rattle.std.specs.Prelude.{slice_get, map}
-use Rattle.std.proofs.lemmas.List.{length-set, append-nil}
-use Rattle.sub_stream.specs.declared.answer.SealedPacket.{SealedPacket}
-use Rattle.link_ports.specs.Machine.{step_of}
-use Rattle.link_events.specs.declared.event.Event.TheVariants.{Send}
-use Rattle.ide_port.specs.declared.answer.Sent.{Sent}
-use Rattle.ide_port.specs.{lengths_sent, sent_verdict}
-use Rattle.key_laws.proofs.Tests.{lt-true}
-use Rattle.link_ends.specs.declared.ends.LinkEnds.{LinkEnds}
-use Rattle.keyed_links.specs.declared.links.Links.{Links}
-use Rattle.keyed_links.specs.AllEnds.{SendsAt}
-use Rattle.keyed_links.specs.Cuts.{cut_packets}
-use Rattle.link_ends.specs.Ends.{port_in}
+use Rattle.keyed_links.proofs.Terms.{ap, sym, ◌∙◌, ◌≡◌, ◌<◌, ◌+◌, ℕ, length, subst, List, ◌++◌, slice_get, map, Some, length-set, append-nil, SealedPacket, Sent, lengths_sent, sent_verdict, LinkEnds, Links, SendsAt, cut_packets}
+use Rattle.keyed_links.proofs.Terms.{port_in}
 use Rattle.keyed_links.proofs.Finds.{there}
-use Rattle.keyed_links.proofs.Arrivals.{as_step, sent_here}
-use Rattle.keyed_links.proofs.Sends.{send_bytes, seals, not_sealed, sealed_length}
+use Rattle.keyed_links.proofs.Sends.{seals, not_sealed, sealed_length}
 use Rattle.keyed_links.proofs.links.Links.seal.Goals.{in-Sealed, in_default}
 use Rattle.keyed_links.proofs.links.Links.seal.Goals as goal
 
@@ -34,25 +21,27 @@ returns c =
     let old : Links = c.args.self.now in
     let says : c.send_verdict.result ≡ sent_verdict c.args.port (length old.packets.packets + 1) c.send-sent.result =
     c.send_verdict.ensures ∙ ap (λ (n : ℕ). sent_verdict c.args.port (n + 1) c.send-sent.result) c.count.ensures.value in
+    -- either way the links are those of the send, and only the packets that are kept differ
+    let finish = λ (ends_is : c.match-sent.self.ends ≡ c.send-sent.new.self) (keeper_is : c.match-sent.self.keeper ≡ old.keeper)
+    (steps_is : c.match-sent.self.steps + 1 ≡ old.steps + 1)
+    (kept : (l : LinkEnds) → slice_get c.match-sent.self.ends c.args.port.link ≡ Some l
+    → c.match-sent.self.packets.packets ≡ old.packets.packets ++ cut_packets c.args.port (lengths_sent c.send-sent.result) (port_in c.args.port.side l).sealed).
+    seals old (record c.match-sent.self { steps = c.match-sent.self.steps + 1 }) c.args.port c.args.bytes.now c.args.trusted c.args.more c.send-sent.result
+    c.send_verdict.result c.requires.bounded c.requires.here
+    (subst (λ (xs : List LinkEnds). SendsAt old.ends c.args.port c.args.bytes.now c.args.trusted c.args.more c.send-sent.result xs)
+    (sym ends_is) c.send-sent.ensures) says keeper_is steps_is kept in
     elim c.match-sent.branch [
       | in-Sealed w ↦
           let ends_is : c.match-sent.self.ends ≡ c.send-sent.new.self = ap (λ (s : Links). s.ends) w.self-is in
           let lengths : map (λ (p : SealedPacket). p.length) w.as_slice.result.now ≡ lengths_sent c.send-sent.result =
           ap (λ (ps : List SealedPacket). map (λ (p : SealedPacket). p.length) ps) w.as_slice.ensures.value ∙ ap (λ (a : Sent). lengths_sent a) (sym w.in-Sealed.is) in
-          as_step c.send_verdict.result old _ (λ plan st. send_bytes c.args.port c.args.bytes.now c.args.more c.args.trusted plan st) (λ plan st. step_of plan st (Send c.args.port c.args.bytes.now c.args.more c.args.trusted))
-          (λ plan links. sent_here old plan c.args.port c.args.bytes.now c.args.more c.args.trusted links (lt-true c.args.port.link (length old.ends) c.requires.here))
-          (seals old (record c.match-sent.self { steps = c.match-sent.self.steps + 1 }) c.args.port c.args.bytes.now c.args.trusted c.args.more c.send-sent.result c.send_verdict.result c.requires.bounded c.requires.here
-          (subst (λ (xs : List LinkEnds). SendsAt old.ends c.args.port c.args.bytes.now c.args.trusted c.args.more c.send-sent.result xs) (sym ends_is) c.send-sent.ensures)
-          says (ap (λ (s : Links). s.keeper) w.self-is) (ap (λ (s : Links). s.steps + 1) w.self-is)
+          finish ends_is (ap (λ (s : Links). s.keeper) w.self-is) (ap (λ (s : Links). s.steps + 1) w.self-is)
           (λ l at. ap (λ (s : Links). s.packets.packets) w.self-is ∙ w.keep.ensures
-          ∙ (λ i. old.packets.packets ++ cut_packets c.args.port (lengths i) (w.packets.ensures.value l (ap (λ (xs : List LinkEnds). slice_get xs c.args.port.link) (sym ends_is) ∙ at) i))))
+          ∙ (λ i. old.packets.packets ++ cut_packets c.args.port (lengths i)
+          (w.packets.ensures.value l (ap (λ (xs : List LinkEnds). slice_get xs c.args.port.link) (sym ends_is) ∙ at) i)))
       | in_default w ↦
-          let ends_is : c.match-sent.self.ends ≡ c.send-sent.new.self = ap (λ (s : Links). s.ends) w.self-is in
-          as_step c.send_verdict.result old _ (λ plan st. send_bytes c.args.port c.args.bytes.now c.args.more c.args.trusted plan st) (λ plan st. step_of plan st (Send c.args.port c.args.bytes.now c.args.more c.args.trusted))
-          (λ plan links. sent_here old plan c.args.port c.args.bytes.now c.args.more c.args.trusted links (lt-true c.args.port.link (length old.ends) c.requires.here))
-          (seals old (record c.match-sent.self { steps = c.match-sent.self.steps + 1 }) c.args.port c.args.bytes.now c.args.trusted c.args.more c.send-sent.result c.send_verdict.result c.requires.bounded c.requires.here
-          (subst (λ (xs : List LinkEnds). SendsAt old.ends c.args.port c.args.bytes.now c.args.trusted c.args.more c.send-sent.result xs) (sym ends_is) c.send-sent.ensures)
-          says (ap (λ (s : Links). s.keeper) w.self-is) (ap (λ (s : Links). s.steps + 1) w.self-is)
+          finish (ap (λ (s : Links). s.ends) w.self-is) (ap (λ (s : Links). s.keeper) w.self-is) (ap (λ (s : Links). s.steps + 1) w.self-is)
           (λ l at. ap (λ (s : Links). s.packets.packets) w.self-is ∙ sym (append-nil old.packets.packets)
-          ∙ ap (λ (ns : List ℕ). old.packets.packets ++ cut_packets c.args.port ns (port_in c.args.port.side l).sealed) (sym (not_sealed c.send-sent.result w.in_default.not-Sealed))))
+          ∙ ap (λ (ns : List ℕ). old.packets.packets ++ cut_packets c.args.port ns (port_in c.args.port.side l).sealed)
+          (sym (not_sealed c.send-sent.result w.in_default.not-Sealed)))
     ]

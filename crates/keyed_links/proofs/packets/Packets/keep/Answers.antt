@@ -1,4 +1,4 @@
-use Rattle.std.proofs.Common.{rules, ◌≡◌, ◌++◌, length}
+use Rattle.keyed_links.proofs.Terms.{rules, ◌≡◌, ◌++◌, length}
 use Rattle.keyed_links.proofs.Marks.{kept_and_cut, all_within}
 use Rattle.keyed_links.proofs.packets.Packets.keep.Goals as goal
 
