@@ -64,7 +64,7 @@ module _ (p : Inside) (e : PortEnd) (view : now p ≡ e) (kept : Keeps p) (id pl
       (before out : List ℕ) → before ≡ []
       → IsSent x (head_bytes (header t)) (body t) (sending p.name x.id (class_of (header t)) more trusted) number answer before out y → r ≡ sent_as answer
       → IsStep e.name number r (seen p (slice_set p.streams.items place y) out p.lent (p.calls + 1))
-          (send_found e t trusted more number (found e.plans e.states id))
+      (send_found e t trusted more number (found e.plans e.states id))
   sent-step y t trusted more number answer r before out none sent said =
       let k = there p kept id place x at is in
       let z = stream_of p.name.side p.limit k.plan x in
@@ -90,7 +90,7 @@ module _ (p : Inside) (e : PortEnd) (view : now p ≡ e) (packet : Packet) where
       → x ≡ get_or p.streams.items place x → taken ≡ answer_of (taken_in x packet) → y ≡ end_taken x packet
       → r ≡ arrival_said packet.prefix.stream packet.prefix.sub taken
       → IsTaken r (seen p (slice_set p.streams.items place y) p.sealed.items (Some place) (p.calls + 1))
-          (take_found e packet (found e.plans e.states packet.prefix.stream))
+      (take_found e packet (found e.plans e.states packet.prefix.stream))
   taken-step kept place x y taken r at is answered after said =
       let k = there p kept packet.prefix.stream place x at is in
       let z = stream_of p.name.side p.limit k.plan x in
