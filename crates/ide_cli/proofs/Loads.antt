@@ -7,7 +7,7 @@ use Rattle.ide_base.specs.Outside.{Contents, Rose, ShelfSeen, SinkSeen}
 use Rattle.ide_plan.specs.declared.plan.Plan.{Plan}
 use Rattle.line_runs.specs.Gain.{Text, Gained}
 use Rattle.line_runs.specs.Front.{FrontIn, FrontOf, Gave, GaveOf, bytes_of}
-use Rattle.line_runs.specs.Gathering.{WroteEnded, WroteEndedIn, WroteEndedOf, begun}
+use Rattle.line_runs.specs.Gathering.{WroteEnded, WroteEndedIn, WroteEndedOf, open_line}
 use Rattle.line_runs.specs.Outcome.{Due, Quiet, EndsOn}
 use Rattle.line_runs.specs.declared.ends.Fault.TheVariants as fault
 use Rattle.line_runs.specs.declared.front.Stop.TheVariants as stop
@@ -148,7 +148,7 @@ nothing_in : (text lines : ℕ → Text) (file : Text) (s0 s1 : ShelfSeen) (o : 
     → WroteByIn text lines s0 s1 o o
 nothing_in text lines file s0 s1 o none (n, le, gave) =
     let P : Text → Type 0 = λ t. Gained o.held o.held t in
-    let short : length (begun (lines n)) ≤ 20000 = subst (λ (t : Text). length (begun t) ≤ 20000) (sym (none n le).1) (omega arith) in
+    let short : length (open_line (lines n)) ≤ 20000 = subst (λ (t : Text). length (open_line t) ≤ 20000) (sym (none n le).1) (omega arith) in
     record { n = n; gave = gave; short = short; gained = subst P (sym (none n le).0) (gained_nothing o.held) }
 
 pub nothing_yet : (text lines : Contents → ℕ → Text) (name : Text) (s0 s1 : ShelfSeen) (o : SinkSeen)
@@ -217,7 +217,7 @@ run_ended_in (Some file) script plan s0 s1 s2 o0 o1 is all wrote =
     record {
       n = length file + n;
       gave = joined s0.given s1.given s2.given (length file) n all wrote.gave;
-      short = subst (λ (t : Text). length (begun t) ≤ 20000) given wrote.short;
+      short = subst (λ (t : Text). length (open_line t) ≤ 20000) given wrote.short;
       gained = subst P text wrote.gained;
     }
 

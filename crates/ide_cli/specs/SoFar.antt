@@ -6,7 +6,7 @@ use Rattle.ide_plan.specs.declared.plan.Plan.{Plan}
 use Rattle.text_lines.specs.Pieces.{pieces}
 use Rattle.line_runs.specs.Front.{Gave, bytes_of}
 use Rattle.line_runs.specs.Gain.{Text, Gained}
-use Rattle.line_runs.specs.Gathering.{begun, ended_text}
+use Rattle.line_runs.specs.Gathering.{ended_text, open_line}
 use Rattle.ide_cli.specs.declared.topologies.Loaded.{Loaded}
 use Rattle.ide_cli.specs.declared.topologies.Loaded.TheVariants.{Sound, Faulty, Long}
 use Rattle.ide_cli.specs.Script.{due_after, script_in}
@@ -54,7 +54,7 @@ lines_given (Some (show packets)) contents n = take n (bytes_of (contents packet
 pub record WroteByIn (text lines : ℕ → Text) (shelf shelf_now : ShelfSeen) (sink sink_now : SinkSeen) : Type 0 where
   pub n : ℕ
   pub gave : Gave shelf.given n shelf_now.given
-  pub short : length (begun (lines n)) ≤ 20000
+  pub short : length (open_line (lines n)) ≤ 20000
   pub gained : Gained sink.held sink_now.held (text n)
 
 abbrev pub WroteByOf : (text lines : Contents → ℕ → Text) → Option Contents → ShelfSeen → ShelfSeen → SinkSeen

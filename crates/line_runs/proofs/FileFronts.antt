@@ -18,7 +18,7 @@ use Rattle.line_runs.specs.Front.{Gave, bytes_of, IsReadIn, IsReadOf, IsWholeIn,
 use Rattle.line_runs.specs.Gain.{Text, Gained, IsFront}
 use Rattle.line_runs.specs.Outcome.{Due, EndsDue, EndsOn, Quiet, IsWholeLines, Ran, RanOn}
 use Rattle.line_runs.specs.Lines.{after, cut_at, cut_text, file_due, file_limit, go_on, is_over, process, refusal, unended}
-use Rattle.line_runs.specs.Gathering.{Gathered, SoFar, WroteEnded, WroteEndedIn, WroteEndedOf, begun, behind, due_behind, ended_text, last_piece, limit_due}
+use Rattle.line_runs.specs.Gathering.{Gathered, SoFar, WroteEnded, WroteEndedIn, WroteEndedOf, behind, due_behind, ended_text, last_piece, limit_due, open_line}
 use Rattle.line_runs.proofs.Cuttings.{cut_short}
 use Rattle.line_runs.proofs.Fronts.{start}
 use Rattle.line_runs.proofs.Parts.{begins, behind_none, comes, ends}
@@ -246,9 +246,9 @@ last_short {S} advance closing n s (piece ∷ next ∷ rest) ends = by_line (adv
     by_line (Ok came) later ends = later came.0 ends
     by_line (Err fault) later ends = absurd cc
 
-begun_short : {S : Type 0} (advance : S → ℕ → Text → Result (S × Text) LineFault) (closing : S → Text) (first : S) (told : Option Contents) (name : Text) (at n : ℕ) (s : S) (before : Text) (o0 o1 : SinkSeen)
-    → (f : FileSoFar advance closing first told name at n s before o0 o1) → length before ≤ 20000 → length (begun f.front) ≤ 20000
-begun_short advance closing first told name at n s before o0 o1 f short =
+open_line_short : {S : Type 0} (advance : S → ℕ → Text → Result (S × Text) LineFault) (closing : S → Text) (first : S) (told : Option Contents) (name : Text) (at n : ℕ) (s : S) (before : Text) (o0 o1 : SinkSeen)
+    → (f : FileSoFar advance closing first told name at n s before o0 o1) → length before ≤ 20000 → length (open_line f.front) ≤ 20000
+open_line_short advance closing first told name at n s before o0 o1 f short =
     last_short advance closing 1 first (pieces f.front) (ap (λ (d : Due). d.0) (ended_there advance closing first told name at n s before o0 o1 f short))
 
 all_gained : (o0 o1 : SinkSeen) (text : Text) → Gathered text [] o0 o1 → Gained o0.held o1.held text
@@ -260,14 +260,14 @@ gained_ended advance closing first told name at n s before o0 o1 f short =
     let P : Text → Type 0 = λ t. Gained o0.held o1.held t in
     subst P (text_is advance closing first told name at n s before o0 o1 f short) (all_gained o0 o1 f.so_far.text f.so_far.gained)
 
-wrote_all : (text : Text → Text) (file front : Text) (s0 s1 : ShelfSeen) (o0 o1 : SinkSeen) → IsFront front file → Gave s0.given (length front) s1.given → length (begun front) ≤ 20000 → Gained o0.held o1.held (text front)
+wrote_all : (text : Text → Text) (file front : Text) (s0 s1 : ShelfSeen) (o0 o1 : SinkSeen) → IsFront front file → Gave s0.given (length front) s1.given → length (open_line front) ≤ 20000 → Gained o0.held o1.held (text front)
     → WroteEndedIn text file s0 s1 o0 o1
 wrote_all text file front s0 s1 o0 o1 (rest, e) gave short gained =
     let P : Text → Type 0 = λ t. Gained o0.held o1.held (text t) in
     let is : front ≡ take (length front) file = sym (take-append_seam front rest) ∙ ap (take (length front)) e in
-    record { n = length front; within = omega (arith, length-append front rest, ap length e); gave = gave; short = subst (λ (t : Text). length (begun t) ≤ 20000) is short; gained = subst P is gained }
+    record { n = length front; within = omega (arith, length-append front rest, ap length e); gave = gave; short = subst (λ (t : Text). length (open_line t) ≤ 20000) is short; gained = subst P is gained }
 
-wrote_in : (text : Text → Text) (file : Option Text) (front : Text) (s0 s1 : ShelfSeen) (o0 o1 : SinkSeen) → IsReadIn file front → Gave s0.given (length front) s1.given → length (begun front) ≤ 20000 → Gained o0.held o1.held (text front)
+wrote_in : (text : Text → Text) (file : Option Text) (front : Text) (s0 s1 : ShelfSeen) (o0 o1 : SinkSeen) → IsReadIn file front → Gave s0.given (length front) s1.given → length (open_line front) ≤ 20000 → Gained o0.held o1.held (text front)
     → WroteEndedIn text (bytes_of file) s0 s1 o0 o1
 wrote_in text None front s0 s1 o0 o1 read gave short gained = wrote_all text [] front s0 s1 o0 o1 ([], append-nil front ∙ read) gave short gained
 wrote_in text (Some file) front s0 s1 o0 o1 read gave short gained = wrote_all text file front s0 s1 o0 o1 read gave short gained
@@ -281,7 +281,7 @@ fault_wrote advance closing first name at n s before s0 s1 o0 o1 f short gave = 
 
     by_told : (told : Option Contents) → IsReadOf told name f.front → WroteEndedOf (ended_text advance closing first) told name s0 s1 o0 o1
     by_told None read = tt
-    by_told (Some contents) read = wrote_in (ended_text advance closing first) (contents name) f.front s0 s1 o0 o1 read given (begun_short advance closing first s0.contents name at n s before o0 o1 f short) (gained_ended advance closing first s0.contents name at n s before o0 o1 f short)
+    by_told (Some contents) read = wrote_in (ended_text advance closing first) (contents name) f.front s0 s1 o0 o1 read given (open_line_short advance closing first s0.contents name at n s before o0 o1 f short) (gained_ended advance closing first s0.contents name at n s before o0 o1 f short)
 
 -- the cause of a fault, and the whole lines that were written
 fault_in : {S : Type 0} (advance : S → ℕ → Text → Result (S × Text) LineFault) (closing : S → Text) (first : S) (contents : Contents) (file : Option Text) (name front text : Text) (later : Bool → Text → Due) (s0 s1 : ℕ) (o0 o1 : SinkSeen)

@@ -75,9 +75,9 @@ last_piece [] = []
 last_piece (piece ∷ []) = piece
 last_piece (piece ∷ next ∷ rest) = last_piece (next ∷ rest)
 
--- the line that has begun: the bytes behind the last line feed
-abbrev pub begun : Text → Text
-begun bytes = last_piece (pieces bytes)
+-- the open line: the bytes behind the last line feed
+abbrev pub open_line : Text → Text
+open_line bytes = last_piece (pieces bytes)
 
 -- So many bytes of the file were given, the line that has begun in them has at most 20,000, and the sink gained the text
 -- of those; a file that is not there has no bytes.
@@ -86,7 +86,7 @@ pub record WroteEndedIn (text : Text → Text) (file : Text) (shelf shelf_now : 
   pub n : ℕ
   pub within : n ≤ length file
   pub gave : Gave shelf.given n shelf_now.given
-  pub short : length (begun (take n file)) ≤ 20000
+  pub short : length (open_line (take n file)) ≤ 20000
   pub gained : Gained sink.held sink_now.held (text (take n file))
 
 abbrev pub WroteEndedOf : (Text → Text) → Option Contents → Text → ShelfSeen → ShelfSeen → SinkSeen → SinkSeen → Type 0
