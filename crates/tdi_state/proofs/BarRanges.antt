@@ -1,5 +1,6 @@
 -- The ranges of a report, BAR by BAR.
-use Rattle.std.proofs.Common.{◌≡◌, ℕ, zero, suc, ◌+◌, ◌*◌, ◌/◌, ◌%◌, ◌^◌, ◌≤◌, ◌==◌, Bool, true, false, List, [], ◌∷◌, ◌++◌, length, drop, Option, Some, None, if◌then◌else◌, refl, sym, ap, ◌∙◌, arith, append_assoc, append-nil, length-append}
+use Rattle.std.proofs.Common.{◌≡◌, ℕ, zero, suc, ◌+◌, ◌*◌, ◌/◌, ◌%◌, ◌^◌, ◌≤◌, ◌==◌, Bool, true, false, List, [], ◌∷◌, ◌++◌, length, drop, Option, Some, None, if◌then◌else◌, refl, sym, ap, ◌∙◌, arith, append-nil}
+use Rattle.std.proofs.lemmas.Bool.Decides.{nat_tests}
 use Rattle.std.specs.Prelude.{All, slice_get, slice_index}
 use Rattle.std.specs.List.{flat_map, filter_map, cons_option, enumerate_from, AllByRecursion}
 use Rattle.std.specs.Option.{option_to_list}
@@ -49,23 +50,12 @@ ranges_fit offset bars few all = All-from_recursion FitsRange (reported_ranges o
 
 -- ---- lengths
 
-length-cons : (b : Bool) (r : ReportRange) (rs : List ReportRange) (n : ℕ) → length rs ≤ n → length (cons_option (if b then None else Some r) rs) ≤ n + 1
-length-cons true r rs n few = omega arith
-length-cons false r rs n few = omega arith
-
 length-from : (offset n : ℕ) (bars : List BarPlan) → length (filter_map (reported_range offset) (enumerate_from n bars)) ≤ length bars
 length-from offset n [] = omega arith
-length-from offset n (bar ∷ bars) =
-    let range : ReportRange = record { first_page = (bar.base + offset) % 2 ^ 64 / 4096; pages = bar.pages; attributes = bar.attributes; id = n } in
-    let few = length-cons (bar.pages == 0) range (filter_map (reported_range offset) (enumerate_from (n + 1) bars)) (length bars) (length-from offset (n + 1) bars) in
-    omega (arith, few)
+length-from offset n (bar ∷ bars) = let few = length-from offset (n + 1) bars in grind (arith, nat_tests)
 
 pub length-reported : (offset : ℕ) (bars : List BarPlan) → length (reported_ranges offset bars) ≤ length bars
 length-reported offset bars = length-from offset 0 bars
-
-pub length-bytes : (rs : List ReportRange) → length (flat_map range_bytes rs) ≡ 16 * length rs
-length-bytes [] = refl
-length-bytes (r ∷ rs) = let e = length-bytes rs in omega (arith, length-append (range_bytes r) (flat_map range_bytes rs))
 
 -- ---- the BARs of an interface
 

@@ -7,10 +7,11 @@ use Rattle.tdi_state.specs.declared.states.Lock.{Lock}
 use Rattle.tdi_state.specs.Bars.{bars_of, reported_ranges}
 use Rattle.tdi_state.specs.Kept.{kept_report, interface_report}
 use Rattle.tdi_state.specs.Held.{FitsTdi, FitsShown}
-use Rattle.tdi_state.proofs.BarRanges.{length-reported, length-bytes, ranges_fit, bars_fit}
+use Rattle.tdisp_codec.proofs.RangeBytes.{length-ranges}
+use Rattle.tdi_state.proofs.BarRanges.{length-reported, ranges_fit, bars_fit}
 
 pub length-spelling : (r : Report) → length (report_spelling r) ≡ 20 + 16 * length r.ranges + length r.device
-length-spelling r = let ranges = length-bytes r.ranges in grind (arith, length-append)
+length-spelling r = let ranges = length-ranges r.ranges in grind (arith, length-append)
 
 pub kept_short : (plan : InterfacePlan) (lock : Lock) → FitsTdi plan → length (kept_report plan lock) ≤ 1140
 kept_short plan lock fits =

@@ -1,10 +1,11 @@
 -- What a write changes of the listed registers.
 use Rattle.std.proofs.Common.{◌≡◌, ◌≢◌, ℕ, ◌<◌, ◌==◌, Bool, true, false, not, ◌&&◌, ◌↔◌, List, length, Option, Some, None, Result, Ok, Err, if◌then◌else◌, refl, sym, ap, ◌∙◌, arith, slice_set, slice_index}
+use Rattle.std.proofs.lemmas.Bool.Decides.{nat_tests}
 use Rattle.std.specs.Str.{bytes_eq}
 use Rattle.std.specs.Option.{option_map_or}
 use Rattle.std.proofs.lemmas.List.{set-get_or, get_or-set_same}
 use Rattle.tdi_state.specs.declared.register_set.Register.{Register}
-use Rattle.tdi_state.specs.declared.register_set.Register.TheVariants.{Command, CacheLine, Msix, Lnr, Tph, Pasid, Ats, Bar}
+use Rattle.tdi_state.specs.declared.register_set.Register.TheVariants.{Bar}
 use Rattle.tdi_state.specs.declared.register_set.Registers.{Registers}
 use Rattle.tdi_state.specs.declared.states.Lock.{Lock}
 use Rattle.tdi_state.specs.declared.states.TdiState.{TdiState}
@@ -24,31 +25,16 @@ same_option true value held = (λ e. grind arith, λ e. grind arith)
 same_option false value held = (λ e. refl, λ e. refl)
 
 pub unchanged : (flags : ℕ) (registers : Registers) (register : Register) (value : ℕ) → changes_listed flags registers register value ≡ false → listed flags (with_value registers register value) ≡ listed flags registers
-unchanged flags registers Command value e = grind arith
-unchanged flags registers CacheLine value e = ap (λ (x : Option ℕ). record (listed flags registers) { cache_line = x }) ((same_option (has_bit 1 flags) value registers.cache_line).0 e)
-unchanged flags registers Msix value e = ap (λ (x : Option ℕ). record (listed flags registers) { msix = x }) ((same_option (has_bit 2 flags) value registers.msix).0 e)
-unchanged flags registers Lnr value e = grind arith
-unchanged flags registers Tph value e = grind arith
-unchanged flags registers Pasid value e = grind arith
-unchanged flags registers Ats value e = grind arith
 unchanged flags registers (Bar n) value e = ap (λ (x : List ℕ). record (listed flags registers) { bars = x }) (set_back registers.bars n value (grind arith))
+unchanged flags registers register value e = grind (arith, nat_tests)
 
 -- register by register: the part of the list that the register is in tells its value
 changed_back : (flags : ℕ) (registers : Registers) (register : Register) (value : ℕ) → length registers.bars ≡ 6 → IsAmongSix register → listed flags (with_value registers register value) ≡ listed flags registers
     → changes_listed flags registers register value ≡ false
-changed_back flags registers Command value six among e =
-    let memory = ap (λ (x : Listed). x.memory_space) e in
-    let master = ap (λ (x : Listed). x.bus_master) e in
-    grind arith
-changed_back flags registers CacheLine value six among e = (same_option (has_bit 1 flags) value registers.cache_line).1 (ap (λ (x : Listed). x.cache_line) e)
-changed_back flags registers Msix value six among e = (same_option (has_bit 2 flags) value registers.msix).1 (ap (λ (x : Listed). x.msix) e)
-changed_back flags registers Lnr value six among e = let same = ap (λ (x : Listed). x.lnr) e in grind arith
-changed_back flags registers Tph value six among e = let same = ap (λ (x : Listed). x.tph) e in grind arith
-changed_back flags registers Pasid value six among e = let same = ap (λ (x : Listed). x.pasid) e in grind arith
-changed_back flags registers Ats value six among e = let same = ap (λ (x : Listed). x.ats) e in grind arith
 changed_back flags registers (Bar n) value six among e =
     let same = set_changes registers.bars n value (omega arith) (ap (λ (x : Listed). x.bars) e) in
     grind arith
+changed_back flags registers register value six among e = grind (arith, nat_tests)
 
 pub changes_are_listed : ChangesAreListed
 changes_are_listed flags registers register value six among = (unchanged flags registers register value, changed_back flags registers register value six among)
@@ -56,18 +42,13 @@ changes_are_listed flags registers register value six among = (unchanged flags r
 -- ---- a write
 
 lock_fails : (b : Bool) (state : TdiState) (lock : Lock) → lock_of state ≡ Some lock → b ≡ true → after_change b state ≡ Error
-lock_fails true ConfigUnlocked lock is e = cc
-lock_fails true (ConfigLocked held nonce) lock is e = refl
-lock_fails true (Run held) lock is e = refl
-lock_fails true Error lock is e = cc
-lock_fails false state lock is e = cc
+lock_fails b state lock is e = grind (arith, nat_tests)
 
 flags_of_lock : (state : TdiState) (lock : Lock) → lock_of state ≡ Some lock → lock_flags state ≡ lock.flags
 flags_of_lock state lock is = ap (λ (o : Option Lock). option_map_or (λ (l : Lock). l.flags) o 0) is
 
 is_changed : (b : Bool) → (b ≢ false) → b ≡ true
-is_changed true differs = refl
-is_changed false differs = absurd (differs refl)
+is_changed b differs = grind (arith, nat_tests)
 
 pub change_is_error : ChangeIsError
 change_is_error tdi lock register value six among is changes =

@@ -1,5 +1,6 @@
 -- Ranges that share a byte.
 use Rattle.std.proofs.Common.{◌≡◌, ℕ, suc, min, max, Bool, true, false, ◌||◌, List, [], ◌∷◌, AllPairs, All, refl, ap, ◌∙◌, arith}
+use Rattle.std.proofs.lemmas.Bool.Decides.{nat_tests}
 use Rattle.std.specs.List.{list_any}
 use Rattle.std.proofs.lemmas.Bool.{ltb-true, lt-ltb}
 use Rattle.std.proofs.lemmas.List.Elements.{All-nil, All-cons}
@@ -20,8 +21,7 @@ pub overlap_is_shared : OverlapIsShared
 overlap_is_shared bar other = (shared bar other, overlapping bar other)
 
 neither : (a b : Bool) → (a || b) ≡ false → (a ≡ false) × (b ≡ false)
-neither true b e = cc
-neither false b e = (refl, e)
+neither a b e = grind (arith, nat_tests)
 
 none_passes : {A : Type 0} (p : A → Bool) (xs : List A) → list_any p xs ≡ false → All (λ x. p x ≡ false) xs
 none_passes p [] e = All-nil (λ x. p x ≡ false)

@@ -1,13 +1,14 @@
 -- Bytes one by one, and numbers in them.
-use Rattle.std.proofs.Common.{◌≡◌, ℕ, zero, suc, ◌+◌, ◌%◌, ◌^◌, ◌<◌, ◌≤◌, List, [], ◌∷◌, ◌++◌, length, get_or, take, drop, replicate, refl, sym, ap, ◌∙◌, arith, add-one, length-take, get_or-drop, get_or-take, take_at}
+use Rattle.std.proofs.Common.{inl, inr, subst, ◌≢◌, ◌≡◌, ℕ, zero, suc, ◌+◌, ◌%◌, ◌^◌, ◌<◌, ◌≤◌, List, [], ◌∷◌, ◌++◌, length, get_or, take, drop, replicate, refl, sym, ap, ◌∙◌, arith, add-one, length-take, get_or-drop, get_or-take, take_at, take_all}
 use Rattle.std.specs.Prelude.{All}
 use Rattle.std.specs.List.{AllByRecursion}
 use Rattle.std.proofs.lemmas.List.{drop_more, length-replicate}
-use Rattle.std.proofs.lemmas.List.Elements.{All-from_recursion, All-from_get_or}
+use Rattle.std.proofs.lemmas.Bool.{cases_eq}
+use Rattle.std.proofs.lemmas.List.Elements.{All-append, All-cons, All-from_recursion, All-from_get_or}
 use Rattle.std.proofs.lemmas.Nat.{le_bytes_2, le_bytes_4, le_bytes_8}
 use Rattle.byteorder.specs.Endian.{little_bytes, little_number}
 use Rattle.byteorder.specs.Numbers.{little_from-lt}
-use Rattle.first_fault.proofs.Cells.{IsBytes, cells, drop_cells}
+use Rattle.first_fault.proofs.Cells.{IsBytes, cells, drop_cells, all_bytes}
 use Rattle.tdisp_codec.specs.Messages.{Ignored}
 
 abbrev pub IsByte : ℕ → Type 0
@@ -57,19 +58,13 @@ list_cells n s e = drop_cells n 0 s (omega arith)
 -- ---- numbers and their bytes, for which byteorder has no law: std's, one a width
 
 pub number_2 : (k : ℕ) (s : List ℕ) → IsBytes s → little_bytes 2 (little_number 2 (drop k s)) ≡ cells 2 k s
-number_2 k s f =
-    let t = drop k s in
-    le_bytes_2 (cells 2 0 t) (little_number 2 t) refl (cells_octets 2 0 t (drop_octets k s f)) (omega arith) ∙ cells_behind 2 k s
+number_2 k s f = le_bytes_2 (cells 2 0 (drop k s)) _ refl (cells_octets 2 0 _ (drop_octets k s f)) (omega arith) ∙ cells_behind 2 k s
 
 pub number_4 : (k : ℕ) (s : List ℕ) → IsBytes s → little_bytes 4 (little_number 4 (drop k s)) ≡ cells 4 k s
-number_4 k s f =
-    let t = drop k s in
-    le_bytes_4 (cells 4 0 t) (little_number 4 t) refl (cells_octets 4 0 t (drop_octets k s f)) (omega arith) ∙ cells_behind 4 k s
+number_4 k s f = le_bytes_4 (cells 4 0 (drop k s)) _ refl (cells_octets 4 0 _ (drop_octets k s f)) (omega arith) ∙ cells_behind 4 k s
 
 pub number_8 : (k : ℕ) (s : List ℕ) → IsBytes s → little_bytes 8 (little_number 8 (drop k s)) ≡ cells 8 k s
-number_8 k s f =
-    let t = drop k s in
-    le_bytes_8 (cells 8 0 t) (little_number 8 t) refl (cells_octets 8 0 t (drop_octets k s f)) (omega arith) ∙ cells_behind 8 k s
+number_8 k s f = le_bytes_8 (cells 8 0 (drop k s)) _ refl (cells_octets 8 0 _ (drop_octets k s f)) (omega arith) ∙ cells_behind 8 k s
 
 pub below_2 : (k : ℕ) (s : List ℕ) → IsBytes s → little_number 2 (drop k s) < 2 ^ 16
 below_2 k s f = little_from-lt 0 2 (drop k s) (drop_octets k s f)
@@ -82,20 +77,36 @@ below_8 k s f = little_from-lt 0 8 (drop k s) (drop_octets k s f)
 
 -- ---- bytes of numbers, and reserved bytes
 
-low_byte : (n : ℕ) → n % 256 < 256
-low_byte n = omega arith
+-- all of these are bytes: as a record, from which the lists of a joined one are known
+pub record AreOctets (s : List ℕ) : Type 0 where
+  pub all : All IsByte s
 
-pub two_bytes : (n : ℕ) → All IsByte (little_bytes 2 n)
-two_bytes n = All-from_recursion IsByte (little_bytes 2 n) (low_byte _, (low_byte _, tt))
+pub are_bytes : {s : List ℕ} → AreOctets s → IsBytes s
+are_bytes {s} p = all_bytes s p.all
 
-pub four_bytes : (n : ℕ) → All IsByte (little_bytes 4 n)
-four_bytes n = All-from_recursion IsByte (little_bytes 4 n) (low_byte _, (low_byte _, (low_byte _, (low_byte _, tt))))
+pub octets : (s : List ℕ) → All IsByte s → AreOctets s
+octets s all = record { all = all }
 
-pub eight_bytes : (n : ℕ) → All IsByte (little_bytes 8 n)
-eight_bytes n = All-from_recursion IsByte (little_bytes 8 n) (low_byte _, (low_byte _, (low_byte _, (low_byte _, (low_byte _, (low_byte _, (low_byte _, (low_byte _, tt))))))))
+pub joins : {a b : List ℕ} → AreOctets a → AreOctets b → AreOctets (a ++ b)
+joins {a} {b} p q = record { all = All-append IsByte a b p.all q.all }
 
-pub no_bytes : All IsByte []
-no_bytes = All-from_recursion IsByte [] tt
+pub leads : (k : ℕ) {b : List ℕ} → k < 256 → AreOctets b → AreOctets (k ∷ b)
+leads k {b} less p = record { all = All-cons IsByte k b less p.all }
+
+pub no_bytes : AreOctets []
+no_bytes = record { all = All-from_recursion IsByte [] tt }
+
+number_byte : (n : ℕ) {b : List ℕ} → AreOctets b → AreOctets (n % 256 ∷ b)
+number_byte n p = leads (n % 256) (omega arith) p
+
+pub two_bytes : (n : ℕ) → AreOctets (little_bytes 2 n)
+two_bytes n = number_byte _ (number_byte _ no_bytes)
+
+pub four_bytes : (n : ℕ) → AreOctets (little_bytes 4 n)
+four_bytes n = number_byte _ (number_byte _ (number_byte _ (number_byte _ no_bytes)))
+
+pub eight_bytes : (n : ℕ) → AreOctets (little_bytes 8 n)
+eight_bytes n = number_byte _ (number_byte _ (number_byte _ (number_byte _ (number_byte _ (number_byte _ (number_byte _ (number_byte _ no_bytes)))))))
 
 pub zero_bytes_by : (n : ℕ) → AllByRecursion IsByte (replicate n 0)
 zero_bytes_by zero = tt
@@ -103,6 +114,19 @@ zero_bytes_by (suc n) = (omega arith, zero_bytes_by n)
 
 abbrev pub ignored : (n i : ℕ) (s : List ℕ) → IsBytes s → Ignored n
 ignored n i s f = record { bytes = cells n i s; long = length-cells n i s; octets = all_of (cells n i s) (cells_octets n i s f) }
+
+pub take_long : (n : ℕ) (s : List ℕ) → length s ≡ n → take n s ≡ s
+take_long n s long = take_all n s (omega arith)
+
+pub nonce_fits : (s : List ℕ) → IsBytes s → length s ≡ 32 → (length (take 32 s) ≡ 32) × All IsByte (take 32 s)
+nonce_fits s f long = let all = take_long 32 s long in rw all (long, all_of s f)
+
+-- one value among several is as a value of its own, or another
+pub at_value : (P : ℕ → Type 0) (n k : ℕ) → P k → (n ≢ k → P n) → P n
+at_value P n k here other = elim (cases_eq n k) [
+  | inl e ↦ subst P (sym e) here
+  | inr no' ↦ other no'
+]
 
 -- zeros in reserved places
 abbrev pub zeros : (n : ℕ) → Ignored n

@@ -3,13 +3,13 @@ use Rattle.std.proofs.Common.{◌≡◌, ℕ, zero, suc, ◌+◌, ◌*◌, ◌/�
 use Rattle.std.specs.Prelude.{All, slice_get}
 use Rattle.std.specs.List.{flat_map, AllByRecursion}
 use Rattle.std.proofs.lemmas.List.{nil_from_length, drop-drop}
-use Rattle.std.proofs.lemmas.List.Elements.{All-append, All-from_recursion}
-use Rattle.byteorder.specs.Endian.{little_bytes, little_number}
+use Rattle.std.proofs.lemmas.List.Elements.{All-from_recursion}
+use Rattle.byteorder.specs.Endian.{little_bytes}
 use Rattle.byteorder.specs.Numbers.{little_number-reads_back}
 use Rattle.first_fault.proofs.Cells.{IsBytes, cells}
 use Rattle.tdisp_codec.specs.declared.report.ReportRange.{ReportRange}
 use Rattle.tdisp_codec.specs.Ranges.{range_bytes, FitsRange, range_from, first_ranges, ranges_in}
-use Rattle.tdisp_codec.proofs.Octets.{IsByte, drop_octets, drop_split_cells, number_2, number_4, number_8, below_2, below_4, below_8, two_bytes, four_bytes, eight_bytes, no_bytes}
+use Rattle.tdisp_codec.proofs.Octets.{AreOctets, joins, drop_octets, drop_split_cells, number_2, number_4, number_8, below_2, below_4, below_8, two_bytes, four_bytes, eight_bytes, no_bytes}
 
 pub length-first_ranges : (n : ℕ) (s : List ℕ) → length (first_ranges n s) ≡ n
 unfolding first_ranges
@@ -24,13 +24,8 @@ range_again r rest f =
     let b = little_number-reads_back 4 r.pages (little_bytes 2 r.attributes ++ (little_bytes 2 r.id ++ rest)) f.pages in
     let c = little_number-reads_back 2 r.attributes (little_bytes 2 r.id ++ rest) f.attributes in
     let d = little_number-reads_back 2 r.id rest f.id in
-    let t8 = little_bytes 4 r.pages ++ (little_bytes 2 r.attributes ++ (little_bytes 2 r.id ++ rest)) in
-    let t12 = little_bytes 2 r.attributes ++ (little_bytes 2 r.id ++ rest) in
-    let t14 = little_bytes 2 r.id ++ rest in
-    ap (λ (n : ℕ). record { first_page = n; pages = little_number 4 t8; attributes = little_number 2 t12; id = little_number 2 t14 }) a
-    ∙ ap (λ (n : ℕ). record { first_page = r.first_page; pages = n; attributes = little_number 2 t12; id = little_number 2 t14 }) b
-    ∙ ap (λ (n : ℕ). record { first_page = r.first_page; pages = r.pages; attributes = n; id = little_number 2 t14 }) c
-    ∙ ap (λ (n : ℕ). record { first_page = r.first_page; pages = r.pages; attributes = r.attributes; id = n }) d
+    let all : range_from (range_bytes r ++ rest) ≡ record { first_page = r.first_page; pages = r.pages; attributes = r.attributes; id = r.id } = cc in
+    all
 
 pub length-ranges : (rs : List ReportRange) → length (flat_map range_bytes rs) ≡ 16 * length rs
 length-ranges [] = refl
@@ -47,12 +42,7 @@ ranges_first (r ∷ rs) f =
 -- ---- from bytes to ranges, and back
 
 range_back : (s : List ℕ) → IsBytes s → range_bytes (range_from s) ≡ cells 16 0 s
-range_back s f =
-    let a : little_bytes 8 (little_number 8 s) ≡ cells 8 0 s = number_8 0 s f in
-    let b : little_bytes 4 (little_number 4 (drop 8 s)) ≡ cells 4 8 s = number_4 8 s f in
-    let c : little_bytes 2 (little_number 2 (drop 12 s)) ≡ cells 2 12 s = number_2 12 s f in
-    let d : little_bytes 2 (little_number 2 (drop 14 s)) ≡ cells 2 14 s = number_2 14 s f in
-    cc
+range_back s f = cc (number_8 0 s f, number_4 8 s f, number_2 12 s f, number_2 14 s f)
 
 pub range_fits : (s : List ℕ) → IsBytes s → FitsRange (range_from s)
 range_fits s f = record { first_page = below_8 0 s f; pages = below_4 8 s f; attributes = below_2 12 s f; id = below_2 14 s f }
@@ -82,13 +72,9 @@ first_at (suc n) (suc i) s lt =
     let next : 16 + 16 * i ≡ 16 * suc i = omega arith in
     first_at n i (drop 16 s) (omega arith) ∙ ap (λ (t : List ℕ). Some (range_from t)) (drop-drop (16 * i) 16 s ∙ ap (λ (j : ℕ). drop j s) next)
 
-pub range_octets : (rs : List ReportRange) → All IsByte (flat_map range_bytes rs)
+pub range_octets : (rs : List ReportRange) → AreOctets (flat_map range_bytes rs)
 range_octets [] = no_bytes
-range_octets (r ∷ rs) =
-    let rest = little_bytes 4 r.pages ++ (little_bytes 2 r.attributes ++ little_bytes 2 r.id) in
-    let last = All-append IsByte (little_bytes 2 r.attributes) (little_bytes 2 r.id) (two_bytes r.attributes) (two_bytes r.id) in
-    All-append IsByte (range_bytes r) (flat_map range_bytes rs) (All-append IsByte (little_bytes 8 r.first_page) rest (eight_bytes r.first_page) (All-append IsByte (little_bytes 4 r.pages) (little_bytes 2 r.attributes
-    ++ little_bytes 2 r.id) (four_bytes r.pages) last)) (range_octets rs)
+range_octets (r ∷ rs) = joins (joins (eight_bytes r.first_page) (joins (four_bytes r.pages) (joins (two_bytes r.attributes) (two_bytes r.id)))) (range_octets rs)
 
 pub ranges_again : (rs : List ReportRange) → All FitsRange rs → ranges_in (flat_map range_bytes rs) ≡ rs
 ranges_again rs f =

@@ -1,21 +1,17 @@
 -- Bytes spell a report exactly where they are read as it, and go off where the reader says.
-use Rattle.std.proofs.Common.{◌≡◌, ℕ, ◌+◌, ◌*◌, ◌/◌, ◌^◌, ◌<◌, Bool, true, List, [], ◌∷◌, ◌++◌, length, take, drop, Option, Ok, Err, refl, sym, ap, subst, ◌∙◌, inl, inr, arith, append_assoc, length-append, length-drop, length-take, take-append-drop, take_at}
-use Rattle.std.specs.Prelude.{All}
+use Rattle.std.proofs.Common.{◌≡◌, ℕ, ◌+◌, ◌*◌, ◌/◌, ◌^◌, ◌<◌, Bool, true, List, [], ◌∷◌, ◌++◌, length, take, drop, refl, sym, ap, subst, ◌∙◌, arith, append_assoc, length-append, length-drop, length-take, take-append-drop, take_at}
 use Rattle.std.specs.List.{flat_map}
-use Rattle.std.proofs.lemmas.Bool.{cases_lt, eq-eqb, ne_eqb, lt-ltb, le-ltb}
+use Rattle.std.proofs.lemmas.Bool.{eq-eqb, ne_eqb}
 use Rattle.std.proofs.lemmas.List.{drop_at, drop-drop}
-use Rattle.std.proofs.lemmas.List.Elements.{All-append}
 use Rattle.byteorder.specs.Endian.{little_bytes, little_number}
 use Rattle.byteorder.specs.Numbers.{little_number-reads_back}
 use Rattle.first_fault.proofs.Cells.{IsBytes, cells, all_bytes}
-use Rattle.tdisp_codec.specs.declared.fault.TdispFault.{TdispFault}
-use Rattle.tdisp_codec.specs.declared.report.ReportRange.{ReportRange}
 use Rattle.tdisp_codec.specs.declared.report.ReportView.{ReportView}
-use Rattle.tdisp_codec.specs.Messages.{length_fault, IsFirstFault}
+use Rattle.tdisp_codec.specs.Messages.{length_fault}
 use Rattle.tdisp_codec.specs.Ranges.{range_bytes, ranges_in}
-use Rattle.tdisp_codec.specs.Reports.{Report, report_shown, report_bytes, report_spelling, FitsReport, SpellsReport, range_count, device_place, report_size, report_in, report_reading, report_fault_at}
-use Rattle.tdisp_codec.proofs.Octets.{IsByte, list_cells, drop_split_cells, drop_octets, all_of, number_2, number_4, below_2, below_4, two_bytes, four_bytes, ignored, zeros, same_4, all_taken}
-use Rattle.tdisp_codec.proofs.Shapes.{IsSized, IsShaped, IsJudged, spelled_read, read_spelled, refused_first, first_refused}
+use Rattle.tdisp_codec.specs.Reports.{Report, report_shown, report_bytes, report_spelling, FitsReport, SpellsReport, range_count, device_place, report_size, report_in, report_fault_at}
+use Rattle.tdisp_codec.proofs.Octets.{are_bytes, octets, joins, list_cells, drop_split_cells, drop_octets, all_of, number_2, number_4, below_2, below_4, two_bytes, four_bytes, ignored, zeros, same_4, all_taken}
+use Rattle.tdisp_codec.proofs.Shapes.{IsSized, IsShaped, judged_length, IsReader}
 use Rattle.tdisp_codec.proofs.RangeBytes.{length-first_ranges, length-ranges, range_octets, ranges_again, ranges_back, first_fit}
 
 abbrev any : ℕ → ℕ → Bool
@@ -60,19 +56,10 @@ front_read r s p =
 -- each field's bytes are bytes, and a report is its fields joined
 report_octets : (r : Report) (s : List ℕ) → SpellsReport r s → IsBytes s
 report_octets r s p =
-    let x = p.reserved.bytes in
-    let rest : All IsByte (rest_bytes r) = All-append IsByte (flat_map range_bytes r.ranges) (little_bytes 4 (length r.device) ++ r.device) (range_octets r.ranges) (All-append IsByte (little_bytes 4 (length r.device)) r.device
-    (four_bytes (length r.device)) p.fits.device) in
-    let d = little_bytes 4 (length r.ranges) ++ rest_bytes r in
-    let c = little_bytes 4 r.tph ++ d in
-    let b = little_bytes 2 r.lnr ++ c in
-    let a = little_bytes 2 r.msix ++ b in
-    let ad : All IsByte d = All-append IsByte (little_bytes 4 (length r.ranges)) (rest_bytes r) (four_bytes (length r.ranges)) rest in
-    let ac : All IsByte c = All-append IsByte (little_bytes 4 r.tph) d (four_bytes r.tph) ad in
-    let ab : All IsByte b = All-append IsByte (little_bytes 2 r.lnr) c (two_bytes r.lnr) ac in
-    let aa : All IsByte a = All-append IsByte (little_bytes 2 r.msix) b (two_bytes r.msix) ab in
-    let e = p.spelled in
-    rw e (all_bytes (report_bytes x r) (All-append IsByte (little_bytes 2 r.info) (x ++ a) (two_bytes r.info) (All-append IsByte x a p.reserved.octets aa)))
+    let rest = joins (range_octets r.ranges) (joins (four_bytes (length r.device)) (octets r.device p.fits.device)) in
+    let behind = joins (two_bytes r.lnr) (joins (four_bytes r.tph) (joins (four_bytes (length r.ranges)) rest)) in
+    let whole = joins (two_bytes r.info) (joins (octets p.reserved.bytes p.reserved.octets) (joins (two_bytes r.msix) behind)) in
+    rw p.spelled (are_bytes whole)
 
 -- the count of ranges is read first; it says where the length of the device information stands, and that where the report ends
 shape_of : (r : Report) (s : List ℕ) → SpellsReport r s → IsShaped any report_size s × (report_in s ≡ r)
@@ -91,28 +78,13 @@ shape_of r s p =
     let taken : take (16 * range_count s) (drop 16 s) ≡ bytes =
     ap (λ (k : ℕ). take k (drop 16 s)) counted ∙ ap (λ (t : List ℕ). take (16 * n) t) m.rest ∙ take_at bytes tail (16 * n) long in
     let ranges : ranges_in (take (16 * range_count s) (drop 16 s)) ≡ r.ranges = ap (λ (t : List ℕ). ranges_in t) taken ∙ ranges_again r.ranges p.fits.ranges in
-    let info = m.info in
-    let msix = m.msix in
-    let lnr = m.lnr in
-    let tph = m.tph in (
+    let same : report_in s ≡ record { info = r.info; msix = r.msix; lnr = r.lnr; tph = r.tph; ranges = r.ranges; device = r.device } = cc in (
       record {
         octets = report_octets r s p;
         fitting = λ i lt. refl;
         long = let l = m.long in omega (arith, length-append bytes tail);
       },
-      ap (λ (k : ℕ). record {
-        info = k;
-        msix = little_number 2 (drop 4 s);
-        lnr = little_number 2 (drop 6 s);
-        tph = little_number 4 (drop 8 s);
-        ranges = ranges_in (take (16 * range_count s) (drop 16 s));
-        device = drop (device_place s + 4) s;
-      }) info
-          ∙ ap (λ (k : ℕ). record { info = r.info; msix = k; lnr = little_number 2 (drop 6 s); tph = little_number 4 (drop 8 s); ranges = ranges_in (take (16 * range_count s) (drop 16 s)); device = drop (device_place s + 4) s }) msix
-          ∙ ap (λ (k : ℕ). record { info = r.info; msix = r.msix; lnr = k; tph = little_number 4 (drop 8 s); ranges = ranges_in (take (16 * range_count s) (drop 16 s)); device = drop (device_place s + 4) s }) lnr
-          ∙ ap (λ (k : ℕ). record { info = r.info; msix = r.msix; lnr = r.lnr; tph = k; ranges = ranges_in (take (16 * range_count s) (drop 16 s)); device = drop (device_place s + 4) s }) tph
-          ∙ ap (λ (x : List ReportRange). record { info = r.info; msix = r.msix; lnr = r.lnr; tph = r.tph; ranges = x; device = drop (device_place s + 4) s }) ranges
-          ∙ ap (λ (x : List ℕ). record { info = r.info; msix = r.msix; lnr = r.lnr; tph = r.tph; ranges = r.ranges; device = x }) last,
+      same,
     )
 
 -- ---- from bytes to a report
@@ -132,21 +104,14 @@ spells_of s shape =
     let sized : length device ≡ little_number 4 (drop place s) = omega (arith, length-drop (place + 4) s) in
     let small : n < 2 ^ 32 = below_4 12 s f in
     let few : little_number 4 (drop place s) < 2 ^ 32 = below_4 place s f in
-    let a : little_bytes 2 (little_number 2 s) ≡ cells 2 0 s = number_2 0 s f in
-    let m : little_bytes 2 (little_number 2 (drop 4 s)) ≡ cells 2 4 s = number_2 4 s f in
-    let l : little_bytes 2 (little_number 2 (drop 6 s)) ≡ cells 2 6 s = number_2 6 s f in
-    let t : little_bytes 4 (little_number 4 (drop 8 s)) ≡ cells 4 8 s = number_4 8 s f in
-    let c : little_bytes 4 n ≡ cells 4 12 s = number_4 12 s f in
-    let front : cells 16 0 s ++ drop 16 s ≡ little_bytes 2 (little_number 2 s) ++ (cells 2 2 s ++ (little_bytes 2 (little_number 2 (drop 4 s)) ++ (little_bytes 2 (little_number 2 (drop 6 s)) ++ (little_bytes 4 (little_number 4 (drop 8 s))
-    ++ (little_bytes 4 n ++ drop 16 s))))) = cc in
     let d : little_bytes 4 (length device) ≡ cells 4 place s = ap (λ (k : ℕ). little_bytes 4 k) sized ∙ number_4 place s f in
     let end : drop place s ≡ little_bytes 4 (length device) ++ device = drop_split_cells 4 place s (omega arith) ∙ ap (λ (x : List ℕ). x ++ device) (sym d) in
     let behind : drop (16 * n) (drop 16 s) ≡ drop place s = drop-drop (16 * n) 16 s in
     let middle : bytes ≡ flat_map range_bytes (ranges_in bytes) = sym (ranges_back bytes octets (omega arith)) in
     let rest : drop 16 s ≡ flat_map range_bytes (ranges_in bytes) ++ (little_bytes 4 (length device) ++ device) =
     sym (take-append-drop (16 * n) (drop 16 s)) ∙ ap (λ (x : List ℕ). bytes ++ x) (behind ∙ end) ∙ ap (λ (x : List ℕ). x ++ (little_bytes 4 (length device) ++ device)) middle in
-    let head : ℕ → List ℕ → List ℕ = λ (k : ℕ) (x : List ℕ). little_bytes 2 (little_number 2 s) ++ (cells 2 2 s ++ (little_bytes 2 (little_number 2 (drop 4 s)) ++ (little_bytes 2 (little_number 2 (drop 6 s))
-    ++ (little_bytes 4 (little_number 4 (drop 8 s)) ++ (little_bytes 4 k ++ x))))) in
+    let whole : cells 16 0 s ++ drop 16 s ≡ report_bytes (cells 2 2 s) (report_in s) =
+    rw (counted, rest) (cc (number_2 0 s f, number_2 4 s f, number_2 6 s f, number_4 8 s f, number_4 12 s f)) in
     record {
       fits = record {
         info = below_2 0 s f;
@@ -158,7 +123,7 @@ spells_of s shape =
         counted = record { ranges = omega arith; device = omega arith };
       };
       reserved = ignored 2 2 s f;
-      spelled = drop_split_cells 16 0 s (omega arith) ∙ front ∙ ap (head n) rest ∙ ap (λ (k : ℕ). head k (flat_map range_bytes (ranges_in bytes) ++ (little_bytes 4 (length device) ++ device))) (sym counted);
+      spelled = drop_split_cells 16 0 s (omega arith) ∙ whole;
     }
 
 -- ---- the grammar
@@ -167,8 +132,7 @@ spells_of s shape =
 sized : IsSized any [] report_size
 sized = record {
   octets = λ i. omega arith;
-  early = λ i lt. refl;
-  late = λ i b le. refl;
+  early = λ i. refl;
   more = λ s. omega arith;
   same = λ s t agree.
       let count : range_count s ≡ range_count t = same_4 12 s t (λ i ge lt. agree i (omega arith)) in
@@ -178,57 +142,16 @@ sized = record {
       omega arith;
 }
 
-abbrev found : List ℕ → Option TdispFault
-found s = length_fault (report_size s) s
-
 -- a report has no first byte that could be wrong: it is too short, too long or whole
-judged : (s : List ℕ) → IsBytes s → IsJudged any report_size report_fault_at s (found s)
-judged s octets =
-    elim (cases_lt (length s) (report_size s)) [
-      | inl less ↦ record {
-        answer = rw (lt-ltb _ _ less) (inr (
-          length s,
-          rw (eq-eqb (length s) (length s) refl) refl,
-          record {
-            within = omega arith;
-            reaches = omega arith;
-            before = λ i lt. refl;
-            off = λ lt. absurd (omega arith);
-            short = λ le. less;
-          },
-        ));
-      }
-      | inr enough ↦ elim (cases_lt (report_size s) (length s)) [
-        | inl more ↦
-            let ne : report_size s ≡ length s → ⊥ = λ e. omega arith in
-            record {
-              answer = rw (le-ltb _ _ enough, lt-ltb _ _ more) (inr (
-                report_size s,
-                rw (ne_eqb (report_size s) (length s) ne) refl,
-                record {
-                  within = omega arith;
-                  reaches = omega arith;
-                  before = λ i lt. refl;
-                  off = λ lt. inr refl;
-                  short = λ le. absurd (omega arith);
-                },
-              ));
-            }
-        | inr exact ↦ record { answer = rw (le-ltb _ _ enough, le-ltb _ _ exact) (inl (refl, record { octets = octets; fitting = λ i lt. refl; long = omega arith })) }
-      ]
-    ]
-
-pub spelled : (r : Report) (s : List ℕ) → SpellsReport r s → report_reading s ≡ Ok r
-spelled r s p = spelled_read Report SpellsReport report_in any [] report_size report_fault_at found sized shape_of spells_of judged r s p
-
-pub read : (r : Report) (s : List ℕ) → IsBytes s → report_reading s ≡ Ok r → SpellsReport r s
-read r s f e = read_spelled Report SpellsReport report_in any [] report_size report_fault_at found sized shape_of spells_of judged r s f e
-
-pub refused : (s : List ℕ) (fault : TdispFault) → IsBytes s → report_reading s ≡ Err fault → IsFirstFault SpellsReport report_fault_at s fault
-refused s fault f e = refused_first Report SpellsReport report_in any [] report_size report_fault_at found sized shape_of spells_of judged s fault f e
-
-pub first : (s : List ℕ) (fault : TdispFault) → IsBytes s → IsFirstFault SpellsReport report_fault_at s fault → report_reading s ≡ Err fault
-first s fault f p = first_refused Report SpellsReport report_in any [] report_size report_fault_at found sized shape_of spells_of judged s fault f p
+pub reader : IsReader SpellsReport report_in any report_size report_fault_at (λ s. length_fault (report_size s) s)
+reader = record {
+  head = [];
+  sized = sized;
+  shape_of = shape_of;
+  spells_of = spells_of;
+  judged = λ s octets. judged_length any report_size report_fault_at s octets (λ i lt. refl) (rw (eq-eqb (length s) (length s) refl) refl)
+      (λ lt. rw (ne_eqb (report_size s) (length s) (λ e. omega arith)) refl);
+}
 
 pub written_spells : (r : Report) → FitsReport r → SpellsReport r (report_spelling r)
 written_spells r f = record { fits = f; reserved = zeros 2; spelled = refl }

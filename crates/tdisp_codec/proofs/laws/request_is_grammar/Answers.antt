@@ -1,9 +1,10 @@
-use Rattle.first_fault.proofs.Cells.{all_bytes}
-use Rattle.tdisp_codec.proofs.Requests.{spelled, read, refused, first}
+use Rattle.tdisp_codec.proofs.Shapes.{reads, refuses}
+use Rattle.tdisp_codec.proofs.Messages.{message_reader}
+use Rattle.tdisp_codec.proofs.Requests.{codec}
 use Rattle.tdisp_codec.proofs.laws.request_is_grammar.Goals as goal
 
 pub returns-clause-reads : goal.returns-clause-reads
-returns-clause-reads c = λ request bytes octets. (spelled request bytes, read request bytes (all_bytes bytes octets))
+returns-clause-reads c = reads (message_reader codec)
 
 pub returns-clause-refuses : goal.returns-clause-refuses
-returns-clause-refuses c = λ bytes fault octets. (first bytes fault (all_bytes bytes octets), refused bytes fault (all_bytes bytes octets))
+returns-clause-refuses c = refuses (message_reader codec)
