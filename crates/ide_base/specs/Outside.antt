@@ -10,11 +10,12 @@ Contents = List ℕ → Option (List ℕ)
 
 -- ---- what can be seen from outside
 
--- of a shelf: its contents, which it need not tell, how many bytes it gave, how many one read asked for at most, and how
--- many reads failed
+-- of a shelf: its contents, which it need not tell, how many bytes it gave, how many of them at its last read, how many
+-- one read asked for at most, and how many reads failed
 pub record ShelfSeen : Type 0 where
   pub contents : Option Contents
   pub given : ℕ
+  pub latest : ℕ
   pub longest : ℕ
   pub faults : ℕ
 
@@ -56,6 +57,11 @@ ReadFrom (Some contents) name at result buf = ReadOf (contents name) at result b
 abbrev pub Given : ℕ → ℕ → Result ℕ ShelfFault → Type 0
 Given before now (Ok n) = now ≡ counted before n
 Given before now (Err e) = now ≡ before
+
+-- how many bytes a read gave
+abbrev pub given_by : Result ℕ ShelfFault → ℕ
+given_by (Ok n) = n
+given_by (Err e) = 0
 
 -- the contents are told, and have no such name
 abbrev pub Lacks : Option Contents → List ℕ → Type 0

@@ -26,6 +26,7 @@ pub struct FileShelf<R: Files> {
     files: R,
     last: Option<OpenFile<R::File>>,
     given: u64,
+    latest: usize,
     longest: usize,
     faults: u64,
 }
@@ -34,6 +35,7 @@ impl<R: Files> FileShelf<R> {
     /// Over the files of the system; none is open yet.
     pub fn new(alloc: Global, files: R) -> FileShelf<R>
         ensures given { (⟦<FileShelf<R> as Shelf>⟧.seen result).given ≡ 0 }
+        ensures latest { (⟦<FileShelf<R> as Shelf>⟧.seen result).latest ≡ 0 }
         ensures longest { (⟦<FileShelf<R> as Shelf>⟧.seen result).longest ≡ 0 }
         ensures faults { (⟦<FileShelf<R> as Shelf>⟧.seen result).faults ≡ 0 }
     {
@@ -42,6 +44,7 @@ impl<R: Files> FileShelf<R> {
             files,
             last: None,
             given: 0,
+            latest: 0,
             longest: 0,
             faults: 0,
         }
@@ -99,6 +102,7 @@ impl<R: Files> Shelf for FileShelf<R> {
     ghost seen = { λ s. record {
       contents = None;
       given = s.given;
+      latest = s.latest;
       longest = s.longest;
       faults = s.faults;
     } };
@@ -108,9 +112,11 @@ impl<R: Files> Shelf for FileShelf<R> {
         match read_named(self.alloc, &self.files, &mut self.last, name, at, buf) {
             Ok(n) => {
                 self.given = self.given.saturating_add(n as u64);
+                self.latest = n;
                 Ok(n)
             }
             Err(_) => {
+                self.latest = 0;
                 self.faults = self.faults.saturating_add(1);
                 Err(ShelfFault)
             }

@@ -1,7 +1,7 @@
 //! Files in memory, of which chosen reads fail, or none.
 ghost use Rattle.std.specs.Prelude.{◌≡◌, ◌≤◌, ◌||◌, Some, is_err, is_none, option_map, length, max, IfOk};
 ghost use Rattle.ide_base.specs.Memory.{IsNew, called, contents_of, fails_now, held_under, reads_of};
-ghost use Rattle.ide_base.specs.Outside.{Given, ReadAt, ReadFrom, ReadOf, ShelfCause};
+ghost use Rattle.ide_base.specs.Outside.{Given, ReadAt, ReadFrom, ReadOf, ShelfCause, given_by};
 
 use crate::calls::Calls;
 use crate::{Shelf, ShelfFault};
@@ -40,6 +40,7 @@ fn copy_from(file: &[u8], at: u64, buf: &mut [u8]) -> usize
 fn read_file(
     files: &[NamedFile],
     given: &mut u64,
+    latest: &mut usize,
     name: &str,
     at: u64,
     buf: &mut [u8],
@@ -47,13 +48,18 @@ fn read_file(
     ensures bound { IfOk result (λ n. n ≤ length buf.new) }
     ensures bytes { ReadOf (held_under files.now name.now) at result buf.new }
     ensures counted { Given given.old given.new result }
+    ensures latest { latest.new ≡ given_by result }
     ensures fails { is_err result ≡ is_none (held_under files.now name.now) }
 {
     match file_named(files, name) {
-        None => Err(ShelfFault),
+        None => {
+            *latest = 0;
+            Err(ShelfFault)
+        }
         Some(file) => {
             let n = copy_from(file, at, buf);
             *given = given.saturating_add(n as u64);
+            *latest = n;
             Ok(n)
         }
     }
@@ -66,6 +72,7 @@ pub struct MemShelf {
     files: Vec<NamedFile>,
     calls: Calls,
     given: u64,
+    latest: usize,
     longest: usize,
 }
 
@@ -74,6 +81,7 @@ impl MemShelf {
     pub fn new(files: Vec<NamedFile>, failing: Vec<u64>) -> MemShelf
         ensures contents { (⟦<MemShelf as Shelf>⟧.seen result).contents ≡ Some (held_under files.items) }
         ensures given { (⟦<MemShelf as Shelf>⟧.seen result).given ≡ 0 }
+        ensures latest { (⟦<MemShelf as Shelf>⟧.seen result).latest ≡ 0 }
         ensures longest { (⟦<MemShelf as Shelf>⟧.seen result).longest ≡ 0 }
         ensures faults { (⟦<MemShelf as Shelf>⟧.seen result).faults ≡ 0 }
         ensures calls { IsNew (reads_of result) failing.items }
@@ -82,6 +90,7 @@ impl MemShelf {
             files,
             calls: Calls::new(failing),
             given: 0,
+            latest: 0,
             longest: 0,
         }
     }
@@ -91,6 +100,7 @@ impl Shelf for MemShelf {
     ghost seen = { λ s. record {
       contents = Some (contents_of s);
       given = s.given;
+      latest = s.latest;
       longest = s.longest;
       faults = s.calls.faults;
     } };
@@ -101,6 +111,7 @@ impl Shelf for MemShelf {
         ensures bytes { ReadFrom (⟦<MemShelf as Shelf>⟧.seen self.old).contents name.now at result buf.new }
         ensures counted { Given (⟦<MemShelf as Shelf>⟧.seen self.old).given (⟦<MemShelf as Shelf>⟧.seen self.new).given
             result }
+        ensures latest { (⟦<MemShelf as Shelf>⟧.seen self.new).latest ≡ given_by result }
         ensures asked { (⟦<MemShelf as Shelf>⟧.seen self.new).longest ≡ max (⟦<MemShelf as Shelf>⟧.seen self.old).longest
             (length buf.new) }
         ensures cause { ShelfCause (⟦<MemShelf as Shelf>⟧.seen self.old).faults
@@ -111,9 +122,17 @@ impl Shelf for MemShelf {
     {
         self.longest = self.longest.max(buf.len());
         if self.calls.next_fails() {
+            self.latest = 0;
             return Err(ShelfFault);
         }
-        read_file(&self.files, &mut self.given, name, at, buf)
+        read_file(
+            &self.files,
+            &mut self.given,
+            &mut self.latest,
+            name,
+            at,
+            buf,
+        )
     }
 }
 
@@ -122,6 +141,7 @@ impl Shelf for MemShelf {
 pub struct TrueShelf {
     files: Vec<NamedFile>,
     given: u64,
+    latest: usize,
     longest: usize,
 }
 
@@ -130,11 +150,13 @@ impl TrueShelf {
     pub fn new(files: Vec<NamedFile>) -> TrueShelf
         ensures contents { (⟦<TrueShelf as Shelf>⟧.seen result).contents ≡ Some (held_under files.items) }
         ensures given { (⟦<TrueShelf as Shelf>⟧.seen result).given ≡ 0 }
+        ensures latest { (⟦<TrueShelf as Shelf>⟧.seen result).latest ≡ 0 }
         ensures longest { (⟦<TrueShelf as Shelf>⟧.seen result).longest ≡ 0 }
     {
         TrueShelf {
             files,
             given: 0,
+            latest: 0,
             longest: 0,
         }
     }
@@ -144,12 +166,20 @@ impl Shelf for TrueShelf {
     ghost seen = { λ s. record {
       contents = Some (held_under s.files.items);
       given = s.given;
+      latest = s.latest;
       longest = s.longest;
       faults = 0;
     } };
 
     fn read(&mut self, name: &str, at: u64, buf: &mut [u8]) -> Result<usize, ShelfFault> {
         self.longest = self.longest.max(buf.len());
-        read_file(&self.files, &mut self.given, name, at, buf)
+        read_file(
+            &self.files,
+            &mut self.given,
+            &mut self.latest,
+            name,
+            at,
+            buf,
+        )
     }
 }

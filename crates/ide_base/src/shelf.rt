@@ -1,6 +1,6 @@
 //! A shelf of files.
 ghost use Rattle.std.specs.Prelude.{◌≡◌, ◌≤◌, length, max, IfOk};
-ghost use Rattle.ide_base.specs.Outside.{Given, ReadFrom, ShelfCause, ShelfSeen};
+ghost use Rattle.ide_base.specs.Outside.{Given, ReadFrom, ShelfCause, ShelfSeen, given_by};
 
 /// A read gave nothing: the file cannot be read now, or there is no file of this name.
 #[derive(Clone, Copy, Debug, PartialEq, Eq)]
@@ -8,8 +8,8 @@ pub struct ShelfFault;
 
 /// Files that are read by name, in pieces (this profile).
 pub trait Shelf {
-    /// The contents by name, which a shelf need not tell; how many bytes one read asked for at most; and up to the last
-    /// value of 64 bits how many bytes the shelf gave, and how many reads failed.
+    /// The contents by name, which a shelf need not tell; how many bytes its last read gave; how many one read asked for
+    /// at most; and up to the last value of 64 bits how many bytes the shelf gave, and how many reads failed.
     ghost seen: { Self → ShelfSeen };
 
     /// Reads bytes of the file of this name from place `at` on into the front of `buf`, and answers how
@@ -20,6 +20,7 @@ pub trait Shelf {
         ensures bound { IfOk result (λ n. n ≤ length buf.new) }
         ensures bytes { ReadFrom (seen self.old).contents name.now at result buf.new }
         ensures counted { Given (seen self.old).given (seen self.new).given result }
+        ensures latest { (seen self.new).latest ≡ given_by result }
         ensures asked { (seen self.new).longest ≡ max (seen self.old).longest (length buf.new) }
         ensures cause { ShelfCause (seen self.old).faults (seen self.new).faults (seen self.old).contents name.now
             result };

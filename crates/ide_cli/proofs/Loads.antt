@@ -5,10 +5,10 @@ use Rattle.std.proofs.lemmas.Bool.Decides.{nat_tests}
 use Rattle.std.proofs.lemmas.List.{length-take-le, take_all}
 use Rattle.ide_base.specs.Outside.{Contents, Rose, ShelfSeen, SinkSeen}
 use Rattle.ide_plan.specs.declared.plan.Plan.{Plan}
-use Rattle.line_runs.specs.Gain.{Text, Gained}
+use Rattle.line_runs.specs.Gain.{Text, Gained, GainedMore}
 use Rattle.line_runs.specs.Front.{FrontIn, FrontOf, Gave, GaveOf, bytes_of}
-use Rattle.line_runs.specs.Gathering.{WroteEnded, WroteEndedIn, WroteEndedOf, open_line}
-use Rattle.line_runs.specs.Outcome.{Due, Quiet, EndsOn}
+use Rattle.line_runs.specs.Gathering.{GainedAt, WroteEnded, WroteEndedIn, WroteEndedOf, open_line}
+use Rattle.line_runs.specs.Outcome.{Due, Quiet, EndsOn, Ran, SomeFront}
 use Rattle.line_runs.specs.declared.ends.Fault.TheVariants as fault
 use Rattle.line_runs.specs.declared.front.Stop.TheVariants as stop
 use Rattle.line_runs.specs.declared.ends.End.{End}
@@ -138,26 +138,76 @@ gave_all_of : (told : Option Contents) (name read : Text) (before now : ℕ) →
 gave_all_of None name read before now is few gave = tt
 gave_all_of (Some contents) name read before now is few gave = gave_all_in (contents name) read before now is few gave
 
+within_in : (file : Option Text) (read : Text) (most before now : ℕ) → FrontIn most file read → Gave before (length read) now → (n : ℕ) × (n ≤ length (bytes_of file)) × Gave before n now
+within_in None read most before now is gave = absurd is
+within_in (Some file) read most before now is gave = (length read, omega (arith, ap length is, length-take most file), gave)
+
+pub given_within : (told : Option Contents) (name read : Text) (most before now : ℕ) → FrontOf told name most read → Gave before (length read) now → GaveOf told name before now
+given_within None name read most before now is gave = tt
+given_within (Some contents) name read most before now is gave = within_in (contents name) read most before now is gave
+
 pub gave_all : {L : Type 0} (long : L) (told : Option Contents) (name read : Text) (r : Result L Fault) (before now : ℕ) → FrontOf told name 1048577 read → Gave before (length read) now → IfOk r (λ l. l ≢ long → length read ≤ 1048576)
     → IfOk r (λ l. l ≢ long → GaveAllOf told name before now)
 gave_all long told name read (Ok l) before now is gave few = λ other. gave_all_of told name read before now is (few other) gave
 gave_all long told name read (Err e) before now is gave few = few
 
--- nothing was written yet, and no line has begun
-nothing_in : (text lines : ℕ → Text) (file : Text) (s0 s1 : ShelfSeen) (o : SinkSeen) → ((n : ℕ) → n ≤ length file → (text n ≡ []) × (lines n ≡ [])) → (n : ℕ) × (n ≤ length file) × Gave s0.given n s1.given
-    → WroteByIn text lines s0 s1 o o
-nothing_in text lines file s0 s1 o none (n, le, gave) =
-    let P : Text → Type 0 = λ t. Gained o.held o.held t in
-    let short : length (open_line (lines n)) ≤ 20000 = subst (λ (t : Text). length (open_line t) ≤ 20000) (sym (none n le).1) (omega arith) in
-    record { n = n; gave = gave; short = short; gained = subst P (sym (none n le).0) (gained_nothing o.held) }
+-- nothing that was gained is due to a line
+gained_none : (e : Fault) (h : Option Text) → GainedAt e h h []
+gained_none fault.Read h = gained_nothing h
+gained_none fault.Write h = ([], gained_nothing h)
+gained_none fault.Memory h = ([], gained_nothing h)
 
-pub nothing_yet : (text lines : Contents → ℕ → Text) (name : Text) (s0 s1 : ShelfSeen) (o : SinkSeen)
-    → ((contents : Contents) (n : ℕ) → n ≤ length (bytes_of (contents name)) → (text contents n ≡ []) × (lines contents n ≡ [])) → GaveOf s0.contents name s0.given s1.given → WroteBy text lines s0 s1 o o
-nothing_yet text lines name s0 s1 o none gave = by_told s0.contents gave
+some_gained : (h0 h1 : Option Text) (last : Text) → SomeFront (Gained h0 h1) last → GainedMore h0 h1 []
+some_gained h0 h1 last (front, is, gained) = (front, gained)
+
+-- bytes were given of which no line is due
+abbrev NoLineIn : (text lines : ℕ → Text) → ℕ → ℕ → Type 0
+NoLineIn text lines before now = (n : ℕ) × (text n ≡ []) × (lines n ≡ []) × Gave before n now
+
+abbrev pub NoLineOf : (text lines : Contents → ℕ → Text) → Option Contents → ℕ → ℕ → Type 0
+NoLineOf text lines None before now = Unit {0}
+NoLineOf text lines (Some contents) before now = NoLineIn (text contents) (lines contents) before now
+
+-- in no more bytes than a file has
+pub no_line_in_file : (text lines : Contents → ℕ → Text) (told : Option Contents) (name : Text) (before now : ℕ)
+    → ((contents : Contents) (n : ℕ) → n ≤ length (bytes_of (contents name)) → (text contents n ≡ []) × (lines contents n ≡ [])) → GaveOf told name before now → NoLineOf text lines told before now
+no_line_in_file text lines None name before now none gave = tt
+no_line_in_file text lines (Some contents) name before now none (n, le, gave) = (n, (none contents n le).0, (none contents n le).1, gave)
+
+-- ahead of the first byte
+pub no_line_at_first : (text lines : Contents → ℕ → Text) (told : Option Contents) (given : ℕ) → ((contents : Contents) → (text contents 0 ≡ []) × (lines contents 0 ≡ [])) → NoLineOf text lines told given given
+no_line_at_first text lines None given none = tt
+no_line_at_first text lines (Some contents) given none = (0, (none contents).0, (none contents).1, (omega arith, omega arith))
+
+no_line_wrote_in : (e : Fault) (text lines : ℕ → Text) (s0 s1 : ShelfSeen) (o0 o1 : SinkSeen) → NoLineIn text lines s0.given s1.given → GainedAt e o0.held o1.held [] → WroteByIn e text lines s0 s1 o0 o1
+no_line_wrote_in e text lines s0 s1 o0 o1 (n, no_text, no_bytes, gave) gained = record {
+  given = n;
+  ran = n;
+  gave = gave;
+  most = omega arith;
+  all_but = omega arith;
+  short = subst (λ (t : Text). length (open_line t) ≤ 20000) (sym no_bytes) (omega arith);
+  gained = subst (λ (t : Text). GainedAt e o0.held o1.held t) (sym no_text) gained;
+}
+
+no_line_wrote_of : (e : Fault) (text lines : Contents → ℕ → Text) (s0 s1 : ShelfSeen) (o0 o1 : SinkSeen) → NoLineOf text lines s0.contents s0.given s1.given → GainedAt e o0.held o1.held [] → WroteBy e text lines s0 s1 o0 o1
+no_line_wrote_of e text lines s0 s1 o0 o1 none gained = by_told s0.contents none
   where
-    by_told : (told : Option Contents) → GaveOf told name s0.given s1.given → WroteByOf text lines told s0 s1 o o
-    by_told None gave = tt
-    by_told (Some contents) gave = nothing_in (text contents) (lines contents) (bytes_of (contents name)) s0 s1 o (none contents) gave
+    by_told : (told : Option Contents) → NoLineOf text lines told s0.given s1.given → WroteByOf e text lines told s0 s1 o0 o1
+    by_told None none = tt
+    by_told (Some contents) none = no_line_wrote_in e (text contents) (lines contents) s0 s1 o0 o1 none gained
+
+-- no line is due, and nothing was written
+pub nothing_yet : (e : Fault) (text lines : Contents → ℕ → Text) (s0 s1 : ShelfSeen) (o : SinkSeen) → NoLineOf text lines s0.contents s0.given s1.given → WroteBy e text lines s0 s1 o o
+nothing_yet e text lines s0 s1 o none = no_line_wrote_of e text lines s0 s1 o o none (gained_none e o.held)
+
+-- no line is due, and something else was written
+pub no_line_wrote : (text lines : Contents → ℕ → Text) (last : Due) (s0 s1 : ShelfSeen) (o0 o1 : SinkSeen) (r : Result End Fault) → NoLineOf text lines s0.contents s0.given s1.given → Ran last o0 o1 r
+    → IfErr r (λ e. WroteBy e text lines s0 s1 o0 o1)
+no_line_wrote text lines last s0 s1 o0 o1 (Ok e) none ran = tt
+no_line_wrote text lines last s0 s1 o0 o1 (Err fault.Read) none ran = absurd ran.0
+no_line_wrote text lines last s0 s1 o0 o1 (Err fault.Write) none ran = no_line_wrote_of fault.Write text lines s0 s1 o0 o1 none (some_gained o0.held o1.held last.1 ran.1)
+no_line_wrote text lines last s0 s1 o0 o1 (Err fault.Memory) none ran = no_line_wrote_of fault.Memory text lines s0 s1 o0 o1 none (some_gained o0.held o1.held last.1 ran)
 
 no_line : (loaded : Loaded) → loaded_so_far loaded [] ≡ []
 no_line (Sound plan) = refl
@@ -172,64 +222,67 @@ none_so_far (Some file) script n le =
     let none : script_given (Some file) script n ≡ [] = ap (λ (k : ℕ). take k (bytes_of script)) zero in
     (ap (loaded_so_far (loaded file)) none ∙ no_line (loaded file), none)
 
+pub in_topology : (told : Option Contents) (topology script : Text) (before now : ℕ) → GaveOf told topology before now
+    → NoLineOf (λ contents n. run_so_far (contents topology) (contents script) n) (λ contents n. script_given (contents topology) (contents script) n) told before now
+in_topology told topology script before now gave =
+    no_line_in_file (λ contents n. run_so_far (contents topology) (contents script) n) (λ contents n. script_given (contents topology) (contents script) n) told topology before now
+    (λ contents n le. none_so_far (contents topology) (contents script) n le) gave
+
 -- the same text in other words
-same_ended_in : (f g : Text → Text) (file : Text) (s0 s1 : ShelfSeen) (o0 o1 : SinkSeen) → ((t : Text) → f t ≡ g t) → WroteEndedIn f file s0 s1 o0 o1 → WroteEndedIn g file s0 s1 o0 o1
-same_ended_in f g file s0 s1 o0 o1 same wrote =
-    let P : Text → Type 0 = λ t. Gained o0.held o1.held t in
-    record { n = wrote.n; within = wrote.within; gave = wrote.gave; short = wrote.short; gained = subst P (same (take wrote.n file)) wrote.gained }
+same_ended_in : (e : Fault) (f g : Text → Text) (file : Text) (s0 s1 : ShelfSeen) (o0 o1 : SinkSeen) → ((t : Text) → f t ≡ g t) → WroteEndedIn e f file s0 s1 o0 o1 → WroteEndedIn e g file s0 s1 o0 o1
+same_ended_in e f g file s0 s1 o0 o1 same wrote =
+    let gained = subst (λ (t : Text). GainedAt e o0.held o1.held t) (same (take wrote.ran file)) wrote.gained in
+    record { given = wrote.given; ran = wrote.ran; within = wrote.within; gave = wrote.gave; most = wrote.most; all_but = wrote.all_but; short = wrote.short; gained = gained }
 
-same_ended : (f g : Text → Text) (name : Text) (s0 s1 : ShelfSeen) (o0 o1 : SinkSeen) → ((t : Text) → f t ≡ g t) → WroteEnded f name s0 s1 o0 o1 → WroteEnded g name s0 s1 o0 o1
-same_ended f g name s0 s1 o0 o1 same wrote = by_told s0.contents wrote
+pub same_ended : (e : Fault) (f g : Text → Text) (name : Text) (s0 s1 : ShelfSeen) (o0 o1 : SinkSeen) → ((t : Text) → f t ≡ g t) → WroteEnded e f name s0 s1 o0 o1 → WroteEnded e g name s0 s1 o0 o1
+same_ended e f g name s0 s1 o0 o1 same wrote = by_told s0.contents wrote
   where
-    by_told : (told : Option Contents) → WroteEndedOf f told name s0 s1 o0 o1 → WroteEndedOf g told name s0 s1 o0 o1
+    by_told : (told : Option Contents) → WroteEndedOf e f told name s0 s1 o0 o1 → WroteEndedOf e g told name s0 s1 o0 o1
     by_told None wrote = tt
-    by_told (Some contents) wrote = same_ended_in f g (bytes_of (contents name)) s0 s1 o0 o1 same wrote
+    by_told (Some contents) wrote = same_ended_in e f g (bytes_of (contents name)) s0 s1 o0 o1 same wrote
 
-pub ended_same : (f g : Text → Text) (name : Text) (s0 s1 : ShelfSeen) (o0 o1 : SinkSeen) (r : Result End Fault) → ((t : Text) → f t ≡ g t) → IfErr r (λ e. e ≡ fault.Read → WroteEnded f name s0 s1 o0 o1)
-    → IfErr r (λ e. e ≡ fault.Read → WroteEnded g name s0 s1 o0 o1)
+pub ended_same : (f g : Text → Text) (name : Text) (s0 s1 : ShelfSeen) (o0 o1 : SinkSeen) (r : Result End Fault) → ((t : Text) → f t ≡ g t) → IfErr r (λ e. WroteEnded e f name s0 s1 o0 o1)
+    → IfErr r (λ e. WroteEnded e g name s0 s1 o0 o1)
 ended_same f g name s0 s1 o0 o1 (Ok e) same wrote = tt
-ended_same f g name s0 s1 o0 o1 (Err e) same wrote = λ is. same_ended f g name s0 s1 o0 o1 same (wrote is)
+ended_same f g name s0 s1 o0 o1 (Err e) same wrote = same_ended e f g name s0 s1 o0 o1 same wrote
 
 -- of the one file that is read
-wrote_ended : (text : Text → Text) (name : Text) (s0 s1 : ShelfSeen) (o0 o1 : SinkSeen) → WroteEnded text name s0 s1 o0 o1 → WroteBy (λ contents n. text (take n (bytes_of (contents name)))) (λ contents n. take n (bytes_of (contents name))) s0 s1 o0 o1
-wrote_ended text name s0 s1 o0 o1 wrote = by_told s0.contents wrote
-  where
-    by_told : (told : Option Contents) → WroteEndedOf text told name s0 s1 o0 o1 → WroteByOf (λ contents n. text (take n (bytes_of (contents name)))) (λ contents n. take n (bytes_of (contents name))) told s0 s1 o0 o1
-    by_told None wrote = tt
-    by_told (Some contents) wrote = record { n = wrote.n; gave = wrote.gave; short = wrote.short; gained = wrote.gained }
-
-pub ended_by : (text : Text → Text) (name : Text) (s0 s1 : ShelfSeen) (o0 o1 : SinkSeen) (r : Result End Fault) → IfErr r (λ e. e ≡ fault.Read → WroteEnded text name s0 s1 o0 o1)
-    → IfErr r (λ e. e ≡ fault.Read → WroteBy (λ contents n. text (take n (bytes_of (contents name)))) (λ contents n. take n (bytes_of (contents name))) s0 s1 o0 o1)
+pub ended_by : (text : Text → Text) (name : Text) (s0 s1 : ShelfSeen) (o0 o1 : SinkSeen) (r : Result End Fault) → IfErr r (λ e. WroteEnded e text name s0 s1 o0 o1)
+    → IfErr r (λ e. WroteBy e (λ contents n. text (take n (bytes_of (contents name)))) (λ contents n. take n (bytes_of (contents name))) s0 s1 o0 o1)
 ended_by text name s0 s1 o0 o1 (Ok e) wrote = tt
-ended_by text name s0 s1 o0 o1 (Err e) wrote = λ is. wrote_ended text name s0 s1 o0 o1 (wrote is)
+ended_by text name s0 s1 o0 o1 (Err e) wrote = by_told s0.contents wrote
+  where
+    by_told : (told : Option Contents) → WroteEndedOf e text told name s0 s1 o0 o1 → WroteByOf e (λ contents n. text (take n (bytes_of (contents name)))) (λ contents n. take n (bytes_of (contents name))) told s0 s1 o0 o1
+    by_told None wrote = tt
+    by_told (Some contents) wrote = record { given = wrote.given; ran = wrote.ran; gave = wrote.gave; most = wrote.most; all_but = wrote.all_but; short = wrote.short; gained = wrote.gained }
 
 -- of the script behind a topology that was wholly read
-run_ended_in : (topology script : Option Text) (plan : Plan) (s0 s1 s2 : ShelfSeen) (o0 o1 : SinkSeen) → LoadedIn loaded topology (Sound plan) → Gave s0.given (length (bytes_of topology)) s1.given
-    → WroteEndedIn (script_so_far plan) (bytes_of script) s1 s2 o0 o1 → WroteByIn (λ n. run_so_far topology script n) (λ n. script_given topology script n) s0 s2 o0 o1
-run_ended_in None script plan s0 s1 s2 o0 o1 is all wrote = absurd is
-run_ended_in (Some file) script plan s0 s1 s2 o0 o1 is all wrote =
-    let n = wrote.n in
-    let P : Text → Type 0 = λ t. Gained o0.held o1.held t in
-    let rest : n ≡ (length file + n) - length file = omega arith in
-    let given : take n (bytes_of script) ≡ script_given (Some file) script (length file + n) = ap (λ (k : ℕ). take k (bytes_of script)) rest in
-    let text : script_so_far plan (take n (bytes_of script)) ≡ run_so_far (Some file) script (length file + n) =
-    ap (λ (l : Loaded). loaded_so_far l (take n (bytes_of script))) is ∙ ap (loaded_so_far (loaded file)) given in
+run_ended_in : (e : Fault) (topology script : Option Text) (plan : Plan) (s0 s1 s2 : ShelfSeen) (o0 o1 : SinkSeen) → LoadedIn loaded topology (Sound plan) → Gave s0.given (length (bytes_of topology)) s1.given
+    → WroteEndedIn e (script_so_far plan) (bytes_of script) s1 s2 o0 o1 → WroteByIn e (λ n. run_so_far topology script n) (λ n. script_given topology script n) s0 s2 o0 o1
+run_ended_in e None script plan s0 s1 s2 o0 o1 is all wrote = absurd is
+run_ended_in e (Some file) script plan s0 s1 s2 o0 o1 is all wrote =
+    let ran = wrote.ran in
+    let rest : ran ≡ (length file + ran) - length file = omega arith in
+    let bytes : take ran (bytes_of script) ≡ script_given (Some file) script (length file + ran) = ap (λ (k : ℕ). take k (bytes_of script)) rest in
+    let text : script_so_far plan (take ran (bytes_of script)) ≡ run_so_far (Some file) script (length file + ran) =
+    ap (λ (l : Loaded). loaded_so_far l (take ran (bytes_of script))) is ∙ ap (loaded_so_far (loaded file)) bytes in
     record {
-      n = length file + n;
-      gave = joined s0.given s1.given s2.given (length file) n all wrote.gave;
-      short = subst (λ (t : Text). length (open_line t) ≤ 20000) given wrote.short;
-      gained = subst P text wrote.gained;
+      given = length file + wrote.given;
+      ran = length file + ran;
+      gave = joined s0.given s1.given s2.given (length file) wrote.given all wrote.gave;
+      most = omega (arith, wrote.most);
+      all_but = omega (arith, wrote.all_but);
+      short = subst (λ (t : Text). length (open_line t) ≤ 20000) bytes wrote.short;
+      gained = subst (λ (t : Text). GainedAt e o0.held o1.held t) text wrote.gained;
     }
 
 pub run_ended : (topology script : Text) (plan : Plan) (s0 s1 s2 : ShelfSeen) (o0 o1 : SinkSeen) (r : Result End Fault) → s1.contents ≡ s0.contents → LoadedOf loaded s0.contents topology (Sound plan) → GaveAllOf s0.contents topology
     s0.given s1.given
-    → IfErr r (λ e. e ≡ fault.Read → WroteEnded (script_so_far plan) script s1 s2 o0 o1) → IfErr r (λ e. e ≡ fault.Read → WroteBy (λ contents n. run_so_far (contents topology) (contents script) n) (λ contents n. script_given (contents topology) (contents script) n) s0 s2 o0 o1)
+    → IfErr r (λ e. WroteEnded e (script_so_far plan) script s1 s2 o0 o1) → IfErr r (λ e. WroteBy e (λ contents n. run_so_far (contents topology) (contents script) n) (λ contents n. script_given (contents topology) (contents script) n) s0 s2 o0 o1)
 run_ended topology script plan s0 s1 s2 o0 o1 (Ok e) same is all wrote = tt
-run_ended topology script plan s0 s1 s2 o0 o1 (Err e) same is all wrote =
-    let P : Option Contents → Type 0 = λ told. WroteEndedOf (script_so_far plan) told script s1 s2 o0 o1 in
-    λ read. by_told s0.contents is all (subst P same (wrote read))
+run_ended topology script plan s0 s1 s2 o0 o1 (Err e) same is all wrote = by_told s0.contents is all (subst (λ (told : Option Contents). WroteEndedOf e (script_so_far plan) told script s1 s2 o0 o1) same wrote)
   where
-    by_told : (told : Option Contents) → LoadedOf loaded told topology (Sound plan) → GaveAllOf told topology s0.given s1.given → WroteEndedOf (script_so_far plan) told script s1 s2 o0 o1
-        → WroteByOf (λ contents n. run_so_far (contents topology) (contents script) n) (λ contents n. script_given (contents topology) (contents script) n) told s0 s2 o0 o1
+    by_told : (told : Option Contents) → LoadedOf loaded told topology (Sound plan) → GaveAllOf told topology s0.given s1.given → WroteEndedOf e (script_so_far plan) told script s1 s2 o0 o1
+        → WroteByOf e (λ contents n. run_so_far (contents topology) (contents script) n) (λ contents n. script_given (contents topology) (contents script) n) told s0 s2 o0 o1
     by_told None is all wrote = tt
-    by_told (Some contents) is all wrote = run_ended_in (contents topology) (contents script) plan s0 s1 s2 o0 o1 is all wrote
+    by_told (Some contents) is all wrote = run_ended_in e (contents topology) (contents script) plan s0 s1 s2 o0 o1 is all wrote

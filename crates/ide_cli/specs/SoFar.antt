@@ -1,12 +1,13 @@
--- What a run has written where a file could not be read on.
-use Rattle.std.specs.Prelude.{ℕ, ◌-◌, ◌≤◌, true, List, [], length, take, Option, Some, None}
+-- What a run has written where a fault ends it.
+use Rattle.std.specs.Prelude.{ℕ, ◌+◌, ◌-◌, ◌≤◌, true, List, [], length, take, Option, Some, None}
 use Rattle.ide_base.specs.Outside.{Contents, ShelfSeen, SinkSeen}
 use Rattle.ide_words.specs.Words.{Asked, run, check, show, asked}
 use Rattle.ide_plan.specs.declared.plan.Plan.{Plan}
 use Rattle.text_lines.specs.Pieces.{pieces}
 use Rattle.line_runs.specs.Front.{Gave, bytes_of}
-use Rattle.line_runs.specs.Gain.{Text, Gained}
-use Rattle.line_runs.specs.Gathering.{ended_text, open_line}
+use Rattle.line_runs.specs.declared.ends.Fault.{Fault}
+use Rattle.line_runs.specs.Gain.{Text}
+use Rattle.line_runs.specs.Gathering.{GainedAt, ended_text, open_line, waiting_at}
 use Rattle.ide_cli.specs.declared.topologies.Loaded.{Loaded}
 use Rattle.ide_cli.specs.declared.topologies.Loaded.TheVariants.{Sound, Faulty, Long}
 use Rattle.ide_cli.specs.Script.{due_after, script_in}
@@ -49,27 +50,32 @@ lines_given (Some (run topology script)) contents n = script_given (contents top
 lines_given (Some (check topology)) contents n = []
 lines_given (Some (show packets)) contents n = take n (bytes_of (contents packets))
 
--- Some number of bytes were given, the line that has begun in those that are cut into lines has at most 20,000, and the
--- sink gained the text that is due by then.
-pub record WroteByIn (text lines : ℕ → Text) (shelf shelf_now : ShelfSeen) (sink sink_now : SinkSeen) : Type 0 where
-  pub n : ℕ
-  pub gave : Gave shelf.given n shelf_now.given
-  pub short : length (open_line (lines n)) ≤ 20000
-  pub gained : Gained sink.held sink_now.held (text n)
+-- Some number of bytes were given, all of which but those that may wait were run: the line that has begun in those of
+-- them that are cut into lines has at most 20,000, and the sink gained the text that is due by then.
+pub record WroteByIn (e : Fault) (text lines : ℕ → Text) (shelf shelf_now : ShelfSeen) (sink sink_now : SinkSeen)
+    : Type 0 where
+  pub given : ℕ
+  pub ran : ℕ
+  pub gave : Gave shelf.given given shelf_now.given
+  pub most : ran ≤ given
+  pub all_but : given ≤ ran + waiting_at e shelf_now
+  pub short : length (open_line (lines ran)) ≤ 20000
+  pub gained : GainedAt e sink.held sink_now.held (text ran)
 
-abbrev pub WroteByOf : (text lines : Contents → ℕ → Text) → Option Contents → ShelfSeen → ShelfSeen → SinkSeen
+abbrev pub WroteByOf : Fault → (text lines : Contents → ℕ → Text) → Option Contents → ShelfSeen → ShelfSeen → SinkSeen
     → SinkSeen → Type 0
-WroteByOf text lines None shelf shelf_now sink sink_now = Unit {0}
-WroteByOf text lines (Some contents) shelf shelf_now sink sink_now = WroteByIn (text contents) (lines contents) shelf
-    shelf_now sink sink_now
+WroteByOf e text lines None shelf shelf_now sink sink_now = Unit {0}
+WroteByOf e text lines (Some contents) shelf shelf_now sink sink_now = WroteByIn e (text contents) (lines contents)
+    shelf shelf_now sink sink_now
 
 -- where the shelf tells its contents
-abbrev pub WroteBy : (text lines : Contents → ℕ → Text) → ShelfSeen → ShelfSeen → SinkSeen → SinkSeen → Type 0
-WroteBy text lines shelf shelf_now sink sink_now = WroteByOf text lines shelf.contents shelf shelf_now sink sink_now
+abbrev pub WroteBy : Fault → (text lines : Contents → ℕ → Text) → ShelfSeen → ShelfSeen → SinkSeen → SinkSeen → Type 0
+WroteBy e text lines shelf shelf_now sink sink_now = WroteByOf e text lines shelf.contents shelf shelf_now sink sink_now
 
--- What was written is exactly what is due to those lines of the script, or of the packet file, that ended in the bytes
--- that were given, and of the next line at most 20,000 bytes were; where the topology was not wholly read, nothing was
--- written.
-abbrev pub WroteSoFar : List Text → ShelfSeen → ShelfSeen → SinkSeen → SinkSeen → Type 0
-WroteSoFar words shelf shelf_now sink sink_now = WroteBy (asked_so_far (asked words)) (lines_given (asked words)) shelf
-    shelf_now sink sink_now
+-- At a fault of reading, what was written is exactly what is due to those lines of the script, or of the packet file,
+-- that ended in the bytes that were given, and of the next line at most 20,000 bytes were; where the topology was not
+-- wholly read, nothing was written. At another fault, at least what is due to the lines that ended in all of these
+-- bytes but those of the last read was written: no line waits while a later piece is read.
+abbrev pub WroteSoFar : List Text → Fault → ShelfSeen → ShelfSeen → SinkSeen → SinkSeen → Type 0
+WroteSoFar words e shelf shelf_now sink sink_now = WroteBy e (asked_so_far (asked words)) (lines_given (asked words))
+    shelf shelf_now sink sink_now

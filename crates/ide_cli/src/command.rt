@@ -31,8 +31,8 @@ fn run_script<S: Shelf, O: Sink>(
     ensures end { IfOk result (λ e. e ≢ End.Usage) }
     ensures answers { RanOn (λ contents. option_map (script_due plan) (contents script.now)) (S.seen shelf.old)
         (S.seen shelf.new) (O.seen out.old) (O.seen out.new) result }
-    ensures read_fault { IfErr result (λ e. e ≡ Fault.Read → WroteEnded (script_so_far plan) script.now
-        (S.seen shelf.old) (S.seen shelf.new) (O.seen out.old) (O.seen out.new)) }
+    ensures so_far { IfErr result (λ e. WroteEnded e (script_so_far plan) script.now (S.seen shelf.old)
+        (S.seen shelf.new) (O.seen out.old) (O.seen out.new)) }
     ensures cap { (S.seen shelf.new).given ≤ (S.seen shelf.old).given + 16777217 }
     ensures pieces { AskedPieces (S.seen shelf.old).longest (S.seen shelf.new).longest }
     ensures too_long { IfOk result (λ e. e ≡ End.TooLong → Gave (S.seen shelf.old).given 16777217
@@ -59,7 +59,7 @@ pub(crate) fn run_files<S: Shelf, O: Sink>(
     ensures end { IfOk result (λ e. e ≢ End.Usage) }
     ensures answers { RanOn (λ contents. run_due (contents topology.now) (contents script.now)) (S.seen shelf.old)
         (S.seen shelf.new) (O.seen out.old) (O.seen out.new) result }
-    ensures read_fault { IfErr result (λ e. e ≡ Fault.Read → WroteBy (λ contents n. run_so_far (contents topology.now)
+    ensures so_far { IfErr result (λ e. WroteBy e (λ contents n. run_so_far (contents topology.now)
         (contents script.now) n) (λ contents n. script_given (contents topology.now) (contents script.now) n)
         (S.seen shelf.old) (S.seen shelf.new) (O.seen out.old) (O.seen out.new)) }
     ensures cap { (S.seen shelf.new).given ≤ (S.seen shelf.old).given + 17825794 }
@@ -85,7 +85,7 @@ pub(crate) fn show_packets<S: Shelf, O: Sink>(
     ensures end { IfOk result (λ e. e ≢ End.Usage) }
     ensures answers { RanOn (λ contents. option_map show_due (contents packets.now)) (S.seen shelf.old)
         (S.seen shelf.new) (O.seen out.old) (O.seen out.new) result }
-    ensures read_fault { IfErr result (λ e. e ≡ Fault.Read → WroteBy (λ contents n. shown_so_far
+    ensures so_far { IfErr result (λ e. WroteBy e (λ contents n. shown_so_far
         (take n (bytes_of (contents packets.now)))) (λ contents n. take n (bytes_of (contents packets.now)))
         (S.seen shelf.old) (S.seen shelf.new) (O.seen out.old) (O.seen out.new)) }
     ensures cap { (S.seen shelf.new).given ≤ (S.seen shelf.old).given + 16777217 }

@@ -51,8 +51,7 @@ pub(crate) fn load<S: Shelf>(alloc: Global, shelf: &mut S, name: &str) -> Result
     ensures cause { LoadCause (S.seen shelf.old).faults (S.seen shelf.new).faults (S.seen shelf.old).contents name.now
         result }
     ensures fits { IfOk result HasFitting }
-    ensures stopped { IfErr result (λ e. e ≡ Fault.Read → GaveOf (S.seen shelf.old).contents name.now
-        (S.seen shelf.old).given (S.seen shelf.new).given) }
+    ensures within { GaveOf (S.seen shelf.old).contents name.now (S.seen shelf.old).given (S.seen shelf.new).given }
     ensures all { IfOk result (λ l. l ≢ Loaded.Long → GaveAllOf (S.seen shelf.old).contents name.now
         (S.seen shelf.old).given (S.seen shelf.new).given) }
     ensures cap { (S.seen shelf.new).given ≤ (S.seen shelf.old).given + 1048577 }
@@ -112,7 +111,7 @@ pub(crate) fn check_topology<S: Shelf, O: Sink>(
     ensures end { IfOk result (λ e. e ≢ End.Usage) }
     ensures answers { RanOn (λ contents. option_map check_due (contents topology.now)) (S.seen shelf.old)
         (S.seen shelf.new) (O.seen out.old) (O.seen out.new) result }
-    ensures read_fault { IfErr result (λ e. e ≡ Fault.Read → WroteBy (λ contents n. []) (λ contents n. [])
+    ensures so_far { IfErr result (λ e. WroteBy e (λ contents n. []) (λ contents n. [])
         (S.seen shelf.old) (S.seen shelf.new) (O.seen out.old) (O.seen out.new)) }
     ensures cap { (S.seen shelf.new).given ≤ (S.seen shelf.old).given + 1048577 }
     ensures pieces { AskedPieces (S.seen shelf.old).longest (S.seen shelf.new).longest }

@@ -15,12 +15,13 @@ use Rattle.line_runs.specs.declared.ends.End.TheVariants as end
 use Rattle.line_runs.specs.declared.ends.Fault.{Fault}
 use Rattle.line_runs.specs.declared.ends.Fault.TheVariants as fault
 use Rattle.line_runs.specs.Front.{Gave, bytes_of, IsReadIn, IsReadOf, IsWholeIn, IsWholeOf, ReadsOn}
-use Rattle.line_runs.specs.Gain.{Text, Gained, IsFront}
-use Rattle.line_runs.specs.Outcome.{Due, EndsDue, EndsOn, Quiet, IsWholeLines, Ran, RanOn}
+use Rattle.line_runs.specs.Gain.{Text, Gained, GainedMore, IsFront}
+use Rattle.line_runs.specs.Outcome.{Due, EndsDue, EndsOn, Quiet, IsWholeLines, Ran, RanOn, SomeFront}
 use Rattle.line_runs.specs.Lines.{after, cut_at, cut_text, file_due, file_limit, go_on, is_over, process, refusal, unended}
-use Rattle.line_runs.specs.Gathering.{Gathered, SoFar, WroteEnded, WroteEndedIn, WroteEndedOf, behind, due_behind, ended_text, last_piece, limit_due, open_line}
+use Rattle.line_runs.specs.Gathering.{GainedAt, Gathered, SoFar, WroteEnded, WroteEndedIn, WroteEndedOf, behind, due_behind, ended_text, last_piece, limit_due, open_line, waiting_at}
 use Rattle.line_runs.proofs.Cuttings.{cut_short}
 use Rattle.line_runs.proofs.Fronts.{start}
+use Rattle.line_runs.proofs.Gains.{gained_more}
 use Rattle.line_runs.proofs.Parts.{begins, behind_none, comes, ends}
 use Rattle.line_runs.proofs.WholeFiles.{ran_blind, ran_told}
 
@@ -212,7 +213,7 @@ end_at_limit advance closing first name at n s before byte s0 s1 o0 o1 o2 r f is
     by_told None read = ran_blind (process advance closing true 1 first (pieces (if byte == 10 then f.front else f.front ++ byte ∷ []))) s0.faults s1.faults o0.faults o2.faults (Gained o0.held o2.held) r same all
     by_told (Some contents) read = limit_in advance closing first (contents name) f.front byte s0.faults s1.faults o0 o2 r read (f.size ∙ is) same all
 
--- ---- a read that fails
+-- ---- a fault
 
 -- nothing is due of a line that has begun and may go on
 abbrev unended_short : Due
@@ -260,28 +261,66 @@ gained_ended advance closing first told name at n s before o0 o1 f short =
     let P : Text → Type 0 = λ t. Gained o0.held o1.held t in
     subst P (text_is advance closing first told name at n s before o0 o1 f short) (all_gained o0 o1 f.so_far.text f.so_far.gained)
 
-wrote_all : (text : Text → Text) (file front : Text) (s0 s1 : ShelfSeen) (o0 o1 : SinkSeen) → IsFront front file → Gave s0.given (length front) s1.given → length (open_line front) ≤ 20000 → Gained o0.held o1.held (text front)
-    → WroteEndedIn text file s0 s1 o0 o1
-wrote_all text file front s0 s1 o0 o1 (rest, e) gave short gained =
-    let P : Text → Type 0 = λ t. Gained o0.held o1.held (text t) in
-    let is : front ≡ take (length front) file = sym (take-append_seam front rest) ∙ ap (take (length front)) e in
-    record { n = length front; within = omega (arith, length-append front rest, ap length e); gave = gave; short = subst (λ (t : Text). length (open_line t) ≤ 20000) is short; gained = subst P is gained }
+wrote_all : (e : Fault) (text : Text → Text) (file front piece : Text) (s0 s1 : ShelfSeen) (o0 o1 : SinkSeen) → IsFront (front ++ piece) file → Gave s0.given (length front + length piece) s1.given → length piece ≤ waiting_at e s1
+    → length (open_line front) ≤ 20000 → GainedAt e o0.held o1.held (text front) → WroteEndedIn e text file s0 s1 o0 o1
+wrote_all e text file front piece s0 s1 o0 o1 (rest, is) gave few short gained =
+    let same : front ≡ take (length front) file = sym (take-append_seam front (piece ++ rest)) ∙ ap (take (length front)) (sym (append_assoc front piece rest) ∙ is) in
+    record {
+      given = length front + length piece;
+      ran = length front;
+      within = omega (arith, length-append (front ++ piece) rest, length-append front piece, ap length is);
+      gave = gave;
+      most = omega arith;
+      all_but = omega (arith, few);
+      short = subst (λ (t : Text). length (open_line t) ≤ 20000) same short;
+      gained = subst (λ (t : Text). GainedAt e o0.held o1.held (text t)) same gained;
+    }
 
-wrote_in : (text : Text → Text) (file : Option Text) (front : Text) (s0 s1 : ShelfSeen) (o0 o1 : SinkSeen) → IsReadIn file front → Gave s0.given (length front) s1.given → length (open_line front) ≤ 20000 → Gained o0.held o1.held (text front)
-    → WroteEndedIn text (bytes_of file) s0 s1 o0 o1
-wrote_in text None front s0 s1 o0 o1 read gave short gained = wrote_all text [] front s0 s1 o0 o1 ([], append-nil front ∙ read) gave short gained
-wrote_in text (Some file) front s0 s1 o0 o1 read gave short gained = wrote_all text file front s0 s1 o0 o1 read gave short gained
+wrote_in : (e : Fault) (text : Text → Text) (file : Option Text) (front piece : Text) (s0 s1 : ShelfSeen) (o0 o1 : SinkSeen) → IsReadIn file (front ++ piece) → Gave s0.given (length front + length piece) s1.given
+    → length piece ≤ waiting_at e s1 → length (open_line front) ≤ 20000 → GainedAt e o0.held o1.held (text front) → WroteEndedIn e text (bytes_of file) s0 s1 o0 o1
+wrote_in e text None front piece s0 s1 o0 o1 read gave few short gained = wrote_all e text [] front piece s0 s1 o0 o1 ([], append-nil (front ++ piece) ∙ read) gave few short gained
+wrote_in e text (Some file) front piece s0 s1 o0 o1 read gave few short gained = wrote_all e text file front piece s0 s1 o0 o1 read gave few short gained
 
-pub fault_wrote : {S : Type 0} (advance : S → ℕ → Text → Result (S × Text) LineFault) (closing : S → Text) (first : S) (name : Text) (at n : ℕ) (s : S) (before : Text) (s0 s1 : ShelfSeen) (o0 o1 : SinkSeen)
-    → FileSoFar advance closing first s0.contents name at n s before o0 o1 → length before ≤ 20000 → Gave s0.given at s1.given → WroteEnded (ended_text advance closing first) name s0 s1 o0 o1
-fault_wrote advance closing first name at n s before s0 s1 o0 o1 f short gave = by_told s0.contents f.is_read
+-- what a fault leaves that comes once a piece was read: what was gained by then, and what more
+pub fault_wrote : {S : Type 0} (advance : S → ℕ → Text → Result (S × Text) LineFault) (closing : S → Text) (first : S) (e : Fault) (name : Text) (at n : ℕ) (s : S) (before piece : Text) (s0 s1 : ShelfSeen) (o0 o1 o2 : SinkSeen)
+    → (f : FileSoFar advance closing first s0.contents name at n s before o0 o1) → IsReadOf s0.contents name (f.front ++ piece) → length before ≤ 20000 → length piece ≤ waiting_at e s1 → Gave s0.given (at + length piece) s1.given
+    → ((text : Text) → Gained o0.held o1.held text → GainedAt e o0.held o2.held text) → WroteEnded e (ended_text advance closing first) name s0 s1 o0 o2
+fault_wrote advance closing first e name at n s before piece s0 s1 o0 o1 o2 f read short few gave more = by_told s0.contents read
   where
-    given : Gave s0.given (length f.front) s1.given
-    given = let P : ℕ → Type 0 = λ k. Gave s0.given k s1.given in subst P (sym f.size) gave
+    given : Gave s0.given (length f.front + length piece) s1.given
+    given = let P : ℕ → Type 0 = λ k. Gave s0.given (k + length piece) s1.given in subst P (sym f.size) gave
 
-    by_told : (told : Option Contents) → IsReadOf told name f.front → WroteEndedOf (ended_text advance closing first) told name s0 s1 o0 o1
+    by_told : (told : Option Contents) → IsReadOf told name (f.front ++ piece) → WroteEndedOf e (ended_text advance closing first) told name s0 s1 o0 o2
     by_told None read = tt
-    by_told (Some contents) read = wrote_in (ended_text advance closing first) (contents name) f.front s0 s1 o0 o1 read given (open_line_short advance closing first s0.contents name at n s before o0 o1 f short) (gained_ended advance closing first s0.contents name at n s before o0 o1 f short)
+    by_told (Some contents) read =
+        wrote_in e (ended_text advance closing first) (contents name) f.front piece s0 s1 o0 o2 read given few (open_line_short advance closing first s0.contents name at n s before o0 o1 f short)
+        (more (ended_text advance closing first f.front) (gained_ended advance closing first s0.contents name at n s before o0 o1 f short))
+
+pub nothing_more : (told : Option Contents) (name front : Text) → IsReadOf told name front → IsReadOf told name (front ++ [])
+nothing_more told name front read = subst (λ (t : Text). IsReadOf told name t) (sym (append-nil front)) read
+
+more_gained : (h0 h1 h2 : Option Text) (text later : Text) → Gained h0 h1 text → SomeFront (Gained h1 h2) later → GainedMore h0 h2 text
+more_gained h0 h1 h2 text later was (front, is, gained) = (front, gained_more h0 h1 h2 text front was gained)
+
+-- what runs behind the lines that ended is cut off
+pub cut_wrote : {S : Type 0} (advance : S → ℕ → Text → Result (S × Text) LineFault) (closing : S → Text) (first : S) (name : Text) (at n : ℕ) (s : S) (before piece : Text) (s0 s1 : ShelfSeen) (o0 o1 o2 : SinkSeen) (last : Due)
+    (r : Result End Fault)
+    → (f : FileSoFar advance closing first s0.contents name at n s before o0 o1) → IsReadOf s0.contents name (f.front ++ piece) → length before ≤ 20000 → length piece ≤ s1.latest → Gave s0.given (at + length piece) s1.given → Ran last o1 o2 r
+    → IfErr r (λ e. WroteEnded e (ended_text advance closing first) name s0 s1 o0 o2)
+cut_wrote advance closing first name at n s before piece s0 s1 o0 o1 o2 last (Ok e) f read short few gave ran = tt
+cut_wrote advance closing first name at n s before piece s0 s1 o0 o1 o2 last (Err fault.Read) f read short few gave ran = absurd ran.0
+cut_wrote advance closing first name at n s before piece s0 s1 o0 o1 o2 last (Err fault.Write) f read short few gave ran =
+    fault_wrote advance closing first fault.Write name at n s before piece s0 s1 o0 o1 o2 f read short few gave (λ text was. more_gained o0.held o1.held o2.held text last.1 was ran.1)
+cut_wrote advance closing first name at n s before piece s0 s1 o0 o1 o2 last (Err fault.Memory) f read short few gave ran =
+    fault_wrote advance closing first fault.Memory name at n s before piece s0 s1 o0 o1 o2 f read short few gave (λ text was. more_gained o0.held o1.held o2.held text last.1 was ran)
+
+-- memory is wanting ahead of the first read
+pub nothing_wrote : {S : Type 0} (advance : S → ℕ → Text → Result (S × Text) LineFault) (closing : S → Text) (first : S) (name : Text) (shelf : ShelfSeen) (sink : SinkSeen)
+    → WroteEnded fault.Memory (ended_text advance closing first) name shelf shelf sink sink
+unfolding file_begins
+nothing_wrote advance closing first name shelf sink =
+    fault_wrote advance closing first fault.Memory name 0 1 first [] [] shelf shelf sink sink sink (file_begins advance closing first shelf.contents name 1 [] sink refl refl) (start shelf.contents name) (omega arith) (omega arith)
+    (omega arith, omega arith) (λ text was. ([], rw append-nil was))
 
 -- the cause of a fault, and the whole lines that were written
 fault_in : {S : Type 0} (advance : S → ℕ → Text → Result (S × Text) LineFault) (closing : S → Text) (first : S) (contents : Contents) (file : Option Text) (name front text : Text) (later : Bool → Text → Due) (s0 s1 : ℕ) (o0 o1 : SinkSeen)

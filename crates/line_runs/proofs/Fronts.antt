@@ -1,12 +1,12 @@
 -- A file that is read from its front.
-use Rattle.std.proofs.Common.{◌≡◌, ◌<◌, ◌≤◌, ℕ, [], ◌∷◌, ◌++◌, Option, Some, None, Result, Ok, Err, subst, refl, sym, ap, ◌∙◌, append_assoc, take, drop, length, arith, length-append}
+use Rattle.std.proofs.Common.{◌≡◌, ◌<◌, ◌≤◌, ◌+◌, ℕ, [], ◌∷◌, ◌++◌, Option, Some, None, Result, Ok, Err, subst, refl, sym, ap, ◌∙◌, append_assoc, take, drop, length, arith, length-append}
 use Rattle.std.proofs.Math.Seq.{drop-append_seam, take-append_seam}
 use Rattle.std.specs.Prelude.{IfOk}
 use Rattle.std.proofs.lemmas.List.{take-append-drop, take-append-le, append-nil, take_all}
 use Rattle.ide_base.specs.declared.shelf.ShelfFault.{ShelfFault}
 use Rattle.ide_base.specs.Outside.{Contents, ReadAt, ReadOf, ReadFrom}
 use Rattle.line_runs.specs.Gain.{Text, IsFront}
-use Rattle.line_runs.specs.Front.{FrontIn, FrontOf, Gave, GaveOf, bytes_of, IsReadIn, IsReadOf, IsWholeIn, IsWholeOf, ReadsOn}
+use Rattle.line_runs.specs.Front.{FrontIn, FrontOf, Gave, GaveBehind, GaveOf, bytes_of, IsReadIn, IsReadOf, IsWholeIn, IsWholeOf, ReadsOn}
 
 pub empty : (xs : Text) → length xs ≡ 0 → xs ≡ []
 empty [] e = refl
@@ -79,3 +79,8 @@ gave_in (Some file) read before now (rest, e) gave = (length read, omega (arith,
 pub gave_of : (told : Option Contents) (name read : Text) (before now : ℕ) → IsReadOf told name read → Gave before (length read) now → GaveOf told name before now
 gave_of None name read before now is gave = tt
 gave_of (Some contents) name read before now is gave = gave_in (contents name) read before now is gave
+
+-- at a place, and then behind it
+pub gave_on : (told : Option Contents) (name : Text) (at a b c : ℕ) → Gave a at b → GaveBehind told name at b c → GaveOf told name a c
+gave_on None name at a b c gave more = tt
+gave_on (Some contents) name at a b c gave (n, le, more) = (at + n, le, (omega (arith, gave.0, more.0), omega (arith, gave.1, more.1)))

@@ -41,6 +41,12 @@ abbrev pub GaveOf : Option Contents → Text → ℕ → ℕ → Type 0
 GaveOf None name before now = Unit {0}
 GaveOf (Some contents) name before now = (n : ℕ) × (n ≤ length (bytes_of (contents name))) × Gave before n now
 
+-- and no more than it has behind a place
+abbrev pub GaveBehind : Option Contents → Text → ℕ → ℕ → ℕ → Type 0
+GaveBehind None name at before now = Unit {0}
+GaveBehind (Some contents) name at before now = (n : ℕ) × (at + n ≤ length (bytes_of (contents name)))
+    × Gave before n now
+
 -- ---- piece by piece
 
 -- what was read is a front of the file

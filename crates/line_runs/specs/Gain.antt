@@ -19,6 +19,10 @@ IsFront front text = (rest : Text) × (front ++ rest ≡ text)
 abbrev pub GainedFront : Option Text → Option Text → Text → Type 0
 GainedFront before now text = (front : Text) × IsFront front text × Gained before now front
 
+-- the sink gained at least this text
+abbrev pub GainedMore : Option Text → Option Text → Text → Type 0
+GainedMore before now text = (more : Text) × Gained before now (text ++ more)
+
 -- all of a text was written, or a front of it
 abbrev pub WritesAll : Option Text → Option Text → Text → Result (Unit {0}) SinkFault → Type 0
 WritesAll before now text (Ok u) = Gained before now text

@@ -1,12 +1,13 @@
 -- A file that is read in pieces, whose text is gathered before it is written.
-use Rattle.std.specs.Prelude.{ℕ, ◌≡◌, ◌==◌, ◌≤◌, Bool, true, List, [], ◌∷◌, ◌++◌, length, take, Option, Some, None, Result, Ok, Err, if◌then◌else◌}
+use Rattle.std.specs.Prelude.{ℕ, ◌+◌, ◌≡◌, ◌==◌, ◌≤◌, Bool, true, List, [], ◌∷◌, ◌++◌, length, take, Option, Some, None, Result, Ok, Err, if◌then◌else◌}
 use Rattle.ide_base.specs.Outside.{Contents, Rose, ShelfSeen, SinkSeen}
 use Rattle.text_lines.specs.Pieces.{pieces}
 use Rattle.link_events.specs.declared.fault.LineFault.{LineFault}
 use Rattle.line_runs.specs.declared.ends.End.{End}
 use Rattle.line_runs.specs.declared.ends.Fault.{Fault}
+use Rattle.line_runs.specs.declared.ends.Fault.TheVariants as fault
 use Rattle.line_runs.specs.Front.{Gave, bytes_of}
-use Rattle.line_runs.specs.Gain.{Text, Gained}
+use Rattle.line_runs.specs.Gain.{Text, Gained, GainedMore}
 use Rattle.line_runs.specs.Lines.{after, process, unended}
 use Rattle.line_runs.specs.Outcome.{CutOff, Due, IsWholeLines, Ran}
 
@@ -63,7 +64,7 @@ PieceRan due later before now (Err e) = (over : Bool) (left : Text) → EndsIn (
 abbrev pub limit_due : ℕ → Text → ℕ → Due
 limit_due n before byte = unended n (if byte == 10 then before else before ++ byte ∷ [])
 
--- ---- where the reading ends in a fault
+-- ---- where a fault ends the run
 
 -- the text that is due of some bytes of a file that goes on behind them: that of the lines that ended in them
 abbrev pub ended_text : {S : Type 0} → (S → ℕ → Text → Result (S × Text) LineFault) → (S → Text) → S → Text → Text
@@ -79,22 +80,38 @@ last_piece (piece ∷ next ∷ rest) = last_piece (next ∷ rest)
 abbrev pub open_line : Text → Text
 open_line bytes = last_piece (pieces bytes)
 
--- So many bytes of the file were given, the line that has begun in them has at most 20,000, and the sink gained the text
--- of those; a file that is not there has no bytes.
-pub record WroteEndedIn (text : Text → Text) (file : Text) (shelf shelf_now : ShelfSeen) (sink sink_now : SinkSeen)
-    : Type 0 where
-  pub n : ℕ
-  pub within : n ≤ length file
-  pub gave : Gave shelf.given n shelf_now.given
-  pub short : length (open_line (take n file)) ≤ 20000
-  pub gained : Gained sink.held sink_now.held (text (take n file))
+-- how many of the bytes that were given may wait at a fault: none at one of reading, and at another those of the last read
+abbrev pub waiting_at : Fault → ShelfSeen → ℕ
+waiting_at fault.Read shelf = 0
+waiting_at fault.Write shelf = shelf.latest
+waiting_at fault.Memory shelf = shelf.latest
 
-abbrev pub WroteEndedOf : (Text → Text) → Option Contents → Text → ShelfSeen → ShelfSeen → SinkSeen → SinkSeen → Type 0
-WroteEndedOf text None name shelf shelf_now sink sink_now = Unit {0}
-WroteEndedOf text (Some contents) name shelf shelf_now sink sink_now = WroteEndedIn text (bytes_of (contents name))
-    shelf
-    shelf_now sink sink_now
+-- the sink gained exactly this text at a fault of reading, and at another at least this
+abbrev pub GainedAt : Fault → Option Text → Option Text → Text → Type 0
+GainedAt fault.Read before now text = Gained before now text
+GainedAt fault.Write before now text = GainedMore before now text
+GainedAt fault.Memory before now text = GainedMore before now text
+
+-- So many bytes of the file were given, all of which but those that may wait were run: the line that has begun in these
+-- has at most 20,000, and the sink gained the text that is due of them. A file that is not there has no bytes.
+pub record WroteEndedIn (e : Fault) (text : Text → Text) (file : Text) (shelf shelf_now : ShelfSeen)
+    (sink sink_now : SinkSeen) : Type 0 where
+  pub given : ℕ
+  pub ran : ℕ
+  pub within : given ≤ length file
+  pub gave : Gave shelf.given given shelf_now.given
+  pub most : ran ≤ given
+  pub all_but : given ≤ ran + waiting_at e shelf_now
+  pub short : length (open_line (take ran file)) ≤ 20000
+  pub gained : GainedAt e sink.held sink_now.held (text (take ran file))
+
+abbrev pub WroteEndedOf : Fault → (Text → Text) → Option Contents → Text → ShelfSeen → ShelfSeen → SinkSeen → SinkSeen
+    → Type 0
+WroteEndedOf e text None name shelf shelf_now sink sink_now = Unit {0}
+WroteEndedOf e text (Some contents) name shelf shelf_now sink sink_now = WroteEndedIn e text (bytes_of (contents name))
+    shelf shelf_now sink sink_now
 
 -- where the shelf tells its contents
-abbrev pub WroteEnded : (Text → Text) → Text → ShelfSeen → ShelfSeen → SinkSeen → SinkSeen → Type 0
-WroteEnded text name shelf shelf_now sink sink_now = WroteEndedOf text shelf.contents name shelf shelf_now sink sink_now
+abbrev pub WroteEnded : Fault → (Text → Text) → Text → ShelfSeen → ShelfSeen → SinkSeen → SinkSeen → Type 0
+WroteEnded e text name shelf shelf_now sink sink_now = WroteEndedOf e text shelf.contents name shelf shelf_now sink
+    sink_now

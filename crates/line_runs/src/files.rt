@@ -1,6 +1,6 @@
 //! A file of lines, from its name to what is written for it.
 ghost use Rattle.std.specs.Prelude.{◌≡◌, ◌≢◌, ◌≤◌, ◌<◌, ◌+◌, ◌++◌, ℕ, List, Ok, IfOk, IfErr, length, option_map, take};
-ghost use Rattle.ide_base.specs.Outside.{Given, ShelfCause};
+ghost use Rattle.ide_base.specs.Outside.{Given, ShelfCause, given_by};
 ghost use Rattle.line_runs.specs.Front.{AskedPieces, Gave, IsReadOf, ReadsOn};
 ghost use Rattle.line_runs.specs.Gathering.{WroteEnded, ended_text, limit_due};
 ghost use Rattle.line_runs.specs.Lines.{file_due};
@@ -32,6 +32,7 @@ fn read_piece<S: Shelf>(
     ensures counts { IfOk result (λ n. at < 16777216 → at + n ≤ 16777216) }
     ensures one { IfOk result (λ n. at ≡ 16777216 → n ≤ 1) }
     ensures counted { Given (S.seen shelf.old).given (S.seen shelf.new).given result }
+    ensures latest { (S.seen shelf.new).latest ≡ given_by result }
     ensures pieces { AskedPieces (S.seen shelf.old).longest (S.seen shelf.new).longest }
     ensures cause { ShelfCause (S.seen shelf.old).faults (S.seen shelf.new).faults (S.seen shelf.old).contents name.now
         result }
@@ -67,8 +68,7 @@ pub fn run_file<S: Shelf, O: Sink, W: LineWork>(
     ensures end { IfOk result (λ e. e ≢ End.Usage) }
     ensures answers { RanOn (λ contents. option_map (file_due W.advance W.closing work.old) (contents name.now))
         (S.seen shelf.old) (S.seen shelf.new) (O.seen out.old) (O.seen out.new) result }
-    ensures read_fault { IfErr result (λ e. e ≡ Fault.Read → WroteEnded (ended_text W.advance W.closing work.old)
-        name.now
+    ensures so_far { IfErr result (λ e. WroteEnded e (ended_text W.advance W.closing work.old) name.now
         (S.seen shelf.old) (S.seen shelf.new) (O.seen out.old) (O.seen out.new)) }
     ensures cap { (S.seen shelf.new).given ≤ (S.seen shelf.old).given + 16777217 }
     ensures pieces { AskedPieces (S.seen shelf.old).longest (S.seen shelf.new).longest }

@@ -1,7 +1,7 @@
 //! The front of a file.
-ghost use Rattle.std.specs.Prelude.{◌≡◌, ◌≤◌, ◌<◌, ◌+◌, ◌^◌, length, IfOk, IfErr, OnErr};
+ghost use Rattle.std.specs.Prelude.{◌≡◌, ◌≤◌, ◌<◌, ◌+◌, ◌^◌, length, IfOk, OnErr};
 ghost use Rattle.ide_base.specs.Outside.{counted};
-ghost use Rattle.line_runs.specs.Front.{AskedPieces, FrontOf, Gave, GaveOf, IsReadOf, ReadCause, ReadsOn};
+ghost use Rattle.line_runs.specs.Front.{AskedPieces, FrontOf, Gave, GaveBehind, GaveOf, IsReadOf, ReadCause, ReadsOn};
 
 use ide_base::Shelf;
 use std::alloc::Global;
@@ -37,7 +37,9 @@ fn read_on<S: Shelf>(
     ensures given { IfOk result (λ n. (S.seen shelf.new).given ≡ counted (S.seen shelf.old).given n) }
     ensures cap { (S.seen shelf.new).given ≤ (S.seen shelf.old).given + length piece.old }
     ensures pieces { AskedPieces (S.seen shelf.old).longest (S.seen shelf.new).longest }
-    ensures stopped { IfErr result (λ e. e ≡ Stop.Fault → (S.seen shelf.new).given ≡ (S.seen shelf.old).given) }
+    ensures within { IsReadOf (S.seen shelf.old).contents name.now bytes.old.items → GaveBehind
+        (S.seen shelf.old).contents name.now (length bytes.old.items) (S.seen shelf.old).given
+        (S.seen shelf.new).given }
     ensures cause { ReadCause (S.seen shelf.old).faults (S.seen shelf.new).faults (S.seen shelf.old).contents name.now
         result }
 {
@@ -66,8 +68,7 @@ pub fn read_front<S: Shelf>(
     ensures given { IfOk result (λ v. Gave (S.seen shelf.old).given (length v.items) (S.seen shelf.new).given) }
     ensures cap { (S.seen shelf.new).given ≤ (S.seen shelf.old).given + most }
     ensures pieces { AskedPieces (S.seen shelf.old).longest (S.seen shelf.new).longest }
-    ensures stopped { IfErr result (λ e. e ≡ Stop.Fault → GaveOf (S.seen shelf.old).contents name.now
-        (S.seen shelf.old).given (S.seen shelf.new).given) }
+    ensures within { GaveOf (S.seen shelf.old).contents name.now (S.seen shelf.old).given (S.seen shelf.new).given }
     ensures cause { ReadCause (S.seen shelf.old).faults (S.seen shelf.new).faults (S.seen shelf.old).contents name.now
         result }
 {

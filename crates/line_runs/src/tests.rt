@@ -44,19 +44,25 @@ fn copied(alloc: Global, line: &[u8]) -> Result<Bytes, Memory>
     Ok(Bytes::new(text))
 }
 
-// What comes of a file of these bytes, where the reads of these numbers fail.
-fn ran(
+// What comes of a file of these bytes, where the reads and the puts of these numbers fail.
+fn ran_failing(
     alloc: Global,
     bytes: &[u8],
-    failing: &[u64],
+    reads: &[u64],
+    puts: &[u64],
 ) -> Result<(Result<End, Fault>, MemSink), Fail> {
     let name = String::from_str(alloc, "a")?;
     let bytes = bytes.to_vec(alloc)?;
     let files = vec![in alloc; NamedFile { name, bytes }]?;
-    let mut shelf = MemShelf::new(files, Vec::from_slice(alloc, failing)?);
-    let mut out = MemSink::new(alloc, Vec::new(alloc));
+    let mut shelf = MemShelf::new(files, Vec::from_slice(alloc, reads)?);
+    let mut out = MemSink::new(alloc, Vec::from_slice(alloc, puts)?);
     let end = run_file(alloc, &mut Copies(alloc), "a", &mut shelf, &mut out);
     Ok((end, out))
+}
+
+// Where the reads of these numbers fail.
+fn ran(alloc: Global, bytes: &[u8], reads: &[u64]) -> Result<(Result<End, Fault>, MemSink), Fail> {
+    ran_failing(alloc, bytes, reads, &[])
 }
 
 #[test]
@@ -124,6 +130,27 @@ fn writes_piece_by_piece(rt: HostRuntime) -> Result<(), Fail> {
     assert_eq!(rt; end, Ok(End::Done));
     assert!(rt; out.bytes().starts_with(&bytes));
     assert!(rt; out.bytes().ends_with(b"\nd\nend"));
+    Ok(())
+}
+
+// 4,096 lines in the first piece, one in the second, and the text behind the last: each is put at once, and ahead of the
+// read that comes next, which would fail.
+#[test]
+fn puts_once_a_piece(rt: HostRuntime) -> Result<(), Fail> {
+    let alloc = rt.alloc();
+    let mut bytes = vec![in alloc; b'\n'; 4096]?;
+    bytes.extend_from_slice(b"a\n")?;
+    for (n, front) in [0, 4096, 4098].iter().enumerate() {
+        let n = n as u64;
+        let (end, out) = ran_failing(alloc, &bytes, &[n + 1], &[n])?;
+        assert_eq!(rt; end, Err(Fault::Write), "at put {n}");
+        assert!(rt;
+            out.bytes() == bytes.as_slice().get(..*front).unwrap_or(&[]),
+            "at put {n}"
+        );
+    }
+    let (end, _) = ran_failing(alloc, &bytes, &[3], &[3])?;
+    assert_eq!(rt; end, Ok(End::Done));
     Ok(())
 }
 

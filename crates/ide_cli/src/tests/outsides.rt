@@ -26,6 +26,7 @@ fn text(alloc: Global) -> Result<String, Fail> {
 struct Narrow {
     inner: MemShelf,
     given: u64,
+    latest: usize,
     longest: usize,
     faults: u64,
 }
@@ -34,6 +35,7 @@ impl Shelf for Narrow {
     ghost seen = { λ s. record {
       contents = None;
       given = s.given;
+      latest = s.latest;
       longest = s.longest;
       faults = s.faults;
     } };
@@ -48,9 +50,11 @@ impl Shelf for Narrow {
         match self.inner.read(name, at, &mut buf[..most]) {
             Ok(n) => {
                 self.given = self.given.saturating_add(n as u64);
+                self.latest = n;
                 Ok(n)
             }
             Err(e) => {
+                self.latest = 0;
                 self.faults = self.faults.saturating_add(1);
                 Err(e)
             }
@@ -83,6 +87,7 @@ fn make_narrow(alloc: Global, failing: &[u64]) -> Result<Narrow, Fail> {
     Ok(Narrow {
         inner: MemShelf::new(files, Vec::from_slice(alloc, failing)?),
         given: 0,
+        latest: 0,
         longest: 0,
         faults: 0,
     })

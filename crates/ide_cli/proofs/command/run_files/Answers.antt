@@ -1,10 +1,9 @@
 use Rattle.std.proofs.Common.{option_map, refl}
-use Rattle.line_runs.proofs.FileFronts.{not_read}
 use Rattle.line_runs.proofs.WholeFiles.{redue}
 use Rattle.ide_cli.specs.Script.{script_due}
 use Rattle.ide_cli.specs.Meaning.{run_due}
 use Rattle.ide_cli.specs.SoFar.{run_so_far, script_given}
-use Rattle.ide_cli.proofs.Loads.{cut_by_load, gave_more, later, none_so_far, nothing_yet, ran_whole, run_after, run_ended, sound_is_short}
+use Rattle.ide_cli.proofs.Loads.{cut_by_load, gave_more, in_topology, later, no_line_wrote, nothing_yet, ran_whole, run_after, run_ended, sound_is_short}
 use Rattle.ide_cli.proofs.command.run_files.Goals as goal
 
 pub returns-in-Err-clause-answers : goal.returns-in-Err-clause-answers
@@ -30,17 +29,22 @@ returns-in-Ok-Sound-clause-whole g c =
     let few = rw c.in-Ok-Sound.field-0-is at c.in-Ok-Sound.ensures.few in
     ran_whole c.run_script.result _ _ _ (few (sound_is_short c.in-Ok-Sound.plan)) c.run_script.ensures.whole
 
-pub returns-in-Err-clause-read_fault : goal.returns-in-Err-clause-read_fault
-returns-in-Err-clause-read_fault g c = λ is.
-    nothing_yet (λ contents n. run_so_far (contents c.args.topology.now) (contents c.args.script.now) n)
-    (λ contents n. script_given (contents c.args.topology.now) (contents c.args.script.now) n) c.args.topology.now (g.S.Shelf.seen c.args.shelf.now) (g.S.Shelf.seen c.load.new.shelf) (g.O.Sink.seen c.args.out.now)
-    (λ contents n le. none_so_far (contents c.args.topology.now) (contents c.args.script.now) n le) (c.in-Err.ensures.stopped is)
+pub returns-in-Err-clause-so_far : goal.returns-in-Err-clause-so_far
+returns-in-Err-clause-so_far g c =
+    nothing_yet c.in-Err.e (λ contents n. run_so_far (contents c.args.topology.now) (contents c.args.script.now) n)
+    (λ contents n. script_given (contents c.args.topology.now) (contents c.args.script.now) n)
+    (g.S.Shelf.seen c.args.shelf.now) (g.S.Shelf.seen c.load.new.shelf) (g.O.Sink.seen c.args.out.now)
+    (in_topology (g.S.Shelf.seen c.args.shelf.now).contents c.args.topology.now c.args.script.now _ _ c.in-Err.ensures.within)
 
-pub returns-in-Ok-Sound-clause-read_fault : goal.returns-in-Ok-Sound-clause-read_fault
-returns-in-Ok-Sound-clause-read_fault g c =
+pub returns-in-Ok-Sound-clause-so_far : goal.returns-in-Ok-Sound-clause-so_far
+returns-in-Ok-Sound-clause-so_far g c =
     let all = rw c.in-Ok-Sound.field-0-is at c.in-Ok-Sound.ensures.all in
     run_ended c.args.topology.now c.args.script.now c.in-Ok-Sound.plan (g.S.Shelf.seen c.args.shelf.now) (g.S.Shelf.seen c.load.new.shelf) (g.S.Shelf.seen c.run_script.new.shelf) (g.O.Sink.seen c.args.out.now)
-    (g.O.Sink.seen c.run_script.new.out) c.run_script.result c.in-Ok-Sound.ensures.same (rw c.in-Ok-Sound.field-0-is at c.in-Ok-Sound.ensures.loads) (all (sound_is_short c.in-Ok-Sound.plan)) c.run_script.ensures.read_fault
+    (g.O.Sink.seen c.run_script.new.out) c.run_script.result c.in-Ok-Sound.ensures.same (rw c.in-Ok-Sound.field-0-is at c.in-Ok-Sound.ensures.loads) (all (sound_is_short c.in-Ok-Sound.plan)) c.run_script.ensures.so_far
 
-pub returns-in-Ok-Faulty-clause-read_fault : goal.returns-in-Ok-Faulty-clause-read_fault
-returns-in-Ok-Faulty-clause-read_fault g c = not_read _ _ _ c.refuse.result _ c.refuse.ensures.ran
+pub returns-in-Ok-Faulty-clause-so_far : goal.returns-in-Ok-Faulty-clause-so_far
+returns-in-Ok-Faulty-clause-so_far g c =
+    no_line_wrote (λ contents n. run_so_far (contents c.args.topology.now) (contents c.args.script.now) n)
+    (λ contents n. script_given (contents c.args.topology.now) (contents c.args.script.now) n) _
+    (g.S.Shelf.seen c.args.shelf.now) (g.S.Shelf.seen c.load.new.shelf) (g.O.Sink.seen c.args.out.now) (g.O.Sink.seen c.refuse.new.out) c.refuse.result
+    (in_topology (g.S.Shelf.seen c.args.shelf.now).contents c.args.topology.now c.args.script.now _ _ c.in-Ok-Faulty.ensures.within) c.refuse.ensures.ran

@@ -1,6 +1,5 @@
 use Rattle.link_history.specs.Plan.{key_plan}
 use Rattle.ide_cli.specs.Headline.{said}
-use Rattle.ide_cli.proofs.Stops.{status_read}
 use Rattle.ide_cli.proofs.Written.{all_written, written_is_due}
 use Rattle.ide_cli.proofs.top.run.Goals as goal
 
@@ -94,5 +93,5 @@ returns-clause-order_law g c plan h w =
     h w in
     λ forged. c.order_law.ensures plan is.fits h is.cause forged (c.totals_fit.ensures plan h is.cause is.few)
 
-pub returns-clause-read_fault : goal.returns-clause-read_fault
-returns-clause-read_fault g c = status_read c.status_of.result c.perform.result _ c.status_of.ensures (rw c.as_slice-words.ensures.value at c.perform.ensures.read_fault)
+pub returns-clause-so_far : goal.returns-clause-so_far
+returns-clause-so_far g c = rw c.status_of.ensures (rw c.as_slice-words.ensures.value at c.perform.ensures.so_far)

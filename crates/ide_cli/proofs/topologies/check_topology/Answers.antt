@@ -1,9 +1,8 @@
 use Rattle.std.proofs.Common.{[], option_map, ap, refl}
-use Rattle.line_runs.proofs.FileFronts.{not_read}
 use Rattle.line_runs.proofs.WholeFiles.{ran_after}
 use Rattle.ide_cli.specs.declared.topologies.Loaded.TheVariants.{Long}
 use Rattle.ide_cli.specs.Topologies.{check_due, loaded, report}
-use Rattle.ide_cli.proofs.Loads.{checked_whole, cut_by_load, due_loaded, nothing_yet}
+use Rattle.ide_cli.proofs.Loads.{checked_whole, cut_by_load, due_loaded, no_line_in_file, no_line_wrote, nothing_yet}
 use Rattle.ide_cli.proofs.topologies.check_topology.Goals as goal
 
 pub returns-in-Err-clause-answers : goal.returns-in-Err-clause-answers
@@ -20,9 +19,14 @@ returns-in-Ok-clause-answers g c =
 pub returns-in-Ok-clause-whole : goal.returns-in-Ok-clause-whole
 returns-in-Ok-clause-whole g c = checked_whole Long c.in-Ok.loaded c.report.result _ _ c.in-Ok.ensures.few c.report.ensures.few
 
-pub returns-in-Err-clause-read_fault : goal.returns-in-Err-clause-read_fault
-returns-in-Err-clause-read_fault g c = λ is.
-    nothing_yet (λ contents n. []) (λ contents n. []) c.args.topology.now (g.S.Shelf.seen c.args.shelf.now) (g.S.Shelf.seen c.load.new.shelf) (g.O.Sink.seen c.args.out.now) (λ contents n le. (refl, refl)) (c.in-Err.ensures.stopped is)
+pub returns-in-Err-clause-so_far : goal.returns-in-Err-clause-so_far
+returns-in-Err-clause-so_far g c =
+    let told = (g.S.Shelf.seen c.args.shelf.now).contents in
+    nothing_yet c.in-Err.e (λ contents n. []) (λ contents n. []) (g.S.Shelf.seen c.args.shelf.now) (g.S.Shelf.seen c.load.new.shelf) (g.O.Sink.seen c.args.out.now)
+    (no_line_in_file (λ contents n. []) (λ contents n. []) told c.args.topology.now _ _ (λ contents n le. (refl, refl)) c.in-Err.ensures.within)
 
-pub returns-in-Ok-clause-read_fault : goal.returns-in-Ok-clause-read_fault
-returns-in-Ok-clause-read_fault g c = not_read (report c.in-Ok.loaded) _ _ c.report.result _ c.report.ensures.ran
+pub returns-in-Ok-clause-so_far : goal.returns-in-Ok-clause-so_far
+returns-in-Ok-clause-so_far g c =
+    let told = (g.S.Shelf.seen c.args.shelf.now).contents in
+    no_line_wrote (λ contents n. []) (λ contents n. []) (report c.in-Ok.loaded) (g.S.Shelf.seen c.args.shelf.now) (g.S.Shelf.seen c.load.new.shelf) (g.O.Sink.seen c.args.out.now) (g.O.Sink.seen c.report.new.out) c.report.result
+    (no_line_in_file (λ contents n. []) (λ contents n. []) told c.args.topology.now _ _ (λ contents n le. (refl, refl)) c.in-Ok.ensures.within) c.report.ensures.ran

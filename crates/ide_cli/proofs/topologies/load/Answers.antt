@@ -4,7 +4,7 @@ use Rattle.topology.specs.Meaning.{plan_of}
 use Rattle.line_runs.specs.Gain.{Text}
 use Rattle.ide_cli.specs.declared.topologies.Loaded.TheVariants.{Long}
 use Rattle.ide_cli.specs.Topologies.{by_plan, loaded}
-use Rattle.ide_cli.proofs.Loads.{gave_all, gave_few, gave_long, loads_front}
+use Rattle.ide_cli.proofs.Loads.{gave_all, gave_few, gave_long, given_within, loads_front}
 use Rattle.ide_cli.proofs.topologies.load.Goals as goal
 
 pub returns-in-Ok-clause-loads : goal.returns-in-Ok-clause-loads
@@ -26,3 +26,6 @@ pub returns-in-Ok-clause-all : goal.returns-in-Ok-clause-all
 returns-in-Ok-clause-all g c =
     let P : Text → Type 0 = λ t. IfOk c.judge.result (λ l. l ≢ Long → length t ≤ 1048576) in
     gave_all Long (g.S.Shelf.seen c.args.shelf.now).contents c.args.name.now c.in-Ok.front.items c.judge.result _ _ c.in-Ok.ensures.bytes c.in-Ok.ensures.given (subst P c.deref.ensures.value c.judge.ensures.few)
+
+pub returns-in-Ok-clause-within : goal.returns-in-Ok-clause-within
+returns-in-Ok-clause-within g c = given_within (g.S.Shelf.seen c.args.shelf.now).contents c.args.name.now c.in-Ok.front.items 1048577 _ _ c.in-Ok.ensures.bytes c.in-Ok.ensures.given

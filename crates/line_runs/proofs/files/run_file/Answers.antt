@@ -1,9 +1,10 @@
 use Rattle.std.proofs.Common.{◌≡◌, ◌∙◌, ◌++◌, Ok, Err, option_map, take, length, length-take, refl, true, [], arith}
 use Rattle.std.proofs.Math.Nat.{le-max_left}
 use Rattle.std.specs.List.{slice_index_or}
+use Rattle.line_runs.specs.declared.ends.Fault.TheVariants as fault
 use Rattle.line_runs.specs.Gathering.{due_behind}
 use Rattle.line_runs.specs.Lines.{file_due}
-use Rattle.line_runs.proofs.FileFronts.{end_at_limit, end_in_piece, end_of_file, fault_answers, fault_wrote, file_begins, file_goes_on, not_read, one_byte, whole_at}
+use Rattle.line_runs.proofs.FileFronts.{cut_wrote, end_at_limit, end_in_piece, end_of_file, fault_answers, fault_wrote, file_begins, file_goes_on, nothing_more, nothing_wrote, one_byte, whole_at}
 use Rattle.line_runs.proofs.WholeFiles.{out_of_memory}
 use Rattle.line_runs.proofs.files.run_file.Goals as goal
 
@@ -33,13 +34,24 @@ returns-in_default-read_piece-clause-answers g c =
     (g.S.Shelf.seen c.read_piece.new.shelf)
     (g.O.Sink.seen c.args.out.now) (g.O.Sink.seen c.loop-n.out) c.in_default-read_piece.field-0 inv.so_far inv.most (omega arith) (rw (inv.same, inv.faults) at c.in_default-read_piece.ensures.cause)
 
-pub returns-in_default-read_piece-clause-read_fault : goal.returns-in_default-read_piece-clause-read_fault
-returns-in_default-read_piece-clause-read_fault g c =
+pub returns-in_default-clause-so_far : goal.returns-in_default-clause-so_far
+returns-in_default-clause-so_far g c = nothing_wrote g.W.LineWork.advance g.W.LineWork.closing c.args.work.now c.args.name.now (g.S.Shelf.seen c.args.shelf.now) (g.O.Sink.seen c.args.out.now)
+
+pub returns-in_default-read_piece-clause-so_far : goal.returns-in_default-read_piece-clause-so_far
+returns-in_default-read_piece-clause-so_far g c =
     let inv = c.loop-n.invariant in
     let same = c.in_default-read_piece.ensures.counted in
-    λ is. fault_wrote g.W.LineWork.advance g.W.LineWork.closing c.args.work.now c.args.name.now c.loop-n.at c.loop-n.lines.number c.loop-n.work c.loop-n.lines.unended.items (g.S.Shelf.seen c.args.shelf.now)
-    (g.S.Shelf.seen c.read_piece.new.shelf)
-    (g.O.Sink.seen c.args.out.now) (g.O.Sink.seen c.loop-n.out) inv.so_far (omega arith) (omega (arith, inv.given, same), omega (arith, inv.cap, same))
+    fault_wrote g.W.LineWork.advance g.W.LineWork.closing c.args.work.now fault.Read c.args.name.now c.loop-n.at c.loop-n.lines.number c.loop-n.work c.loop-n.lines.unended.items [] (g.S.Shelf.seen c.args.shelf.now)
+    (g.S.Shelf.seen c.read_piece.new.shelf) (g.O.Sink.seen c.args.out.now) (g.O.Sink.seen c.loop-n.out) (g.O.Sink.seen c.loop-n.out) inv.so_far (nothing_more (g.S.Shelf.seen c.args.shelf.now).contents c.args.name.now inv.so_far.front inv.so_far.is_read)
+    (omega arith) (omega arith) (omega (arith, inv.given, same), omega (arith, inv.cap, same)) (λ text was. was)
+
+pub returns-then-n-eq0-clause-so_far : goal.returns-then-n-eq0-clause-so_far
+returns-then-n-eq0-clause-so_far g c =
+    let inv = c.loop-n.invariant in
+    let counted = c.in-Ok-read_piece.ensures.counted in
+    cut_wrote g.W.LineWork.advance g.W.LineWork.closing c.args.work.now c.args.name.now c.loop-n.at c.loop-n.lines.number c.loop-n.work c.loop-n.lines.unended.items [] (g.S.Shelf.seen c.args.shelf.now)
+    (g.S.Shelf.seen c.read_piece.new.shelf) (g.O.Sink.seen c.args.out.now) (g.O.Sink.seen c.loop-n.out) (g.O.Sink.seen c.run_last.new.out) _ c.run_last.result inv.so_far (nothing_more (g.S.Shelf.seen c.args.shelf.now).contents c.args.name.now inv.so_far.front inv.so_far.is_read)
+    (omega arith) (omega arith) (omega (arith, inv.given, counted, c.if-n-eq0.true), omega (arith, inv.cap, counted, c.if-n-eq0.true)) c.run_last.ensures.ran
 
 pub returns-then-n-eq0-clause-answers : goal.returns-then-n-eq0-clause-answers
 returns-then-n-eq0-clause-answers g c =
@@ -60,6 +72,17 @@ returns-then-at-eq-FILE_LIMIT-clause-answers g c =
     c.in-Ok-read_piece.ensures.bound reads)
     (c.in-Ok-read_piece.ensures.cause ∙ inv.faults) c.run_limit.ensures.ran
 
+pub returns-then-at-eq-FILE_LIMIT-clause-so_far : goal.returns-then-at-eq-FILE_LIMIT-clause-so_far
+returns-then-at-eq-FILE_LIMIT-clause-so_far g c =
+    let inv = c.loop-n.invariant in
+    let n = c.in-Ok-read_piece.n in
+    let counted = c.in-Ok-read_piece.ensures.counted in
+    let reads = (rw inv.same at c.in-Ok-read_piece.ensures.bytes) inv.so_far.front inv.so_far.size inv.so_far.is_read in
+    let size : length (take n c.read_piece.new.buf) ≡ n = omega (arith, length-take n c.read_piece.new.buf, c.in-Ok-read_piece.ensures.bound) in
+    cut_wrote g.W.LineWork.advance g.W.LineWork.closing c.args.work.now c.args.name.now c.loop-n.at c.loop-n.lines.number c.loop-n.work c.loop-n.lines.unended.items (take n c.read_piece.new.buf) (g.S.Shelf.seen c.args.shelf.now)
+    (g.S.Shelf.seen c.read_piece.new.shelf) (g.O.Sink.seen c.args.out.now) (g.O.Sink.seen c.loop-n.out) (g.O.Sink.seen c.run_limit.new.out) _ c.run_limit.result inv.so_far reads.0 (omega arith)
+    (omega (arith, size, c.in-Ok-read_piece.ensures.latest)) (omega (arith, inv.given, counted, size), omega (arith, inv.cap, counted, size)) c.run_limit.ensures.ran
+
 pub returns-in-Err-clause-answers : goal.returns-in-Err-clause-answers
 returns-in-Err-clause-answers g c =
     let inv = c.loop-n.invariant in
@@ -69,9 +92,17 @@ returns-in-Err-clause-answers g c =
     (g.S.Shelf.seen c.args.shelf.now) (g.S.Shelf.seen c.read_piece.new.shelf) (g.O.Sink.seen c.args.out.now) (g.O.Sink.seen c.loop-n.out) (g.O.Sink.seen c.run_piece.new.out) (Err c.in-Err.e) inv.so_far reads.0 (omega (arith, size))
     (omega (arith, size, c.in-Ok-read_piece.ensures.counts)) (c.in-Ok-read_piece.ensures.cause ∙ inv.faults) c.in-Err.ensures.ran
 
-pub returns-in-Err-clause-read_fault : goal.returns-in-Err-clause-read_fault
-returns-in-Err-clause-read_fault g c = not_read (due_behind g.W.LineWork.advance g.W.LineWork.closing true c.loop-n.lines.number c.loop-n.work c.loop-n.lines.unended.items (take c.in-Ok-read_piece.n c.read_piece.new.buf ++ [])) _ _
-    (Err c.in-Err.e) _ (c.in-Err.ensures.ran true [])
+pub returns-in-Err-clause-so_far : goal.returns-in-Err-clause-so_far
+returns-in-Err-clause-so_far g c =
+    let inv = c.loop-n.invariant in
+    let n = c.in-Ok-read_piece.n in
+    let counted = c.in-Ok-read_piece.ensures.counted in
+    let reads = (rw inv.same at c.in-Ok-read_piece.ensures.bytes) inv.so_far.front inv.so_far.size inv.so_far.is_read in
+    let size : length (take n c.read_piece.new.buf) ≡ n = omega (arith, length-take n c.read_piece.new.buf, c.in-Ok-read_piece.ensures.bound) in
+    cut_wrote g.W.LineWork.advance g.W.LineWork.closing c.args.work.now c.args.name.now c.loop-n.at c.loop-n.lines.number c.loop-n.work c.loop-n.lines.unended.items (take n c.read_piece.new.buf) (g.S.Shelf.seen c.args.shelf.now)
+    (g.S.Shelf.seen c.read_piece.new.shelf) (g.O.Sink.seen c.args.out.now) (g.O.Sink.seen c.loop-n.out) (g.O.Sink.seen c.run_piece.new.out)
+    (due_behind g.W.LineWork.advance g.W.LineWork.closing true c.loop-n.lines.number c.loop-n.work c.loop-n.lines.unended.items (take c.in-Ok-read_piece.n c.read_piece.new.buf ++ [])) (Err c.in-Err.e) inv.so_far reads.0 (omega arith)
+    (omega (arith, size, c.in-Ok-read_piece.ensures.latest)) (omega (arith, inv.given, counted, size), omega (arith, inv.cap, counted, size)) (c.in-Err.ensures.ran true [])
 
 pub returns-in-Ok-Some-clause-answers : goal.returns-in-Ok-Some-clause-answers
 returns-in-Ok-Some-clause-answers g c =

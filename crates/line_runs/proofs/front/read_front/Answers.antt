@@ -1,7 +1,6 @@
-use Rattle.std.proofs.Common.{arith, refl}
+use Rattle.std.proofs.Common.{arith, length, refl}
 use Rattle.std.proofs.Math.Nat.{le-max_left}
-use Rattle.std.proofs.lemmas.Result.{err_from_is_err_and}
-use Rattle.line_runs.proofs.Fronts.{gave_of, start, whole}
+use Rattle.line_runs.proofs.Fronts.{gave_of, gave_on, start, whole}
 use Rattle.line_runs.proofs.front.read_front.Goals as goal
 
 pub loop-buf-init : goal.loop-buf-init
@@ -21,10 +20,17 @@ returns-then-n-eq0-clause-bytes g c =
     let got = rw c.loop-buf.invariant.same at c.in_ok-n.ensures.bytes in
     whole told c.args.name.now c.read_on.new.bytes.items c.args.most ((got c.loop-buf.invariant.read).1 c.if-n-eq0.true) (omega (arith, c.in_ok-n.ensures.more, c.in_ok-n.ensures.bound))
 
-pub returns-in_err-n-clause-stopped : goal.returns-in_err-n-clause-stopped
-returns-in_err-n-clause-stopped g c =
+pub returns-in_err-n-clause-within : goal.returns-in_err-n-clause-within
+returns-in_err-n-clause-within g c =
     let inv = c.loop-buf.invariant in
-    let p = err_from_is_err_and c.from_residual.result c.from_residual.ensures.1 in
-    rw (p.1, p.2)
-    (λ is. gave_of (g.S.Shelf.seen c.args.shelf.now).contents c.args.name.now c.loop-buf.bytes.items _ _ inv.read
-    (let same = c.in_err-n.ensures.stopped is in (omega (arith, inv.given, same), omega (arith, inv.cap, same))))
+    gave_on (g.S.Shelf.seen c.args.shelf.now).contents c.args.name.now (length c.loop-buf.bytes.items) _ _ _ (inv.given, inv.cap) ((rw inv.same at c.in_err-n.ensures.within) inv.read)
+
+pub returns-then-n-eq0-clause-within : goal.returns-then-n-eq0-clause-within
+returns-then-n-eq0-clause-within g c =
+    let inv = c.loop-buf.invariant in
+    gave_on (g.S.Shelf.seen c.args.shelf.now).contents c.args.name.now (length c.loop-buf.bytes.items) _ _ _ (inv.given, inv.cap) ((rw inv.same at c.in_ok-n.ensures.within) inv.read)
+
+pub returns-clause-within : goal.returns-clause-within
+returns-clause-within g c =
+    let inv = c.loop-buf.invariant in
+    gave_of (g.S.Shelf.seen c.args.shelf.now).contents c.args.name.now c.loop-buf.bytes.items _ _ inv.read (inv.given, inv.cap)
