@@ -112,8 +112,8 @@ impl Shelf for MemShelf {
         ensures counted { Given (⟦<MemShelf as Shelf>⟧.seen self.old).given (⟦<MemShelf as Shelf>⟧.seen self.new).given
             result }
         ensures latest { (⟦<MemShelf as Shelf>⟧.seen self.new).latest ≡ given_by result }
-        ensures asked { (⟦<MemShelf as Shelf>⟧.seen self.new).longest ≡ max (⟦<MemShelf as Shelf>⟧.seen self.old).longest
-            (length buf.new) }
+        ensures asked { (⟦<MemShelf as Shelf>⟧.seen self.new).longest
+            ≡ max (⟦<MemShelf as Shelf>⟧.seen self.old).longest (length buf.new) }
         ensures cause { ShelfCause (⟦<MemShelf as Shelf>⟧.seen self.old).faults
             (⟦<MemShelf as Shelf>⟧.seen self.new).faults
             (⟦<MemShelf as Shelf>⟧.seen self.old).contents name.now result }

@@ -8,8 +8,8 @@ pub struct ShelfFault;
 
 /// Files that are read by name, in pieces (this profile).
 pub trait Shelf {
-    /// The contents by name, which a shelf need not tell; how many bytes its last read gave; how many one read asked for
-    /// at most; and up to the last value of 64 bits how many bytes the shelf gave, and how many reads failed.
+    /// The contents by name, which a shelf need not tell; how many bytes its last read gave; how many one read asked
+    /// for at most; and up to the last value of 64 bits how many bytes the shelf gave, and how many reads failed.
     ghost seen: { Self → ShelfSeen };
 
     /// Reads bytes of the file of this name from place `at` on into the front of `buf`, and answers how

@@ -105,14 +105,14 @@ pub fn run<S: Shelf, O: Sink>(
     // Where a file could not be read on, the sink has gained exactly what is due to those lines of the script, or of
     // the packet file, that ended in the bytes that were given, and of the next line at most 20,000 bytes were; where
     // the topology was not wholly read, the sink has gained nothing. Nor does a line wait while a later piece is read:
-    // where text could not be written, or for want of memory, at least what is due to the lines that ended in all of the
-    // bytes given but those of the last read was written.
+    // where text could not be written, or for want of memory, at least what is due to the lines that ended in all of
+    // the bytes given but those of the last read was written.
     ensures so_far { IfErr (outcome_of result) (λ e. WroteSoFar (said words.now) e (S.seen shelf.old)
         (S.seen shelf.new) (O.seen out.old) (O.seen out.new)) }
 
-    // Of each file that the words name, one byte more is read than count, and of no other any; and no read asks for more
-    // than 4,096 bytes. A file is too long where that byte was given, and a file that was read to its end has no more
-    // than count.
+    // Of each file that the words name, one byte more is read than count, and of no other any; and no read asks for
+    // more than 4,096 bytes. A file is too long where that byte was given, and a file that was read to its end has no
+    // more than count.
     ensures cap { (S.seen shelf.new).given ≤ (S.seen shelf.old).given + most_read (asked (said words.now)) }
     ensures pieces { AskedPieces (S.seen shelf.old).longest (S.seen shelf.new).longest }
     ensures too_long { result ≡ Status.TooLong → ReadPast (asked (said words.now)) (S.seen shelf.old).given

@@ -80,7 +80,8 @@ last_piece (piece ∷ next ∷ rest) = last_piece (next ∷ rest)
 abbrev pub open_line : Text → Text
 open_line bytes = last_piece (pieces bytes)
 
--- how many of the bytes that were given may wait at a fault: none at one of reading, and at another those of the last read
+-- how many of the bytes that were given may wait at a fault: none at one of reading, and at another those of the last
+-- read
 abbrev pub waiting_at : Fault → ShelfSeen → ℕ
 waiting_at fault.Read shelf = 0
 waiting_at fault.Write shelf = shelf.latest

@@ -133,8 +133,8 @@ fn writes_piece_by_piece(rt: HostRuntime) -> Result<(), Fail> {
     Ok(())
 }
 
-// 4,096 lines in the first piece, one in the second, and the text behind the last: each is put at once, and ahead of the
-// read that comes next, which would fail.
+// 4,096 lines in the first piece, one in the second, and the text behind the last: each is put at once, and ahead of
+// the read that comes next, which would fail.
 #[test]
 fn puts_once_a_piece(rt: HostRuntime) -> Result<(), Fail> {
     let alloc = rt.alloc();
