@@ -1,4 +1,5 @@
-//! Both ports of a link whose only stream is 5: arrivals without keys, a write from the device to the host, T, and keys.
+//! Both ports of a link whose only stream is 5: arrivals without keys, a write from the device to the host, T, and
+//! keys.
 
 ghost use Rattle.std.specs.Prelude.{◌<◌};
 

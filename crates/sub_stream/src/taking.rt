@@ -143,7 +143,8 @@ pub fn take_under(
         Some result ≡ answer_of (judged begun.front allowed x (packet_of_view packet.now)) }
     ensures buffer { let x = live_with units unit.old.packets (record { key = cipher.now; draw = draw }) in
         let begun = begun_where_empty unit.old (lent_front front.entry) (units + 1) in
-        BufferAfter begun x (packet_of_view packet.now) (judged begun.front allowed x (packet_of_view packet.now)) unit.new }
+        BufferAfter begun x (packet_of_view packet.now)
+        (judged begun.front allowed x (packet_of_view packet.now)) unit.new }
     ensures mode { unit.new.mode ≡ unit.old.mode }
 {
     carried_head();

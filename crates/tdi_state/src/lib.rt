@@ -1,4 +1,5 @@
-//! A device interface: its registers, its four states, what a lock keeps, and the report of that lock (TDISP, PCI Express Base 6.0 with the ECN's chapter 11, in this profile). Only `Interface::make` takes memory.
+//! A device interface: its registers, its four states, what a lock keeps, and the report of that lock (TDISP, PCI
+//! Express Base 6.0 with the ECN's chapter 11, in this profile). Only `Interface::make` takes memory.
 #![tactic(auto)]
 
 mod bars;

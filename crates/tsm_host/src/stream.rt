@@ -111,7 +111,8 @@ impl StreamKeys {
             pool.new ≡ unless (refusal_of operation self.old.op host pool.old) pool.old (begun_pool w pool.old) }
         ensures calls { let host = host_view P.status_of P.live_of port.old self.old.id in
             let w = work_of operation self.old.op pool.old.draws in
-            let calls = unless (refusal_of operation self.old.op host pool.old) [] (begun_calls w pool.old self.old.id) in
+            let refusal = refusal_of operation self.old.op host pool.old in
+            let calls = unless refusal [] (begun_calls w pool.old self.old.id) in
             CallsMove P.slots P.unfinished P.moves port.old calls port.new }
     {
         if let Some(refusal) = self.stage.refusal(port, self.id, operation) {

@@ -44,7 +44,11 @@ impl Model for UnitBuf {
     ghost Value = { Collected };
 
     ghost view = { λ u.
-        record { mode = u.mode; front = take u.front u.heads.items; packets = parts u.heads.items u.bodies.items u.front 0 u.ends.items } };
+        record {
+          mode = u.mode;
+          front = take u.front u.heads.items;
+          packets = parts u.heads.items u.bodies.items u.front 0 u.ends.items;
+        } };
 
     ghost invariant = { λ u. IsLaidOut u.mode u.front u.ends.items u.heads.items u.bodies.items
         (vec_capacity u.heads) (vec_capacity u.bodies) };
