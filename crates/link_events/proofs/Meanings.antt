@@ -1,4 +1,7 @@
--- A line means an event exactly where it spells it.
+-- A line means an event exactly where it spells it. It goes by the first word and then word by word: a reading that
+-- came to an event passed each of its steps, and the word of each step spells the value that the step gave; the other
+-- way round, with words that spell an event each step gives its value. The marks of a send are tried for each side and
+-- number of words.
 use Rattle.std.proofs.Common.{true, false, nat_lt, not, ◌&&◌, ◌≡◌, ◌≤◌, ℕ, List, [], ◌∷◌, Bool, Option, Some, None, Result, Ok, Err, length, refl, ◌∙◌, ap, ap₂, subst, arith, codes, inl, inr}
 use Rattle.std.specs.Prelude.{if◌then◌else◌}
 use Rattle.std.specs.List.{list_all}
