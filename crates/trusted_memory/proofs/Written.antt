@@ -1,4 +1,7 @@
--- One write in one page.
+-- One write in one page: what is read at each address afterwards is the write over what was read before, and a new page
+-- of bytes 0 changes no byte. An address in the page of the write is reached as its place is in the page, both counted
+-- from its first byte; one in another page is not reached, as the write crosses no 4 KiB boundary. Regions read the
+-- same, since one region has the whole write, and so each byte that it enables.
 use Rattle.std.proofs.Common.{◌≡◌, ◌≢◌, ℕ, ◌+◌, ◌-◌, ◌*◌, ◌/◌, ◌%◌, ◌<◌, ◌≤◌, Bool, true, false, cond, ◌&&◌, ◌||◌, eqb, leb, ltb, List, [], length, map, get_or, replicate, Option, Some, None, unwrap_or, is_some, not, refl, sym, ap, ◌∙◌, inl, inr, arith}
 use Rattle.std.specs.Ordering.{nat_cmp}
 use Rattle.std.specs.BTreeMap.{is_at}
