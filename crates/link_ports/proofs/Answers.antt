@@ -1,4 +1,7 @@
--- The answer of the machine to a packet is the one that is due.
+-- The answer of the machine to a packet is the one that is due. On a stream that has not failed, the receivers that
+-- stand for the history have a Live slot exactly where the set's draw is On, with the units got and the packets held
+-- under it, so that each check in turn sees what the history says. Their counts are the history's only while the stream
+-- has a Live key, which a draw that is On provides.
 use Rattle.link_ports.proofs.Terms.{◌≡◌, ℕ, ◌+◌, Bool, true, false, List, [], ◌∷◌, ◌++◌, map, Option, Some, None, Ok, Err, option_map, refl, ap, sym, ◌∙◌, subst, arith, if◌then◌else◌, not, ◌||◌, Accepted, at_sub, base, checked, Cpl, each_sub, effect_of, Failed, failed, front_of, got_in, has_live_in, Held, History, holds_any, Insecure, is_allowed, is_closed, is_keyed, is_mixed, is_on, is_overfull, is_tagged, is_verified, key_in, key_of, Keys, keys_at, lane_in, live_in, LiveKey, meets_counts, mode_of, NotKeyed, Npr, on_draw, on_in, Packet, pending, Plan, PortName, Pr, receiving, rx_slots, rx_standing, RxSub, settled, slot_in, Slots, standing, SubKind, SubStream, sum_by-append, Taken, taken_by, taken_under, Three, under_keys, unit_under, units_got, units_since, Verdict, verdict_of}
 use Rattle.ide_types.specs.declared.sub.FailCause.TheVariants as fail
 use Rattle.link_verdicts.specs.declared.verdict.Verdict.TheVariants as v

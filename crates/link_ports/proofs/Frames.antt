@@ -1,4 +1,7 @@
--- What a pair leaves as it was at a port and stream.
+-- What a pair leaves as it was at a port and stream: all of it, where the event is no operation on the stream and the
+-- verdict tells of no packet that the port sealed, held, accepted or failed there. It goes part by part: keys and Base
+-- stay by `KeyFacts`, what was sealed, got and held by the verdict, and a failure as the stream still has a Live key;
+-- senders and receivers are put together from these parts.
 use Rattle.link_ports.proofs.Terms.{◌≡◌, ℕ, ◌==◌, Bool, true, false, List, [], ◌∷◌, length, refl, ap, sym, ◌∙◌, subst, arith, if◌then◌else◌, ◌&&◌, ◌||◌, after_ends, ahead_in, any_out, base, CauseLaw, Cpl, each_sub, ends_at, Event, failed, failed_there, fails_at, got_in, got_since, has_live, has_live_in, has_live_out, held, History, is_out, is_same, is_same_port, Keyed, KeyFacts, Keys, keys_at, lane_in, lane_out, Loaded, nat_tests, not_here, Npr, Off, On, operates, Plan, PortName, posted_elsewhere, posted_in, posted_sum, Pr, received_in, rx_slot, rx_slots, rx_standing, RxSub, same_in, sealed_packets, SealedList, SealedPacket, Send, sent_elsewhere, sent_in, Slots, standing, StreamState, sub_stream_of, SubKind, SubStream, total_elsewhere, total_in, tx_slot, tx_slots, tx_standing, TxSub, UnitName, units, units_got, units_since, Verdict, with_sealed}
 use Rattle.link_verdicts.specs.declared.verdict.Verdict.TheVariants as v
 use Rattle.link_keys.proofs.Failures.{failed_next}

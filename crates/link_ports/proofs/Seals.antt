@@ -1,4 +1,7 @@
--- What one sealed packet does to the senders of a stream.
+-- What the packets of one send do to the senders of a stream: they are the packets of the history, and the senders
+-- stand for the list with them. It goes by induction on the packets, each of a sub-stream of its own, so that the later
+-- ones still fit. In its sub-stream the unit of the Live key goes on; where it ends, a draw that waits, under which
+-- nothing was sealed, becomes Live (the hard case). In the others at most the posted count rises.
 use Rattle.link_ports.proofs.Terms.{◌≡◌, ℕ, ◌+◌, ◌==◌, Bool, true, false, List, [], ◌∷◌, ◌++◌, map, Option, Some, Ok, refl, ap, sym, ◌∙◌, subst, arith, length-append, append_assoc, if◌then◌else◌, not, ◌&&◌, nat_le, after_ends, append-nil, AreOther, at_sub, body, counted, each_sub, ended_keys, ended_slots, ends_at, eqb-refl, front_with, gone_on, head_bytes, header, in_lane, is_in, is_same, is_same_port, is_same_port-refl, is_same_sub, kept_at, key_in, key_of, Keys, lane_is, lane_out, lesser, Live, live_sender, LiveKey, map-append, nat_tests, On, open_unit, Packet, packet_of, packet_under, Plan, PortName, posted-more, posted-own, posted-same, posted_in, posted_of, Pr, read_of, same_sub, sealed_all, sealed_slots, sealed_sub, SealedList, SealedPacket, sealing_key, sent-same, sent_in, sent_in-snoc, Slot, Slots, sub_bits, sub_stream_of, SubKind, SubStream, Three, Tlp, total-same, total-snoc, total_in, tx_slots, TxSub, units, waits, with_sealed}
 use Rattle.link_history.proofs.UnitLemmas.{units-end, units-more, open_unit-end, open_unit-more}
 use Rattle.link_ports.proofs.Frames.{each_same, tx_is, tx_slots_same}

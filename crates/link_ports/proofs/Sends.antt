@@ -1,4 +1,7 @@
--- The verdict of a send is the one that is due, and the state after it stands for the history with it.
+-- The verdict of a send is the one that is due, and the state after it stands for the history with it. It goes by the
+-- machine's own cases. With a Live key on the stream the rules of sealing see what the history says: a refusal changes
+-- nothing, and packets that are sealed fit the senders, which then stand for the list with them. Without one the kept
+-- counts are 0, whatever the history counts, but the TLP is refused ahead of all counts.
 use Rattle.link_ports.proofs.Terms.{◌≡◌, ℕ, ◌+◌, ◌==◌, Bool, true, false, List, [], ◌∷◌, ◌++◌, length, map, Option, Some, None, Result, Ok, Err, refl, ap, sym, ◌∙◌, subst, arith, if◌then◌else◌, ◌&&◌, ◌||◌, is_some, is_none, unwrap_or, after_ends, ahead_in, and_false, answered, any_out, AreFalse, base, body, CauseLaw, choice, Cpl, described, due, due_on, due_read, each_sub, failed, find, first_that_holds, front_of, has_key, has_live_out, has_port, has_stream, head_bytes, header, History, is_closed, is_keyed, is_keyless, is_on, is_out, is_quiet, is_same_port, is_same_sub, kept_at, KeyFacts, KeyName, Keys, keys_at, lane_out, Lanes, lanes_at, lanes_of, length-map, lesser, LinkPacket, LinkState, listed, live_key, mode_of, needs_posted, needs_sync, no_key, none_holds, Npr, on_live, operates, Packet, Plan, PortName, PortsStand, posted_in, Pr, put, read_of, refusals, sealed_all, sealed_by, sealed_by_is, sealed_in, sealed_packets, SealedList, SealedPacket, Send, send_as, send_found, send_on, send_read, Sending, sent_as, standing, StreamState, SubKind, Three, Tlp, tlp_word, total_in, tx_slots, TxSub, Verdict, with_sealed}
 use Rattle.link_verdicts.specs.declared.verdict.Verdict.TheVariants as v
 use Rattle.tlp_layout.specs.declared.fault.TlpFault.{TlpFault}

@@ -1,4 +1,7 @@
--- The state after an answer stands for the history with it.
+-- The state after an answer stands for the history with it. A failure drops what is held in each sub-stream; a packet
+-- that is held changes the slot of its key set alone, as the other set has another draw. The hard case is an accepted
+-- unit: it is counted from Base on, a smaller draw in the other set ends, and nothing stays held, since nothing is ever
+-- held for a unit beyond the next.
 use Rattle.link_ports.proofs.Terms.{◌≡◌, ℕ, ◌+◌, ◌==◌, Bool, true, false, List, [], ◌∷◌, ◌++◌, length, Some, refl, ap, sym, ◌∙◌, arith, length-append, not, ◌||◌, nat_lt, nat_le, Accepted, accepted_keys, accepted_slots, accepted_sub, arrived_packet, at_sub, base, CauseLaw, counted, Cpl, dropped, dropped_held, each_sub, eqb-refl, eqb-sym, Event, Failed, failed, fails_at, gone_on, got_in, got_since, has_live_in, has_live_out, Held, held, held_in, held_sub, History, is_of, is_same, is_same-refl, is_same_port-refl, key_in, Keyed, KeyFacts, Keys, keys_at, lane_in, Loaded, nat_tests, Npr, Off, On, on_draw, on_in, operates, Packet, pending, Plan, PortName, posted_sum, Pr, receiving, retired, rx_slot, rx_slots, rx_standing, RxSub, set_sub, slot_in, standing, state_after, sub_bits, SubKind, SubStream, sum_by-append, unit_name, UnitName, units_got, units_since, unless_below, Verdict, with_slot}
 use Rattle.link_verdicts.specs.declared.verdict.Verdict.TheVariants as v
 use Rattle.ide_types.specs.declared.sub.FailCause.{FailCause}
