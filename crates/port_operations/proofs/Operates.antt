@@ -1,4 +1,7 @@
--- An event of an operation moves the keys of its stream at both ports, each move allowed.
+-- An event of an operation moves the keys of its stream at both ports, each move allowed: at each place its touches are
+-- such moves, by what the place's earlier touches say of the packets there. The hard part is a direction that comes to
+-- have its first Live key: a refresh finds one and a stop brings none, so it is an establish, whose draw is then Base,
+-- and under draws from it on nothing was sealed or got.
 use Rattle.port_operations.proofs.Terms.{◌≡◌, ℕ, ◌≤◌, Bool, true, false, Option, Some, List, [], ◌∷◌, refl, ap, sym, ◌∙◌, subst, arith, ◌||◌, ◌&&◌, ◌==◌, if◌then◌else◌, AllAllowedIn, AllAllowedOut, AllCome, base, behind, busy_in, CauseLaw, ClearTouch, Cpl, draws_made, due, end_at, eqb-refl, Establish, Event, failed, got_same, got_since, has_live_in, has_live_out, History, in_keyed, is_quiet, IsOperation, key_cause, key_of, key_plan, keyed_there, Keys, keys, keys_at, keys_into, keys_moved_in, keys_moved_out, keys_out, keys_there, lane_in, lane_out, Loss, manager, moments, Move, moves_at, Npr, Off, Op, op_of, Operated, operates, Operation, out_keyed, pending, Place, place, Plan, port_at, PortName, ports_at, posted_in, Pr, quiet_seals_none, Reach, reach_of, Refresh, sealed_packets, sealed_same, Side, since_same, started, Stop, StopTouch, SubKind, SubStream, total_in, Touch, touches, units_since, used, Verdict, with_key, Work, work_of, worked}
 use Rattle.link_verdicts.specs.declared.verdict.Operation.TheVariants as op
 use Rattle.ide_prefix.specs.Packet.{Packet}

@@ -1,4 +1,7 @@
--- A reset leaves what stands for the history with it; the first state stands for the empty history.
+-- A reset leaves what stands for the history with it; the first state stands for the empty history. In both no place in
+-- question has a key, and a stream without keys stands as the empty one: all its counts are 0, and it has not failed.
+-- The rest is of lists: the rows of both ports and of the manager are filled anew, and those of other links stay; in
+-- the first state all rows are such, by induction on the links.
 use Rattle.port_operations.proofs.Terms.{◌≡◌, ◌≢◌, ℕ, zero, suc, ◌+◌, ◌*◌, ◌==◌, Bool, true, false, Some, None, List, [], ◌∷◌, length, map, refl, ap, sym, ◌∙◌, subst, arith, if◌then◌else◌, ◌&&◌, ◌||◌, is_some, slice_set, base, clears, Cpl, Device, draws_made, due, each_sub, empty_stream, eqb-refl, facts, failed, failed_next, failed_there, fails_at, find, find_op, first_ports, FirstStands, found, get_or-set_other, get_or-set_same, got_in, has_live_in, has_live_out, History, Host, Idle, is_on, kept_all, Keys, keys, keys_at, keys_into, keys_out, lane_in, lane_out, LinkState, manager, moments, nat_tests, no_keys, Npr, Op, op_at, op_of, operates, Plan, port_at, port_place, PortName, PortsStand, posted_count, posted_sum, Pr, Reset, reset_state, rx_slots, sealed_packets, sealed_same, sent_direction, Side, slice_index_or, standing, standing_at, StandsFor, stays, stream_plan, streams_by_link, streams_of, StreamState, SubKind, total_in, tx_slots, units_since, with_id, within}
 use Rattle.link_verdicts.specs.declared.verdict.Verdict.TheVariants as v
 use Rattle.ide_plan.specs.declared.stream.StreamPlan.{StreamPlan}

@@ -1,4 +1,7 @@
--- An operation's touches of a place are moves of its keys, each allowed.
+-- An operation's touches of a place are moves of its keys, each allowed. It goes by induction on the touches, for
+-- senders and for receivers; a KEY_PROG can be the first alone, so the keys before the operation say whether it is
+-- refused. Moves are allowed by bounds that hold in each shape of the keys: a draw that waits for its GO is greater
+-- than the one that is On and than all that were used or got GO, and one that waits for the older one was not used.
 use Rattle.port_operations.proofs.Terms.{◌≡◌, ℕ, ◌<◌, ◌≤◌, Bool, true, false, List, [], ◌∷◌, refl, ap, sym, ◌∙◌, subst, arith, not, if◌then◌else◌, AllAllowedIn, AllAllowedOut, AllCome, AllowedIn, AllowedOut, behind, busy_in, ClearTouch, Comes, Go, Goes, GoTouch, Halt, History, is_open, key_in, key_moved_in, key_moved_out, Keys, keys, keys_moved_in, keys_moved_out, keys_of, Loaded, Move, moves_of, nat_tests, new_key, no_keys, Off, On, Plan, PortName, Program, ProgramTouch, receiving_key, refuses, SealedList, sent_in, settled, Shape, Sound, started, StopTouch, SubStream, Touch, touched, used, waits, with_key}
 
 -- touches of an operation: a KEY_PROG comes first
