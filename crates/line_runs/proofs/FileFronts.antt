@@ -1,4 +1,7 @@
--- A file of which a front was run.
+-- A file of which a front was run: the run ends as is due of the whole file. By `FileSoFar` what is due of it, whatever
+-- is left, is the text of the lines that ended and then what is due from the open line on. Each end puts its own rest
+-- in: any at a line that ends the run, none at the end of the file, one byte at the limit (hard: a line feed there ends
+-- nothing). At a fault nothing is due of the open line, which has at most 20,000 bytes.
 use Rattle.std.proofs.Common.{◌≡◌, ◌==◌, ◌∙◌, ℕ, zero, suc, ◌+◌, ◌-◌, ◌<◌, ◌≤◌, List, [], ◌∷◌, ◌++◌, length, Bool, true, false, Option, Some, None, Result, Ok, Err, refl, sym, ap, ap₂, inl, inr, ◌⊎◌, subst, arith, append_assoc, length-append, nat_lt, take, option_map}
 use Rattle.std.specs.Prelude.{if◌then◌else◌, nat_lt, IfErr}
 use Rattle.std.specs.List.{slice_index_or}

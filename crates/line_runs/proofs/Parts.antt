@@ -1,4 +1,7 @@
--- A file that is run in pieces comes to what is due of the whole.
+-- A file that is run in pieces comes to what is due of the whole. By induction on the bytes of a front, its lines are
+-- those of the whole, but for the last, which goes on in what comes later. So each line that ends in a piece, and each
+-- rest that is kept, takes what is due one step on, whatever is left; and `SoFar` joins such steps, with the text that
+-- they wrote or gathered. A rest that is too long ends the run, as its line can only be longer.
 use Rattle.std.proofs.Common.{◌≡◌, ◌==◌, ◌∙◌, ℕ, ◌+◌, List, [], ◌∷◌, ◌++◌, length, Bool, true, false, cond, Option, Some, None, Result, Ok, Err, refl, sym, ap, inl, inr, arith, append_assoc, length-append, nat_lt}
 use Rattle.std.specs.Prelude.{IfOk}
 use Rattle.std.specs.List.{onto_first}
