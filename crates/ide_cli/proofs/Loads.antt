@@ -1,4 +1,7 @@
--- A topology that was read, and what runs after it.
+-- A topology that was read, and what runs after it: what was loaded is what the whole file comes to, and what is due
+-- then is the script's. One byte more is read than counts: where it comes the file is too long, and else what was read
+-- is the whole file. Given bytes add up: within the topology's length no line is due, and those behind it are the
+-- script's, so that a fault there leaves what it leaves of the script alone.
 use Rattle.std.proofs.Common.{◌≡◌, ◌≢◌, ◌≤◌, ◌<◌, ◌+◌, ◌-◌, ℕ, [], length, length-take, take, true, false, Bool, Option, Some, None, Result, Ok, Err, refl, sym, ap, inr, subst, ◌∙◌, arith, option_map}
 use Rattle.std.specs.Prelude.{IfErr, IfOk, nat_lt}
 use Rattle.std.proofs.lemmas.Bool.Decides.{nat_tests}
