@@ -1,4 +1,7 @@
--- The ring of polynomials acts on blocks, and GHASH block by block is the sum of products.
+-- The ring of polynomials acts on blocks, and GHASH block by block is the sum of products. A polynomial acts by steps
+-- that multiply by x, which are linear, so sums and products of polynomials act as they should, and the sum of products
+-- follows by induction on the blocks. A remainder modulo 1 + x + x² + x⁷ + x¹²⁸ has the bits of what its polynomial
+-- makes of the block of the polynomial 1: both take the same step at each coefficient.
 use Rattle.std.proofs.Common.{◌≡◌, ℕ, zero, suc, ◌+◌, ◌*◌, ◌/◌, ◌%◌, ◌^◌, ◌<◌, ◌≤◌, ◌==◌, Bool, true, false, List, [], ◌∷◌, ◌++◌, length, take, get_or, replicate, lit<, bit_and, bit_xor, refl, sym, ap, ◌∙◌, arith, inl, inr, eq-eqb}
 use Rattle.std.specs.Prelude.{if◌then◌else◌}
 use Rattle.std.proofs.Math.Numerals.{one-add}

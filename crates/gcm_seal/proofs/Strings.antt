@@ -1,4 +1,7 @@
--- Blocks, counters and masks as lists of bytes.
+-- Blocks, counters and masks as lists of bytes: a masked string is combined byte by byte with the key stream, and the
+-- blocks that are hashed are those that the code reads. The key stream goes by induction on its blocks, so that byte k
+-- is byte k % 16 of one encrypted counter block; a block is fixed by its 16 bytes, so neither zeros behind a string nor
+-- what stands ahead of it in whole blocks changes one.
 use Rattle.std.proofs.Common.{replicate, append_assoc, append-nil, slice_range, ◌≡◌, ℕ, zero, suc, ◌+◌, ◌-◌, ◌*◌, ◌/◌, ◌%◌, ◌^◌, ◌<◌, ◌≤◌, List, [], ◌∷◌, ◌++◌, length, take, drop, bit_xor, slice_index, refl, sym, ap, ◌∙◌, arith, inl, inr, lit<}
 use Rattle.std.proofs.lemmas.List.{get_or-take, get_or-replicate, get_or_past, length-replicate, get_or_append_left, get_or-append_right, get_or-drop, length-append, length-drop, drop_all, take_all, take-append-le, drop-append-le}
 use Rattle.std.proofs.lemmas.Bool.{cases_lt}
