@@ -1,4 +1,7 @@
--- What a place holds, by the manager's state of its stream.
+-- What a place holds, by the manager's state of its stream: each event of an operation leads from keys that fit the
+-- state before it to keys that fit the state after it. A key rises, or in a stop falls, with the exchanges that were
+-- acknowledged, and the end is split by whether the last one was. The hard case is a lost reply: the device may be one
+-- exchange ahead of the manager, so a state leaves both open, and the exchange may come again.
 use Rattle.key_laws.proofs.Terms.{◌≡◌, ℕ, ◌+◌, ◌<◌, ◌≤◌, Bool, true, false, List, [], ◌∷◌, ◌++◌, refl, subst, arith, nat_lt, not, if◌then◌else◌, SubKind, Side, Host, Device, Operation, Place, lane, Touch, Stop, Clear, Off, key_in}
 use Rattle.key_laws.proofs.Terms.{refuses, is_open, keys, Op, Idle, Establishing, Up, Refreshing, Stopping, Work, Reach, work, last_of, op_after, op_ended, op_standing, is_within, when, behind, program_at, go_at, from_at, below_at, keyed}
 use Rattle.key_laws.proofs.Terms.{stopped, uses, NeverFalls, not-not, nat_tests}

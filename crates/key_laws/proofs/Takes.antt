@@ -1,4 +1,7 @@
--- Which places take the key of an operation.
+-- Which places take the key of an operation, here of a refresh. The device's places do since no KEY_PROG that was
+-- acknowledged was refused, the host's senders since a refresh begins only where no Live key of theirs is in the set,
+-- and the host's receivers since the set holds no key that is On, or the older of two. Where a refresh goes on, the
+-- host's port has its keys, and only the device's places are left.
 use Rattle.key_laws.proofs.Terms.{◌≡◌, ℕ, ◌<◌, ◌≤◌, Bool, true, false, List, sym, ◌∙◌, arith, SubKind, Side, Host, Device, Touch, Keys, refuses, keys, slot_of, is_live, Reach, work, PortView, is_refused, is_live_sender, nat_tests}
 use Rattle.link_verdicts.specs.declared.verdict.Operation.TheVariants as op
 use Rattle.key_laws.proofs.Shapes.{Marks, marks, Shape, keys_of, Sound}

@@ -1,4 +1,7 @@
--- After each pair of a history each place fits the state of its stream.
+-- After each pair of a history each place fits the state of its stream. By induction on the history, and for each kind
+-- of event by the operation's state and how far it comes; on other streams nothing changes but the number of draws. The
+-- hard case is a refresh, where each place has to take the key (Takes); sends and arrivals use only keys that are Live
+-- or On, as is supposed of them, and those are of draws that were made.
 use Rattle.key_laws.proofs.Terms.{and-false, ◌≡◌, ℕ, suc, ◌≤◌, ◌==◌, ◌⊎◌, inl, inr, Bool, true, false, Option, Some, None, List, [], ◌∷◌, ◌++◌, length, refl, subst, arith, nat_lt, not, ◌&&◌, if◌then◌else◌, SubKind, Pr, Npr, Cpl, Host}
 use Rattle.key_laws.proofs.Terms.{Event, Loss, Operation, SealedPacket, Verdict, KeyPlan, Place, lane, is_same_side, is_same_sub, is_on_stream, Touch, Seal, Accept, Clear, keys, refuses, is_live, slot_of, Op, Idle, Establishing, Up}
 use Rattle.key_laws.proofs.Terms.{Refreshing, Work, Reach, Manager, Begun, work, work_of, reach_of, op_after, begun_after, operated, History, manager, op_of, draws, worked, on_it, when, is_sender, sealed_here, came, touches, moments}
