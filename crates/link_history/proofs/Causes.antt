@@ -1,4 +1,6 @@
--- What an accepted and a held verdict tell, where they were due.
+-- What an accepted, a held and a sealed verdict tell, where they were due. `tells` goes down the rule for each kind of
+-- event to the send, or to the packet that the event brought; no other way leads to one of the three. From there each
+-- test that gives another verdict must have gone the other way, and these tests are what the records list.
 use Rattle.link_history.proofs.Terms.{Bool, Err, List, None, Ok, Option, Result, Some, [], ap, arith, false, length, refl, subst, sym, true, ℕ, ◌+◌, ◌∙◌, ◌∷◌, ◌≡◌, unwrap_or, key_due, Ending, Sending, arrival_due, before_tag}
 use Rattle.link_history.proofs.Terms.{before_tag_of, choice, due, dump_due, effect_of, ended, first_that_holds, is_mixed, is_overfull, is_verified, lanes_at, receiving, refusals, sealed_by, send_on, send_read, unit_under, Arrival}
 use Rattle.link_history.proofs.Terms.{arrived, arrived_packet, cut_packet, failed, meets_counts, on_draw, packet_at, packet_in, received_in, sealed_packets, units_got, is_quiet, SubStream, has_link, has_port, has_stream, stream_plan}
