@@ -1,4 +1,7 @@
--- No unit is open of a draw that was overtaken, where the newer one is On at the receiver.
+-- No unit is open of a draw that was overtaken, where the newer one is On at the receiver. By induction on the history,
+-- a unit of a draw from Base on is open only while the draw is Live at its sender or, the hard case, after a stop or a
+-- reset, until an establish raises Base. A Live draw is none below what was sealed. After a stop the host's port has no
+-- key: it has sealed nothing newer where it is the sender, and no draw is On there where it is the receiver.
 use Rattle.link_history.proofs.Terms.{Bool, List, None, Option, Some, [], ap, arith, false, inl, inr, length, refl, slice_get, subst, subst₂, suc, sym, true, ℕ, ◌++◌, ◌<◌, ◌==◌, ◌∙◌, ◌∷◌, ◌≡◌, ◌≤◌, ◌⊎◌, nat_tests, Side, StreamStatus}
 use Rattle.link_history.proofs.Terms.{Loss, Operation, PortView, establish_on, ports_at, refresh_on, base, behind, came, draws, manager, moments, on_it, op_of, touches, when, worked, ClearTouch, GoTouch, Loaded, ProgramTouch, Touch}
 use Rattle.link_history.proofs.Terms.{is_open, kept_in, keys, live_draw, settled, touched, Idle, Op, Reach, Stopping, Work, op_after, reach_of, work_of, is_on_stream, is_same_sub, lane, CauseLaw, SealedList, after_ends, ahead_in}

@@ -1,4 +1,7 @@
--- What the touches of a place say of the packets there.
+-- What the touches of a place say of the packets there: of draws above those used nothing was sealed, of draws above
+-- those whose GO came nothing was held or accepted, and a unit is open just where the touches say so. Each is by
+-- induction on the history, since bounds on the touches hold of the earlier ones too. A sealed packet is itself a
+-- touch; what is held or accepted was under a draw that is On, so its GO had come.
 use Rattle.link_history.proofs.Terms.{Bool, List, Some, [], ap, arith, drop, false, filter, length, length-append, refl, suc, sym, true, zero, ℕ, ◌++◌, ◌+◌, ◌-◌, ◌<◌, ◌==◌, ◌∙◌, ◌∷◌, ◌≡◌, ◌≤◌, nat_tests, append-nil, filter-append}
 use Rattle.link_history.proofs.Terms.{suffix_len, max, Pr, base, behind, draws as draws_made, is_sender, manager, moments, sealed_here, touches, when, Seal, Touch, is_open, CauseLaw, SealedList, ahead_in, ends_in, got_since, held, is_in}
 use Rattle.link_history.proofs.Terms.{is_under, keys_at, packet_of, place, posted_in, received_in, sealed_packets, sends_it, sent_in, sub_stream_of, total_in, units_got, units_since, with_sealed, SubStream, is_same, lane_in, lane_out}

@@ -1,4 +1,7 @@
--- What is used of keys holds of the keys that operations, ends of units and accepted units leave.
+-- What is used of keys holds of the keys that operations, ends of units and accepted units leave. Keys are made by the
+-- touches of a place, so each fact of a pair is by the touches that it adds: none, one for each packet that is sealed
+-- there, or one for an accepted unit. The hard case is a send: packet by packet, the shape of the keys says that the
+-- lesser of two draws that are On is the one that the last packet of a unit ends.
 use Rattle.link_history.proofs.Terms.{Bool, List, Some, [], ap, arith, false, refl, sym, true, ℕ, ◌++◌, ◌+◌, ◌<◌, ◌==◌, ◌∙◌, ◌∷◌, ◌≡◌, ◌≤◌, nat_tests, base, behind, came, draws as draws_made, is_sender, manager, moments, sealed_here}
 use Rattle.link_history.proofs.Terms.{touches, when, Accept, Seal, Touch, is_on, keys, live_draw, Op, is_on_stream, is_same_side, is_same_sub, CauseLaw, due, accepted_keys, after_ends, arrived, ended_keys, ends_at, is_keyed, keys_at}
 use Rattle.link_history.proofs.Terms.{keys_by, place, received_in, receives_it, sends_it, sub_stream_of, is_steady, operates, SubStream, is_same, is_same_port, key_plan, Effect, Establish, Event, History, Keyed, Keys, On, Place, Plan}

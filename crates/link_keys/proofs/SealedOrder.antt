@@ -1,4 +1,7 @@
--- Draws that are On against those of sealed packets and accepted units: they never fall.
+-- Draws that are On against those of sealed packets and accepted units: they never fall. A draw that is On is none
+-- below those that were used at its place, and a packet is sealed under the least that is On, so by induction on the
+-- history, and in a send packet by packet, draws rise. That packets of draws from Base on were sealed since it is Base
+-- holds because Base changes only to a draw that was not made yet, of which nothing was sealed.
 use Rattle.link_history.proofs.Terms.{Bool, List, None, Option, Some, [], ap, arith, false, filter, inl, inr, length, refl, slice_get, subst, suc, sym, true, zero, ℕ, ◌++◌, ◌+◌, ◌<◌, ◌==◌, ◌∙◌, ◌∷◌, ◌≡◌, ◌≤◌, nat_tests, slice_get_within}
 use Rattle.link_history.proofs.Terms.{max, Loss, Operation, base, begins_keyed, behind, draws, manager, moments, touches, when, Accept, Touch, Manager, Reach, operated, reach_of, work_of, is_on_stream, is_same_side, is_same_sub, CauseLaw}
 use Rattle.link_history.proofs.Terms.{due, KeyName, SealedList, ahead_in, draws_got, is_in, keys_at, lesser, packet_of, place, received_in, sealed_packets, sent_in, sub_stream_of, with_sealed, BaseStays, is_quiet, SubStream, is_same}
