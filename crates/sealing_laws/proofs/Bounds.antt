@@ -1,4 +1,7 @@
--- An open unit has room for its last packet, and no posted count passes 255.
+-- An open unit has room for its last packet, and no posted count passes 255. Both go by induction on the history, and
+-- in a send packet by packet. The hard case is a posted packet within a unit, which is why a third bound goes along:
+-- the packets still to come in an open posted unit are counted beforehand, and where such a unit begins there is room
+-- for all of it, or the count is 0. Where keys or Base change, what is new is empty.
 use Rattle.sealing_laws.proofs.Terms.{◌≡◌, ℕ, ◌+◌, ◌<◌, ◌≤◌, ◌==◌, Bool, true, false, List, [], ◌∷◌, ◌++◌, length, Option, Some, inl, inr, ◌⊎◌, refl, ap, sym, ◌∙◌, arith, length-append, if◌then◌else◌, ◌&&◌, nat_le, is_some, after_last, and_parts, cases_Bool, eqb-true, leb-true, nat_tests}
 use Rattle.sealing_laws.proofs.Terms.{SubKind, Pr, PortName, Event, Send, Verdict, SealedPacket, Packet, Prefix, Plan, SubStream, lane_out, mode_of, stream_plan, is_same, is_same_port, open_unit, History, base, ahead_in, SealedList, KeyName, sealed_packets, with_sealed, packet_of, prefix_of, sent_in, posted_in, posted_of, is_in, sub_stream_of, is_posted, CauseLaw, DrawFacts, NoneFrom, is_same_sub, same_sub, same_stream, same_port, open_unit-snoc, sent_in-snoc, posted-own, posted-more, sent_elsewhere, posted_elsewhere, any_out, is_out, in_lane, sealing_is, StreamsFit, Sealed}
 use Rattle.sealing_laws.proofs.Sums.{at_dropped, none_filtered}

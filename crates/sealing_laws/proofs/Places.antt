@@ -1,4 +1,7 @@
--- Each packet that was sealed, with its place among those of its sub-stream and draw.
+-- Each packet that was sealed, with its place among those of its sub-stream and draw: it has a spelling, the number of
+-- its unit, and room in it. By induction on the history, and in a send packet by packet, since the list grows only at
+-- its end and each packet is described by what was sealed before it; the posted count fits its byte by Bounds. Packet m
+-- of a sub-stream and draw is then found in the list of all.
 use Rattle.sealing_laws.proofs.Terms.{◌≡◌, ℕ, zero, suc, ◌+◌, ◌<◌, Bool, true, false, List, [], ◌∷◌, ◌++◌, length, Option, Some, Ok, take, refl, ap, sym, ◌∙◌, subst, arith, inl, inr, ◌⊎◌, if◌then◌else◌, slice_get, filter, map, All, AllByRecursion, cases_Bool, nat_tests, nil_from_length, All-nil}
 use Rattle.sealing_laws.proofs.Terms.{SubKind, PortName, Send, Sealed, SealedPacket, Tlp, class_of, header, body, read_of, Prefix, Packet, FitsPrefix, FitsPacket, length-masked, masked-bytes, length-tag_of, tag_of-bytes, Plan, SubStream, lane_out, mode_of, units, open_unit, History, base, ahead_in, SealedList, KeyName, sealed_packets, with_sealed, sent, sent_in, is_under, sub_stream_of, prefix_of, packet_of, untagged_packet, unit_tag, keys_at, is_posted, CauseLaw, DrawFacts, on_live, lane_is, sealing_is, StreamsFit}
 use Rattle.sealing_laws.proofs.Sums.{all_at, in_parts}
