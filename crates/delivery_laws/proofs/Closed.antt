@@ -1,4 +1,7 @@
--- On a closed stream, nothing of a newer key is accepted before all of the older ones.
+-- On a closed stream, nothing of a newer key is accepted before all of the older ones. By induction on the history; the
+-- hard case is the first unit that is accepted under its draw, whose tag covers the total of units. There the sender's
+-- total of all smaller draws from Base on is the receiver's, and since under each draw no more units were got than were
+-- sealed, each count is equal; no unit of a smaller draw is open, so all of its packets were got.
 use Rattle.sealing_laws.proofs.Terms.{◌≡◌, ℕ, suc, ◌<◌, ◌≤◌, ◌==◌, ◌&&◌, Bool, true, List, [], ◌∷◌, ◌++◌, length, take, slice_get, Some, refl, ap, sym, ◌∙◌, subst, arith, length-append, inl, inr, ◌⊎◌, if◌then◌else◌, AllByRecursion, and_parts, both_ways, cases_Bool, eqb-true, nat_tests, append-nil, take_all}
 use Rattle.sealing_laws.proofs.Terms.{PortName, Event, Verdict, Accepted, UnitName, Effect, Packet, Plan, SubStream, is_same, is_closed, units, open_unit, is_of, is_under, sealed_packets, sent, received_in, arrived_packet, held, got, units_got, draws_got, total_in, front_of, front_sent, front_due, units_since, History, base, CauseLaw, DrawFacts, StreamsFit, NoForgery, NotForged, ClosedLaw, TotalsFit, same_stream, eqb-refl, joined, joined_units, ending, AcceptedBy, WasSealed, accepted_by, received_there, numbered}
 use Rattle.std.specs.Int.{w64, to_be_bytes, from_be_bytes}

@@ -1,4 +1,7 @@
--- What is delivered is a beginning of what was sent.
+-- What is delivered is a beginning of what was sent. What was sealed, opened unit by unit, is what was sent, by
+-- induction on the history: a packet joins the open unit, and its payload comes back since it was masked at its place
+-- in the unit's plaintext, and masking twice changes nothing. What was got, opened, is what was delivered; and what was
+-- got is finished units that begin what was sealed.
 use Rattle.sealing_laws.proofs.Terms.{◌≡◌, ◌≤◌, ℕ, suc, ◌+◌, true, false, List, [], ◌∷◌, ◌++◌, length, drop, Ok, Option, refl, ap, sym, ◌∙◌, subst, arith, append_assoc, length-append, length-drop, inl, inr, if◌then◌else◌, ◌==◌, map, filter, slice_index, and_parts, cases_Bool, eqb-true, append-nil, drop-append-le, take-append-le, take_all, flat_map-append}
 use Rattle.sealing_laws.proofs.Terms.{SubKind, PortName, Plan, SubStream, is_same, key_of, units, units_after, open_unit, History, base, is_under, ahead_in, SealedList, KeyName, with_sealed, sealed_packets, sent, sent_in, sub_stream_of, packet_of, arrived_packet, received_in, is_of, held, got, units_got, CauseLaw, NoForgery, Begins, units-append, units-end, units-more, open_unit-end, open_unit-more, accepted_by, packet_that_came, numbered, DrawFacts, same_stream, sent_in-snoc, sealing_is, StreamsFit, Send, Sealed, Accepted, SealedPacket, Tlp, header, body, read_of, read_spells_tlp, Packet, is_sync_packet, begins_sync, iv_of, encrypted, masked, open_of, length-masked, length-open_of, masked-masked, masked-append, SpellsHead, head_bytes, class_of, layout_of, not_sync, lane_is}
 use Rattle.link_history.specs.Delivered.{carries, tlps_sent, tlps_got, opened, with_payloads, DeliveryLaw}
