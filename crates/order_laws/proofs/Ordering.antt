@@ -1,4 +1,7 @@
--- What is accepted comes behind what was posted before it.
+-- What is accepted comes behind what was posted before it. The posted counts of a sub-stream, up to one of its packets,
+-- sum to the posted packets sealed before it, by induction on the list. The receiver has tested that its counts come to
+-- no more than the posted packets that it got; if one sealed before were missing, it got too few. The hard case is
+-- several draws: that nothing of an overtaken key is missing is from Closed, and on an open stream it is supposed.
 use Rattle.sealing_laws.proofs.Terms.{◌≡◌, ◌≢◌, ℕ, zero, suc, ◌+◌, ◌<◌, ◌≤◌, Bool, true, List, [], ◌∷◌, ◌++◌, length, filter, take, drop, sum_by, slice_get, Some, refl, ap, sym, ◌∙◌, subst, arith, length-append, inl, inr, ◌⊎◌, if◌then◌else◌, AllByRecursion, le-leb, cases_Bool, cases_lt, cases_eq, nat_tests, take-append-drop, take_all, take-take, slice_get_cases, filter-append, sum_by-append, sum_by-cons}
 use Rattle.sealing_laws.proofs.Terms.{sub_bits, Plan, SubStream, is_same, is_closed, History, base, posted_in, SealedList, sealed_packets, sent, sent_in, sub_stream_of, arrived_packet, received_in, held, got, got_since, draws_got, posted_of, meets_counts, ended, CauseLaw, NoForgery, Begins, TotalsFit, DrawFacts, StreamsFit, ending, accepted_by, sealed_same, sent_in-snoc, same_stream, is_same-refl, posted-own, posted-more, PortName, Event, Accepted, SealedPacket, UnitName, Effect, Packet}
 use Rattle.link_history.specs.Ordered.{NoneMissing, StandsAt, BehindPosted, OrderLaw}
