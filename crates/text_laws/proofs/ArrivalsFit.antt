@@ -1,4 +1,7 @@
--- The verdicts of arrivals and of dumps fit.
+-- The verdicts of arrivals and of dumps fit: their numbers have at most 64 bits, their bytes 8. What arrives is no
+-- longer than a packet that was sealed, which has a spelling of bounded size, or than an event may bring. Then each
+-- test on the way to the verdict is split: draws, units and packets are bounded by the number of events, the stream is
+-- one byte, and the place of a fault lies within the bytes.
 use Rattle.std.proofs.Common.{◌≡◌, ℕ, zero, suc, ◌+◌, ◌-◌, ◌*◌, ◌<◌, ◌≤◌, ◌==◌, ◌^◌, Bool, true, false, List, [], ◌∷◌, ◌++◌, length, take, Some, None, Option, Ok, Err, Result, slice_get, slice_index, slice_set, refl, subst, arith, length-append, length-set, length-take}
 use Rattle.std.specs.Prelude.{if◌then◌else◌, not, ◌||◌, nat_lt, nat_le, map, option_map, bit_xor, is_some}
 use Rattle.std.specs.Option.{option_and_then}
