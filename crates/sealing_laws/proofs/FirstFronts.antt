@@ -1,4 +1,7 @@
--- On a closed stream, nothing of a newer key is accepted before all of the older ones.
+-- What stands ahead of unit 1 of a draw on a closed stream: the total of the units of all smaller draws from Base on.
+-- By induction on the history: at the send that seals the first packet of the unit, the total is of what was sealed
+-- before, where no unit of this draw is finished and nothing is of a greater one; later events change no part of it
+-- (Fronts).
 use Rattle.sealing_laws.proofs.Terms.{◌≡◌, ℕ, zero, suc, ◌+◌, ◌<◌, ◌≤◌, Bool, true, false, List, [], ◌∷◌, length, take, slice_get, Some, refl, ap, sym, ◌∙◌, arith, inl, inr, AllByRecursion, list_any, both_ways, cases_Bool, or_cases, take_at, nat_tests}
 use Rattle.sealing_laws.proofs.Terms.{PortName, Send, Sealed, SealedPacket, Packet, Plan, SubStream, is_same, units, History, base, SealedList, sealed_packets, sent, sent_in, is_under, sub_stream_of, total_in, front_of, front_sent, is_of_unit, ahead_in, CauseLaw, DrawFacts, StreamsFit, same_stream, is_same-refl, IsLive, AllLive, sealing_is, all_live}
 use Rattle.sealing_laws.proofs.Places.{placed, unit_is}

@@ -1,4 +1,7 @@
--- On a closed stream, nothing of a newer key is accepted before all of the older ones.
+-- What stays while more is sealed. The list of sealed packets grows only at its end, so a packet keeps its place;
+-- sealed draws rise, so where one was sealed under, nothing of a smaller one comes behind (`sent_kept`), and Base
+-- stays, since it moves only to a draw of which nothing was sealed (`base_kept`). The rest finds packets among those of
+-- the newest send.
 use Rattle.sealing_laws.proofs.Terms.{◌≡◌, ℕ, zero, suc, ◌<◌, ◌≤◌, Bool, true, List, [], ◌∷◌, ◌++◌, length, take, slice_get, Some, refl, ap, sym, ◌∙◌, subst, arith, append_assoc, length-append, inl, inr, ◌⊎◌, AllByRecursion, list_any, or_cases, or_left, or_right, nat_tests, slice_get_cases, append-nil, take-append-le}
 use Rattle.sealing_laws.proofs.Terms.{PortName, Event, Send, Verdict, Sealed, SealedPacket, Packet, Plan, SubStream, is_same, lane_out, open_unit, History, base, live_key, SealedList, KeyName, sealed_packets, with_sealed, packet_of, sent, sent_in, is_under, sub_stream_of, ahead_in, CauseLaw, DrawFacts, IsLive, sent_in-snoc}
 use Rattle.sealing_laws.proofs.Places.{last_place, place_among}

@@ -1,4 +1,6 @@
--- On a closed stream, nothing of a newer key is accepted before all of the older ones.
+-- Counts of units over all draws. The finished units that were sealed, or accepted, of draws from one on are the sum
+-- over these draws, by induction on the list, or on the history, since each unit is of one draw. Where two such sums
+-- are equal and no count of the one is above its partner in the other, all are equal, by induction on the draws.
 use Rattle.sealing_laws.proofs.Terms.{◌≡◌, ℕ, zero, suc, ◌+◌, ◌<◌, ◌≤◌, ◌==◌, ◌&&◌, Bool, true, List, [], ◌∷◌, ◌++◌, length, map, filter, take, drop, sum_by, slice_get, Some, refl, ap, sym, ◌∙◌, arith, length-append, if◌then◌else◌, AllByRecursion, nat_tests, append-nil, map-append, take-append-drop, take-take, filter-append, sum_by-cons}
 use Rattle.sealing_laws.proofs.Terms.{Accepted, SealedPacket, Packet, SubStream, is_same, units, units_after, open_unit, History, SealedList, sent_in, is_under, sub_stream_of, received_in, units_got, draws_got, ends_in, total_in, units_since, same_stream, units-append}
 use Rattle.sealing_laws.proofs.Totals.{total, total-le, total-same, total-none, joined, of_since, sealed_total, sealed_least, first_and_rest}
