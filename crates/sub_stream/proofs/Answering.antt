@@ -1,4 +1,7 @@
--- A receiver after an answer.
+-- A receiver after an answer, and after GO: what the code keeps, the key slots, two counts of units and one buffer, is
+-- seen as the receiver of the specs. It goes by the answer, by who holds the buffer and by the state of each slot: a
+-- packet that fits finds nothing held in the other key set, so the buffer is its own slot's alone. The hard case is an
+-- accepted unit: its slot counts it, an older key in the other slot goes, and the buffer lends the decrypted packets.
 use Rattle.std.proofs.Common.{◌≡◌, ◌≢◌, ℕ, ◌+◌, ◌<◌, ◌≤◌, Bool, true, false, not, ◌&&◌, ◌||◌, ◌==◌, nat_lt, nat_le, if◌then◌else◌, List, [], ◌∷◌, ◌++◌, length, Option, Some, None, refl, sym, ap, ◌∙◌, subst, arith, length-append}
 use Rattle.std.specs.Option.{option_map}
 use Rattle.std.proofs.lemmas.Grind.{common_steps}
