@@ -1,4 +1,7 @@
--- What the receivers of a stream make of a packet.
+-- What the receivers of a stream make of a packet: the answer, all three after it, what is lent, and the order that
+-- always holds. It goes by the packet's sub-stream and the answer: its own receiver takes the packet, and where that
+-- failed all three drop what they hold, its own one for the second time, which changes nothing. The order stays since
+-- an accepted unit has passed its test, and the number of accepted posted packets never falls.
 use Rattle.std.proofs.Common.{◌≡◌, ℕ, ◌+◌, ◌^◌, ◌<◌, ◌≤◌, Bool, true, false, not, ◌&&◌, ◌||◌, ◌==◌, nat_le, if◌then◌else◌, [], ◌∷◌, ◌++◌, length, Option, Some, None, refl, sym, ap, ◌∙◌, subst, arith}
 use Rattle.std.proofs.lemmas.Grind.{common_steps}
 use Rattle.ide_types.specs.Sub.{sub_bits, is_same_sub}

@@ -1,4 +1,7 @@
--- What one sender makes of a packet, and of calls of key management.
+-- What one sender makes of a packet, and of KEY_PROG and GO: it seals the packet of the rules, and keeps its invariant.
+-- Under the Live key both descriptions of the packet agree field by field, and of an open unit the invariant says what
+-- stands ahead. A packet joins its unit, with room for one more, or ends it; a call of key management leaves the open
+-- unit as it is, or none open (`Moved`), by the states of both slots.
 use Rattle.std.proofs.Common.{◌≡◌, ℕ, ◌+◌, ◌<◌, ◌≤◌, Bool, true, false, not, ◌&&◌, ◌||◌, ◌==◌, if◌then◌else◌, List, [], ◌∷◌, ◌++◌, length, Option, Some, None, Ok, Err, unwrap_or, refl, sym, ap, ◌∙◌, subst, arith, inl, inr, ◌⊎◌, length-append}
 use Rattle.std.specs.Int.{w64, to_be_bytes}
 use Rattle.std.proofs.lemmas.Grind.{common_steps}

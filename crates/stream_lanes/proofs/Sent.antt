@@ -1,4 +1,7 @@
--- What the senders of a stream make of a TLP, packet by packet.
+-- What the senders of a stream make of a TLP, packet by packet: the packets, lengths, bytes and senders of the rules.
+-- Only ahead of a posted TLP do sync packets go, so it goes by class and, for a posted one, by which of the two go
+-- first. Each packet is that of the rules, as neither its number nor its port is in it and a sync packet has nothing of
+-- the TLP; behind sync packets the TLP's own sender is as before, and the joined bytes are only grouped anew.
 use Rattle.std.proofs.Common.{◌≡◌, ℕ, ◌+◌, ◌≤◌, Bool, true, false, ◌&&◌, if◌then◌else◌, List, [], ◌∷◌, ◌++◌, length, map, Option, Some, None, refl, sym, ap, ◌∙◌, subst, arith, append_assoc, append-nil}
 use Rattle.ide_types.specs.declared.sub.SubKind.{SubKind}
 use Rattle.ide_types.specs.declared.sub.SubKind.TheVariants.{Pr, Npr, Cpl}

@@ -1,4 +1,7 @@
--- What one receiver makes of a packet, and of calls of key management.
+-- What one receiver makes of a packet, and of KEY_PROG: it answers as the rules say, and keeps its invariant. The
+-- answer goes by the state of the slot; the sum that the code allows tests what the rules test, as the sum so far is
+-- within the posted packets that were accepted and that of a unit is small. The hard case is an accepted unit, which
+-- moves the total that stands ahead: the other slot holds no packets then, and such a slot is right under any total.
 use Rattle.std.proofs.Common.{◌≡◌, ℕ, ◌+◌, ◌-◌, ◌^◌, ◌<◌, ◌≤◌, Bool, true, false, not, ◌&&◌, ◌||◌, ◌==◌, nat_lt, nat_le, if◌then◌else◌, List, [], ◌∷◌, ◌++◌, length, Option, Some, None, refl, sym, ap, ◌∙◌, subst, arith, length-append}
 use Rattle.std.specs.Int.{w64, to_be_bytes}
 use Rattle.std.proofs.lemmas.Grind.{common_steps}
