@@ -1,4 +1,7 @@
--- What a stream's call makes of its port.
+-- What a stream's call makes of its port: a send, a packet that comes and a call of key management are steps of the
+-- specs. Streams stand beside their plans one to one, so the stream at the place of an ID is the one that the specs
+-- find, and set back there it alone changes; what its own call came to is given, and is read with the fields of its
+-- plan. Where no plan has the ID the specs find nothing, and no stream changes.
 use Rattle.ide_port.proofs.Terms.{◌≡◌, ℕ, ◌+◌, ◌<◌, true, List, [], length, map, get_or, Option, Some, None, Result, Err, refl, sym, ap, ◌∙◌, subst, arith, slice_set, nat_lt, if◌then◌else◌, option_map, nat_tests, SubKind, StreamPlan}
 use Rattle.ide_port.proofs.Terms.{Packet, Tlp, class_of, head_bytes, header, body, SlotPair, is_one, program_answer, PortCall, SlotsAfter, shown_at, program_at, answer_of, StreamEnd, sending, answer_as, taken_in, end_taken, called_end}
 use Rattle.ide_port.proofs.Terms.{pair_in, lengths_said, Inside, SendRefusal, PortEnd, Found, found, changed, sub_from, stream_at, shown, unfinished_at, slot_call, called_states, called_port, stream_of, IsStep, lane_of, arrival_said}
