@@ -1,4 +1,7 @@
--- Bytes that arrive at a port, as the machine has them.
+-- Bytes that arrive at a port, as the machine has them. It goes as the bytes are cut: a fault, a plain TLP, or an IDE
+-- packet, whose stream is found or not, and whose answer goes test by test. The hard case is an accepted unit: here its
+-- effects are read of decrypted packets, by the machine of encrypted ones, and decryption changes only bodies and tags.
+-- A packet by number, whole, altered or cut, arrives at the partner of its port.
 use Rattle.keyed_links.proofs.Terms.{◌≡◌, ℕ, ◌+◌, ◌-◌, ◌==◌, ◌<◌, take, Bool, true, false, List, [], ◌∷◌, ◌++◌, length, refl, ap, sym, ◌∙◌, subst, arith, Option, Some, None, Result, Ok, Err, option_map, slice_get, slice_set, map}
 use Rattle.keyed_links.proofs.Terms.{not, ◌||◌, ◌&&◌, nat_le, nat_lt, if◌then◌else◌, option_and_then, PortName, Plan, Packet, Verdict, Effect, effect_of, mode_of, is_closed, partner, Pass, Alter, Cut, Arrive, Dump, StreamState}
 use Rattle.keyed_links.proofs.Terms.{LiveKey, Taken, Insecure, Failed, Held, holds_any, is_tagged, is_allowed, checked, taken_under, taken_by, state_after, live_in, slot_in, at_sub, opened_from, opened_under, opened_after}

@@ -1,4 +1,7 @@
--- The states of the ports of all links, as the machine has them, and one port changed.
+-- The states of the ports of all links, as the machine has them, and one port changed. The machine has one list, of
+-- each link the host's port and then the device's: by induction on the links a port is read and set at twice its link
+-- and its side (`states_at`, `states_set`). What always holds stays, as a changed link keeps its names, plans and limit
+-- with one call more at the most, and each other link is as before (`each_set`).
 use Rattle.keyed_links.proofs.Terms.{◌≡◌, ℕ, suc, zero, ◌+◌, ◌*◌, ◌<◌, ◌≤◌, false, List, [], ◌∷◌, length, refl, ap, sym, ◌∙◌, subst, arith, Option, Some, option_map, map, slice_get, slice_set, slice_index_or, option_map_or}
 use Rattle.keyed_links.proofs.Terms.{same_Some, none-some, slice_get_within, length-set, set-get_or, Side, Host, Device, PortName, Plan, StreamPlan, sent_direction, StreamState, streams_of, stream_plan, with_id, mode_of, is_closed}
 use Rattle.keyed_links.proofs.Terms.{LinkState, LinkPacket, Stepped, port_at, port_place, find, put, PortEnd, Found, found, changed, Verdict, History, StandsFor, LinkEnds, Links, port_in, with_port, KeeperView, ports_in, state_of}

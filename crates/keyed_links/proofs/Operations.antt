@@ -1,4 +1,7 @@
--- An operation at both ends of a link, as the machine has it.
+-- An operation at both ends of a link, as the machine has it. That the walk at the ends of one stream comes to the
+-- machine's verdict and moves is given (`OperationsJoin`); here it is set among all links: the host's port changes,
+-- then the device's, and the operation in the manager's list, of which each link has a stretch of its own. The pool
+-- draws as the machine says, since an operation that is not refused came to one of its exchanges.
 use Rattle.keyed_links.proofs.Terms.{◌≡◌, ℕ, suc, zero, ◌+◌, ◌==◌, ◌<◌, Bool, true, false, List, [], ◌∷◌, ◌++◌, length, refl, ap, sym, ◌∙◌, subst, arith, Option, Some, None, option_map, is_some, IsSome, slice_get, slice_set, map}
 use Rattle.keyed_links.proofs.Terms.{not, ◌||◌, slice_index_or, same_Some, slice_get_within, nat_tests, set-get_or, Side, Host, Device, PortName, StreamStatus, Plan, StreamPlan, Verdict, Pool, KeyPlan, Op, Work, Reach, work_of}
 use Rattle.keyed_links.proofs.Terms.{reach_of, History, StreamState, streams_of, streams_by_link, stream_plan, key_plan, LinkState, LinkPacket, Stepped, find_op, put, put_op, port_at, end_at, ports_of, status_at, moves_at}

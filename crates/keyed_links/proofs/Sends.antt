@@ -1,4 +1,7 @@
--- Sends at a port, as the machine has them.
+-- Sends at a port, as the machine has them. It goes as the bytes are read: a fault, a TLP that takes no stream, one
+-- that is refused on its stream, and one that is sealed; mode, limit and closing are the port's as the plan's, and a
+-- chosen stream is at the port since the links stand for a history. The packets that are kept are cut from the port's
+-- joined bytes by their lengths, which by induction undoes the joining.
 use Rattle.keyed_links.proofs.Terms.{◌≡◌, ℕ, suc, zero, ◌+◌, ◌<◌, Bool, true, List, [], ◌∷◌, ◌++◌, length, refl, ap, sym, ◌∙◌, subst, arith, length-append, Option, Some, None, Result, Ok, Err, option_map, slice_get, slice_set, map}
 use Rattle.keyed_links.proofs.Terms.{sum_by, nat_lt, if◌then◌else◌, none-some, same_Some, append-nil, take-append_seam, drop-append_seam, sum_by-cons, PortName, Plan, Packet, packet_bytes, Verdict, SealedPacket, StreamState, TxSub}
 use Rattle.keyed_links.proofs.Terms.{Three, lanes_of, sealed_all, mode_of, is_closed, has_stream, choice, History, LinkPacket, LinkState, Stepped, kept_at, answered, sealed_in, find, step_of, StandsFor, standing, sending}

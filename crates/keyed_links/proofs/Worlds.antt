@@ -1,4 +1,7 @@
--- The links before the first event, and one step of all of them.
+-- The links before the first event, and one step of all of them. At first all holds by induction on the plan's links,
+-- each of which is made with empty streams and idle operations. A step is the machine's after any history that the
+-- links stand for, and by `StepStands` they then stand for that history with the event; for want of memory all is as
+-- before, and is carried over.
 use Rattle.keyed_links.proofs.Terms.{◌≡◌, ℕ, suc, zero, ◌+◌, ◌≤◌, List, [], ◌∷◌, ◌++◌, length, refl, ap, sym, ◌∙◌, subst, arith, Some, Result, Ok, Err, IfOk, OnErr, slice_get, map, All, slice_index_or, none-some, same_Some}
 use Rattle.keyed_links.proofs.Terms.{map-append, All-head, All-tail, Plan, LinkPlan, StreamPlan, FitsInterface, FitsLink, FitsPlan, Verdict, Op, Idle, new_pool, streams_of, StreamState, LinkState, Stepped, first_ports, first_state}
 use Rattle.keyed_links.proofs.Terms.{step_of, empty_stream, StandsFor, StepStands, FirstStands, KeysKept, StreamView, new_stream, new_manager, new_streams, streams_from, LinkEnds, Links, new_ends, ends_from, KeeperView, ports_in}
