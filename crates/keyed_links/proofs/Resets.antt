@@ -1,7 +1,7 @@
 -- Streams by the names that events say, and resets, as the machine has them. The manager's streams are one list in the
--- plan's order, link by link, so a name is found in it as by the machine; a name that no stream has is past the links,
--- past 255 or not in the list. A reset is an induction over that list, where the link's streams become idle and all
--- others stay, and at both ports of the link each stream is empty.
+-- plan's order, link by link, so a name is found in it as by the machine; a name that no stream has is on a link past
+-- the last, above 255 or not in the list. A reset is an induction over that list, where the link's streams become idle
+-- and all others stay, and at both ports of the link each stream is empty.
 use Rattle.keyed_links.proofs.Terms.{◌≡◌, ℕ, suc, zero, ◌+◌, ◌==◌, ◌<◌, ◌≤◌, Bool, true, false, List, [], ◌∷◌, ◌++◌, ◌⊎◌, length, refl, ap, sym, ◌∙◌, subst, arith, ⊎_elim, Option, Some, None, option_map, is_some, slice_get}
 use Rattle.keyed_links.proofs.Terms.{slice_set, map, nat_lt, if◌then◌else◌, All, slice_index_or, nat_tests, none-some, same_Some, get_or_past, length-map, All-head, All-tail, true-lt, Op, Idle, History, status_by as key_status}
 use Rattle.keyed_links.proofs.Terms.{Side, Host, Device, PortName, StreamStatus, Plan, LinkPlan, StreamPlan, FitsStream, FitsLink, Reset, Status, StreamState, streams_of, streams_by_link, stream_plan, LinkPacket, Stepped, find}

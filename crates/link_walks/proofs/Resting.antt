@@ -1,7 +1,7 @@
 -- The walk at both ends comes to the manager's walk, and moves both ports by the calls of the exchanges that were
--- carried. By induction on the exchanges that are left, each is lost as a request or as a reply, refused, or answered
--- as expected: there the walk stays (`stays`), or it is done or goes on, and the calls of the exchange are put ahead of
--- those of the rest (`back`). The host's port is called behind one exchange at the most, the last GO of a receiver.
+-- carried. By induction on the exchanges that are left, each is lost as a request or as a reply or refused, and the
+-- walk stays there (`stays`), or it is answered as expected, and its calls go ahead of those of the rest (`back`). The
+-- host's port is called behind one exchange at the most, the last receiver's GO.
 use Rattle.link_walks.proofs.Terms.{◌≡◌, Bool, arith, true, ℕ, List, ◌++◌, Work, Plan, if◌then◌else◌, false, nat_tests, Operation, ◌≤◌, ◌∙◌, sym, Reach, makes_draw, is_within, StreamCall, Host, StreamState, ◌+◌, ◌==◌, [], zero, suc}
 use Rattle.link_walks.proofs.Terms.{refl, ◌-◌, ap, work, exchange_call, exchanges_called, all_called, host_go, ◌&&◌, ◌<◌, Some, subst, ◌∷◌, last_of, ◌||◌, Option, None, reach_of, Op, op_standing, reach, op_after, requests_called, Loss}
 use Rattle.link_walks.proofs.Terms.{Verdict, PortView, comes_to, is_lost, first_from, done, different-false, Local, go_requests, StreamView, asked_in, outcome_of, taken_stream, taken_calls, shown_at_end, ManagerWalk, answers, walk}
