@@ -5,6 +5,7 @@ use Rattle.ide_types.specs.Names.{joined}
 use Rattle.link_events.specs.declared.event.Event.{Event}
 use Rattle.link_events.specs.declared.fault.LineFault.{LineFault}
 use Rattle.link_events.specs.declared.fault.LineFault.TheVariants.{TooLong}
+use Rattle.link_events.specs.Words.{line_limit}
 use Rattle.link_events.specs.Parse.{line_meaning}
 use Rattle.packet_lines.specs.Reading.{packet_meaning}
 use Rattle.line_runs.specs.Gain.{Text}
@@ -27,8 +28,8 @@ whole_line front words =
 
 -- ---- of a script
 
-pub long_event : (r : Running) (n : ℕ) (line : Text) → nat_lt 20000 (length line) ≡ true → ran_line r n line ≡ Err
-    TooLong
+pub long_event : (r : Running) (n : ℕ) (line : Text) → nat_lt line_limit (length line) ≡ true
+    → ran_line r n line ≡ Err TooLong
 long_event r n line long = rw long refl
 
 event_lines : (r : Running) (m : Result (Option Event) LineFault) → IfOk (by_meaning r m) (λ came. IsWholeLines came.1)
@@ -41,8 +42,8 @@ whole_event r n line = event_lines r (line_meaning line)
 
 -- ---- of a packet file
 
-pub long_packet : (u : Unit {0}) (n : ℕ) (line : Text) → nat_lt 20000 (length line) ≡ true → shown_line u n line ≡ Err
-    TooLong
+pub long_packet : (u : Unit {0}) (n : ℕ) (line : Text) → nat_lt line_limit (length line) ≡ true
+    → shown_line u n line ≡ Err TooLong
 long_packet u n line long = rw long refl
 
 packet_lines : (n : ℕ) (m : Result (Option Text) LineFault) → IfOk (showing n m) (λ came. IsWholeLines came.1)

@@ -5,7 +5,7 @@ use Rattle.ide_plan.specs.declared.plan.Plan.{Plan}
 use Rattle.link_events.specs.declared.event.Event.{Event}
 use Rattle.link_events.specs.declared.fault.LineFault.{LineFault}
 use Rattle.link_events.specs.declared.fault.LineFault.TheVariants as line
-use Rattle.link_events.specs.Words.{fault_line_of}
+use Rattle.link_events.specs.Words.{fault_line_of, line_limit}
 use Rattle.link_events.specs.Parse.{line_meaning}
 use Rattle.link_verdicts.specs.Lines.{totals_line_of}
 use Rattle.key_laws.specs.History.{History}
@@ -37,7 +37,7 @@ with_line n (Ok (Some event)) later = record later { events = event ∷ later.ev
 
 -- a line that does not end ahead of the limit counts only where it is too long already
 abbrev pub unended_line : ℕ → Text → Script
-unended_line n piece = stops (if nat_lt 20000 (length piece) then Refused n line.TooLong else AtLimit)
+unended_line n piece = stops (if nat_lt line_limit (length piece) then Refused n line.TooLong else AtLimit)
 
 -- what stands between line feeds, numbered from n; the last piece is a line where it has bytes
 abbrev pub script_in : Bool → ℕ → List Text → Script

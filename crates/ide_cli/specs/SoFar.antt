@@ -4,6 +4,7 @@ use Rattle.ide_base.specs.Outside.{Contents, ShelfSeen, SinkSeen}
 use Rattle.ide_words.specs.Words.{Asked, run, check, show, asked}
 use Rattle.ide_plan.specs.declared.plan.Plan.{Plan}
 use Rattle.text_lines.specs.Pieces.{pieces}
+use Rattle.link_events.specs.Words.{line_limit}
 use Rattle.line_runs.specs.Front.{Gave, bytes_of}
 use Rattle.line_runs.specs.declared.ends.Fault.{Fault}
 use Rattle.line_runs.specs.Gain.{Text}
@@ -51,7 +52,7 @@ lines_given (Some (check topology)) contents n = []
 lines_given (Some (show packets)) contents n = take n (bytes_of (contents packets))
 
 -- Some number of bytes were given, all of which but those that may wait were run: the line that has begun in those of
--- them that are cut into lines has at most 20,000, and the sink gained the text that is due by then.
+-- them that are cut into lines is within its limit, and the sink gained the text that is due by then.
 pub record WroteByIn (e : Fault) (text lines : ℕ → Text) (shelf shelf_now : ShelfSeen) (sink sink_now : SinkSeen)
     : Type 0 where
   pub given : ℕ
@@ -59,7 +60,7 @@ pub record WroteByIn (e : Fault) (text lines : ℕ → Text) (shelf shelf_now : 
   pub gave : Gave shelf.given given shelf_now.given
   pub most : ran ≤ given
   pub all_but : given ≤ ran + waiting_at e shelf_now
-  pub short : length (open_line (lines ran)) ≤ 20000
+  pub short : length (open_line (lines ran)) ≤ line_limit
   pub gained : GainedAt e sink.held sink_now.held (text ran)
 
 abbrev pub WroteByOf : Fault → (text lines : Contents → ℕ → Text) → Option Contents → ShelfSeen → ShelfSeen → SinkSeen

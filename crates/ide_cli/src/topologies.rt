@@ -3,7 +3,7 @@
 ghost use Rattle.std.specs.Prelude.{◌≡◌, ◌≢◌, ◌+◌, ◌<◌, ◌≤◌, IfOk, IfErr, length, option_map, []};
 ghost use Rattle.line_runs.specs.Front.{AskedPieces, Gave, GaveOf};
 ghost use Rattle.line_runs.specs.Outcome.{Ran, RanOn};
-ghost use Rattle.ide_cli.specs.Loading.{GaveAllOf, LoadCause, Loads};
+ghost use Rattle.ide_cli.specs.Loading.{GaveAllOf, LoadCause, Loads, topology_limit};
 ghost use Rattle.ide_cli.specs.Reads.{GaveAtMost};
 ghost use Rattle.ide_cli.specs.SoFar.{WroteBy};
 ghost use Rattle.ide_cli.specs.Topologies.{check_due, loaded, refusal as refusal_of, report as report_of, HasFitting};
@@ -31,8 +31,8 @@ fn judge(alloc: Global, front: &[u8]) -> Result<Loaded, Fault>
     ensures loaded { IfOk result (λ l. l ≡ loaded front.now) }
     ensures memory { IfErr result (λ e. e ≡ Fault.Memory) }
     ensures fits { IfOk result HasFitting }
-    ensures long { IfOk result (λ l. l ≡ Loaded.Long → 1048576 < length front.now) }
-    ensures few { IfOk result (λ l. l ≢ Loaded.Long → length front.now ≤ 1048576) }
+    ensures long { IfOk result (λ l. l ≡ Loaded.Long → topology_limit < length front.now) }
+    ensures few { IfOk result (λ l. l ≢ Loaded.Long → length front.now ≤ topology_limit) }
 {
     if front.len() > TOPOLOGY_LIMIT {
         return Ok(Loaded::Long);
@@ -54,10 +54,11 @@ pub(crate) fn load<S: Shelf>(alloc: Global, shelf: &mut S, name: &str) -> Result
     ensures within { GaveOf (S.seen shelf.old).contents name.now (S.seen shelf.old).given (S.seen shelf.new).given }
     ensures all { IfOk result (λ l. l ≢ Loaded.Long → GaveAllOf (S.seen shelf.old).contents name.now
         (S.seen shelf.old).given (S.seen shelf.new).given) }
-    ensures cap { (S.seen shelf.new).given ≤ (S.seen shelf.old).given + 1048577 }
+    ensures cap { (S.seen shelf.new).given ≤ (S.seen shelf.old).given + (topology_limit + 1) }
     ensures pieces { AskedPieces (S.seen shelf.old).longest (S.seen shelf.new).longest }
-    ensures long { IfOk result (λ l. l ≡ Loaded.Long → Gave (S.seen shelf.old).given 1048577 (S.seen shelf.new).given) }
-    ensures few { IfOk result (λ l. l ≢ Loaded.Long → GaveAtMost (S.seen shelf.old).given 1048576
+    ensures long { IfOk result (λ l. l ≡ Loaded.Long → Gave (S.seen shelf.old).given (topology_limit + 1)
+        (S.seen shelf.new).given) }
+    ensures few { IfOk result (λ l. l ≢ Loaded.Long → GaveAtMost (S.seen shelf.old).given topology_limit
         (S.seen shelf.new).given) }
 {
     match read_front(alloc, shelf, name, TOPOLOGY_LIMIT + 1) {
@@ -113,11 +114,12 @@ pub(crate) fn check_topology<S: Shelf, O: Sink>(
         (S.seen shelf.new) (O.seen out.old) (O.seen out.new) result }
     ensures so_far { IfErr result (λ e. WroteBy e (λ contents n. []) (λ contents n. [])
         (S.seen shelf.old) (S.seen shelf.new) (O.seen out.old) (O.seen out.new)) }
-    ensures cap { (S.seen shelf.new).given ≤ (S.seen shelf.old).given + 1048577 }
+    ensures cap { (S.seen shelf.new).given ≤ (S.seen shelf.old).given + (topology_limit + 1) }
     ensures pieces { AskedPieces (S.seen shelf.old).longest (S.seen shelf.new).longest }
-    ensures too_long { IfOk result (λ e. e ≡ End.TooLong → Gave (S.seen shelf.old).given 1048577
+    ensures too_long { IfOk result (λ e. e ≡ End.TooLong → Gave (S.seen shelf.old).given (topology_limit + 1)
         (S.seen shelf.new).given) }
-    ensures whole { IfOk result (λ e. e ≡ End.Done → (S.seen shelf.new).given ≤ (S.seen shelf.old).given + 1048576) }
+    ensures whole { IfOk result (λ e. e ≡ End.Done → (S.seen shelf.new).given
+        ≤ (S.seen shelf.old).given + topology_limit) }
 {
     match load(alloc, shelf, topology) {
         Ok(loaded) => report(alloc, &loaded, out),

@@ -3,6 +3,7 @@ use Rattle.std.specs.Prelude.{ℕ, ◌+◌, ◌≡◌, ◌==◌, ◌≤◌, Bool
 use Rattle.ide_base.specs.Outside.{Contents, Rose, ShelfSeen, SinkSeen}
 use Rattle.text_lines.specs.Pieces.{pieces}
 use Rattle.link_events.specs.declared.fault.LineFault.{LineFault}
+use Rattle.link_events.specs.Words.{line_limit}
 use Rattle.line_runs.specs.declared.ends.End.{End}
 use Rattle.line_runs.specs.declared.ends.Fault.{Fault}
 use Rattle.line_runs.specs.declared.ends.Fault.TheVariants as fault
@@ -94,7 +95,7 @@ GainedAt fault.Write before now text = GainedMore before now text
 GainedAt fault.Memory before now text = GainedMore before now text
 
 -- So many bytes of the file were given, all of which but those that may wait were run: the line that has begun in these
--- has at most 20,000, and the sink gained the text that is due of them. A file that is not there has no bytes.
+-- is within its limit, and the sink gained the text that is due of them. A file that is not there has no bytes.
 pub record WroteEndedIn (e : Fault) (text : Text → Text) (file : Text) (shelf shelf_now : ShelfSeen)
     (sink sink_now : SinkSeen) : Type 0 where
   pub given : ℕ
@@ -103,7 +104,7 @@ pub record WroteEndedIn (e : Fault) (text : Text → Text) (file : Text) (shelf 
   pub gave : Gave shelf.given given shelf_now.given
   pub most : ran ≤ given
   pub all_but : given ≤ ran + waiting_at e shelf_now
-  pub short : length (open_line (take ran file)) ≤ 20000
+  pub short : length (open_line (take ran file)) ≤ line_limit
   pub gained : GainedAt e sink.held sink_now.held (text (take ran file))
 
 abbrev pub WroteEndedOf : Fault → (Text → Text) → Option Contents → Text → ShelfSeen → ShelfSeen → SinkSeen → SinkSeen

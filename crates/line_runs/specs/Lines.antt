@@ -6,7 +6,7 @@ use Rattle.link_events.specs.declared.fault.LineFault.{LineFault}
 use Rattle.link_events.specs.declared.fault.LineFault.TheVariants as line
 use Rattle.link_events.specs.declared.fault.LineError.{LineError}
 use Rattle.link_events.specs.declared.fault.LineError.TheVariants as error
-use Rattle.link_events.specs.Words.{fault_line_of}
+use Rattle.link_events.specs.Words.{fault_line_of, line_limit}
 use Rattle.line_runs.specs.declared.ends.End.TheVariants.{Done, Script, TooLong}
 use Rattle.line_runs.specs.Gain.{Text}
 use Rattle.line_runs.specs.Outcome.{Due}
@@ -41,7 +41,7 @@ go_on n (Err fault) later = refusal n fault
 
 -- a line that does not end where the bytes that count do
 abbrev pub unended : ℕ → Text → Due
-unended n piece = if nat_lt 20000 (length piece) then refusal n line.TooLong else (TooLong, [])
+unended n piece = if nat_lt line_limit (length piece) then refusal n line.TooLong else (TooLong, [])
 
 -- The end and the text of the pieces between line feeds, by what a line of each number comes to (a state and a text, or
 -- a fault) and by the text behind the last one. The last piece is a line where it has bytes.

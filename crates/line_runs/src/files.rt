@@ -3,7 +3,7 @@ ghost use Rattle.std.specs.Prelude.{◌≡◌, ◌≢◌, ◌≤◌, ◌<◌, �
 ghost use Rattle.ide_base.specs.Outside.{Given, ShelfCause, given_by};
 ghost use Rattle.line_runs.specs.Front.{AskedPieces, Gave, IsReadOf, ReadsOn};
 ghost use Rattle.line_runs.specs.Gathering.{WroteEnded, ended_text, limit_due};
-ghost use Rattle.line_runs.specs.Lines.{file_due};
+ghost use Rattle.line_runs.specs.Lines.{file_due, file_limit};
 ghost use Rattle.line_runs.specs.Outcome.{Ran, RanOn};
 
 use crate::front::PIECE;
@@ -21,7 +21,7 @@ fn read_piece<S: Shelf>(
     at: usize,
     buf: &mut [u8],
 ) -> Result<usize, ShelfFault>
-    requires most { at ≤ 16777216 }
+    requires most { at ≤ file_limit }
     requires room { 0 < length buf.old }
     requires piece { length buf.old ≤ 4096 }
     ensures same { (S.seen shelf.new).contents ≡ (S.seen shelf.old).contents }
@@ -29,8 +29,8 @@ fn read_piece<S: Shelf>(
         name.now
         front → ReadsOn (S.seen shelf.old).contents name.now (front ++ take n buf.new) result) }
     ensures bound { IfOk result (λ n. n ≤ length buf.new) }
-    ensures counts { IfOk result (λ n. at < 16777216 → at + n ≤ 16777216) }
-    ensures one { IfOk result (λ n. at ≡ 16777216 → n ≤ 1) }
+    ensures counts { IfOk result (λ n. at < file_limit → at + n ≤ file_limit) }
+    ensures one { IfOk result (λ n. at ≡ file_limit → n ≤ 1) }
     ensures counted { Given (S.seen shelf.old).given (S.seen shelf.new).given result }
     ensures latest { (S.seen shelf.new).latest ≡ given_by result }
     ensures pieces { AskedPieces (S.seen shelf.old).longest (S.seen shelf.new).longest }
@@ -70,11 +70,11 @@ pub fn run_file<S: Shelf, O: Sink, W: LineWork>(
         (S.seen shelf.old) (S.seen shelf.new) (O.seen out.old) (O.seen out.new) result }
     ensures so_far { IfErr result (λ e. WroteEnded e (ended_text W.advance W.closing work.old) name.now
         (S.seen shelf.old) (S.seen shelf.new) (O.seen out.old) (O.seen out.new)) }
-    ensures cap { (S.seen shelf.new).given ≤ (S.seen shelf.old).given + 16777217 }
+    ensures cap { (S.seen shelf.new).given ≤ (S.seen shelf.old).given + (file_limit + 1) }
     ensures pieces { AskedPieces (S.seen shelf.old).longest (S.seen shelf.new).longest }
-    ensures too_long { IfOk result (λ e. e ≡ End.TooLong → Gave (S.seen shelf.old).given 16777217
+    ensures too_long { IfOk result (λ e. e ≡ End.TooLong → Gave (S.seen shelf.old).given (file_limit + 1)
         (S.seen shelf.new).given) }
-    ensures whole { IfOk result (λ e. e ≡ End.Done → (S.seen shelf.new).given ≤ (S.seen shelf.old).given + 16777216) }
+    ensures whole { IfOk result (λ e. e ≡ End.Done → (S.seen shelf.new).given ≤ (S.seen shelf.old).given + file_limit) }
 {
     let Ok(mut lines) = Lines::make(alloc) else {
         return Err(Fault::Memory);

@@ -2,6 +2,7 @@
 ghost use Rattle.std.specs.Prelude.{◌≡◌, ◌≢◌, ◌∷◌, [], ◌+◌, ◌<◌, ◌^◌, ℕ, List, Result, Err, IfOk, IfSome, OnOk, length, nat_lt, true, false};
 ghost use Rattle.link_events.specs.declared.fault.LineFault.{LineFault};
 ghost use Rattle.link_events.specs.declared.fault.LineFault.TheVariants.{TooLong};
+ghost use Rattle.link_events.specs.Words.{line_limit};
 ghost use Rattle.line_runs.specs.Outcome.{IsWholeLines, Ran};
 ghost use Rattle.line_runs.specs.Gathering.{EndsIn};
 ghost use Rattle.line_runs.specs.Lines.{Came, after, process, refusal};
@@ -39,7 +40,7 @@ pub trait LineWork {
         ensures { IfOk result (λ text. text ≡ closing self.now) };
 
     /// A line of more than 20,000 bytes is too long, whatever they are.
-    ghost long_lines: { (s : Self) (n : ℕ) (line : List ℕ) → nat_lt 20000 (length line) ≡ true
+    ghost long_lines: { (s : Self) (n : ℕ) (line : List ℕ) → nat_lt line_limit (length line) ≡ true
         → advance s n line ≡ Err TooLong };
 
     /// What is written for a line is whole lines.

@@ -1,5 +1,6 @@
 //! The lines that end in a piece of a file.
 ghost use Rattle.std.specs.Prelude.{◌≡◌, [], ◌++◌, ◌+◌, ◌<◌, ◌≤◌, ◌^◌, IfOk, IfSome, OnOk, None, length, nat_lt, vec_capacity, vec_len};
+ghost use Rattle.link_events.specs.Words.{line_limit};
 ghost use Rattle.line_runs.specs.Lines.{Came};
 ghost use Rattle.line_runs.specs.Gathering.{PieceRan, due_behind};
 
@@ -18,8 +19,8 @@ use text_lines::split_line;
 pub(crate) struct Lines {
     pub(crate) number: u64,
     pub(crate) unended: Vec<u8>,
-    ghost short: { vec_len unended ≤ 20000 },
-    ghost room: { 20000 ≤ vec_capacity unended },
+    ghost short: { vec_len unended ≤ line_limit },
+    ghost room: { line_limit ≤ vec_capacity unended },
 }
 
 impl Lines {
@@ -34,14 +35,14 @@ impl Lines {
 
     // Whether a line that goes on with these bytes has more than a line may have.
     fn is_long(&self, more: &[u8]) -> bool
-        ensures { result ≡ nat_lt 20000 (length self.now.unended.items + length more.now) }
+        ensures { result ≡ nat_lt line_limit (length self.now.unended.items + length more.now) }
     {
         more.len() > LINE_LIMIT - self.unended.len()
     }
 
     // Keeps more bytes of the line.
     fn keep(&mut self, more: &[u8])
-        requires { length self.old.unended.items + length more.now ≤ 20000 }
+        requires { length self.old.unended.items + length more.now ≤ line_limit }
         ensures unended { self.new.unended.items ≡ self.old.unended.items ++ more.now }
         ensures number { self.new.number ≡ self.old.number }
     {

@@ -1,5 +1,5 @@
 //! The two ends of a link, and the host's manager of key management with the exchanges that it carries between them
-//! (PCI Express Base 6.0 section 6.33.3, in this profile).
+//! (PCI Express Base 6.0 section 6.33, in this profile).
 #![tactic(auto)]
 
 mod ends;
