@@ -4,3 +4,4 @@ pub mod Plans
 pub mod Written
 mod Stops
 mod Loads
+mod Furthers

@@ -57,7 +57,7 @@ pub gave_few : {L : Type 0} (long : L) (r : Result L Fault) (n before now : ℕ)
 gave_few long (Ok l) n before now gave few = λ other. (n, few other, gave)
 gave_few long (Err f) n before now gave few = few
 
-joined : (a b c m n : ℕ) → Gave a m b → Gave b n c → Gave a (m + n) c
+pub joined : (a b c m n : ℕ) → Gave a m b → Gave b n c → Gave a (m + n) c
 joined a b c m n one two = (omega (arith, one.0, two.0), omega (arith, one.1, two.1))
 
 -- a topology that is no longer than counts, and then one byte more of a script than count

@@ -22,7 +22,8 @@ use Rattle.line_runs.specs.Outcome.{Due}
 use Rattle.text_lines.specs.Pieces.{pieces}
 use Rattle.line_runs.specs.Lines.{after, cut_text, file_due, go_on, is_over, process, unended}
 use Rattle.ide_cli.specs.Script.{Script, AtEnd, stops, with_line, unended_line, script_in, end_at, last_line, due_after, script_due}
-use Rattle.line_runs.specs.Gathering.{ended_text}
+use Rattle.line_runs.specs.Gathering.{GoesOn, ended_text}
+use Rattle.ide_cli.specs.Reads.{ScriptGoesOn}
 use Rattle.ide_cli.specs.SoFar.{script_so_far}
 use Rattle.ide_cli.specs.Works.{Running, totals_with, ran_event, by_meaning, ran_line}
 
@@ -123,3 +124,8 @@ file_runs plan file = script_runs plan (is_over file) 1 (record { world = new_wo
 pub ended_runs : (plan : Plan) (bytes : Text) → ended_text ran_line closing (record { world = new_world plan; totals = record { sealed = 0; accepted = 0; failed = 0; blocked = 0 } }) bytes ≡ script_so_far plan bytes
 unfolding totals
 ended_runs plan bytes = ap (λ (d : Due). d.1) (script_runs plan true 1 (record { world = new_world plan; totals = totals 0 0 0 0 }) [] (pieces bytes) (begins plan))
+
+-- where no line ends the run of those bytes, none ends the script
+pub script_goes_on : (plan : Plan) (bytes : Text) → GoesOn ran_line closing (record { world = new_world plan; totals = record { sealed = 0; accepted = 0; failed = 0; blocked = 0 } }) bytes → ScriptGoesOn plan bytes
+unfolding totals
+script_goes_on plan bytes goes_on = sym (ap (λ (d : Due). d.0) (script_runs plan true 1 (record { world = new_world plan; totals = totals 0 0 0 0 }) [] (pieces bytes) (begins plan))) ∙ goes_on

@@ -1,9 +1,20 @@
 -- How much of the files is read.
-use Rattle.std.specs.Prelude.{ℕ, ◌+◌, ◌≤◌, ◌⊎◌, Option, Some, None}
+use Rattle.std.specs.Prelude.{ℕ, ◌+◌, ◌-◌, ◌≤◌, ◌≡◌, ◌⊎◌, true, [], length, Option, Some, None}
+use Rattle.ide_base.specs.Outside.{Contents}
 use Rattle.ide_words.specs.Words.{Asked, run, check, show}
-use Rattle.line_runs.specs.Front.{Gave}
+use Rattle.ide_plan.specs.declared.plan.Plan.{Plan}
+use Rattle.text_lines.specs.Pieces.{pieces}
+use Rattle.line_runs.specs.declared.ends.End.TheVariants as end
+use Rattle.line_runs.specs.Front.{Gave, bytes_of}
+use Rattle.line_runs.specs.Gain.{Text}
+use Rattle.line_runs.specs.Gathering.{GoesOn, NoFurther}
 use Rattle.line_runs.specs.Lines.{file_limit}
+use Rattle.ide_cli.specs.declared.topologies.Loaded.{Loaded}
+use Rattle.ide_cli.specs.declared.topologies.Loaded.TheVariants.{Sound, Faulty, Long}
 use Rattle.ide_cli.specs.Loading.{topology_limit}
+use Rattle.ide_cli.specs.Script.{due_after, script_in}
+use Rattle.ide_cli.specs.Topologies.{loaded}
+use Rattle.ide_cli.specs.Works.{no_text, shown_line}
 
 -- how many bytes are given at most: of a topology and of a file of lines, one more than those that count
 abbrev pub most_read : Option Asked → ℕ
@@ -34,3 +45,29 @@ ReadPast None before now = ⊥
 ReadPast (Some (run topology script)) before now = RanPast before now
 ReadPast (Some (check topology)) before now = Gave before (topology_limit + 1) now
 ReadPast (Some (show packets)) before now = Gave before (file_limit + 1) now
+
+-- ---- how far is read where the run comes to an end, of bytes that were given, some of them ahead of the last read
+
+-- no line ends the run in these bytes of a script that goes on behind them
+abbrev pub ScriptGoesOn : Plan → Text → Type 0
+ScriptGoesOn plan bytes = (due_after plan [] (script_in true 1 (pieces bytes))).0 ≡ end.TooLong
+
+-- the script is read behind a topology that is sound, and behind no other
+abbrev pub LoadedNoFurther : Loaded → (topology script : Text) → (given ahead : ℕ) → Type 0
+LoadedNoFurther (Sound plan) topology script given ahead = NoFurther (ScriptGoesOn plan) script (given - length topology)
+    (ahead - length topology)
+LoadedNoFurther (Faulty fault) topology script given ahead = given ≤ length topology
+LoadedNoFurther Long topology script given ahead = given ≤ length topology
+
+abbrev pub RunNoFurther : (topology script : Option Text) → (given ahead : ℕ) → Type 0
+RunNoFurther None script given ahead = given ≡ 0
+RunNoFurther (Some topology) script given ahead = LoadedNoFurther (loaded topology) topology (bytes_of script) given ahead
+
+-- nothing is read for words that ask for nothing
+abbrev pub AskedNoFurther : Option Asked → Contents → (given ahead : ℕ) → Type 0
+AskedNoFurther None contents given ahead = given ≡ 0
+AskedNoFurther (Some (run topology script)) contents given ahead = RunNoFurther (contents topology) (contents script)
+    given ahead
+AskedNoFurther (Some (check topology)) contents given ahead = given ≤ length (bytes_of (contents topology))
+AskedNoFurther (Some (show packets)) contents given ahead = NoFurther (GoesOn shown_line no_text tt)
+    (bytes_of (contents packets)) given ahead

@@ -3,14 +3,15 @@
 ghost use Rattle.std.specs.Prelude.{◌≡◌, ◌≢◌, ◌+◌, ◌≤◌, IfErr, IfOk, option_map, take};
 ghost use Rattle.ide_plan.specs.Fits.{FitsPlan};
 ghost use Rattle.line_runs.specs.Front.{AskedPieces, Gave, bytes_of};
-ghost use Rattle.line_runs.specs.Gathering.{WroteEnded};
+ghost use Rattle.line_runs.specs.Gathering.{GoesOn, NoFurther, ReadAsFar, WroteEnded};
 ghost use Rattle.line_runs.specs.Lines.{file_limit};
 ghost use Rattle.line_runs.specs.Outcome.{RanOn};
 ghost use Rattle.ide_cli.specs.Script.{script_due};
 ghost use Rattle.ide_cli.specs.Loading.{topology_limit};
 ghost use Rattle.ide_cli.specs.Meaning.{run_due, show_due};
-ghost use Rattle.ide_cli.specs.Reads.{RanPast};
+ghost use Rattle.ide_cli.specs.Reads.{RanPast, RunNoFurther, ScriptGoesOn};
 ghost use Rattle.ide_cli.specs.SoFar.{WroteBy, run_so_far, script_given, script_so_far, shown_so_far};
+ghost use Rattle.ide_cli.specs.Works.{no_text, shown_line};
 
 use crate::packets::PacketWork;
 use crate::script::ScriptWork;
@@ -35,6 +36,8 @@ fn run_script<S: Shelf, O: Sink>(
         (S.seen shelf.new) (O.seen out.old) (O.seen out.new) result }
     ensures so_far { IfErr result (λ e. WroteEnded e (script_so_far plan) script.now (S.seen shelf.old)
         (S.seen shelf.new) (O.seen out.old) (O.seen out.new)) }
+    ensures no_further { IfOk result (λ e. ReadAsFar (λ contents. NoFurther (ScriptGoesOn plan)
+        (bytes_of (contents script.now))) (S.seen shelf.old) (S.seen shelf.new)) }
     ensures cap { (S.seen shelf.new).given ≤ (S.seen shelf.old).given + (file_limit + 1) }
     ensures pieces { AskedPieces (S.seen shelf.old).longest (S.seen shelf.new).longest }
     ensures too_long { IfOk result (λ e. e ≡ End.TooLong → Gave (S.seen shelf.old).given (file_limit + 1)
@@ -64,6 +67,8 @@ pub(crate) fn run_files<S: Shelf, O: Sink>(
     ensures so_far { IfErr result (λ e. WroteBy e (λ contents n. run_so_far (contents topology.now)
         (contents script.now) n) (λ contents n. script_given (contents topology.now) (contents script.now) n)
         (S.seen shelf.old) (S.seen shelf.new) (O.seen out.old) (O.seen out.new)) }
+    ensures no_further { IfOk result (λ e. ReadAsFar (λ contents. RunNoFurther (contents topology.now)
+        (contents script.now)) (S.seen shelf.old) (S.seen shelf.new)) }
     ensures cap { (S.seen shelf.new).given ≤ (S.seen shelf.old).given + (topology_limit + 1 + (file_limit + 1)) }
     ensures pieces { AskedPieces (S.seen shelf.old).longest (S.seen shelf.new).longest }
     ensures too_long { IfOk result (λ e. e ≡ End.TooLong → RanPast (S.seen shelf.old).given (S.seen shelf.new).given) }
@@ -91,6 +96,8 @@ pub(crate) fn show_packets<S: Shelf, O: Sink>(
     ensures so_far { IfErr result (λ e. WroteBy e (λ contents n. shown_so_far
         (take n (bytes_of (contents packets.now)))) (λ contents n. take n (bytes_of (contents packets.now)))
         (S.seen shelf.old) (S.seen shelf.new) (O.seen out.old) (O.seen out.new)) }
+    ensures no_further { IfOk result (λ e. ReadAsFar (λ contents. NoFurther (GoesOn shown_line no_text tt)
+        (bytes_of (contents packets.now))) (S.seen shelf.old) (S.seen shelf.new)) }
     ensures cap { (S.seen shelf.new).given ≤ (S.seen shelf.old).given + (file_limit + 1) }
     ensures pieces { AskedPieces (S.seen shelf.old).longest (S.seen shelf.new).longest }
     ensures too_long { IfOk result (λ e. e ≡ End.TooLong → Gave (S.seen shelf.old).given (file_limit + 1)

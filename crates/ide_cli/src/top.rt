@@ -9,11 +9,12 @@ ghost use Rattle.link_history.specs.Delivered.{DeliveryLaw};
 ghost use Rattle.link_history.specs.Laws.{DrawsNeverFall, OrderIsNoForgery, PrefixLaw, WholeLaw};
 ghost use Rattle.link_history.specs.Ordered.{OrderLaw};
 ghost use Rattle.line_runs.specs.Front.{AskedPieces};
+ghost use Rattle.line_runs.specs.Gathering.{ReadAsFar};
 ghost use Rattle.line_runs.specs.Outcome.{Ran, RanOn};
 ghost use Rattle.ide_cli.specs.Headline.{AllWritten, InEvery, Unforged, outcome_of, said};
 ghost use Rattle.ide_cli.specs.Meaning.{due_of, usage_line};
 ghost use Rattle.ide_cli.specs.SoFar.{WroteSoFar};
-ghost use Rattle.ide_cli.specs.Reads.{ReadPast, most_counted, most_read};
+ghost use Rattle.ide_cli.specs.Reads.{AskedNoFurther, ReadPast, most_counted, most_read};
 
 use crate::command::{run_files, show_packets};
 use crate::status::Status;
@@ -45,6 +46,8 @@ fn perform<S: Shelf, O: Sink>(
         (O.seen out.new) result }
     ensures so_far { IfErr result (λ e. WroteSoFar (map string_bytes words.now) e (S.seen shelf.old)
         (S.seen shelf.new) (O.seen out.old) (O.seen out.new)) }
+    ensures no_further { IfOk result (λ e. ReadAsFar (AskedNoFurther (asked (map string_bytes words.now)))
+        (S.seen shelf.old) (S.seen shelf.new)) }
     ensures cap { (S.seen shelf.new).given ≤ (S.seen shelf.old).given + most_read (asked (map string_bytes words.now)) }
     ensures pieces { AskedPieces (S.seen shelf.old).longest (S.seen shelf.new).longest }
     ensures too_long { IfOk result (λ e. e ≡ End.TooLong → ReadPast (asked (map string_bytes words.now))
@@ -109,6 +112,12 @@ pub fn run<S: Shelf, O: Sink>(
     // the bytes given but those of the last read was written.
     ensures so_far { IfErr (outcome_of result) (λ e. WroteSoFar (said words.now) e (S.seen shelf.old)
         (S.seen shelf.new) (O.seen out.old) (O.seen out.new)) }
+
+    // Where the run comes to an end of its own, it was given no more bytes than are in the files that it reads: behind
+    // a topology that is faulty or too long, none of the script; and in the bytes that were given ahead of the last
+    // read no line ends the run.
+    ensures no_further { IfOk (outcome_of result) (λ e. ReadAsFar (AskedNoFurther (asked (said words.now)))
+        (S.seen shelf.old) (S.seen shelf.new)) }
 
     // Of each file that the words name, one byte more is read than count, and of no other any; and no read asks for
     // more than 4,096 bytes. A file is too long where that byte was given, and a file that was read to its end has no

@@ -1,7 +1,8 @@
 //! A topology that is read and checked.
 
 ghost use Rattle.std.specs.Prelude.{◌≡◌, ◌≢◌, ◌+◌, ◌<◌, ◌≤◌, IfOk, IfErr, length, option_map, []};
-ghost use Rattle.line_runs.specs.Front.{AskedPieces, Gave, GaveOf};
+ghost use Rattle.line_runs.specs.Front.{AskedPieces, Gave, GaveOf, bytes_of};
+ghost use Rattle.line_runs.specs.Gathering.{ReadAsFar};
 ghost use Rattle.line_runs.specs.Outcome.{Ran, RanOn};
 ghost use Rattle.ide_cli.specs.Loading.{GaveAllOf, LoadCause, Loads, topology_limit};
 ghost use Rattle.ide_cli.specs.Reads.{GaveAtMost};
@@ -114,6 +115,8 @@ pub(crate) fn check_topology<S: Shelf, O: Sink>(
         (S.seen shelf.new) (O.seen out.old) (O.seen out.new) result }
     ensures so_far { IfErr result (λ e. WroteBy e (λ contents n. []) (λ contents n. [])
         (S.seen shelf.old) (S.seen shelf.new) (O.seen out.old) (O.seen out.new)) }
+    ensures no_further { IfOk result (λ e. ReadAsFar (λ contents given ahead. given
+        ≤ length (bytes_of (contents topology.now))) (S.seen shelf.old) (S.seen shelf.new)) }
     ensures cap { (S.seen shelf.new).given ≤ (S.seen shelf.old).given + (topology_limit + 1) }
     ensures pieces { AskedPieces (S.seen shelf.old).longest (S.seen shelf.new).longest }
     ensures too_long { IfOk result (λ e. e ≡ End.TooLong → Gave (S.seen shelf.old).given (topology_limit + 1)

@@ -3,7 +3,7 @@
 -- in: any at a line that ends the run, none at the end of the file, one byte at the limit (hard: a line feed there ends
 -- nothing). At a fault nothing is due of the open line, which has at most 20,000 bytes.
 use Rattle.std.proofs.Common.{◌≡◌, ◌==◌, ◌∙◌, ℕ, zero, suc, ◌+◌, ◌-◌, ◌<◌, ◌≤◌, List, [], ◌∷◌, ◌++◌, length, Bool, true, false, Option, Some, None, Result, Ok, Err, refl, sym, ap, ap₂, inl, inr, ◌⊎◌, subst, arith, append_assoc, length-append, nat_lt, take, option_map}
-use Rattle.std.specs.Prelude.{if◌then◌else◌, nat_lt, IfErr}
+use Rattle.std.specs.Prelude.{if◌then◌else◌, nat_lt, IfErr, IfOk}
 use Rattle.std.specs.List.{slice_index_or}
 use Rattle.std.proofs.Math.Seq.{take-append_seam, take-append-add, get_or-append_seam}
 use Rattle.std.proofs.lemmas.List.{append-nil}
@@ -21,7 +21,7 @@ use Rattle.line_runs.specs.Front.{Gave, bytes_of, IsReadIn, IsReadOf, IsWholeIn,
 use Rattle.line_runs.specs.Gain.{Text, Gained, GainedMore, IsFront}
 use Rattle.line_runs.specs.Outcome.{Due, EndsDue, EndsOn, Quiet, IsWholeLines, Ran, RanOn, SomeFront}
 use Rattle.line_runs.specs.Lines.{after, cut_at, cut_text, file_due, file_limit, go_on, is_over, process, refusal, unended}
-use Rattle.line_runs.specs.Gathering.{GainedAt, Gathered, SoFar, WroteEnded, WroteEndedIn, WroteEndedOf, behind, due_behind, ended_text, last_piece, limit_due, open_line, waiting_at}
+use Rattle.line_runs.specs.Gathering.{GainedAt, Gathered, GoesOn, NoFurther, ReadAsFar, ReadAsFarOf, SoFar, WroteEnded, WroteEndedIn, WroteEndedOf, behind, due_behind, ended_text, last_piece, limit_due, open_line, waiting_at}
 use Rattle.line_runs.proofs.Cuttings.{cut_short}
 use Rattle.line_runs.proofs.Fronts.{start}
 use Rattle.line_runs.proofs.Gains.{gained_more}
@@ -283,6 +283,38 @@ wrote_in : (e : Fault) (text : Text → Text) (file : Option Text) (front piece 
     → length piece ≤ waiting_at e s1 → length (open_line front) ≤ 20000 → GainedAt e o0.held o1.held (text front) → WroteEndedIn e text (bytes_of file) s0 s1 o0 o1
 wrote_in e text None front piece s0 s1 o0 o1 read gave few short gained = wrote_all e text [] front piece s0 s1 o0 o1 ([], append-nil (front ++ piece) ∙ read) gave few short gained
 wrote_in e text (Some file) front piece s0 s1 o0 o1 read gave few short gained = wrote_all e text file front piece s0 s1 o0 o1 read gave few short gained
+
+-- ---- an end
+
+all_read_in : {S : Type 0} (advance : S → ℕ → Text → Result (S × Text) LineFault) (closing : S → Text) (first : S) (file front piece : Text) (given latest : ℕ) → IsFront (front ++ piece) file → given ≡ length front + length piece → length piece ≡ latest
+    → GoesOn advance closing first front → NoFurther (GoesOn advance closing first) file given (given - latest)
+all_read_in advance closing first file front piece given latest (rest, is) all last goes_on =
+    let ahead : given - latest ≡ length front = omega arith in
+    let same : front ≡ take (given - latest) file = sym (take-append_seam front (piece ++ rest)) ∙ ap₂ take (sym ahead) (sym (append_assoc front piece rest) ∙ is) in
+    (omega (arith, length-append (front ++ piece) rest, length-append front piece, ap length is), subst (λ (t : Text). GoesOn advance closing first t) same goes_on)
+
+all_read : {S : Type 0} (advance : S → ℕ → Text → Result (S × Text) LineFault) (closing : S → Text) (first : S) (file : Option Text) (front piece : Text) (given latest : ℕ) → IsReadIn file (front ++ piece) → given ≡ length front + length piece
+    → length piece ≡ latest → GoesOn advance closing first front → NoFurther (GoesOn advance closing first) (bytes_of file) given (given - latest)
+all_read advance closing first None front piece given latest read all last goes_on = all_read_in advance closing first [] front piece given latest ([], append-nil (front ++ piece) ∙ read) all last goes_on
+all_read advance closing first (Some file) front piece given latest read all last goes_on = all_read_in advance closing first file front piece given latest read all last goes_on
+
+-- the last piece that was read is the one in which the run ended
+pub no_further : {S : Type 0} (advance : S → ℕ → Text → Result (S × Text) LineFault) (closing : S → Text) (first : S) (name : Text) (at n : ℕ) (s : S) (before piece : Text) (s0 s1 : ShelfSeen) (o0 o1 : SinkSeen) (r : Result End Fault)
+    → (f : FileSoFar advance closing first s0.contents name at n s before o0 o1) → IsReadOf s0.contents name (f.front ++ piece) → length before ≤ 20000 → length piece ≡ s1.latest → Gave s0.given (at + length piece) s1.given
+    → IfOk r (λ e. ReadAsFar (λ contents. NoFurther (GoesOn advance closing first) (bytes_of (contents name))) s0 s1)
+no_further advance closing first name at n s before piece s0 s1 o0 o1 (Err e) f read short last gave = tt
+no_further advance closing first name at n s before piece s0 s1 o0 o1 (Ok e) f read short last gave = by_told s0.contents read
+  where
+    by_told : (told : Option Contents) → IsReadOf told name (f.front ++ piece) → ReadAsFarOf (λ contents. NoFurther (GoesOn advance closing first) (bytes_of (contents name))) told s0 s1
+    by_told None read = tt
+    by_told (Some contents) read = (
+      at + length piece,
+      gave,
+      all_read advance closing first (contents name) f.front piece (at + length piece) s1.latest read (omega (arith, f.size)) last
+          (ap (λ (d : Due). d.0) (ended_there advance closing first s0.contents name at n s before o0 o1 f short)),
+    )
+
+-- ---- a fault, by what was written
 
 -- what a fault leaves that comes once a piece was read: what was gained by then, and what more
 pub fault_wrote : {S : Type 0} (advance : S → ℕ → Text → Result (S × Text) LineFault) (closing : S → Text) (first : S) (e : Fault) (name : Text) (at n : ℕ) (s : S) (before piece : Text) (s0 s1 : ShelfSeen) (o0 o1 o2 : SinkSeen)

@@ -1,10 +1,11 @@
 -- A file that is read in pieces, whose text is gathered before it is written.
-use Rattle.std.specs.Prelude.{ℕ, ◌+◌, ◌≡◌, ◌==◌, ◌≤◌, Bool, true, List, [], ◌∷◌, ◌++◌, length, take, Option, Some, None, Result, Ok, Err, if◌then◌else◌}
+use Rattle.std.specs.Prelude.{ℕ, ◌+◌, ◌-◌, ◌≡◌, ◌==◌, ◌≤◌, Bool, true, List, [], ◌∷◌, ◌++◌, length, take, Option, Some, None, Result, Ok, Err, if◌then◌else◌}
 use Rattle.ide_base.specs.Outside.{Contents, Rose, ShelfSeen, SinkSeen}
 use Rattle.text_lines.specs.Pieces.{pieces}
 use Rattle.link_events.specs.declared.fault.LineFault.{LineFault}
 use Rattle.link_events.specs.Words.{line_limit}
 use Rattle.line_runs.specs.declared.ends.End.{End}
+use Rattle.line_runs.specs.declared.ends.End.TheVariants as end
 use Rattle.line_runs.specs.declared.ends.Fault.{Fault}
 use Rattle.line_runs.specs.declared.ends.Fault.TheVariants as fault
 use Rattle.line_runs.specs.Front.{Gave, bytes_of}
@@ -117,3 +118,23 @@ WroteEndedOf e text (Some contents) name shelf shelf_now sink sink_now = WroteEn
 abbrev pub WroteEnded : Fault → (Text → Text) → Text → ShelfSeen → ShelfSeen → SinkSeen → SinkSeen → Type 0
 WroteEnded e text name shelf shelf_now sink sink_now = WroteEndedOf e text shelf.contents name shelf shelf_now sink
     sink_now
+
+-- ---- where the run comes to an end
+
+-- no line ends the run in these bytes of a file that goes on behind them
+abbrev pub GoesOn : {S : Type 0} → (S → ℕ → Text → Result (S × Text) LineFault) → (S → Text) → S → Text → Type 0
+GoesOn advance closing s bytes = (process advance closing true 1 s (pieces bytes)).0 ≡ end.TooLong
+
+-- no more bytes of the file were given than it has, and in those that were given ahead of the last read no line ends
+-- the run
+abbrev pub NoFurther : (Text → Type 0) → Text → (given ahead : ℕ) → Type 0
+NoFurther goes_on file given ahead = (given ≤ length file) × goes_on (take ahead file)
+
+-- where the contents are told, so many bytes were given, and so many of them ahead of the last read, as their files say
+abbrev pub ReadAsFarOf : (Contents → (given ahead : ℕ) → Type 0) → Option Contents → ShelfSeen → ShelfSeen → Type 0
+ReadAsFarOf far None shelf shelf_now = Unit {0}
+ReadAsFarOf far (Some contents) shelf shelf_now = (n : ℕ) × Gave shelf.given n shelf_now.given
+    × far contents n (n - shelf_now.latest)
+
+abbrev pub ReadAsFar : (Contents → (given ahead : ℕ) → Type 0) → ShelfSeen → ShelfSeen → Type 0
+ReadAsFar far shelf shelf_now = ReadAsFarOf far shelf.contents shelf shelf_now

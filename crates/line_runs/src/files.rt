@@ -1,8 +1,8 @@
 //! A file of lines, from its name to what is written for it.
 ghost use Rattle.std.specs.Prelude.{◌≡◌, ◌≢◌, ◌≤◌, ◌<◌, ◌+◌, ◌++◌, ℕ, List, Ok, IfOk, IfErr, length, option_map, take};
 ghost use Rattle.ide_base.specs.Outside.{Given, ShelfCause, given_by};
-ghost use Rattle.line_runs.specs.Front.{AskedPieces, Gave, IsReadOf, ReadsOn};
-ghost use Rattle.line_runs.specs.Gathering.{WroteEnded, ended_text, limit_due};
+ghost use Rattle.line_runs.specs.Front.{AskedPieces, Gave, IsReadOf, ReadsOn, bytes_of};
+ghost use Rattle.line_runs.specs.Gathering.{GoesOn, NoFurther, ReadAsFar, WroteEnded, ended_text, limit_due};
 ghost use Rattle.line_runs.specs.Lines.{file_due, file_limit};
 ghost use Rattle.line_runs.specs.Outcome.{Ran, RanOn};
 
@@ -70,6 +70,8 @@ pub fn run_file<S: Shelf, O: Sink, W: LineWork>(
         (S.seen shelf.old) (S.seen shelf.new) (O.seen out.old) (O.seen out.new) result }
     ensures so_far { IfErr result (λ e. WroteEnded e (ended_text W.advance W.closing work.old) name.now
         (S.seen shelf.old) (S.seen shelf.new) (O.seen out.old) (O.seen out.new)) }
+    ensures no_further { IfOk result (λ e. ReadAsFar (λ contents. NoFurther (GoesOn W.advance W.closing work.old)
+        (bytes_of (contents name.now))) (S.seen shelf.old) (S.seen shelf.new)) }
     ensures cap { (S.seen shelf.new).given ≤ (S.seen shelf.old).given + (file_limit + 1) }
     ensures pieces { AskedPieces (S.seen shelf.old).longest (S.seen shelf.new).longest }
     ensures too_long { IfOk result (λ e. e ≡ End.TooLong → Gave (S.seen shelf.old).given (file_limit + 1)

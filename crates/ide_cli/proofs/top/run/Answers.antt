@@ -95,3 +95,6 @@ returns-clause-order_law g c plan h w =
 
 pub returns-clause-so_far : goal.returns-clause-so_far
 returns-clause-so_far g c = rw c.status_of.ensures (rw c.as_slice-words.ensures.value at c.perform.ensures.so_far)
+
+pub returns-clause-no_further : goal.returns-clause-no_further
+returns-clause-no_further g c = rw c.status_of.ensures (rw c.as_slice-words.ensures.value at c.perform.ensures.no_further)

@@ -2,6 +2,7 @@ use Rattle.std.proofs.Common.{[], option_map, ap, refl}
 use Rattle.line_runs.proofs.WholeFiles.{ran_after}
 use Rattle.ide_cli.specs.declared.topologies.Loaded.TheVariants.{Long}
 use Rattle.ide_cli.specs.Topologies.{check_due, loaded, report}
+use Rattle.ide_cli.proofs.Furthers.{within_file}
 use Rattle.ide_cli.proofs.Loads.{checked_whole, cut_by_load, due_loaded, no_line_in_file, no_line_wrote, nothing_yet}
 use Rattle.ide_cli.proofs.topologies.check_topology.Goals as goal
 
@@ -30,3 +31,7 @@ returns-in-Ok-clause-so_far g c =
     let told = (g.S.Shelf.seen c.args.shelf.now).contents in
     no_line_wrote (λ contents n. []) (λ contents n. []) (report c.in-Ok.loaded) (g.S.Shelf.seen c.args.shelf.now) (g.S.Shelf.seen c.load.new.shelf) (g.O.Sink.seen c.args.out.now) (g.O.Sink.seen c.report.new.out) c.report.result
     (no_line_in_file (λ contents n. []) (λ contents n. []) told c.args.topology.now _ _ (λ contents n le. (refl, refl)) c.in-Ok.ensures.within) c.report.ensures.ran
+
+pub returns-in-Ok-clause-no_further : goal.returns-in-Ok-clause-no_further
+returns-in-Ok-clause-no_further g c =
+    within_file (g.S.Shelf.seen c.args.shelf.now).contents c.args.topology.now (g.S.Shelf.seen c.args.shelf.now) (g.S.Shelf.seen c.load.new.shelf) c.report.result c.in-Ok.ensures.within

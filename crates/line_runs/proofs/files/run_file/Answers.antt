@@ -4,7 +4,7 @@ use Rattle.std.specs.List.{slice_index_or}
 use Rattle.line_runs.specs.declared.ends.Fault.TheVariants as fault
 use Rattle.line_runs.specs.Gathering.{due_behind}
 use Rattle.line_runs.specs.Lines.{file_due}
-use Rattle.line_runs.proofs.FileFronts.{cut_wrote, end_at_limit, end_in_piece, end_of_file, fault_answers, fault_wrote, file_begins, file_goes_on, nothing_more, nothing_wrote, one_byte, whole_at}
+use Rattle.line_runs.proofs.FileFronts.{cut_wrote, end_at_limit, end_in_piece, end_of_file, fault_answers, fault_wrote, file_begins, file_goes_on, no_further, nothing_more, nothing_wrote, one_byte, whole_at}
 use Rattle.line_runs.proofs.WholeFiles.{out_of_memory}
 use Rattle.line_runs.proofs.files.run_file.Goals as goal
 
@@ -136,3 +136,33 @@ loop-n-preserved g c =
           c.run_piece.new.work
           c.loop-n.lines.unended.items c.run_piece.new.lines.unended.items (take n c.read_piece.new.buf) (g.O.Sink.seen c.args.out.now) (g.O.Sink.seen c.loop-n.out) (g.O.Sink.seen c.run_piece.new.out) inv.so_far reads.0 size ran;
     }
+
+pub returns-then-n-eq0-clause-no_further : goal.returns-then-n-eq0-clause-no_further
+returns-then-n-eq0-clause-no_further g c =
+    let inv = c.loop-n.invariant in
+    let counted = c.in-Ok-read_piece.ensures.counted in
+    no_further g.W.LineWork.advance g.W.LineWork.closing c.args.work.now c.args.name.now c.loop-n.at c.loop-n.lines.number c.loop-n.work c.loop-n.lines.unended.items [] (g.S.Shelf.seen c.args.shelf.now)
+    (g.S.Shelf.seen c.read_piece.new.shelf) (g.O.Sink.seen c.args.out.now) (g.O.Sink.seen c.loop-n.out) c.run_last.result inv.so_far (nothing_more (g.S.Shelf.seen c.args.shelf.now).contents c.args.name.now inv.so_far.front inv.so_far.is_read)
+    (omega arith) (omega (arith, c.if-n-eq0.true, c.in-Ok-read_piece.ensures.latest)) (omega (arith, inv.given, counted, c.if-n-eq0.true), omega (arith, inv.cap, counted, c.if-n-eq0.true))
+
+pub returns-then-at-eq-FILE_LIMIT-clause-no_further : goal.returns-then-at-eq-FILE_LIMIT-clause-no_further
+returns-then-at-eq-FILE_LIMIT-clause-no_further g c =
+    let inv = c.loop-n.invariant in
+    let n = c.in-Ok-read_piece.n in
+    let counted = c.in-Ok-read_piece.ensures.counted in
+    let reads = (rw inv.same at c.in-Ok-read_piece.ensures.bytes) inv.so_far.front inv.so_far.size inv.so_far.is_read in
+    let size : length (take n c.read_piece.new.buf) ≡ n = omega (arith, length-take n c.read_piece.new.buf, c.in-Ok-read_piece.ensures.bound) in
+    no_further g.W.LineWork.advance g.W.LineWork.closing c.args.work.now c.args.name.now c.loop-n.at c.loop-n.lines.number c.loop-n.work c.loop-n.lines.unended.items (take n c.read_piece.new.buf) (g.S.Shelf.seen c.args.shelf.now)
+    (g.S.Shelf.seen c.read_piece.new.shelf) (g.O.Sink.seen c.args.out.now) (g.O.Sink.seen c.loop-n.out) c.run_limit.result inv.so_far reads.0 (omega arith)
+    (omega (arith, size, c.in-Ok-read_piece.ensures.latest)) (omega (arith, inv.given, counted, size), omega (arith, inv.cap, counted, size))
+
+pub returns-in-Ok-Some-clause-no_further : goal.returns-in-Ok-Some-clause-no_further
+returns-in-Ok-Some-clause-no_further g c =
+    let inv = c.loop-n.invariant in
+    let n = c.in-Ok-read_piece.n in
+    let counted = c.in-Ok-read_piece.ensures.counted in
+    let reads = (rw inv.same at c.in-Ok-read_piece.ensures.bytes) inv.so_far.front inv.so_far.size inv.so_far.is_read in
+    let size : length (take n c.read_piece.new.buf) ≡ n = omega (arith, length-take n c.read_piece.new.buf, c.in-Ok-read_piece.ensures.bound) in
+    no_further g.W.LineWork.advance g.W.LineWork.closing c.args.work.now c.args.name.now c.loop-n.at c.loop-n.lines.number c.loop-n.work c.loop-n.lines.unended.items (take n c.read_piece.new.buf) (g.S.Shelf.seen c.args.shelf.now)
+    (g.S.Shelf.seen c.read_piece.new.shelf) (g.O.Sink.seen c.args.out.now) (g.O.Sink.seen c.loop-n.out) (Ok c.in-Ok-Some.end) inv.so_far reads.0 (omega arith)
+    (omega (arith, size, c.in-Ok-read_piece.ensures.latest)) (omega (arith, inv.given, counted, size), omega (arith, inv.cap, counted, size))
