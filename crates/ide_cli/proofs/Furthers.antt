@@ -26,7 +26,7 @@ far_same f g name s0 s1 (Ok e) same far = by_told s0.contents far
   where
     by_told : (told : Option Contents) → ReadAsFarOf (λ contents. NoFurther f (bytes_of (contents name))) told s0 s1 → ReadAsFarOf (λ contents. NoFurther g (bytes_of (contents name))) told s0 s1
     by_told None far = tt
-    by_told (Some contents) (n, gave, within, goes_on) = (n, gave, within, same _ goes_on)
+    by_told (Some contents) (n, gave, far) = (n, gave, (far.0, same _ far.1))
 
 -- ---- behind a sound topology
 
@@ -58,7 +58,7 @@ far_behind topology script plan s0 s1 s2 (Ok e) same is all far =
 
 -- ---- behind any other
 
-pub IsNoPlan : Loaded → Type 0
+abbrev pub IsNoPlan : Loaded → Type 0
 IsNoPlan (Sound plan) = ⊥
 IsNoPlan (Faulty fault) = Unit {0}
 IsNoPlan Long = Unit {0}
