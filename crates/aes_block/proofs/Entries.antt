@@ -1,8 +1,8 @@
 -- The S-box table, by a test over all of it, and what holds of each byte.
-use Rattle.std.proofs.Common.{◌≡◌, ℕ, zero, suc, ◌+◌, ◌<◌, ◌==◌, ap, nat_lt, Bool, true, ◌&&◌, slice_index, List, ◌∙◌, refl, arith, inl, inr}
+use Rattle.std.proofs.Common.{◌≡◌, ℕ, zero, suc, ◌<◌, ◌==◌, ap, nat_lt, Bool, true, ◌&&◌, slice_index, List, ◌∙◌, refl, arith, inl, inr}
 use Rattle.std.proofs.lemmas.Bool.{and_parts, cases_lt, eqb-true, ltb-true}
 use Rattle.aes_block.specs.declared.tables.TheConstants.{SBOX, TABLES}
-use Rattle.aes_block.specs.Field.{times, inverse}
+use Rattle.aes_block.specs.Field.{times}
 use Rattle.aes_block.specs.Aes.{sbox}
 use Rattle.aes_block.specs.Inside.{word_of}
 

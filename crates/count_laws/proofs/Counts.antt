@@ -1,6 +1,5 @@
 -- The posted counts of what was got come to no more than the posted packets that were got.
-use Rattle.std.proofs.Common.{◌≡◌, ◌≢◌, ℕ, ◌<◌, ◌≤◌, ◌==◌, ◌&&◌, ◌||◌, Bool, true, false, nat_le, List, [], ◌∷◌, ◌++◌, length, sum_by, Some, refl, ap, sym, ◌∙◌, subst, inl, inr, ◌⊎◌, arith, length-append}
-use Rattle.std.specs.Prelude.{if◌then◌else◌}
+use Rattle.std.proofs.Common.{◌≡◌, ◌≢◌, ℕ, ◌<◌, ◌≤◌, true, List, [], ◌∷◌, ◌++◌, length, sum_by, Some, refl, ap, sym, ◌∙◌, subst, inl, inr, ◌⊎◌, arith, length-append}
 use Rattle.std.proofs.lemmas.Bool.Decides.{nat_tests}
 use Rattle.ide_types.specs.Sub.{sub_bits}
 use Rattle.ide_types.specs.declared.port.PortName.{PortName}
@@ -14,7 +13,7 @@ use Rattle.ide_prefix.specs.Packet.{Packet}
 use Rattle.ide_plan.specs.declared.plan.Plan.{Plan}
 use Rattle.key_laws.specs.Keys.{Keyed, On, key_in, on_in}
 use Rattle.key_laws.specs.Operations.{Begun}
-use Rattle.key_laws.specs.History.{History, manager, draws, base, begun_at, begins_keyed}
+use Rattle.key_laws.specs.History.{History, manager, draws, base, begun_at}
 use Rattle.key_laws.proofs.Owners.{begun_below, after_longer}
 use Rattle.link_history.specs.Plan.{SubStream, is_same}
 use Rattle.link_history.specs.History.{keys_at, arrived_packet, received_in, held, pending, got_since, posted_of, meets_counts}

@@ -1,7 +1,7 @@
 -- How far is read where a run comes to an end, by the words. Behind a sound topology, which was wholly read, the bytes
 -- that were given are its own and then the script's, so what holds of the script holds of both; behind any other nothing
 -- more was given than it has.
-use Rattle.std.proofs.Common.{◌≡◌, ◌∙◌, ◌≤◌, ◌+◌, ◌-◌, ℕ, length, Option, Some, None, Result, Ok, Err, refl, sym, subst, arith}
+use Rattle.std.proofs.Common.{◌≡◌, ◌≤◌, ◌+◌, ◌-◌, ℕ, length, Option, Some, None, Result, Ok, Err, refl, sym, subst, arith}
 use Rattle.std.specs.Prelude.{IfOk}
 use Rattle.ide_base.specs.Outside.{Contents, ShelfSeen}
 use Rattle.ide_words.specs.Words.{Asked}

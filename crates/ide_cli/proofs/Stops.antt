@@ -1,11 +1,10 @@
 -- What was written where a fault ends a run, by the words.
-use Rattle.std.proofs.Common.{◌≡◌, ◌≤◌, ◌-◌, ℕ, [], length, take, Option, Some, None, Result, refl, sym, ap, subst, ◌∙◌, arith}
+use Rattle.std.proofs.Common.{◌≡◌, ◌-◌, [], Option, Some, None, Result, refl, sym, subst, arith}
 use Rattle.std.specs.Prelude.{IfErr}
 use Rattle.ide_base.specs.Outside.{Contents, ShelfSeen, SinkSeen}
 use Rattle.ide_words.specs.Words.{Asked, run, check, show}
 use Rattle.line_runs.specs.declared.ends.End.{End}
 use Rattle.line_runs.specs.declared.ends.Fault.{Fault}
-use Rattle.line_runs.specs.Front.{bytes_of}
 use Rattle.ide_cli.specs.SoFar.{WroteBy, asked_so_far, lines_given}
 use Rattle.ide_cli.proofs.Loads.{none_so_far}
 

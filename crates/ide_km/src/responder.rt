@@ -170,13 +170,7 @@ impl Responder {
         ensures short { length (bytes_of result) ≤ 8 }
     {
         match object {
-            KmView::Query { port: index } => {
-                if index == 0 {
-                    Some(self.describe())
-                } else {
-                    None
-                }
-            }
+            KmView::Query { port: 0 } => Some(self.describe()),
             KmView::KeyProg {
                 stream,
                 selector,

@@ -1,5 +1,5 @@
 -- The bounds and rules that every plan meets.
-use Rattle.std.specs.Prelude.{ℕ, ◌≡◌, ◌≢◌, ◌+◌, ◌*◌, ◌^◌, ◌/◌, ◌%◌, ◌<◌, ◌≤◌, ◌==◌, ◌||◌, Bool, true, false, IsTrue, List, length, Option, Some, None, All, AllPairs, sum_by}
+use Rattle.std.specs.Prelude.{ℕ, ◌≡◌, ◌≢◌, ◌+◌, ◌^◌, ◌/◌, ◌%◌, ◌<◌, ◌≤◌, ◌==◌, ◌||◌, Bool, true, false, List, length, Option, Some, None, All, AllPairs, sum_by}
 use Rattle.ide_plan.specs.declared.stream.IdRange.{IdRange}
 use Rattle.ide_plan.specs.declared.stream.AddressRange.{AddressRange}
 use Rattle.ide_plan.specs.declared.stream.Selector.{Selector}
@@ -10,7 +10,7 @@ use Rattle.ide_plan.specs.declared.interface.BarPlan.{BarPlan}
 use Rattle.ide_plan.specs.declared.plan.Region.{Region}
 use Rattle.ide_plan.specs.declared.plan.LinkPlan.{LinkPlan}
 use Rattle.ide_plan.specs.declared.plan.Plan.{Plan}
-use Rattle.ide_plan.specs.Plans.{is_default, same_id, both_default, share_class, has_selective, overlap}
+use Rattle.ide_plan.specs.Plans.{both_default, share_class, has_selective, overlap}
 
 abbrev pub AreBytes : List ℕ → Type 0
 AreBytes bytes = All (λ b. b < 256) bytes

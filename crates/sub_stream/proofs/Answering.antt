@@ -2,16 +2,15 @@
 -- seen as the receiver of the specs. It goes by the answer, by who holds the buffer and by the state of each slot: a
 -- packet that fits finds nothing held in the other key set, so the buffer is its own slot's alone. The hard case is an
 -- accepted unit: its slot counts it, an older key in the other slot goes, and the buffer lends the decrypted packets.
-use Rattle.std.proofs.Common.{◌≡◌, ◌≢◌, ℕ, ◌+◌, ◌<◌, ◌≤◌, Bool, true, false, not, ◌&&◌, ◌||◌, ◌==◌, nat_lt, nat_le, if◌then◌else◌, List, [], ◌∷◌, ◌++◌, length, Option, Some, None, refl, sym, ap, ◌∙◌, subst, arith, length-append}
+use Rattle.std.proofs.Common.{◌≡◌, ℕ, ◌+◌, ◌<◌, ◌≤◌, Bool, true, false, not, ◌&&◌, ◌||◌, ◌==◌, nat_lt, nat_le, if◌then◌else◌, List, [], ◌∷◌, ◌++◌, length, Option, Some, None, refl, sym, ap, ◌∙◌, arith, length-append}
 use Rattle.std.specs.Option.{option_map}
 use Rattle.std.proofs.lemmas.Grind.{common_steps}
 use Rattle.ide_types.specs.declared.sub.FailCause.{FailCause}
 use Rattle.ide_types.specs.declared.sub.FailCause.TheVariants as fail
 use Rattle.ide_types.specs.declared.sub.SubKind.{SubKind}
-use Rattle.ide_prefix.specs.Iv.{iv_of}
 use Rattle.ide_prefix.specs.Packet.{Packet}
 use Rattle.ide_prefix.specs.Units.{untagged}
-use Rattle.stream_rules.specs.Stream.{Slot, Slots, LiveKey, Taken, NotKeyed, Insecure, Failed, Held, Accepted, slot_in as seen_slot, with_slot, live_in, gone_on, counted, retired, dropped, accepted_slots, posted_sum, checked}
+use Rattle.stream_rules.specs.Stream.{LiveKey, Taken, NotKeyed, Insecure, Failed, Held, Accepted, slot_in as seen_slot, with_slot, live_in, gone_on, counted, retired, dropped, accepted_slots, posted_sum, checked}
 use Rattle.stream_rules.specs.Stream.{Empty as EmptySlot, holds_any}
 use Rattle.stream_rules.specs.Slots.{begun}
 use Rattle.key_slots.specs.declared.slot.Slot.{Slot as KeySlot}
@@ -22,7 +21,7 @@ use Rattle.sub_stream.specs.declared.answer.Taken.TheVariants as answers
 use Rattle.sub_stream.specs.declared.taking.Holds.{Holds}
 use Rattle.sub_stream.specs.declared.taking.Holds.TheVariants.{Nothing, Zero, One, Delivered}
 use Rattle.sub_stream.specs.Answers.{answer_of}
-use Rattle.sub_stream.specs.Gathered.{Gathered, no_packets, with_packet, opened}
+use Rattle.sub_stream.specs.Gathered.{Gathered, no_packets}
 use Rattle.sub_stream.specs.Seen.{seen, live_with, has_armed, is_programmed}
 use Rattle.sub_stream.specs.Senders.{begun_where_empty, ahead_of}
 use Rattle.sub_stream.specs.Receivers.{Receiver, held_zero, held_one, seen_in, lent_by, ahead_by, HoldsFew, IsReceiver, holds_some, holds_apart, held_in, holds_after, held_alone, held_unless_failed, is_accepted, is_draw_below, without_older, slots_after, fits_held, fits_unit, key_for, ahead_in, is_tagged_behind, judged, early_answer, early_of, BufferAfter, taken_with, taken_of, dropped_slots, dropped_receiver, ahead_held, opened_under, after_answer, ahead_at, gone_receiver}

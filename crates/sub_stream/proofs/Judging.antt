@@ -1,12 +1,12 @@
 -- A packet with the held ones: what is joined, and the answer.
-use Rattle.std.proofs.Common.{◌≡◌, ℕ, suc, ◌+◌, ◌<◌, ◌≤◌, Bool, true, false, nat_le, if◌then◌else◌, List, [], ◌∷◌, ◌++◌, length, refl, sym, ap, ◌∙◌, subst, arith, length-append}
+use Rattle.std.proofs.Common.{◌≡◌, ℕ, suc, ◌+◌, ◌<◌, ◌≤◌, Bool, true, false, nat_le, if◌then◌else◌, List, [], ◌∷◌, ◌++◌, length, refl, sym, ap, ◌∙◌, arith}
 use Rattle.std.proofs.lemmas.List.Sums.{sum_by-append}
 use Rattle.ide_types.specs.declared.sub.FailCause.TheVariants as fail
 use Rattle.gcm_seal.specs.Gcm.{masked, verifies}
 use Rattle.ide_prefix.specs.Iv.{iv_of}
 use Rattle.ide_prefix.specs.Packet.{Packet}
 use Rattle.ide_prefix.specs.Units.{clear_bytes, authenticated, encrypted, untagged}
-use Rattle.stream_rules.specs.Stream.{LiveKey, Taken, Failed, Held, Accepted, posted_sum, checked}
+use Rattle.stream_rules.specs.Stream.{LiveKey, Failed, Held, Accepted, posted_sum, checked}
 use Rattle.std.proofs.lemmas.Grind.{common_steps}
 use Rattle.sub_stream.specs.Gathered.{Gathered, with_packet, clear_of, opened_from, opened}
 use Rattle.sub_stream.specs.Receivers.{is_tagged_behind, judged}

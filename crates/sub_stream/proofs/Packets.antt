@@ -1,22 +1,21 @@
 -- Packets in a buffer: what is joined, one more, and decrypted.
-use Rattle.std.proofs.Common.{◌≡◌, ℕ, ◌+◌, ◌-◌, ◌*◌, ◌<◌, ◌≤◌, zero, suc, List, [], ◌∷◌, ◌++◌, length, map, take, drop, get_or, slice_index, Option, Some, None, refl, sym, ap, ◌∙◌, subst, arith, append_assoc, length-append}
-use Rattle.std.specs.List.{slice_get, flat_map}
+use Rattle.std.proofs.Common.{◌≡◌, ℕ, ◌+◌, ◌-◌, ◌<◌, ◌≤◌, zero, suc, List, [], ◌∷◌, ◌++◌, length, map, take, drop, get_or, slice_index, Some, refl, sym, ap, ◌∙◌, arith}
+use Rattle.std.specs.List.{slice_get}
 use Rattle.std.specs.Option.{option_map}
 use Rattle.std.proofs.Math.ListN.{set}
 use Rattle.std.proofs.Math.Seq.{take-append_seam, drop-append_seam}
 use Rattle.std.proofs.lemmas.Option.{slice_get-map}
-use Rattle.std.proofs.lemmas.List.{length-map, length-set, map-append}
-use Rattle.std.proofs.lemmas.List.Sums.{sum_by-append, sum_by-cons}
-use Rattle.std.proofs.lemmas.Grind.{flat_map-append, common_steps}
+use Rattle.std.proofs.lemmas.List.{length-map}
+use Rattle.std.proofs.lemmas.List.Sums.{sum_by-cons}
+use Rattle.std.proofs.lemmas.Grind.{common_steps}
 use Rattle.gcm_seal.specs.Gcm.{masked}
 use Rattle.gcm_seal.proofs.Sealing.{masked-append, length-masked}
 use Rattle.ide_prefix.specs.declared.packet.Prefix.{Prefix}
 use Rattle.ide_prefix.specs.Packet.{Packet, prefix_bytes, begins_sync}
-use Rattle.ide_prefix.specs.Units.{clear_bytes, authenticated, encrypted, untagged}
+use Rattle.ide_prefix.specs.Units.{clear_bytes, authenticated, encrypted}
 use Rattle.stream_rules.specs.Stream.{posted_sum}
-use Rattle.unit_aggregation.specs.{Collected, heads_of, bodies_of, overwritten, rebodied, with_bodies, body_of}
-use Rattle.sub_stream.specs.declared.answer.PacketMark.{PacketMark}
-use Rattle.sub_stream.specs.Gathered.{packets_in, parts_of, opened_from, opened, lent_parts, mark_of, IsGathered}
+use Rattle.unit_aggregation.specs.{heads_of, bodies_of, overwritten, rebodied}
+use Rattle.sub_stream.specs.Gathered.{packets_in, parts_of, opened_from, lent_parts, mark_of}
 
 abbrev pub Parts : Type 0
 Parts = List ℕ × List ℕ

@@ -2,13 +2,13 @@
 -- invariant. Bytes that were written one after another are only grouped anew, and what a packet does to the slots is
 -- tried for all pairs of slot states. The hard part is the limit of a key: a unit that begins has passed the test for a
 -- worn key, and of an open one the invariant says that it is within the limit.
-use Rattle.std.proofs.Common.{◌≡◌, ◌≢◌, ℕ, ◌+◌, ◌-◌, ◌<◌, ◌≤◌, Bool, true, false, not, ◌&&◌, ◌||◌, ◌==◌, if◌then◌else◌, List, [], ◌∷◌, ◌++◌, length, Option, Some, None, Result, Ok, Err, refl, sym, ap, ◌∙◌, subst, arith, append_assoc, length-append}
+use Rattle.std.proofs.Common.{◌≡◌, ℕ, ◌+◌, ◌-◌, ◌<◌, ◌≤◌, Bool, true, false, not, ◌&&◌, ◌||◌, ◌==◌, if◌then◌else◌, List, [], ◌∷◌, ◌++◌, length, Ok, Err, refl, sym, ap, ◌∙◌, arith, append_assoc}
 use Rattle.std.proofs.lemmas.Grind.{common_steps}
 use Rattle.gcm_seal.specs.Gcm.{masked, tag_of}
 use Rattle.ide_prefix.specs.declared.packet.Prefix.{Prefix}
 use Rattle.ide_prefix.specs.Iv.{iv_of}
 use Rattle.ide_prefix.specs.Packet.{Packet, prefix_bytes, packet_bytes, sync_head}
-use Rattle.ide_prefix.specs.Units.{authenticated, encrypted}
+use Rattle.ide_prefix.specs.Units.{encrypted}
 use Rattle.stream_rules.specs.Stream.{Slots, LiveKey, live_sender, sealed_slots, ended_slots}
 use Rattle.key_slots.specs.declared.slot.Slot.{Slot as KeySlot}
 use Rattle.key_slots.specs.declared.slot.Slot.TheVariants.{Empty, Programmed, Armed, Live}

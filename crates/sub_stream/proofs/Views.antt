@@ -1,5 +1,5 @@
 -- What each call makes of the packets that are seen.
-use Rattle.std.proofs.Common.{◌≡◌, ℕ, ◌+◌, ◌*◌, ◌<◌, ◌≤◌, true, List, [], ◌∷◌, ◌++◌, length, map, Option, refl, sym, ap, ◌∙◌, subst, arith, length-append}
+use Rattle.std.proofs.Common.{◌≡◌, ℕ, ◌+◌, ◌<◌, true, List, [], ◌∷◌, ◌++◌, length, map, refl, sym, ap, ◌∙◌, subst, arith, length-append}
 use Rattle.std.proofs.Math.ListN.{set}
 use Rattle.std.proofs.lemmas.Bool.{lt-ltb}
 use Rattle.std.proofs.lemmas.List.{length-set, map-append}
@@ -9,9 +9,9 @@ use Rattle.gcm_seal.proofs.Sealing.{length-masked}
 use Rattle.ide_prefix.specs.declared.packet.Prefix.{Prefix}
 use Rattle.ide_prefix.specs.Packet.{Packet, prefix_bytes}
 use Rattle.stream_rules.specs.Stream.{posted_sum}
-use Rattle.unit_aggregation.specs.{Collected, with_packet as with_parts, has_room, rebodied, overwritten, with_bodies, body_of}
+use Rattle.unit_aggregation.specs.{Collected, with_packet as with_parts, has_room, rebodied, with_bodies, body_of}
 use Rattle.sub_stream.specs.Gathered.{Gathered, packets_in, parts_of, opened, with_packet, IsGathered}
-use Rattle.sub_stream.proofs.Packets.{Parts, length-packets_in, packets-added, length-rebodied, posted-rebodied, parts-rebodied, opened-rebodied, overwritten-all}
+use Rattle.sub_stream.proofs.Packets.{length-packets_in, packets-added, length-rebodied, posted-rebodied, parts-rebodied, opened-rebodied, overwritten-all}
 
 -- the packets that are seen of these fields
 abbrev pub view : List Prefix → Collected → Gathered

@@ -1,11 +1,11 @@
 -- The packets of one unit, gathered, and what they carry once they are decrypted (PCI Express Base 6.0 section 6.33, in
 -- this profile).
-use Rattle.std.specs.Prelude.{◌≡◌, ℕ, ◌+◌, ◌*◌, ◌≤◌, Bool, List, [], ◌∷◌, ◌++◌, length, map, drop, slice_index, Option, Some, None}
+use Rattle.std.specs.Prelude.{◌≡◌, ℕ, ◌+◌, ◌*◌, ◌≤◌, List, [], ◌∷◌, ◌++◌, length, map, drop, Option, Some, None}
 use Rattle.std.specs.Borrow.{Bor}
 use Rattle.gcm_seal.specs.Gcm.{masked}
 use Rattle.ide_prefix.specs.declared.packet.Prefix.{Prefix}
 use Rattle.ide_prefix.specs.Packet.{Packet, is_sync_packet}
-use Rattle.ide_prefix.specs.Units.{clear_bytes, authenticated, encrypted}
+use Rattle.ide_prefix.specs.Units.{clear_bytes, authenticated}
 use Rattle.stream_rules.specs.Stream.{posted_sum}
 use Rattle.unit_aggregation.specs.{Collected}
 use Rattle.sub_stream.specs.declared.answer.PacketMark.{PacketMark}

@@ -1,9 +1,7 @@
-use Rattle.std.proofs.Common.{◌≡◌, ℕ, ◌+◌, Bool, true, false, List, [], ◌∷◌, ◌++◌, length, Some, refl, sym, ap, ◌∙◌, subst, length-append}
+use Rattle.std.proofs.Common.{◌≡◌, ℕ, ◌+◌, true, false, [], ◌∷◌, ◌++◌, length, Some, refl, sym, ap, ◌∙◌, subst}
 use Rattle.ide_prefix.specs.Cut.{packet_of_view}
-use Rattle.ide_prefix.specs.Packet.{Packet}
 use Rattle.ide_prefix.specs.Units.{untagged}
-use Rattle.stream_rules.specs.Stream.{LiveKey, Taken, Accepted, posted_sum}
-use Rattle.sub_stream.specs.declared.answer.Taken.{Taken as Answer}
+use Rattle.stream_rules.specs.Stream.{LiveKey, Accepted, posted_sum}
 use Rattle.sub_stream.specs.declared.answer.Taken.TheVariants as answers
 use Rattle.sub_stream.specs.Answers.{answer_of}
 use Rattle.sub_stream.specs.Gathered.{Gathered, with_packet, lent_front}

@@ -1,8 +1,7 @@
-use Rattle.std.proofs.Common.{◌≡◌, ℕ, Bool, true, false, not, length, Option, Some, None, sym, ap, ◌∙◌, if◌then◌else◌}
+use Rattle.std.proofs.Common.{◌≡◌, true, false, not, length, Option, Some, None, sym, ap, ◌∙◌, if◌then◌else◌}
 use Rattle.ide_types.specs.declared.sub.FailCause.TheVariants as fail
 use Rattle.ide_prefix.specs.Cut.{packet_of_view}
 use Rattle.key_slots.specs.{DrawnKey, slot_in, live_held}
-use Rattle.sub_stream.specs.declared.answer.Taken.{Taken as Answer}
 use Rattle.sub_stream.specs.declared.answer.Taken.TheVariants as answers
 use Rattle.sub_stream.specs.Receivers.{Receiver, early_of, fits_held}
 use Rattle.sub_stream.proofs.Receiving.{early_by, early_seen, key_held}

@@ -1,4 +1,4 @@
-use Rattle.std.proofs.Common.{◌≡◌, Bool, sym, ap, ◌∙◌}
+use Rattle.std.proofs.Common.{ap, ◌∙◌}
 use Rattle.key_slots.specs.{is_one}
 use Rattle.sub_stream.specs.Receivers.{Receiver, gone_receiver}
 use Rattle.sub_stream.proofs.Answering.{view, view-gone}

@@ -1,7 +1,6 @@
-use Rattle.std.proofs.Common.{◌≡◌, Bool, not, ◌==◌, ℕ, length, sym, ap, ◌∙◌, subst, refl}
-use Rattle.key_slots.specs.{is_one, armed}
-use Rattle.sub_stream.specs.Seen.{seen_out}
-use Rattle.sub_stream.specs.Senders.{Sender, gone_sender, gone_slots}
+use Rattle.std.proofs.Common.{ap, ◌∙◌}
+use Rattle.key_slots.specs.{is_one}
+use Rattle.sub_stream.specs.Senders.{Sender, gone_sender}
 use Rattle.sub_stream.proofs.Sending.{goes}
 use Rattle.sub_stream.proofs.sender.Tx.go.Goals as goal
 

@@ -1,11 +1,10 @@
-use Rattle.std.proofs.Common.{◌≡◌, ℕ, ◌+◌, ◌-◌, ◌<◌, ◌≤◌, Bool, true, false, not, List, [], ◌∷◌, ◌++◌, if◌then◌else◌, length, Result, Ok, refl, sym, ap, ◌∙◌, subst, arith, length-append}
+use Rattle.std.proofs.Common.{◌≡◌, ℕ, ◌+◌, ◌-◌, Bool, List, [], ◌∷◌, ◌++◌, if◌then◌else◌, length, Ok, refl, sym, ap, ◌∙◌, arith, length-append}
 use Rattle.ide_prefix.specs.declared.packet.Prefix.{Prefix}
-use Rattle.ide_prefix.specs.Iv.{iv_of}
 use Rattle.ide_prefix.specs.Packet.{Packet, packet_bytes}
 use Rattle.stream_rules.specs.Stream.{LiveKey, sealed_slots, ended_slots}
 use Rattle.sub_stream.specs.Gathered.{Gathered, lent_front}
 use Rattle.sub_stream.specs.Seen.{seen_out, live_with}
-use Rattle.sub_stream.specs.Senders.{Sender, Content, Sealing, carried_content, ready_of, sealing_of, sealing_as, sealing_answer, sealing_bytes, sender_after, packet_of, ahead_for}
+use Rattle.sub_stream.specs.Senders.{Sender, Content, carried_content, sealing_of, sealing_as, sealing_answer, sealing_bytes, sender_after, packet_of, ahead_for}
 use Rattle.sub_stream.proofs.Sealed.{sealing_with, bare, tagged, packet-tagged, bytes-sealed, slots-sealed, front_if, sender-sealed}
 use Rattle.sub_stream.proofs.sender.Tx.seal_carried.Goals as goal
 

@@ -1,4 +1,4 @@
-use Rattle.std.proofs.Common.{◌≡◌, sym, ap, ◌∙◌}
+use Rattle.std.proofs.Common.{ap, ◌∙◌}
 use Rattle.ide_prefix.specs.Units.{encrypted}
 use Rattle.sub_stream.specs.Gathered.{Gathered}
 use Rattle.sub_stream.proofs.Packets.{bodies_in}

@@ -1,5 +1,5 @@
-use Rattle.std.proofs.Common.{◌≡◌, ◌++◌, sym, ap, ◌∙◌}
-use Rattle.sub_stream.specs.Gathered.{Gathered, clear_of}
+use Rattle.std.proofs.Common.{◌++◌, ap, ◌∙◌}
+use Rattle.sub_stream.specs.Gathered.{clear_of}
 use Rattle.sub_stream.proofs.Packets.{heads_in}
 use Rattle.sub_stream.proofs.unit_packets.UnitPackets.clear_bytes.Goals as goal
 

@@ -1,6 +1,5 @@
-use Rattle.std.proofs.Common.{◌≡◌, ◌+◌, ◌-◌, ◌≤◌, List, ℕ, length, map, take, drop, Some, ap, sym, ◌∙◌, arith, length-drop}
+use Rattle.std.proofs.Common.{◌-◌, map, Some, ap, sym, ◌∙◌}
 use Rattle.std.specs.List.{slice_get}
-use Rattle.std.proofs.lemmas.List.{take_all}
 use Rattle.sub_stream.specs.Gathered.{Gathered, lent_parts}
 use Rattle.sub_stream.proofs.Packets.{lent_at, clear_long, whole_rest}
 use Rattle.sub_stream.proofs.unit_packets.UnitPackets.packet.Goals as goal
