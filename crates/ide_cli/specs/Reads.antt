@@ -46,7 +46,7 @@ ReadPast (Some (run topology script)) before now = RanPast before now
 ReadPast (Some (check topology)) before now = Gave before (topology_limit + 1) now
 ReadPast (Some (show packets)) before now = Gave before (file_limit + 1) now
 
--- ---- how far is read where the run comes to an end, of bytes that were given, some of them ahead of the last read
+-- ---- how far is read where the run comes to an end: of the bytes that were given, and those ahead of the last read
 
 -- no line ends the run in these bytes of a script that goes on behind them
 abbrev pub ScriptGoesOn : Plan → Text → Type 0
@@ -54,20 +54,21 @@ ScriptGoesOn plan bytes = (due_after plan [] (script_in true 1 (pieces bytes))).
 
 -- the script is read behind a topology that is sound, and behind no other
 abbrev pub LoadedNoFurther : Loaded → (topology script : Text) → (given ahead : ℕ) → Type 0
-LoadedNoFurther (Sound plan) topology script given ahead = NoFurther (ScriptGoesOn plan) script (given - length topology)
-    (ahead - length topology)
+LoadedNoFurther (Sound plan) topology script given ahead =
+    NoFurther (ScriptGoesOn plan) script (given - length topology) (ahead - length topology)
 LoadedNoFurther (Faulty fault) topology script given ahead = given ≤ length topology
 LoadedNoFurther Long topology script given ahead = given ≤ length topology
 
 abbrev pub RunNoFurther : (topology script : Option Text) → (given ahead : ℕ) → Type 0
 RunNoFurther None script given ahead = given ≡ 0
-RunNoFurther (Some topology) script given ahead = LoadedNoFurther (loaded topology) topology (bytes_of script) given ahead
+RunNoFurther (Some topology) script given ahead =
+    LoadedNoFurther (loaded topology) topology (bytes_of script) given ahead
 
 -- nothing is read for words that ask for nothing
 abbrev pub AskedNoFurther : Option Asked → Contents → (given ahead : ℕ) → Type 0
 AskedNoFurther None contents given ahead = given ≡ 0
-AskedNoFurther (Some (run topology script)) contents given ahead = RunNoFurther (contents topology) (contents script)
-    given ahead
+AskedNoFurther (Some (run topology script)) contents given ahead =
+    RunNoFurther (contents topology) (contents script) given ahead
 AskedNoFurther (Some (check topology)) contents given ahead = given ≤ length (bytes_of (contents topology))
-AskedNoFurther (Some (show packets)) contents given ahead = NoFurther (GoesOn shown_line no_text tt)
-    (bytes_of (contents packets)) given ahead
+AskedNoFurther (Some (show packets)) contents given ahead =
+    NoFurther (GoesOn shown_line no_text tt) (bytes_of (contents packets)) given ahead

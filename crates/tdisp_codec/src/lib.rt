@@ -1,5 +1,5 @@
-//! The messages between a host's security manager and a device's interfaces, and the report of an interface: readers and
-//! writers (TDISP, PCI Express Base 6.0 with the ECN's chapter 11, in this profile).
+//! The messages between a host's security manager and a device's interfaces, and the report of an interface: readers
+//! and writers (TDISP, PCI Express Base 6.0 with the ECN's chapter 11, in this profile).
 #![tactic(auto)]
 
 mod fault;
