@@ -1,5 +1,5 @@
 -- What was written where a fault ends a run, by the words.
-use Rattle.std.proofs.Common.{◌≡◌, ◌-◌, [], Option, Some, None, Result, refl, sym, subst, arith}
+use Rattle.std.proofs.Common.{◌≡◌, [], Option, Some, None, Result, refl, sym, subst, arith}
 use Rattle.std.specs.Prelude.{IfErr}
 use Rattle.ide_base.specs.Outside.{Contents, ShelfSeen, SinkSeen}
 use Rattle.ide_words.specs.Words.{Asked, run, check, show}

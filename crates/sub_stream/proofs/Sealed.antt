@@ -2,7 +2,7 @@
 -- invariant. Bytes that were written one after another are only grouped anew, and what a packet does to the slots is
 -- tried for all pairs of slot states. The hard part is the limit of a key: a unit that begins has passed the test for a
 -- worn key, and of an open one the invariant says that it is within the limit.
-use Rattle.std.proofs.Common.{◌≡◌, ℕ, ◌+◌, ◌-◌, ◌<◌, ◌≤◌, Bool, true, false, not, ◌&&◌, ◌||◌, ◌==◌, if◌then◌else◌, List, [], ◌∷◌, ◌++◌, length, Ok, Err, refl, sym, ap, ◌∙◌, arith, append_assoc}
+use Rattle.std.proofs.Common.{◌≡◌, ℕ, ◌+◌, ◌<◌, ◌≤◌, Bool, true, false, not, ◌&&◌, ◌||◌, ◌==◌, if◌then◌else◌, List, [], ◌∷◌, ◌++◌, length, Ok, Err, refl, sym, ap, ◌∙◌, arith, append_assoc}
 use Rattle.std.proofs.lemmas.Grind.{common_steps}
 use Rattle.gcm_seal.specs.Gcm.{masked, tag_of}
 use Rattle.ide_prefix.specs.declared.packet.Prefix.{Prefix}

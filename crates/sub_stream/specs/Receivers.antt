@@ -7,7 +7,7 @@ use Rattle.gcm_seal.specs.Gcm.{verifies}
 use Rattle.ide_prefix.specs.Packet.{Packet}
 use Rattle.ide_prefix.specs.Iv.{iv_of}
 use Rattle.ide_prefix.specs.Units.{authenticated, encrypted, untagged}
-use Rattle.stream_rules.specs.Stream.{Empty, Programmed, Live, Slots, LiveKey, Taken, NotKeyed, Failed, Held, Accepted, slot_in, with_slot, live_in, holds_any, posted_sum, checked, dropped, gone_on, accepted_slots}
+use Rattle.stream_rules.specs.Stream.{Empty, Programmed, Slots, LiveKey, Taken, NotKeyed, Failed, Held, Accepted, slot_in, with_slot, live_in, holds_any, posted_sum, checked, dropped, gone_on, accepted_slots}
 use Rattle.stream_rules.specs.Slots.{begun}
 use Rattle.key_slots.specs.{SlotPair, slot_in as key_slot_in, with_both, live_draw, is_only_live, is_live as is_live_key}
 use Rattle.key_slots.specs.declared.slot.Slot.TheVariants as key

@@ -1,7 +1,7 @@
 use Rattle.std.proofs.Common.{◌≡◌, ℕ, ◌+◌, true, false, [], ◌∷◌, ◌++◌, length, Some, refl, sym, ap, ◌∙◌, subst}
 use Rattle.ide_prefix.specs.Cut.{packet_of_view}
 use Rattle.ide_prefix.specs.Units.{untagged}
-use Rattle.stream_rules.specs.Stream.{LiveKey, Accepted, posted_sum}
+use Rattle.stream_rules.specs.Stream.{LiveKey, posted_sum}
 use Rattle.sub_stream.specs.declared.answer.Taken.TheVariants as answers
 use Rattle.sub_stream.specs.Answers.{answer_of}
 use Rattle.sub_stream.specs.Gathered.{Gathered, with_packet, lent_front}

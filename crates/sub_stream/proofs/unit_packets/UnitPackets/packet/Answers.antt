@@ -1,4 +1,4 @@
-use Rattle.std.proofs.Common.{◌-◌, map, Some, ap, sym, ◌∙◌}
+use Rattle.std.proofs.Common.{map, Some, ap, sym, ◌∙◌}
 use Rattle.std.specs.List.{slice_get}
 use Rattle.sub_stream.specs.Gathered.{Gathered, lent_parts}
 use Rattle.sub_stream.proofs.Packets.{lent_at, clear_long, whole_rest}

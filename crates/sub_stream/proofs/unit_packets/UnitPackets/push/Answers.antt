@@ -1,4 +1,4 @@
-use Rattle.std.proofs.Common.{◌≡◌, ◌+◌, ◌<◌, ◌++◌, length, ◌∙◌, arith}
+use Rattle.std.proofs.Common.{◌≡◌, ◌<◌, ◌++◌, length, ◌∙◌, arith}
 use Rattle.ide_prefix.specs.Packet.{prefix_bytes}
 use Rattle.sub_stream.proofs.Views.{has_place, gathered-added, view-added}
 use Rattle.sub_stream.proofs.unit_packets.UnitPackets.push.Goals as goal
