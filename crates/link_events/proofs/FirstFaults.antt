@@ -1,100 +1,44 @@
 -- The fault of a line is its first: each event's words are read from the left, each by its test in the table, so a
 -- reading that ends in a fault ends at the first word that does not meet its test.
-use Rattle.std.proofs.Common.{true, false, nat_lt, not, ◌&&◌, ◌||◌, ◌≡◌, ◌≤◌, ◌↔◌, ℕ, List, [], ◌∷◌, Bool, Option, Some, None, Result, Ok, Err, length, drop, refl, sym, ◌∙◌, ap, subst, arith, codes, inl, inr}
+use Rattle.std.proofs.Common.{true, false, nat_lt, not, ◌&&◌, ◌||◌, ◌≡◌, ◌≤◌, ◌↔◌, ℕ, List, [], ◌∷◌, Bool, Some, None}
+use Rattle.std.proofs.Common.{Result, Ok, Err, length, drop, refl, sym, ◌∙◌, ap, arith, codes, inl, inr}
 use Rattle.std.specs.Prelude.{if◌then◌else◌, is_some}
 use Rattle.std.specs.List.{list_all}
-use Rattle.std.specs.Option.{ok_or, unwrap_or}
+use Rattle.std.specs.Option.{ok_or}
 use Rattle.std.specs.Str.{bytes_eq}
 use Rattle.std.proofs.lemmas.Bool.{ltb-true, ltb-false, lt-ltb}
 use Rattle.ide_types.specs.declared.port.Side.{Side}
 use Rattle.ide_types.specs.declared.port.Side.TheVariants.{Host, Device}
 use Rattle.ide_types.specs.declared.port.PortName.{PortName}
 use Rattle.ide_types.specs.Names.{Text}
-use Rattle.link_events.specs.Terms.{Event, Establish, Refresh, Stop, Send, Pass, Alter, Cut, Arrive, Dump, Reset, Status, Loss, LineFault}
+use Rattle.link_events.specs.Terms.{Event, Establish, Refresh, Stop, Send, Pass, Alter, Cut, Arrive, Dump, Reset}
+use Rattle.link_events.specs.Terms.{Status, LineFault}
 use Rattle.link_events.specs.Terms.fault
-use Rattle.link_events.specs.Words.{is_printable, words_in, number_in, mask_in, bytes_in, port_in, lost_in}
-use Rattle.link_events.specs.Parse.{◌>>=◌, lost_exchange_in, loss_in, operation_in, marks_in, send_in, one_number_in, two_numbers_in, alter_in, arrive_in, event_by, event_in, is_comment}
-use Rattle.link_events.specs.Faults.{WordTest, event_table, is_at_host, is_trusted_at, number_test, mask_test, bytes_test, port_test, lost_test, word_test, trusted_test, mark_test, operation_tests, send_tests, arrive_tests, number_tests, two_number_tests, alter_tests, FirstOff, RowFault, TableFault, WordsFault, FirstFault, FaultsAreFirst}
+use Rattle.link_events.specs.Words.{is_printable, words_in, number_in, mask_in, bytes_in, port_in}
+use Rattle.link_events.specs.Parse.{◌>>=◌, lost_exchange_in, loss_in, operation_in, marks_in, send_in, one_number_in}
+use Rattle.link_events.specs.Parse.{two_numbers_in, alter_in, arrive_in, bytes_event_in, event_by, event_in, is_comment}
+use Rattle.link_events.specs.Faults.{WordTest, event_table, is_at_host, is_trusted_at, number_test, mask_test}
+use Rattle.link_events.specs.Faults.{bytes_test, port_test, lost_test, word_test, trusted_test, mark_test}
+use Rattle.link_events.specs.Faults.{operation_tests, send_tests, arrive_tests, number_tests, two_number_tests}
+use Rattle.link_events.specs.Faults.{alter_tests, WordsFault, FirstFault, FaultsAreFirst}
 use Rattle.link_events.proofs.Steps.{ok_err, err_err, false_true}
+use Rattle.link_events.proofs.Readings.{Reads, RowReads, TableReads, end_reads, off_reads, on_reads, step_reads}
+use Rattle.link_events.proofs.Readings.{miscounted, made_reads, one_number, two_numbers, word_reads, lost, row_reads}
+use Rattle.link_events.proofs.Readings.{last_row, no_row}
+use Rattle.link_events.proofs.InterfaceFaults.{interface_reads}
 
--- ---- one way: a reading that ends in a fault ends in the first
-
--- the reading of these words ends in a fault exactly where that is the first off these tests
-abbrev Reads : {A : Type 0} → List WordTest → List Text → Result A LineFault → Type 0
-Reads places words answer = (f : LineFault) → (answer ≡ Err f) ↔ FirstOff places words f
-
--- all words are spelled
-end_reads : {A : Type 0} (x : A) → Reads [] [] (Ok x)
-end_reads x f = (ok_err x f, λ off. absurd off)
-
--- a word that does not meet its test
-off_reads : {A : Type 0} (p : WordTest) (w : Text) (ps : List WordTest) (ws : List Text) → p.is_spelled w ≡ false
-    → Reads {A = A} (p ∷ ps) (w ∷ ws) (Err p.fault)
-off_reads p w ps ws is f = (
-  λ e. inl (is, err_err p.fault f e),
-  λ off. elim off [
-    | inl here ↦ ap Err here.1
-    | inr on ↦ absurd (false_true (sym is ∙ on.0))
-  ],
-)
-
--- a word that meets its test, and what follows
-on_reads : {A : Type 0} (p : WordTest) (w : Text) (ps : List WordTest) (ws : List Text) (answer : Result A LineFault)
-    → p.is_spelled w ≡ true → Reads ps ws answer → Reads (p ∷ ps) (w ∷ ws) answer
-on_reads p w ps ws answer is later f = (
-  λ e. inr (is, (later f).0 e),
-  λ off. elim off [
-    | inl here ↦ absurd (false_true (sym here.0 ∙ is))
-    | inr on ↦ (later f).1 on.1
-  ],
-)
-
--- a word that is read where it meets its test, and what follows
-step_reads : {A B : Type 0} (p : WordTest) (o : Option A) (w : Text) (ps : List WordTest) (ws : List Text) (k : A → Result B LineFault)
-    → p.is_spelled w ≡ is_some o → ((x : A) → o ≡ Some x → Reads ps ws (k x)) → Reads (p ∷ ps) (w ∷ ws) (ok_or o p.fault >>= k)
-step_reads p None w ps ws k is later = off_reads p w ps ws is
-step_reads p (Some x) w ps ws k is later = on_reads p w ps ws (k x) is (later x refl)
-
--- the last word
-last_reads : {A : Type 0} (p : WordTest) (o : Option A) (w : Text) → p.is_spelled w ≡ is_some o → Reads (p ∷ []) (w ∷ []) (ok_or o p.fault)
-last_reads p None w is = off_reads p w [] [] is
-last_reads p (Some x) w is = on_reads p w [] [] (Ok x) is (end_reads x)
-
--- ---- the words behind the first
-
--- the reading of the words ends in a fault exactly where that is the first off the event's tests
-abbrev RowReads : {A : Type 0} → Option (List WordTest) → List Text → Result A LineFault → Type 0
-RowReads places words answer = (f : LineFault) → (answer ≡ Err f) ↔ RowFault places words f
-
-miscounted : {A : Type 0} (words : List Text) → RowReads {A = A} None words (Err fault.Count)
-miscounted words f = (err_err fault.Count f, ap Err)
-
--- an event is made of what was read
-made_reads : {A : Type 0} (places : Option (List WordTest)) (words : List Text) (x : Result A LineFault) (event : A → Event)
-    → RowReads places words x → RowReads places words (x >>= λ a. Ok (event a))
-made_reads places words (Ok a) event each f = (λ e. absurd (ok_err (event a) f e), λ off. absurd (ok_err a f ((each f).1 off)))
-made_reads places words (Err g) event each f = (λ e. (each f).0 (ap Err (err_err g f e)), λ off. ap Err (err_err g f ((each f).1 off)))
-
-one_number : (ws : List Text) → RowReads (number_tests ws) ws (one_number_in ws)
-one_number [] = miscounted []
-one_number (n ∷ []) = last_reads number_test (number_in n) n refl
-one_number (n ∷ x ∷ ws) = miscounted (n ∷ x ∷ ws)
-
-two_numbers : (ws : List Text) → RowReads (two_number_tests ws) ws (two_numbers_in ws)
-two_numbers [] = miscounted []
-two_numbers (m ∷ []) = miscounted (m ∷ [])
-two_numbers (m ∷ n ∷ []) =
-    step_reads number_test (number_in m) m (number_test ∷ []) (n ∷ []) (λ x. ok_or (number_in n) fault.Number >>= λ y. Ok (x, y)) refl (λ x is.
-    step_reads number_test (number_in n) n [] [] (λ y. Ok (x, y)) refl (λ y too. end_reads (x, y)))
-two_numbers (m ∷ n ∷ x ∷ ws) = miscounted (m ∷ n ∷ x ∷ ws)
+-- ---- events of packets and of ports
 
 alter : (ws : List Text) → RowReads (alter_tests ws) ws (alter_in ws)
 alter [] = miscounted []
 alter (n ∷ []) = miscounted (n ∷ [])
 alter (n ∷ a ∷ []) = miscounted (n ∷ a ∷ [])
 alter (n ∷ a ∷ h ∷ []) =
-    step_reads number_test (number_in n) n (number_test ∷ mask_test ∷ []) (a ∷ h ∷ []) (λ x. ok_or (number_in a) fault.Number >>= λ y. ok_or (mask_in h) fault.Hex >>= λ z. Ok (Alter x y z)) refl (λ x is.
-    step_reads number_test (number_in a) a (mask_test ∷ []) (h ∷ []) (λ y. ok_or (mask_in h) fault.Hex >>= λ z. Ok (Alter x y z)) refl (λ y too.
+    step_reads number_test (number_in n) n (number_test ∷ mask_test ∷ []) (a ∷ h ∷ [])
+    (λ x. ok_or (number_in a) fault.Number >>= λ y. ok_or (mask_in h) fault.Hex >>= λ z. Ok (Alter x y z)) refl
+    (λ x is.
+    step_reads number_test (number_in a) a (mask_test ∷ []) (h ∷ [])
+    (λ y. ok_or (mask_in h) fault.Hex >>= λ z. Ok (Alter x y z)) refl (λ y too.
     step_reads mask_test (mask_in h) h [] [] (λ z. Ok (Alter x y z)) refl (λ z last. end_reads (Alter x y z))))
 alter (n ∷ a ∷ h ∷ x ∷ ws) = miscounted (n ∷ a ∷ h ∷ x ∷ ws)
 
@@ -102,58 +46,40 @@ arrive : (ws : List Text) → RowReads (arrive_tests ws) ws (arrive_in ws)
 arrive [] = miscounted []
 arrive (p ∷ []) = miscounted (p ∷ [])
 arrive (p ∷ w ∷ []) =
-    step_reads port_test (port_in p) p (bytes_test ∷ []) (w ∷ []) (λ x. ok_or (bytes_in w) fault.Hex >>= λ y. Ok (Arrive x y)) refl (λ x is.
+    step_reads port_test (port_in p) p (bytes_test ∷ []) (w ∷ [])
+    (λ x. ok_or (bytes_in w) fault.Hex >>= λ y. Ok (Arrive x y)) refl (λ x is.
     step_reads bytes_test (bytes_in w) w [] [] (λ y. Ok (Arrive x y)) refl (λ y too. end_reads (Arrive x y)))
 arrive (p ∷ w ∷ x ∷ ws) = miscounted (p ∷ w ∷ x ∷ ws)
 
 -- ---- operations
 
--- a word that is to be this one, and what follows
-word_reads : {A : Type 0} (word w : Text) (ps : List WordTest) (ws : List Text) (rest : Result A LineFault) (k : A → Result (ℕ × ℕ × Option Loss) LineFault)
-    → Reads ps ws (rest >>= k) → Reads (word_test word ∷ ps) (w ∷ ws) ((if bytes_eq w word then rest else Err fault.Word) >>= k)
-word_reads word w ps ws rest k later = by_test (bytes_eq w word) refl
-  where
-    by_test : (b : Bool) → bytes_eq w word ≡ b → Reads (word_test word ∷ ps) (w ∷ ws) ((if b then rest else Err fault.Word) >>= k)
-    by_test false is = off_reads (word_test word) w ps ws is
-    by_test true is = on_reads (word_test word) w ps ws (rest >>= k) is later
-
--- one bind after another is one
-associated : {A B C : Type 0} (x : Option A) (c : LineFault) (g : A → Result B LineFault) (k : B → Result C LineFault) → ((ok_or x c >>= g) >>= k) ≡ (ok_or x c >>= λ a. g a >>= k)
-associated None c g k = refl
-associated (Some a) c g k = refl
-
-reads_same : {A : Type 0} (ps : List WordTest) (ws : List Text) (x y : Result A LineFault) → x ≡ y → Reads ps ws y → Reads ps ws x
-reads_same ps ws x y same reads = subst (λ z. Reads ps ws z) (sym same) reads
-
-lost : {A : Type 0} (n w : Text) (k : Option Loss → A) → Reads (number_test ∷ lost_test ∷ []) (n ∷ w ∷ []) (lost_exchange_in n w >>= λ z. Ok (k z))
-lost n w k =
-    let made : ℕ → Result (Option Loss) LineFault = λ i. ok_or (lost_in w) fault.Word >>= λ o. Ok (Some (record { exchange = i; lost = o })) in
-    reads_same (number_test ∷ lost_test ∷ []) (n ∷ w ∷ []) _ _ (associated (number_in n) fault.Number made (λ z. Ok (k z)))
-    (step_reads number_test (number_in n) n (lost_test ∷ []) (w ∷ []) (λ i. made i >>= λ z. Ok (k z)) refl (λ i is.
-    reads_same (lost_test ∷ []) (w ∷ []) _ _ (associated (lost_in w) fault.Word (λ o. Ok (Some (record { exchange = i; lost = o }))) (λ z. Ok (k z)))
-    (step_reads lost_test (lost_in w) w [] [] (λ o. Ok (k (Some (record { exchange = i; lost = o })))) refl (λ o too. end_reads (k (Some (record { exchange = i; lost = o })))))))
-
 operation : (ws : List Text) → RowReads (operation_tests ws) ws (operation_in ws)
 operation [] = miscounted []
 operation (l ∷ []) = miscounted (l ∷ [])
 operation (l ∷ s ∷ []) =
-    step_reads number_test (number_in l) l (number_test ∷ []) (s ∷ []) (λ x. ok_or (number_in s) fault.Number >>= λ y. Ok (x, y, None)) refl (λ x is.
+    step_reads number_test (number_in l) l (number_test ∷ []) (s ∷ [])
+    (λ x. ok_or (number_in s) fault.Number >>= λ y. Ok (x, y, None)) refl (λ x is.
     step_reads number_test (number_in s) s [] [] (λ y. Ok (x, y, None)) refl (λ y too. end_reads (x, y, None)))
 operation (l ∷ s ∷ a ∷ []) = miscounted (l ∷ s ∷ a ∷ [])
 operation (l ∷ s ∷ a ∷ n ∷ []) = miscounted (l ∷ s ∷ a ∷ n ∷ [])
 operation (l ∷ s ∷ a ∷ n ∷ w ∷ []) =
-    step_reads number_test (number_in l) l (number_test ∷ word_test (codes "lose") ∷ number_test ∷ lost_test ∷ []) (s ∷ a ∷ n ∷ w ∷ [])
+    step_reads number_test (number_in l) l (number_test ∷ word_test (codes "lose") ∷ number_test ∷ lost_test ∷ [])
+    (s ∷ a ∷ n ∷ w ∷ [])
     (λ x. ok_or (number_in s) fault.Number >>= λ y. loss_in (a ∷ n ∷ w ∷ []) >>= λ z. Ok (x, y, z)) refl (λ x is.
-    step_reads number_test (number_in s) s (word_test (codes "lose") ∷ number_test ∷ lost_test ∷ []) (a ∷ n ∷ w ∷ []) (λ y. loss_in (a ∷ n ∷ w ∷ []) >>= λ z. Ok (x, y, z)) refl (λ y too.
-    word_reads (codes "lose") a (number_test ∷ lost_test ∷ []) (n ∷ w ∷ []) (lost_exchange_in n w) (λ z. Ok (x, y, z)) (lost n w (λ z. (x, y, z)))))
+    step_reads number_test (number_in s) s (word_test (codes "lose") ∷ number_test ∷ lost_test ∷ []) (a ∷ n ∷ w ∷ [])
+    (λ y. loss_in (a ∷ n ∷ w ∷ []) >>= λ z. Ok (x, y, z)) refl (λ y too.
+    word_reads (codes "lose") a (number_test ∷ lost_test ∷ []) (n ∷ w ∷ []) (lost_exchange_in n w) (λ z. Ok (x, y, z))
+    (lost n w (λ z. (x, y, z)))))
 operation (l ∷ s ∷ a ∷ n ∷ w ∷ v ∷ ws) = miscounted (l ∷ s ∷ a ∷ n ∷ w ∷ v ∷ ws)
 
 -- ---- marks
 
-one_mark : (side : Side) (m : Text) → (bytes_eq m (codes "more") || (bytes_eq m (codes "trusted") && is_at_host side)) ≡ is_some (marks_in side (m ∷ []))
+one_mark : (side : Side) (m : Text) → (bytes_eq m (codes "more") || (bytes_eq m (codes "trusted") && is_at_host side))
+    ≡ is_some (marks_in side (m ∷ []))
 one_mark Host m = by_tests (bytes_eq m (codes "more")) (bytes_eq m (codes "trusted"))
   where
-    by_tests : (b c : Bool) → (b || (c && true)) ≡ is_some {T = Bool × Bool} (if b then Some (true, false) else if c then Some (false, true) else None)
+    by_tests : (b c : Bool) → (b || (c && true)) ≡ is_some {T = Bool × Bool}
+        (if b then Some (true, false) else if c then Some (false, true) else None)
     by_tests true c = refl
     by_tests false true = refl
     by_tests false false = refl
@@ -164,7 +90,8 @@ one_mark Device m = by_tests (bytes_eq m (codes "more")) (bytes_eq m (codes "tru
     by_tests false true = refl
     by_tests false false = refl
 
-trusted_by : (p t : Text) (x : PortName) → port_in p ≡ Some x → is_trusted_at p t ≡ (bytes_eq t (codes "trusted") && is_at_host x.side)
+trusted_by : (p t : Text) (x : PortName) → port_in p ≡ Some x → is_trusted_at p t
+    ≡ (bytes_eq t (codes "trusted") && is_at_host x.side)
 trusted_by p t x is = rw is refl
 
 never : (c : Bool) → (c && false) ≡ false
@@ -172,12 +99,15 @@ never true = refl
 never false = refl
 
 -- both marks are read as one
-marks_reads : (p m t : Text) (side : Side) (k : Bool × Bool → Event) → is_trusted_at p t ≡ (bytes_eq t (codes "trusted") && is_at_host side)
-    → Reads (word_test (codes "more") ∷ trusted_test p ∷ []) (m ∷ t ∷ []) (ok_or (marks_in side (m ∷ t ∷ [])) fault.Word >>= λ z. Ok (k z))
+marks_reads : (p m t : Text) (side : Side) (k : Bool × Bool → Event) → is_trusted_at p t
+    ≡ (bytes_eq t (codes "trusted") && is_at_host side)
+    → Reads (word_test (codes "more") ∷ trusted_test p ∷ []) (m ∷ t ∷ [])
+    (ok_or (marks_in side (m ∷ t ∷ [])) fault.Word >>= λ z. Ok (k z))
 marks_reads p m t Host k trusted = by_tests (bytes_eq m (codes "more")) (bytes_eq t (codes "trusted")) refl refl
   where
     by_tests : (b c : Bool) → bytes_eq m (codes "more") ≡ b → bytes_eq t (codes "trusted") ≡ c
-        → Reads (word_test (codes "more") ∷ trusted_test p ∷ []) (m ∷ t ∷ []) (ok_or (if b && c then Some (true, true) else None) fault.Word >>= λ z. Ok (k z))
+        → Reads (word_test (codes "more") ∷ trusted_test p ∷ []) (m ∷ t ∷ [])
+        (ok_or (if b && c then Some (true, true) else None) fault.Word >>= λ z. Ok (k z))
     by_tests true true x y =
         on_reads (word_test (codes "more")) m (trusted_test p ∷ []) (t ∷ []) (Ok (k (true, true))) x
         (on_reads (trusted_test p) t [] [] (Ok (k (true, true))) (trusted ∙ rw y refl) (end_reads (k (true, true))))
@@ -196,86 +126,55 @@ marks_reads p m t Device k trusted = by_test (bytes_eq m (codes "more")) (bytes_
 
 -- a port, bytes and marks
 sent : (p w : Text) (marks : List Text) (places : List WordTest)
-    → ((x : PortName) (bytes : List ℕ) → port_in p ≡ Some x → Reads places marks (ok_or (marks_in x.side marks) fault.Word >>= λ m. Ok (Send x bytes m.0 m.1)))
+    → ((x : PortName) (bytes : List ℕ) → port_in p ≡ Some x → Reads places marks
+    (ok_or (marks_in x.side marks) fault.Word >>= λ m. Ok (Send x bytes m.0 m.1)))
     → Reads (port_test ∷ bytes_test ∷ places) (p ∷ w ∷ marks)
-    (ok_or (port_in p) fault.Word >>= λ x. ok_or (bytes_in w) fault.Hex >>= λ y. ok_or (marks_in x.side marks) fault.Word >>= λ m. Ok (Send x y m.0 m.1))
+    (ok_or (port_in p) fault.Word >>= λ x. ok_or (bytes_in w) fault.Hex >>= λ y. ok_or (marks_in x.side marks)
+    fault.Word >>= λ m. Ok (Send x y m.0 m.1))
 sent p w marks places later =
-    step_reads port_test (port_in p) p (bytes_test ∷ places) (w ∷ marks) (λ x. ok_or (bytes_in w) fault.Hex >>= λ y. ok_or (marks_in x.side marks) fault.Word >>= λ m. Ok (Send x y m.0 m.1)) refl (λ x is.
-    step_reads bytes_test (bytes_in w) w places marks (λ y. ok_or (marks_in x.side marks) fault.Word >>= λ m. Ok (Send x y m.0 m.1)) refl (λ y too. later x y is))
+    step_reads port_test (port_in p) p (bytes_test ∷ places) (w ∷ marks)
+    (λ x. ok_or (bytes_in w) fault.Hex >>= λ y. ok_or (marks_in x.side marks) fault.Word >>= λ m. Ok
+    (Send x y m.0 m.1)) refl (λ x is.
+    step_reads bytes_test (bytes_in w) w places marks
+    (λ y. ok_or (marks_in x.side marks) fault.Word >>= λ m. Ok (Send x y m.0 m.1)) refl (λ y too. later x y is))
 
 send : (ws : List Text) → RowReads (send_tests ws) ws (send_in ws)
 send [] = miscounted []
 send (p ∷ []) = miscounted (p ∷ [])
 send (p ∷ w ∷ []) = sent p w [] [] (λ x y is. end_reads (Send x y false false))
 send (p ∷ w ∷ m ∷ []) = sent p w (m ∷ []) (mark_test p ∷ []) (λ x y is.
-    step_reads (mark_test p) (marks_in x.side (m ∷ [])) m [] [] (λ z. Ok (Send x y z.0 z.1)) (rw is (one_mark x.side m)) (λ z too. end_reads (Send x y z.0 z.1)))
-send (p ∷ w ∷ m ∷ t ∷ []) = sent p w (m ∷ t ∷ []) (word_test (codes "more") ∷ trusted_test p ∷ []) (λ x y is. marks_reads p m t x.side (λ z. Send x y z.0 z.1) (trusted_by p t x is))
-send (p ∷ w ∷ m ∷ t ∷ v ∷ ws) = rw (lt-ltb 2 (length (m ∷ t ∷ v ∷ ws)) (omega arith)) (miscounted (p ∷ w ∷ m ∷ t ∷ v ∷ ws))
+    step_reads (mark_test p) (marks_in x.side (m ∷ [])) m [] [] (λ z. Ok (Send x y z.0 z.1)) (rw is (one_mark x.side m))
+    (λ z too. end_reads (Send x y z.0 z.1)))
+send (p ∷ w ∷ m ∷ t ∷ []) = sent p w (m ∷ t ∷ []) (word_test (codes "more") ∷ trusted_test p ∷ [])
+    (λ x y is. marks_reads p m t x.side (λ z. Send x y z.0 z.1) (trusted_by p t x is))
+send (p ∷ w ∷ m ∷ t ∷ v ∷ ws) = rw (lt-ltb 2 (length (m ∷ t ∷ v ∷ ws)) (omega arith))
+    (miscounted (p ∷ w ∷ m ∷ t ∷ v ∷ ws))
 
 -- ---- the table
 
-abbrev Row : Type 0
-Row = Text × (List Text → Option (List WordTest))
-
-abbrev TableReads : List Row → List Text → Text → Result Event LineFault → Type 0
-TableReads rows rest first answer = (f : LineFault) → (answer ≡ Err f) ↔ TableFault rows first rest f
-
-row_reads : (word : Text) (places : List Text → Option (List WordTest)) (rows : List Row) (rest : List Text) (first : Text) (x : Result Event LineFault) (y : Option (Result Event LineFault)) (z : Result Event LineFault)
-    → RowReads (places rest) rest x → TableReads rows rest first (unwrap_or y z) → TableReads ((word, places) ∷ rows) rest first (unwrap_or (if bytes_eq first word then Some x else y) z)
-row_reads word places rows rest first x y z this others = by_test (bytes_eq first word) refl
-  where
-    by_test : (b : Bool) → bytes_eq first word ≡ b → TableReads ((word, places) ∷ rows) rest first (unwrap_or (if b then Some x else y) z)
-    by_test true is f = (
-      λ e. inl (is, (this f).0 e),
-      λ off. elim off [
-        | inl here ↦ (this f).1 here.1
-        | inr on ↦ absurd (false_true (sym on.0 ∙ is))
-      ],
-    )
-    by_test false is f = (
-      λ e. inr (is, (others f).0 e),
-      λ off. elim off [
-        | inl here ↦ absurd (false_true (sym is ∙ here.0))
-        | inr on ↦ (others f).1 on.1
-      ],
-    )
-
-last_row : (word : Text) (places : List Text → Option (List WordTest)) (rows : List Row) (rest : List Text) (first : Text) (x y : Result Event LineFault)
-    → RowReads (places rest) rest x → TableReads rows rest first y → TableReads ((word, places) ∷ rows) rest first (if bytes_eq first word then x else y)
-last_row word places rows rest first x y this others = by_test (bytes_eq first word) refl
-  where
-    by_test : (b : Bool) → bytes_eq first word ≡ b → TableReads ((word, places) ∷ rows) rest first (if b then x else y)
-    by_test true is f = (
-      λ e. inl (is, (this f).0 e),
-      λ off. elim off [
-        | inl here ↦ (this f).1 here.1
-        | inr on ↦ absurd (false_true (sym on.0 ∙ is))
-      ],
-    )
-    by_test false is f = (
-      λ e. inr (is, (others f).0 e),
-      λ off. elim off [
-        | inl here ↦ absurd (false_true (sym is ∙ here.0))
-        | inr on ↦ (others f).1 on.1
-      ],
-    )
-
-no_row : (rest : List Text) (first : Text) → TableReads [] rest first (Err fault.Word)
-no_row rest first f = (err_err fault.Word f, ap Err)
-
 event_reads : (first : Text) (rest : List Text) → TableReads event_table rest first (event_by first rest)
 event_reads first rest =
-    row_reads (codes "establish") operation_tests (drop 1 event_table) rest first _ _ _ (made_reads (operation_tests rest) rest (operation_in rest) (λ o. Establish o.0 o.1 o.2) (operation rest))
-    (row_reads (codes "refresh") operation_tests (drop 2 event_table) rest first _ _ _ (made_reads (operation_tests rest) rest (operation_in rest) (λ o. Refresh o.0 o.1 o.2) (operation rest))
-    (row_reads (codes "stop") operation_tests (drop 3 event_table) rest first _ _ _ (made_reads (operation_tests rest) rest (operation_in rest) (λ o. Stop o.0 o.1 o.2) (operation rest))
-    (row_reads (codes "reset") number_tests (drop 4 event_table) rest first _ _ _ (made_reads (number_tests rest) rest (one_number_in rest) Reset (one_number rest))
-    (row_reads (codes "status") two_number_tests (drop 5 event_table) rest first _ _ _ (made_reads (two_number_tests rest) rest (two_numbers_in rest) (λ n. Status n.0 n.1) (two_numbers rest))
-    (row_reads (codes "pass") number_tests (drop 6 event_table) rest first _ _ _ (made_reads (number_tests rest) rest (one_number_in rest) Pass (one_number rest))
+    row_reads (codes "establish") operation_tests (drop 1 event_table) rest first _ _ _
+    (made_reads (operation_tests rest) rest (operation_in rest) (λ o. Establish o.0 o.1 o.2) (operation rest))
+    (row_reads (codes "refresh") operation_tests (drop 2 event_table) rest first _ _ _
+    (made_reads (operation_tests rest) rest (operation_in rest) (λ o. Refresh o.0 o.1 o.2) (operation rest))
+    (row_reads (codes "stop") operation_tests (drop 3 event_table) rest first _ _ _
+    (made_reads (operation_tests rest) rest (operation_in rest) (λ o. Stop o.0 o.1 o.2) (operation rest))
+    (row_reads (codes "reset") number_tests (drop 4 event_table) rest first _ _ _
+    (made_reads (number_tests rest) rest (one_number_in rest) Reset (one_number rest))
+    (row_reads (codes "status") two_number_tests (drop 5 event_table) rest first _ _ _
+    (made_reads (two_number_tests rest) rest (two_numbers_in rest) (λ n. Status n.0 n.1) (two_numbers rest))
+    (row_reads (codes "pass") number_tests (drop 6 event_table) rest first _ _ _
+    (made_reads (number_tests rest) rest (one_number_in rest) Pass (one_number rest))
     (row_reads (codes "alter") alter_tests (drop 7 event_table) rest first _ _ _ (alter rest)
-    (row_reads (codes "cut") two_number_tests (drop 8 event_table) rest first _ _ _ (made_reads (two_number_tests rest) rest (two_numbers_in rest) (λ n. Cut n.0 n.1) (two_numbers rest))
-    (row_reads (codes "dump") number_tests (drop 9 event_table) rest first _ _ _ (made_reads (number_tests rest) rest (one_number_in rest) Dump (one_number rest))
-    (last_row (codes "send") send_tests (drop 10 event_table) rest first _ _ (send rest)
-    (last_row (codes "arrive") arrive_tests (drop 11 event_table) rest first _ _ (arrive rest) (no_row rest first)))))))))))
+    (row_reads (codes "cut") two_number_tests (drop 8 event_table) rest first _ _ _
+    (made_reads (two_number_tests rest) rest (two_numbers_in rest) (λ n. Cut n.0 n.1) (two_numbers rest))
+    (row_reads (codes "dump") number_tests (drop 9 event_table) rest first _ _ _
+    (made_reads (number_tests rest) rest (one_number_in rest) Dump (one_number rest))
+    (interface_reads first rest (drop 19 event_table) (bytes_event_in first rest)
+    (last_row (codes "send") send_tests (drop 20 event_table) rest first _ _ (send rest)
+    (last_row (codes "arrive") arrive_tests (drop 21 event_table) rest first _ _ (arrive rest)
+    (no_row rest first))))))))))))
 
 -- ---- lines
 
@@ -294,10 +193,13 @@ not_longer : (n : ℕ) → n ≤ 20000 → nat_lt 20000 n ≡ true → ⊥
 not_longer n le long = omega (arith, le, ltb-true 20000 n long)
 
 pub faults_are_first : FaultsAreFirst
-faults_are_first line f = by_tests (nat_lt 20000 (length line)) (is_comment line) (list_all is_printable line) refl refl refl
+faults_are_first line f = by_tests (nat_lt 20000 (length line)) (is_comment line) (list_all is_printable line) refl refl
+    refl
   where
-    by_tests : (long comment plain : Bool) → nat_lt 20000 (length line) ≡ long → is_comment line ≡ comment → list_all is_printable line ≡ plain
-        → ((if long then Err fault.TooLong else if comment then Ok None else if not plain then Err fault.NotAscii else event_in (words_in line)) ≡ Err f) ↔ FirstFault line f
+    by_tests : (long comment plain : Bool) → nat_lt 20000 (length line) ≡ long → is_comment line ≡ comment
+        → list_all is_printable line ≡ plain
+        → ((if long then Err fault.TooLong else if comment then Ok None else if not plain then Err fault.NotAscii else
+        event_in (words_in line)) ≡ Err f) ↔ FirstFault line f
     by_tests true comment plain x y z = (
       λ e. inl (ltb-true 20000 (length line) x, err_err fault.TooLong f e),
       λ off. elim off [

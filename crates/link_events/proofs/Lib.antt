@@ -1,7 +1,11 @@
 pub mod Numbers
 pub mod Steps
+pub mod Spelled
+pub mod InterfaceMeanings
 pub mod Meanings
 pub mod Skips
 pub mod Sizes
+pub mod Readings
+pub mod InterfaceFaults
 pub mod FirstFaults
 pub mod Sevens

@@ -2,7 +2,8 @@
 -- came to an event passed each of its steps, and the word of each step spells the value that the step gave; the other
 -- way round, with words that spell an event each step gives its value. The marks of a send are tried for each side and
 -- number of words.
-use Rattle.std.proofs.Common.{true, false, nat_lt, not, ◌&&◌, ◌≡◌, ◌≤◌, ℕ, List, [], ◌∷◌, Bool, Option, Some, None, Result, Ok, Err, length, refl, ◌∙◌, ap, ap₂, subst, arith, codes, inl, inr}
+use Rattle.std.proofs.Common.{true, false, nat_lt, not, ◌&&◌, ◌≡◌, ◌≤◌, ℕ, List, [], ◌∷◌, Bool, Option, Some, None}
+use Rattle.std.proofs.Common.{Result, Ok, Err, length, refl, ap, ap₂, subst, arith, codes, inl, inr}
 use Rattle.std.specs.Prelude.{if◌then◌else◌}
 use Rattle.std.specs.List.{list_all}
 use Rattle.std.specs.Option.{ok_or}
@@ -11,70 +12,41 @@ use Rattle.std.proofs.lemmas.Bool.{cases_Bool, ltb-true, ltb-false}
 use Rattle.ide_types.specs.declared.port.Side.{Side}
 use Rattle.ide_types.specs.declared.port.Side.TheVariants.{Host, Device}
 use Rattle.ide_types.specs.Names.{Text}
-use Rattle.link_events.specs.Terms.{Event, Establish, Refresh, Stop, Send, Pass, Alter, Cut, Arrive, Dump, Reset, Status, Loss, LineFault}
+use Rattle.link_events.specs.Terms.{Event, Establish, Refresh, Stop, Send, Pass, Alter, Cut, Arrive, Dump, Reset}
+use Rattle.link_events.specs.Terms.{Status, Interface, Loss, LineFault}
 use Rattle.link_events.specs.Terms.fault
-use Rattle.link_events.specs.Words.{is_printable, words_in, number_in, mask_in, bytes_in, port_in, lost_in}
-use Rattle.link_events.specs.Parse.{◌>>=◌, lost_exchange_in, loss_in, is_loss_long, operation_in, marks_in, send_in, one_number_in, two_numbers_in, alter_in, arrive_in, event_by, event_in, is_comment, line_meaning}
-use Rattle.link_events.specs.Spells.{LossSpelledBy, OperationSpelledBy, OneSpelledBy, TwoSpelledBy, mark_words, SpelledBy, SpellsEvent, MeaningIsSpelling}
-use Rattle.link_events.proofs.Steps.{err_ok, ok_ok, some_some, none_some, same_text, next_of, next_result, tested, tested_last}
-
--- ---- what is lost
-
-lost_spelled : (l n w : Text) (lose : Option Loss) (b : Bool) → bytes_eq l (codes "lose") ≡ b → (if b then lost_exchange_in n w else Err fault.Word) ≡ Ok lose
-    → LossSpelledBy lose (l ∷ n ∷ w ∷ [])
-lost_spelled l n w lose false t h = absurd (err_ok fault.Word lose h)
-lost_spelled l n w lose true t h =
-    let a = next_of (number_in n) fault.Number (λ x. ok_or (lost_in w) fault.Word >>= λ y. Ok (Some (record { exchange = x; lost = y }))) lose h in
-    let b = next_of (lost_in w) fault.Word (λ y. Ok (Some (record { exchange = a.0; lost = y }))) lose a.2 in
-    subst (λ (x : Option Loss). LossSpelledBy x (l ∷ n ∷ w ∷ [])) (ok_ok (Some (record { exchange = a.0; lost = b.0 })) lose b.2)
-    ((n, a.1), (w, b.1), ap (λ (x : Text). x ∷ n ∷ w ∷ []) (same_text l (codes "lose") t))
-
-loss_spelled : (ws : List Text) (lose : Option Loss) → loss_in ws ≡ Ok lose → LossSpelledBy lose ws
-loss_spelled [] lose h = subst (λ (x : Option Loss). LossSpelledBy x []) (ok_ok None lose h) refl
-loss_spelled (l ∷ []) lose h = absurd (err_ok fault.Count lose h)
-loss_spelled (l ∷ n ∷ []) lose h = absurd (err_ok fault.Count lose h)
-loss_spelled (l ∷ n ∷ w ∷ []) lose h = lost_spelled l n w lose (bytes_eq l (codes "lose")) refl h
-loss_spelled (l ∷ n ∷ w ∷ x ∷ ws) lose h = absurd (err_ok fault.Count lose h)
-
-loss_meant : (ws : List Text) (lose : Option Loss) → LossSpelledBy lose ws → (is_loss_long ws ≡ true) × (loss_in ws ≡ Ok lose)
-loss_meant ws None h = (rw h refl, rw h refl)
-loss_meant ws (Some loss) h = (rw h.2 refl, rw h.2 (rw h.0.1 (rw h.1.1 refl)))
+use Rattle.link_events.specs.Words.{is_printable, words_in, number_in, mask_in, bytes_in, port_in}
+use Rattle.link_events.specs.Parse.{◌>>=◌, loss_in, is_loss_long, operation_in, marks_in, send_in, one_number_in}
+use Rattle.link_events.specs.Parse.{two_numbers_in, alter_in, arrive_in, bytes_event_in, event_by, event_in, is_comment}
+use Rattle.link_events.specs.Parse.{line_meaning}
+use Rattle.link_events.specs.Spells.{LossSpelledBy, OperationSpelledBy, mark_words, SpelledBy, SpellsEvent}
+use Rattle.link_events.specs.Spells.{MeaningIsSpelling}
+use Rattle.link_events.proofs.Steps.{err_ok, ok_ok, some_some, none_some, same_text, next_of, next_result, tested}
+use Rattle.link_events.proofs.Steps.{tested_last}
+use Rattle.link_events.proofs.Spelled.{loss_spelled, loss_meant, one_spelled, two_spelled, SpelledAs, made}
+use Rattle.link_events.proofs.InterfaceMeanings.{interface_spelled, interface_meant}
 
 -- ---- operations
 
 operation_step : (first l s : Text) (rest : List Text) (o : ℕ × ℕ × Option Loss) (b : Bool)
-    → (if not b then Err fault.Count else ok_or (number_in l) fault.Number >>= λ x. ok_or (number_in s) fault.Number >>= λ y. loss_in rest >>= λ z. Ok (x, y, z)) ≡ Ok o
+    → (if not b then Err fault.Count else ok_or (number_in l) fault.Number >>= λ x. ok_or (number_in s) fault.Number >>=
+    λ y. loss_in rest >>= λ z. Ok (x, y, z)) ≡ Ok o
     → OperationSpelledBy first o.0 o.1 o.2 (first ∷ l ∷ s ∷ rest)
 operation_step first l s rest o false h = absurd (err_ok fault.Count o h)
 operation_step first l s rest o true h =
-    let a = next_of (number_in l) fault.Number (λ x. ok_or (number_in s) fault.Number >>= λ y. loss_in rest >>= λ z. Ok (x, y, z)) o h in
+    let a = next_of (number_in l) fault.Number
+    (λ x. ok_or (number_in s) fault.Number >>= λ y. loss_in rest >>= λ z. Ok (x, y, z)) o h in
     let b = next_of (number_in s) fault.Number (λ y. loss_in rest >>= λ z. Ok (a.0, y, z)) o a.2 in
     let c = next_result (loss_in rest) (λ z. Ok (a.0, b.0, z)) o b.2 in
-    subst (λ (x : ℕ × ℕ × Option Loss). OperationSpelledBy first x.0 x.1 x.2 (first ∷ l ∷ s ∷ rest)) (ok_ok (a.0, b.0, c.0) o c.2)
+    subst (λ (x : ℕ × ℕ × Option Loss). OperationSpelledBy first x.0 x.1 x.2 (first ∷ l ∷ s ∷ rest))
+    (ok_ok (a.0, b.0, c.0) o c.2)
     ((l, a.1), (s, b.1), rest, loss_spelled rest c.0 c.1, refl)
 
-operation_spelled : (first : Text) (ws : List Text) (o : ℕ × ℕ × Option Loss) → operation_in ws ≡ Ok o → OperationSpelledBy first o.0 o.1 o.2 (first ∷ ws)
+operation_spelled : (first : Text) (ws : List Text) (o : ℕ × ℕ × Option Loss) → operation_in ws ≡ Ok o
+    → OperationSpelledBy first o.0 o.1 o.2 (first ∷ ws)
 operation_spelled first [] o h = absurd (err_ok fault.Count o h)
 operation_spelled first (l ∷ []) o h = absurd (err_ok fault.Count o h)
 operation_spelled first (l ∷ s ∷ rest) o h = operation_step first l s rest o (is_loss_long rest) h
-
-one_spelled : (first : Text) (ws : List Text) (n : ℕ) → one_number_in ws ≡ Ok n → OneSpelledBy first n (first ∷ ws)
-one_spelled first [] n h = absurd (err_ok fault.Count n h)
-one_spelled first (w ∷ []) n h = let a = next_of (number_in w) fault.Number (λ x. Ok x) n (by_reading (number_in w) h) in ((w, a.1 ∙ ap Some (ok_ok a.0 n a.2)), refl)
-  where
-    by_reading : (x : Option ℕ) → ok_or x fault.Number ≡ Ok n → (ok_or x fault.Number >>= λ x. Ok x) ≡ Ok n
-    by_reading None h = h
-    by_reading (Some x) h = h
-one_spelled first (w ∷ x ∷ ws) n h = absurd (err_ok fault.Count n h)
-
-two_spelled : (first : Text) (ws : List Text) (n : ℕ × ℕ) → two_numbers_in ws ≡ Ok n → TwoSpelledBy first n.0 n.1 (first ∷ ws)
-two_spelled first [] n h = absurd (err_ok fault.Count n h)
-two_spelled first (v ∷ []) n h = absurd (err_ok fault.Count n h)
-two_spelled first (v ∷ w ∷ []) n h =
-    let a = next_of (number_in v) fault.Number (λ x. ok_or (number_in w) fault.Number >>= λ y. Ok (x, y)) n h in
-    let b = next_of (number_in w) fault.Number (λ y. Ok (a.0, y)) n a.2 in
-    subst (λ (x : ℕ × ℕ). TwoSpelledBy first x.0 x.1 (first ∷ v ∷ w ∷ [])) (ok_ok (a.0, b.0) n b.2) ((v, a.1), (w, b.1), refl)
-two_spelled first (v ∷ w ∷ x ∷ ws) n h = absurd (err_ok fault.Count n h)
 
 -- ---- marks
 
@@ -87,18 +59,24 @@ Marked side marks m = (marks ≡ mark_words m.0 m.1) × (m.1 ≡ true → side �
 
 host_mark : (a : Text) (b c : Bool) (m : Bool × Bool) → bytes_eq a (codes "more") ≡ b → bytes_eq a (codes "trusted") ≡ c
     → (if b then Some (true, false) else if c then Some (false, true) else None) ≡ Some m → Marked Host (a ∷ []) m
-host_mark a true c m p q e = subst (Marked Host (a ∷ [])) (some_some (true, false) m e) (ap (λ (x : Text). x ∷ []) (same_text a (codes "more") p), not_trusted Host)
-host_mark a false true m p q e = subst (Marked Host (a ∷ [])) (some_some (false, true) m e) (ap (λ (x : Text). x ∷ []) (same_text a (codes "trusted") q), λ t. refl)
+host_mark a true c m p q e = subst (Marked Host (a ∷ [])) (some_some (true, false) m e)
+    (ap (λ (x : Text). x ∷ []) (same_text a (codes "more") p), not_trusted Host)
+host_mark a false true m p q e = subst (Marked Host (a ∷ [])) (some_some (false, true) m e)
+    (ap (λ (x : Text). x ∷ []) (same_text a (codes "trusted") q), λ t. refl)
 host_mark a false false m p q e = absurd (none_some m e)
 
-device_mark : (a : Text) (b : Bool) (m : Bool × Bool) → bytes_eq a (codes "more") ≡ b → (if b then Some (true, false) else None) ≡ Some m → Marked Device (a ∷ []) m
-device_mark a true m p e = subst (Marked Device (a ∷ [])) (some_some (true, false) m e) (ap (λ (x : Text). x ∷ []) (same_text a (codes "more") p), not_trusted Device)
+device_mark : (a : Text) (b : Bool) (m : Bool × Bool) → bytes_eq a (codes "more") ≡ b
+    → (if b then Some (true, false) else None) ≡ Some m → Marked Device (a ∷ []) m
+device_mark a true m p e = subst (Marked Device (a ∷ [])) (some_some (true, false) m e)
+    (ap (λ (x : Text). x ∷ []) (same_text a (codes "more") p), not_trusted Device)
 device_mark a false m p e = absurd (none_some m e)
 
-both_marks : (a b : Text) (c d : Bool) (m : Bool × Bool) → bytes_eq a (codes "more") ≡ c → bytes_eq b (codes "trusted") ≡ d
+both_marks : (a b : Text) (c d : Bool) (m : Bool × Bool) → bytes_eq a (codes "more") ≡ c → bytes_eq b (codes "trusted")
+    ≡ d
     → (if c && d then Some (true, true) else None) ≡ Some m → Marked Host (a ∷ b ∷ []) m
 both_marks a b true true m p q e =
-    subst (Marked Host (a ∷ b ∷ [])) (some_some (true, true) m e) (ap₂ (λ (x y : Text). x ∷ y ∷ []) (same_text a (codes "more") p) (same_text b (codes "trusted") q), λ t. refl)
+    subst (Marked Host (a ∷ b ∷ [])) (some_some (true, true) m e)
+    (ap₂ (λ (x y : Text). x ∷ y ∷ []) (same_text a (codes "more") p) (same_text b (codes "trusted") q), λ t. refl)
 both_marks a b true false m p q e = absurd (none_some m e)
 both_marks a b false d m p q e = absurd (none_some m e)
 
@@ -107,7 +85,8 @@ marks_spelled Host [] m e = subst (Marked Host []) (some_some (false, false) m e
 marks_spelled Device [] m e = subst (Marked Device []) (some_some (false, false) m e) (refl, not_trusted Device)
 marks_spelled Host (a ∷ []) m e = host_mark a (bytes_eq a (codes "more")) (bytes_eq a (codes "trusted")) m refl refl e
 marks_spelled Device (a ∷ []) m e = device_mark a (bytes_eq a (codes "more")) m refl e
-marks_spelled Host (a ∷ b ∷ []) m e = both_marks a b (bytes_eq a (codes "more")) (bytes_eq b (codes "trusted")) m refl refl e
+marks_spelled Host (a ∷ b ∷ []) m e = both_marks a b (bytes_eq a (codes "more")) (bytes_eq b (codes "trusted")) m refl
+    refl e
 marks_spelled Device (a ∷ b ∷ []) m e = absurd (none_some m e)
 marks_spelled Host (a ∷ b ∷ c ∷ marks) m e = absurd (none_some m e)
 marks_spelled Device (a ∷ b ∷ c ∷ marks) m e = absurd (none_some m e)
@@ -118,7 +97,8 @@ few_marks true false = refl
 few_marks false true = refl
 few_marks true true = refl
 
-marks_meant : (side : Side) (more trusted : Bool) → (trusted ≡ true → side ≡ Host) → marks_in side (mark_words more trusted) ≡ Some (more, trusted)
+marks_meant : (side : Side) (more trusted : Bool) → (trusted ≡ true → side ≡ Host)
+    → marks_in side (mark_words more trusted) ≡ Some (more, trusted)
 marks_meant Host false false h = refl
 marks_meant Device false false h = refl
 marks_meant Host true false h = refl
@@ -136,7 +116,8 @@ arrive_spelled (p ∷ []) e h = absurd (err_ok fault.Count e h)
 arrive_spelled (p ∷ w ∷ []) e h =
     let a = next_of (port_in p) fault.Word (λ x. ok_or (bytes_in w) fault.Hex >>= λ y. Ok (Arrive x y)) e h in
     let b = next_of (bytes_in w) fault.Hex (λ y. Ok (Arrive a.0 y)) e a.2 in
-    subst (λ (x : Event). SpelledBy x (codes "arrive" ∷ p ∷ w ∷ [])) (ok_ok (Arrive a.0 b.0) e b.2) ((p, a.1), (w, b.1), refl)
+    subst (λ (x : Event). SpelledBy x (codes "arrive" ∷ p ∷ w ∷ [])) (ok_ok (Arrive a.0 b.0) e b.2)
+    ((p, a.1), (w, b.1), refl)
 arrive_spelled (p ∷ w ∷ x ∷ ws) e h = absurd (err_ok fault.Count e h)
 
 alter_spelled : (ws : List Text) (e : Event) → alter_in ws ≡ Ok e → SpelledBy e (codes "alter" ∷ ws)
@@ -144,19 +125,25 @@ alter_spelled [] e h = absurd (err_ok fault.Count e h)
 alter_spelled (n ∷ []) e h = absurd (err_ok fault.Count e h)
 alter_spelled (n ∷ t ∷ []) e h = absurd (err_ok fault.Count e h)
 alter_spelled (n ∷ t ∷ m ∷ []) e h =
-    let a = next_of (number_in n) fault.Number (λ x. ok_or (number_in t) fault.Number >>= λ y. ok_or (mask_in m) fault.Hex >>= λ z. Ok (Alter x y z)) e h in
+    let a = next_of (number_in n) fault.Number
+    (λ x. ok_or (number_in t) fault.Number >>= λ y. ok_or (mask_in m) fault.Hex >>= λ z. Ok (Alter x y z)) e h in
     let b = next_of (number_in t) fault.Number (λ y. ok_or (mask_in m) fault.Hex >>= λ z. Ok (Alter a.0 y z)) e a.2 in
     let c = next_of (mask_in m) fault.Hex (λ z. Ok (Alter a.0 b.0 z)) e b.2 in
-    subst (λ (x : Event). SpelledBy x (codes "alter" ∷ n ∷ t ∷ m ∷ [])) (ok_ok (Alter a.0 b.0 c.0) e c.2) ((n, a.1), (t, b.1), (m, c.1), refl)
+    subst (λ (x : Event). SpelledBy x (codes "alter" ∷ n ∷ t ∷ m ∷ [])) (ok_ok (Alter a.0 b.0 c.0) e c.2)
+    ((n, a.1), (t, b.1), (m, c.1), refl)
 alter_spelled (n ∷ t ∷ m ∷ x ∷ ws) e h = absurd (err_ok fault.Count e h)
 
 send_step : (p w : Text) (marks : List Text) (e : Event) (b : Bool)
-    → (if b then Err fault.Count else ok_or (port_in p) fault.Word >>= λ x. ok_or (bytes_in w) fault.Hex >>= λ y. ok_or (marks_in x.side marks) fault.Word >>= λ m. Ok (Send x y m.0 m.1)) ≡ Ok e
+    → (if b then Err fault.Count else ok_or (port_in p) fault.Word >>= λ x. ok_or (bytes_in w) fault.Hex >>= λ y. ok_or
+    (marks_in x.side marks) fault.Word >>= λ m. Ok (Send x y m.0 m.1)) ≡ Ok e
     → SpelledBy e (codes "send" ∷ p ∷ w ∷ marks)
 send_step p w marks e true h = absurd (err_ok fault.Count e h)
 send_step p w marks e false h =
-    let a = next_of (port_in p) fault.Word (λ x. ok_or (bytes_in w) fault.Hex >>= λ y. ok_or (marks_in x.side marks) fault.Word >>= λ m. Ok (Send x y m.0 m.1)) e h in
-    let b = next_of (bytes_in w) fault.Hex (λ y. ok_or (marks_in a.0.side marks) fault.Word >>= λ m. Ok (Send a.0 y m.0 m.1)) e a.2 in
+    let a = next_of (port_in p) fault.Word
+    (λ x. ok_or (bytes_in w) fault.Hex >>= λ y. ok_or (marks_in x.side marks) fault.Word >>= λ m. Ok
+    (Send x y m.0 m.1)) e h in
+    let b = next_of (bytes_in w) fault.Hex
+    (λ y. ok_or (marks_in a.0.side marks) fault.Word >>= λ m. Ok (Send a.0 y m.0 m.1)) e a.2 in
     let c = next_of (marks_in a.0.side marks) fault.Word (λ m. Ok (Send a.0 b.0 m.0 m.1)) e b.2 in
     let marked = marks_spelled a.0.side marks c.0 c.1 in
     subst (λ (x : Event). SpelledBy x (codes "send" ∷ p ∷ w ∷ marks)) (ok_ok (Send a.0 b.0 c.0.0 c.0.1) e c.2)
@@ -169,30 +156,29 @@ send_spelled (p ∷ w ∷ marks) e h = send_step p w marks e (nat_lt 2 (length m
 
 -- ---- the first word
 
--- an answer that is an event is spelled by the words
-abbrev SpelledAs : List Text → Text → Result Event LineFault → Type 0
-SpelledAs rest first answer = (e : Event) → answer ≡ Ok e → SpelledBy e (first ∷ rest)
-
--- what stands behind an operation, a number or two
-made : {A : Type 0} (rest : List Text) (first : Text) (x : Result A LineFault) (event : A → Event)
-    → ((a : A) → x ≡ Ok a → SpelledBy (event a) (first ∷ rest)) → SpelledAs rest first (x >>= λ a. Ok (event a))
-made rest first x event each e h =
-    let a = next_result x (λ a. Ok (event a)) e h in
-    subst (λ (y : Event). SpelledBy y (first ∷ rest)) (ok_ok (event a.0) e a.2) (each a.0 a.1)
-
-event_spelled : (first : Text) (rest : List Text) → SpelledAs rest first (event_by first rest)
+event_spelled : (first : Text) (rest : List Text) → SpelledAs SpelledBy rest first (event_by first rest)
 event_spelled first rest =
-    tested (SpelledAs rest) first (codes "establish") _ _ _ (made rest _ (operation_in rest) (λ o. Establish o.0 o.1 o.2) (operation_spelled _ rest))
-    (tested (SpelledAs rest) first (codes "refresh") _ _ _ (made rest _ (operation_in rest) (λ o. Refresh o.0 o.1 o.2) (operation_spelled _ rest))
-    (tested (SpelledAs rest) first (codes "stop") _ _ _ (made rest _ (operation_in rest) (λ o. Stop o.0 o.1 o.2) (operation_spelled _ rest))
-    (tested (SpelledAs rest) first (codes "reset") _ _ _ (made rest _ (one_number_in rest) Reset (one_spelled _ rest))
-    (tested (SpelledAs rest) first (codes "status") _ _ _ (made rest _ (two_numbers_in rest) (λ n. Status n.0 n.1) (two_spelled _ rest))
-    (tested (SpelledAs rest) first (codes "pass") _ _ _ (made rest _ (one_number_in rest) Pass (one_spelled _ rest))
-    (tested (SpelledAs rest) first (codes "alter") _ _ _ (alter_spelled rest)
-    (tested (SpelledAs rest) first (codes "cut") _ _ _ (made rest _ (two_numbers_in rest) (λ n. Cut n.0 n.1) (two_spelled _ rest))
-    (tested (SpelledAs rest) first (codes "dump") _ _ _ (made rest _ (one_number_in rest) Dump (one_spelled _ rest))
-    (tested_last (SpelledAs rest) first (codes "send") _ _ (send_spelled rest)
-    (tested_last (SpelledAs rest) first (codes "arrive") _ _ (arrive_spelled rest) (λ e h. absurd (err_ok fault.Word e h))))))))))))
+    tested (SpelledAs SpelledBy rest) first (codes "establish") _ _ _
+    (made SpelledBy rest _ (operation_in rest) (λ o. Establish o.0 o.1 o.2) (operation_spelled _ rest))
+    (tested (SpelledAs SpelledBy rest) first (codes "refresh") _ _ _
+    (made SpelledBy rest _ (operation_in rest) (λ o. Refresh o.0 o.1 o.2) (operation_spelled _ rest))
+    (tested (SpelledAs SpelledBy rest) first (codes "stop") _ _ _
+    (made SpelledBy rest _ (operation_in rest) (λ o. Stop o.0 o.1 o.2) (operation_spelled _ rest))
+    (tested (SpelledAs SpelledBy rest) first (codes "reset") _ _ _
+    (made SpelledBy rest _ (one_number_in rest) Reset (one_spelled _ rest))
+    (tested (SpelledAs SpelledBy rest) first (codes "status") _ _ _
+    (made SpelledBy rest _ (two_numbers_in rest) (λ n. Status n.0 n.1) (two_spelled _ rest))
+    (tested (SpelledAs SpelledBy rest) first (codes "pass") _ _ _
+    (made SpelledBy rest _ (one_number_in rest) Pass (one_spelled _ rest))
+    (tested (SpelledAs SpelledBy rest) first (codes "alter") _ _ _ (alter_spelled rest)
+    (tested (SpelledAs SpelledBy rest) first (codes "cut") _ _ _
+    (made SpelledBy rest _ (two_numbers_in rest) (λ n. Cut n.0 n.1) (two_spelled _ rest))
+    (tested (SpelledAs SpelledBy rest) first (codes "dump") _ _ _
+    (made SpelledBy rest _ (one_number_in rest) Dump (one_spelled _ rest))
+    (interface_spelled first rest (bytes_event_in first rest)
+    (tested_last (SpelledAs SpelledBy rest) first (codes "send") _ _ (send_spelled rest)
+    (tested_last (SpelledAs SpelledBy rest) first (codes "arrive") _ _ (arrive_spelled rest)
+    (λ e h. absurd (err_ok fault.Word e h)))))))))))))
 
 some_event : (x : Result Event LineFault) (e : Event) → (x >>= λ y. Ok (Some y)) ≡ Ok (Some e) → x ≡ Ok e
 some_event (Ok y) e h = ap Ok (some_some y e (ok_ok (Some y) (Some e) h))
@@ -202,17 +188,22 @@ words_spelled : (ws : List Text) (e : Event) → event_in ws ≡ Ok (Some e) →
 words_spelled [] e h = absurd (none_some e (ok_ok None (Some e) h))
 words_spelled (first ∷ rest) e h = event_spelled first rest e (some_event (event_by first rest) e h)
 
-operation_meant : (event : ℕ → ℕ → Option Loss → Event) (link stream : ℕ) (lose : Option Loss) (rest : List Text) (l s : Text)
+operation_meant : (event : ℕ → ℕ → Option Loss → Event) (link stream : ℕ) (lose : Option Loss) (rest : List Text)
+    (l s : Text)
     → number_in l ≡ Some link → number_in s ≡ Some stream → LossSpelledBy lose rest
-    → ((operation_in (l ∷ s ∷ rest) >>= λ o. Ok (event o.0 o.1 o.2)) >>= λ e. Ok (Some e)) ≡ Ok (Some (event link stream lose))
+    → ((operation_in (l ∷ s ∷ rest) >>= λ o. Ok (event o.0 o.1 o.2)) >>= λ e. Ok (Some e))
+    ≡ Ok (Some (event link stream lose))
 operation_meant event link stream lose rest l s a b c =
     let loss = loss_meant rest lose c in
     rw (loss.0, a, b, loss.1) refl
 
 words_meant : (ws : List Text) (e : Event) → SpelledBy e ws → event_in ws ≡ Ok (Some e)
-words_meant ws (Establish link stream lose) h = rw h.4 (operation_meant Establish link stream lose h.2 h.0.0 h.1.0 h.0.1 h.1.1 h.3)
-words_meant ws (Refresh link stream lose) h = rw h.4 (operation_meant Refresh link stream lose h.2 h.0.0 h.1.0 h.0.1 h.1.1 h.3)
-words_meant ws (Stop link stream lose) h = rw h.4 (operation_meant Stop link stream lose h.2 h.0.0 h.1.0 h.0.1 h.1.1 h.3)
+words_meant ws (Establish link stream lose) h = rw h.4
+    (operation_meant Establish link stream lose h.2 h.0.0 h.1.0 h.0.1 h.1.1 h.3)
+words_meant ws (Refresh link stream lose) h = rw h.4
+    (operation_meant Refresh link stream lose h.2 h.0.0 h.1.0 h.0.1 h.1.1 h.3)
+words_meant ws (Stop link stream lose) h = rw h.4
+    (operation_meant Stop link stream lose h.2 h.0.0 h.1.0 h.0.1 h.1.1 h.3)
 words_meant ws (Send port bytes more trusted) h =
     rw h.2 (rw h.0.1 (rw h.1.1 (rw (few_marks more trusted, marks_meant port.side more trusted h.3) refl)))
 words_meant ws (Pass n) h = rw h.1 (rw h.0.1 refl)
@@ -222,12 +213,14 @@ words_meant ws (Arrive port bytes) h = rw h.2 (rw h.0.1 (rw h.1.1 refl))
 words_meant ws (Dump n) h = rw h.1 (rw h.0.1 refl)
 words_meant ws (Reset l) h = rw h.1 (rw h.0.1 refl)
 words_meant ws (Status l s) h = rw h.2 (rw h.0.1 (rw h.1.1 refl))
+words_meant ws (Interface event) h = interface_meant ws event h
 
 -- ---- lines
 
 line_step : (line : Text) (e : Event) (long comment printed : Bool)
     → nat_lt 20000 (length line) ≡ long → is_comment line ≡ comment → list_all is_printable line ≡ printed
-    → (if long then Err fault.TooLong else if comment then Ok None else if not printed then Err fault.NotAscii else event_in (words_in line)) ≡ Ok (Some e)
+    → (if long then Err fault.TooLong else if comment then Ok None else if not printed then Err fault.NotAscii else
+    event_in (words_in line)) ≡ Ok (Some e)
     → SpellsEvent e line
 line_step line e true c p x y z h = absurd (err_ok fault.TooLong (Some e) h)
 line_step line e false true p x y z h = absurd (none_some e (ok_ok None (Some e) h))
@@ -249,7 +242,8 @@ short_line n h = elim (cases_Bool (nat_lt 20000 n)) [
 ]
 
 line_meant : (line : Text) (e : Event) → SpellsEvent e line → line_meaning line ≡ Ok (Some e)
-line_meant line e h = rw (short_line (length line) h.short_enough, h.no_comment, h.printable, words_meant (words_in line) e h.words) refl
+line_meant line e h = rw
+    (short_line (length line) h.short_enough, h.no_comment, h.printable, words_meant (words_in line) e h.words) refl
 
 pub meaning_is_spelling : MeaningIsSpelling
 meaning_is_spelling line e = (line_spelled line e, line_meant line e)

@@ -1,5 +1,6 @@
 -- A spelled event is allowed: its link is one of eight, and it has no more bytes than its line.
-use Rattle.std.proofs.Common.{suc, true, false, cond, nat_le, not, ◌&&◌, ◌==◌, ◌-◌, ◌≡◌, ◌<◌, ◌≤◌, ◌^◌, ℕ, List, [], ◌∷◌, Bool, Some, None, Ok, Err, length, filter, refl, ap, subst, arith, codes}
+use Rattle.std.proofs.Common.{suc, true, false, cond, nat_le, not, ◌&&◌, ◌==◌, ◌-◌, ◌≡◌, ◌<◌, ◌≤◌, ◌^◌, ℕ, List, []}
+use Rattle.std.proofs.Common.{◌∷◌, Bool, Some, None, Ok, Err, length, filter, refl, ap, subst, arith, codes}
 use Rattle.std.specs.Prelude.{if◌then◌else◌}
 use Rattle.std.specs.List.{AllByRecursion, onto_first, slice_split}
 use Rattle.std.specs.Result.{result_ok}
@@ -10,10 +11,12 @@ use Rattle.hex.proofs.HexLemmas.{decode_of-ok}
 use Rattle.ide_types.specs.declared.port.Side.TheVariants.{Host, Device}
 use Rattle.ide_types.specs.declared.port.PortName.{PortName}
 use Rattle.ide_types.specs.Names.{Text}
-use Rattle.link_events.specs.Terms.{Event, Establish, Refresh, Stop, Send, Pass, Alter, Cut, Arrive, Dump, Reset, Status}
+use Rattle.link_events.specs.Terms.{Event, Establish, Refresh, Stop, Send, Pass, Alter, Cut, Arrive, Dump, Reset}
+use Rattle.link_events.specs.Terms.{Status, Interface}
 use Rattle.link_events.specs.Words.{words_in, bytes_in, port_in}
 use Rattle.link_events.specs.Spells.{SpelledBy, IsAllowed, SpelledAreAllowed}
 use Rattle.link_events.proofs.Steps.{some_some, none_some}
+use Rattle.link_events.proofs.InterfaceMeanings.{interface_allowed}
 
 -- ---- words
 
@@ -32,8 +35,13 @@ split_short : (p : ℕ → Bool) (line : Text) → Short (length line) (slice_sp
 split_short p [] = (omega arith, tt)
 split_short p (b ∷ line) = by_test (p b) (split_short p line)
   where
-    by_test : (t : Bool) → Short (length line) (slice_split p line) → Short (suc (length line)) (cond t ([] ∷ slice_split p line) (onto_first b (slice_split p line)))
-    by_test true short = (omega arith, longer (length line) (suc (length line)) (slice_split p line) (omega arith) short)
+    by_test : (t : Bool) → Short (length line) (slice_split p line)
+        → Short (suc (length line)) (cond t ([] ∷ slice_split p line) (onto_first b (slice_split p line)))
+    by_test true short = (
+      omega arith,
+      longer (length line) (suc (length line)) (slice_split p line) (omega arith)
+          short,
+    )
     by_test false short = onto_short (length line) b (slice_split p line) short
 
 filter_short : (n : ℕ) (p : Text → Bool) (ws : List Text) → Short n ws → Short n (filter p ws)
@@ -45,7 +53,8 @@ filter_short n p (w ∷ ws) short = by_test (p w) (filter_short n p ws short.1)
     by_test false rest = rest
 
 words_short : (line : Text) → Short (length line) (words_in line)
-words_short line = filter_short (length line) (λ w. not (length w == 0)) (slice_split (λ b. b == 32) line) (split_short (λ b. b == 32) line)
+words_short line = filter_short (length line) (λ w. not (length w == 0)) (slice_split (λ b. b == 32) line)
+    (split_short (λ b. b == 32) line)
 
 -- ---- bytes
 
@@ -54,7 +63,8 @@ unfolding bytes_in
 few_bytes w bytes is = by_dash (bytes_eq w (codes "-")) is
   where
     by_reading : (r : _) → decode_of w ≡ r → result_ok r ≡ Some bytes → length bytes ≤ length w
-    by_reading (Ok bs) reads is = let same : bs ≡ bytes = cc in omega (arith, (decode_of-ok w bs reads).2, ap length same)
+    by_reading (Ok bs) reads is = let same : bs ≡ bytes = cc in omega
+        (arith, (decode_of-ok w bs reads).2, ap length same)
     by_reading (Err e) reads is = absurd cc
 
     by_dash : (b : Bool) → (if b then Some [] else result_ok (decode_of w)) ≡ Some bytes → length bytes ≤ length w
@@ -64,13 +74,16 @@ few_bytes w bytes is = by_dash (bytes_eq w (codes "-")) is
 -- ---- ports
 
 link_step : (d : ℕ) (p : PortName) (low high host device : Bool) → nat_le d 55 ≡ high
-    → (if not (low && high) then None else if host then Some (record { side = Host; link = d - 48 }) else if device then Some (record { side = Device; link = d - 48 }) else None) ≡ Some p
+    → (if not (low && high) then None else if host then Some (record { side = Host; link = d - 48 }) else if device then
+    Some (record { side = Device; link = d - 48 }) else None) ≡ Some p
     → p.link < 8
 link_step d p true true true device x e =
-    let link : d - 48 ≡ p.link = ap (λ (q : PortName). q.link) (some_some (record { side = Host; link = d - 48 }) p e) in
+    let link : d - 48 ≡ p.link = ap (λ (q : PortName). q.link) (some_some (record { side = Host; link = d - 48 }) p e)
+    in
     omega (arith, leb-true d 55 x)
 link_step d p true true false true x e =
-    let link : d - 48 ≡ p.link = ap (λ (q : PortName). q.link) (some_some (record { side = Device; link = d - 48 }) p e) in
+    let link : d - 48 ≡ p.link = ap (λ (q : PortName). q.link) (some_some (record { side = Device; link = d - 48 }) p e)
+    in
     omega (arith, leb-true d 55 x)
 link_step d p true true false false x e = absurd (none_some p e)
 link_step d p true false host device x e = absurd (none_some p e)
@@ -85,7 +98,8 @@ port_link (s ∷ d ∷ x ∷ w) p e = absurd (none_some p e)
 
 -- ---- events
 
-few_hex : (n : ℕ) (w : Text) (bytes : List ℕ) → bytes_in w ≡ Some bytes → length w ≤ n → n ≤ 20000 → length bytes < 2 ^ 64
+few_hex : (n : ℕ) (w : Text) (bytes : List ℕ) → bytes_in w ≡ Some bytes → length w ≤ n → n ≤ 20000
+    → length bytes < 2 ^ 64
 few_hex n w bytes is short few = omega (arith, few_bytes w bytes is, short, few)
 
 allowed : (n : ℕ) (ws : List Text) (e : Event) → n ≤ 20000 → Short n ws → SpelledBy e ws → IsAllowed e
@@ -104,6 +118,7 @@ allowed n ws (Arrive port bytes) few short h =
 allowed n ws (Dump p) few short h = tt
 allowed n ws (Reset l) few short h = tt
 allowed n ws (Status l s) few short h = tt
+allowed n ws (Interface event) few short h = interface_allowed ws event h
 
 pub spelled_are_allowed : SpelledAreAllowed
 spelled_are_allowed line e h = allowed (length line) (words_in line) e h.short_enough (words_short line) h.words

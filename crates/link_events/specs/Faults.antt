@@ -1,5 +1,6 @@
 -- The first fault of a line: by the table of events, the first word from the left that is not what stands in its place.
-use Rattle.std.specs.Prelude.{◌≡◌, ◌<◌, ◌≤◌, ◌↔◌, ◌⊎◌, ◌&&◌, ◌||◌, Bool, true, false, List, [], ◌∷◌, length, Option, Some, None, is_some, Err, codes}
+use Rattle.std.specs.Prelude.{◌≡◌, ◌<◌, ◌≤◌, ◌↔◌, ◌⊎◌, ◌&&◌, ◌||◌, Bool, true, false, List, [], ◌∷◌, length, Option}
+use Rattle.std.specs.Prelude.{Some, None, is_some, Err, codes}
 use Rattle.std.specs.List.{list_all}
 use Rattle.std.specs.Option.{option_map_or}
 use Rattle.std.specs.Str.{bytes_eq}
@@ -7,19 +8,14 @@ use Rattle.ide_types.specs.declared.port.Side.{Side}
 use Rattle.ide_types.specs.declared.port.Side.TheVariants.{Host, Device}
 use Rattle.ide_types.specs.declared.port.PortName.{PortName}
 use Rattle.ide_types.specs.Names.{Text}
-use Rattle.link_events.specs.Terms.{LineFault, Word, Count, Number, Hex, TooLong, NotAscii}
-use Rattle.link_events.specs.Words.{line_limit, is_printable, words_in, number_in, mask_in, bytes_in, port_in, lost_in}
+use Rattle.link_events.specs.Terms.{LineFault, Word, Count, Hex, TooLong, NotAscii}
+use Rattle.link_events.specs.Words.{line_limit, is_printable, words_in, mask_in, bytes_in, port_in}
+pub use Rattle.link_events.specs.Parts.{WordTest, number_test, lost_test, word_test, Row, number_tests}
+pub use Rattle.link_events.specs.Parts.{two_number_tests}
+use Rattle.link_events.specs.Interfaces.{interface_rows}
 use Rattle.link_events.specs.Parse.{is_comment, line_meaning}
 
 -- ---- what a word behind the first has to be
-
--- a test of the word, and the fault where the word does not meet it
-pub record WordTest : Type 0 where
-  pub is_spelled : Text → Bool
-  pub fault : LineFault
-
-abbrev pub number_test : WordTest
-number_test = record { is_spelled = λ w. is_some (number_in w); fault = Number }
 
 abbrev pub mask_test : WordTest
 mask_test = record { is_spelled = λ w. is_some (mask_in w); fault = Hex }
@@ -29,13 +25,6 @@ bytes_test = record { is_spelled = λ w. is_some (bytes_in w); fault = Hex }
 
 abbrev pub port_test : WordTest
 port_test = record { is_spelled = λ w. is_some (port_in w); fault = Word }
-
-abbrev pub lost_test : WordTest
-lost_test = record { is_spelled = λ w. is_some (lost_in w); fault = Word }
-
--- this very word
-abbrev pub word_test : Text → WordTest
-word_test word = record { is_spelled = λ w. bytes_eq w word; fault = Word }
 
 abbrev pub is_at_host : Side → Bool
 is_at_host Host = true
@@ -53,8 +42,7 @@ trusted_test port = record { is_spelled = is_trusted_at port; fault = Word }
 abbrev pub mark_test : Text → WordTest
 mark_test port = record { is_spelled = λ w. bytes_eq w (codes "more") || is_trusted_at port w; fault = Word }
 
--- ---- the table: the tests of the words behind an event's word, by how many stand there; nothing where it may not
--- have so many
+-- ---- the table
 
 abbrev pub operation_tests : List Text → Option (List WordTest)
 operation_tests (l ∷ s ∷ []) = Some (number_test ∷ number_test ∷ [])
@@ -72,20 +60,12 @@ abbrev pub arrive_tests : List Text → Option (List WordTest)
 arrive_tests (p ∷ w ∷ []) = Some (port_test ∷ bytes_test ∷ [])
 arrive_tests _ = None
 
-abbrev pub number_tests : List Text → Option (List WordTest)
-number_tests (n ∷ []) = Some (number_test ∷ [])
-number_tests _ = None
-
-abbrev pub two_number_tests : List Text → Option (List WordTest)
-two_number_tests (m ∷ n ∷ []) = Some (number_test ∷ number_test ∷ [])
-two_number_tests _ = None
-
 abbrev pub alter_tests : List Text → Option (List WordTest)
 alter_tests (n ∷ a ∷ h ∷ []) = Some (number_test ∷ number_test ∷ mask_test ∷ [])
 alter_tests _ = None
 
 -- the events by their first word
-abbrev pub event_table : List (Text × (List Text → Option (List WordTest)))
+abbrev pub event_table : List Row
 event_table =
     (codes "establish", operation_tests) ∷ (codes "refresh", operation_tests) ∷ (codes "stop", operation_tests)
     ∷ (codes "reset", number_tests) ∷ (codes "status", two_number_tests)
@@ -93,7 +73,7 @@ event_table =
       codes "dump",
       number_tests,
     )
-    ∷ (codes "send", send_tests) ∷ (codes "arrive", arrive_tests) ∷ []
+    ∷ interface_rows ((codes "send", send_tests) ∷ (codes "arrive", arrive_tests) ∷ [])
 
 -- ---- the first fault
 
@@ -109,7 +89,7 @@ RowFault None words fault = Count ≡ fault
 RowFault (Some tests) words fault = FirstOff tests words fault
 
 -- the first row with that first word decides; a word of no row is none of an event's
-abbrev pub TableFault : List (Text × (List Text → Option (List WordTest))) → Text → List Text → LineFault → Type 0
+abbrev pub TableFault : List Row → Text → List Text → LineFault → Type 0
 TableFault [] first rest fault = Word ≡ fault
 TableFault (row ∷ rows) first rest fault =
     ((bytes_eq first row.0 ≡ true) × RowFault (row.1 rest) rest fault) ⊎ ((bytes_eq first row.0 ≡ false)

@@ -1,40 +1,21 @@
 -- The event that a line spells, or its first fault, word by word.
-use Rattle.std.specs.Prelude.{◌≡◌, ◌==◌, ◌&&◌, ◌||◌, ℕ, nat_lt, Bool, true, false, not, List, [], ◌∷◌, length, Option, Some, None, Result, Ok, Err, if◌then◌else◌, codes}
+use Rattle.std.specs.Prelude.{◌≡◌, ◌==◌, ◌&&◌, ◌||◌, ℕ, nat_lt, Bool, true, false, not, List, [], ◌∷◌, length, Option}
+use Rattle.std.specs.Prelude.{Some, None, Result, Ok, Err, if◌then◌else◌, codes}
 use Rattle.std.specs.List.{list_all}
-use Rattle.std.specs.Option.{ok_or, unwrap_or}
+use Rattle.std.specs.Option.{ok_or, unwrap_or, option_map}
 use Rattle.std.specs.Str.{bytes_eq}
 use Rattle.ide_types.specs.declared.port.Side.{Side}
 use Rattle.ide_types.specs.declared.port.Side.TheVariants.{Host, Device}
 use Rattle.ide_types.specs.Names.{Text}
-use Rattle.link_events.specs.Terms.{Event, Establish, Refresh, Stop, Send, Pass, Alter, Cut, Arrive, Dump, Reset, Status, Loss, LineFault, Word, Count, Number, Hex, TooLong, NotAscii, LineError}
+use Rattle.link_events.specs.Terms.{Event, Establish, Refresh, Stop, Send, Pass, Alter, Cut, Arrive, Dump, Reset}
+use Rattle.link_events.specs.Terms.{Status, Interface, InterfaceEvent, Loss, LineFault, Word, Count, Number, Hex}
+use Rattle.link_events.specs.Terms.{TooLong, NotAscii, LineError}
 use Rattle.link_events.specs.Terms.error
-use Rattle.link_events.specs.Words.{line_limit, is_printable, words_in, number_in, mask_in, bytes_in, port_in, lost_in}
-
--- a word after the other: the first fault from the left
-infixl 10 ◌>>=◌
-abbrev pub ◌>>=◌ : {A B : Type 0} → Result A LineFault → (A → Result B LineFault) → Result B LineFault
-(Ok x) >>= f = f x
-(Err e) >>= f = Err e
+use Rattle.link_events.specs.Words.{line_limit, is_printable, words_in, number_in, mask_in, bytes_in, port_in}
+pub use Rattle.link_events.specs.Parts.{◌>>=◌, lost_exchange_in, loss_in, is_loss_long, one_number_in, two_numbers_in}
+use Rattle.link_events.specs.Interfaces.{interface_event_of}
 
 -- ---- the words behind the first
-
-abbrev pub lost_exchange_in : Text → Text → Result (Option Loss) LineFault
-lost_exchange_in n w = do
-  exchange ← ok_or (number_in n) Number
-  lost ← ok_or (lost_in w) Word
-  Ok (Some (record { exchange = exchange; lost = lost }))
-
--- nothing, or lose, the number of an exchange, and what is lost of it
-abbrev pub loss_in : List Text → Result (Option Loss) LineFault
-loss_in [] = Ok None
-loss_in (l ∷ n ∷ w ∷ []) = if bytes_eq l (codes "lose") then lost_exchange_in n w else Err Word
-loss_in _ = Err Count
-
--- whether an operation may have so many words behind its stream
-abbrev pub is_loss_long : List Text → Bool
-is_loss_long [] = true
-is_loss_long (l ∷ n ∷ w ∷ []) = true
-is_loss_long _ = false
 
 -- a link and a stream, and what is lost
 abbrev pub operation_in : List Text → Result (ℕ × ℕ × Option Loss) LineFault
@@ -70,17 +51,6 @@ send_in (p ∷ w ∷ marks) =
       m ← ok_or (marks_in port.side marks) Word
       Ok (Send port bytes m.0 m.1)
 send_in _ = Err Count
-
-abbrev pub one_number_in : List Text → Result ℕ LineFault
-one_number_in (n ∷ []) = ok_or (number_in n) Number
-one_number_in _ = Err Count
-
-abbrev pub two_numbers_in : List Text → Result (ℕ × ℕ) LineFault
-two_numbers_in (m ∷ n ∷ []) = do
-  first ← ok_or (number_in m) Number
-  second ← ok_or (number_in n) Number
-  Ok (first, second)
-two_numbers_in _ = Err Count
 
 abbrev pub alter_in : List Text → Result Event LineFault
 alter_in (n ∷ a ∷ h ∷ []) = do
@@ -125,8 +95,17 @@ bytes_event_in first rest =
     else if bytes_eq first (codes "arrive") then arrive_in rest
     else Err Word
 
+-- an event on an interface or on memory, as an event
+abbrev pub made_interface : Result InterfaceEvent LineFault → Result Event LineFault
+made_interface answer = answer >>= λ e. Ok (Interface e)
+
+-- an event on an interface or on memory, or one that holds bytes
+abbrev pub other_event_in : Text → List Text → Result Event LineFault
+other_event_in first rest =
+    unwrap_or (option_map made_interface (interface_event_of first rest)) (bytes_event_in first rest)
+
 abbrev pub event_by : Text → List Text → Result Event LineFault
-event_by first rest = unwrap_or (naming_event_of first rest) (bytes_event_in first rest)
+event_by first rest = unwrap_or (naming_event_of first rest) (other_event_in first rest)
 
 -- no words are no event
 abbrev pub event_in : List Text → Result (Option Event) LineFault

@@ -1,33 +1,20 @@
 -- Which lines spell an event, said by the event.
-use Rattle.std.specs.Prelude.{◌≡◌, ◌<◌, ◌≤◌, ◌^◌, ◌==◌, ◌↔◌, ◌⊎◌, ℕ, Bool, true, false, List, [], ◌∷◌, length, Option, Some, None, Ok, codes}
+use Rattle.std.specs.Prelude.{◌≡◌, ◌<◌, ◌≤◌, ◌^◌, ◌==◌, ◌↔◌, ◌⊎◌, ℕ, Bool, true, false, List, [], ◌∷◌, length, Option}
+use Rattle.std.specs.Prelude.{Some, None, Ok, codes}
 use Rattle.std.specs.List.{list_all}
 use Rattle.ide_types.specs.declared.port.Side.TheVariants.{Host}
 use Rattle.ide_types.specs.Names.{Text}
-use Rattle.link_events.specs.Terms.{Event, Establish, Refresh, Stop, Send, Pass, Alter, Cut, Arrive, Dump, Reset, Status, Loss}
-use Rattle.link_events.specs.Words.{line_limit, is_printable, words_in, number_in, mask_in, bytes_in, port_in, lost_in}
+use Rattle.link_events.specs.Terms.{Event, Establish, Refresh, Stop, Send, Pass, Alter, Cut, Arrive, Dump, Reset}
+use Rattle.link_events.specs.Terms.{Status, Interface, Loss}
+use Rattle.link_events.specs.Words.{line_limit, is_printable, words_in, number_in, mask_in, bytes_in, port_in}
+pub use Rattle.link_events.specs.Parts.{WordOf, LossSpelledBy, OneSpelledBy, TwoSpelledBy}
+use Rattle.link_events.specs.Interfaces.{InterfaceSpelledBy, IsAllowedInterface}
 use Rattle.link_events.specs.Parse.{is_comment, line_meaning}
-
--- a word that spells a value
-abbrev pub WordOf : {A : Type 0} → (Text → Option A) → A → Type 0
-WordOf reading value = (w : Text) × (reading w ≡ Some value)
-
--- the words behind an operation's stream
-abbrev pub LossSpelledBy : Option Loss → List Text → Type 0
-LossSpelledBy None words = words ≡ []
-LossSpelledBy (Some loss) words =
-    (n : WordOf number_in loss.exchange) × (w : WordOf lost_in loss.lost) × (words ≡ codes "lose" ∷ n.0 ∷ w.0 ∷ [])
 
 abbrev pub OperationSpelledBy : Text → ℕ → ℕ → Option Loss → List Text → Type 0
 OperationSpelledBy first link stream lose words =
     (l : WordOf number_in link) × (s : WordOf number_in stream) × (rest : List Text) × LossSpelledBy lose rest
     × (words ≡ first ∷ l.0 ∷ s.0 ∷ rest)
-
-abbrev pub OneSpelledBy : Text → ℕ → List Text → Type 0
-OneSpelledBy first number words = (n : WordOf number_in number) × (words ≡ first ∷ n.0 ∷ [])
-
-abbrev pub TwoSpelledBy : Text → ℕ → ℕ → List Text → Type 0
-TwoSpelledBy first one two words = (m : WordOf number_in one) × (n : WordOf number_in two)
-    × (words ≡ first ∷ m.0 ∷ n.0 ∷ [])
 
 abbrev pub mark_words : Bool → Bool → List Text
 mark_words false false = []
@@ -53,6 +40,7 @@ SpelledBy (Arrive port bytes) words = (p : WordOf port_in port) × (b : WordOf b
 SpelledBy (Dump packet) words = OneSpelledBy (codes "dump") packet words
 SpelledBy (Reset link) words = OneSpelledBy (codes "reset") link words
 SpelledBy (Status link stream) words = TwoSpelledBy (codes "status") link stream words
+SpelledBy (Interface event) words = InterfaceSpelledBy event words
 
 -- the line spells the event
 pub record SpellsEvent (event : Event) (line : Text) : Type 0 where
@@ -74,11 +62,12 @@ abbrev pub NothingIsSkipped : Type 0
 NothingIsSkipped = (line : Text) → (line_meaning line ≡ Ok None) ↔ IsSkipped line
 
 -- The event's port is on one of eight links, trusted is asked of a host's port alone, and a place in the event's
--- bytes has at most 64 bits.
+-- bytes has at most 64 bits. A value has room in its register, and 1 to 256 bytes of memory are shown.
 abbrev pub IsAllowed : Event → Type 0
 IsAllowed (Send port bytes more trusted) = (port.link < 8) × (trusted ≡ true → port.side ≡ Host)
     × (length bytes < 2 ^ 64)
 IsAllowed (Arrive port bytes) = (port.link < 8) × (length bytes < 2 ^ 64)
+IsAllowed (Interface event) = IsAllowedInterface event
 IsAllowed _ = Unit {0}
 
 abbrev pub SpelledAreAllowed : Type 0

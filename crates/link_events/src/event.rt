@@ -1,6 +1,7 @@
 //! The events of a script.
 
 use ide_types::{Bytes, PortName};
+use interface_words::Register;
 
 /// What is lost of an exchange: its request, or its reply.
 #[derive(Clone, Copy, Debug, PartialEq, Eq)]
@@ -14,6 +15,59 @@ pub enum Lost {
 pub struct Loss {
     pub exchange: u64,
     pub lost: Lost,
+}
+
+/// What is asked of a device interface, by its number over all links, or of trusted memory.
+#[derive(Debug, Drop)]
+pub enum InterfaceEvent {
+    /// The manager locks the interface.
+    Lock {
+        interface: u64,
+        lose: Option<Loss>,
+    },
+    /// The manager reads the interface's report.
+    Report {
+        interface: u64,
+        lose: Option<Loss>,
+    },
+    /// The manager starts the interface.
+    Start {
+        interface: u64,
+        lose: Option<Loss>,
+    },
+    /// The manager halts the interface.
+    Halt {
+        interface: u64,
+        lose: Option<Loss>,
+    },
+    /// The manager asks for the interface's state.
+    State {
+        interface: u64,
+        lose: Option<Loss>,
+    },
+    /// Shows the manager's view of the interface.
+    View {
+        interface: u64,
+    },
+    /// A register of the interface is written.
+    Write {
+        interface: u64,
+        register: Register,
+        value: u64,
+    },
+    /// A function level reset of the interface.
+    Flr {
+        interface: u64,
+    },
+    /// A firmware update of the interface.
+    Firmware {
+        interface: u64,
+    },
+    /// Shows bytes of trusted memory from an address on.
+    Memory {
+        address: u64,
+        length: u64,
+    },
 }
 
 /// What a line of a script asks for. Links, streams and packets need not exist: a packet is named by the number
@@ -78,5 +132,9 @@ pub enum Event {
     Status {
         link: u64,
         stream: u64,
+    },
+    /// What concerns a device interface or trusted memory.
+    Interface {
+        event: InterfaceEvent,
     },
 }

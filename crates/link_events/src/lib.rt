@@ -3,12 +3,16 @@
 
 mod event;
 mod fault;
+#[cfg(test)]
+mod interface_tests;
+mod interfaces;
 mod parse;
+mod parts;
 #[cfg(test)]
 mod tests;
 mod words;
 
-pub use event::{Event, Loss, Lost};
+pub use event::{Event, InterfaceEvent, Loss, Lost};
 pub use fault::{LINE_LIMIT, LineError, LineFault, fault_line};
 pub use ide_types::Memory;
 pub use parse::{faults_are_first, lines_spell, parse_line};

@@ -4,33 +4,19 @@ ghost use Rattle.std.specs.Prelude.{◌≡◌, ◌∷◌, [], false, map};
 ghost use Rattle.std.specs.Option.{ok_or};
 ghost use Rattle.link_events.specs.declared.fault.LineFault.TheVariants as fault;
 ghost use Rattle.link_events.specs.Words.{words_in};
-ghost use Rattle.link_events.specs.Parse.{loss_in, operation_in, marks_in, send_in, one_number_in, two_numbers_in, alter_in, arrive_in, bytes_event_in, packet_event_of, naming_event_of, event_by, event_in, line_meaning, begins_bytes, answer_of, Gives};
+ghost use Rattle.link_events.specs.Parse.{operation_in, marks_in, send_in, alter_in, arrive_in, bytes_event_in};
+ghost use Rattle.link_events.specs.Parse.{packet_event_of, naming_event_of, other_event_in, event_by, event_in};
+ghost use Rattle.link_events.specs.Parse.{line_meaning, begins_bytes, answer_of, Gives};
 ghost use Rattle.link_events.specs.Spells.{MeaningIsSpelling, NothingIsSkipped, SpelledAreAllowed};
 ghost use Rattle.link_events.specs.Faults.{FirstFault, FaultsAreFirst};
 ghost use Rattle.link_events.specs.Terms.{LineFault};
 
-use crate::words::{bytes_at, is_printed, lost_at, mask_at, number_at, port_at, words_of};
+use crate::interfaces::interface_event;
+use crate::parts::{loss, one_number, two_numbers};
+use crate::words::{bytes_at, is_printed, mask_at, number_at, port_at, words_of};
 use crate::{Event, LINE_LIMIT, LineError, LineFault, Loss};
 use ide_types::Side;
 use std::alloc::Global;
-
-// What is lost, by the words behind an operation's stream.
-fn loss(words: &[&[u8]]) -> Result<Option<Loss>, LineFault>
-    ensures { result ≡ loss_in (map (λ w. w.now) words.now) }
-{
-    match words {
-        [] => Ok(None),
-        [lose, exchange, lost] => {
-            if *lose != b"lose".as_slice() {
-                return Err(LineFault::Word);
-            }
-            let exchange = number_at(exchange)?;
-            let lost = lost_at(lost)?;
-            Ok(Some(Loss { exchange, lost }))
-        }
-        _ => Err(LineFault::Count),
-    }
-}
 
 // The link and the stream of an operation, and what is lost.
 fn operation(words: &[&[u8]]) -> Result<(u64, u64, Option<Loss>), LineFault>
@@ -46,26 +32,6 @@ fn operation(words: &[&[u8]]) -> Result<(u64, u64, Option<Loss>), LineFault>
     let stream = number_at(stream)?;
     let lose = loss(rest)?;
     Ok((link, stream, lose))
-}
-
-fn one_number(words: &[&[u8]]) -> Result<u64, LineFault>
-    ensures { result ≡ one_number_in (map (λ w. w.now) words.now) }
-{
-    let [number] = words else {
-        return Err(LineFault::Count);
-    };
-    number_at(number)
-}
-
-fn two_numbers(words: &[&[u8]]) -> Result<(u64, u64), LineFault>
-    ensures { result ≡ two_numbers_in (map (λ w. w.now) words.now) }
-{
-    let [first, second] = words else {
-        return Err(LineFault::Count);
-    };
-    let first = number_at(first)?;
-    let second = number_at(second)?;
-    Ok((first, second))
 }
 
 fn alter(words: &[&[u8]]) -> Result<Event, LineFault>
@@ -188,6 +154,19 @@ fn naming_event(first: &[u8], rest: &[&[u8]]) -> Option<Result<Event, LineFault>
     packet_event(first, rest)
 }
 
+// An event on an interface or on memory, or one that holds bytes.
+fn other_event(alloc: Global, first: &[u8], rest: &[&[u8]]) -> Result<Event, LineError>
+    ensures gives { Gives (other_event_in first.now (map (λ w. w.now) rest.now)) result }
+    ensures exact { begins_bytes (first.now ∷ []) ≡ false
+        → result ≡ answer_of (other_event_in first.now (map (λ w. w.now) rest.now)) }
+{
+    match interface_event(first, rest) {
+        Some(Ok(event)) => Ok(Event::Interface { event }),
+        Some(Err(fault)) => Err(LineError::Fault(fault)),
+        None => bytes_event(alloc, first, rest),
+    }
+}
+
 fn event(alloc: Global, first: &[u8], rest: &[&[u8]]) -> Result<Event, LineError>
     ensures gives { Gives (event_by first.now (map (λ w. w.now) rest.now)) result }
     ensures exact { begins_bytes (first.now ∷ []) ≡ false
@@ -196,11 +175,10 @@ fn event(alloc: Global, first: &[u8], rest: &[&[u8]]) -> Result<Event, LineError
     match naming_event(first, rest) {
         Some(Ok(event)) => Ok(event),
         Some(Err(fault)) => Err(LineError::Fault(fault)),
-        None => bytes_event(alloc, first, rest),
+        None => other_event(alloc, first, rest),
     }
 }
 
-#[tactic(auto, using(crate::proofs::Sevens::same_error))]
 fn some_event(alloc: Global, first: &[u8], rest: &[&[u8]]) -> Result<Option<Event>, LineError>
     ensures gives { Gives (event_in (first.now ∷ map (λ w. w.now) rest.now)) result }
     ensures exact { begins_bytes (first.now ∷ []) ≡ false

@@ -4,7 +4,7 @@ use crate::*;
 use std::alloc::Global;
 use std::test::Fail;
 
-static FAULTS: [(&[u8], LineFault); 78] = [
+static FAULTS: [(&[u8], LineFault); 77] = [
     (b"jump 0", LineFault::Word),
     (b"Send h0 -", LineFault::Word),
     (b"sends h0 -", LineFault::Word),
@@ -82,7 +82,6 @@ static FAULTS: [(&[u8], LineFault); 78] = [
     (b"status 0 -", LineFault::Number),
     (b"pass +1", LineFault::Number),
     (b"pass 0x+1", LineFault::Number),
-    (b"lock 0", LineFault::Word),
 ];
 
 #[test]
@@ -94,7 +93,7 @@ fn faults(rt: HostRuntime) {
 }
 
 // The event of a line that spells one, as it prints.
-fn event_text(alloc: Global, line: &[u8]) -> Result<String, Fail> {
+pub(crate) fn event_text(alloc: Global, line: &[u8]) -> Result<String, Fail> {
     match parse_line(alloc, line) {
         Ok(Some(event)) => Ok(format!(in alloc; "{event:?}")?),
         _ => Ok(String::new(alloc)),

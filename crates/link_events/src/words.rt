@@ -5,7 +5,8 @@ ghost use Rattle.std.specs.List.{list_all};
 ghost use Rattle.std.specs.Option.{ok_or};
 ghost use Rattle.link_events.specs.declared.event.Lost.{Lost};
 ghost use Rattle.link_events.specs.declared.fault.LineFault.TheVariants as fault;
-ghost use Rattle.link_events.specs.Words.{words_in, is_printable, some_digits_value, digits_in, number_in, mask_in, bytes_in, port_in, lost_in};
+ghost use Rattle.link_events.specs.Words.{words_in, is_printable, some_digits_value, digits_in, number_in, mask_in};
+ghost use Rattle.link_events.specs.Words.{bytes_in, port_in, lost_in};
 ghost use Rattle.link_events.specs.Parse.{Gives};
 
 use crate::{LineError, LineFault, Lost};
@@ -70,7 +71,7 @@ fn digits(word: &[u8], radix: u32, most: usize) -> Option<u64>
 }
 
 #[tactic(auto, unfolding(crate::specs::Words::number_in))]
-fn number(word: &[u8]) -> Option<u64>
+pub(crate) fn number(word: &[u8]) -> Option<u64>
     ensures { result ≡ number_in word.now }
 {
     match word.strip_prefix(b"0x".as_slice()) {

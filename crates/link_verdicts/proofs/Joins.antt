@@ -24,7 +24,8 @@ head_low : (ws : List Text) (xs : Text) → head_of (joined ws ++ xs) ≤ 32
 head_low [] xs = omega arith
 head_low (w ∷ ws) xs = omega arith
 
-word_apart : (v w xs ys : Text) → IsWord v → IsWord w → head_of xs ≤ 32 → head_of ys ≤ 32 → v ++ xs ≡ w ++ ys → (v ≡ w) × (xs ≡ ys)
+word_apart : (v w xs ys : Text) → IsWord v → IsWord w → head_of xs ≤ 32 → head_of ys ≤ 32 → v ++ xs ≡ w ++ ys → (v ≡ w)
+    × (xs ≡ ys)
 word_apart [] [] xs ys hv hw hx hy e = (refl, e)
 word_apart [] (b ∷ w) xs ys hv hw hx hy e = absurd (omega (arith, hx, ap head_of e))
 word_apart (b ∷ v) [] xs ys hv hw hx hy e = absurd (omega (arith, hy, ap head_of e))
@@ -33,11 +34,14 @@ word_apart (b ∷ v) (c ∷ w) xs ys hv hw hx hy e =
     (ap₂ (λ (x : ℕ) (xs : Text). x ∷ xs) (ap head_of e) rest.0, rest.1)
 
 -- a word and those behind it, ahead of two texts
-first_apart : (v w : Text) (vs ws : List Text) (xs ys : Text) → IsWord v → IsWord w → (v ++ joined vs) ++ xs ≡ (w ++ joined ws) ++ ys → (v ≡ w) × (joined vs ++ xs ≡ joined ws ++ ys)
+first_apart : (v w : Text) (vs ws : List Text) (xs ys : Text) → IsWord v → IsWord w → (v ++ joined vs) ++ xs
+    ≡ (w ++ joined ws) ++ ys → (v ≡ w) × (joined vs ++ xs ≡ joined ws ++ ys)
 first_apart v w vs ws xs ys hv hw e =
-    word_apart v w (joined vs ++ xs) (joined ws ++ ys) hv hw (head_low vs xs) (head_low ws ys) (sym (append_assoc v (joined vs) xs) ∙ (e ∙ append_assoc w (joined ws) ys))
+    word_apart v w (joined vs ++ xs) (joined ws ++ ys) hv hw (head_low vs xs) (head_low ws ys)
+    (sym (append_assoc v (joined vs) xs) ∙ (e ∙ append_assoc w (joined ws) ys))
 
-words_apart : (vs ws : List Text) (xs ys : Text) → AreWords vs → AreWords ws → joined vs ++ xs ≡ joined ws ++ ys → (vs ≡ ws) × (xs ≡ ys)
+words_apart : (vs ws : List Text) (xs ys : Text) → AreWords vs → AreWords ws → joined vs ++ xs ≡ joined ws ++ ys
+    → (vs ≡ ws) × (xs ≡ ys)
 words_apart [] [] xs ys hv hw e = (refl, ap tail_of e)
 words_apart [] (w ∷ ws) xs ys hv hw e = absurd (omega (arith, ap head_of e))
 words_apart (v ∷ vs) [] xs ys hv hw e = absurd (omega (arith, ap head_of e))
@@ -46,7 +50,8 @@ words_apart (v ∷ vs) (w ∷ ws) xs ys hv hw e =
     let rest = words_apart vs ws xs ys hv.1 hw.1 first.1 in
     (ap₂ (λ (x : Text) (xs : List Text). x ∷ xs) first.0 rest.0, rest.1)
 
-pub line_apart : (v w : Text) (vs ws : List Text) (xs ys : Text) → IsWord v → IsWord w → AreWords vs → AreWords ws → (v ++ joined vs) ++ xs ≡ (w ++ joined ws) ++ ys
+pub line_apart : (v w : Text) (vs ws : List Text) (xs ys : Text) → IsWord v → IsWord w → AreWords vs → AreWords ws
+    → (v ++ joined vs) ++ xs ≡ (w ++ joined ws) ++ ys
     → (v ≡ w) × (vs ≡ ws) × (xs ≡ ys)
 line_apart v w vs ws xs ys hv hw hvs hws e =
     let first = first_apart v w vs ws xs ys hv hw e in

@@ -1,14 +1,10 @@
 -- Each verdict is read back from its words: the first words say which it is, and each field stands alone in a word or
 -- behind a letter. That what is read is the verdict is one line of proof for each kind.
-use Rattle.std.proofs.Common.{zero, suc, true, false, nat_eq, ◌&&◌, ◌==◌, slice_index, ◌≡◌, ◌<◌, ◌≤◌, ◌/◌, ◌^◌, ℕ, List, [], ◌∷◌, ◌++◌, Bool, length, drop, refl, ap, ap₂, ◌∙◌, arith, codes, get_or}
+use Rattle.std.proofs.Common.{zero, suc, true, false, ◌==◌, slice_index, ◌≡◌, ◌<◌, ◌≤◌, ◌^◌, ℕ, List, [], ◌∷◌, ◌++◌}
+use Rattle.std.proofs.Common.{Bool, length, drop, refl, ap, ap₂, ◌∙◌, arith, codes}
 use Rattle.std.specs.Prelude.{if◌then◌else◌}
-use Rattle.std.specs.Option.{unwrap_or}
 use Rattle.std.specs.Fmt.{decimal}
 use Rattle.std.specs.Str.{bytes_eq}
-use Rattle.std.specs.Str.Parse.{digits_value}
-use Rattle.std.proofs.lemmas.Fmt.{decimal_is_IsNumeral}
-use Rattle.hex.specs.Hex.{encode_lower, encode_with, lower_digits, IsBytes}
-use Rattle.hex.proofs.HexLemmas.{decode_of-encode_lower}
 use Rattle.ide_types.specs.declared.sub.SubKind.{SubKind}
 use Rattle.ide_types.specs.declared.sub.SubKind.TheVariants.{Pr, Npr, Cpl}
 use Rattle.ide_types.specs.declared.sub.FailCause.{FailCause}
@@ -19,22 +15,24 @@ use Rattle.ide_types.specs.declared.fault_word.FaultWord.{FaultWord}
 use Rattle.ide_types.specs.declared.status.StreamStatus.{StreamStatus}
 use Rattle.ide_types.specs.declared.sub.FailCause.TheVariants as fail
 use Rattle.ide_types.specs.declared.fault_word.FaultWord.TheVariants as fault
-use Rattle.link_verdicts.specs.Terms.{NotTrusted, NotRunning, WrongStream, Stale, Outside, Crosses, Effect, Sync, Delivered, Applied, Blocked, SealedPacket, UnitName, Verdict, Nothing, Malformed, Plain, RefusedInsecure, RefusedNoKey, RefusedUnfinished, RefusedWorn, Sealed, Unknown, Insecure, NotKeyed, Fail, Held, Accepted, Established, Refreshed, Stopped, LostRequest, LostReply, RefusedNotIdle, RefusedNotSecure, RefusedPoolEmpty, RefusedDevice, RefusedBusy, RefusedUnitOpen, Packet, Reset, Status, Operation}
-use Rattle.hex.specs.Hex.{decode_of}
-use Rattle.std.specs.Result.{result_ok}
+use Rattle.link_verdicts.specs.Terms.{NotTrusted, NotRunning, WrongStream, Stale, Outside, Crosses, Effect, Sync}
+use Rattle.link_verdicts.specs.Terms.{Delivered, Applied, Blocked, SealedPacket, UnitName, Verdict, Nothing, Malformed}
+use Rattle.link_verdicts.specs.Terms.{Plain, RefusedInsecure, RefusedNoKey, RefusedUnfinished, RefusedWorn, Sealed}
+use Rattle.link_verdicts.specs.Terms.{Unknown, Insecure, NotKeyed, Fail, Held, Accepted, Established, Refreshed}
+use Rattle.link_verdicts.specs.Terms.{Stopped, LostRequest, LostReply, RefusedNotIdle, RefusedNotSecure}
+use Rattle.link_verdicts.specs.Terms.{RefusedPoolEmpty, RefusedDevice, RefusedBusy, RefusedUnitOpen, Packet, Reset}
+use Rattle.link_verdicts.specs.Terms.{Status, Interface, Operation}
 use Rattle.ide_types.specs.declared.status.StreamStatus.TheVariants as status
 use Rattle.link_verdicts.specs.Terms.operation
 use Rattle.ide_types.specs.Names.{Text, side_word, port_word, substream_word, fail_word, fault_word, status_word}
-use Rattle.link_verdicts.specs.Lines.{effect_word, operation_word, bytes_word, bit_of, unit_words, sync_words, sealed_words, more_packets_words, packets_words, effects_words, verdict_words}
+use Rattle.link_verdicts.specs.Lines.{effect_word, operation_word, bit_of, unit_words, sync_words, sealed_words}
+use Rattle.link_verdicts.specs.Lines.{more_packets_words, packets_words, effects_words, verdict_words}
+use Rattle.interface_words.specs.declared.verdict.InterfaceVerdict.TheVariants as iv
+use Rattle.link_verdicts.proofs.WordReadings.{word_at, number, bytes, number_back, bytes_back, pairs_back}
+use Rattle.link_verdicts.proofs.InterfaceReadings.{view_back, interface_refusal, interface_by}
 use Rattle.link_verdicts.specs.Apart.{Fits, FitsUnit, FitsSealed, FitPackets}
 
 -- ---- words and what they stand for
-
-abbrev word_at : List Text → ℕ → Text
-word_at ws i = get_or ws i []
-
-abbrev number : Text → ℕ
-number w = digits_value 10 w
 
 abbrev port : Text → PortName
 port w = record { side = if slice_index w 0 == 104 then Host else Device; link = number (drop 1 w) }
@@ -42,14 +40,12 @@ port w = record { side = if slice_index w 0 == 104 then Host else Device; link =
 abbrev bit : Text → Bool
 bit w = number (drop 1 w) == 1
 
-abbrev bytes : Text → List ℕ
-bytes w = if bytes_eq w (codes "-") then [] else unwrap_or (result_ok (decode_of w)) []
-
 abbrev sub : Text → SubKind
 sub w = if bytes_eq w (codes "pr") then Pr else if bytes_eq w (codes "npr") then Npr else Cpl
 
 abbrev fail_cause : Text → FailCause
-fail_cause w = if bytes_eq w (codes "key") then fail.Key else if bytes_eq w (codes "unit") then fail.Unit else if bytes_eq w (codes "tag") then fail.Tag else fail.Order
+fail_cause w = if bytes_eq w (codes "key") then fail.Key else if bytes_eq w (codes "unit") then fail.Unit else if
+    bytes_eq w (codes "tag") then fail.Tag else fail.Order
 
 abbrev fault_named : Text → FaultWord
 fault_named w =
@@ -72,7 +68,8 @@ status_named w =
 
 abbrev operation_named : Text → Operation
 operation_named w =
-    if bytes_eq w (codes "establish") then operation.Establish else if bytes_eq w (codes "refresh") then operation.Refresh else operation.Stop
+    if bytes_eq w (codes "establish") then operation.Establish else if bytes_eq w (codes "refresh") then
+    operation.Refresh else operation.Stop
 
 abbrev effect : Text → Effect
 effect w =
@@ -91,7 +88,13 @@ effects [] = []
 effects (w ∷ ws) = effect w ∷ effects ws
 
 abbrev unit : List Text → UnitName
-unit ws = record { stream = number (word_at ws 0); sub = sub (word_at ws 1); draw = number (word_at ws 3); unit = number (word_at ws 5) }
+unit ws = record {
+  stream = number (word_at ws 0);
+  sub = sub (word_at ws 1);
+  draw = number (word_at ws 3);
+  unit = number
+      (word_at ws 5);
+}
 
 abbrev packet : List Text → SealedPacket
 packet ws = record {
@@ -127,42 +130,50 @@ refusal ws =
     else if bytes_eq (word_at ws 0) (codes "notidle") then RefusedNotIdle
     else if bytes_eq (word_at ws 0) (codes "notsecure") then RefusedNotSecure (status_named (word_at ws 1))
     else if bytes_eq (word_at ws 0) (codes "poolempty") then RefusedPoolEmpty (number (word_at ws 1))
-    else if bytes_eq (word_at ws 0) (codes "devicerefused") then RefusedDevice (number (word_at ws 1)) (number (word_at ws 2))
+    else if bytes_eq (word_at ws 0) (codes "devicerefused") then RefusedDevice (number (word_at ws 1))
+    (number (word_at ws 2))
     else if bytes_eq (word_at ws 0) (codes "busy") then RefusedBusy (operation_named (word_at ws 1))
-    else RefusedUnitOpen (sub (word_at ws 1))
+    else if bytes_eq (word_at ws 0) (codes "unitopen") then RefusedUnitOpen (sub (word_at ws 1))
+    else Interface (interface_refusal ws)
 
 abbrev loss : List Text → Verdict
-loss ws = if bytes_eq (word_at ws 0) (codes "request") then LostRequest (number (word_at ws 1)) else LostReply (number (word_at ws 1))
+loss ws = if bytes_eq (word_at ws 0) (codes "request") then LostRequest (number (word_at ws 1)) else LostReply
+    (number (word_at ws 1))
 
 abbrev verdict_by : Text → List Text → Verdict
 verdict_by first ws =
     if bytes_eq first (codes "none") then Nothing
-    else if bytes_eq first (codes "malformed") then Malformed (port (word_at ws 0)) (fault_named (word_at ws 1)) (number (word_at ws 2))
+    else if bytes_eq first (codes "malformed") then Malformed (port (word_at ws 0)) (fault_named (word_at ws 1))
+    (number (word_at ws 2))
     else if bytes_eq first (codes "plain") then Plain (port (word_at ws 0))
     else if bytes_eq first (codes "refused") then refusal ws
     else if bytes_eq first (codes "sealed") then Sealed (packets (length ws) ws)
     else if bytes_eq first (codes "unknown") then Unknown (port (word_at ws 0)) (number (word_at ws 1))
     else if bytes_eq first (codes "insecure") then Insecure (port (word_at ws 0)) (number (word_at ws 1))
-    else if bytes_eq first (codes "notkeyed") then NotKeyed (port (word_at ws 0)) (number (word_at ws 1)) (sub (word_at ws 2))
-    else if bytes_eq first (codes "fail") then Fail (port (word_at ws 0)) (number (word_at ws 1)) (sub (word_at ws 2)) (fail_cause (word_at ws 3))
+    else if bytes_eq first (codes "notkeyed") then NotKeyed (port (word_at ws 0)) (number (word_at ws 1))
+    (sub (word_at ws 2))
+    else if bytes_eq first (codes "fail") then Fail (port (word_at ws 0)) (number (word_at ws 1)) (sub (word_at ws 2))
+    (fail_cause (word_at ws 3))
     else if bytes_eq first (codes "held") then Held (port (word_at ws 0)) (unit (drop 1 ws))
-    else if bytes_eq first (codes "accepted") then Accepted (port (word_at ws 0)) (unit (drop 1 ws)) (effects (drop 7 ws))
-    else if bytes_eq first (codes "established") then Established (number (word_at ws 0)) (number (word_at ws 1)) (number (word_at ws 3))
-    else if bytes_eq first (codes "refreshed") then Refreshed (number (word_at ws 0)) (number (word_at ws 1)) (number (word_at ws 3))
+    else if bytes_eq first (codes "accepted") then Accepted (port (word_at ws 0)) (unit (drop 1 ws))
+    (effects (drop 7 ws))
+    else if bytes_eq first (codes "established") then Established (number (word_at ws 0)) (number (word_at ws 1))
+    (number (word_at ws 3))
+    else if bytes_eq first (codes "refreshed") then Refreshed (number (word_at ws 0)) (number (word_at ws 1))
+    (number (word_at ws 3))
     else if bytes_eq first (codes "stopped") then Stopped (number (word_at ws 0)) (number (word_at ws 1))
     else if bytes_eq first (codes "lost") then loss ws
     else if bytes_eq first (codes "reset") then Reset (number (word_at ws 0))
-    else if bytes_eq first (codes "status") then Status (number (word_at ws 0)) (number (word_at ws 1)) (status_named (word_at ws 2)) (status_named (word_at ws 3))
-    else Packet (number (word_at ws 0)) (bytes (word_at ws 1))
+    else if bytes_eq first (codes "status") then Status (number (word_at ws 0)) (number (word_at ws 1))
+    (status_named (word_at ws 2)) (status_named (word_at ws 3))
+    else if bytes_eq first (codes "packet") then Packet (number (word_at ws 0)) (bytes (word_at ws 1))
+    else Interface (interface_by first ws)
 
 abbrev pub verdict : List Text → Verdict
 verdict [] = Nothing
 verdict (first ∷ ws) = verdict_by first ws
 
 -- ---- each is what was written
-
-number_back : (n : ℕ) → n < 2 ^ 64 → number (decimal n) ≡ n
-number_back n h = (decimal_is_IsNumeral n h).1
 
 side_back : (s : Side) (l : ℕ) → l < 2 ^ 64 → port (side_word s ++ decimal l) ≡ record { side = s; link = l }
 side_back Host l h = rw (number_back l h) refl
@@ -174,18 +185,6 @@ port_back p h = side_back p.side p.link h
 bit_back : (c : ℕ) (b : Bool) → bit (c ∷ decimal (bit_of b)) ≡ b
 bit_back c true = rw (number_back 1 (omega arith)) refl
 bit_back c false = rw (number_back 0 (omega arith)) refl
-
-and_false : (b : Bool) → (b && false) ≡ false
-and_false true = refl
-and_false false = refl
-
-not_dash : (b : ℕ) (bs : List ℕ) → bytes_eq (encode_lower (b ∷ bs)) (codes "-") ≡ false
-unfolding encode_with
-not_dash b bs = and_false (nat_eq (slice_index lower_digits (b / 16)) 45)
-
-bytes_back : (bs : List ℕ) → IsBytes bs → bytes (bytes_word bs) ≡ bs
-bytes_back [] h = refl
-bytes_back (b ∷ bs) h = rw (not_dash b bs, decode_of-encode_lower (b ∷ bs) h) refl
 
 sub_back : (s : SubKind) → sub (substream_word s) ≡ s
 sub_back Pr = refl
@@ -238,12 +237,14 @@ effects_back (e ∷ es) = ap₂ (λ (x : Effect) (xs : List Effect). x ∷ xs) (
 unit_back : (u : UnitName) (after : List Text) → FitsUnit u → unit (unit_words u after) ≡ u
 unit_back u after h = rw (number_back u.stream h.0, number_back u.draw h.1, number_back u.unit h.2, sub_back u.sub) refl
 
-sync_back : (b : Bool) (ps : List SealedPacket) → bytes_eq (word_at (sync_words b (more_packets_words ps)) 0) (codes "sync") ≡ b
+sync_back : (b : Bool) (ps : List SealedPacket) → bytes_eq (word_at (sync_words b (more_packets_words ps)) 0)
+    (codes "sync") ≡ b
 sync_back true ps = refl
 sync_back false [] = refl
 sync_back false (p ∷ ps) = refl
 
-packet_back : (p : SealedPacket) (ps : List SealedPacket) → FitsSealed p → packet (sealed_words p (more_packets_words ps)) ≡ p
+packet_back : (p : SealedPacket) (ps : List SealedPacket) → FitsSealed p
+    → packet (sealed_words p (more_packets_words ps)) ≡ p
 packet_back p ps h =
     rw (
       number_back p.number h.0,
@@ -260,13 +261,15 @@ packet_back p ps h =
     ) refl
 
 rest_back : (b : Bool) (ps : List SealedPacket)
-    → (if bytes_eq (word_at (sync_words b (more_packets_words ps)) 0) (codes "sync") then drop 2 (sync_words b (more_packets_words ps)) else drop 1 (sync_words b (more_packets_words ps))) ≡ packets_words ps
+    → (if bytes_eq (word_at (sync_words b (more_packets_words ps)) 0) (codes "sync") then drop 2
+    (sync_words b (more_packets_words ps)) else drop 1 (sync_words b (more_packets_words ps))) ≡ packets_words ps
 rest_back true [] = refl
 rest_back true (p ∷ ps) = refl
 rest_back false [] = refl
 rest_back false (p ∷ ps) = refl
 
-behind_back : (p : SealedPacket) (ps : List SealedPacket) → behind (sealed_words p (more_packets_words ps)) ≡ packets_words ps
+behind_back : (p : SealedPacket) (ps : List SealedPacket) → behind (sealed_words p (more_packets_words ps))
+    ≡ packets_words ps
 behind_back p ps = rest_back p.sync ps
 
 packets_back : (n : ℕ) (ps : List SealedPacket) → length ps ≤ n → FitPackets ps → packets n (packets_words ps) ≡ ps
@@ -274,7 +277,8 @@ packets_back zero [] le h = refl
 packets_back zero (p ∷ ps) le h = absurd (omega arith)
 packets_back (suc n) [] le h = refl
 packets_back (suc n) (p ∷ ps) le h =
-    ap₂ (λ (x : SealedPacket) (xs : List SealedPacket). x ∷ xs) (packet_back p ps h.0) (ap (packets n) (behind_back p ps) ∙ packets_back n ps (omega arith) h.1)
+    ap₂ (λ (x : SealedPacket) (xs : List SealedPacket). x ∷ xs) (packet_back p ps h.0)
+    (ap (packets n) (behind_back p ps) ∙ packets_back n ps (omega arith) h.1)
 
 sync_long : (b : Bool) (ws : List Text) → length ws ≤ length (sync_words b ws)
 sync_long true ws = omega arith
@@ -316,4 +320,17 @@ verdict_back (RefusedBusy o) h = rw (operation_back o) refl
 verdict_back (RefusedUnitOpen s) h = rw (sub_back s) refl
 verdict_back (Reset l) h = rw (number_back l h) refl
 verdict_back (Status l s a b) h = rw (number_back l h.0, number_back s h.1, status_back a, status_back b) refl
+verdict_back (Interface (iv.Locked i nonce)) h = rw (number_back i h.0, pairs_back nonce h.1) refl
+verdict_back (Interface (iv.Reported i report)) h = rw (number_back i h.0, bytes_back report h.1) refl
+verdict_back (Interface (iv.Started i j)) h = rw (number_back i h.0, number_back j h.1) refl
+verdict_back (Interface (iv.Halted i n)) h = rw (number_back i h.0, number_back n h.1) refl
+verdict_back (Interface (iv.State i s)) h = rw (number_back i h.0, number_back s h.1) refl
+verdict_back (Interface (iv.View i v)) h = rw (number_back i h, view_back v) refl
+verdict_back (Interface (iv.Written i s)) h = rw (number_back i h.0, number_back s h.1) refl
+verdict_back (Interface (iv.Flr i s)) h = rw (number_back i h.0, number_back s h.1) refl
+verdict_back (Interface (iv.Firmware i s)) h = rw (number_back i h.0, number_back s h.1) refl
+verdict_back (Interface (iv.Memory bs)) h = rw (bytes_back bs h) refl
+verdict_back (Interface (iv.RefusedWrongState v)) h = rw (view_back v) refl
+verdict_back (Interface iv.RefusedNotReported) h = refl
+verdict_back (Interface (iv.RefusedRefreshFirst j n)) h = rw (number_back j h.0, number_back n h.1) refl
 verdict_back (Packet n bs) h = rw (number_back n h.0, bytes_back bs h.1) refl

@@ -1,12 +1,8 @@
 -- Two verdicts with one line are equal: no word of a line has a space in it, so a line gives its words back, and its
 -- words the verdict (see Readings).
-use Rattle.std.proofs.Common.{rules, suc, true, false, nat_lt, slice_index, ◌<◌, ◌/◌, ◌%◌, ◌^◌, ℕ, List, [], ◌∷◌, ◌++◌, Bool, refl, sym, ap, ◌∙◌, arith, codes}
+use Rattle.std.proofs.Common.{rules, true, false, ◌<◌, ◌^◌, ℕ, List, [], ◌∷◌, ◌++◌, Bool, sym, ap, ◌∙◌, arith, codes}
 use Rattle.std.specs.Fmt.{decimal}
-use Rattle.std.specs.Str.Parse.{AllDigits}
-use Rattle.std.proofs.lemmas.Bool.{ltb-true, agree_below_at}
-use Rattle.std.proofs.lemmas.Fmt.{decimal_is_IsNumeral, decimal_injective}
-use Rattle.std.proofs.lemmas.Str.Parse.{digit_from_value}
-use Rattle.hex.specs.Hex.{encode_lower, encode_with, lower_digits, IsBytes}
+use Rattle.std.proofs.lemmas.Fmt.{decimal_injective}
 use Rattle.ide_types.specs.declared.sub.SubKind.{SubKind}
 use Rattle.ide_types.specs.declared.sub.SubKind.TheVariants.{Pr, Npr, Cpl}
 use Rattle.ide_types.specs.declared.sub.FailCause.{FailCause}
@@ -17,35 +13,23 @@ use Rattle.ide_types.specs.declared.fault_word.FaultWord.{FaultWord}
 use Rattle.ide_types.specs.declared.status.StreamStatus.{StreamStatus}
 use Rattle.ide_types.specs.declared.sub.FailCause.TheVariants as fail
 use Rattle.ide_types.specs.declared.fault_word.FaultWord.TheVariants as fault
-use Rattle.link_verdicts.specs.Terms.{NotTrusted, NotRunning, WrongStream, Stale, Outside, Crosses, Effect, Sync, Delivered, Applied, Blocked, SealedPacket, UnitName, Verdict, Nothing, Malformed, Plain, RefusedInsecure, RefusedNoKey, RefusedUnfinished, RefusedWorn, Sealed, Unknown, Insecure, NotKeyed, Fail, Held, Accepted, Established, Refreshed, Stopped, LostRequest, LostReply, RefusedNotIdle, RefusedNotSecure, RefusedPoolEmpty, RefusedDevice, RefusedBusy, RefusedUnitOpen, Packet, Reset, Status, Operation}
+use Rattle.link_verdicts.specs.Terms.{NotTrusted, NotRunning, WrongStream, Stale, Outside, Crosses, Effect, Sync}
+use Rattle.link_verdicts.specs.Terms.{Delivered, Applied, Blocked, SealedPacket, UnitName, Verdict, Nothing, Malformed}
+use Rattle.link_verdicts.specs.Terms.{Plain, RefusedInsecure, RefusedNoKey, RefusedUnfinished, RefusedWorn, Sealed}
+use Rattle.link_verdicts.specs.Terms.{Unknown, Insecure, NotKeyed, Fail, Held, Accepted, Established, Refreshed}
+use Rattle.link_verdicts.specs.Terms.{Stopped, LostRequest, LostReply, RefusedNotIdle, RefusedNotSecure}
+use Rattle.link_verdicts.specs.Terms.{RefusedPoolEmpty, RefusedDevice, RefusedBusy, RefusedUnitOpen, Packet, Reset}
+use Rattle.link_verdicts.specs.Terms.{Status, Interface, Operation}
 use Rattle.ide_types.specs.declared.status.StreamStatus.TheVariants as status
 use Rattle.link_verdicts.specs.Terms.operation
 use Rattle.ide_types.specs.Names.{Text, side_word, port_word, substream_word, fail_word, fault_word, status_word}
-use Rattle.link_verdicts.specs.Lines.{effect_word, operation_word, bytes_word, keyed_words, bit_of, unit_words, sync_words, sealed_words, more_packets_words, packets_words, effects_words, verdict_words}
+use Rattle.link_verdicts.specs.Lines.{effect_word, operation_word, keyed_words, bit_of, unit_words, sync_words}
+use Rattle.link_verdicts.specs.Lines.{sealed_words, more_packets_words, packets_words, effects_words, verdict_words}
 use Rattle.link_verdicts.specs.Apart.{LinesApart, Fits, FitsKeyed, FitsUnit, FitsSealed, FitPackets}
 use Rattle.link_verdicts.proofs.Joins.{IsWord, AreWords, line_apart}
+use Rattle.link_verdicts.proofs.WordSpellings.{decimal_word, bytes_are_word}
+use Rattle.link_verdicts.proofs.InterfaceSpellings.{interface_is_words}
 use Rattle.link_verdicts.proofs.Readings.{verdict, verdict_back}
-
-digits_word : (ds : Text) → AllDigits 10 ds → IsWord ds
-digits_word [] h = tt
-digits_word (d ∷ ds) h = (omega (arith, digit_from_value d h.0), digits_word ds h.1)
-
-decimal_word : (n : ℕ) → n < 2 ^ 64 → IsWord (decimal n)
-decimal_word n h = digits_word (decimal n) (decimal_is_IsNumeral n h).0.1
-
-glyph : (k : ℕ) → k < 16 → 32 < slice_index lower_digits k
-glyph k lt = ltb-true _ _ (agree_below_at (λ n. nat_lt 32 (slice_index lower_digits n)) (λ n. true) 16 k refl lt)
-
-hex_word : (bs : List ℕ) → IsBytes bs → IsWord (encode_lower bs)
-unfolding encode_with
-hex_word [] h = tt
-hex_word (b ∷ bs) h =
-    let fits : b < 256 = h 0 in
-    (glyph (b / 16) (omega arith), (glyph (b % 16) (omega arith), hex_word bs (λ k. h (suc k))))
-
-bytes_are_word : (bs : List ℕ) → IsBytes bs → IsWord (bytes_word bs)
-bytes_are_word [] h = search rules
-bytes_are_word (b ∷ bs) h = hex_word (b ∷ bs) h
 
 side_port : (s : Side) (l : ℕ) → l < 2 ^ 64 → IsWord (side_word s ++ decimal l)
 side_port Host l h = let w = decimal_word l h in search rules
@@ -118,7 +102,8 @@ sync_is_words : (b : Bool) (after : List Text) → AreWords after → AreWords (
 sync_is_words true after later = search rules
 sync_is_words false after later = later
 
-packet_is_words : (p : SealedPacket) (after : List Text) → FitsSealed p → AreWords after → AreWords (sealed_words p after)
+packet_is_words : (p : SealedPacket) (after : List Text) → FitsSealed p → AreWords after
+    → AreWords (sealed_words p after)
 packet_is_words p after h later =
     let number = decimal_word p.number h.0 in
     let port = port_is_word p.port h.1 in
@@ -135,19 +120,22 @@ packet_is_words p after h later =
 
 more_packets_are_words : (ps : List SealedPacket) → FitPackets ps → AreWords (more_packets_words ps)
 more_packets_are_words [] h = tt
-more_packets_are_words (p ∷ ps) h = let these = packet_is_words p (more_packets_words ps) h.0 (more_packets_are_words ps h.1) in search rules
+more_packets_are_words (p ∷ ps) h = let these = packet_is_words p (more_packets_words ps) h.0
+    (more_packets_are_words ps h.1) in search rules
 
 packets_are_words : (ps : List SealedPacket) → FitPackets ps → AreWords (packets_words ps)
 packets_are_words [] h = tt
 packets_are_words (p ∷ ps) h = packet_is_words p (more_packets_words ps) h.0 (more_packets_are_words ps h.1)
 
-keyed_is_words : (word : Text) (link stream draw : ℕ) → IsWord word → FitsKeyed link stream draw → AreWords (keyed_words word link stream draw)
+keyed_is_words : (word : Text) (link stream draw : ℕ) → IsWord word → FitsKeyed link stream draw
+    → AreWords (keyed_words word link stream draw)
 keyed_is_words word link stream draw w h =
     let a = decimal_word link h.0 in let b = decimal_word stream h.1 in let c = decimal_word draw h.2 in search rules
 
 verdict_is_words : (v : Verdict) → Fits v → AreWords (verdict_words v)
 verdict_is_words Nothing h = search rules
-verdict_is_words (Malformed p w n) h = let a = port_is_word p h.0 in let b = fault_is_word w in let c = decimal_word n h.1 in search rules
+verdict_is_words (Malformed p w n) h = let a = port_is_word p h.0 in let b = fault_is_word w in let c = decimal_word n
+    h.1 in search rules
 verdict_is_words (Plain p) h = let a = port_is_word p h in search rules
 verdict_is_words RefusedInsecure h = search rules
 verdict_is_words (RefusedNoKey s) h = let a = sub_is_word s in search rules
@@ -156,11 +144,14 @@ verdict_is_words (RefusedWorn s n) h = let a = sub_is_word s in let b = decimal_
 verdict_is_words (Sealed ps) h = let a = packets_are_words ps h in search rules
 verdict_is_words (Unknown p n) h = let a = port_is_word p h.0 in let b = decimal_word n h.1 in search rules
 verdict_is_words (Insecure p n) h = let a = port_is_word p h.0 in let b = decimal_word n h.1 in search rules
-verdict_is_words (NotKeyed p n s) h = let a = port_is_word p h.0 in let b = decimal_word n h.1 in let c = sub_is_word s in search rules
+verdict_is_words (NotKeyed p n s) h = let a = port_is_word p h.0 in let b = decimal_word n h.1 in let c = sub_is_word s
+    in search rules
 verdict_is_words (Fail p n s c) h =
-    let a = port_is_word p h.0 in let b = decimal_word n h.1 in let d = sub_is_word s in let e = fail_is_word c in search rules
+    let a = port_is_word p h.0 in let b = decimal_word n h.1 in let d = sub_is_word s in let e = fail_is_word c in
+    search rules
 verdict_is_words (Held p u) h = let a = port_is_word p h.0 in let b = unit_is_words u [] h.1 tt in search rules
-verdict_is_words (Accepted p u es) h = let a = port_is_word p h.0 in let b = unit_is_words u (effects_words es) h.1 (effects_are_words es) in search rules
+verdict_is_words (Accepted p u es) h = let a = port_is_word p h.0 in let b = unit_is_words u (effects_words es) h.1
+    (effects_are_words es) in search rules
 verdict_is_words (Established l s j) h = keyed_is_words (codes "established") l s j (search rules) h
 verdict_is_words (Refreshed l s j) h = keyed_is_words (codes "refreshed") l s j (search rules) h
 verdict_is_words (Stopped l s) h = let a = decimal_word l h.0 in let b = decimal_word s h.1 in search rules
@@ -174,10 +165,13 @@ verdict_is_words (RefusedBusy o) h = let a = operation_is_word o in search rules
 verdict_is_words (RefusedUnitOpen s) h = let a = sub_is_word s in search rules
 verdict_is_words (Reset l) h = let a = decimal_word l h in search rules
 verdict_is_words (Status l s a b) h =
-    let c = decimal_word l h.0 in let d = decimal_word s h.1 in let e = status_is_word a in let f = status_is_word b in search rules
+    let c = decimal_word l h.0 in let d = decimal_word s h.1 in let e = status_is_word a in let f = status_is_word b in
+    search rules
 verdict_is_words (Packet n bs) h = let a = decimal_word n h.0 in let b = bytes_are_word bs h.1 in search rules
+verdict_is_words (Interface verdict) h = interface_is_words verdict h
 
 pub lines_apart : LinesApart
 lines_apart m n v w xs ys hm hn fv fw e =
-    let parts = line_apart (decimal m) (decimal n) (verdict_words v) (verdict_words w) xs ys (decimal_word m hm) (decimal_word n hn) (verdict_is_words v fv) (verdict_is_words w fw) e in
+    let parts = line_apart (decimal m) (decimal n) (verdict_words v) (verdict_words w) xs ys (decimal_word m hm)
+    (decimal_word n hn) (verdict_is_words v fv) (verdict_is_words w fw) e in
     (decimal_injective m n hm hn parts.0, sym (verdict_back v fv) ∙ ap verdict parts.1 ∙ verdict_back w fw, parts.2)

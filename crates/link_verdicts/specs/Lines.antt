@@ -1,40 +1,14 @@
 -- The line of each verdict.
 use Rattle.std.specs.Prelude.{ℕ, Bool, true, false, List, [], ◌∷◌, ◌++◌, codes}
 use Rattle.std.specs.Fmt.{decimal}
-use Rattle.hex.specs.Hex.{encode_lower}
 use Rattle.ide_types.specs.Names.{Text, joined, port_word, substream_word, fail_word, fault_word, status_word}
-use Rattle.link_verdicts.specs.Terms.{BlockCause, NotTrusted, NotRunning, WrongStream, Stale, Outside, Crosses, Effect, Sync, Delivered, Applied, Blocked, Operation, SealedPacket, UnitName, Totals, Verdict, Nothing, Malformed, Plain, RefusedInsecure, RefusedNoKey, RefusedUnfinished, RefusedWorn, Sealed, Unknown, Insecure, NotKeyed, Fail, Held, Accepted, Established, Refreshed, Stopped, LostRequest, LostReply, RefusedNotIdle, RefusedNotSecure, RefusedPoolEmpty, RefusedDevice, RefusedBusy, RefusedUnitOpen, Packet, Reset, Status}
-use Rattle.link_verdicts.specs.Terms.operation
-
--- ---- words
-
-abbrev pub block_word : BlockCause → Text
-block_word NotTrusted = codes "nottrusted"
-block_word NotRunning = codes "notrunning"
-block_word WrongStream = codes "wrongstream"
-block_word Stale = codes "stale"
-block_word Outside = codes "outside"
-block_word Crosses = codes "crosses"
-
-abbrev pub effect_word : Effect → Text
-effect_word Sync = codes "sync"
-effect_word Delivered = codes "delivered"
-effect_word Applied = codes "applied"
-effect_word (Blocked cause) = codes "blocked:" ++ block_word cause
-
-abbrev pub operation_word : Operation → Text
-operation_word operation.Establish = codes "establish"
-operation_word operation.Refresh = codes "refresh"
-operation_word operation.Stop = codes "stop"
-
--- bytes in lower-case hexadecimal, or - for none
-abbrev pub bytes_word : List ℕ → Text
-bytes_word [] = codes "-"
-bytes_word (b ∷ bs) = encode_lower (b ∷ bs)
-
-abbrev pub bit_of : Bool → ℕ
-bit_of false = 0
-bit_of true = 1
+use Rattle.link_verdicts.specs.Terms.{Effect, SealedPacket, UnitName, Totals, Verdict, Nothing, Malformed, Plain}
+use Rattle.link_verdicts.specs.Terms.{RefusedInsecure, RefusedNoKey, RefusedUnfinished, RefusedWorn, Sealed, Unknown}
+use Rattle.link_verdicts.specs.Terms.{Insecure, NotKeyed, Fail, Held, Accepted, Established, Refreshed, Stopped}
+use Rattle.link_verdicts.specs.Terms.{LostRequest, LostReply, RefusedNotIdle, RefusedNotSecure, RefusedPoolEmpty}
+use Rattle.link_verdicts.specs.Terms.{RefusedDevice, RefusedBusy, RefusedUnitOpen, Packet, Reset, Status, Interface}
+pub use Rattle.link_verdicts.specs.Words.{block_word, effect_word, operation_word, bytes_word, bit_of}
+use Rattle.link_verdicts.specs.InterfaceLines.{interface_words}
 
 -- ---- parts of a line, each ahead of the words that follow it
 
@@ -103,6 +77,7 @@ verdict_words (Packet packet bytes) = codes "packet" ∷ decimal packet ∷ byte
 verdict_words (Reset link) = codes "reset" ∷ decimal link ∷ []
 verdict_words (Status link stream host device) =
     codes "status" ∷ decimal link ∷ decimal stream ∷ status_word host ∷ status_word device ∷ []
+verdict_words (Interface verdict) = interface_words verdict
 
 -- of a send that was refused
 abbrev pub IsSendRefusal : Verdict → Type 0

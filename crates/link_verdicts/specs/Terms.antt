@@ -1,6 +1,7 @@
 -- The types of this crate with their variants.
 pub use Rattle.link_verdicts.specs.declared.verdict.BlockCause.{BlockCause}
-pub use Rattle.link_verdicts.specs.declared.verdict.BlockCause.TheVariants.{NotTrusted, NotRunning, WrongStream, Stale, Outside, Crosses}
+pub use Rattle.link_verdicts.specs.declared.verdict.BlockCause.TheVariants.{NotTrusted, NotRunning, WrongStream, Stale}
+pub use Rattle.link_verdicts.specs.declared.verdict.BlockCause.TheVariants.{Outside, Crosses}
 pub use Rattle.link_verdicts.specs.declared.verdict.Effect.{Effect}
 pub use Rattle.link_verdicts.specs.declared.verdict.Effect.TheVariants.{Sync, Delivered, Applied, Blocked}
 pub use Rattle.link_verdicts.specs.declared.verdict.Operation.{Operation}
@@ -9,4 +10,12 @@ pub use Rattle.link_verdicts.specs.declared.verdict.SealedPacket.{SealedPacket}
 pub use Rattle.link_verdicts.specs.declared.verdict.UnitName.{UnitName}
 pub use Rattle.link_verdicts.specs.declared.verdict.Totals.{Totals}
 pub use Rattle.link_verdicts.specs.declared.verdict.Verdict.{Verdict}
-pub use Rattle.link_verdicts.specs.declared.verdict.Verdict.TheVariants.{Nothing, Malformed, Plain, RefusedInsecure, RefusedNoKey, RefusedUnfinished, RefusedWorn, Sealed, Unknown, Insecure, NotKeyed, Fail, Held, Accepted, Established, Refreshed, Stopped, LostRequest, LostReply, RefusedNotIdle, RefusedNotSecure, RefusedPoolEmpty, RefusedDevice, RefusedBusy, RefusedUnitOpen, Packet, Reset, Status}
+pub use Rattle.link_verdicts.specs.declared.verdict.Verdict.TheVariants.{Nothing, Malformed, Plain, RefusedInsecure}
+pub use Rattle.link_verdicts.specs.declared.verdict.Verdict.TheVariants.{RefusedNoKey, RefusedUnfinished, RefusedWorn}
+pub use Rattle.link_verdicts.specs.declared.verdict.Verdict.TheVariants.{Sealed, Unknown, Insecure, NotKeyed, Fail}
+pub use Rattle.link_verdicts.specs.declared.verdict.Verdict.TheVariants.{Held, Accepted, Established, Refreshed}
+pub use Rattle.link_verdicts.specs.declared.verdict.Verdict.TheVariants.{Stopped, LostRequest, LostReply}
+pub use Rattle.link_verdicts.specs.declared.verdict.Verdict.TheVariants.{RefusedNotIdle, RefusedNotSecure}
+pub use Rattle.link_verdicts.specs.declared.verdict.Verdict.TheVariants.{RefusedPoolEmpty, RefusedDevice, RefusedBusy}
+pub use Rattle.link_verdicts.specs.declared.verdict.Verdict.TheVariants.{RefusedUnitOpen, Packet, Reset, Status}
+pub use Rattle.link_verdicts.specs.declared.verdict.Verdict.TheVariants.{Interface}

@@ -2,6 +2,9 @@
 //! equal (this profile).
 #![tactic(auto)]
 
+mod interface_lines;
+#[cfg(test)]
+mod interface_tests;
 mod lines;
 mod lists;
 mod names;

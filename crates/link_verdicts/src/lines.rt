@@ -3,21 +3,15 @@
 ghost use Rattle.std.specs.Prelude.{◌≡◌, ◌++◌, ◌∷◌, ◌⊎◌, List, IfOk, OnOk, codes, string_bytes};
 ghost use Rattle.std.specs.Fmt.{decimal};
 ghost use Rattle.ide_types.specs.Names.{Text, joined, port_word};
-ghost use Rattle.link_verdicts.specs.Lines.{bytes_word, unit_words, sealed_words, more_packets_words, packets_words, effects_words, sync_words, line_of, totals_line_of, IsSendRefusal, IsArrival, IsOperationRefusal, IsOutcome};
+ghost use Rattle.link_verdicts.specs.Lines.{unit_words, sealed_words, more_packets_words, packets_words, effects_words};
+ghost use Rattle.link_verdicts.specs.Lines.{sync_words, line_of, totals_line_of, IsSendRefusal, IsArrival};
+ghost use Rattle.link_verdicts.specs.Lines.{IsOperationRefusal, IsOutcome};
 ghost use Rattle.link_verdicts.specs.Apart.{LinesApart};
 
+use crate::interface_lines::{bytes_text, interface_text};
 use crate::{Effect, Memory, SealedPacket, Totals, UnitName, Verdict};
-use ide_types::{Bytes, PortName};
+use ide_types::PortName;
 use std::alloc::{AllocError, Global};
-
-fn bytes_text(alloc: Global, bytes: &Bytes) -> Result<String, AllocError>
-    ensures { IfOk result (λ s. string_bytes s ≡ bytes_word bytes.now) }
-{
-    match bytes.as_slice() {
-        [] => String::from_str(alloc, "-"),
-        bytes => hex::encode(alloc, bytes),
-    }
-}
 
 fn sync_text(sync: bool) -> &'static str
     ensures { (after : List Text) → result.now ++ joined after ≡ joined (sync_words sync after) }
@@ -221,6 +215,7 @@ fn text_of(alloc: Global, number: u64, verdict: &Verdict) -> Result<String, Allo
             host,
             device,
         } => format!(in alloc; "{number} status {link} {stream} {host} {device}\n"),
+        Verdict::Interface { verdict } => interface_text(alloc, number, verdict),
         _ => answer_text(alloc, number, verdict),
     }
 }

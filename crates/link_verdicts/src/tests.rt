@@ -16,7 +16,7 @@ const D0: PortName = PortName {
     link: 0,
 };
 
-fn shows<R: Abort>(
+pub(crate) fn shows<R: Abort>(
     rt: &R,
     alloc: Global,
     number: u64,

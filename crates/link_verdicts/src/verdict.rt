@@ -2,6 +2,7 @@
 
 use crate::{Effects, SealedPackets};
 use ide_types::{Bytes, FailCause, FaultWord, PortName, StreamStatus, SubKind};
+use interface_words::InterfaceVerdict;
 
 /// A sealed packet: its number over the run, from 1, and what its prefix says (PCI Express Base 6.0
 /// section 6.33).
@@ -193,6 +194,10 @@ pub enum Verdict {
         stream: u8,
         host: StreamStatus,
         device: StreamStatus,
+    },
+    /// What an event on a device interface or on trusted memory comes to.
+    Interface {
+        verdict: InterfaceVerdict,
     },
 }
 

@@ -2,7 +2,9 @@
 -- longer than a packet that was sealed, which has a spelling of bounded size, or than an event may bring. Then each
 -- test on the way to the verdict is split: draws, units and packets are bounded by the number of events, the stream is
 -- one byte, and the place of a fault lies within the bytes.
-use Rattle.std.proofs.Common.{◌≡◌, ℕ, zero, suc, ◌+◌, ◌-◌, ◌*◌, ◌<◌, ◌≤◌, ◌==◌, ◌^◌, Bool, true, false, List, [], ◌∷◌, ◌++◌, length, take, Some, None, Option, Ok, Err, Result, slice_get, slice_index, slice_set, refl, subst, arith, length-append, length-set, length-take}
+use Rattle.std.proofs.Common.{◌≡◌, ℕ, zero, suc, ◌+◌, ◌-◌, ◌*◌, ◌<◌, ◌≤◌, ◌==◌, ◌^◌, Bool, true, false, List, [], ◌∷◌}
+use Rattle.std.proofs.Common.{◌++◌, length, take, Some, None, Option, Ok, Err, Result, slice_get, slice_index}
+use Rattle.std.proofs.Common.{slice_set, refl, subst, arith, length-append, length-set, length-take}
 use Rattle.std.specs.Prelude.{if◌then◌else◌, not, ◌||◌, nat_lt, nat_le, map, option_map, bit_xor, is_some}
 use Rattle.std.specs.Option.{option_and_then}
 use Rattle.hex.specs.Hex.{IsBytes}
@@ -11,7 +13,8 @@ use Rattle.ide_types.specs.declared.port.PortName.{PortName}
 use Rattle.ide_plan.specs.declared.plan.Plan.{Plan}
 use Rattle.ide_plan.specs.Fits.{FitsPlan}
 use Rattle.link_events.specs.declared.event.Event.{Event}
-use Rattle.link_events.specs.declared.event.Event.TheVariants.{Send, Pass, Alter, Cut, Arrive, Dump, Establish, Refresh, Stop, Reset, Status}
+use Rattle.link_events.specs.declared.event.Event.TheVariants.{Send, Pass, Alter, Cut, Arrive, Dump, Establish, Refresh}
+use Rattle.link_events.specs.declared.event.Event.TheVariants.{Stop, Reset, Status, Interface}
 use Rattle.link_events.specs.Spells.{IsAllowed}
 use Rattle.link_verdicts.specs.declared.verdict.Verdict.{Verdict}
 use Rattle.link_verdicts.specs.declared.verdict.Verdict.TheVariants as v
@@ -25,8 +28,11 @@ use Rattle.ide_prefix.proofs.Grammar.{bytes_of, spelled_whole}
 use Rattle.key_laws.specs.Keys.{Keyed, Off, Loaded, On, key_in, on_in}
 use Rattle.key_laws.specs.History.{History, base}
 use Rattle.link_history.specs.Plan.{SubStream, has_port, has_stream, stream_plan}
-use Rattle.link_history.specs.History.{SealedList, Arrival, arrived, altered, brought, shortened, packet_at, sealed_packets, ahead_in, sub_stream_of, units_got, is_of, keys_at, on_draw, failed, meets_counts, received_in}
-use Rattle.link_history.specs.Due.{Ending, dump_due, arrival_due, settled, before_tag, before_tag_of, under_keys, is_mixed, is_overfull, receiving, unit_under, is_verified, ended, effect_of}
+use Rattle.link_history.specs.History.{SealedList, Arrival, arrived, altered, brought, shortened, packet_at}
+use Rattle.link_history.specs.History.{sealed_packets, ahead_in, sub_stream_of, units_got, is_of, keys_at, on_draw}
+use Rattle.link_history.specs.History.{failed, meets_counts, received_in}
+use Rattle.link_history.specs.Due.{Ending, dump_due, arrival_due, settled, before_tag, before_tag_of, under_keys}
+use Rattle.link_history.specs.Due.{is_mixed, is_overfull, receiving, unit_under, is_verified, ended, effect_of}
 use Rattle.link_history.specs.Cause.{CauseLaw}
 use Rattle.link_history.proofs.SealingIs.{IsLive, sealing_is, all_live}
 use Rattle.link_keys.proofs.Draws.{draws as draws_hold}
@@ -47,10 +53,13 @@ use Rattle.sealing_laws.proofs.Few.{sealed_few}
 abbrev IsKnown : Plan → SealedPacket → Type 0
 IsKnown plan d = is_some (stream_plan plan d.port.link d.stream) ≡ true
 
-live_known : (plan : Plan) (h : History) → CauseLaw plan h → (port : PortName) (stream : ℕ) (d : SealedPacket) → IsLive plan h port stream d → IsKnown plan d
-live_known plan h cause port stream d live = on_known plan h cause port (sub_stream_of d) d.k d.draw (live_on plan h port stream d live)
+live_known : (plan : Plan) (h : History) → CauseLaw plan h → (port : PortName) (stream : ℕ) (d : SealedPacket)
+    → IsLive plan h port stream d → IsKnown plan d
+live_known plan h cause port stream d live = on_known plan h cause port (sub_stream_of d) d.k d.draw
+    (live_on plan h port stream d live)
 
-all_known : (plan : Plan) (h : History) → CauseLaw plan h → (i : ℕ) (x : SealedPacket × Packet) → slice_get (sealed_packets plan h) i ≡ Some x → IsKnown plan x.0
+all_known : (plan : Plan) (h : History) → CauseLaw plan h → (i : ℕ) (x : SealedPacket × Packet)
+    → slice_get (sealed_packets plan h) i ≡ Some x → IsKnown plan x.0
 unfolding sealed_packets
 all_known plan [] law i x is = absurd cc
 all_known plan ((Send p bytes more trusted, v.Sealed ds) ∷ h) law i x is =
@@ -58,7 +67,8 @@ all_known plan ((Send p bytes more trusted, v.Sealed ds) ∷ h) law i x is =
     let port = sealing.sending.port in
     let stream = sealing.sending.stream in
     each_more (IsKnown plan) plan (ahead_in plan (sealed_packets plan h) (base h)) bytes ds (sealed_packets plan h)
-    (live_all (IsKnown plan) plan h port stream ds (live_known plan h law.1 port stream) (all_live plan h p bytes ds sealing)) (all_known plan h law.1) i x is
+    (live_all (IsKnown plan) plan h port stream ds (live_known plan h law.1 port stream)
+    (all_live plan h p bytes ds sealing)) (all_known plan h law.1) i x is
 all_known plan ((e, w) ∷ h) law i x is = all_known plan h law.1 i x is
 
 record Known (plan : Plan) (h : History) (n : ℕ) (x : SealedPacket × Packet) : Type 0 where
@@ -66,7 +76,8 @@ record Known (plan : Plan) (h : History) (n : ℕ) (x : SealedPacket × Packet) 
   port : x.0.port.link < 2 ^ 64
   fits : FitsPacket x.1
 
-known_at : (plan : Plan) → FitsPlan plan → (h : History) → CauseLaw plan h → (n : ℕ) (x : SealedPacket × Packet) → packet_at (sealed_packets plan h) n ≡ Some x → Known plan h n x
+known_at : (plan : Plan) → FitsPlan plan → (h : History) → CauseLaw plan h → (n : ℕ) (x : SealedPacket × Packet)
+    → packet_at (sealed_packets plan h) n ≡ Some x → Known plan h n x
 known_at plan fits h cause n x is = by_number (n == 0) is
   where
     within : (xs : SealedList) (i : ℕ) → slice_get xs i ≡ Some x → i < length xs
@@ -96,7 +107,8 @@ size_of_packet p fits =
 
 bytes_of_packet : (p : Packet) → FitsPacket p → IsBytes (packet_bytes p)
 bytes_of_packet p fits =
-    let spelled = spelled_whole (packet_bytes p) (record { packet = p; spells = record { fits = fits; spelled = refl } }) in
+    let spelled = spelled_whole (packet_bytes p)
+    (record { packet = p; spells = record { fits = fits; spelled = refl } }) in
     bytes_of (packet_bytes p) spelled.walked
 
 -- ---- what arrives
@@ -108,42 +120,57 @@ record FitsArrival (a : Arrival) : Type 0 where
 same_arrival : (a b : Arrival) → Some a ≡ Some b → a ≡ b
 same_arrival a b is = cc
 
-brought_fits : (plan : Plan) (h : History) (n : ℕ) (x : SealedPacket × Packet) (bytes : List ℕ) (a : Arrival) → Known plan h n x → length bytes ≤ length (packet_bytes x.1) → Some (brought x bytes) ≡ Some a → FitsArrival a
+brought_fits : (plan : Plan) (h : History) (n : ℕ) (x : SealedPacket × Packet) (bytes : List ℕ) (a : Arrival)
+    → Known plan h n x → length bytes ≤ length (packet_bytes x.1) → Some (brought x bytes) ≡ Some a → FitsArrival a
 brought_fits plan h n x bytes a known small is =
-    subst FitsArrival (same_arrival (brought x bytes) a is) (record { port = known.port; size = omega (arith, small, size_of_packet x.1 known.fits) })
+    subst FitsArrival (same_arrival (brought x bytes) a is)
+    (record { port = known.port; size = omega (arith, small, size_of_packet x.1 known.fits) })
 
 -- bytes of a packet that come or do not
-if_brought : (plan : Plan) (h : History) (n : ℕ) (x : SealedPacket × Packet) (bytes : List ℕ) (a : Arrival) → Known plan h n x → length bytes ≤ length (packet_bytes x.1) → (b : Bool) → (if b then Some (brought x bytes) else None) ≡ Some a
+if_brought : (plan : Plan) (h : History) (n : ℕ) (x : SealedPacket × Packet) (bytes : List ℕ) (a : Arrival)
+    → Known plan h n x → length bytes ≤ length (packet_bytes x.1) → (b : Bool)
+    → (if b then Some (brought x bytes) else None) ≡ Some a
     → FitsArrival a
 if_brought plan h n x bytes a known small true is = brought_fits plan h n x bytes a known small is
 if_brought plan h n x bytes a known small false is = absurd cc
 
-arrival_fits : (plan : Plan) → FitsPlan plan → (h : History) → CauseLaw plan h → (e : Event) → IsAllowed e → (a : Arrival) → arrived plan h e ≡ Some a → FitsArrival a
+arrival_fits : (plan : Plan) → FitsPlan plan → (h : History) → CauseLaw plan h → (e : Event) → IsAllowed e
+    → (a : Arrival) → arrived plan h e ≡ Some a → FitsArrival a
 unfolding arrived
 arrival_fits plan fits h cause (Pass n) allowed a is = by_packet (packet_at (sealed_packets plan h) n) refl is
   where
-    by_packet : (o : Option (SealedPacket × Packet)) → packet_at (sealed_packets plan h) n ≡ o → option_map (λ (x : SealedPacket × Packet). brought x (packet_bytes x.1)) o ≡ Some a → FitsArrival a
+    by_packet : (o : Option (SealedPacket × Packet)) → packet_at (sealed_packets plan h) n ≡ o
+        → option_map (λ (x : SealedPacket × Packet). brought x (packet_bytes x.1)) o ≡ Some a → FitsArrival a
     by_packet None at is = absurd cc
-    by_packet (Some x) at is = brought_fits plan h n x (packet_bytes x.1) a (known_at plan fits h cause n x at) (omega arith) is
-arrival_fits plan fits h cause (Alter n place mask) allowed a is = by_packet (packet_at (sealed_packets plan h) n) refl is
+    by_packet (Some x) at is = brought_fits plan h n x (packet_bytes x.1) a (known_at plan fits h cause n x at)
+        (omega arith) is
+arrival_fits plan fits h cause (Alter n place mask) allowed a is = by_packet (packet_at (sealed_packets plan h) n) refl
+    is
   where
-    by_packet : (o : Option (SealedPacket × Packet)) → packet_at (sealed_packets plan h) n ≡ o → option_and_then (altered place mask) o ≡ Some a → FitsArrival a
+    by_packet : (o : Option (SealedPacket × Packet)) → packet_at (sealed_packets plan h) n ≡ o
+        → option_and_then (altered place mask) o ≡ Some a → FitsArrival a
     by_packet None at is = absurd cc
     by_packet (Some x) at is =
         let bytes = packet_bytes x.1 in
-        if_brought plan h n x (slice_set bytes place (bit_xor (slice_index bytes place) mask)) a (known_at plan fits h cause n x at) (omega (arith, length-set bytes place (bit_xor (slice_index bytes place) mask)))
+        if_brought plan h n x (slice_set bytes place (bit_xor (slice_index bytes place) mask)) a
+        (known_at plan fits h cause n x at)
+        (omega (arith, length-set bytes place (bit_xor (slice_index bytes place) mask)))
         (nat_lt place (length bytes)) is
 arrival_fits plan fits h cause (Cut n size) allowed a is = by_packet (packet_at (sealed_packets plan h) n) refl is
   where
-    by_packet : (o : Option (SealedPacket × Packet)) → packet_at (sealed_packets plan h) n ≡ o → option_and_then (shortened size) o ≡ Some a → FitsArrival a
+    by_packet : (o : Option (SealedPacket × Packet)) → packet_at (sealed_packets plan h) n ≡ o
+        → option_and_then (shortened size) o ≡ Some a → FitsArrival a
     by_packet None at is = absurd cc
     by_packet (Some x) at is =
-        if_brought plan h n x (take size (packet_bytes x.1)) a (known_at plan fits h cause n x at) (omega (arith, length-take size (packet_bytes x.1))) (nat_le size (length (packet_bytes x.1))) is
+        if_brought plan h n x (take size (packet_bytes x.1)) a (known_at plan fits h cause n x at)
+        (omega (arith, length-take size (packet_bytes x.1))) (nat_le size (length (packet_bytes x.1))) is
 arrival_fits plan fits h cause (Arrive port bytes) allowed a is = by_port (has_port plan port) refl is
   where
-    by_port : (b : Bool) → has_port plan port ≡ b → (if b then Some (record { port = port; bytes = bytes }) else None) ≡ Some a → FitsArrival a
+    by_port : (b : Bool) → has_port plan port ≡ b → (if b then Some (record { port = port; bytes = bytes }) else None)
+        ≡ Some a → FitsArrival a
     by_port false here is = absurd cc
-    by_port true here is = subst FitsArrival (same_arrival (record { port = port; bytes = bytes }) a is) (record { port = port_fits plan fits port here; size = allowed.1 })
+    by_port true here is = subst FitsArrival (same_arrival (record { port = port; bytes = bytes }) a is)
+        (record { port = port_fits plan fits port here; size = allowed.1 })
 arrival_fits plan fits h cause (Send port bytes more trusted) allowed a is = absurd cc
 arrival_fits plan fits h cause (Dump n) allowed a is = absurd cc
 arrival_fits plan fits h cause (Establish link stream lose) allowed a is = absurd cc
@@ -151,6 +178,7 @@ arrival_fits plan fits h cause (Refresh link stream lose) allowed a is = absurd 
 arrival_fits plan fits h cause (Stop link stream lose) allowed a is = absurd cc
 arrival_fits plan fits h cause (Reset link) allowed a is = absurd cc
 arrival_fits plan fits h cause (Status link stream) allowed a is = absurd cc
+arrival_fits plan fits h cause (Interface e) allowed a is = absurd cc
 
 -- ---- the verdict
 
@@ -159,7 +187,8 @@ unfolding units_got
 got_few [] s j = omega arith
 got_few ((e, v.Accepted port unit effects) ∷ h) s j = by_test (is_of s j port unit) (got_few h s j)
   where
-    by_test : (b : Bool) → units_got h s j ≤ length h → (if b then units_got h s j + 1 else units_got h s j) ≤ suc (length h)
+    by_test : (b : Bool) → units_got h s j ≤ length h → (if b then units_got h s j + 1 else units_got h s j) ≤ suc
+        (length h)
     by_test true few = omega (arith, few)
     by_test false few = omega (arith, few)
 got_few (_ ∷ h) s j = omega (arith, got_few h s j)
@@ -174,8 +203,10 @@ abbrev FitsStep : PortName → Result Ending Verdict → Type 0
 FitsStep port (Err w) = Fits w
 FitsStep port (Ok x) = Fits (v.Held port x.unit)
 
-under_fits : (plan : Plan) (h : History) (port : PortName) (p : Packet) → port.link < 2 ^ 64 → length h < 2 ^ 28 → p.prefix.stream < 2 ^ 64
-    → (o other : Option ℕ) → on_draw h port (receiving port p) p.prefix.k ≡ o → FitsStep port (under_keys plan h port p o other)
+under_fits : (plan : Plan) (h : History) (port : PortName) (p : Packet) → port.link < 2 ^ 64 → length h < 2 ^ 28
+    → p.prefix.stream < 2 ^ 64
+    → (o other : Option ℕ) → on_draw h port (receiving port p) p.prefix.k ≡ o
+    → FitsStep port (under_keys plan h port p o other)
 under_fits plan h port p link few stream None None is = (link, stream)
 under_fits plan h port p link few stream None (Some i) is = (link, stream)
 under_fits plan h port p link few stream (Some j) other is =
@@ -188,42 +219,53 @@ under_fits plan h port p link few stream (Some j) other is =
         (link, (stream, omega (arith, few, draw), omega (arith, few, got_few h s j)))
 
     by_tests : (bad m : Bool) → FitsStep port (if bad then Err (v.Fail port p.prefix.stream p.prefix.sub fail.Unit)
-        else if m then Ok (record { packet = p; unit = unit_under h (receiving port p) j }) else Err (v.Held port (unit_under h (receiving port p) j)))
+        else if m then Ok (record { packet = p; unit = unit_under h (receiving port p) j }) else Err
+        (v.Held port (unit_under h (receiving port p) j)))
     by_tests true m = (link, stream)
     by_tests false true = unit
     by_tests false false = unit
 
-cut_step_fits : (plan : Plan) (h : History) (a : Arrival) → FitsArrival a → length h < 2 ^ 28 → (r : Result CutValue PacketFault) → cut_of a.bytes ≡ r → FitsStep a.port (before_tag_of plan h a.port r)
+cut_step_fits : (plan : Plan) (h : History) (a : Arrival) → FitsArrival a → length h < 2 ^ 28
+    → (r : Result CutValue PacketFault) → cut_of a.bytes ≡ r → FitsStep a.port (before_tag_of plan h a.port r)
 cut_step_fits plan h a fits few (Err f) cut = (fits.port, omega (arith, fits.size, cut_place a.bytes f cut))
 cut_step_fits plan h a fits few (Ok PlainTlp) cut = fits.port
-cut_step_fits plan h a fits few (Ok (IdePacket p)) cut = by_tests (has_stream plan a.port p.prefix.stream) (failed h a.port p.prefix.stream)
+cut_step_fits plan h a fits few (Ok (IdePacket p)) cut = by_tests (has_stream plan a.port p.prefix.stream)
+    (failed h a.port p.prefix.stream)
   where
     stream : p.prefix.stream < 2 ^ 64
     stream = omega (arith, (cut_fits a.bytes p cut).prefix.stream)
 
-    by_tests : (known bad : Bool) → FitsStep a.port (if not known then Err (v.Unknown a.port p.prefix.stream) else if bad then Err (v.Insecure a.port p.prefix.stream)
-        else under_keys plan h a.port p (on_draw h a.port (receiving a.port p) p.prefix.k) (on_draw h a.port (receiving a.port p) (not p.prefix.k)))
+    by_tests : (known bad : Bool) → FitsStep a.port
+        (if not known then Err (v.Unknown a.port p.prefix.stream) else if bad then Err
+        (v.Insecure a.port p.prefix.stream)
+        else under_keys plan h a.port p (on_draw h a.port (receiving a.port p) p.prefix.k)
+        (on_draw h a.port (receiving a.port p) (not p.prefix.k)))
     by_tests false bad = (fits.port, stream)
     by_tests true true = (fits.port, stream)
     by_tests true false = under_fits plan h a.port p fits.port few stream _ _ refl
 
-settled_fits : (plan : Plan) (h : History) (port : PortName) (r : Result Ending Verdict) → FitsStep port r → Fits (settled plan h port r)
+settled_fits : (plan : Plan) (h : History) (port : PortName) (r : Result Ending Verdict) → FitsStep port r
+    → Fits (settled plan h port r)
 settled_fits plan h port (Err w) step = step
-settled_fits plan h port (Ok x) step = by_tests (is_verified plan h port x) (meets_counts plan h (received_in port x.unit) (ended plan h port x))
+settled_fits plan h port (Ok x) step = by_tests (is_verified plan h port x)
+    (meets_counts plan h (received_in port x.unit) (ended plan h port x))
   where
     by_tests : (verified counts : Bool) → Fits (if not verified then v.Fail port x.unit.stream x.unit.sub fail.Tag
         else if not counts then v.Fail port x.unit.stream x.unit.sub fail.Order
-        else v.Accepted port x.unit (map (effect_of port) (ended plan h port x)))
+        else v.Accepted port x.unit (map (effect_of plan h port x.unit) (ended plan h port x)))
     by_tests false counts = (step.0, step.1.0)
     by_tests true false = (step.0, step.1.0)
     by_tests true true = step
 
-pub arrival_due_fits : (plan : Plan) → FitsPlan plan → (h : History) → CauseLaw plan h → length h < 2 ^ 28 → (e : Event) → IsAllowed e → (o : Option Arrival) → arrived plan h e ≡ o → Fits (arrival_due plan h o)
+pub arrival_due_fits : (plan : Plan) → FitsPlan plan → (h : History) → CauseLaw plan h → length h < 2 ^ 28 → (e : Event)
+    → IsAllowed e → (o : Option Arrival) → arrived plan h e ≡ o → Fits (arrival_due plan h o)
 unfolding before_tag
 arrival_due_fits plan fits h cause few e allowed None is = tt
-arrival_due_fits plan fits h cause few e allowed (Some a) is = settled_fits plan h a.port (before_tag plan h a) (cut_step_fits plan h a (arrival_fits plan fits h cause e allowed a is) few (cut_of a.bytes) refl)
+arrival_due_fits plan fits h cause few e allowed (Some a) is = settled_fits plan h a.port (before_tag plan h a)
+    (cut_step_fits plan h a (arrival_fits plan fits h cause e allowed a is) few (cut_of a.bytes) refl)
 
-pub dump_due_fits : (plan : Plan) → FitsPlan plan → (h : History) → CauseLaw plan h → length h < 2 ^ 28 → (n : ℕ) (o : Option (SealedPacket × Packet)) → packet_at (sealed_packets plan h) n ≡ o → Fits (dump_due n o)
+pub dump_due_fits : (plan : Plan) → FitsPlan plan → (h : History) → CauseLaw plan h → length h < 2 ^ 28
+    → (n : ℕ) (o : Option (SealedPacket × Packet)) → packet_at (sealed_packets plan h) n ≡ o → Fits (dump_due n o)
 dump_due_fits plan fits h cause few n None is = tt
 dump_due_fits plan fits h cause few n (Some x) is =
     let known = known_at plan fits h cause n x is in

@@ -1,5 +1,6 @@
 -- Draws are few: no more than the events.
-use Rattle.std.proofs.Common.{◌≡◌, ℕ, suc, ◌+◌, ◌<◌, ◌≤◌, Bool, true, false, List, [], ◌∷◌, length, Option, Some, None, refl, arith}
+use Rattle.std.proofs.Common.{◌≡◌, ℕ, suc, ◌+◌, ◌<◌, ◌≤◌, Bool, true, false, List, [], ◌∷◌, length, Option, Some, None}
+use Rattle.std.proofs.Common.{refl, arith}
 use Rattle.std.specs.Prelude.{if◌then◌else◌, ◌&&◌}
 use Rattle.ide_types.specs.declared.port.PortName.{PortName}
 use Rattle.link_events.specs.declared.event.Event.{Event}
@@ -9,7 +10,8 @@ use Rattle.link_verdicts.specs.declared.verdict.Operation.TheVariants as op
 use Rattle.link_verdicts.specs.declared.verdict.Verdict.{Verdict}
 use Rattle.link_verdicts.specs.declared.verdict.Verdict.TheVariants as v
 use Rattle.key_laws.specs.Keys.{On, key_in}
-use Rattle.key_laws.specs.Operations.{Op, Idle, Establishing, Up, Refreshing, Stopping, Work, Reach, Manager, Begun, work_of, reach_of, operated, manager_after, makes_draw, begun_after}
+use Rattle.key_laws.specs.Operations.{Op, Idle, Establishing, Up, Refreshing, Stopping, Work, Reach, Manager, Begun}
+use Rattle.key_laws.specs.Operations.{work_of, reach_of, operated, manager_after, makes_draw, begun_after}
 use Rattle.key_laws.specs.History.{History, op_of, draws, manager}
 use Rattle.key_laws.proofs.Owners.{begun_below, manager_owned, owner}
 use Rattle.link_history.specs.Plan.{SubStream}
@@ -21,18 +23,25 @@ use Rattle.link_keys.proofs.SealedKeys.{on_is_owned}
 one_more : (bs : List Begun) (link stream : ℕ) (w : Work) → length (begun_after bs link stream w) ≤ length bs + 1
 one_more bs link stream w = by_test (w.begins && makes_draw w.operation)
   where
-    by_test : (b : Bool) → length (if b then record { link = link; stream = stream; set = w.set } ∷ bs else bs) ≤ length bs + 1
+    by_test : (b : Bool) → length (if b then record { link = link; stream = stream; set = w.set } ∷ bs else bs) ≤ length
+        bs + 1
     by_test true = omega arith
     by_test false = omega arith
 
-one_operation : (m : Manager) (o : Operation) (link stream : ℕ) (r : Option Reach) (n : ℕ) → length m.begun ≤ n → length (operated m o link stream r).begun ≤ suc n
+one_operation : (m : Manager) (o : Operation) (link stream : ℕ) (r : Option Reach) (n : ℕ) → length m.begun ≤ n
+    → length (operated m o link stream r).begun ≤ suc n
 one_operation m o link stream None n few = omega (arith, few)
-one_operation m o link stream (Some r) n few = omega (arith, few, one_more m.begun link stream (work_of o (m.ops link stream) (length m.begun)))
+one_operation m o link stream (Some r) n few = omega
+    (arith, few, one_more m.begun link stream (work_of o (m.ops link stream) (length m.begun)))
 
-one_event : (m : Manager) (e : Event) (verdict : Verdict) (n : ℕ) → length m.begun ≤ n → length (manager_after m e verdict).begun ≤ suc n
-one_event m (event.Establish link stream loss) verdict n few = one_operation m op.Establish link stream (reach_of op.Establish verdict) n few
-one_event m (event.Refresh link stream loss) verdict n few = one_operation m op.Refresh link stream (reach_of op.Refresh verdict) n few
-one_event m (event.Stop link stream loss) verdict n few = one_operation m op.Stop link stream (reach_of op.Stop verdict) n few
+one_event : (m : Manager) (e : Event) (verdict : Verdict) (n : ℕ) → length m.begun ≤ n
+    → length (manager_after m e verdict).begun ≤ suc n
+one_event m (event.Establish link stream loss) verdict n few = one_operation m op.Establish link stream
+    (reach_of op.Establish verdict) n few
+one_event m (event.Refresh link stream loss) verdict n few = one_operation m op.Refresh link stream
+    (reach_of op.Refresh verdict) n few
+one_event m (event.Stop link stream loss) verdict n few = one_operation m op.Stop link stream (reach_of op.Stop verdict)
+    n few
 one_event m (event.Reset link) (v.Reset l) n few = omega (arith, few)
 one_event m (event.Reset link) _ n few = omega (arith, few)
 one_event m _ verdict n few = omega (arith, few)
@@ -44,7 +53,8 @@ few_draws ((e, verdict) ∷ h) = one_event (manager h) e verdict (length h) (few
 
 -- ---- draws in use
 
-pub on_below : (h : History) (port : PortName) (s : SubStream) (k : Bool) (j : ℕ) → key_in (keys_at h port s) k ≡ On j → j < length h
+pub on_below : (h : History) (port : PortName) (s : SubStream) (k : Bool) (j : ℕ) → key_in (keys_at h port s) k ≡ On j
+    → j < length h
 on_below h port s k j on =
     let below : j < draws h = begun_below (manager h).begun j (owner s.link s.stream k) (on_is_owned h port s k j on) in
     omega (arith, below, few_draws h)
@@ -60,13 +70,16 @@ op_draw (Stopping n) = 0
 op_below : (h : History) (link stream : ℕ) (q : Op) → op_of h link stream ≡ q → op_draw q ≤ draws h
 op_below h link stream Idle is = omega arith
 op_below h link stream (Establishing j n) is =
-    let below : j < draws h = begun_below (manager h).begun j (owner link stream false) (rw is at (manager_owned h link stream)) in
+    let below : j < draws h = begun_below (manager h).begun j (owner link stream false)
+    (rw is at (manager_owned h link stream)) in
     omega (arith, below)
 op_below h link stream (Up set j) is =
-    let below : j < draws h = begun_below (manager h).begun j (owner link stream set) (rw is at (manager_owned h link stream)) in
+    let below : j < draws h = begun_below (manager h).begun j (owner link stream set)
+    (rw is at (manager_owned h link stream)) in
     omega (arith, below)
 op_below h link stream (Refreshing set j n) is =
-    let below : j < draws h = begun_below (manager h).begun j (owner link stream set) (rw is at (manager_owned h link stream)) in
+    let below : j < draws h = begun_below (manager h).begun j (owner link stream set)
+    (rw is at (manager_owned h link stream)) in
     omega (arith, below)
 op_below h link stream (Stopping n) is = omega arith
 
@@ -88,5 +101,11 @@ work_below op.Stop (Up set j) next le = omega arith
 work_below op.Stop (Refreshing set j n) next le = omega arith
 
 -- the draw of an operation at an event
-pub few_work : (h : History) (o : Operation) (link stream : ℕ) → (work_of o (op_of h link stream) (draws h)).draw ≤ length h
-few_work h o link stream = omega (arith, work_below o (op_of h link stream) (draws h) (op_below h link stream (op_of h link stream) refl), few_draws h)
+pub few_work : (h : History) (o : Operation) (link stream : ℕ)
+    → (work_of o (op_of h link stream) (draws h)).draw ≤ length h
+few_work h o link stream = omega (
+  arith,
+  work_below o (op_of h link stream) (draws h) (op_below h link stream (op_of h link stream) refl),
+  few_draws
+      h,
+)

@@ -1,5 +1,6 @@
 -- The place of a fault is within the bytes.
-use Rattle.std.proofs.Common.{◌≡◌, ℕ, ◌+◌, ◌-◌, ◌≤◌, ◌==◌, Bool, true, false, List, length, Err, slice_index, refl, ap, arith}
+use Rattle.std.proofs.Common.{◌≡◌, ℕ, ◌+◌, ◌-◌, ◌≤◌, ◌==◌, Bool, true, false, List, length, Err, slice_index, refl, ap}
+use Rattle.std.proofs.Common.{arith}
 use Rattle.std.specs.Prelude.{if◌then◌else◌, nat_lt, is_some, ◌/◌, ◌%◌}
 use Rattle.std.proofs.lemmas.Bool.Decides.{nat_tests}
 use Rattle.tlp_layout.specs.declared.fault.TlpFault.{TlpFault}
@@ -21,7 +22,8 @@ cause_within : (place b : ℕ) → place_in (cause_at place b) ≤ place
 cause_within place b = by_tests (place == 2) (place == 3) (nat_lt b 64) refl refl
   where
     by_tests : (two three low : Bool) → (place == 2) ≡ two → (place == 3) ≡ three
-        → place_in (if two then (if low then tlps.Length 2 else tlps.Bit 2) else if three then tlps.Length 3 else tlps.Bit place) ≤ place
+        → place_in (if two then (if low then tlps.Length 2 else tlps.Bit 2) else if three then tlps.Length 3 else
+        tlps.Bit place) ≤ place
     by_tests true three true is other = grind (arith, nat_tests)
     by_tests true three false is other = grind (arith, nat_tests)
     by_tests false true low is other = grind (arith, nat_tests)
@@ -31,7 +33,8 @@ fault_within : (s : List ℕ) (place : ℕ) → place_in (fault_at s place) ≤ 
 fault_within s place = by_tests (place == length s) (place == 0) (nat_lt place (head_size (slice_index s 0)))
   where
     by_tests : (short first in_head : Bool)
-        → place_in (if short then tlps.Short place else if first then tlps.Kind 0 else if in_head then cause_at place (slice_index s place) else tlps.Trailing place) ≤ place
+        → place_in (if short then tlps.Short place else if first then tlps.Kind 0 else if in_head then cause_at place
+        (slice_index s place) else tlps.Trailing place) ≤ place
     by_tests true first in_head = omega arith
     by_tests false true in_head = omega arith
     by_tests false false true = cause_within place (slice_index s place)
@@ -45,7 +48,8 @@ moved_by_four (tlps.Length place) = refl
 moved_by_four (tlps.Trailing place) = refl
 
 early_within : (place : ℕ) (s : List ℕ) (b : ℕ) → packet_place (early_cause place s b) ≤ place
-early_within place s b = by_tests (place == 1) (place == 4) (b / 8 % 4 == 0) (begins_sync (prefix_read s).sub b) (is_some (kind_at b)) refl refl
+early_within place s b = by_tests (place == 1) (place == 4) (b / 8 % 4 == 0) (begins_sync (prefix_read s).sub b)
+    (is_some (kind_at b)) refl refl
   where
     by_tests : (one four clear sync kind : Bool) → (place == 1) ≡ one → (place == 4) ≡ four
         → packet_place (if one then (if clear then packets.SubStream 1 else packets.Reserved 1)
@@ -59,19 +63,28 @@ early_within place s b = by_tests (place == 1) (place == 4) (b / 8 % 4 == 0) (be
     by_tests false false clear sync kind is other = omega arith
 
 late_within : (s : List ℕ) (place : ℕ) → 4 ≤ place → packet_place (late_cause s place) ≤ place
-late_within s place behind = by_tests (nat_lt place (4 + clear_size (prefix_read s).sub (slice_index s 4))) (begins_sync (prefix_read s).sub (slice_index s 4))
+late_within s place behind = by_tests (nat_lt place (4 + clear_size (prefix_read s).sub (slice_index s 4)))
+    (begins_sync (prefix_read s).sub (slice_index s 4))
   where
     by_tests : (clear sync : Bool)
-        → packet_place (if clear then (if sync then packets.Sync place else packets.Tlp (moved (cause_at (place - 4) (slice_index s place)))) else packets.Trailing place) ≤ place
+        → packet_place (if clear then
+        (if sync then packets.Sync place else packets.Tlp (moved (cause_at (place - 4) (slice_index s place)))) else
+        packets.Trailing place) ≤ place
     by_tests true true = omega arith
-    by_tests true false = omega (arith, moved_by_four (cause_at (place - 4) (slice_index s place)), cause_within (place - 4) (slice_index s place))
+    by_tests true false = omega (
+      arith,
+      moved_by_four (cause_at (place - 4) (slice_index s place)),
+      cause_within (place - 4)
+          (slice_index s place),
+    )
     by_tests false sync = omega arith
 
 packet_within : (s : List ℕ) (place : ℕ) → packet_place (packet_fault_at s place) ≤ place
 packet_within s place = by_tests (place == length s) (nat_lt place 5) refl
   where
     by_tests : (short early : Bool) → nat_lt place 5 ≡ early
-        → packet_place (if short then packets.Short place else if early then early_cause place s (slice_index s place) else late_cause s place) ≤ place
+        → packet_place (if short then packets.Short place else if early then early_cause place s (slice_index s place)
+        else late_cause s place) ≤ place
     by_tests true early is = omega arith
     by_tests false true is = early_within place s (slice_index s place)
     by_tests false false is = late_within s place (grind (arith, nat_tests))

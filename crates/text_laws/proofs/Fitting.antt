@@ -1,23 +1,37 @@
 -- What is due fits.
 use Rattle.std.proofs.Common.{refl}
-use Rattle.link_events.specs.declared.event.Event.TheVariants.{Send, Pass, Alter, Cut, Arrive, Dump, Establish, Refresh, Stop, Reset, Status}
+use Rattle.link_events.specs.declared.event.Event.TheVariants.{Send, Pass, Alter, Cut, Arrive, Dump, Establish, Refresh}
+use Rattle.link_events.specs.declared.event.Event.TheVariants.{Stop, Reset, Status, Interface}
 use Rattle.link_history.specs.History.{arrived, packet_at, sealed_packets}
 use Rattle.link_history.specs.Due.{due}
+use Rattle.link_history.specs.Memory.{memory_due}
 use Rattle.text_laws.specs.Statements.{DueFits}
-use Rattle.text_laws.proofs.OperationsFit.{establish_due_fits, refresh_due_fits, stop_due_fits, reset_due_fits, status_due_fits}
+use Rattle.text_laws.proofs.OperationsFit.{establish_due_fits, refresh_due_fits, stop_due_fits, reset_due_fits}
+use Rattle.text_laws.proofs.OperationsFit.{status_due_fits}
 use Rattle.text_laws.proofs.SendsFit.{send_due_fits}
+use Rattle.text_laws.proofs.InterfacesFit.{interface_fits}
+use Rattle.text_laws.proofs.MemoryFits.{memory_fits}
 use Rattle.text_laws.proofs.ArrivalsFit.{arrival_due_fits, dump_due_fits}
 
 pub due_fits : DueFits
-unfolding due
-due_fits plan fits h cause few (Send port bytes more trusted) allowed = send_due_fits plan fits h cause few port bytes more trusted allowed.2
-due_fits plan fits h cause few (Dump n) allowed = dump_due_fits plan fits h cause few n (packet_at (sealed_packets plan h) n) refl
-due_fits plan fits h cause few (Establish link stream lose) allowed = establish_due_fits plan fits h few link stream lose
+unfolding due arrived
+due_fits plan fits h cause few (Send port bytes more trusted) allowed = send_due_fits plan fits h cause few port bytes
+    more trusted allowed.2
+due_fits plan fits h cause few (Dump n) allowed = dump_due_fits plan fits h cause few n
+    (packet_at (sealed_packets plan h) n) refl
+due_fits plan fits h cause few (Establish link stream lose) allowed = establish_due_fits plan fits h few link stream
+    lose
 due_fits plan fits h cause few (Refresh link stream lose) allowed = refresh_due_fits plan fits h few link stream lose
 due_fits plan fits h cause few (Stop link stream lose) allowed = stop_due_fits plan fits h few link stream lose
 due_fits plan fits h cause few (Reset link) allowed = reset_due_fits plan fits h link
 due_fits plan fits h cause few (Status link stream) allowed = status_due_fits plan fits h link stream
-due_fits plan fits h cause few (Pass n) allowed = arrival_due_fits plan fits h cause few (Pass n) allowed (arrived plan h (Pass n)) refl
-due_fits plan fits h cause few (Alter n place mask) allowed = arrival_due_fits plan fits h cause few (Alter n place mask) allowed (arrived plan h (Alter n place mask)) refl
-due_fits plan fits h cause few (Cut n size) allowed = arrival_due_fits plan fits h cause few (Cut n size) allowed (arrived plan h (Cut n size)) refl
-due_fits plan fits h cause few (Arrive port bytes) allowed = arrival_due_fits plan fits h cause few (Arrive port bytes) allowed (arrived plan h (Arrive port bytes)) refl
+due_fits plan fits h cause few (Interface e) allowed = interface_fits plan fits h cause few e (memory_due plan h e)
+    (memory_fits plan h cause e)
+due_fits plan fits h cause few (Pass n) allowed = arrival_due_fits plan fits h cause few (Pass n) allowed
+    (arrived plan h (Pass n)) refl
+due_fits plan fits h cause few (Alter n place mask) allowed = arrival_due_fits plan fits h cause few
+    (Alter n place mask) allowed (arrived plan h (Alter n place mask)) refl
+due_fits plan fits h cause few (Cut n size) allowed = arrival_due_fits plan fits h cause few (Cut n size) allowed
+    (arrived plan h (Cut n size)) refl
+due_fits plan fits h cause few (Arrive port bytes) allowed = arrival_due_fits plan fits h cause few (Arrive port bytes)
+    allowed (arrived plan h (Arrive port bytes)) refl

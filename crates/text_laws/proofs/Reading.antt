@@ -1,5 +1,6 @@
 -- A history that is read from the text of events is the one that is due.
-use Rattle.std.proofs.Common.{◌≡◌, ℕ, ◌+◌, ◌<◌, ◌^◌, List, [], ◌∷◌, ◌++◌, length, refl, ap, sym, ◌∙◌, subst, arith, append_assoc, length-append}
+use Rattle.std.proofs.Common.{◌≡◌, ℕ, ◌+◌, ◌<◌, ◌^◌, List, [], ◌∷◌, ◌++◌, length, refl, ap, sym, ◌∙◌, subst, arith}
+use Rattle.std.proofs.Common.{append_assoc, length-append}
 use Rattle.std.specs.List.{AllByRecursion}
 use Rattle.std.proofs.lemmas.List.{append-nil}
 use Rattle.ide_plan.specs.declared.plan.Plan.{Plan}
@@ -18,7 +19,8 @@ use Rattle.text_laws.specs.Statements.{LinesTell, AreTold}
 use Rattle.text_laws.proofs.Fitting.{due_fits}
 
 -- the events ahead of one, and that one
-allowed_behind : (es : List Event) (e : Event) (later : List Event) → AllByRecursion IsAllowed (es ++ e ∷ later) → IsAllowed e
+allowed_behind : (es : List Event) (e : Event) (later : List Event) → AllByRecursion IsAllowed (es ++ e ∷ later)
+    → IsAllowed e
 allowed_behind [] e later each = each.0
 allowed_behind (d ∷ es) e later each = allowed_behind es e later each.1
 
@@ -31,32 +33,38 @@ record Tells (plan : Plan) (h : History) (later : List Event) (rest last : List 
   cause : CauseLaw plan h
   left : rest ≡ text_on plan h later ++ last
 
-one_more : (plan : Plan) (h : History) (e : Event) (v : Verdict) (later : List Event) (rest last : List ℕ) → v ≡ due plan h e → rest ≡ text_on plan (history_with plan h e) later ++ last → CauseLaw plan h
+one_more : (plan : Plan) (h : History) (e : Event) (v : Verdict) (later : List Event) (rest last : List ℕ) → v
+    ≡ due plan h e → rest ≡ text_on plan (history_with plan h e) later ++ last → CauseLaw plan h
     → Tells plan ((e, v) ∷ h) later rest last
 one_more plan h e v later rest last same left cause = record {
   cause = (same, cause);
   left = left ∙ ap (λ (w : Verdict). text_on plan ((e, w) ∷ h) later ++ last) (sym same);
 }
 
-tells : (plan : Plan) → FitsPlan plan → (h : History) (later : List Event) (rest last : List ℕ) → AreAllowed (events_told h ++ later) → VerdictsFit h
+tells : (plan : Plan) → FitsPlan plan → (h : History) (later : List Event) (rest last : List ℕ)
+    → AreAllowed (events_told h ++ later) → VerdictsFit h
     → lines_told h ++ rest ≡ text_on plan [] (events_told h ++ later) ++ last → Tells plan h later rest last
 tells plan plan_fits [] later rest last events fits same = record { cause = tt; left = same }
 tells plan plan_fits ((e, v) ∷ h) later rest last events fits same =
     let line = line_of (length h + 1) v in
-    let order : (events_told h ++ e ∷ []) ++ later ≡ events_told h ++ (e ∷ later) = append_assoc (events_told h) (e ∷ []) later in
+    let order : (events_told h ++ e ∷ []) ++ later ≡ events_told h
+    ++ (e ∷ later) = append_assoc (events_told h) (e ∷ []) later in
     let all = subst AreAllowed order events in
-    let text = sym (append_assoc (lines_told h) line rest) ∙ (same ∙ ap (λ (es : List Event). text_on plan [] es ++ last) order) in
+    let text = sym (append_assoc (lines_told h) line rest) ∙
+    (same ∙ ap (λ (es : List Event). text_on plan [] es ++ last) order) in
     let before = tells plan plan_fits h (e ∷ later) (line ++ rest) last all fits.1 text in
     let few : length h < 2 ^ 28 = omega (arith, all.few, length-append (events_told h) (e ∷ later), length-events h) in
     let due_line = line_of (length h + 1) (due plan h e) in
     let lines = before.left ∙ append_assoc due_line (text_on plan (history_with plan h e) later) last in
     let number : length h + 1 < 2 ^ 64 = omega (arith, few) in
-    let apart = lines_apart (length h + 1) (length h + 1) v (due plan h e) rest (text_on plan (history_with plan h e) later ++ last) number number fits.0
+    let apart = lines_apart (length h + 1) (length h + 1) v (due plan h e) rest
+    (text_on plan (history_with plan h e) later ++ last) number number fits.0
     (due_fits plan plan_fits h before.cause few e (allowed_behind (events_told h) e later all.each)) lines in
     one_more plan h e v later rest last apart.1 apart.2 before.cause
 
 pub lines_tell : LinesTell
-lines_tell plan plan_fits h later rest last events fits same = (tells plan plan_fits h later rest last events fits same).cause
+lines_tell plan plan_fits h later rest last events fits same =
+    (tells plan plan_fits h later rest last events fits same).cause
 
 -- ---- the history that is due
 
@@ -64,14 +72,18 @@ due_events : (plan : Plan) (h : History) (es : List Event) → events_told (hist
 due_events plan h [] = sym (append-nil (events_told h))
 due_events plan h (e ∷ es) = due_events plan (history_with plan h e) es ∙ append_assoc (events_told h) (e ∷ []) es
 
-due_lines : (plan : Plan) (h : History) (es : List Event) → lines_told (history_on plan h es) ≡ lines_told h ++ text_on plan h es
+due_lines : (plan : Plan) (h : History) (es : List Event) → lines_told (history_on plan h es) ≡ lines_told h
+    ++ text_on plan h es
 due_lines plan h [] = sym (append-nil (lines_told h))
-due_lines plan h (e ∷ es) = due_lines plan (history_with plan h e) es ∙ append_assoc (lines_told h) (line_of (length h + 1) (due plan h e)) (text_on plan (history_with plan h e) es)
+due_lines plan h (e ∷ es) = due_lines plan (history_with plan h e) es ∙ append_assoc (lines_told h)
+    (line_of (length h + 1) (due plan h e)) (text_on plan (history_with plan h e) es)
 
-due_verdicts : (plan : Plan) → FitsPlan plan → (h : History) (es : List Event) → CauseLaw plan h → VerdictsFit h → length h + length es < 2 ^ 28 → AllByRecursion IsAllowed es → VerdictsFit (history_on plan h es)
+due_verdicts : (plan : Plan) → FitsPlan plan → (h : History) (es : List Event) → CauseLaw plan h → VerdictsFit h
+    → length h + length es < 2 ^ 28 → AllByRecursion IsAllowed es → VerdictsFit (history_on plan h es)
 due_verdicts plan plan_fits h [] cause fits few each = fits
 due_verdicts plan plan_fits h (e ∷ es) cause fits few each =
-    due_verdicts plan plan_fits (history_with plan h e) es (refl, cause) (due_fits plan plan_fits h cause (omega (arith, few)) e each.0, fits) (omega (arith, few)) each.1
+    due_verdicts plan plan_fits (history_with plan h e) es (refl, cause)
+    (due_fits plan plan_fits h cause (omega (arith, few)) e each.0, fits) (omega (arith, few)) each.1
 
 pub are_told : AreTold
 are_told plan plan_fits events allowed = record {

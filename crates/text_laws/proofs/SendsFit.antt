@@ -1,5 +1,6 @@
 -- The verdicts of sends fit.
-use Rattle.std.proofs.Common.{◌≡◌, ℕ, ◌+◌, ◌-◌, ◌<◌, ◌≤◌, ◌^◌, Bool, true, false, List, [], ◌∷◌, ◌++◌, length, filter, Some, None, Option, Ok, Err, Result, refl, sym, subst, arith, length-drop}
+use Rattle.std.proofs.Common.{◌≡◌, ℕ, ◌+◌, ◌-◌, ◌<◌, ◌≤◌, ◌^◌, Bool, true, false, List, [], ◌∷◌, ◌++◌, length, filter}
+use Rattle.std.proofs.Common.{Some, None, Option, Ok, Err, Result, refl, sym, subst, arith, length-drop}
 use Rattle.std.specs.Prelude.{if◌then◌else◌, not, unwrap_or}
 use Rattle.std.specs.List.{AllByRecursion, after_last, suffix_len}
 use Rattle.std.proofs.lemmas.List.{length-map}
@@ -23,8 +24,12 @@ use Rattle.ide_prefix.specs.Packet.{Packet}
 use Rattle.key_laws.specs.History.{History, base}
 use Rattle.link_history.specs.Plan.{SubStream, has_port, lane_out}
 use Rattle.link_history.specs.Units.{units, units_after}
-use Rattle.link_history.specs.History.{KeyName, SealedList, sealed_packets, sent_in, is_under, keys_at, live_key, is_in, posted_in, posted_of}
-use Rattle.link_history.specs.Due.{Sending, Lanes, Lane, lanes_at, sent_under, choice, due, send_read, send_on, refusals, first_that_holds, sealed_by, described, needs_sync, no_key, is_posted, ends_unit, sets_trusted}
+use Rattle.link_history.specs.History.{KeyName, SealedList, sealed_packets, sent_in, is_under, keys_at, live_key, is_in}
+use Rattle.link_history.specs.History.{posted_in, posted_of}
+use Rattle.link_history.specs.Due.{Sending, Lanes, Lane, lanes_at, sent_under, choice, due, send_read, send_on}
+use Rattle.link_history.specs.Due.{refusals, first_that_holds, sealed_by, described, needs_sync, no_key, is_posted}
+use Rattle.link_history.specs.Due.{ends_unit, sets_trusted}
+use Rattle.interface_states.specs.Cause.{t_due, owner_at}
 use Rattle.link_history.specs.Cause.{CauseLaw}
 use Rattle.link_history.proofs.Choices.{choice_known}
 use Rattle.link_history.proofs.Senders.{listed, sealed_by_is, on_live}
@@ -39,20 +44,33 @@ units_few : (front ps : List Packet) → length (units_after front ps) ≤ lengt
 units_few front [] = omega arith
 units_few front (p ∷ ps) = grind (arith, units_few [] ps, units_few (front ++ p ∷ []) ps)
 
-under_few : (plan : Plan) (h : History) (s : SubStream) (o : Option KeyName) → length (units (sent_under plan h s o)) ≤ length (sealed_packets plan h)
+under_few : (plan : Plan) (h : History) (s : SubStream) (o : Option KeyName)
+    → length (units (sent_under plan h s o)) ≤ length (sealed_packets plan h)
 unfolding units sent_in
 under_few plan h s None = omega arith
 under_few plan h s (Some key) =
     let xs = sealed_packets plan h in
-    omega (arith, units_few [] (sent_in xs s key.draw), length-map (filter (is_under s key.draw) xs) (λ (x : SealedPacket × Packet). x.1), filter_few (is_under s key.draw) xs)
+    omega (
+      arith,
+      units_few [] (sent_in xs s key.draw),
+      length-map (filter (is_under s key.draw) xs)
+          (λ (x : SealedPacket × Packet). x.1),
+      filter_few (is_under s key.draw) xs,
+    )
 
 posted_few : (xs : SealedList) (s : SubStream) (from : ℕ) → posted_in xs s from ≤ length xs
 unfolding posted_in
 posted_few xs s from =
     let last = after_last (is_in s from) xs in
-    omega (arith, filter_few (is_in (posted_of s) from) last, length-drop (length xs - suffix_len (λ (y : SealedPacket × Packet). not (is_in s from y)) xs) xs)
+    omega (
+      arith,
+      filter_few (is_in (posted_of s) from) last,
+      length-drop
+          (length xs - suffix_len (λ (y : SealedPacket × Packet). not (is_in s from y)) xs) xs,
+    )
 
-live_few : (h : History) (port : PortName) (s : SubStream) (o : Option KeyName) → live_key h port s ≡ o → (unwrap_or o no_key).draw ≤ length h
+live_few : (h : History) (port : PortName) (s : SubStream) (o : Option KeyName) → live_key h port s ≡ o
+    → (unwrap_or o no_key).draw ≤ length h
 live_few h port s None is = omega arith
 live_few h port s (Some key) is =
     let below = on_below h port s key.k key.draw (on_live (keys_at h port s).first (keys_at h port s).second key is) in
@@ -65,7 +83,8 @@ record LaneFits (l : Lane) : Type 0 where
   units : l.units < 2 ^ 63
   posted : l.posted < 2 ^ 63
 
-lane_fits : (plan : Plan) (h : History) → CauseLaw plan h → length h < 2 ^ 28 → (port : PortName) (stream : ℕ) (u : SubKind) → LaneFits ((lanes_at plan h port stream).lane u)
+lane_fits : (plan : Plan) (h : History) → CauseLaw plan h → length h < 2 ^ 28
+    → (port : PortName) (stream : ℕ) (u : SubKind) → LaneFits ((lanes_at plan h port stream).lane u)
 lane_fits plan h cause few port stream u =
     let s = lane_out port stream u in
     let count = sealed_few plan h cause in
@@ -79,64 +98,115 @@ posted_fits : (b : Bool) (n : ℕ) → n < 2 ^ 63 → (if b then 0 else n) < 2 ^
 posted_fits true n few = omega arith
 posted_fits false n few = omega (arith, few)
 
-described_fits : (x : Lanes) (s : Sending) (u : SubKind) (number : ℕ) (m t sync : Bool) → LaneFits (x.lane u) → FitsStream s.port.link s.stream → number < 2 ^ 64 → FitsSealed (described x s u number m t sync)
-described_fits x s u number m t sync fits at small =
-    (small, at.link_fits, at.stream_fits, omega (arith, fits.draw), omega (arith, fits.units), posted_fits (is_posted u) (x.lane u).posted fits.posted)
+described_fits : (x : Lanes) (s : Sending) (u : SubKind) (number : ℕ) (m t sync : Bool) → LaneFits (x.lane u)
+    → FitsStream s.port.link s.stream → number < 2 ^ 64 → FitsSealed (described x s u number m t sync)
+described_fits x s u number m t sync fits at small = (
+  small,
+  at.link_fits,
+  at.stream_fits,
+  omega (arith, fits.draw),
+  omega (arith, fits.units),
+  posted_fits (is_posted u)
+      (x.lane u).posted fits.posted,
+)
 
-listed_fits : (x : Lanes) (s : Sending) (number : ℕ) (n c : Bool) → ((u : SubKind) → LaneFits (x.lane u)) → FitsStream s.port.link s.stream → number < 2 ^ 63 → FitPackets (listed x s number n c)
+listed_fits : (x : Lanes) (s : Sending) (number : ℕ) (n c : Bool) → ((u : SubKind) → LaneFits (x.lane u))
+    → FitsStream s.port.link s.stream → number < 2 ^ 63 → FitPackets (listed x s number n c)
 unfolding listed
-listed_fits x s number false false fits at small = (described_fits x s s.class _ (ends_unit x s) (sets_trusted s.port s.trusted) false (fits s.class) at (omega (arith, small)), tt)
-listed_fits x s number true false fits at small =
-    (described_fits x s Npr _ true false true (fits Npr) at (omega (arith, small)), (described_fits x s s.class _ (ends_unit x s) (sets_trusted s.port s.trusted) false (fits s.class) at (omega (arith, small)), tt))
-listed_fits x s number false true fits at small =
-    (described_fits x s Cpl _ true false true (fits Cpl) at (omega (arith, small)), (described_fits x s s.class _ (ends_unit x s) (sets_trusted s.port s.trusted) false (fits s.class) at (omega (arith, small)), tt))
+listed_fits x s number false false fits at small = (
+  described_fits x s s.class _ (ends_unit x s) (sets_trusted s.port s.trusted) false (fits s.class) at
+      (omega (arith, small)),
+  tt,
+)
+listed_fits x s number true false fits at small = (
+  described_fits x s Npr _ true false true (fits Npr) at (omega (arith, small)),
+  (
+    described_fits x s s.class _ (ends_unit x s) (sets_trusted s.port s.trusted) false (fits s.class) at
+        (omega (arith, small)),
+    tt,
+  ),
+)
+listed_fits x s number false true fits at small = (
+  described_fits x s Cpl _ true false true (fits Cpl) at (omega (arith, small)),
+  (
+    described_fits x s s.class _ (ends_unit x s) (sets_trusted s.port s.trusted) false (fits s.class) at
+        (omega (arith, small)),
+    tt,
+  ),
+)
 listed_fits x s number true true fits at small = (
   described_fits x s Npr _ true false true (fits Npr) at (omega (arith, small)),
   (
     described_fits x s Cpl _ true false true (fits Cpl) at (omega (arith, small)),
-    (described_fits x s s.class _ (ends_unit x s) (sets_trusted s.port s.trusted) false (fits s.class) at (omega (arith, small)), tt),
+    (
+      described_fits x s s.class _ (ends_unit x s) (sets_trusted s.port s.trusted) false (fits s.class) at
+          (omega (arith, small)),
+      tt,
+    ),
   ),
 )
 
 -- ---- sends
 
 -- what holds of each answer that may come first holds of the one that does
-first_holds : (P : Verdict → Type 0) (xs : List (Bool × Verdict)) (last : Verdict) → AllByRecursion (λ (x : Bool × Verdict). P x.1) xs → P last → P (unwrap_or (first_that_holds xs) last)
+first_holds : (P : Verdict → Type 0) (xs : List (Bool × Verdict)) (last : Verdict)
+    → AllByRecursion (λ (x : Bool × Verdict). P x.1) xs → P last → P (unwrap_or (first_that_holds xs) last)
 first_holds P [] last all ends = ends
 first_holds P (x ∷ xs) last all ends = by_test x.0 (first_holds P xs last all.1 ends)
   where
-    by_test : (b : Bool) → P (unwrap_or (first_that_holds xs) last) → P (unwrap_or (if b then Some x.1 else first_that_holds xs) last)
+    by_test : (b : Bool) → P (unwrap_or (first_that_holds xs) last)
+        → P (unwrap_or (if b then Some x.1 else first_that_holds xs) last)
     by_test true rest = all.0
     by_test false rest = rest
 
-sent_fits : (plan : Plan) → FitsPlan plan → (h : History) → CauseLaw plan h → length h < 2 ^ 28 → (s : Sending) → FitsStream s.port.link s.stream → (number : ℕ) → number < 2 ^ 63
+sent_fits : (plan : Plan) → FitsPlan plan → (h : History) → CauseLaw plan h → length h < 2 ^ 28 → (s : Sending)
+    → FitsStream s.port.link s.stream → (number : ℕ) → number < 2 ^ 63
     → let x = lanes_at plan h s.port s.stream in
     Fits (unwrap_or (first_that_holds (refusals x s.class)) (v.Sealed (sealed_by x s number)))
 sent_fits plan fits h cause few s at number small =
     let x = lanes_at plan h s.port s.stream in
     let worn : plan.units_per_key < 2 ^ 64 = omega (arith, fits.units_most) in
-    first_holds Fits (refusals x s.class) (v.Sealed (sealed_by x s number)) (tt, (tt, (tt, (tt, (tt, (worn, (worn, (worn, tt))))))))
-    (subst FitPackets (sym (sealed_by_is x s number)) (listed_fits x s number (needs_sync x s.class Npr) (needs_sync x s.class Cpl) (lane_fits plan h cause few s.port s.stream) at small))
+    first_holds Fits (refusals x s.class) (v.Sealed (sealed_by x s number))
+    (tt, (tt, (tt, (tt, (tt, (worn, (worn, (worn, tt))))))))
+    (subst FitPackets (sym (sealed_by_is x s number))
+    (listed_fits x s number (needs_sync x s.class Npr) (needs_sync x s.class Cpl)
+    (lane_fits plan h cause few s.port s.stream) at small))
 
-send_fits : (plan : Plan) → FitsPlan plan → (h : History) → CauseLaw plan h → length h < 2 ^ 28 → (port : PortName) (t : Tlp) (more trusted : Bool) (o : Option ℕ) → choice plan port (header t) ≡ o → port.link < 2 ^ 64
+send_fits : (plan : Plan) → FitsPlan plan → (h : History) → CauseLaw plan h → length h < 2 ^ 28
+    → (port : PortName) (t : Tlp) (more trusted : Bool) (o : Option ℕ) → choice plan port (header t) ≡ o
+    → port.link < 2 ^ 64
     → Fits (send_on plan h port (header t) more trusted o)
 send_fits plan fits h cause few port t more trusted None is small = small
 send_fits plan fits h cause few port t more trusted (Some stream) is small =
-    let s : Sending = record { port = port; stream = stream; class = class_of (header t); more = more; trusted = trusted } in
-    sent_fits plan fits h cause few s (stream_fits plan fits port.link stream (choice_known plan port (header t) stream is)) (length (sealed_packets plan h) + 1) (omega (arith, few, sealed_few plan h cause))
+    let s : Sending = record {
+      port = port;
+      stream = stream;
+      class = class_of (header t);
+      more = more;
+      trusted = t_due plan h port port.side
+          (owner_at plan port.link (header t)) stream trusted;
+    } in
+    sent_fits plan fits h cause few s
+    (stream_fits plan fits port.link stream (choice_known plan port (header t) stream is))
+    (length (sealed_packets plan h) + 1) (omega (arith, few, sealed_few plan h cause))
 
 pub port_fits : (plan : Plan) → FitsPlan plan → (port : PortName) → has_port plan port ≡ true → port.link < 2 ^ 64
-port_fits plan fits port is = let less : port.link < length plan.links = grind (arith, nat_tests) in omega (arith, less, fits.links_most)
+port_fits plan fits port is = let less : port.link < length plan.links = grind (arith, nat_tests) in omega
+    (arith, less, fits.links_most)
 
-pub send_due_fits : (plan : Plan) → FitsPlan plan → (h : History) → CauseLaw plan h → length h < 2 ^ 28 → (port : PortName) (bytes : List ℕ) (more trusted : Bool) → length bytes < 2 ^ 64
+pub send_due_fits : (plan : Plan) → FitsPlan plan → (h : History) → CauseLaw plan h → length h < 2 ^ 28
+    → (port : PortName) (bytes : List ℕ) (more trusted : Bool) → length bytes < 2 ^ 64
     → Fits (due plan h (Send port bytes more trusted))
 unfolding due
 send_due_fits plan fits h cause few port bytes more trusted small = by_port (has_port plan port) refl
   where
-    by_reading : port.link < 2 ^ 64 → (r : Result Tlp TlpFault) → read_of bytes ≡ r → Fits (send_read plan h port r more trusted)
+    by_reading : port.link < 2 ^ 64 → (r : Result Tlp TlpFault) → read_of bytes ≡ r
+        → Fits (send_read plan h port r more trusted)
     by_reading link (Err f) reads = (link, omega (arith, small, tlp_place bytes f reads))
-    by_reading link (Ok t) reads = send_fits plan fits h cause few port t more trusted (choice plan port (header t)) refl link
+    by_reading link (Ok t) reads = send_fits plan fits h cause few port t more trusted (choice plan port (header t))
+        refl link
 
-    by_port : (b : Bool) → has_port plan port ≡ b → Fits (if b then send_read plan h port (read_of bytes) more trusted else v.Nothing)
+    by_port : (b : Bool) → has_port plan port ≡ b → Fits
+        (if b then send_read plan h port (read_of bytes) more trusted else v.Nothing)
     by_port true is = by_reading (port_fits plan fits port is) (read_of bytes) refl
     by_port false is = tt

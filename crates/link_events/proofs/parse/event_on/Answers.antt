@@ -4,8 +4,15 @@ use Rattle.link_events.proofs.parse.event_on.Goals as goal
 
 pub returns-clause-gives : goal.returns-clause-gives
 returns-clause-gives c =
-    rw (c.as_slice.ensures.value, c.words_of-words.ensures, seven_words (words_in c.args.line.now)) at c.event_of.ensures.gives
+    rw (c.as_slice.ensures.value, c.words_of-words.ensures, seven_words (words_in c.args.line.now)) at
+    c.event_of.ensures.gives
 
 pub returns-clause-exact : goal.returns-clause-exact
 returns-clause-exact c =
-    rw (c.as_slice.ensures.value, c.words_of-words.ensures, seven_words (words_in c.args.line.now), seven_bytes (words_in c.args.line.now)) at c.event_of.ensures.exact
+    rw (
+      c.as_slice.ensures.value,
+      c.words_of-words.ensures,
+      seven_words (words_in c.args.line.now),
+      seven_bytes
+          (words_in c.args.line.now),
+    ) at c.event_of.ensures.exact

@@ -12,6 +12,8 @@ returns c =
     let rest = rw same at split.rest in
     let done = rw same at split.done in
     let closure = rw same at split.closure in
-    let all = YieldsList-end (YieldsList-from_slice_split _ (λ (b : ℕ). b == 32) c.args.line.now rest done closure (λ x b q k. search (rules, tests)))
+    let all = YieldsList-end
+    (YieldsList-from_slice_split _ (λ (b : ℕ). b == 32) c.args.line.now rest done closure
+    (λ x b q k. search (rules, tests)))
     c.loop-word.yielded _ c.loop-word.yielded_by _ _ c.in-None.is c.next.ensures.steps in
     c.loop-word.invariant ∙ ap (λ ws. take 7 (filter (λ (w : Text). not (length w == 0)) ws)) all.0

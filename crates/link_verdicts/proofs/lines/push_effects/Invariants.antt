@@ -6,4 +6,5 @@ use Rattle.link_verdicts.proofs.lines.push_effects.Given as goal
 
 -- the text so far and the words that are left
 abbrev pub invariant-loop-effect : goal.invariant-loop-effect
-invariant-loop-effect l = string_bytes l.text ++ joined (effects_words (drop l.effect-index l.effects)) ≡ string_bytes l.fn.text ++ joined (effects_words l.effects)
+invariant-loop-effect l = string_bytes l.text ++ joined (effects_words (drop l.effect-index l.effects))
+    ≡ string_bytes l.fn.text ++ joined (effects_words l.effects)

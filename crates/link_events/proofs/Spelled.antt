@@ -1,0 +1,77 @@
+-- Parts of lines that several families of events have: what was read of words is what they spell, and the other way
+-- round.
+use Rattle.std.proofs.Common.{true, false, ◌≡◌, ℕ, List, [], ◌∷◌, Bool, Option, Some, None, Result, Ok, Err, refl, ◌∙◌}
+use Rattle.std.proofs.Common.{ap, subst, codes}
+use Rattle.std.specs.Prelude.{if◌then◌else◌}
+use Rattle.std.specs.Option.{ok_or}
+use Rattle.std.specs.Str.{bytes_eq}
+use Rattle.ide_types.specs.Names.{Text}
+use Rattle.link_events.specs.Terms.{Loss, LineFault}
+use Rattle.link_events.specs.Terms.fault
+use Rattle.link_events.specs.Words.{number_in, lost_in}
+use Rattle.link_events.specs.Parts.{◌>>=◌, lost_exchange_in, loss_in, is_loss_long, one_number_in, two_numbers_in}
+use Rattle.link_events.specs.Parts.{LossSpelledBy, OneSpelledBy, TwoSpelledBy}
+use Rattle.link_events.proofs.Steps.{err_ok, ok_ok, same_text, next_of, next_result}
+
+-- ---- what is lost
+
+pub lost_spelled : (l n w : Text) (lose : Option Loss) (b : Bool) → bytes_eq l (codes "lose") ≡ b
+    → (if b then lost_exchange_in n w else Err fault.Word) ≡ Ok lose
+    → LossSpelledBy lose (l ∷ n ∷ w ∷ [])
+lost_spelled l n w lose false t h = absurd (err_ok fault.Word lose h)
+lost_spelled l n w lose true t h =
+    let a = next_of (number_in n) fault.Number
+    (λ x. ok_or (lost_in w) fault.Word >>= λ y. Ok (Some (record { exchange = x; lost = y }))) lose h in
+    let b = next_of (lost_in w) fault.Word (λ y. Ok (Some (record { exchange = a.0; lost = y }))) lose a.2 in
+    subst (λ (x : Option Loss). LossSpelledBy x (l ∷ n ∷ w ∷ []))
+    (ok_ok (Some (record { exchange = a.0; lost = b.0 })) lose b.2)
+    ((n, a.1), (w, b.1), ap (λ (x : Text). x ∷ n ∷ w ∷ []) (same_text l (codes "lose") t))
+
+pub loss_spelled : (ws : List Text) (lose : Option Loss) → loss_in ws ≡ Ok lose → LossSpelledBy lose ws
+loss_spelled [] lose h = subst (λ (x : Option Loss). LossSpelledBy x []) (ok_ok None lose h) refl
+loss_spelled (l ∷ []) lose h = absurd (err_ok fault.Count lose h)
+loss_spelled (l ∷ n ∷ []) lose h = absurd (err_ok fault.Count lose h)
+loss_spelled (l ∷ n ∷ w ∷ []) lose h = lost_spelled l n w lose (bytes_eq l (codes "lose")) refl h
+loss_spelled (l ∷ n ∷ w ∷ x ∷ ws) lose h = absurd (err_ok fault.Count lose h)
+
+pub loss_meant : (ws : List Text) (lose : Option Loss) → LossSpelledBy lose ws → (is_loss_long ws ≡ true)
+    × (loss_in ws ≡ Ok lose)
+loss_meant ws None h = (rw h refl, rw h refl)
+loss_meant ws (Some loss) h = (rw h.2 refl, rw h.2 (rw h.0.1 (rw h.1.1 refl)))
+
+-- ---- numbers
+
+pub one_spelled : (first : Text) (ws : List Text) (n : ℕ) → one_number_in ws ≡ Ok n → OneSpelledBy first n (first ∷ ws)
+one_spelled first [] n h = absurd (err_ok fault.Count n h)
+one_spelled first (w ∷ []) n h = let a = next_of (number_in w) fault.Number (λ x. Ok x) n (by_reading (number_in w) h)
+    in ((w, a.1 ∙ ap Some (ok_ok a.0 n a.2)), refl)
+  where
+    by_reading : (x : Option ℕ) → ok_or x fault.Number ≡ Ok n → (ok_or x fault.Number >>= λ x. Ok x) ≡ Ok n
+    by_reading None h = h
+    by_reading (Some x) h = h
+one_spelled first (w ∷ x ∷ ws) n h = absurd (err_ok fault.Count n h)
+
+pub two_spelled : (first : Text) (ws : List Text) (n : ℕ × ℕ) → two_numbers_in ws ≡ Ok n
+    → TwoSpelledBy first n.0 n.1 (first ∷ ws)
+two_spelled first [] n h = absurd (err_ok fault.Count n h)
+two_spelled first (v ∷ []) n h = absurd (err_ok fault.Count n h)
+two_spelled first (v ∷ w ∷ []) n h =
+    let a = next_of (number_in v) fault.Number (λ x. ok_or (number_in w) fault.Number >>= λ y. Ok (x, y)) n h in
+    let b = next_of (number_in w) fault.Number (λ y. Ok (a.0, y)) n a.2 in
+    subst (λ (x : ℕ × ℕ). TwoSpelledBy first x.0 x.1 (first ∷ v ∷ w ∷ [])) (ok_ok (a.0, b.0) n b.2)
+    ((v, a.1), (w, b.1), refl)
+two_spelled first (v ∷ w ∷ x ∷ ws) n h = absurd (err_ok fault.Count n h)
+
+-- ---- answers
+
+-- an answer that is an event is spelled by the words
+abbrev pub SpelledAs : {E : Type 0} → (E → List Text → Type 0) → List Text → Text → Result E LineFault → Type 0
+SpelledAs spelled rest first answer = (e : _) → answer ≡ Ok e → spelled e (first ∷ rest)
+
+-- what an event is made of
+pub made : {A E : Type 0} (spelled : E → List Text → Type 0) (rest : List Text) (first : Text) (x : Result A LineFault)
+    (event : A → E)
+    → ((a : A) → x ≡ Ok a → spelled (event a) (first ∷ rest)) → SpelledAs spelled rest first (x >>= λ a. Ok (event a))
+made spelled rest first x event each e h =
+    let a = next_result x (λ a. Ok (event a)) e h in
+    subst (λ (y : _). spelled y (first ∷ rest)) (ok_ok (event a.0) e a.2) (each a.0 a.1)

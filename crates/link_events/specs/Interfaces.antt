@@ -1,0 +1,173 @@
+-- Lines of device interfaces and of trusted memory: as they are read, as they are spelled, and the rows of the table of
+-- faults.
+use Rattle.std.specs.Prelude.{◌≡◌, ◌<◌, ◌≤◌, ◌+◌, ◌-◌, ◌^◌, ◌==◌, ◌&&◌, ℕ, nat_le, nat_lt, not, List, [], ◌∷◌, ◌++◌}
+use Rattle.std.specs.Prelude.{Option, Some, None, is_some, Result, Ok, Err, if◌then◌else◌, codes}
+use Rattle.std.specs.Option.{ok_or, option_and_then, option_map}
+use Rattle.std.specs.Str.{bytes_eq}
+use Rattle.ide_types.specs.Names.{Text}
+use Rattle.interface_words.specs.declared.register.Register.{Register}
+use Rattle.interface_words.specs.declared.register.Register.TheVariants.{Command, CacheLine, Msix, Lnr, Tph, Pasid, Ats}
+use Rattle.interface_words.specs.declared.register.Register.TheVariants.{Bar}
+use Rattle.interface_words.specs.RegisterNames.{width_of, IsAmongSix}
+use Rattle.link_events.specs.Terms.{InterfaceEvent, Loss, LineFault, Word, Count, Number}
+use Rattle.link_events.specs.Terms.ie
+use Rattle.link_events.specs.Words.{number_in}
+use Rattle.link_events.specs.Parts.{◌>>=◌, loss_in, is_loss_long, one_number_in, WordOf, LossSpelledBy, OneSpelledBy}
+use Rattle.link_events.specs.Parts.{WordTest, Row, number_test, word_test, lost_test, number_tests}
+
+-- ---- words
+
+-- the word of a register: of a BAR bar and its digit
+abbrev pub register_word : Register → Text
+register_word Command = codes "command"
+register_word CacheLine = codes "cacheline"
+register_word Msix = codes "msix"
+register_word Lnr = codes "lnr"
+register_word Tph = codes "tph"
+register_word Pasid = codes "pasid"
+register_word Ats = codes "ats"
+register_word (Bar n) = codes "bar" ++ (n + 48) ∷ []
+
+-- the number of a BAR that a digit writes: 0 to 5
+abbrev pub bar_number : ℕ → Option ℕ
+bar_number b = if nat_le 48 b && nat_le b 53 then Some (b - 48) else None
+
+-- bar, and that digit
+abbrev pub bar_in : Text → Option Register
+bar_in (b ∷ a ∷ r ∷ digit ∷ []) =
+    if b == 98 && a == 97 && r == 114 then option_map Bar (bar_number digit) else None
+bar_in _ = None
+
+unfoldable pub register_in : Text → Option Register
+register_in w =
+    if bytes_eq w (codes "command") then Some Command
+    else if bytes_eq w (codes "cacheline") then Some CacheLine
+    else if bytes_eq w (codes "msix") then Some Msix
+    else if bytes_eq w (codes "lnr") then Some Lnr
+    else if bytes_eq w (codes "tph") then Some Tph
+    else if bytes_eq w (codes "pasid") then Some Pasid
+    else if bytes_eq w (codes "ats") then Some Ats
+    else bar_in w
+
+-- a number that the register has room for
+abbrev pub value_in : Register → Text → Option ℕ
+value_in register w =
+    option_and_then (λ n. if nat_lt n (2 ^ width_of register) then Some n else None) (number_in w)
+
+-- how many bytes of memory are shown: 1 to 256
+abbrev pub length_in : Text → Option ℕ
+length_in w = option_and_then (λ n. if nat_le 1 n && nat_le n 256 then Some n else None) (number_in w)
+
+-- ---- as they are read
+
+-- an interface, and what is lost
+abbrev pub asked_in : List Text → Result (ℕ × Option Loss) LineFault
+asked_in (i ∷ rest) =
+    if not (is_loss_long rest) then Err Count
+    else do
+      interface ← ok_or (number_in i) Number
+      lose ← loss_in rest
+      Ok (interface, lose)
+asked_in _ = Err Count
+
+abbrev pub write_in : List Text → Result InterfaceEvent LineFault
+write_in (i ∷ r ∷ w ∷ []) = do
+  interface ← ok_or (number_in i) Number
+  register ← ok_or (register_in r) Word
+  value ← ok_or (value_in register w) Number
+  Ok (ie.Write interface register value)
+write_in _ = Err Count
+
+abbrev pub memory_in : List Text → Result InterfaceEvent LineFault
+memory_in (a ∷ l ∷ []) = do
+  address ← ok_or (number_in a) Number
+  len ← ok_or (length_in l) Number
+  Ok (ie.Memory address len)
+memory_in _ = Err Count
+
+-- what the manager does to an interface; nothing where the first word is none of theirs
+abbrev pub asking_event_of : Text → List Text → Option (Result InterfaceEvent LineFault)
+asking_event_of first rest =
+    if bytes_eq first (codes "lock") then Some (asked_in rest >>= λ a. Ok (ie.Lock a.0 a.1))
+    else if bytes_eq first (codes "report") then Some (asked_in rest >>= λ a. Ok (ie.Report a.0 a.1))
+    else if bytes_eq first (codes "start") then Some (asked_in rest >>= λ a. Ok (ie.Start a.0 a.1))
+    else if bytes_eq first (codes "halt") then Some (asked_in rest >>= λ a. Ok (ie.Halt a.0 a.1))
+    else if bytes_eq first (codes "state") then Some (asked_in rest >>= λ a. Ok (ie.State a.0 a.1))
+    else None
+
+-- an event on an interface or on memory; nothing where the first word is none of theirs
+abbrev pub interface_event_of : Text → List Text → Option (Result InterfaceEvent LineFault)
+interface_event_of first rest =
+    if bytes_eq first (codes "view") then Some (one_number_in rest >>= λ n. Ok (ie.View n))
+    else if bytes_eq first (codes "write") then Some (write_in rest)
+    else if bytes_eq first (codes "flr") then Some (one_number_in rest >>= λ n. Ok (ie.Flr n))
+    else if bytes_eq first (codes "firmware") then Some (one_number_in rest >>= λ n. Ok (ie.Firmware n))
+    else if bytes_eq first (codes "memory") then Some (memory_in rest)
+    else asking_event_of first rest
+
+-- ---- as they are spelled
+
+abbrev pub AskedSpelledBy : Text → ℕ → Option Loss → List Text → Type 0
+AskedSpelledBy first interface lose words =
+    (i : WordOf number_in interface) × (rest : List Text) × LossSpelledBy lose rest × (words ≡ first ∷ i.0 ∷ rest)
+
+-- the words spell the event: a value has room in its register, and 1 to 256 bytes are shown
+abbrev pub InterfaceSpelledBy : InterfaceEvent → List Text → Type 0
+InterfaceSpelledBy (ie.Lock interface lose) words = AskedSpelledBy (codes "lock") interface lose words
+InterfaceSpelledBy (ie.Report interface lose) words = AskedSpelledBy (codes "report") interface lose words
+InterfaceSpelledBy (ie.Start interface lose) words = AskedSpelledBy (codes "start") interface lose words
+InterfaceSpelledBy (ie.Halt interface lose) words = AskedSpelledBy (codes "halt") interface lose words
+InterfaceSpelledBy (ie.State interface lose) words = AskedSpelledBy (codes "state") interface lose words
+InterfaceSpelledBy (ie.View interface) words = OneSpelledBy (codes "view") interface words
+InterfaceSpelledBy (ie.Write interface register value) words =
+    (i : WordOf number_in interface) × (w : WordOf number_in value) × IsAmongSix register
+    × (value < 2 ^ width_of register) × (words ≡ codes "write" ∷ i.0 ∷ register_word register ∷ w.0 ∷ [])
+InterfaceSpelledBy (ie.Flr interface) words = OneSpelledBy (codes "flr") interface words
+InterfaceSpelledBy (ie.Firmware interface) words = OneSpelledBy (codes "firmware") interface words
+InterfaceSpelledBy (ie.Memory address len) words =
+    (a : WordOf number_in address) × (l : WordOf number_in len) × (1 ≤ len) × (len ≤ 256)
+    × (words ≡ codes "memory" ∷ a.0 ∷ l.0 ∷ [])
+
+-- A value that is written has room in its register, which is one that an interface may have, and 1 to 256 bytes of
+-- memory are shown.
+abbrev pub IsAllowedInterface : InterfaceEvent → Type 0
+IsAllowedInterface (ie.Write interface register value) = IsAmongSix register × (value < 2 ^ width_of register)
+IsAllowedInterface (ie.Memory address len) = (1 ≤ len) × (len ≤ 256)
+IsAllowedInterface _ = Unit {0}
+
+-- ---- the rows of the table
+
+abbrev pub register_test : WordTest
+register_test = record { is_spelled = λ w. is_some (register_in w); fault = Word }
+
+-- a number that the register of that word has room for
+abbrev pub value_test : Text → WordTest
+value_test register =
+    record {
+      is_spelled = λ w. is_some (option_and_then (λ r. value_in r w) (register_in register));
+      fault = Number;
+    }
+
+abbrev pub length_test : WordTest
+length_test = record { is_spelled = λ w. is_some (length_in w); fault = Number }
+
+abbrev pub asked_tests : List Text → Option (List WordTest)
+asked_tests (i ∷ []) = Some (number_test ∷ [])
+asked_tests (i ∷ a ∷ n ∷ w ∷ []) = Some (number_test ∷ word_test (codes "lose") ∷ number_test ∷ lost_test ∷ [])
+asked_tests _ = None
+
+abbrev pub write_tests : List Text → Option (List WordTest)
+write_tests (i ∷ r ∷ w ∷ []) = Some (number_test ∷ register_test ∷ value_test r ∷ [])
+write_tests _ = None
+
+abbrev pub memory_tests : List Text → Option (List WordTest)
+memory_tests (a ∷ l ∷ []) = Some (number_test ∷ length_test ∷ [])
+memory_tests _ = None
+
+-- ahead of the rows of other events
+abbrev pub interface_rows : List Row → List Row
+interface_rows others =
+    (codes "view", number_tests) ∷ (codes "write", write_tests) ∷ (codes "flr", number_tests)
+    ∷ (codes "firmware", number_tests) ∷ (codes "memory", memory_tests)
+    ∷ (codes "lock", asked_tests) ∷ (codes "report", asked_tests) ∷ (codes "start", asked_tests)
+    ∷ (codes "halt", asked_tests) ∷ (codes "state", asked_tests) ∷ others

@@ -1,0 +1,45 @@
+//! Words that several families of events have: numbers, and what is lost.
+
+ghost use Rattle.std.specs.Prelude.{◌≡◌, map};
+ghost use Rattle.link_events.specs.Parts.{loss_in, one_number_in, two_numbers_in};
+
+use crate::words::{lost_at, number_at};
+use crate::{LineFault, Loss};
+
+// What is lost, by the last words of an operation.
+pub(crate) fn loss(words: &[&[u8]]) -> Result<Option<Loss>, LineFault>
+    ensures { result ≡ loss_in (map (λ w. w.now) words.now) }
+{
+    match words {
+        [] => Ok(None),
+        [lose, exchange, lost] => {
+            if *lose != b"lose".as_slice() {
+                return Err(LineFault::Word);
+            }
+            let exchange = number_at(exchange)?;
+            let lost = lost_at(lost)?;
+            Ok(Some(Loss { exchange, lost }))
+        }
+        _ => Err(LineFault::Count),
+    }
+}
+
+pub(crate) fn one_number(words: &[&[u8]]) -> Result<u64, LineFault>
+    ensures { result ≡ one_number_in (map (λ w. w.now) words.now) }
+{
+    let [number] = words else {
+        return Err(LineFault::Count);
+    };
+    number_at(number)
+}
+
+pub(crate) fn two_numbers(words: &[&[u8]]) -> Result<(u64, u64), LineFault>
+    ensures { result ≡ two_numbers_in (map (λ w. w.now) words.now) }
+{
+    let [first, second] = words else {
+        return Err(LineFault::Count);
+    };
+    let first = number_at(first)?;
+    let second = number_at(second)?;
+    Ok((first, second))
+}

@@ -1,0 +1,55 @@
+-- The words of what events on device interfaces and on trusted memory come to.
+use Rattle.std.specs.Prelude.{◌<◌, ◌^◌, List, [], ◌∷◌, codes}
+use Rattle.std.specs.Fmt.{decimal}
+use Rattle.hex.specs.Hex.{encode_lower, IsBytes}
+use Rattle.ide_types.specs.Names.{Text}
+use Rattle.interface_words.specs.ViewNames.{view_word}
+use Rattle.interface_words.specs.declared.verdict.InterfaceVerdict.{InterfaceVerdict}
+use Rattle.interface_words.specs.declared.verdict.InterfaceVerdict.TheVariants as iv
+use Rattle.link_verdicts.specs.Words.{bytes_word}
+
+abbrev pub interface_words : InterfaceVerdict → List Text
+interface_words (iv.Locked interface nonce) = codes "locked" ∷ decimal interface ∷ encode_lower nonce ∷ []
+interface_words (iv.Reported interface report) = codes "reported" ∷ decimal interface ∷ bytes_word report ∷ []
+interface_words (iv.Started interface draw) = codes "started" ∷ decimal interface ∷ codes "draw" ∷ decimal draw ∷ []
+interface_words (iv.Halted interface needs) = codes "halted" ∷ decimal interface ∷ codes "needs" ∷ decimal needs ∷ []
+interface_words (iv.State interface state) = codes "state" ∷ decimal interface ∷ decimal state ∷ []
+interface_words (iv.View interface view) = codes "view" ∷ decimal interface ∷ view_word view ∷ []
+interface_words (iv.Written interface state) = codes "written" ∷ decimal interface ∷ decimal state ∷ []
+interface_words (iv.Flr interface state) = codes "flr" ∷ decimal interface ∷ decimal state ∷ []
+interface_words (iv.Firmware interface state) = codes "firmware" ∷ decimal interface ∷ decimal state ∷ []
+interface_words (iv.Memory bytes) = codes "memory" ∷ bytes_word bytes ∷ []
+interface_words (iv.RefusedWrongState view) = codes "refused" ∷ codes "wrongstate" ∷ view_word view ∷ []
+interface_words iv.RefusedNotReported = codes "refused" ∷ codes "notreported" ∷ []
+interface_words (iv.RefusedRefreshFirst draw needed) = codes "refused" ∷ codes "refreshfirst" ∷ decimal draw
+    ∷ decimal needed ∷ []
+
+-- of an operation that its manager refused
+abbrev pub IsInterfaceRefusal : InterfaceVerdict → Type 0
+IsInterfaceRefusal (iv.RefusedWrongState view) = Unit {0}
+IsInterfaceRefusal iv.RefusedNotReported = Unit {0}
+IsInterfaceRefusal (iv.RefusedRefreshFirst draw needed) = Unit {0}
+IsInterfaceRefusal _ = ⊥
+
+-- shows bytes: of a nonce, of a report or of memory
+abbrev pub ShowsBytes : InterfaceVerdict → Type 0
+ShowsBytes (iv.Locked interface nonce) = Unit {0}
+ShowsBytes (iv.Reported interface report) = Unit {0}
+ShowsBytes (iv.Memory bytes) = Unit {0}
+ShowsBytes _ = ⊥
+
+-- each number has at most 64 bits, and each byte 8
+abbrev pub FitsInterface : InterfaceVerdict → Type 0
+FitsInterface (iv.Locked interface nonce) = (interface < 2 ^ 64) × IsBytes nonce
+FitsInterface (iv.Reported interface report) = (interface < 2 ^ 64) × IsBytes report
+FitsInterface (iv.Started interface draw) = (interface < 2 ^ 64) × (draw < 2 ^ 64)
+FitsInterface (iv.Halted interface needs) = (interface < 2 ^ 64) × (needs < 2 ^ 64)
+FitsInterface (iv.State interface state) = (interface < 2 ^ 64) × (state < 2 ^ 64)
+FitsInterface (iv.View interface view) = interface < 2 ^ 64
+FitsInterface (iv.Written interface state) = (interface < 2 ^ 64) × (state < 2 ^ 64)
+FitsInterface (iv.Flr interface state) = (interface < 2 ^ 64) × (state < 2 ^ 64)
+FitsInterface (iv.Firmware interface state) = (interface < 2 ^ 64) × (state < 2 ^ 64)
+FitsInterface (iv.Memory bytes) = IsBytes bytes
+FitsInterface (iv.RefusedWrongState view) = Unit {0}
+FitsInterface iv.RefusedNotReported = Unit {0}
+FitsInterface (iv.RefusedRefreshFirst draw needed) = (draw < 2 ^ 64) × (needed < 2 ^ 64)

@@ -1,0 +1,269 @@
+-- The verdicts of device interfaces fit: an interface has one of few numbers, a nonce is of the plan, a report is made
+-- of numbers' bytes and of the plan's, and draws are no more than events.
+use Rattle.std.proofs.Common.{◌≡◌, ℕ, ◌+◌, ◌-◌, ◌<◌, ◌≤◌, ◌^◌, ◌&&◌, Bool, true, false, nat_le, nat_lt, List, [], ◌∷◌}
+use Rattle.std.proofs.Common.{length, Option, Some, None, Result, Ok, Err, if◌then◌else◌, refl, sym, subst, arith}
+use Rattle.std.specs.Option.{option_map}
+use Rattle.std.proofs.Math.Nat.{div-le_self}
+use Rattle.std.proofs.lemmas.Bool.{leb-true}
+use Rattle.hex.specs.Hex.{IsBytes}
+use Rattle.ide_plan.specs.declared.plan.Plan.{Plan}
+use Rattle.ide_plan.specs.declared.interface.InterfacePlan.{InterfacePlan}
+use Rattle.ide_plan.specs.Fits.{AreBytes, FitsPlan}
+use Rattle.interface_words.specs.declared.view.View.{View}
+use Rattle.interface_words.specs.declared.view.View.TheVariants as view
+use Rattle.interface_words.specs.declared.verdict.InterfaceVerdict.TheVariants as iv
+use Rattle.link_events.specs.declared.event.Event.{Event}
+use Rattle.link_events.specs.declared.event.Event.TheVariants as event
+use Rattle.link_events.specs.declared.event.InterfaceEvent.{InterfaceEvent}
+use Rattle.link_events.specs.declared.event.InterfaceEvent.TheVariants as ie
+use Rattle.link_events.specs.declared.event.Loss.{Loss}
+use Rattle.link_verdicts.specs.declared.verdict.Verdict.{Verdict}
+use Rattle.link_verdicts.specs.declared.verdict.Verdict.TheVariants as v
+use Rattle.link_verdicts.specs.Apart.{Fits}
+use Rattle.tdisp_codec.specs.Reports.{Report, report_spelling}
+use Rattle.tdisp_codec.proofs.Octets.{AreOctets, are_bytes, octets, joins, two_bytes, four_bytes, zero_bytes_by, IsByte}
+use Rattle.tdisp_codec.proofs.RangeBytes.{range_octets}
+use Rattle.std.proofs.lemmas.List.Elements.{All-from_recursion}
+use Rattle.tdi_state.specs.declared.states.Lock.{Lock}
+use Rattle.tdi_state.specs.declared.states.TdiState.{TdiState}
+use Rattle.tdi_state.specs.declared.states.TdiState.TheVariants.{ConfigUnlocked, ConfigLocked, Run, Error}
+use Rattle.tdi_state.specs.Kept.{kept_report, interface_report}
+use Rattle.tdi_state.specs.Machine.{state_code, lock_of, nonce_answer, start_answer}
+use Rattle.tdi_state.proofs.KeptReports.{kept_short}
+use Rattle.key_laws.specs.History.{History, op_of, draws}
+use Rattle.key_laws.specs.Due.{lost_at}
+use Rattle.interface_states.specs.Sites.{Site, site_at}
+use Rattle.interface_states.specs.Views.{Managed, on_lock, on_report, on_start, on_halt, on_state, on_operation}
+use Rattle.interface_states.specs.Views.{managed_after, managed, stream_draw, number_in}
+use Rattle.interface_states.specs.Due.{Standing, standing_at, unless_lost, if_unlocked, locked_as, lock_due}
+use Rattle.interface_states.specs.Due.{if_locked_or_running, portions, reported_as, if_locked, if_reported, started_as}
+use Rattle.interface_states.specs.Due.{start_due, asked_due, interface_due, on_site, with_number, due as own_due}
+use Rattle.link_history.specs.Cause.{CauseLaw}
+use Rattle.text_laws.proofs.Draws.{few_draws}
+use Rattle.text_laws.proofs.OperationsFit.{lost_fits, secure_fits, fits_if, refresh_due_fits}
+use Rattle.text_laws.proofs.SitesFit.{SiteFits, site_fits, nonce_bytes}
+
+-- ---- what stands where an interface is asked
+
+record StandingFits (s : Standing) : Type 0 where
+  nonce : (nonce : List ℕ) → s.around.drawn ≡ Some nonce → IsBytes nonce
+  needs : s.managed.needs < 2 ^ 64
+  draw : s.draw < 2 ^ 64
+  drawn : s.drawn < 2 ^ 64
+
+-- ---- what may be lost on the way
+
+unless_fits : (loss : Option Loss) (last : ℕ) (w : Verdict) → last < 2 ^ 64 → Fits w → Fits (unless_lost loss last w)
+unless_fits None last w few fits = fits
+unless_fits (Some loss) last w few fits = by (nat_le 1 loss.exchange) (nat_le loss.exchange last) refl
+  where
+    by : (low high : Bool) → nat_le loss.exchange last ≡ high
+        → Fits (if low && high then lost_at loss.lost loss.exchange else w)
+    by true true is = lost_fits loss.lost loss.exchange (omega (arith, leb-true loss.exchange last is, few))
+    by true false is = fits
+    by false high is = fits
+
+-- ---- lock
+
+nonce_answer_fits : (x : Site) (drawn : Option (List ℕ)) → SiteFits x
+    → ((nonce : List ℕ) → drawn ≡ Some nonce → IsBytes nonce) → Fits (locked_as x (nonce_answer drawn))
+nonce_answer_fits x None site bytes = (omega arith, omega arith)
+nonce_answer_fits x (Some nonce) site bytes = (site.number, bytes nonce refl)
+
+answered_fits : (x : Site) (b c d : Bool) (answer : Result (List ℕ) ℕ) → Fits (locked_as x answer)
+    → Fits (locked_as x (if b then Err 4 else if c then Err 1 else if d then Err 260 else answer))
+answered_fits x true c d answer fits = (omega arith, omega arith)
+answered_fits x false true d answer fits = (omega arith, omega arith)
+answered_fits x false false true answer fits = (omega arith, omega arith)
+answered_fits x false false false answer fits = fits
+
+unlocked_fits : (view : View) (w : Verdict) → Fits w → Fits (if_unlocked view w)
+unlocked_fits view.Unlocked w fits = fits
+unlocked_fits view.Locked w fits = tt
+unlocked_fits view.Running w fits = tt
+unlocked_fits view.Doubt w fits = tt
+unlocked_fits view.Broken w fits = tt
+
+lock_fits : (x : Site) (s : Standing) (loss : Option Loss) → SiteFits x → StandingFits s → Fits (lock_due x s loss)
+lock_fits x s loss site stands =
+    unlocked_fits s.managed.view _
+    (secure_fits s.host _
+    (unless_fits loss 3 _ (omega arith)
+    (answered_fits x _ _ _ (nonce_answer s.around.drawn) (nonce_answer_fits x s.around.drawn site stands.nonce))))
+
+-- ---- report
+
+zeros : AreOctets (0 ∷ 0 ∷ [])
+zeros = octets (0 ∷ 0 ∷ []) (All-from_recursion IsByte (0 ∷ 0 ∷ []) (zero_bytes_by 2))
+
+spelling_octets : (r : Report) → AreBytes r.device → AreOctets (report_spelling r)
+spelling_octets r device =
+    joins (two_bytes r.info) (joins zeros (joins (two_bytes r.msix) (joins (two_bytes r.lnr) (joins (four_bytes r.tph)
+    (joins (four_bytes (length r.ranges))
+    (joins (range_octets r.ranges) (joins (four_bytes (length r.device)) (octets r.device device))))))))
+
+report_bytes : (plan : InterfacePlan) (lock : Lock) → AreBytes plan.info → IsBytes (kept_report plan lock)
+report_bytes plan lock info = are_bytes
+    (spelling_octets (interface_report plan lock.registers lock.flags lock.offset) info)
+
+few_portions : (size len : ℕ) → size ≤ 65535 → len ≤ 1140 → portions size len < 2 ^ 64
+few_portions size len small short = omega (arith, div-le_self (len + size - 1) size, small, short)
+
+reported_fits : (plan : Plan) → FitsPlan plan → (x : Site) (loss : Option Loss) (o : Option Lock) → SiteFits x
+    → Fits (reported_as plan x loss (option_map (kept_report x.plan) o))
+reported_fits plan fits x loss None site = unless_fits loss 1 _ (omega arith) (omega arith, omega arith)
+reported_fits plan fits x loss (Some lock) site =
+    unless_fits loss _ _ (few_portions plan.portion (length (kept_report x.plan lock)) fits.portion_most
+    (kept_short x.plan lock site.tdi)) (site.number, report_bytes x.plan lock site.info)
+
+viewed_fits : (view : View) (w : Verdict) → Fits w → Fits (if_locked_or_running view w)
+viewed_fits view.Unlocked w fits = tt
+viewed_fits view.Locked w fits = fits
+viewed_fits view.Running w fits = fits
+viewed_fits view.Doubt w fits = tt
+viewed_fits view.Broken w fits = tt
+
+-- ---- start
+
+locked_fits : (view : View) (w : Verdict) → Fits w → Fits (if_locked view w)
+locked_fits view.Unlocked w fits = tt
+locked_fits view.Locked w fits = fits
+locked_fits view.Running w fits = tt
+locked_fits view.Doubt w fits = tt
+locked_fits view.Broken w fits = tt
+
+shown_fits : (b : Bool) (w : Verdict) → Fits w → Fits (if_reported b w)
+shown_fits true w fits = fits
+shown_fits false w fits = tt
+
+started_fits : (x : Site) (draw : ℕ) (answer : Result (Unit {0}) ℕ) → SiteFits x → draw < 2 ^ 64
+    → ((code : ℕ) → answer ≡ Err code → code < 2 ^ 64) → Fits (started_as x draw answer)
+started_fits x draw (Ok done) site few codes = (site.number, few)
+started_fits x draw (Err code) site few codes = (omega arith, codes code refl)
+
+start_code : (s : TdiState) (nonce : List ℕ) (code : ℕ) → start_answer s nonce ≡ Err code → code < 2 ^ 64
+start_code s nonce code is = grind arith
+
+start_fits : (x : Site) (s : Standing) (loss : Option Loss) → SiteFits x → StandingFits s → Fits (start_due x s loss)
+start_fits x s loss site stands =
+    let end = started_fits x s.draw (start_answer s.tdi.state s.managed.nonce) site stands.draw
+    (start_code s.tdi.state s.managed.nonce) in
+    locked_fits s.managed.view _ (shown_fits s.managed.reported _ (secure_fits s.host _
+    (fits_if (nat_lt s.draw s.managed.needs) (v.Interface (iv.RefusedRefreshFirst s.draw s.managed.needs)) _
+    (stands.draw, stands.needs) (unless_fits loss 1 _ (omega arith) end))))
+
+-- ---- halt, and what shows a state
+
+needs_fit : (m : Managed) (drawn : ℕ) (b : Bool) → m.needs < 2 ^ 64 → drawn < 2 ^ 64
+    → (if b then drawn else m.needs) < 2 ^ 64
+needs_fit m drawn true needs few = few
+needs_fit m drawn false needs few = needs
+
+code_fits : (s : TdiState) → state_code s < 2 ^ 64
+code_fits ConfigUnlocked = omega arith
+code_fits (ConfigLocked lock nonce) = omega arith
+code_fits (Run lock) = omega arith
+code_fits Error = omega arith
+
+asked_fits : (plan : Plan) → FitsPlan plan → (x : Site) (s : Standing) (e : InterfaceEvent) → SiteFits x
+    → StandingFits s → Fits (asked_due plan x s e)
+asked_fits plan fits x s (ie.Lock i loss) site stands = lock_fits x s loss site stands
+asked_fits plan fits x s (ie.Report i loss) site stands = viewed_fits s.managed.view _
+    (reported_fits plan fits x loss (lock_of s.tdi.state) site)
+asked_fits plan fits x s (ie.Start i loss) site stands = start_fits x s loss site stands
+asked_fits plan fits x s (ie.Halt i loss) site stands = unless_fits loss 1 _ (omega arith)
+    (site.number, needs_fit s.managed s.drawn s.managed.started stands.needs stands.drawn)
+asked_fits plan fits x s (ie.State i loss) site stands = unless_fits loss 1 _ (omega arith)
+    (site.number, code_fits s.tdi.state)
+asked_fits plan fits x s (ie.View i) site stands = site.number
+asked_fits plan fits x s (ie.Write i register value) site stands = fits_if _ (v.Interface (iv.Written x.number _))
+    v.Nothing (site.number, code_fits _) tt
+asked_fits plan fits x s (ie.Flr i) site stands = (site.number, code_fits _)
+asked_fits plan fits x s (ie.Firmware i) site stands = (site.number, code_fits _)
+asked_fits plan fits x s (ie.Memory at len) site stands = tt
+
+-- ---- draws that are asked for
+
+lock_same : (m : Managed) (w : Verdict) → (on_lock m w).needs ≡ m.needs
+lock_same m w = grind arith
+
+report_same : (m : Managed) (w : Verdict) → (on_report m w).needs ≡ m.needs
+report_same m w = grind arith
+
+start_same : (m : Managed) (w : Verdict) → (on_start m w).needs ≡ m.needs
+start_same m w = grind arith
+
+state_same : (m : Managed) (w : Verdict) → (on_state m w).needs ≡ m.needs
+state_same m w = grind arith
+
+halt_needs : (drawn : ℕ) (m : Managed) (w : Verdict) (n : ℕ) → m.needs ≤ n → drawn ≤ n → (on_halt drawn m w).needs ≤ n
+halt_needs drawn m w n few made = grind arith
+
+operation_needs : (drawn : ℕ) (e : InterfaceEvent) (w : Verdict) (m : Managed) (n : ℕ) → m.needs ≤ n → drawn ≤ n
+    → (on_operation drawn e w m).needs ≤ n
+operation_needs drawn (ie.Lock i loss) w m n few made = omega (arith, lock_same m w, few)
+operation_needs drawn (ie.Report i loss) w m n few made = omega (arith, report_same m w, few)
+operation_needs drawn (ie.Start i loss) w m n few made = omega (arith, start_same m w, few)
+operation_needs drawn (ie.Halt i loss) w m n few made = halt_needs drawn m w n few made
+operation_needs drawn (ie.State i loss) w m n few made = omega (arith, state_same m w, few)
+operation_needs drawn _ w m n few made = few
+
+needs_if : (b : Bool) (k m : Managed) (n : ℕ) → k.needs ≤ n → m.needs ≤ n → (if b then k else m).needs ≤ n
+needs_if true k m n one two = one
+needs_if false k m n one two = two
+
+-- what one event makes of the draw that an interface needs
+one_needs : (h : History) (x : Site) (e : Event) (w : Verdict) (m : Managed) (n : ℕ) → m.needs ≤ n → draws h ≤ n
+    → (managed_after (op_of h) (draws h) x e w m).needs ≤ n
+one_needs h x (event.Interface e) w m n few made = needs_if _ (on_operation (draws h) e w m) m n
+    (operation_needs (draws h) e w m n few made) few
+one_needs h x (event.Stop link stream loss) w m n few made = needs_if _ _ m n few few
+one_needs h x (event.Reset link) (v.Reset l) m n few made = needs_if _ _ m n few few
+one_needs h x e w m n few made = few
+
+needs_few : (h : History) (x : Site) → (managed h x).needs ≤ length h
+unfolding managed
+needs_few [] x = omega arith
+needs_few ((e, w) ∷ h) x = omega (arith, one_needs h x e w (managed h x) (length h) (needs_few h x) (few_draws h))
+
+number_if : (b : Bool) (m n : ℕ) → m < 2 ^ 64 → n < 2 ^ 64 → (if b then m else n) < 2 ^ 64
+number_if true m n one two = one
+number_if false m n one two = two
+
+draw_fits : (plan : Plan) → FitsPlan plan → (h : History) → CauseLaw plan h → length h < 2 ^ 28 → (link stream : ℕ)
+    → stream_draw h link stream < 2 ^ 64
+unfolding stream_draw
+draw_fits plan fits [] cause few link stream = omega arith
+draw_fits plan fits ((event.Establish l s loss, w) ∷ h) cause few link stream =
+    number_if _ (draws h) (stream_draw h link stream) (omega (arith, few, few_draws h))
+    (draw_fits plan fits h cause.1 (omega (arith, few)) link stream)
+draw_fits plan fits ((event.Refresh l s loss, v.Refreshed a b j) ∷ h) cause few link stream =
+    let shown = subst Fits (sym cause.0) (refresh_due_fits plan fits h (omega (arith, few)) l s loss) in
+    number_if _ j (stream_draw h link stream) shown.2 (draw_fits plan fits h cause.1 (omega (arith, few)) link stream)
+draw_fits plan fits (_ ∷ h) cause few link stream = draw_fits plan fits h cause.1 (omega (arith, few)) link stream
+
+standing_fits : (plan : Plan) → FitsPlan plan → (h : History) → CauseLaw plan h → length h < 2 ^ 28 → (x : Site)
+    → StandingFits (standing_at plan h x)
+standing_fits plan fits h cause few x = record {
+  nonce = λ nonce is. nonce_bytes plan fits x.link _ nonce is;
+  needs = omega (arith, few, needs_few h x);
+  draw = draw_fits plan fits h cause few x.link x.plan.stream;
+  drawn = omega (arith, few, few_draws h);
+}
+
+-- ---- events
+
+pub interface_fits : (plan : Plan) → FitsPlan plan → (h : History) → CauseLaw plan h → length h < 2 ^ 28
+    → (e : InterfaceEvent) (given : Verdict) → Fits given → Fits (own_due plan h e given)
+unfolding own_due
+interface_fits plan fits h cause few e given known = by_number (number_in e)
+  where
+    by_site : (o : Option Site) → ((x : Site) → o ≡ Some x → SiteFits x)
+        → Fits (on_site (λ x. interface_due plan h x e) o)
+    by_site None site = tt
+    by_site (Some x) site = asked_fits plan fits x (standing_at plan h x) e (site x refl)
+        (standing_fits plan fits h cause few x)
+
+    by_number : (o : Option ℕ) → Fits (with_number plan h e o given)
+    by_number None = known
+    by_number (Some i) = by_site (site_at plan i) (site_fits plan fits i)
