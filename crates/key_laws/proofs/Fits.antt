@@ -2,14 +2,20 @@
 -- state before it to keys that fit the state after it. A key rises, or in a stop falls, with the exchanges that were
 -- acknowledged, and the end is split by whether the last one was. The hard case is a lost reply: the device may be one
 -- exchange ahead of the manager, so a state leaves both open, and the exchange may come again.
-use Rattle.key_laws.proofs.Terms.{◌≡◌, ℕ, ◌+◌, ◌<◌, ◌≤◌, Bool, true, false, List, [], ◌∷◌, ◌++◌, refl, subst, arith, nat_lt, not, if◌then◌else◌, SubKind, Side, Host, Device, Operation, Place, lane, Touch, Stop, Clear, Off, key_in}
-use Rattle.key_laws.proofs.Terms.{refuses, is_open, keys, Op, Idle, Establishing, Up, Refreshing, Stopping, Work, Reach, work, last_of, op_after, op_ended, op_standing, is_within, when, behind, program_at, go_at, from_at, below_at, keyed}
+use Rattle.key_laws.proofs.Terms.{◌≡◌, ℕ, ◌+◌, ◌<◌, ◌≤◌, Bool, true, false, List, [], ◌∷◌, ◌++◌, refl, subst, arith}
+use Rattle.key_laws.proofs.Terms.{nat_lt, not, if◌then◌else◌, SubKind, Side, Host, Device, Operation, Place, lane}
+use Rattle.key_laws.proofs.Terms.{Touch, Stop, Clear, Off, key_in}
+use Rattle.key_laws.proofs.Terms.{refuses, is_open, keys, Op, Idle, Establishing, Up, Refreshing, Stopping, Work, Reach}
+use Rattle.key_laws.proofs.Terms.{work, last_of, op_after, op_ended, op_standing, is_within, when, behind, program_at}
+use Rattle.key_laws.proofs.Terms.{go_at, from_at, below_at, keyed}
 use Rattle.key_laws.proofs.Terms.{stopped, uses, NeverFalls, not-not, nat_tests}
 use Rattle.link_verdicts.specs.declared.verdict.Operation.TheVariants as op
 use Rattle.key_laws.proofs.Tests.{true-lt, false-lt}
-use Rattle.key_laws.proofs.Shapes.{Marks, marks, started, Shape, Bare, Alone, Both, keys_of, used, IsAt, without, stops, clears}
+use Rattle.key_laws.proofs.Shapes.{Marks, marks, started, Shape, Bare, Alone, Both, keys_of, used, IsAt, without, stops}
+use Rattle.key_laws.proofs.Shapes.{clears}
 use Rattle.key_laws.proofs.Touches.{AllCome}
-use Rattle.key_laws.proofs.Stages.{Rest, unkeyed, old_alone, old_both, Full, alone, both, Rising, before, At, Lands, Spans, rises, comes_if}
+use Rattle.key_laws.proofs.Stages.{Rest, unkeyed, old_alone, old_both, Full, alone, both, Rising, before, At, Lands}
+use Rattle.key_laws.proofs.Stages.{Spans, rises, comes_if}
 
 -- in a stop the host's port has no key left, and the device a key in no set whose STOP was acknowledged
 abbrev pub Halting : Side → ℕ → ℕ → Shape → Type 0
@@ -18,9 +24,11 @@ Halting Device l n sh = (1 + l < n → key_in (keys_of sh) false ≡ Off) × (7 
 
 abbrev pub Fits : Op → ℕ → Marks → Place → Shape → Type 0
 Fits Idle top u p sh = sh ≡ Bare
-Fits (Establishing j n) top u p sh = (j < top) × (n ≤ 13) × Rising false false j (program_at op.Establish p) (go_at op.Establish p) n u sh
+Fits (Establishing j n) top u p sh = (j < top) × (n ≤ 13) × Rising false false j (program_at op.Establish p)
+    (go_at op.Establish p) n u sh
 Fits (Up k j) top u p sh = (j < top) × Full k j true sh
-Fits (Refreshing k j n) top u p sh = (j < top) × (1 ≤ n) × (n ≤ 12) × Rising true k j (program_at op.Refresh p) (go_at op.Refresh p) n u sh
+Fits (Refreshing k j n) top u p sh = (j < top) × (1 ≤ n) × (n ≤ 12)
+    × Rising true k j (program_at op.Refresh p) (go_at op.Refresh p) n u sh
 Fits (Stopping n) top u p sh = (n ≤ 12) × Halting p.side (lane p) n sh
 
 -- used draws are below the number of draws so far, and never fell
@@ -70,77 +78,118 @@ pub record Reached (first last : ℕ) (r : Reach) : Type 0 where
   pub within_one : r.carried ≤ r.acknowledged + 1
   pub at_most : r.acknowledged ≤ last + 1
 
-comes_to : (p : Place) (w : Work) (r : Reach) (last : ℕ) → Reached w.first last r → Spans (from_at w p) r.acknowledged (below_at r p)
+comes_to : (p : Place) (w : Work) (r : Reach) (last : ℕ) → Reached w.first last r
+    → Spans (from_at w p) r.acknowledged (below_at r p)
 comes_to p w r last reached = grind arith
 
 -- ---- an event of an establish or a refresh
 
 -- no KEY_PROG was acknowledged that the place refuses
 abbrev pub TakesKey : Work → Reach → Place → List Touch → Type 0
-TakesKey w r p ts = from_at w p ≤ program_at w.operation p → program_at w.operation p < r.acknowledged → refuses p.sends (keys p.sends ts) w.set ≡ false
+TakesKey w r p ts = from_at w p ≤ program_at w.operation p → program_at w.operation p < r.acknowledged
+    → refuses p.sends (keys p.sends ts) w.set ≡ false
 
-below_keyed : (w : Work) (r : Reach) (p : Place) (ts : List Touch) (top : ℕ) → w.draw < top → Below ts top → Below (behind ts (keyed w r p)) top
+below_keyed : (w : Work) (r : Reach) (p : Place) (ts : List Touch) (top : ℕ) → w.draw < top → Below ts top
+    → Below (behind ts (keyed w r p)) top
 unfolding used started
 below_keyed w r p ts top lt below = grind arith
 
-pub rising_done : (r k : Bool) (j a b n : ℕ) (u : Marks) (sh : Shape) → a < b → b < n → Rising r k j a b n u sh → Full k j r sh
+pub rising_done : (r k : Bool) (j a b n : ℕ) (u : Marks) (sh : Shape) → a < b → b < n → Rising r k j a b n u sh
+    → Full k j r sh
 rising_done r k j a b n u sh lt past rising = grind arith
 
 pub full_more : (r k : Bool) (j : ℕ) (sh : Shape) → Full k j r sh → Full k j true sh
 full_more r k j sh f = grind (arith, alone, both)
 
 -- where an operation ended or stands
-turned_by_end : (w : Work) (r : Reach) (top : ℕ) (p : Place) (ts more : List Touch) (P : Shape → Type 0) → Lands p.sends ts more P → Below (behind ts more) top
+turned_by_end : (w : Work) (r : Reach) (top : ℕ) (p : Place) (ts more : List Touch) (P : Shape → Type 0)
+    → Lands p.sends ts more P → Below (behind ts more) top
     → ((sh : Shape) → last_of w.operation < r.acknowledged → P sh → Fits (op_ended w) top (marks (behind ts more)) p sh)
-    → ((sh : Shape) → r.acknowledged ≤ last_of w.operation → P sh → Fits (op_standing w r.acknowledged) top (marks (behind ts more)) p sh)
+    → ((sh : Shape) → r.acknowledged ≤ last_of w.operation → P sh
+    → Fits (op_standing w r.acknowledged) top (marks (behind ts more)) p sh)
     → Turned (op_after w r) top p ts more
-turned_by_end w r top p ts more P lands below ended standing = record { now = by_test (nat_lt (last_of w.operation) r.acknowledged) refl; come = lands.come }
+turned_by_end w r top p ts more P lands below ended standing = record
+    { now = by_test (nat_lt (last_of w.operation) r.acknowledged) refl; come = lands.come }
   where
     by_test : (b : Bool) → nat_lt (last_of w.operation) r.acknowledged ≡ b
         → FitsAt (if b then op_ended w else op_standing w r.acknowledged) top p (behind ts more)
-    by_test true e = record { shape = lands.at.shape; is = lands.at.is; fits = ended lands.at.shape (true-lt _ _ e) lands.at.fits; below = below }
-    by_test false e = record { shape = lands.at.shape; is = lands.at.is; fits = standing lands.at.shape (false-lt _ _ e) lands.at.fits; below = below }
+    by_test true e = record {
+      shape = lands.at.shape;
+      is = lands.at.is;
+      fits = ended lands.at.shape (true-lt _ _ e) lands.at.fits;
+      below =
+          below;
+    }
+    by_test false e = record {
+      shape = lands.at.shape;
+      is = lands.at.is;
+      fits = standing lands.at.shape (false-lt _ _ e) lands.at.fits;
+      below
+          = below;
+    }
 
 -- a place that an establish or a refresh comes to
 abbrev pub RisesFrom : Bool → Work → Place → List Touch → Type 0
-RisesFrom r w p ts = At p.sends ts (Rising r w.set w.draw (program_at w.operation p) (go_at w.operation p) (from_at w p) (marks ts))
+RisesFrom r w p ts = At p.sends ts
+    (Rising r w.set w.draw (program_at w.operation p) (go_at w.operation p) (from_at w p) (marks ts))
 
 lands : (r : Bool) (w : Work) (p : Place) (ts : List Touch) (c : Reach) → program_at w.operation p < go_at w.operation p
     → Reached w.first (last_of w.operation) c → TakesKey w c p ts → RisesFrom r w p ts
-    → Lands p.sends ts (keyed w c p) (Rising r w.set w.draw (program_at w.operation p) (go_at w.operation p) c.acknowledged (marks (behind ts (keyed w c p))))
-lands r w p ts c lt reached takes at = rises p.sends r w.set w.draw _ _ (from_at w p) c.acknowledged (below_at c p) ts lt (comes_to p w c _ reached) takes at
+    → Lands p.sends ts (keyed w c p)
+    (Rising r w.set w.draw (program_at w.operation p) (go_at w.operation p) c.acknowledged
+    (marks (behind ts (keyed w c p))))
+lands r w p ts c lt reached takes at = rises p.sends r w.set w.draw _ _ (from_at w p) c.acknowledged (below_at c p) ts
+    lt (comes_to p w c _ reached) takes at
 
 full_alone : (j : ℕ) (sh : Shape) → Full false j false sh → sh ≡ Alone false j
 full_alone j sh f = grind arith
 
 -- the end of an establish: its key is the only one
-pub establish_ends : (p : Place) (ts : List Touch) (j first : ℕ) (begins : Bool) (c : Reach) → 13 < c.acknowledged → Reached first 13 c
+pub establish_ends : (p : Place) (ts : List Touch) (j first : ℕ) (begins : Bool) (c : Reach) → 13 < c.acknowledged
+    → Reached first 13 c
     → TakesKey (work op.Establish false j first begins) c p ts
     → RisesFrom false (work op.Establish false j first begins) p ts
     → IsAt p.sends (behind ts (keyed (work op.Establish false j first begins) c p)) (Alone false j)
 establish_ends p ts j first begins c past reached takes from =
     let numbers = exchanges_establish p in
     let risen = lands false (work op.Establish false j first begins) p ts c numbers.in_order reached takes from in
-    rw (full_alone j risen.at.shape (rising_done _ _ _ _ _ _ _ _ numbers.in_order (omega (arith, past, numbers.in_reach)) risen.at.fits)) at risen.at.is
+    rw (full_alone j risen.at.shape
+    (rising_done _ _ _ _ _ _ _ _ numbers.in_order (omega (arith, past, numbers.in_reach)) risen.at.fits)) at
+    risen.at.is
 
-pub establishes : (p : Place) (ts : List Touch) (j first : ℕ) (begins : Bool) (c : Reach) (top : ℕ) → j < top → Below ts top
-    → Reached first 13 c → TakesKey (work op.Establish false j first begins) c p ts → RisesFrom false (work op.Establish false j first begins) p ts
-    → Turned (op_after (work op.Establish false j first begins) c) top p ts (keyed (work op.Establish false j first begins) c p)
+pub establishes : (p : Place) (ts : List Touch) (j first : ℕ) (begins : Bool) (c : Reach) (top : ℕ) → j < top
+    → Below ts top
+    → Reached first 13 c → TakesKey (work op.Establish false j first begins) c p ts
+    → RisesFrom false (work op.Establish false j first begins) p ts
+    → Turned (op_after (work op.Establish false j first begins) c) top p ts
+    (keyed (work op.Establish false j first begins) c p)
 establishes p ts j first begins c top lt below reached takes from =
     let w = work op.Establish false j first begins in
     let numbers = exchanges_establish p in
-    turned_by_end w c top p ts (keyed w c p) _ (lands false w p ts c numbers.in_order reached takes from) (below_keyed w c p ts top lt below)
-    (λ sh past rising. (lt, full_more false false j sh (rising_done _ _ _ _ _ _ _ _ numbers.in_order (omega (arith, past, numbers.in_reach)) rising)))
+    turned_by_end w c top p ts (keyed w c p) _ (lands false w p ts c numbers.in_order reached takes from)
+    (below_keyed w c p ts top lt below)
+    (λ sh past rising. (
+      lt,
+      full_more false false j sh
+          (rising_done _ _ _ _ _ _ _ _ numbers.in_order (omega (arith, past, numbers.in_reach)) rising),
+    ))
     (λ sh le rising. (lt, le, rising))
 
-pub refreshes : (p : Place) (ts : List Touch) (k : Bool) (j first : ℕ) (begins : Bool) (c : Reach) (top : ℕ) → j < top → Below ts top → 1 ≤ first
-    → Reached first 12 c → TakesKey (work op.Refresh k j first begins) c p ts → RisesFrom true (work op.Refresh k j first begins) p ts
+pub refreshes : (p : Place) (ts : List Touch) (k : Bool) (j first : ℕ) (begins : Bool) (c : Reach) (top : ℕ) → j < top
+    → Below ts top → 1 ≤ first
+    → Reached first 12 c → TakesKey (work op.Refresh k j first begins) c p ts
+    → RisesFrom true (work op.Refresh k j first begins) p ts
     → Turned (op_after (work op.Refresh k j first begins) c) top p ts (keyed (work op.Refresh k j first begins) c p)
 refreshes p ts k j first begins c top lt below least reached takes from =
     let w = work op.Refresh k j first begins in
     let numbers = exchanges_refresh p in
-    turned_by_end w c top p ts (keyed w c p) _ (lands true w p ts c numbers.in_order reached takes from) (below_keyed w c p ts top lt below)
-    (λ sh past rising. (lt, rising_done _ _ _ _ _ _ _ _ numbers.in_order (omega (arith, past, numbers.in_reach)) rising))
+    turned_by_end w c top p ts (keyed w c p) _ (lands true w p ts c numbers.in_order reached takes from)
+    (below_keyed w c p ts top lt below)
+    (λ sh past rising. (
+      lt,
+      rising_done _ _ _ _ _ _ _ _ numbers.in_order (omega (arith, past, numbers.in_reach))
+          rising,
+    ))
     (λ sh le rising. (lt, (let on = reached.forward in omega (arith, on, least)), le, rising))
 
 -- ---- where they begin and where they go on
@@ -148,26 +197,41 @@ refreshes p ts k j first begins c top lt below least reached takes from =
 from_again : (p : Place) (o : Operation) (k : Bool) (j n : ℕ) → from_at (work o k j n false) p ≡ n
 from_again p o k j n = grind arith
 
-pub establish_begins : (p : Place) (ts : List Touch) (top : ℕ) → FitsAt Idle top p ts → RisesFrom false (work op.Establish false top 1 true) p ts
+pub establish_begins : (p : Place) (ts : List Touch) (top : ℕ) → FitsAt Idle top p ts
+    → RisesFrom false (work op.Establish false top 1 true) p ts
 establish_begins p ts top at =
-    record { shape = Bare; is = subst (IsAt p.sends ts) at.fits at.is; fits = before Bare (exchanges_establish p).begins at.below.fresh (unkeyed at.below.within) }
+    record {
+      shape = Bare;
+      is = subst (IsAt p.sends ts) at.fits at.is;
+      fits = before Bare (exchanges_establish p).begins
+          at.below.fresh (unkeyed at.below.within);
+    }
 
 pub establish_goes_on : (p : Place) (ts : List Touch) (top j n : ℕ) → FitsAt (Establishing j n) top p ts
     → RisesFrom false (work op.Establish false j n false) p ts
-establish_goes_on p ts top j n at = record { shape = at.shape; is = at.is; fits = rw (from_again p op.Establish false j n) at.fits.2 }
+establish_goes_on p ts top j n at = record
+    { shape = at.shape; is = at.is; fits = rw (from_again p op.Establish false j n) at.fits.2 }
 
 rest_of : (k : Bool) (j top : ℕ) (u : Marks) (sh : Shape) → j < top → Full k j true sh → Rest (not k) top u true sh
-rest_of k j top u _ lt (alone r) = subst (λ (l : Bool). Rest (not k) top u true (Alone l j)) (not-not k) (old_alone j lt)
-rest_of k j top u _ lt (both i) = subst (λ (l : Bool). Rest (not k) top u true (Both l i j)) (not-not k) (old_both i j lt)
+rest_of k j top u _ lt (alone r) = subst (λ (l : Bool). Rest (not k) top u true (Alone l j)) (not-not k)
+    (old_alone j lt)
+rest_of k j top u _ lt (both i) = subst (λ (l : Bool). Rest (not k) top u true (Both l i j)) (not-not k)
+    (old_both i j lt)
 
 pub refresh_begins : (p : Place) (ts : List Touch) (top : ℕ) (k : Bool) (j : ℕ) → FitsAt (Up k j) top p ts
     → RisesFrom true (work op.Refresh (not k) top 1 true) p ts
 refresh_begins p ts top k j at =
-    record { shape = at.shape; is = at.is; fits = before at.shape (exchanges_refresh p).begins at.below.fresh (rest_of k j top (marks ts) at.shape at.fits.0 at.fits.1) }
+    record {
+      shape = at.shape;
+      is = at.is;
+      fits = before at.shape (exchanges_refresh p).begins at.below.fresh
+          (rest_of k j top (marks ts) at.shape at.fits.0 at.fits.1);
+    }
 
 pub refresh_goes_on : (p : Place) (ts : List Touch) (top : ℕ) (k : Bool) (j n : ℕ) → FitsAt (Refreshing k j n) top p ts
     → RisesFrom true (work op.Refresh k j n false) p ts
-refresh_goes_on p ts top k j n at = record { shape = at.shape; is = at.is; fits = rw (from_again p op.Refresh k j n) at.fits.3 }
+refresh_goes_on p ts top k j n at = record
+    { shape = at.shape; is = at.is; fits = rw (from_again p op.Refresh k j n) at.fits.3 }
 
 -- ---- an event of a stop
 
@@ -192,40 +256,61 @@ halting : (l n next below : ℕ) (sh : Shape) → Spans n next below → Halting
     → Halting Device l next (halted_shape (is_within n (1 + l) below) (is_within n (7 + l) below) sh)
 halting l n next below sh spans halted = grind (arith, nat_tests)
 
-halts_come : (s : Bool) (ts : List Touch) (f g : Bool) (sh : Shape) → IsAt s ts sh → AllCome s ts (when f (Stop false) ++ when g (Stop true))
-halts_come s ts true g sh is =
-    (record { shape = sh; is = is; may = tt }, comes_if g s (Stop false ∷ ts) (without false sh) (Stop true) (stops s ts false sh is) tt)
+halts_come : (s : Bool) (ts : List Touch) (f g : Bool) (sh : Shape) → IsAt s ts sh
+    → AllCome s ts (when f (Stop false) ++ when g (Stop true))
+halts_come s ts true g sh is = (
+  record { shape = sh; is = is; may = tt },
+  comes_if g s (Stop false ∷ ts) (without false sh) (Stop true)
+      (stops s ts false sh is) tt,
+)
 halts_come s ts false g sh is = comes_if g s ts sh (Stop true) is tt
 
-stops_by : (side : Side) (link stream : ℕ) (sends : Bool) (u : SubKind) (ts : List Touch) (first : ℕ) (begins : Bool) (r : Reach) → Reached first 12 r
+stops_by : (side : Side) (link stream : ℕ) (sends : Bool) (u : SubKind) (ts : List Touch) (first : ℕ) (begins : Bool)
+    (r : Reach) → Reached first 12 r
     → At sends ts (FindsHalted side (lane (place side link stream sends u)) first begins)
-    → Lands sends ts (stopped (work op.Stop false 0 first begins) r (place side link stream sends u)) (Halting side (lane (place side link stream sends u)) r.acknowledged)
-stops_by Host link stream sends u ts first true r reached at = record { at = record { shape = Bare; is = clears sends ts; fits = refl }; come = (record { shape = at.shape; is = at.is; may = tt }, tt) }
-stops_by Host link stream sends u ts first false r reached at = record { at = record { shape = at.shape; is = at.is; fits = at.fits }; come = tt }
+    → Lands sends ts (stopped (work op.Stop false 0 first begins) r (place side link stream sends u))
+    (Halting side (lane (place side link stream sends u)) r.acknowledged)
+stops_by Host link stream sends u ts first true r reached at = record {
+  at = record { shape = Bare; is = clears sends ts; fits = refl };
+  come =
+      (record { shape = at.shape; is = at.is; may = tt }, tt);
+}
+stops_by Host link stream sends u ts first false r reached at = record
+    { at = record { shape = at.shape; is = at.is; fits = at.fits }; come = tt }
 stops_by Device link stream sends u ts first begins r reached at =
     let l = lane (place Device link stream sends u) in
-    let spans : Spans first r.acknowledged r.carried = record { forward = reached.forward; reached = reached.carried; within_one = reached.within_one } in
+    let spans : Spans first r.acknowledged r.carried = record
+    { forward = reached.forward; reached = reached.carried; within_one = reached.within_one } in
     record {
-      at = record { shape = _; is = halts sends ts _ _ at.shape at.is; fits = halting l first r.acknowledged r.carried at.shape spans at.fits };
+      at = record {
+        shape = _;
+        is = halts sends ts _ _ at.shape at.is;
+        fits = halting l first r.acknowledged r.carried
+            at.shape spans at.fits;
+      };
       come = halts_come sends ts (is_within first (1 + l) r.carried) (is_within first (7 + l) r.carried) at.shape at.is;
     }
 
 halted_all : (p : Place) (n : ℕ) (sh : Shape) → 12 < n → Halting p.side (lane p) n sh → sh ≡ Bare
 halted_all p n sh past halting = grind (arith, lane_below)
 
-below_stop : (w : Work) (r : Reach) (p : Place) (ts : List Touch) (top : ℕ) → Below ts top → Below (behind ts (stopped w r p)) top
+below_stop : (w : Work) (r : Reach) (p : Place) (ts : List Touch) (top : ℕ) → Below ts top
+    → Below (behind ts (stopped w r p)) top
 unfolding used started
 below_stop w r p ts top below = grind arith
 
-pub stops_fit : (p : Place) (ts : List Touch) (first : ℕ) (begins : Bool) (r : Reach) (top : ℕ) → Below ts top → Reached first 12 r
+pub stops_fit : (p : Place) (ts : List Touch) (first : ℕ) (begins : Bool) (r : Reach) (top : ℕ) → Below ts top
+    → Reached first 12 r
     → At p.sends ts (FindsHalted p.side (lane p) first begins)
     → Turned (op_after (work op.Stop false 0 first begins) r) top p ts (stopped (work op.Stop false 0 first begins) r p)
 stops_fit p ts first begins r top below reached at =
     let w = work op.Stop false 0 first begins in
-    turned_by_end w r top p ts (stopped w r p) _ (stops_by p.side p.link p.stream p.sends p.sub ts first begins r reached at) (below_stop w r p ts top below)
+    turned_by_end w r top p ts (stopped w r p) _
+    (stops_by p.side p.link p.stream p.sends p.sub ts first begins r reached at) (below_stop w r p ts top below)
     (λ sh past halted. halted_all p r.acknowledged sh past halted) (λ sh le halted. (le, halted))
 
-pub resets_fit : (o : Op) (p : Place) (ts : List Touch) (top : ℕ) → FitsAt o top p ts → Turned Idle top p ts (Clear ∷ [])
+pub resets_fit : (o : Op) (p : Place) (ts : List Touch) (top : ℕ) → FitsAt o top p ts
+    → Turned Idle top p ts (Clear ∷ [])
 unfolding used started
 resets_fit o p ts top at = record {
   now = record { shape = Bare; is = clears p.sends ts; fits = refl; below = grind arith };
@@ -234,10 +319,13 @@ resets_fit o p ts top at = record {
 
 -- ---- which keys are taken
 
-establish_shape_takes : (s : Bool) (j a b n : ℕ) (u : Marks) (sh : Shape) → n ≤ a → Rising false false j a b n u sh → refuses s (keys_of sh) false ≡ false
+establish_shape_takes : (s : Bool) (j a b n : ℕ) (u : Marks) (sh : Shape) → n ≤ a → Rising false false j a b n u sh
+    → refuses s (keys_of sh) false ≡ false
 establish_shape_takes s j a b n u sh le rising = grind arith
 
 -- no place refuses a key in an establish
-pub establish_takes : (p : Place) (ts : List Touch) (j first : ℕ) (begins : Bool) (c : Reach) → RisesFrom false (work op.Establish false j first begins) p ts
+pub establish_takes : (p : Place) (ts : List Touch) (j first : ℕ) (begins : Bool) (c : Reach)
+    → RisesFrom false (work op.Establish false j first begins) p ts
     → TakesKey (work op.Establish false j first begins) c p ts
-establish_takes p ts j first begins c at le lt = rw at.is.are (establish_shape_takes p.sends j _ _ _ (marks ts) at.shape le at.fits)
+establish_takes p ts j first begins c at le lt = rw at.is.are
+    (establish_shape_takes p.sends j _ _ _ (marks ts) at.shape le at.fits)

@@ -1,7 +1,12 @@
 -- A draw belongs to one stream and one key set: those of the operation that began with it.
-use Rattle.key_laws.proofs.Terms.{◌≡◌, ℕ, ◌<◌, ◌==◌, Bool, true, false, Option, Some, None, List, [], ◌∷◌, length, refl, subst, arith, ◌&&◌, if◌then◌else◌, Event, Operation, SealedPacket, Verdict, Place, is_on_stream, Touch, Program, Go}
-use Rattle.key_laws.proofs.Terms.{Clear, Keyed, Off, Loaded, On, Keys, key_in, kept_in, on_in, touched, is_open, settled, keys, Op, Idle, Establishing, Up, Refreshing, Stopping, Work, Reach, Manager, Begun, work_of, reach_of, op_after}
-use Rattle.key_laws.proofs.Terms.{makes_draw, begun_after, operated, manager_after, History, manager, begun_at, when, worked, on_it, sealed_here, came, touches, behind, moments, nat_tests}
+use Rattle.key_laws.proofs.Terms.{◌≡◌, ℕ, ◌<◌, ◌==◌, Bool, true, false, Option, Some, None, List, [], ◌∷◌, length, refl}
+use Rattle.key_laws.proofs.Terms.{subst, arith, ◌&&◌, if◌then◌else◌, Event, Operation, SealedPacket, Verdict, Place}
+use Rattle.key_laws.proofs.Terms.{is_on_stream, Touch, Program, Go}
+use Rattle.key_laws.proofs.Terms.{Clear, Keyed, Off, Loaded, On, Keys, key_in, kept_in, on_in, touched, is_open}
+use Rattle.key_laws.proofs.Terms.{settled, keys, Op, Idle, Establishing, Up, Refreshing, Stopping, Work, Reach, Manager}
+use Rattle.key_laws.proofs.Terms.{Begun, work_of, reach_of, op_after}
+use Rattle.key_laws.proofs.Terms.{makes_draw, begun_after, operated, manager_after, History, manager, begun_at, when}
+use Rattle.key_laws.proofs.Terms.{worked, on_it, sealed_here, came, touches, behind, moments, nat_tests}
 use Rattle.link_events.specs.declared.event.Event.TheVariants as event
 use Rattle.link_verdicts.specs.declared.verdict.Operation.TheVariants as op
 use Rattle.link_verdicts.specs.declared.verdict.Verdict.TheVariants as v
@@ -23,7 +28,8 @@ TouchOwned O (Program set j) = O set j
 TouchOwned O (Go set j) = O set j
 TouchOwned O _ = Unit {0}
 
-touched_owned : (O : Bool → ℕ → Type 0) (s : Bool) (f : ℕ → Bool) (ks : Keys) (t : Touch) → OwnedKeys O ks → TouchOwned O t
+touched_owned : (O : Bool → ℕ → Type 0) (s : Bool) (f : ℕ → Bool) (ks : Keys) (t : Touch) → OwnedKeys O ks
+    → TouchOwned O t
     → OwnedKeys O (settled s f (touched s ks t))
 touched_owned O s f ks t owned mine = grind arith
 
@@ -32,12 +38,15 @@ abbrev pub AllOwned : (Bool → ℕ → Type 0) → List Touch → Type 0
 AllOwned O [] = Unit {0}
 AllOwned O (t ∷ ts) = TouchOwned O t × AllOwned O ts
 
-pub behind_owned : (O : Bool → ℕ → Type 0) (s : Bool) (ts more : List Touch) → OwnedKeys O (keys s ts) → AllOwned O more → OwnedKeys O (keys s (behind ts more))
+pub behind_owned : (O : Bool → ℕ → Type 0) (s : Bool) (ts more : List Touch) → OwnedKeys O (keys s ts) → AllOwned O more
+    → OwnedKeys O (keys s (behind ts more))
 unfolding keys
 behind_owned O s ts [] owned all = owned
-behind_owned O s ts (t ∷ more) owned all = behind_owned O s (t ∷ ts) more (touched_owned O s (is_open (t ∷ ts)) (keys s ts) t owned all.0) all.1
+behind_owned O s ts (t ∷ more) owned all = behind_owned O s (t ∷ ts) more
+    (touched_owned O s (is_open (t ∷ ts)) (keys s ts) t owned all.0) all.1
 
-pub more_owned : (O P : Bool → ℕ → Type 0) (ks : Keys) → ((set : Bool) (j : ℕ) → O set j → P set j) → OwnedKeys O ks → OwnedKeys P ks
+pub more_owned : (O P : Bool → ℕ → Type 0) (ks : Keys) → ((set : Bool) (j : ℕ) → O set j → P set j) → OwnedKeys O ks
+    → OwnedKeys P ks
 more_owned O P ks leads owned = grind arith
 
 -- ---- the operations that began
@@ -70,7 +79,8 @@ OpOwned bs link stream (Stopping n) = Unit {0}
 abbrev Longer : List Begun → List Begun → Type 0
 Longer bs cs = (j : ℕ) (x : Begun) → begun_at bs j ≡ Some x → begun_at cs j ≡ Some x
 
-op_longer : (bs cs : List Begun) → Longer bs cs → (link stream : ℕ) (o : Op) → OpOwned bs link stream o → OpOwned cs link stream o
+op_longer : (bs cs : List Begun) → Longer bs cs → (link stream : ℕ) (o : Op) → OpOwned bs link stream o
+    → OpOwned cs link stream o
 op_longer bs cs longer link stream o owned = grind arith
 
 begun_longer : (bs : List Begun) (link stream : ℕ) (w : Work) → Longer bs (begun_after bs link stream w)
@@ -90,27 +100,34 @@ pub same_place : (a b link stream : ℕ) → ((a == link) && (b == stream)) ≡ 
 same_place a b link stream e = grind (arith, nat_tests)
 
 -- by whether an event is on the stream
-pub by_stream : (a b : ℕ) (P : ℕ → ℕ → Bool → Type 0) → P a b true → ((x y : ℕ) → P x y false) → (x y : ℕ) → P x y ((a == x) && (b == y))
+pub by_stream : (a b : ℕ) (P : ℕ → ℕ → Bool → Type 0) → P a b true → ((x y : ℕ) → P x y false) → (x y : ℕ)
+    → P x y ((a == x) && (b == y))
 by_stream a b P here other x y = by_test ((a == x) && (b == y)) refl
   where
     by_test : (f : Bool) → ((a == x) && (b == y)) ≡ f → P x y f
-    by_test true e = let same = same_place a b x y e in subst (λ (z : ℕ). P x z true) same.1 (subst (λ (z : ℕ). P z b true) same.0 here)
+    by_test true e = let same = same_place a b x y e in subst (λ (z : ℕ). P x z true) same.1
+        (subst (λ (z : ℕ). P z b true) same.0 here)
     by_test false e = other x y
 
-operated_owned : (m : Manager) (o : Operation) (link stream : ℕ) (r : Option Reach) → OpsOwned m → OpsOwned (operated m o link stream r)
+operated_owned : (m : Manager) (o : Operation) (link stream : ℕ) (r : Option Reach) → OpsOwned m
+    → OpsOwned (operated m o link stream r)
 operated_owned m o link stream None owned a b = owned a b
 operated_owned m o link stream (Some r) owned a b =
     by_stream a b (λ x y f. OpOwned (begun_after m.begun x y (work_of o (m.ops x y) (length m.begun))) a b
     (if f then op_after (work_of o (m.ops x y) (length m.begun)) r else m.ops a b))
     (after_owned m.begun a b o (m.ops a b) r (owned a b))
-    (λ x y. op_longer m.begun _ (begun_longer m.begun x y (work_of o (m.ops x y) (length m.begun))) a b (m.ops a b) (owned a b)) link stream
+    (λ x y. op_longer m.begun _ (begun_longer m.begun x y (work_of o (m.ops x y) (length m.begun))) a b (m.ops a b)
+    (owned a b)) link stream
 
 pub manager_owned : (h : History) → OpsOwned (manager h)
 unfolding manager
 manager_owned [] link stream = tt
-manager_owned ((event.Establish link stream loss, verdict) ∷ h) a b = operated_owned (manager h) op.Establish link stream (reach_of op.Establish verdict) (manager_owned h) a b
-manager_owned ((event.Refresh link stream loss, verdict) ∷ h) a b = operated_owned (manager h) op.Refresh link stream (reach_of op.Refresh verdict) (manager_owned h) a b
-manager_owned ((event.Stop link stream loss, verdict) ∷ h) a b = operated_owned (manager h) op.Stop link stream (reach_of op.Stop verdict) (manager_owned h) a b
+manager_owned ((event.Establish link stream loss, verdict) ∷ h) a b = operated_owned (manager h) op.Establish link
+    stream (reach_of op.Establish verdict) (manager_owned h) a b
+manager_owned ((event.Refresh link stream loss, verdict) ∷ h) a b = operated_owned (manager h) op.Refresh link stream
+    (reach_of op.Refresh verdict) (manager_owned h) a b
+manager_owned ((event.Stop link stream loss, verdict) ∷ h) a b = operated_owned (manager h) op.Stop link stream
+    (reach_of op.Stop verdict) (manager_owned h) a b
 manager_owned ((event.Reset link, v.Reset l) ∷ h) a b = let before = manager_owned h a b in grind arith
 manager_owned ((event.Reset link, _) ∷ h) a b = manager_owned h a b
 manager_owned ((_, verdict) ∷ h) a b = manager_owned h a b
@@ -123,7 +140,8 @@ after_longer m e verdict j x is = grind (arith, begun_more)
 pub cleared_owned : (O : Bool → ℕ → Type 0) (f : Bool) → AllOwned O (when f Clear)
 cleared_owned O f = grind arith
 
-pub worked_owned : (O : Bool → ℕ → Type 0) (w : Work) (r : Option Reach) (p : Place) (o : Operation) → w.operation ≡ o → (makes_draw o ≡ true → O w.set w.draw) → AllOwned O (worked w r p)
+pub worked_owned : (O : Bool → ℕ → Type 0) (w : Work) (r : Option Reach) (p : Place) (o : Operation) → w.operation ≡ o
+    → (makes_draw o ≡ true → O w.set w.draw) → AllOwned O (worked w r p)
 worked_owned O w r p o is mine = grind arith
 
 sealed_owned : (O : Bool → ℕ → Type 0) (p : Place) (ds : List SealedPacket) → AllOwned O (sealed_here p ds)
@@ -139,16 +157,20 @@ came_owned O p _ = tt
 abbrev pub OwnerAt : Manager → Place → Bool → ℕ → Type 0
 OwnerAt m p set j = Owner m.begun p.link p.stream set j
 
-operation_owned : (m : Manager) (o : Operation) (link stream : ℕ) (r : Option Reach) (p : Place) → OpOwned m.begun p.link p.stream (m.ops p.link p.stream)
-    → AllOwned (OwnerAt (operated m o link stream r) p) (on_it (is_on_stream p link stream) (worked (work_of o (m.ops link stream) (length m.begun)) r p))
+operation_owned : (m : Manager) (o : Operation) (link stream : ℕ) (r : Option Reach) (p : Place)
+    → OpOwned m.begun p.link p.stream (m.ops p.link p.stream)
+    → AllOwned (OwnerAt (operated m o link stream r) p)
+    (on_it (is_on_stream p link stream) (worked (work_of o (m.ops link stream) (length m.begun)) r p))
 operation_owned m o link stream r p owned = grind (arith, nat_tests)
 
-touches_owned : (m : Manager) (e : Event) (verdict : Verdict) (p : Place) → OpsOwned m → AllOwned (OwnerAt (manager_after m e verdict) p) (touches m.ops (length m.begun) e verdict p)
+touches_owned : (m : Manager) (e : Event) (verdict : Verdict) (p : Place) → OpsOwned m
+    → AllOwned (OwnerAt (manager_after m e verdict) p) (touches m.ops (length m.begun) e verdict p)
 touches_owned m (event.Establish link stream loss) verdict p owned =
     operation_owned m op.Establish link stream (reach_of op.Establish verdict) p (owned p.link p.stream)
 touches_owned m (event.Refresh link stream loss) verdict p owned =
     operation_owned m op.Refresh link stream (reach_of op.Refresh verdict) p (owned p.link p.stream)
-touches_owned m (event.Stop link stream loss) verdict p owned = operation_owned m op.Stop link stream (reach_of op.Stop verdict) p (owned p.link p.stream)
+touches_owned m (event.Stop link stream loss) verdict p owned = operation_owned m op.Stop link stream
+    (reach_of op.Stop verdict) p (owned p.link p.stream)
 touches_owned m (event.Reset link) (v.Reset l) p owned = cleared_owned _ (p.link == link)
 touches_owned m (event.Reset link) _ p owned = tt
 touches_owned m _ verdict p owned = came_owned _ p verdict
@@ -157,19 +179,25 @@ pub keys_owned : (h : History) (p : Place) → OwnedKeys (OwnerAt (manager h) p)
 unfolding manager moments keys
 keys_owned [] p = record { first_is = tt; second_is = tt }
 keys_owned ((e, verdict) ∷ h) p =
-    behind_owned (OwnerAt (manager ((e, verdict) ∷ h)) p) p.sends (moments h p) (touches (manager h).ops (length (manager h).begun) e verdict p)
-    (more_owned (OwnerAt (manager h) p) (OwnerAt (manager ((e, verdict) ∷ h)) p) (keys p.sends (moments h p)) (λ set j mine. after_longer (manager h) e verdict j _ mine) (keys_owned h p))
+    behind_owned (OwnerAt (manager ((e, verdict) ∷ h)) p) p.sends (moments h p)
+    (touches (manager h).ops (length (manager h).begun) e verdict p)
+    (more_owned (OwnerAt (manager h) p) (OwnerAt (manager ((e, verdict) ∷ h)) p) (keys p.sends (moments h p))
+    (λ set j mine. after_longer (manager h) e verdict j _ mine) (keys_owned h p))
     (touches_owned (manager h) e verdict p (manager_owned h))
 
 -- the draw that is kept in a set, and the draw that is On there
-owned_kept : (O : Bool → ℕ → Type 0) (ks : Keys) (set : Bool) (j : ℕ) → OwnedKeys O ks → kept_in (key_in ks set) ≡ Some j → O set j
+owned_kept : (O : Bool → ℕ → Type 0) (ks : Keys) (set : Bool) (j : ℕ) → OwnedKeys O ks → kept_in (key_in ks set)
+    ≡ Some j → O set j
 owned_kept O ks set j owned e = grind arith
 
-pub owned_on : (O : Bool → ℕ → Type 0) (ks : Keys) (set : Bool) (j : ℕ) → OwnedKeys O ks → on_in (key_in ks set) ≡ Some j → O set j
+pub owned_on : (O : Bool → ℕ → Type 0) (ks : Keys) (set : Bool) (j : ℕ) → OwnedKeys O ks → on_in (key_in ks set)
+    ≡ Some j → O set j
 owned_on O ks set j owned e = grind arith
 
-pub kept_owned : (h : History) (p : Place) (set : Bool) (j : ℕ) → kept_in (key_in (keys p.sends (moments h p)) set) ≡ Some j → OwnerAt (manager h) p set j
+pub kept_owned : (h : History) (p : Place) (set : Bool) (j : ℕ) → kept_in (key_in (keys p.sends (moments h p)) set)
+    ≡ Some j → OwnerAt (manager h) p set j
 kept_owned h p set j e = owned_kept (OwnerAt (manager h) p) (keys p.sends (moments h p)) set j (keys_owned h p) e
 
-pub on_owned : (h : History) (p : Place) (set : Bool) (j : ℕ) → on_in (key_in (keys p.sends (moments h p)) set) ≡ Some j → OwnerAt (manager h) p set j
+pub on_owned : (h : History) (p : Place) (set : Bool) (j : ℕ) → on_in (key_in (keys p.sends (moments h p)) set) ≡ Some j
+    → OwnerAt (manager h) p set j
 on_owned h p set j e = owned_on (OwnerAt (manager h) p) (keys p.sends (moments h p)) set j (keys_owned h p) e

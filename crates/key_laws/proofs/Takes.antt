@@ -2,7 +2,9 @@
 -- acknowledged was refused, the host's senders since a refresh begins only where no Live key of theirs is in the set,
 -- and the host's receivers since the set holds no key that is On, or the older of two. Where a refresh goes on, the
 -- host's port has its keys, and only the device's places are left.
-use Rattle.key_laws.proofs.Terms.{◌≡◌, ℕ, ◌<◌, ◌≤◌, Bool, true, false, List, sym, ◌∙◌, arith, SubKind, Side, Host, Device, Touch, Keys, refuses, keys, slot_of, is_live, Reach, work, PortView, is_refused, is_live_sender, nat_tests}
+use Rattle.key_laws.proofs.Terms.{◌≡◌, ℕ, ◌<◌, ◌≤◌, Bool, true, false, List, sym, ◌∙◌, arith, SubKind, Side, Host}
+use Rattle.key_laws.proofs.Terms.{Device, Touch, Keys, refuses, keys, slot_of, is_live, Reach, work, PortView}
+use Rattle.key_laws.proofs.Terms.{is_refused, is_live_sender, nat_tests}
 use Rattle.link_verdicts.specs.declared.verdict.Operation.TheVariants as op
 use Rattle.key_laws.proofs.Shapes.{Marks, marks, Shape, keys_of, Sound}
 use Rattle.key_laws.proofs.Stages.{Rising}
@@ -14,28 +16,34 @@ sender_takes : (ks : Keys) (set : Bool) → is_live (slot_of true ks set) ≡ fa
 sender_takes ks set dead = grind (arith, nat_tests)
 
 -- a receiver takes the key of a newer draw
-receiver_takes : (k : Bool) (j a b n : ℕ) (u : Marks) (sh : Shape) (ts : List Touch) → n ≤ a → Sound false ts sh → Rising true k j a b n u sh
+receiver_takes : (k : Bool) (j a b n : ℕ) (u : Marks) (sh : Shape) (ts : List Touch) → n ≤ a → Sound false ts sh
+    → Rising true k j a b n u sh
     → refuses false (keys_of sh) k ≡ false
 receiver_takes k j a b n u sh ts le sound rising = grind (arith, nat_tests)
 
--- Where a refresh begins: the device refused none of the exchanges that were acknowledged, and no Live key of the host's
--- senders is in the set.
-pub refresh_first_takes : (side : Side) (link stream : ℕ) (sends : Bool) (u : SubKind) (ports : PortView) (ts : List Touch) (k : Bool) (j : ℕ) (r : Reach)
+-- Where a refresh begins: the device refused none of the exchanges that were acknowledged, and no Live key of the
+-- host's senders is in the set.
+pub refresh_first_takes : (side : Side) (link stream : ℕ) (sends : Bool) (u : SubKind) (ports : PortView)
+    (ts : List Touch) (k : Bool) (j : ℕ) (r : Reach)
     → ((x : Bool) → ports.refuses (place side link stream sends u) x ≡ refuses sends (keys sends ts) x)
     → ((x : Bool) → ports.is_live (place side link stream sends u) x ≡ is_live (slot_of sends (keys sends ts) x))
     → is_live_sender ports link stream k u ≡ false
     → ((n : ℕ) → 1 ≤ n → n < r.acknowledged → is_refused ports op.Refresh k link stream n ≡ false)
     → RisesFrom true (work op.Refresh k j 1 true) (place side link stream sends u) ts
     → TakesKey (work op.Refresh k j 1 true) r (place side link stream sends u) ts
-refresh_first_takes Host link stream true u ports ts k j r same live dead free at le lt = sender_takes (keys true ts) k (sym (live k) ∙ dead)
+refresh_first_takes Host link stream true u ports ts k j r same live dead free at le lt = sender_takes (keys true ts) k
+    (sym (live k) ∙ dead)
 refresh_first_takes Host link stream false u ports ts k j r same live dead free at le lt =
     rw at.is.are (receiver_takes k j _ _ _ (marks ts) at.shape ts le at.is.sound at.fits)
-refresh_first_takes Device link stream sends u ports ts k j r same live dead free at le lt = sym (same k) ∙ device_takes ports k link stream sends u (free _ le lt)
+refresh_first_takes Device link stream sends u ports ts k j r same live dead free at le lt = sym (same k) ∙ device_takes
+    ports k link stream sends u (free _ le lt)
 
 -- where it goes on the host's port has its key
-pub refresh_again_takes : (side : Side) (link stream : ℕ) (sends : Bool) (u : SubKind) (ports : PortView) (ts : List Touch) (k : Bool) (j n : ℕ) (r : Reach) → 1 ≤ n
+pub refresh_again_takes : (side : Side) (link stream : ℕ) (sends : Bool) (u : SubKind) (ports : PortView)
+    (ts : List Touch) (k : Bool) (j n : ℕ) (r : Reach) → 1 ≤ n
     → ((x : Bool) → ports.refuses (place side link stream sends u) x ≡ refuses sends (keys sends ts) x)
     → ((x : ℕ) → n ≤ x → x < r.acknowledged → is_refused ports op.Refresh k link stream x ≡ false)
     → TakesKey (work op.Refresh k j n false) r (place side link stream sends u) ts
 refresh_again_takes Host link stream sends u ports ts k j n r least same free le lt = absurd (omega (arith, le, least))
-refresh_again_takes Device link stream sends u ports ts k j n r least same free le lt = sym (same k) ∙ device_takes ports k link stream sends u (free _ le lt)
+refresh_again_takes Device link stream sends u ports ts k j n r least same free le lt = sym (same k) ∙ device_takes
+    ports k link stream sends u (free _ le lt)

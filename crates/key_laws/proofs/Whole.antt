@@ -2,18 +2,28 @@
 -- of event by the operation's state and how far it comes; on other streams nothing changes but the number of draws. The
 -- hard case is a refresh, where each place has to take the key (Takes); sends and arrivals use only keys that are Live
 -- or On, as is supposed of them, and those are of draws that were made.
-use Rattle.key_laws.proofs.Terms.{and-false, ◌≡◌, ℕ, suc, ◌≤◌, ◌==◌, ◌⊎◌, inl, inr, Bool, true, false, Option, Some, None, List, [], ◌∷◌, ◌++◌, length, refl, subst, arith, nat_lt, not, ◌&&◌, if◌then◌else◌, SubKind, Pr, Npr, Cpl, Host}
-use Rattle.key_laws.proofs.Terms.{Event, Loss, Operation, SealedPacket, Verdict, KeyPlan, Place, lane, is_same_side, is_same_sub, is_on_stream, Touch, Seal, Accept, Clear, keys, refuses, is_live, slot_of, Op, Idle, Establishing, Up}
-use Rattle.key_laws.proofs.Terms.{Refreshing, Work, Reach, Manager, Begun, work, work_of, reach_of, op_after, begun_after, operated, History, manager, op_of, draws, worked, on_it, when, is_sender, sealed_here, came, touches, moments}
-use Rattle.key_laws.proofs.Terms.{status_of, PortView, ports_at, performed, begun_with_draw, is_live_sender, unless_open, if_secure, establish_on, refresh_on, stop_on, due, UsesFit, CauseLaw}
+use Rattle.key_laws.proofs.Terms.{and-false, ◌≡◌, ℕ, suc, ◌≤◌, ◌==◌, ◌⊎◌, inl, inr, Bool, true, false, Option, Some}
+use Rattle.key_laws.proofs.Terms.{None, List, [], ◌∷◌, ◌++◌, length, refl, subst, arith, nat_lt, not, ◌&&◌}
+use Rattle.key_laws.proofs.Terms.{if◌then◌else◌, SubKind, Pr, Npr, Cpl, Host}
+use Rattle.key_laws.proofs.Terms.{Event, Loss, Operation, SealedPacket, Verdict, KeyPlan, Place, lane, is_same_side}
+use Rattle.key_laws.proofs.Terms.{is_same_sub, is_on_stream, Touch, Seal, Accept, Clear, keys, refuses, is_live}
+use Rattle.key_laws.proofs.Terms.{slot_of, Op, Idle, Establishing, Up}
+use Rattle.key_laws.proofs.Terms.{Refreshing, Work, Reach, Manager, Begun, work, work_of, reach_of, op_after}
+use Rattle.key_laws.proofs.Terms.{begun_after, operated, History, manager, op_of, draws, worked, on_it, when, is_sender}
+use Rattle.key_laws.proofs.Terms.{sealed_here, came, touches, moments}
+use Rattle.key_laws.proofs.Terms.{status_of, PortView, ports_at, performed, begun_with_draw, is_live_sender}
+use Rattle.key_laws.proofs.Terms.{unless_open, if_secure, establish_on, refresh_on, stop_on, due, UsesFit, CauseLaw}
 use Rattle.link_events.specs.declared.event.Event.TheVariants as event
 use Rattle.link_verdicts.specs.declared.verdict.Operation.TheVariants as op
 use Rattle.ide_types.specs.declared.status.StreamStatus.{StreamStatus}
 use Rattle.link_verdicts.specs.declared.verdict.Verdict.TheVariants as v
 use Rattle.key_laws.proofs.Shapes.{Marks, marks, Shape, Bare, at_start, used, started}
-use Rattle.key_laws.proofs.Fits.{Fits, FindsHalted, FitsAt, Turned, Reached, below_more, establishes, refreshes, stops_fit, resets_fit, establish_begins, establish_goes_on, establish_takes, refresh_begins, refresh_goes_on}
+use Rattle.key_laws.proofs.Fits.{Fits, FindsHalted, FitsAt, Turned, Reached, below_more, establishes, refreshes}
+use Rattle.key_laws.proofs.Fits.{stops_fit, resets_fit, establish_begins, establish_goes_on, establish_takes}
+use Rattle.key_laws.proofs.Fits.{refresh_begins, refresh_goes_on}
 use Rattle.key_laws.proofs.Uses.{live_is_on, use_first, seals_fit, accepts_fit, raise}
-use Rattle.key_laws.proofs.Owners.{OwnedKeys, Owner, begun_below, behind_owned, owned_on, keys_owned, same_place, by_stream}
+use Rattle.key_laws.proofs.Owners.{OwnedKeys, Owner, begun_below, behind_owned, owned_on, keys_owned, same_place}
+use Rattle.key_laws.proofs.Owners.{by_stream}
 use Rattle.key_laws.proofs.Performs.{performs}
 use Rattle.key_laws.proofs.Takes.{refresh_first_takes, refresh_again_takes}
 
@@ -21,41 +31,55 @@ use Rattle.key_laws.proofs.Takes.{refresh_first_takes, refresh_again_takes}
 abbrev pub Turns : Operation → Op → List Begun → ℕ → ℕ → Place → List Touch → Option Reach → Type 0
 Turns o q bs link stream p ts None = FitsAt q (length bs) p ts
 Turns o q bs link stream p ts (Some r) =
-    Turned (op_after (work_of o q (length bs)) r) (length (begun_after bs link stream (work_of o q (length bs)))) p ts (worked (work_of o q (length bs)) (Some r) p)
+    Turned (op_after (work_of o q (length bs)) r) (length (begun_after bs link stream (work_of o q (length bs)))) p ts
+    (worked (work_of o q (length bs)) (Some r) p)
 
 -- ---- an establish
 
-establish_turns : (plan : KeyPlan) (q : Op) (bs : List Begun) (ports : PortView) (p : Place) (ts : List Touch) (loss : Option Loss)
-    → FitsAt q (length bs) p ts → Turns op.Establish q bs p.link p.stream p ts (reach_of op.Establish (establish_on plan q (length bs) ports p.link p.stream loss))
+establish_turns : (plan : KeyPlan) (q : Op) (bs : List Begun) (ports : PortView) (p : Place) (ts : List Touch)
+    (loss : Option Loss)
+    → FitsAt q (length bs) p ts → Turns op.Establish q bs p.link p.stream p ts
+    (reach_of op.Establish (establish_on plan q (length bs) ports p.link p.stream loss))
 establish_turns plan Idle bs ports p ts loss at = by_pool (nat_lt (length bs) plan.pool)
   where
     by_pool : (b : Bool) → Turns op.Establish Idle bs p.link p.stream p ts
-        (reach_of op.Establish (if b then performed ports p.link p.stream loss (work_of op.Establish Idle (length bs)) else v.RefusedPoolEmpty (length bs)))
+        (reach_of op.Establish
+        (if b then performed ports p.link p.stream loss (work_of op.Establish Idle (length bs)) else
+        v.RefusedPoolEmpty (length bs)))
     by_pool false = at
     by_pool true =
         let goes = performs ports p.link p.stream loss (work_of op.Establish Idle (length bs)) (omega arith) in
         let from = establish_begins p ts (length bs) at in
-        rw goes.says (establishes p ts (length bs) 1 true goes.reached_to (suc (length bs)) (omega arith) (below_more ts (length bs) _ (omega arith) at.below) goes.reached (establish_takes p ts (length bs) 1 true goes.reached_to from) from)
+        rw goes.says (establishes p ts (length bs) 1 true goes.reached_to (suc (length bs)) (omega arith)
+        (below_more ts (length bs) _ (omega arith) at.below) goes.reached
+        (establish_takes p ts (length bs) 1 true goes.reached_to from) from)
 establish_turns plan (Establishing j n) bs ports p ts loss at =
-    let goes = performs ports p.link p.stream loss (work_of op.Establish (Establishing j n) (length bs)) (let le = at.fits.1 in omega arith) in
+    let goes = performs ports p.link p.stream loss (work_of op.Establish (Establishing j n) (length bs))
+    (let le = at.fits.1 in omega arith) in
     let from = establish_goes_on p ts (length bs) j n at in
-    rw goes.says (establishes p ts j n false goes.reached_to (length bs) at.fits.0 at.below goes.reached (establish_takes p ts j n false goes.reached_to from) from)
+    rw goes.says (establishes p ts j n false goes.reached_to (length bs) at.fits.0 at.below goes.reached
+    (establish_takes p ts j n false goes.reached_to from) from)
 establish_turns plan q bs ports p ts loss at = at
 
 -- ---- a refresh
 
 -- a refresh of a stream that is up comes nowhere, or no Live key of the host's sender is in the set
-refresh_or : (plan : KeyPlan) (host : StreamStatus) (ports : PortView) (link stream next : ℕ) (set : Bool) (u : SubKind) (x : Verdict)
+refresh_or : (plan : KeyPlan) (host : StreamStatus) (ports : PortView) (link stream next : ℕ) (set : Bool) (u : SubKind)
+    (x : Verdict)
     → (reach_of op.Refresh (if_secure host (unless_open ports link stream set (begun_with_draw plan next x))) ≡ None)
-    ⊎ ((if_secure host (unless_open ports link stream set (begun_with_draw plan next x)) ≡ x) × (is_live_sender ports link stream set u ≡ false))
+    ⊎ ((if_secure host (unless_open ports link stream set (begun_with_draw plan next x)) ≡ x)
+    × (is_live_sender ports link stream set u ≡ false))
 refresh_or plan host ports link stream next set Pr x = grind arith
 refresh_or plan host ports link stream next set Npr x = grind arith
 refresh_or plan host ports link stream next set Cpl x = grind arith
 
-refresh_turns : (plan : KeyPlan) (q : Op) (bs : List Begun) (ports : PortView) (host : StreamStatus) (p : Place) (ts : List Touch) (loss : Option Loss) → ((x : Bool) → ports.refuses p x ≡ refuses p.sends (keys p.sends ts) x)
+refresh_turns : (plan : KeyPlan) (q : Op) (bs : List Begun) (ports : PortView) (host : StreamStatus) (p : Place)
+    (ts : List Touch) (loss : Option Loss) → ((x : Bool) → ports.refuses p x ≡ refuses p.sends (keys p.sends ts) x)
     → ((x : Bool) → ports.is_live p x ≡ is_live (slot_of p.sends (keys p.sends ts) x))
-    → FitsAt q (length bs) p ts → Turns op.Refresh q bs p.link p.stream p ts (reach_of op.Refresh (refresh_on plan q (length bs) ports host p.link p.stream loss))
-refresh_turns plan (Up set j) bs ports host p ts loss same live at = by_case _ (refresh_or plan host ports p.link p.stream (length bs) (not set) p.sub _)
+    → FitsAt q (length bs) p ts → Turns op.Refresh q bs p.link p.stream p ts
+    (reach_of op.Refresh (refresh_on plan q (length bs) ports host p.link p.stream loss))
+refresh_turns plan (Up set j) bs ports host p ts loss same live at = by_case _
+    (refresh_or plan host ports p.link p.stream (length bs) (not set) p.sub _)
   where
     by_case : (x : Verdict) → (reach_of op.Refresh x ≡ None)
         ⊎ ((x ≡ performed ports p.link p.stream loss (work_of op.Refresh (Up set j) (length bs)))
@@ -67,24 +91,30 @@ refresh_turns plan (Up set j) bs ports host p ts loss same live at = by_case _ (
         let from = refresh_begins p ts (length bs) set j at in
         rw (is, goes.says) (refreshes p ts (not set) (length bs) 1 true goes.reached_to (suc (length bs)) (omega arith)
         (below_more ts (length bs) _ (omega arith) at.below) (omega arith) goes.reached
-        (refresh_first_takes p.side p.link p.stream p.sends p.sub ports ts (not set) (length bs) goes.reached_to same live dead goes.taken from) from)
+        (refresh_first_takes p.side p.link p.stream p.sends p.sub ports ts (not set) (length bs) goes.reached_to same
+        live dead goes.taken from) from)
 refresh_turns plan (Refreshing set j n) bs ports host p ts loss same live at =
-    let goes = performs ports p.link p.stream loss (work_of op.Refresh (Refreshing set j n) (length bs)) (let le = at.fits.2 in omega arith) in
+    let goes = performs ports p.link p.stream loss (work_of op.Refresh (Refreshing set j n) (length bs))
+    (let le = at.fits.2 in omega arith) in
     let from = refresh_goes_on p ts (length bs) set j n at in
     rw goes.says (refreshes p ts set j n false goes.reached_to (length bs) at.fits.0 at.below at.fits.1 goes.reached
-    (refresh_again_takes p.side p.link p.stream p.sends p.sub ports ts set j n goes.reached_to at.fits.1 same goes.taken) from)
+    (refresh_again_takes p.side p.link p.stream p.sends p.sub ports ts set j n goes.reached_to at.fits.1 same
+    goes.taken) from)
 refresh_turns plan q bs ports host p ts loss same live at = at
 
 -- ---- a stop
 
-stop_is : (q : Op) (next : ℕ) → work_of op.Stop q next ≡ work op.Stop false 0 (work_of op.Stop q next).first (work_of op.Stop q next).begins
+stop_is : (q : Op) (next : ℕ) → work_of op.Stop q next ≡ work op.Stop false 0 (work_of op.Stop q next).first
+    (work_of op.Stop q next).begins
 stop_is q next = grind arith
 
 stop_finds : (q : Op) (top : ℕ) (u : Marks) (p : Place) (sh : Shape) → Fits q top u p sh
-    → ((work_of op.Stop q top).first ≤ 13) × FindsHalted p.side (lane p) (work_of op.Stop q top).first (work_of op.Stop q top).begins sh
+    → ((work_of op.Stop q top).first ≤ 13) × FindsHalted p.side (lane p) (work_of op.Stop q top).first
+    (work_of op.Stop q top).begins sh
 stop_finds q top u p sh fits = grind arith
 
-stop_ends : (q : Op) (bs : List Begun) (p : Place) (ts : List Touch) (r : Reach) → Reached (work_of op.Stop q (length bs)).first 12 r
+stop_ends : (q : Op) (bs : List Begun) (p : Place) (ts : List Touch) (r : Reach)
+    → Reached (work_of op.Stop q (length bs)).first 12 r
     → FitsAt q (length bs) p ts → Turns op.Stop q bs p.link p.stream p ts (Some r)
 stop_ends q bs p ts r reached at =
     rw (stop_is q (length bs), and-false (work_of op.Stop q (length bs)).begins)
@@ -92,9 +122,11 @@ stop_ends q bs p ts r reached at =
     (record { shape = at.shape; is = at.is; fits = (stop_finds q (length bs) (marks ts) p at.shape at.fits).1 }))
 
 stop_turns : (q : Op) (bs : List Begun) (ports : PortView) (p : Place) (ts : List Touch) (loss : Option Loss)
-    → FitsAt q (length bs) p ts → Turns op.Stop q bs p.link p.stream p ts (reach_of op.Stop (stop_on q (length bs) ports p.link p.stream loss))
+    → FitsAt q (length bs) p ts → Turns op.Stop q bs p.link p.stream p ts
+    (reach_of op.Stop (stop_on q (length bs) ports p.link p.stream loss))
 stop_turns q bs ports p ts loss at =
-    let goes = performs ports p.link p.stream loss (work op.Stop false 0 (work_of op.Stop q (length bs)).first (work_of op.Stop q (length bs)).begins)
+    let goes = performs ports p.link p.stream loss
+    (work op.Stop false 0 (work_of op.Stop q (length bs)).first (work_of op.Stop q (length bs)).begins)
     (stop_finds q (length bs) (marks ts) p at.shape at.fits).0 in
     rw (stop_is q (length bs), goes.says) (stop_ends q bs p ts goes.reached_to goes.reached at)
 
@@ -107,17 +139,24 @@ more_begun bs link stream w = grind arith
 operated_fits : (m : Manager) (o : Operation) (link stream : ℕ) (r : Option Reach) (p : Place) (ts : List Touch)
     → ((p.link ≡ link) × (p.stream ≡ stream) → Turns o (m.ops link stream) m.begun link stream p ts r)
     → FitsAt (m.ops p.link p.stream) (length m.begun) p ts
-    → Turned ((operated m o link stream r).ops p.link p.stream) (length (operated m o link stream r).begun) p ts (on_it (is_on_stream p link stream) (worked (work_of o (m.ops link stream) (length m.begun)) r p))
+    → Turned ((operated m o link stream r).ops p.link p.stream) (length (operated m o link stream r).begun) p ts
+    (on_it (is_on_stream p link stream) (worked (work_of o (m.ops link stream) (length m.begun)) r p))
 operated_fits m o link stream None p ts turns at =
     let none : Turned (m.ops p.link p.stream) (length m.begun) p ts [] = record { now = at; come = tt } in
-    by_stream p.link p.stream (λ x y f. Turned (m.ops p.link p.stream) (length m.begun) p ts (on_it f [])) none (λ x y. none) link stream
+    by_stream p.link p.stream (λ x y f. Turned (m.ops p.link p.stream) (length m.begun) p ts (on_it f [])) none
+    (λ x y. none) link stream
 operated_fits m o link stream (Some r) p ts turns at = by_test (is_on_stream p link stream) refl
   where
     by_test : (b : Bool) → is_on_stream p link stream ≡ b
-        → Turned (if b then op_after (work_of o (m.ops link stream) (length m.begun)) r else m.ops p.link p.stream) (length (begun_after m.begun link stream (work_of o (m.ops link stream) (length m.begun)))) p ts
+        → Turned (if b then op_after (work_of o (m.ops link stream) (length m.begun)) r else m.ops p.link p.stream)
+        (length (begun_after m.begun link stream (work_of o (m.ops link stream) (length m.begun)))) p ts
         (on_it b (worked (work_of o (m.ops link stream) (length m.begun)) (Some r) p))
     by_test true e = turns (same_place p.link p.stream link stream e)
-    by_test false e = record { now = raise (m.ops p.link p.stream) (length m.begun) _ p ts (more_begun m.begun link stream (work_of o (m.ops link stream) (length m.begun))) at; come = tt }
+    by_test false e = record {
+      now = raise (m.ops p.link p.stream) (length m.begun) _ p ts
+          (more_begun m.begun link stream (work_of o (m.ops link stream) (length m.begun))) at;
+      come = tt;
+    }
 
 -- ---- sends and arrivals
 
@@ -127,18 +166,23 @@ sends_there p d e = grind arith
 -- uses that fit, at a place whose keys are of its stream, leave it fit for the same state
 abbrev UsesLeave : Op → List Begun → Place → List Touch → List Touch → Type 0
 UsesLeave o bs p ts more =
-    UsesFit p.sends ts more → OwnedKeys (Owner bs p.link p.stream) (keys p.sends ts) → FitsAt o (length bs) p ts → Turned o (length bs) p ts more
+    UsesFit p.sends ts more → OwnedKeys (Owner bs p.link p.stream) (keys p.sends ts) → FitsAt o (length bs) p ts
+    → Turned o (length bs) p ts more
 
-sealed_fits : (o : Op) (bs : List Begun) (p : Place) (ts : List Touch) (ds : List SealedPacket) → UsesLeave o bs p ts (sealed_here p ds)
+sealed_fits : (o : Op) (bs : List Begun) (p : Place) (ts : List Touch) (ds : List SealedPacket)
+    → UsesLeave o bs p ts (sealed_here p ds)
 sealed_fits o bs p ts [] uses owned at = record { now = at; come = tt }
-sealed_fits o bs p ts (d ∷ ds) uses owned at = by_test (sealed_fits o bs p ts ds) (sealed_fits o bs p (Seal d.draw d.m ∷ ts) ds) (is_sender p d) refl uses
+sealed_fits o bs p ts (d ∷ ds) uses owned at = by_test (sealed_fits o bs p ts ds)
+    (sealed_fits o bs p (Seal d.draw d.m ∷ ts) ds) (is_sender p d) refl uses
   where
     by_test : UsesLeave o bs p ts (sealed_here p ds) → UsesLeave o bs p (Seal d.draw d.m ∷ ts) (sealed_here p ds)
-        → (b : Bool) → is_sender p d ≡ b → UsesFit p.sends ts (when b (Seal d.draw d.m) ++ sealed_here p ds) → Turned o (length bs) p ts (when b (Seal d.draw d.m) ++ sealed_here p ds)
+        → (b : Bool) → is_sender p d ≡ b → UsesFit p.sends ts (when b (Seal d.draw d.m) ++ sealed_here p ds)
+        → Turned o (length bs) p ts (when b (Seal d.draw d.m) ++ sealed_here p ds)
     by_test without with_it false e uses = without uses owned at
     by_test without with_it true e uses =
         let on = live_is_on (keys p.sends ts) d.draw uses.0 in
-        let mine : Owner bs p.link p.stream on.0 d.draw = owned_on (Owner bs p.link p.stream) (keys p.sends ts) on.0 d.draw owned on.1 in
+        let mine : Owner bs p.link p.stream on.0 d.draw = owned_on (Owner bs p.link p.stream) (keys p.sends ts) on.0
+        d.draw owned on.1 in
         use_first o (length bs) p ts (Seal d.draw d.m) (sealed_here p ds) at (sends_there p d e, uses.0)
         (with_it uses.1 (behind_owned (Owner bs p.link p.stream) p.sends ts (Seal d.draw d.m ∷ []) owned (tt, tt))
         (seals_fit o (length bs) p ts d.draw d.m (sends_there p d e) uses.0 (begun_below bs d.draw _ mine) at))
@@ -150,23 +194,33 @@ accepted_fits : (o : Op) (bs : List Begun) (p : Place) (ts : List Touch) (j : �
     → UsesLeave o bs p ts (when (not p.sends && a && b && c) (Accept j))
 accepted_fits o bs p ts j a b c uses owned at = by_test (not p.sends && a && b && c) refl uses
   where
-    by_test : (f : Bool) → (not p.sends && a && b && c) ≡ f → UsesFit p.sends ts (when f (Accept j)) → Turned o (length bs) p ts (when f (Accept j))
+    by_test : (f : Bool) → (not p.sends && a && b && c) ≡ f → UsesFit p.sends ts (when f (Accept j))
+        → Turned o (length bs) p ts (when f (Accept j))
     by_test false e uses = record { now = at; come = tt }
     by_test true e uses =
         let receives = receives_there p.sends a b c e in
-        let mine : Owner bs p.link p.stream uses.0.0 j = owned_on (Owner bs p.link p.stream) (keys p.sends ts) uses.0.0 j owned uses.0.1 in
+        let mine : Owner bs p.link p.stream uses.0.0 j = owned_on (Owner bs p.link p.stream) (keys p.sends ts) uses.0.0
+        j owned uses.0.1 in
         use_first o (length bs) p ts (Accept j) [] at (receives, uses.0)
-        (record { now = accepts_fit o (length bs) p ts uses.0.0 j receives uses.0.1 (begun_below bs j _ mine) at; come = tt })
+        (record {
+          now = accepts_fit o (length bs) p ts uses.0.0 j receives uses.0.1 (begun_below bs j _ mine) at;
+          come =
+              tt;
+        })
 
-came_fits : (o : Op) (bs : List Begun) (p : Place) (ts : List Touch) (verdict : Verdict) → UsesLeave o bs p ts (came p verdict)
+came_fits : (o : Op) (bs : List Begun) (p : Place) (ts : List Touch) (verdict : Verdict)
+    → UsesLeave o bs p ts (came p verdict)
 came_fits o bs p ts (v.Sealed packets) uses owned at = sealed_fits o bs p ts packets uses owned at
-came_fits o bs p ts (v.Accepted port unit effects) uses owned at = accepted_fits o bs p ts unit.draw (is_same_side p.side port.side) (is_on_stream p port.link unit.stream) (is_same_sub p.sub unit.sub) uses owned at
+came_fits o bs p ts (v.Accepted port unit effects) uses owned at = accepted_fits o bs p ts unit.draw
+    (is_same_side p.side port.side) (is_on_stream p port.link unit.stream) (is_same_sub p.sub unit.sub) uses owned at
 came_fits o bs p ts _ uses owned at = record { now = at; come = tt }
 
 -- ---- a reset
 
-reset_fits : (m : Manager) (link : ℕ) (p : Place) (ts : List Touch) → FitsAt (m.ops p.link p.stream) (length m.begun) p ts
-    → Turned (if p.link == link then Idle else m.ops p.link p.stream) (length m.begun) p ts (when (p.link == link) Clear)
+reset_fits : (m : Manager) (link : ℕ) (p : Place) (ts : List Touch)
+    → FitsAt (m.ops p.link p.stream) (length m.begun) p ts
+    → Turned (if p.link == link then Idle else m.ops p.link p.stream) (length m.begun) p ts
+    (when (p.link == link) Clear)
 reset_fits m link p ts at = by_test (p.link == link)
   where
     by_test : (b : Bool) → Turned (if b then Idle else m.ops p.link p.stream) (length m.begun) p ts (when b Clear)
@@ -179,14 +233,18 @@ abbrev pub Fit : History → Place → Type 0
 Fit h p = FitsAt (op_of h p.link p.stream) (draws h) p (moments h p)
 
 -- what is true at a place's own link and stream is true at those that it is on
-pub elsewhere : (p : Place) (link stream : ℕ) (P : ℕ → ℕ → Type 0) → (p.link ≡ link) × (p.stream ≡ stream) → P p.link p.stream → P link stream
+pub elsewhere : (p : Place) (link stream : ℕ) (P : ℕ → ℕ → Type 0) → (p.link ≡ link) × (p.stream ≡ stream)
+    → P p.link p.stream → P link stream
 elsewhere p link stream P same here = subst (λ (y : ℕ). P link y) same.1 (subst (λ (x : ℕ). P x p.stream) same.0 here)
 
 -- the operation on a stream that may not exist
-due_fits : (h : History) (o : Operation) (p : Place) (has : ℕ → ℕ → Bool) (its : ℕ → ℕ → Verdict) (link stream : ℕ) (x : Verdict)
+due_fits : (h : History) (o : Operation) (p : Place) (has : ℕ → ℕ → Bool) (its : ℕ → ℕ → Verdict) (link stream : ℕ)
+    (x : Verdict)
     → x ≡ (if has link stream then its link stream else v.Nothing) → Fit h p
-    → Turns o (op_of h p.link p.stream) (manager h).begun p.link p.stream p (moments h p) (reach_of o (its p.link p.stream))
-    → Turned ((operated (manager h) o link stream (reach_of o x)).ops p.link p.stream) (length (operated (manager h) o link stream (reach_of o x)).begun) p
+    → Turns o (op_of h p.link p.stream) (manager h).begun p.link p.stream p (moments h p)
+    (reach_of o (its p.link p.stream))
+    → Turned ((operated (manager h) o link stream (reach_of o x)).ops p.link p.stream)
+    (length (operated (manager h) o link stream (reach_of o x)).begun) p
     (moments h p)
     (on_it (is_on_stream p link stream) (worked (work_of o (op_of h link stream) (draws h)) (reach_of o x) p))
 due_fits h o p has its link stream x is at turns =
@@ -200,25 +258,38 @@ due_fits h o p has its link stream x is at turns =
     by_has true = turns
 
 -- each touch of the next pair comes where it may, and leads to the next state
-pub next_fits : (plan : KeyPlan) (h : History) (e : Event) (x : Verdict) → CauseLaw plan ((e, x) ∷ h) → (p : Place) → Fit h p
-    → Turned (op_of ((e, x) ∷ h) p.link p.stream) (draws ((e, x) ∷ h)) p (moments h p) (touches (manager h).ops (draws h) e x p)
+pub next_fits : (plan : KeyPlan) (h : History) (e : Event) (x : Verdict) → CauseLaw plan ((e, x) ∷ h) → (p : Place)
+    → Fit h p
+    → Turned (op_of ((e, x) ∷ h) p.link p.stream) (draws ((e, x) ∷ h)) p (moments h p)
+    (touches (manager h).ops (draws h) e x p)
 unfolding manager due
 next_fits plan h (event.Establish link stream loss) x cause p at =
-    due_fits h op.Establish p plan.has_stream (λ a b. establish_on plan (op_of h a b) (draws h) (ports_at h) a b loss) link stream x cause.0 at
+    due_fits h op.Establish p plan.has_stream (λ a b. establish_on plan (op_of h a b) (draws h) (ports_at h) a b loss)
+    link stream x cause.0 at
     (establish_turns plan (op_of h p.link p.stream) (manager h).begun (ports_at h) p (moments h p) loss at)
 next_fits plan h (event.Refresh link stream loss) x cause p at =
-    due_fits h op.Refresh p plan.has_stream (λ a b. refresh_on plan (op_of h a b) (draws h) (ports_at h) (status_of h Host a b) a b loss)
+    due_fits h op.Refresh p plan.has_stream
+    (λ a b. refresh_on plan (op_of h a b) (draws h) (ports_at h) (status_of h Host a b) a b loss)
     link stream x cause.0 at
-    (refresh_turns plan (op_of h p.link p.stream) (manager h).begun (ports_at h) (status_of h Host p.link p.stream) p (moments h p) loss
+    (refresh_turns plan (op_of h p.link p.stream) (manager h).begun (ports_at h) (status_of h Host p.link p.stream) p
+    (moments h p) loss
     (λ x. refl) (λ x. refl) at)
 next_fits plan h (event.Stop link stream loss) x cause p at =
-    due_fits h op.Stop p plan.has_stream (λ a b. stop_on (op_of h a b) (draws h) (ports_at h) a b loss) link stream x cause.0 at
+    due_fits h op.Stop p plan.has_stream (λ a b. stop_on (op_of h a b) (draws h) (ports_at h) a b loss) link stream x
+    cause.0 at
     (stop_turns (op_of h p.link p.stream) (manager h).begun (ports_at h) p (moments h p) loss at)
 next_fits plan h (event.Reset link) (v.Reset l) cause p at = reset_fits (manager h) link p (moments h p) at
 next_fits plan h (event.Reset link) _ cause p at = record { now = at; come = tt }
-next_fits plan h _ x cause p at = came_fits (op_of h p.link p.stream) (manager h).begun p (moments h p) x (cause.1 p) (keys_owned h p) at
+next_fits plan h _ x cause p at = came_fits (op_of h p.link p.stream) (manager h).begun p (moments h p) x (cause.1 p)
+    (keys_owned h p) at
 
 pub fits : (plan : KeyPlan) (h : History) → CauseLaw plan h → (p : Place) → Fit h p
 unfolding manager moments used started
-fits plan [] cause p = record { shape = Bare; is = at_start p.sends; fits = refl; below = record { within = omega arith; fresh = omega arith; falls = tt } }
+fits plan [] cause p = record {
+  shape = Bare;
+  is = at_start p.sends;
+  fits = refl;
+  below = record
+      { within = omega arith; fresh = omega arith; falls = tt };
+}
 fits plan ((e, x) ∷ h) cause p = (next_fits plan h e x cause p (fits plan h cause.2 p)).now

@@ -1,6 +1,8 @@
 -- The one verdict that an operation or a reset gets after a history.
-use Rattle.std.specs.Prelude.{◌+◌, ◌-◌, ◌==◌, ◌&&◌, ◌||◌, if◌then◌else◌, ℕ, suc, zero, nat_lt, Bool, false, Option, Some, None}
-use Rattle.key_laws.specs.Terms.{list_any, SubKind, Pr, Npr, Cpl, Host, Device, Event, Loss, Lost, Request, Reply, Operation, StreamStatus}
+use Rattle.std.specs.Prelude.{◌+◌, ◌-◌, ◌==◌, ◌&&◌, ◌||◌, if◌then◌else◌, ℕ, suc, zero, nat_lt, Bool, false, Option}
+use Rattle.std.specs.Prelude.{Some, None}
+use Rattle.key_laws.specs.Terms.{list_any, SubKind, Pr, Npr, Cpl, Host, Device, Event, Loss, Lost, Request, Reply}
+use Rattle.key_laws.specs.Terms.{Operation, StreamStatus}
 use Rattle.key_laws.specs.Terms.{Verdict}
 use Rattle.link_events.specs.declared.event.Event.TheVariants as event
 use Rattle.link_verdicts.specs.declared.verdict.Operation.TheVariants as op

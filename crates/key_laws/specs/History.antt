@@ -1,5 +1,6 @@
 -- What happened to the keys: a history is a list of events with their verdicts, the newest first.
-use Rattle.std.specs.Prelude.{◌+◌, ◌==◌, ◌&&◌, ◌||◌, if◌then◌else◌, ◌∷◌, ◌++◌, ℕ, nat_lt, nat_le, Bool, true, false, not, Option, Some, None, List, [], length, is_some}
+use Rattle.std.specs.Prelude.{◌+◌, ◌==◌, ◌&&◌, ◌||◌, if◌then◌else◌, ◌∷◌, ◌++◌, ℕ, nat_lt, nat_le, Bool, true, false}
+use Rattle.std.specs.Prelude.{not, Option, Some, None, List, [], length, is_some}
 use Rattle.key_laws.specs.Terms.{list_any, list_all, Side, Event, Operation, SealedPacket}
 use Rattle.key_laws.specs.Terms.{StreamStatus, Verdict}
 use Rattle.link_events.specs.declared.event.Event.TheVariants as event
@@ -7,7 +8,8 @@ use Rattle.link_verdicts.specs.declared.verdict.Operation.TheVariants as op
 use Rattle.ide_types.specs.declared.status.StreamStatus.TheVariants as status
 use Rattle.link_verdicts.specs.declared.verdict.Verdict.TheVariants as v
 use Rattle.key_laws.specs.Places.{Place, is_host, is_same_side, is_same_sub, is_on_stream, lane, places_of}
-use Rattle.key_laws.specs.Keys.{Touch, Program, Go, Stop, Clear, Seal, Accept, Keys, keys, key_in, kept_in, on_in, is_on, Slot, slot_of}
+use Rattle.key_laws.specs.Keys.{Touch, Program, Go, Stop, Clear, Seal, Accept, Keys, keys, key_in, kept_in, on_in}
+use Rattle.key_laws.specs.Keys.{is_on, Slot, slot_of}
 use Rattle.key_laws.specs.Operations.{Op, Idle, Work, Reach, Manager, Begun, work_of, reach_of, manager_after}
 
 abbrev pub History : Type 0

@@ -8,7 +8,8 @@ use Rattle.link_verdicts.specs.declared.verdict.Verdict.TheVariants as v
 use Rattle.key_laws.specs.Places.{KeyPlan, Place}
 use Rattle.key_laws.specs.Keys.{Touch, Go, Seal, Accept, keys, key_in, kept_in, on_in, live_draw}
 use Rattle.key_laws.specs.Operations.{Idle, Establishing, Up, Refreshing, work_of}
-use Rattle.key_laws.specs.History.{History, op_of, draws, moments, came, kept_draw, on_draw, status_of, go_at, manager, touches}
+use Rattle.key_laws.specs.History.{History, op_of, draws, moments, came, kept_draw, on_draw, status_of, go_at, manager}
+use Rattle.key_laws.specs.History.{touches}
 use Rattle.key_laws.specs.Due.{due}
 
 -- ---- the cause of each verdict

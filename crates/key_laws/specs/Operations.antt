@@ -1,5 +1,6 @@
 -- The manager's operations on streams, said by their verdicts.
-use Rattle.std.specs.Prelude.{◌+◌, ◌==◌, ◌&&◌, if◌then◌else◌, ◌∷◌, ℕ, nat_lt, Bool, true, false, not, Option, Some, None, List, length}
+use Rattle.std.specs.Prelude.{◌+◌, ◌==◌, ◌&&◌, if◌then◌else◌, ◌∷◌, ℕ, nat_lt, Bool, true, false, not, Option, Some}
+use Rattle.std.specs.Prelude.{None, List, length}
 use Rattle.key_laws.specs.Terms.{Event, Operation, Verdict}
 use Rattle.link_events.specs.declared.event.Event.TheVariants as event
 use Rattle.link_verdicts.specs.declared.verdict.Operation.TheVariants as op

@@ -1,5 +1,7 @@
 -- What touches behind others leave: marks only grow, a draw that is On got its GO, an operation opens and ends no unit.
-use Rattle.key_states.proofs.Terms.{◌≡◌, ℕ, ◌<◌, ◌≤◌, Bool, true, false, Option, Some, List, [], ◌∷◌, refl, ◌∙◌, arith, Touch, Seal, Keyed, On, Keys, key_in, on_in, touched, settled, is_open, keys, Event, Verdict, Place, is_on_stream, Op}
+use Rattle.key_states.proofs.Terms.{◌≡◌, ℕ, ◌<◌, ◌≤◌, Bool, true, false, Option, Some, List, [], ◌∷◌, refl, ◌∙◌, arith}
+use Rattle.key_states.proofs.Terms.{Touch, Seal, Keyed, On, Keys, key_in, on_in, touched, settled, is_open, keys, Event}
+use Rattle.key_states.proofs.Terms.{Verdict, Place, is_on_stream, Op}
 use Rattle.key_states.proofs.Terms.{Work, Reach, work_of, reach_of, behind, worked, on_it, came, touches, used, started}
 use Rattle.link_events.specs.declared.event.Event.TheVariants as event
 use Rattle.link_verdicts.specs.declared.verdict.Operation.TheVariants as op
@@ -39,7 +41,8 @@ unfolding keys
 all_below s [] = record { first_is = tt; second_is = tt }
 all_below s (t ∷ ts) = one_below s (is_open (t ∷ ts)) ts (keys s ts) t (all_below s ts)
 
-pub on_started : (s : Bool) (ts : List Touch) (k : Bool) (j : ℕ) → on_in (key_in (keys s ts) k) ≡ Some j → j < started ts
+pub on_started : (s : Bool) (ts : List Touch) (k : Bool) (j : ℕ) → on_in (key_in (keys s ts) k) ≡ Some j
+    → j < started ts
 on_started s ts k j on = let below = all_below s ts in grind arith
 
 -- ---- touches that are no seals
@@ -49,7 +52,8 @@ NoSeal [] = Unit {0}
 NoSeal (Seal j m ∷ ts) = ⊥
 NoSeal (t ∷ ts) = NoSeal ts
 
-one_open : (t : Touch) (ts more : List Touch) (j : ℕ) → NoSeal (t ∷ more) → (is_open (t ∷ ts) j ≡ is_open ts j) × NoSeal more
+one_open : (t : Touch) (ts more : List Touch) (j : ℕ) → NoSeal (t ∷ more) → (is_open (t ∷ ts) j ≡ is_open ts j)
+    × NoSeal more
 unfolding is_open
 one_open t ts more j none = grind arith
 
@@ -67,10 +71,13 @@ operated_no_seal f w r p = grind arith
 came_no_seal : (p : Place) (x : Verdict) → is_sealed x ≡ false → NoSeal (came p x)
 came_no_seal p x none = grind arith
 
-pub touches_no_seal : (ops : ℕ → ℕ → Op) (next : ℕ) (e : Event) (x : Verdict) (p : Place) → is_sealed x ≡ false → NoSeal (touches ops next e x p)
+pub touches_no_seal : (ops : ℕ → ℕ → Op) (next : ℕ) (e : Event) (x : Verdict) (p : Place) → is_sealed x ≡ false
+    → NoSeal (touches ops next e x p)
 touches_no_seal ops next (event.Establish l s lose) x p none =
     operated_no_seal (is_on_stream p l s) (work_of op.Establish (ops l s) next) (reach_of op.Establish x) p
-touches_no_seal ops next (event.Refresh l s lose) x p none = operated_no_seal (is_on_stream p l s) (work_of op.Refresh (ops l s) next) (reach_of op.Refresh x) p
-touches_no_seal ops next (event.Stop l s lose) x p none = operated_no_seal (is_on_stream p l s) (work_of op.Stop (ops l s) next) (reach_of op.Stop x) p
+touches_no_seal ops next (event.Refresh l s lose) x p none = operated_no_seal (is_on_stream p l s)
+    (work_of op.Refresh (ops l s) next) (reach_of op.Refresh x) p
+touches_no_seal ops next (event.Stop l s lose) x p none = operated_no_seal (is_on_stream p l s)
+    (work_of op.Stop (ops l s) next) (reach_of op.Stop x) p
 touches_no_seal ops next (event.Reset l) x p none = grind arith
 touches_no_seal ops next e x p none = came_no_seal p x none

@@ -1,7 +1,12 @@
 -- What stands at the end of an operation.
-use Rattle.key_states.proofs.Terms.{◌≡◌, ℕ, Bool, true, false, Option, Some, None, List, [], ◌∷◌, refl, ap, sym, ◌∙◌, arith, if◌then◌else◌, Host, Event, Loss, StreamStatus, Verdict, KeyPlan, Place, is_on_stream, Touch, Keys, on_in, Op}
-use Rattle.key_states.proofs.Terms.{Idle, Establishing, Up, Refreshing, Stopping, reach, work_of, op_after, History, manager, op_of, draws, worked, behind, moments, on_draw, status_of, PortView, ports_at, establish_on, refresh_on, due}
-use Rattle.key_states.proofs.Terms.{CauseLaw, Settled, SettledAt, same-true, Alone, IsAt, FitsAt, establish_ends, establish_takes, establish_begins, establish_goes_on, fits, elsewhere}
+use Rattle.key_states.proofs.Terms.{◌≡◌, ℕ, Bool, true, false, Option, Some, None, List, [], ◌∷◌, refl, ap, sym, ◌∙◌}
+use Rattle.key_states.proofs.Terms.{arith, if◌then◌else◌, Host, Event, Loss, StreamStatus, Verdict, KeyPlan, Place}
+use Rattle.key_states.proofs.Terms.{is_on_stream, Touch, Keys, on_in, Op}
+use Rattle.key_states.proofs.Terms.{Idle, Establishing, Up, Refreshing, Stopping, reach, work_of, op_after, History}
+use Rattle.key_states.proofs.Terms.{manager, op_of, draws, worked, behind, moments, on_draw, status_of, PortView}
+use Rattle.key_states.proofs.Terms.{ports_at, establish_on, refresh_on, due}
+use Rattle.key_states.proofs.Terms.{CauseLaw, Settled, SettledAt, same-true, Alone, IsAt, FitsAt, establish_ends}
+use Rattle.key_states.proofs.Terms.{establish_takes, establish_begins, establish_goes_on, fits, elsewhere}
 use Rattle.link_events.specs.declared.event.Event.TheVariants as event
 use Rattle.link_verdicts.specs.declared.verdict.Operation.TheVariants as op
 use Rattle.link_verdicts.specs.declared.verdict.Verdict.TheVariants as v
@@ -18,28 +23,38 @@ on_same p link stream same = elsewhere p link stream (λ (x y : ℕ). is_on_stre
 stopped_op : (q : Op) (next : ℕ) → op_after (work_of op.Stop q next) (reach 13 13) ≡ Idle
 stopped_op q next = grind arith
 
-stop_settles : (plan : KeyPlan) (h : History) (link stream : ℕ) (loss : Option Loss) (l t : ℕ) → CauseLaw plan ((event.Stop link stream loss, v.Stopped l t) ∷ h) → SettledAt h (event.Stop link stream loss) (v.Stopped l t)
+stop_settles : (plan : KeyPlan) (h : History) (link stream : ℕ) (loss : Option Loss) (l t : ℕ)
+    → CauseLaw plan ((event.Stop link stream loss, v.Stopped l t) ∷ h)
+    → SettledAt h (event.Stop link stream loss) (v.Stopped l t)
 unfolding manager
 stop_settles plan h link stream loss l t cause p on_link on_id set =
-    (stream_facts plan _ cause).idle p (rw (on_same p link stream (on_link, on_id)) (stopped_op (op_of h link stream) (draws h))) set
+    (stream_facts plan _ cause).idle p
+    (rw (on_same p link stream (on_link, on_id)) (stopped_op (op_of h link stream) (draws h))) set
 
 -- ---- a refresh
 
-refreshed_op : (q : Op) (next : ℕ) → op_after (work_of op.Refresh q next) (reach 13 13) ≡ Up (work_of op.Refresh q next).set (work_of op.Refresh q next).draw
+refreshed_op : (q : Op) (next : ℕ) → op_after (work_of op.Refresh q next) (reach 13 13)
+    ≡ Up (work_of op.Refresh q next).set (work_of op.Refresh q next).draw
 refreshed_op q next = grind arith
 
-refreshed_draw : (has : Bool) (plan : KeyPlan) (q : Op) (next : ℕ) (ports : PortView) (host : StreamStatus) (link stream : ℕ) (loss : Option Loss) (l t j : ℕ)
-    → v.Refreshed l t j ≡ (if has then refresh_on plan q next ports host link stream loss else v.Nothing) → j ≡ (work_of op.Refresh q next).draw
+refreshed_draw : (has : Bool) (plan : KeyPlan) (q : Op) (next : ℕ) (ports : PortView) (host : StreamStatus)
+    (link stream : ℕ) (loss : Option Loss) (l t j : ℕ)
+    → v.Refreshed l t j ≡ (if has then refresh_on plan q next ports host link stream loss else v.Nothing) → j
+    ≡ (work_of op.Refresh q next).draw
 refreshed_draw has plan q next ports host link stream loss l t j is = grind arith
 
-refresh_settles : (plan : KeyPlan) (h : History) (link stream : ℕ) (loss : Option Loss) (l t j : ℕ) → CauseLaw plan ((event.Refresh link stream loss, v.Refreshed l t j) ∷ h) → SettledAt h (event.Refresh link stream loss) (v.Refreshed l t j)
+refresh_settles : (plan : KeyPlan) (h : History) (link stream : ℕ) (loss : Option Loss) (l t j : ℕ)
+    → CauseLaw plan ((event.Refresh link stream loss, v.Refreshed l t j) ∷ h)
+    → SettledAt h (event.Refresh link stream loss) (v.Refreshed l t j)
 unfolding manager due
 refresh_settles plan h link stream loss l t j cause =
-    let draw = refreshed_draw _ plan (op_of h link stream) (draws h) (ports_at h) (status_of h Host link stream) link stream loss l t j cause.0 in
+    let draw = refreshed_draw _ plan (op_of h link stream) (draws h) (ports_at h) (status_of h Host link stream) link
+    stream loss l t j cause.0 in
     let w = work_of op.Refresh (op_of h link stream) (draws h) in (
       draw,
       λ p on_link on_id. (stream_facts plan _ cause).up p w.set j
-          (rw (on_same p link stream (on_link, on_id)) (refreshed_op (op_of h link stream) (draws h) ∙ ap (Up w.set) (sym draw))),
+          (rw (on_same p link stream (on_link, on_id))
+          (refreshed_op (op_of h link stream) (draws h) ∙ ap (Up w.set) (sym draw))),
     )
 
 -- ---- an establish
@@ -52,14 +67,19 @@ unfolding due
 established_draw plan h link stream loss l t j is = grind arith
 
 -- an establish that ended left its key alone
-established_alone : (plan : KeyPlan) (q : Op) (next : ℕ) (p : Place) (ts : List Touch) (ports : PortView) (loss : Option Loss) (l t j : ℕ) → FitsAt q next p ts → v.Established l t j ≡ establish_on plan q next ports p.link p.stream loss
-    → IsAt p.sends (behind ts (worked (work_of op.Establish q next) (Some (reach 14 14)) p)) (Alone false (work_of op.Establish q next).draw)
+established_alone : (plan : KeyPlan) (q : Op) (next : ℕ) (p : Place) (ts : List Touch) (ports : PortView)
+    (loss : Option Loss) (l t j : ℕ) → FitsAt q next p ts → v.Established l t j
+    ≡ establish_on plan q next ports p.link p.stream loss
+    → IsAt p.sends (behind ts (worked (work_of op.Establish q next) (Some (reach 14 14)) p))
+    (Alone false (work_of op.Establish q next).draw)
 established_alone plan Idle next p ts ports loss l t j at is =
     let from = establish_begins p ts next at in
-    establish_ends p ts next 1 true (reach 14 14) (omega arith) (omega arith) (establish_takes p ts next 1 true (reach 14 14) from) from
+    establish_ends p ts next 1 true (reach 14 14) (omega arith) (omega arith)
+    (establish_takes p ts next 1 true (reach 14 14) from) from
 established_alone plan (Establishing i n) next p ts ports loss l t j at is =
     let from = establish_goes_on p ts next i n at in
-    establish_ends p ts i n false (reach 14 14) (omega arith) (omega (arith, at.fits.1)) (establish_takes p ts i n false (reach 14 14) from) from
+    establish_ends p ts i n false (reach 14 14) (omega arith) (omega (arith, at.fits.1))
+    (establish_takes p ts i n false (reach 14 14) from) from
 established_alone plan (Up set i) next p ts ports loss l t j at is = absurd cc
 established_alone plan (Refreshing set i n) next p ts ports loss l t j at is = absurd cc
 established_alone plan (Stopping n) next p ts ports loss l t j at is = absurd cc
@@ -70,17 +90,23 @@ alone_there : (plan : KeyPlan) (h : History) (p : Place) (loss : Option Loss) (l
 unfolding moments
 alone_there plan h p loss l t j cause =
     let draw = established_draw plan h p.link p.stream loss l t j cause.0 in
-    rw (on_its_stream p, draw.0) (established_alone plan (op_of h p.link p.stream) (draws h) p (moments h p) (ports_at h) loss l t j
+    rw (on_its_stream p, draw.0)
+    (established_alone plan (op_of h p.link p.stream) (draws h) p (moments h p) (ports_at h) loss l t j
     (fits plan h cause.2 p) draw.1)
 
-establish_settles : (plan : KeyPlan) (h : History) (link stream : ℕ) (loss : Option Loss) (l t j : ℕ) → CauseLaw plan ((event.Establish link stream loss, v.Established l t j) ∷ h) → SettledAt h (event.Establish link stream loss)
+establish_settles : (plan : KeyPlan) (h : History) (link stream : ℕ) (loss : Option Loss) (l t j : ℕ)
+    → CauseLaw plan ((event.Establish link stream loss, v.Established l t j) ∷ h)
+    → SettledAt h (event.Establish link stream loss)
     (v.Established l t j)
-establish_settles plan h link stream loss l t j cause = ((established_draw plan h link stream loss l t j cause.0).0, places)
+establish_settles plan h link stream loss l t j cause =
+    ((established_draw plan h link stream loss l t j cause.0).0, places)
   where
     places : (p : Place) → p.link ≡ link → p.stream ≡ stream
-        → (on_draw ((event.Establish link stream loss, v.Established l t j) ∷ h) p false ≡ Some j) × (on_draw ((event.Establish link stream loss, v.Established l t j) ∷ h) p true ≡ None)
+        → (on_draw ((event.Establish link stream loss, v.Established l t j) ∷ h) p false ≡ Some j)
+        × (on_draw ((event.Establish link stream loss, v.Established l t j) ∷ h) p true ≡ None)
     places p on_link on_id =
-        let is = elsewhere p link stream (λ (x y : ℕ). CauseLaw plan ((event.Establish x y loss, v.Established l t j) ∷ h)
+        let is = elsewhere p link stream
+        (λ (x y : ℕ). CauseLaw plan ((event.Establish x y loss, v.Established l t j) ∷ h)
         → IsAt p.sends (moments ((event.Establish x y loss, v.Established l t j) ∷ h) p) (Alone false j))
         (on_link, on_id) (alone_there plan h p loss l t j) cause in
         (ap (λ (ks : Keys). on_in ks.first) is.are, ap (λ (ks : Keys). on_in ks.second) is.are)
@@ -88,8 +114,10 @@ establish_settles plan h link stream loss l t j cause = ((established_draw plan 
 -- ---- all pairs
 
 settled_at : (plan : KeyPlan) (h : History) (e : Event) (x : Verdict) → CauseLaw plan ((e, x) ∷ h) → SettledAt h e x
-settled_at plan h (event.Establish link stream loss) (v.Established l t j) cause = establish_settles plan h link stream loss l t j cause
-settled_at plan h (event.Refresh link stream loss) (v.Refreshed l t j) cause = refresh_settles plan h link stream loss l t j cause
+settled_at plan h (event.Establish link stream loss) (v.Established l t j) cause = establish_settles plan h link stream
+    loss l t j cause
+settled_at plan h (event.Refresh link stream loss) (v.Refreshed l t j) cause = refresh_settles plan h link stream loss l
+    t j cause
 settled_at plan h (event.Stop link stream loss) (v.Stopped l t) cause = stop_settles plan h link stream loss l t cause
 settled_at plan h _ _ cause = tt
 

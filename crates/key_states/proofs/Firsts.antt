@@ -1,7 +1,12 @@
 -- Where a place comes to have its first key that is On: in an establish, under the base of the stream.
-use Rattle.key_states.proofs.Terms.{◌≡◌, ℕ, ◌≤◌, ◌==◌, Bool, true, false, Option, Some, List, [], ◌∷◌, length, refl, ap, sym, ◌∙◌, arith, ◌&&◌, if◌then◌else◌, is_some, nat_tests, Host, Loss, Verdict, KeyPlan, Place, Touch, keys, Op, Idle}
-use Rattle.key_states.proofs.Terms.{Establishing, Reach, Manager, work_of, reach_of, operated, History, manager, op_of, draws, moments, keys_at, base, begins_keyed, is_keyed, status_of, PortView, ports_at, establish_on, refresh_on, due}
-use Rattle.key_states.proofs.Terms.{CauseLaw, marks, Shape, keys_of, used, started, IsAt, Rising, FitsAt, fits, Operation, StreamStatus}
+use Rattle.key_states.proofs.Terms.{◌≡◌, ℕ, ◌≤◌, ◌==◌, Bool, true, false, Option, Some, List, [], ◌∷◌, length, refl, ap}
+use Rattle.key_states.proofs.Terms.{sym, ◌∙◌, arith, ◌&&◌, if◌then◌else◌, is_some, nat_tests, Host, Loss, Verdict}
+use Rattle.key_states.proofs.Terms.{KeyPlan, Place, Touch, keys, Op, Idle}
+use Rattle.key_states.proofs.Terms.{Establishing, Reach, Manager, work_of, reach_of, operated, History, manager, op_of}
+use Rattle.key_states.proofs.Terms.{draws, moments, keys_at, base, begins_keyed, is_keyed, status_of, PortView}
+use Rattle.key_states.proofs.Terms.{ports_at, establish_on, refresh_on, due}
+use Rattle.key_states.proofs.Terms.{CauseLaw, marks, Shape, keys_of, used, started, IsAt, Rising, FitsAt, fits}
+use Rattle.key_states.proofs.Terms.{Operation, StreamStatus}
 use Rattle.std.proofs.Math.Bool.{and-false}
 use Rattle.link_events.specs.declared.event.Event.TheVariants as event
 use Rattle.link_verdicts.specs.declared.verdict.Operation.TheVariants as op
@@ -15,13 +20,15 @@ abbrev OpIs : ℕ → Op → Type 0
 OpIs b (Establishing j n) = b ≡ j
 OpIs b _ = Unit {0}
 
-other_is : (m : Manager) (b : ℕ) (o : Operation) (l s link stream : ℕ) (r : Option Reach) → (o ≡ op.Establish → ⊥) → OpIs b (m.ops link stream)
+other_is : (m : Manager) (b : ℕ) (o : Operation) (l s link stream : ℕ) (r : Option Reach) → (o ≡ op.Establish → ⊥)
+    → OpIs b (m.ops link stream)
     → OpIs b ((operated m o l s r).ops link stream)
 other_is m b o l s link stream r other is = grind arith
 
 -- an establish that begins makes its draw both the base and the draw of the state; any other leaves both
 established_is : (m : Manager) (b l s link stream : ℕ) (r : Option Reach) → OpIs b (m.ops link stream)
-    → OpIs (if (l == link) && (s == stream) && ((work_of op.Establish (m.ops l s) (length m.begun)).begins && is_some r) then length m.begun else b)
+    → OpIs (if (l == link) && (s == stream) && ((work_of op.Establish (m.ops l s) (length m.begun)).begins && is_some r)
+    then length m.begun else b)
     ((operated m op.Establish l s r).ops link stream)
 established_is m b l s link stream r is = grind (arith, nat_tests)
 
@@ -35,9 +42,11 @@ base_is [] link stream = tt
 base_is ((event.Establish l s lose, x) ∷ h) link stream =
     established_is (manager h) (base h link stream) l s link stream (reach_of op.Establish x) (base_is h link stream)
 base_is ((event.Refresh l s lose, x) ∷ h) link stream =
-    other_is (manager h) (base h link stream) op.Refresh l s link stream (reach_of op.Refresh x) (λ e. cc) (base_is h link stream)
+    other_is (manager h) (base h link stream) op.Refresh l s link stream (reach_of op.Refresh x) (λ e. cc)
+    (base_is h link stream)
 base_is ((event.Stop l s lose, x) ∷ h) link stream =
-    other_is (manager h) (base h link stream) op.Stop l s link stream (reach_of op.Stop x) (λ e. cc) (base_is h link stream)
+    other_is (manager h) (base h link stream) op.Stop l s link stream (reach_of op.Stop x) (λ e. cc)
+    (base_is h link stream)
 base_is ((event.Reset l, v.Reset m) ∷ h) link stream = let before = base_is h link stream in grind arith
 base_is ((e, x) ∷ h) link stream = base_is h link stream
 
@@ -51,18 +60,22 @@ pub record Fresh (h : History) (p : Place) (j : ℕ) : Type 0 where
 -- what an establish that came anywhere finds
 pub record First (h : History) (p : Place) (x : Verdict) (lose : Option Loss) : Type 0 where
   pub fresh : Fresh h p (work_of op.Establish (op_of h p.link p.stream) (draws h)).draw
-  pub base_of : base ((event.Establish p.link p.stream lose, x) ∷ h) p.link p.stream ≡ (work_of op.Establish (op_of h p.link p.stream) (draws h)).draw
+  pub base_of : base ((event.Establish p.link p.stream lose, x) ∷ h) p.link p.stream
+      ≡ (work_of op.Establish (op_of h p.link p.stream) (draws h)).draw
 
-pub state_of : (plan : KeyPlan) (h : History) (l s : ℕ) (lose : Option Loss) (x : Verdict) (r : Reach) → x ≡ due plan h (event.Establish l s lose) x → reach_of op.Establish x ≡ Some r
+pub state_of : (plan : KeyPlan) (h : History) (l s : ℕ) (lose : Option Loss) (x : Verdict) (r : Reach) → x
+    ≡ due plan h (event.Establish l s lose) x → reach_of op.Establish x ≡ Some r
     → is_some (reach_of op.Establish (establish_on plan (op_of h l s) (draws h) (ports_at h) l s lose)) ≡ true
 unfolding due
 state_of plan h l s lose x r is reached = grind arith
 
 -- without a key that is On no GO has come past the draw
-fresh_rising : (ts : List Touch) (s : Bool) (j a b n : ℕ) (sh : Shape) → IsAt s ts sh → Rising false false j a b n (marks ts) sh → is_keyed (keys_of sh) ≡ false → (used ts ≤ j) × (started ts ≤ j)
+fresh_rising : (ts : List Touch) (s : Bool) (j a b n : ℕ) (sh : Shape) → IsAt s ts sh
+    → Rising false false j a b n (marks ts) sh → is_keyed (keys_of sh) ≡ false → (used ts ≤ j) × (started ts ≤ j)
 fresh_rising ts s j a b n sh is rising none = grind arith
 
-fresh_at : (plan : KeyPlan) (q : Op) (next : ℕ) (ports : PortView) (p : Place) (ts : List Touch) (lose : Option Loss) → FitsAt q next p ts
+fresh_at : (plan : KeyPlan) (q : Op) (next : ℕ) (ports : PortView) (p : Place) (ts : List Touch) (lose : Option Loss)
+    → FitsAt q next p ts
     → is_keyed (keys p.sends ts) ≡ false
     → is_some (reach_of op.Establish (establish_on plan q next ports p.link p.stream lose)) ≡ true
     → (used ts ≤ (work_of op.Establish q next).draw) × (started ts ≤ (work_of op.Establish q next).draw)
@@ -71,27 +84,34 @@ fresh_at plan (Establishing j n) next ports p ts lose at none goes =
     fresh_rising ts p.sends j _ _ n at.shape at.is at.fits.2 (ap is_keyed (sym at.is.are) ∙ none)
 fresh_at plan q next ports p ts lose at none goes = absurd cc
 
-first_base : (plan : KeyPlan) (q : Op) (next : ℕ) (ports : PortView) (l s b : ℕ) (lose : Option Loss) (r : Option Reach) → OpIs b q → is_some r ≡ true
+first_base : (plan : KeyPlan) (q : Op) (next : ℕ) (ports : PortView) (l s b : ℕ) (lose : Option Loss) (r : Option Reach)
+    → OpIs b q → is_some r ≡ true
     → is_some (reach_of op.Establish (establish_on plan q next ports l s lose)) ≡ true
-    → (if (l == l) && (s == s) && ((work_of op.Establish q next).begins && is_some r) then next else b) ≡ (work_of op.Establish q next).draw
+    → (if (l == l) && (s == s) && ((work_of op.Establish q next).begins && is_some r) then next else b)
+    ≡ (work_of op.Establish q next).draw
 first_base plan q next ports l s b lose r is some goes = grind (arith, nat_tests)
 
-pub first_keys : (plan : KeyPlan) (h : History) (p : Place) (lose : Option Loss) (x : Verdict) (r : Reach) → CauseLaw plan ((event.Establish p.link p.stream lose, x) ∷ h) → reach_of op.Establish x ≡ Some r
+pub first_keys : (plan : KeyPlan) (h : History) (p : Place) (lose : Option Loss) (x : Verdict) (r : Reach)
+    → CauseLaw plan ((event.Establish p.link p.stream lose, x) ∷ h) → reach_of op.Establish x ≡ Some r
     → is_keyed (keys_at h p) ≡ false → First h p x lose
 unfolding base
 first_keys plan h p lose x r cause reached none =
     let goes = state_of plan h p.link p.stream lose x r cause.0 reached in
-    let free = fresh_at plan (op_of h p.link p.stream) (draws h) (ports_at h) p (moments h p) lose (fits plan h cause.2 p) none goes in
+    let free = fresh_at plan (op_of h p.link p.stream) (draws h) (ports_at h) p (moments h p) lose
+    (fits plan h cause.2 p) none goes in
     record {
       fresh = record { used_below = free.0; started_below = free.1 };
-      base_of = first_base plan (op_of h p.link p.stream) (draws h) (ports_at h) p.link p.stream _ lose (reach_of op.Establish x) (base_is h p.link p.stream)
+      base_of = first_base plan (op_of h p.link p.stream) (draws h) (ports_at h) p.link p.stream _ lose
+          (reach_of op.Establish x) (base_is h p.link p.stream)
           (rw reached refl) goes;
     }
 
 -- ---- in a refresh each place has a key
 
-pub refresh_state : (plan : KeyPlan) (h : History) (l s : ℕ) (lose : Option Loss) (x : Verdict) (r : Reach) → x ≡ due plan h (event.Refresh l s lose) x → reach_of op.Refresh x ≡ Some r
-    → is_some (reach_of op.Refresh (refresh_on plan (op_of h l s) (draws h) (ports_at h) (status_of h Host l s) l s lose)) ≡ true
+pub refresh_state : (plan : KeyPlan) (h : History) (l s : ℕ) (lose : Option Loss) (x : Verdict) (r : Reach) → x
+    ≡ due plan h (event.Refresh l s lose) x → reach_of op.Refresh x ≡ Some r
+    → is_some (reach_of op.Refresh
+    (refresh_on plan (op_of h l s) (draws h) (ports_at h) (status_of h Host l s) l s lose)) ≡ true
 unfolding due
 refresh_state plan h l s lose x r is reached = grind arith
 
@@ -99,17 +119,21 @@ up_of : (plan : KeyPlan) (q : Op) (next : ℕ) (ports : PortView) (host : Stream
     → is_some (reach_of op.Refresh (refresh_on plan q next ports host l s lose)) ≡ true → is_up q ≡ true
 up_of plan q next ports host l s lose goes = grind arith
 
-pub refresh_keyed : (plan : KeyPlan) (h : History) (p : Place) (lose : Option Loss) (x : Verdict) (r : Reach) → CauseLaw plan ((event.Refresh p.link p.stream lose, x) ∷ h) → reach_of op.Refresh x ≡ Some r → is_keyed (keys_at h p) ≡ true
+pub refresh_keyed : (plan : KeyPlan) (h : History) (p : Place) (lose : Option Loss) (x : Verdict) (r : Reach)
+    → CauseLaw plan ((event.Refresh p.link p.stream lose, x) ∷ h) → reach_of op.Refresh x ≡ Some r
+    → is_keyed (keys_at h p) ≡ true
 refresh_keyed plan h p lose x r cause reached =
     keyed_up plan h cause.2 p (up_of plan (op_of h p.link p.stream) (draws h) (ports_at h) _ p.link p.stream lose
     (refresh_state plan h p.link p.stream lose x r cause.0 reached))
 
 -- ---- where a key is On no establish begins
 
-pub base_kept : (plan : KeyPlan) (h : History) (p : Place) (lose : Option Loss) (x : Verdict) → CauseLaw plan ((event.Establish p.link p.stream lose, x) ∷ h) → is_keyed (keys_at h p) ≡ true
+pub base_kept : (plan : KeyPlan) (h : History) (p : Place) (lose : Option Loss) (x : Verdict)
+    → CauseLaw plan ((event.Establish p.link p.stream lose, x) ∷ h) → is_keyed (keys_at h p) ≡ true
     → base ((event.Establish p.link p.stream lose, x) ∷ h) p.link p.stream ≡ base h p.link p.stream
 unfolding base
-base_kept plan h p lose x cause keyed = by_test ((p.link == p.link) && (p.stream == p.stream)) (begins_keyed (op_of h p.link p.stream) (draws h) x) refl
+base_kept plan h p lose x cause keyed = by_test ((p.link == p.link) && (p.stream == p.stream))
+    (begins_keyed (op_of h p.link p.stream) (draws h) x) refl
   where
     by_test : (a f : Bool) → begins_keyed (op_of h p.link p.stream) (draws h) x ≡ f
         → (if a && f then draws h else base h p.link p.stream) ≡ base h p.link p.stream

@@ -1,6 +1,10 @@
 -- No move of a refresh takes a port out of Secure.
-use Rattle.key_states.proofs.Terms.{◌≡◌, ℕ, Bool, true, false, Option, Some, None, [], ◌∷◌, refl, ap, ◌∙◌, arith, ◌&&◌, ◌||◌, if◌then◌else◌, Host, Event, Loss, StreamStatus, Verdict, KeyPlan, Place, place_at, places_of, is_on_stream}
-use Rattle.key_states.proofs.Terms.{keys, Op, Reach, work_of, reach_of, op_after, operated, History, manager, op_of, draws, worked, on_it, behind, moments, keys_at, is_keyed, has_key, has_all, fails_at, failed, status_by, status_of}
+use Rattle.key_states.proofs.Terms.{◌≡◌, ℕ, Bool, true, false, Option, Some, None, [], ◌∷◌, refl, ap, ◌∙◌, arith, ◌&&◌}
+use Rattle.key_states.proofs.Terms.{◌||◌, if◌then◌else◌, Host, Event, Loss, StreamStatus, Verdict, KeyPlan, Place}
+use Rattle.key_states.proofs.Terms.{place_at, places_of, is_on_stream}
+use Rattle.key_states.proofs.Terms.{keys, Op, Reach, work_of, reach_of, op_after, operated, History, manager, op_of}
+use Rattle.key_states.proofs.Terms.{draws, worked, on_it, behind, moments, keys_at, is_keyed, has_key, has_all}
+use Rattle.key_states.proofs.Terms.{fails_at, failed, status_by, status_of}
 use Rattle.key_states.proofs.Terms.{PortView, ports_at, refresh_on, due, CauseLaw, StaysSecure, StaysSecureAt}
 use Rattle.std.specs.List.{list_all}
 use Rattle.key_laws.proofs.Terms.{Side, SubKind}
@@ -16,27 +20,36 @@ use Rattle.key_states.proofs.Ends.{on_same}
 refreshed_up : (q : Op) (next : ℕ) (r : Reach) → is_up (op_after (work_of op.Refresh q next) r) ≡ true
 refreshed_up q next r = grind arith
 
-place_keyed : (plan : KeyPlan) (h : History) (link stream : ℕ) (loss : Option Loss) (x : Verdict) → CauseLaw plan ((event.Refresh link stream loss, x) ∷ h)
-    → (p : Place) → (p.link ≡ link) × (p.stream ≡ stream) → is_keyed (keys_at h p) ≡ true → is_keyed (keys_at ((event.Refresh link stream loss, x) ∷ h) p) ≡ true
+place_keyed : (plan : KeyPlan) (h : History) (link stream : ℕ) (loss : Option Loss) (x : Verdict)
+    → CauseLaw plan ((event.Refresh link stream loss, x) ∷ h)
+    → (p : Place) → (p.link ≡ link) × (p.stream ≡ stream) → is_keyed (keys_at h p) ≡ true
+    → is_keyed (keys_at ((event.Refresh link stream loss, x) ∷ h) p) ≡ true
 unfolding manager moments
-place_keyed plan h link stream loss x cause p same keyed = by_reach (reach_of op.Refresh x) (keyed_up plan ((event.Refresh link stream loss, x) ∷ h) cause p)
+place_keyed plan h link stream loss x cause p same keyed = by_reach (reach_of op.Refresh x)
+    (keyed_up plan ((event.Refresh link stream loss, x) ∷ h) cause p)
   where
     by_reach : (r : Option Reach) → (is_up ((operated (manager h) op.Refresh link stream r).ops p.link p.stream) ≡ true
         → is_keyed (keys p.sends (behind (moments h p)
         (on_it (is_on_stream p link stream) (worked (work_of op.Refresh (op_of h link stream) (draws h)) r p)))) ≡ true)
-        → is_keyed (keys p.sends (behind (moments h p) (on_it (is_on_stream p link stream) (worked (work_of op.Refresh (op_of h link stream) (draws h)) r p)))) ≡ true
+        → is_keyed (keys p.sends
+        (behind (moments h p)
+        (on_it (is_on_stream p link stream) (worked (work_of op.Refresh (op_of h link stream) (draws h)) r p))))
+        ≡ true
     by_reach None up = rw (on_same p link stream same) keyed
     by_reach (Some r) up = up (rw (on_same p link stream same) (refreshed_up (op_of h link stream) (draws h) r))
 
 -- ---- no check fails
 
-refresh_free : (has : Bool) (plan : KeyPlan) (q : Op) (next : ℕ) (ports : PortView) (host : StreamStatus) (link stream : ℕ) (loss : Option Loss) (side : Side)
+refresh_free : (has : Bool) (plan : KeyPlan) (q : Op) (next : ℕ) (ports : PortView) (host : StreamStatus)
+    (link stream : ℕ) (loss : Option Loss) (side : Side)
     → fails_at side link stream (if has then refresh_on plan q next ports host link stream loss else v.Nothing) ≡ false
 refresh_free has plan q next ports host link stream loss side = grind arith
 
 -- ---- all six places
 
-six_keyed : (test other : Place → Bool) (side : Side) (link stream : ℕ) → ((upward : Bool) (u : SubKind) → test (place_at side link stream upward u) ≡ true → other (place_at side link stream upward u) ≡ true)
+six_keyed : (test other : Place → Bool) (side : Side) (link stream : ℕ)
+    → ((upward : Bool) (u : SubKind) → test (place_at side link stream upward u) ≡ true
+    → other (place_at side link stream upward u) ≡ true)
     → list_all test (places_of side link stream) ≡ true → list_all other (places_of side link stream) ≡ true
 six_keyed test other side link stream leads all = grind arith
 
@@ -44,20 +57,27 @@ six_keyed test other side link stream leads all = grind arith
 secure_says : (f some all : Bool) → status_by f some all ≡ status.Secure → (f ≡ false) × (all ≡ true)
 secure_says f some all e = grind arith
 
-secure_is : (a b has some all : Bool) → a ≡ false → b ≡ false → all ≡ true → status_by ((a || b) && has) some all ≡ status.Secure
+secure_is : (a b has some all : Bool) → a ≡ false → b ≡ false → all ≡ true → status_by ((a || b) && has) some all
+    ≡ status.Secure
 secure_is a b has some all e f g = grind arith
 
-refresh_stays : (plan : KeyPlan) (h : History) (link stream : ℕ) (loss : Option Loss) (x : Verdict) → CauseLaw plan ((event.Refresh link stream loss, x) ∷ h) → StaysSecureAt h (event.Refresh link stream loss) x
+refresh_stays : (plan : KeyPlan) (h : History) (link stream : ℕ) (loss : Option Loss) (x : Verdict)
+    → CauseLaw plan ((event.Refresh link stream loss, x) ∷ h) → StaysSecureAt h (event.Refresh link stream loss) x
 unfolding failed due
 refresh_stays plan h link stream loss x cause side secure =
-    let says = secure_says (failed h side link stream) (has_key (keys_at h) side link stream) (has_all (keys_at h) side link stream) secure in
-    let all = six_keyed (λ p. is_keyed (keys_at h p)) (λ p. is_keyed (keys_at ((event.Refresh link stream loss, x) ∷ h) p)) side link stream
-    (λ upward u keyed. place_keyed plan h link stream loss x cause (place_at side link stream upward u) (refl, refl) keyed) says.1 in
+    let says = secure_says (failed h side link stream) (has_key (keys_at h) side link stream)
+    (has_all (keys_at h) side link stream) secure in
+    let all = six_keyed (λ p. is_keyed (keys_at h p))
+    (λ p. is_keyed (keys_at ((event.Refresh link stream loss, x) ∷ h) p)) side link stream
+    (λ upward u keyed. place_keyed plan h link stream loss x cause (place_at side link stream upward u) (refl, refl)
+    keyed) says.1 in
     let free = refresh_free (plan.has_stream link stream) plan (op_of h link stream) (draws h) (ports_at h)
     (status_of h Host link stream) link stream loss side in
-    secure_is (fails_at side link stream x) (failed h side link stream) _ _ _ (ap (fails_at side link stream) cause.0 ∙ free) says.0 all
+    secure_is (fails_at side link stream x) (failed h side link stream) _ _ _
+    (ap (fails_at side link stream) cause.0 ∙ free) says.0 all
 
-stays_at_pair : (plan : KeyPlan) (h : History) (e : Event) (x : Verdict) → CauseLaw plan ((e, x) ∷ h) → StaysSecureAt h e x
+stays_at_pair : (plan : KeyPlan) (h : History) (e : Event) (x : Verdict) → CauseLaw plan ((e, x) ∷ h)
+    → StaysSecureAt h e x
 stays_at_pair plan h (event.Refresh link stream loss) x cause = refresh_stays plan h link stream loss x cause
 stays_at_pair plan h _ x cause = tt
 

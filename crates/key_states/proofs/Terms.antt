@@ -1,14 +1,23 @@
 -- What proofs on the states of streams speak of.
-pub use Rattle.key_laws.proofs.Terms.{Bool, List, None, Option, Some, [], ap, arith, false, length, refl, subst, sym, true, ℕ, ◌<◌, ◌==◌, ◌∙◌, ◌∷◌, ◌≡◌, ◌≢◌, ◌≤◌, KeyPlan, Place, is_on_stream, place_at, places_of, Keyed, Keys, On, Seal}
-pub use Rattle.key_laws.proofs.Terms.{Touch, kept_in, key_in, no_keys, on_in, settled, touched, History, begins_keyed, behind, came, draws, fails_at, has_all, has_key, is_keyed, keys_at, on_draw, on_it, op_of, status_by, status_of}
-pub use Rattle.key_laws.proofs.Terms.{touches, worked, CauseLaw, GoesKept, GosFindKeys, NeverAgain, Settled, SettledAt, StaysSecure, StaysSecureAt, StreamFacts, went, nat_tests, if◌then◌else◌, is_some, ◌&&◌, ◌||◌, Event, Loss, Operation}
-pub use Rattle.key_laws.proofs.Terms.{Verdict, Begun, Establishing, Idle, Manager, Op, Reach, Refreshing, Stopping, Up, Work, manager_after, op_after, operated, reach, reach_of, work_of, PortView, establish_on, ports_at, refresh_on, Host}
+pub use Rattle.key_laws.proofs.Terms.{Bool, List, None, Option, Some, [], ap, arith, false, length, refl, subst, sym}
+pub use Rattle.key_laws.proofs.Terms.{true, ℕ, ◌<◌, ◌==◌, ◌∙◌, ◌∷◌, ◌≡◌, ◌≢◌, ◌≤◌, KeyPlan, Place, is_on_stream}
+pub use Rattle.key_laws.proofs.Terms.{place_at, places_of, Keyed, Keys, On, Seal}
+pub use Rattle.key_laws.proofs.Terms.{Touch, kept_in, key_in, no_keys, on_in, settled, touched, History, begins_keyed}
+pub use Rattle.key_laws.proofs.Terms.{behind, came, draws, fails_at, has_all, has_key, is_keyed, keys_at, on_draw}
+pub use Rattle.key_laws.proofs.Terms.{on_it, op_of, status_by, status_of}
+pub use Rattle.key_laws.proofs.Terms.{touches, worked, CauseLaw, GoesKept, GosFindKeys, NeverAgain, Settled, SettledAt}
+pub use Rattle.key_laws.proofs.Terms.{StaysSecure, StaysSecureAt, StreamFacts, went, nat_tests, if◌then◌else◌, is_some}
+pub use Rattle.key_laws.proofs.Terms.{◌&&◌, ◌||◌, Event, Loss, Operation}
+pub use Rattle.key_laws.proofs.Terms.{Verdict, Begun, Establishing, Idle, Manager, Op, Reach, Refreshing, Stopping, Up}
+pub use Rattle.key_laws.proofs.Terms.{Work, manager_after, op_after, operated, reach, reach_of, work_of, PortView}
+pub use Rattle.key_laws.proofs.Terms.{establish_on, ports_at, refresh_on, Host}
 unfoldable pub use Rattle.key_laws.proofs.Terms.{is_open, keys, base, failed, manager, moments, due}
 pub use Rattle.key_laws.proofs.Shapes.{Alone, IsAt, Marks, Shape, keys_of, marks}
 unfoldable pub use Rattle.key_laws.proofs.Shapes.{started, used}
 pub use Rattle.key_laws.proofs.Whole.{elsewhere, fits, next_fits}
 pub use Rattle.key_laws.proofs.Tests.{both-true, same-true}
-pub use Rattle.key_laws.proofs.Owners.{AllOwned, OwnedKeys, behind_owned, came_owned, cleared_owned, kept_owned, owned_on, owner, same_place}
+pub use Rattle.key_laws.proofs.Owners.{AllOwned, OwnedKeys, behind_owned, came_owned, cleared_owned, kept_owned}
+pub use Rattle.key_laws.proofs.Owners.{owned_on, owner, same_place}
 pub use Rattle.ide_types.specs.declared.status.StreamStatus.{StreamStatus}
 pub use Rattle.key_laws.proofs.Fits.{Fits, FitsAt, establish_begins, establish_ends, establish_goes_on, establish_takes}
 pub use Rattle.key_laws.proofs.Stages.{Rising}

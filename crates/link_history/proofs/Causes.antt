@@ -1,13 +1,22 @@
 -- What an accepted, a held and a sealed verdict tell, where they were due. `tells` goes down the rule for each kind of
 -- event to the send, or to the packet that the event brought; no other way leads to one of the three. From there each
 -- test that gives another verdict must have gone the other way, and these tests are what the records list.
-use Rattle.link_history.proofs.Terms.{Bool, Err, List, None, Ok, Option, Result, Some, [], ap, arith, false, length, refl, subst, sym, true, ℕ, ◌+◌, ◌∙◌, ◌∷◌, ◌≡◌, unwrap_or, key_due, Ending, Sending, arrival_due, before_tag}
-use Rattle.link_history.proofs.Terms.{before_tag_of, choice, due, dump_due, effect_of, ended, first_that_holds, is_mixed, is_overfull, is_verified, lanes_at, receiving, refusals, sealed_by, send_on, send_read, unit_under, Arrival}
-use Rattle.link_history.proofs.Terms.{arrived, arrived_packet, cut_packet, failed, meets_counts, on_draw, packet_at, packet_in, received_in, sealed_packets, units_got, is_quiet, SubStream, has_link, has_port, has_stream, stream_plan}
-use Rattle.link_history.proofs.Terms.{AllByRecursion, Dump, Effect, Establish, Event, History, Packet, Plan, PortName, Refresh, Reset, SealedPacket, Send, Status, Stop, UnitName, Verdict, if◌then◌else◌, is_some, map, not}
+use Rattle.link_history.proofs.Terms.{Bool, Err, List, None, Ok, Option, Result, Some, [], ap, arith, false, length}
+use Rattle.link_history.proofs.Terms.{refl, subst, sym, true, ℕ, ◌+◌, ◌∙◌, ◌∷◌, ◌≡◌, unwrap_or, key_due, Ending}
+use Rattle.link_history.proofs.Terms.{Sending, arrival_due, before_tag}
+use Rattle.link_history.proofs.Terms.{before_tag_of, choice, due, dump_due, effect_of, ended, first_that_holds}
+use Rattle.link_history.proofs.Terms.{is_mixed, is_overfull, is_verified, lanes_at, receiving, refusals, sealed_by}
+use Rattle.link_history.proofs.Terms.{send_on, send_read, unit_under, Arrival}
+use Rattle.link_history.proofs.Terms.{arrived, arrived_packet, cut_packet, failed, meets_counts, on_draw, packet_at}
+use Rattle.link_history.proofs.Terms.{packet_in, received_in, sealed_packets, units_got, is_quiet, SubStream, has_link}
+use Rattle.link_history.proofs.Terms.{has_port, has_stream, stream_plan}
+use Rattle.link_history.proofs.Terms.{AllByRecursion, Dump, Effect, Establish, Interface, Event, t_due, owner_at}
+use Rattle.link_history.proofs.Terms.{History, Packet, Plan, PortName, Refresh, Reset, SealedPacket, Send, Status, Stop}
+use Rattle.link_history.proofs.Terms.{UnitName, Verdict, if◌then◌else◌, is_some, map, not}
 use Rattle.link_history.specs.Due.{settled}
 use Rattle.link_history.proofs.Senders.{AreFalse}
-use Rattle.link_history.proofs.KeyVerdicts.{establish_due_quiet, refresh_due_quiet, stop_due_quiet, if_quiet}
+use Rattle.link_history.proofs.KeyVerdicts.{establish_due_quiet, refresh_due_quiet, stop_due_quiet, interface_due_quiet}
+use Rattle.link_history.proofs.KeyVerdicts.{if_quiet}
 use Rattle.tlp_layout.specs.declared.tlp.Tlp.{Tlp}
 use Rattle.tlp_layout.specs.declared.fault.TlpFault.{TlpFault}
 use Rattle.tlp_layout.specs.Class.{class_of}
@@ -43,7 +52,8 @@ pub record HeldBy (plan : Plan) (h : History) (e : Event) (port : PortName) (uni
 abbrev pub ending : Packet → UnitName → Ending
 ending p unit = record { packet = p; unit = unit }
 
-pub record AcceptedBy (plan : Plan) (h : History) (e : Event) (port : PortName) (unit : UnitName) (effects : List Effect) : Type 0 where
+pub record AcceptedBy (plan : Plan) (h : History) (e : Event) (port : PortName) (unit : UnitName)
+    (effects : List Effect) : Type 0 where
   pub packet : Packet
   pub came : Came plan h e port packet
   pub before : before_tag plan h (record { port = port; bytes = came.bytes }) ≡ Ok (ending packet unit)
@@ -51,19 +61,20 @@ pub record AcceptedBy (plan : Plan) (h : History) (e : Event) (port : PortName) 
   pub ends : packet.prefix.m ≡ true
   pub verified : is_verified plan h port (ending packet unit) ≡ true
   pub counts : meets_counts plan h (received_in port unit) (ended plan h port (ending packet unit)) ≡ true
-  pub effects_are : effects ≡ map (effect_of port) (ended plan h port (ending packet unit))
+  pub effects_are : effects ≡ map (effect_of plan h port unit) (ended plan h port (ending packet unit))
 
 -- what a send that was sealed tells
-pub record IsSealing (plan : Plan) (h : History) (port : PortName) (bytes : List ℕ) (ds : List SealedPacket) : Type 0 where
-  pub sending : Sending
-  pub tlp : Tlp
-  pub reads : read_of bytes ≡ Ok tlp
-  pub class : sending.class ≡ class_of (header tlp)
-  pub at_port : sending.port ≡ port
-  pub free : AreFalse (refusals (lanes_at plan h sending.port sending.stream) sending.class)
-  pub number : ℕ
-  pub next : number ≡ length (sealed_packets plan h) + 1
-  pub list : ds ≡ sealed_by (lanes_at plan h sending.port sending.stream) sending number
+pub record IsSealing (plan : Plan) (h : History) (port : PortName) (bytes : List ℕ) (ds : List SealedPacket) : Type 0
+  where
+    pub sending : Sending
+    pub tlp : Tlp
+    pub reads : read_of bytes ≡ Ok tlp
+    pub class : sending.class ≡ class_of (header tlp)
+    pub at_port : sending.port ≡ port
+    pub free : AreFalse (refusals (lanes_at plan h sending.port sending.stream) sending.class)
+    pub number : ℕ
+    pub next : number ≡ length (sealed_packets plan h) + 1
+    pub list : ds ≡ sealed_by (lanes_at plan h sending.port sending.stream) sending number
 
 -- ---- what a verdict tells of its event
 
@@ -98,19 +109,40 @@ first_tells plan h e [] last all ends = ends tt
 first_tells plan h e ((true, w) ∷ xs) last all ends = all.0
 first_tells plan h e ((false, w) ∷ xs) last all ends = first_tells plan h e xs last all.1 (λ free. ends (refl, free))
 
-on_tells : (plan : Plan) (h : History) (port : PortName) (bytes : List ℕ) (t : Tlp) → read_of bytes ≡ Ok t → (more trusted : Bool) (o : Option ℕ)
+on_tells : (plan : Plan) (h : History) (port : PortName) (bytes : List ℕ) (t : Tlp) → read_of bytes ≡ Ok t
+    → (more trusted : Bool) (o : Option ℕ)
     → Tells plan h (Send port bytes more trusted) (send_on plan h port (header t) more trusted o)
 on_tells plan h port bytes t reads more trusted None = tt
 on_tells plan h port bytes t reads more trusted (Some stream) =
-    let s : Sending = record { port = port; stream = stream; class = class_of (header t); more = more; trusted = trusted } in
-    first_tells plan h (Send port bytes more trusted) (refusals (lanes_at plan h port stream) s.class) _ (tt, (tt, (tt, (tt, (tt, (tt, (tt, (tt, tt))))))))
-    (λ free. record { sending = s; tlp = t; reads = reads; class = refl; at_port = refl; free = free; number = _; next = refl; list = refl })
+    let s : Sending = record {
+      port = port;
+      stream = stream;
+      class = class_of (header t);
+      more = more;
+      trusted = t_due plan h port port.side (owner_at plan port.link (header t)) stream trusted;
+    } in
+    first_tells plan h (Send port bytes more trusted) (refusals (lanes_at plan h port stream) s.class) _
+    (tt, (tt, (tt, (tt, (tt, (tt, (tt, (tt, tt))))))))
+    (λ free. record {
+      sending = s;
+      tlp = t;
+      reads = reads;
+      class = refl;
+      at_port = refl;
+      free = free;
+      number = _;
+      next =
+          refl;
+      list = refl;
+    })
 
-read_tells : (plan : Plan) (h : History) (port : PortName) (bytes : List ℕ) (more trusted : Bool) (r : Result Tlp TlpFault) → read_of bytes ≡ r → (here : Bool)
+read_tells : (plan : Plan) (h : History) (port : PortName) (bytes : List ℕ) (more trusted : Bool)
+    (r : Result Tlp TlpFault) → read_of bytes ≡ r → (here : Bool)
     → Tells plan h (Send port bytes more trusted) (if here then send_read plan h port r more trusted else v.Nothing)
 read_tells plan h port bytes more trusted r reads false = tt
 read_tells plan h port bytes more trusted (Err f) reads true = tt
-read_tells plan h port bytes more trusted (Ok t) reads true = on_tells plan h port bytes t reads more trusted (choice plan port (header t))
+read_tells plan h port bytes more trusted (Ok t) reads true = on_tells plan h port bytes t reads more trusted
+    (choice plan port (header t))
 
 -- ---- arrivals
 
@@ -118,20 +150,25 @@ not_sealed : (plan : Plan) (h : History) (port : PortName) (p : Packet) (ds : Li
     → v.Sealed ds ≡ settled plan h port (before_tag_of plan h port (Ok (IdePacket p))) → ⊥
 not_sealed plan h port p ds is = grind arith
 
-packet_tells : (plan : Plan) (h : History) (e : Event) (a : Arrival) (p : Packet) → arrived plan h e ≡ Some a → cut_of a.bytes ≡ Ok (IdePacket p)
+packet_tells : (plan : Plan) (h : History) (e : Event) (a : Arrival) (p : Packet) → arrived plan h e ≡ Some a
+    → cut_of a.bytes ≡ Ok (IdePacket p)
     → (w : Verdict) → w ≡ settled plan h a.port (before_tag_of plan h a.port (Ok (IdePacket p))) → Tells plan h e w
-packet_tells plan h e a p arrival cut (v.Held port unit) is = record { at = a; packet = p; arrival = arrival; cut = cut; is = is }
-packet_tells plan h e a p arrival cut (v.Accepted port unit effects) is = record { at = a; packet = p; arrival = arrival; cut = cut; is = is }
+packet_tells plan h e a p arrival cut (v.Held port unit) is = record
+    { at = a; packet = p; arrival = arrival; cut = cut; is = is }
+packet_tells plan h e a p arrival cut (v.Accepted port unit effects) is = record
+    { at = a; packet = p; arrival = arrival; cut = cut; is = is }
 packet_tells plan h e a p arrival cut (v.Sealed ds) is = absurd (not_sealed plan h a.port p ds is)
 packet_tells plan h e a p arrival cut _ is = tt
 
-cut_tells : (plan : Plan) (h : History) (e : Event) (a : Arrival) → arrived plan h e ≡ Some a → (r : Result CutValue PacketFault) → cut_of a.bytes ≡ r
+cut_tells : (plan : Plan) (h : History) (e : Event) (a : Arrival) → arrived plan h e ≡ Some a
+    → (r : Result CutValue PacketFault) → cut_of a.bytes ≡ r
     → Tells plan h e (settled plan h a.port (before_tag_of plan h a.port r))
 cut_tells plan h e a arrival (Err f) cut = tt
 cut_tells plan h e a arrival (Ok PlainTlp) cut = tt
 cut_tells plan h e a arrival (Ok (IdePacket p)) cut = packet_tells plan h e a p arrival cut _ refl
 
-arrival_tells : (plan : Plan) (h : History) (e : Event) (o : Option Arrival) → arrived plan h e ≡ o → Tells plan h e (arrival_due plan h o)
+arrival_tells : (plan : Plan) (h : History) (e : Event) (o : Option Arrival) → arrived plan h e ≡ o
+    → Tells plan h e (arrival_due plan h o)
 unfolding before_tag
 arrival_tells plan h e None arrival = tt
 arrival_tells plan h e (Some a) arrival = cut_tells plan h e a arrival (cut_of a.bytes) refl
@@ -149,18 +186,26 @@ quiet_tells plan h e _ is = tt
 
 tells : (plan : Plan) (h : History) (e : Event) → Tells plan h e (due plan h e)
 unfolding due key_due
-tells plan h (Send port bytes more trusted) = read_tells plan h port bytes more trusted (read_of bytes) refl (has_port plan port)
+tells plan h (Send port bytes more trusted) = read_tells plan h port bytes more trusted (read_of bytes) refl
+    (has_port plan port)
 tells plan h (Dump n) = quiet_tells plan h (Dump n) _ (dump_quiet n (packet_at (sealed_packets plan h) n))
-tells plan h (Establish link stream lose) = quiet_tells plan h (Establish link stream lose) _ (establish_due_quiet plan h link stream lose)
-tells plan h (Refresh link stream lose) = quiet_tells plan h (Refresh link stream lose) _ (refresh_due_quiet plan h link stream lose)
-tells plan h (Stop link stream lose) = quiet_tells plan h (Stop link stream lose) _ (stop_due_quiet plan h link stream lose)
-tells plan h (Reset link) = quiet_tells plan h (Reset link) _ (if_quiet (has_link plan link) (v.Reset link) v.Nothing refl refl)
-tells plan h (Status link stream) = quiet_tells plan h (Status link stream) _ (if_quiet (is_some (stream_plan plan link stream)) _ v.Nothing refl refl)
+tells plan h (Establish link stream lose) = quiet_tells plan h (Establish link stream lose) _
+    (establish_due_quiet plan h link stream lose)
+tells plan h (Refresh link stream lose) = quiet_tells plan h (Refresh link stream lose) _
+    (refresh_due_quiet plan h link stream lose)
+tells plan h (Stop link stream lose) = quiet_tells plan h (Stop link stream lose) _
+    (stop_due_quiet plan h link stream lose)
+tells plan h (Reset link) = quiet_tells plan h (Reset link) _
+    (if_quiet (has_link plan link) (v.Reset link) v.Nothing refl refl)
+tells plan h (Status link stream) = quiet_tells plan h (Status link stream) _
+    (if_quiet (is_some (stream_plan plan link stream)) _ v.Nothing refl refl)
+tells plan h (Interface e) = quiet_tells plan h (Interface e) _ (interface_due_quiet plan h e)
 tells plan h e = arrival_tells plan h e (arrived plan h e) refl
 
 -- ---- one lemma a verdict
 
-came_to : (plan : Plan) (h : History) (e : Event) (w : Verdict) (port : PortName) (by : Brought plan h e w) → by.at.port ≡ port
+came_to : (plan : Plan) (h : History) (e : Event) (w : Verdict) (port : PortName) (by : Brought plan h e w) → by.at.port
+    ≡ port
     → Came plan h e port by.packet
 came_to plan h e w port by same = record {
   bytes = by.at.bytes;
@@ -173,28 +218,52 @@ held_is : (plan : Plan) (h : History) (q port : PortName) (p : Packet) (unit : U
     → (q ≡ port) × Passed plan h port p unit × (p.prefix.m ≡ false)
 held_is plan h q port p unit is =
     let passed : Passed plan h port p unit =
-    record { known = grind arith; secure = grind arith; live = grind arith; alone = grind arith; room = grind arith; named = grind arith } in
+    record {
+      known = grind arith;
+      secure = grind arith;
+      live = grind arith;
+      alone = grind arith;
+      room = grind arith;
+      named = grind arith;
+    } in
     (grind arith, passed, grind arith)
 
-pub held_by : (plan : Plan) (h : History) (e : Event) (port : PortName) (unit : UnitName) → v.Held port unit ≡ due plan h e → HeldBy plan h e port unit
+pub held_by : (plan : Plan) (h : History) (e : Event) (port : PortName) (unit : UnitName) → v.Held port unit
+    ≡ due plan h e → HeldBy plan h e port unit
 held_by plan h e port unit is =
     let by : Brought plan h e (v.Held port unit) = subst (Tells plan h e) (sym is) (tells plan h e) in
     let told = held_is plan h by.at.port port by.packet unit by.is in
-    record { packet = by.packet; came = came_to plan h e (v.Held port unit) port by told.0; passed = told.1; goes_on = told.2 }
+    record {
+      packet = by.packet;
+      came = came_to plan h e (v.Held port unit) port by told.0;
+      passed = told.1;
+      goes_on =
+          told.2;
+    }
 
-ending_is : (plan : Plan) (h : History) (port : PortName) (p : Packet) (unit : UnitName) → Passed plan h port p unit → p.prefix.m ≡ true
+ending_is : (plan : Plan) (h : History) (port : PortName) (p : Packet) (unit : UnitName) → Passed plan h port p unit
+    → p.prefix.m ≡ true
     → before_tag_of plan h port (Ok (IdePacket p)) ≡ Ok (ending p unit)
 ending_is plan h port p unit passed m = grind arith
 
-accepted_of : (plan : Plan) (h : History) (e : Event) (q port : PortName) (p : Packet) (unit : UnitName) (effects : List Effect)
+accepted_of : (plan : Plan) (h : History) (e : Event) (q port : PortName) (p : Packet) (unit : UnitName)
+    (effects : List Effect)
     → (q ≡ port → Came plan h e port p)
-    → v.Accepted port unit effects ≡ settled plan h q (before_tag_of plan h q (Ok (IdePacket p))) → AcceptedBy plan h e port unit effects
+    → v.Accepted port unit effects ≡ settled plan h q (before_tag_of plan h q (Ok (IdePacket p)))
+    → AcceptedBy plan h e port unit effects
 unfolding before_tag
 accepted_of plan h e q port p unit effects came is =
     let came_there = came (grind arith) in
     let ends : p.prefix.m ≡ true = grind arith in
     let passed : Passed plan h port p unit =
-    record { known = grind arith; secure = grind arith; live = grind arith; alone = grind arith; room = grind arith; named = grind arith } in
+    record {
+      known = grind arith;
+      secure = grind arith;
+      live = grind arith;
+      alone = grind arith;
+      room = grind arith;
+      named = grind arith;
+    } in
     record {
       packet = p;
       came = came_there;
@@ -206,32 +275,40 @@ accepted_of plan h e q port p unit effects came is =
       effects_are = grind arith;
     }
 
-pub accepted_by : (plan : Plan) (h : History) (e : Event) (port : PortName) (unit : UnitName) (effects : List Effect) → v.Accepted port unit effects ≡ due plan h e → AcceptedBy plan h e port unit effects
+pub accepted_by : (plan : Plan) (h : History) (e : Event) (port : PortName) (unit : UnitName) (effects : List Effect)
+    → v.Accepted port unit effects ≡ due plan h e → AcceptedBy plan h e port unit effects
 accepted_by plan h e port unit effects is =
     let by : Brought plan h e (v.Accepted port unit effects) = subst (Tells plan h e) (sym is) (tells plan h e) in
-    accepted_of plan h e by.at.port port by.packet unit effects (came_to plan h e (v.Accepted port unit effects) port by) by.is
+    accepted_of plan h e by.at.port port by.packet unit effects
+    (came_to plan h e (v.Accepted port unit effects) port by) by.is
 
 sent_is_send : (plan : Plan) (h : History) (e : Event) (ds : List SealedPacket) → Sent plan h e ds → is_send e ≡ true
 sent_is_send plan h (Send port bytes more trusted) ds sent = refl
 sent_is_send plan h _ ds sent = absurd sent
 
 -- only a send seals
-pub sealed_by_send : (plan : Plan) (h : History) (e : Event) (ds : List SealedPacket) → v.Sealed ds ≡ due plan h e → is_send e ≡ true
+pub sealed_by_send : (plan : Plan) (h : History) (e : Event) (ds : List SealedPacket) → v.Sealed ds ≡ due plan h e
+    → is_send e ≡ true
 sealed_by_send plan h e ds is = sent_is_send plan h e ds (subst (Tells plan h e) (sym is) (tells plan h e))
 
-pub sealing_is : (plan : Plan) (h : History) (port : PortName) (bytes : List ℕ) (more trusted : Bool) (ds : List SealedPacket)
+pub sealing_is : (plan : Plan) (h : History) (port : PortName) (bytes : List ℕ) (more trusted : Bool)
+    (ds : List SealedPacket)
     → v.Sealed ds ≡ due plan h (Send port bytes more trusted) → IsSealing plan h port bytes ds
 sealing_is plan h port bytes more trusted ds is =
     subst (Tells plan h (Send port bytes more trusted)) (sym is) (tells plan h (Send port bytes more trusted))
 
 -- ---- what follows
 
-pub packet_that_came : (plan : Plan) (h : History) (e : Event) (port : PortName) (p : Packet) → Came plan h e port p → arrived_packet plan h e ≡ p
+pub packet_that_came : (plan : Plan) (h : History) (e : Event) (port : PortName) (p : Packet) → Came plan h e port p
+    → arrived_packet plan h e ≡ p
 packet_that_came plan h e port p came = ap packet_in came.arrival ∙ ap cut_packet came.cut
 
-pub received_there : (plan : Plan) (h : History) (port : PortName) (p : Packet) (unit : UnitName) → Passed plan h port p unit → received_in port unit ≡ receiving port p
+pub received_there : (plan : Plan) (h : History) (port : PortName) (p : Packet) (unit : UnitName)
+    → Passed plan h port p unit → received_in port unit ≡ receiving port p
 received_there plan h port p unit passed = ap (received_in port) passed.named
 
-pub numbered : (plan : Plan) (h : History) (port : PortName) (p : Packet) (unit : UnitName) → Passed plan h port p unit → unit.unit ≡ units_got h (received_in port unit) unit.draw + 1
+pub numbered : (plan : Plan) (h : History) (port : PortName) (p : Packet) (unit : UnitName) → Passed plan h port p unit
+    → unit.unit ≡ units_got h (received_in port unit) unit.draw + 1
 numbered plan h port p unit passed =
-    ap (λ (u : UnitName). u.unit) passed.named ∙ ap (λ (s : SubStream). units_got h s unit.draw + 1) (sym (received_there plan h port p unit passed))
+    ap (λ (u : UnitName). u.unit) passed.named ∙ ap (λ (s : SubStream). units_got h s unit.draw + 1)
+    (sym (received_there plan h port p unit passed))

@@ -1,6 +1,27 @@
 -- The verdicts of operations tell of no packet.
-use Rattle.link_history.proofs.Terms.{Bool, Option, arith, false, refl, true, ℕ, ◌≡◌, StreamStatus, Loss, PortView, comes_to, key_due, may_establish, may_refresh, performed, ports_at, stays_at, unless_open, draws, op_of, Op, Work}
-use Rattle.link_history.proofs.Terms.{work_of, due, is_quiet, key_plan, stream_plan, Establish, History, Host, KeyPlan, Plan, Refresh, Stop, Verdict, if◌then◌else◌, is_some, status_of}
+use Rattle.link_history.proofs.Terms.{Bool, Option, arith, false, refl, true, ℕ, ◌≡◌, StreamStatus, Loss, PortView}
+use Rattle.link_history.proofs.Terms.{comes_to, key_due, may_establish, may_refresh, performed, ports_at, stays_at}
+use Rattle.link_history.proofs.Terms.{unless_open, draws, op_of, Op, Work}
+use Rattle.link_history.proofs.Terms.{work_of, due, is_quiet, key_plan, stream_plan, Establish, History, Host, KeyPlan}
+use Rattle.link_history.proofs.Terms.{Plan, Refresh, Stop, Verdict, if◌then◌else◌, is_some, status_of}
+use Rattle.link_history.proofs.Terms.{List, Some, None, Result, length, Interface, InterfaceEvent, memory_due}
+use Rattle.std.specs.Option.{option_map}
+use Rattle.std.specs.Prelude.{nat_le, ◌&&◌}
+use Rattle.link_events.specs.declared.event.Lost.{Lost}
+use Rattle.key_laws.specs.Due.{lost_at}
+use Rattle.link_history.specs.Memory.{shown_if}
+use Rattle.trusted_memory.specs.Regions.{in_one_region}
+use Rattle.key_laws.specs.Due.{if_secure}
+use Rattle.interface_states.specs.Terms.{View, has_register, kept_report, lock_of, start_answer}
+use Rattle.interface_states.specs.Sites.{Site, site_at}
+use Rattle.interface_states.specs.Views.{managed, stream_draw, number_in}
+use Rattle.interface_states.specs.Devices.{around_at, tdi_at}
+use Rattle.interface_states.specs.Due.{unless_lost, host_status, if_unlocked, locked_as, lock_answer_at, lock_due}
+use Rattle.interface_states.specs.Due.{standing_at, if_locked_or_running, portions, reported_as, if_locked, if_reported}
+use Rattle.interface_states.specs.Due.{if_fresh, started_as, interface_due, on_site, with_number}
+unfoldable use Rattle.interface_states.specs.Due.{due as due_of}
+use Rattle.link_events.specs.declared.event.InterfaceEvent.TheVariants as ie
+use Rattle.interface_words.specs.declared.verdict.InterfaceVerdict.TheVariants as iv
 use Rattle.link_verdicts.specs.declared.verdict.Operation.TheVariants as op
 use Rattle.link_verdicts.specs.declared.verdict.Verdict.TheVariants as v
 
@@ -8,33 +29,122 @@ pub if_quiet : (b : Bool) (x y : Verdict) → is_quiet x ≡ true → is_quiet y
 if_quiet true x y one two = one
 if_quiet false x y one two = two
 
-comes_quiet : (link stream : ℕ) (w : Work) (loss : Option Loss) (o : Option ℕ) → is_quiet (comes_to link stream w loss o) ≡ true
+comes_quiet : (link stream : ℕ) (w : Work) (loss : Option Loss) (o : Option ℕ)
+    → is_quiet (comes_to link stream w loss o) ≡ true
 comes_quiet link stream w loss o = grind arith
 
-performed_quiet : (ports : PortView) (link stream : ℕ) (loss : Option Loss) (w : Work) → is_quiet (performed ports link stream loss w) ≡ true
+performed_quiet : (ports : PortView) (link stream : ℕ) (loss : Option Loss) (w : Work)
+    → is_quiet (performed ports link stream loss w) ≡ true
 performed_quiet ports link stream loss w = comes_quiet link stream w loss (stays_at ports link stream loss w)
 
-establish_quiet : (kp : KeyPlan) (q : Op) (next : ℕ) (x : Verdict) → is_quiet x ≡ true → is_quiet (may_establish kp next q x) ≡ true
+establish_quiet : (kp : KeyPlan) (q : Op) (next : ℕ) (x : Verdict) → is_quiet x ≡ true
+    → is_quiet (may_establish kp next q x) ≡ true
 establish_quiet kp q next x is = grind arith
 
-refresh_quiet : (kp : KeyPlan) (q : Op) (next : ℕ) (host : StreamStatus) (ports : PortView) (link stream : ℕ) (set : Bool) (x : Verdict) → is_quiet x ≡ true
+refresh_quiet : (kp : KeyPlan) (q : Op) (next : ℕ) (host : StreamStatus) (ports : PortView) (link stream : ℕ)
+    (set : Bool) (x : Verdict) → is_quiet x ≡ true
     → is_quiet (may_refresh kp next q host (unless_open ports link stream set) x) ≡ true
 refresh_quiet kp q next host ports link stream set x is = grind arith
 
-pub establish_due_quiet : (plan : Plan) (h : History) (link stream : ℕ) (lose : Option Loss) → is_quiet (due plan h (Establish link stream lose)) ≡ true
+pub establish_due_quiet : (plan : Plan) (h : History) (link stream : ℕ) (lose : Option Loss)
+    → is_quiet (due plan h (Establish link stream lose)) ≡ true
 unfolding due key_due
 establish_due_quiet plan h link stream lose =
-    if_quiet (is_some (stream_plan plan link stream)) _ v.Nothing (establish_quiet (key_plan plan) (op_of h link stream) (draws h) _ (performed_quiet (ports_at h) link stream lose (work_of op.Establish (op_of h link stream) (draws h))))
+    if_quiet (is_some (stream_plan plan link stream)) _ v.Nothing
+    (establish_quiet (key_plan plan) (op_of h link stream) (draws h) _
+    (performed_quiet (ports_at h) link stream lose (work_of op.Establish (op_of h link stream) (draws h))))
     refl
 
-pub refresh_due_quiet : (plan : Plan) (h : History) (link stream : ℕ) (lose : Option Loss) → is_quiet (due plan h (Refresh link stream lose)) ≡ true
+pub refresh_due_quiet : (plan : Plan) (h : History) (link stream : ℕ) (lose : Option Loss)
+    → is_quiet (due plan h (Refresh link stream lose)) ≡ true
 unfolding due key_due
 refresh_due_quiet plan h link stream lose =
     if_quiet (is_some (stream_plan plan link stream)) _ v.Nothing
-    (refresh_quiet (key_plan plan) (op_of h link stream) (draws h) (status_of h Host link stream) (ports_at h) link stream (work_of op.Refresh (op_of h link stream) (draws h)).set _ (performed_quiet (ports_at h) link stream lose
+    (refresh_quiet (key_plan plan) (op_of h link stream) (draws h) (status_of h Host link stream) (ports_at h) link
+    stream (work_of op.Refresh (op_of h link stream) (draws h)).set _ (performed_quiet (ports_at h) link stream lose
     (work_of op.Refresh (op_of h link stream) (draws h)))) refl
 
-pub stop_due_quiet : (plan : Plan) (h : History) (link stream : ℕ) (lose : Option Loss) → is_quiet (due plan h (Stop link stream lose)) ≡ true
+pub stop_due_quiet : (plan : Plan) (h : History) (link stream : ℕ) (lose : Option Loss)
+    → is_quiet (due plan h (Stop link stream lose)) ≡ true
 unfolding due key_due
 stop_due_quiet plan h link stream lose =
-    if_quiet (is_some (stream_plan plan link stream)) _ v.Nothing (performed_quiet (ports_at h) link stream lose (work_of op.Stop (op_of h link stream) (draws h))) refl
+    if_quiet (is_some (stream_plan plan link stream)) _ v.Nothing
+    (performed_quiet (ports_at h) link stream lose (work_of op.Stop (op_of h link stream) (draws h))) refl
+
+-- ---- interfaces
+
+lost_quiet : (l : Lost) (n : ℕ) → is_quiet (lost_at l n) ≡ true
+lost_quiet l n = grind arith
+
+unless_lost_quiet : (loss : Option Loss) (n : ℕ) (x : Verdict) → is_quiet x ≡ true → is_quiet (unless_lost loss n x)
+    ≡ true
+unless_lost_quiet None n x is = is
+unless_lost_quiet (Some loss) n x is = if_quiet (nat_le 1 loss.exchange && nat_le loss.exchange n)
+    (lost_at loss.lost loss.exchange) x (lost_quiet loss.lost loss.exchange) is
+
+lock_quiet : (plan : Plan) (h : History) (x : Site) (loss : Option Loss)
+    → is_quiet (lock_due x (standing_at plan h x) loss) ≡ true
+lock_quiet plan h x loss = by (managed h x).view (status_of h Host x.link x.plan.stream)
+    (lock_answer_at (around_at plan h x) x (tdi_at plan h x))
+  where
+    as_quiet : (answer : Result (List ℕ) ℕ) → is_quiet (locked_as x answer) ≡ true
+    as_quiet answer = grind arith
+
+    by : (view : View) (s : StreamStatus) (answer : Result (List ℕ) ℕ)
+        → is_quiet (if_unlocked view (if_secure s (unless_lost loss 3 (locked_as x answer)))) ≡ true
+    by view s answer = let q = unless_lost_quiet loss 3 (locked_as x answer) (as_quiet answer) in grind arith
+
+report_quiet : (plan : Plan) (x : Site) (view : View) (loss : Option Loss) (o : Option (List ℕ))
+    → is_quiet (if_locked_or_running view (reported_as plan x loss o)) ≡ true
+report_quiet plan x view loss None = let q = unless_lost_quiet loss 1 (v.RefusedDevice 1 4) refl in grind arith
+report_quiet plan x view loss (Some report) =
+    let q = unless_lost_quiet loss (portions plan.portion (length report)) (v.Interface (iv.Reported x.number report))
+    refl in grind arith
+
+start_quiet : (x : Site) (view : View) (reported : Bool) (s : StreamStatus) (draw needs : ℕ) (loss : Option Loss)
+    (answer : Result (Unit {0}) ℕ)
+    → is_quiet (if_locked view
+    (if_reported reported (if_secure s (if_fresh draw needs (unless_lost loss 1 (started_as x draw answer))))))
+    ≡ true
+start_quiet x view reported s draw needs loss answer = let q = unless_lost_quiet loss 1 (started_as x draw answer)
+    (as_quiet answer) in grind arith
+  where
+    as_quiet : (answer : Result (Unit {0}) ℕ) → is_quiet (started_as x draw answer) ≡ true
+    as_quiet answer = grind arith
+
+own_quiet : (plan : Plan) (h : History) (x : Site) (e : InterfaceEvent) → is_quiet (interface_due plan h x e) ≡ true
+own_quiet plan h x (ie.Lock i loss) = lock_quiet plan h x loss
+own_quiet plan h x (ie.Report i loss) = report_quiet plan x (managed h x).view loss
+    (option_map (kept_report x.plan) (lock_of (tdi_at plan h x).state))
+own_quiet plan h x (ie.Start i loss) =
+    let m = managed h x in
+    let draw = stream_draw h x.link x.plan.stream in
+    start_quiet x m.view m.reported (host_status h x) draw m.needs loss (start_answer (tdi_at plan h x).state m.nonce)
+own_quiet plan h x (ie.Halt i loss) = unless_lost_quiet loss 1 _ refl
+own_quiet plan h x (ie.State i loss) = unless_lost_quiet loss 1 _ refl
+own_quiet plan h x (ie.View i) = refl
+own_quiet plan h x (ie.Write i register value) = if_quiet (has_register x.plan register) _ v.Nothing refl refl
+own_quiet plan h x (ie.Flr i) = refl
+own_quiet plan h x (ie.Firmware i) = refl
+own_quiet plan h x (ie.Memory at len) = refl
+
+site_quiet : (plan : Plan) (h : History) (e : InterfaceEvent) (o : Option Site)
+    → is_quiet (on_site (λ x. interface_due plan h x e) o) ≡ true
+site_quiet plan h e None = refl
+site_quiet plan h e (Some x) = own_quiet plan h x e
+
+number_quiet : (plan : Plan) (h : History) (e : InterfaceEvent) (o : Option ℕ) (given : Verdict) → is_quiet given ≡ true
+    → is_quiet (with_number plan h e o given) ≡ true
+number_quiet plan h e None given is = is
+number_quiet plan h e (Some i) given is = site_quiet plan h e (site_at plan i)
+
+shown_quiet : (b : Bool) (bytes : List ℕ) → is_quiet (shown_if b bytes) ≡ true
+shown_quiet b bytes = grind arith
+
+memory_quiet : (plan : Plan) (h : History) (e : InterfaceEvent) → is_quiet (memory_due plan h e) ≡ true
+memory_quiet plan h (ie.Memory at len) = shown_quiet (in_one_region plan.memory at len) _
+memory_quiet plan h e = refl
+
+pub interface_due_quiet : (plan : Plan) (h : History) (e : InterfaceEvent) → is_quiet (due plan h (Interface e)) ≡ true
+unfolding due due_of
+interface_due_quiet plan h e = number_quiet plan h e (number_in e) (memory_due plan h e) (memory_quiet plan h e)

@@ -9,3 +9,4 @@ pub mod SealingIs
 pub mod OneHistory
 pub mod Choices
 pub mod LastPlaces
+pub mod ContentsFollow

@@ -1,6 +1,9 @@
 -- What a sealed verdict tells, where it was due.
-use Rattle.link_history.proofs.Terms.{Bool, List, Option, Some, [], ap, arith, false, refl, subst, sym, true, ℕ, ◌∙◌, ◌∷◌, ◌≡◌, unwrap_or, Cpl, Npr, Pr, is_same_sub, Lanes, Sending, described, is_keyless, lanes_at, needs_sync, no_key}
-use Rattle.link_history.proofs.Terms.{KeyName, live_key, sealed_packets, is_quiet, lane_out, Event, History, Plan, PortName, Sealed, SealedPacket, Send, SubKind, Verdict}
+use Rattle.link_history.proofs.Terms.{Bool, List, Option, Some, [], ap, arith, false, refl, subst, sym, true, ℕ, ◌∙◌}
+use Rattle.link_history.proofs.Terms.{◌∷◌, ◌≡◌, unwrap_or, Cpl, Npr, Pr, is_same_sub, Lanes, Sending, described}
+use Rattle.link_history.proofs.Terms.{is_keyless, lanes_at, needs_sync, no_key}
+use Rattle.link_history.proofs.Terms.{KeyName, live_key, sealed_packets, is_quiet, lane_out, Event, History, Plan}
+use Rattle.link_history.proofs.Terms.{PortName, Sealed, SealedPacket, Send, SubKind, Verdict}
 use Rattle.link_history.proofs.Senders.{has_key, listed, sealed_by_is, and_false, AreOther, needs_posted}
 pub use Rattle.link_history.proofs.Causes.{IsSealing, sealing_is}
 
@@ -18,26 +21,45 @@ abbrev pub AllLive : Plan → History → PortName → ℕ → List SealedPacket
 AllLive plan h port stream [] = Unit {0}
 AllLive plan h port stream (d ∷ ds) = IsLive plan h port stream d × AllLive plan h port stream ds
 
-is_live : (plan : Plan) (h : History) (s : Sending) (u : SubKind) (number : ℕ) (m t sync : Bool) → is_keyless (lanes_at plan h s.port s.stream) u ≡ false
+is_live : (plan : Plan) (h : History) (s : Sending) (u : SubKind) (number : ℕ) (m t sync : Bool)
+    → is_keyless (lanes_at plan h s.port s.stream) u ≡ false
     → IsLive plan h s.port s.stream (described (lanes_at plan h s.port s.stream) s u number m t sync)
 is_live plan h s u number m t sync keyed =
     let x = has_key (lanes_at plan h s.port s.stream) u keyed in
-    record { port_is = refl; stream_is = refl; key = x.key; live = x.is; draw = ap (λ (o : Option KeyName). (unwrap_or o no_key).draw) x.is; set = ap (λ (o : Option KeyName). (unwrap_or o no_key).k) x.is }
+    record {
+      port_is = refl;
+      stream_is = refl;
+      key = x.key;
+      live = x.is;
+      draw = ap
+          (λ (o : Option KeyName). (unwrap_or o no_key).draw) x.is;
+      set = ap
+          (λ (o : Option KeyName). (unwrap_or o no_key).k) x.is;
+    }
 
-listed_live : (plan : Plan) (h : History) (s : Sending) (number : ℕ) (n c : Bool) → let x = lanes_at plan h s.port s.stream in
-    is_keyless x s.class ≡ false → (n ≡ true → is_keyless x Npr ≡ false) → (c ≡ true → is_keyless x Cpl ≡ false) → AllLive plan h s.port s.stream (listed x s number n c)
+listed_live : (plan : Plan) (h : History) (s : Sending) (number : ℕ) (n c : Bool)
+    → let x = lanes_at plan h s.port s.stream in
+    is_keyless x s.class ≡ false → (n ≡ true → is_keyless x Npr ≡ false) → (c ≡ true → is_keyless x Cpl ≡ false)
+    → AllLive plan h s.port s.stream (listed x s number n c)
 unfolding listed
 listed_live plan h s number false false keyed r c = (is_live plan h s s.class _ _ _ _ keyed, tt)
-listed_live plan h s number true false keyed r c = (is_live plan h s Npr _ _ _ _ (r refl), (is_live plan h s s.class _ _ _ _ keyed, tt))
-listed_live plan h s number false true keyed r c = (is_live plan h s Cpl _ _ _ _ (c refl), (is_live plan h s s.class _ _ _ _ keyed, tt))
-listed_live plan h s number true true keyed r c = (is_live plan h s Npr _ _ _ _ (r refl), (is_live plan h s Cpl _ _ _ _ (c refl), (is_live plan h s s.class _ _ _ _ keyed, tt)))
+listed_live plan h s number true false keyed r c =
+    (is_live plan h s Npr _ _ _ _ (r refl), (is_live plan h s s.class _ _ _ _ keyed, tt))
+listed_live plan h s number false true keyed r c =
+    (is_live plan h s Cpl _ _ _ _ (c refl), (is_live plan h s s.class _ _ _ _ keyed, tt))
+listed_live plan h s number true true keyed r c = (
+  is_live plan h s Npr _ _ _ _ (r refl),
+  (is_live plan h s Cpl _ _ _ _ (c refl), (is_live plan h s s.class _ _ _ _ keyed, tt)),
+)
 
-pub all_live : (plan : Plan) (h : History) (port : PortName) (bytes : List ℕ) (ds : List SealedPacket) (is : IsSealing plan h port bytes ds) → AllLive plan h is.sending.port is.sending.stream ds
+pub all_live : (plan : Plan) (h : History) (port : PortName) (bytes : List ℕ) (ds : List SealedPacket)
+    (is : IsSealing plan h port bytes ds) → AllLive plan h is.sending.port is.sending.stream ds
 all_live plan h port bytes ds is =
     let s = is.sending in
     let x = lanes_at plan h s.port s.stream in
     subst (AllLive plan h s.port s.stream) (sym (is.list ∙ sealed_by_is x s is.number))
-    (listed_live plan h s is.number (needs_sync x s.class Npr) (needs_sync x s.class Cpl) is.free.1.0 (and_false _ _ is.free.1.1.1.0) (and_false _ _ is.free.1.1.1.1.0))
+    (listed_live plan h s is.number (needs_sync x s.class Npr) (needs_sync x s.class Cpl) is.free.1.0
+    (and_false _ _ is.free.1.1.1.0) (and_false _ _ is.free.1.1.1.1.0))
 
 -- ---- the packets of a send are of different sub-streams
 
@@ -45,14 +67,17 @@ abbrev pub AllApart : List SealedPacket → Type 0
 AllApart [] = Unit {0}
 AllApart (d ∷ ds) = AreOther d.sub ds × AllApart ds
 
-listed_apart : (x : Lanes) (s : Sending) (number : ℕ) (n c : Bool) → (n ≡ true → s.class ≡ Pr) → (c ≡ true → s.class ≡ Pr) → AllApart (listed x s number n c)
+listed_apart : (x : Lanes) (s : Sending) (number : ℕ) (n c : Bool) → (n ≡ true → s.class ≡ Pr)
+    → (c ≡ true → s.class ≡ Pr) → AllApart (listed x s number n c)
 unfolding listed
 listed_apart x s number false false r k = (tt, tt)
 listed_apart x s number true false r k = ((ap (is_same_sub Npr) (r refl), tt), (tt, tt))
 listed_apart x s number false true r k = ((ap (is_same_sub Cpl) (k refl), tt), (tt, tt))
-listed_apart x s number true true r k = ((refl, (ap (is_same_sub Npr) (r refl), tt)), ((ap (is_same_sub Cpl) (k refl), tt), (tt, tt)))
+listed_apart x s number true true r k =
+    ((refl, (ap (is_same_sub Npr) (r refl), tt)), ((ap (is_same_sub Cpl) (k refl), tt), (tt, tt)))
 
-pub all_apart : (plan : Plan) (h : History) (port : PortName) (bytes : List ℕ) (ds : List SealedPacket) → IsSealing plan h port bytes ds → AllApart ds
+pub all_apart : (plan : Plan) (h : History) (port : PortName) (bytes : List ℕ) (ds : List SealedPacket)
+    → IsSealing plan h port bytes ds → AllApart ds
 all_apart plan h port bytes ds is =
     let s = is.sending in
     let x = lanes_at plan h s.port s.stream in
@@ -68,7 +93,8 @@ seals_none _ = true
 pub quiet_seals_none : (w : Verdict) → is_quiet w ≡ true → seals_none w ≡ true
 quiet_seals_none w none = grind arith
 
-pub sealed_same : (plan : Plan) (h : History) (e : Event) (w : Verdict) → seals_none w ≡ true → sealed_packets plan ((e, w) ∷ h) ≡ sealed_packets plan h
+pub sealed_same : (plan : Plan) (h : History) (e : Event) (w : Verdict) → seals_none w ≡ true
+    → sealed_packets plan ((e, w) ∷ h) ≡ sealed_packets plan h
 unfolding sealed_packets
 sealed_same plan h (Send p bytes more trusted) (Sealed ds) none = absurd cc
 sealed_same plan h _ _ none = refl

@@ -1,6 +1,10 @@
 -- What the rules of sealing tell of one send.
-use Rattle.link_history.proofs.Terms.{Bool, List, None, Option, Some, [], arith, false, length, refl, true, ℕ, ◌++◌, ◌+◌, ◌∷◌, ◌≡◌, nat_tests, is_none, Cpl, Npr, Pr, is_same_sub, Lanes, Sending, described, ends_unit, first_that_holds}
-use Rattle.link_history.proofs.Terms.{is_keyless, needs_sync, sealed_by, sets_trusted, KeyName, lesser, sub_stream_of, is_same, lane_out, Keyed, On, PortName, SealedPacket, SubKind, Verdict, if◌then◌else◌, key_in, ◌&&◌}
+use Rattle.link_history.proofs.Terms.{Bool, List, None, Option, Some, [], arith, false, length, refl, true, ℕ, ◌++◌}
+use Rattle.link_history.proofs.Terms.{◌+◌, ◌∷◌, ◌≡◌, nat_tests, is_none, Cpl, Npr, Pr, is_same_sub, Lanes, Sending}
+use Rattle.link_history.proofs.Terms.{described, ends_unit, first_that_holds}
+use Rattle.link_history.proofs.Terms.{is_keyless, needs_sync, sealed_by, sets_trusted, KeyName, lesser, sub_stream_of}
+use Rattle.link_history.proofs.Terms.{is_same, lane_out, Keyed, On, PortName, SealedPacket, SubKind, Verdict}
+use Rattle.link_history.proofs.Terms.{if◌then◌else◌, key_in, ◌&&◌}
 use Rattle.link_history.proofs.Tests.{same_sub}
 
 -- ---- no refusal holds
@@ -32,7 +36,8 @@ and_false a b is here = grind arith
 -- ---- what is sealed fits
 
 -- the key that seals is On in its set
-pub on_live : (a b : Keyed) (key : KeyName) → lesser a b ≡ Some key → key_in (record { first = a; second = b }) key.k ≡ On key.draw
+pub on_live : (a b : Keyed) (key : KeyName) → lesser a b ≡ Some key → key_in (record { first = a; second = b }) key.k
+    ≡ On key.draw
 on_live a b key is = grind (arith, nat_tests)
 
 -- the list by what needs a sync packet
@@ -40,20 +45,24 @@ unfoldable pub listed : Lanes → Sending → ℕ → Bool → Bool → List Sea
 listed x s number n c =
     let first = if n then described x s Npr number true false true ∷ [] else [] in
     let second = if c then described x s Cpl (number + length first) true false true ∷ [] else [] in
-    first ++ second ++ described x s s.class (number + length first + length second) (ends_unit x s) (sets_trusted s.port s.trusted) false ∷ []
+    first ++ second ++ described x s s.class (number + length first + length second) (ends_unit x s)
+    (sets_trusted s.port s.trusted) false ∷ []
 
-pub sealed_by_is : (x : Lanes) (s : Sending) (number : ℕ) → sealed_by x s number ≡ listed x s number (needs_sync x s.class Npr) (needs_sync x s.class Cpl)
+pub sealed_by_is : (x : Lanes) (s : Sending) (number : ℕ) → sealed_by x s number
+    ≡ listed x s number (needs_sync x s.class Npr) (needs_sync x s.class Cpl)
 unfolding listed
 sealed_by_is x s number = refl
 
 pub needs_posted : (x : Lanes) (class u : SubKind) → needs_sync x class u ≡ true → class ≡ Pr
 needs_posted x class u needs = same_sub class Pr (grind arith)
 
-pub lane_is : (port : PortName) (stream : ℕ) (d : SealedPacket) → d.port ≡ port → d.stream ≡ stream → sub_stream_of d ≡ lane_out port stream d.sub
+pub lane_is : (port : PortName) (stream : ℕ) (d : SealedPacket) → d.port ≡ port → d.stream ≡ stream → sub_stream_of d
+    ≡ lane_out port stream d.sub
 lane_is port stream d port_is stream_is = λ i. lane_out (port_is i) (stream_is i) d.sub
 
 -- whether it is of the port's sub-stream
-pub in_lane : (port : PortName) (stream : ℕ) (d : SealedPacket) (x : SubKind) → d.port ≡ port → d.stream ≡ stream → is_same (sub_stream_of d) (lane_out port stream x) ≡ is_same_sub d.sub x
+pub in_lane : (port : PortName) (stream : ℕ) (d : SealedPacket) (x : SubKind) → d.port ≡ port → d.stream ≡ stream
+    → is_same (sub_stream_of d) (lane_out port stream x) ≡ is_same_sub d.sub x
 in_lane port stream d x port_is stream_is = grind (arith, nat_tests)
 
 -- all fit, each in a sub-stream of its own

@@ -1,9 +1,12 @@
 -- What proofs on histories and their keys speak of.
 pub use Rattle.std.specs.Prelude.{if◌then◌else◌, is_some, map, nat_le, nat_lt, not, ◌&&◌, ◌||◌}
-pub use Rattle.std.proofs.Common.{Bool, Err, List, None, Ok, Option, Result, Some, [], ap, append_assoc, arith, drop, false, filter, inl, inr, length, length-append, refl, slice_get, subst, subst₂, suc, sym, take, true, zero}
+pub use Rattle.std.proofs.Common.{Bool, Err, List, None, Ok, Option, Result, Some, [], ap, append_assoc, arith, drop}
+pub use Rattle.std.proofs.Common.{false, filter, inl, inr, length, length-append, refl, slice_get, subst, subst₂, suc}
+pub use Rattle.std.proofs.Common.{sym, take, true, zero}
 pub use Rattle.std.proofs.Common.{ℕ, ◌++◌, ◌+◌, ◌-◌, ◌<◌, ◌==◌, ◌∙◌, ◌∷◌, ◌≡◌, ◌≤◌, ◌⊎◌}
 pub use Rattle.std.proofs.lemmas.Bool.Decides.{nat_tests}
-pub use Rattle.std.proofs.lemmas.List.{append-nil, drop-append-le, drop_all, map-append, reverse-append, take-append-drop}
+pub use Rattle.std.proofs.lemmas.List.{append-nil, drop-append-le, drop_all, map-append, reverse-append}
+pub use Rattle.std.proofs.lemmas.List.{take-append-drop}
 pub use Rattle.std.proofs.lemmas.List.Elements.{filter-append}
 pub use Rattle.std.proofs.lemmas.Option.{get_or_from_slice_get, slice_get_within}
 pub use Rattle.std.specs.List.{flat_map, suffix_len}
@@ -13,28 +16,60 @@ pub use Rattle.ide_types.specs.declared.status.StreamStatus.{StreamStatus}
 pub use Rattle.ide_types.specs.declared.sub.SubKind.TheVariants.{Cpl, Npr, Pr}
 pub use Rattle.link_events.specs.declared.event.Loss.{Loss}
 pub use Rattle.link_verdicts.specs.declared.verdict.Operation.{Operation}
-pub use Rattle.key_laws.specs.Due.{PortView, comes_to, establish_on, may_establish, may_refresh, performed, ports_at, refresh_on, stays_at, unless_open}
+pub use Rattle.key_laws.specs.Due.{PortView, comes_to, establish_on, may_establish, may_refresh, performed, ports_at}
+pub use Rattle.key_laws.specs.Due.{refresh_on, stays_at, unless_open}
 unfoldable pub use Rattle.key_laws.specs.Due.{due as key_due}
-pub use Rattle.key_laws.specs.History.{begins_keyed, behind, came, draws, has_key, is_sender, on_it, op_of, sealed_here, touches, when, worked}
+pub use Rattle.key_laws.specs.History.{begins_keyed, behind, came, draws, has_key, is_sender, on_it, op_of, sealed_here}
+pub use Rattle.key_laws.specs.History.{touches, when, worked}
 unfoldable pub use Rattle.key_laws.specs.History.{base, failed as failed_there, manager, moments}
-pub use Rattle.key_laws.specs.Keys.{Accept, Clear as ClearTouch, Go as GoTouch, Loaded, Program as ProgramTouch, Seal, Touch, is_on, kept_in, live_draw, settled, touched}
+pub use Rattle.key_laws.specs.Keys.{Accept, Clear as ClearTouch, Go as GoTouch, Loaded, Program as ProgramTouch, Seal}
+pub use Rattle.key_laws.specs.Keys.{Touch, is_on, kept_in, live_draw, settled, touched}
 unfoldable pub use Rattle.key_laws.specs.Keys.{is_open, keys}
 pub use Rattle.key_laws.specs.Laws.{CauseLaw as KeyCauseLaw, GivenFits, UsesFit}
-pub use Rattle.key_laws.specs.Operations.{Begun, Idle, Manager, Op, Reach, Stopping, Work, op_after, operated, reach_of, work_of}
+pub use Rattle.key_laws.specs.Operations.{Begun, Idle, Manager, Op, Reach, Stopping, Work, op_after, operated, reach_of}
+pub use Rattle.key_laws.specs.Operations.{work_of}
 pub use Rattle.key_laws.specs.Places.{is_on_stream, is_same_side, is_same_sub, lane, places_of}
 pub use Rattle.link_history.specs.Cause.{CauseLaw, OneHistory, events_of}
-pub use Rattle.link_history.specs.Due.{Ending, Lanes, Sending, arrival_due, before_tag_of, described, dump_due, effect_of, ended, ends_unit, first_that_holds, is_keyless, is_mixed, is_overfull, is_verified, lanes_at}
-pub use Rattle.link_history.specs.Due.{needs_sync, no_key, receiving, refusals, sealed_by, send_on, send_read, sets_trusted, unit_under}
+pub use Rattle.link_history.specs.Due.{Ending, Lanes, Sending, arrival_due, before_tag_of, described, dump_due}
+pub use Rattle.link_history.specs.Due.{effect_of, ended, ends_unit, first_that_holds, is_keyless, is_mixed, is_overfull}
+pub use Rattle.link_history.specs.Due.{is_verified, lanes_at}
+pub use Rattle.link_history.specs.Due.{needs_sync, no_key, receiving, refusals, sealed_by, send_on, send_read}
+pub use Rattle.link_history.specs.Due.{sets_trusted, unit_under}
 unfoldable pub use Rattle.link_history.specs.Due.{before_tag, choice, due}
-pub use Rattle.link_history.specs.History.{Arrival, KeyName, SealedList, accepted_keys, after_ends, ahead_in, arrived_packet, cut_packet, ended_keys, ends_at, ends_in, failed, fails_at, has_live, is_in, is_keyed, is_under}
-pub use Rattle.link_history.specs.History.{keys_by, lesser, live_key, meets_counts, on_draw, packet_at, packet_in, place, posted_of, received_in, receives_it, sends_it, sent, sub_stream_of, waits, with_sealed}
-unfoldable pub use Rattle.link_history.specs.History.{arrived, draws_got, got_since, has_live_in, has_live_out, held, keys_at, packet_of, posted_in, sealed_packets, sent_in, total_in, units_got, units_since}
+pub use Rattle.link_history.specs.History.{Arrival, KeyName, SealedList, accepted_keys, after_ends, ahead_in}
+pub use Rattle.link_history.specs.History.{arrived_packet, cut_packet, ended_keys, ends_at, ends_in, failed, fails_at}
+pub use Rattle.link_history.specs.History.{has_live, is_in, is_keyed, is_under}
+pub use Rattle.link_history.specs.History.{keys_by, lesser, live_key, meets_counts, on_draw, packet_at, packet_in}
+pub use Rattle.link_history.specs.History.{place, posted_of, received_in, receives_it, sends_it, sent, sub_stream_of}
+pub use Rattle.link_history.specs.History.{waits, with_sealed}
+unfoldable pub use Rattle.link_history.specs.History.{
+  arrived,
+  draws_got,
+  got_since,
+  has_live_in,
+  has_live_out,
+  held,
+  keys_at,
+  packet_of,
+  posted_in,
+  sealed_packets,
+  sent_in,
+  total_in,
+  units_got,
+  units_since,
+}
 pub use Rattle.link_history.specs.KeyFacts.{BaseStays, DrawFacts, KeyFacts, NoneFrom, is_quiet, is_steady}
 unfoldable pub use Rattle.link_history.specs.KeyFacts.{operates}
-pub use Rattle.link_history.specs.Plan.{SubStream, has_link, has_port, has_stream, is_same, is_same_port, key_plan, lane_in, lane_out, partner, streams_of, with_id}
+pub use Rattle.link_history.specs.Plan.{SubStream, has_link, has_port, has_stream, is_same, is_same_port, key_plan}
+pub use Rattle.link_history.specs.Plan.{lane_in, lane_out, partner, streams_of, with_id}
 unfoldable pub use Rattle.link_history.specs.Plan.{stream_plan}
-pub use Rattle.link_history.specs.Terms.{Accepted, AllByRecursion, Device, Dump, Effect, Establish, Event, Held, History, Host, KeyPlan, Keyed, Keys, Off, On, Packet, Place, Plan, PortName, Refresh, Reset, Sealed, SealedPacket}
-pub use Rattle.link_history.specs.Terms.{Send, Status, Stop, SubKind, UnitName, Verdict, after_last, keeps_live, key_in, keys_there, list_any, no_keys, on_in}
+pub use Rattle.link_history.specs.Terms.{Accepted, AllByRecursion, Device, Dump, Effect, Establish, Event, Held}
+pub use Rattle.link_history.specs.Terms.{History, Host, KeyPlan, Keyed, Keys, Off, On, Packet, Place, Plan, PortName}
+pub use Rattle.link_history.specs.Terms.{Refresh, Reset, Sealed, SealedPacket}
+pub use Rattle.link_history.specs.Terms.{Send, Status, Stop, SubKind, UnitName, Verdict, after_last, keeps_live, key_in}
+pub use Rattle.link_history.specs.Terms.{keys_there, list_any, no_keys, on_in}
 pub use Rattle.link_history.specs.Terms.{received_direction, sent_direction, status_of, sub_bits}
 pub use Rattle.link_history.specs.Units.{rest_after, units_after}
 unfoldable pub use Rattle.link_history.specs.Units.{open_unit, units}
+pub use Rattle.link_history.specs.Terms.{Interface, InterfaceEvent, t_due, owner_at}
+pub use Rattle.link_history.specs.Memory.{memory_due}

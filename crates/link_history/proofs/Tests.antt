@@ -1,5 +1,6 @@
 -- Tests of names: ports, sub-streams, draws.
-use Rattle.link_history.proofs.Terms.{arith, false, refl, true, ℕ, ◌==◌, ◌≡◌, nat_tests, Side, SubStream, is_same, is_same_port, PortName, SubKind, received_direction, sent_direction, sub_bits}
+use Rattle.link_history.proofs.Terms.{arith, false, refl, true, ℕ, ◌==◌, ◌≡◌, nat_tests, Side, SubStream, is_same}
+use Rattle.link_history.proofs.Terms.{is_same_port, PortName, SubKind, received_direction, sent_direction, sub_bits}
 
 pub same_sub : (u v : SubKind) → (sub_bits u == sub_bits v) ≡ true → u ≡ v
 same_sub u v e = grind arith

@@ -1,6 +1,9 @@
 -- Units of a list that gains packets, and fronts of a list of units.
-use Rattle.link_history.proofs.Terms.{Bool, List, Some, [], ap, append_assoc, arith, drop, false, length, refl, slice_get, subst, suc, sym, take, true, zero, ℕ, ◌++◌, ◌∙◌, ◌∷◌, ◌≡◌, ◌≤◌, append-nil, take-append-drop}
-use Rattle.link_history.proofs.Terms.{get_or_from_slice_get, slice_get_within, flat_map, AllByRecursion, Packet, if◌then◌else◌, open_unit, rest_after, units, units_after}
+use Rattle.link_history.proofs.Terms.{Bool, List, Some, [], ap, append_assoc, arith, drop, false, length, refl}
+use Rattle.link_history.proofs.Terms.{slice_get, subst, suc, sym, take, true, zero, ℕ, ◌++◌, ◌∙◌, ◌∷◌, ◌≡◌, ◌≤◌}
+use Rattle.link_history.proofs.Terms.{append-nil, take-append-drop}
+use Rattle.link_history.proofs.Terms.{get_or_from_slice_get, slice_get_within, flat_map, AllByRecursion, Packet}
+use Rattle.link_history.proofs.Terms.{if◌then◌else◌, open_unit, rest_after, units, units_after}
 use Rattle.std.proofs.Math.Seq.{take-suc}
 use Rattle.std.proofs.lemmas.Grind.{flat_map-append}
 use Rattle.link_history.proofs.LastPlaces.{all_of}
@@ -11,13 +14,16 @@ joined us = flat_map (λ (u : List Packet). u) us
 
 -- ---- more packets
 
-units_after-append : (front ps qs : List Packet) → units_after front (ps ++ qs) ≡ units_after front ps ++ units_after (rest_after front ps) qs
+units_after-append : (front ps qs : List Packet) → units_after front (ps ++ qs) ≡ units_after front ps
+    ++ units_after (rest_after front ps) qs
 units_after-append front [] qs = refl
-units_after-append front (p ∷ ps) qs = grind (arith, units_after-append [] ps qs, units_after-append (front ++ p ∷ []) ps qs)
+units_after-append front (p ∷ ps) qs = grind
+    (arith, units_after-append [] ps qs, units_after-append (front ++ p ∷ []) ps qs)
 
 rest_after-append : (front ps qs : List Packet) → rest_after front (ps ++ qs) ≡ rest_after (rest_after front ps) qs
 rest_after-append front [] qs = refl
-rest_after-append front (p ∷ ps) qs = grind (arith, rest_after-append [] ps qs, rest_after-append (front ++ p ∷ []) ps qs)
+rest_after-append front (p ∷ ps) qs = grind
+    (arith, rest_after-append [] ps qs, rest_after-append (front ++ p ∷ []) ps qs)
 
 joined_after : (front ps : List Packet) → joined (units_after front ps) ++ rest_after front ps ≡ front ++ ps
 joined_after front [] = sym (append-nil front)
@@ -32,22 +38,28 @@ unfolding open_unit
 open_unit-append ps qs = rest_after-append [] ps qs
 
 -- what a packet does to the units
-pub units-snoc : (ps : List Packet) (p : Packet) → units (ps ++ p ∷ []) ≡ (if p.prefix.m then units ps ++ (open_unit ps ++ p ∷ []) ∷ [] else units ps)
+pub units-snoc : (ps : List Packet) (p : Packet) → units (ps ++ p ∷ [])
+    ≡ (if p.prefix.m then units ps ++ (open_unit ps ++ p ∷ []) ∷ [] else units ps)
 units-snoc ps p = grind (arith, units-append ps (p ∷ []), append-nil)
 
-pub open_unit-snoc : (ps : List Packet) (p : Packet) → open_unit (ps ++ p ∷ []) ≡ (if p.prefix.m then [] else open_unit ps ++ p ∷ [])
+pub open_unit-snoc : (ps : List Packet) (p : Packet) → open_unit (ps ++ p ∷ [])
+    ≡ (if p.prefix.m then [] else open_unit ps ++ p ∷ [])
 open_unit-snoc ps p = open_unit-append ps (p ∷ [])
 
-pub units-end : (ps : List Packet) (p : Packet) → p.prefix.m ≡ true → units (ps ++ p ∷ []) ≡ units ps ++ (open_unit ps ++ p ∷ []) ∷ []
-units-end ps p m = units-snoc ps p ∙ ap (λ (b : Bool). if b then units ps ++ (open_unit ps ++ p ∷ []) ∷ [] else units ps) m
+pub units-end : (ps : List Packet) (p : Packet) → p.prefix.m ≡ true → units (ps ++ p ∷ []) ≡ units ps
+    ++ (open_unit ps ++ p ∷ []) ∷ []
+units-end ps p m = units-snoc ps p ∙ ap
+    (λ (b : Bool). if b then units ps ++ (open_unit ps ++ p ∷ []) ∷ [] else units ps) m
 
 pub units-more : (ps : List Packet) (p : Packet) → p.prefix.m ≡ false → units (ps ++ p ∷ []) ≡ units ps
-units-more ps p m = units-snoc ps p ∙ ap (λ (b : Bool). if b then units ps ++ (open_unit ps ++ p ∷ []) ∷ [] else units ps) m
+units-more ps p m = units-snoc ps p ∙ ap
+    (λ (b : Bool). if b then units ps ++ (open_unit ps ++ p ∷ []) ∷ [] else units ps) m
 
 pub open_unit-end : (ps : List Packet) (p : Packet) → p.prefix.m ≡ true → open_unit (ps ++ p ∷ []) ≡ []
 open_unit-end ps p m = open_unit-snoc ps p ∙ ap (λ (b : Bool). if b then [] else open_unit ps ++ p ∷ []) m
 
-pub open_unit-more : (ps : List Packet) (p : Packet) → p.prefix.m ≡ false → open_unit (ps ++ p ∷ []) ≡ open_unit ps ++ p ∷ []
+pub open_unit-more : (ps : List Packet) (p : Packet) → p.prefix.m ≡ false → open_unit (ps ++ p ∷ []) ≡ open_unit ps ++ p
+    ∷ []
 open_unit-more ps p m = open_unit-snoc ps p ∙ ap (λ (b : Bool). if b then [] else open_unit ps ++ p ∷ []) m
 
 -- the units and what is open are all the packets
@@ -57,7 +69,8 @@ joined_units ps = joined_after [] ps
 
 -- ---- M
 
-pub All-snoc : (P : Packet → Type 0) (ps : List Packet) (p : Packet) → AllByRecursion P ps → P p → AllByRecursion P (ps ++ p ∷ [])
+pub All-snoc : (P : Packet → Type 0) (ps : List Packet) (p : Packet) → AllByRecursion P ps → P p
+    → AllByRecursion P (ps ++ p ∷ [])
 All-snoc P [] p all here = (here, tt)
 All-snoc P (q ∷ ps) p all here = (all.0, All-snoc P ps p all.1 here)
 
@@ -79,7 +92,8 @@ EndsInM-snoc (q ∷ r ∷ ps) p front m = (front.0, EndsInM-snoc (r ∷ ps) p fr
 open_after_front : (f ps : List Packet) → IsFront ps → rest_after f ps ≡ f ++ ps
 open_after_front f [] front = sym (append-nil f)
 open_after_front f (p ∷ ps) front =
-    ap (λ (b : Bool). if b then rest_after [] ps else rest_after (f ++ p ∷ []) ps) front.0 ∙ (open_after_front (f ++ p ∷ []) ps front.1 ∙ append_assoc f (p ∷ []) ps)
+    ap (λ (b : Bool). if b then rest_after [] ps else rest_after (f ++ p ∷ []) ps) front.0 ∙
+    (open_after_front (f ++ p ∷ []) ps front.1 ∙ append_assoc f (p ∷ []) ps)
 
 pub open_unit-front : (ps qs : List Packet) → IsFront qs → open_unit (ps ++ qs) ≡ open_unit ps ++ qs
 open_unit-front ps qs front = open_unit-append ps qs ∙ open_after_front (open_unit ps) qs front
@@ -91,33 +105,40 @@ each_unit : (F : List Packet → Type 0) (R : Packet → Type 0) (P : List Packe
     → (front ps : List Packet) → F front → AllByRecursion R ps → AllByRecursion P (units_after front ps)
 each_unit F R P none ends goes front [] f all = tt
 each_unit F R P none ends goes front (q ∷ ps) f all =
-    by_m q.prefix.m refl (each_unit F R P none ends goes [] ps none all.1) (λ g. each_unit F R P none ends goes (front ++ q ∷ []) ps g all.1)
+    by_m q.prefix.m refl (each_unit F R P none ends goes [] ps none all.1)
+    (λ g. each_unit F R P none ends goes (front ++ q ∷ []) ps g all.1)
   where
-    by_m : (b : Bool) → q.prefix.m ≡ b → AllByRecursion P (units_after [] ps) → (F (front ++ q ∷ []) → AllByRecursion P (units_after (front ++ q ∷ []) ps))
+    by_m : (b : Bool) → q.prefix.m ≡ b → AllByRecursion P (units_after [] ps)
+        → (F (front ++ q ∷ []) → AllByRecursion P (units_after (front ++ q ∷ []) ps))
         → AllByRecursion P (if b then (front ++ q ∷ []) ∷ units_after [] ps else units_after (front ++ q ∷ []) ps)
     by_m true m rest more = (ends front q f all.0 m, rest)
     by_m false m rest more = more (goes front q f all.0 m)
 
-pub units_all : (P : Packet → Type 0) (ps : List Packet) → AllByRecursion P ps → AllByRecursion (AllByRecursion P) (units ps)
+pub units_all : (P : Packet → Type 0) (ps : List Packet) → AllByRecursion P ps
+    → AllByRecursion (AllByRecursion P) (units ps)
 unfolding units
 units_all P ps all =
-    each_unit (AllByRecursion P) P (AllByRecursion P) tt (λ f p g here m. All-snoc P f p g here) (λ f p g here m. All-snoc P f p g here) [] ps tt all
+    each_unit (AllByRecursion P) P (AllByRecursion P) tt (λ f p g here m. All-snoc P f p g here)
+    (λ f p g here m. All-snoc P f p g here) [] ps tt all
 
 -- each unit ends in M, and only there
 pub units_end : (ps : List Packet) → AllByRecursion EndsInM (units ps)
 unfolding units
 units_end ps =
-    each_unit IsFront (λ p. Unit {0}) EndsInM tt (λ f p g here m. EndsInM-snoc f p g m) (λ f p g here m. All-snoc _ f p g m) [] ps tt (all_of _ (λ p. tt) ps)
+    each_unit IsFront (λ p. Unit {0}) EndsInM tt (λ f p g here m. EndsInM-snoc f p g m)
+    (λ f p g here m. All-snoc _ f p g m) [] ps tt (all_of _ (λ p. tt) ps)
 
 -- what holds of all units holds of one
-pub unit_at : (P : List Packet → Type 0) (us : List (List Packet)) (k : ℕ) (x : List Packet) → AllByRecursion P us → slice_get us k ≡ Some x → P x
+pub unit_at : (P : List Packet → Type 0) (us : List (List Packet)) (k : ℕ) (x : List Packet) → AllByRecursion P us
+    → slice_get us k ≡ Some x → P x
 unit_at P [] k x all is = absurd cc
 unit_at P (y ∷ us) zero x all is = let same : y ≡ x = cc in subst P same all.0
 unit_at P (y ∷ us) (suc k) x all is = unit_at P us k x all.1 is
 
 -- ---- fronts of the units
 
-pub take_next : (us : List (List Packet)) (k : ℕ) (x : List Packet) → slice_get us k ≡ Some x → take (suc k) us ≡ take k us ++ x ∷ []
+pub take_next : (us : List (List Packet)) (k : ℕ) (x : List Packet) → slice_get us k ≡ Some x → take (suc k) us
+    ≡ take k us ++ x ∷ []
 take_next us k x is = rw (take-suc us k x (slice_get_within us k x is), get_or_from_slice_get us k x x is)
 
 pub below : (us : List (List Packet)) (k : ℕ) (x : List Packet) → slice_get us k ≡ Some x → suc k ≤ length us

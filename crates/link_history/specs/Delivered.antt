@@ -1,7 +1,9 @@
 -- The TLPs that were sent, and those that were delivered: each is the bytes of its header and its payload in plain.
 -- Sync packets carry none.
-use Rattle.std.specs.Prelude.{if◌then◌else◌, ◌&&◌, ◌++◌, ◌==◌, ◌∷◌, Bool, List, [], drop, filter, length, map, not, take, ℕ}
-use Rattle.link_history.specs.Terms.{Plan, Send, SealedPacket, Accepted, Sealed, iv_of, Packet, is_sync_packet, encrypted, open_of, History}
+use Rattle.std.specs.Prelude.{if◌then◌else◌, ◌&&◌, ◌++◌, ◌==◌, ◌∷◌, Bool, List, [], drop, filter, length, map, not}
+use Rattle.std.specs.Prelude.{take, ℕ}
+use Rattle.link_history.specs.Terms.{Plan, Send, SealedPacket, Accepted, Sealed, iv_of, Packet, is_sync_packet}
+use Rattle.link_history.specs.Terms.{encrypted, open_of, History}
 use Rattle.link_history.specs.Plan.{SubStream, is_same, key_of}
 use Rattle.link_history.specs.Laws.{Begins}
 use Rattle.link_history.specs.History.{sub_stream_of, arrived_packet, is_of, held}

@@ -1,25 +1,31 @@
 -- The one verdict that an event gets after a history.
-use Rattle.std.specs.Prelude.{if◌then◌else◌, ◌&&◌, ◌++◌, ◌+◌, ◌==◌, ◌||◌, ◌∷◌, Bool, Err, List, None, Ok, Option, Result, Some, [], false, is_some, length, map, nat_le, nat_lt, not, true, ℕ}
+use Rattle.std.specs.Prelude.{if◌then◌else◌, ◌&&◌, ◌++◌, ◌+◌, ◌||◌, ◌∷◌, Bool, Err, List, None, Ok, Option, Result}
+use Rattle.std.specs.Prelude.{Some, [], is_some, length, map, nat_le, nat_lt, not, ℕ}
 use Rattle.link_history.specs.Terms.{option_map_or, PortName, Device, Host}
-use Rattle.link_history.specs.Terms.{Plan, Event, Dump, Establish, Refresh, Reset, Send, Status, Stop, Effect, SealedPacket, UnitName, Verdict, read_head_of, read_of, header, TlpFault, Tlp, iv_of, Packet, is_sync_packet, packet_bytes}
-use Rattle.link_history.specs.Terms.{CutValue, IdePacket, PlainTlp, cut_of, authenticated, encrypted, PacketFault, verifies, History, status_of, received_direction, sent_direction}
+use Rattle.link_history.specs.Terms.{Plan, Event, Dump, Establish, Interface, Refresh, Reset, Send, Status, Stop, t_due}
+use Rattle.link_history.specs.Terms.{owner_at, SealedPacket, UnitName, Verdict, read_of, header, TlpFault, Tlp, iv_of}
+use Rattle.link_history.specs.Terms.{Packet, packet_bytes}
+use Rattle.link_history.specs.Terms.{CutValue, IdePacket, PlainTlp, cut_of, authenticated, encrypted, PacketFault}
+use Rattle.link_history.specs.Terms.{verifies, History, status_of, received_direction}
 use Rattle.key_laws.specs.Due.{due as key_due}
+use Rattle.interface_states.specs.Due.{due as interface_due}
 use Rattle.association.specs.Choice.{choice_of, chosen}
 use Rattle.tlp_layout.specs.declared.head.HeadView.{HeadView}
-use Rattle.tlp_layout.specs.declared.head.TlpKind.{TlpKind}
-use Rattle.tlp_layout.specs.Class.{class_of, kind_of}
+use Rattle.tlp_layout.specs.Class.{class_of}
 use Rattle.tlp_layout.specs.Faults.{place_in}
 use Rattle.ide_prefix.specs.Faults.{packet_place}
 use Rattle.fault_words.specs.FaultWords.{tlp_word, packet_word}
 use Rattle.ide_types.specs.declared.sub.FailCause.TheVariants as fail
-use Rattle.link_history.specs.Plan.{SubStream, key_plan, streams_of, stream_plan, lane_out, has_port, has_stream, mode_of, key_of}
+use Rattle.link_history.specs.Plan.{SubStream, key_plan, streams_of, stream_plan, lane_out, has_port, has_stream}
+use Rattle.link_history.specs.Plan.{mode_of, key_of}
 use Rattle.link_history.specs.Units.{units, open_unit}
-use Rattle.link_history.specs.History.{Arrival, KeyName, sealed_packets, sent, arrived, packet_at, pending, units_got, on_draw, live_key, failed, posted_count, meets_counts, received_in, front_due}
+use Rattle.link_history.specs.History.{Arrival, KeyName, sealed_packets, sent, arrived, packet_at, pending, units_got}
+use Rattle.link_history.specs.History.{on_draw, live_key, failed, posted_count, meets_counts, received_in, front_due}
 use Rattle.link_verdicts.specs.declared.verdict.Verdict.TheVariants as v
-use Rattle.link_verdicts.specs.declared.verdict.Effect.TheVariants as effect
-use Rattle.link_verdicts.specs.declared.verdict.BlockCause.TheVariants as block
-use Rattle.tlp_layout.specs.declared.head.TlpKind.TheVariants as kind
-pub use Rattle.stream_rules.specs.Sending.{first_that_holds, Sending, Lane, Lanes, is_posted, begins_unit, needs_sync, is_worn, is_keyless, refusals, no_key, described, ends_unit, sets_trusted, sync_before, sealed_by, sent_as}
+pub use Rattle.link_history.specs.Memory.{effect_of, memory_due}
+pub use Rattle.stream_rules.specs.Sending.{first_that_holds, Sending, Lane, Lanes, is_posted, begins_unit, needs_sync}
+pub use Rattle.stream_rules.specs.Sending.{is_worn, is_keyless, refusals, no_key, described, ends_unit, sets_trusted}
+pub use Rattle.stream_rules.specs.Sending.{sync_before, sealed_by, sent_as}
 
 -- ---- sends
 
@@ -53,7 +59,14 @@ choice plan port head = chosen (choice_of (streams_of plan port.link) port.side 
 abbrev pub send_on : Plan → History → PortName → HeadView → Bool → Bool → Option ℕ → Verdict
 send_on plan h port head more trusted None = v.Plain port
 send_on plan h port head more trusted (Some stream) =
-    let s : Sending = record { port = port; stream = stream; class = class_of head; more = more; trusted = trusted } in
+    let s : Sending =
+    record {
+      port = port;
+      stream = stream;
+      class = class_of head;
+      more = more;
+      trusted = t_due plan h port port.side (owner_at plan port.link head) stream trusted;
+    } in
     sent_as (lanes_at plan h port stream) s (length (sealed_packets plan h) + 1)
 
 abbrev pub send_read : Plan → History → PortName → Result Tlp TlpFault → Bool → Bool → Verdict
@@ -118,29 +131,13 @@ is_verified plan h port x =
     (front_due plan h (received_in port x.unit) x.unit.unit ++ authenticated (ended plan h port x))
     (encrypted (ended plan h port x)) x.packet.tag
 
--- A memory write that a host's port delivers is blocked: without T, and with it since no interface is in RUN.
-abbrev pub kind_in : Result HeadView TlpFault → Option TlpKind
-kind_in (Ok head) = Some (kind_of head)
-kind_in (Err f) = None
-
-abbrev pub is_write : Option TlpKind → Bool
-is_write (Some kind.MemWrite) = true
-is_write _ = false
-
-abbrev pub effect_of : PortName → Packet → Effect
-effect_of port p =
-    if is_sync_packet p then effect.Sync
-    else if (sent_direction port.side == 0) && is_write (kind_in (read_head_of p.head))
-    then effect.Blocked (if p.prefix.t then block.NotRunning else block.NotTrusted)
-    else effect.Delivered
-
 abbrev pub settled : Plan → History → PortName → Result Ending Verdict → Verdict
 settled plan h port (Err verdict) = verdict
 settled plan h port (Ok x) =
     if not (is_verified plan h port x) then v.Fail port x.unit.stream x.unit.sub fail.Tag
     else if not (meets_counts plan h (received_in port x.unit) (ended plan h port x)) then v.Fail port x.unit.stream
     x.unit.sub fail.Order
-    else v.Accepted port x.unit (map (effect_of port) (ended plan h port x))
+    else v.Accepted port x.unit (map (effect_of plan h port x.unit) (ended plan h port x))
 
 abbrev pub arrival_due : Plan → History → Option Arrival → Verdict
 arrival_due plan h None = v.Nothing
@@ -152,8 +149,8 @@ dump_due n (Some x) = v.Packet n (packet_bytes x.1)
 
 -- ---- the verdict
 
--- Each event has one verdict. An operation and a reset get that of their keys; whatever else is no send and shows
--- nothing brings bytes.
+-- Each event has one verdict. An operation and a reset get that of their keys, what is asked of an interface that of
+-- the interfaces; whatever else is no send and shows nothing brings bytes.
 unfoldable pub due : Plan → History → Event → Verdict
 due plan h (Send port bytes more trusted) =
     if has_port plan port then send_read plan h port (read_of bytes) more trusted else v.Nothing
@@ -162,6 +159,7 @@ due plan h (Establish link stream lose) = key_due (key_plan plan) h (Establish l
 due plan h (Refresh link stream lose) = key_due (key_plan plan) h (Refresh link stream lose) v.Nothing
 due plan h (Stop link stream lose) = key_due (key_plan plan) h (Stop link stream lose) v.Nothing
 due plan h (Reset link) = key_due (key_plan plan) h (Reset link) v.Nothing
+due plan h (Interface e) = interface_due plan h e (memory_due plan h e)
 due plan h (Status link stream) =
     if is_some (stream_plan plan link stream) then v.Status link stream (status_of h Host link stream)
     (status_of h Device link stream) else v.Nothing

@@ -1,12 +1,19 @@
 -- What happened: filters of a history, which is a list of events with their verdicts, the newest first.
-use Rattle.std.specs.Prelude.{if◌then◌else◌, ◌&&◌, ◌++◌, ◌+◌, ◌-◌, ◌==◌, ◌||◌, ◌∷◌, Bool, Err, List, None, Ok, Option, Result, Some, [], bit_xor, false, filter, length, map, nat_le, nat_lt, not, option_map, slice_get, slice_index, slice_set, sum_by, take, true, ℕ}
+use Rattle.std.specs.Prelude.{if◌then◌else◌, ◌&&◌, ◌++◌, ◌+◌, ◌-◌, ◌==◌, ◌||◌, ◌∷◌, Bool, Err, List, None, Ok, Option}
+use Rattle.std.specs.Prelude.{Result, Some, [], bit_xor, false, filter, length, map, nat_le, nat_lt, not, option_map}
+use Rattle.std.specs.Prelude.{slice_get, slice_index, slice_set, sum_by, take, true, ℕ}
 use Rattle.link_history.specs.Terms.{after_last, list_any, option_and_then}
-use Rattle.link_history.specs.Terms.{sub_bits, PortName, Plan, Event, Alter, Arrive, Cut, Pass, Send, SealedPacket, UnitName, Verdict, Accepted, Held, Sealed}
-use Rattle.link_history.specs.Terms.{read_of, body, header, TlpFault, Tlp, iv_of, Packet, packet_bytes, sync_head, CutValue, IdePacket, cut_of, authenticated, encrypted, PacketFault, masked, tag_of, History, base, failed_there}
-use Rattle.link_history.specs.Terms.{fails_there, keeps_live, keys_there, Keyed, Keys, Off, On, key_in, no_keys, on_in, unless_below, Place, received_direction, sent_direction}
+use Rattle.link_history.specs.Terms.{sub_bits, PortName, Plan, Event, Alter, Arrive, Cut, Pass, Send, SealedPacket}
+use Rattle.link_history.specs.Terms.{UnitName, Verdict, Accepted, Held, Sealed}
+use Rattle.link_history.specs.Terms.{read_of, body, header, TlpFault, Tlp, iv_of, Packet, packet_bytes, sync_head}
+use Rattle.link_history.specs.Terms.{CutValue, IdePacket, cut_of, authenticated, encrypted, PacketFault, masked, tag_of}
+use Rattle.link_history.specs.Terms.{History, base, failed_there}
+use Rattle.link_history.specs.Terms.{fails_there, keeps_live, keys_there, Keyed, Keys, Off, On, key_in, no_keys, on_in}
+use Rattle.link_history.specs.Terms.{unless_below, Place, received_direction, sent_direction}
 use Rattle.ide_types.specs.declared.sub.SubKind.TheVariants.{Pr, Npr, Cpl}
 use Rattle.tlp_layout.specs.Head.{head_bytes}
-use Rattle.link_history.specs.Plan.{SubStream, is_same, is_same_port, partner, lane_out, lane_in, has_port, key_of, is_closed}
+use Rattle.link_history.specs.Plan.{SubStream, is_same, is_same_port, partner, lane_out, lane_in, has_port, key_of}
+use Rattle.link_history.specs.Plan.{is_closed}
 use Rattle.link_history.specs.Units.{open_unit}
 pub use Rattle.stream_rules.specs.Sending.{KeyName, prefix_of, front_with}
 

@@ -1,10 +1,12 @@
 -- All that is used of the keys of places: how a pair changes them, and what is known of those that are On.
-use Rattle.std.specs.Prelude.{if◌then◌else◌, ◌&&◌, ◌<◌, ◌==◌, ◌∷◌, ◌≡◌, ◌≤◌, ◌⊎◌, Bool, List, Some, [], false, is_some, nat_le, not, slice_get, true, ℕ}
+use Rattle.std.specs.Prelude.{if◌then◌else◌, ◌&&◌, ◌<◌, ◌==◌, ◌∷◌, ◌≡◌, ◌≤◌, ◌⊎◌, Bool, List, Some, [], false, is_some}
+use Rattle.std.specs.Prelude.{nat_le, not, slice_get, true, ℕ}
 use Rattle.link_history.specs.Terms.{AllByRecursion, PortName, SubKind, Plan, Event, Effect, SealedPacket}
 use Rattle.link_history.specs.Terms.{UnitName, Verdict, Accepted, Fail, Held, Sealed, Packet, History, base, On, key_in}
 use Rattle.link_events.specs.declared.event.Event.TheVariants as event
 use Rattle.link_history.specs.Plan.{SubStream, is_same, is_same_port, lane_out, lane_in, stream_plan}
-use Rattle.link_history.specs.History.{is_under, KeyName, live_key, sealed_packets, sub_stream_of, draws_got, keys_at, sent, received_in, is_keyed, after_ends, accepted_keys, waits}
+use Rattle.link_history.specs.History.{is_under, KeyName, live_key, sealed_packets, sub_stream_of, draws_got, keys_at}
+use Rattle.link_history.specs.History.{sent, received_in, is_keyed, after_ends, accepted_keys, waits}
 use Rattle.link_history.specs.Units.{open_unit}
 use Rattle.link_history.specs.Cause.{CauseLaw}
 

@@ -1,10 +1,13 @@
 -- The laws of a history.
-use Rattle.std.specs.Prelude.{◌++◌, ◌+◌, ◌<◌, ◌∷◌, ◌≡◌, ◌≢◌, ◌≤◌, Bool, List, Ok, Some, [], false, map, slice_get, take, true, ℕ}
-use Rattle.link_history.specs.Terms.{PortName, Plan, Event, Verdict, Accepted, Held, Packet, packet_bytes, authenticated, encrypted}
+use Rattle.std.specs.Prelude.{◌++◌, ◌+◌, ◌<◌, ◌∷◌, ◌≡◌, ◌≢◌, ◌≤◌, Bool, List, Ok, Some, [], false, map, slice_get, take}
+use Rattle.std.specs.Prelude.{true, ℕ}
+use Rattle.link_history.specs.Terms.{PortName, Plan, Event, Verdict, Accepted, Held, Packet, packet_bytes}
+use Rattle.link_history.specs.Terms.{authenticated, encrypted}
 use Rattle.link_history.specs.Terms.{History, base, received_direction}
 use Rattle.link_history.specs.Plan.{SubStream, is_closed}
 use Rattle.link_history.specs.Units.{units}
-use Rattle.link_history.specs.History.{units_got, sealed_packets, total_in, front_sent, front_due, Arrival, arrived, sent, got, pending, draws_got, on_draw, failed, meets_counts, received_in}
+use Rattle.link_history.specs.History.{units_got, sealed_packets, total_in, front_sent, front_due, Arrival, arrived}
+use Rattle.link_history.specs.History.{sent, got, pending, draws_got, on_draw, failed, meets_counts, received_in}
 use Rattle.link_history.specs.Due.{Ending, before_tag, is_verified, ended, effect_of, unit_under}
 
 -- the tag of the last packet
@@ -106,7 +109,7 @@ abbrev pub IsTaken : Plan → History → SubStream → ℕ → PortName → Pac
 IsTaken plan h s j port p verdict =
     (p.prefix.m ≡ false → verdict ≡ Held port (unit_under h s j))
     × (p.prefix.m ≡ true → verdict ≡ Accepted port (unit_under h s j)
-    (map (effect_of port) (pending plan h s j ++ p ∷ [])))
+    (map (effect_of plan h port (unit_under h s j)) (pending plan h s j ++ p ∷ [])))
 
 abbrev pub TakesWhole : Plan → History → Event → Verdict → Type 0
 TakesWhole plan h e verdict =

@@ -1,8 +1,10 @@
 -- Non-posted packets and completions are accepted behind the posted packets that were sealed before them.
 use Rattle.std.specs.Prelude.{◌<◌, ◌∷◌, ◌≡◌, ◌≢◌, ◌≤◌, Some, [], false, length, slice_get, take, true, ℕ}
-use Rattle.link_history.specs.Terms.{AllByRecursion, sub_bits, Plan, Event, SealedPacket, Verdict, Accepted, Packet, History, base}
+use Rattle.link_history.specs.Terms.{AllByRecursion, sub_bits, Plan, Event, SealedPacket, Verdict, Accepted, Packet}
+use Rattle.link_history.specs.Terms.{History, base}
 use Rattle.link_history.specs.Plan.{SubStream, is_closed}
-use Rattle.link_history.specs.History.{SealedList, sealed_packets, sent, sent_in, is_under, got, draws_got, received_in, posted_of}
+use Rattle.link_history.specs.History.{SealedList, sealed_packets, sent, sent_in, is_under, got, draws_got, received_in}
+use Rattle.link_history.specs.History.{posted_of}
 
 -- the packet at this place of all that were sealed is packet m, from 0, of its sub-stream and draw
 pub record StandsAt (xs : SealedList) (s : SubStream) (j m place : ℕ) : Type 0 where

@@ -1,5 +1,6 @@
 -- What there is before the first event, by link, stream and sub-stream.
-use Rattle.std.specs.Prelude.{if◌then◌else◌, ◌&&◌, ◌*◌, ◌+◌, ◌/◌, ◌==◌, ◌∷◌, Bool, List, None, Option, Some, [], false, is_some, length, map, nat_lt, ℕ}
+use Rattle.std.specs.Prelude.{if◌then◌else◌, ◌&&◌, ◌*◌, ◌+◌, ◌/◌, ◌==◌, ◌∷◌, Bool, List, None, Option, Some, [], false}
+use Rattle.std.specs.Prelude.{is_some, length, map, nat_lt, ℕ}
 use Rattle.link_history.specs.Terms.{slice_index_or, option_map_or, sub_bits, PortName, Device, Host, SubKind}
 use Rattle.link_history.specs.Terms.{Plan, KeyPlan, received_direction, sent_direction}
 use Rattle.ide_types.specs.declared.port.Side.{Side}

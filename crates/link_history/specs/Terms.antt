@@ -7,7 +7,9 @@ pub use Rattle.ide_types.specs.declared.port.Side.TheVariants.{Device, Host}
 pub use Rattle.ide_types.specs.declared.sub.SubKind.{SubKind}
 pub use Rattle.ide_plan.specs.declared.plan.Plan.{Plan}
 pub use Rattle.link_events.specs.declared.event.Event.{Event}
-pub use Rattle.link_events.specs.declared.event.Event.TheVariants.{Alter, Arrive, Cut, Dump, Establish, Pass, Refresh, Reset, Send, Status, Stop}
+pub use Rattle.link_events.specs.declared.event.Event.TheVariants.{Alter, Arrive, Cut, Dump, Establish, Interface, Pass}
+pub use Rattle.link_events.specs.declared.event.Event.TheVariants.{Refresh, Reset, Send, Status, Stop}
+pub use Rattle.link_events.specs.declared.event.InterfaceEvent.{InterfaceEvent}
 pub use Rattle.link_verdicts.specs.declared.verdict.Effect.{Effect}
 pub use Rattle.link_verdicts.specs.declared.verdict.SealedPacket.{SealedPacket}
 pub use Rattle.link_verdicts.specs.declared.verdict.UnitName.{UnitName}
@@ -23,6 +25,17 @@ pub use Rattle.ide_prefix.specs.Reading.{CutValue, IdePacket, PlainTlp, cut_of}
 pub use Rattle.ide_prefix.specs.Units.{authenticated, encrypted}
 pub use Rattle.ide_prefix.specs.declared.fault.PacketFault.{PacketFault}
 pub use Rattle.gcm_seal.specs.Gcm.{masked, open_of, tag_of, verifies}
-pub use Rattle.key_laws.specs.History.{History, base, failed as failed_there, fails_at as fails_there, is_keyed as keeps_live, keys_at as keys_there, status_of}
+pub use Rattle.key_laws.specs.History.{History, base, failed as failed_there, fails_at as fails_there}
+pub use Rattle.key_laws.specs.History.{is_keyed as keeps_live, keys_at as keys_there, status_of}
 pub use Rattle.key_laws.specs.Keys.{Keyed, Keys, Off, On, key_in, no_keys, on_in, unless_below}
 pub use Rattle.key_laws.specs.Places.{KeyPlan, Place, received_direction, sent_direction}
+pub use Rattle.interface_states.specs.Views.{grant_at}
+pub use Rattle.interface_states.specs.Cause.{owner_of, owner_at, t_due}
+pub use Rattle.trusted_memory.specs.declared.grant.Grant.{Grant}
+pub use Rattle.trusted_memory.specs.Spans.{write_span}
+pub use Rattle.trusted_memory.specs.Writes.{Write, memory_write, newest_first}
+unfoldable pub use Rattle.trusted_memory.specs.Writes.{byte_after}
+pub use Rattle.trusted_memory.specs.Regions.{in_one_region}
+pub use Rattle.trusted_memory.specs.Causes.{write_effect}
+pub use Rattle.trusted_memory.specs.Admitted.{is_on_bound, if_placed, admitted_write}
+pub use Rattle.trusted_memory.specs.Memory.{Contents, IsLeftBy, Leads, bytes_from}

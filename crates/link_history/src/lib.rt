@@ -3,5 +3,7 @@
 #![tactic(auto)]
 
 mod cause;
+mod memory;
 
 pub use cause::one_history;
+pub use memory::contents_follow;

@@ -1,5 +1,7 @@
 -- All that is used of keys holds.
-use Rattle.link_history.proofs.Terms.{Bool, [], ap, arith, false, refl, sym, true, ℕ, ◌<◌, ◌==◌, ◌∙◌, ◌≡◌, ◌≤◌, nat_tests, base, CauseLaw, keys_at, place, sent, waits, KeyFacts, SubStream, key_plan, lane_out, History, Keyed, Keys, On}
+use Rattle.link_history.proofs.Terms.{Bool, [], ap, arith, false, refl, sym, true, ℕ, ◌<◌, ◌==◌, ◌∙◌, ◌≡◌, ◌≤◌}
+use Rattle.link_history.proofs.Terms.{nat_tests, base, CauseLaw, keys_at, place, sent, waits, KeyFacts, SubStream}
+use Rattle.link_history.proofs.Terms.{key_plan, lane_out, History, Keyed, Keys, On}
 use Rattle.link_history.proofs.Terms.{Plan, PortName, SubKind, key_in, nat_le, not, on_in}
 use Rattle.key_laws.proofs.Tests.{le-true}
 use Rattle.key_states.proofs.Bases.{on_from}
@@ -29,7 +31,8 @@ pub differ : (ks : Keys) (k : Bool) (i j : ℕ) → ((i j : ℕ) → ks.first �
 differ ks true i j apart_is on other le = let differ = apart_is i j other on in grind (arith, nat_tests)
 differ ks false i j apart_is on other le = let differ = apart_is j i on other in grind (arith, nat_tests)
 
-pub unused : (plan : Plan) (h : History) → CauseLaw plan h → (port : PortName) (stream : ℕ) (u : SubKind) (k : Bool) (j : ℕ) → let s = lane_out port stream u in
+pub unused : (plan : Plan) (h : History) → CauseLaw plan h → (port : PortName) (stream : ℕ) (u : SubKind) (k : Bool)
+    (j : ℕ) → let s = lane_out port stream u in
     key_in (keys_at h port s) k ≡ On j → waits k j (key_in (keys_at h port s) (not k)) ≡ true → sent plan h s j ≡ []
 unused plan h law port stream u k j on waiting =
     let s = lane_out port stream u in
@@ -39,10 +42,12 @@ unused plan h law port stream u k j on waiting =
     let less = differ (keys_at h port s) k other.draw j (apart plan h law port s) on other.on other.least in
     none_sent plan h port s j (sends_lane port stream u) (omega (arith, most, less))
 
-pub from_base : (plan : Plan) (h : History) → CauseLaw plan h → (port : PortName) (s : SubStream) (k : Bool) (j : ℕ) → key_in (keys_at h port s) k ≡ On j → nat_le (base h s.link s.stream) j ≡ true
+pub from_base : (plan : Plan) (h : History) → CauseLaw plan h → (port : PortName) (s : SubStream) (k : Bool) (j : ℕ)
+    → key_in (keys_at h port s) k ≡ On j → nat_le (base h s.link s.stream) j ≡ true
 from_base plan h law port s k j on =
     let at = on_at h port s k j on in
-    le-true (base h s.link s.stream) j (on_from (key_plan plan) h (key_cause plan h law) (place port s at.sends) k j (ap on_in at.on))
+    le-true (base h s.link s.stream) j
+    (on_from (key_plan plan) h (key_cause plan h law) (place port s at.sends) k j (ap on_in at.on))
 
 pub facts : (plan : Plan) → KeyFacts plan
 facts plan = record {

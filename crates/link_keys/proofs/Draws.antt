@@ -19,5 +19,6 @@ draws plan = record {
   above_got = λ h law port stream u k j on. above_got plan h law port stream u k j on;
   rises = λ h law. rises plan h law;
   since_base = λ h law s. since_base plan h law s;
-  ended = λ h law port stream u k j i place x on at under up less. ended plan h law port stream u k j i place x on at under up less;
+  ended = λ h law port stream u k j i place x on at under up less. ended plan h law port stream u k j i place x on at
+      under up less;
 }

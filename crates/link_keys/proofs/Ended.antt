@@ -2,11 +2,21 @@
 -- a unit of a draw from Base on is open only while the draw is Live at its sender or, the hard case, after a stop or a
 -- reset, until an establish raises Base. A Live draw is none below what was sealed. After a stop the host's port has no
 -- key: it has sealed nothing newer where it is the sender, and no draw is On there where it is the receiver.
-use Rattle.link_history.proofs.Terms.{Bool, List, None, Option, Some, [], ap, arith, false, inl, inr, length, refl, slice_get, subst, subst₂, suc, sym, true, ℕ, ◌++◌, ◌<◌, ◌==◌, ◌∙◌, ◌∷◌, ◌≡◌, ◌≤◌, ◌⊎◌, nat_tests, Side, StreamStatus}
-use Rattle.link_history.proofs.Terms.{Loss, Operation, PortView, establish_on, ports_at, refresh_on, base, behind, came, draws, manager, moments, on_it, op_of, touches, when, worked, ClearTouch, GoTouch, Loaded, ProgramTouch, Touch}
-use Rattle.link_history.proofs.Terms.{is_open, kept_in, keys, live_draw, settled, touched, Idle, Op, Reach, Stopping, Work, op_after, reach_of, work_of, is_on_stream, is_same_sub, lane, CauseLaw, SealedList, after_ends, ahead_in}
-use Rattle.link_history.proofs.Terms.{ended_keys, ends_at, is_under, keys_at, packet_of, place, sealed_packets, sent, sent_in, sub_stream_of, with_sealed, SubStream, is_same, key_plan, lane_in, lane_out, partner, AllByRecursion, Device}
-use Rattle.link_history.proofs.Terms.{Establish, Event, History, Host, KeyPlan, Keys, Off, On, Packet, Place, Plan, PortName, Refresh, Reset, SealedPacket, Send, Stop, SubKind, Verdict, if◌then◌else◌, is_some, key_in, keys_there}
+use Rattle.link_history.proofs.Terms.{Bool, List, None, Option, Some, [], ap, arith, false, inl, inr, length, refl}
+use Rattle.link_history.proofs.Terms.{slice_get, subst, subst₂, suc, sym, true, ℕ, ◌++◌, ◌<◌, ◌==◌, ◌∙◌, ◌∷◌, ◌≡◌, ◌≤◌}
+use Rattle.link_history.proofs.Terms.{◌⊎◌, nat_tests, Side, StreamStatus}
+use Rattle.link_history.proofs.Terms.{Loss, Operation, PortView, establish_on, ports_at, refresh_on, base, behind, came}
+use Rattle.link_history.proofs.Terms.{draws, manager, moments, on_it, op_of, touches, when, worked, ClearTouch, GoTouch}
+use Rattle.link_history.proofs.Terms.{Loaded, ProgramTouch, Touch}
+use Rattle.link_history.proofs.Terms.{is_open, kept_in, keys, live_draw, settled, touched, Idle, Op, Reach, Stopping}
+use Rattle.link_history.proofs.Terms.{Work, op_after, reach_of, work_of, is_on_stream, is_same_sub, lane, CauseLaw}
+use Rattle.link_history.proofs.Terms.{SealedList, after_ends, ahead_in}
+use Rattle.link_history.proofs.Terms.{ended_keys, ends_at, is_under, keys_at, packet_of, place, sealed_packets, sent}
+use Rattle.link_history.proofs.Terms.{sent_in, sub_stream_of, with_sealed, SubStream, is_same, key_plan, lane_in}
+use Rattle.link_history.proofs.Terms.{lane_out, partner, AllByRecursion, Device}
+use Rattle.link_history.proofs.Terms.{Establish, Event, History, Host, KeyPlan, Keys, Off, On, Packet, Place, Plan}
+use Rattle.link_history.proofs.Terms.{PortName, Refresh, Reset, SealedPacket, Send, Stop, SubKind, Verdict}
+use Rattle.link_history.proofs.Terms.{if◌then◌else◌, is_some, key_in, keys_there}
 use Rattle.link_history.proofs.Terms.{nat_lt, no_keys, status_of, ◌&&◌, open_unit}
 use Rattle.key_laws.proofs.Shapes.{Shape, Bare, Sound, keys_of, live_waiting, live_alone, live_following, live_both}
 use Rattle.key_laws.proofs.Touches.{Goes, waiting_goes, alone_goes, following_goes, both_goes, AllCome}
@@ -23,7 +33,8 @@ use Rattle.link_history.proofs.UnitLemmas.{open_unit-end}
 use Rattle.link_history.proofs.Causes.{sealed_by_send}
 use Rattle.link_history.proofs.Senders.{AreOther, on_live}
 use Rattle.link_history.proofs.Sealed.{sent_in-snoc, sent-same, left_alone}
-use Rattle.link_history.proofs.SealingIs.{IsLive, AllLive, sealing_is, all_live, AllApart, all_apart, seals_none, sealed_same}
+use Rattle.link_history.proofs.SealingIs.{IsLive, AllLive, sealing_is, all_live, AllApart, all_apart, seals_none}
+use Rattle.link_history.proofs.SealingIs.{sealed_same}
 use Rattle.link_keys.proofs.Seats.{own_key, keys_out, keys_into, live_of, live_here, on_key}
 use Rattle.link_keys.proofs.Unplanned.{never_on, acts}
 use Rattle.link_keys.proofs.Given.{key_cause}
@@ -47,11 +58,13 @@ halted_bare Host is l n sh halted = halted
 halted_bare Device is l n sh halted = absurd cc
 
 -- then the host's port has no key
-bare_host : (plan : Plan) (h : History) → CauseLaw plan h → (p : Place) → p.side ≡ Host → stops (op_of h p.link p.stream) ≡ true → keys_there h p ≡ no_keys
+bare_host : (plan : Plan) (h : History) → CauseLaw plan h → (p : Place) → p.side ≡ Host
+    → stops (op_of h p.link p.stream) ≡ true → keys_there h p ≡ no_keys
 bare_host plan h law p host is = by_op (op_of h p.link p.stream) refl is
   where
     by_op : (o : Op) → op_of h p.link p.stream ≡ o → stops o ≡ true → keys_there h p ≡ no_keys
-    by_op Idle there is = let at = in_state (key_plan plan) h (key_cause plan h law) p Idle there in at.is.are ∙ ap keys_of at.fits
+    by_op Idle there is = let at = in_state (key_plan plan) h (key_cause plan h law) p Idle there in at.is.are ∙ ap
+        keys_of at.fits
     by_op (Stopping n) there is =
         let at = in_state (key_plan plan) h (key_cause plan h law) p (Stopping n) there in
         let bare = halted_bare p.side host (lane p) n at.shape at.fits.1 in
@@ -66,12 +79,14 @@ OnlyKeys (ProgramTouch k j ∷ ts) = OnlyKeys ts
 OnlyKeys (GoTouch k j ∷ ts) = OnlyKeys ts
 OnlyKeys (_ ∷ ts) = ⊥
 
--- the Live draw of an open unit stays Live where a key is programmed, and where one that is kept gets its GO and is no smaller
+-- the Live draw of an open unit stays Live where a key is programmed, and where one that is kept gets its GO and is no
+-- smaller
 program_keeps : (f : ℕ → Bool) (ks : Keys) (k : Bool) (j i : ℕ) → live_draw ks ≡ Some i → f i ≡ true
     → live_draw (settled true f (touched true ks (ProgramTouch k j))) ≡ Some i
 program_keeps f ks k j i live opens = grind (arith, nat_tests)
 
-go_keeps : (f : ℕ → Bool) (ks : Keys) (k : Bool) (j i : ℕ) → live_draw ks ≡ Some i → f i ≡ true → kept_in (key_in ks k) ≡ Some j → i ≤ j
+go_keeps : (f : ℕ → Bool) (ks : Keys) (k : Bool) (j i : ℕ) → live_draw ks ≡ Some i → f i ≡ true → kept_in (key_in ks k)
+    ≡ Some j → i ≤ j
     → live_draw (settled true f (touched true ks (GoTouch k j))) ≡ Some i
 go_keeps f ks k j i live opens kept le = grind (arith, nat_tests)
 
@@ -80,20 +95,27 @@ Given ks k j = (kept_in (key_in ks k) ≡ Some j) × ((i : ℕ) → live_draw ks
 
 given : (ts : List Touch) (k : Bool) (j : ℕ) (sh : Shape) → Sound true ts sh → Goes k j sh → Given (keys_of sh) k j
 given ts k j _ sound waiting_goes = (ap kept_in (own_key k (Loaded j) Off), λ i live. absurd (live_waiting k j i live))
-given ts k j _ sound alone_goes = (ap kept_in (own_key k (On j) Off), λ i live. let same = live_alone k j i live in omega arith)
-given ts k j _ sound (following_goes a) = (ap kept_in (own_key k (Loaded j) (On a)), λ i live. let same = live_following k a j i live in omega arith)
-given ts k j _ sound (both_goes a) = (ap kept_in (own_key k (On j) (On a)), λ i live. let same = live_both k a j i sound.0 live in omega arith)
+given ts k j _ sound alone_goes =
+    (ap kept_in (own_key k (On j) Off), λ i live. let same = live_alone k j i live in omega arith)
+given ts k j _ sound (following_goes a) =
+    (ap kept_in (own_key k (Loaded j) (On a)), λ i live. let same = live_following k a j i live in omega arith)
+given ts k j _ sound (both_goes a) =
+    (ap kept_in (own_key k (On j) (On a)), λ i live. let same = live_both k a j i sound.0 live in omega arith)
 
-live_stays : (ts more : List Touch) → AllCome true ts more → OnlyKeys more → (i : ℕ) → live_draw (keys true ts) ≡ Some i → is_open ts i ≡ true
+live_stays : (ts more : List Touch) → AllCome true ts more → OnlyKeys more → (i : ℕ) → live_draw (keys true ts) ≡ Some i
+    → is_open ts i ≡ true
     → live_draw (keys true (behind ts more)) ≡ Some i
 unfolding is_open keys
 live_stays ts [] come only i live opens = live
 live_stays ts (ProgramTouch k j ∷ more) come only i live opens =
-    live_stays (ProgramTouch k j ∷ ts) more come.1 only i (program_keeps (is_open (ProgramTouch k j ∷ ts)) (keys true ts) k j i live opens) opens
+    live_stays (ProgramTouch k j ∷ ts) more come.1 only i
+    (program_keeps (is_open (ProgramTouch k j ∷ ts)) (keys true ts) k j i live opens) opens
 live_stays ts (GoTouch k j ∷ more) come only i live opens =
     let at = come.0 in
-    let go : Given (keys true ts) k j = subst (λ (ks : Keys). Given ks k j) (sym at.is.are) (given ts k j at.shape at.is.sound at.may) in
-    live_stays (GoTouch k j ∷ ts) more come.1 only i (go_keeps (is_open (GoTouch k j ∷ ts)) (keys true ts) k j i live opens go.0 (go.1 i live)) opens
+    let go : Given (keys true ts) k j = subst (λ (ks : Keys). Given ks k j) (sym at.is.are)
+    (given ts k j at.shape at.is.sound at.may) in
+    live_stays (GoTouch k j ∷ ts) more come.1 only i
+    (go_keeps (is_open (GoTouch k j ∷ ts)) (keys true ts) k j i live opens go.0 (go.1 i live)) opens
 live_stays ts (_ ∷ more) come only i live opens = absurd only
 
 -- ---- what a pair does to a sender
@@ -104,7 +126,8 @@ when_only true false k l i j = tt
 when_only false true k l i j = tt
 when_only false false k l i j = tt
 
-worked_only : (w : Work) (r : Option Reach) (p : Place) (o : Operation) → w.operation ≡ o → (o ≡ op.Stop → ⊥) → OnlyKeys (worked w r p)
+worked_only : (w : Work) (r : Option Reach) (p : Place) (o : Operation) → w.operation ≡ o → (o ≡ op.Stop → ⊥)
+    → OnlyKeys (worked w r p)
 worked_only w None p o is other = tt
 worked_only w (Some r) p op.Establish is other = rw is (when_only _ _ _ _ _ _)
 worked_only w (Some r) p op.Refresh is other = rw is (when_only _ _ _ _ _ _)
@@ -126,19 +149,25 @@ none_only : (ts : List Touch) → ts ≡ [] → OnlyKeys ts
 none_only ts is = subst OnlyKeys (sym is) tt
 
 -- a pair that seals nothing leaves the stream stopping or without operation, or programs and starts keys alone
-moved : (h : History) (e : Event) (w : Verdict) → seals_none w ≡ true → (p : Place) → p.sends ≡ true → (stops (op_of ((e, w) ∷ h) p.link p.stream) ≡ true) ⊎ OnlyKeys (touches (manager h).ops (draws h) e w p)
+moved : (h : History) (e : Event) (w : Verdict) → seals_none w ≡ true → (p : Place) → p.sends ≡ true
+    → (stops (op_of ((e, w) ∷ h) p.link p.stream) ≡ true) ⊎ OnlyKeys (touches (manager h).ops (draws h) e w p)
 unfolding manager
 moved h (Establish l s loss) w none p sends =
-    inr (if_only (is_on_stream p l s) _ (worked_only _ (reach_of op.Establish w) p op.Establish (work_is op.Establish ((manager h).ops l s) (draws h)) (λ is. cc)))
+    inr (if_only (is_on_stream p l s) _
+    (worked_only _ (reach_of op.Establish w) p op.Establish (work_is op.Establish ((manager h).ops l s) (draws h))
+    (λ is. cc)))
 moved h (Refresh l s loss) w none p sends =
-    inr (if_only (is_on_stream p l s) _ (worked_only _ (reach_of op.Refresh w) p op.Refresh (work_is op.Refresh ((manager h).ops l s) (draws h)) (λ is. cc)))
+    inr (if_only (is_on_stream p l s) _
+    (worked_only _ (reach_of op.Refresh w) p op.Refresh (work_is op.Refresh ((manager h).ops l s) (draws h))
+    (λ is. cc)))
 moved h (Stop l s loss) w none p sends = elim (acts (manager h) op.Stop l s (reach_of op.Stop w) p) [
   | inl same ↦ inr (none_only _ same.1)
   | inr act ↦ inl (ap stops act.ops ∙ stop_after ((manager h).ops l s) (draws h) act.reached)
 ]
 moved h (Reset l) (v.Reset m) none p sends = by_test (p.link == l)
   where
-    by_test : (b : Bool) → (stops (if b then Idle else (manager h).ops p.link p.stream) ≡ true) ⊎ OnlyKeys (when b ClearTouch)
+    by_test : (b : Bool) → (stops (if b then Idle else (manager h).ops p.link p.stream) ≡ true)
+        ⊎ OnlyKeys (when b ClearTouch)
     by_test true = inl refl
     by_test false = inr tt
 moved h (Reset l) w none p sends = inr tt
@@ -146,10 +175,12 @@ moved h e w none p sends = inr (none_only (came p w) (came_out p w sends none))
 
 -- a stream that is stopping or without operation lets an establish begin alone
 begins : (kp : KeyPlan) (q : Op) (next : ℕ) (ports : PortView) (l s : ℕ) (loss : Option Loss) → stops q ≡ true
-    → is_some (reach_of op.Establish (establish_on kp q next ports l s loss)) ≡ true → (work_of op.Establish q next).begins ≡ true
+    → is_some (reach_of op.Establish (establish_on kp q next ports l s loss)) ≡ true
+    → (work_of op.Establish q next).begins ≡ true
 begins kp q next ports l s loss stopped goes = grind arith
 
-refuses : (kp : KeyPlan) (q : Op) (next : ℕ) (ports : PortView) (host : StreamStatus) (l s : ℕ) (loss : Option Loss) → stops q ≡ true
+refuses : (kp : KeyPlan) (q : Op) (next : ℕ) (ports : PortView) (host : StreamStatus) (l s : ℕ) (loss : Option Loss)
+    → stops q ≡ true
     → is_some (reach_of op.Refresh (refresh_on kp q next ports host l s loss)) ≡ true → ⊥
 refuses kp q next ports host l s loss stopped goes = grind arith
 
@@ -157,25 +188,31 @@ if_stops : (b : Bool) (q : Op) → stops q ≡ true → stops (if b then Idle el
 if_stops b q is = grind arith
 
 -- it stays so, or an establish begins
-still_stops : (plan : Plan) (h : History) (e : Event) (w : Verdict) → CauseLaw plan ((e, w) ∷ h) → (p : Place) → stops (op_of h p.link p.stream) ≡ true
+still_stops : (plan : Plan) (h : History) (e : Event) (w : Verdict) → CauseLaw plan ((e, w) ∷ h) → (p : Place)
+    → stops (op_of h p.link p.stream) ≡ true
     → (stops (op_of ((e, w) ∷ h) p.link p.stream) ≡ true) ⊎ (base ((e, w) ∷ h) p.link p.stream ≡ draws h)
 unfolding manager base
-still_stops plan h (Establish l s loss) w law p is = elim (acts (manager h) op.Establish l s (reach_of op.Establish w) p) [
-  | inl same ↦ inl (ap stops same.0 ∙ is)
-  | inr act ↦
-      let same = same_place p.link p.stream l s act.here in
-      let there : ((l == p.link) && (s == p.stream)) ≡ true = (λ i. eqb-sym l p.link i && eqb-sym s p.stream i) ∙ act.here in
-      let stopped : stops (op_of h l s) ≡ true = (λ i. stops (op_of h (sym same.0 i) (sym same.1 i))) ∙ is in
-      let goes = state_of (key_plan plan) h l s loss w act.reached (key_cause plan ((Establish l s loss, w) ∷ h) law).0 act.is in
-      let new = begins (key_plan plan) (op_of h l s) (draws h) (ports_at h) l s loss stopped goes in
-      inr (rw (there, new, act.is) refl)
-]
+still_stops plan h (Establish l s loss) w law p is = elim
+    (acts (manager h) op.Establish l s (reach_of op.Establish w) p) [
+      | inl same ↦ inl (ap stops same.0 ∙ is)
+      | inr act ↦
+          let same = same_place p.link p.stream l s act.here in
+          let there : ((l == p.link) && (s == p.stream)) ≡ true = (λ i. eqb-sym l p.link i && eqb-sym s p.stream i) ∙
+          act.here in
+          let stopped : stops (op_of h l s) ≡ true = (λ i. stops (op_of h (sym same.0 i) (sym same.1 i))) ∙ is in
+          let goes = state_of (key_plan plan) h l s loss w act.reached
+          (key_cause plan ((Establish l s loss, w) ∷ h) law).0
+          act.is in
+          let new = begins (key_plan plan) (op_of h l s) (draws h) (ports_at h) l s loss stopped goes in
+          inr (rw (there, new, act.is) refl)
+    ]
 still_stops plan h (Refresh l s loss) w law p is = elim (acts (manager h) op.Refresh l s (reach_of op.Refresh w) p) [
   | inl same ↦ inl (ap stops same.0 ∙ is)
   | inr act ↦
       let same = same_place p.link p.stream l s act.here in
       let stopped : stops (op_of h l s) ≡ true = (λ i. stops (op_of h (sym same.0 i) (sym same.1 i))) ∙ is in
-      let goes = refresh_state (key_plan plan) h l s loss w act.reached (key_cause plan ((Refresh l s loss, w) ∷ h) law).0 act.is in
+      let goes = refresh_state (key_plan plan) h l s loss w act.reached
+      (key_cause plan ((Refresh l s loss, w) ∷ h) law).0 act.is in
       absurd (refuses (key_plan plan) (op_of h l s) (draws h) (ports_at h) (status_of h Host l s) l s loss stopped goes)
 ]
 still_stops plan h (Stop l s loss) w law p is = elim (acts (manager h) op.Stop l s (reach_of op.Stop w) p) [
@@ -194,27 +231,37 @@ OpenIs X i xs s keys = (open_unit (sent_in xs s i) ≡ []) ⊎ ((live_draw keys 
 abbrev AllOff : SubStream → List SealedPacket → Type 0
 AllOff s = AllByRecursion (λ (d : SealedPacket). is_same (sub_stream_of d) s ≡ false)
 
-none_ends : (port : PortName) (s : SubStream) (d : SealedPacket) → is_same (sub_stream_of d) s ≡ false → ends_at port s d ≡ false
+none_ends : (port : PortName) (s : SubStream) (d : SealedPacket) → is_same (sub_stream_of d) s ≡ false
+    → ends_at port s d ≡ false
 none_ends port s d off = grind (arith, off)
 
-all_end : (port : PortName) (s : SubStream) (ds : List SealedPacket) (ks : Keys) → AllOff s ds → after_ends port s ds ks ≡ ks
+all_end : (port : PortName) (s : SubStream) (ds : List SealedPacket) (ks : Keys) → AllOff s ds → after_ends port s ds ks
+    ≡ ks
 all_end port s [] ks off = refl
 all_end port s (d ∷ ds) ks off = rw (none_ends port s d off.0) (all_end port s ds ks off.1)
 
-others_leave : (X : Type 0) (i : ℕ) (plan : Plan) (ahead : SealedPacket → List ℕ) (bytes : List ℕ) (port : PortName) (s : SubStream) (ds : List SealedPacket)
-    (xs : SealedList) (ks : Keys) → AllOff s ds → OpenIs X i xs s ks → OpenIs X i (with_sealed plan ahead bytes ds xs) s (after_ends port s ds ks)
+others_leave : (X : Type 0) (i : ℕ) (plan : Plan) (ahead : SealedPacket → List ℕ) (bytes : List ℕ) (port : PortName)
+    (s : SubStream) (ds : List SealedPacket)
+    (xs : SealedList) (ks : Keys) → AllOff s ds → OpenIs X i xs s ks
+    → OpenIs X i (with_sealed plan ahead bytes ds xs) s (after_ends port s ds ks)
 others_leave X i plan ahead bytes port s ds xs ks off opens =
-    let sent_is = left_alone (λ ys. sent_in ys s i) _ (λ ys d p other. sent-same ys (d, p) s i other) plan ahead bytes ds xs off in
-    subst₂ (λ (ps : List Packet) (new : Keys). (open_unit ps ≡ []) ⊎ ((live_draw new ≡ Some i) ⊎ X)) (sym sent_is) (sym (all_end port s ds ks off)) opens
+    let sent_is = left_alone (λ ys. sent_in ys s i) _ (λ ys d p other. sent-same ys (d, p) s i other) plan ahead bytes
+    ds xs off in
+    subst₂ (λ (ps : List Packet) (new : Keys). (open_unit ps ≡ []) ⊎ ((live_draw new ≡ Some i) ⊎ X)) (sym sent_is)
+    (sym (all_end port s ds ks off)) opens
 
 -- one of the sub-stream is under the Live draw, and ends its unit or leaves the key
-one_open : (X : Type 0) (i : ℕ) (port : PortName) (s : SubStream) (d : SealedPacket) (p : Packet) (xs : SealedList) (ks : Keys)
+one_open : (X : Type 0) (i : ℕ) (port : PortName) (s : SubStream) (d : SealedPacket) (p : Packet) (xs : SealedList)
+    (ks : Keys)
     → is_same (sub_stream_of d) s ≡ true → ends_at port s d ≡ d.m → p.prefix.m ≡ d.m → live_draw ks ≡ Some d.draw
-    → OpenIs X i xs s ks → OpenIs X i (xs ++ (d, p) ∷ []) s (if ends_at port s d then ended_keys ks.first ks.second else ks)
+    → OpenIs X i xs s ks → OpenIs X i (xs ++ (d, p) ∷ []) s
+    (if ends_at port s d then ended_keys ks.first ks.second else ks)
 one_open X i port s d p xs ks here ends m live opens = by_draw (d.draw == i) d.m refl refl
   where
-    by_draw : (b c : Bool) → (d.draw == i) ≡ b → d.m ≡ c → OpenIs X i (xs ++ (d, p) ∷ []) s (if ends_at port s d then ended_keys ks.first ks.second else ks)
-    by_draw true true same last = inl (ap open_unit (sent_in-snoc xs (d, p) s i ∙ rw (here, same) refl) ∙ open_unit-end (sent_in xs s i) p (m ∙ last))
+    by_draw : (b c : Bool) → (d.draw == i) ≡ b → d.m ≡ c → OpenIs X i (xs ++ (d, p) ∷ []) s
+        (if ends_at port s d then ended_keys ks.first ks.second else ks)
+    by_draw true true same last = inl
+        (ap open_unit (sent_in-snoc xs (d, p) s i ∙ rw (here, same) refl) ∙ open_unit-end (sent_in xs s i) p (m ∙ last))
     by_draw true false same more =
         let kept = ap (λ (b : Bool). live_draw (if b then ended_keys ks.first ks.second else ks)) (ends ∙ more) in
         inr (inl (kept ∙ (live ∙ ap (λ (n : ℕ). Some n) (true-same d.draw i same))))
@@ -224,23 +271,30 @@ one_open X i port s d p xs ks here ends m live opens = by_draw (d.draw == i) d.m
       | inr (inr x) ↦ inr (inr x)
     ]
 
-sub_off : (s : SubStream) (d e : SealedPacket) → is_same (sub_stream_of d) s ≡ true → is_same_sub d.sub e.sub ≡ false → is_same (sub_stream_of e) s ≡ false
+sub_off : (s : SubStream) (d e : SealedPacket) → is_same (sub_stream_of d) s ≡ true → is_same_sub d.sub e.sub ≡ false
+    → is_same (sub_stream_of e) s ≡ false
 sub_off s d e here other = grind (arith, nat_tests)
 
-others_off : (s : SubStream) (d : SealedPacket) (ds : List SealedPacket) → is_same (sub_stream_of d) s ≡ true → AreOther d.sub ds → AllOff s ds
+others_off : (s : SubStream) (d : SealedPacket) (ds : List SealedPacket) → is_same (sub_stream_of d) s ≡ true
+    → AreOther d.sub ds → AllOff s ds
 others_off s d [] here other = tt
 others_off s d (e ∷ ds) here other = (sub_off s d e here other.0, others_off s d ds here other.1)
 
-ends_own : (port : PortName) (stream : ℕ) (u : SubKind) (d : SealedPacket) → is_same (sub_stream_of d) (lane_out port stream u) ≡ true
+ends_own : (port : PortName) (stream : ℕ) (u : SubKind) (d : SealedPacket)
+    → is_same (sub_stream_of d) (lane_out port stream u) ≡ true
     → ends_at port (lane_out port stream u) d ≡ d.m
 ends_own port stream u d here = grind (arith, nat_tests)
 
-all_open : (X : Type 0) (i : ℕ) (plan : Plan) (h : History) (q : PortName) (t : ℕ) (ahead : SealedPacket → List ℕ) (bytes : List ℕ) (port : PortName)
-    (stream : ℕ) (u : SubKind) (ds : List SealedPacket) (xs : SealedList) → AllLive plan h q t ds → AllApart ds → let s = lane_out port stream u in
-    OpenIs X i xs s (keys_at h port s) → OpenIs X i (with_sealed plan ahead bytes ds xs) s (after_ends port s ds (keys_at h port s))
+all_open : (X : Type 0) (i : ℕ) (plan : Plan) (h : History) (q : PortName) (t : ℕ) (ahead : SealedPacket → List ℕ)
+    (bytes : List ℕ) (port : PortName)
+    (stream : ℕ) (u : SubKind) (ds : List SealedPacket) (xs : SealedList) → AllLive plan h q t ds → AllApart ds
+    → let s = lane_out port stream u in
+    OpenIs X i xs s (keys_at h port s) → OpenIs X i (with_sealed plan ahead bytes ds xs) s
+    (after_ends port s ds (keys_at h port s))
 all_open X i plan h q t ahead bytes port stream u [] xs live each opens = opens
 all_open X i plan h q t ahead bytes port stream u (d ∷ ds) xs live each opens =
-    by_test (is_same (sub_stream_of d) s) refl (λ ys. all_open X i plan h q t ahead bytes port stream u ds ys live.1 each.1)
+    by_test (is_same (sub_stream_of d) s) refl
+    (λ ys. all_open X i plan h q t ahead bytes port stream u ds ys live.1 each.1)
   where
     s : SubStream
     s = lane_out port stream u
@@ -252,23 +306,29 @@ all_open X i plan h q t ahead bytes port stream u (d ∷ ds) xs live each opens 
     p = packet_of plan (ahead d) bytes d (open_unit (sent_in xs (sub_stream_of d) d.draw))
 
     by_test : (b : Bool) → is_same (sub_stream_of d) s ≡ b
-        → ((ys : SealedList) → OpenIs X i ys s ks → OpenIs X i (with_sealed plan ahead bytes ds ys) s (after_ends port s ds ks))
+        → ((ys : SealedList) → OpenIs X i ys s ks → OpenIs X i (with_sealed plan ahead bytes ds ys) s
+        (after_ends port s ds ks))
         → OpenIs X i (with_sealed plan ahead bytes (d ∷ ds) xs) s (after_ends port s (d ∷ ds) ks)
     by_test true here more =
         let key = live_here plan h q t d live.0 port stream u here in
-        let is_live : live_draw ks ≡ Some d.draw = live_of ks.first ks.second live.0.key key ∙ ap (λ (n : ℕ). Some n) (sym live.0.draw) in
+        let is_live : live_draw ks ≡ Some d.draw = live_of ks.first ks.second live.0.key key ∙ ap (λ (n : ℕ). Some n)
+        (sym live.0.draw) in
         others_leave X i plan ahead bytes port s ds (xs ++ (d, p) ∷ []) _ (others_off s d ds here each.0)
-        (one_open X i port s d p xs ks here (ends_own port stream u d here) (sealed_m plan (ahead d) bytes d _) is_live opens)
+        (one_open X i port s d p xs ks here (ends_own port stream u d here) (sealed_m plan (ahead d) bytes d _) is_live
+        opens)
     by_test false off more =
-        subst (λ (b : Bool). OpenIs X i (with_sealed plan ahead bytes (d ∷ ds) xs) s (after_ends port s ds (if b then ended_keys ks.first ks.second else ks)))
+        subst (λ (b : Bool). OpenIs X i (with_sealed plan ahead bytes (d ∷ ds) xs) s
+        (after_ends port s ds (if b then ended_keys ks.first ks.second else ks)))
         (sym (none_ends port s d off)) (more (xs ++ (d, p) ∷ [])
-        (subst (λ (ps : List Packet). (open_unit ps ≡ []) ⊎ ((live_draw ks ≡ Some i) ⊎ X)) (sym (sent-same xs (d, p) s i off)) opens))
+        (subst (λ (ps : List Packet). (open_unit ps ≡ []) ⊎ ((live_draw ks ≡ Some i) ⊎ X))
+        (sym (sent-same xs (d, p) s i off)) opens))
 
 -- ---- in every history
 
 -- each packet of the sub-stream that was sealed is of a draw up to this one
 abbrev pub NoneAbove : Plan → History → SubStream → ℕ → Type 0
-NoneAbove plan h s i = (place : ℕ) (x : SealedPacket × Packet) → slice_get (sealed_packets plan h) place ≡ Some x → is_same (sub_stream_of x.0) s ≡ true → x.0.draw ≤ i
+NoneAbove plan h s i = (place : ℕ) (x : SealedPacket × Packet) → slice_get (sealed_packets plan h) place ≡ Some x
+    → is_same (sub_stream_of x.0) s ≡ true → x.0.draw ≤ i
 
 -- an open unit of another draw than the Live one: in a stop, and at a host's port nothing was sealed since
 pub record Excuse (plan : Plan) (h : History) (port : PortName) (stream : ℕ) (u : SubKind) (i : ℕ) : Type 0 where
@@ -276,32 +336,49 @@ pub record Excuse (plan : Plan) (h : History) (port : PortName) (stream : ℕ) (
   pub left : port.side ≡ Host → NoneAbove plan h (lane_out port stream u) i
 
 -- a host's port seals nothing then
-none_seals : (plan : Plan) (h : History) → CauseLaw plan h → (port : PortName) (stream : ℕ) (u : SubKind) → port.side ≡ Host → stops (op_of h port.link stream) ≡ true
-    → (q : PortName) (t : ℕ) (d : SealedPacket) → IsLive plan h q t d → is_same (sub_stream_of d) (lane_out port stream u) ≡ true → ⊥
+none_seals : (plan : Plan) (h : History) → CauseLaw plan h → (port : PortName) (stream : ℕ) (u : SubKind) → port.side
+    ≡ Host → stops (op_of h port.link stream) ≡ true
+    → (q : PortName) (t : ℕ) (d : SealedPacket) → IsLive plan h q t d
+    → is_same (sub_stream_of d) (lane_out port stream u) ≡ true → ⊥
 none_seals plan h law port stream u host is q t d live here =
     let ks = keys_at h port (lane_out port stream u) in
     let on = on_live ks.first ks.second live.key (live_here plan h q t d live port stream u here) in
     let bare = bare_host plan h law (place port (lane_out port stream u) true) host is in
-    never_on live.key.k live.key.draw (ap (λ (ks : Keys). key_in ks live.key.k) (sym bare ∙ sym (keys_out h port stream u)) ∙ on)
+    never_on live.key.k live.key.draw
+    (ap (λ (ks : Keys). key_in ks live.key.k) (sym bare ∙ sym (keys_out h port stream u)) ∙ on)
 
-still_above : (plan : Plan) (h : History) (p : PortName) (bytes : List ℕ) (more trusted : Bool) (ds : List SealedPacket) → CauseLaw plan ((Send p bytes more trusted, v.Sealed ds) ∷ h) → (port : PortName) (stream : ℕ) (u : SubKind) (i : ℕ)
-    → port.side ≡ Host → stops (op_of h port.link stream) ≡ true → NoneAbove plan h (lane_out port stream u) i → NoneAbove plan ((Send p bytes more trusted, v.Sealed ds) ∷ h) (lane_out port stream u) i
+still_above : (plan : Plan) (h : History) (p : PortName) (bytes : List ℕ) (more trusted : Bool) (ds : List SealedPacket)
+    → CauseLaw plan ((Send p bytes more trusted, v.Sealed ds) ∷ h)
+    → (port : PortName) (stream : ℕ) (u : SubKind) (i : ℕ)
+    → port.side ≡ Host → stops (op_of h port.link stream) ≡ true → NoneAbove plan h (lane_out port stream u) i
+    → NoneAbove plan ((Send p bytes more trusted, v.Sealed ds) ∷ h) (lane_out port stream u) i
 unfolding sealed_packets
 still_above plan h p bytes more trusted ds law port stream u i host is none place x at =
     let sealing = sealing_is plan h p bytes more trusted ds law.0 in
-    each_more (λ (d : SealedPacket). is_same (sub_stream_of d) (lane_out port stream u) ≡ true → d.draw ≤ i) plan (ahead_in plan (sealed_packets plan h) (base h)) bytes ds (sealed_packets plan h)
-    (live_all (λ (d : SealedPacket). is_same (sub_stream_of d) (lane_out port stream u) ≡ true → d.draw ≤ i) plan h sealing.sending.port sealing.sending.stream ds
-    (λ d live here. absurd (none_seals plan h law.1 port stream u host is sealing.sending.port sealing.sending.stream d live here)) (all_live plan h p bytes ds sealing))
+    each_more (λ (d : SealedPacket). is_same (sub_stream_of d) (lane_out port stream u) ≡ true → d.draw ≤ i) plan
+    (ahead_in plan (sealed_packets plan h) (base h)) bytes ds (sealed_packets plan h)
+    (live_all (λ (d : SealedPacket). is_same (sub_stream_of d) (lane_out port stream u) ≡ true → d.draw ≤ i) plan h
+    sealing.sending.port sealing.sending.stream ds
+    (λ d live here. absurd
+    (none_seals plan h law.1 port stream u host is sealing.sending.port sealing.sending.stream d live here))
+    (all_live plan h p bytes ds sealing))
     none place x at
 
-excuse_sent : (plan : Plan) (h : History) (p : PortName) (bytes : List ℕ) (more trusted : Bool) (ds : List SealedPacket) → CauseLaw plan ((Send p bytes more trusted, v.Sealed ds) ∷ h) → (port : PortName) (stream : ℕ) (u : SubKind) (i : ℕ)
+excuse_sent : (plan : Plan) (h : History) (p : PortName) (bytes : List ℕ) (more trusted : Bool) (ds : List SealedPacket)
+    → CauseLaw plan ((Send p bytes more trusted, v.Sealed ds) ∷ h)
+    → (port : PortName) (stream : ℕ) (u : SubKind) (i : ℕ)
     → Excuse plan h port stream u i → Excuse plan ((Send p bytes more trusted, v.Sealed ds) ∷ h) port stream u i
 unfolding manager
 excuse_sent plan h p bytes more trusted ds law port stream u i x =
-    record { stopping = x.stopping; left = λ host. still_above plan h p bytes more trusted ds law port stream u i host x.stopping (x.left host) }
+    record {
+      stopping = x.stopping;
+      left = λ host. still_above plan h p bytes more trusted ds law port stream u i host
+          x.stopping (x.left host);
+    }
 
 -- of draws that were not made nothing was sealed
-not_sent : (xs : SealedList) (s : SubStream) (n i : ℕ) → n ≤ i → ((k : ℕ) (x : SealedPacket × Packet) → slice_get xs k ≡ Some x → x.0.draw < n) → sent_in xs s i ≡ []
+not_sent : (xs : SealedList) (s : SubStream) (n i : ℕ) → n ≤ i
+    → ((k : ℕ) (x : SealedPacket × Packet) → slice_get xs k ≡ Some x → x.0.draw < n) → sent_in xs s i ≡ []
 unfolding sent_in
 not_sent [] s n i le below = refl
 not_sent (x ∷ xs) s n i le below =
@@ -313,28 +390,35 @@ lower : (b : Bool) (m n i : ℕ) → n ≤ m → (if b then m else n) ≤ i → 
 lower b m n i le up = grind arith
 
 -- Base never falls
-base_up : (plan : Plan) (h : History) (e : Event) (w : Verdict) → CauseLaw plan ((e, w) ∷ h) → (p : Place) (i : ℕ) → base ((e, w) ∷ h) p.link p.stream ≤ i
+base_up : (plan : Plan) (h : History) (e : Event) (w : Verdict) → CauseLaw plan ((e, w) ∷ h) → (p : Place) (i : ℕ)
+    → base ((e, w) ∷ h) p.link p.stream ≤ i
     → base h p.link p.stream ≤ i
 unfolding base
-base_up plan h (Establish l s loss) w law p i le = lower _ (draws h) (base h p.link p.stream) i (based (key_plan plan) h (key_cause plan h law.1) p).low le
+base_up plan h (Establish l s loss) w law p i le = lower _ (draws h) (base h p.link p.stream) i
+    (based (key_plan plan) h (key_cause plan h law.1) p).low le
 base_up plan h e w law p i le = le
 
 -- what is Live is none below what was sealed
-live_above : (plan : Plan) (h : History) → CauseLaw plan h → (port : PortName) (stream : ℕ) (u : SubKind) (i : ℕ) → live_draw (keys_at h port (lane_out port stream u)) ≡ Some i → NoneAbove plan h (lane_out port stream u) i
+live_above : (plan : Plan) (h : History) → CauseLaw plan h → (port : PortName) (stream : ℕ) (u : SubKind) (i : ℕ)
+    → live_draw (keys_at h port (lane_out port stream u)) ≡ Some i → NoneAbove plan h (lane_out port stream u) i
 live_above plan h law port stream u i live place x at here =
     let on = live_is_on (keys_at h port (lane_out port stream u)) i live in
     on_above plan h law port stream u on.0 i (on_key _ i on.1) place x at here
 
 abbrev Opens : Plan → History → PortName → ℕ → SubKind → ℕ → Type 0
-Opens plan h port stream u i = OpenIs (Excuse plan h port stream u i) i (sealed_packets plan h) (lane_out port stream u) (keys_at h port (lane_out port stream u))
+Opens plan h port stream u i = OpenIs (Excuse plan h port stream u i) i (sealed_packets plan h) (lane_out port stream u)
+    (keys_at h port (lane_out port stream u))
 
-opens_sent : (plan : Plan) (h : History) (p : PortName) (bytes : List ℕ) (more trusted : Bool) (ds : List SealedPacket) → CauseLaw plan ((Send p bytes more trusted, v.Sealed ds) ∷ h) → (port : PortName) (stream : ℕ) (u : SubKind) (i : ℕ)
+opens_sent : (plan : Plan) (h : History) (p : PortName) (bytes : List ℕ) (more trusted : Bool) (ds : List SealedPacket)
+    → CauseLaw plan ((Send p bytes more trusted, v.Sealed ds) ∷ h)
+    → (port : PortName) (stream : ℕ) (u : SubKind) (i : ℕ)
     → Opens plan h port stream u i → Opens plan ((Send p bytes more trusted, v.Sealed ds) ∷ h) port stream u i
 unfolding sealed_packets
 opens_sent plan h p bytes more trusted ds law port stream u i opens =
     let s = lane_out port stream u in
     let is = sealing_is plan h p bytes more trusted ds law.0 in
-    let done = all_open (Excuse plan h port stream u i) i plan h is.sending.port is.sending.stream (ahead_in plan (sealed_packets plan h) (base h)) bytes
+    let done = all_open (Excuse plan h port stream u i) i plan h is.sending.port is.sending.stream
+    (ahead_in plan (sealed_packets plan h) (base h)) bytes
     port stream u ds (sealed_packets plan h) (all_live plan h p bytes ds is) (all_apart plan h p bytes ds is) opens in
     let keys = sealed plan h (Send p bytes more trusted) ds law port s in
     elim done [
@@ -348,17 +432,22 @@ none_open : open_unit [] ≡ []
 unfolding open_unit
 none_open = refl
 
-live_moved : (plan : Plan) (h : History) (e : Event) (w : Verdict) → CauseLaw plan ((e, w) ∷ h) → (port : PortName) (stream : ℕ) (u : SubKind) (i : ℕ) → let s = lane_out port stream u in
-    OnlyKeys (touches (manager h).ops (draws h) e w (place port s true)) → live_draw (keys_at h port s) ≡ Some i → is_open (moments h (place port s true)) i ≡ true → live_draw (keys_at ((e, w) ∷ h) port s) ≡ Some i
+live_moved : (plan : Plan) (h : History) (e : Event) (w : Verdict) → CauseLaw plan ((e, w) ∷ h)
+    → (port : PortName) (stream : ℕ) (u : SubKind) (i : ℕ) → let s = lane_out port stream u in
+    OnlyKeys (touches (manager h).ops (draws h) e w (place port s true)) → live_draw (keys_at h port s) ≡ Some i
+    → is_open (moments h (place port s true)) i ≡ true → live_draw (keys_at ((e, w) ∷ h) port s) ≡ Some i
 unfolding moments
 live_moved plan h e w law port stream u i only live busy =
     let s = lane_out port stream u in
     let p = place port s true in
     let cause = key_cause plan ((e, w) ∷ h) law in
     let come = (next_fits (key_plan plan) h e w cause p (fits (key_plan plan) h cause.2 p)).come in
-    ap live_draw (keys_out ((e, w) ∷ h) port stream u) ∙ live_stays (moments h p) (touches (manager h).ops (draws h) e w p) come only i (ap live_draw (sym (keys_out h port stream u)) ∙ live) busy
+    ap live_draw (keys_out ((e, w) ∷ h) port stream u) ∙ live_stays (moments h p)
+    (touches (manager h).ops (draws h) e w p) come only i (ap live_draw (sym (keys_out h port stream u)) ∙ live)
+    busy
 
-opens_moved : (plan : Plan) (h : History) (e : Event) (w : Verdict) → seals_none w ≡ true → CauseLaw plan ((e, w) ∷ h) → (port : PortName) (stream : ℕ) (u : SubKind) (i : ℕ) → base ((e, w) ∷ h) port.link stream ≤ i
+opens_moved : (plan : Plan) (h : History) (e : Event) (w : Verdict) → seals_none w ≡ true → CauseLaw plan ((e, w) ∷ h)
+    → (port : PortName) (stream : ℕ) (u : SubKind) (i : ℕ) → base ((e, w) ∷ h) port.link stream ≤ i
     → Opens plan h port stream u i → Opens plan ((e, w) ∷ h) port stream u i
 opens_moved plan h e w none law port stream u i up opens = elim opens [
   | inl closed ↦ inl (ap open_unit sent_is ∙ closed)
@@ -375,33 +464,44 @@ opens_moved plan h e w none law port stream u i up opens = elim opens [
     xs : sealed_packets plan ((e, w) ∷ h) ≡ sealed_packets plan h
     xs = sealed_same plan h e w none
 
-    sent_is : sent_in (sealed_packets plan ((e, w) ∷ h)) (lane_out port stream u) i ≡ sent_in (sealed_packets plan h) (lane_out port stream u) i
+    sent_is : sent_in (sealed_packets plan ((e, w) ∷ h)) (lane_out port stream u) i
+        ≡ sent_in (sealed_packets plan h) (lane_out port stream u) i
     sent_is = ap (λ (ys : SealedList). sent_in ys (lane_out port stream u) i) xs
 
     above_still : NoneAbove plan h (lane_out port stream u) i → NoneAbove plan ((e, w) ∷ h) (lane_out port stream u) i
     above_still above place x at here = above place x (ap (λ (ys : SealedList). slice_get ys place) (sym xs) ∙ at) here
 
-    by_open : (ps : List Packet) → open_unit (sent_in (sealed_packets plan h) (lane_out port stream u) i) ≡ ps → live_draw (keys_at h port (lane_out port stream u)) ≡ Some i → Opens plan ((e, w) ∷ h) port stream u i
+    by_open : (ps : List Packet) → open_unit (sent_in (sealed_packets plan h) (lane_out port stream u) i) ≡ ps
+        → live_draw (keys_at h port (lane_out port stream u)) ≡ Some i → Opens plan ((e, w) ∷ h) port stream u i
     by_open [] is live = inl (ap open_unit sent_is ∙ is)
     by_open (q ∷ ps) is live =
-        let busy : is_open (moments h p) i ≡ true = sym (busy_is plan h law.1 port (lane_out port stream u) i (sends_lane port stream u))
+        let busy : is_open (moments h p) i ≡ true = sym
+        (busy_is plan h law.1 port (lane_out port stream u) i (sends_lane port stream u))
         ∙ ap (λ (rs : List Packet). nat_lt 0 (length rs)) is ∙ lt-true 0 (suc (length ps)) (omega arith) in
         elim (moved h e w none p refl) [
-          | inl stopped ↦ inr (inr (record { stopping = stopped; left = λ host. above_still (live_above plan h law.1 port stream u i live) }))
+          | inl stopped ↦ inr (inr
+              (record {
+                stopping = stopped;
+                left = λ host. above_still (live_above plan h law.1 port stream u i live);
+              }))
           | inr only ↦ inr (inl (live_moved plan h e w law port stream u i only live busy))
         ]
 
-    by_stop : Excuse plan h port stream u i → (stops (op_of ((e, w) ∷ h) port.link stream) ≡ true) ⊎ (base ((e, w) ∷ h) port.link stream ≡ draws h) → Opens plan ((e, w) ∷ h) port stream u i
+    by_stop : Excuse plan h port stream u i → (stops (op_of ((e, w) ∷ h) port.link stream) ≡ true)
+        ⊎ (base ((e, w) ∷ h) port.link stream ≡ draws h) → Opens plan ((e, w) ∷ h) port stream u i
     by_stop x (inl stopped) = inr (inr (record { stopping = stopped; left = λ host. above_still (x.left host) }))
     by_stop x (inr begun) =
-        inl (ap open_unit (sent_is ∙ not_sent (sealed_packets plan h) (lane_out port stream u) (draws h) i (subst (λ (n : ℕ). n ≤ i) begun up) (below_draws plan h law.1)) ∙ none_open)
+        inl (ap open_unit (sent_is ∙ not_sent (sealed_packets plan h) (lane_out port stream u) (draws h) i
+        (subst (λ (n : ℕ). n ≤ i) begun up) (below_draws plan h law.1)) ∙ none_open)
 
-opens_at : (plan : Plan) (h : History) → CauseLaw plan h → (port : PortName) (stream : ℕ) (u : SubKind) (i : ℕ) → base h port.link stream ≤ i → Opens plan h port stream u i
+opens_at : (plan : Plan) (h : History) → CauseLaw plan h → (port : PortName) (stream : ℕ) (u : SubKind) (i : ℕ)
+    → base h port.link stream ≤ i → Opens plan h port stream u i
 unfolding sealed_packets sent_in open_unit
 opens_at plan [] law port stream u i up = inl refl
 opens_at plan ((Send p bytes more trusted, v.Sealed ds) ∷ h) law port stream u i up =
     opens_sent plan h p bytes more trusted ds law port stream u i
-    (opens_at plan h law.1 port stream u i (base_up plan h (Send p bytes more trusted) (v.Sealed ds) law (place port (lane_out port stream u) true) i up))
+    (opens_at plan h law.1 port stream u i
+    (base_up plan h (Send p bytes more trusted) (v.Sealed ds) law (place port (lane_out port stream u) true) i up))
 opens_at plan ((e, v.Sealed ds) ∷ h) law port stream u i up = absurd (let send = sealed_by_send plan h e ds law.0 in cc)
 opens_at plan ((e, w) ∷ h) law port stream u i up =
     opens_moved plan h e w refl law port stream u i up
@@ -415,12 +515,17 @@ lane_of_partner q stream u = grind arith
 host_end : (q : PortName) → (partner q).side ≡ Device → q.side ≡ Host
 host_end q is = grind arith
 
-pub ended : (plan : Plan) (h : History) → CauseLaw plan h → (port : PortName) (stream : ℕ) (u : SubKind) (k : Bool) (j i place : ℕ) (x : SealedPacket × Packet) → let s = lane_in port stream u in
-    key_in (keys_at h port s) k ≡ On j → slice_get (sealed_packets plan h) place ≡ Some x → is_under s j x ≡ true → base h s.link s.stream ≤ i → i < j → open_unit (sent plan h s i) ≡ []
+pub ended : (plan : Plan) (h : History) → CauseLaw plan h → (port : PortName) (stream : ℕ) (u : SubKind) (k : Bool)
+    (j i place : ℕ) (x : SealedPacket × Packet) → let s = lane_in port stream u in
+    key_in (keys_at h port s) k ≡ On j → slice_get (sealed_packets plan h) place ≡ Some x → is_under s j x ≡ true
+    → base h s.link s.stream ≤ i → i < j → open_unit (sent plan h s i) ≡ []
 ended plan h law q stream u k j i at x on stands under up less =
-    subst (λ (r : SubStream). open_unit (sent plan h r i) ≡ []) (sym lanes) (elim (opens_at plan h law (partner q) stream u i up) [
+    subst (λ (r : SubStream). open_unit (sent plan h r i) ≡ []) (sym lanes)
+    (elim (opens_at plan h law (partner q) stream u i up) [
       | inl none ↦ none
-      | inr (inl live) ↦ absurd (let most = live_above plan h law (partner q) stream u i live at x stands here in omega (arith, most, draw, less))
+      | inr (inl live) ↦ absurd
+          (let most = live_above plan h law (partner q) stream u i live at x stands here in omega
+          (arith, most, draw, less))
       | inr (inr e) ↦ by_side (partner q).side refl e
     ])
   where
@@ -428,12 +533,14 @@ ended plan h law q stream u k j i at x on stands under up less =
     lanes = lane_of_partner q stream u
 
     here : is_same (sub_stream_of x.0) (lane_out (partner q) stream u) ≡ true
-    here = subst (λ (r : SubStream). is_same (sub_stream_of x.0) r ≡ true) lanes (both-true (is_same (sub_stream_of x.0) (lane_in q stream u)) (x.0.draw == j) under).0
+    here = subst (λ (r : SubStream). is_same (sub_stream_of x.0) r ≡ true) lanes
+        (both-true (is_same (sub_stream_of x.0) (lane_in q stream u)) (x.0.draw == j) under).0
 
     draw : x.0.draw ≡ j
     draw = true-same x.0.draw j (both-true (is_same (sub_stream_of x.0) (lane_in q stream u)) (x.0.draw == j) under).1
 
-    by_side : (side : Side) → (partner q).side ≡ side → Excuse plan h (partner q) stream u i → open_unit (sent plan h (lane_out (partner q) stream u) i) ≡ []
+    by_side : (side : Side) → (partner q).side ≡ side → Excuse plan h (partner q) stream u i
+        → open_unit (sent plan h (lane_out (partner q) stream u) i) ≡ []
     by_side Host host e = absurd (let most = e.left host at x stands here in omega (arith, most, draw, less))
     by_side Device device e =
         let bare = bare_host plan h law (place q (lane_in q stream u) false) (host_end q device) e.stopping in

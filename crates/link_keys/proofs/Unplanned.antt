@@ -1,6 +1,10 @@
 -- A stream that the plan does not have gets no keys.
-use Rattle.link_history.proofs.Terms.{Bool, None, Option, Some, [], ap, arith, false, inl, inr, length, refl, sym, true, ℕ, ◌==◌, ◌∙◌, ◌∷◌, ◌≡◌, ◌⊎◌, Operation, key_due, manager, on_it, op_of, worked, KeyCauseLaw, Idle, Manager, Op}
-use Rattle.link_history.proofs.Terms.{Reach, Work, op_after, operated, reach_of, work_of, is_on_stream, CauseLaw, keys_at, keys_by, place, receives_it, sends_it, SubStream, key_plan, stream_plan, History, KeyPlan, Keys, On, Place, Plan}
+use Rattle.link_history.proofs.Terms.{Bool, None, Option, Some, [], ap, arith, false, inl, inr, length, refl, sym, true}
+use Rattle.link_history.proofs.Terms.{ℕ, ◌==◌, ◌∙◌, ◌∷◌, ◌≡◌, ◌⊎◌, Operation, key_due, manager, on_it, op_of, worked}
+use Rattle.link_history.proofs.Terms.{KeyCauseLaw, Idle, Manager, Op}
+use Rattle.link_history.proofs.Terms.{Reach, Work, op_after, operated, reach_of, work_of, is_on_stream, CauseLaw}
+use Rattle.link_history.proofs.Terms.{keys_at, keys_by, place, receives_it, sends_it, SubStream, key_plan, stream_plan}
+use Rattle.link_history.proofs.Terms.{History, KeyPlan, Keys, On, Place, Plan}
 use Rattle.link_history.proofs.Terms.{PortName, Verdict, if◌then◌else◌, is_some, key_in, keys_there, no_keys}
 use Rattle.key_laws.proofs.Shapes.{keys_of}
 use Rattle.key_laws.proofs.Owners.{same_place}
@@ -38,7 +42,8 @@ acts m o l s (Some r) p = by_test (is_on_stream p l s) refl
 
 -- ---- a stream that the plan has not
 
-still_idle : (m : Manager) (o : Operation) (a b : ℕ) (r : Option Reach) (p : Place) → (is_on_stream p a b ≡ true → r ≡ None) → m.ops p.link p.stream ≡ Idle
+still_idle : (m : Manager) (o : Operation) (a b : ℕ) (r : Option Reach) (p : Place)
+    → (is_on_stream p a b ≡ true → r ≡ None) → m.ops p.link p.stream ≡ Idle
     → (operated m o a b r).ops p.link p.stream ≡ Idle
 still_idle m o a b r p none is = elim (acts m o a b r p) [
   | inl same ↦ same.0 ∙ is
@@ -46,7 +51,8 @@ still_idle m o a b r p none is = elim (acts m o a b r p) [
 ]
 
 -- an operation on a stream that the plan has not comes nowhere
-comes_nowhere : (kp : KeyPlan) (o : Operation) (a b : ℕ) (p : Place) (x y : Verdict) → x ≡ (if kp.has_stream a b then y else v.Nothing)
+comes_nowhere : (kp : KeyPlan) (o : Operation) (a b : ℕ) (p : Place) (x y : Verdict) → x
+    ≡ (if kp.has_stream a b then y else v.Nothing)
     → kp.has_stream p.link p.stream ≡ false → is_on_stream p a b ≡ true → reach_of o x ≡ None
 comes_nowhere kp o a b p x y is none here =
     let same = same_place p.link p.stream a b here in
@@ -56,19 +62,25 @@ comes_nowhere kp o a b p x y is none here =
 if_idle : (f : Bool) (o : Op) → o ≡ Idle → (if f then Idle else o) ≡ Idle
 if_idle f o is = grind arith
 
-unplanned_idle : (kp : KeyPlan) (h : History) → KeyCauseLaw kp h → (p : Place) → kp.has_stream p.link p.stream ≡ false → op_of h p.link p.stream ≡ Idle
+pub unplanned_idle : (kp : KeyPlan) (h : History) → KeyCauseLaw kp h → (p : Place) → kp.has_stream p.link p.stream
+    ≡ false → op_of h p.link p.stream ≡ Idle
 unfolding manager key_due
 unplanned_idle kp [] cause p none = refl
 unplanned_idle kp ((event.Establish a b lose, x) ∷ h) cause p none =
-    still_idle (manager h) op.Establish a b _ p (comes_nowhere kp op.Establish a b p x _ cause.0 none) (unplanned_idle kp h cause.2 p none)
+    still_idle (manager h) op.Establish a b _ p (comes_nowhere kp op.Establish a b p x _ cause.0 none)
+    (unplanned_idle kp h cause.2 p none)
 unplanned_idle kp ((event.Refresh a b lose, x) ∷ h) cause p none =
-    still_idle (manager h) op.Refresh a b _ p (comes_nowhere kp op.Refresh a b p x _ cause.0 none) (unplanned_idle kp h cause.2 p none)
+    still_idle (manager h) op.Refresh a b _ p (comes_nowhere kp op.Refresh a b p x _ cause.0 none)
+    (unplanned_idle kp h cause.2 p none)
 unplanned_idle kp ((event.Stop a b lose, x) ∷ h) cause p none =
-    still_idle (manager h) op.Stop a b _ p (comes_nowhere kp op.Stop a b p x _ cause.0 none) (unplanned_idle kp h cause.2 p none)
-unplanned_idle kp ((event.Reset a, v.Reset m) ∷ h) cause p none = if_idle (p.link == a) _ (unplanned_idle kp h cause.2 p none)
+    still_idle (manager h) op.Stop a b _ p (comes_nowhere kp op.Stop a b p x _ cause.0 none)
+    (unplanned_idle kp h cause.2 p none)
+unplanned_idle kp ((event.Reset a, v.Reset m) ∷ h) cause p none = if_idle (p.link == a) _
+    (unplanned_idle kp h cause.2 p none)
 unplanned_idle kp ((e, x) ∷ h) cause p none = unplanned_idle kp h cause.2 p none
 
-pub unplanned_keys : (plan : Plan) (h : History) → CauseLaw plan h → (p : Place) → is_some (stream_plan plan p.link p.stream) ≡ false → keys_there h p ≡ no_keys
+pub unplanned_keys : (plan : Plan) (h : History) → CauseLaw plan h → (p : Place)
+    → is_some (stream_plan plan p.link p.stream) ≡ false → keys_there h p ≡ no_keys
 unplanned_keys plan h law p none =
     let cause = key_cause plan h law in
     let at = in_state (key_plan plan) h cause p Idle (unplanned_idle (key_plan plan) h cause p none) in
@@ -84,7 +96,8 @@ pub record OnAt (h : History) (port : PortName) (s : SubStream) (k : Bool) (j : 
   pub sends : Bool
   pub on : key_in (keys_there h (place port s sends)) k ≡ On j
 
-pub on_at : (h : History) (port : PortName) (s : SubStream) (k : Bool) (j : ℕ) → key_in (keys_at h port s) k ≡ On j → OnAt h port s k j
+pub on_at : (h : History) (port : PortName) (s : SubStream) (k : Bool) (j : ℕ) → key_in (keys_at h port s) k ≡ On j
+    → OnAt h port s k j
 unfolding keys_at
 on_at h port s k j on = by_seat (sends_it port s) (receives_it port s) on
   where
@@ -96,7 +109,9 @@ on_at h port s k j on = by_seat (sends_it port s) (receives_it port s) on
 not_false : (b : Bool) → (b ≡ false → ⊥) → b ≡ true
 not_false b other = grind arith
 
-pub known : (plan : Plan) (h : History) → CauseLaw plan h → (port : PortName) (s : SubStream) (k : Bool) (j : ℕ) → key_in (keys_at h port s) k ≡ On j → is_some (stream_plan plan s.link s.stream) ≡ true
+pub known : (plan : Plan) (h : History) → CauseLaw plan h → (port : PortName) (s : SubStream) (k : Bool) (j : ℕ)
+    → key_in (keys_at h port s) k ≡ On j → is_some (stream_plan plan s.link s.stream) ≡ true
 known plan h law port s k j on =
     let at = on_at h port s k j on in
-    not_false _ (λ none. never_on k j (ap (λ (ks : Keys). key_in ks k) (sym (unplanned_keys plan h law (place port s at.sends) none)) ∙ at.on))
+    not_false _ (λ none. never_on k j
+    (ap (λ (ks : Keys). key_in ks k) (sym (unplanned_keys plan h law (place port s at.sends) none)) ∙ at.on))

@@ -2,7 +2,17 @@
 -- stand for the history have a Live slot exactly where the set's draw is On, with the units got and the packets held
 -- under it, so that each check in turn sees what the history says. Their counts are the history's only while the stream
 -- has a Live key, which a draw that is On provides.
-use Rattle.link_ports.proofs.Terms.{◌≡◌, ℕ, ◌+◌, Bool, true, false, List, [], ◌∷◌, ◌++◌, map, Option, Some, None, Ok, Err, option_map, refl, ap, sym, ◌∙◌, subst, arith, if◌then◌else◌, not, ◌||◌, Accepted, at_sub, base, checked, Cpl, each_sub, effect_of, Failed, failed, front_of, got_in, has_live_in, Held, History, holds_any, Insecure, is_allowed, is_closed, is_keyed, is_mixed, is_on, is_overfull, is_tagged, is_verified, key_in, key_of, Keys, keys_at, lane_in, live_in, LiveKey, meets_counts, mode_of, NotKeyed, Npr, on_draw, on_in, Packet, pending, Plan, PortName, Pr, receiving, rx_slots, rx_standing, RxSub, settled, slot_in, Slots, standing, SubKind, SubStream, sum_by-append, Taken, taken_by, taken_under, Three, under_keys, unit_under, units_got, units_since, Verdict, verdict_of}
+use Rattle.link_ports.specs.Stands.{beside_at}
+use Rattle.link_ports.proofs.Terms.{◌≡◌, ℕ, ◌+◌, Bool, true, false, List, [], ◌∷◌, ◌++◌, map, Option, Some, None, Ok}
+use Rattle.link_ports.proofs.Terms.{Err, option_map, refl, ap, sym, ◌∙◌, subst, arith, if◌then◌else◌, not, ◌||◌}
+use Rattle.link_ports.proofs.Terms.{Accepted, at_sub, base, checked, Cpl, each_sub, effect_of, Failed, failed, front_of}
+use Rattle.link_ports.proofs.Terms.{got_in, has_live_in, Held, History, holds_any, Insecure, is_allowed, is_closed}
+use Rattle.link_ports.proofs.Terms.{is_keyed, is_mixed, is_on, is_overfull, is_tagged, is_verified, key_in, key_of}
+use Rattle.link_ports.proofs.Terms.{Keys, keys_at, lane_in, live_in, LiveKey, meets_counts, mode_of, NotKeyed, Npr}
+use Rattle.link_ports.proofs.Terms.{on_draw, on_in, Packet, pending, Plan, PortName, Pr, receiving, rx_slots}
+use Rattle.link_ports.proofs.Terms.{rx_standing, RxSub, settled, slot_in, Slots, standing, SubKind, SubStream}
+use Rattle.link_ports.proofs.Terms.{sum_by-append, Taken, taken_by, taken_under, Three, under_keys, unit_under}
+use Rattle.link_ports.proofs.Terms.{units_got, units_since, Verdict, verdict_of}
 use Rattle.ide_types.specs.declared.sub.FailCause.TheVariants as fail
 use Rattle.link_verdicts.specs.declared.verdict.Verdict.TheVariants as v
 
@@ -18,13 +28,16 @@ pub any_on : (k : Bool) (ks : Keys) (j : ℕ) → on_in (key_in ks k) ≡ Some j
 any_on k ks j on = grind arith
 
 -- a port with a key of a sub-stream that it receives has a Live key on the stream
-pub keyed_in : (plan : Plan) (h : History) (port : PortName) (stream : ℕ) (u : SubKind) → is_keyed h port (lane_in port stream u) ≡ true → has_live_in h port stream ≡ true
+pub keyed_in : (plan : Plan) (h : History) (port : PortName) (stream : ℕ) (u : SubKind)
+    → is_keyed h port (lane_in port stream u) ≡ true → has_live_in h port stream ≡ true
 unfolding has_live_in
 keyed_in plan h port stream u keyed = any_of (λ w. is_keyed h port (lane_in port stream w)) u keyed
 
 -- one that is On in a set is enough
-pub on_live : (plan : Plan) (h : History) (port : PortName) (stream : ℕ) (u : SubKind) (k : Bool) (j : ℕ) → on_draw h port (lane_in port stream u) k ≡ Some j → has_live_in h port stream ≡ true
-on_live plan h port stream u k j on = keyed_in plan h port stream u (any_on k (keys_at h port (lane_in port stream u)) j on)
+pub on_live : (plan : Plan) (h : History) (port : PortName) (stream : ℕ) (u : SubKind) (k : Bool) (j : ℕ)
+    → on_draw h port (lane_in port stream u) k ≡ Some j → has_live_in h port stream ≡ true
+on_live plan h port stream u k j on = keyed_in plan h port stream u
+    (any_on k (keys_at h port (lane_in port stream u)) j on)
 
 -- ---- the keys of a receiver
 
@@ -32,12 +45,14 @@ on_live plan h port stream u k j on = keyed_in plan h port stream u (any_on k (k
 abbrev pub key_for : Plan → History → SubStream → ℕ → LiveKey
 key_for plan h s j = record { draw = j; key = key_of plan j s; units = units_got h s j; packets = pending plan h s j }
 
-live_of : (plan : Plan) (h : History) (port : PortName) (s : SubStream) (ks : Keys) (k : Bool) → failed h port s.stream ≡ false
+live_of : (plan : Plan) (h : History) (port : PortName) (s : SubStream) (ks : Keys) (k : Bool) → failed h port s.stream
+    ≡ false
     → live_in (slot_in (rx_slots plan h port s ks) k) ≡ option_map (key_for plan h s) (on_in (key_in ks k))
 live_of plan h port s ks k secure = grind arith
 
 pub live_is : (plan : Plan) (h : History) (port : PortName) (s : SubStream) (k : Bool) → failed h port s.stream ≡ false
-    → live_in (slot_in (rx_slots plan h port s (keys_at h port s)) k) ≡ option_map (key_for plan h s) (on_draw h port s k)
+    → live_in (slot_in (rx_slots plan h port s (keys_at h port s)) k)
+    ≡ option_map (key_for plan h s) (on_draw h port s k)
 live_is plan h port s k secure = live_of plan h port s (keys_at h port s) k secure
 
 -- ---- the checks
@@ -49,10 +64,12 @@ receivers plan h port stream = each_sub (λ u. rx_standing plan h port (lane_in 
 -- what the machine makes of a packet there, under the draws of its set and of the other one
 abbrev taken_from : Plan → History → PortName → Packet → Option ℕ → Option ℕ → Taken
 taken_from plan h port p o other =
-    taken_under (mode_of plan port.link p.prefix.stream) (is_closed plan port.link p.prefix.stream) (receivers plan h port p.prefix.stream) p
+    taken_under (mode_of plan port.link p.prefix.stream) (is_closed plan port.link p.prefix.stream)
+    (receivers plan h port p.prefix.stream) p
     (option_map (key_for plan h (receiving port p)) o) (option_map (key_for plan h (receiving port p)) other)
 
-allowed_is : (plan : Plan) (h : History) (port : PortName) (stream : ℕ) (u : SubKind) (unit : List Packet) → has_live_in h port stream ≡ true
+allowed_is : (plan : Plan) (h : History) (port : PortName) (stream : ℕ) (u : SubKind) (unit : List Packet)
+    → has_live_in h port stream ≡ true
     → is_allowed (receivers plan h port stream) u unit ≡ meets_counts plan h (lane_in port stream u) unit
 unfolding meets_counts
 allowed_is plan h port stream u unit live =
@@ -64,16 +81,24 @@ allowed_is plan h port stream u unit live =
 
 total_is : (plan : Plan) (h : History) (port : PortName) (stream : ℕ) (u : SubKind) → has_live_in h port stream ≡ true
     → (at_sub (receivers plan h port stream) u).total ≡ units_since h (lane_in port stream u) (base h port.link stream)
-total_is plan h port stream u live = rw (at_each (λ (u : SubKind). rx_standing plan h port (lane_in port stream u)) u, live) refl
+total_is plan h port stream u live = rw
+    (at_each (λ (u : SubKind). rx_standing plan h port (lane_in port stream u)) u, live) refl
 
-taken_is : (plan : Plan) (h : History) (port : PortName) (p : Packet) (o other : Option ℕ) → ((j : ℕ) → o ≡ Some j → has_live_in h port p.prefix.stream ≡ true)
-    → verdict_of port p (taken_from plan h port p o other) ≡ settled plan h port (under_keys plan h port p o other)
+taken_is : (plan : Plan) (h : History) (port : PortName) (p : Packet) (o other : Option ℕ)
+    → ((j : ℕ) → o ≡ Some j → has_live_in h port p.prefix.stream ≡ true)
+    → verdict_of (beside_at plan h) port p (taken_from plan h port p o other)
+    ≡ settled plan h port (under_keys plan h port p o other)
 unfolding is_verified front_of
 taken_is plan h port p None None live = refl
 taken_is plan h port p None (Some i) live = refl
 taken_is plan h port p (Some j) other live =
     let unit = pending plan h s j ++ p ∷ [] in
-    rw (holds other, allowed_is plan h port p.prefix.stream p.prefix.sub unit (live j refl), total_is plan h port p.prefix.stream p.prefix.sub (live j refl))
+    rw (
+      holds other,
+      allowed_is plan h port p.prefix.stream p.prefix.sub unit (live j refl),
+      total_is plan h port
+          p.prefix.stream p.prefix.sub (live j refl),
+    )
     (by_room (is_mixed plan h s other || is_overfull plan h s j p.prefix.m) p.prefix.m)
   where
     s : SubStream
@@ -83,20 +108,25 @@ taken_is plan h port p (Some j) other live =
     holds None = refl
     holds (Some i) = refl
 
-    by_checks : (verified counts : Bool) → verdict_of port p (checked verified counts (key_for plan h s j) p)
-        ≡ (if not verified then v.Fail port p.prefix.stream p.prefix.sub fail.Tag else if not counts then v.Fail port p.prefix.stream p.prefix.sub fail.Order
-        else v.Accepted port (unit_under h s j) (map (effect_of port) (pending plan h s j ++ p ∷ [])))
+    by_checks : (verified counts : Bool) → verdict_of (beside_at plan h) port p
+        (checked verified counts (key_for plan h s j) p)
+        ≡ (if not verified then v.Fail port p.prefix.stream p.prefix.sub fail.Tag else if not counts then v.Fail port
+        p.prefix.stream p.prefix.sub fail.Order
+        else v.Accepted port (unit_under h s j)
+        (map (effect_of plan h port (unit_under h s j)) (pending plan h s j ++ p ∷ [])))
     by_checks verified counts = grind arith
 
-    by_room : (full m : Bool) → verdict_of port p (if full then Failed fail.Unit
-        else if m then checked (is_tagged (is_closed plan port.link p.prefix.stream) (units_since h s (base h port.link p.prefix.stream))
+    by_room : (full m : Bool) → verdict_of (beside_at plan h) port p (if full then Failed fail.Unit
+        else if m then checked
+        (is_tagged (is_closed plan port.link p.prefix.stream) (units_since h s (base h port.link p.prefix.stream))
         (key_for plan h s j) p)
         (meets_counts plan h s (pending plan h s j ++ p ∷ [])) (key_for plan h s j) p else Held j (units_got h s j + 1))
         ≡ settled plan h port (if full then Err (v.Fail port p.prefix.stream p.prefix.sub fail.Unit)
         else if m then Ok (record { packet = p; unit = unit_under h s j }) else Err (v.Held port (unit_under h s j)))
     by_room true m = refl
     by_room false false = refl
-    by_room false true = by_checks (is_tagged (is_closed plan port.link p.prefix.stream) (units_since h s (base h port.link p.prefix.stream))
+    by_room false true = by_checks
+        (is_tagged (is_closed plan port.link p.prefix.stream) (units_since h s (base h port.link p.prefix.stream))
         (key_for plan h s j) p)
         (meets_counts plan h s (pending plan h s j ++ p ∷ []))
 
@@ -104,15 +134,18 @@ taken_is plan h port p (Some j) other live =
 abbrev pub packet_due : Plan → History → PortName → Packet → Verdict
 packet_due plan h port p =
     settled plan h port (if failed h port p.prefix.stream then Err (v.Insecure port p.prefix.stream)
-    else under_keys plan h port p (on_draw h port (receiving port p) p.prefix.k) (on_draw h port (receiving port p) (not p.prefix.k)))
+    else under_keys plan h port p (on_draw h port (receiving port p) p.prefix.k)
+    (on_draw h port (receiving port p) (not p.prefix.k)))
 
 -- what the machine finds in the receivers that stand for the history
 abbrev found_keys : Plan → History → PortName → Packet → Taken
-found_keys plan h port p = taken_from plan h port p (on_draw h port (receiving port p) p.prefix.k) (on_draw h port (receiving port p) (not p.prefix.k))
+found_keys plan h port p = taken_from plan h port p (on_draw h port (receiving port p) p.prefix.k)
+    (on_draw h port (receiving port p) (not p.prefix.k))
 
 -- the answer of the machine
 abbrev pub taken_at : Plan → History → PortName → Packet → Taken
-taken_at plan h port p = taken_by (mode_of plan port.link p.prefix.stream) (is_closed plan port.link p.prefix.stream) (standing plan h port p.prefix.stream) p
+taken_at plan h port p = taken_by (mode_of plan port.link p.prefix.stream) (is_closed plan port.link p.prefix.stream)
+    (standing plan h port p.prefix.stream) p
 
 taken_by_is : (plan : Plan) (h : History) (port : PortName) (p : Packet)
     → taken_at plan h port p ≡ (if failed h port p.prefix.stream then Insecure else found_keys plan h port p)
@@ -128,23 +161,31 @@ taken_by_is plan h port p = by_failure (failed h port p.prefix.stream) refl
         (live_in (slot_in slots p.prefix.k)) (live_in (slot_in slots (not p.prefix.k)))
 
     by_failure : (b : Bool) → failed h port p.prefix.stream ≡ b
-        → (if b then Insecure else under (at_sub (each_sub rx) p.prefix.sub).slots) ≡ (if b then Insecure else found_keys plan h port p)
+        → (if b then Insecure else under (at_sub (each_sub rx) p.prefix.sub).slots)
+        ≡ (if b then Insecure else found_keys plan h port p)
     by_failure true bad = refl
     by_failure false secure =
         ap (λ (r : RxSub). under r.slots) (at_each rx p.prefix.sub)
-        ∙ (λ i. taken_under (mode_of plan port.link p.prefix.stream) (is_closed plan port.link p.prefix.stream) (each_sub rx) p
-        (live_is plan h port (receiving port p) p.prefix.k secure i) (live_is plan h port (receiving port p) (not p.prefix.k) secure i))
+        ∙ (λ i. taken_under (mode_of plan port.link p.prefix.stream) (is_closed plan port.link p.prefix.stream)
+        (each_sub rx) p
+        (live_is plan h port (receiving port p) p.prefix.k secure i)
+        (live_is plan h port (receiving port p) (not p.prefix.k) secure i))
 
-pub answer_is : (plan : Plan) (h : History) (port : PortName) (p : Packet) → verdict_of port p (taken_at plan h port p) ≡ packet_due plan h port p
-answer_is plan h port p = ap (verdict_of port p) (taken_by_is plan h port p) ∙ by_failure (failed h port p.prefix.stream)
+pub answer_is : (plan : Plan) (h : History) (port : PortName) (p : Packet)
+    → verdict_of (beside_at plan h) port p (taken_at plan h port p) ≡ packet_due plan h port p
+answer_is plan h port p = ap (verdict_of (beside_at plan h) port p) (taken_by_is plan h port p) ∙ by_failure
+    (failed h port p.prefix.stream)
   where
     draw : Bool → Option ℕ
     draw k = on_draw h port (receiving port p) k
 
-    by_failure : (b : Bool) → verdict_of port p (if b then Insecure else found_keys plan h port p)
-        ≡ settled plan h port (if b then Err (v.Insecure port p.prefix.stream) else under_keys plan h port p (draw p.prefix.k) (draw (not p.prefix.k)))
+    by_failure : (b : Bool) → verdict_of (beside_at plan h) port p (if b then Insecure else found_keys plan h port p)
+        ≡ settled plan h port
+        (if b then Err (v.Insecure port p.prefix.stream) else under_keys plan h port p (draw p.prefix.k)
+        (draw (not p.prefix.k)))
     by_failure true = refl
-    by_failure false = taken_is plan h port p (draw p.prefix.k) (draw (not p.prefix.k)) (on_live plan h port p.prefix.stream p.prefix.sub p.prefix.k)
+    by_failure false = taken_is plan h port p (draw p.prefix.k) (draw (not p.prefix.k))
+        (on_live plan h port p.prefix.stream p.prefix.sub p.prefix.k)
 
 -- ---- what an answer says
 
@@ -157,15 +198,19 @@ Says plan h port p (Held j n) =
     (failed h port p.prefix.stream ≡ false) × (on_draw h port s p.prefix.k ≡ Some j) × (n ≡ units_got h s j + 1)
 Says plan h port p (Accepted j n unit) =
     let s = receiving port p in
-    (failed h port p.prefix.stream ≡ false) × (on_draw h port s p.prefix.k ≡ Some j) × (n ≡ units_got h s j + 1) × (unit ≡ pending plan h s j ++ p ∷ [])
+    (failed h port p.prefix.stream ≡ false) × (on_draw h port s p.prefix.k ≡ Some j) × (n ≡ units_got h s j + 1)
+    × (unit ≡ pending plan h s j ++ p ∷ [])
 
-says_under : (plan : Plan) (h : History) (port : PortName) (p : Packet) → failed h port p.prefix.stream ≡ false → (o other : Option ℕ)
+says_under : (plan : Plan) (h : History) (port : PortName) (p : Packet) → failed h port p.prefix.stream ≡ false
+    → (o other : Option ℕ)
     → on_draw h port (receiving port p) p.prefix.k ≡ o → on_draw h port (receiving port p) (not p.prefix.k) ≡ other
     → Says plan h port p (taken_from plan h port p o other)
 says_under plan h port p secure None None on rest = tt
-says_under plan h port p secure None (Some i) on rest = on_live plan h port p.prefix.stream p.prefix.sub (not p.prefix.k) i rest
+says_under plan h port p secure None (Some i) on rest = on_live plan h port p.prefix.stream p.prefix.sub
+    (not p.prefix.k) i rest
 says_under plan h port p secure (Some j) other on rest =
-    by_room _ p.prefix.m (is_tagged (is_closed plan port.link p.prefix.stream) (at_sub (receivers plan h port p.prefix.stream) p.prefix.sub).total
+    by_room _ p.prefix.m (is_tagged (is_closed plan port.link p.prefix.stream)
+    (at_sub (receivers plan h port p.prefix.stream) p.prefix.sub).total
     (key_for plan h s j) p)
     (is_allowed (receivers plan h port p.prefix.stream) p.prefix.sub (pending plan h s j ++ p ∷ []))
   where
@@ -176,7 +221,8 @@ says_under plan h port p secure (Some j) other on rest =
     live = on_live plan h port p.prefix.stream p.prefix.sub p.prefix.k j on
 
     by_room : (full m tagged allowed : Bool)
-        → Says plan h port p (if full then Failed fail.Unit else if m then checked tagged allowed (key_for plan h s j) p else Held j (units_got h s j + 1))
+        → Says plan h port p (if full then Failed fail.Unit else if m then checked tagged allowed (key_for plan h s j) p
+        else Held j (units_got h s j + 1))
     by_room true m tagged allowed = live
     by_room false false tagged allowed = (secure, on, refl)
     by_room false true false allowed = live
@@ -184,8 +230,11 @@ says_under plan h port p secure (Some j) other on rest =
     by_room false true true true = (secure, on, refl, refl)
 
 pub says : (plan : Plan) (h : History) (port : PortName) (p : Packet) → Says plan h port p (taken_at plan h port p)
-says plan h port p = subst (Says plan h port p) (sym (taken_by_is plan h port p)) (by_failure (failed h port p.prefix.stream) refl)
+says plan h port p = subst (Says plan h port p) (sym (taken_by_is plan h port p))
+    (by_failure (failed h port p.prefix.stream) refl)
   where
-    by_failure : (b : Bool) → failed h port p.prefix.stream ≡ b → Says plan h port p (if b then Insecure else found_keys plan h port p)
+    by_failure : (b : Bool) → failed h port p.prefix.stream ≡ b
+        → Says plan h port p (if b then Insecure else found_keys plan h port p)
     by_failure true bad = tt
-    by_failure false secure = says_under plan h port p secure (on_draw h port (receiving port p) p.prefix.k) (on_draw h port (receiving port p) (not p.prefix.k)) refl refl
+    by_failure false secure = says_under plan h port p secure (on_draw h port (receiving port p) p.prefix.k)
+        (on_draw h port (receiving port p) (not p.prefix.k)) refl refl

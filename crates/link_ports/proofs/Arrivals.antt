@@ -1,5 +1,14 @@
 -- The verdict of an arrival is the one that is due, and the state after it stands for the history with it.
-use Rattle.link_ports.proofs.Terms.{◌≡◌, true, List, [], ◌∷◌, ◌++◌, map, Option, Some, None, Result, Ok, Err, refl, ap, sym, ◌∙◌, subst, arith, Accepted, Arrival, arrival_due, arrive, arrive_read, arrived, before_tag, before_tag_of, Came, due, effect_of, Event, Failed, find, has_stream, Held, History, Insecure, IsNoOperation, KeyFacts, LinkState, NotKeyed, Packet, packet_that_came, packet_word, pending, Plan, PortName, PortsStand, put, receiving, sealed_same, seals_none, settled, standing, state_after, StreamState, take_as, take_found, Taken, verdict_of}
+use Rattle.link_ports.specs.Machine.{Beside}
+use Rattle.link_ports.proofs.Terms.{unit_under}
+use Rattle.link_ports.specs.Stands.{beside_at}
+use Rattle.link_ports.proofs.Terms.{◌≡◌, true, List, [], ◌∷◌, ◌++◌, map, Option, Some, None, Result, Ok, Err, refl, ap}
+use Rattle.link_ports.proofs.Terms.{sym, ◌∙◌, subst, arith, Accepted, Arrival, arrival_due, arrive, arrive_read}
+use Rattle.link_ports.proofs.Terms.{arrived, before_tag, before_tag_of, Came, due, effect_of, Event, Failed, find}
+use Rattle.link_ports.proofs.Terms.{has_stream, Held, History, Insecure, IsNoOperation, KeyFacts, LinkState, NotKeyed}
+use Rattle.link_ports.proofs.Terms.{Packet, packet_that_came, packet_word, pending, Plan, PortName, PortsStand, put}
+use Rattle.link_ports.proofs.Terms.{receiving, sealed_same, seals_none, settled, standing, state_after, StreamState}
+use Rattle.link_ports.proofs.Terms.{take_as, take_found, Taken, verdict_of}
 use Rattle.link_verdicts.specs.declared.verdict.Verdict.TheVariants as v
 use Rattle.ide_prefix.specs.declared.fault.PacketFault.{PacketFault}
 use Rattle.ide_prefix.specs.Faults.{packet_place}
@@ -10,21 +19,28 @@ use Rattle.link_ports.proofs.Changes.{Steps, IsOnlyAt, kept_is, not_kept, change
 use Rattle.link_ports.proofs.Answers.{answer_is, packet_due, taken_at, Says, says}
 use Rattle.link_ports.proofs.Takes.{after_failure, after_held, after_accepted}
 
-only_there : (port : PortName) (p : Packet) (t : Taken) → IsOnlyAt port p.prefix.stream (verdict_of port p t)
-only_there port p t q s other = grind arith
+only_there : (beside : Beside) (port : PortName) (p : Packet) (t : Taken)
+    → IsOnlyAt port p.prefix.stream (verdict_of beside port p t)
+only_there beside port p t q s other = grind arith
 
-seals_nothing : (port : PortName) (p : Packet) (t : Taken) → seals_none (verdict_of port p t) ≡ true
-seals_nothing port p t = grind arith
+seals_nothing : (beside : Beside) (port : PortName) (p : Packet) (t : Taken) → seals_none (verdict_of beside port p t)
+    ≡ true
+seals_nothing beside port p t = grind arith
 
-module _ (plan : Plan) (facts : KeyFacts plan) (st : LinkState) (h : History) (e : Event) (still : IsNoOperation e) (stands : PortsStand plan st h) where
-  after : (port : PortName) (p : Packet) → Came plan h e port p → (t : Taken) → Says plan h port p t → verdict_of port p t ≡ due plan h e
-      → state_after (standing plan h port p.prefix.stream) p t ≡ standing plan ((e, verdict_of port p t) ∷ h) port p.prefix.stream
+module _ (plan : Plan) (facts : KeyFacts plan) (st : LinkState) (h : History) (e : Event) (still : IsNoOperation e)
+    (stands : PortsStand plan st h) where
+  after : (port : PortName) (p : Packet) → Came plan h e port p → (t : Taken) → Says plan h port p t
+      → verdict_of (beside_at plan h) port p t ≡ due plan h e
+      → state_after (standing plan h port p.prefix.stream) p t
+      ≡ standing plan ((e, verdict_of (beside_at plan h) port p t) ∷ h) port p.prefix.stream
   after port p came Insecure said is =
-      sym (frame plan facts h e (v.Insecure port p.prefix.stream) (is, stands.cause) port p.prefix.stream (still port.link p.prefix.stream) refl refl)
+      sym (frame plan facts h e (v.Insecure port p.prefix.stream) (is, stands.cause) port p.prefix.stream
+      (still port.link p.prefix.stream) refl refl)
   after port p came NotKeyed said is =
       sym (frame plan facts h e (v.NotKeyed port p.prefix.stream p.prefix.sub) (is, stands.cause) port p.prefix.stream
       (still port.link p.prefix.stream) refl refl)
-  after port p came (Failed cause) said is = after_failure plan facts h e port p cause (is, stands.cause) (still port.link p.prefix.stream) said
+  after port p came (Failed cause) said is = after_failure plan facts h e port p cause (is, stands.cause)
+      (still port.link p.prefix.stream) said
   after port p came (Held j n) said is =
       after_held plan facts h e port p j n (record {
         law = (is, stands.cause);
@@ -35,11 +51,13 @@ module _ (plan : Plan) (facts : KeyFacts plan) (st : LinkState) (h : History) (e
         came = packet_that_came plan h e port p came;
       })
   after port p came (Accepted j n unit) said is =
-      subst (λ (ps : List Packet). verdict_of port p (Accepted j n ps) ≡ due plan h e
+      subst (λ (ps : List Packet). verdict_of (beside_at plan h) port p (Accepted j n ps) ≡ due plan h e
       → state_after (standing plan h port p.prefix.stream) p (Accepted j n ps)
-      ≡ standing plan ((e, verdict_of port p (Accepted j n ps)) ∷ h) port p.prefix.stream)
+      ≡ standing plan ((e, verdict_of (beside_at plan h) port p (Accepted j n ps)) ∷ h) port p.prefix.stream)
       (sym said.3)
-      (λ due_is. after_accepted plan facts h e port p j n (map (effect_of port) (pending plan h (receiving port p) j ++ p ∷ [])) (record {
+      (λ due_is. after_accepted plan facts h e port p j n
+      (map (effect_of plan h port (unit_under h (receiving port p) j))
+      (pending plan h (receiving port p) j ++ p ∷ [])) (record {
         law = (due_is, stands.cause);
         still = still port.link p.prefix.stream;
         secure = said.0;
@@ -51,34 +69,46 @@ module _ (plan : Plan) (facts : KeyFacts plan) (st : LinkState) (h : History) (e
   -- a packet of a stream that the port has
   standing_takes : (port : PortName) (p : Packet) → Came plan h e port p → packet_due plan h port p ≡ due plan h e
       → let x = standing plan h port p.prefix.stream in
-      has_stream plan port p.prefix.stream ≡ true → find plan st port p.prefix.stream ≡ Some x → Steps plan h e (take_as plan st port p x)
+      has_stream plan port p.prefix.stream ≡ true → find plan st port p.prefix.stream ≡ Some x
+      → Steps plan h e (take_as plan (beside_at plan h) st port p x)
   standing_takes port p came is known found =
       let stream = p.prefix.stream in
       let t = taken_at plan h port p in
-      let w = verdict_of port p t in
+      let w = verdict_of (beside_at plan h) port p t in
       let due_is : w ≡ due plan h e = answer_is plan h port p ∙ is in
       let new = state_after (standing plan h port stream) p t in
-      changes plan facts st (put plan st port stream new) h e w port stream new stands due_is still known (only_there port p t)
-      (find-put plan st port stream new (rw found refl)) (find-put_other plan st port stream new) (after port p came t (says plan h port p) due_is)
-      (put_packets plan st port stream new ∙ (stands.packets ∙ ap kept_all (sym (sealed_same plan h e w (seals_nothing port p t)))))
+      changes plan facts st (put plan st port stream new) h e w port stream new stands due_is still known
+      (only_there (beside_at plan h) port p t)
+      (find-put plan st port stream new (rw found refl)) (find-put_other plan st port stream new)
+      (after port p came t (says plan h port p) due_is)
+      (put_packets plan st port stream new ∙
+      (stands.packets ∙ ap kept_all (sym (sealed_same plan h e w (seals_nothing (beside_at plan h) port p t)))))
 
-  by_found : (port : PortName) (p : Packet) → Came plan h e port p → settled plan h port (before_tag_of plan h port (Ok (IdePacket p))) ≡ due plan h e
-      → (o : Option StreamState) → find plan st port p.prefix.stream ≡ o → Steps plan h e (take_found plan st port p o)
+  by_found : (port : PortName) (p : Packet) → Came plan h e port p
+      → settled plan h port (before_tag_of plan h port (Ok (IdePacket p))) ≡ due plan h e
+      → (o : Option StreamState) → find plan st port p.prefix.stream ≡ o
+      → Steps plan h e (take_found plan (beside_at plan h) st port p o)
   by_found port p came is None found =
-      quiet plan facts st h e (v.Unknown port p.prefix.stream) stands refl (rw (not_kept plan st h port p.prefix.stream stands found) at is) still
+      quiet plan facts st h e (v.Unknown port p.prefix.stream) stands refl
+      (rw (not_kept plan st h port p.prefix.stream stands found) at is) still
   by_found port p came is (Some x) found =
       let kept = kept_is plan st h port p.prefix.stream x stands found in
-      subst (λ (y : StreamState). find plan st port p.prefix.stream ≡ Some y → Steps plan h e (take_as plan st port p y)) (sym kept.same)
+      subst (λ (y : StreamState). find plan st port p.prefix.stream ≡ Some y
+      → Steps plan h e (take_as plan (beside_at plan h) st port p y)) (sym kept.same)
       (standing_takes port p came (rw kept.known at is) kept.known) found
 
   by_cut : (a : Arrival) → arrived plan h e ≡ Some a → (r : Result CutValue PacketFault) → cut_of a.bytes ≡ r
-      → settled plan h a.port (before_tag_of plan h a.port r) ≡ due plan h e → Steps plan h e (arrive_read plan st a.port r)
-  by_cut a arrival (Err f) cut is = quiet plan facts st h e (v.Malformed a.port (packet_word f) (packet_place f)) stands refl is still
+      → settled plan h a.port (before_tag_of plan h a.port r) ≡ due plan h e
+      → Steps plan h e (arrive_read plan (beside_at plan h) st a.port r)
+  by_cut a arrival (Err f) cut is = quiet plan facts st h e (v.Malformed a.port (packet_word f) (packet_place f)) stands
+      refl is still
   by_cut a arrival (Ok PlainTlp) cut is = quiet plan facts st h e (v.Plain a.port) stands refl is still
   by_cut a arrival (Ok (IdePacket p)) cut is =
-      by_found a.port p (record { bytes = a.bytes; arrival = arrival; cut = cut }) is (find plan st a.port p.prefix.stream) refl
+      by_found a.port p (record { bytes = a.bytes; arrival = arrival; cut = cut }) is
+      (find plan st a.port p.prefix.stream) refl
 
-  pub arrives : (o : Option Arrival) → arrived plan h e ≡ o → arrival_due plan h o ≡ due plan h e → Steps plan h e (arrive plan st o)
+  pub arrives : (o : Option Arrival) → arrived plan h e ≡ o → arrival_due plan h o ≡ due plan h e
+      → Steps plan h e (arrive plan (beside_at plan h) st o)
   unfolding before_tag
   arrives None arrival is = quiet plan facts st h e v.Nothing stands refl is still
   arrives (Some a) arrival is = by_cut a arrival (cut_of a.bytes) refl is

@@ -2,7 +2,17 @@
 -- verdict tells of no packet that the port sealed, held, accepted or failed there. It goes part by part: keys and Base
 -- stay by `KeyFacts`, what was sealed, got and held by the verdict, and a failure as the stream still has a Live key;
 -- senders and receivers are put together from these parts.
-use Rattle.link_ports.proofs.Terms.{◌≡◌, ℕ, ◌==◌, Bool, true, false, List, [], ◌∷◌, length, refl, ap, sym, ◌∙◌, subst, arith, if◌then◌else◌, ◌&&◌, ◌||◌, after_ends, ahead_in, any_out, base, CauseLaw, Cpl, each_sub, ends_at, Event, failed, failed_there, fails_at, got_in, got_since, has_live, has_live_in, has_live_out, held, History, is_out, is_same, is_same_port, Keyed, KeyFacts, Keys, keys_at, lane_in, lane_out, Loaded, nat_tests, not_here, Npr, Off, On, operates, Plan, PortName, posted_elsewhere, posted_in, posted_sum, Pr, received_in, rx_slot, rx_slots, rx_standing, RxSub, same_in, sealed_packets, SealedList, SealedPacket, Send, sent_elsewhere, sent_in, Slots, standing, StreamState, sub_stream_of, SubKind, SubStream, total_elsewhere, total_in, tx_slot, tx_slots, tx_standing, TxSub, UnitName, units, units_got, units_since, Verdict, with_sealed}
+use Rattle.link_ports.proofs.Terms.{◌≡◌, ℕ, ◌==◌, Bool, true, false, List, [], ◌∷◌, length, refl, ap, sym, ◌∙◌, subst}
+use Rattle.link_ports.proofs.Terms.{arith, if◌then◌else◌, ◌&&◌, ◌||◌, after_ends, ahead_in, any_out, base, CauseLaw}
+use Rattle.link_ports.proofs.Terms.{Cpl, each_sub, ends_at, Event, failed, failed_there, fails_at, got_in, got_since}
+use Rattle.link_ports.proofs.Terms.{has_live, has_live_in, has_live_out, held, History, is_out, is_same, is_same_port}
+use Rattle.link_ports.proofs.Terms.{Keyed, KeyFacts, Keys, keys_at, lane_in, lane_out, Loaded, nat_tests, not_here, Npr}
+use Rattle.link_ports.proofs.Terms.{Off, On, operates, Plan, PortName, posted_elsewhere, posted_in, posted_sum, Pr}
+use Rattle.link_ports.proofs.Terms.{received_in, rx_slot, rx_slots, rx_standing, RxSub, same_in, sealed_packets}
+use Rattle.link_ports.proofs.Terms.{SealedList, SealedPacket, Send, sent_elsewhere, sent_in, Slots, standing}
+use Rattle.link_ports.proofs.Terms.{StreamState, sub_stream_of, SubKind, SubStream, total_elsewhere, total_in, tx_slot}
+use Rattle.link_ports.proofs.Terms.{tx_slots, tx_standing, TxSub, UnitName, units, units_got, units_since, Verdict}
+use Rattle.link_ports.proofs.Terms.{with_sealed}
 use Rattle.link_verdicts.specs.declared.verdict.Verdict.TheVariants as v
 use Rattle.link_keys.proofs.Failures.{failed_next}
 
@@ -49,11 +59,15 @@ if_same b c m n p q = λ i. if p i then q i else 0
 
 -- ---- keys
 
-no_ends : (port : PortName) (s : SubStream) (ds : List SealedPacket) (keys : Keys) → ((d : SealedPacket) → (is_same_port d.port port && is_same (sub_stream_of d) s) ≡ false) → after_ends port s ds keys ≡ keys
+no_ends : (port : PortName) (s : SubStream) (ds : List SealedPacket) (keys : Keys)
+    → ((d : SealedPacket) → (is_same_port d.port port && is_same (sub_stream_of d) s) ≡ false)
+    → after_ends port s ds keys ≡ keys
 no_ends port s [] keys none = refl
-no_ends port s (d ∷ ds) keys none = let here : ends_at port s d ≡ false = grind (arith, none d) in rw here (no_ends port s ds keys none)
+no_ends port s (d ∷ ds) keys none = let here : ends_at port s d
+    ≡ false = grind (arith, none d) in rw here (no_ends port s ds keys none)
 
-no_ends_out : (port : PortName) (stream : ℕ) (u : SubKind) (ds : List SealedPacket) (keys : Keys) → any_out port stream ds ≡ false → after_ends port (lane_out port stream u) ds keys ≡ keys
+no_ends_out : (port : PortName) (stream : ℕ) (u : SubKind) (ds : List SealedPacket) (keys : Keys)
+    → any_out port stream ds ≡ false → after_ends port (lane_out port stream u) ds keys ≡ keys
 no_ends_out port stream u [] keys none = refl
 no_ends_out port stream u (d ∷ ds) keys none =
     let here : is_out port stream d ≡ false = grind arith in
@@ -64,54 +78,71 @@ if_none : (b c : Bool) (x y : Keys) → c ≡ false → (if b && c then x else y
 if_none b c x y none = grind arith
 
 -- what a port seals, it does not receive
-never_in : (port : PortName) (stream : ℕ) (u : SubKind) (d : SealedPacket) → (is_same_port d.port port && is_same (sub_stream_of d) (lane_in port stream u)) ≡ false
+never_in : (port : PortName) (stream : ℕ) (u : SubKind) (d : SealedPacket)
+    → (is_same_port d.port port && is_same (sub_stream_of d) (lane_in port stream u)) ≡ false
 never_in port stream u d = grind (arith, nat_tests)
 
-never_out : (p port : PortName) (stream : ℕ) (u : SubKind) (unit : UnitName) → (is_same_port p port && is_same (received_in p unit) (lane_out port stream u)) ≡ false
+never_out : (p port : PortName) (stream : ℕ) (u : SubKind) (unit : UnitName)
+    → (is_same_port p port && is_same (received_in p unit) (lane_out port stream u)) ≡ false
 never_out p port stream u unit = grind (arith, nat_tests)
 
-received_elsewhere : (p port : PortName) (stream : ℕ) (u : SubKind) (unit : UnitName) → (is_same_port p port && (unit.stream == stream)) ≡ false
+received_elsewhere : (p port : PortName) (stream : ℕ) (u : SubKind) (unit : UnitName)
+    → (is_same_port p port && (unit.stream == stream)) ≡ false
     → is_same (received_in p unit) (lane_in port stream u) ≡ false
 received_elsewhere p port stream u unit other = let same = same_in p.side port.side in grind (arith, nat_tests, same)
 
-keys_out : (plan : Plan) → KeyFacts plan → (h : History) (e : Event) (w : Verdict) → CauseLaw plan ((e, w) ∷ h) → (port : PortName) (stream : ℕ)
+keys_out : (plan : Plan) → KeyFacts plan → (h : History) (e : Event) (w : Verdict) → CauseLaw plan ((e, w) ∷ h)
+    → (port : PortName) (stream : ℕ)
     → operates e port.link stream ≡ false → (u : SubKind) → seals_at port stream w ≡ false
     → keys_at ((e, w) ∷ h) port (lane_out port stream u) ≡ keys_at h port (lane_out port stream u)
-keys_out plan facts h e (v.Sealed ds) cause port stream still u none = facts.sealed h e ds cause port (lane_out port stream u) ∙ no_ends_out port stream u ds _ none
-keys_out plan facts h e (v.Accepted p unit effects) cause port stream still u none = facts.accepted h e p unit effects cause port (lane_out port stream u) ∙ rw (never_out p port stream u unit) refl
-keys_out plan facts h e w cause port stream still u none = facts.steady h e w cause refl port (lane_out port stream u) still
+keys_out plan facts h e (v.Sealed ds) cause port stream still u none = facts.sealed h e ds cause port
+    (lane_out port stream u) ∙ no_ends_out port stream u ds _ none
+keys_out plan facts h e (v.Accepted p unit effects) cause port stream still u none = facts.accepted h e p unit effects
+    cause port (lane_out port stream u) ∙ rw (never_out p port stream u unit) refl
+keys_out plan facts h e w cause port stream still u none = facts.steady h e w cause refl port (lane_out port stream u)
+    still
 
-keys_in : (plan : Plan) → KeyFacts plan → (h : History) (e : Event) (w : Verdict) → CauseLaw plan ((e, w) ∷ h) → (port : PortName) (stream : ℕ)
+keys_in : (plan : Plan) → KeyFacts plan → (h : History) (e : Event) (w : Verdict) → CauseLaw plan ((e, w) ∷ h)
+    → (port : PortName) (stream : ℕ)
     → operates e port.link stream ≡ false → (u : SubKind) → accepts_in (lane_in port stream u) w ≡ false
     → keys_at ((e, w) ∷ h) port (lane_in port stream u) ≡ keys_at h port (lane_in port stream u)
-keys_in plan facts h e (v.Sealed ds) cause port stream still u none = facts.sealed h e ds cause port (lane_in port stream u) ∙ no_ends port (lane_in port stream u) ds _ (never_in port stream u)
-keys_in plan facts h e (v.Accepted p unit effects) cause port stream still u none = facts.accepted h e p unit effects cause port (lane_in port stream u)
+keys_in plan facts h e (v.Sealed ds) cause port stream still u none = facts.sealed h e ds cause port
+    (lane_in port stream u) ∙ no_ends port (lane_in port stream u) ds _ (never_in port stream u)
+keys_in plan facts h e (v.Accepted p unit effects) cause port stream still u none = facts.accepted h e p unit effects
+    cause port (lane_in port stream u)
     ∙ if_none (is_same_port p port) _ _ _ none
-keys_in plan facts h e w cause port stream still u none = facts.steady h e w cause refl port (lane_in port stream u) still
+keys_in plan facts h e w cause port stream still u none = facts.steady h e w cause refl port (lane_in port stream u)
+    still
 
 -- ---- what was sealed
 
 -- what is read of the list of sealed packets is the same, if packets that the port did not seal on the stream leave it
-sealed_elsewhere : {A : Type 0} (plan : Plan) (h : History) (e : Event) (w : Verdict) (port : PortName) (stream : ℕ) (f : SealedList → A)
+sealed_elsewhere : {A : Type 0} (plan : Plan) (h : History) (e : Event) (w : Verdict) (port : PortName) (stream : ℕ)
+    (f : SealedList → A)
     → seals_at port stream w ≡ false
     → ((bytes : List ℕ) (ds : List SealedPacket) → any_out port stream ds ≡ false
-    → f (with_sealed plan (ahead_in plan (sealed_packets plan h) (base h)) bytes ds (sealed_packets plan h)) ≡ f (sealed_packets plan h))
+    → f (with_sealed plan (ahead_in plan (sealed_packets plan h) (base h)) bytes ds (sealed_packets plan h))
+    ≡ f (sealed_packets plan h))
     → f (sealed_packets plan ((e, w) ∷ h)) ≡ f (sealed_packets plan h)
 unfolding sealed_packets
 sealed_elsewhere plan h (Send p bytes more trusted) (v.Sealed ds) port stream f none same = same bytes ds none
 sealed_elsewhere plan h _ _ port stream f none same = refl
 
-tx_slot_same : (plan : Plan) (xs ys : SealedList) (s : SubStream) (k : Bool) (a b : Keyed) → ((j : ℕ) → sent_in xs s j ≡ sent_in ys s j) → tx_slot plan xs s k a b ≡ tx_slot plan ys s k a b
+tx_slot_same : (plan : Plan) (xs ys : SealedList) (s : SubStream) (k : Bool) (a b : Keyed)
+    → ((j : ℕ) → sent_in xs s j ≡ sent_in ys s j) → tx_slot plan xs s k a b ≡ tx_slot plan ys s k a b
 tx_slot_same plan xs ys s k Off b same = refl
 tx_slot_same plan xs ys s k (Loaded j) b same = refl
 tx_slot_same plan xs ys s k (On j) b same = rw (same j) refl
 
-pub tx_slots_same : (plan : Plan) (xs ys : SealedList) (s : SubStream) (keys : Keys) → ((j : ℕ) → sent_in xs s j ≡ sent_in ys s j) → tx_slots plan xs s keys ≡ tx_slots plan ys s keys
-tx_slots_same plan xs ys s keys same = slots_is _ _ (tx_slot_same plan xs ys s false keys.first keys.second same) (tx_slot_same plan xs ys s true keys.second keys.first same)
+pub tx_slots_same : (plan : Plan) (xs ys : SealedList) (s : SubStream) (keys : Keys)
+    → ((j : ℕ) → sent_in xs s j ≡ sent_in ys s j) → tx_slots plan xs s keys ≡ tx_slots plan ys s keys
+tx_slots_same plan xs ys s keys same = slots_is _ _ (tx_slot_same plan xs ys s false keys.first keys.second same)
+    (tx_slot_same plan xs ys s true keys.second keys.first same)
 
 -- ---- what was received
 
-pub units_same : (h : History) (e : Event) (w : Verdict) (s : SubStream) (j : ℕ) → accepts_in s w ≡ false → units_got ((e, w) ∷ h) s j ≡ units_got h s j
+pub units_same : (h : History) (e : Event) (w : Verdict) (s : SubStream) (j : ℕ) → accepts_in s w ≡ false
+    → units_got ((e, w) ∷ h) s j ≡ units_got h s j
 unfolding units_got
 units_same h e w s j none = grind arith
 
@@ -139,11 +170,13 @@ rx_slot_same plan g h port s Off same = refl
 rx_slot_same plan g h port s (Loaded j) same = refl
 rx_slot_same plan g h port s (On j) same = let of = same j refl in rw (of.0, of.1, of.2 _) refl
 
-pub rx_slots_same : (plan : Plan) (g h : History) (port : PortName) (s : SubStream) (keys : Keys) → failed g port s.stream ≡ failed h port s.stream
+pub rx_slots_same : (plan : Plan) (g h : History) (port : PortName) (s : SubStream) (keys : Keys)
+    → failed g port s.stream ≡ failed h port s.stream
     → ((j : ℕ) → units_got g s j ≡ units_got h s j)
     → ((j n : ℕ) → held plan g s j n ≡ held plan h s j n) → rx_slots plan g port s keys ≡ rx_slots plan h port s keys
 rx_slots_same plan g h port s keys bad units held =
-    let one : (a : Keyed) → rx_slot plan g port s a ≡ rx_slot plan h port s a = λ a. rx_slot_same plan g h port s a (λ j on. (bad, units j, held j)) in
+    let one : (a : Keyed) → rx_slot plan g port s a ≡ rx_slot plan h port s a = λ a. rx_slot_same plan g h port s a
+    (λ j on. (bad, units j, held j)) in
     slots_is _ _ (one keys.first) (one keys.second)
 
 -- ---- what failed
@@ -152,29 +185,36 @@ and_again : (a b : Bool) → (a && b && b) ≡ (a && b)
 and_again a b = grind arith
 
 -- where a stream failed, it has a Live key
-pub failed_live : (plan : Plan) (h : History) (port : PortName) (stream : ℕ) → (failed h port stream && has_live h port stream) ≡ failed h port stream
+pub failed_live : (plan : Plan) (h : History) (port : PortName) (stream : ℕ)
+    → (failed h port stream && has_live h port stream) ≡ failed h port stream
 unfolding failed_there
 failed_live plan [] port stream = refl
 failed_live plan ((e, w) ∷ h) port stream =
-    subst (λ (b : Bool). (b && has_live ((e, w) ∷ h) port stream) ≡ b) (sym (failed_next h e w port stream)) (and_again (fails_at port stream w || failed h port stream) (has_live ((e, w) ∷ h) port stream))
+    subst (λ (b : Bool). (b && has_live ((e, w) ∷ h) port stream) ≡ b) (sym (failed_next h e w port stream))
+    (and_again (fails_at port stream w || failed h port stream) (has_live ((e, w) ∷ h) port stream))
 
 -- ---- what a pair leaves at a port and stream on which it is no operation
 
-module _ (plan : Plan) (facts : KeyFacts plan) (h : History) (e : Event) (w : Verdict) (cause : CauseLaw plan ((e, w) ∷ h)) (port : PortName) (stream : ℕ)
+module _ (plan : Plan) (facts : KeyFacts plan) (h : History) (e : Event) (w : Verdict)
+    (cause : CauseLaw plan ((e, w) ∷ h)) (port : PortName) (stream : ℕ)
     (still : operates e port.link stream ≡ false) where
   pub live_out : has_live_out ((e, w) ∷ h) port stream ≡ has_live_out h port stream
   unfolding has_live_out
-  live_out = let one = λ (u : SubKind). facts.keyed h e w cause port (lane_out port stream u) still in λ i. one Pr i || one Npr i || one Cpl i
+  live_out = let one = λ (u : SubKind). facts.keyed h e w cause port (lane_out port stream u) still in λ i. one Pr i
+      || one Npr i || one Cpl i
 
   pub live_in : has_live_in ((e, w) ∷ h) port stream ≡ has_live_in h port stream
   unfolding has_live_in
-  live_in = let one = λ (u : SubKind). facts.keyed h e w cause port (lane_in port stream u) still in λ i. one Pr i || one Npr i || one Cpl i
+  live_in = let one = λ (u : SubKind). facts.keyed h e w cause port (lane_in port stream u) still in λ i. one Pr i
+      || one Npr i || one Cpl i
 
   based : base ((e, w) ∷ h) port.link stream ≡ base h port.link stream
   based = facts.base_same h e w cause port.link stream still
 
-  pub failed_more : failed ((e, w) ∷ h) port stream ≡ ((fails_at port stream w || failed h port stream) && has_live h port stream)
-  failed_more = failed_next h e w port stream ∙ (λ i. (fails_at port stream w || failed h port stream) && (live_out i || live_in i))
+  pub failed_more : failed ((e, w) ∷ h) port stream ≡
+      ((fails_at port stream w || failed h port stream) && has_live h port stream)
+  failed_more = failed_next h e w port stream ∙
+      (λ i. (fails_at port stream w || failed h port stream) && (live_out i || live_in i))
 
   pub failed_same : fails_at port stream w ≡ false → failed ((e, w) ∷ h) port stream ≡ failed h port stream
   failed_same none = failed_more ∙ (rw none refl ∙ failed_live plan h port stream)
@@ -190,12 +230,15 @@ module _ (plan : Plan) (facts : KeyFacts plan) (h : History) (e : Event) (w : Ve
       let from = base h port.link stream in
       tx_is _ _
       (tx_slots_same plan (sealed_packets plan g) xs s (keys_at g port s)
-      (λ j. sealed_elsewhere plan h e w port stream (λ ys. sent_in ys s j) none (λ bytes ds. sent_elsewhere plan front bytes ds xs port stream u j))
+      (λ j. sealed_elsewhere plan h e w port stream (λ ys. sent_in ys s j) none
+      (λ bytes ds. sent_elsewhere plan front bytes ds xs port stream u j))
       ∙ ap (tx_slots plan xs s) (keys_out plan facts h e w cause port stream still u none))
       (if_same _ _ _ _ live_out (ap (posted_in (sealed_packets plan g) s) based
-      ∙ sealed_elsewhere plan h e w port stream (λ ys. posted_in ys s from) none (λ bytes ds. posted_elsewhere plan front bytes ds xs port stream u from)))
+      ∙ sealed_elsewhere plan h e w port stream (λ ys. posted_in ys s from) none
+      (λ bytes ds. posted_elsewhere plan front bytes ds xs port stream u from)))
       (if_same _ _ _ _ live_out (ap (total_in (sealed_packets plan g) s) based
-      ∙ sealed_elsewhere plan h e w port stream (λ ys. total_in ys s from) none (λ bytes ds. total_elsewhere plan front bytes ds xs port stream u from)))
+      ∙ sealed_elsewhere plan h e w port stream (λ ys. total_in ys s from) none
+      (λ bytes ds. total_elsewhere plan front bytes ds xs port stream u from)))
 
   -- the counts of a receiver stay as they are but for what it accepts
   pub rx_with : (u : SubKind) → let s = lane_in port stream u in
@@ -209,26 +252,30 @@ module _ (plan : Plan) (facts : KeyFacts plan) (h : History) (e : Event) (w : Ve
       (if_same _ _ _ _ live_in (ap (units_since g s) based ∙ since_same h e w s _ none))
 
   -- a receiver stays as it is but for what it takes, and what fails on the stream
-  pub rx_frame : (u : SubKind) → accepts_in (lane_in port stream u) w ≡ false → holds_in (lane_in port stream u) w ≡ false → fails_at port stream w ≡ false
+  pub rx_frame : (u : SubKind) → accepts_in (lane_in port stream u) w ≡ false → holds_in (lane_in port stream u) w
+      ≡ false → fails_at port stream w ≡ false
       → rx_standing plan ((e, w) ∷ h) port (lane_in port stream u) ≡ rx_standing plan h port (lane_in port stream u)
   rx_frame u accepts holds fails =
       let g = (e, w) ∷ h in
       let s = lane_in port stream u in
       rx_with u accepts _
-      (rx_slots_same plan g h port s (keys_at g port s) (failed_same fails) (λ j. units_same h e w s j accepts) (λ j n. held_same plan h e w s j n holds)
+      (rx_slots_same plan g h port s (keys_at g port s) (failed_same fails) (λ j. units_same h e w s j accepts)
+      (λ j n. held_same plan h e w s j n holds)
       ∙ ap (rx_slots plan h port s) (keys_in plan facts h e w cause port stream still u accepts))
 
 -- ---- the frame
 
 elsewhere : (port : PortName) (stream : ℕ) (u : SubKind) (w : Verdict) → takes_at port stream w ≡ false
-    → (accepts_in (lane_in port stream u) w ≡ false) × (holds_in (lane_in port stream u) w ≡ false) × (fails_at port stream w ≡ false)
+    → (accepts_in (lane_in port stream u) w ≡ false) × (holds_in (lane_in port stream u) w ≡ false)
+    × (fails_at port stream w ≡ false)
 elsewhere port stream u (v.Fail p s sub cause) none = (refl, refl, none)
 elsewhere port stream u (v.Held p unit) none = (refl, received_elsewhere p port stream u unit none, refl)
 elsewhere port stream u (v.Accepted p unit effects) none = (received_elsewhere p port stream u unit none, refl, refl)
 elsewhere port stream u _ none = (refl, refl, refl)
 
 -- what a pair neither seals nor takes at a port and stream leaves all of it as it was
-pub frame : (plan : Plan) → KeyFacts plan → (h : History) (e : Event) (w : Verdict) → CauseLaw plan ((e, w) ∷ h) → (port : PortName) (stream : ℕ)
+pub frame : (plan : Plan) → KeyFacts plan → (h : History) (e : Event) (w : Verdict) → CauseLaw plan ((e, w) ∷ h)
+    → (port : PortName) (stream : ℕ)
     → operates e port.link stream ≡ false → seals_at port stream w ≡ false → takes_at port stream w ≡ false
     → standing plan ((e, w) ∷ h) port stream ≡ standing plan h port stream
 unfolding standing

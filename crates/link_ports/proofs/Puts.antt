@@ -1,17 +1,22 @@
 -- One stream at a port is changed, and no other.
-use Rattle.link_ports.proofs.Terms.{◌≡◌, ◌≢◌, ℕ, ◌<◌, ◌≤◌, ◌==◌, true, false, List, [], ◌∷◌, length, Some, None, refl, ap, sym, ◌∙◌, subst, arith, ⊎_elim, ◌&&◌, is_some, slice_set, changed, find, found, get_or-set_other, get_or-set_same, get_or_past, is_same_port, LinkState, nat_tests, Plan, port_place, PortName, put, same_port, set_past, streams_of, StreamState}
+use Rattle.link_ports.proofs.Terms.{◌≡◌, ◌≢◌, ℕ, ◌<◌, ◌≤◌, ◌==◌, true, false, List, [], ◌∷◌, length, Some, None, refl}
+use Rattle.link_ports.proofs.Terms.{ap, sym, ◌∙◌, subst, arith, ⊎_elim, ◌&&◌, is_some, slice_set, changed, find, found}
+use Rattle.link_ports.proofs.Terms.{get_or-set_other, get_or-set_same, get_or_past, is_same_port, LinkState, nat_tests}
+use Rattle.link_ports.proofs.Terms.{Plan, port_place, PortName, put, same_port, set_past, streams_of, StreamState}
 use Rattle.std.specs.List.{slice_index_or}
 use Rattle.std.proofs.lemmas.Bool.{cases_lt, cases_eq}
 use Rattle.ide_plan.specs.declared.stream.StreamPlan.{StreamPlan}
 
 -- ---- one row of a list of rows
 
-found_same : {A : Type 0} (ss : List StreamPlan) (xs : List A) (id : ℕ) (y : A) → is_some (found ss xs id) ≡ true → found ss (changed ss xs id y) id ≡ Some y
+found_same : {A : Type 0} (ss : List StreamPlan) (xs : List A) (id : ℕ) (y : A) → is_some (found ss xs id) ≡ true
+    → found ss (changed ss xs id y) id ≡ Some y
 found_same (s ∷ ss) (x ∷ xs) id y is = let more = found_same ss xs id y in grind (arith, more)
 found_same [] xs id y is = absurd cc
 found_same (s ∷ ss) [] id y is = absurd cc
 
-found_other : {A : Type 0} (ss : List StreamPlan) (xs : List A) (id t : ℕ) (y : A) → (id == t) ≡ false → found ss (changed ss xs id y) t ≡ found ss xs t
+found_other : {A : Type 0} (ss : List StreamPlan) (xs : List A) (id t : ℕ) (y : A) → (id == t) ≡ false
+    → found ss (changed ss xs id y) t ≡ found ss xs t
 found_other (s ∷ ss) (x ∷ xs) id t y other = let more = found_other ss xs id t y other in grind (arith, nat_tests, more)
 found_other [] xs id t y other = refl
 found_other (s ∷ ss) [] id t y other = refl
@@ -20,41 +25,52 @@ none_found : {A : Type 0} (ss : List StreamPlan) (id : ℕ) → found {A = A} ss
 none_found [] id = refl
 none_found (s ∷ ss) id = refl
 
-pub within : {A : Type 0} (ss : List StreamPlan) (rows : List (List A)) (i id : ℕ) → is_some (found ss (slice_index_or rows i []) id) ≡ true → i < length rows
+pub within : {A : Type 0} (ss : List StreamPlan) (rows : List (List A)) (i id : ℕ)
+    → is_some (found ss (slice_index_or rows i []) id) ≡ true → i < length rows
 within {A} ss rows i id is = ⊎_elim (λ lt. lt) (λ le. absurd (past le)) (cases_lt i (length rows))
   where
     past : length rows ≤ i → ⊥
-    past le = let none : false ≡ true = ap is_some (sym (none_found {A = A} ss id)) ∙ rw (get_or_past rows i [] le) at is in cc
+    past le = let none : false ≡ true = ap is_some (sym (none_found {A = A} ss id)) ∙ rw (get_or_past rows i [] le) at
+        is in cc
 
-pub put_same : {A : Type 0} (ss : List StreamPlan) (rows : List (List A)) (i id : ℕ) (y : A) → is_some (found ss (slice_index_or rows i []) id) ≡ true
+pub put_same : {A : Type 0} (ss : List StreamPlan) (rows : List (List A)) (i id : ℕ) (y : A)
+    → is_some (found ss (slice_index_or rows i []) id) ≡ true
     → found ss (slice_index_or (slice_set rows i (changed ss (slice_index_or rows i []) id y)) i []) id ≡ Some y
-put_same ss rows i id y is = rw (get_or-set_same rows i (changed ss (slice_index_or rows i []) id y) [] (within ss rows i id is)) (found_same ss _ id y is)
+put_same ss rows i id y is = rw
+    (get_or-set_same rows i (changed ss (slice_index_or rows i []) id y) [] (within ss rows i id is))
+    (found_same ss _ id y is)
 
 -- another one of the row
 pub put_beside : {A : Type 0} (ss : List StreamPlan) (rows : List (List A)) (i id t : ℕ) (y : A) → (id == t) ≡ false
-    → found ss (slice_index_or (slice_set rows i (changed ss (slice_index_or rows i []) id y)) i []) t ≡ found ss (slice_index_or rows i []) t
+    → found ss (slice_index_or (slice_set rows i (changed ss (slice_index_or rows i []) id y)) i []) t
+    ≡ found ss (slice_index_or rows i []) t
 put_beside ss rows i id t y other = ⊎_elim inside (λ le. rw (set_past rows i _ le) refl) (cases_lt i (length rows))
   where
-    inside : i < length rows → found ss (slice_index_or (slice_set rows i (changed ss (slice_index_or rows i []) id y)) i []) t
+    inside : i < length rows → found ss
+        (slice_index_or (slice_set rows i (changed ss (slice_index_or rows i []) id y)) i []) t
         ≡ found ss (slice_index_or rows i []) t
-    inside lt = rw (get_or-set_same rows i (changed ss (slice_index_or rows i []) id y) [] lt) (found_other ss _ id t y other)
+    inside lt = rw (get_or-set_same rows i (changed ss (slice_index_or rows i []) id y) [] lt)
+        (found_other ss _ id t y other)
 
 -- ---- a stream at a port
 
-pub find-put : (plan : Plan) (st : LinkState) (port : PortName) (stream : ℕ) (x : StreamState) → is_some (find plan st port stream) ≡ true → find plan (put plan st port stream x) port stream ≡ Some x
+pub find-put : (plan : Plan) (st : LinkState) (port : PortName) (stream : ℕ) (x : StreamState)
+    → is_some (find plan st port stream) ≡ true → find plan (put plan st port stream x) port stream ≡ Some x
 unfolding find put
 find-put plan st port stream x is = put_same (streams_of plan port.link) st.ports (port_place port) stream x is
 
 pub place_is : (p q : PortName) → port_place p ≡ port_place q → is_same_port p q ≡ true
 place_is p q same = grind (arith, nat_tests)
 
-pub find-put_other : (plan : Plan) (st : LinkState) (port : PortName) (stream : ℕ) (x : StreamState) (q : PortName) (t : ℕ) → (is_same_port port q && (stream == t)) ≡ false
+pub find-put_other : (plan : Plan) (st : LinkState) (port : PortName) (stream : ℕ) (x : StreamState) (q : PortName)
+    (t : ℕ) → (is_same_port port q && (stream == t)) ≡ false
     → find plan (put plan st port stream x) q t ≡ find plan st q t
 unfolding find put
 find-put_other plan st port stream x q t other = ⊎_elim here elsewhere (cases_eq (port_place port) (port_place q))
   where
     new : List (List StreamState)
-    new = slice_set st.ports (port_place port) (changed (streams_of plan port.link) (slice_index_or st.ports (port_place port) []) stream x)
+    new = slice_set st.ports (port_place port)
+        (changed (streams_of plan port.link) (slice_index_or st.ports (port_place port) []) stream x)
 
     elsewhere : port_place port ≢ port_place q → found (streams_of plan q.link) (slice_index_or new (port_place q) []) t
         ≡ found (streams_of plan q.link) (slice_index_or st.ports (port_place q) []) t
@@ -65,6 +81,7 @@ find-put_other plan st port stream x q t other = ⊎_elim here elsewhere (cases_
         ≡ found (streams_of plan q.link) (slice_index_or st.ports (port_place q) []) t
     here same =
         let is = place_is port q same in
-        subst (λ (r : PortName). found (streams_of plan r.link) (slice_index_or new (port_place r) []) t ≡ found (streams_of plan r.link)
+        subst (λ (r : PortName). found (streams_of plan r.link) (slice_index_or new (port_place r) []) t
+        ≡ found (streams_of plan r.link)
         (slice_index_or st.ports (port_place r) []) t) (same_port port q is)
         (put_beside (streams_of plan port.link) st.ports (port_place port) stream t x (grind arith))

@@ -2,7 +2,22 @@
 -- machine's own cases. With a Live key on the stream the rules of sealing see what the history says: a refusal changes
 -- nothing, and packets that are sealed fit the senders, which then stand for the list with them. Without one the kept
 -- counts are 0, whatever the history counts, but the TLP is refused ahead of all counts.
-use Rattle.link_ports.proofs.Terms.{◌≡◌, ℕ, ◌+◌, ◌==◌, Bool, true, false, List, [], ◌∷◌, ◌++◌, length, map, Option, Some, None, Result, Ok, Err, refl, ap, sym, ◌∙◌, subst, arith, if◌then◌else◌, ◌&&◌, ◌||◌, is_some, is_none, unwrap_or, after_ends, ahead_in, and_false, answered, any_out, AreFalse, base, body, CauseLaw, choice, Cpl, described, due, due_on, due_read, each_sub, failed, find, first_that_holds, front_of, has_key, has_live_out, has_port, has_stream, head_bytes, header, History, is_closed, is_keyed, is_keyless, is_on, is_out, is_quiet, is_same_port, is_same_sub, kept_at, KeyFacts, KeyName, Keys, keys_at, lane_out, Lanes, lanes_at, lanes_of, length-map, lesser, LinkPacket, LinkState, listed, live_key, mode_of, needs_posted, needs_sync, no_key, none_holds, Npr, on_live, operates, Packet, Plan, PortName, PortsStand, posted_in, Pr, put, read_of, refusals, sealed_all, sealed_by, sealed_by_is, sealed_in, sealed_packets, SealedList, SealedPacket, Send, send_as, send_found, send_on, send_read, Sending, sent_as, standing, StreamState, SubKind, Three, Tlp, tlp_word, total_in, tx_slots, TxSub, Verdict, with_sealed}
+use Rattle.link_ports.specs.Stands.{beside_at}
+use Rattle.link_history.specs.Terms.{t_due, owner_at}
+use Rattle.link_ports.proofs.Terms.{◌≡◌, ℕ, ◌+◌, ◌==◌, Bool, true, false, List, [], ◌∷◌, ◌++◌, length, map, Option}
+use Rattle.link_ports.proofs.Terms.{Some, None, Result, Ok, Err, refl, ap, sym, ◌∙◌, subst, arith, if◌then◌else◌, ◌&&◌}
+use Rattle.link_ports.proofs.Terms.{◌||◌, is_some, is_none, unwrap_or, after_ends, ahead_in, and_false, answered}
+use Rattle.link_ports.proofs.Terms.{any_out, AreFalse, base, body, CauseLaw, choice, Cpl, described, due, due_on}
+use Rattle.link_ports.proofs.Terms.{due_read, each_sub, failed, find, first_that_holds, front_of, has_key, has_live_out}
+use Rattle.link_ports.proofs.Terms.{has_port, has_stream, head_bytes, header, History, is_closed, is_keyed, is_keyless}
+use Rattle.link_ports.proofs.Terms.{is_on, is_out, is_quiet, is_same_port, is_same_sub, kept_at, KeyFacts, KeyName}
+use Rattle.link_ports.proofs.Terms.{Keys, keys_at, lane_out, Lanes, lanes_at, lanes_of, length-map, lesser, LinkPacket}
+use Rattle.link_ports.proofs.Terms.{LinkState, listed, live_key, mode_of, needs_posted, needs_sync, no_key, none_holds}
+use Rattle.link_ports.proofs.Terms.{Npr, on_live, operates, Packet, Plan, PortName, PortsStand, posted_in, Pr, put}
+use Rattle.link_ports.proofs.Terms.{read_of, refusals, sealed_all, sealed_by, sealed_by_is, sealed_in, sealed_packets}
+use Rattle.link_ports.proofs.Terms.{SealedList, SealedPacket, Send, send_as, send_found, send_on, send_read, Sending}
+use Rattle.link_ports.proofs.Terms.{sent_as, standing, StreamState, SubKind, Three, Tlp, tlp_word, total_in, tx_slots}
+use Rattle.link_ports.proofs.Terms.{TxSub, Verdict, with_sealed}
 use Rattle.link_verdicts.specs.declared.verdict.Verdict.TheVariants as v
 use Rattle.tlp_layout.specs.declared.fault.TlpFault.{TlpFault}
 use Rattle.tlp_layout.specs.Class.{class_of}
@@ -21,27 +36,34 @@ lesser_on : (ks : Keys) → is_none (lesser ks.first ks.second) ≡ false → (i
 lesser_on ks keyed = grind arith
 
 -- a stream that seals has a Live key
-seals_live : (plan : Plan) (h : History) (port : PortName) (stream : ℕ) (u : SubKind) → is_keyless (lanes_at plan h port stream) u ≡ false → has_live_out h port stream ≡ true
+seals_live : (plan : Plan) (h : History) (port : PortName) (stream : ℕ) (u : SubKind)
+    → is_keyless (lanes_at plan h port stream) u ≡ false → has_live_out h port stream ≡ true
 unfolding has_live_out
-seals_live plan h port stream u keyed = any_of (λ w. is_keyed h port (lane_out port stream w)) u (lesser_on (keys_at h port (lane_out port stream u)) keyed)
+seals_live plan h port stream u keyed = any_of (λ w. is_keyed h port (lane_out port stream w)) u
+    (lesser_on (keys_at h port (lane_out port stream u)) keyed)
 
 -- these descriptions fit behind what was sealed
 abbrev FitBehind : Plan → History → Sending → List SealedPacket → Type 0
 FitBehind plan h s =
-    AllFit (is_closed plan s.port.link s.stream) (ahead_in plan (sealed_packets plan h) (base h)) s.port s.stream (base h s.port.link s.stream)
+    AllFit (is_closed plan s.port.link s.stream) (ahead_in plan (sealed_packets plan h) (base h)) s.port s.stream
+    (base h s.port.link s.stream)
     (sealed_packets plan h) (λ u. keys_at h s.port (lane_out s.port s.stream u))
 
 module _ (plan : Plan) (facts : KeyFacts plan) (h : History) (law : CauseLaw plan h) (s : Sending) where
   -- a description under the key of its sub-stream
   describes : (u : SubKind) (number : ℕ) (m t sync : Bool) → is_keyless (lanes_at plan h s.port s.stream) u ≡ false
-      → Fits (is_closed plan s.port.link s.stream) (ahead_in plan (sealed_packets plan h) (base h)) s.port s.stream (base h s.port.link s.stream)
-      (sealed_packets plan h) (λ u. keys_at h s.port (lane_out s.port s.stream u)) (described (lanes_at plan h s.port s.stream) s u number m t sync)
+      → Fits (is_closed plan s.port.link s.stream) (ahead_in plan (sealed_packets plan h) (base h)) s.port s.stream
+      (base h s.port.link s.stream)
+      (sealed_packets plan h) (λ u. keys_at h s.port (lane_out s.port s.stream u))
+      (described (lanes_at plan h s.port s.stream) s u number m t sync)
   unfolding front_of
   describes u number m t sync keyed =
       let place = lane_out s.port s.stream u in
       let x = has_key (lanes_at plan h s.port s.stream) u keyed in
-      let key : unwrap_or (live_key h s.port place) no_key ≡ x.key = ap (λ (o : Option KeyName). unwrap_or o no_key) x.is in
-      let live_is : live_key h s.port place ≡ Some (unwrap_or (live_key h s.port place) no_key) = x.is ∙ ap (λ (n : KeyName). Some n) (sym key) in
+      let key : unwrap_or (live_key h s.port place) no_key ≡ x.key = ap (λ (o : Option KeyName). unwrap_or o no_key)
+      x.is in
+      let live_is : live_key h s.port place ≡ Some (unwrap_or (live_key h s.port place) no_key) = x.is ∙ ap
+      (λ (n : KeyName). Some n) (sym key) in
       record {
         port_is = refl;
         stream_is = refl;
@@ -53,19 +75,33 @@ module _ (plan : Plan) (facts : KeyFacts plan) (h : History) (law : CauseLaw pla
       }
 
   all_fit : (number : ℕ) (n c : Bool) → let x = lanes_at plan h s.port s.stream in is_keyless x s.class ≡ false
-      → (n ≡ true → (s.class ≡ Pr) × (is_keyless x Npr ≡ false)) → (c ≡ true → (s.class ≡ Pr) × (is_keyless x Cpl ≡ false))
+      → (n ≡ true → (s.class ≡ Pr) × (is_keyless x Npr ≡ false))
+      → (c ≡ true → (s.class ≡ Pr) × (is_keyless x Cpl ≡ false))
       → FitBehind plan h s (listed x s number n c)
   unfolding listed
   all_fit number false false keyed r c = (describes s.class _ _ _ _ keyed, tt, tt)
-  all_fit number true false keyed r c = (describes Npr _ _ _ _ (r refl).1, (ap (is_same_sub Npr) (r refl).0, tt), (describes s.class _ _ _ _ keyed, tt, tt))
-  all_fit number false true keyed r c = (describes Cpl _ _ _ _ (c refl).1, (ap (is_same_sub Cpl) (c refl).0, tt), (describes s.class _ _ _ _ keyed, tt, tt))
+  all_fit number true false keyed r c = (
+    describes Npr _ _ _ _ (r refl).1,
+    (ap (is_same_sub Npr) (r refl).0, tt),
+    (describes s.class _ _ _ _ keyed, tt, tt),
+  )
+  all_fit number false true keyed r c = (
+    describes Cpl _ _ _ _ (c refl).1,
+    (ap (is_same_sub Cpl) (c refl).0, tt),
+    (describes s.class _ _ _ _ keyed, tt, tt),
+  )
   all_fit number true true keyed r c = (
     describes Npr _ _ _ _ (r refl).1,
     (refl, (ap (is_same_sub Npr) (r refl).0, tt)),
-    (describes Cpl _ _ _ _ (c refl).1, (ap (is_same_sub Cpl) (c refl).0, tt), (describes s.class _ _ _ _ keyed, tt, tt)),
+    (
+      describes Cpl _ _ _ _ (c refl).1,
+      (ap (is_same_sub Cpl) (c refl).0, tt),
+      (describes s.class _ _ _ _ keyed, tt, tt),
+    ),
   )
 
-  unrefused_fit : (number : ℕ) → let x = lanes_at plan h s.port s.stream in AreFalse (refusals x s.class) → FitBehind plan h s (sealed_by x s number)
+  unrefused_fit : (number : ℕ) → let x = lanes_at plan h s.port s.stream in AreFalse (refusals x s.class)
+      → FitBehind plan h s (sealed_by x s number)
   unrefused_fit number free =
       let x = lanes_at plan h s.port s.stream in
       subst (FitBehind plan h s) (sym (sealed_by_is x s number))
@@ -75,8 +111,10 @@ module _ (plan : Plan) (facts : KeyFacts plan) (h : History) (law : CauseLaw pla
 
 -- ---- the state after it
 
-only_out : (closed : Bool) (ahead : SealedPacket → List ℕ) (port : PortName) (stream from : ℕ) (xs : SealedList) (keys : SubKind → Keys)
-    (ds : List SealedPacket) → AllFit closed ahead port stream from xs keys ds → (q : PortName) (t : ℕ) → (is_same_port port q && (stream == t)) ≡ false
+only_out : (closed : Bool) (ahead : SealedPacket → List ℕ) (port : PortName) (stream from : ℕ) (xs : SealedList)
+    (keys : SubKind → Keys)
+    (ds : List SealedPacket) → AllFit closed ahead port stream from xs keys ds → (q : PortName) (t : ℕ)
+    → (is_same_port port q && (stream == t)) ≡ false
     → any_out q t ds ≡ false
 only_out closed ahead port stream from xs keys [] all q t other = refl
 only_out closed ahead port stream from xs keys (d ∷ ds) all q t other =
@@ -84,8 +122,10 @@ only_out closed ahead port stream from xs keys (d ∷ ds) all q t other =
     rw (off, only_out closed ahead port stream from xs keys ds all.2 q t other) refl
 
 -- while a port seals on a stream, its senders are those of the list of sealed packets
-senders_before : (plan : Plan) (h : History) (port : PortName) (stream : ℕ) → has_live_out h port stream ≡ true → (standing plan h port stream).tx
-    ≡ each_sub (tx_at plan port stream (base h port.link stream) (sealed_packets plan h) (λ u. keys_at h port (lane_out port stream u)))
+senders_before : (plan : Plan) (h : History) (port : PortName) (stream : ℕ) → has_live_out h port stream ≡ true
+    → (standing plan h port stream).tx
+    ≡ each_sub (tx_at plan port stream (base h port.link stream) (sealed_packets plan h)
+    (λ u. keys_at h port (lane_out port stream u)))
 unfolding standing
 senders_before plan h port stream live =
     let xs = sealed_packets plan h in
@@ -97,12 +137,14 @@ senders_before plan h port stream live =
       total = if live i then total_in xs s from else 0;
     })
 
-find_packets : (plan : Plan) (st : LinkState) (ps : List LinkPacket) (q : PortName) (t : ℕ) → find plan (record st { packets = ps }) q t ≡ find plan st q t
+find_packets : (plan : Plan) (st : LinkState) (ps : List LinkPacket) (q : PortName) (t : ℕ)
+    → find plan (record st { packets = ps }) q t ≡ find plan st q t
 unfolding find
 find_packets plan st ps q t = refl
 
 -- the packets of a send are sealed, and the pair is lawful
-module _ (plan : Plan) (facts : KeyFacts plan) (h : History) (s : Sending) (bytes : List ℕ) (more trusted : Bool) (ds : List SealedPacket)
+module _ (plan : Plan) (facts : KeyFacts plan) (h : History) (s : Sending) (bytes : List ℕ) (more trusted : Bool)
+    (ds : List SealedPacket)
     (law : CauseLaw plan ((Send s.port bytes more trusted, v.Sealed ds) ∷ h)) where
   sealed_with : sealed_packets plan ((Send s.port bytes more trusted, v.Sealed ds) ∷ h)
       ≡ with_sealed plan (ahead_in plan (sealed_packets plan h) (base h)) bytes ds (sealed_packets plan h)
@@ -113,9 +155,12 @@ module _ (plan : Plan) (facts : KeyFacts plan) (h : History) (s : Sending) (byte
   still = none_of_packets (Send s.port bytes more trusted) refl s.port.link s.stream
 
   after_seals : (tx : Three TxSub) → has_live_out h s.port s.stream ≡ true
-      → tx ≡ each_sub (tx_at plan s.port s.stream (base h s.port.link s.stream) (with_sealed plan (ahead_in plan (sealed_packets plan h) (base h)) bytes ds
-      (sealed_packets plan h)) (λ u. after_ends s.port (lane_out s.port s.stream u) ds (keys_at h s.port (lane_out s.port s.stream u))))
-      → record (standing plan h s.port s.stream) { tx = tx } ≡ standing plan ((Send s.port bytes more trusted, v.Sealed ds) ∷ h) s.port s.stream
+      → tx ≡ each_sub (tx_at plan s.port s.stream (base h s.port.link s.stream)
+      (with_sealed plan (ahead_in plan (sealed_packets plan h) (base h)) bytes ds
+      (sealed_packets plan h))
+      (λ u. after_ends s.port (lane_out s.port s.stream u) ds (keys_at h s.port (lane_out s.port s.stream u))))
+      → record (standing plan h s.port s.stream) { tx = tx } ≡ standing plan
+      ((Send s.port bytes more trusted, v.Sealed ds) ∷ h) s.port s.stream
   unfolding standing
   after_seals tx live same =
       let e = Send s.port bytes more trusted in
@@ -134,11 +179,13 @@ abbrev AreQuiet : List (Bool × Verdict) → Type 0
 AreQuiet [] = Unit {0}
 AreQuiet (x ∷ xs) = (is_quiet x.1 ≡ true) × AreQuiet xs
 
-first_quiet : (xs : List (Bool × Verdict)) (w : Verdict) → AreQuiet xs → first_that_holds xs ≡ Some w → is_quiet w ≡ true
+first_quiet : (xs : List (Bool × Verdict)) (w : Verdict) → AreQuiet xs → first_that_holds xs ≡ Some w → is_quiet w
+    ≡ true
 first_quiet [] w all is = absurd cc
 first_quiet (x ∷ xs) w all is = by_test x.0 is (first_quiet xs w all.1)
   where
-    by_test : (b : Bool) → (if b then Some x.1 else first_that_holds xs) ≡ Some w → (first_that_holds xs ≡ Some w → is_quiet w ≡ true) → is_quiet w ≡ true
+    by_test : (b : Bool) → (if b then Some x.1 else first_that_holds xs) ≡ Some w
+        → (first_that_holds xs ≡ Some w → is_quiet w ≡ true) → is_quiet w ≡ true
     by_test true is more = let same : x.1 ≡ w = cc in subst (λ (y : Verdict). is_quiet y ≡ true) same all.0
     by_test false is more = more is
 
@@ -147,7 +194,8 @@ refused_keyless : (x : Lanes) (class : SubKind) → is_keyless x class ≡ true
     → first_that_holds (refusals x class) ≡ Some (if x.failed then v.RefusedInsecure else v.RefusedNoKey class)
 refused_keyless x class keyless = rw keyless (by_failure x.failed)
   where
-    by_failure : (b : Bool) → (if b then Some v.RefusedInsecure else Some (v.RefusedNoKey class)) ≡ Some (if b then v.RefusedInsecure else v.RefusedNoKey class)
+    by_failure : (b : Bool) → (if b then Some v.RefusedInsecure else Some (v.RefusedNoKey class))
+        ≡ Some (if b then v.RefusedInsecure else v.RefusedNoKey class)
     by_failure b = grind arith
 
 refusal_quiet : (b : Bool) (class : SubKind) → is_quiet (if b then v.RefusedInsecure else v.RefusedNoKey class) ≡ true
@@ -155,14 +203,18 @@ refusal_quiet b class = grind arith
 
 -- ---- a send where the ports stand for the history
 
-module _ (plan : Plan) (facts : KeyFacts plan) (st : LinkState) (h : History) (stands : PortsStand plan st h) (bytes : List ℕ) (more trusted : Bool) where
+module _ (plan : Plan) (facts : KeyFacts plan) (st : LinkState) (h : History) (stands : PortsStand plan st h)
+    (bytes : List ℕ) (more trusted : Bool) where
   tells : (port : PortName) (w : Verdict) → is_quiet w ≡ true → w ≡ due plan h (Send port bytes more trusted)
       → Steps plan h (Send port bytes more trusted) (w, st)
-  tells port w none is = quiet plan facts st h (Send port bytes more trusted) w stands none is (none_of_packets (Send port bytes more trusted) refl)
+  tells port w none is = quiet plan facts st h (Send port bytes more trusted) w stands none is
+      (none_of_packets (Send port bytes more trusted) refl)
 
   -- the packets are sealed
-  seals : (s : Sending) (t : Tlp) (ds : List SealedPacket) → has_stream plan s.port s.stream ≡ true → is_some (find plan st s.port s.stream) ≡ true
-      → read_of bytes ≡ Ok t → v.Sealed ds ≡ due plan h (Send s.port bytes more trusted) → has_live_out h s.port s.stream ≡ true → FitBehind plan h s ds
+  seals : (s : Sending) (t : Tlp) (ds : List SealedPacket) → has_stream plan s.port s.stream ≡ true
+      → is_some (find plan st s.port s.stream) ≡ true
+      → read_of bytes ≡ Ok t → v.Sealed ds ≡ due plan h (Send s.port bytes more trusted)
+      → has_live_out h s.port s.stream ≡ true → FitBehind plan h s ds
       → let x = standing plan h s.port s.stream in
       Steps plan h (Send s.port bytes more trusted) (sealed_in plan st s x ds
       (sealed_all (is_closed plan s.port.link s.stream) (head_bytes (header t)) (body t) ds x.tx))
@@ -175,13 +227,16 @@ module _ (plan : Plan) (facts : KeyFacts plan) (st : LinkState) (h : History) (s
       let keys : SubKind → Keys = λ u. keys_at h s.port (lane_out s.port s.stream u) in
       let r = sealed_all closed (head_bytes (header t)) (body t) ds (standing plan h s.port s.stream).tx in
       let done : IsSealed plan front s.port s.stream from bytes xs keys ds r =
-      subst (λ (tx : Three TxSub). IsSealed plan front s.port s.stream from bytes xs keys ds (sealed_all closed (head_bytes (header t)) (body t) ds tx))
-      (sym (senders_before plan h s.port s.stream live)) (all_sealed plan closed front s.port s.stream from bytes t reads ds xs keys all) in
+      subst (λ (tx : Three TxSub). IsSealed plan front s.port s.stream from bytes xs keys ds
+      (sealed_all closed (head_bytes (header t)) (body t) ds tx))
+      (sym (senders_before plan h s.port s.stream live))
+      (all_sealed plan closed front s.port s.stream from bytes t reads ds xs keys all) in
       let x : StreamState = record (standing plan h s.port s.stream) { tx = r.1 } in
       let ps : List LinkPacket = st.packets ++ map (kept_at s.port) r.0 in
       let new = put plan st s.port s.stream x in
       let law : CauseLaw plan ((e, v.Sealed ds) ∷ h) = (is, stands.cause) in
-      changes plan facts st (record new { packets = ps }) h e (v.Sealed ds) s.port s.stream x stands is (none_of_packets e refl) known
+      changes plan facts st (record new { packets = ps }) h e (v.Sealed ds) s.port s.stream x stands is
+      (none_of_packets e refl) known
       (λ q n other. (only_out closed front s.port s.stream from xs keys ds all q n other, refl))
       (find_packets plan new ps s.port s.stream ∙ find-put plan st s.port s.stream x found)
       (λ q n other. find_packets plan new ps q n ∙ find-put_other plan st s.port s.stream x q n other)
@@ -190,13 +245,17 @@ module _ (plan : Plan) (facts : KeyFacts plan) (st : LinkState) (h : History) (s
       ∙ (done.packets ∙ ap kept_all (sym (sealed_with plan facts h s bytes more trusted ds law))))
 
   -- what the sealing rules come to
-  answers : (s : Sending) (t : Tlp) → has_stream plan s.port s.stream ≡ true → is_some (find plan st s.port s.stream) ≡ true → read_of bytes ≡ Ok t
-      → let x = lanes_at plan h s.port s.stream in (number : ℕ) → sent_as x s number ≡ due plan h (Send s.port bytes more trusted)
+  answers : (s : Sending) (t : Tlp) → has_stream plan s.port s.stream ≡ true → is_some (find plan st s.port s.stream)
+      ≡ true → read_of bytes ≡ Ok t
+      → let x = lanes_at plan h s.port s.stream in (number : ℕ) → sent_as x s number
+      ≡ due plan h (Send s.port bytes more trusted)
       → (o : Option Verdict) → first_that_holds (refusals x s.class) ≡ o
-      → Steps plan h (Send s.port bytes more trusted) (answered plan st s t (standing plan h s.port s.stream) o (sealed_by x s number))
+      → Steps plan h (Send s.port bytes more trusted)
+      (answered plan st s t (standing plan h s.port s.stream) o (sealed_by x s number))
   answers s t known found reads number is (Some w) first =
       let x = lanes_at plan h s.port s.stream in
-      tells s.port w (first_quiet (refusals x s.class) w (refl, (refl, (refl, (refl, (refl, (refl, (refl, (refl, tt)))))))) first)
+      tells s.port w (first_quiet (refusals x s.class) w
+      (refl, (refl, (refl, (refl, (refl, (refl, (refl, (refl, tt)))))))) first)
       (ap (λ (o : Option Verdict). unwrap_or o (v.Sealed (sealed_by x s number))) (sym first) ∙ is)
   answers s t known found reads number is None first =
       let x = lanes_at plan h s.port s.stream in
@@ -206,8 +265,10 @@ module _ (plan : Plan) (facts : KeyFacts plan) (st : LinkState) (h : History) (s
       (seals_live plan h s.port s.stream s.class free.1.0) (unrefused_fit plan facts h stands.cause s number free)
 
   -- a port that has no Live key on the stream refuses
-  refuses : (s : Sending) (t : Tlp) (number : ℕ) → sent_as (lanes_at plan h s.port s.stream) s number ≡ due plan h (Send s.port bytes more trusted)
-      → has_live_out h s.port s.stream ≡ false → Steps plan h (Send s.port bytes more trusted) (send_as plan st s t (standing plan h s.port s.stream))
+  refuses : (s : Sending) (t : Tlp) (number : ℕ) → sent_as (lanes_at plan h s.port s.stream) s number
+      ≡ due plan h (Send s.port bytes more trusted)
+      → has_live_out h s.port s.stream ≡ false → Steps plan h (Send s.port bytes more trusted)
+      (send_as plan st s t (standing plan h s.port s.stream))
   refuses s t number is none =
       let x = lanes_at plan h s.port s.stream in
       let y = lanes_of (mode_of plan s.port.link s.stream) plan.units_per_key (standing plan h s.port s.stream) in
@@ -216,13 +277,17 @@ module _ (plan : Plan) (facts : KeyFacts plan) (st : LinkState) (h : History) (s
       let keyless : is_keyless x s.class ≡ true = grind (arith, live) in
       let first : first_that_holds (refusals y s.class) ≡ Some w =
       refused_keyless y s.class (keyless_is plan h s.port s.stream s.class ∙ keyless)
-      ∙ ap (λ (b : Bool). Some (if b then v.RefusedInsecure else v.RefusedNoKey s.class)) (failed_is plan h s.port s.stream) in
+      ∙ ap (λ (b : Bool). Some (if b then v.RefusedInsecure else v.RefusedNoKey s.class))
+      (failed_is plan h s.port s.stream) in
       rw first (tells s.port w (refusal_quiet (failed h s.port s.stream) s.class)
-      (ap (λ (o : Option Verdict). unwrap_or o (v.Sealed (sealed_by x s number))) (sym (refused_keyless x s.class keyless)) ∙ is))
+      (ap (λ (o : Option Verdict). unwrap_or o (v.Sealed (sealed_by x s number)))
+      (sym (refused_keyless x s.class keyless)) ∙ is))
 
   sends_as : (s : Sending) (t : Tlp) → read_of bytes ≡ Ok t
-      → sent_as (lanes_at plan h s.port s.stream) s (length (sealed_packets plan h) + 1) ≡ due plan h (Send s.port bytes more trusted)
-      → (y : StreamState) → find plan st s.port s.stream ≡ Some y → Steps plan h (Send s.port bytes more trusted) (send_as plan st s t y)
+      → sent_as (lanes_at plan h s.port s.stream) s (length (sealed_packets plan h) + 1)
+      ≡ due plan h (Send s.port bytes more trusted)
+      → (y : StreamState) → find plan st s.port s.stream ≡ Some y
+      → Steps plan h (Send s.port bytes more trusted) (send_as plan st s t y)
   sends_as s t reads is y found =
       let kept = kept_is plan st h s.port s.stream y stands found in
       subst (λ (z : StreamState). Steps plan h (Send s.port bytes more trusted) (send_as plan st s t z)) (sym kept.same)
@@ -234,37 +299,53 @@ module _ (plan : Plan) (facts : KeyFacts plan) (st : LinkState) (h : History) (s
           let x = lanes_at plan h s.port s.stream in
           let number : length st.packets ≡ length (sealed_packets plan h) = ap length stands.packets
           ∙ length-map (sealed_packets plan h) (λ (z : SealedPacket × Packet). kept_at z.0.port z.1) in
-          subst (λ (l : Lanes). Steps plan h (Send s.port bytes more trusted) (answered plan st s t (standing plan h s.port s.stream)
-          (first_that_holds (refusals l s.class)) (sealed_by l s (length st.packets + 1)))) (sym (lanes_is plan h s.port s.stream live))
-          (answers s t known (rw found refl) reads (length st.packets + 1) (ap (λ (n : ℕ). sent_as x s (n + 1)) number ∙ is)
+          subst (λ (l : Lanes). Steps plan h (Send s.port bytes more trusted)
+          (answered plan st s t (standing plan h s.port s.stream)
+          (first_that_holds (refusals l s.class)) (sealed_by l s (length st.packets + 1))))
+          (sym (lanes_is plan h s.port s.stream live))
+          (answers s t known (rw found refl) reads (length st.packets + 1)
+          (ap (λ (n : ℕ). sent_as x s (n + 1)) number ∙ is)
           (first_that_holds (refusals x s.class)) refl)
       by_live known false none = refuses s t (length (sealed_packets plan h) + 1) is none
 
   by_found : (s : Sending) (t : Tlp) → read_of bytes ≡ Ok t → has_stream plan s.port s.stream ≡ true
-      → sent_as (lanes_at plan h s.port s.stream) s (length (sealed_packets plan h) + 1) ≡ due plan h (Send s.port bytes more trusted)
-      → (o : Option StreamState) → find plan st s.port s.stream ≡ o → Steps plan h (Send s.port bytes more trusted) (send_found plan st s t o)
+      → sent_as (lanes_at plan h s.port s.stream) s (length (sealed_packets plan h) + 1)
+      ≡ due plan h (Send s.port bytes more trusted)
+      → (o : Option StreamState) → find plan st s.port s.stream ≡ o
+      → Steps plan h (Send s.port bytes more trusted) (send_found plan st s t o)
   by_found s t reads known is None found = let other = not_kept plan st h s.port s.stream stands found in absurd cc
   by_found s t reads known is (Some y) found = sends_as s t reads is y found
 
   by_choice : (port : PortName) (t : Tlp) → read_of bytes ≡ Ok t → (c : Option ℕ) → choice plan port (header t) ≡ c
       → due_on plan h port (header t) more trusted c ≡ due plan h (Send port bytes more trusted)
-      → Steps plan h (Send port bytes more trusted) (send_on plan st port t more trusted c)
+      → Steps plan h (Send port bytes more trusted) (send_on plan (beside_at plan h) st port t more trusted c)
   by_choice port t reads None chose is = tells port (v.Plain port) refl is
   by_choice port t reads (Some stream) chose is =
-      by_found (record { port = port; stream = stream; class = class_of (header t); more = more; trusted = trusted }) t reads
+      by_found (record {
+        port = port;
+        stream = stream;
+        class = class_of (header t);
+        more = more;
+        trusted = t_due plan h
+            port port.side (owner_at plan port.link (header t)) stream trusted;
+      }) t reads
       (choice_known plan port (header t) stream chose) is (find plan st port stream) refl
 
-  by_reading : (port : PortName) (r : Result Tlp TlpFault) → read_of bytes ≡ r → due_read plan h port r more trusted ≡ due plan h (Send port bytes more trusted)
-      → Steps plan h (Send port bytes more trusted) (send_read plan st port r more trusted)
+  by_reading : (port : PortName) (r : Result Tlp TlpFault) → read_of bytes ≡ r → due_read plan h port r more trusted
+      ≡ due plan h (Send port bytes more trusted)
+      → Steps plan h (Send port bytes more trusted) (send_read plan (beside_at plan h) st port r more trusted)
   by_reading port (Err f) reads is = tells port (v.Malformed port (tlp_word f) (place_in f)) refl is
   by_reading port (Ok t) reads is = by_choice port t reads (choice plan port (header t)) refl is
 
   pub sends : (port : PortName)
-      → Steps plan h (Send port bytes more trusted) (if has_port plan port then send_read plan st port (read_of bytes) more trusted else (v.Nothing, st))
+      → Steps plan h (Send port bytes more trusted)
+      (if has_port plan port then send_read plan (beside_at plan h) st port (read_of bytes) more trusted else
+      (v.Nothing, st))
   unfolding due
   sends port = by_port (has_port plan port) refl
     where
       by_port : (b : Bool) → has_port plan port ≡ b
-          → Steps plan h (Send port bytes more trusted) (if b then send_read plan st port (read_of bytes) more trusted else (v.Nothing, st))
+          → Steps plan h (Send port bytes more trusted)
+          (if b then send_read plan (beside_at plan h) st port (read_of bytes) more trusted else (v.Nothing, st))
       by_port true here = by_reading port (read_of bytes) refl (rw here refl)
       by_port false none = tells port v.Nothing refl (rw none refl)

@@ -1,5 +1,12 @@
 -- Each step gives the verdict that is due, and its state stands for the history with it.
-use Rattle.link_ports.proofs.Terms.{◌≡◌, ℕ, Bool, true, false, List, Option, Some, None, option_map, option_and_then, refl, ap, sym, ◌∙◌, arith, if◌then◌else◌, Alter, altered, altered_to, Arrival, arrival_due, Arrive, arrive, arrived, brought, Cut, cut_short, due, Dump, dump_due, Event, has_port, History, is_of_packets, IsNoOperation, KeyFacts, LinkPacket, LinkState, operates, packet_bytes, packet_numbered, PacketsStand, Pass, passed, Plan, PortName, PortsStand, quiet_test, sealed_packets, Send, shortened, shown, Status, step_of}
+use Rattle.link_ports.specs.Stands.{beside_at}
+use Rattle.link_ports.proofs.Terms.{◌≡◌, ℕ, Bool, true, false, List, Option, Some, None, option_map, option_and_then}
+use Rattle.link_ports.proofs.Terms.{refl, ap, sym, ◌∙◌, arith, if◌then◌else◌, Alter, altered, altered_to, Arrival}
+use Rattle.link_ports.proofs.Terms.{arrival_due, Arrive, arrive, arrived, brought, Cut, cut_short, due, Dump, dump_due}
+use Rattle.link_ports.proofs.Terms.{Event, has_port, History, is_of_packets, IsNoOperation, KeyFacts, LinkPacket}
+use Rattle.link_ports.proofs.Terms.{LinkState, operates, packet_bytes, packet_numbered, PacketsStand, Pass, passed}
+use Rattle.link_ports.proofs.Terms.{Plan, PortName, PortsStand, quiet_test, sealed_packets, Send, shortened, shown}
+use Rattle.link_ports.proofs.Terms.{Status, step_of}
 use Rattle.link_verdicts.specs.declared.verdict.Verdict.TheVariants as v
 use Rattle.link_ports.proofs.Changes.{Steps, none_of_packets, quiet}
 use Rattle.link_ports.proofs.Numbers.{of_numbered}
@@ -11,27 +18,38 @@ unfolding operates
 none_status l s link stream = refl
 
 -- the machine finds what the event brings
-brought_to : (plan : Plan) → KeyFacts plan → (st : LinkState) (h : History) (e : Event) → is_of_packets e ≡ true → PortsStand plan st h → (o : Option Arrival)
+brought_to : (plan : Plan) → KeyFacts plan → (st : LinkState) (h : History) (e : Event) → is_of_packets e ≡ true
+    → PortsStand plan st h → (o : Option Arrival)
     → o ≡ arrived plan h e
-    → arrival_due plan h (arrived plan h e) ≡ due plan h e → Steps plan h e (arrive plan st o)
-brought_to plan facts st h e of stands o found is = arrives plan facts st h e (none_of_packets e of) stands o (sym found) (ap (arrival_due plan h) found ∙ is)
+    → arrival_due plan h (arrived plan h e) ≡ due plan h e → Steps plan h e (arrive plan (beside_at plan h) st o)
+brought_to plan facts st h e of stands o found is = arrives plan facts st h e (none_of_packets e of) stands o
+    (sym found) (ap (arrival_due plan h) found ∙ is)
 
-given : (plan : Plan) → KeyFacts plan → (st : LinkState) (h : History) (port : PortName) (bytes : List ℕ) → PortsStand plan st h
-    → Steps plan h (Arrive port bytes) (if has_port plan port then arrive plan st (Some (record { port = port; bytes = bytes })) else (v.Nothing, st))
+given : (plan : Plan) → KeyFacts plan → (st : LinkState) (h : History) (port : PortName) (bytes : List ℕ)
+    → PortsStand plan st h
+    → Steps plan h (Arrive port bytes)
+    (if has_port plan port then arrive plan (beside_at plan h) st (Some (record { port = port; bytes = bytes }))
+    else (v.Nothing, st))
 unfolding arrived due
 given plan facts st h port bytes stands = by_port (has_port plan port) refl
   where
-    by_port : (b : Bool) → (if b then Some (record { port = port; bytes = bytes }) else None) ≡ arrived plan h (Arrive port bytes)
-        → Steps plan h (Arrive port bytes) (if b then arrive plan st (Some (record { port = port; bytes = bytes })) else (v.Nothing, st))
-    by_port true is = brought_to plan facts st h (Arrive port bytes) refl stands (Some (record { port = port; bytes = bytes })) is refl
+    by_port : (b : Bool) → (if b then Some (record { port = port; bytes = bytes }) else None)
+        ≡ arrived plan h (Arrive port bytes)
+        → Steps plan h (Arrive port bytes)
+        (if b then arrive plan (beside_at plan h) st (Some (record { port = port; bytes = bytes })) else
+        (v.Nothing, st))
+    by_port true is = brought_to plan facts st h (Arrive port bytes) refl stands
+        (Some (record { port = port; bytes = bytes })) is refl
     by_port false is = brought_to plan facts st h (Arrive port bytes) refl stands None is refl
 
 dumps : (plan : Plan) → KeyFacts plan → (st : LinkState) (h : History) (n : ℕ) → PortsStand plan st h
     → Steps plan h (Dump n) (shown n (packet_numbered st.packets n), st)
 unfolding due
 dumps plan facts st h n stands =
-    quiet plan facts st h (Dump n) (shown n (packet_numbered st.packets n)) stands (is_quiet (packet_numbered st.packets n))
-    (of_numbered st.packets (sealed_packets plan h) n stands.packets (shown n) (dump_due n) refl (λ x. refl)) (none_of_packets (Dump n) refl)
+    quiet plan facts st h (Dump n) (shown n (packet_numbered st.packets n)) stands
+    (is_quiet (packet_numbered st.packets n))
+    (of_numbered st.packets (sealed_packets plan h) n stands.packets (shown n) (dump_due n) refl (λ x. refl))
+    (none_of_packets (Dump n) refl)
   where
     is_quiet : (o : Option LinkPacket) → quiet_test (shown n o) ≡ true
     is_quiet o = grind arith
@@ -40,18 +58,22 @@ dumps plan facts st h n stands =
 
 pub packets_stand : PacketsStand
 unfolding step_of due arrived
-packets_stand plan facts st h (Send port bytes more trusted) is stands = sends plan facts st h stands bytes more trusted port
+packets_stand plan facts st h (Send port bytes more trusted) is stands = sends plan facts st h stands bytes more trusted
+    port
 packets_stand plan facts st h (Pass n) is stands =
     brought_to plan facts st h (Pass n) refl stands _
-    (of_numbered st.packets (sealed_packets plan h) n stands.packets (option_and_then passed) (option_map (λ x. brought x (packet_bytes x.1))) refl
+    (of_numbered st.packets (sealed_packets plan h) n stands.packets (option_and_then passed)
+    (option_map (λ x. brought x (packet_bytes x.1))) refl
     (λ x. refl)) refl
 packets_stand plan facts st h (Alter n at mask) is stands =
     brought_to plan facts st h (Alter n at mask) refl stands _
-    (of_numbered st.packets (sealed_packets plan h) n stands.packets (option_and_then (altered_to at mask)) (option_and_then (altered at mask)) refl
+    (of_numbered st.packets (sealed_packets plan h) n stands.packets (option_and_then (altered_to at mask))
+    (option_and_then (altered at mask)) refl
     (λ x. refl)) refl
 packets_stand plan facts st h (Cut n len) is stands =
     brought_to plan facts st h (Cut n len) refl stands _
-    (of_numbered st.packets (sealed_packets plan h) n stands.packets (option_and_then (cut_short len)) (option_and_then (shortened len)) refl (λ x. refl)) refl
+    (of_numbered st.packets (sealed_packets plan h) n stands.packets (option_and_then (cut_short len))
+    (option_and_then (shortened len)) refl (λ x. refl)) refl
 packets_stand plan facts st h (Arrive port bytes) is stands = given plan facts st h port bytes stands
 packets_stand plan facts st h (Dump n) is stands = dumps plan facts st h n stands
 packets_stand plan facts st h _ is stands = absurd cc

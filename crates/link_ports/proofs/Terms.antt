@@ -1,6 +1,9 @@
 -- The terms that the proofs of this crate speak in, passed on from where they are declared.
-pub use Rattle.std.proofs.Common.{[], ap, append_assoc, arith, Bool, Err, false, length, length-append, List, map, None, Ok, Option, option_and_then, option_map, refl, Result, slice_get, Some, subst, sym, true, ℕ, ⊎_elim, ◌++◌, ◌+◌, ◌-◌, ◌<◌, ◌==◌, ◌∙◌, ◌∷◌, ◌≡◌, ◌≢◌, ◌≤◌}
-pub use Rattle.std.specs.Prelude.{if◌then◌else◌, is_none, is_some, nat_le, nat_lt, not, slice_set, unwrap_or, ◌&&◌, ◌||◌}
+pub use Rattle.std.proofs.Common.{[], ap, append_assoc, arith, Bool, Err, false, length, length-append, List, map, None}
+pub use Rattle.std.proofs.Common.{Ok, Option, option_and_then, option_map, refl, Result, slice_get, Some, subst, sym}
+pub use Rattle.std.proofs.Common.{true, ℕ, ⊎_elim, ◌++◌, ◌+◌, ◌-◌, ◌<◌, ◌==◌, ◌∙◌, ◌∷◌, ◌≡◌, ◌≢◌, ◌≤◌}
+pub use Rattle.std.specs.Prelude.{if◌then◌else◌, is_none, is_some, nat_le, nat_lt, not, slice_set, unwrap_or, ◌&&◌}
+pub use Rattle.std.specs.Prelude.{◌||◌}
 pub use Rattle.fault_words.specs.FaultWords.{packet_word, tlp_word}
 pub use Rattle.ide_plan.specs.declared.plan.Plan.{Plan}
 pub use Rattle.ide_prefix.specs.Packet.{Packet, packet_bytes}
@@ -15,30 +18,64 @@ pub use Rattle.key_laws.specs.Places.{is_same_sub}
 pub use Rattle.link_events.specs.declared.event.Event.{Event}
 pub use Rattle.link_events.specs.declared.event.Event.TheVariants.{Alter, Arrive, Cut, Dump, Pass, Send, Status}
 pub use Rattle.link_history.proofs.Causes.{Came, held_by, numbered, packet_that_came}
-pub use Rattle.link_history.proofs.Sealed.{any_out, is_out, not_here, posted-more, posted-own, posted-same, posted_elsewhere, sent-same, sent_elsewhere, sent_in-snoc, total-same, total-snoc, total_elsewhere}
+pub use Rattle.link_history.proofs.Sealed.{any_out, is_out, not_here, posted-more, posted-own, posted-same}
+pub use Rattle.link_history.proofs.Sealed.{posted_elsewhere, sent-same, sent_elsewhere, sent_in-snoc, total-same}
+pub use Rattle.link_history.proofs.Sealed.{total-snoc, total_elsewhere}
 pub use Rattle.link_history.proofs.SealingIs.{quiet_seals_none, sealed_same, seals_none}
-pub use Rattle.link_history.proofs.Senders.{AreFalse, AreOther, and_false, has_key, in_lane, lane_is, needs_posted, none_holds, on_live, sealed_by_is}
+pub use Rattle.link_history.proofs.Senders.{AreFalse, AreOther, and_false, has_key, in_lane, lane_is, needs_posted}
+pub use Rattle.link_history.proofs.Senders.{none_holds, on_live, sealed_by_is}
 unfoldable pub use Rattle.link_history.proofs.Senders.{listed}
-pub use Rattle.link_history.proofs.Tests.{eqb-refl, eqb-sym, is_same-refl, is_same_port-refl, same_in, same_port, same_stream, same_sub}
+pub use Rattle.link_history.proofs.Tests.{eqb-refl, eqb-sym, is_same-refl, is_same_port-refl, same_in, same_port}
+pub use Rattle.link_history.proofs.Tests.{same_stream, same_sub}
 pub use Rattle.link_history.specs.Cause.{CauseLaw}
-pub use Rattle.link_history.specs.Due.{Lane, Lanes, Sending, arrival_due, before_tag_of, choice, described, dump_due, effect_of, first_that_holds, is_keyless, is_mixed, is_overfull, lane_at, lanes_at, needs_sync, no_key, receiving, refusals, sealed_by, send_on as due_on, send_read as due_read, sent_as, sent_under, settled, under_keys, unit_under}
+pub use Rattle.link_history.specs.Due.{Lane, Lanes, Sending, arrival_due, before_tag_of, choice, described, dump_due}
+pub use Rattle.link_history.specs.Due.{effect_of, first_that_holds, is_keyless, is_mixed, is_overfull, lane_at}
+pub use Rattle.link_history.specs.Due.{lanes_at, needs_sync, no_key, receiving, refusals, sealed_by, send_on as due_on}
+pub use Rattle.link_history.specs.Due.{send_read as due_read, sent_as, sent_under, settled, under_keys, unit_under}
 unfoldable pub use Rattle.link_history.specs.Due.{before_tag, due, is_verified}
-pub use Rattle.link_history.specs.History.{Arrival, KeyName, SealedList, accepted_keys, after_ends, ahead_in, altered, arrived_packet, brought, ended_keys, ends_at, failed, fails_at, front_with, has_live, held as held_in, is_in, is_keyed, is_of, keys_at, lesser, live_key, on_draw, packet_at, pending, posted_count, posted_in, posted_of, received_in, sent_in, shortened, sub_stream_of, total_in, waits, with_sealed}
-unfoldable pub use Rattle.link_history.specs.History.{arrived, front_of, got_since, has_live_in, has_live_out, held, meets_counts, packet_of, sealed_packets, units_got, units_since}
+pub use Rattle.link_history.specs.History.{Arrival, KeyName, SealedList, accepted_keys, after_ends, ahead_in, altered}
+pub use Rattle.link_history.specs.History.{arrived_packet, brought, ended_keys, ends_at, failed, fails_at, front_with}
+pub use Rattle.link_history.specs.History.{has_live, held as held_in, is_in, is_keyed, is_of, keys_at, lesser, live_key}
+pub use Rattle.link_history.specs.History.{on_draw, packet_at, pending, posted_count, posted_in, posted_of, received_in}
+pub use Rattle.link_history.specs.History.{sent_in, shortened, sub_stream_of, total_in, waits, with_sealed}
+unfoldable pub use Rattle.link_history.specs.History.{
+  arrived,
+  front_of,
+  got_since,
+  has_live_in,
+  has_live_out,
+  held,
+  meets_counts,
+  packet_of,
+  sealed_packets,
+  units_got,
+  units_since,
+}
 pub use Rattle.link_history.specs.KeyFacts.{IsNoOperation, KeyFacts, is_quiet, is_quiet as quiet_test}
 unfoldable pub use Rattle.link_history.specs.KeyFacts.{operates}
-pub use Rattle.link_history.specs.Plan.{SubStream, has_port, has_stream, is_closed, is_same, is_same_port, key_of, lane_in, lane_out, mode_of, streams_of}
+pub use Rattle.link_history.specs.Plan.{SubStream, has_port, has_stream, is_closed, is_same, is_same_port, key_of}
+pub use Rattle.link_history.specs.Plan.{lane_in, lane_out, mode_of, streams_of}
 unfoldable pub use Rattle.link_history.specs.Units.{open_unit, units}
-pub use Rattle.link_ports.specs.Machine.{LinkPacket, LinkState, Stepped, altered_to, answered, arrive, arrive_read, changed, cut_short, found, kept_at, packet_numbered, passed, port_place, sealed_in, send_as, send_found, send_on, send_read, shown, take_as, take_found, unit_name, verdict_of}
+pub use Rattle.link_ports.specs.Machine.{LinkPacket, LinkState, Stepped, altered_to, answered, arrive, arrive_read}
+pub use Rattle.link_ports.specs.Machine.{changed, cut_short, found, kept_at, packet_numbered, passed, port_place}
+pub use Rattle.link_ports.specs.Machine.{sealed_in, send_as, send_found, send_on, send_read, shown, take_as, take_found}
+pub use Rattle.link_ports.specs.Machine.{unit_name, verdict_of}
 unfoldable pub use Rattle.link_ports.specs.Machine.{find, put, step_of}
-pub use Rattle.link_ports.specs.Stands.{PacketsStand, PortsStand, got_in, is_of_packets, rx_slot, rx_slots, rx_standing, sealing_key, standing_at, tx_slot, tx_slots, tx_standing}
+pub use Rattle.link_ports.specs.Stands.{PacketsStand, PortsStand, got_in, is_of_packets, rx_slot, rx_slots, rx_standing}
+pub use Rattle.link_ports.specs.Stands.{sealing_key, standing_at, tx_slot, tx_slots, tx_standing}
 unfoldable pub use Rattle.link_ports.specs.Stands.{standing}
-pub use Rattle.link_ports.specs.Stream.{Accepted, Failed, Held, Insecure, Live, LiveKey, NotKeyed, RxSub, Slot, Slots, StreamState, Taken, Three, TxSub, accepted_slots, accepted_sub, at_sub, checked, counted, dropped, dropped_held, each_sub, ended_slots, gone_on, held_sub, holds_any, is_allowed, is_tagged, lane_of, lanes_of, live_in, live_sender, packet_under, posted_sum, retired, sealed_all, sealed_slots, sealed_sub, set_sub, slot_in, state_after, taken_by, taken_under, with_slot}
+pub use Rattle.link_ports.specs.Stream.{Accepted, Failed, Held, Insecure, Live, LiveKey, NotKeyed, RxSub, Slot, Slots}
+pub use Rattle.link_ports.specs.Stream.{StreamState, Taken, Three, TxSub, accepted_slots, accepted_sub, at_sub, checked}
+pub use Rattle.link_ports.specs.Stream.{counted, dropped, dropped_held, each_sub, ended_slots, gone_on, held_sub}
+pub use Rattle.link_ports.specs.Stream.{holds_any, is_allowed, is_tagged, lane_of, lanes_of, live_in, live_sender}
+pub use Rattle.link_ports.specs.Stream.{packet_under, posted_sum, retired, sealed_all, sealed_slots, sealed_sub}
+pub use Rattle.link_ports.specs.Stream.{set_sub, slot_in, state_after, taken_by, taken_under, with_slot}
 pub use Rattle.link_verdicts.specs.declared.verdict.SealedPacket.{SealedPacket}
 pub use Rattle.link_verdicts.specs.declared.verdict.UnitName.{UnitName}
 pub use Rattle.link_verdicts.specs.declared.verdict.Verdict.{Verdict}
 pub use Rattle.std.proofs.lemmas.Bool.Decides.{nat_tests}
-pub use Rattle.std.proofs.lemmas.List.{append-nil, get_or-set_other, get_or-set_same, get_or_past, length-map, map-append, set_past}
+pub use Rattle.std.proofs.lemmas.List.{append-nil, get_or-set_other, get_or-set_same, get_or_past, length-map}
+pub use Rattle.std.proofs.lemmas.List.{map-append, set_past}
 pub use Rattle.std.proofs.lemmas.List.Sums.{sum_by-append}
 pub use Rattle.tlp_layout.specs.Head.{head_bytes}
 pub use Rattle.tlp_layout.specs.Reading.{read_of}

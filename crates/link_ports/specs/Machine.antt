@@ -1,10 +1,13 @@
 -- What is kept of all links between two events, and one step.
-use Rattle.std.specs.Prelude.{true, false, not, ◌&&◌, ◌||◌, ℕ, ◌+◌, ◌-◌, ◌*◌, ◌==◌, nat_lt, nat_le, Bool, if◌then◌else◌, List, [], ◌∷◌, ◌++◌, length, map, take, slice_get, slice_index, slice_set, bit_xor, Option, Some, None, Result, Ok, Err}
+use Rattle.std.specs.Prelude.{true, false, not, ◌&&◌, ◌||◌, ℕ, ◌+◌, ◌-◌, ◌*◌, ◌==◌, nat_lt, nat_le, Bool, if◌then◌else◌}
+use Rattle.std.specs.Prelude.{List, [], ◌∷◌, ◌++◌, length, map, take, slice_get, slice_index, slice_set, bit_xor}
+use Rattle.std.specs.Prelude.{Option, Some, None, Result, Ok, Err}
 use Rattle.std.specs.List.{slice_index_or}
 use Rattle.std.specs.Option.{option_and_then}
 use Rattle.ide_types.specs.declared.port.PortName.{PortName}
 use Rattle.link_events.specs.declared.event.Event.{Event}
-use Rattle.link_events.specs.declared.event.Event.TheVariants.{Send, Pass, Alter, Cut, Arrive, Dump, Establish, Refresh, Stop, Reset, Status}
+use Rattle.link_events.specs.declared.event.Event.TheVariants.{Send, Pass, Alter, Cut, Arrive, Dump, Establish, Refresh}
+use Rattle.link_events.specs.declared.event.Event.TheVariants.{Stop, Reset, Status, Interface}
 use Rattle.link_verdicts.specs.declared.verdict.Verdict.{Verdict}
 use Rattle.link_verdicts.specs.declared.verdict.Verdict.TheVariants as v
 use Rattle.link_verdicts.specs.declared.verdict.SealedPacket.{SealedPacket}
@@ -34,12 +37,18 @@ use Rattle.key_laws.specs.Operations.{Op, Idle, Work, Reach, work_of, reach_of, 
 use Rattle.key_laws.specs.History.{status_by, worked}
 use Rattle.key_laws.specs.Due.{PortView, establish_on, refresh_on, stop_on}
 use Rattle.link_ports.specs.Moves.{Move, Program, Go, Halt, is_live, any_live, moved_stream}
-use Rattle.link_history.specs.Plan.{SubStream, key_plan, partner, key_of, streams_of, has_port, mode_of, is_closed, streams_by_link}
+use Rattle.link_history.specs.Plan.{SubStream, key_plan, partner, key_of, streams_of, has_port, mode_of, is_closed}
+use Rattle.link_history.specs.Plan.{streams_by_link}
 use Rattle.ide_plan.specs.declared.plan.Plan.{Plan}
 use Rattle.ide_plan.specs.declared.stream.StreamPlan.{StreamPlan}
-use Rattle.link_history.specs.Due.{choice, Sending, refusals, sealed_by, first_that_holds, effect_of}
+use Rattle.tlp_layout.specs.declared.head.HeadView.{HeadView}
+use Rattle.link_verdicts.specs.declared.verdict.Effect.{Effect}
+use Rattle.link_events.specs.declared.event.InterfaceEvent.{InterfaceEvent}
+use Rattle.link_history.specs.Due.{choice, Sending, refusals, sealed_by, first_that_holds}
 use Rattle.link_history.specs.History.{Arrival}
-use Rattle.link_ports.specs.Stream.{Slot, Slots, slot_in, at_sub, LiveKey, Empty, Live, each_sub, Three, StreamState, TxSub, Taken, Insecure, NotKeyed, Failed, Held, Accepted, lanes_of, sealed_all, taken_by, state_after}
+use Rattle.link_ports.specs.Stream.{Slot, Slots, slot_in, at_sub, LiveKey, Empty, Live, each_sub, Three, StreamState}
+use Rattle.link_ports.specs.Stream.{TxSub, Taken, Insecure, NotKeyed, Failed, Held, Accepted, lanes_of, sealed_all}
+use Rattle.link_ports.specs.Stream.{taken_by, state_after}
 
 -- a sealed packet: the port that sealed it, and its bytes
 pub record LinkPacket : Type 0 where
@@ -115,50 +124,60 @@ abbrev pub send_found : Plan → LinkState → Sending → Tlp → Option Stream
 send_found plan st s t None = (v.Nothing, st)
 send_found plan st s t (Some x) = send_as plan st s t x
 
-abbrev pub send_on : Plan → LinkState → PortName → Tlp → Bool → Bool → Option ℕ → Stepped
-send_on plan st port t more trusted None = (v.Plain port, st)
-send_on plan st port t more trusted (Some stream) =
+-- what is said beside the ports: by the interfaces of T of a TLP on a stream, and of events on them; by the manager of
+-- what a packet of an accepted unit does
+pub record Beside : Type 0 where
+  pub t : PortName → HeadView → ℕ → Bool → Bool
+  pub effect : PortName → UnitName → Packet → Effect
+  pub answer : InterfaceEvent → Verdict
+
+abbrev pub send_on : Plan → Beside → LinkState → PortName → Tlp → Bool → Bool → Option ℕ → Stepped
+send_on plan beside st port t more trusted None = (v.Plain port, st)
+send_on plan beside st port t more trusted (Some stream) =
     send_found plan st (record {
       port = port;
       stream = stream;
       class = class_of (header t);
       more = more;
-      trusted = trusted;
+      trusted = beside.t port (header t) stream trusted;
     }) t (find plan st port stream)
 
-abbrev pub send_read : Plan → LinkState → PortName → Result Tlp TlpFault → Bool → Bool → Stepped
-send_read plan st port (Err f) more trusted = (v.Malformed port (tlp_word f) (place_in f), st)
-send_read plan st port (Ok t) more trusted = send_on plan st port t more trusted (choice plan port (header t))
+abbrev pub send_read : Plan → Beside → LinkState → PortName → Result Tlp TlpFault → Bool → Bool → Stepped
+send_read plan beside st port (Err f) more trusted = (v.Malformed port (tlp_word f) (place_in f), st)
+send_read plan beside st port (Ok t) more trusted = send_on plan beside st port t more trusted
+    (choice plan port (header t))
 
 -- ---- arrivals
 
 abbrev pub unit_name : Packet → ℕ → ℕ → UnitName
 unit_name p draw unit = record { stream = p.prefix.stream; sub = p.prefix.sub; draw = draw; unit = unit }
 
-abbrev pub verdict_of : PortName → Packet → Taken → Verdict
-verdict_of port p Insecure = v.Insecure port p.prefix.stream
-verdict_of port p NotKeyed = v.NotKeyed port p.prefix.stream p.prefix.sub
-verdict_of port p (Failed cause) = v.Fail port p.prefix.stream p.prefix.sub cause
-verdict_of port p (Held j n) = v.Held port (unit_name p j n)
-verdict_of port p (Accepted j n unit) = v.Accepted port (unit_name p j n) (map (effect_of port) unit)
+abbrev pub verdict_of : Beside → PortName → Packet → Taken → Verdict
+verdict_of beside port p Insecure = v.Insecure port p.prefix.stream
+verdict_of beside port p NotKeyed = v.NotKeyed port p.prefix.stream p.prefix.sub
+verdict_of beside port p (Failed cause) = v.Fail port p.prefix.stream p.prefix.sub cause
+verdict_of beside port p (Held j n) = v.Held port (unit_name p j n)
+verdict_of beside port p (Accepted j n unit) = v.Accepted port (unit_name p j n)
+    (map (beside.effect port (unit_name p j n)) unit)
 
-abbrev pub take_as : Plan → LinkState → PortName → Packet → StreamState → Stepped
-take_as plan st port p x =
+abbrev pub take_as : Plan → Beside → LinkState → PortName → Packet → StreamState → Stepped
+take_as plan beside st port p x =
     let taken = taken_by (mode_of plan port.link p.prefix.stream) (is_closed plan port.link p.prefix.stream) x p in
-    (verdict_of port p taken, put plan st port p.prefix.stream (state_after x p taken))
+    (verdict_of beside port p taken, put plan st port p.prefix.stream (state_after x p taken))
 
-abbrev pub take_found : Plan → LinkState → PortName → Packet → Option StreamState → Stepped
-take_found plan st port p None = (v.Unknown port p.prefix.stream, st)
-take_found plan st port p (Some x) = take_as plan st port p x
+abbrev pub take_found : Plan → Beside → LinkState → PortName → Packet → Option StreamState → Stepped
+take_found plan beside st port p None = (v.Unknown port p.prefix.stream, st)
+take_found plan beside st port p (Some x) = take_as plan beside st port p x
 
-abbrev pub arrive_read : Plan → LinkState → PortName → Result CutValue PacketFault → Stepped
-arrive_read plan st port (Err f) = (v.Malformed port (packet_word f) (packet_place f), st)
-arrive_read plan st port (Ok PlainTlp) = (v.Plain port, st)
-arrive_read plan st port (Ok (IdePacket p)) = take_found plan st port p (find plan st port p.prefix.stream)
+abbrev pub arrive_read : Plan → Beside → LinkState → PortName → Result CutValue PacketFault → Stepped
+arrive_read plan beside st port (Err f) = (v.Malformed port (packet_word f) (packet_place f), st)
+arrive_read plan beside st port (Ok PlainTlp) = (v.Plain port, st)
+arrive_read plan beside st port (Ok (IdePacket p)) = take_found plan beside st port p
+    (find plan st port p.prefix.stream)
 
-abbrev pub arrive : Plan → LinkState → Option Arrival → Stepped
-arrive plan st None = (v.Nothing, st)
-arrive plan st (Some a) = arrive_read plan st a.port (cut_of a.bytes)
+abbrev pub arrive : Plan → Beside → LinkState → Option Arrival → Stepped
+arrive plan beside st None = (v.Nothing, st)
+arrive plan beside st (Some a) = arrive_read plan beside st a.port (cut_of a.bytes)
 
 -- ---- packets by number
 
@@ -335,21 +354,25 @@ reset_state plan st link =
     }
 
 -- the verdict of an event, and the state after it
-unfoldable pub step_of : Plan → LinkState → Event → Stepped
-step_of plan st (Send port bytes more trusted) =
-    if has_port plan port then send_read plan st port (read_of bytes) more trusted else (v.Nothing, st)
-step_of plan st (Pass n) = arrive plan st (option_and_then passed (packet_numbered st.packets n))
-step_of plan st (Alter n at mask) = arrive plan st (option_and_then (altered_to at mask) (packet_numbered st.packets n))
-step_of plan st (Cut n len) = arrive plan st (option_and_then (cut_short len) (packet_numbered st.packets n))
-step_of plan st (Arrive port bytes) =
-    if has_port plan port then arrive plan st (Some (record { port = port; bytes = bytes })) else (v.Nothing, st)
-step_of plan st (Dump n) = (shown n (packet_numbered st.packets n), st)
-step_of plan st (Establish link stream lose) = establish_found plan st link stream lose (find_op plan st link stream)
-step_of plan st (Refresh link stream lose) = refresh_found plan st link stream lose (find_op plan st link stream)
-step_of plan st (Stop link stream lose) = stop_found plan st link stream lose (find_op plan st link stream)
-step_of plan st (Reset link) =
+unfoldable pub step_of : Plan → Beside → LinkState → Event → Stepped
+step_of plan beside st (Send port bytes more trusted) =
+    if has_port plan port then send_read plan beside st port (read_of bytes) more trusted else (v.Nothing, st)
+step_of plan beside st (Pass n) = arrive plan beside st (option_and_then passed (packet_numbered st.packets n))
+step_of plan beside st (Alter n at mask) = arrive plan beside st
+    (option_and_then (altered_to at mask) (packet_numbered st.packets n))
+step_of plan beside st (Cut n len) = arrive plan beside st
+    (option_and_then (cut_short len) (packet_numbered st.packets n))
+step_of plan beside st (Arrive port bytes) =
+    if has_port plan port then arrive plan beside st (Some (record { port = port; bytes = bytes })) else (v.Nothing, st)
+step_of plan beside st (Dump n) = (shown n (packet_numbered st.packets n), st)
+step_of plan beside st (Establish link stream lose) = establish_found plan st link stream lose
+    (find_op plan st link stream)
+step_of plan beside st (Refresh link stream lose) = refresh_found plan st link stream lose (find_op plan st link stream)
+step_of plan beside st (Stop link stream lose) = stop_found plan st link stream lose (find_op plan st link stream)
+step_of plan beside st (Reset link) =
     if nat_lt link (length plan.links) then (v.Reset link, reset_state plan st link) else (v.Nothing, st)
-step_of plan st (Status link stream) = status_found plan st link stream (find_op plan st link stream)
+step_of plan beside st (Status link stream) = status_found plan st link stream (find_op plan st link stream)
+step_of plan beside st (Interface e) = (beside.answer e, st)
 
 -- ---- the beginning
 

@@ -6,7 +6,8 @@ use Rattle.ide_plan.specs.declared.plan.Plan.{Plan}
 use Rattle.link_history.specs.Plan.{SubStream, key_of, lane_out, lane_in}
 use Rattle.key_laws.specs.Keys.{Keyed, Off, Loaded, On, Keys, key_in, with_key}
 use Rattle.link_ports.specs.Stream.{Empty, Programmed, Slots, slot_in, with_slot, StreamState, at_sub, each_sub}
-pub use Rattle.stream_rules.specs.Slots.{both_slots, begun, is_busy, slot_gone, woken, is_live, any_live, settled_stream}
+pub use Rattle.stream_rules.specs.Slots.{both_slots, begun, is_busy, slot_gone, woken, is_live, any_live}
+pub use Rattle.stream_rules.specs.Slots.{settled_stream}
 
 -- in a key set: an accepted KEY_PROG of a draw, a GO, a STOP
 pub data Move : Type 0 where

@@ -1,5 +1,6 @@
 -- The state stands for a history: each part that is kept is what the history says.
-use Rattle.std.specs.Prelude.{ℕ, ◌≡◌, Bool, true, false, List, [], ◌∷◌, length, map, Option, Some, None, is_some, if◌then◌else◌}
+use Rattle.std.specs.Prelude.{ℕ, ◌≡◌, Bool, true, false, List, [], ◌∷◌, length, map, Option, Some, None, is_some}
+use Rattle.std.specs.Prelude.{if◌then◌else◌}
 use Rattle.ide_types.specs.declared.port.PortName.{PortName}
 use Rattle.link_events.specs.declared.event.Event.{Event}
 use Rattle.link_events.specs.declared.event.Event.TheVariants as event
@@ -10,13 +11,16 @@ use Rattle.link_history.specs.Plan.{SubStream, lane_out, lane_in, has_stream, st
 use Rattle.link_history.specs.Units.{units, open_unit}
 use Rattle.key_laws.specs.History.{History, base, op_of, draws}
 use Rattle.key_laws.specs.Keys.{Keyed, Off, Loaded, On, Keys}
-use Rattle.link_history.specs.History.{keys_at, SealedList, sealed_packets, sent_in, pending, units_got, got_since, failed, has_live_out, has_live_in, posted_count, waits, total_in, units_since}
-use Rattle.link_history.specs.Due.{due}
+use Rattle.link_history.specs.History.{keys_at, SealedList, sealed_packets, sent_in, pending, units_got, got_since}
+use Rattle.link_history.specs.History.{failed, has_live_out, has_live_in, posted_count, waits, total_in, units_since}
+use Rattle.link_history.specs.Terms.{t_due, owner_at}
+use Rattle.link_history.specs.Due.{due, effect_of}
 use Rattle.link_history.specs.Cause.{CauseLaw}
 use Rattle.link_history.specs.KeyFacts.{KeyFacts}
-use Rattle.link_ports.specs.Stream.{Slot, Empty, Programmed, Armed, Live, LiveKey, Slots, TxSub, RxSub, StreamState, each_sub, posted_sum}
+use Rattle.link_ports.specs.Stream.{Slot, Empty, Programmed, Armed, Live, LiveKey, Slots, TxSub, RxSub, StreamState}
+use Rattle.link_ports.specs.Stream.{each_sub, posted_sum}
 use Rattle.key_laws.specs.Operations.{Op}
-use Rattle.link_ports.specs.Machine.{LinkState, find, find_op, step_of, kept_at, first_state}
+use Rattle.link_ports.specs.Machine.{Beside, LinkState, find, find_op, step_of, kept_at, first_state}
 
 -- ---- senders
 
@@ -110,10 +114,19 @@ pub record StandsFor (plan : Plan) (st : LinkState) (h : History) : Type 0 where
   pub ops_is : (link stream : ℕ) → find_op plan st link stream ≡ op_at plan h link stream
   pub draws_is : st.draws ≡ draws h
 
+-- what the history says beside the ports
+abbrev pub beside_at : Plan → History → Beside
+beside_at plan h = record {
+  t = λ port head stream trusted. t_due plan h port port.side (owner_at plan port.link head) stream trusted;
+  effect = effect_of plan h;
+  answer = λ e. due plan h (event.Interface e);
+}
+
 -- A step gives the verdict that is due, and its state stands for the history with it.
 abbrev pub StepStands : Type 0
 StepStands = (plan : Plan) (st : LinkState) (h : History) (e : Event) → StandsFor plan st h
-    → ((step_of plan st e).0 ≡ due plan h e) × StandsFor plan (step_of plan st e).1 ((e, (step_of plan st e).0) ∷ h)
+    → ((step_of plan (beside_at plan h) st e).0 ≡ due plan h e)
+    × StandsFor plan (step_of plan (beside_at plan h) st e).1 ((e, (step_of plan (beside_at plan h) st e).0) ∷ h)
 
 -- The first state stands for the empty history.
 abbrev pub FirstStands : Type 0
@@ -134,4 +147,5 @@ abbrev pub PacketsStand : Type 0
 PacketsStand =
     (plan : Plan) → KeyFacts plan → (st : LinkState) (h : History) (e : Event) → is_of_packets e ≡ true
     → PortsStand plan st h
-    → ((step_of plan st e).0 ≡ due plan h e) × PortsStand plan (step_of plan st e).1 ((e, (step_of plan st e).0) ∷ h)
+    → ((step_of plan (beside_at plan h) st e).0 ≡ due plan h e)
+    × PortsStand plan (step_of plan (beside_at plan h) st e).1 ((e, (step_of plan (beside_at plan h) st e).0) ∷ h)

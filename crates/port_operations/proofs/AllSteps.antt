@@ -1,5 +1,18 @@
 -- Each step gives the verdict that is due, and its state stands for the history with it.
-use Rattle.port_operations.proofs.Terms.{◌≡◌, ℕ, Bool, true, false, Option, Some, None, List, [], ◌∷◌, length, refl, ap, sym, ◌∙◌, subst, arith, if◌then◌else◌, is_some, nat_lt, Device, due, Establish, establish_found, establish_on, Event, facts, find_op, found, History, Host, is_of_packets, is_quiet, IsNoOperation, key_due, key_plan, LinkState, Loss, Manager, manager, nat_tests, none_of_packets, Op, op_at, op_of, operated, operated_manager, operates, Operation, Plan, ports_of, quiet, reach_of, Refresh, refresh_found, refresh_on, Reset, reset_state, Side, slice_index_or, StandsFor, Status, status_at, status_found, step_of, Stepped, Steps, StepStands, Stop, stop_found, stop_on, stream_plan, streams_of, Verdict, work_done, work_of}
+use Rattle.port_operations.proofs.Terms.{◌≡◌, ℕ, Bool, true, false, Option, Some, None, List, [], ◌∷◌, length, refl, ap}
+use Rattle.port_operations.proofs.Terms.{sym, ◌∙◌, subst, arith, if◌then◌else◌, is_some, nat_lt, Device, due, Establish}
+use Rattle.port_operations.proofs.Terms.{establish_found, establish_on, Event, facts, find_op, found, History, Host}
+use Rattle.port_operations.proofs.Terms.{is_of_packets, is_quiet, IsNoOperation, key_due, key_plan, LinkState, Loss}
+use Rattle.port_operations.proofs.Terms.{Manager, manager, nat_tests, none_of_packets, Op, op_at, op_of, operated}
+use Rattle.port_operations.proofs.Terms.{operated_manager, operates, Operation, Plan, ports_of, quiet, reach_of}
+use Rattle.port_operations.proofs.Terms.{Refresh, refresh_found, refresh_on, Reset, reset_state, Side, slice_index_or}
+use Rattle.port_operations.proofs.Terms.{StandsFor, Status, status_at, status_found, step_of, Stepped, Steps}
+use Rattle.port_operations.proofs.Terms.{StepStands, Stop, stop_found, stop_on, stream_plan, streams_of, Verdict}
+use Rattle.port_operations.proofs.Terms.{work_done, work_of}
+use Rattle.link_events.specs.declared.event.Event.TheVariants.{Interface}
+use Rattle.link_events.specs.declared.event.InterfaceEvent.{InterfaceEvent}
+use Rattle.link_history.proofs.KeyVerdicts.{interface_due_quiet}
+use Rattle.link_ports.specs.Stands.{beside_at}
 use Rattle.link_verdicts.specs.declared.verdict.Operation.TheVariants as op
 use Rattle.link_verdicts.specs.declared.verdict.Verdict.TheVariants as v
 use Rattle.link_ports.proofs.Steps.{none_status, packets_stand}
@@ -27,7 +40,8 @@ manager_same h _ x still = refl
 abbrev ops_of : Plan → ℕ → ℕ → Manager → Option Op
 ops_of plan l s m = if is_some (stream_plan plan l s) then Some (m.ops l s) else None
 
-plain : (plan : Plan) (st : LinkState) (h : History) (e : Event) (r : Stepped) → IsNoOperation e → StandsFor plan st h → Steps plan h e r → Kept st r → AllStep plan h e r
+plain : (plan : Plan) (st : LinkState) (h : History) (e : Event) (r : Stepped) → IsNoOperation e → StandsFor plan st h
+    → Steps plan h e r → Kept st r → AllStep plan h e r
 unfolding find_op
 plain plan st h e r still stands step kept = (
   step.0,
@@ -51,24 +65,31 @@ manager_asked h op.Stop link stream lose x = refl
 
 module _ (plan : Plan) (st : LinkState) (h : History) (stands : StandsFor plan st h) (link stream : ℕ) where
   -- the manager knows an operation exactly of the streams of the plan
-  known : (q : Op) → find_op plan st link stream ≡ Some q → (is_some (stream_plan plan link stream) ≡ true) × (q ≡ op_of h link stream)
+  known : (q : Op) → find_op plan st link stream ≡ Some q → (is_some (stream_plan plan link stream) ≡ true)
+      × (q ≡ op_of h link stream)
   known q found = let is : Some q ≡ op_at plan h link stream = sym found ∙ stands.ops_is link stream in grind arith
 
   unknown : find_op plan st link stream ≡ None → is_some (stream_plan plan link stream) ≡ false
   unknown found = let is : None ≡ op_at plan h link stream = sym found ∙ stands.ops_is link stream in grind arith
 
   -- the state and the history after an operation that is due, and after one of a stream that the plan has not
-  does : (o : Operation) (lose : Option Loss) (q : Op) (x : Verdict) → find_op plan st link stream ≡ Some q → x ≡ due plan h (asked o link stream lose)
+  does : (o : Operation) (lose : Option Loss) (q : Op) (x : Verdict) → find_op plan st link stream ≡ Some q → x
+      ≡ due plan h (asked o link stream lose)
       → AllStep plan h (asked o link stream lose) (operated plan st o link stream q x)
   does o lose q x found is =
-      let w_is : work_of o q st.draws ≡ asked_work h o link stream = λ i. work_of o ((known q found).1 i) (stands.draws_is i) in
+      let w_is : work_of o q st.draws ≡ asked_work h o link stream = λ i. work_of o ((known q found).1 i)
+      (stands.draws_is i) in
       let after = manager_asked h o link stream lose x in (
         is,
-        subst (λ w. StandsFor plan (work_done plan st link stream w (reach_of o x)) ((asked o link stream lose, x) ∷ h)) (sym w_is) (record {
-          ports_stand = asked_stands plan st h o link stream lose x stands.ports_stand is;
-          ops_is = λ l s. ops_worked plan st h o link stream (reach_of o x) stands.ops_is (ap is_some found) l s ∙ ap (ops_of plan l s) after;
-          draws_is = draws_worked plan st h o link stream (reach_of o x) stands.draws_is ∙ ap (λ (m : Manager). length m.begun) after;
-        }),
+        subst (λ w. StandsFor plan (work_done plan st link stream w (reach_of o x)) ((asked o link stream lose, x) ∷ h))
+            (sym w_is) (record {
+              ports_stand = asked_stands plan st h o link stream lose x stands.ports_stand is;
+              ops_is = λ l s. ops_worked plan st h o link stream (reach_of o x) stands.ops_is (ap is_some found) l s ∙
+                  ap
+                  (ops_of plan l s) after;
+              draws_is = draws_worked plan st h o link stream (reach_of o x) stands.draws_is ∙ ap
+                  (λ (m : Manager). length m.begun) after;
+            }),
       )
 
   does_nothing : (o : Operation) (lose : Option Loss) → v.Nothing ≡ due plan h (asked o link stream lose)
@@ -90,7 +111,8 @@ module _ (plan : Plan) (st : LinkState) (h : History) (stands : StandsFor plan s
   establishes lose (Some q) is =
       let know = known q is in
       does op.Establish lose q (establish_on (key_plan plan) q st.draws (ports_of plan st) link stream lose) is
-      ((λ i. establish_on (key_plan plan) (know.1 i) (stands.draws_is i) (ports_is plan st h stands.ports_stand i) link stream lose) ∙ sym (rw know.0 refl))
+      ((λ i. establish_on (key_plan plan) (know.1 i) (stands.draws_is i) (ports_is plan st h stands.ports_stand i) link
+      stream lose) ∙ sym (rw know.0 refl))
 
   refreshes : (lose : Option Loss) (o : Option Op) → find_op plan st link stream ≡ o
       → AllStep plan h (Refresh link stream lose) (refresh_found plan st link stream lose o)
@@ -100,8 +122,11 @@ module _ (plan : Plan) (st : LinkState) (h : History) (stands : StandsFor plan s
       let know = known q is in
       let host = status_is plan st h stands.ports_stand Host link stream know.0 in
       let ports = ports_is plan st h stands.ports_stand in
-      does op.Refresh lose q (refresh_on (key_plan plan) q st.draws (ports_of plan st) (status_at plan st Host link stream) link stream lose) is
-      ((λ i. refresh_on (key_plan plan) (know.1 i) (stands.draws_is i) (ports i) (host i) link stream lose) ∙ sym (rw know.0 refl))
+      does op.Refresh lose q
+      (refresh_on (key_plan plan) q st.draws (ports_of plan st) (status_at plan st Host link stream) link stream
+      lose) is
+      ((λ i. refresh_on (key_plan plan) (know.1 i) (stands.draws_is i) (ports i) (host i) link stream lose) ∙ sym
+      (rw know.0 refl))
 
   stops : (lose : Option Loss) (o : Option Op) → find_op plan st link stream ≡ o
       → AllStep plan h (Stop link stream lose) (stop_found plan st link stream lose o)
@@ -110,15 +135,19 @@ module _ (plan : Plan) (st : LinkState) (h : History) (stands : StandsFor plan s
   stops lose (Some q) is =
       let know = known q is in
       does op.Stop lose q (stop_on q st.draws (ports_of plan st) link stream lose) is
-      ((λ i. stop_on (know.1 i) (stands.draws_is i) (ports_is plan st h stands.ports_stand i) link stream lose) ∙ sym (rw know.0 refl))
+      ((λ i. stop_on (know.1 i) (stands.draws_is i) (ports_is plan st h stands.ports_stand i) link stream lose) ∙ sym
+      (rw know.0 refl))
 
   -- a status
-  tells : (x : Verdict) → is_quiet x ≡ true → x ≡ due plan h (Status link stream) → AllStep plan h (Status link stream) (x, st)
+  tells : (x : Verdict) → is_quiet x ≡ true → x ≡ due plan h (Status link stream)
+      → AllStep plan h (Status link stream) (x, st)
   tells x none is =
       plain plan st h (Status link stream) (x, st) (none_status link stream) stands
-      (quiet plan (facts plan) st h (Status link stream) x stands.ports_stand none is (none_status link stream)) (refl, refl)
+      (quiet plan (facts plan) st h (Status link stream) x stands.ports_stand none is (none_status link stream))
+      (refl, refl)
 
-  told : (o : Option Op) → find_op plan st link stream ≡ o → AllStep plan h (Status link stream) (status_found plan st link stream o)
+  told : (o : Option Op) → find_op plan st link stream ≡ o → AllStep plan h (Status link stream)
+      (status_found plan st link stream o)
   unfolding due
   told None is = tells v.Nothing refl (rw (unknown is) refl)
   told (Some q) is =
@@ -129,28 +158,49 @@ module _ (plan : Plan) (st : LinkState) (h : History) (stands : StandsFor plan s
 
 -- ---- a reset
 
-due_reset : (plan : Plan) (h : History) (link : ℕ) → (if nat_lt link (length plan.links) then v.Reset link else v.Nothing) ≡ due plan h (Reset link)
+due_reset : (plan : Plan) (h : History) (link : ℕ) →
+    (if nat_lt link (length plan.links) then v.Reset link else v.Nothing) ≡ due plan h (Reset link)
 unfolding due key_due
 due_reset plan h link = refl
 
-resets : (plan : Plan) (st : LinkState) (h : History) (link : ℕ) → StandsFor plan st h → AllStep plan h (Reset link) (if nat_lt link (length plan.links) then (v.Reset link, reset_state plan st link) else (v.Nothing, st))
+resets : (plan : Plan) (st : LinkState) (h : History) (link : ℕ) → StandsFor plan st h
+    → AllStep plan h (Reset link)
+    (if nat_lt link (length plan.links) then (v.Reset link, reset_state plan st link) else (v.Nothing, st))
 resets plan st h link stands = by_has (nat_lt link (length plan.links)) (due_reset plan h link)
   where
-    by_has : (b : Bool) → (if b then v.Reset link else v.Nothing) ≡ due plan h (Reset link) → AllStep plan h (Reset link) (if b then (v.Reset link, reset_state plan st link) else (v.Nothing, st))
+    by_has : (b : Bool) → (if b then v.Reset link else v.Nothing) ≡ due plan h (Reset link)
+        → AllStep plan h (Reset link) (if b then (v.Reset link, reset_state plan st link) else (v.Nothing, st))
     by_has true is = (is, reset_stands plan st h link stands is)
     by_has false is = (is, reset_nothing plan st h link stands is)
 
 -- ---- all events
 
-packets_step : (plan : Plan) (st : LinkState) (h : History) (e : Event) → is_of_packets e ≡ true → StandsFor plan st h → AllStep plan h e (step_of plan st e)
+packets_step : (plan : Plan) (st : LinkState) (h : History) (e : Event) → is_of_packets e ≡ true → StandsFor plan st h
+    → AllStep plan h e (step_of plan (beside_at plan h) st e)
 packets_step plan st h e is stands =
-    plain plan st h e (step_of plan st e) (none_of_packets e is) stands (packets_stand plan (facts plan) st h e is stands.ports_stand) (step_kept plan st e is)
+    plain plan st h e (step_of plan (beside_at plan h) st e) (none_of_packets e is) stands
+    (packets_stand plan (facts plan) st h e is stands.ports_stand) (step_kept plan (beside_at plan h) st e is)
+
+no_interface : (e : InterfaceEvent) → IsNoOperation (Interface e)
+unfolding operates
+no_interface e link stream = refl
+
+asks : (plan : Plan) (st : LinkState) (h : History) (e : InterfaceEvent) → StandsFor plan st h
+    → AllStep plan h (Interface e) (due plan h (Interface e), st)
+asks plan st h e stands =
+    plain plan st h (Interface e) (due plan h (Interface e), st) (no_interface e) stands
+    (quiet plan (facts plan) st h (Interface e) (due plan h (Interface e)) stands.ports_stand
+    (interface_due_quiet plan h e) refl (no_interface e)) (refl, refl)
 
 pub steps : StepStands
 unfolding step_of
-steps plan st h (Establish link stream lose) stands = establishes plan st h stands link stream lose (find_op plan st link stream) refl
-steps plan st h (Refresh link stream lose) stands = refreshes plan st h stands link stream lose (find_op plan st link stream) refl
-steps plan st h (Stop link stream lose) stands = stops plan st h stands link stream lose (find_op plan st link stream) refl
+steps plan st h (Establish link stream lose) stands = establishes plan st h stands link stream lose
+    (find_op plan st link stream) refl
+steps plan st h (Refresh link stream lose) stands = refreshes plan st h stands link stream lose
+    (find_op plan st link stream) refl
+steps plan st h (Stop link stream lose) stands = stops plan st h stands link stream lose (find_op plan st link stream)
+    refl
 steps plan st h (Status link stream) stands = told plan st h stands link stream (find_op plan st link stream) refl
 steps plan st h (Reset link) stands = resets plan st h link stands
+steps plan st h (Interface e) stands = asks plan st h e stands
 steps plan st h e stands = packets_step plan st h e refl stands

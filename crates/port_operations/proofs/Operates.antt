@@ -2,13 +2,26 @@
 -- such moves, by what the place's earlier touches say of the packets there. The hard part is a direction that comes to
 -- have its first Live key: a refresh finds one and a stop brings none, so it is an establish, whose draw is then Base,
 -- and under draws from it on nothing was sealed or got.
-use Rattle.port_operations.proofs.Terms.{◌≡◌, ℕ, ◌≤◌, Bool, true, false, Option, Some, List, [], ◌∷◌, refl, ap, sym, ◌∙◌, subst, arith, ◌||◌, ◌&&◌, ◌==◌, if◌then◌else◌, AllAllowedIn, AllAllowedOut, AllCome, base, behind, busy_in, CauseLaw, ClearTouch, Cpl, draws_made, due, end_at, eqb-refl, Establish, Event, failed, got_same, got_since, has_live_in, has_live_out, History, in_keyed, is_quiet, IsOperation, key_cause, key_of, key_plan, keyed_there, Keys, keys, keys_at, keys_into, keys_moved_in, keys_moved_out, keys_out, keys_there, lane_in, lane_out, Loss, manager, moments, Move, moves_at, Npr, Off, Op, op_of, Operated, operates, Operation, out_keyed, pending, Place, place, Plan, port_at, PortName, ports_at, posted_in, Pr, quiet_seals_none, Reach, reach_of, Refresh, sealed_packets, sealed_same, Side, since_same, started, Stop, StopTouch, SubKind, SubStream, total_in, Touch, touches, units_since, used, Verdict, with_key, Work, work_of, worked}
+use Rattle.port_operations.proofs.Terms.{◌≡◌, ℕ, ◌≤◌, Bool, true, false, Option, Some, List, [], ◌∷◌, refl, ap, sym}
+use Rattle.port_operations.proofs.Terms.{◌∙◌, subst, arith, ◌||◌, ◌&&◌, ◌==◌, if◌then◌else◌, AllAllowedIn}
+use Rattle.port_operations.proofs.Terms.{AllAllowedOut, AllCome, base, behind, busy_in, CauseLaw, ClearTouch, Cpl}
+use Rattle.port_operations.proofs.Terms.{draws_made, due, end_at, eqb-refl, Establish, Event, failed, got_same}
+use Rattle.port_operations.proofs.Terms.{got_since, has_live_in, has_live_out, History, in_keyed, is_quiet, IsOperation}
+use Rattle.port_operations.proofs.Terms.{key_cause, key_of, key_plan, keyed_there, Keys, keys, keys_at, keys_into}
+use Rattle.port_operations.proofs.Terms.{keys_moved_in, keys_moved_out, keys_out, keys_there, lane_in, lane_out, Loss}
+use Rattle.port_operations.proofs.Terms.{manager, moments, Move, moves_at, Npr, Off, Op, op_of, Operated, operates}
+use Rattle.port_operations.proofs.Terms.{Operation, out_keyed, pending, Place, place, Plan, port_at, PortName, ports_at}
+use Rattle.port_operations.proofs.Terms.{posted_in, Pr, quiet_seals_none, Reach, reach_of, Refresh, sealed_packets}
+use Rattle.port_operations.proofs.Terms.{sealed_same, Side, since_same, started, Stop, StopTouch, SubKind, SubStream}
+use Rattle.port_operations.proofs.Terms.{total_in, Touch, touches, units_since, used, Verdict, with_key, Work, work_of}
+use Rattle.port_operations.proofs.Terms.{worked}
 use Rattle.link_verdicts.specs.declared.verdict.Operation.TheVariants as op
 use Rattle.ide_prefix.specs.Packet.{Packet}
 use Rattle.key_laws.proofs.Whole.{fits, next_fits}
 use Rattle.key_states.proofs.Firsts.{first_keys, refresh_keyed, base_kept}
 use Rattle.link_history.proofs.KeyVerdicts.{establish_due_quiet, refresh_due_quiet, stop_due_quiet}
-use Rattle.link_keys.proofs.Moments.{none_sent, none_posted, none_finished, none_since, no_units, none_held, none_got, busy_is, sends_lane}
+use Rattle.link_keys.proofs.Moments.{none_sent, none_posted, none_finished, none_since, no_units, none_held, none_got}
+use Rattle.link_keys.proofs.Moments.{busy_is, sends_lane}
 use Rattle.port_operations.proofs.Operations.{takes_nothing}
 use Rattle.port_operations.proofs.Runs.{are_first, NewIn, out_run, in_run, halted_is, cleared_are}
 
@@ -18,10 +31,12 @@ worked_first : (w : Work) (r : Reach) (p : Place) → are_first (worked w (Some 
 worked_first w r p = grind arith
 
 -- an event that brought an operation this far
-pub record Works (plan : Plan) (h : History) (e : Event) (x : Verdict) (link stream : ℕ) (w : Work) (r : Reach) : Type 0 where
-  pub law : CauseLaw plan ((e, x) ∷ h)
-  pub quiet : is_quiet x ≡ true
-  pub touched : (side : Side) (sends : Bool) (u : SubKind) → touches (manager h).ops (draws_made h) e x (end_at link stream sends side u) ≡ worked w (Some r) (end_at link stream sends side u)
+pub record Works (plan : Plan) (h : History) (e : Event) (x : Verdict) (link stream : ℕ) (w : Work) (r : Reach) : Type 0
+  where
+    pub law : CauseLaw plan ((e, x) ∷ h)
+    pub quiet : is_quiet x ≡ true
+    pub touched : (side : Side) (sends : Bool) (u : SubKind) → touches (manager h).ops (draws_made h) e x
+        (end_at link stream sends side u) ≡ worked w (Some r) (end_at link stream sends side u)
 
 -- its moves at the ends of the link, read off the history
 abbrev pub outs : History → ℕ → ℕ → Work → Reach → Side → SubKind → List Move
@@ -42,33 +57,45 @@ new_in plan h law port stream u j le =
     let packets = if_none (failed h port s.stream) (pending plan h s j) none in
     λ i. record { draw = j; key = key_of plan j s; units = units i; packets = packets i }
 
-module _ (plan : Plan) (h : History) (e : Event) (x : Verdict) (link stream : ℕ) (w : Work) (r : Reach) (is : Works plan h e x link stream w r)
+module _ (plan : Plan) (h : History) (e : Event) (x : Verdict) (link stream : ℕ) (w : Work) (r : Reach)
+    (is : Works plan h e x link stream w r)
     (side : Side) where
-  come_there : (sends : Bool) (u : SubKind) → let p = end_at link stream sends side u in AllCome sends (moments h p) (worked w (Some r) p)
+  come_there : (sends : Bool) (u : SubKind) → let p = end_at link stream sends side u in AllCome sends (moments h p)
+      (worked w (Some r) p)
   come_there sends u =
       let p = end_at link stream sends side u in
       let cause = key_cause plan ((e, x) ∷ h) is.law in
-      subst (AllCome sends (moments h p)) (is.touched side sends u) (next_fits (key_plan plan) h e x cause p (fits (key_plan plan) h cause.2 p)).come
+      subst (AllCome sends (moments h p)) (is.touched side sends u)
+      (next_fits (key_plan plan) h e x cause p (fits (key_plan plan) h cause.2 p)).come
 
-  moments_after : (sends : Bool) (u : SubKind) → let p = end_at link stream sends side u in moments ((e, x) ∷ h) p ≡ behind (moments h p) (worked w (Some r) p)
+  moments_after : (sends : Bool) (u : SubKind) → let p = end_at link stream sends side u in moments ((e, x) ∷ h) p
+      ≡ behind (moments h p) (worked w (Some r) p)
   unfolding moments
   moments_after sends u = ap (behind (moments h (end_at link stream sends side u))) (is.touched side sends u)
 
   -- its moves at a sender, and at a receiver
   moves_out : (u : SubKind) → let port = port_at side link in let s = lane_out port stream u in
-      (keys_at ((e, x) ∷ h) port s ≡ keys_moved_out (busy_in (sealed_packets plan h) s) (outs h link stream w r side u) (keys_at h port s))
+      (keys_at ((e, x) ∷ h) port s ≡ keys_moved_out (busy_in (sealed_packets plan h) s) (outs h link stream w r side u)
+      (keys_at h port s))
       × AllAllowedOut plan (sealed_packets plan h) s (outs h link stream w r side u) (keys_at h port s)
   moves_out u =
       let p = end_at link stream true side u in
       let port = port_at side link in
       let s = lane_out port stream u in
       let here = sends_lane port stream u in
-      let run = out_run plan (sealed_packets plan h) s ((ports_at h).refuses p) (moments h p) (worked w (Some r) p) (λ k. refl)
-      (record { busy = λ i j. busy_is plan h is.law.1 port s j here i; unsent = λ j le. none_sent plan h port s j here le })
+      let run = out_run plan (sealed_packets plan h) s ((ports_at h).refuses p) (moments h p) (worked w (Some r) p)
+      (λ k. refl)
+      (record {
+        busy = λ i j. busy_is plan h is.law.1 port s j here i;
+        unsent = λ j le. none_sent plan h port s j here
+            le;
+      })
       (come_there true u) (worked_first w r p) in (
         keys_out ((e, x) ∷ h) port stream u ∙ (ap (keys true) (moments_after true u)
-            ∙ (run.keys_are ∙ ap (keys_moved_out (busy_in (sealed_packets plan h) s) (outs h link stream w r side u)) (sym (keys_out h port stream u)))),
-        subst (AllAllowedOut plan (sealed_packets plan h) s (outs h link stream w r side u)) (sym (keys_out h port stream u)) run.allowed,
+            ∙ (run.keys_are ∙ ap (keys_moved_out (busy_in (sealed_packets plan h) s) (outs h link stream w r side u))
+            (sym (keys_out h port stream u)))),
+        subst (AllAllowedOut plan (sealed_packets plan h) s (outs h link stream w r side u))
+            (sym (keys_out h port stream u)) run.allowed,
       )
 
   moves_in : (u : SubKind) → let port = port_at side link in let s = lane_in port stream u in
@@ -99,13 +126,17 @@ none_of f is u = grind arith
 abbrev keyed_at : History → Side → ℕ → ℕ → Bool → SubKind → Bool
 keyed_at h side link stream sends u = keyed_there (keys_there h (end_at link stream sends side u))
 
-lives_out : (h : History) (side : Side) (link stream : ℕ) → any_sub (keyed_at h side link stream true) ≡ has_live_out h (port_at side link) stream
+lives_out : (h : History) (side : Side) (link stream : ℕ) → any_sub (keyed_at h side link stream true)
+    ≡ has_live_out h (port_at side link) stream
 unfolding has_live_out
-lives_out h side link stream = let one = out_keyed h (port_at side link) stream in sym (λ i. one Pr i || one Npr i || one Cpl i)
+lives_out h side link stream = let one = out_keyed h (port_at side link) stream in sym
+    (λ i. one Pr i || one Npr i || one Cpl i)
 
-lives_in : (h : History) (side : Side) (link stream : ℕ) → any_sub (keyed_at h side link stream false) ≡ has_live_in h (port_at side link) stream
+lives_in : (h : History) (side : Side) (link stream : ℕ) → any_sub (keyed_at h side link stream false)
+    ≡ has_live_in h (port_at side link) stream
 unfolding has_live_in
-lives_in h side link stream = let one = in_keyed h (port_at side link) stream in sym (λ i. one Pr i || one Npr i || one Cpl i)
+lives_in h side link stream = let one = in_keyed h (port_at side link) stream in sym
+    (λ i. one Pr i || one Npr i || one Cpl i)
 
 -- ---- a stop leaves no key On that was not
 
@@ -121,10 +152,13 @@ stop_halts q next r p = grind arith
 halted_keyed : (k : Bool) (ks : Keys) → keyed_there (with_key ks k Off) ≡ true → keyed_there ks ≡ true
 halted_keyed k ks is = grind arith
 
-halts : (s : Bool) (ts more : List Touch) → are_halts more ≡ true → keyed_there (keys s (behind ts more)) ≡ true → keyed_there (keys s ts) ≡ true
+halts : (s : Bool) (ts more : List Touch) → are_halts more ≡ true → keyed_there (keys s (behind ts more)) ≡ true
+    → keyed_there (keys s ts) ≡ true
 halts s ts [] are is = is
-halts s ts (StopTouch k ∷ more) are is = halted_keyed k (keys s ts) (ap keyed_there (sym (halted_is s k ts)) ∙ halts s (StopTouch k ∷ ts) more are is)
-halts s ts (ClearTouch ∷ more) are is = absurd (let none = ap keyed_there (sym (cleared_are s ts)) ∙ halts s (ClearTouch ∷ ts) more are is in cc)
+halts s ts (StopTouch k ∷ more) are is = halted_keyed k (keys s ts)
+    (ap keyed_there (sym (halted_is s k ts)) ∙ halts s (StopTouch k ∷ ts) more are is)
+halts s ts (ClearTouch ∷ more) are is = absurd
+    (let none = ap keyed_there (sym (cleared_are s ts)) ∙ halts s (ClearTouch ∷ ts) more are is in cc)
 halts s ts (_ ∷ more) are is = absurd cc
 
 -- ---- each operation
@@ -135,7 +169,8 @@ asked op.Establish link stream lose = Establish link stream lose
 asked op.Refresh link stream lose = Refresh link stream lose
 asked op.Stop link stream lose = Stop link stream lose
 
-pub asked_quiet : (plan : Plan) (h : History) (o : Operation) (link stream : ℕ) (lose : Option Loss) → is_quiet (due plan h (asked o link stream lose)) ≡ true
+pub asked_quiet : (plan : Plan) (h : History) (o : Operation) (link stream : ℕ) (lose : Option Loss)
+    → is_quiet (due plan h (asked o link stream lose)) ≡ true
 asked_quiet plan h op.Establish link stream lose = establish_due_quiet plan h link stream lose
 asked_quiet plan h op.Refresh link stream lose = refresh_due_quiet plan h link stream lose
 asked_quiet plan h op.Stop link stream lose = stop_due_quiet plan h link stream lose
@@ -155,8 +190,10 @@ works : (plan : Plan) (h : History) (o : Operation) (link stream : ℕ) (lose : 
 works plan h o link stream lose x r law reached =
     record { law = law; quiet = ap is_quiet law.0 ∙ asked_quiet plan h o link stream lose; touched = touched o reached }
   where
-    touched : (o : Operation) → reach_of o x ≡ Some r → (side : Side) (sends : Bool) (u : SubKind) → let p = end_at link stream sends side u in
-        touches (manager h).ops (draws_made h) (asked o link stream lose) x p ≡ worked (asked_work h o link stream) (Some r) p
+    touched : (o : Operation) → reach_of o x ≡ Some r → (side : Side) (sends : Bool) (u : SubKind)
+        → let p = end_at link stream sends side u in
+        touches (manager h).ops (draws_made h) (asked o link stream lose) x p
+        ≡ worked (asked_work h o link stream) (Some r) p
     touched op.Establish reached side sends u = rw (eqb-refl link, eqb-refl stream, reached) refl
     touched op.Refresh reached side sends u = rw (eqb-refl link, eqb-refl stream, reached) refl
     touched op.Stop reached side sends u = rw (eqb-refl link, eqb-refl stream, reached) refl
@@ -167,18 +204,22 @@ record First (h g : History) (p : Place) (j : ℕ) : Type 0 where
   used_below : used (moments h p) ≤ j
   started_below : started (moments h p) ≤ j
 
-module _ (plan : Plan) (h : History) (link stream : ℕ) (lose : Option Loss) (x : Verdict) (r : Reach) (side : Side) (sends : Bool) where
+module _ (plan : Plan) (h : History) (link stream : ℕ) (lose : Option Loss) (x : Verdict) (r : Reach) (side : Side)
+    (sends : Bool) where
   -- Base stays while the direction has a key that is On
-  base_stays : (o : Operation) → CauseLaw plan ((asked o link stream lose, x) ∷ h) → any_sub (keyed_at h side link stream sends) ≡ true
+  base_stays : (o : Operation) → CauseLaw plan ((asked o link stream lose, x) ∷ h)
+      → any_sub (keyed_at h side link stream sends) ≡ true
       → base ((asked o link stream lose, x) ∷ h) link stream ≡ base h link stream
   unfolding base
   base_stays op.Establish law before =
       let some = one_of (keyed_at h side link stream sends) before in
-      base_kept (key_plan plan) h (end_at link stream sends side some.0) lose x (key_cause plan ((Establish link stream lose, x) ∷ h) law) some.1
+      base_kept (key_plan plan) h (end_at link stream sends side some.0) lose x
+      (key_cause plan ((Establish link stream lose, x) ∷ h) law) some.1
   base_stays op.Refresh law before = refl
   base_stays op.Stop law before = refl
 
-  firsts : (o : Operation) → CauseLaw plan ((asked o link stream lose, x) ∷ h) → reach_of o x ≡ Some r → any_sub (keyed_at h side link stream sends) ≡ false
+  firsts : (o : Operation) → CauseLaw plan ((asked o link stream lose, x) ∷ h) → reach_of o x ≡ Some r
+      → any_sub (keyed_at h side link stream sends) ≡ false
       → any_sub (keyed_at ((asked o link stream lose, x) ∷ h) side link stream sends) ≡ true → (u : SubKind)
       → First h ((asked o link stream lose, x) ∷ h) (end_at link stream sends side u) (asked_work h o link stream).draw
   firsts op.Establish law reached before now u =
@@ -196,7 +237,8 @@ module _ (plan : Plan) (h : History) (link stream : ℕ) (lose : Option Loss) (x
       let w = asked_work h op.Stop link stream in
       let some = one_of (keyed_at ((e, x) ∷ h) side link stream sends) now in
       let p = end_at link stream sends side some.0 in
-      let after = moments_after plan h e x link stream w r (works plan h op.Stop link stream lose x r law reached) side sends some.0 in
+      let after = moments_after plan h e x link stream w r (works plan h op.Stop link stream lose x r law reached) side
+      sends some.0 in
       let kept = halts sends (moments h p) (worked w (Some r) p) (stop_halts (op_of h link stream) (draws_made h) r p)
       (ap (λ (ts : List Touch). keyed_there (keys sends ts)) (sym after) ∙ some.1) in
       let none = none_of (keyed_at h side link stream sends) before some.0 in
@@ -205,7 +247,8 @@ module _ (plan : Plan) (h : History) (link stream : ℕ) (lose : Option Loss) (x
 module _ (plan : Plan) (h : History) (o : Operation) (link stream : ℕ) (lose : Option Loss) (x : Verdict) (r : Reach)
     (law : CauseLaw plan ((asked o link stream lose, x) ∷ h)) (reached : reach_of o x ≡ Some r) where
   each_operated : (side : Side) → let w = asked_work h o link stream in
-      Operated plan h (asked o link stream lose) x (port_at side link) stream (outs h link stream w r side) (ins h link stream w r side)
+      Operated plan h (asked o link stream lose) x (port_at side link) stream (outs h link stream w r side)
+      (ins h link stream w r side)
   each_operated side =
       let e = asked o link stream lose in
       let g = (e, x) ∷ h in
@@ -214,33 +257,44 @@ module _ (plan : Plan) (h : History) (o : Operation) (link stream : ℕ) (lose :
       let is = works plan h o link stream lose x r law reached in
       let xs = sealed_same plan h e x (quiet_seals_none x is.quiet) in
       let none = λ (s : SubStream). (takes_nothing x is.quiet s).0 in
-      let out : has_live_out h port stream ≡ false → has_live_out g port stream ≡ true → (u : SubKind) → First h g (end_at link stream true side u) w.draw =
-      λ before now. firsts plan h link stream lose x r side true o law reached (lives_out h side link stream ∙ before) (lives_out g side link stream ∙ now) in
-      let into : has_live_in h port stream ≡ false → has_live_in g port stream ≡ true → (u : SubKind) → First h g (end_at link stream false side u) w.draw =
-      λ before now. firsts plan h link stream lose x r side false o law reached (lives_in h side link stream ∙ before) (lives_in g side link stream ∙ now) in
+      let out : has_live_out h port stream ≡ false → has_live_out g port stream ≡ true → (u : SubKind)
+      → First h g (end_at link stream true side u) w.draw =
+      λ before now. firsts plan h link stream lose x r side true o law reached (lives_out h side link stream ∙ before)
+      (lives_out g side link stream ∙ now) in
+      let into : has_live_in h port stream ≡ false → has_live_in g port stream ≡ true → (u : SubKind)
+      → First h g (end_at link stream false side u) w.draw =
+      λ before now. firsts plan h link stream lose x r side false o law reached (lives_in h side link stream ∙ before)
+      (lives_in g side link stream ∙ now) in
       record {
         quiet = is.quiet;
         keys_out = λ u. (moves_out plan h e x link stream w r is side u).0;
         keys_into = λ u. (moves_in plan h e x link stream w r is side u).0;
         allowed_out = λ u. (moves_out plan h e x link stream w r is side u).1;
         allowed_into = λ u. (moves_in plan h e x link stream w r is side u).1;
-        base_out = λ before now. base_stays plan h link stream lose x r side true o law (lives_out h side link stream ∙ before);
-        base_into = λ before now. base_stays plan h link stream lose x r side false o law (lives_in h side link stream ∙ before);
+        base_out = λ before now. base_stays plan h link stream lose x r side true o law
+            (lives_out h side link stream ∙ before);
+        base_into = λ before now. base_stays plan h link stream lose x r side false o law
+            (lives_in h side link stream ∙ before);
         none_out = λ before now u.
             let first = out before now Pr in
-            (λ i. posted_in (xs i) (lane_out port stream u) (first.base_of i)) ∙ none_posted plan h port stream u w.draw first.used_below;
+            (λ i. posted_in (xs i) (lane_out port stream u) (first.base_of i)) ∙ none_posted plan h port stream u w.draw
+            first.used_below;
         no_units_out = λ before now u.
             let first = out before now u in
             let s = lane_out port stream u in
-            (λ i. total_in (xs i) s (first.base_of i)) ∙ none_finished plan h port s w.draw (sends_lane port stream u) first.used_below;
+            (λ i. total_in (xs i) s (first.base_of i)) ∙ none_finished plan h port s w.draw (sends_lane port stream u)
+            first.used_below;
         none_into = λ before now u.
             let first = into before now u in
             let s = lane_in port stream u in
-            ap (got_since plan g s) first.base_of ∙ (got_same plan h e x s w.draw (none s) ∙ none_since plan h law.1 port stream u w.draw first.started_below);
+            ap (got_since plan g s) first.base_of ∙
+            (got_same plan h e x s w.draw (none s) ∙ none_since plan h law.1 port stream u w.draw
+            first.started_below);
         no_units_into = λ before now u.
             let first = into before now u in
             let s = lane_in port stream u in
-            ap (units_since g s) first.base_of ∙ (since_same h e x s w.draw (none s) ∙ no_units plan h law.1 port stream u w.draw first.started_below);
+            ap (units_since g s) first.base_of ∙
+            (since_same h e x s w.draw (none s) ∙ no_units plan h law.1 port stream u w.draw first.started_below);
       }
 
   -- it is an operation on its stream alone

@@ -2,7 +2,14 @@
 -- senders and for receivers; a KEY_PROG can be the first alone, so the keys before the operation say whether it is
 -- refused. Moves are allowed by bounds that hold in each shape of the keys: a draw that waits for its GO is greater
 -- than the one that is On and than all that were used or got GO, and one that waits for the older one was not used.
-use Rattle.port_operations.proofs.Terms.{◌≡◌, ℕ, ◌<◌, ◌≤◌, Bool, true, false, List, [], ◌∷◌, refl, ap, sym, ◌∙◌, subst, arith, not, if◌then◌else◌, AllAllowedIn, AllAllowedOut, AllCome, AllowedIn, AllowedOut, behind, busy_in, ClearTouch, Comes, Go, Goes, GoTouch, Halt, History, is_open, key_in, key_moved_in, key_moved_out, Keys, keys, keys_moved_in, keys_moved_out, keys_of, Loaded, Move, moves_of, nat_tests, new_key, no_keys, Off, On, Plan, PortName, Program, ProgramTouch, receiving_key, refuses, SealedList, sent_in, settled, Shape, Sound, started, StopTouch, SubStream, Touch, touched, used, waits, with_key}
+use Rattle.port_operations.proofs.Terms.{◌≡◌, ℕ, ◌<◌, ◌≤◌, Bool, true, false, List, [], ◌∷◌, refl, ap, sym, ◌∙◌, subst}
+use Rattle.port_operations.proofs.Terms.{arith, not, if◌then◌else◌, AllAllowedIn, AllAllowedOut, AllCome, AllowedIn}
+use Rattle.port_operations.proofs.Terms.{AllowedOut, behind, busy_in, ClearTouch, Comes, Go, Goes, GoTouch, Halt}
+use Rattle.port_operations.proofs.Terms.{History, is_open, key_in, key_moved_in, key_moved_out, Keys, keys}
+use Rattle.port_operations.proofs.Terms.{keys_moved_in, keys_moved_out, keys_of, Loaded, Move, moves_of, nat_tests}
+use Rattle.port_operations.proofs.Terms.{new_key, no_keys, Off, On, Plan, PortName, Program, ProgramTouch}
+use Rattle.port_operations.proofs.Terms.{receiving_key, refuses, SealedList, sent_in, settled, Shape, Sound, started}
+use Rattle.port_operations.proofs.Terms.{StopTouch, SubStream, Touch, touched, used, waits, with_key}
 
 -- touches of an operation: a KEY_PROG comes first
 abbrev pub are_later : List Touch → Bool
@@ -55,11 +62,13 @@ loaded s f k j ks free = grind (arith, nat_tests)
 halted : (s : Bool) (f : ℕ → Bool) (k : Bool) (ks : Keys) → settled s f (touched s ks (StopTouch k)) ≡ with_key ks k Off
 halted s f k ks = grind (arith, nat_tests)
 
-programs_is : (s k : Bool) (j : ℕ) (ts : List Touch) → refuses s (keys s ts) k ≡ false → keys s (ProgramTouch k j ∷ ts) ≡ with_key (keys s ts) k (Loaded j)
+programs_is : (s k : Bool) (j : ℕ) (ts : List Touch) → refuses s (keys s ts) k ≡ false → keys s (ProgramTouch k j ∷ ts)
+    ≡ with_key (keys s ts) k (Loaded j)
 unfolding keys
 programs_is s k j ts free = loaded s (is_open (ProgramTouch k j ∷ ts)) k j (keys s ts) free
 
-refused_is : (s k : Bool) (j : ℕ) (ts : List Touch) → refuses s (keys s ts) k ≡ true → keys s (ProgramTouch k j ∷ ts) ≡ keys s ts
+refused_is : (s k : Bool) (j : ℕ) (ts : List Touch) → refuses s (keys s ts) k ≡ true → keys s (ProgramTouch k j ∷ ts)
+    ≡ keys s ts
 unfolding keys is_open
 refused_is s k j ts denied = rw denied (settled_keys s ts)
 
@@ -72,37 +81,44 @@ unfolding keys
 cleared_are s ts = settled_none s (is_open (ClearTouch ∷ ts))
 
 -- the draw that gets GO waits for it, or is On
-goes_of : (k : Bool) (j : ℕ) (sh : Shape) → Goes k j sh → (on : Bool) × (key_in (keys_of sh) k ≡ (if on then On j else Loaded j))
+goes_of : (k : Bool) (j : ℕ) (sh : Shape) → Goes k j sh → (on : Bool)
+    × (key_in (keys_of sh) k ≡ (if on then On j else Loaded j))
 goes_of k j sh goes = grind (arith, nat_tests)
 
-gone_new : (busy : ℕ → Bool) (k : Bool) (j : ℕ) (ks : Keys) → key_in ks k ≡ Loaded j → ((i : ℕ) → key_in ks (not k) ≡ On i → i < j)
-    → ((i : ℕ) → key_in ks (not k) ≡ Loaded i → ⊥) → settled true busy (touched true ks (GoTouch k j)) ≡ key_moved_out busy (Go k) ks
+gone_new : (busy : ℕ → Bool) (k : Bool) (j : ℕ) (ks : Keys) → key_in ks k ≡ Loaded j
+    → ((i : ℕ) → key_in ks (not k) ≡ On i → i < j)
+    → ((i : ℕ) → key_in ks (not k) ≡ Loaded i → ⊥) → settled true busy (touched true ks (GoTouch k j))
+    ≡ key_moved_out busy (Go k) ks
 gone_new busy k j ks is older one = grind (arith, nat_tests, older, one)
 
 gone_again : (busy : ℕ → Bool) (k : Bool) (j : ℕ) (ks : Keys) → key_in ks k ≡ On j → settled true busy ks ≡ ks
     → settled true busy (touched true ks (GoTouch k j)) ≡ key_moved_out busy (Go k) ks
 gone_again busy k j ks is stays = grind (arith, nat_tests, stays)
 
-gone_out : (k : Bool) (j : ℕ) (ts : List Touch) → Comes true ts (GoTouch k j) → keys true (GoTouch k j ∷ ts) ≡ key_moved_out (is_open ts) (Go k) (keys true ts)
+gone_out : (k : Bool) (j : ℕ) (ts : List Touch) → Comes true ts (GoTouch k j) → keys true (GoTouch k j ∷ ts)
+    ≡ key_moved_out (is_open ts) (Go k) (keys true ts)
 unfolding keys is_open
 gone_out k j ts come =
     let goes = goes_of k j come.shape come.may in
     by_on goes.0 (ap (λ (ks : Keys). key_in ks k) come.is.are ∙ goes.1)
   where
     by_on : (on : Bool) → key_in (keys true ts) k ≡ (if on then On j else Loaded j)
-        → settled true (is_open ts) (touched true (keys true ts) (GoTouch k j)) ≡ key_moved_out (is_open ts) (Go k) (keys true ts)
+        → settled true (is_open ts) (touched true (keys true ts) (GoTouch k j))
+        ≡ key_moved_out (is_open ts) (Go k) (keys true ts)
     by_on true is = gone_again (is_open ts) k j (keys true ts) is (settled_keys true ts)
     by_on false is =
         let known = bounds true ts (GoTouch k j) come in
         gone_new (is_open ts) k j (keys true ts) is (λ i. known.older k i j is) (λ i. known.one k i j is)
 
-gone_into : (k : Bool) (j : ℕ) (ks : Keys) (on : Bool) → key_in ks k ≡ (if on then On j else Loaded j) → with_key ks k (On j) ≡ key_moved_in (Go k) ks
+gone_into : (k : Bool) (j : ℕ) (ks : Keys) (on : Bool) → key_in ks k ≡ (if on then On j else Loaded j)
+    → with_key ks k (On j) ≡ key_moved_in (Go k) ks
 gone_into k j ks on is = grind arith
 
 waits_older : (k : Bool) (i j : ℕ) → i < j → (waits k j (On i) ≡ true) × (waits (not k) i (On j) ≡ false)
 waits_older k i j lt = grind (arith, nat_tests)
 
-unwaited : (ks : Keys) (k : Bool) (i : ℕ) → refuses true ks k ≡ false → key_in ks (not k) ≡ On i → waits (not k) i (key_in ks k) ≡ false
+unwaited : (ks : Keys) (k : Bool) (i : ℕ) → refuses true ks k ≡ false → key_in ks (not k) ≡ On i
+    → waits (not k) i (key_in ks k) ≡ false
 unwaited ks k i free on = grind (arith, nat_tests)
 
 -- ---- senders
@@ -116,7 +132,8 @@ pub record OutRun (plan : Plan) (xs : SealedList) (s : SubStream) (ts more : Lis
   pub keys_are : keys true (behind ts more) ≡ keys_moved_out (busy_in xs s) ms (keys true ts)
   pub allowed : AllAllowedOut plan xs s ms (keys true ts)
 
-out_cons : (plan : Plan) (xs : SealedList) (s : SubStream) (ts : List Touch) (t : Touch) (more : List Touch) (m : Move) (ms : List Move)
+out_cons : (plan : Plan) (xs : SealedList) (s : SubStream) (ts : List Touch) (t : Touch) (more : List Touch) (m : Move)
+    (ms : List Move)
     → keys true (t ∷ ts) ≡ key_moved_out (busy_in xs s) m (keys true ts) → AllowedOut plan xs s m (keys true ts)
     → OutRun plan xs s (t ∷ ts) more ms → OutRun plan xs s ts (t ∷ more) (m ∷ ms)
 out_cons plan xs s ts t more m ms step may rest = record {
@@ -124,7 +141,8 @@ out_cons plan xs s ts t more m ms step may rest = record {
   allowed = (may, subst (AllAllowedOut plan xs s ms) step rest.allowed);
 }
 
-out_later : (plan : Plan) (xs : SealedList) (s : SubStream) (r : Bool → Bool) (ts more : List Touch) → Knows xs s ts → AllCome true ts more
+out_later : (plan : Plan) (xs : SealedList) (s : SubStream) (r : Bool → Bool) (ts more : List Touch) → Knows xs s ts
+    → AllCome true ts more
     → are_later more ≡ true → OutRun plan xs s ts more (moves_of r more)
 unfolding used is_open
 out_later plan xs s r ts [] knows come later = record { keys_are = refl; allowed = tt }
@@ -139,24 +157,31 @@ out_later plan xs s r ts (StopTouch k ∷ more) knows come later =
     (λ i on waiting. knows.unsent i ((bounds true ts (StopTouch k) come.0).waiting k i on waiting))
     (out_later plan xs s r (StopTouch k ∷ ts) more (record { busy = knows.busy; unsent = knows.unsent }) come.1 later)
 out_later plan xs s r ts (ClearTouch ∷ more) knows come later =
-    let rest = out_later plan xs s r (ClearTouch ∷ ts) more (record { busy = knows.busy; unsent = knows.unsent }) come.1 later in
+    let rest = out_later plan xs s r (ClearTouch ∷ ts) more (record { busy = knows.busy; unsent = knows.unsent }) come.1
+    later in
     let known = bounds true ts ClearTouch come.0 in
     record {
       keys_are = rest.keys_are ∙ ap (keys_moved_out (busy_in xs s) (moves_of r more)) (cleared_are true ts);
       allowed = (
         λ i on waiting. knows.unsent i (known.waiting false i on waiting),
-        (λ i on waiting. absurd cc, subst (AllAllowedOut plan xs s (moves_of r more)) (cleared_are true ts) rest.allowed),
+        (
+          λ i on waiting. absurd cc,
+          subst (AllAllowedOut plan xs s (moves_of r more)) (cleared_are true ts)
+              rest.allowed,
+        ),
       );
     }
 out_later plan xs s r ts (_ ∷ more) knows come later = absurd cc
 
-pub out_run : (plan : Plan) (xs : SealedList) (s : SubStream) (r : Bool → Bool) (ts more : List Touch) → ((k : Bool) → refuses true (keys true ts) k ≡ r k)
+pub out_run : (plan : Plan) (xs : SealedList) (s : SubStream) (r : Bool → Bool) (ts more : List Touch)
+    → ((k : Bool) → refuses true (keys true ts) k ≡ r k)
     → Knows xs s ts → AllCome true ts more → are_first more ≡ true → OutRun plan xs s ts more (moves_of r more)
 unfolding used is_open
 out_run plan xs s r ts (ProgramTouch k j ∷ more) same knows come first = by_answer (r k) (same k)
   where
     rest : OutRun plan xs s (ProgramTouch k j ∷ ts) more (moves_of r more)
-    rest = out_later plan xs s r (ProgramTouch k j ∷ ts) more (record { busy = knows.busy; unsent = knows.unsent }) come.1 first
+    rest = out_later plan xs s r (ProgramTouch k j ∷ ts) more (record { busy = knows.busy; unsent = knows.unsent })
+        come.1 first
 
     by_answer : (b : Bool) → refuses true (keys true ts) k ≡ b
         → OutRun plan xs s ts (ProgramTouch k j ∷ more) (if b then moves_of r more else Program k j ∷ moves_of r more)
@@ -164,18 +189,21 @@ out_run plan xs s r ts (ProgramTouch k j ∷ more) same knows come first = by_an
       keys_are = rest.keys_are ∙ ap (keys_moved_out (busy_in xs s) (moves_of r more)) (refused_is true k j ts denied);
       allowed = subst (AllAllowedOut plan xs s (moves_of r more)) (refused_is true k j ts denied) rest.allowed;
     }
-    by_answer false free = out_cons plan xs s ts (ProgramTouch k j) more (Program k j) (moves_of r more) (programs_is true k j ts free)
+    by_answer false free = out_cons plan xs s ts (ProgramTouch k j) more (Program k j) (moves_of r more)
+        (programs_is true k j ts free)
         (λ i. unwaited (keys true ts) k i free) rest
 out_run plan xs s r ts [] same knows come first = out_later plan xs s r ts [] knows come first
 out_run plan xs s r ts (t ∷ more) same knows come first = out_later plan xs s r ts (t ∷ more) knows come first
 
 -- ---- receivers
 
-pub record InRun (plan : Plan) (h : History) (port : PortName) (s : SubStream) (ts more : List Touch) (ms : List Move) : Type 0 where
+pub record InRun (plan : Plan) (h : History) (port : PortName) (s : SubStream) (ts more : List Touch) (ms : List Move) :
+    Type 0 where
   pub keys_are : keys false (behind ts more) ≡ keys_moved_in ms (keys false ts)
   pub allowed : AllAllowedIn plan h port s ms (keys false ts)
 
-in_cons : (plan : Plan) (h : History) (port : PortName) (s : SubStream) (ts : List Touch) (t : Touch) (more : List Touch) (m : Move) (ms : List Move)
+in_cons : (plan : Plan) (h : History) (port : PortName) (s : SubStream) (ts : List Touch) (t : Touch)
+    (more : List Touch) (m : Move) (ms : List Move)
     → keys false (t ∷ ts) ≡ key_moved_in m (keys false ts) → AllowedIn plan h port s m (keys false ts)
     → InRun plan h port s (t ∷ ts) more ms → InRun plan h port s ts (t ∷ more) (m ∷ ms)
 in_cons plan h port s ts t more m ms step may rest = record {
@@ -183,15 +211,18 @@ in_cons plan h port s ts t more m ms step may rest = record {
   allowed = (may, subst (AllAllowedIn plan h port s ms) step rest.allowed);
 }
 
-gone_in : (k : Bool) (j : ℕ) (ts : List Touch) → Comes false ts (GoTouch k j) → keys false (GoTouch k j ∷ ts) ≡ key_moved_in (Go k) (keys false ts)
+gone_in : (k : Bool) (j : ℕ) (ts : List Touch) → Comes false ts (GoTouch k j) → keys false (GoTouch k j ∷ ts)
+    ≡ key_moved_in (Go k) (keys false ts)
 unfolding keys
-gone_in k j ts come = let goes = goes_of k j come.shape come.may in gone_into k j (keys false ts) goes.0 (ap (λ (ks : Keys). key_in ks k) come.is.are ∙ goes.1)
+gone_in k j ts come = let goes = goes_of k j come.shape come.may in gone_into k j (keys false ts) goes.0
+    (ap (λ (ks : Keys). key_in ks k) come.is.are ∙ goes.1)
 
 -- the draw that gets GO was not started before
 abbrev pub NewIn : Plan → History → PortName → SubStream → List Touch → Type 0
 NewIn plan h port s ts = (j : ℕ) → started ts ≤ j → receiving_key plan h port s j ≡ new_key plan s j
 
-in_later : (plan : Plan) (h : History) (port : PortName) (s : SubStream) (r : Bool → Bool) (ts more : List Touch) → NewIn plan h port s ts
+in_later : (plan : Plan) (h : History) (port : PortName) (s : SubStream) (r : Bool → Bool) (ts more : List Touch)
+    → NewIn plan h port s ts
     → AllCome false ts more → are_later more ≡ true → InRun plan h port s ts more (moves_of r more)
 unfolding started
 in_later plan h port s r ts [] new come later = record { keys_are = refl; allowed = tt }
@@ -212,7 +243,8 @@ in_later plan h port s r ts (_ ∷ more) new come later = absurd cc
 
 pub in_run : (plan : Plan) (h : History) (port : PortName) (s : SubStream) (r : Bool → Bool) (ts more : List Touch)
     → ((k : Bool) → refuses false (keys false ts) k ≡ r k)
-    → NewIn plan h port s ts → AllCome false ts more → are_first more ≡ true → InRun plan h port s ts more (moves_of r more)
+    → NewIn plan h port s ts → AllCome false ts more → are_first more ≡ true
+    → InRun plan h port s ts more (moves_of r more)
 unfolding started
 in_run plan h port s r ts (ProgramTouch k j ∷ more) same new come first = by_answer (r k) (same k)
   where
@@ -220,11 +252,13 @@ in_run plan h port s r ts (ProgramTouch k j ∷ more) same new come first = by_a
     rest = in_later plan h port s r (ProgramTouch k j ∷ ts) more new come.1 first
 
     by_answer : (b : Bool) → refuses false (keys false ts) k ≡ b
-        → InRun plan h port s ts (ProgramTouch k j ∷ more) (if b then moves_of r more else Program k j ∷ moves_of r more)
+        → InRun plan h port s ts (ProgramTouch k j ∷ more)
+        (if b then moves_of r more else Program k j ∷ moves_of r more)
     by_answer true denied = record {
       keys_are = rest.keys_are ∙ ap (keys_moved_in (moves_of r more)) (refused_is false k j ts denied);
       allowed = subst (AllAllowedIn plan h port s (moves_of r more)) (refused_is false k j ts denied) rest.allowed;
     }
-    by_answer false free = in_cons plan h port s ts (ProgramTouch k j) more (Program k j) (moves_of r more) (programs_is false k j ts free) tt rest
+    by_answer false free = in_cons plan h port s ts (ProgramTouch k j) more (Program k j) (moves_of r more)
+        (programs_is false k j ts free) tt rest
 in_run plan h port s r ts [] same new come first = in_later plan h port s r ts [] new come first
 in_run plan h port s r ts (t ∷ more) same new come first = in_later plan h port s r ts (t ∷ more) new come first

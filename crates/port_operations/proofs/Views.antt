@@ -1,5 +1,12 @@
 -- What operations read of the slots is what the keys say.
-use Rattle.port_operations.proofs.Terms.{◌≡◌, ℕ, ◌==◌, Bool, true, false, Option, Some, None, refl, ap, sym, ◌∙◌, arith, if◌then◌else◌, at_each, CauseLaw, end_at, facts, find, has_stream, History, is_live, is_live_there, Keys, keys_at, keys_into, keys_out, keys_there, lane_in, lane_out, LinkState, live_at, nat_tests, no_keys, On, Place, Plan, port_at, PortName, ports_at, ports_of, PortsStand, refuses, refuses_at, refuses_in, rx_slots, rx_standing, RxSub, sealed_packets, SealedList, slot_in, slot_of, Slots, slots_of, standing, StreamState, SubStream, tx_slots, tx_standing, TxSub}
+use Rattle.port_operations.proofs.Terms.{◌≡◌, ℕ, ◌==◌, Bool, true, false, Option, Some, None, refl, ap, sym, ◌∙◌, arith}
+use Rattle.port_operations.proofs.Terms.{if◌then◌else◌, at_each, CauseLaw, end_at, facts, find, has_stream, History}
+use Rattle.port_operations.proofs.Terms.{is_live, is_live_there, Keys, keys_at, keys_into, keys_out, keys_there}
+use Rattle.port_operations.proofs.Terms.{lane_in, lane_out, LinkState, live_at, nat_tests, no_keys, On, Place, Plan}
+use Rattle.port_operations.proofs.Terms.{port_at, PortName, ports_at, ports_of, PortsStand, refuses, refuses_at}
+use Rattle.port_operations.proofs.Terms.{refuses_in, rx_slots, rx_standing, RxSub, sealed_packets, SealedList, slot_in}
+use Rattle.port_operations.proofs.Terms.{slot_of, Slots, slots_of, standing, StreamState, SubStream, tx_slots}
+use Rattle.port_operations.proofs.Terms.{tx_standing, TxSub}
 use Rattle.link_keys.proofs.Unplanned.{unplanned_keys}
 
 -- ---- slots
@@ -8,7 +15,8 @@ use Rattle.link_keys.proofs.Unplanned.{unplanned_keys}
 abbrev Apart : Keys → Type 0
 Apart ks = (i j : ℕ) → ks.first ≡ On i → ks.second ≡ On j → (i == j) ≡ false
 
-refuses_out : (plan : Plan) (k : Bool) (xs : SealedList) (s : SubStream) (ks : Keys) → Apart ks → refuses_in (tx_slots plan xs s ks) k ≡ refuses true ks k
+refuses_out : (plan : Plan) (k : Bool) (xs : SealedList) (s : SubStream) (ks : Keys) → Apart ks
+    → refuses_in (tx_slots plan xs s ks) k ≡ refuses true ks k
 refuses_out plan k xs s ks apart = grind (arith, nat_tests, apart)
 
 live_out : (plan : Plan) (k : Bool) (xs : SealedList) (s : SubStream) (ks : Keys) → Apart ks
@@ -25,27 +33,33 @@ live_into plan h k port s ks apart = grind arith
 
 -- ---- a stream that the plan has, and one that it has not
 
-known : (plan : Plan) (h : History) → CauseLaw plan h → (p : Place) (sends : Bool) (seen : Slots → Bool) (there : Bool → Keys → Bool)
+known : (plan : Plan) (h : History) → CauseLaw plan h → (p : Place) (sends : Bool) (seen : Slots → Bool)
+    (there : Bool → Keys → Bool)
     → ((xs : SealedList) (s : SubStream) (ks : Keys) → Apart ks → seen (tx_slots plan xs s ks) ≡ there true ks)
     → ((port : PortName) (s : SubStream) (ks : Keys) → Apart ks → seen (rx_slots plan h port s ks) ≡ there false ks)
-    → seen (slots_of sends p.sub (standing plan h (port_at p.side p.link) p.stream)) ≡ there sends (keys_there h (end_at p.link p.stream sends p.side p.sub))
+    → seen (slots_of sends p.sub (standing plan h (port_at p.side p.link) p.stream))
+    ≡ there sends (keys_there h (end_at p.link p.stream sends p.side p.sub))
 unfolding standing
 known plan h law p true seen there out into =
     let port = port_at p.side p.link in
     let s = lane_out port p.stream p.sub in
     ap (λ (x : TxSub). seen x.slots) (at_each (λ u. tx_standing plan h port (lane_out port p.stream u)) p.sub)
-    ∙ (out (sealed_packets plan h) s (keys_at h port s) ((facts plan).apart h law port s) ∙ ap (there true) (keys_out h port p.stream p.sub))
+    ∙ (out (sealed_packets plan h) s (keys_at h port s) ((facts plan).apart h law port s) ∙ ap (there true)
+    (keys_out h port p.stream p.sub))
 known plan h law p false seen there out into =
     let port = port_at p.side p.link in
     let s = lane_in port p.stream p.sub in
     ap (λ (x : RxSub). seen x.slots) (at_each (λ u. rx_standing plan h port (lane_in port p.stream u)) p.sub)
-    ∙ (into port s (keys_at h port s) ((facts plan).apart h law port s) ∙ ap (there false) (keys_into h port p.stream p.sub))
+    ∙ (into port s (keys_at h port s) ((facts plan).apart h law port s) ∙ ap (there false)
+    (keys_into h port p.stream p.sub))
 
-reads : (plan : Plan) (st : LinkState) (h : History) → PortsStand plan st h → (p : Place) (at : Option StreamState → Bool) (there : Keys → Bool)
+reads : (plan : Plan) (st : LinkState) (h : History) → PortsStand plan st h
+    → (p : Place) (at : Option StreamState → Bool) (there : Keys → Bool)
     → at None ≡ there no_keys → at (Some (standing plan h (port_at p.side p.link) p.stream)) ≡ there (keys_there h p)
     → at (find plan st (port_at p.side p.link) p.stream) ≡ there (keys_there h p)
 reads plan st h stands p at there bare here =
-    ap at (stands.streams (port_at p.side p.link) p.stream) ∙ by_known (has_stream plan (port_at p.side p.link) p.stream) refl
+    ap at (stands.streams (port_at p.side p.link) p.stream) ∙ by_known
+    (has_stream plan (port_at p.side p.link) p.stream) refl
   where
     by_known : (b : Bool) → has_stream plan (port_at p.side p.link) p.stream ≡ b
         → at (if b then Some (standing plan h (port_at p.side p.link) p.stream) else None) ≡ there (keys_there h p)
@@ -58,16 +72,22 @@ bare_refuses s k = grind arith
 bare_live : (s k : Bool) → false ≡ is_live_there (slot_of s no_keys k)
 bare_live s k = grind arith
 
-refuses_is : (plan : Plan) (st : LinkState) (h : History) → PortsStand plan st h → (p : Place) (k : Bool) → (ports_of plan st).refuses p k ≡ (ports_at h).refuses p k
+refuses_is : (plan : Plan) (st : LinkState) (h : History) → PortsStand plan st h → (p : Place) (k : Bool)
+    → (ports_of plan st).refuses p k ≡ (ports_at h).refuses p k
 refuses_is plan st h stands p k =
     reads plan st h stands p (refuses_at p.sends p.sub k) (λ ks. refuses p.sends ks k) (bare_refuses p.sends k)
-    (known plan h stands.cause p p.sends (λ slots. refuses_in slots k) (λ s ks. refuses s ks k) (refuses_out plan k) (refuses_into plan h k))
+    (known plan h stands.cause p p.sends (λ slots. refuses_in slots k) (λ s ks. refuses s ks k) (refuses_out plan k)
+    (refuses_into plan h k))
 
-live_is : (plan : Plan) (st : LinkState) (h : History) → PortsStand plan st h → (p : Place) (k : Bool) → (ports_of plan st).is_live p k ≡ (ports_at h).is_live p k
+live_is : (plan : Plan) (st : LinkState) (h : History) → PortsStand plan st h → (p : Place) (k : Bool)
+    → (ports_of plan st).is_live p k ≡ (ports_at h).is_live p k
 live_is plan st h stands p k =
-    reads plan st h stands p (live_at p.sends p.sub k) (λ ks. is_live_there (slot_of p.sends ks k)) (bare_live p.sends k)
-    (known plan h stands.cause p p.sends (λ slots. is_live (slot_in slots k)) (λ s ks. is_live_there (slot_of s ks k)) (live_out plan k) (live_into plan h k))
+    reads plan st h stands p (live_at p.sends p.sub k) (λ ks. is_live_there (slot_of p.sends ks k))
+    (bare_live p.sends k)
+    (known plan h stands.cause p p.sends (λ slots. is_live (slot_in slots k)) (λ s ks. is_live_there (slot_of s ks k))
+    (live_out plan k) (live_into plan h k))
 
 -- Operations read of the slots what the history says of the keys.
 pub ports_is : (plan : Plan) (st : LinkState) (h : History) → PortsStand plan st h → ports_of plan st ≡ ports_at h
-ports_is plan st h stands = λ i. record { refuses = λ p k. refuses_is plan st h stands p k i; is_live = λ p k. live_is plan st h stands p k i }
+ports_is plan st h stands = λ i. record
+    { refuses = λ p k. refuses_is plan st h stands p k i; is_live = λ p k. live_is plan st h stands p k i }

@@ -15,7 +15,8 @@ use Rattle.ide_plan.specs.declared.plan.Plan.{Plan}
 use Rattle.ide_plan.specs.declared.stream.Selector.TheVariants.{Selective}
 use Rattle.key_laws.specs.History.{History}
 use Rattle.link_history.specs.Due.{due}
-use Rattle.link_ports.specs.Machine.{LinkState, step_of, first_state}
+use Rattle.link_verdicts.specs.declared.verdict.Effect.TheVariants as effect
+use Rattle.link_ports.specs.Machine.{Beside, LinkState, step_of, first_state}
 
 -- link 0 has stream 5, the default one, with units of up to 4 packets; the pool has three draws
 abbrev pub plan : Plan
@@ -57,13 +58,21 @@ packet number draw unit m k =
       sync = false;
     }
 
+-- no interfaces
+abbrev pub alone : Beside
+alone = record {
+  t = λ port head stream trusted. false;
+  effect = λ port unit p. effect.Delivered;
+  answer = λ e. v.Nothing;
+}
+
 abbrev pub verdicts_on : History → List Event → List Verdict
 verdicts_on h [] = []
 verdicts_on h (e ∷ es) = let verdict = due plan h e in verdict ∷ verdicts_on ((e, verdict) ∷ h) es
 
 abbrev pub answers_on : LinkState → List Event → List Verdict
 answers_on st [] = []
-answers_on st (e ∷ es) = let r = step_of plan st e in r.0 ∷ answers_on r.1 es
+answers_on st (e ∷ es) = let r = step_of plan alone st e in r.0 ∷ answers_on r.1 es
 
 -- a refresh of a set whose unit is unfinished at the device is refused there, and goes on once the unit ended
 abbrev pub held_up : List Event

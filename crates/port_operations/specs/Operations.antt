@@ -9,13 +9,15 @@ use Rattle.ide_plan.specs.declared.plan.Plan.{Plan}
 use Rattle.link_history.specs.Plan.{SubStream, lane_out, lane_in}
 use Rattle.link_history.specs.Units.{open_unit}
 use Rattle.key_laws.specs.History.{History, base}
-use Rattle.link_history.specs.History.{SealedList, waits, keys_at, sent_in, sealed_packets, posted_count, has_live_out, has_live_in, total_in, units_since}
+use Rattle.link_history.specs.History.{SealedList, waits, keys_at, sent_in, sealed_packets, posted_count, has_live_out}
+use Rattle.link_history.specs.History.{has_live_in, total_in, units_since}
 use Rattle.key_laws.specs.Keys.{Loaded, On, Keys, key_in}
 use Rattle.link_history.specs.Due.{due}
 use Rattle.link_history.specs.KeyFacts.{KeyFacts, is_quiet, operates}
 use Rattle.link_ports.specs.Machine.{LinkState, new_key, moved_state}
 use Rattle.link_ports.specs.Stands.{PortsStand, receiving_key, got_in, standing}
-use Rattle.link_ports.specs.Moves.{Move, Program, Go, Halt, key_moved_in, key_moved_out, keys_moved_in, keys_moved_out, moved_stream}
+use Rattle.link_ports.specs.Moves.{Move, Program, Go, Halt, key_moved_in, key_moved_out, keys_moved_in, keys_moved_out}
+use Rattle.link_ports.specs.Moves.{moved_stream}
 
 -- ---- moves that are allowed
 

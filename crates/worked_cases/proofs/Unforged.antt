@@ -1,6 +1,7 @@
 -- In the shortest good history no tag verified on a unit that its partner had not sealed.
 use Rattle.std.proofs.Common.{◌≡◌, [], ◌∷◌, true, false, Option, Some, None, Result, Ok, refl, subst}
-use Rattle.aes_block.specs.Aes.{key_words, temp, mixed, sbox, sub_bytes, shift_rows, mix_columns, add_round_key, sub_word, expansion, rounds, cipher, aes}
+use Rattle.aes_block.specs.Aes.{key_words, temp, mixed, sbox, sub_bytes, shift_rows, mix_columns, add_round_key}
+use Rattle.aes_block.specs.Aes.{sub_word, expansion, rounds, cipher, aes}
 use Rattle.gcm_seal.specs.Polynomials.{bits}
 use Rattle.gcm_seal.specs.Gcm.{counter, key_stream, masked, hash_key, blocks, ghash, tag_of}
 use Rattle.first_fault.specs.Walks.{walked_from, walk_length, reading}
@@ -14,7 +15,8 @@ use Rattle.link_events.specs.declared.event.Event.TheVariants.{Pass}
 use Rattle.link_verdicts.specs.declared.verdict.Verdict.{Verdict}
 use Rattle.link_history.specs.Plan.{stream_plan, key_of}
 use Rattle.link_history.specs.Units.{units, open_unit}
-use Rattle.link_history.specs.History.{Arrival, packet_of, sent_in, sealed_packets, keys_at, front_of, front_sent, total_in, arrived, held, units_got, units_since}
+use Rattle.link_history.specs.History.{Arrival, packet_of, sent_in, sealed_packets, keys_at, front_of, front_sent}
+use Rattle.link_history.specs.History.{total_in, arrived, held, units_got, units_since}
 use Rattle.link_history.specs.Due.{Ending, before_tag}
 use Rattle.link_history.specs.Laws.{WasSealed, NotForged, NoForgery}
 use Rattle.worked_cases.specs.Cases.{plan, write, host, packet, established, sealed, accepted}
@@ -69,9 +71,11 @@ no_arrival P a is = absurd cc
 arrival_not_forged : NotForged (plan 1 false) past (Pass 1)
 arrival_not_forged a x is before verified =
     let same = one_arrival (arrived (plan 1 false) past (Pass 1)) arrival a arrives is in
-    let before_here = subst (λ (b : Arrival). before_tag (plan 1 false) past b ≡ Ok x) (one_arrival (arrived (plan 1 false) past (Pass 1)) a arrival is arrives) before in
+    let before_here = subst (λ (b : Arrival). before_tag (plan 1 false) past b ≡ Ok x)
+    (one_arrival (arrived (plan 1 false) past (Pass 1)) a arrival is arrives) before in
     let same_ending = one_ending (before_tag (plan 1 false) past arrival) ending x passes before_here in
-    subst (λ (b : Arrival). WasSealed (plan 1 false) past b.port x) same (subst (WasSealed (plan 1 false) past host) same_ending was)
+    subst (λ (b : Arrival). WasSealed (plan 1 false) past b.port x) same
+    (subst (WasSealed (plan 1 false) past host) same_ending was)
 
 send_not_forged : NotForged (plan 1 false) (established ∷ []) (sealed 1 0 1).0
 unfolding arrived

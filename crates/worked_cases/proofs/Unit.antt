@@ -1,6 +1,7 @@
 -- Two packets of a unit.
 use Rattle.std.proofs.Common.{◌≡◌, [], ◌∷◌, true, false, refl}
-use Rattle.aes_block.specs.Aes.{key_words, temp, mixed, sbox, sub_bytes, shift_rows, mix_columns, add_round_key, sub_word, expansion, rounds, cipher, aes}
+use Rattle.aes_block.specs.Aes.{key_words, temp, mixed, sbox, sub_bytes, shift_rows, mix_columns, add_round_key}
+use Rattle.aes_block.specs.Aes.{sub_word, expansion, rounds, cipher, aes}
 use Rattle.gcm_seal.specs.Polynomials.{bits}
 use Rattle.gcm_seal.specs.Gcm.{counter, key_stream, masked, hash_key, blocks, ghash, tag_of, verifies}
 use Rattle.first_fault.specs.Walks.{walked_from, walk_length, reading}
@@ -10,55 +11,70 @@ use Rattle.association.specs.Choice.{choice_of}
 use Rattle.key_laws.specs.Keys.{is_open, keys}
 use Rattle.key_laws.specs.History.{manager, moments, base, failed as failed_there}
 use Rattle.key_laws.specs.Due.{due as key_due}
+use Rattle.interface_states.specs.Sites.{sites}
 use Rattle.link_history.specs.Plan.{stream_plan, key_of}
 use Rattle.link_history.specs.Units.{units, open_unit}
-use Rattle.link_history.specs.History.{packet_of, sent_in, sealed_packets, posted_in, keys_at, has_live_out, has_live_in, front_of, total_in, arrived, meets_counts, got_since, held as held_in, units_got, units_since}
+use Rattle.link_history.specs.History.{packet_of, sent_in, sealed_packets, posted_in, keys_at, has_live_out}
+use Rattle.link_history.specs.History.{has_live_in, front_of, total_in, arrived, meets_counts, got_since}
+use Rattle.link_history.specs.History.{held as held_in, units_got, units_since}
 use Rattle.link_history.specs.Due.{choice, due, before_tag, is_verified}
 use Rattle.worked_cases.specs.Due.{AreDue}
-use Rattle.worked_cases.specs.Cases.{plan, established, sealed_on, held, both_accepted, unfinished_write, unfinished, two_in_a_unit}
+use Rattle.worked_cases.specs.Cases.{plan, established, sealed_on, held, both_accepted, unfinished_write, unfinished}
+use Rattle.worked_cases.specs.Cases.{two_in_a_unit}
 
 two_2 : due (plan 2 false) (established ∷ []) (sealed_on 1 false).0 ≡ (sealed_on 1 false).1
-unfolding due key_due manager moments keys is_open failed_there base read_of reading walk_length walked_from choice
+unfolding due sites key_due manager moments keys is_open failed_there base read_of reading walk_length walked_from
+    choice
     choice_of keys_at has_live_out has_live_in stream_plan sent_in sealed_packets packet_of units open_unit posted_in
     front_of total_in arrived
 two_2 = refl
 
 two_3 : due (plan 2 false) (sealed_on 1 false ∷ established ∷ []) (sealed_on 2 true).0 ≡ (sealed_on 2 true).1
-unfolding due key_due manager moments keys is_open failed_there base read_of reading walk_length walked_from choice
+unfolding due sites key_due manager moments keys is_open failed_there base read_of reading walk_length walked_from
+    choice
     choice_of keys_at has_live_out has_live_in stream_plan sent_in sealed_packets packet_of units open_unit posted_in
     front_of total_in arrived
 two_3 = refl
 
 two_4 : due (plan 2 false) (sealed_on 2 true ∷ sealed_on 1 false ∷ established ∷ []) held.0 ≡ held.1
-unfolding due key_due manager moments keys is_open failed_there base read_of reading walk_length walked_from choice
+unfolding due sites key_due manager moments keys is_open failed_there base read_of reading walk_length walked_from
+    choice
     choice_of keys_at has_live_out has_live_in stream_plan sent_in sealed_packets packet_of units open_unit posted_in
     front_of total_in arrived read_head_of cut_of key_of before_tag is_verified meets_counts got_since held_in
     units_got units_since verifies tag_of ghash hash_key blocks counter key_stream masked bits aes cipher rounds
     add_round_key mixed mix_columns shift_rows sub_bytes key_words temp expansion sub_word sbox
 two_4 = refl
 
-two_5 : due (plan 2 false) (held ∷ sealed_on 2 true ∷ sealed_on 1 false ∷ established ∷ []) both_accepted.0 ≡ both_accepted.1
-unfolding due key_due manager moments keys is_open failed_there base read_of reading walk_length walked_from choice
+two_5 : due (plan 2 false) (held ∷ sealed_on 2 true ∷ sealed_on 1 false ∷ established ∷ []) both_accepted.0
+    ≡ both_accepted.1
+unfolding due sites key_due manager moments keys is_open failed_there base read_of reading walk_length walked_from
+    choice
     choice_of keys_at has_live_out has_live_in stream_plan sent_in sealed_packets packet_of units open_unit posted_in
     front_of total_in arrived read_head_of cut_of key_of before_tag is_verified meets_counts got_since held_in
     units_got units_since verifies tag_of ghash hash_key blocks counter key_stream masked bits aes cipher rounds
     add_round_key mixed mix_columns shift_rows sub_bytes key_words temp expansion sub_word sbox
 two_5 = refl
 
-two_6 : due (plan 2 false) (both_accepted ∷ held ∷ sealed_on 2 true ∷ sealed_on 1 false ∷ established ∷ []) unfinished_write.0 ≡ unfinished_write.1
-unfolding due key_due manager moments keys is_open failed_there base read_of reading walk_length walked_from choice
+two_6 : due (plan 2 false) (both_accepted ∷ held ∷ sealed_on 2 true ∷ sealed_on 1 false ∷ established ∷ [])
+    unfinished_write.0 ≡ unfinished_write.1
+unfolding due sites key_due manager moments keys is_open failed_there base read_of reading walk_length walked_from
+    choice
     choice_of keys_at has_live_out has_live_in stream_plan sent_in sealed_packets packet_of units open_unit posted_in
     front_of total_in arrived
 two_6 = refl
 
-two_7 : due (plan 2 false) (unfinished_write ∷ both_accepted ∷ held ∷ sealed_on 2 true ∷ sealed_on 1 false ∷ established ∷ []) unfinished.0 ≡ unfinished.1
-unfolding due key_due manager moments keys is_open failed_there base read_of reading walk_length walked_from choice
+two_7 : due (plan 2 false)
+    (unfinished_write ∷ both_accepted ∷ held ∷ sealed_on 2 true ∷ sealed_on 1 false ∷ established ∷ []) unfinished.0
+    ≡ unfinished.1
+unfolding due sites key_due manager moments keys is_open failed_there base read_of reading walk_length walked_from
+    choice
     choice_of keys_at has_live_out has_live_in stream_plan sent_in sealed_packets packet_of units open_unit posted_in
     front_of total_in arrived
 two_7 = refl
 
 pub two_due : AreDue (plan 2 false) [] two_in_a_unit
-unfolding due key_due manager moments keys is_open failed_there base read_of reading walk_length walked_from choice
+unfolding due sites key_due manager moments keys is_open failed_there base read_of reading walk_length walked_from
+    choice
     choice_of keys_at has_live_out has_live_in stream_plan sent_in sealed_packets packet_of units open_unit posted_in
     front_of total_in arrived
 two_due = (refl, (two_2, (two_3, (two_4, (two_5, (two_6, (two_7, tt)))))))

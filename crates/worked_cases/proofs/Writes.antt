@@ -1,6 +1,7 @@
 -- Writes that are sealed, accepted, altered or missing.
 use Rattle.std.proofs.Common.{◌≡◌, [], ◌∷◌, false, refl}
-use Rattle.aes_block.specs.Aes.{key_words, temp, mixed, sbox, sub_bytes, shift_rows, mix_columns, add_round_key, sub_word, expansion, rounds, cipher, aes}
+use Rattle.aes_block.specs.Aes.{key_words, temp, mixed, sbox, sub_bytes, shift_rows, mix_columns, add_round_key}
+use Rattle.aes_block.specs.Aes.{sub_word, expansion, rounds, cipher, aes}
 use Rattle.gcm_seal.specs.Polynomials.{bits}
 use Rattle.gcm_seal.specs.Gcm.{counter, key_stream, masked, hash_key, blocks, ghash, tag_of, verifies}
 use Rattle.first_fault.specs.Walks.{walked_from, walk_length, reading}
@@ -11,31 +12,41 @@ use Rattle.key_laws.specs.Keys.{is_open, keys}
 use Rattle.key_laws.specs.History.{manager, moments, base, failed as failed_there}
 use Rattle.key_laws.specs.Due.{due as key_due}
 use Rattle.link_events.specs.declared.event.Event.TheVariants.{Pass, Alter}
+use Rattle.interface_states.specs.Sites.{sites}
 use Rattle.link_history.specs.Plan.{stream_plan, key_of}
 use Rattle.link_history.specs.Units.{units, open_unit}
-use Rattle.link_history.specs.History.{packet_of, sent_in, sealed_packets, posted_in, keys_at, has_live_out, has_live_in, front_of, total_in, arrived, meets_counts, got_since, held as held_in, units_got, units_since}
+use Rattle.link_history.specs.History.{packet_of, sent_in, sealed_packets, posted_in, keys_at, has_live_out}
+use Rattle.link_history.specs.History.{has_live_in, front_of, total_in, arrived, meets_counts, got_since}
+use Rattle.link_history.specs.History.{held as held_in, units_got, units_since}
 use Rattle.link_history.specs.Due.{choice, due, before_tag, is_verified}
 use Rattle.worked_cases.specs.Due.{AreDue}
-use Rattle.worked_cases.specs.Cases.{plan, established, sealed, accepted, fails, fails_key, insecure, sealed_read, fails_order, accepted_once, trusted_on_the_way, other_set_on_the_way, one_missing, read_ahead}
+use Rattle.worked_cases.specs.Cases.{plan, established, sealed, accepted, fails, fails_key, insecure, sealed_read}
+use Rattle.worked_cases.specs.Cases.{fails_order, accepted_once, trusted_on_the_way, other_set_on_the_way, one_missing}
+use Rattle.worked_cases.specs.Cases.{read_ahead}
 
 accepted_once_3 : due (plan 1 false) (sealed 1 0 1 ∷ established ∷ []) (accepted 1 0 1).0 ≡ (accepted 1 0 1).1
-unfolding due key_due manager moments keys is_open failed_there base read_of reading walk_length walked_from choice
+unfolding due sites key_due manager moments keys is_open failed_there base read_of reading walk_length walked_from
+    choice
     choice_of keys_at has_live_out has_live_in stream_plan sent_in sealed_packets packet_of units open_unit posted_in
     front_of total_in arrived read_head_of cut_of key_of before_tag is_verified meets_counts got_since held_in
     units_got units_since verifies tag_of ghash hash_key blocks counter key_stream masked bits aes cipher rounds
     add_round_key mixed mix_columns shift_rows sub_bytes key_words temp expansion sub_word sbox
 accepted_once_3 = refl
 
-accepted_once_4 : due (plan 1 false) (accepted 1 0 1 ∷ sealed 1 0 1 ∷ established ∷ []) (fails (Pass 1)).0 ≡ (fails (Pass 1)).1
-unfolding due key_due manager moments keys is_open failed_there base read_of reading walk_length walked_from choice
+accepted_once_4 : due (plan 1 false) (accepted 1 0 1 ∷ sealed 1 0 1 ∷ established ∷ []) (fails (Pass 1)).0
+    ≡ (fails (Pass 1)).1
+unfolding due sites key_due manager moments keys is_open failed_there base read_of reading walk_length walked_from
+    choice
     choice_of keys_at has_live_out has_live_in stream_plan sent_in sealed_packets packet_of units open_unit posted_in
     front_of total_in arrived read_head_of cut_of key_of before_tag is_verified meets_counts got_since held_in
     units_got units_since verifies tag_of ghash hash_key blocks counter key_stream masked bits aes cipher rounds
     add_round_key mixed mix_columns shift_rows sub_bytes key_words temp expansion sub_word sbox
 accepted_once_4 = refl
 
-accepted_once_5 : due (plan 1 false) (fails (Pass 1) ∷ accepted 1 0 1 ∷ sealed 1 0 1 ∷ established ∷ []) insecure.0 ≡ insecure.1
-unfolding due key_due manager moments keys is_open failed_there base read_of reading walk_length walked_from choice
+accepted_once_5 : due (plan 1 false) (fails (Pass 1) ∷ accepted 1 0 1 ∷ sealed 1 0 1 ∷ established ∷ []) insecure.0
+    ≡ insecure.1
+unfolding due sites key_due manager moments keys is_open failed_there base read_of reading walk_length walked_from
+    choice
     choice_of keys_at has_live_out has_live_in stream_plan sent_in sealed_packets packet_of units open_unit posted_in
     front_of total_in arrived read_head_of cut_of key_of before_tag is_verified meets_counts got_since held_in
     units_got units_since verifies tag_of ghash hash_key blocks counter key_stream masked bits aes cipher rounds
@@ -43,13 +54,15 @@ unfolding due key_due manager moments keys is_open failed_there base read_of rea
 accepted_once_5 = refl
 
 pub accepted_once_due : AreDue (plan 1 false) [] accepted_once
-unfolding due key_due manager moments keys is_open failed_there base read_of reading walk_length walked_from choice
+unfolding due sites key_due manager moments keys is_open failed_there base read_of reading walk_length walked_from
+    choice
     choice_of keys_at has_live_out has_live_in stream_plan sent_in sealed_packets packet_of units open_unit posted_in
     front_of total_in arrived
 accepted_once_due = (refl, (refl, (accepted_once_3, (accepted_once_4, (accepted_once_5, tt)))))
 
 trusted_3 : due (plan 1 false) (sealed 1 0 1 ∷ established ∷ []) (fails (Alter 1 1 0x20)).0 ≡ (fails (Alter 1 1 0x20)).1
-unfolding due key_due manager moments keys is_open failed_there base read_of reading walk_length walked_from choice
+unfolding due sites key_due manager moments keys is_open failed_there base read_of reading walk_length walked_from
+    choice
     choice_of keys_at has_live_out has_live_in stream_plan sent_in sealed_packets packet_of units open_unit posted_in
     front_of total_in arrived read_head_of cut_of key_of before_tag is_verified meets_counts got_since held_in
     units_got units_since verifies tag_of ghash hash_key blocks counter key_stream masked bits aes cipher rounds
@@ -57,13 +70,16 @@ unfolding due key_due manager moments keys is_open failed_there base read_of rea
 trusted_3 = refl
 
 pub trusted_due : AreDue (plan 1 false) [] trusted_on_the_way
-unfolding due key_due manager moments keys is_open failed_there base read_of reading walk_length walked_from choice
+unfolding due sites key_due manager moments keys is_open failed_there base read_of reading walk_length walked_from
+    choice
     choice_of keys_at has_live_out has_live_in stream_plan sent_in sealed_packets packet_of units open_unit posted_in
     front_of total_in arrived
 trusted_due = (refl, (refl, (trusted_3, tt)))
 
-rekeyed_3 : due (plan 1 false) (sealed 1 0 1 ∷ established ∷ []) (fails_key (Alter 1 1 0x40)).0 ≡ (fails_key (Alter 1 1 0x40)).1
-unfolding due key_due manager moments keys is_open failed_there base read_of reading walk_length walked_from choice
+rekeyed_3 : due (plan 1 false) (sealed 1 0 1 ∷ established ∷ []) (fails_key (Alter 1 1 0x40)).0
+    ≡ (fails_key (Alter 1 1 0x40)).1
+unfolding due sites key_due manager moments keys is_open failed_there base read_of reading walk_length walked_from
+    choice
     choice_of keys_at has_live_out has_live_in stream_plan sent_in sealed_packets packet_of units open_unit posted_in
     front_of total_in arrived read_head_of cut_of key_of before_tag is_verified meets_counts got_since held_in
     units_got units_since verifies tag_of ghash hash_key blocks counter key_stream masked bits aes cipher rounds
@@ -71,21 +87,26 @@ unfolding due key_due manager moments keys is_open failed_there base read_of rea
 rekeyed_3 = refl
 
 pub rekeyed_due : AreDue (plan 1 false) [] other_set_on_the_way
-unfolding due key_due manager moments keys is_open failed_there base read_of reading walk_length walked_from choice
+unfolding due sites key_due manager moments keys is_open failed_there base read_of reading walk_length walked_from
+    choice
     choice_of keys_at has_live_out has_live_in stream_plan sent_in sealed_packets packet_of units open_unit posted_in
     front_of total_in arrived
 rekeyed_due = (refl, (refl, (rekeyed_3, tt)))
 
-one_missing_5 : due (plan 1 false) (sealed 3 0 3 ∷ sealed 2 0 2 ∷ sealed 1 0 1 ∷ established ∷ []) (accepted 1 0 1).0 ≡ (accepted 1 0 1).1
-unfolding due key_due manager moments keys is_open failed_there base read_of reading walk_length walked_from choice
+one_missing_5 : due (plan 1 false) (sealed 3 0 3 ∷ sealed 2 0 2 ∷ sealed 1 0 1 ∷ established ∷ []) (accepted 1 0 1).0
+    ≡ (accepted 1 0 1).1
+unfolding due sites key_due manager moments keys is_open failed_there base read_of reading walk_length walked_from
+    choice
     choice_of keys_at has_live_out has_live_in stream_plan sent_in sealed_packets packet_of units open_unit posted_in
     front_of total_in arrived read_head_of cut_of key_of before_tag is_verified meets_counts got_since held_in
     units_got units_since verifies tag_of ghash hash_key blocks counter key_stream masked bits aes cipher rounds
     add_round_key mixed mix_columns shift_rows sub_bytes key_words temp expansion sub_word sbox
 one_missing_5 = refl
 
-one_missing_6 : due (plan 1 false) (accepted 1 0 1 ∷ sealed 3 0 3 ∷ sealed 2 0 2 ∷ sealed 1 0 1 ∷ established ∷ []) (fails (Pass 3)).0 ≡ (fails (Pass 3)).1
-unfolding due key_due manager moments keys is_open failed_there base read_of reading walk_length walked_from choice
+one_missing_6 : due (plan 1 false) (accepted 1 0 1 ∷ sealed 3 0 3 ∷ sealed 2 0 2 ∷ sealed 1 0 1 ∷ established ∷ [])
+    (fails (Pass 3)).0 ≡ (fails (Pass 3)).1
+unfolding due sites key_due manager moments keys is_open failed_there base read_of reading walk_length walked_from
+    choice
     choice_of keys_at has_live_out has_live_in stream_plan sent_in sealed_packets packet_of units open_unit posted_in
     front_of total_in arrived read_head_of cut_of key_of before_tag is_verified meets_counts got_since held_in
     units_got units_since verifies tag_of ghash hash_key blocks counter key_stream masked bits aes cipher rounds
@@ -93,13 +114,15 @@ unfolding due key_due manager moments keys is_open failed_there base read_of rea
 one_missing_6 = refl
 
 pub one_missing_due : AreDue (plan 1 false) [] one_missing
-unfolding due key_due manager moments keys is_open failed_there base read_of reading walk_length walked_from choice
+unfolding due sites key_due manager moments keys is_open failed_there base read_of reading walk_length walked_from
+    choice
     choice_of keys_at has_live_out has_live_in stream_plan sent_in sealed_packets packet_of units open_unit posted_in
     front_of total_in arrived
 one_missing_due = (refl, (refl, (refl, (refl, (one_missing_5, (one_missing_6, tt))))))
 
 read_ahead_4 : due (plan 1 false) (sealed_read ∷ sealed 1 0 1 ∷ established ∷ []) fails_order.0 ≡ fails_order.1
-unfolding due key_due manager moments keys is_open failed_there base read_of reading walk_length walked_from choice
+unfolding due sites key_due manager moments keys is_open failed_there base read_of reading walk_length walked_from
+    choice
     choice_of keys_at has_live_out has_live_in stream_plan sent_in sealed_packets packet_of units open_unit posted_in
     front_of total_in arrived read_head_of cut_of key_of before_tag is_verified meets_counts got_since held_in
     units_got units_since verifies tag_of ghash hash_key blocks counter key_stream masked bits aes cipher rounds
@@ -107,7 +130,8 @@ unfolding due key_due manager moments keys is_open failed_there base read_of rea
 read_ahead_4 = refl
 
 pub read_ahead_due : AreDue (plan 1 false) [] read_ahead
-unfolding due key_due manager moments keys is_open failed_there base read_of reading walk_length walked_from choice
+unfolding due sites key_due manager moments keys is_open failed_there base read_of reading walk_length walked_from
+    choice
     choice_of keys_at has_live_out has_live_in stream_plan sent_in sealed_packets packet_of units open_unit posted_in
     front_of total_in arrived
 read_ahead_due = (refl, (refl, (refl, (read_ahead_4, tt))))

@@ -4,7 +4,9 @@ ghost use Rattle.std.specs.Prelude.{[], ◌∷◌, true, false};
 ghost use Rattle.link_events.specs.declared.event.Event.TheVariants.{Pass};
 ghost use Rattle.link_history.specs.Laws.{NoForgery};
 ghost use Rattle.worked_cases.specs.Due.{AreDue};
-ghost use Rattle.worked_cases.specs.Cases.{plan, writes, established, sealed, accepted, fails, accepted_once, trusted_on_the_way, other_set_on_the_way, one_missing, read_ahead, two_in_a_unit, late_packet, reply_lost, tail_missing, count_full};
+ghost use Rattle.worked_cases.specs.Cases.{plan, writes, established, sealed, accepted, fails, accepted_once};
+ghost use Rattle.worked_cases.specs.Cases.{trusted_on_the_way, other_set_on_the_way, one_missing, read_ahead};
+ghost use Rattle.worked_cases.specs.Cases.{two_in_a_unit, late_packet, reply_lost, tail_missing, count_full};
 
 /// A posted write is sealed and accepted. Where it arrives again it fails by its tag, which is that of the unit before;
 /// then the stream is insecure.

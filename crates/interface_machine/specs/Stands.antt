@@ -1,0 +1,43 @@
+-- What is kept of interfaces stands for the history.
+use Rattle.std.specs.Prelude.{◌≡◌, ℕ, ◌∷◌, Bool, [], map, Option}
+use Rattle.interface_states.specs.Terms.{option_and_then, Host, Device, Plan, Event, InterfaceEvent, Verdict, History}
+use Rattle.interface_states.specs.Terms.{op_of, draws, status_of}
+use Rattle.interface_states.specs.Sites.{Site, sites, site_with}
+use Rattle.interface_states.specs.Views.{managed, stream_draw, grant_at}
+use Rattle.interface_states.specs.Devices.{tdi_at, used_at, is_secure, sets_t}
+use Rattle.interface_states.specs.Due.{due}
+use Rattle.interface_machine.specs.Machine.{Face, Faces, new_faces, Streams, faces_after, answer_of, t_of, grant_of}
+
+-- what a history says of streams
+abbrev pub secure_of : History → ℕ → ℕ → Bool
+secure_of h link stream = is_secure (status_of h Device link stream)
+
+abbrev pub streams_at : History → Streams
+streams_at h = record {
+  secure = secure_of h;
+  host = λ link stream. status_of h Host link stream;
+  draw = stream_draw h;
+  op = op_of h;
+  drawn = draws h;
+}
+
+-- what it says of an interface
+abbrev pub face_at : Plan → History → Site → Face
+face_at plan h x = record { tdi = tdi_at plan h x; managed = managed h x }
+
+-- each kept part is what the history gives
+pub record StandsFor (plan : Plan) (fs : Faces) (h : History) : Type 0 where
+  pub faces : fs.list ≡ map (face_at plan h) (sites plan)
+  pub used : fs.used ≡ used_at plan h
+
+-- the first state stands for the empty history, and each step for one more pair, whatever its verdict
+pub record FacesStand : Type 0 where
+  pub first : (plan : Plan) → StandsFor plan (new_faces plan) []
+  pub step : (plan : Plan) (fs : Faces) (h : History) (e : Event) (w : Verdict) → StandsFor plan fs h
+      → StandsFor plan (faces_after plan (streams_at h) (secure_of ((e, w) ∷ h)) e w fs) ((e, w) ∷ h)
+  pub answer : (plan : Plan) (fs : Faces) (h : History) (e : InterfaceEvent) (given : Verdict) → StandsFor plan fs h
+      → answer_of plan (streams_at h) fs e given ≡ due plan h e given
+  pub t : (plan : Plan) (fs : Faces) (h : History) (link stream : ℕ) (owner : Option ℕ) → StandsFor plan fs h
+      → t_of plan fs link stream owner ≡ sets_t plan h link stream (option_and_then (site_with plan link) owner)
+  pub grant : (plan : Plan) (fs : Faces) (h : History) (link requester : ℕ) → StandsFor plan fs h
+      → grant_of plan fs link requester ≡ grant_at plan h link requester

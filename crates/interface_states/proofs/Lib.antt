@@ -1,0 +1,5 @@
+pub mod Locks
+pub mod RunLaws
+pub mod Rests
+pub mod Trusted
+pub mod Views

@@ -1,0 +1,172 @@
+-- What a lock of an interface keeps, pair by pair.
+use Rattle.std.proofs.Common.{◌≡◌, ℕ, ◌==◌, ◌&&◌, ◌∷◌, ◌⊎◌, inl, inr, Bool, true, false, List, [], Some, Result, Ok}
+use Rattle.std.proofs.Common.{Err, if◌then◌else◌, refl, ◌∙◌, arith}
+use Rattle.std.proofs.lemmas.Bool.Decides.{nat_tests}
+use Rattle.interface_states.specs.Terms.{Plan, Event, InterfaceEvent, Verdict, History, Registers, Lock, Tdi, lock_of}
+use Rattle.interface_states.specs.Terms.{lock_answer, Call, LockInterface, StartInterface, StopInterface, WriteRegister}
+use Rattle.interface_states.specs.Terms.{LevelReset, FirmwareUpdate, StreamLeft, LinkReset, tdi_after}
+use Rattle.tdi_state.specs.Machine.{new_lock, locked_with, KeepsListed}
+use Rattle.tdi_state.proofs.ListedParts.{listed_is_kept}
+use Rattle.interface_states.specs.Sites.{Site}
+use Rattle.interface_states.specs.Exchanges.{carries, is_applied}
+use Rattle.interface_states.specs.Views.{is_number, number_in}
+use Rattle.interface_states.specs.Devices.{Around, around_at, called, lock_call, asked, next_tdi, is_given}
+use Rattle.interface_states.specs.Devices.{accepts_lock, leaves, devices, tdi_at, registers_locked, locks_in}
+use Rattle.link_events.specs.declared.event.Event.TheVariants as event
+use Rattle.link_events.specs.declared.event.InterfaceEvent.TheVariants as ie
+use Rattle.link_verdicts.specs.declared.verdict.Verdict.TheVariants as v
+
+-- ---- what calls leave
+
+abbrev is_lock : Call → Bool
+is_lock (LockInterface flags stream offset secure drawn) = true
+is_lock _ = false
+
+-- no call but LOCK_INTERFACE makes a lock
+after_stood : (tdi : Tdi) (c : Call) (l : Lock) → is_lock c ≡ false → lock_of (tdi_after tdi c).state ≡ Some l
+    → lock_of tdi.state ≡ Some l
+after_stood tdi c l other is = grind (arith, nat_tests)
+
+locked_layout : (tdi : Tdi) (new : Lock) (answer : Result (List ℕ) ℕ) → (locked_with tdi new answer).plan ≡ tdi.plan
+locked_layout tdi new answer = grind arith
+
+after_layout : (tdi : Tdi) (c : Call) → (tdi_after tdi c).plan ≡ tdi.plan
+after_layout tdi (LockInterface flags stream offset secure drawn) = locked_layout tdi (new_lock tdi flags stream offset)
+    (lock_answer tdi flags offset secure drawn)
+after_layout tdi (StartInterface nonce) = refl
+after_layout tdi StopInterface = refl
+after_layout tdi (WriteRegister register value) = refl
+after_layout tdi LevelReset = refl
+after_layout tdi FirmwareUpdate = refl
+after_layout tdi StreamLeft = refl
+after_layout tdi LinkReset = refl
+
+called_stood : (b : Bool) (c : Call) (tdi : Tdi) (l : Lock) → is_lock c ≡ false → lock_of (called b c tdi).state
+    ≡ Some l → lock_of tdi.state ≡ Some l
+called_stood true c tdi l other is = after_stood tdi c l other is
+called_stood false c tdi l other is = is
+
+called_layout : (b : Bool) (c : Call) (tdi : Tdi) → (called b c tdi).plan ≡ tdi.plan
+called_layout true c tdi = after_layout tdi c
+called_layout false c tdi = refl
+
+called_listed : (b : Bool) (c : Call) (tdi : Tdi) → KeepsListed tdi.registers tdi.state
+    → KeepsListed (called b c tdi).registers (called b c tdi).state
+called_listed true c tdi keeps = listed_is_kept tdi c keeps
+called_listed false c tdi keeps = keeps
+
+-- ---- what a pair leaves
+
+-- P of what the pair leaves, where each call keeps it
+abbrev Keeps : (Tdi → Type 0) → Type 0
+Keeps P = (b : Bool) (c : Call) (tdi : Tdi) → P tdi → P (called b c tdi)
+
+if_keeps : (P : Tdi → Type 0) (b : Bool) (s t : Tdi) → P s → P t → P (if b then s else t)
+if_keeps P true s t one two = one
+if_keeps P false s t one two = two
+
+asked_keeps : (P : Tdi → Type 0) → Keeps P → (a : Around) (x : Site) (e : InterfaceEvent) (w : Verdict) (tdi : Tdi)
+    → P tdi → P (asked a x e w tdi)
+asked_keeps P keeps a x (ie.Lock i loss) w tdi p = keeps (carries w 3) (lock_call a x) tdi p
+asked_keeps P keeps a x (ie.Start i loss) w tdi p = keeps (carries w 1) (StartInterface a.nonce) tdi p
+asked_keeps P keeps a x (ie.Halt i loss) w tdi p = keeps (carries w 1) StopInterface tdi p
+asked_keeps P keeps a x (ie.Write i register value) w tdi p = keeps (is_applied w) (WriteRegister register value) tdi p
+asked_keeps P keeps a x (ie.Flr i) w tdi p = keeps (is_applied w) LevelReset tdi p
+asked_keeps P keeps a x (ie.Firmware i) w tdi p = keeps (is_applied w) FirmwareUpdate tdi p
+asked_keeps P keeps a x e w tdi p = p
+
+pub next_keeps : (P : Tdi → Type 0) → Keeps P
+    → (a : Around) (left : Bool) (x : Site) (e : Event) (w : Verdict) (tdi : Tdi) → P tdi
+    → P (next_tdi a left x e w tdi)
+next_keeps P keeps a left x (event.Interface e) w tdi p =
+    if_keeps P (is_number (number_in e) x.number) (asked a x e w tdi) tdi (asked_keeps P keeps a x e w tdi p) p
+next_keeps P keeps a left x (event.Reset link) (v.Reset l) tdi p = keeps (link == x.link) LinkReset tdi p
+next_keeps P keeps a left x e w tdi p = keeps left StreamLeft tdi p
+
+-- ---- locks
+
+-- the lock that stands behind a pair stood before it, or was made by it
+abbrev pub Made : Around → Site → Event → Verdict → Tdi → Lock → Type 0
+Made a x e w tdi l = ((lock_of tdi.state ≡ Some l) × (accepts_lock a x e w tdi ≡ false))
+    ⊎ ((accepts_lock a x e w tdi ≡ true) × (l ≡ new_lock tdi x.plan.flags x.plan.stream x.plan.offset))
+
+given_made : (tdi : Tdi) (new l : Lock) (answer : Result (List ℕ) ℕ) → lock_of (locked_with tdi new answer).state
+    ≡ Some l
+    → ((lock_of tdi.state ≡ Some l) × (is_given answer ≡ false)) ⊎ ((is_given answer ≡ true) × (l ≡ new))
+given_made tdi new l (Ok nonce) is = inr (refl, grind arith)
+given_made tdi new l (Err code) is = inl (is, refl)
+
+lock_made : (a : Around) (x : Site) (b c : Bool) (tdi : Tdi) (l : Lock)
+    → lock_of (if b then called c (lock_call a x) tdi else tdi).state ≡ Some l
+    → let accepts = b && c && is_given (lock_answer tdi x.plan.flags x.plan.offset a.secure a.drawn) in
+    ((lock_of tdi.state ≡ Some l) × (accepts ≡ false)) ⊎
+    ((accepts ≡ true) × (l ≡ new_lock tdi x.plan.flags x.plan.stream x.plan.offset))
+lock_made a x false c tdi l is = inl (is, refl)
+lock_made a x true false tdi l is = inl (is, refl)
+lock_made a x true true tdi l is =
+    given_made tdi (new_lock tdi x.plan.flags x.plan.stream x.plan.offset) l
+    (lock_answer tdi x.plan.flags x.plan.offset a.secure a.drawn) is
+
+if_stood : (b : Bool) (s t : Tdi) (l : Lock) → (lock_of s.state ≡ Some l → lock_of t.state ≡ Some l)
+    → lock_of (if b then s else t).state ≡ Some l → lock_of t.state ≡ Some l
+if_stood true s t l stood is = stood is
+if_stood false s t l stood is = is
+
+pub next_made : (a : Around) (left : Bool) (x : Site) (e : Event) (w : Verdict) (tdi : Tdi) (l : Lock)
+    → lock_of (next_tdi a left x e w tdi).state ≡ Some l → Made a x e w tdi l
+next_made a left x (event.Interface (ie.Lock i loss)) w tdi l is = lock_made a x (i == x.number) (carries w 3) tdi l is
+next_made a left x (event.Interface (ie.Start i loss)) w tdi l is =
+    inl (if_stood (i == x.number) _ tdi l (called_stood (carries w 1) (StartInterface a.nonce) tdi l refl) is, refl)
+next_made a left x (event.Interface (ie.Halt i loss)) w tdi l is =
+    inl (if_stood (i == x.number) _ tdi l (called_stood (carries w 1) StopInterface tdi l refl) is, refl)
+next_made a left x (event.Interface (ie.Write i register value)) w tdi l is =
+    inl (
+      if_stood (i == x.number) _ tdi l (called_stood (is_applied w) (WriteRegister register value) tdi l refl) is,
+      refl,
+    )
+next_made a left x (event.Interface (ie.Flr i)) w tdi l is =
+    inl (if_stood (i == x.number) _ tdi l (called_stood (is_applied w) LevelReset tdi l refl) is, refl)
+next_made a left x (event.Interface (ie.Firmware i)) w tdi l is =
+    inl (if_stood (i == x.number) _ tdi l (called_stood (is_applied w) FirmwareUpdate tdi l refl) is, refl)
+next_made a left x (event.Interface e) w tdi l is = inl
+    (if_stood (is_number (number_in e) x.number) tdi tdi l (λ h. h) is, refl)
+next_made a left x (event.Reset link) (v.Reset l2) tdi l is = inl
+    (called_stood (link == x.link) LinkReset tdi l refl is, refl)
+next_made a left x e w tdi l is = inl (called_stood left StreamLeft tdi l refl is, refl)
+
+-- ---- all pairs
+
+pub layout_at : (plan : Plan) (h : History) (x : Site) → (tdi_at plan h x).plan ≡ x.plan
+unfolding devices
+layout_at plan [] x = refl
+layout_at plan ((e, w) ∷ h) x =
+    next_keeps (λ t. t.plan ≡ x.plan) (λ b c t is. called_layout b c t ∙ is) (around_at plan h x) (leaves h e w x) x e w
+    (tdi_at plan h x) (layout_at plan h x)
+
+pub listed_at : (plan : Plan) (h : History) (x : Site) → KeepsListed (tdi_at plan h x).registers (tdi_at plan h x).state
+unfolding devices
+listed_at plan [] x = tt
+listed_at plan ((e, w) ∷ h) x =
+    next_keeps (λ t. KeepsListed t.registers t.state) called_listed (around_at plan h x) (leaves h e w x) x e w
+    (tdi_at plan h x) (listed_at plan h x)
+
+-- the lock that stands is that of the topology, with the registers at the last one that was accepted
+abbrev pub lock_with : Site → Registers → Lock
+lock_with x registers = record
+    { flags = x.plan.flags; stream = x.plan.stream; offset = x.plan.offset; registers = registers }
+
+lock_step : (plan : Plan) (h : History) (e : Event) (w : Verdict) (x : Site) (l : Lock)
+    → (lock_of (tdi_at plan h x).state ≡ Some l → l ≡ lock_with x (registers_locked plan h x))
+    → Made (around_at plan h x) x e w (tdi_at plan h x) l
+    → l ≡ lock_with x (if locks_in plan h (devices plan h) e w x then (tdi_at plan h x).registers else registers_locked
+    plan h x)
+lock_step plan h e w x l before (inl stood) = rw stood.1 (before stood.0)
+lock_step plan h e w x l before (inr made) = rw made.0 made.1
+
+pub lock_stands : (plan : Plan) (h : History) (x : Site) (l : Lock) → lock_of (tdi_at plan h x).state ≡ Some l → l
+    ≡ lock_with x (registers_locked plan h x)
+unfolding devices registers_locked
+lock_stands plan [] x l is = absurd cc
+lock_stands plan ((e, w) ∷ h) x l is =
+    lock_step plan h e w x l (lock_stands plan h x l)
+    (next_made (around_at plan h x) (leaves h e w x) x e w (tdi_at plan h x) l is)

@@ -1,0 +1,137 @@
+-- What each device's interfaces are, over whole histories.
+use Rattle.std.specs.Prelude.{ℕ, ◌+◌, ◌==◌, ◌&&◌, ◌∷◌, Bool, true, false, not, if◌then◌else◌, List, [], Option, Some}
+use Rattle.std.specs.Prelude.{None, Result, Ok, Err}
+use Rattle.interface_states.specs.Terms.{list_any, Device, StreamStatus, Plan, Event, InterfaceEvent, Verdict, History}
+use Rattle.interface_states.specs.Terms.{status_of, Registers, TdiState, Run, planned, Tdi, new_tdi, lock_answer, Call}
+use Rattle.interface_states.specs.Terms.{LockInterface, StartInterface, StopInterface, WriteRegister, LevelReset}
+use Rattle.interface_states.specs.Terms.{FirmwareUpdate, StreamLeft, LinkReset, tdi_after}
+use Rattle.interface_states.specs.Sites.{Site, sites, nonce_behind}
+use Rattle.interface_states.specs.Exchanges.{carries, is_applied}
+use Rattle.interface_states.specs.Views.{managed, is_number, number_in}
+use Rattle.ide_types.specs.declared.status.StreamStatus.TheVariants as status
+use Rattle.link_events.specs.declared.event.Event.TheVariants as event
+use Rattle.link_events.specs.declared.event.InterfaceEvent.TheVariants as ie
+use Rattle.link_verdicts.specs.declared.verdict.Verdict.TheVariants as v
+
+-- ---- what stands around an interface before an event
+
+pub record Around : Type 0 where
+  -- its stream is Secure at the device's port
+  pub secure : Bool
+  -- the device's next nonce
+  pub drawn : Option (List ℕ)
+  -- the nonce that the manager holds
+  pub nonce : List ℕ
+
+abbrev pub is_secure : StreamStatus → Bool
+is_secure status.Secure = true
+is_secure _ = false
+
+abbrev pub secure_at : History → Site → Bool
+secure_at h x = is_secure (status_of h Device x.link x.plan.stream)
+
+abbrev pub around : Plan → History → (ℕ → ℕ) → Site → Around
+around plan h used x = record {
+  secure = secure_at h x;
+  drawn = nonce_behind plan x.link (used x.link);
+  nonce = (managed h x).nonce;
+}
+
+-- ---- what comes to it
+
+abbrev pub called : Bool → Call → Tdi → Tdi
+called true call tdi = tdi_after tdi call
+called false call tdi = tdi
+
+abbrev pub lock_call : Around → Site → Call
+lock_call a x = LockInterface x.plan.flags x.plan.stream x.plan.offset a.secure a.drawn
+
+-- by what it is asked, or written to
+abbrev pub asked : Around → Site → InterfaceEvent → Verdict → Tdi → Tdi
+asked a x (ie.Lock i loss) w tdi = called (carries w 3) (lock_call a x) tdi
+asked a x (ie.Start i loss) w tdi = called (carries w 1) (StartInterface a.nonce) tdi
+asked a x (ie.Halt i loss) w tdi = called (carries w 1) StopInterface tdi
+asked a x (ie.Write i register value) w tdi = called (is_applied w) (WriteRegister register value) tdi
+asked a x (ie.Flr i) w tdi = called (is_applied w) LevelReset tdi
+asked a x (ie.Firmware i) w tdi = called (is_applied w) FirmwareUpdate tdi
+asked a x e w tdi = tdi
+
+-- `left` says that its stream was Secure at the device's port before the pair, and is not behind it
+abbrev pub next_tdi : Around → Bool → Site → Event → Verdict → Tdi → Tdi
+next_tdi a left x (event.Interface e) w tdi = if is_number (number_in e) x.number then asked a x e w tdi else tdi
+next_tdi a left x (event.Reset link) (v.Reset l) tdi = called (link == x.link) LinkReset tdi
+next_tdi a left x e w tdi = called left StreamLeft tdi
+
+abbrev pub is_given : Result (List ℕ) ℕ → Bool
+is_given (Ok nonce) = true
+is_given (Err code) = false
+
+-- the pair brings it a LOCK_INTERFACE that it accepts
+abbrev pub accepts_lock : Around → Site → Event → Verdict → Tdi → Bool
+accepts_lock a x (event.Interface (ie.Lock i loss)) w tdi =
+    (i == x.number) && carries w 3 && is_given (lock_answer tdi x.plan.flags x.plan.offset a.secure a.drawn)
+accepts_lock a x e w tdi = false
+
+-- ---- all pairs
+
+-- the interfaces, how often each was locked, and how many nonces the device of each link gave
+pub record Devices : Type 0 where
+  pub tdi : Site → Tdi
+  pub locks : Site → ℕ
+  pub used : ℕ → ℕ
+
+abbrev pub leaves : History → Event → Verdict → Site → Bool
+leaves h e w x = secure_at h x && not (secure_at ((e, w) ∷ h) x)
+
+abbrev pub one_if : Bool → ℕ
+one_if true = 1
+one_if false = 0
+
+abbrev pub locks_in : Plan → History → Devices → Event → Verdict → Site → Bool
+locks_in plan h d e w x = accepts_lock (around plan h d.used x) x e w (d.tdi x)
+
+abbrev pub devices_after : Plan → History → Devices → Event → Verdict → Devices
+devices_after plan h d e w = record {
+  tdi = λ x. next_tdi (around plan h d.used x) (leaves h e w x) x e w (d.tdi x);
+  locks = λ x. d.locks x + one_if (locks_in plan h d e w x);
+  used = λ link. d.used link + one_if (list_any (λ x. (x.link == link) && locks_in plan h d e w x) (sites plan));
+}
+
+unfoldable pub devices : Plan → History → Devices
+devices plan [] = record { tdi = λ x. new_tdi x.plan; locks = λ x. 0; used = λ link. 0 }
+devices plan ((e, w) ∷ h) = devices_after plan h (devices plan h) e w
+
+-- the interface
+abbrev pub tdi_at : Plan → History → Site → Tdi
+tdi_at plan h x = (devices plan h).tdi x
+
+-- how many LOCK_INTERFACE requests it accepted
+abbrev pub locks_at : Plan → History → Site → ℕ
+locks_at plan h x = (devices plan h).locks x
+
+-- how many nonces the device of a link gave
+abbrev pub used_at : Plan → History → ℕ → ℕ
+used_at plan h link = (devices plan h).used link
+
+abbrev pub around_at : Plan → History → Site → Around
+around_at plan h x = around plan h (devices plan h).used x
+
+-- its registers as they stood at the last LOCK_INTERFACE that it accepted
+unfoldable pub registers_locked : Plan → History → Site → Registers
+registers_locked plan [] x = planned x.plan
+registers_locked plan ((e, w) ∷ h) x =
+    if locks_in plan h (devices plan h) e w x then (tdi_at plan h x).registers else registers_locked plan h x
+
+-- ---- T
+
+abbrev pub is_run : TdiState → Bool
+is_run (Run lock) = true
+is_run _ = false
+
+abbrev pub runs_at : Plan → History → Site → Bool
+runs_at plan h x = is_run (tdi_at plan h x).state
+
+-- a device's port sets T on a stream where the TLP's owner is an interface in RUN that is bound to it
+abbrev pub sets_t : Plan → History → ℕ → ℕ → Option Site → Bool
+sets_t plan h link stream None = false
+sets_t plan h link stream (Some x) = runs_at plan h x && (x.plan.stream == stream)

@@ -1,0 +1,41 @@
+-- How far an operation on an interface came, by its verdict. It begins anew at each event; its exchanges are numbered
+-- from 1.
+use Rattle.std.specs.Prelude.{ℕ, ◌==◌, Bool, true, false, nat_lt, nat_le}
+use Rattle.interface_states.specs.Terms.{Verdict, InterfaceVerdict}
+use Rattle.link_verdicts.specs.declared.verdict.Verdict.TheVariants as v
+use Rattle.interface_words.specs.declared.verdict.InterfaceVerdict.TheVariants as iv
+
+-- it came to its end
+abbrev pub is_done : InterfaceVerdict → Bool
+is_done (iv.Locked i nonce) = true
+is_done (iv.Reported i report) = true
+is_done (iv.Started i draw) = true
+is_done (iv.Halted i needs) = true
+is_done (iv.State i state) = true
+is_done _ = false
+
+-- the request of the exchange reached the device
+abbrev pub carries : Verdict → ℕ → Bool
+carries (v.LostRequest m) n = nat_lt n m
+carries (v.LostReply m) n = nat_le n m
+carries (v.RefusedDevice m code) n = nat_le n m
+carries (v.Interface w) n = is_done w
+carries _ n = false
+
+-- its request or its reply was lost in the exchange
+abbrev pub is_lost_at : Verdict → ℕ → Bool
+is_lost_at (v.LostRequest m) n = m == n
+is_lost_at (v.LostReply m) n = m == n
+is_lost_at _ n = false
+
+-- the device refused the exchange
+abbrev pub is_refused_at : Verdict → ℕ → Bool
+is_refused_at (v.RefusedDevice m code) n = m == n
+is_refused_at _ n = false
+
+-- the device was written to, reset or updated
+abbrev pub is_applied : Verdict → Bool
+is_applied (v.Interface (iv.Written i state)) = true
+is_applied (v.Interface (iv.Flr i state)) = true
+is_applied (v.Interface (iv.Firmware i state)) = true
+is_applied _ = false

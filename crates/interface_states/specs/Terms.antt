@@ -1,0 +1,32 @@
+-- What is said of elsewhere, and spoken of in the definitions here.
+pub use Rattle.std.specs.List.{AllByRecursion, list_any, slice_index_or}
+pub use Rattle.std.specs.Option.{option_and_then, option_map, option_map_or}
+pub use Rattle.ide_types.specs.declared.port.Side.{Side}
+pub use Rattle.ide_types.specs.declared.port.Side.TheVariants.{Host, Device}
+pub use Rattle.ide_types.specs.declared.port.PortName.{PortName}
+pub use Rattle.ide_types.specs.declared.status.StreamStatus.{StreamStatus}
+pub use Rattle.ide_plan.specs.declared.plan.Plan.{Plan}
+pub use Rattle.ide_plan.specs.declared.plan.LinkPlan.{LinkPlan}
+pub use Rattle.ide_plan.specs.declared.interface.InterfacePlan.{InterfacePlan}
+pub use Rattle.interface_words.specs.declared.register.Register.{Register}
+pub use Rattle.interface_words.specs.declared.view.View.{View}
+pub use Rattle.interface_words.specs.declared.view.View.TheVariants.{Unlocked, Locked, Running, Doubt, Broken}
+pub use Rattle.interface_words.specs.declared.verdict.InterfaceVerdict.{InterfaceVerdict}
+pub use Rattle.link_events.specs.declared.event.Event.{Event}
+pub use Rattle.link_events.specs.declared.event.InterfaceEvent.{InterfaceEvent}
+pub use Rattle.link_events.specs.declared.event.Loss.{Loss}
+pub use Rattle.link_verdicts.specs.declared.verdict.Verdict.{Verdict}
+pub use Rattle.link_verdicts.specs.declared.verdict.SealedPacket.{SealedPacket}
+pub use Rattle.key_laws.specs.History.{History, op_of, draws, status_of, begins_keyed}
+pub use Rattle.key_laws.specs.Operations.{Op, work_of, reach_of}
+pub use Rattle.key_laws.specs.Due.{lost_at, if_secure}
+pub use Rattle.tdi_state.specs.declared.register_set.Registers.{Registers}
+pub use Rattle.tdi_state.specs.declared.states.Lock.{Lock}
+pub use Rattle.tdi_state.specs.declared.states.TdiState.{TdiState}
+pub use Rattle.tdi_state.specs.declared.states.TdiState.TheVariants.{ConfigUnlocked, ConfigLocked, Run, Error}
+pub use Rattle.tdi_state.specs.RegisterValues.{planned, listed, has_bit, changes_listed}
+pub use Rattle.tdi_state.specs.Kept.{interface_report_bytes, kept_report}
+pub use Rattle.tdi_state.specs.Machine.{Tdi, new_tdi, state_code, lock_of, lock_answer, start_answer, Call}
+pub use Rattle.tdi_state.specs.Machine.{LockInterface, StartInterface, StopInterface, WriteRegister, LevelReset}
+pub use Rattle.tdi_state.specs.Machine.{FirmwareUpdate, StreamLeft, LinkReset, tdi_after}
+pub use Rattle.interface_words.specs.RegisterNames.{has_register}

@@ -1,0 +1,157 @@
+-- What the host's manager makes of an interface, from verdicts alone.
+use Rattle.std.specs.Prelude.{ℕ, ◌==◌, ◌&&◌, ◌∷◌, Bool, true, false, if◌then◌else◌, List, [], is_some, Option, Some}
+use Rattle.std.specs.Prelude.{None}
+use Rattle.interface_states.specs.Terms.{Plan, View, Unlocked, Locked, Running, Doubt, Broken, Event, InterfaceEvent}
+use Rattle.interface_states.specs.Terms.{Verdict, History, Op, op_of, draws, work_of, reach_of, begins_keyed}
+use Rattle.interface_states.specs.Sites.{Site, site_with}
+use Rattle.interface_states.specs.Exchanges.{is_lost_at, is_refused_at}
+use Rattle.link_events.specs.declared.event.Event.TheVariants as event
+use Rattle.link_events.specs.declared.event.InterfaceEvent.TheVariants as ie
+use Rattle.link_verdicts.specs.declared.verdict.Operation.TheVariants as op
+use Rattle.link_verdicts.specs.declared.verdict.Verdict.TheVariants as v
+use Rattle.interface_words.specs.declared.verdict.InterfaceVerdict.TheVariants as iv
+
+-- what the manager keeps of an interface
+pub record Managed : Type 0 where
+  pub view : View
+  -- its report was read since it was locked
+  pub reported : Bool
+  -- the nonce of the last lock
+  pub nonce : List ℕ
+  -- a START_INTERFACE was asked since LOCK_INTERFACE was last asked
+  pub started : Bool
+  -- the draw of the last start
+  pub floor : ℕ
+  -- the least draw that it may be started under
+  pub needs : ℕ
+
+abbrev pub new_managed : Managed
+new_managed = record { view = Unlocked; reported = false; nonce = []; started = false; floor = 0; needs = 0 }
+
+-- ---- operations on it
+
+abbrev pub on_lock : Managed → Verdict → Managed
+on_lock m (v.Interface (iv.Locked i nonce)) =
+    record { view = Locked; reported = false; nonce = nonce; started = false; floor = m.floor; needs = m.needs }
+on_lock m w =
+    if is_lost_at w 3 then record m { view = Doubt; started = false }
+    else if is_refused_at w 3 then record m { started = false }
+    else m
+
+abbrev pub on_report : Managed → Verdict → Managed
+on_report m (v.Interface (iv.Reported i report)) = record m { reported = true }
+on_report m w = m
+
+abbrev pub on_start : Managed → Verdict → Managed
+on_start m (v.Interface (iv.Started i draw)) = record m { view = Running; started = true; floor = draw }
+on_start m w =
+    if is_lost_at w 1 then record m { view = Doubt; started = true }
+    else if is_refused_at w 1 then record m { view = Broken; started = true }
+    else m
+
+-- all draws so far, where it may have run since it was last locked
+abbrev pub needs_then : Managed → ℕ → ℕ
+needs_then m drawn = if m.started then drawn else m.needs
+
+abbrev pub on_halt : ℕ → Managed → Verdict → Managed
+on_halt drawn m (v.Interface (iv.Halted i needs)) = record m { view = Unlocked; needs = needs_then m drawn }
+on_halt drawn m w = if is_lost_at w 1 then record m { view = Doubt } else m
+
+-- the state that the device told is not the one that it should have
+abbrev pub view_told : View → ℕ → View
+view_told Locked state = if state == 1 then Locked else Broken
+view_told Running state = if state == 2 then Running else Broken
+view_told view state = view
+
+abbrev pub on_state : Managed → Verdict → Managed
+on_state m (v.Interface (iv.State i state)) = record m { view = view_told m.view state }
+on_state m w = m
+
+abbrev pub on_operation : ℕ → InterfaceEvent → Verdict → Managed → Managed
+on_operation drawn (ie.Lock i loss) w m = on_lock m w
+on_operation drawn (ie.Report i loss) w m = on_report m w
+on_operation drawn (ie.Start i loss) w m = on_start m w
+on_operation drawn (ie.Halt i loss) w m = on_halt drawn m w
+on_operation drawn (ie.State i loss) w m = on_state m w
+on_operation drawn e w m = m
+
+-- the number of the interface that an operation is on
+abbrev pub number_in : InterfaceEvent → Option ℕ
+number_in (ie.Lock i loss) = Some i
+number_in (ie.Report i loss) = Some i
+number_in (ie.Start i loss) = Some i
+number_in (ie.Halt i loss) = Some i
+number_in (ie.State i loss) = Some i
+number_in (ie.View i) = Some i
+number_in (ie.Write i register value) = Some i
+number_in (ie.Flr i) = Some i
+number_in (ie.Firmware i) = Some i
+number_in (ie.Memory at len) = None
+
+abbrev pub is_number : Option ℕ → ℕ → Bool
+is_number None n = false
+is_number (Some i) n = i == n
+
+-- ---- what ends it from outside
+
+abbrev pub view_broken : View → View
+view_broken Unlocked = Unlocked
+view_broken _ = Broken
+
+-- a stop of the stream begins
+abbrev pub stop_begins : Op → ℕ → Verdict → Bool
+stop_begins o next w = (work_of op.Stop o next).begins && is_some (reach_of op.Stop w)
+
+-- ---- all pairs
+
+abbrev pub managed_after : (ℕ → ℕ → Op) → ℕ → Site → Event → Verdict → Managed → Managed
+managed_after ops drawn x (event.Interface e) w m =
+    if is_number (number_in e) x.number then on_operation drawn e w m else m
+managed_after ops drawn x (event.Stop link stream loss) w m =
+    if (link == x.link) && (stream == x.plan.stream) && stop_begins (ops link stream) drawn w
+    then record m { view = view_broken m.view } else m
+managed_after ops drawn x (event.Reset link) (v.Reset l) m =
+    if link == x.link then record m { view = view_broken m.view } else m
+managed_after ops drawn x e w m = m
+
+unfoldable pub managed : History → Site → Managed
+managed [] x = new_managed
+managed ((e, w) ∷ h) x = managed_after (op_of h) (draws h) x e w (managed h x)
+
+abbrev pub view_at : History → Site → View
+view_at h x = (managed h x).view
+
+abbrev pub reported_at : History → Site → Bool
+reported_at h x = (managed h x).reported
+
+abbrev pub floor_at : History → Site → ℕ
+floor_at h x = (managed h x).floor
+
+abbrev pub needs_at : History → Site → ℕ
+needs_at h x = (managed h x).needs
+
+-- ---- the draw of a stream
+
+-- that of its last establish that began, or of the last refresh that came to its end since
+unfoldable pub stream_draw : History → ℕ → ℕ → ℕ
+stream_draw [] link stream = 0
+stream_draw ((event.Establish l s loss, w) ∷ h) link stream =
+    if (l == link) && (s == stream) && begins_keyed (op_of h l s) (draws h) w then draws h
+    else stream_draw h link stream
+stream_draw ((event.Refresh l s loss, v.Refreshed a b j) ∷ h) link stream =
+    if (l == link) && (s == stream) then j else stream_draw h link stream
+stream_draw (_ ∷ h) link stream = stream_draw h link stream
+
+-- ---- what the manager says of a requester
+
+abbrev pub bound_if : View → ℕ → ℕ → Option (ℕ × ℕ)
+bound_if Running stream floor = Some (stream, floor)
+bound_if _ stream floor = None
+
+abbrev pub granted : History → Option Site → Option (ℕ × ℕ)
+granted h None = None
+granted h (Some x) = bound_if (view_at h x) x.plan.stream (floor_at h x)
+
+-- the bound stream and the floor of the interface of a link with this requester ID, where its view is Running
+abbrev pub grant_at : Plan → History → ℕ → ℕ → Option (ℕ × ℕ)
+grant_at plan h link requester = granted h (site_with plan link requester)

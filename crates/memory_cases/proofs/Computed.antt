@@ -1,0 +1,35 @@
+-- The worked cases by computation.
+use Rattle.std.proofs.Common.{refl}
+use Rattle.aes_block.specs.Aes.{key_words, temp, mixed, sbox, sub_bytes, shift_rows, mix_columns, add_round_key}
+use Rattle.aes_block.specs.Aes.{sub_word, expansion, rounds, cipher, aes}
+use Rattle.gcm_seal.specs.Polynomials.{bits}
+use Rattle.gcm_seal.specs.Gcm.{counter, key_stream, masked, hash_key, blocks, ghash, tag_of, verifies, open_of}
+use Rattle.first_fault.specs.Walks.{walked_from, walk_length, reading}
+use Rattle.tlp_layout.specs.Reading.{read_of, read_head_of}
+use Rattle.ide_prefix.specs.Reading.{cut_of}
+use Rattle.association.specs.Choice.{choice_of}
+use Rattle.key_laws.specs.Keys.{is_open, keys}
+use Rattle.key_laws.specs.History.{manager, moments, base, failed as failed_there}
+use Rattle.key_laws.specs.Due.{due as key_due}
+use Rattle.interface_states.specs.Sites.{sites}
+use Rattle.interface_states.specs.Views.{managed, stream_draw}
+use Rattle.interface_states.specs.Devices.{devices}
+use Rattle.interface_states.specs.Due.{due as interface_due}
+use Rattle.trusted_memory.specs.Writes.{byte_after}
+use Rattle.link_history.specs.Plan.{stream_plan, key_of}
+use Rattle.link_history.specs.Units.{units, open_unit}
+use Rattle.link_history.specs.History.{packet_of, sent_in, sealed_packets, posted_in, keys_at, has_live_out}
+use Rattle.link_history.specs.History.{has_live_in, front_of, total_in, arrived, meets_counts, got_since, held}
+use Rattle.link_history.specs.History.{units_got, units_since}
+use Rattle.link_history.specs.Memory.{writes}
+use Rattle.link_history.specs.Due.{choice, due, before_tag, is_verified}
+use Rattle.memory_cases.specs.Cases.{MemoryCases}
+
+pub computed : MemoryCases
+unfolding due key_due manager moments keys is_open failed_there base interface_due devices managed stream_draw sites
+    read_of reading walk_length walked_from choice choice_of keys_at has_live_out has_live_in stream_plan sent_in
+    sealed_packets packet_of units open_unit posted_in writes byte_after front_of total_in arrived read_head_of cut_of
+    key_of before_tag is_verified meets_counts got_since held units_got units_since verifies tag_of ghash hash_key
+    blocks counter key_stream masked bits aes cipher rounds add_round_key mixed mix_columns shift_rows sub_bytes
+    key_words temp expansion sub_word sbox open_of
+computed = (refl, refl, refl, refl, refl, refl, refl)

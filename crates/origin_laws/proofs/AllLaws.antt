@@ -1,0 +1,20 @@
+-- The laws of interfaces and of trusted memory.
+use Rattle.origin_laws.specs.Statements.{InterfacesHaveCauses, RunLawHolds, MemoryLawHolds, OriginLawHolds}
+use Rattle.interface_states.proofs.RunLaws.{run_law as runs}
+use Rattle.link_keys.proofs.Draws.{draws}
+use Rattle.sealing_laws.proofs.OfPlans.{streams_fit}
+use Rattle.origin_laws.proofs.Causes.{interface_cause}
+use Rattle.origin_laws.proofs.Memory.{memory_law as in_memory}
+use Rattle.origin_laws.proofs.Origins.{origin_law as from_run}
+
+pub interfaces_have_causes : InterfacesHaveCauses
+interfaces_have_causes = interface_cause
+
+pub run_law : RunLawHolds
+run_law plan h cause = runs plan h (interface_cause plan h cause)
+
+pub memory_law : MemoryLawHolds
+memory_law plan h cause = in_memory plan h cause
+
+pub origin_law : OriginLawHolds
+origin_law plan fits h cause forged = from_run plan (streams_fit plan fits) (draws plan) h cause forged

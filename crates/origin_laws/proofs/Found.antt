@@ -1,0 +1,218 @@
+-- Where a sealed packet comes from: the send that sealed it, and what was known then.
+use Rattle.sealing_laws.proofs.Terms.{◌≡◌, ℕ, ◌+◌, ◌<◌, ◌≤◌, ◌==◌, ◌⊎◌, inl, inr, zero, suc, Bool, true, false, List}
+use Rattle.sealing_laws.proofs.Terms.{[], ◌∷◌, ◌++◌, length, length-append, slice_get, Some, refl, ap, sym, subst}
+use Rattle.sealing_laws.proofs.Terms.{arith, if◌then◌else◌, AllByRecursion, nat_tests, Plan, History, base, Event, Send}
+use Rattle.sealing_laws.proofs.Terms.{Verdict, Sealed, SealedPacket, PortName, Packet, SealedList, ahead_in}
+use Rattle.sealing_laws.proofs.Terms.{with_sealed, open_unit, sent_in, sub_stream_of, eqb-refl}
+unfoldable use Rattle.sealing_laws.proofs.Terms.{sealed_packets, packet_of}
+use Rattle.interface_states.specs.Sites.{Site, sites_on, sites_from, site_at}
+unfoldable use Rattle.interface_states.specs.Sites.{sites}
+use Rattle.interface_states.specs.Terms.{LinkPlan, InterfacePlan}
+use Rattle.interface_states.specs.Cause.{InterfaceCause}
+use Rattle.interface_states.specs.Laws.{OfTrusted}
+use Rattle.origin_laws.specs.Origin.{CameFrom}
+use Rattle.std.specs.Prelude.{find}
+use Rattle.link_events.specs.declared.event.Event.TheVariants as event
+use Rattle.link_verdicts.specs.declared.verdict.Verdict.TheVariants as v
+
+-- ---- places
+
+pub get_less : {A : Type 0} (xs : List A) (i : ℕ) (x : A) → slice_get xs i ≡ Some x → i < length xs
+get_less [] i x is = absurd cc
+get_less (y ∷ xs) zero x is = omega arith
+get_less (y ∷ xs) (suc i) x is = let rest = get_less xs i x is in omega (arith, rest)
+
+last_at : {A : Type 0} (xs : List A) (x y : A) (i : ℕ) → slice_get (xs ++ x ∷ []) i ≡ Some y → (slice_get xs i ≡ Some y)
+    ⊎ ((y ≡ x) × (i ≡ length xs))
+last_at [] x y zero is = inr (cc, refl)
+last_at [] x y (suc i) is = absurd cc
+last_at (z ∷ xs) x y zero is = inl is
+last_at (z ∷ xs) x y (suc i) is = elim (last_at xs x y i is)
+    [ inl p ↦ inl p | inr p ↦ inr (p.0, ap (λ (n : ℕ). suc n) p.1) ]
+
+pub all_get : {A : Type 0} (P : A → Type 0) (xs : List A) (i : ℕ) (x : A) → AllByRecursion P xs → slice_get xs i
+    ≡ Some x → P x
+all_get P [] i x all is = absurd cc
+all_get P (y ∷ xs) zero x all is = subst P (cc) all.0
+all_get P (y ∷ xs) (suc i) x all is = all_get P xs i x all.1 is
+
+pub get_behind : {A : Type 0} (xs ys : List A) (n : ℕ) → slice_get (xs ++ ys) (length xs + n) ≡ slice_get ys n
+get_behind [] ys n = let e : 0 + n ≡ n = omega arith in ap (λ (k : ℕ). slice_get ys k) e
+get_behind (x ∷ xs) ys n = let e : suc (length xs) + n ≡ suc (length xs + n) = omega arith in rw e (get_behind xs ys n)
+
+-- ---- the send that sealed a packet
+
+-- the packet is one of this send
+pub record IsNew (plan : Plan) (bytes : List ℕ) (ds : List SealedPacket) (d : SealedPacket) (p : Packet) : Type 0 where
+  pub index : ℕ
+  pub listed : slice_get ds index ≡ Some d
+  pub ahead : List ℕ
+  pub front : List Packet
+  pub packet : p ≡ packet_of plan ahead bytes d front
+
+new_later : (plan : Plan) (bytes : List ℕ) (e d : SealedPacket) (ds : List SealedPacket) (p : Packet)
+    → IsNew plan bytes ds d p → IsNew plan bytes (e ∷ ds) d p
+new_later plan bytes e d ds p new = record
+    { index = suc new.index; listed = new.listed; ahead = new.ahead; front = new.front; packet = new.packet }
+
+with_at : (plan : Plan) (ahead : SealedPacket → List ℕ) (bytes : List ℕ) (ds : List SealedPacket) (xs : SealedList)
+    (k : ℕ) (x : SealedPacket × Packet)
+    → slice_get (with_sealed plan ahead bytes ds xs) k ≡ Some x → (slice_get xs k ≡ Some x)
+    ⊎ ((length xs ≤ k) × IsNew plan bytes ds x.0 x.1)
+with_at plan ahead bytes [] xs k x is = inl is
+with_at plan ahead bytes (d ∷ ds) xs k x is =
+    let front = open_unit (sent_in xs (sub_stream_of d) d.draw) in
+    let p = packet_of plan (ahead d) bytes d front in
+    elim (with_at plan ahead bytes ds (xs ++ (d, p) ∷ []) k x is) [
+      | inl before ↦ elim (last_at xs (d, p) x k before) [
+        | inl older ↦ inl older
+        | inr here ↦ inr (
+          omega (arith, here.1),
+          subst (λ (y : SealedPacket × Packet). IsNew plan bytes (d ∷ ds) y.0 y.1) (sym here.0) (record {
+            index = 0;
+            listed = refl;
+            ahead = ahead d;
+            front = front;
+            packet = refl;
+          }),
+        )
+      ]
+      | inr new ↦ inr (omega (arith, new.0, length-append xs ((d, p) ∷ [])), new_later plan bytes d x.0 ds x.1 new.1)
+    ]
+
+-- the pair at which it was sealed
+pub record Sealing (plan : Plan) (h : History) (k : ℕ) (d : SealedPacket) (p : Packet) : Type 0 where
+  pub port : PortName
+  pub bytes : List ℕ
+  pub more : Bool
+  pub trusted : Bool
+  pub ds : List SealedPacket
+  pub older : History
+  pub came : CameFrom ((Send port bytes more trusted, Sealed ds) ∷ older) h
+  pub from : length (sealed_packets plan older) ≤ k
+  pub until : k < length (sealed_packets plan ((Send port bytes more trusted, Sealed ds) ∷ older))
+  pub new : IsNew plan bytes ds d p
+
+came_later : (g h : History) (x : Event × Verdict) → CameFrom g h → CameFrom g (x ∷ h)
+came_later g h x came = record { since = x ∷ came.since; is = ap (λ (k : History). x ∷ k) came.is }
+
+sealing_later : (plan : Plan) (h : History) (x : Event × Verdict) (k : ℕ) (d : SealedPacket) (p : Packet)
+    → Sealing plan h k d p → Sealing plan (x ∷ h) k d p
+sealing_later plan h x k d p at = record {
+  port = at.port;
+  bytes = at.bytes;
+  more = at.more;
+  trusted = at.trusted;
+  ds = at.ds;
+  older = at.older;
+  came = came_later _ h x at.came;
+  from = at.from;
+  until = at.until;
+  new = at.new;
+}
+
+pub sealing_of : (plan : Plan) (h : History) (k : ℕ) (d : SealedPacket) (p : Packet)
+    → slice_get (sealed_packets plan h) k ≡ Some (d, p) → Sealing plan h k d p
+unfolding sealed_packets
+sealing_of plan [] k d p is = absurd cc
+sealing_of plan ((Send port bytes more trusted, Sealed ds) ∷ h) k d p is =
+    elim (with_at plan (ahead_in plan (sealed_packets plan h) (base h)) bytes ds (sealed_packets plan h) k (d, p) is) [
+      | inl before ↦ sealing_later plan h (Send port bytes more trusted, Sealed ds) k d p
+          (sealing_of plan h k d p before)
+      | inr new ↦ record {
+        port = port;
+        bytes = bytes;
+        more = more;
+        trusted = trusted;
+        ds = ds;
+        older = h;
+        came = record { since = []; is = refl };
+        from = new.0;
+        until = get_less (with_sealed plan (ahead_in plan (sealed_packets plan h) (base h)) bytes ds
+            (sealed_packets plan h)) k (d, p) is;
+        new = new.1;
+      }
+    ]
+sealing_of plan ((e, w) ∷ h) k d p is = sealing_later plan h (e, w) k d p (sealing_of plan h k d p is)
+
+-- ---- what holds of a history holds at each pair that it came from
+
+cause_since : (plan : Plan) (since g : History) → InterfaceCause plan (since ++ g) → InterfaceCause plan g
+cause_since plan [] g cause = cause
+cause_since plan ((e, w) ∷ since) g cause = cause_since plan since g cause.1
+
+pub cause_before : (plan : Plan) (g h : History) → CameFrom g h → InterfaceCause plan h → InterfaceCause plan g
+cause_before plan g h came cause = cause_since plan came.since g (subst (InterfaceCause plan) (sym came.is) cause)
+
+trusted_tail : (plan : Plan) (x : Site) (P : History → SealedPacket → Type 0) (e : Event) (w : Verdict) (h : History)
+    → OfTrusted plan x P ((e, w) ∷ h) → OfTrusted plan x P h
+trusted_tail plan x P (event.Send port bytes more trusted) (v.Sealed ds) h all = all.1
+trusted_tail plan x P e w h all = all
+
+trusted_since : (plan : Plan) (x : Site) (P : History → SealedPacket → Type 0) (since g : History)
+    → OfTrusted plan x P (since ++ g) → OfTrusted plan x P g
+trusted_since plan x P [] g all = all
+trusted_since plan x P ((e, w) ∷ since) g all = trusted_since plan x P since g
+    (trusted_tail plan x P e w (since ++ g) all)
+
+pub trusted_before : (plan : Plan) (x : Site) (P : History → SealedPacket → Type 0) (g h : History) → CameFrom g h
+    → OfTrusted plan x P h → OfTrusted plan x P g
+trusted_before plan x P g h came all = trusted_since plan x P came.since g
+    (subst (OfTrusted plan x P) (sym came.is) all)
+
+-- ---- interfaces by their numbers
+
+-- what is found among them is found by its number, which is no less than the first
+abbrev FoundByNumber : ℕ → List Site → Type 0
+FoundByNumber n xs = (test : Site → Bool) (x : Site) → find test xs ≡ Some x → (n ≤ x.number)
+    × (find (λ y. y.number == x.number) xs ≡ Some x)
+
+number_above : (n m : ℕ) → n + 1 ≤ m → (n == m) ≡ false
+number_above n m above = grind (arith, nat_tests)
+
+one_more : (n link : ℕ) (p : InterfacePlan) (xs : List Site) → FoundByNumber (n + 1) xs
+    → FoundByNumber n (record { number = n; link = link; plan = p } ∷ xs)
+one_more n link p xs rest test x is = by (test here) is
+  where
+    here : Site
+    here = record { number = n; link = link; plan = p }
+
+    by : (b : Bool) → (if b then Some (record { number = n; link = link; plan = p }) else find test xs) ≡ Some x
+        → (n ≤ x.number) × ((if n == x.number then Some (record { number = n; link = link; plan = p }) else find
+        (λ y. y.number == x.number) xs) ≡ Some x)
+    by true is =
+        let same : record { number = n; link = link; plan = p } ≡ x = cc (is) in
+        subst (λ (z : Site). (n ≤ z.number) ×
+        ((if n == z.number then Some (record { number = n; link = link; plan = p }) else find
+        (λ y. y.number == z.number) xs) ≡ Some z)) same
+        (omega arith, rw (eqb-refl n) refl)
+    by false is =
+        let later = rest test x is in
+        (omega (arith, later.0), rw (number_above n x.number later.0) later.1)
+
+many_more : (n link : ℕ) (ps : List InterfacePlan) (xs : List Site) → FoundByNumber (n + length ps) xs
+    → FoundByNumber n (sites_on n link ps ++ xs)
+many_more n link [] xs rest = let e : n + 0 ≡ n = omega arith in rw e at rest
+many_more n link (p ∷ ps) xs rest =
+    let e : n + suc (length ps) ≡ (n + 1) + length ps = omega arith in
+    one_more n link p (sites_on (n + 1) link ps ++ xs) (many_more (n + 1) link ps xs (rw e at rest))
+
+all_found : (n link : ℕ) (ls : List LinkPlan) → FoundByNumber n (sites_from n link ls)
+all_found n link [] test x is = absurd cc
+all_found n link (l ∷ ls) test x is = many_more n link l.interfaces _
+    (all_found (n + length l.interfaces) (link + 1) ls) test x is
+
+pub found_by_number : (plan : Plan) (test : Site → Bool) (x : Site) → find test (sites plan) ≡ Some x
+    → site_at plan x.number ≡ Some x
+unfolding sites
+found_by_number plan test x is = (all_found 0 0 plan.links test x is).1
+
+-- what is found meets the test
+pub found_meets : (test : Site → Bool) (xs : List Site) (x : Site) → find test xs ≡ Some x → test x ≡ true
+found_meets test [] x is = absurd cc
+found_meets test (y ∷ xs) x is = by (found_meets test xs x) (test y) refl is
+  where
+    by : (find test xs ≡ Some x → test x ≡ true) → (b : Bool) → test y ≡ b → (if b then Some y else find test xs)
+        ≡ Some x → test x ≡ true
+    by later true e is = let same : y ≡ x = cc (is) in subst (λ (z : Site). test z ≡ true) same e
+    by later false e is = later is

@@ -1,0 +1,5 @@
+pub mod Causes
+pub mod Memory
+pub mod Found
+pub mod Origins
+pub mod AllLaws

@@ -1,0 +1,129 @@
+-- The whole machine stands for the history: what each part reads of the other is what the history says, so that each
+-- step is that of its parts.
+use Rattle.std.proofs.Common.{◌≡◌, ℕ, ◌∷◌, Bool, refl, sym, ap, ◌∙◌, subst, List}
+use Rattle.ide_types.specs.declared.port.PortName.{PortName}
+use Rattle.ide_types.specs.declared.port.Side.{Side}
+use Rattle.ide_types.specs.declared.port.Side.TheVariants.{Host, Device}
+use Rattle.ide_plan.specs.declared.plan.Plan.{Plan}
+use Rattle.tlp_layout.specs.declared.head.HeadView.{HeadView}
+use Rattle.link_events.specs.declared.event.Event.{Event}
+use Rattle.link_events.specs.declared.event.Event.TheVariants as event
+use Rattle.link_events.specs.declared.event.InterfaceEvent.{InterfaceEvent}
+use Rattle.link_verdicts.specs.declared.verdict.Verdict.{Verdict}
+use Rattle.link_verdicts.specs.declared.verdict.Verdict.TheVariants as v
+use Rattle.key_laws.specs.History.{History, op_of, draws}
+unfoldable use Rattle.interface_states.specs.Views.{stream_draw}
+use Rattle.interface_states.specs.Cause.{owner_of, owner_at, t_due}
+use Rattle.interface_states.specs.Views.{grant_at}
+unfoldable use Rattle.interface_states.specs.Due.{due as interface_due}
+use Rattle.interface_machine.specs.Machine.{Faces, faces_after, answer_of, grant_of}
+use Rattle.interface_machine.specs.Stands.{StandsFor as FacesStandFor}
+use Rattle.interface_machine.proofs.Faces.{faces_stand}
+use Rattle.link_history.specs.Memory.{effect_by, admitted_in, shown_if, memory_due}
+unfoldable use Rattle.link_history.specs.Memory.{writes}
+use Rattle.trusted_memory.specs.Writes.{Write, newest_first}
+unfoldable use Rattle.trusted_memory.specs.Writes.{byte_after}
+use Rattle.trusted_memory.specs.Regions.{in_one_region}
+use Rattle.trusted_memory.specs.Memory.{bytes_from}
+use Rattle.link_events.specs.declared.event.InterfaceEvent.TheVariants as ie
+unfoldable use Rattle.link_history.specs.Due.{due}
+use Rattle.link_ports.specs.Machine.{Beside, LinkState, step_of}
+use Rattle.link_ports.specs.Stands.{beside_at, StandsFor as PortsStandFor}
+use Rattle.port_operations.proofs.AllSteps.{steps}
+use Rattle.port_operations.proofs.Resets.{begins as first}
+use Rattle.whole_machine.specs.Machine.{Whole, t_by, memory_shown, written_after, beside_of, streams_of, draw_after}
+use Rattle.whole_machine.specs.Machine.{whole_after}
+use Rattle.whole_machine.specs.Stands.{StandsFor, WholeBegins, WholeSteps}
+use Rattle.whole_machine.proofs.Units.{unit_is}
+use Rattle.whole_machine.proofs.Streams.{secure_all, streams_are}
+
+-- ---- what the ports read of the interfaces
+
+t_says : (plan : Plan) (fs : Faces) (h : History) → FacesStandFor plan fs h
+    → (port : PortName) (side : Side) (head : HeadView) (stream : ℕ) (trusted : Bool)
+    → t_by plan fs port side head stream trusted ≡ t_due plan h port side (owner_at plan port.link head) stream trusted
+t_says plan fs h stands port Host head stream trusted = refl
+t_says plan fs h stands port Device head stream trusted = faces_stand.t plan fs h port.link stream (owner_of head)
+    stands
+
+memory_says : (plan : Plan) (h : History) (ws : List Write) → ws ≡ writes plan h → (e : InterfaceEvent)
+    → memory_shown plan ws e ≡ memory_due plan h e
+memory_says plan h ws same (ie.Memory at len) = ap
+    (λ (xs : List Write). shown_if (in_one_region plan.memory at len) (bytes_from (byte_after xs) at len)) same
+memory_says plan h ws same e = refl
+
+answer_says : (plan : Plan) (w : Whole) (h : History) → StandsFor plan w h → (e : InterfaceEvent)
+    → answer_of plan (streams_of plan w) w.faces e (memory_shown plan w.written e) ≡ due plan h (event.Interface e)
+unfolding due
+answer_says plan w h stands e =
+    (λ i. answer_of plan (streams_are plan w h stands.links stands.draw i) w.faces e
+    (memory_says plan h w.written stands.written e i))
+    ∙ faces_stand.answer plan w.faces h e (memory_due plan h e) stands.faces
+
+grants_are : (plan : Plan) (fs : Faces) (h : History) → FacesStandFor plan fs h → grant_of plan fs ≡ grant_at plan h
+grants_are plan fs h stands = λ i link requester. faces_stand.grant plan fs h link requester stands i
+
+beside_is : (plan : Plan) (w : Whole) (h : History) → StandsFor plan w h → beside_of plan w ≡ beside_at plan h
+beside_is plan w h stands = λ i. record {
+  t = λ port head stream trusted. t_says plan w.faces h stands.faces port port.side head stream trusted i;
+  effect = λ port unit p. effect_by plan (grants_are plan w.faces h stands.faces i) port unit p;
+  answer = λ e. answer_says plan w h stands e i;
+}
+
+-- ---- draws
+
+draw_is : (h : History) (e : Event) (w : Verdict) → draw_after (op_of h) (draws h) e w (stream_draw h)
+    ≡ stream_draw ((e, w) ∷ h)
+unfolding stream_draw
+draw_is h (event.Establish l s loss) w = refl
+draw_is h (event.Refresh l s loss) (v.Refreshed a b j) = refl
+draw_is h e w = refl
+
+-- ---- memory
+
+written_is : (plan : Plan) (w : Whole) (h : History) (e : Event) (x : Verdict) → StandsFor plan w h → x ≡ due plan h e
+    → written_after plan w e x ≡ writes plan ((e, x) ∷ h)
+unfolding writes
+written_is plan w h e (v.Accepted port unit effects) stands is =
+    (λ i. newest_first (admitted_in plan (grants_are plan w.faces h stands.faces i) port unit
+    (unit_is plan w.links h e port unit effects stands.links.ports_stand is i)) (stands.written i))
+written_is plan w h e x stands is = stands.written
+
+-- ---- one step
+
+after_stands : (plan : Plan) (w : Whole) (h : History) (e : Event) (x : Verdict) (links : LinkState)
+    → StandsFor plan w h → x ≡ due plan h e → PortsStandFor plan links ((e, x) ∷ h)
+    → StandsFor plan (whole_after plan w e x links) ((e, x) ∷ h)
+after_stands plan w h e x links stands is next =
+    let streams = streams_are plan w h stands.links stands.draw in
+    record {
+      links = next;
+      faces = subst (λ (fs : Faces). FacesStandFor plan fs ((e, x) ∷ h))
+          (λ i. faces_after plan (sym streams i) (sym (secure_all plan links ((e, x) ∷ h) next.ports_stand) i) e x
+          w.faces)
+          (faces_stand.step plan w.faces h e x stands.faces);
+      draw = (λ i. draw_after (streams i).op (stands.links.draws_is i) e x (stands.draw i)) ∙ draw_is h e x;
+      written = written_is plan w h e x stands is;
+    }
+
+at_step : (plan : Plan) (w : Whole) (h : History) (e : Event) (b : Beside) → b ≡ beside_at plan h → StandsFor plan w h
+    → ((step_of plan b w.links e).0 ≡ due plan h e) × StandsFor plan
+    (whole_after plan w e (step_of plan b w.links e).0 (step_of plan b w.links e).1)
+    ((e, (step_of plan b w.links e).0) ∷ h)
+at_step plan w h e b same stands =
+    subst (λ (c : Beside). ((step_of plan c w.links e).0 ≡ due plan h e)
+    × StandsFor plan (whole_after plan w e (step_of plan c w.links e).0 (step_of plan c w.links e).1)
+    ((e, (step_of plan c w.links e).0) ∷ h))
+    (sym same)
+    (let next = steps plan w.links h e stands.links in (
+      next.0,
+      after_stands plan w h e (step_of plan (beside_at plan h) w.links e).0
+          (step_of plan (beside_at plan h) w.links e).1 stands next.0 next.1,
+    ))
+
+pub whole_steps : WholeSteps
+whole_steps plan w h e stands = at_step plan w h e (beside_of plan w) (beside_is plan w h stands) stands
+
+pub whole_begins : WholeBegins
+unfolding stream_draw writes
+whole_begins plan = record { links = first plan; faces = faces_stand.first plan; draw = refl; written = refl }

@@ -1,0 +1,139 @@
+-- All that is kept of ports and interfaces, and one step of it.
+use Rattle.std.specs.Prelude.{ℕ, ◌==◌, ◌&&◌, Bool, if◌then◌else◌, Option, Some, None, Result, Ok, [], List}
+use Rattle.std.specs.Option.{option_and_then}
+use Rattle.ide_types.specs.declared.port.PortName.{PortName}
+use Rattle.ide_types.specs.declared.port.Side.{Side}
+use Rattle.ide_types.specs.declared.port.Side.TheVariants.{Host, Device}
+use Rattle.ide_plan.specs.declared.plan.Plan.{Plan}
+use Rattle.tlp_layout.specs.declared.head.HeadView.{HeadView}
+use Rattle.ide_prefix.specs.Packet.{Packet}
+use Rattle.link_events.specs.declared.event.Event.{Event}
+use Rattle.link_events.specs.declared.event.InterfaceEvent.{InterfaceEvent}
+use Rattle.link_events.specs.declared.event.Event.TheVariants as event
+use Rattle.link_verdicts.specs.declared.verdict.Verdict.{Verdict}
+use Rattle.link_verdicts.specs.declared.verdict.Verdict.TheVariants as v
+use Rattle.key_laws.specs.Operations.{Op, Idle}
+use Rattle.key_laws.specs.History.{begins_keyed}
+use Rattle.interface_states.specs.Devices.{is_secure}
+use Rattle.interface_states.specs.Cause.{owner_of}
+use Rattle.interface_machine.specs.Machine.{Faces, new_faces, Streams, faces_after, answer_of, t_of, grant_of}
+use Rattle.link_history.specs.Memory.{effect_by, admitted_in, shown_if}
+use Rattle.link_history.specs.History.{Arrival}
+use Rattle.link_history.specs.Plan.{has_port, mode_of, is_closed}
+use Rattle.trusted_memory.specs.Writes.{Write, newest_first}
+unfoldable use Rattle.trusted_memory.specs.Writes.{byte_after}
+use Rattle.trusted_memory.specs.Regions.{in_one_region}
+use Rattle.trusted_memory.specs.Memory.{bytes_from}
+use Rattle.ide_prefix.specs.declared.fault.PacketFault.{PacketFault}
+use Rattle.ide_prefix.specs.Reading.{CutValue, IdePacket, cut_of}
+use Rattle.link_events.specs.declared.event.InterfaceEvent.TheVariants as ie
+use Rattle.link_ports.specs.Stream.{StreamState, Taken, Accepted, taken_by}
+use Rattle.link_ports.specs.Machine.{Beside, LinkState, find, find_op, status_at, step_of, first_state, passed}
+use Rattle.link_ports.specs.Machine.{altered_to, cut_short, packet_numbered}
+
+-- ---- what is kept
+
+-- the ports with the manager's streams, the interfaces, the draw of each stream, and the writes that were admitted, the
+-- newest first
+pub record Whole : Type 0 where
+  pub links : LinkState
+  pub faces : Faces
+  pub draw : ℕ → ℕ → ℕ
+  pub written : List Write
+
+abbrev pub new_whole : Plan → Whole
+new_whole plan = record { links = first_state plan; faces = new_faces plan; draw = λ link stream. 0; written = [] }
+
+-- ---- what each part reads of the other
+
+abbrev pub op_or_idle : Option Op → Op
+op_or_idle None = Idle
+op_or_idle (Some q) = q
+
+abbrev pub secure_in : Plan → LinkState → ℕ → ℕ → Bool
+secure_in plan st link stream = is_secure (status_at plan st Device link stream)
+
+abbrev pub streams_of : Plan → Whole → Streams
+streams_of plan w = record {
+  secure = secure_in plan w.links;
+  host = λ link stream. status_at plan w.links Host link stream;
+  draw = w.draw;
+  op = λ link stream. op_or_idle (find_op plan w.links link stream);
+  drawn = w.links.draws;
+}
+
+abbrev pub t_by : Plan → Faces → PortName → Side → HeadView → ℕ → Bool → Bool
+t_by plan fs port Host head stream trusted = trusted
+t_by plan fs port Device head stream trusted = t_of plan fs port.link stream (owner_of head)
+
+-- ---- memory
+
+-- what is shown of memory
+abbrev pub memory_shown : Plan → List Write → InterfaceEvent → Verdict
+memory_shown plan written (ie.Memory at len) =
+    shown_if (in_one_region plan.memory at len) (bytes_from (byte_after written) at len)
+memory_shown plan written e = v.Nothing
+
+-- what an event brings
+abbrev pub arrival_of : Plan → LinkState → Event → Option Arrival
+arrival_of plan st (event.Pass n) = option_and_then passed (packet_numbered st.packets n)
+arrival_of plan st (event.Alter n at mask) = option_and_then (altered_to at mask) (packet_numbered st.packets n)
+arrival_of plan st (event.Cut n len) = option_and_then (cut_short len) (packet_numbered st.packets n)
+arrival_of plan st (event.Arrive port bytes) =
+    if has_port plan port then Some (record { port = port; bytes = bytes }) else None
+arrival_of plan st e = None
+
+abbrev pub unit_taken : Taken → List Packet
+unit_taken (Accepted j n unit) = unit
+unit_taken _ = []
+
+abbrev pub unit_found : Plan → PortName → Packet → Option StreamState → List Packet
+unit_found plan port p None = []
+unit_found plan port p (Some x) =
+    unit_taken (taken_by (mode_of plan port.link p.prefix.stream) (is_closed plan port.link p.prefix.stream) x p)
+
+abbrev pub unit_cut : Plan → LinkState → PortName → Result CutValue PacketFault → List Packet
+unit_cut plan st port (Ok (IdePacket p)) = unit_found plan port p (find plan st port p.prefix.stream)
+unit_cut plan st port _ = []
+
+-- the unit that it ends
+abbrev pub unit_in : Plan → LinkState → Option Arrival → List Packet
+unit_in plan st None = []
+unit_in plan st (Some a) = unit_cut plan st a.port (cut_of a.bytes)
+
+-- ---- beside the ports
+
+abbrev pub beside_of : Plan → Whole → Beside
+beside_of plan w = record {
+  t = λ port head stream trusted. t_by plan w.faces port port.side head stream trusted;
+  effect = effect_by plan (grant_of plan w.faces);
+  answer = λ e. answer_of plan (streams_of plan w) w.faces e (memory_shown plan w.written e);
+}
+
+-- ---- one step
+
+abbrev pub draw_after : (ℕ → ℕ → Op) → ℕ → Event → Verdict → (ℕ → ℕ → ℕ) → ℕ → ℕ → ℕ
+draw_after ops drawn (event.Establish l s loss) w draw =
+    λ link stream. if (l == link) && (s == stream) && begins_keyed (ops l s) drawn w then drawn else draw link stream
+draw_after ops drawn (event.Refresh l s loss) (v.Refreshed a b j) draw =
+    λ link stream. if (l == link) && (s == stream) then j else draw link stream
+draw_after ops drawn e w draw = draw
+
+abbrev pub written_after : Plan → Whole → Event → Verdict → List Write
+written_after plan w e (v.Accepted port unit effects) =
+    newest_first (admitted_in plan (grant_of plan w.faces) port unit (unit_in plan w.links (arrival_of plan w.links e)))
+    w.written
+written_after plan w e verdict = w.written
+
+abbrev pub whole_after : Plan → Whole → Event → Verdict → LinkState → Whole
+whole_after plan w e verdict links = record {
+  links = links;
+  faces = faces_after plan (streams_of plan w) (secure_in plan links) e verdict w.faces;
+  draw = draw_after (streams_of plan w).op w.links.draws e verdict w.draw;
+  written = written_after plan w e verdict;
+}
+
+-- the verdict of an event, and the state after it
+abbrev pub whole_step : Plan → Whole → Event → Verdict × Whole
+whole_step plan w e =
+    let r = step_of plan (beside_of plan w) w.links e in (r.0, whole_after plan w e r.0 r.1)

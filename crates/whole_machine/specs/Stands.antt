@@ -1,0 +1,26 @@
+-- What is kept stands for the whole history.
+use Rattle.std.specs.Prelude.{◌≡◌, ◌∷◌, []}
+use Rattle.ide_plan.specs.declared.plan.Plan.{Plan}
+use Rattle.link_events.specs.declared.event.Event.{Event}
+use Rattle.key_laws.specs.History.{History}
+use Rattle.interface_states.specs.Views.{stream_draw}
+use Rattle.interface_machine.specs.Stands.{StandsFor as FacesStandFor}
+use Rattle.link_history.specs.Memory.{writes}
+use Rattle.link_history.specs.Due.{due}
+use Rattle.link_ports.specs.Stands.{StandsFor as PortsStandFor}
+use Rattle.whole_machine.specs.Machine.{Whole, new_whole, whole_step}
+
+pub record StandsFor (plan : Plan) (w : Whole) (h : History) : Type 0 where
+  pub links : PortsStandFor plan w.links h
+  pub faces : FacesStandFor plan w.faces h
+  pub draw : w.draw ≡ stream_draw h
+  pub written : w.written ≡ writes plan h
+
+abbrev pub WholeBegins : Type 0
+WholeBegins = (plan : Plan) → StandsFor plan (new_whole plan) []
+
+abbrev pub WholeSteps : Type 0
+WholeSteps =
+    (plan : Plan) (w : Whole) (h : History) (e : Event) → StandsFor plan w h
+    → ((whole_step plan w e).0 ≡ due plan h e) × StandsFor plan (whole_step plan w e).1
+    ((e, (whole_step plan w e).0) ∷ h)
