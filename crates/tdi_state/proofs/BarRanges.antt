@@ -1,5 +1,7 @@
 -- The ranges of a report, BAR by BAR.
-use Rattle.std.proofs.Common.{◌≡◌, ℕ, zero, suc, ◌+◌, ◌*◌, ◌/◌, ◌%◌, ◌^◌, ◌≤◌, ◌==◌, Bool, true, false, List, [], ◌∷◌, ◌++◌, length, drop, Option, Some, None, if◌then◌else◌, refl, sym, ap, ◌∙◌, arith, append-nil}
+use Rattle.std.proofs.Common.{◌≡◌, ℕ, zero, suc, ◌+◌, ◌*◌, ◌/◌, ◌%◌, ◌^◌, ◌≤◌, ◌==◌, Bool, true, false, List, [], ◌∷◌}
+use Rattle.std.proofs.Common.{◌++◌, length, drop, Option, Some, None, if◌then◌else◌, refl, sym, ap, ◌∙◌, arith}
+use Rattle.std.proofs.Common.{append-nil}
 use Rattle.std.proofs.lemmas.Bool.Decides.{nat_tests}
 use Rattle.std.specs.Prelude.{All, slice_get, slice_index}
 use Rattle.std.specs.List.{flat_map, filter_map, cons_option, enumerate_from, AllByRecursion}
@@ -23,7 +25,8 @@ pub record Reported (offset : ℕ) (bars : List BarPlan) (out : List ℕ) (i : �
   pub bytes : out ++ bytes_from offset i (drop i bars) ≡ bytes_from offset 0 bars
   pub room : length out ≤ 16 * i
 
-one_more : (r : Option ReportRange) (rs : List ReportRange) → flat_map range_bytes (cons_option r rs) ≡ flat_map range_bytes (option_to_list r) ++ flat_map range_bytes rs
+one_more : (r : Option ReportRange) (rs : List ReportRange) → flat_map range_bytes (cons_option r rs)
+    ≡ flat_map range_bytes (option_to_list r) ++ flat_map range_bytes rs
 one_more None rs = refl
 one_more (Some r) rs = sym (ap (λ (x : List ℕ). x ++ flat_map range_bytes rs) (append-nil (range_bytes r)))
 
@@ -33,24 +36,31 @@ reported_all offset i bars out reported end =
     let none : drop i bars ≡ [] = drop_of_length-le bars end in
     sym (append-nil out) ∙ (ap (λ (x : List BarPlan). out ++ bytes_from offset i x) (sym none) ∙ reported.bytes)
 
-fits_cons : (b : Bool) (r : ReportRange) (rs : List ReportRange) → FitsRange r → AllByRecursion FitsRange rs → AllByRecursion FitsRange (cons_option (if b then None else Some r) rs)
+fits_cons : (b : Bool) (r : ReportRange) (rs : List ReportRange) → FitsRange r → AllByRecursion FitsRange rs
+    → AllByRecursion FitsRange (cons_option (if b then None else Some r) rs)
 fits_cons true r rs fits all = all
 fits_cons false r rs fits all = (fits, all)
 
-fits_from : (offset n : ℕ) (bars : List BarPlan) → n + length bars ≤ 6 → AllByRecursion FitsReported bars → AllByRecursion FitsRange (filter_map (reported_range offset) (enumerate_from n bars))
+fits_from : (offset n : ℕ) (bars : List BarPlan) → n + length bars ≤ 6 → AllByRecursion FitsReported bars
+    → AllByRecursion FitsRange (filter_map (reported_range offset) (enumerate_from n bars))
 fits_from offset n [] few all = tt
 fits_from offset n (bar ∷ bars) few all =
-    let range : ReportRange = record { first_page = (bar.base + offset) % 2 ^ 64 / 4096; pages = bar.pages; attributes = bar.attributes; id = n } in
-    let fits : FitsRange range = record { first_page = omega arith; pages = all.0.pages; attributes = all.0.attributes; id = omega arith } in
+    let range : ReportRange = record
+    { first_page = (bar.base + offset) % 2 ^ 64 / 4096; pages = bar.pages; attributes = bar.attributes; id = n } in
+    let fits : FitsRange range = record
+    { first_page = omega arith; pages = all.0.pages; attributes = all.0.attributes; id = omega arith } in
     fits_cons (bar.pages == 0) range (filter_map (reported_range offset) (enumerate_from (n + 1) bars)) fits
     (fits_from offset (n + 1) bars (omega arith) all.1)
 
-pub ranges_fit : (offset : ℕ) (bars : List BarPlan) → length bars ≤ 6 → All FitsReported bars → All FitsRange (reported_ranges offset bars)
-ranges_fit offset bars few all = All-from_recursion FitsRange (reported_ranges offset bars) (fits_from offset 0 bars (omega arith) (recursion_from_All FitsReported bars all))
+pub ranges_fit : (offset : ℕ) (bars : List BarPlan) → length bars ≤ 6 → All FitsReported bars
+    → All FitsRange (reported_ranges offset bars)
+ranges_fit offset bars few all = All-from_recursion FitsRange (reported_ranges offset bars)
+    (fits_from offset 0 bars (omega arith) (recursion_from_All FitsReported bars all))
 
 -- ---- lengths
 
-length-from : (offset n : ℕ) (bars : List BarPlan) → length (filter_map (reported_range offset) (enumerate_from n bars)) ≤ length bars
+length-from : (offset n : ℕ) (bars : List BarPlan) → length (filter_map (reported_range offset) (enumerate_from n bars))
+    ≤ length bars
 length-from offset n [] = omega arith
 length-from offset n (bar ∷ bars) = let few = length-from offset (n + 1) bars in grind (arith, nat_tests)
 
@@ -59,7 +69,8 @@ length-reported offset bars = length-from offset 0 bars
 
 -- ---- the BARs of an interface
 
-moved_fits : (bars : List BarPlan) (n base : ℕ) → AllByRecursion FitsBar bars → FitsReported (bar_moved base (slice_get bars n))
+moved_fits : (bars : List BarPlan) (n base : ℕ) → AllByRecursion FitsBar bars
+    → FitsReported (bar_moved base (slice_get bars n))
 moved_fits [] n base all = record { pages = omega arith; attributes = omega arith }
 moved_fits (bar ∷ bars) zero base all =
     let pages = all.0.pages in
@@ -67,8 +78,10 @@ moved_fits (bar ∷ bars) zero base all =
     record { pages = omega arith; attributes = omega arith }
 moved_fits (bar ∷ bars) (suc n) base all = moved_fits bars n base all.1
 
-pub bars_fit : (plan : InterfacePlan) (registers : Registers) → All FitsBar plan.bars → All FitsReported (bars_of plan registers)
+pub bars_fit : (plan : InterfacePlan) (registers : Registers) → All FitsBar plan.bars
+    → All FitsReported (bars_of plan registers)
 bars_fit plan registers each =
     let all = recursion_from_All FitsBar plan.bars each in
-    let at : (n : ℕ) → FitsReported (bar_at plan.bars registers.bars n) = λ n. moved_fits plan.bars n (slice_index registers.bars n) all in
+    let at : (n : ℕ) → FitsReported (bar_at plan.bars registers.bars n) = λ n. moved_fits plan.bars n
+    (slice_index registers.bars n) all in
     All-from_recursion FitsReported (bars_of plan registers) (at 0, (at 1, (at 2, (at 3, (at 4, (at 5, tt))))))

@@ -15,7 +15,8 @@ length-spelling r = let ranges = length-ranges r.ranges in grind (arith, length-
 
 pub kept_short : (plan : InterfacePlan) (lock : Lock) → FitsTdi plan → length (kept_report plan lock) ≤ 1140
 kept_short plan lock fits =
-    let ranges : length (reported_ranges lock.offset (bars_of plan lock.registers)) ≤ 6 = length-reported lock.offset (bars_of plan lock.registers) in
+    let ranges : length (reported_ranges lock.offset (bars_of plan lock.registers)) ≤ 6 = length-reported lock.offset
+    (bars_of plan lock.registers) in
     let info = fits.info in
     omega (arith, length-spelling (interface_report plan lock.registers lock.flags lock.offset))
 

@@ -3,3 +3,4 @@ pub mod KeptReports
 pub mod ListedParts
 pub mod SharedBytes
 pub mod Entered
+pub mod Widths

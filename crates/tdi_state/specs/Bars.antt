@@ -1,6 +1,7 @@
 -- The base address registers of a device interface and the ranges behind them (PCI Express Base 6.0 section 7.5.1.2.1),
 -- and the ranges that its report names (TDISP section 11.3, in this profile's layout).
-use Rattle.std.specs.Prelude.{ℕ, ◌+◌, ◌*◌, ◌/◌, ◌%◌, ◌^◌, ◌==◌, ◌||◌, ◌<◌, nat_lt, max, min, Bool, false, List, [], ◌∷◌, slice_get, slice_index, Option, Some, None, if◌then◌else◌}
+use Rattle.std.specs.Prelude.{ℕ, ◌+◌, ◌*◌, ◌/◌, ◌%◌, ◌^◌, ◌==◌, ◌||◌, ◌<◌, nat_lt, max, min, Bool, false, List, [], ◌∷◌}
+use Rattle.std.specs.Prelude.{slice_get, slice_index, Option, Some, None, if◌then◌else◌}
 use Rattle.std.specs.List.{list_any, filter_map, enumerate_from}
 use Rattle.ide_plan.specs.declared.interface.BarPlan.{BarPlan}
 use Rattle.ide_plan.specs.declared.interface.InterfacePlan.{InterfacePlan}

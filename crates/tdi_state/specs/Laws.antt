@@ -1,17 +1,20 @@
 -- What the machine of a device interface implies (TDISP, PCI Express Base 6.0 chapter 11, in this profile).
-use Rattle.std.specs.Prelude.{ℕ, ◌≡◌, ◌≢◌, ◌≤◌, ◌<◌, ◌↔◌, ◌⊎◌, true, false, List, length, Some, AllPairs}
+use Rattle.std.specs.Prelude.{ℕ, ◌≡◌, ◌≢◌, ◌≤◌, ◌<◌, ◌^◌, ◌↔◌, ◌⊎◌, true, false, List, length, Some, IfSome, AllPairs}
 use Rattle.ide_plan.specs.declared.interface.BarPlan.{BarPlan}
 use Rattle.ide_plan.specs.declared.interface.InterfacePlan.{InterfacePlan}
 use Rattle.ide_plan.specs.Fits.{AreBytes}
 use Rattle.tdisp_codec.specs.Reports.{SpellsReport}
-use Rattle.tdi_state.specs.declared.register_set.Register.{Register}
+use Rattle.interface_words.specs.declared.register.Register.{Register}
 use Rattle.tdi_state.specs.declared.register_set.Registers.{Registers}
 use Rattle.tdi_state.specs.declared.states.Lock.{Lock}
 use Rattle.tdi_state.specs.declared.states.TdiState.TheVariants.{ConfigUnlocked, ConfigLocked, Run, Error}
-use Rattle.tdi_state.specs.RegisterValues.{IsAmongSix, with_value, listed, changes_listed}
+use Rattle.interface_words.specs.RegisterNames.{width_of}
+use Rattle.tdi_state.specs.RegisterValues.{IsAmongSix, with_value, planned, listed, changes_listed}
 use Rattle.tdi_state.specs.Bars.{bar_end, bars_overlap, any_overlap}
 use Rattle.tdi_state.specs.Kept.{interface_report, kept_report, IsShortReport}
-use Rattle.tdi_state.specs.Machine.{Tdi, KeepsListed, lock_of, after_write, Call, LockInterface, StartInterface, tdi_after}
+use Rattle.tdi_state.specs.Machine.{Tdi, new_tdi, KeepsListed, lock_of, after_write, Call, LockInterface}
+use Rattle.tdi_state.specs.Machine.{StartInterface}
+use Rattle.tdi_state.specs.Machine.{WriteRegister, tdi_after}
 use Rattle.tdi_state.specs.Held.{FitsTdi, FitsShown}
 
 -- a write changes the listed part exactly where it is a listed change
@@ -28,6 +31,28 @@ ChangeIsError = (tdi : Tdi) (lock : Lock) (register : Register) (value : ℕ) �
     → lock_of tdi.state ≡ Some lock → listed lock.flags (with_value tdi.registers register value) ≢ listed lock.flags
     tdi.registers
     → (after_write tdi register value).state ≡ Error
+
+-- six BARs, and what a report shows has its width
+pub record FitsRegisters (registers : Registers) : Type 0 where
+  pub bars : length registers.bars ≡ 6
+  pub shown : FitsShown registers
+
+-- the registers as they stand, and as the lock that stands kept them
+pub record FitsWidths (tdi : Tdi) : Type 0 where
+  pub registers : FitsRegisters tdi.registers
+  pub locked : IfSome (lock_of tdi.state) (λ lock. FitsRegisters lock.registers)
+
+-- a value that is written has room in its register
+abbrev pub FitsCall : Call → Type 0
+FitsCall (WriteRegister register value) = value < 2 ^ width_of register
+FitsCall call = Unit {0}
+
+-- what the laws on reports and on listed changes suppose holds of an interface from its beginning on, and each call
+-- keeps it
+pub record WidthsAreKept : Type 0 where
+  pub first : (plan : InterfacePlan) → FitsRegisters (planned plan) → FitsWidths (new_tdi plan)
+  pub later : (tdi : Tdi) (call : Call) → FitsRegisters (planned tdi.plan) → FitsWidths tdi → FitsCall call
+      → FitsWidths (tdi_after tdi call)
 
 -- a byte of a BAR's range
 abbrev pub HasByte : BarPlan → ℕ → Type 0

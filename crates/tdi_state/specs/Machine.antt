@@ -1,13 +1,17 @@
 -- A device interface as a machine: what it keeps, and what each call answers and makes of it (TDISP, PCI Express Base
 -- 6.0 chapter 11, in this profile).
-use Rattle.std.specs.Prelude.{ℕ, ◌≡◌, ◌+◌, ◌%◌, ◌==◌, ◌&&◌, ◌||◌, nat_le, bit_and, Bool, true, false, not, List, length, take, drop, Option, Some, None, IfSome, Result, Ok, Err, if◌then◌else◌}
+use Rattle.std.specs.Prelude.{ℕ, ◌≡◌, ◌+◌, ◌%◌, ◌==◌, ◌&&◌, ◌||◌, nat_le, bit_and, Bool, true, false, not, List, length}
+use Rattle.std.specs.Prelude.{take, drop, Option, Some, None, IfSome, Result, Ok, Err, if◌then◌else◌}
 use Rattle.std.specs.Option.{option_map, option_map_or}
 use Rattle.std.specs.Str.{bytes_eq}
 use Rattle.std.specs.Borrow.{Bor}
 use Rattle.ide_plan.specs.declared.interface.InterfacePlan.{InterfacePlan}
 use Rattle.tdi_state.specs.declared.error_codes.ErrorCode.{ErrorCode}
-use Rattle.tdi_state.specs.declared.error_codes.ErrorCode.TheVariants.{InvalidRequest, InvalidInterfaceState, UnsupportedRequest, VersionMismatch, InvalidInterface, InvalidNonce, InsufficientEntropy, InvalidDeviceConfiguration}
-use Rattle.tdi_state.specs.declared.register_set.Register.{Register}
+use Rattle.tdi_state.specs.declared.error_codes.ErrorCode.TheVariants.{InvalidRequest, InvalidInterfaceState}
+use Rattle.tdi_state.specs.declared.error_codes.ErrorCode.TheVariants.{UnsupportedRequest, VersionMismatch}
+use Rattle.tdi_state.specs.declared.error_codes.ErrorCode.TheVariants.{InvalidInterface, InvalidNonce}
+use Rattle.tdi_state.specs.declared.error_codes.ErrorCode.TheVariants.{InsufficientEntropy, InvalidDeviceConfiguration}
+use Rattle.interface_words.specs.declared.register.Register.{Register}
 use Rattle.tdi_state.specs.declared.register_set.Registers.{Registers}
 use Rattle.tdi_state.specs.declared.states.Lock.{Lock}
 use Rattle.tdi_state.specs.declared.states.TdiState.{TdiState}

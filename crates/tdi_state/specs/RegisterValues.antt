@@ -1,35 +1,17 @@
 -- The registers of a device interface, and which of them a lock keeps (PCI Express Base 6.0 section 7.5.1 and chapter
 -- 11, in this profile).
-use Rattle.std.specs.Prelude.{ℕ, ◌/◌, ◌%◌, ◌^◌, ◌==◌, ◌&&◌, ◌<◌, nat_lt, Bool, true, not, List, [], ◌∷◌, length, slice_get, slice_index, slice_set, Option, Some, None, if◌then◌else◌}
+use Rattle.std.specs.Prelude.{ℕ, ◌/◌, ◌%◌, ◌^◌, ◌==◌, ◌&&◌, Bool, not, List, [], ◌∷◌, slice_get, slice_index, slice_set}
+use Rattle.std.specs.Prelude.{Option, Some, None, if◌then◌else◌}
 use Rattle.std.specs.Option.{option_map_or}
 use Rattle.ide_plan.specs.declared.interface.InterfacePlan.{InterfacePlan}
 use Rattle.ide_plan.specs.declared.interface.BarPlan.{BarPlan}
-use Rattle.tdi_state.specs.declared.register_set.Register.{Register}
-use Rattle.tdi_state.specs.declared.register_set.Register.TheVariants.{Command, CacheLine, Msix, Lnr, Tph, Pasid, Ats, Bar}
+use Rattle.interface_words.specs.declared.register.Register.{Register}
+use Rattle.interface_words.specs.declared.register.Register.TheVariants.{Command, CacheLine, Msix, Lnr, Tph, Pasid, Ats}
+use Rattle.interface_words.specs.declared.register.Register.TheVariants.{Bar}
+pub use Rattle.interface_words.specs.RegisterNames.{IsAmongSix}
 use Rattle.tdi_state.specs.declared.register_set.Registers.{Registers}
 
 -- ---- what a register holds
-
--- how many bits it has
-abbrev pub width_of : Register → ℕ
-width_of Command = 16
-width_of CacheLine = 8
-width_of Msix = 16
-width_of Lnr = 16
-width_of Tph = 32
-width_of Pasid = 16
-width_of Ats = 16
-width_of (Bar n) = 64
-
--- the interface has it: the BARs are numbered from 0
-abbrev pub has_register : InterfacePlan → Register → Bool
-has_register plan (Bar n) = nat_lt n (length plan.bars)
-has_register plan register = true
-
--- there are six BARs at the most
-abbrev pub IsAmongSix : Register → Type 0
-IsAmongSix (Bar n) = n < 6
-IsAmongSix register = Unit {0}
 
 abbrev pub value_in : Registers → Register → ℕ
 value_in registers Command = registers.command

@@ -5,7 +5,8 @@ ghost use Rattle.std.specs.List.{list_any, flat_map};
 ghost use Rattle.std.specs.Option.{option_to_list};
 ghost use Rattle.arrayvec.specs.ArrayVec.{array_vec_len};
 ghost use Rattle.tdisp_codec.specs.Ranges.{range_bytes, ranges_in};
-ghost use Rattle.tdi_state.specs.Bars.{FitsReported, bar_at, bars_of, bar_end, bars_overlap, any_overlap, reported_range, reported_ranges};
+ghost use Rattle.tdi_state.specs.Bars.{FitsReported, bar_at, bars_of, bar_end, bars_overlap, any_overlap};
+ghost use Rattle.tdi_state.specs.Bars.{reported_range, reported_ranges};
 
 use crate::register_set::Registers;
 use arrayvec::ArrayVec;

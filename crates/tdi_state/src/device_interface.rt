@@ -4,7 +4,8 @@ ghost use Rattle.std.specs.Prelude.{◌≡◌, ◌<◌, ◌≤◌, ◌^◌, ◌%
 ghost use Rattle.std.specs.Option.{option_copied, option_map};
 ghost use Rattle.tdisp_codec.specs.Ranges.{ranges_in};
 ghost use Rattle.tdisp_codec.specs.Reports.{report_shown};
-ghost use Rattle.tdi_state.specs.RegisterValues.{has_register, value_in, width_of};
+ghost use Rattle.interface_words.specs.RegisterNames.{has_register, width_of};
+ghost use Rattle.tdi_state.specs.RegisterValues.{value_in};
 ghost use Rattle.tdi_state.specs.Bars.{any_overlap, bars_of};
 ghost use Rattle.tdi_state.specs.Kept.{interface_info, kept_report, IsShortReport};
 ghost use Rattle.tdi_state.specs.Machine.{are_lock_flags, is_page, portion_of, portion_shown};
@@ -12,11 +13,12 @@ ghost use Rattle.tdi_state.specs.Held.{FitsTdi};
 
 use crate::bars::{any_overlap, bars_of, reported_bytes};
 use crate::error_codes::ErrorCode;
-use crate::register_set::{Register, Registers, has_bit};
+use crate::register_set::{Registers, has_bit};
 use crate::report_buffer::ReportBuffer;
 use crate::states::{Lock, TdiState};
 use ide_plan::InterfacePlan;
 use ide_types::{Bytes, Items, Memory};
+use interface_words::Register;
 use std::alloc::Global;
 use std::marker::Model;
 use tdisp_codec::{Ranges, ReportView};

@@ -1,6 +1,8 @@
 //! What the definitions of a device interface imply.
 
-ghost use Rattle.tdi_state.specs.Laws.{ChangesAreListed, ChangeIsError, OverlapIsShared, OverlapsArePairs, ListedIsKept, LockIsEntered, RunIsEntered, ReportIsShort, ReportIsSpelled};
+ghost use Rattle.tdi_state.specs.Laws.{ChangesAreListed, ChangeIsError, OverlapIsShared, OverlapsArePairs};
+ghost use Rattle.tdi_state.specs.Laws.{ListedIsKept, LockIsEntered, RunIsEntered, ReportIsShort, ReportIsSpelled};
+ghost use Rattle.tdi_state.specs.Laws.{WidthsAreKept};
 
 use tdisp_codec::report_read_again;
 
@@ -14,6 +16,12 @@ pub fn listed_changes()
 /// In CONFIG_LOCKED and RUN the listed registers are those that the lock kept: each call keeps that.
 pub fn listed_is_kept()
     ensures { ListedIsKept }
+{}
+
+/// Registers have their widths and there are six BARs, as the laws on reports and on listed changes suppose: of an
+/// interface as the topology lays it out, and after each call whose value has room in its register.
+pub fn widths_are_kept()
+    ensures { WidthsAreKept }
 {}
 
 /// A lock stands from an accepted LOCK_INTERFACE on, which kept the registers as they stood; RUN is entered from

@@ -14,9 +14,11 @@ mod tests;
 
 pub use device_interface::Interface;
 pub use error_codes::ErrorCode;
+pub use interface_words::Register;
 pub use laws::{
     listed_changes, listed_is_kept, overlaps_are_shared, reports_are_spelled, states_are_entered,
+    widths_are_kept,
 };
-pub use register_set::{Register, Registers};
+pub use register_set::Registers;
 pub use report_buffer::REPORT_BYTES;
 pub use states::{Lock, TdiState};

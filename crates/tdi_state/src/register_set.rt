@@ -1,30 +1,12 @@
 //! The registers of a device interface.
 
 ghost use Rattle.std.specs.Prelude.{◌≡◌, ◌<◌, ◌^◌, ◌==◌, ◌&&◌, [], ◌∷◌};
-ghost use Rattle.tdi_state.specs.RegisterValues.{bit_at, has_bit, changes_listed, has_register, planned, planned_base, IsAmongSix, value_in, with_value, width_of};
+ghost use Rattle.interface_words.specs.RegisterNames.{width_of};
+ghost use Rattle.tdi_state.specs.RegisterValues.{bit_at, has_bit, changes_listed, planned, planned_base, IsAmongSix};
+ghost use Rattle.tdi_state.specs.RegisterValues.{value_in, with_value};
 
 use ide_plan::{BarPlan, InterfacePlan};
-
-/// A register of a device interface (PCI Express Base 6.0 sections 7.5.1 and 7.7 to 7.9, and this profile).
-#[derive(Clone, Copy, Debug, PartialEq, Eq)]
-pub enum Register {
-    /// Command, 16 bits: bit 1 memory space, bit 2 bus master.
-    Command,
-    /// Cache line size, 8 bits.
-    CacheLine,
-    /// MSI-X control, 16 bits.
-    Msix,
-    /// LNR control, 16 bits.
-    Lnr,
-    /// TPH control, 32 bits.
-    Tph,
-    /// PASID control, 16 bits.
-    Pasid,
-    /// ATS control, 16 bits.
-    Ats,
-    /// A base address register by its number, from 0; 64 bits.
-    Bar(u8),
-}
+use interface_words::Register;
 
 /// What the registers of a device interface hold (PCI Express Base 6.0 sections 7.5.1 and 7.7 to 7.9, and this
 /// profile).
@@ -39,30 +21,6 @@ pub struct Registers {
     pub ats: u16,
     /// The BARs by their number, 0 where the interface has none.
     pub bars: [u64; 6],
-}
-
-impl Register {
-    /// How many bits it has: 8, 16, 32 or 64.
-    pub fn width(self) -> u8
-        ensures { result ≡ width_of self }
-    {
-        match self {
-            Register::CacheLine => 8,
-            Register::Tph => 32,
-            Register::Bar(_) => 64,
-            _ => 16,
-        }
-    }
-
-    /// Whether an interface of this layout has it.
-    pub fn is_of(self, plan: &InterfacePlan) -> bool
-        ensures { result ≡ has_register plan.now self }
-    {
-        match self {
-            Register::Bar(n) => (n as usize) < plan.bars.as_slice().len(),
-            _ => true,
-        }
-    }
 }
 
 // What the topology gives this BAR, 0 where the interface has none.

@@ -2,7 +2,8 @@
 
 ghost use Rattle.std.specs.Prelude.{◌≡◌};
 ghost use Rattle.std.specs.Str.{bytes_eq};
-ghost use Rattle.tdi_state.specs.Machine.{after_change, bound_stream, after_failure, is_unlocked, lock_flags, start_answer, after_start, state_code};
+ghost use Rattle.tdi_state.specs.Machine.{after_change, bound_stream, after_failure, is_unlocked, lock_flags};
+ghost use Rattle.tdi_state.specs.Machine.{start_answer, after_start, state_code};
 
 use crate::error_codes::ErrorCode;
 use crate::register_set::Registers;

@@ -1,10 +1,12 @@
 -- Replies as bytes (TDISP section 11.3, in this profile).
-use Rattle.std.specs.Prelude.{ℕ, ◌≡◌, ◌+◌, ◌<◌, ◌^◌, Bool, ◌==◌, nat_le, ◌&&◌, ◌||◌, List, [], ◌∷◌, ◌++◌, length, take, drop, slice_index, replicate, All, Result, Ok, Err, if◌then◌else◌}
+use Rattle.std.specs.Prelude.{ℕ, ◌≡◌, ◌+◌, ◌<◌, ◌^◌, Bool, ◌==◌, nat_le, ◌&&◌, ◌||◌, List, [], ◌∷◌, ◌++◌, length, take}
+use Rattle.std.specs.Prelude.{drop, slice_index, replicate, All, Result, Ok, Err, if◌then◌else◌}
 use Rattle.byteorder.specs.Endian.{little_bytes, little_number}
 use Rattle.tdisp_codec.specs.declared.fault.TdispFault.{TdispFault}
 use Rattle.tdisp_codec.specs.declared.reply.ReplyView.{ReplyView}
 use Rattle.tdisp_codec.specs.declared.reply.ReplyView.TheVariants as views
-use Rattle.tdisp_codec.specs.Messages.{Ignored, SpellsMessage, message_spelling, type_in, function_in, body_in, message_fault, read_or}
+use Rattle.tdisp_codec.specs.Messages.{Ignored, SpellsMessage, message_spelling, type_in, function_in, body_in}
+use Rattle.tdisp_codec.specs.Messages.{message_fault, read_or}
 
 -- a reply as a value: lent bytes are the bytes
 pub data Reply : Type 0 where

@@ -1,10 +1,15 @@
 -- Requests as bytes (TDISP section 11.3, in this profile).
-use Rattle.std.specs.Prelude.{ℕ, ◌≡◌, ◌+◌, ◌<◌, ◌^◌, Bool, ◌==◌, nat_le, ◌&&◌, List, [], ◌∷◌, ◌++◌, length, take, drop, slice_index, replicate, All, Result, if◌then◌else◌}
+use Rattle.std.specs.Prelude.{ℕ, ◌≡◌, ◌+◌, ◌<◌, ◌^◌, Bool, ◌==◌, nat_le, ◌&&◌, List, [], ◌∷◌, ◌++◌, length, take, drop}
+use Rattle.std.specs.Prelude.{slice_index, replicate, All, Result, if◌then◌else◌}
 use Rattle.byteorder.specs.Endian.{little_bytes, little_number}
 use Rattle.tdisp_codec.specs.declared.fault.TdispFault.{TdispFault}
 use Rattle.tdisp_codec.specs.declared.request.RequestView.{RequestView}
-use Rattle.tdisp_codec.specs.declared.request.RequestView.TheVariants.{GetVersion, GetCapabilities, LockInterface, GetDeviceInterfaceReport, GetDeviceInterfaceState, StartInterface, StopInterface}
-use Rattle.tdisp_codec.specs.Messages.{Ignored, SpellsMessage, message_spelling, type_in, function_in, body_in, message_fault, read_or}
+use Rattle.tdisp_codec.specs.declared.request.RequestView.TheVariants.{GetVersion, GetCapabilities, LockInterface}
+use Rattle.tdisp_codec.specs.declared.request.RequestView.TheVariants.{GetDeviceInterfaceReport}
+use Rattle.tdisp_codec.specs.declared.request.RequestView.TheVariants.{GetDeviceInterfaceState, StartInterface}
+use Rattle.tdisp_codec.specs.declared.request.RequestView.TheVariants.{StopInterface}
+use Rattle.tdisp_codec.specs.Messages.{Ignored, SpellsMessage, message_spelling, type_in, function_in, body_in}
+use Rattle.tdisp_codec.specs.Messages.{message_fault, read_or}
 
 abbrev pub request_type : RequestView → ℕ
 request_type (GetVersion function) = 0x81

@@ -9,7 +9,8 @@ ghost use Rattle.tdisp_codec.specs.Messages.{message_fault_at, IsFirstFault};
 ghost use Rattle.tdisp_codec.specs.Requests.{FitsRequest, SpellsRequest, request_spelling, request_reading};
 ghost use Rattle.tdisp_codec.specs.Replies.{Reply, FitsReply, SpellsReply, reply_spelling, reply_reading};
 ghost use Rattle.tdisp_codec.specs.Ranges.{range_bytes, FitsRange, ranges_in};
-ghost use Rattle.tdisp_codec.specs.Reports.{Report, FitsReport, SpellsReport, report_spelling, report_reading, report_fault_at};
+ghost use Rattle.tdisp_codec.specs.Reports.{Report, FitsReport, SpellsReport, report_spelling, report_reading};
+ghost use Rattle.tdisp_codec.specs.Reports.{report_fault_at};
 
 /// `request_reading` reads exactly the bytes that spell a request, as that request, whatever the reserved bytes hold,
 /// and refuses all others at the first byte with which no spelling goes on, or where they end too early.

@@ -3,8 +3,11 @@
 ghost use Rattle.std.specs.Prelude.{◌≡◌, ◌+◌, ◌<◌, ◌≤◌, ◌^◌, true, length, slice_index, take, drop};
 ghost use Rattle.byteorder.specs.Endian.{little_number};
 ghost use Rattle.tdisp_codec.specs.Messages.{length_fault as length_fault_of, message_fault as message_fault_of};
-ghost use Rattle.tdisp_codec.specs.Requests.{is_request as is_request_type, request_size as request_size_of, request_from, request_reading};
-ghost use Rattle.tdisp_codec.specs.Replies.{is_reply as is_reply_type, reply_size as reply_size_of, DeviceInterfaceReport, capabilities_from, reply_of_type, reply_shown, reply_answer, reply_reading};
+ghost use Rattle.tdisp_codec.specs.Requests.{is_request as is_request_type, request_size as request_size_of};
+ghost use Rattle.tdisp_codec.specs.Requests.{request_from, request_reading};
+ghost use Rattle.tdisp_codec.specs.Replies.{is_reply as is_reply_type, reply_size as reply_size_of};
+ghost use Rattle.tdisp_codec.specs.Replies.{DeviceInterfaceReport, capabilities_from, reply_of_type, reply_shown};
+ghost use Rattle.tdisp_codec.specs.Replies.{reply_answer, reply_reading};
 
 use crate::fault::TdispFault;
 use crate::numbers::{behind, byte_at, number16, number32};

@@ -1,7 +1,8 @@
 //! Reading a report.
 
 ghost use Rattle.std.specs.Prelude.{◌≡◌, ◌+◌, ◌*◌, ◌<◌, ◌≤◌, ◌^◌, length};
-ghost use Rattle.tdisp_codec.specs.Reports.{device_place as device_place_of, report_size as report_size_of, report_in, report_shown, report_answer, report_reading};
+ghost use Rattle.tdisp_codec.specs.Reports.{device_place as device_place_of, report_size as report_size_of, report_in};
+ghost use Rattle.tdisp_codec.specs.Reports.{report_shown, report_answer, report_reading};
 
 use crate::fault::TdispFault;
 use crate::numbers::{behind, number16, number32};

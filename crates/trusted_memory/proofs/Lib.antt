@@ -2,3 +2,4 @@ pub mod Seen
 pub mod Written
 pub mod Putting
 pub mod Turns
+pub mod Admitted

@@ -1,5 +1,6 @@
 -- What is read of regions whose bytes are those of a function of addresses.
-use Rattle.std.proofs.Common.{◌≡◌, ℕ, zero, suc, ◌+◌, ◌-◌, ◌^◌, ◌<◌, ◌≤◌, Bool, true, false, cond, List, [], ◌∷◌, length, map, get_or, replicate, All, refl, sym, ap, ◌∙◌, inl, inr, arith}
+use Rattle.std.proofs.Common.{◌≡◌, ℕ, zero, suc, ◌+◌, ◌-◌, ◌^◌, ◌<◌, ◌≤◌, Bool, true, false, cond, List, [], ◌∷◌}
+use Rattle.std.proofs.Common.{length, map, get_or, replicate, All, refl, sym, ap, ◌∙◌, inl, inr, arith}
 use Rattle.std.proofs.lemmas.Bool.{cases_Bool, true≢false}
 use Rattle.std.proofs.lemmas.Bool.Decides.{nat_tests}
 use Rattle.std.proofs.lemmas.List.{ext_get_or}
@@ -7,8 +8,8 @@ use Rattle.std.proofs.lemmas.List.Elements.{All-head, All-tail}
 use Rattle.ide_plan.specs.declared.plan.Region.{Region}
 use Rattle.ide_plan.specs.Fits.{FitsRegion}
 use Rattle.trusted_memory.specs.Regions.{is_inside, in_region, holds_all, in_one_region}
-use Rattle.trusted_memory.specs.Contents.{new_memory, byte_in, byte_at, bytes_from}
-use Rattle.trusted_memory.specs.Pages.{seen}
+use Rattle.trusted_memory.specs.Memory.{new_memory, byte_in, byte_at, bytes_from}
+use Rattle.trusted_memory.specs.Pages.{contents_seen, seen}
 
 pub length-bytes_from : (f : ℕ → ℕ) (at n : ℕ) → length (bytes_from f at n) ≡ n
 length-bytes_from f at zero = refl
@@ -21,7 +22,8 @@ get_or-bytes_from f at (suc n) (suc k) less =
     let e : (at + 1) + k ≡ at + suc k = omega arith in get_or-bytes_from f (at + 1) n k (omega arith) ∙ ap f e
 
 -- a list of bytes is what its places say
-pub is_bytes_from : (f : ℕ → ℕ) (at : ℕ) (s : List ℕ) → ((k : ℕ) → k < length s → get_or s k 0 ≡ f (at + k)) → s ≡ bytes_from f at (length s)
+pub is_bytes_from : (f : ℕ → ℕ) (at : ℕ) (s : List ℕ) → ((k : ℕ) → k < length s → get_or s k 0 ≡ f (at + k)) → s
+    ≡ bytes_from f at (length s)
 is_bytes_from f at s h =
     ext_get_or 0 s (bytes_from f at (length s)) (sym (length-bytes_from f at (length s)))
     (λ k less. h k less ∙ sym (get_or-bytes_from f at (length s) k less))
@@ -42,14 +44,16 @@ inside_low r a e = grind (arith, nat_tests)
 pub inside_high : (r : Region) (a : ℕ) → is_inside r a ≡ true → a < r.base + r.size
 inside_high r a e = grind (arith, nat_tests)
 
-inside : (f : ℕ → ℕ) (r : Region) (a : ℕ) → is_inside r a ≡ true → get_or (bytes_from f r.base r.size) (a - r.base) 0 ≡ f a
+inside : (f : ℕ → ℕ) (r : Region) (a : ℕ) → is_inside r a ≡ true → get_or (bytes_from f r.base r.size) (a - r.base) 0
+    ≡ f a
 inside f r a e =
     let low = inside_low r a e in
     let high = inside_high r a e in
     let same : r.base + (a - r.base) ≡ a = omega arith in
     get_or-bytes_from f r.base r.size (a - r.base) (omega arith) ∙ ap f same
 
-pub byte_in-seen : (f : ℕ → ℕ) (rs : List Region) (a : ℕ) → byte_in rs (map (λ r. bytes_from f r.base r.size) rs) a ≡ cond (in_region rs a) (f a) 0
+pub byte_in-seen : (f : ℕ → ℕ) (rs : List Region) (a : ℕ) → byte_in rs (map (λ r. bytes_from f r.base r.size) rs) a
+    ≡ cond (in_region rs a) (f a) 0
 byte_in-seen f [] a = refl
 byte_in-seen f (r ∷ rs) a = elim (cases_Bool (is_inside r a)) [
   | inl e ↦ rw e (inside f r a e)
@@ -61,29 +65,17 @@ byte_in-seen f (r ∷ rs) a = elim (cases_Bool (is_inside r a)) [
 holds_inside : (r : Region) (at n a : ℕ) → holds_all r at n ≡ true → at ≤ a → a < at + n → is_inside r a ≡ true
 holds_inside r at n a h low high = grind (arith, nat_tests)
 
-holds_first : (r : Region) (at n : ℕ) → holds_all r at n ≡ true → is_inside r at ≡ true
-holds_first r at n h = grind arith
-
 holds_end : (r : Region) (at n : ℕ) → holds_all r at n ≡ true → at + n ≤ r.base + r.size
 holds_end r at n h = grind (arith, nat_tests)
 
-pub each_in_region : (rs : List Region) (at n a : ℕ) → in_one_region rs at n ≡ true → at ≤ a → a < at + n → in_region rs a ≡ true
+pub each_in_region : (rs : List Region) (at n a : ℕ) → in_one_region rs at n ≡ true → at ≤ a → a < at + n
+    → in_region rs a ≡ true
 each_in_region [] at n a h low high = absurd (true≢false (sym h))
 each_in_region (r ∷ rs) at n a h low high = elim (cases_Bool (holds_all r at n)) [
   | inl e ↦ rw (holds_inside r at n a e low high) refl
   | inr e ↦ elim (cases_Bool (is_inside r a)) [
     | inl i ↦ rw i refl
     | inr o ↦ rw o (each_in_region rs at n a (rw e at h) low high)
-  ]
-]
-
-pub first_in_region : (rs : List Region) (at n : ℕ) → in_one_region rs at n ≡ true → in_region rs at ≡ true
-first_in_region [] at n h = absurd (true≢false (sym h))
-first_in_region (r ∷ rs) at n h = elim (cases_Bool (holds_all r at n)) [
-  | inl e ↦ rw (holds_first r at n e) refl
-  | inr e ↦ elim (cases_Bool (is_inside r at)) [
-    | inl i ↦ rw i refl
-    | inr o ↦ rw o (first_in_region rs at n (rw e at h))
   ]
 ]
 
@@ -101,8 +93,12 @@ ends_low (r ∷ rs) at n fit h = elim (cases_Bool (holds_all r at n)) [
 
 -- ---- at first
 
-pub new_is_seen : (rs : List Region) → seen rs [] ≡ new_memory rs
-new_is_seen rs i = record { regions = rs; bytes = map (λ r. bytes_from-zero r.base r.size i) rs; provided = [] }
+pub new_is_seen : (rs : List Region) → seen rs [] 0 ≡ new_memory rs
+new_is_seen rs i = record {
+  contents = record { regions = rs; bytes = map (λ r. bytes_from-zero r.base r.size i) rs };
+  pages = [];
+  spare = 0;
+}
 
-pub byte_at-new : (rs : List Region) (a : ℕ) → byte_at (seen rs []) a ≡ 0
+pub byte_at-new : (rs : List Region) (a : ℕ) → byte_at (contents_seen rs []) a ≡ 0
 byte_at-new rs a = byte_in-seen (λ _. 0) rs a ∙ cond_same (in_region rs a) 0

@@ -1,14 +1,17 @@
--- Why a memory write at a host's port is blocked, the first cause that holds (this profile).
-use Rattle.std.specs.Prelude.{ℕ, ◌==◌, nat_lt, not, Bool, true, false, if◌then◌else◌, List, length, Option, Some, None}
+-- Why a memory request at a host's port is blocked, the first cause that holds (this profile). The causes speak of the
+-- bytes that it names and of its grant, and of no payload.
+use Rattle.std.specs.Prelude.{ℕ, ◌==◌, nat_lt, not, Bool, true, false, if◌then◌else◌, List, Option, Some, None}
 use Rattle.std.specs.Option.{option_or}
 use Rattle.ide_plan.specs.declared.plan.Region.{Region}
 use Rattle.link_verdicts.specs.declared.verdict.BlockCause.{BlockCause}
-use Rattle.link_verdicts.specs.declared.verdict.BlockCause.TheVariants.{NotTrusted, NotRunning, WrongStream, Stale, Outside, Crosses}
+use Rattle.link_verdicts.specs.declared.verdict.BlockCause.TheVariants.{NotTrusted, NotRunning, WrongStream, Stale}
+use Rattle.link_verdicts.specs.declared.verdict.BlockCause.TheVariants.{Outside, Crosses}
 use Rattle.link_verdicts.specs.declared.verdict.Effect.{Effect}
-use Rattle.link_verdicts.specs.declared.verdict.Effect.TheVariants.{Applied, Blocked}
+use Rattle.link_verdicts.specs.declared.verdict.Effect.TheVariants.{Applied, Blocked, Delivered}
 use Rattle.trusted_memory.specs.declared.grant.Grant.{Grant}
-use Rattle.trusted_memory.specs.Writes.{Write}
-use Rattle.trusted_memory.specs.Regions.{in_one_region, crosses}
+use Rattle.trusted_memory.specs.declared.span.Span.{Span}
+use Rattle.trusted_memory.specs.Spans.{bytes_of, crosses}
+use Rattle.trusted_memory.specs.Regions.{in_one_region}
 
 -- the requester is no running interface; the packet came on another stream than the bound one; its draw is less than
 -- the floor
@@ -20,18 +23,29 @@ grant_cause (Some bound) stream draw =
     else None
 
 -- the bytes of all double words are not in one region; they cross a 4 KiB boundary
-abbrev pub place_cause : List Region → Write → Option BlockCause
-place_cause regions w =
-    if not (in_one_region regions w.address (length w.payload)) then Some Outside
-    else if crosses w then Some Crosses
+abbrev pub place_cause : List Region → Span → Option BlockCause
+place_cause regions s =
+    if not (in_one_region regions s.address (bytes_of s)) then Some Outside
+    else if crosses s then Some Crosses
     else None
 
 -- T is clear; else what the grant says; else where the bytes lie
-abbrev pub block_cause : List Region → Write → Bool → Grant → Option BlockCause
-block_cause regions w false grant = Some NotTrusted
-block_cause regions w true grant =
-    option_or (grant_cause grant.bound grant.stream grant.draw) (place_cause regions w)
+abbrev pub block_cause : List Region → Span → Bool → Grant → Option BlockCause
+block_cause regions s false grant = Some NotTrusted
+block_cause regions s true grant =
+    option_or (grant_cause grant.bound grant.stream grant.draw) (place_cause regions s)
+
+-- ---- effects
 
 abbrev pub block_effect : Option BlockCause → Effect
 block_effect None = Applied
 block_effect (Some cause) = Blocked cause
+
+abbrev pub is_applied : Effect → Bool
+is_applied Applied = true
+is_applied _ = false
+
+-- of a TLP at a host's port: of a memory write by the bytes that it names, else it is delivered
+abbrev pub write_effect : List Region → Bool → Grant → Option Span → Effect
+write_effect regions t grant None = Delivered
+write_effect regions t grant (Some s) = block_effect (block_cause regions s t grant)

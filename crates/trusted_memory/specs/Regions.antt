@@ -1,8 +1,7 @@
 -- Which bytes regions of memory hold (this profile).
-use Rattle.std.specs.Prelude.{ℕ, ◌+◌, ◌%◌, ◌&&◌, nat_lt, nat_le, Bool, List, length}
+use Rattle.std.specs.Prelude.{ℕ, ◌+◌, ◌&&◌, nat_lt, nat_le, Bool, List}
 use Rattle.std.specs.List.{list_any}
 use Rattle.ide_plan.specs.declared.plan.Region.{Region}
-use Rattle.trusted_memory.specs.Writes.{Write}
 
 -- the byte at an address
 abbrev pub is_inside : Region → ℕ → Bool
@@ -18,7 +17,3 @@ holds_all r at n = is_inside r at && nat_le (at + n) (r.base + r.size)
 -- one region holds them all
 abbrev pub in_one_region : List Region → ℕ → ℕ → Bool
 in_one_region regions at n = list_any (λ r. holds_all r at n) regions
-
--- the bytes of the payload cross a 4 KiB boundary
-abbrev pub crosses : Write → Bool
-crosses w = nat_lt 4096 (w.address % 4096 + length w.payload)

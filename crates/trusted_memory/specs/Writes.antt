@@ -1,52 +1,32 @@
 -- Memory write requests, and what stands at each address after them (PCI Express Base 6.0 sections 2.2.4, 2.2.5 and
 -- 2.2.7).
-use Rattle.std.specs.Prelude.{ℕ, ◌+◌, ◌-◌, ◌/◌, ◌%◌, ◌^◌, ◌==◌, ◌&&◌, nat_lt, nat_le, Bool, true, if◌then◌else◌, List, [], ◌∷◌, length, slice_index, find, Option, Some, None}
-use Rattle.tlp_layout.specs.declared.head.Fields.{Fields}
-use Rattle.tlp_layout.specs.declared.head.Fields.TheVariants.{Memory}
+use Rattle.std.specs.Prelude.{ℕ, ◌-◌, if◌then◌else◌, List, [], ◌∷◌, slice_index, find, Option, Some, None}
+use Rattle.std.specs.Option.{option_map}
+use Rattle.tlp_layout.specs.declared.head.HeadView.{HeadView}
 use Rattle.tlp_layout.specs.declared.tlp.Tlp.{Tlp}
 use Rattle.tlp_layout.specs.Tlp.{header, body}
+use Rattle.trusted_memory.specs.declared.span.Span.{Span}
 use Rattle.trusted_memory.specs.declared.write.MemWriteView.{MemWriteView}
+use Rattle.trusted_memory.specs.Spans.{enables, write_span}
 
--- the address of its first byte, the byte enables of its first and of its last double word, and its payload
+-- the bytes that it names, and its payload
 pub record Write : Type 0 where
-  pub address : ℕ
-  pub first_be : ℕ
-  pub last_be : ℕ
+  pub span : Span
   pub payload : List ℕ
 
--- bit k of byte enables
-abbrev pub is_enable_set : ℕ → ℕ → Bool
-is_enable_set bits k = bits / 2 ^ k % 2 == 1
-
--- byte i of the payload is enabled: in the first double word by the first byte enables; in the last double word of a
--- longer write by the last byte enables; always in between
-abbrev pub is_enabled : Write → ℕ → Bool
-is_enabled w i =
-    if i / 4 == 0 then is_enable_set w.first_be (i % 4)
-    else if i / 4 + 1 == length w.payload / 4 then is_enable_set w.last_be (i % 4)
-    else true
-
--- the address is one of the payload's, which ascend from the write's address on
-abbrev pub reaches : Write → ℕ → Bool
-reaches w a = nat_le w.address a && nat_lt a (w.address + length w.payload)
-
--- the write enables the byte at the address
-abbrev pub enables : Write → ℕ → Bool
-enables w a = reaches w a && is_enabled w (a - w.address)
-
--- the payload's byte for the address
+-- the payload's byte for the address; 0 behind the end of a payload that is shorter than the span
 abbrev pub payload_byte : Write → ℕ → ℕ
-payload_byte w a = slice_index w.payload (a - w.address)
+payload_byte w a = slice_index w.payload (a - w.span.address)
 
 -- what stands at an address once the write is written over old bytes
 abbrev pub written : Write → (ℕ → ℕ) → ℕ → ℕ
-written w old a = if enables w a then payload_byte w a else old a
+written w old a = if enables w.span a then payload_byte w a else old a
 
 -- ---- writes, the newest first
 
 -- the last write that enables the byte at the address
 abbrev pub last_enabling : List Write → ℕ → Option Write
-last_enabling writes a = find (λ w. enables w a) writes
+last_enabling writes a = find (λ w. enables w.span a) writes
 
 abbrev pub byte_of : Option Write → ℕ → ℕ
 byte_of None a = 0
@@ -61,22 +41,22 @@ abbrev pub written_in_turn : List Write → ℕ → ℕ
 written_in_turn [] a = 0
 written_in_turn (w ∷ older) a = written w (written_in_turn older) a
 
+-- writes that come one behind another, ahead of older ones, the newest first
+abbrev pub newest_first : List (Option Write) → List Write → List Write
+newest_first [] older = older
+newest_first (None ∷ os) older = newest_first os older
+newest_first (Some w ∷ os) older = newest_first os (w ∷ older)
+
 -- ---- TLPs
 
-abbrev pub memory_write : Bool → Fields → List ℕ → Option Write
-memory_write true (Memory f) payload =
-    Some (record { address = f.address; first_be = f.first_be; last_be = f.last_be; payload = payload })
-memory_write _ fields payload = None
+-- the memory write of a header and a payload
+abbrev pub memory_write : HeadView → List ℕ → Option Write
+memory_write head payload = option_map (λ s. record { span = s; payload = payload }) (write_span head)
 
 -- the memory write that a TLP is
 abbrev pub write_in : Tlp → Option Write
-write_in t = memory_write (header t).has_payload (header t).fields (body t)
+write_in t = memory_write (header t) (body t)
 
 -- the write that a view shows: lent bytes are the bytes
 abbrev pub write_of : MemWriteView → Write
-write_of v = record {
-  address = v.fields.address;
-  first_be = v.fields.first_be;
-  last_be = v.fields.last_be;
-  payload = v.payload.now;
-}
+write_of v = record { span = v.span; payload = v.payload.now }

@@ -1,16 +1,16 @@
-//! Why writes are blocked.
+//! Why memory requests are blocked.
 
 ghost use Rattle.std.specs.Prelude.{◌≡◌};
-ghost use Rattle.trusted_memory.specs.Writes.{write_of};
 ghost use Rattle.trusted_memory.specs.Causes.{grant_cause, place_cause, block_cause};
 
 use crate::regions::in_one_region;
-use crate::{Grant, MemWriteView};
+use crate::{Grant, Span};
 use ide_plan::Region;
 use link_verdicts::BlockCause;
 
-// Why the grant does not admit a write.
-fn grant_cause(grant: Grant) -> Option<BlockCause>
+/// Why the grant does not admit a trusted request: its requester is no running interface; it came on another stream
+/// than the bound one; its draw is less than the floor (this profile).
+pub fn grant_cause(grant: Grant) -> Option<BlockCause>
     ensures { result ≡ grant_cause grant.bound grant.stream grant.draw }
 {
     match grant.bound {
@@ -27,33 +27,34 @@ fn grant_cause(grant: Grant) -> Option<BlockCause>
     }
 }
 
-// Why the bytes of a write have no place.
-fn place_cause(regions: &[Region], write: &MemWriteView<'_>) -> Option<BlockCause>
-    ensures { result ≡ place_cause regions.now (write_of write.now) }
+/// Why the bytes have no place: they are not all in one region; they cross a 4 KiB boundary (this profile).
+pub fn place_cause(regions: &[Region], span: Span) -> Option<BlockCause>
+    ensures { result ≡ place_cause regions.now span }
 {
-    if !in_one_region(regions, write.fields.address, write.payload.len()) {
+    if !in_one_region(regions, span.address, span.bytes()) {
         Some(BlockCause::Outside)
-    } else if write.crosses() {
+    } else if span.crosses() {
         Some(BlockCause::Crosses)
     } else {
         None
     }
 }
 
-/// The first cause that blocks the write; `None` where it is to be applied.
+/// The first cause that blocks a request: it is not trusted; else why its grant does not admit it; else why its bytes
+/// have no place. `None` where nothing does.
 pub fn block_cause(
     regions: &[Region],
-    write: &MemWriteView<'_>,
+    span: Span,
     trusted: bool,
     grant: Grant,
 ) -> Option<BlockCause>
-    ensures { result ≡ block_cause regions.now (write_of write.now) trusted grant }
+    ensures { result ≡ block_cause regions.now span trusted grant }
 {
     if !trusted {
         return Some(BlockCause::NotTrusted);
     }
     match grant_cause(grant) {
         Some(cause) => Some(cause),
-        None => place_cause(regions, write),
+        None => place_cause(regions, span),
     }
 }

@@ -1,11 +1,10 @@
-//! What stands behind a write.
+//! What stands behind a request.
 
-/// What the host's manager says of the requester of a memory write, beside the packet that brought the write (this
-/// profile).
+/// What is said of the requester of a memory request, beside the packet that brought the request (this profile).
 #[derive(Clone, Copy, Debug, PartialEq, Eq)]
 pub struct Grant {
-    /// Where the requester is an interface in RUN by the manager's view: the ID of the stream that it is bound to, and
-    /// its floor, the least draw under which its writes are admitted.
+    /// Where the requester is an interface in RUN: the ID of the stream that it is bound to, and its floor, the least
+    /// draw under which its requests are admitted. At a host's port it is the manager's view that says so.
     pub bound: Option<(u8, u32)>,
     /// The ID of the stream that the packet came on.
     pub stream: u8,

@@ -1,20 +1,24 @@
 //! A confidential guest's memory at the host: regions that admit only trusted writes of running interfaces
 //! (PCI Express Base 6.0 chapter 11, in this profile).
 //!
-//! Memory is taken by `Trusted::make` and `provide` alone.
+//! Memory is taken by `Trusted::make` and `spare` alone.
 #![tactic(auto)]
 
+mod blanks;
 mod causes;
 mod grant;
 mod laws;
 mod page;
 mod regions;
+mod span;
 #[cfg(test)]
 mod tests;
 mod trusted;
 mod write;
 
+pub use causes::{block_cause, grant_cause, place_cause};
 pub use grant::Grant;
-pub use laws::writes_in_turn;
+pub use laws::{admitted_are_applied, packets_in_turn, writes_in_turn};
+pub use span::Span;
 pub use trusted::Trusted;
 pub use write::MemWriteView;

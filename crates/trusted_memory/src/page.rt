@@ -1,7 +1,9 @@
 //! A page of memory.
 
-ghost use Rattle.std.specs.Prelude.{◌≡◌, ◌<◌, ◌+◌, ◌≤◌, ℕ, IfOk, length, replicate, slice_index, slice_set, if◌then◌else◌};
-ghost use Rattle.trusted_memory.specs.Writes.{write_of, is_enabled};
+ghost use Rattle.std.specs.Prelude.{◌≡◌, ◌<◌, ◌+◌, ◌≤◌, ℕ, IfOk, length, replicate, slice_index, slice_set};
+ghost use Rattle.std.specs.Prelude.{if◌then◌else◌};
+ghost use Rattle.trusted_memory.specs.Spans.{bytes_of, is_enabled};
+ghost use Rattle.trusted_memory.specs.Writes.{write_of};
 ghost use Rattle.trusted_memory.specs.Pages.{HasWritten};
 
 use crate::MemWriteView;
@@ -30,21 +32,20 @@ impl Model for Page {
 
 // Writes byte `i` of the payload at its place behind `start`, if it is enabled.
 fn put(bytes: &mut [u8], start: usize, write: &MemWriteView<'_>, i: usize)
-    requires in_payload { i < length write.now.payload.now }
-    requires in_bytes { start + i < length bytes.old }
-    ensures { bytes.new ≡ (if is_enabled (write_of write.now) i
+    requires { start + i < length bytes.old }
+    ensures { bytes.new ≡ (if is_enabled write.now.span i
         then slice_set bytes.old (start + i) (slice_index write.now.payload.now i) else bytes.old) }
 {
-    if write.is_enabled(i) {
-        bytes[start + i] = write.payload[i];
+    if write.span.is_enabled(i) {
+        bytes[start + i] = write.byte(i);
     }
 }
 
 fn put_all(bytes: &mut [u8], start: usize, write: &MemWriteView<'_>)
-    requires { start + length write.now.payload.now ≤ length bytes.old }
+    requires { start + bytes_of write.now.span ≤ length bytes.old }
     ensures { HasWritten start (write_of write.now) bytes.old bytes.new }
 {
-    for i in 0..write.payload.len() {
+    for i in 0..write.span.bytes() {
         put(bytes, start, write, i);
     }
 }
@@ -68,7 +69,7 @@ impl Page {
 
     /// Writes the enabled bytes of the payload, the first at `start`.
     pub fn write(&mut self, start: usize, write: &MemWriteView<'_>)
-        requires { start + length write.now.payload.now ≤ PAGE_BYTES }
+        requires { start + bytes_of write.now.span ≤ PAGE_BYTES }
         ensures written { HasWritten start (write_of write.now) self.old self.new }
     {
         put_all(self.bytes.as_mut_slice(), start, write);

@@ -1,6 +1,8 @@
 //! Writes that are applied or blocked, and what is read then.
 
-use crate::{Grant, MemWriteView, Trusted};
+ghost use Rattle.std.specs.Prelude.{◌+◌, ◌≤◌};
+
+use crate::{Grant, MemWriteView, Span, Trusted, grant_cause};
 use ide_plan::Region;
 use ide_types::Memory;
 use link_verdicts::{BlockCause, Effect};
@@ -40,7 +42,7 @@ fn apply(
     let Some(write) = MemWriteView::of(&view) else {
         return Ok(None);
     };
-    memory.provide(write.fields.address)?;
+    memory.spare(1)?;
     Ok(Some(memory.apply(&write, trusted, grant)))
 }
 
@@ -196,22 +198,83 @@ fn bytes_of_two_regions_are_outside(rt: HostRuntime) -> Result<(), Fail> {
     Ok(())
 }
 
+// The effect of a TLP; `None` where the bytes spell none.
+fn deliver(memory: &mut Trusted, tlp: &[u8]) -> Option<Effect>
+    requires { 1 ≤ memory.old.spare }
+    ensures { memory.old.spare ≤ memory.new.spare + 1 }
+{
+    match tlp_layout::read(tlp) {
+        Ok(view) => Some(memory.deliver(&view, true, RUNNING)),
+        Err(_) => None,
+    }
+}
+
 #[test]
-fn a_page_is_provided_for_a_write(rt: HostRuntime) -> Result<(), Fail> {
+fn the_packets_of_a_unit_come_one_behind_another(rt: HostRuntime) -> Result<(), Fail> {
     let mut memory = memory(rt.alloc())?;
-    let Ok(view) = tlp_layout::read(&W) else {
-        return Err(Fail::from(Memory));
-    };
-    let Some(write) = MemWriteView::of(&view) else {
-        return Err(Fail::from(Memory));
-    };
-    assert!(rt; !memory.is_ready(&write));
-    memory.provide(0x1000_0abc)?;
-    assert!(rt; memory.is_ready(&write));
-    memory.provide(0x2000_0000)?;
-    assert!(rt; memory.is_ready(&write));
-    assert_eq!(rt; memory.apply(&write, true, RUNNING), Effect::Applied);
-    memory.provide(0x1000_0000)?;
+    let mut outside = W;
+    outside[9] = 1;
+    let mut later = W;
+    later[7] = 0x06;
+    later[13] = 0xaa;
+    later[14] = 0xbb;
+    let read = [0, 0, 0, 1, 1, 0, 0, 0x0f, 0x10, 0, 0, 0];
+    memory.spare(8)?;
+    let first = deliver(&mut memory, &W);
+    let second = deliver(&mut memory, &read);
+    let third = deliver(&mut memory, &outside);
+    let fourth = deliver(&mut memory, &later);
+    assert_eq!(rt; first, Some(Effect::Applied));
+    assert_eq!(rt; second, Some(Effect::Delivered));
+    assert_eq!(rt; third, Some(Effect::Blocked(BlockCause::Outside)));
+    assert_eq!(rt; fourth, Some(Effect::Applied));
+    assert!(rt; shows(&memory, 0x1000_0000, &[0x11, 0xaa, 0xbb, 0x44]));
+    Ok(())
+}
+
+#[test]
+fn spare_pages_change_no_byte(rt: HostRuntime) -> Result<(), Fail> {
+    let mut memory = memory(rt.alloc())?;
+    assert_eq!(rt;
+        apply(&mut memory, &W, true, RUNNING)?,
+        Some(Effect::Applied)
+    );
+    memory.spare(255)?;
+    memory.spare(0)?;
     assert!(rt; shows(&memory, 0x1000_0000, &[0x11, 0x22, 0x33, 0x44]));
+    Ok(())
+}
+
+#[test]
+fn reads_have_the_same_causes(rt: HostRuntime) -> Result<(), Fail> {
+    let memory = memory(rt.alloc())?;
+    // A read of two double words at an address.
+    let read = |address| Span {
+        address,
+        first_be: 0x0f,
+        last_be: 0x0f,
+        length: 2,
+    };
+    let stale = Grant { draw: 2, ..RUNNING };
+    let cases = [
+        (0x1000_0ff8, RUNNING, None),
+        (0x1000_0ffc, RUNNING, Some(BlockCause::Crosses)),
+        (0x1000_fffc, RUNNING, Some(BlockCause::Outside)),
+        (0x1000_fffc, stale, Some(BlockCause::Stale)),
+    ];
+    for (address, grant, cause) in cases {
+        assert_eq!(rt; memory.block_cause(read(address), true, grant), cause);
+    }
+    assert_eq!(rt; grant_cause(stale), Some(BlockCause::Stale));
+    let Ok(tlp) = tlp_layout::read(&W) else {
+        return Err(Fail::from(Memory));
+    };
+    let named = Span {
+        address: 0x1000_0000,
+        first_be: 0x0f,
+        last_be: 0,
+        length: 1,
+    };
+    assert_eq!(rt; Span::of(&tlp.head), Some(named));
     Ok(())
 }

@@ -1,150 +1,196 @@
 //! The regions and their pages.
 
-ghost use Rattle.std.specs.Prelude.{◌≡◌, ◌+◌, ◌/◌, ◌^◌, ◌≤◌, ◌==◌, ◌&&◌, ◌||◌, ℕ, List, [], true, false, All, IsSome, IfOk, OnOk, OnErr, length};
+ghost use Rattle.std.specs.Prelude.{◌≡◌, ◌+◌, ◌/◌, ◌^◌, ◌≤◌, ◌==◌, ◌&&◌, ◌||◌, ℕ, List, [], ◌∷◌, true, false, All};
+ghost use Rattle.std.specs.Prelude.{Some, IfOk, IsOk, OnOk, length, max, if◌then◌else◌};
 ghost use Rattle.std.specs.Bool.{OnTrue, OnFalse};
 ghost use Rattle.ide_plan.specs.Fits.{FitsRegion};
-ghost use Rattle.trusted_memory.specs.Writes.{Write, written, byte_after, write_of};
+ghost use Rattle.tlp_layout.specs.Tlp.{view_of};
+ghost use Rattle.trusted_memory.specs.Spans.{bytes_of, crosses, write_span};
+ghost use Rattle.trusted_memory.specs.Writes.{Write, written, byte_after, write_in, write_of};
 
+use crate::blanks::{fill, put};
 use crate::causes::block_cause;
 use crate::page::{PAGE_BYTES, Page};
-use crate::regions::{in_one_region, in_region};
-use crate::{Grant, MemWriteView};
+use crate::regions::in_one_region;
+use crate::{Grant, MemWriteView, Span};
 use ide_plan::Region;
 use ide_types::Memory;
-use link_verdicts::Effect;
+use link_verdicts::{BlockCause, Effect};
 use std::alloc::Global;
-use std::collections::BTreeMap;
+use std::collections::HashMap;
 use std::marker::Model;
+use tlp_layout::TlpView;
 
 /// The memory of a confidential guest at the host (PCI Express Base 6.0 chapter 11, in this profile). Contracts see its
-/// regions, the bytes that stand in them, and the pages for which a write needs no memory.
+/// contents, that is its regions and the bytes that stand in them; and beside them which pages of 4,096 bytes are
+/// there, and the number of spare pages, whose memory is taken already.
 #[derive(Drop)]
 pub struct Trusted {
     alloc: Global,
     regions: Vec<Region>,
-    pages: BTreeMap<u64, Page>,
+    // by number; there is room in it for each spare page
+    pages: HashMap<u64, Page>,
+    blanks: Vec<Page>,
 }
 
 impl Model for Trusted {
-    ghost use Rattle.std.specs.Prelude.{All};
-    ghost use Rattle.ide_plan.specs.Fits.{FitsRegion};
-    ghost use Rattle.trusted_memory.specs.Contents.{TrustedMemory};
-    ghost use Rattle.trusted_memory.specs.Pages.{seen};
+    ghost use Rattle.std.specs.Prelude.{length};
+    ghost use Rattle.std.specs.HashMap as hash;
+    ghost use Rattle.trusted_memory.specs.Memory.{TrustedMemory};
+    ghost use Rattle.trusted_memory.specs.Pages.{seen, IsKept};
 
     ghost Value = { TrustedMemory };
 
-    ghost view = { λ t. seen t.regions.items t.pages.entries };
+    ghost view = { λ t. seen t.regions.items t.pages.entries (length t.blanks.items) };
 
-    ghost invariant = { λ t. All FitsRegion t.regions.items };
+    ghost invariant = { λ t. IsKept t.regions.items t.blanks.items (hash.spare t.pages) };
 }
 
 impl Trusted {
-    ghost use Rattle.trusted_memory.specs.Regions.{is_inside, in_region, in_one_region, crosses};
-    ghost use Rattle.trusted_memory.specs.Causes.{block_cause, block_effect};
-    ghost use Rattle.trusted_memory.specs.Contents.{
+    ghost use Rattle.trusted_memory.specs.Regions.{is_inside, in_region, in_one_region};
+    ghost use Rattle.trusted_memory.specs.Causes.{block_cause, block_effect, is_applied, write_effect};
+    ghost use Rattle.trusted_memory.specs.Admitted.{admitted_write};
+    ghost use Rattle.trusted_memory.specs.Memory.{
+      Contents,
       TrustedMemory,
       new_memory,
       byte_at,
       bytes_from,
       has_page,
-      is_ready,
+      takes_page,
       byte_by,
-      writes_by,
       IsLeftBy,
+      Leads,
     };
 
-    /// The regions of a plan, with 0 in every byte, and no page provided.
+    /// The regions of a plan, with 0 in every byte, and no page.
     pub fn make(alloc: Global, regions: &[Region]) -> Result<Trusted, Memory>
         requires { All FitsRegion regions.now }
         ensures new { IfOk result (λ memory. memory ≡ new_memory regions.now) }
-        ensures stands { IfOk result (λ memory. IsLeftBy memory []) }
+        ensures stands { IfOk result (λ memory. IsLeftBy memory.contents []) }
     {
         let regions = Vec::from_slice(alloc, regions)?;
         Ok(Trusted {
             alloc,
             regions,
-            pages: BTreeMap::new(alloc),
+            pages: HashMap::new(alloc),
+            blanks: Vec::new(alloc),
         })
     }
 
-    fn has_page(&self, at: u64) -> bool
-        ensures { result ≡ has_page self.now (at / 4096) }
+    /// Makes sure that at least `pages` pages are spare, so that as many writes need no memory. The contents are as
+    /// before, also after `Memory`.
+    pub fn spare(&mut self, pages: u8) -> Result<(), Memory>
+        ensures contents { self.new.contents ≡ self.old.contents }
+        ensures pages { (n : ℕ) → has_page self.new n ≡ has_page self.old n }
+        ensures ok { OnOk result (self.new.spare ≡ max self.old.spare pages) }
+        // Where as many are spare already it takes no memory.
+        ensures enough { pages ≤ self.old.spare → IsOk result }
+        ensures least { self.old.spare ≤ self.new.spare }
+        ensures most { self.new.spare ≤ max self.old.spare pages }
     {
-        self.pages.contains_key(&(at / PAGE_BYTES as u64))
+        self.pages.reserve(pages as usize)?;
+        fill(self.alloc, &mut self.blanks, pages as usize)
     }
 
-    /// Takes the memory of the page of 4,096 bytes that has the address, so that a write there needs none; takes none
-    /// where no region has the address, or the page is provided. No byte changes.
-    pub fn provide(&mut self, at: u64) -> Result<(), Memory>
-        // The regions and every byte stay.
-        ensures kept { self.new ≡ record self.old { provided = self.new.provided } }
-        ensures err { OnErr result (self.new ≡ self.old) }
-        ensures pages { OnOk result ((n : ℕ)
-            → has_page self.new n ≡ (has_page self.old n || (at / 4096 == n && in_region self.old.regions at))) }
-        ensures one { length self.new.provided ≤ length self.old.provided + 1 }
-        ensures ready { OnOk result ((w : Write) → w.address ≡ at → is_ready self.new w ≡ true) }
+    fn has_page(&self, number: u64) -> bool
+        ensures { result ≡ has_page self.now number }
     {
-        if self.has_page(at) {
-            return Ok(());
-        }
-        if !in_region(&self.regions, at) {
-            return Ok(());
-        }
-        let page = Page::new(self.alloc)?;
-        self.pages.insert(at / PAGE_BYTES as u64, page)?;
-        Ok(())
+        self.pages.contains_key(&number)
     }
 
-    /// Whether `apply` may be called with the write: where its bytes lie in one region and in one page, that page is
-    /// provided.
-    pub fn is_ready(&self, write: &MemWriteView<'_>) -> bool
-        ensures { result ≡ is_ready self.now (write_of write.now) }
+    // Puts a spare page there, unless there is one.
+    fn bring_page(&mut self, number: u64)
+        requires { 1 ≤ self.old.spare }
+        ensures contents { self.new.contents ≡ self.old.contents }
+        ensures pages { (n : ℕ) → has_page self.new n ≡ (has_page self.old n || number == n) }
+        ensures spare { self.new.spare + (if has_page self.old number then 0 else 1) ≡ self.old.spare }
     {
-        !in_one_region(&self.regions, write.fields.address, write.payload.len())
-            || write.crosses()
-            || self.has_page(write.fields.address)
+        if self.has_page(number) {
+            return;
+        }
+        if let Some(page) = self.blanks.pop() {
+            put(&mut self.pages, number, page);
+        }
     }
 
     fn store(&mut self, write: &MemWriteView<'_>)
-        requires inside { in_one_region self.old.regions write.now.fields.address
-            (length write.now.payload.now) ≡ true }
-        requires in_page { crosses (write_of write.now) ≡ false }
-        requires there { has_page self.old (write.now.fields.address / 4096) ≡ true }
-        ensures bytes { (a : ℕ) → byte_at self.new a ≡ written (write_of write.now) (byte_at self.old) a }
-        ensures kept { self.new ≡ record self.old { bytes = self.new.bytes } }
+        requires inside { in_one_region self.old.contents.regions write.now.span.address
+            (bytes_of write.now.span) ≡ true }
+        requires in_page { crosses write.now.span ≡ false }
+        requires there { has_page self.old (write.now.span.address / 4096) ≡ true }
+        ensures bytes { (a : ℕ) → byte_at self.new.contents a ≡ written (write_of write.now)
+            (byte_at self.old.contents) a }
+        ensures regions { self.new.contents.regions ≡ self.old.contents.regions }
+        ensures kept { self.new ≡ record self.old { contents = self.new.contents } }
     {
-        let at = write.fields.address;
+        let at = write.span.address;
         if let Some(page) = self.pages.get_mut(&(at / PAGE_BYTES as u64)) {
             page.write((at % PAGE_BYTES as u64) as usize, write);
         }
     }
 
+    /// The first cause for which a request over these bytes would be blocked; `None` where nothing blocks it.
+    pub fn block_cause(&self, span: Span, trusted: bool, grant: Grant) -> Option<BlockCause>
+        ensures { result ≡ block_cause self.now.contents.regions span trusted grant }
+    {
+        block_cause(&self.regions, span, trusted, grant)
+    }
+
     /// Applies a memory write that was accepted at a host's port, or tells the first cause that blocks it: it is not
     /// trusted (T is clear); its requester is no running interface; it came on another stream than the bound one; its
     /// draw is less than the floor; the bytes of its double words are not all in one region; they cross a 4 KiB
-    /// boundary (this profile). The payload's enabled bytes are written to ascending addresses. It takes no memory.
+    /// boundary (this profile). The payload's enabled bytes are written to ascending addresses. It takes no memory, and
+    /// a spare page only where the write is applied and its page is not there.
     pub fn apply(&mut self, write: &MemWriteView<'_>, trusted: bool, grant: Grant) -> Effect
-        requires { is_ready self.old (write_of write.now) ≡ true }
-        ensures effect { result ≡ block_effect (block_cause self.old.regions (write_of write.now) trusted grant) }
-        ensures bytes { (a : ℕ) → byte_at self.new a ≡ byte_by result (write_of write.now) (byte_at self.old) a }
-        ensures kept { self.new ≡ record self.old { bytes = self.new.bytes } }
-        ensures blocked { IsSome (block_cause self.old.regions (write_of write.now) trusted grant)
-            → self.new ≡ self.old }
-        ensures stands { (writes : List Write) → IsLeftBy self.old writes
-            → IsLeftBy self.new (writes_by result (write_of write.now) writes) }
+        requires { 1 ≤ self.old.spare }
+        ensures effect { result ≡ block_effect
+            (block_cause self.old.contents.regions write.now.span trusted grant) }
+        ensures bytes { (a : ℕ) → byte_at self.new.contents a ≡ byte_by result (write_of write.now)
+            (byte_at self.old.contents) a }
+        ensures regions { self.new.contents.regions ≡ self.old.contents.regions }
+        ensures as_before { is_applied result ≡ false → self.new ≡ self.old }
+        ensures leads { Leads self.old.contents
+            (admitted_write self.old.contents.regions trusted grant (Some (write_of write.now)) ∷ [])
+            self.new.contents }
+        ensures spare { self.new.spare
+            + (if takes_page self.old write.now.span (block_cause self.old.contents.regions write.now.span trusted grant)
+            then 1 else 0) ≡ self.old.spare }
+        ensures pages { (n : ℕ) → has_page self.new n ≡ (has_page self.old n
+            || (takes_page self.old write.now.span (block_cause self.old.contents.regions write.now.span trusted grant)
+            && write.now.span.address / 4096 == n)) }
     {
-        match block_cause(&self.regions, write, trusted, grant) {
+        match self.block_cause(write.span, trusted, grant) {
             Some(cause) => Effect::Blocked(cause),
             None => {
+                self.bring_page(write.span.address / PAGE_BYTES as u64);
                 self.store(write);
                 Effect::Applied
             }
         }
     }
 
+    /// What a TLP of a unit that was accepted at a host's port comes to: a memory write is applied or blocked, any
+    /// other TLP is delivered and changes nothing here. It takes no memory, and at most one spare page.
+    pub fn deliver(&mut self, tlp: &TlpView<'_>, trusted: bool, grant: Grant) -> Effect
+        requires { 1 ≤ self.old.spare }
+        ensures effect { result ≡ write_effect self.old.contents.regions trusted grant (write_span tlp.now.head) }
+        ensures regions { self.new.contents.regions ≡ self.old.contents.regions }
+        ensures leads { Leads self.old.contents
+            (admitted_write self.old.contents.regions trusted grant (write_in (view_of tlp.now)) ∷ [])
+            self.new.contents }
+        ensures as_before { is_applied result ≡ false → self.new ≡ self.old }
+        ensures spare { self.old.spare ≤ self.new.spare + 1 }
+    {
+        match MemWriteView::of(tlp) {
+            Some(write) => self.apply(&write, trusted, grant),
+            None => Effect::Delivered,
+        }
+    }
+
     fn byte(&self, at: u64) -> u8
-        requires { in_region self.now.regions at ≡ true }
-        ensures { result ≡ byte_at self.now at }
+        requires { in_region self.now.contents.regions at ≡ true }
+        ensures { result ≡ byte_at self.now.contents at }
     {
         match self.pages.get(&(at / PAGE_BYTES as u64)) {
             Some(page) => page.byte((at % PAGE_BYTES as u64) as usize),
@@ -153,9 +199,9 @@ impl Trusted {
     }
 
     fn copy(&self, at: u64, buf: &mut [u8])
-        requires inside { in_one_region self.now.regions at (length buf.old) ≡ true }
+        requires inside { in_one_region self.now.contents.regions at (length buf.old) ≡ true }
         requires fits { at + length buf.old ≤ 2 ^ 63 }
-        ensures { buf.new ≡ bytes_from (byte_at self.now) at (length buf.old) }
+        ensures { buf.new ≡ bytes_from (byte_at self.now.contents) at (length buf.old) }
     {
         for (i, byte) in buf.iter_mut().enumerate() {
             *byte = self.byte(at + i as u64);
@@ -165,10 +211,10 @@ impl Trusted {
     /// Copies the bytes from an address on into `buf`. It is false exactly where one region does not have the address
     /// and all the bytes, and `buf` is then as before.
     pub fn peek(&self, at: u64, buf: &mut [u8]) -> bool
-        ensures answer { result ≡ in_one_region self.now.regions at (length buf.old) }
-        ensures bytes { OnTrue result (buf.new ≡ bytes_from (byte_at self.now) at (length buf.old)) }
+        ensures answer { result ≡ in_one_region self.now.contents.regions at (length buf.old) }
+        ensures bytes { OnTrue result (buf.new ≡ bytes_from (byte_at self.now.contents) at (length buf.old)) }
         // That is, at each address, the byte of the last applied write that enables it, else 0.
-        ensures last { (writes : List Write) → IsLeftBy self.now writes
+        ensures last { (writes : List Write) → IsLeftBy self.now.contents writes
             → OnTrue result (buf.new ≡ bytes_from (byte_after writes) at (length buf.old)) }
         ensures outside { OnFalse result (buf.new ≡ buf.old) }
     {

@@ -7,4 +7,5 @@ returns-clause-short c = kept_short
 
 pub returns-clause-spelled : goal.returns-clause-spelled
 returns-clause-spelled c = λ plan lock fits octets shown.
-    c.report_read_again.ensures.spells (interface_report plan lock.registers lock.flags lock.offset) (report_fits plan lock fits octets shown)
+    c.report_read_again.ensures.spells (interface_report plan lock.registers lock.flags lock.offset)
+    (report_fits plan lock fits octets shown)

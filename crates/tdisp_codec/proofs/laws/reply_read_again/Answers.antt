@@ -8,4 +8,5 @@ pub returns-clause-spells : goal.returns-clause-spells
 returns-clause-spells c = written_spells
 
 pub returns-clause-reads : goal.returns-clause-reads
-returns-clause-reads c = λ reply fits. reads_again (message_reader codec) reply (reply_spelling reply) (written_spells reply fits)
+returns-clause-reads c = λ reply fits. reads_again (message_reader codec) reply (reply_spelling reply)
+    (written_spells reply fits)

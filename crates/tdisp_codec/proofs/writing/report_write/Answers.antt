@@ -16,7 +16,10 @@ pub returns-clause-items : goal.returns-clause-items
 returns-clause-items c =
     let view = c.args.report.now in
     let flat = c.as_bytes-ranges.ensures.spelled ∙ c.as_bytes-ranges.ensures.bytes in
-    joined c.args.out.now.items (front_bytes view (length view.ranges.bytes.now / 16)) view.ranges.bytes.now (little_bytes 4 (length view.device.now)) view.device.now
+    joined c.args.out.now.items (front_bytes view (length view.ranges.bytes.now / 16)) view.ranges.bytes.now
+    (little_bytes 4 (length view.device.now)) view.device.now
     c.append_front.new.out.items c.append.new.out.items c.append32.new.out.items c.append-2.new.out.items
-    c.append_front.ensures.items (c.append.ensures.items ∙ ap (λ (x : List ℕ). c.append_front.new.out.items ++ x) c.as_bytes-ranges.ensures.bytes) c.append32.ensures.items c.append-2.ensures.items
+    c.append_front.ensures.items
+    (c.append.ensures.items ∙ ap (λ (x : List ℕ). c.append_front.new.out.items ++ x)
+    c.as_bytes-ranges.ensures.bytes) c.append32.ensures.items c.append-2.ensures.items
     ∙ ap (λ (x : List ℕ). c.args.out.now.items ++ x) (view_spelled view flat)

@@ -1,16 +1,18 @@
 use Rattle.std.proofs.Common.{◌≡◌, ◌+◌, ◌<◌, ◌≤◌, length, ap, ◌∙◌, arith}
-use Rattle.trusted_memory.specs.Contents.{byte_at, bytes_from}
+use Rattle.trusted_memory.specs.Memory.{byte_at, bytes_from}
 use Rattle.trusted_memory.proofs.Seen.{each_in_region, is_bytes_from}
 use Rattle.trusted_memory.proofs.trusted.Trusted.copy.Goals as goal
 
 pub byte-requires : goal.byte-requires
 byte-requires c =
     let high : c.args.at + c.loop-i.i < c.args.at + length c.args.buf.now = omega arith in
-    each_in_region c.args.self.now.regions c.args.at (length c.args.buf.now) (c.args.at + c.loop-i.i) c.requires.inside (omega arith) high
+    each_in_region c.args.self.now.contents.regions c.args.at (length c.args.buf.now) (c.args.at + c.loop-i.i)
+    c.requires.inside (omega arith) high
 
 pub returns : goal.returns
 returns c =
     let long : length c.loop-i.buf ≡ length c.args.buf.now = omega arith in
     let all : length c.loop-i.buf ≤ c.loop-i.i = omega arith in
-    is_bytes_from (byte_at c.args.self.now) c.args.at c.loop-i.buf (λ k less. c.loop-i.invariant k (omega arith))
-    ∙ ap (bytes_from (byte_at c.args.self.now) c.args.at) long
+    is_bytes_from (byte_at c.args.self.now.contents) c.args.at c.loop-i.buf
+    (λ k less. c.loop-i.invariant k (omega arith))
+    ∙ ap (bytes_from (byte_at c.args.self.now.contents) c.args.at) long

@@ -16,7 +16,8 @@ returns-clause-bytes c = elim c.match-get_mut.branch [
       let found = w.in-Some.ensures.value in
       let new = w.write.new.self in
       let through = c.get_mut.follows.holds new in
-      let puts : PutsPage (c.args.write.now.fields.address / 4096) new c.self.inside.pages.entries (c.get_mut.follows.lender new).entries =
+      let puts : PutsPage (c.args.write.now.span.address / 4096) new c.self.inside.pages.entries
+      (c.get_mut.follows.lender new).entries =
       record { at = (through.3 (is_some_of _ _ found)).0 } in
       let was = ap (λ (o : Option (List ℕ)). unwrap_or o []) (sym found) in
       let inside = rw (← c.self.view_is) at c.requires.inside in
@@ -26,6 +27,7 @@ returns-clause-bytes c = elim c.match-get_mut.branch [
   | in_default w ↦
       let none = w.in_default.ensures.value in
       let there = rw (← c.self.view_is) at c.requires.there in
-      let lookup = has_page-lookup c.self.inside.regions.items c.self.inside.pages.entries (c.args.write.now.fields.address / 4096) in
+      let lookup = has_page-lookup c.self.inside.regions.items c.self.inside.pages.entries 0
+      (c.args.write.now.span.address / 4096) in
       absurd (true≢false (sym there ∙ lookup ∙ ap (λ (o : Option (List ℕ)). is_some o) (sym none)))
 ]

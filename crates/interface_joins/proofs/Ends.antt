@@ -1,0 +1,91 @@
+-- An operation that the manager begins is the walk of one interface, or its refusal; how many bytes a portion is asked
+-- of stays as it is.
+use Rattle.std.proofs.Common.{◌≡◌, ℕ, zero, suc, Bool, Option, Some, None, refl, ap, sym}
+use Rattle.std.specs.Prelude.{slice_get, slice_set}
+use Rattle.link_events.specs.declared.event.Loss.{Loss}
+use Rattle.tdi_host.specs.declared.interfaces.Asking.{Asking}
+use Rattle.tdi_host.specs.declared.operation.InterfaceOp.{InterfaceOp}
+use Rattle.tdi_host.specs.declared.operation.Outcome.{Outcome}
+use Rattle.tdi_host.specs.declared.operation.Outcome.TheVariants as outcome
+use Rattle.tdi_host.specs.declared.operation.Refusal.{Refusal}
+use Rattle.tdi_host.specs.Steps.{first_step}
+use Rattle.tdi_host.specs.Views.{HostTdi, unless}
+use Rattle.tdi_host.specs.Managers.{ManagerView, Current, current, current_by, nothing_read}
+use Rattle.tdi_device.specs.Replies.{DeviceTdis}
+use Rattle.tdi_walks.specs.Operations.{Walked, walk, begun_at}
+use Rattle.tdi_ends.specs.Keepers.{Ended, exchanged, goes_on, by_current, unless_refused, KeepersWalk}
+unfoldable use Rattle.tdi_ends.specs.Keepers.{manager_walk}
+use Rattle.interface_joins.proofs.Comes.{begun_walk}
+use Rattle.interface_joins.proofs.Meeting.{set_same}
+
+-- ---- portions
+
+goes_portion : (o : Outcome) (now rest : Ended) (p : ℕ) → now.manager.portion ≡ p → rest.manager.portion ≡ p
+    → (goes_on o now rest).manager.portion ≡ p
+goes_portion outcome.Next now rest p here later = later
+goes_portion (outcome.Done shown) now rest p here later = here
+goes_portion (outcome.Refused refusal) now rest p here later = here
+
+by_portion : (c : Option Current) (asked : Current → Ended) (rest : Ended) (p : ℕ)
+    → ((k : Current) → (asked k).manager.portion ≡ p) → rest.manager.portion ≡ p
+    → (by_current c asked rest).manager.portion ≡ p
+by_portion None asked rest p here later = later
+by_portion (Some c) asked rest p here later = here c
+
+pub portion_kept : (more : ℕ) (secure : Bool) (loss : Option Loss) (m : ManagerView) (d : DeviceTdis)
+    → (manager_walk more secure loss m d).manager.portion ≡ m.portion
+unfolding manager_walk
+portion_kept zero secure loss m d = refl
+portion_kept (suc more) secure loss m d =
+    by_portion (current m)
+    (λ c. goes_on (exchanged secure loss m d c).outcome (exchanged secure loss m d c)
+    (manager_walk more secure loss (exchanged secure loss m d c).manager (exchanged secure loss m d c).device))
+    (record { outcome = outcome.Next; manager = m; device = d }) m.portion
+    (λ c. goes_portion (exchanged secure loss m d c).outcome (exchanged secure loss m d c) _ m.portion refl
+    (portion_kept more secure loss (exchanged secure loss m d c).manager (exchanged secure loss m d c).device))
+    refl
+
+-- ---- the walk of one interface
+
+pub record IsOver (m : ManagerView) (number : ℕ) (o : InterfaceOp) (w : Walked) (e : Ended) : Type 0 where
+  pub outcome_is : e.outcome ≡ w.outcome
+  pub interfaces_are : e.manager.interfaces ≡ slice_set m.interfaces number w.interface
+  pub portion_is : e.manager.portion ≡ m.portion
+  pub read_is : e.manager.read ≡ w.read
+  pub device_is : e.device ≡ w.device
+
+-- the manager where an operation begins that is not refused
+abbrev pub asking_at : ManagerView → ℕ → InterfaceOp → ℕ → ManagerView
+asking_at m number o draws =
+    record m { asking = Some (record { place = number; step = first_step o; draws = draws }); read = nothing_read }
+
+begun_is_over : KeepersWalk → (more : ℕ) (number : ℕ) (o : InterfaceOp) (draws : ℕ) (secure : Bool)
+    (loss : Option Loss) (m : ManagerView) (d : DeviceTdis) (i : HostTdi) → slice_get m.interfaces number ≡ Some i
+    → IsOver m number o (walk more m.portion draws secure loss (begun_at o i d))
+    (manager_walk more secure loss (asking_at m number o draws) d)
+begun_is_over keepers more number o draws secure loss m d i there =
+    let asking : Asking = record { place = number; step = first_step o; draws = draws } in
+    let w = keepers more secure loss (asking_at m number o draws) d (record { interface = i; asking = asking })
+    (ap (current_by asking) there) in
+    record {
+      outcome_is = w.outcome_is;
+      interfaces_are = w.interfaces_are;
+      portion_is = portion_kept more secure loss (asking_at m number o draws) d;
+      read_is = w.read_is;
+      device_is = w.device_is;
+    }
+
+pub is_over : KeepersWalk → (more : ℕ) (number : ℕ) (o : InterfaceOp) (draws : ℕ) (secure : Bool)
+    (loss : Option Loss) (m : ManagerView) (d : DeviceTdis) (i : HostTdi) (r : Option Refusal)
+    → slice_get m.interfaces number ≡ Some i
+    → IsOver m number o (begun_walk r i m.read d (walk more m.portion draws secure loss (begun_at o i d)))
+    (unless_refused r m d (manager_walk more secure loss (unless r m (asking_at m number o draws)) d))
+is_over keepers more number o draws secure loss m d i None there =
+    begun_is_over keepers more number o draws secure loss m d i there
+is_over keepers more number o draws secure loss m d i (Some r) there = record {
+  outcome_is = refl;
+  interfaces_are = sym (set_same m.interfaces number i there);
+  portion_is = refl;
+  read_is = refl;
+  device_is = refl;
+}

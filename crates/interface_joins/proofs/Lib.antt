@@ -1,0 +1,12 @@
+pub mod Losses
+pub mod Comes
+pub mod Locks
+pub mod Starts
+pub mod Halts
+pub mod States
+pub mod Portions
+pub mod Reports
+pub mod Meeting
+pub mod Ends
+pub mod Faces
+pub mod Joins

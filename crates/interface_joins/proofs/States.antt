@@ -1,0 +1,94 @@
+-- A question for the state changes no device; a view that wants another state than the one that is told is broken.
+use Rattle.std.proofs.Common.{◌≡◌, ℕ, ◌+◌, ◌==◌, Bool, true, false, List, [], Option, Some, None, refl, sym, subst}
+use Rattle.std.specs.Prelude.{slice_set, if◌then◌else◌}
+use Rattle.ide_types.specs.declared.status.StreamStatus.{StreamStatus}
+use Rattle.ide_plan.specs.Fits.{IsKey}
+use Rattle.interface_words.specs.declared.verdict.InterfaceVerdict.TheVariants as iv
+use Rattle.interface_words.specs.declared.view.View.TheVariants.{Locked, Running, Broken}
+use Rattle.link_events.specs.declared.event.Loss.{Loss}
+use Rattle.link_events.specs.declared.event.Lost.{Lost}
+use Rattle.link_events.specs.declared.event.Lost.TheVariants.{Request, Reply}
+use Rattle.link_verdicts.specs.declared.verdict.Verdict.{Verdict}
+use Rattle.link_verdicts.specs.declared.verdict.Verdict.TheVariants as v
+use Rattle.interface_states.specs.Sites.{Site}
+use Rattle.interface_states.specs.Views.{Managed, on_state}
+use Rattle.interface_states.specs.Due.{Standing, state_due}
+use Rattle.tdi_state.specs.Machine.{Tdi, state_code}
+use Rattle.tdi_host.specs.declared.operation.InterfaceOp.TheVariants as op
+use Rattle.tdi_host.specs.declared.step.Step.TheVariants as step
+use Rattle.tdi_host.specs.Judging.{State}
+use Rattle.tdi_host.specs.Views.{Seen, IsUnlocked, IsLocked, IsRunning, IsDoubt, IsBroken, nonce_of, state_outcome}
+use Rattle.tdi_host.specs.Views.{taken_interface}
+use Rattle.tdi_device.specs.Replies.{DeviceTdis, Named, next_nonce}
+use Rattle.tdi_walks.specs.Operations.{lost_in, carried, reached, stated_once, stated_alone, at_step}
+use Rattle.interface_joins.specs.Verdicts.{asked_as}
+use Rattle.interface_joins.specs.Faces.{IsManaged}
+use Rattle.interface_joins.proofs.Losses.{by_loss, once_lost, cut}
+use Rattle.interface_joins.proofs.Comes.{host_of, laid, told, told_seen, managed_of, no_key, stands, device_with, Comes}
+use Rattle.interface_joins.proofs.Comes.{same_device, left_device, no_more}
+
+-- the verdict where nothing is lost
+abbrev told_state : Site → ℕ → Verdict
+told_state x code = v.Interface (iv.State x.number code)
+
+state_verdict : (x : Site) (code : ℕ) (loss : Option Loss) (l : Option Lost) → lost_in loss 1 ≡ l
+    → asked_as x.number loss [] (state_outcome 1 (carried l (State code))) ≡ by_loss l 1 (told_state x code)
+state_verdict x code loss None is = refl
+state_verdict x code loss (Some k) is = cut loss 1 k is
+
+state_device : (d : DeviceTdis) (place : ℕ) (tdi : Tdi) (l : Option Lost)
+    → slice_set d.interfaces place tdi ≡ d.interfaces
+    → reached l d (device_with d place tdi d.used) ≡ device_with d place tdi (d.used + 0)
+state_device d place tdi None same = same_device d place _ _ _ _ refl (no_more d.used)
+state_device d place tdi (Some Request) same = left_device d place tdi _ false same refl refl
+state_device d place tdi (Some Reply) same = same_device d place _ _ _ _ refl (no_more d.used)
+
+locked_told : (x : Site) (draw : ℕ) (nonce : List ℕ) (reported : Bool) (m : Managed) (b : Bool) → IsKey nonce
+    → IsManaged draw x (laid x draw m.needs m.started (if b then IsLocked nonce reported else IsBroken))
+    (record m { view = if b then Locked else Broken; nonce = nonce; reported = reported })
+locked_told x draw nonce reported m true key = managed_of x draw (IsLocked nonce reported) _ (refl, refl, refl) key
+locked_told x draw nonce reported m false key = managed_of x draw IsBroken _ refl no_key
+
+running_told : (x : Site) (draw floor : ℕ) (m : Managed) (b : Bool)
+    → IsManaged draw x (laid x draw m.needs m.started (if b then IsRunning floor else IsBroken))
+    (record m { view = if b then Running else Broken; floor = floor })
+running_told x draw floor m true = managed_of x draw (IsRunning floor) _ (refl, refl) no_key
+running_told x draw floor m false = managed_of x draw IsBroken _ refl no_key
+
+state_managed : (x : Site) (draw draws code : ℕ) (seen : Seen) (m : Managed) (l : Option Lost) → IsKey (nonce_of seen)
+    → IsManaged draw x (taken_interface step.State draws (carried l (State code)) (host_of x draw seen m))
+    (on_state (told seen m) (by_loss l 1 (told_state x code)))
+state_managed x draw draws code seen m (Some Request) key = managed_of x draw seen _ (told_seen seen m) key
+state_managed x draw draws code seen m (Some Reply) key = managed_of x draw seen _ (told_seen seen m) key
+state_managed x draw draws code IsUnlocked m None key = managed_of x draw IsUnlocked _ refl no_key
+state_managed x draw draws code (IsLocked nonce reported) m None key =
+    locked_told x draw nonce reported m (code == 1) key
+state_managed x draw draws code (IsRunning floor) m None key = running_told x draw floor m (code == 2)
+state_managed x draw draws code IsDoubt m None key = managed_of x draw IsDoubt _ refl no_key
+state_managed x draw draws code IsBroken m None key = managed_of x draw IsBroken _ refl no_key
+
+module _ (x : Site) (draw drawn portion place : ℕ) (secure : Bool) (loss : Option Loss) (d : DeviceTdis) (tdi : Tdi)
+    (m : Managed) (seen : Seen) (host : StreamStatus) where
+  abbrev standing : Standing
+  standing = stands x secure (next_nonce d) tdi (told seen m) host draw drawn
+
+  abbrev there : Named
+  there = record { place = place; tdi = tdi }
+
+  asked : (l : Option Lost) → lost_in loss 1 ≡ l → slice_set d.interfaces place tdi ≡ d.interfaces
+      → IsKey (nonce_of seen)
+      → Comes x standing place op.State loss d (by_loss l 1 (told_state x (state_code tdi.state)))
+      (stated_once portion drawn secure l there (at_step step.State (host_of x draw seen m) d))
+  asked l is same key = record {
+    verdict = state_verdict x (state_code tdi.state) loss l is;
+    device = state_device d place tdi l same;
+    managed = state_managed x draw drawn (state_code tdi.state) seen m l key;
+  }
+
+  pub state_comes : slice_set d.interfaces place tdi ≡ d.interfaces → IsKey (nonce_of seen)
+      → Comes x standing place op.State loss d (state_due x standing loss)
+      (stated_alone step.State portion drawn secure loss (host_of x draw seen m) d there)
+  state_comes same key =
+      subst (λ w. Comes x standing place op.State loss d w
+      (stated_alone step.State portion drawn secure loss (host_of x draw seen m) d there))
+      (sym (once_lost loss (told_state x (state_code tdi.state)))) (asked (lost_in loss 1) refl same key)

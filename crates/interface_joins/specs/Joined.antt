@@ -1,0 +1,65 @@
+-- An operation on an interface, carried exchange by exchange, is a step of the machine of interfaces.
+use Rattle.std.specs.Prelude.{ℕ, ◌≡◌, ◌+◌, ◌≤◌, List, slice_get, slice_set, Option, Some, All}
+use Rattle.ide_plan.specs.declared.plan.Plan.{Plan}
+use Rattle.ide_plan.specs.Fits.{IsKey, FitsStream, FitsInterface}
+use Rattle.ide_plan.specs.declared.stream.StreamPlan.{StreamPlan}
+use Rattle.link_events.specs.declared.event.Loss.{Loss}
+use Rattle.link_events.specs.declared.event.Event.TheVariants as event
+use Rattle.link_verdicts.specs.declared.verdict.Verdict.{Verdict}
+use Rattle.interface_states.specs.Sites.{Site, nonce_behind}
+use Rattle.interface_states.specs.Devices.{accepts_lock, one_if}
+use Rattle.interface_states.specs.Due.{asked_due}
+use Rattle.interface_machine.specs.Machine.{Face, Streams, around_of, standing_of, face_after}
+use Rattle.tdi_state.specs.Machine.{Tdi}
+use Rattle.tdi_host.specs.declared.operation.InterfaceOp.{InterfaceOp}
+use Rattle.tdi_host.specs.Views.{HostTdi}
+use Rattle.tdi_host.specs.Managers.{ManagerView}
+use Rattle.tdi_device.specs.Replies.{DeviceTdis, named, next_nonce}
+use Rattle.tdi_ends.specs.Keepers.{Ended, operated}
+use Rattle.interface_joins.specs.Verdicts.{ended_as, op_event}
+use Rattle.interface_joins.specs.Faces.{IsFace}
+
+-- An interface at the manager and at its device: it is at this place of each, its plan is within its bounds, and the
+-- device gives the topology's nonces in their order.
+pub record IsAt (plan : Plan) (s : Streams) (used : ℕ → ℕ) (x : Site) (f : Face) (number place : ℕ) (m : ManagerView)
+    (d : DeviceTdis) (i : HostTdi) (tdi : Tdi) : Type 0 where
+  pub streams : List StreamPlan
+  pub each_stream : All FitsStream streams
+  pub fits : FitsInterface streams x.plan
+  pub portion_least : 16 ≤ plan.portion
+  pub portion_most : plan.portion ≤ 65535
+  pub portion_is : m.portion ≡ plan.portion
+  pub number_is : x.number ≡ number
+  pub at_manager : slice_get m.interfaces number ≡ Some i
+  pub at_device : named d i.requester ≡ Some (record { place = place; tdi = tdi })
+  pub each_nonce : All IsKey d.nonces
+  pub next_is : next_nonce d ≡ nonce_behind plan x.link (used x.link)
+  pub face : IsFace (s.draw x.link x.plan.stream) x i tdi f
+
+-- It ended with the machine's verdict. The manager has another interface at its place, the device another at its, and
+-- they keep what the machine keeps after the event; a lock that was accepted took a nonce.
+pub record IsJoined (plan : Plan) (s : Streams) (used : ℕ → ℕ) (x : Site) (f : Face) (number place : ℕ)
+    (o : InterfaceOp) (loss : Option Loss) (m : ManagerView) (d : DeviceTdis) (e : Ended) : Type 0 where
+  pub verdict : Verdict
+  pub verdict_is : verdict ≡ asked_due plan x (standing_of plan s used x f) (op_event o number loss)
+  pub ended_is : ended_as number o loss e ≡ verdict
+  pub interface : HostTdi
+  pub tdi : Tdi
+  pub manager_is : e.manager.interfaces ≡ slice_set m.interfaces number interface
+  pub portion_is : e.manager.portion ≡ m.portion
+  pub device_is : e.device ≡ record {
+    interfaces = slice_set d.interfaces place tdi;
+    nonces = d.nonces;
+    used = d.used + one_if
+        (accepts_lock (around_of plan s used x f) x (event.Interface (op_event o number loss)) verdict f.tdi);
+  }
+  pub face : IsFace (s.draw x.link x.plan.stream) x interface tdi
+      (face_after plan s s.secure used (event.Interface (op_event o number loss)) verdict x f)
+
+abbrev pub InterfaceOperationsJoin : Type 0
+InterfaceOperationsJoin =
+    (plan : Plan) (s : Streams) (used : ℕ → ℕ) (x : Site) (f : Face) (number place : ℕ)
+    (o : InterfaceOp) (loss : Option Loss) (m : ManagerView) (d : DeviceTdis) (i : HostTdi) (tdi : Tdi)
+    → IsAt plan s used x f number place m d i tdi
+    → IsJoined plan s used x f number place o loss m d
+    (operated number o (s.host x.link x.plan.stream) s.drawn (s.secure x.link x.plan.stream) loss m d i)

@@ -1,0 +1,3 @@
+pub mod Verdicts
+pub mod Faces
+pub mod Joined

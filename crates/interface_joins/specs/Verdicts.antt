@@ -1,0 +1,68 @@
+-- What operations on interfaces come to, as verdicts.
+use Rattle.std.specs.Prelude.{ℕ, List, [], Option}
+use Rattle.interface_words.specs.declared.view.View.{View}
+use Rattle.interface_words.specs.declared.view.View.TheVariants as word
+use Rattle.interface_words.specs.declared.verdict.InterfaceVerdict.TheVariants as iv
+use Rattle.link_events.specs.declared.event.Loss.{Loss}
+use Rattle.link_events.specs.declared.event.InterfaceEvent.{InterfaceEvent}
+use Rattle.link_events.specs.declared.event.InterfaceEvent.TheVariants as ie
+use Rattle.link_verdicts.specs.declared.verdict.Verdict.{Verdict}
+use Rattle.link_verdicts.specs.declared.verdict.Verdict.TheVariants as v
+use Rattle.key_laws.specs.Due.{cut_off}
+use Rattle.tdi_host.specs.declared.operation.View.{View as Seen}
+use Rattle.tdi_host.specs.declared.operation.View.TheVariants as seen
+use Rattle.tdi_host.specs.declared.operation.InterfaceOp.{InterfaceOp}
+use Rattle.tdi_host.specs.declared.operation.InterfaceOp.TheVariants as op
+use Rattle.tdi_host.specs.declared.operation.Outcome.{Outcome}
+use Rattle.tdi_host.specs.declared.operation.Outcome.TheVariants as outcome
+use Rattle.tdi_host.specs.declared.operation.Shown.{Shown}
+use Rattle.tdi_host.specs.declared.operation.Shown.TheVariants as shown
+use Rattle.tdi_host.specs.declared.operation.Refusal.{Refusal}
+use Rattle.tdi_host.specs.declared.operation.Refusal.TheVariants as refusal
+use Rattle.tdi_ends.specs.Keepers.{Ended}
+
+abbrev pub view_shown : Seen → View
+view_shown seen.Unlocked = word.Unlocked
+view_shown seen.Locked = word.Locked
+view_shown seen.Running = word.Running
+view_shown seen.Doubt = word.Doubt
+view_shown seen.Broken = word.Broken
+
+abbrev pub shown_as : ℕ → List ℕ → Shown → Verdict
+shown_as i report (shown.Nonce nonce) = v.Interface (iv.Locked i nonce)
+shown_as i report shown.Report = v.Interface (iv.Reported i report)
+shown_as i report (shown.Draw draw) = v.Interface (iv.Started i draw)
+shown_as i report (shown.Needs needs) = v.Interface (iv.Halted i needs)
+shown_as i report (shown.State state) = v.Interface (iv.State i state)
+
+abbrev pub refused_as : Option Loss → Refusal → Verdict
+refused_as loss (refusal.WrongState view) = v.Interface (iv.RefusedWrongState (view_shown view))
+refused_as loss refusal.NotReported = v.Interface iv.RefusedNotReported
+refused_as loss (refusal.NotSecure status) = v.RefusedNotSecure status
+refused_as loss (refusal.RefreshFirst draw needed) = v.Interface (iv.RefusedRefreshFirst draw needed)
+refused_as loss (refusal.SessionLost exchange) = cut_off loss exchange
+refused_as loss (refusal.DeviceRefused exchange code) = v.RefusedDevice exchange code
+refused_as loss (refusal.BadReply exchange) = v.Nothing
+
+-- of the interface of this number; a report that was read is this one
+abbrev pub asked_as : ℕ → Option Loss → List ℕ → Outcome → Verdict
+asked_as i loss report outcome.Next = v.Nothing
+asked_as i loss report (outcome.Done s) = shown_as i report s
+asked_as i loss report (outcome.Refused r) = refused_as loss r
+
+-- the bytes that a report is shown by
+abbrev pub report_of : InterfaceOp → Ended → List ℕ
+report_of op.Report e = e.manager.read.bytes
+report_of o e = []
+
+-- the verdict of an operation that ended so
+abbrev pub ended_as : ℕ → InterfaceOp → Option Loss → Ended → Verdict
+ended_as i o loss e = asked_as i loss (report_of o e) e.outcome
+
+-- the event of an operation
+abbrev pub op_event : InterfaceOp → ℕ → Option Loss → InterfaceEvent
+op_event op.Lock i loss = ie.Lock i loss
+op_event op.Report i loss = ie.Report i loss
+op_event op.Start i loss = ie.Start i loss
+op_event op.Halt i loss = ie.Halt i loss
+op_event op.State i loss = ie.State i loss

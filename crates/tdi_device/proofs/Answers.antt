@@ -1,0 +1,57 @@
+-- What an answer makes of the interfaces.
+use Rattle.std.proofs.Common.{◌≡◌, ℕ, suc, zero, ◌<◌, Bool, true, false, List, [], ◌∷◌, ◌++◌, length, get_or, Option}
+use Rattle.std.proofs.Common.{Some, None, refl, ap, sym, ◌∙◌, arith}
+use Rattle.std.specs.Prelude.{slice_set, slice_get, IsSome, IfSome}
+use Rattle.tdisp_codec.specs.declared.request.RequestView.{RequestView}
+use Rattle.tdisp_codec.specs.declared.request.RequestView.TheVariants.{GetVersion, GetCapabilities, LockInterface}
+use Rattle.tdisp_codec.specs.declared.request.RequestView.TheVariants.{GetDeviceInterfaceReport}
+use Rattle.tdisp_codec.specs.declared.request.RequestView.TheVariants.{GetDeviceInterfaceState, StartInterface}
+use Rattle.tdisp_codec.specs.declared.request.RequestView.TheVariants.{StopInterface}
+use Rattle.tdisp_codec.specs.Replies.{reply_spelling}
+use Rattle.tdi_state.specs.Machine.{Tdi, lock_answer}
+use Rattle.tdi_device.specs.Replies.{DeviceTdis, next_nonce, call_of, tdi_called, tdi_reply, is_given, takes_nonce}
+use Rattle.tdi_device.specs.Replies.{used_after, asked_at}
+
+-- a lock that is accepted had a nonce
+given_some : (tdi : Tdi) (flags offset : ℕ) (secure : Bool) → is_given (lock_answer tdi flags offset secure None)
+    ≡ false
+given_some tdi flags offset secure = grind arith
+
+pub taken_some : (tdi : Tdi) (request : RequestView) (secure : Bool) (drawn : Option (List ℕ))
+    → takes_nonce tdi request secure drawn ≡ true → IsSome drawn
+taken_some tdi request secure (Some nonce) e = refl
+taken_some tdi (LockInterface function flags stream offset mask) secure None e =
+    let no : true ≡ false = sym e ∙ given_some tdi flags offset secure in
+    absurd cc
+taken_some tdi (GetVersion function) secure None e = absurd cc
+taken_some tdi (GetCapabilities function) secure None e = absurd cc
+taken_some tdi (GetDeviceInterfaceReport function offset count) secure None e = absurd cc
+taken_some tdi (GetDeviceInterfaceState function) secure None e = absurd cc
+taken_some tdi (StartInterface function nonce) secure None e = absurd cc
+taken_some tdi (StopInterface function) secure None e = absurd cc
+
+-- an element that is read at its place
+pub at_place : {A : Type 0} (xs : List A) (p : ℕ) (x : A) → p < length xs → x ≡ get_or xs p x → slice_get xs p ≡ Some x
+at_place [] p x lt is = absurd (omega arith)
+at_place (y ∷ xs) zero x lt is = ap Some (sym is)
+at_place (y ∷ xs) (suc p) x lt is = at_place xs p x (omega arith) is
+
+pub reply_now : (d : DeviceTdis) (place : ℕ) (tdi : Tdi) (request : RequestView) (secure : Bool)
+    (drawn : Option (List ℕ)) (before after : List ℕ)
+    → slice_get d.interfaces place ≡ Some tdi → drawn ≡ next_nonce d → after ≡ before
+    ++ reply_spelling (tdi_reply tdi request secure drawn)
+    → IfSome (slice_get d.interfaces place)
+    (λ t. after ≡ before ++ reply_spelling (tdi_reply t request secure (next_nonce d)))
+reply_now d place tdi request secure drawn before after is next reply = rw (is, ← next) reply
+
+pub device_now : (d : DeviceTdis) (place : ℕ) (tdi new : Tdi) (request : RequestView) (secure takes : Bool)
+    (drawn : Option (List ℕ)) (interfaces : List Tdi) (nonces : List (List ℕ)) (used : ℕ)
+    → slice_get d.interfaces place ≡ Some tdi → drawn ≡ next_nonce d → new
+    ≡ tdi_called tdi (call_of request secure drawn) → takes ≡ takes_nonce tdi request secure drawn
+    → interfaces ≡ d.interfaces → nonces ≡ d.nonces → used ≡ used_after takes d.used
+    → IfSome (slice_get d.interfaces place)
+    (λ t. (let kept : DeviceTdis = record
+    { interfaces = slice_set interfaces place new; nonces = nonces; used = used } in kept)
+    ≡ asked_at d (record { place = place; tdi = t }) request secure)
+device_now d place tdi new request secure takes drawn interfaces nonces used is next called taken same keeps counts = rw
+    (is, called, counts, taken, next, same, keeps) refl

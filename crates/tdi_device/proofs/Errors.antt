@@ -1,0 +1,116 @@
+-- An ERROR changes nothing.
+use Rattle.std.proofs.Common.{◌≡◌, ℕ, suc, zero, Bool, true, false, List, [], ◌∷◌, Option, Some, None, Result, Ok, Err}
+use Rattle.std.proofs.Common.{refl, ap, subst, ◌∙◌}
+use Rattle.std.specs.Prelude.{slice_get, slice_set, if◌then◌else◌}
+use Rattle.std.specs.Str.{bytes_eq}
+use Rattle.tdisp_codec.specs.declared.request.RequestView.{RequestView}
+use Rattle.tdisp_codec.specs.declared.request.RequestView.TheVariants.{GetVersion, GetCapabilities, LockInterface}
+use Rattle.tdisp_codec.specs.declared.request.RequestView.TheVariants.{GetDeviceInterfaceReport}
+use Rattle.tdisp_codec.specs.declared.request.RequestView.TheVariants.{GetDeviceInterfaceState, StartInterface}
+use Rattle.tdisp_codec.specs.declared.request.RequestView.TheVariants.{StopInterface}
+use Rattle.tdisp_codec.specs.Requests.{request_function}
+use Rattle.tdisp_codec.specs.Replies as reply
+use Rattle.tdi_state.specs.declared.error_codes.ErrorCode.{ErrorCode}
+use Rattle.tdi_state.specs.declared.states.TdiState.{TdiState}
+use Rattle.tdi_state.specs.declared.states.TdiState.TheVariants.{ConfigUnlocked, ConfigLocked, Run, Error}
+use Rattle.tdi_state.specs.Machine.{Tdi, with_state, new_lock, locked_with, lock_answer, start_answer, after_start}
+use Rattle.tdi_device.specs.Replies.{DeviceTdis, Named, named, named_in, named_at, place_of, next_nonce, call_of}
+use Rattle.tdi_device.specs.Replies.{tdi_called, lock_reply, start_reply, tdi_reply, takes_nonce, is_given, used_after}
+use Rattle.tdi_device.specs.Replies.{asked_at, asked_by, asked_tdis, reply_by, reply_to, request_asked, answered}
+use Rattle.tdi_device.specs.Replies.{answer_of}
+use Rattle.tdi_device.specs.Laws.{ErrorsChangeNothing}
+
+-- ---- the interface that is meant
+
+set_same : {A : Type 0} (xs : List A) (p : ℕ) (x : A) → slice_get xs p ≡ Some x → slice_set xs p x ≡ xs
+set_same [] p x is = refl
+set_same (y ∷ xs) zero x is = ap (λ z. z ∷ xs) (let same : x ≡ y = cc in same)
+set_same (y ∷ xs) (suc p) x is = ap (λ zs. y ∷ zs) (set_same xs p x is)
+
+at_place : (xs : List Tdi) (p : ℕ) (t : Option Tdi) (n : Named) → slice_get xs p ≡ t → named_at p t ≡ Some n
+    → slice_get xs n.place ≡ Some n.tdi
+at_place xs p None n g e = absurd cc
+at_place xs p (Some t) n g e =
+    let same : (let k : Named = record { place = p; tdi = t } in k) ≡ n = cc in
+    subst (λ (k : Named). slice_get xs k.place ≡ Some k.tdi) same g
+
+in_list : (xs : List Tdi) (place : Option ℕ) (n : Named) → named_in xs place ≡ Some n → slice_get xs n.place
+    ≡ Some n.tdi
+in_list xs None n e = absurd cc
+in_list xs (Some p) n e = at_place xs p (slice_get xs p) n refl e
+
+-- ---- requests that are refused
+
+-- what is behind a request: the interface, and whether a nonce was given
+record Unchanged (tdi : Tdi) (request : RequestView) (secure : Bool) (drawn : Option (List ℕ)) : Type 0 where
+  same : tdi_called tdi (call_of request secure drawn) ≡ tdi
+  kept : takes_nonce tdi request secure drawn ≡ false
+
+lock_same : (tdi : Tdi) (function flags stream offset mask f code value : ℕ) (secure : Bool) (drawn : Option (List ℕ))
+    (answer : Result (List ℕ) ℕ) → lock_answer tdi flags offset secure drawn ≡ answer
+    → lock_reply function answer ≡ reply.Error f code value → Unchanged tdi
+    (LockInterface function flags stream offset mask) secure drawn
+lock_same tdi function flags stream offset mask f code value secure drawn (Ok nonce) is e = absurd cc
+lock_same tdi function flags stream offset mask f code value secure drawn (Err c) is e = record {
+  same = ap (locked_with tdi (new_lock tdi flags stream offset)) is;
+  kept = ap is_given is;
+}
+
+start_by : (tdi : Tdi) (function f code value : ℕ) (nonce : List ℕ) (secure : Bool) (drawn : Option (List ℕ))
+    (state : TdiState) → tdi.state ≡ state
+    → start_reply function (start_answer state nonce) ≡ reply.Error f code value → after_start state nonce ≡ state
+start_by tdi function f code value nonce secure drawn ConfigUnlocked is e = refl
+start_by tdi function f code value nonce secure drawn (Run lock) is e = refl
+start_by tdi function f code value nonce secure drawn Error is e = refl
+start_by tdi function f code value nonce secure drawn (ConfigLocked lock held) is e = tested (bytes_eq nonce held) e
+  where
+    tested : (b : Bool) → start_reply function (if b then Ok tt else Err 0x0102) ≡ reply.Error f code value
+        → (if b then Run lock else ConfigLocked lock held) ≡ ConfigLocked lock held
+    tested true e = absurd cc
+    tested false e = refl
+
+unchanged : (tdi : Tdi) (request : RequestView) (secure : Bool) (drawn : Option (List ℕ)) (f code value : ℕ)
+    → tdi_reply tdi request secure drawn ≡ reply.Error f code value → Unchanged tdi request secure drawn
+unchanged tdi (GetVersion function) secure drawn f code value e = record { same = refl; kept = refl }
+unchanged tdi (GetCapabilities function) secure drawn f code value e = record { same = refl; kept = refl }
+unchanged tdi (LockInterface function flags stream offset mask) secure drawn f code value e = lock_same tdi function
+    flags stream offset mask f code value secure drawn _ refl e
+unchanged tdi (GetDeviceInterfaceReport function offset count) secure drawn f code value e = record
+    { same = refl; kept = refl }
+unchanged tdi (GetDeviceInterfaceState function) secure drawn f code value e = record { same = refl; kept = refl }
+unchanged tdi (StartInterface function nonce) secure drawn f code value e =
+    record {
+      same = ap (with_state tdi) (start_by tdi function f code value nonce secure drawn tdi.state refl e);
+      kept =
+          refl;
+    }
+unchanged tdi (StopInterface function) secure drawn f code value e = absurd cc
+
+by_named : (d : DeviceTdis) (request : RequestView) (secure : Bool) (n : Option Named) (f code value : ℕ)
+    → named d (request_function request) ≡ n → reply_by d request secure n ≡ reply.Error f code value
+    → asked_by d request secure n ≡ d
+by_named d request secure None f code value is e = refl
+by_named d request secure (Some n) f code value is e =
+    let u = unchanged n.tdi request secure (next_nonce d) f code value e in
+    let there = in_list d.interfaces (place_of d (request_function request)) n is in
+    ap (λ t. (let k : DeviceTdis = record {
+      interfaces = slice_set d.interfaces n.place t;
+      nonces = d.nonces;
+      used = used_after
+          (takes_nonce n.tdi request secure (next_nonce d)) d.used;
+    } in k)) u.same
+    ∙ ap (λ b. (let k : DeviceTdis = record
+    { interfaces = slice_set d.interfaces n.place n.tdi; nonces = d.nonces; used = used_after b d.used } in k))
+    u.kept
+    ∙ ap (λ xs. (let k : DeviceTdis = record { interfaces = xs; nonces = d.nonces; used = d.used } in k))
+    (set_same d.interfaces n.place n.tdi there)
+
+by_request : (d : DeviceTdis) (secure : Bool) (function : ℕ) (r : Result RequestView ErrorCode) (f code value : ℕ)
+    → Rattle.tdi_device.specs.Replies.reply_from d secure function r ≡ reply.Error f code value
+    → Rattle.tdi_device.specs.Replies.tdis_by d secure r ≡ d
+by_request d secure function (Err c) f code value e = refl
+by_request d secure function (Ok request) f code value e = by_named d request secure
+    (named d (request_function request)) f code value refl e
+
+pub errors_change_nothing : ErrorsChangeNothing
+errors_change_nothing d bytes secure f code value e = by_request d secure _ (request_asked bytes) f code value e

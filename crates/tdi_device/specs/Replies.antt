@@ -1,0 +1,255 @@
+-- What a device's interfaces answer, and what each request makes of them (TDISP sections 11.1 and 11.3, in this
+-- profile).
+use Rattle.std.specs.Prelude.{ℕ, ◌≡◌, ◌≤◌, ◌+◌, ◌/◌, ◌%◌, ◌^◌, ◌==◌, ◌&&◌, nat_lt, Bool, true, false, not, List, []}
+use Rattle.std.specs.Prelude.{◌∷◌, length, map, replicate, position, is_some, slice_get, slice_set, Option, Some, None}
+use Rattle.std.specs.Prelude.{Result, Ok, Err, if◌then◌else◌}
+use Rattle.ide_plan.specs.declared.interface.InterfacePlan.{InterfacePlan}
+use Rattle.tdisp_codec.specs.declared.fault.TdispFault.{TdispFault}
+use Rattle.tdisp_codec.specs.declared.fault.TdispFault.TheVariants as fault
+use Rattle.tdisp_codec.specs.declared.request.RequestView.{RequestView}
+use Rattle.tdisp_codec.specs.declared.request.RequestView.TheVariants.{GetVersion, GetCapabilities, LockInterface}
+use Rattle.tdisp_codec.specs.declared.request.RequestView.TheVariants.{GetDeviceInterfaceReport}
+use Rattle.tdisp_codec.specs.declared.request.RequestView.TheVariants.{GetDeviceInterfaceState, StartInterface}
+use Rattle.tdisp_codec.specs.declared.request.RequestView.TheVariants.{StopInterface}
+use Rattle.tdisp_codec.specs.Messages.{function_in}
+use Rattle.tdisp_codec.specs.Requests.{request_function, request_reading}
+use Rattle.tdisp_codec.specs.Replies.{Reply, reply_spelling}
+use Rattle.tdisp_codec.specs.Replies as reply
+use Rattle.tdi_state.specs.declared.error_codes.ErrorCode.{ErrorCode}
+use Rattle.tdi_state.specs.declared.error_codes.ErrorCode.TheVariants.{InvalidRequest, UnsupportedRequest}
+use Rattle.tdi_state.specs.declared.error_codes.ErrorCode.TheVariants.{VersionMismatch, InvalidInterface}
+use Rattle.tdi_state.specs.declared.states.TdiState.{TdiState}
+use Rattle.tdi_state.specs.declared.states.TdiState.TheVariants.{Run}
+use Rattle.tdi_state.specs.Machine.{Tdi, new_tdi, error_code, state_code, lock_answer, portion_answer, start_answer}
+use Rattle.tdi_state.specs.Machine.{Call, LinkReset, StreamLeft, tdi_after, bound_stream}
+use Rattle.tdi_state.specs.Machine as call
+
+-- ---- what is kept
+
+-- the interfaces of a link's device, its nonces, and how many of them were given
+pub record DeviceTdis : Type 0 where
+  pub interfaces : List Tdi
+  pub nonces : List (List ℕ)
+  pub used : ℕ
+
+abbrev pub new_tdis : List InterfacePlan → List (List ℕ) → DeviceTdis
+new_tdis plans nonces = record { interfaces = map new_tdi plans; nonces = nonces; used = 0 }
+
+-- the nonce that is given next
+abbrev pub next_nonce : DeviceTdis → Option (List ℕ)
+next_nonce d = slice_get d.nonces d.used
+
+-- ---- which interface is meant
+
+abbrev pub requester_in : ℕ → ℕ
+requester_in function = function % 65536
+
+-- the segment is valid, and not 0
+abbrev pub is_elsewhere : ℕ → Bool
+is_elsewhere function = (function / 2 ^ 24 % 2 == 1) && not (function / 2 ^ 16 % 256 == 0)
+
+abbrev pub has_requester : ℕ → Tdi → Bool
+has_requester requester tdi = requester == tdi.plan.requester
+
+abbrev pub place_of : DeviceTdis → ℕ → Option ℕ
+place_of d function =
+    if is_elsewhere function then None else position (has_requester (requester_in function)) d.interfaces
+
+-- an interface and its place
+pub record Named : Type 0 where
+  pub place : ℕ
+  pub tdi : Tdi
+
+abbrev pub named_at : ℕ → Option Tdi → Option Named
+named_at place None = None
+named_at place (Some tdi) = Some (record { place = place; tdi = tdi })
+
+abbrev pub named_in : List Tdi → Option ℕ → Option Named
+named_in interfaces None = None
+named_in interfaces (Some place) = named_at place (slice_get interfaces place)
+
+abbrev pub named : DeviceTdis → ℕ → Option Named
+named d function = named_in d.interfaces (place_of d function)
+
+-- ---- the call of an interface that a request comes to
+
+-- `secure` says that the stream of a LOCK_INTERFACE is known and Secure at the device; `drawn` is the next nonce
+abbrev pub call_of : RequestView → Bool → Option (List ℕ) → Option Call
+call_of (LockInterface function flags stream offset mask) secure drawn =
+    Some (call.LockInterface flags stream offset secure drawn)
+call_of (StartInterface function nonce) secure drawn = Some (call.StartInterface nonce)
+call_of (StopInterface function) secure drawn = Some call.StopInterface
+call_of request secure drawn = None
+
+abbrev pub tdi_called : Tdi → Option Call → Tdi
+tdi_called tdi None = tdi
+tdi_called tdi (Some c) = tdi_after tdi c
+
+-- ---- replies
+
+abbrev pub refused : ℕ → ℕ → Reply
+refused function code = reply.Error function code 0
+
+abbrev pub lock_reply : ℕ → Result (List ℕ) ℕ → Reply
+lock_reply function (Ok nonce) = reply.LockInterface function nonce
+lock_reply function (Err code) = refused function code
+
+abbrev pub portion_reply : ℕ → Result (List ℕ × ℕ) ℕ → Reply
+portion_reply function (Ok portion) = reply.DeviceInterfaceReport function portion.1 portion.0
+portion_reply function (Err code) = refused function code
+
+abbrev pub start_reply : ℕ → Result (Unit {0}) ℕ → Reply
+start_reply function (Ok done) = reply.StartInterface function
+start_reply function (Err code) = refused function code
+
+-- one version, 1.0
+abbrev pub version_reply : ℕ → Reply
+version_reply function = reply.Version function (0x10 ∷ [])
+
+-- requests 0x81 to 0x87; lock flags 0, 1, 2 and 4; addresses of 64 bits; one request at once
+abbrev pub capabilities_reply : ℕ → Reply
+capabilities_reply function = reply.Capabilities function 0 (0xfe ∷ replicate 15 0) 0x0017 64 1 1
+
+-- of the interface that is meant
+abbrev pub tdi_reply : Tdi → RequestView → Bool → Option (List ℕ) → Reply
+tdi_reply tdi (GetVersion function) secure drawn = version_reply function
+tdi_reply tdi (GetCapabilities function) secure drawn = capabilities_reply function
+tdi_reply tdi (LockInterface function flags stream offset mask) secure drawn =
+    lock_reply function (lock_answer tdi flags offset secure drawn)
+tdi_reply tdi (GetDeviceInterfaceReport function offset count) secure drawn =
+    portion_reply function (portion_answer tdi offset count)
+tdi_reply tdi (GetDeviceInterfaceState function) secure drawn =
+    reply.DeviceInterfaceState function (state_code tdi.state)
+tdi_reply tdi (StartInterface function nonce) secure drawn = start_reply function (start_answer tdi.state nonce)
+tdi_reply tdi (StopInterface function) secure drawn = reply.StopInterface function
+
+-- its bytes have room in 1,200
+abbrev pub IsShortReply : Reply → Type 0
+IsShortReply (reply.Version function versions) = length versions ≤ 1
+IsShortReply (reply.Capabilities function device requests lock_flags width this all) = length requests ≡ 16
+IsShortReply (reply.LockInterface function nonce) = length nonce ≡ 32
+IsShortReply (reply.DeviceInterfaceReport function remainder portion) = length portion ≤ 1140
+IsShortReply r = Unit {0}
+
+-- ---- a request that is read
+
+abbrev pub is_given : Result (List ℕ) ℕ → Bool
+is_given (Ok nonce) = true
+is_given (Err code) = false
+
+-- a lock that is accepted takes the nonce
+abbrev pub takes_nonce : Tdi → RequestView → Bool → Option (List ℕ) → Bool
+takes_nonce tdi (LockInterface function flags stream offset mask) secure drawn =
+    is_given (lock_answer tdi flags offset secure drawn)
+takes_nonce tdi request secure drawn = false
+
+abbrev pub used_after : Bool → ℕ → ℕ
+used_after takes used = if takes then used + 1 else used
+
+abbrev pub asked_at : DeviceTdis → Named → RequestView → Bool → DeviceTdis
+asked_at d n request secure = record {
+  interfaces = slice_set d.interfaces n.place (tdi_called n.tdi (call_of request secure (next_nonce d)));
+  nonces = d.nonces;
+  used = used_after (takes_nonce n.tdi request secure (next_nonce d)) d.used;
+}
+
+abbrev pub asked_by : DeviceTdis → RequestView → Bool → Option Named → DeviceTdis
+asked_by d request secure None = d
+asked_by d request secure (Some n) = asked_at d n request secure
+
+abbrev pub reply_by : DeviceTdis → RequestView → Bool → Option Named → Reply
+reply_by d request secure None = refused (request_function request) (error_code InvalidInterface)
+reply_by d request secure (Some n) = tdi_reply n.tdi request secure (next_nonce d)
+
+abbrev pub asked_tdis : DeviceTdis → RequestView → Bool → DeviceTdis
+asked_tdis d request secure = asked_by d request secure (named d (request_function request))
+
+abbrev pub reply_to : DeviceTdis → RequestView → Bool → Reply
+reply_to d request secure = reply_by d request secure (named d (request_function request))
+
+-- ---- bytes that are a message of TDISP, by their first byte
+
+abbrev pub code_by : TdispFault → ErrorCode
+code_by (fault.Version place) = VersionMismatch
+code_by (fault.Kind place) = UnsupportedRequest
+code_by f = InvalidRequest
+
+-- a header that is cut off has no function ID
+abbrev pub function_or_none : List ℕ → ℕ
+function_or_none bytes = if nat_lt (length bytes) 17 then 0 else function_in bytes
+
+-- the version is looked at ahead of the type, and the type ahead of the length; but a header that is cut off is refused
+-- whatever it holds
+abbrev pub asked_in : Bool → Result RequestView TdispFault → Result RequestView ErrorCode
+asked_in true read = Err InvalidRequest
+asked_in false (Ok request) = Ok request
+asked_in false (Err f) = Err (code_by f)
+
+abbrev pub request_asked : List ℕ → Result RequestView ErrorCode
+request_asked bytes = asked_in (nat_lt (length bytes) 17) (request_reading bytes)
+
+abbrev pub tdis_by : DeviceTdis → Bool → Result RequestView ErrorCode → DeviceTdis
+tdis_by d secure (Ok request) = asked_tdis d request secure
+tdis_by d secure (Err code) = d
+
+abbrev pub reply_from : DeviceTdis → Bool → ℕ → Result RequestView ErrorCode → Reply
+reply_from d secure function (Ok request) = reply_to d request secure
+reply_from d secure function (Err code) = refused function (error_code code)
+
+abbrev pub answered : DeviceTdis → List ℕ → Bool → DeviceTdis
+answered d bytes secure = tdis_by d secure (request_asked bytes)
+
+abbrev pub answer_of : DeviceTdis → List ℕ → Bool → Reply
+answer_of d bytes secure = reply_from d secure (function_or_none bytes) (request_asked bytes)
+
+abbrev pub answer_bytes : DeviceTdis → List ℕ → Bool → List ℕ
+answer_bytes d bytes secure = reply_spelling (answer_of d bytes secure)
+
+-- the stream that a LOCK_INTERFACE names
+abbrev pub lock_stream : RequestView → Option ℕ
+lock_stream (LockInterface function flags stream offset mask) = Some stream
+lock_stream request = None
+
+abbrev pub stream_by : Result RequestView ErrorCode → Option ℕ
+stream_by (Ok request) = lock_stream request
+stream_by (Err code) = None
+
+abbrev pub stream_asked : List ℕ → Option ℕ
+stream_asked bytes = stream_by (request_asked bytes)
+
+-- ---- streams that are left, and a reset of the link
+
+-- bound to a stream that is not Secure
+abbrev pub is_left : (ℕ → Bool) → Option ℕ → Bool
+is_left is_secure None = false
+is_left is_secure (Some stream) = not (is_secure stream)
+
+-- in CONFIG_LOCKED and RUN an interface goes to ERROR where its stream is not Secure at the device's port
+abbrev pub settled_tdi : (ℕ → Bool) → Tdi → Tdi
+settled_tdi is_secure tdi = if is_left is_secure (bound_stream tdi.state) then tdi_after tdi StreamLeft else tdi
+
+abbrev pub settled : (ℕ → Bool) → DeviceTdis → DeviceTdis
+settled is_secure d = record d { interfaces = map (settled_tdi is_secure) d.interfaces }
+
+abbrev pub reset_tdis : DeviceTdis → DeviceTdis
+reset_tdis d = record d { interfaces = map (λ tdi. tdi_after tdi LinkReset) d.interfaces }
+
+-- ---- calls of one interface that no request makes
+
+abbrev pub called_at : DeviceTdis → ℕ → Tdi → Call → DeviceTdis
+called_at d place tdi c = record d { interfaces = slice_set d.interfaces place (tdi_after tdi c) }
+
+-- ---- the T bit of what the device sends
+
+-- running, and bound to this stream
+abbrev pub runs_on : ℕ → TdiState → Bool
+runs_on stream (Run lock) = lock.stream == stream
+runs_on stream state = false
+
+abbrev pub is_owner : ℕ → ℕ → Tdi → Bool
+is_owner requester stream tdi = (requester == tdi.plan.requester) && runs_on stream tdi.state
+
+-- T is set of a TLP whose owner, its requester or its completer, is an interface that runs, on the stream that the
+-- interface is bound to
+abbrev pub sets_t : DeviceTdis → ℕ → ℕ → Bool
+sets_t d requester stream = is_some (position (is_owner requester stream) d.interfaces)

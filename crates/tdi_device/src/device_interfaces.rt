@@ -1,0 +1,338 @@
+//! The interfaces of a device.
+
+ghost use Rattle.std.specs.Prelude.{◌≡◌, ◌+◌, ◌<◌, ◌≤◌, ◌^◌, ◌++◌, ℕ, Bool, IfOk, IfSome, IsSome, All, Some, true};
+ghost use Rattle.std.specs.Prelude.{length, map, position, slice_get, slice_set, slice_index, vec_len, vec_capacity};
+ghost use Rattle.tdisp_codec.specs.Requests.{request_function};
+ghost use Rattle.tdisp_codec.specs.Replies.{reply_spelling};
+ghost use Rattle.tdi_state.specs.Held.{FitsTdi};
+ghost use Rattle.interface_words.specs.RegisterNames.{has_register, width_of};
+ghost use Rattle.tdi_state.specs.Machine.{new_tdi, tdi_after, LinkReset, state_code, LevelReset, FirmwareUpdate};
+ghost use Rattle.tdi_state.specs.Machine.{WriteRegister};
+ghost use Rattle.tdi_device.specs.Replies.{new_tdis, is_elsewhere, is_left, settled_tdi, is_owner, runs_on};
+
+use crate::answer::answer_one;
+use crate::front::{function, request_asked};
+use crate::replies::{append, refused};
+use ide_plan::InterfacePlan;
+use ide_types::{Items, Memory};
+use std::alloc::Global;
+use std::marker::Model;
+use tdi_state::{ErrorCode, Interface, Register, TdiState};
+use tdisp_codec::RequestView;
+
+/// The room that a reply needs, in bytes.
+pub const TDISP_REPLY_ROOM: usize = 1_200;
+
+/// The interfaces of a link's device, by their place on the link, and the nonces that it gives to locks, in order
+/// (TDISP section 11.3, in this profile).
+#[derive(Drop)]
+pub struct DeviceInterfaces {
+    interfaces: Vec<Interface>,
+    nonces: Vec<[u8; 32]>,
+    used: usize,
+}
+
+impl Model for DeviceInterfaces {
+    ghost use Rattle.tdi_device.specs.Replies.{DeviceTdis};
+
+    ghost Value = { DeviceTdis };
+
+    ghost view = { λ d. record { interfaces = d.interfaces.items; nonces = d.nonces.items; used = d.used } };
+}
+
+// Whether the function ID names a segment, and not segment 0.
+fn is_elsewhere(function: u32) -> bool
+    ensures { result ≡ is_elsewhere function }
+{
+    function / 0x100_0000 % 2 == 1 && function / 0x1_0000 % 256 != 0
+}
+
+// The interfaces that are laid out.
+fn made(alloc: Global, plans: &[InterfacePlan]) -> Result<Vec<Interface>, Memory>
+    requires { All FitsTdi plans.now }
+    ensures { IfOk result (λ interfaces. interfaces.items ≡ map new_tdi plans.now) }
+{
+    let mut interfaces = Vec::new(alloc);
+    for plan in plans {
+        interfaces.push(Interface::make(alloc, plan)?)?;
+    }
+    Ok(interfaces)
+}
+
+/// The streams of a device's port.
+pub trait StreamStates {
+    /// Whether the port has the stream, and it is Secure there.
+    ghost is_secure: { Self → ℕ → Bool };
+
+    /// Whether the port has the stream, and it is Secure there.
+    fn is_secure(&self, stream: u8) -> bool
+        ensures { result ≡ is_secure self.now stream };
+}
+
+// Whether it is bound to a stream that is not Secure.
+fn is_left<P: StreamStates>(streams: &P, bound: Option<u8>) -> bool
+    ensures { result ≡ is_left (P.is_secure streams.now) bound }
+{
+    match bound {
+        None => false,
+        Some(stream) => !streams.is_secure(stream),
+    }
+}
+
+fn settle_one<P: StreamStates>(interface: &mut Interface, streams: &P)
+    ensures { interface.new ≡ settled_tdi (P.is_secure streams.now) interface.old }
+{
+    if is_left(streams, interface.bound()) {
+        interface.stream_left();
+    }
+}
+
+fn settle_all<P: StreamStates>(interfaces: &mut Vec<Interface>, streams: &P)
+    ensures { interfaces.new.items ≡ map (settled_tdi (P.is_secure streams.now)) interfaces.old.items }
+{
+    for interface in interfaces.iter_mut() {
+        settle_one(interface, streams);
+    }
+}
+
+// Whether it has this requester ID, and runs on this stream.
+fn is_owner(interface: &Interface, requester: u16, stream: u8) -> bool
+    ensures { result ≡ is_owner requester stream interface.now }
+{
+    requester == interface.requester() && runs_on(interface.standing(), stream)
+}
+
+fn runs_on(state: &TdiState, stream: u8) -> bool
+    ensures { result ≡ runs_on stream state.now }
+{
+    match state {
+        TdiState::Run { lock } => lock.stream == stream,
+        _ => false,
+    }
+}
+
+fn reset_all(interfaces: &mut Vec<Interface>)
+    ensures { interfaces.new.items ≡ map (λ tdi. tdi_after tdi LinkReset) interfaces.old.items }
+{
+    for interface in interfaces.iter_mut() {
+        interface.reset();
+    }
+}
+
+impl DeviceInterfaces {
+    ghost use Rattle.tdi_device.specs.Replies.{
+      place_of,
+      has_requester,
+      requester_in,
+      next_nonce,
+      tdi_reply,
+      asked_at,
+      asked_tdis,
+      reply_to,
+      answered,
+      answer_bytes,
+      settled,
+      reset_tdis,
+      called_at,
+      sets_t,
+    };
+
+    /// The interfaces of a link's device in CONFIG_UNLOCKED, and its nonces, of which none was given.
+    pub fn make(
+        alloc: Global,
+        plans: &Items<InterfacePlan>,
+        nonces: &Items<[u8; 32]>,
+    ) -> Result<DeviceInterfaces, Memory>
+        requires { All FitsTdi plans.now }
+        ensures { IfOk result (λ d. d ≡ new_tdis plans.now nonces.now) }
+    {
+        let interfaces = made(alloc, plans.as_slice())?;
+        let nonces = Vec::from_slice(alloc, nonces.as_slice())?;
+        Ok(DeviceInterfaces {
+            interfaces,
+            nonces,
+            used: 0,
+        })
+    }
+
+    // The nonce that is given next.
+    fn next_nonce(&self) -> Option<[u8; 32]>
+        ensures value { result ≡ next_nonce self.now }
+        ensures left { IsSome result → self.now.used < length self.now.nonces }
+    {
+        self.nonces.get(self.used).copied()
+    }
+
+    fn with_requester(&self, requester: u16) -> Option<usize>
+        ensures { result ≡ position (has_requester requester) self.now.interfaces }
+    {
+        self.interfaces
+            .iter()
+            .position(|i| requester == i.requester())
+    }
+
+    // The place of the interface that a function ID names.
+    fn place(&self, function: u32) -> Option<usize>
+        ensures { result ≡ place_of self.now function }
+    {
+        if is_elsewhere(function) {
+            None
+        } else {
+            self.with_requester((function % 0x1_0000) as u16)
+        }
+    }
+
+    // Answers a request to the interface at this place.
+    fn answer_at(&mut self, place: usize, request: RequestView, secure: bool, reply: &mut Vec<u8>)
+        requires exists { place < length self.old.interfaces }
+        requires room { vec_len reply.old + TDISP_REPLY_ROOM ≤ vec_capacity reply.old }
+        ensures device { IfSome (slice_get self.old.interfaces place) (λ tdi.
+            self.new ≡ asked_at self.old (record { place = place; tdi = tdi }) request secure) }
+        ensures reply { IfSome (slice_get self.old.interfaces place) (λ tdi.
+            reply.new.items ≡ reply.old.items
+            ++ reply_spelling (tdi_reply tdi request secure (next_nonce self.old))) }
+        ensures capacity { vec_capacity reply.old ≤ vec_capacity reply.new }
+    {
+        let nonce = self.next_nonce();
+        let interface = &mut self.interfaces[place];
+        if answer_one(interface, nonce, request, secure, reply) {
+            self.used += 1;
+        }
+    }
+
+    // Answers a request that is read.
+    fn answer_read(&mut self, request: RequestView, secure: bool, reply: &mut Vec<u8>)
+        requires { vec_len reply.old + TDISP_REPLY_ROOM ≤ vec_capacity reply.old }
+        ensures device { self.new ≡ asked_tdis self.old request secure }
+        ensures reply { reply.new.items ≡ reply.old.items ++ reply_spelling (reply_to self.old request secure) }
+        ensures capacity { vec_capacity reply.old ≤ vec_capacity reply.new }
+    {
+        let function = request_function(request);
+        match self.place(function) {
+            Some(place) => self.answer_at(place, request, secure, reply),
+            None => append(
+                &refused(function, ErrorCode::InvalidInterface.code()),
+                reply,
+            ),
+        }
+    }
+
+    /// Answers a message of TDISP, whose first byte says so: makes at most one call of one interface, and appends the
+    /// reply. `secure` says that the stream which a LOCK_INTERFACE names is known and Secure at the device's port
+    /// (`stream_asked` says which it is). `reply` has room for `TDISP_REPLY_ROOM` bytes, so it takes no memory. Refused
+    /// in the order of `request_asked`, then INVALID_INTERFACE where no interface has the function ID, and then by the
+    /// request.
+    pub fn answer(&mut self, request: &[u8], secure: bool, reply: &mut Vec<u8>)
+        requires { vec_len reply.old + TDISP_REPLY_ROOM ≤ vec_capacity reply.old }
+        ensures device { self.new ≡ answered self.old request.now secure }
+        ensures reply { reply.new.items ≡ reply.old.items ++ answer_bytes self.old request.now secure }
+        ensures capacity { vec_capacity reply.old ≤ vec_capacity reply.new }
+    {
+        match request_asked(request) {
+            Ok(request) => self.answer_read(request, secure, reply),
+            Err(code) => append(&refused(function(request), code.code()), reply),
+        }
+    }
+
+    /// Behind a call of the device's port: each interface that is bound to a stream which is not Secure there, in
+    /// CONFIG_LOCKED or RUN, goes to ERROR.
+    pub fn settle<P: StreamStates>(&mut self, streams: &P)
+        ensures { self.new ≡ settled (P.is_secure streams.now) self.old }
+    {
+        settle_all(&mut self.interfaces, streams);
+    }
+
+    /// Whether a TLP with this owner (the requester of a request, the completer of a completion) has T on this stream:
+    /// where the owner is an interface in RUN, and this is its bound stream.
+    pub fn sets_t(&self, requester: u16, stream: u8) -> bool
+        ensures { result ≡ sets_t self.now requester stream }
+    {
+        self.owner_place(requester, stream).is_some()
+    }
+
+    fn owner_place(&self, requester: u16, stream: u8) -> Option<usize>
+        ensures { result ≡ position (is_owner requester stream) self.now.interfaces }
+    {
+        self.interfaces
+            .iter()
+            .position(|i| is_owner(i, requester, stream))
+    }
+
+    /// How many interfaces there are.
+    pub fn count(&self) -> usize
+        ensures { result ≡ length self.now.interfaces }
+    {
+        self.interfaces.len()
+    }
+
+    /// The code of an interface's state: CONFIG_UNLOCKED 0, CONFIG_LOCKED 1, RUN 2, ERROR 3.
+    pub fn state(&self, place: usize) -> u8
+        requires { place < length self.now.interfaces }
+        ensures { IfSome (slice_get self.now.interfaces place) (λ tdi. result ≡ state_code tdi.state) }
+    {
+        self.interfaces[place].state()
+    }
+
+    /// Whether an interface has this register.
+    pub fn has_register(&self, place: usize, register: Register) -> bool
+        requires { place < length self.now.interfaces }
+        ensures { IfSome (slice_get self.now.interfaces place) (λ tdi. result ≡ has_register tdi.plan register) }
+    {
+        self.interfaces[place].has_register(register)
+    }
+
+    /// Writes a register that an interface has, with a value of its width.
+    pub fn write_register(&mut self, place: usize, register: Register, value: u64)
+        requires place { place < length self.old.interfaces }
+        requires exists { IfSome (slice_get self.old.interfaces place) (λ tdi. has_register tdi.plan register ≡ true) }
+        requires width { value < 2 ^ width_of register }
+        ensures { IfSome (slice_get self.old.interfaces place) (λ tdi.
+            self.new ≡ called_at self.old place tdi (WriteRegister register value)) }
+    {
+        let interface = &mut self.interfaces[place];
+        interface.write_register(register, value);
+    }
+
+    /// A function level reset of an interface.
+    pub fn flr(&mut self, place: usize)
+        requires { place < length self.old.interfaces }
+        ensures { IfSome (slice_get self.old.interfaces place) (λ tdi.
+            self.new ≡ called_at self.old place tdi LevelReset) }
+    {
+        let interface = &mut self.interfaces[place];
+        interface.flr();
+    }
+
+    /// A firmware update, as it concerns an interface.
+    pub fn firmware(&mut self, place: usize)
+        requires { place < length self.old.interfaces }
+        ensures { IfSome (slice_get self.old.interfaces place) (λ tdi.
+            self.new ≡ called_at self.old place tdi FirmwareUpdate) }
+    {
+        let interface = &mut self.interfaces[place];
+        interface.firmware();
+    }
+
+    /// A reset of the link: each interface is in CONFIG_UNLOCKED, with the topology's registers. Nonces that were given
+    /// stay so.
+    pub fn reset(&mut self)
+        ensures { self.new ≡ reset_tdis self.old }
+    {
+        reset_all(&mut self.interfaces);
+    }
+}
+
+// The function ID of a request.
+fn request_function(request: RequestView) -> u32
+    ensures { result ≡ request_function request }
+{
+    match request {
+        RequestView::GetVersion { function }
+        | RequestView::GetCapabilities { function }
+        | RequestView::LockInterface { function, .. }
+        | RequestView::GetDeviceInterfaceReport { function, .. }
+        | RequestView::GetDeviceInterfaceState { function }
+        | RequestView::StartInterface { function, .. }
+        | RequestView::StopInterface { function } => function,
+    }
+}

@@ -1,0 +1,49 @@
+-- An exchange that is carried.
+use Rattle.std.proofs.Common.{◌≡◌, ℕ, Bool, List, length, Option, Some, None, refl, ap, sym, ◌∙◌}
+use Rattle.std.specs.Prelude.{IfSome}
+use Rattle.link_events.specs.declared.event.Loss.{Loss}
+use Rattle.link_events.specs.declared.event.Lost.{Lost}
+use Rattle.tdisp_codec.specs.Requests.{request_spelling}
+use Rattle.tdisp_codec.specs.Replies.{reply_reading}
+use Rattle.tdi_host.specs.declared.operation.Outcome.{Outcome}
+use Rattle.tdi_host.specs.Judging.{Judged, judged_reply}
+use Rattle.tdi_host.specs.Managers.{ManagerView, Current, current_exchange, request_asked, outcome_by, taken_by}
+use Rattle.tdi_device.specs.Replies.{DeviceTdis, answered, answer_bytes}
+use Rattle.tdi_walks.specs.Operations.{lost_in, carried, reached}
+use Rattle.tdi_ends.specs.Keepers.{Ended, IsExchanged}
+
+-- what holds of the exchange that is asked
+pub some_map : {A : Type 0} {P Q : A → Type 0} (o : Option A) → ((a : A) → P a → Q a) → IfSome o P → IfSome o Q
+some_map None f p = tt
+some_map (Some a) f p = f a p
+
+abbrev judged_bytes : ManagerView → Current → List ℕ → Judged
+judged_bytes m c bytes = judged_reply c.asking.step c.interface.requester m.portion (length m.read.bytes)
+    (reply_reading bytes)
+
+abbrev ended_by : ManagerView → Current → DeviceTdis → Option Lost → Judged → DeviceTdis → Ended
+ended_by m c d l j after = record
+    { outcome = outcome_by m c (carried l j); manager = taken_by m c (carried l j); device = reached l d after }
+
+-- nothing is lost
+pub carried_whole : (x : Option Current) (m after : ManagerView) (d device : DeviceTdis) (secure : Bool)
+    (loss : Option Loss) (number : ℕ) (bytes : List ℕ) (o : Outcome)
+    → IfSome x (λ c. number ≡ current_exchange m c) → lost_in loss number ≡ None
+    → IfSome x (λ c. device ≡ answered d (request_spelling (request_asked m c)) secure)
+    → IfSome x (λ c. bytes ≡ answer_bytes d (request_spelling (request_asked m c)) secure)
+    → IfSome x (λ c. o ≡ outcome_by m c (judged_bytes m c bytes))
+    → IfSome x (λ c. after ≡ taken_by m c (judged_bytes m c bytes))
+    → IfSome x (λ c. IsExchanged secure loss m d c
+    (let e : Ended = record { outcome = o; manager = after; device = device } in e))
+carried_whole None m after d device secure loss number bytes o n l dev rep out man = tt
+carried_whole (Some c) m after d device secure loss number bytes o n l dev rep out man =
+    let whole : lost_in loss (current_exchange m c) ≡ None = ap (lost_in loss) (sym n) ∙ l in
+    let same : (let e : Ended = record { outcome = o; manager = after; device = device } in e)
+    ≡ ended_by m c d None (judged_bytes m c (answer_bytes d (request_spelling (request_asked m c)) secure))
+    (answered d (request_spelling (request_asked m c)) secure)
+    = rw (out, man, dev, rep) refl in
+    record {
+      ends = same ∙ ap
+          (λ k. ended_by m c d k (judged_bytes m c (answer_bytes d (request_spelling (request_asked m c)) secure))
+          (answered d (request_spelling (request_asked m c)) secure)) (sym whole);
+    }

@@ -1,0 +1,157 @@
+-- The exchanges that the manager carries are those of one interface.
+use Rattle.std.proofs.Common.{◌≡◌, ◌≢◌, ℕ, suc, zero, Bool, true, List, [], ◌∷◌, Option, Some, None, refl, ap, sym}
+use Rattle.std.proofs.Common.{subst, ◌∙◌}
+use Rattle.std.specs.Prelude.{slice_set, slice_get, is_some, IfSome}
+use Rattle.link_events.specs.declared.event.Loss.{Loss}
+use Rattle.tdi_host.specs.declared.interfaces.Asking.{Asking}
+use Rattle.tdi_host.specs.declared.operation.Outcome.{Outcome}
+use Rattle.tdi_host.specs.declared.operation.Outcome.TheVariants as outcome
+use Rattle.tdi_host.specs.Steps.{next_step}
+use Rattle.tdi_host.specs.Views.{HostTdi}
+use Rattle.tdi_host.specs.Managers.{ManagerView, Current, current, current_in, current_by, asking_after}
+use Rattle.tdi_device.specs.Replies.{DeviceTdis}
+use Rattle.tdi_walks.specs.Operations.{walked_once, walking_on, continued, walk}
+use Rattle.tdi_ends.specs.Keepers.{Ended, IsExchanged, exchanged, goes_on, by_current, manager_walk, walking_at}
+use Rattle.tdi_ends.specs.Keepers.{IsWalked, KeepersWalk}
+
+-- ---- the exchange that is asked
+
+record Stands (xs : List HostTdi) (asking : Option Asking) (c : Current) : Type 0 where
+  asked : asking ≡ Some c.asking
+  there : slice_get xs c.asking.place ≡ Some c.interface
+
+stands_at : (xs : List HostTdi) (a : Asking) (i : Option HostTdi) (c : Current) → slice_get xs a.place ≡ i
+    → current_by a i ≡ Some c → Stands xs (Some a) c
+stands_at xs a None c g e = absurd cc
+stands_at xs a (Some i) c g e =
+    let same : (let k : Current = record { interface = i; asking = a } in k) ≡ c = cc in
+    subst (λ (k : Current). Stands xs (Some a) k) same (record { asked = refl; there = g })
+
+stands : (xs : List HostTdi) (asking : Option Asking) (c : Current) → current_in xs asking ≡ Some c → Stands xs asking c
+stands xs None c e = absurd cc
+stands xs (Some a) c e = stands_at xs a (slice_get xs a.place) c refl e
+
+-- ---- an element that is set
+
+set_get : {A : Type 0} (xs : List A) (p : ℕ) (x y : A) → slice_get xs p ≡ Some x → slice_get (slice_set xs p y) p
+    ≡ Some y
+set_get [] p x y is = absurd cc
+set_get (z ∷ xs) zero x y is = refl
+set_get (z ∷ xs) (suc p) x y is = set_get xs p x y is
+
+set_same : {A : Type 0} (xs : List A) (p : ℕ) (x : A) → slice_get xs p ≡ Some x → slice_set xs p x ≡ xs
+set_same [] p x is = refl
+set_same (y ∷ xs) zero x is = ap (λ z. z ∷ xs) (let same : x ≡ y = cc in same)
+set_same (y ∷ xs) (suc p) x is = ap (λ zs. y ∷ zs) (set_same xs p x is)
+
+set_twice : {A : Type 0} (xs : List A) (p : ℕ) (x y : A) → slice_set (slice_set xs p x) p y ≡ slice_set xs p y
+set_twice [] p x y = refl
+set_twice (z ∷ xs) zero x y = refl
+set_twice (z ∷ xs) (suc p) x y = ap (λ zs. z ∷ zs) (set_twice xs p x y)
+
+-- ---- the walk
+
+abbrev next_current : Bool → Option Loss → ManagerView → DeviceTdis → Current → Current
+next_current secure loss m d c = record {
+  interface = (walked_once m.portion c.asking.draws secure loss (walking_at m c d)).interface;
+  asking = record c.asking { step = next_step c.asking.step };
+}
+
+moved : (secure : Bool) (loss : Option Loss) (m : ManagerView) (d : DeviceTdis) (c : Current)
+    → Stands m.interfaces m.asking c → (exchanged secure loss m d c).outcome ≡ outcome.Next
+    → current (exchanged secure loss m d c).manager ≡ Some (next_current secure loss m d c)
+moved secure loss m d c s next =
+    ap (λ o. current_in (exchanged secure loss m d c).manager.interfaces (asking_after c.asking o)) next
+    ∙ ap (current_by (next_current secure loss m d c).asking)
+    (set_get m.interfaces c.asking.place c.interface _ s.there)
+
+goes_by : (more : ℕ) (secure : Bool) (loss : Option Loss) (m : ManagerView) (d : DeviceTdis) (c : Current) (o : Outcome)
+    → Stands m.interfaces m.asking c → (exchanged secure loss m d c).outcome ≡ o
+    → ((k : Current) → current (exchanged secure loss m d c).manager ≡ Some k
+    → IsWalked (exchanged secure loss m d c).manager k
+    (walk more m.portion k.asking.draws secure loss
+    (walking_at (exchanged secure loss m d c).manager k (exchanged secure loss m d c).device))
+    (manager_walk more secure loss (exchanged secure loss m d c).manager (exchanged secure loss m d c).device))
+    → IsWalked m c (continued o (walked_once m.portion c.asking.draws secure loss (walking_at m c d))
+    (walk more m.portion c.asking.draws secure loss
+    (walking_on c.asking.step (walked_once m.portion c.asking.draws secure loss (walking_at m c d)))))
+    (goes_on o (exchanged secure loss m d c)
+    (manager_walk more secure loss (exchanged secure loss m d c).manager (exchanged secure loss m d c).device))
+goes_by more secure loss m d c outcome.Next s is rest =
+    let w = rest (next_current secure loss m d c) (moved secure loss m d c s is) in
+    record {
+      outcome_is = w.outcome_is;
+      interfaces_are = w.interfaces_are ∙ set_twice m.interfaces c.asking.place _ _;
+      read_is = w.read_is;
+      device_is = w.device_is;
+    }
+goes_by more secure loss m d c (outcome.Done shown) s is rest = record
+    { outcome_is = refl; interfaces_are = refl; read_is = refl; device_is = refl }
+goes_by more secure loss m d c (outcome.Refused refusal) s is rest = record
+    { outcome_is = refl; interfaces_are = refl; read_is = refl; device_is = refl }
+
+-- a step of the manager's walk
+walk_step : (more : ℕ) (secure : Bool) (loss : Option Loss) (m : ManagerView) (d : DeviceTdis) (c : Current) → current m
+    ≡ Some c
+    → manager_walk (suc more) secure loss m d ≡ goes_on (exchanged secure loss m d c).outcome
+    (exchanged secure loss m d c)
+    (manager_walk more secure loss (exchanged secure loss m d c).manager (exchanged secure loss m d c).device)
+unfolding manager_walk
+walk_step more secure loss m d c is = ap
+    (λ k. by_current k (λ c. goes_on (exchanged secure loss m d c).outcome (exchanged secure loss m d c)
+    (manager_walk more secure loss (exchanged secure loss m d c).manager (exchanged secure loss m d c).device))
+    (record { outcome = outcome.Next; manager = m; device = d })) is
+
+walk_none : (secure : Bool) (loss : Option Loss) (m : ManagerView) (d : DeviceTdis)
+    → (let e : Ended = record { outcome = outcome.Next; manager = m; device = d } in e)
+    ≡ manager_walk zero secure loss m d
+unfolding manager_walk
+walk_none secure loss m d = refl
+
+pub keeper_walks : KeepersWalk
+keeper_walks zero secure loss m d c is =
+    let s = stands m.interfaces m.asking c is in
+    subst (λ e. IsWalked m c (walk zero m.portion c.asking.draws secure loss (walking_at m c d)) e)
+    (walk_none secure loss m d)
+    (record {
+      outcome_is = refl;
+      interfaces_are = sym (set_same m.interfaces c.asking.place c.interface s.there);
+      read_is = refl;
+      device_is = refl;
+    })
+keeper_walks (suc more) secure loss m d c is =
+    let s = stands m.interfaces m.asking c is in
+    subst (λ e. IsWalked m c (walk (suc more) m.portion c.asking.draws secure loss (walking_at m c d)) e)
+    (sym (walk_step more secure loss m d c is))
+    (goes_by more secure loss m d c (exchanged secure loss m d c).outcome s refl
+    (λ k now. keeper_walks more secure loss (exchanged secure loss m d c).manager
+    (exchanged secure loss m d c).device k now))
+
+-- ---- the code's walk
+
+-- an exchange behind which the operation goes on
+pub walks_on : (more : ℕ) (secure : Bool) (loss : Option Loss) (m : ManagerView) (d : DeviceTdis) (e rest : Ended)
+    (x : Option Current) → current m ≡ x → is_some x ≡ true
+    → IfSome x (λ c. IsExchanged secure loss m d c e) → e.outcome ≡ outcome.Next → rest
+    ≡ manager_walk more secure loss e.manager e.device → rest ≡ manager_walk (suc more) secure loss m d
+walks_on more secure loss m d e rest None is some came next goes = absurd cc
+walks_on more secure loss m d e rest (Some c) is some came next goes =
+    goes ∙ sym (ap (λ o. goes_on o e (manager_walk more secure loss e.manager e.device)) next)
+    ∙ ap (λ (k : Ended). goes_on k.outcome k (manager_walk more secure loss k.manager k.device)) came.ends ∙ sym
+    (walk_step more secure loss m d c is)
+
+stops_at : (o : Outcome) (now rest : Ended) → o ≢ outcome.Next → goes_on o now rest ≡ now
+stops_at outcome.Next now rest other = absurd (other refl)
+stops_at (outcome.Done shown) now rest other = refl
+stops_at (outcome.Refused refusal) now rest other = refl
+
+-- one behind which it is over
+pub walks_out : (more : ℕ) (secure : Bool) (loss : Option Loss) (m : ManagerView) (d : DeviceTdis) (e : Ended)
+    (x : Option Current) → current m ≡ x → is_some x ≡ true
+    → IfSome x (λ c. IsExchanged secure loss m d c e) → e.outcome ≢ outcome.Next → e
+    ≡ manager_walk (suc more) secure loss m d
+walks_out more secure loss m d e None is some came other = absurd cc
+walks_out more secure loss m d e (Some c) is some came other =
+    sym (stops_at e.outcome e (manager_walk more secure loss e.manager e.device) other)
+    ∙ ap (λ (k : Ended). goes_on k.outcome k (manager_walk more secure loss k.manager k.device)) came.ends ∙ sym
+    (walk_step more secure loss m d c is)

@@ -1,0 +1,213 @@
+//! The manager of interfaces, and the exchanges that it asks.
+
+ghost use Rattle.std.specs.Prelude.{◌≡◌, ◌+◌, ◌<◌, ◌≤◌, ℕ, [], Some, None, IfOk, IfSome, IsSome, is_some, length};
+ghost use Rattle.std.specs.Prelude.{slice_get, vec_len, vec_capacity};
+ghost use Rattle.tdisp_codec.specs.Requests.{request_spelling};
+ghost use Rattle.tdi_host.specs.Managers.{new_manager, current, request_asked, begun};
+ghost use Rattle.tdi_host.specs.Views.{refusal_of};
+ghost use Rattle.tdi_device.specs.Replies.{answered, answer_bytes};
+ghost use Rattle.tdi_walks.specs.Operations.{lost_in};
+ghost use Rattle.tdi_ends.specs.Keepers.{IsExchanged, Ended, manager_walk, operated};
+
+use ide_plan::LinkPlan;
+use ide_types::{Items, Memory, StreamStatus};
+use link_events::{Loss, Lost};
+use std::alloc::Global;
+use std::marker::Model;
+use tdi_device::{DeviceInterfaces, TDISP_REPLY_ROOM};
+use tdi_host::{InterfaceOp, Interfaces, Outcome};
+use tsm_host::Carried;
+
+/// The room that a request needs, in bytes.
+const REQUEST_ROOM: usize = 49;
+
+/// The most exchanges of an operation: a report has at most 1,140 bytes.
+const MOST_EXCHANGES: u16 = 1_140;
+
+/// The manager of interfaces, with room for one exchange.
+#[derive(Drop)]
+pub struct InterfaceKeeper {
+    interfaces: Interfaces,
+    request: Vec<u8>,
+    reply: Vec<u8>,
+}
+
+impl Model for InterfaceKeeper {
+    ghost use Rattle.std.specs.Prelude.{◌≤◌, vec_capacity};
+    ghost use Rattle.tdi_host.specs.Managers.{ManagerView};
+
+    ghost Value = { ManagerView };
+
+    ghost view = { λ k. k.interfaces };
+
+    ghost invariant = { λ k. (49 ≤ vec_capacity k.request) × (1200 ≤ vec_capacity k.reply) };
+}
+
+// What is lost of the exchange of this number.
+fn lost_at(loss: Option<Loss>, exchange: u32) -> Option<Lost>
+    ensures { result ≡ lost_in loss exchange }
+{
+    match loss {
+        Some(loss) if loss.exchange == exchange as u64 => Some(loss.lost),
+        _ => None,
+    }
+}
+
+// The request of the exchange that is next comes to the device, and `reply` holds what it answers.
+fn deliver(
+    manager: &Interfaces,
+    device: &mut DeviceInterfaces,
+    secure: bool,
+    request: &mut Vec<u8>,
+    reply: &mut Vec<u8>,
+)
+    requires asking { IsSome (current manager.now) }
+    requires request_room { 49 ≤ vec_capacity request.old }
+    requires reply_room { 1200 ≤ vec_capacity reply.old }
+    ensures device { IfSome (current manager.now) (λ c. device.new ≡ answered device.old
+        (request_spelling (request_asked manager.now c)) secure) }
+    ensures reply { IfSome (current manager.now) (λ c. reply.new.items ≡ answer_bytes device.old
+        (request_spelling (request_asked manager.now c)) secure) }
+    ensures request_room { 49 ≤ vec_capacity request.new }
+    ensures reply_room { 1200 ≤ vec_capacity reply.new }
+{
+    request.clear();
+    manager.ask(request);
+    reply.clear();
+    device.answer(request, secure, reply);
+}
+
+impl InterfaceKeeper {
+    ghost use Rattle.tdi_host.specs.Managers.{stop_begun, stream_keyed, reset_manager};
+
+    /// A manager of the interfaces of these links, which are asked for `portion` bytes of a report at a time.
+    pub fn make(
+        alloc: Global,
+        links: &Items<LinkPlan>,
+        portion: u16,
+    ) -> Result<InterfaceKeeper, Memory>
+        requires { length links.now ≤ 8 }
+        ensures { IfOk result (λ k. k ≡ new_manager links.now portion) }
+    {
+        let interfaces = Interfaces::make(alloc, links, portion)?;
+        let request = Vec::with_capacity(alloc, REQUEST_ROOM)?;
+        let reply = Vec::with_capacity(alloc, TDISP_REPLY_ROOM)?;
+        Ok(InterfaceKeeper {
+            interfaces,
+            request,
+            reply,
+        })
+    }
+
+    /// The manager.
+    pub fn manager(&self) -> &Interfaces
+        ensures { result.now ≡ self.now }
+    {
+        &self.interfaces
+    }
+
+    /// A stop of a stream began: views of its interfaces that are Locked, Running or Doubt are Broken.
+    pub fn stop_begun(&mut self, link: u8, stream: u8)
+        ensures { self.new ≡ stop_begun link stream self.old }
+    {
+        self.interfaces.stop_begun(link, stream);
+    }
+
+    /// An establish of a stream began with this draw, or a refresh came to its end with it.
+    pub fn stream_keyed(&mut self, link: u8, stream: u8, draw: u32)
+        ensures { self.new ≡ stream_keyed link stream draw self.old }
+    {
+        self.interfaces.stream_keyed(link, stream, draw);
+    }
+
+    /// A link was reset: views of its interfaces that are Locked, Running or Doubt are Broken.
+    pub fn link_reset(&mut self, link: u8)
+        ensures { self.new ≡ reset_manager link self.old }
+    {
+        self.interfaces.link_reset(link);
+    }
+
+    // The exchange that is next, of which `loss` is lost where it is that one.
+    fn exchange(
+        &mut self,
+        device: &mut DeviceInterfaces,
+        secure: bool,
+        loss: Option<Loss>,
+    ) -> Outcome
+        requires { IsSome (current self.old) }
+        ensures { IfSome (current self.old) (λ c. IsExchanged secure loss self.old device.old c
+            (let e : Ended = record { outcome = result; manager = self.new; device = device.new } in e)) }
+    {
+        match lost_at(loss, self.interfaces.exchange()) {
+            None => {
+                deliver(
+                    &self.interfaces,
+                    device,
+                    secure,
+                    &mut self.request,
+                    &mut self.reply,
+                );
+                self.interfaces.take(Carried::Reply(Some(&self.reply)))
+            }
+            Some(Lost::Request) => self.interfaces.take(Carried::Lost),
+            Some(Lost::Reply) => {
+                deliver(
+                    &self.interfaces,
+                    device,
+                    secure,
+                    &mut self.request,
+                    &mut self.reply,
+                );
+                self.interfaces.take(Carried::Lost)
+            }
+        }
+    }
+
+    // Up to so many exchanges of the operation that is asked.
+    #[tactic(auto, unfolding(crate::specs::Keepers::manager_walk))]
+    fn walk(
+        &mut self,
+        more: u16,
+        device: &mut DeviceInterfaces,
+        secure: bool,
+        loss: Option<Loss>,
+    ) -> Outcome
+        ensures { (let e : Ended = record { outcome = result; manager = self.new; device = device.new } in e)
+            ≡ manager_walk more secure loss self.old device.old }
+    {
+        if more == 0 {
+            return Outcome::Next;
+        }
+        if !self.interfaces.is_asking() {
+            return Outcome::Next;
+        }
+        match self.exchange(device, secure, loss) {
+            Outcome::Next => self.walk(more - 1, device, secure, loss),
+            outcome => outcome,
+        }
+    }
+
+    /// An operation on an interface of the link with this device begins, and its exchanges are carried until it is
+    /// over, but for the one that is lost. `status` is that of its bound stream at the host's port, `secure` says that
+    /// the stream is Secure at the device's, and `draws` were made so far.
+    pub fn operate(
+        &mut self,
+        device: &mut DeviceInterfaces,
+        interface: usize,
+        op: InterfaceOp,
+        status: StreamStatus,
+        secure: bool,
+        draws: u32,
+        loss: Option<Loss>,
+    ) -> Outcome
+        requires { interface < length self.old.interfaces }
+        ensures { IfSome (slice_get self.old.interfaces interface) (λ i.
+            (let e : Ended = record { outcome = result; manager = self.new; device = device.new } in e)
+            ≡ operated interface op status draws secure loss self.old device.old i) }
+    {
+        match self.interfaces.begin(interface, op, status, draws) {
+            Err(refusal) => Outcome::Refused(refusal),
+            Ok(()) => self.walk(MOST_EXCHANGES, device, secure, loss),
+        }
+    }
+}

@@ -1,0 +1,55 @@
+-- What the manager's `take` makes of the exchange that is asked.
+use Rattle.std.proofs.Common.{◌≡◌, ℕ, suc, zero, List, [], ◌∷◌, length, get_or, Option, Some, refl, ap, sym, subst}
+use Rattle.std.specs.Prelude.{slice_set, slice_get, IsSome, IfSome}
+use Rattle.tsm_host.specs.declared.operation.Carried.{Carried}
+use Rattle.tdi_host.specs.declared.interfaces.Asking.{Asking}
+use Rattle.tdi_host.specs.declared.operation.Outcome.{Outcome}
+use Rattle.tdi_host.specs.Steps.{Read, exchange_of}
+use Rattle.tdi_host.specs.Judging.{Judged, judged}
+use Rattle.tdi_host.specs.Views.{HostTdi, taken_interface, outcome_of}
+use Rattle.tdi_host.specs.Managers.{ManagerView, Current, current, current_in, current_by, judged_now, outcome_by}
+use Rattle.tdi_host.specs.Managers.{asking_after, read_after, taken_by}
+
+abbrev pub asked_as : Asking → HostTdi → Current
+asked_as a i = record { interface = i; asking = a }
+
+at_place : (a : Asking) (xs : List HostTdi) (p : ℕ) (i : HostTdi) → i ≡ get_or xs p i
+    → IsSome (current_by a (slice_get xs p))
+    → current_by a (slice_get xs p) ≡ Some (asked_as a i)
+at_place a [] p i is some = absurd cc
+at_place a (x ∷ xs) zero i is some = ap (λ y. Some (asked_as a y)) (sym is)
+at_place a (x ∷ xs) (suc p) i is some = at_place a xs p i is some
+
+asked_in : (xs : List HostTdi) (asking : Option Asking) (a : Asking) (i : HostTdi) → asking ≡ Some a → i
+    ≡ get_or xs a.place i → IsSome (current_in xs asking)
+    → current_in xs asking ≡ Some (asked_as a i)
+asked_in xs asking a i asked is some = rw asked
+    (at_place a xs a.place i is (subst (λ x. IsSome (current_in xs x)) asked some))
+
+-- the exchange that is asked, by what is read of the fields
+pub asked_now : (m : ManagerView) (a : Asking) (i : HostTdi) → m.asking ≡ Some a → i ≡ get_or m.interfaces a.place i
+    → IsSome (current m)
+    → current m ≡ Some (asked_as a i)
+asked_now m a i asked is some = asked_in m.interfaces m.asking a i asked is some
+
+pub outcome_now : (m : ManagerView) (a : Asking) (i new : HostTdi) (carried : Carried) (exchange read : ℕ) (j : Judged)
+    (o : Outcome)
+    → current m ≡ Some (asked_as a i) → exchange ≡ exchange_of a.step m.read → read ≡ length m.read.bytes
+    → j ≡ judged a.step i.requester m.portion read carried → new ≡ taken_interface a.step a.draws j i
+    → o ≡ outcome_of a.step exchange j new → IfSome (current m) (λ c. o ≡ outcome_by m c (judged_now m c carried))
+outcome_now m a i new carried exchange read j o is number size reply taken comes = rw
+    (is, comes, taken, reply, number, size) refl
+
+pub manager_now : (m : ManagerView) (a : Asking) (i new : HostTdi) (carried : Carried) (exchange read : ℕ) (j : Judged)
+    (o : Outcome) (next : Option Asking) (after : Read) (interfaces : List HostTdi) (portion : ℕ)
+    → current m ≡ Some (asked_as a i) → exchange ≡ exchange_of a.step m.read → read ≡ length m.read.bytes
+    → j ≡ judged a.step i.requester m.portion read carried → new ≡ taken_interface a.step a.draws j i
+    → o ≡ outcome_of a.step exchange j new → next ≡ asking_after a o → after ≡ read_after j m.read → interfaces
+    ≡ m.interfaces → portion ≡ m.portion
+    → IfSome (current m) (λ c.
+    (let kept : ManagerView = record
+    { interfaces = slice_set interfaces a.place new; portion = portion; asking = next; read = after } in kept)
+    ≡ taken_by m c (judged_now m c carried))
+manager_now m a i new carried exchange read j o next after interfaces portion is number size reply taken comes goes
+    reads same asks =
+    rw (is, goes, reads, comes, taken, reply, number, size, same, asks) refl

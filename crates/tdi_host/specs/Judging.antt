@@ -1,0 +1,106 @@
+-- What the manager makes of a reply (TDISP section 11.3, in this profile).
+use Rattle.std.specs.Prelude.{ℕ, ◌+◌, ◌≤◌, ◌==◌, Bool, ◌&&◌, nat_le, List, length, if◌then◌else◌, Some, None, Result}
+use Rattle.std.specs.Prelude.{Ok, Err}
+use Rattle.tdisp_codec.specs.declared.fault.TdispFault.{TdispFault}
+use Rattle.tdisp_codec.specs.Replies.{Reply, reply_reading}
+use Rattle.tdisp_codec.specs.Replies.{Version, Capabilities, LockInterface, DeviceInterfaceReport, DeviceInterfaceState}
+use Rattle.tdisp_codec.specs.Replies.{StartInterface, StopInterface, Error}
+use Rattle.tsm_host.specs.declared.operation.Carried.{Carried}
+use Rattle.tsm_host.specs.declared.operation.Carried.TheVariants as carried
+use Rattle.tdi_host.specs.declared.judge.Answer.{Answer}
+use Rattle.tdi_host.specs.declared.judge.Answer.TheVariants as answer
+use Rattle.tdi_host.specs.declared.step.Step.{Step}
+use Rattle.tdi_host.specs.declared.step.Step.TheVariants as step
+
+-- what was carried in answer to a request: the expected reply with its value, a refusal with its code, nothing at all,
+-- or anything else
+pub data Judged : Type 0 where
+  Passed : Judged
+  Nonce : List ℕ → Judged
+  Portion : List ℕ → ℕ → Judged
+  State : ℕ → Judged
+  Refused : ℕ → Judged
+  Lost : Judged
+  Bad : Judged
+
+-- lent bytes are the bytes
+abbrev pub answer_shown : Answer → Judged
+answer_shown answer.Passed = Passed
+answer_shown (answer.Nonce nonce) = Nonce nonce
+answer_shown (answer.Portion bytes remainder) = Portion bytes.now remainder
+answer_shown (answer.State state) = State state
+answer_shown (answer.Refused code) = Refused code
+answer_shown answer.Lost = Lost
+answer_shown answer.Bad = Bad
+
+-- it gives back the request's function ID
+abbrev pub if_same : ℕ → ℕ → Judged → Judged
+if_same function back judged = if back == function then judged else Bad
+
+-- any ERROR is a refusal, any other reply is none
+abbrev pub refusal_in : Reply → Judged
+refusal_in (Error back code value) = Refused code
+refusal_in reply = Bad
+
+abbrev pub version_in : ℕ → Reply → Judged
+version_in function (Version back versions) = if_same function back Passed
+version_in function reply = refusal_in reply
+
+abbrev pub capabilities_in : ℕ → Reply → Judged
+capabilities_in function (Capabilities back device requests lock_flags width this all) = if_same function back Passed
+capabilities_in function reply = refusal_in reply
+
+abbrev pub nonce_in : ℕ → Reply → Judged
+nonce_in function (LockInterface back nonce) = if_same function back (Nonce nonce)
+nonce_in function reply = refusal_in reply
+
+-- a portion has 1 to the asked number of bytes; with what was read before and what comes behind it, at most 1,140
+abbrev pub is_portion : ℕ → ℕ → ℕ → ℕ → Bool
+is_portion asked read size remainder =
+    (nat_le 1 size && nat_le size asked) && nat_le (read + size + remainder) 1140
+
+abbrev pub if_portion : Bool → List ℕ → ℕ → Judged
+if_portion fits bytes remainder = if fits then Portion bytes remainder else Bad
+
+abbrev pub portion_in : ℕ → ℕ → ℕ → Reply → Judged
+portion_in asked read function (DeviceInterfaceReport back remainder bytes) =
+    if_same function back (if_portion (is_portion asked read (length bytes) remainder) bytes remainder)
+portion_in asked read function reply = refusal_in reply
+
+abbrev pub start_in : ℕ → Reply → Judged
+start_in function (StartInterface back) = if_same function back Passed
+start_in function reply = refusal_in reply
+
+abbrev pub halt_in : ℕ → Reply → Judged
+halt_in function (StopInterface back) = if_same function back Passed
+halt_in function reply = refusal_in reply
+
+abbrev pub state_in : ℕ → Reply → Judged
+state_in function (DeviceInterfaceState back state) = if_same function back (State state)
+state_in function reply = refusal_in reply
+
+-- of an exchange with the interface of this function ID, where so many bytes of a portion are asked, and so many of the
+-- report were read before
+abbrev pub judged_as : Step → ℕ → ℕ → ℕ → Reply → Judged
+judged_as step.Version function asked read reply = version_in function reply
+judged_as step.Capabilities function asked read reply = capabilities_in function reply
+judged_as step.Lock function asked read reply = nonce_in function reply
+judged_as step.Report function asked read reply = portion_in asked read function reply
+judged_as step.Start function asked read reply = start_in function reply
+judged_as step.Halt function asked read reply = halt_in function reply
+judged_as step.State function asked read reply = state_in function reply
+
+abbrev pub judged_reply : Step → ℕ → ℕ → ℕ → Result Reply TdispFault → Judged
+judged_reply s function asked read (Err fault) = Bad
+judged_reply s function asked read (Ok reply) = judged_as s function asked read reply
+
+-- no reply of the device is a bad one
+abbrev pub judged : Step → ℕ → ℕ → ℕ → Carried → Judged
+judged s function asked read carried.Lost = Lost
+judged s function asked read (carried.Reply None) = Bad
+judged s function asked read (carried.Reply (Some bytes)) = judged_reply s function asked read (reply_reading bytes.now)
+
+-- there is room for a portion, which is not empty
+abbrev pub HasRoom : ℕ → Judged → Type 0
+HasRoom read (Portion bytes remainder) = (1 ≤ length bytes) × (read + length bytes ≤ 1140)
+HasRoom read judged = Unit {0}

@@ -1,0 +1,4 @@
+pub mod Steps
+pub mod Judging
+pub mod Views
+pub mod Managers

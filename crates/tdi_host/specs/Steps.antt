@@ -1,0 +1,32 @@
+-- The exchanges of each operation on an interface, in order, and their requests (TDISP section 11.3, in this profile).
+use Rattle.std.specs.Prelude.{ℕ, ◌+◌, List}
+use Rattle.tdi_host.specs.declared.operation.InterfaceOp.{InterfaceOp}
+use Rattle.tdi_host.specs.declared.operation.InterfaceOp.TheVariants as op
+use Rattle.tdi_host.specs.declared.step.Step.{Step}
+use Rattle.tdi_host.specs.declared.step.Step.TheVariants as step
+
+abbrev pub first_step : InterfaceOp → Step
+first_step op.Lock = step.Version
+first_step op.Report = step.Report
+first_step op.Start = step.Start
+first_step op.Halt = step.Halt
+first_step op.State = step.State
+
+-- GET_VERSION, GET_CAPABILITIES and LOCK_INTERFACE in turn; portion after portion
+abbrev pub next_step : Step → Step
+next_step step.Version = step.Capabilities
+next_step step.Capabilities = step.Lock
+next_step s = s
+
+-- what was read of a report so far, and in how many portions
+pub record Read : Type 0 where
+  pub bytes : List ℕ
+  pub portions : ℕ
+
+-- the exchange's number, from 1
+abbrev pub exchange_of : Step → Read → ℕ
+exchange_of step.Version read = 1
+exchange_of step.Capabilities read = 2
+exchange_of step.Lock read = 3
+exchange_of step.Report read = read.portions + 1
+exchange_of s read = 1

@@ -1,0 +1,294 @@
+-- The manager's views of interfaces, and what moves them (this profile).
+use Rattle.std.specs.Prelude.{ℕ, Bool, true, false, ◌&&◌, nat_lt, ◌==◌, List, replicate, Option, Some, None, Result, Ok}
+use Rattle.std.specs.Prelude.{Err, if◌then◌else◌}
+use Rattle.ide_types.specs.declared.status.StreamStatus.{StreamStatus}
+use Rattle.ide_types.specs.declared.status.StreamStatus.TheVariants as status
+use Rattle.ide_plan.specs.declared.interface.InterfacePlan.{InterfacePlan}
+use Rattle.tdisp_codec.specs.declared.request.RequestView.{RequestView}
+use Rattle.tdisp_codec.specs.declared.request.RequestView.TheVariants as request
+use Rattle.tdi_host.specs.declared.operation.InterfaceOp.{InterfaceOp}
+use Rattle.tdi_host.specs.declared.operation.InterfaceOp.TheVariants as op
+use Rattle.tdi_host.specs.declared.operation.Outcome.{Outcome}
+use Rattle.tdi_host.specs.declared.operation.Outcome.TheVariants as outcome
+use Rattle.tdi_host.specs.declared.operation.Refusal.{Refusal}
+use Rattle.tdi_host.specs.declared.operation.Refusal.TheVariants.{WrongState, NotReported, NotSecure, RefreshFirst}
+use Rattle.tdi_host.specs.declared.operation.Refusal.TheVariants.{SessionLost, DeviceRefused, BadReply}
+use Rattle.tdi_host.specs.declared.operation.Shown.TheVariants as shown
+use Rattle.tdi_host.specs.declared.operation.View.{View}
+use Rattle.tdi_host.specs.declared.operation.View.TheVariants as view
+use Rattle.tdi_host.specs.declared.standing.Standing.{Standing}
+use Rattle.tdi_host.specs.declared.standing.Standing.TheVariants as standing
+use Rattle.tdi_host.specs.declared.step.Step.{Step}
+use Rattle.tdi_host.specs.declared.step.Step.TheVariants as step
+use Rattle.tdi_host.specs.Judging.{Judged, Passed, Nonce, Portion, State, Refused, Lost}
+
+-- ---- what is kept of a view: of a lock its nonce and whether its report was read, of a run its floor
+
+pub data Seen : Type 0 where
+  IsUnlocked : Seen
+  IsLocked : List ℕ → Bool → Seen
+  IsRunning : ℕ → Seen
+  IsDoubt : Seen
+  IsBroken : Seen
+
+abbrev pub seen : Standing → Seen
+seen (standing.Unlocked tdi) = IsUnlocked
+seen (standing.Locked tdi) = IsLocked tdi.state.nonce tdi.state.is_reported
+seen (standing.Running tdi) = IsRunning tdi.state.floor
+seen (standing.Doubt tdi) = IsDoubt
+seen (standing.Broken tdi) = IsBroken
+
+abbrev pub view_of : Seen → View
+view_of IsUnlocked = view.Unlocked
+view_of (IsLocked nonce is_reported) = view.Locked
+view_of (IsRunning floor) = view.Running
+view_of IsDoubt = view.Doubt
+view_of IsBroken = view.Broken
+
+-- the nonce that starts it; 32 zero bytes stand for none
+abbrev pub nonce_of : Seen → List ℕ
+nonce_of (IsLocked nonce is_reported) = nonce
+nonce_of s = replicate 32 0
+
+-- of a run alone
+abbrev pub floor_of : Seen → Option ℕ
+floor_of (IsRunning floor) = Some floor
+floor_of s = None
+
+-- ---- an interface, for the manager
+
+-- Its link's number, its requester ID, the ID of its bound stream, the flags and the offset of its lock requests; the
+-- draw of that stream; the least draw that a start wants; whether START_INTERFACE was asked since LOCK_INTERFACE was
+-- asked last; the view.
+pub record HostTdi : Type 0 where
+  pub link : ℕ
+  pub requester : ℕ
+  pub stream : ℕ
+  pub flags : ℕ
+  pub offset : ℕ
+  pub draw : ℕ
+  pub needs : ℕ
+  pub was_started : Bool
+  pub seen : Seen
+
+abbrev pub new_interface : ℕ → InterfacePlan → HostTdi
+new_interface link plan = record {
+  link = link;
+  requester = plan.requester;
+  stream = plan.stream;
+  flags = plan.flags;
+  offset = plan.offset;
+  draw = 0;
+  needs = 0;
+  was_started = false;
+  seen = IsUnlocked;
+}
+
+-- ---- begin: refusals, in order
+
+abbrev pub unless_secure : StreamStatus → Option Refusal → Option Refusal
+unless_secure status.Secure refusal = refusal
+unless_secure s refusal = Some (NotSecure s)
+
+abbrev pub lock_refusal : StreamStatus → Seen → Option Refusal
+lock_refusal s IsUnlocked = unless_secure s None
+lock_refusal s v = Some (WrongState (view_of v))
+
+abbrev pub report_refusal : Seen → Option Refusal
+report_refusal (IsLocked nonce is_reported) = None
+report_refusal (IsRunning floor) = None
+report_refusal v = Some (WrongState (view_of v))
+
+abbrev pub key_refusal : ℕ → ℕ → Option Refusal
+key_refusal draw needs = if nat_lt draw needs then Some (RefreshFirst draw needs) else None
+
+abbrev pub start_refusal : StreamStatus → ℕ → ℕ → Seen → Option Refusal
+start_refusal s draw needs (IsLocked nonce is_reported) =
+    if is_reported then unless_secure s (key_refusal draw needs) else Some NotReported
+start_refusal s draw needs v = Some (WrongState (view_of v))
+
+-- where its stream has this status at the host's port
+abbrev pub refusal_of : InterfaceOp → StreamStatus → HostTdi → Option Refusal
+refusal_of op.Lock s i = lock_refusal s i.seen
+refusal_of op.Report s i = report_refusal i.seen
+refusal_of op.Start s i = start_refusal s i.draw i.needs i.seen
+refusal_of op.Halt s i = None
+refusal_of op.State s i = None
+
+abbrev pub ok_unless : Option Refusal → Result (Unit {0}) Refusal
+ok_unless None = Ok tt
+ok_unless (Some refusal) = Err refusal
+
+-- a refusal changes nothing
+abbrev pub unless : {A : Type 0} → Option Refusal → A → A → A
+unless None old new = new
+unless (Some refusal) old new = old
+
+-- ---- ask
+
+-- The request of an exchange: the function ID is the requester ID, of segment 0, not valid; the P2P mask is 0. Of a
+-- report, `portion` bytes are asked behind the `read` that were read before.
+abbrev pub request_of : Step → ℕ → ℕ → HostTdi → RequestView
+request_of step.Version portion read i = request.GetVersion i.requester
+request_of step.Capabilities portion read i = request.GetCapabilities i.requester
+request_of step.Lock portion read i = request.LockInterface i.requester i.flags i.stream i.offset 0
+request_of step.Report portion read i = request.GetDeviceInterfaceReport i.requester read portion
+request_of step.Start portion read i = request.StartInterface i.requester (nonce_of i.seen)
+request_of step.Halt portion read i = request.StopInterface i.requester
+request_of step.State portion read i = request.GetDeviceInterfaceState i.requester
+
+-- ---- take: the view
+
+abbrev pub locked_by : List ℕ → Seen → Seen
+locked_by nonce IsUnlocked = IsLocked nonce false
+locked_by nonce v = v
+
+abbrev pub reported : Seen → Seen
+reported (IsLocked nonce is_reported) = IsLocked nonce true
+reported v = v
+
+abbrev pub started : ℕ → Seen → Seen
+started draw (IsLocked nonce is_reported) = IsRunning draw
+started draw v = v
+
+-- the device's state, by its code, is not the one that the view wants
+abbrev pub compared : ℕ → Seen → Seen
+compared code (IsLocked nonce is_reported) = if code == 1 then IsLocked nonce is_reported else IsBroken
+compared code (IsRunning floor) = if code == 2 then IsRunning floor else IsBroken
+compared code v = v
+
+-- a loss leaves Doubt, a refusal the view
+abbrev pub after_lock : Judged → Seen → Seen
+after_lock (Nonce nonce) v = locked_by nonce v
+after_lock (Refused code) v = v
+after_lock judged v = IsDoubt
+
+-- the last portion has no remainder
+abbrev pub after_report : Judged → Seen → Seen
+after_report (Portion bytes remainder) v = if remainder == 0 then reported v else v
+after_report judged v = v
+
+abbrev pub after_start : ℕ → Judged → Seen → Seen
+after_start draw Passed v = started draw v
+after_start draw (Refused code) v = IsBroken
+after_start draw judged v = IsDoubt
+
+abbrev pub after_halt : Judged → Seen → Seen
+after_halt Passed v = IsUnlocked
+after_halt (Refused code) v = v
+after_halt judged v = IsDoubt
+
+abbrev pub after_state : Judged → Seen → Seen
+after_state (State code) v = compared code v
+after_state judged v = v
+
+abbrev pub seen_after : Step → ℕ → Judged → Seen → Seen
+seen_after step.Version draw judged v = v
+seen_after step.Capabilities draw judged v = v
+seen_after step.Lock draw judged v = after_lock judged v
+seen_after step.Report draw judged v = after_report judged v
+seen_after step.Start draw judged v = after_start draw judged v
+seen_after step.Halt draw judged v = after_halt judged v
+seen_after step.State draw judged v = after_state judged v
+
+-- ---- take: the key that a start wants
+
+-- whether START_INTERFACE was asked since LOCK_INTERFACE was, behind this exchange
+abbrev pub was_started_after : Step → Bool → Bool
+was_started_after step.Lock was_started = false
+was_started_after step.Start was_started = true
+was_started_after s was_started = was_started
+
+-- a halt that comes to its end behind a start wants a key that was not drawn yet; `draws` were
+abbrev pub needs_after : Step → ℕ → Judged → Bool → ℕ → ℕ
+needs_after step.Halt draws Passed was_started needs = if was_started then draws else needs
+needs_after s draws judged was_started needs = needs
+
+abbrev pub taken_interface : Step → ℕ → Judged → HostTdi → HostTdi
+taken_interface s draws judged i = record i {
+  needs = needs_after s draws judged i.was_started i.needs;
+  was_started = was_started_after s i.was_started;
+  seen = seen_after s i.draw judged i.seen;
+}
+
+-- ---- take: what it comes to
+
+-- the operation is over; what is neither expected nor a refusal is a bad reply
+abbrev pub cut : ℕ → Judged → Outcome
+cut exchange Lost = outcome.Refused (SessionLost exchange)
+cut exchange (Refused code) = outcome.Refused (DeviceRefused exchange code)
+cut exchange judged = outcome.Refused (BadReply exchange)
+
+abbrev pub goes_on : ℕ → Judged → Outcome
+goes_on exchange Passed = outcome.Next
+goes_on exchange judged = cut exchange judged
+
+abbrev pub lock_outcome : ℕ → Judged → Outcome
+lock_outcome exchange (Nonce nonce) = outcome.Done (shown.Nonce nonce)
+lock_outcome exchange judged = cut exchange judged
+
+abbrev pub report_outcome : ℕ → Judged → Outcome
+report_outcome exchange (Portion bytes remainder) =
+    if remainder == 0 then outcome.Done shown.Report else outcome.Next
+report_outcome exchange judged = cut exchange judged
+
+abbrev pub start_outcome : ℕ → ℕ → Judged → Outcome
+start_outcome exchange draw Passed = outcome.Done (shown.Draw draw)
+start_outcome exchange draw judged = cut exchange judged
+
+abbrev pub halt_outcome : ℕ → ℕ → Judged → Outcome
+halt_outcome exchange needs Passed = outcome.Done (shown.Needs needs)
+halt_outcome exchange needs judged = cut exchange judged
+
+abbrev pub state_outcome : ℕ → Judged → Outcome
+state_outcome exchange (State code) = outcome.Done (shown.State code)
+state_outcome exchange judged = cut exchange judged
+
+-- `after` is the interface behind the exchange
+abbrev pub outcome_of : Step → ℕ → Judged → HostTdi → Outcome
+outcome_of step.Version exchange judged after = goes_on exchange judged
+outcome_of step.Capabilities exchange judged after = goes_on exchange judged
+outcome_of step.Lock exchange judged after = lock_outcome exchange judged
+outcome_of step.Report exchange judged after = report_outcome exchange judged
+outcome_of step.Start exchange judged after = start_outcome exchange after.draw judged
+outcome_of step.Halt exchange judged after = halt_outcome exchange after.needs judged
+outcome_of step.State exchange judged after = state_outcome exchange judged
+
+-- ---- what breaks views
+
+-- Locked, Running and Doubt become Broken
+abbrev pub broken : Seen → Seen
+broken IsUnlocked = IsUnlocked
+broken v = IsBroken
+
+abbrev pub is_bound : ℕ → ℕ → HostTdi → Bool
+is_bound link stream i = (i.link == link) && (i.stream == stream)
+
+-- a stop of this stream began
+abbrev pub left_by_stop : ℕ → ℕ → HostTdi → HostTdi
+left_by_stop link stream i = if is_bound link stream i then record i { seen = broken i.seen } else i
+
+-- this is the stream's draw from now on
+abbrev pub keyed_by : ℕ → ℕ → ℕ → HostTdi → HostTdi
+keyed_by link stream draw i = if is_bound link stream i then record i { draw = draw } else i
+
+-- the link was reset
+abbrev pub left_by_reset : ℕ → HostTdi → HostTdi
+left_by_reset link i = if i.link == link then record i { seen = broken i.seen } else i
+
+-- ---- grants
+
+abbrev pub is_running : Seen → Bool
+is_running (IsRunning floor) = true
+is_running v = false
+
+abbrev pub is_granted : ℕ → ℕ → HostTdi → Bool
+is_granted link requester i = ((i.link == link) && (i.requester == requester)) && is_running i.seen
+
+-- the bound stream and the floor of a run
+abbrev pub grant_by : ℕ → Option ℕ → Option (ℕ × ℕ)
+grant_by stream None = None
+grant_by stream (Some floor) = Some (stream, floor)
+
+abbrev pub grant_of : HostTdi → Option (ℕ × ℕ)
+grant_of i = grant_by i.stream (floor_of i.seen)

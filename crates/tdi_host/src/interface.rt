@@ -1,0 +1,388 @@
+//! An interface, for the manager.
+
+ghost use Rattle.std.specs.Prelude.{◌≡◌, Some, None};
+ghost use Rattle.tdi_host.specs.Judging.{answer_shown};
+ghost use Rattle.tdi_host.specs.Views.{unless_secure, key_refusal, cut, goes_on, lock_outcome, report_outcome};
+ghost use Rattle.tdi_host.specs.Views.{start_outcome, halt_outcome, state_outcome, was_started_after, needs_after};
+
+use crate::judge::Answer;
+use crate::operation::{InterfaceOp, Outcome, Refusal, Shown, View};
+use crate::standing::Standing;
+use crate::step::Step;
+use ide_plan::InterfacePlan;
+use ide_types::StreamStatus;
+use std::marker::Model;
+use std::mem;
+use tdisp_codec::RequestView;
+
+/// An interface of a link, and the manager's view of it.
+#[derive(Drop)]
+pub(crate) struct HostInterface {
+    link: u8,
+    requester: u16,
+    stream: u8,
+    flags: u16,
+    offset: u64,
+    draw: u32,
+    needs: u32,
+    was_started: bool,
+    standing: Standing,
+}
+
+impl Model for HostInterface {
+    ghost use Rattle.tdi_host.specs.Views.{HostTdi, seen};
+
+    ghost Value = { HostTdi };
+
+    ghost view = { λ i. record {
+      link = i.link;
+      requester = i.requester;
+      stream = i.stream;
+      flags = i.flags;
+      offset = i.offset;
+      draw = i.draw;
+      needs = i.needs;
+      was_started = i.was_started;
+      seen = seen i.standing;
+    } };
+}
+
+// Why a stream of this status, wanted Secure, does not do.
+fn unless_secure(status: StreamStatus, refusal: Option<Refusal>) -> Option<Refusal>
+    ensures { result ≡ unless_secure status refusal }
+{
+    match status {
+        StreamStatus::Secure => refusal,
+        status => Some(Refusal::NotSecure(status)),
+    }
+}
+
+fn key_refusal(draw: u32, needs: u32) -> Option<Refusal>
+    ensures { result ≡ key_refusal draw needs }
+{
+    if draw < needs {
+        Some(Refusal::RefreshFirst(draw, needs))
+    } else {
+        None
+    }
+}
+
+// The operation is over at this exchange.
+fn cut(exchange: u32, answer: Answer) -> Outcome
+    ensures { result ≡ cut exchange (answer_shown answer.entry) }
+{
+    match answer {
+        Answer::Lost => Outcome::Refused(Refusal::SessionLost(exchange)),
+        Answer::Refused(code) => Outcome::Refused(Refusal::DeviceRefused(exchange, code)),
+        _ => Outcome::Refused(Refusal::BadReply(exchange)),
+    }
+}
+
+fn goes_on(exchange: u32, answer: Answer) -> Outcome
+    ensures { result ≡ goes_on exchange (answer_shown answer.entry) }
+{
+    match answer {
+        Answer::Passed => Outcome::Next,
+        _ => cut(exchange, answer),
+    }
+}
+
+fn lock_outcome(exchange: u32, answer: Answer) -> Outcome
+    ensures { result ≡ lock_outcome exchange (answer_shown answer.entry) }
+{
+    match answer {
+        Answer::Nonce(nonce) => Outcome::Done(Shown::Nonce(nonce)),
+        _ => cut(exchange, answer),
+    }
+}
+
+fn report_outcome(exchange: u32, answer: Answer) -> Outcome
+    ensures { result ≡ report_outcome exchange (answer_shown answer.entry) }
+{
+    match answer {
+        Answer::Portion { remainder, .. } => {
+            if remainder == 0 {
+                Outcome::Done(Shown::Report)
+            } else {
+                Outcome::Next
+            }
+        }
+        _ => cut(exchange, answer),
+    }
+}
+
+fn start_outcome(exchange: u32, draw: u32, answer: Answer) -> Outcome
+    ensures { result ≡ start_outcome exchange draw (answer_shown answer.entry) }
+{
+    match answer {
+        Answer::Passed => Outcome::Done(Shown::Draw(draw)),
+        _ => cut(exchange, answer),
+    }
+}
+
+fn halt_outcome(exchange: u32, needs: u32, answer: Answer) -> Outcome
+    ensures { result ≡ halt_outcome exchange needs (answer_shown answer.entry) }
+{
+    match answer {
+        Answer::Passed => Outcome::Done(Shown::Needs(needs)),
+        _ => cut(exchange, answer),
+    }
+}
+
+fn state_outcome(exchange: u32, answer: Answer) -> Outcome
+    ensures { result ≡ state_outcome exchange (answer_shown answer.entry) }
+{
+    match answer {
+        Answer::State(code) => Outcome::Done(Shown::State(code)),
+        _ => cut(exchange, answer),
+    }
+}
+
+// Whether START_INTERFACE was asked since LOCK_INTERFACE was, behind this exchange.
+fn was_started_after(step: Step, was_started: bool) -> bool
+    ensures { result ≡ was_started_after step was_started }
+{
+    match step {
+        Step::Lock => false,
+        Step::Start => true,
+        _ => was_started,
+    }
+}
+
+// The least draw that a start wants, behind this exchange.
+fn needs_after(step: Step, draws: u32, answer: Answer, was_started: bool, needs: u32) -> u32
+    ensures { result ≡ needs_after step draws (answer_shown answer.entry) was_started needs }
+{
+    match (step, answer) {
+        (Step::Halt, Answer::Passed) => { if was_started { draws } else { needs } }
+        _ => needs,
+    }
+}
+
+impl HostInterface {
+    ghost use Rattle.tdi_host.specs.Views.{
+      new_interface,
+      lock_refusal,
+      report_refusal,
+      start_refusal,
+      refusal_of,
+      request_of,
+      taken_interface,
+      outcome_of,
+      view_of,
+      is_bound,
+      left_by_stop,
+      keyed_by,
+      left_by_reset,
+      is_granted,
+      grant_of,
+      broken,
+    };
+
+    /// An interface of a link, not locked.
+    pub(crate) fn new(link: u8, plan: &InterfacePlan) -> HostInterface
+        ensures { result ≡ new_interface link plan.now }
+    {
+        HostInterface {
+            link,
+            requester: plan.requester,
+            stream: plan.stream,
+            flags: plan.flags,
+            offset: plan.offset,
+            draw: 0,
+            needs: 0,
+            was_started: false,
+            standing: Standing::new(),
+        }
+    }
+
+    /// The number of its link.
+    pub(crate) fn link(&self) -> u8
+        ensures { result ≡ self.now.link }
+    {
+        self.link
+    }
+
+    /// Its requester ID.
+    pub(crate) fn requester(&self) -> u16
+        ensures { result ≡ self.now.requester }
+    {
+        self.requester
+    }
+
+    /// The ID of its bound stream.
+    pub(crate) fn stream(&self) -> u8
+        ensures { result ≡ self.now.stream }
+    {
+        self.stream
+    }
+
+    /// The least draw that a start wants.
+    pub(crate) fn needs(&self) -> u32
+        ensures { result ≡ self.now.needs }
+    {
+        self.needs
+    }
+
+    /// The view of it.
+    pub(crate) fn view(&self) -> View
+        ensures { result ≡ view_of self.now.seen }
+    {
+        self.standing.view()
+    }
+
+    fn lock_refusal(&self, status: StreamStatus) -> Option<Refusal>
+        ensures { result ≡ lock_refusal status self.now.seen }
+    {
+        match &self.standing {
+            Standing::Unlocked(_) => unless_secure(status, None),
+            standing => Some(Refusal::WrongState(standing.view())),
+        }
+    }
+
+    fn report_refusal(&self) -> Option<Refusal>
+        ensures { result ≡ report_refusal self.now.seen }
+    {
+        match &self.standing {
+            Standing::Locked(_) | Standing::Running(_) => None,
+            standing => Some(Refusal::WrongState(standing.view())),
+        }
+    }
+
+    fn start_refusal(&self, status: StreamStatus) -> Option<Refusal>
+        ensures { result ≡ start_refusal status self.now.draw self.now.needs self.now.seen }
+    {
+        match &self.standing {
+            Standing::Locked(tdi) => {
+                if tdi.is_reported() {
+                    unless_secure(status, key_refusal(self.draw, self.needs))
+                } else {
+                    Some(Refusal::NotReported)
+                }
+            }
+            standing => Some(Refusal::WrongState(standing.view())),
+        }
+    }
+
+    /// Why an operation does not begin, where the bound stream has this status at the host's port.
+    pub(crate) fn refusal(&self, op: InterfaceOp, status: StreamStatus) -> Option<Refusal>
+        ensures { result ≡ refusal_of op status self.now }
+    {
+        match op {
+            InterfaceOp::Lock => self.lock_refusal(status),
+            InterfaceOp::Report => self.report_refusal(),
+            InterfaceOp::Start => self.start_refusal(status),
+            InterfaceOp::Halt | InterfaceOp::State => None,
+        }
+    }
+
+    /// The outcome of an exchange with this number, behind it.
+    pub(crate) fn outcome(&self, step: Step, exchange: u32, answer: Answer) -> Outcome
+        ensures { result ≡ outcome_of step exchange (answer_shown answer.entry) self.now }
+    {
+        match step {
+            Step::Version | Step::Capabilities => goes_on(exchange, answer),
+            Step::Lock => lock_outcome(exchange, answer),
+            Step::Report => report_outcome(exchange, answer),
+            Step::Start => start_outcome(exchange, self.draw, answer),
+            Step::Halt => halt_outcome(exchange, self.needs, answer),
+            Step::State => state_outcome(exchange, answer),
+        }
+    }
+
+    /// Takes the answer to an exchange; `draws` were made so far.
+    pub(crate) fn take(&mut self, step: Step, draws: u32, answer: Answer)
+        ensures { self.new ≡ taken_interface step draws (answer_shown answer.entry) self.old }
+    {
+        let standing = mem::replace(&mut self.standing, Standing::new());
+        self.standing = standing.after(step, self.draw, answer);
+        self.needs = needs_after(step, draws, answer, self.was_started, self.needs);
+        self.was_started = was_started_after(step, self.was_started);
+    }
+
+    fn is_bound(&self, link: u8, stream: u8) -> bool
+        ensures { result ≡ is_bound link stream self.now }
+    {
+        self.link == link && self.stream == stream
+    }
+
+    fn leave(&mut self)
+        ensures { self.new ≡ record self.old { seen = broken self.old.seen } }
+    {
+        let standing = mem::replace(&mut self.standing, Standing::new());
+        self.standing = standing.broken();
+    }
+
+    /// A stop of this stream began.
+    pub(crate) fn stop_begun(&mut self, link: u8, stream: u8)
+        ensures { self.new ≡ left_by_stop link stream self.old }
+    {
+        if self.is_bound(link, stream) {
+            self.leave();
+        }
+    }
+
+    /// This stream has this draw from now on.
+    pub(crate) fn stream_keyed(&mut self, link: u8, stream: u8, draw: u32)
+        ensures { self.new ≡ keyed_by link stream draw self.old }
+    {
+        if self.is_bound(link, stream) {
+            self.draw = draw;
+        }
+    }
+
+    /// The link was reset.
+    pub(crate) fn link_reset(&mut self, link: u8)
+        ensures { self.new ≡ left_by_reset link self.old }
+    {
+        if self.link == link {
+            self.leave();
+        }
+    }
+
+    /// Whether it is the interface of this link with this requester ID, and running.
+    pub(crate) fn is_granted(&self, link: u8, requester: u16) -> bool
+        ensures { result ≡ is_granted link requester self.now }
+    {
+        (self.link == link && self.requester == requester) && self.view() == View::Running
+    }
+
+    /// The bound stream and the floor of a run.
+    pub(crate) fn grant(&self) -> Option<(u8, u32)>
+        ensures { result ≡ grant_of self.now }
+    {
+        match self.standing.floor() {
+            Some(floor) => Some((self.stream, floor)),
+            None => None,
+        }
+    }
+
+    /// The request of an exchange: of a report, `asked` bytes behind the `read` that were read before.
+    pub(crate) fn request(&self, step: Step, asked: u16, read: u16) -> RequestView
+        ensures { result ≡ request_of step asked read self.now }
+    {
+        let function = u32::from(self.requester);
+        match step {
+            Step::Version => RequestView::GetVersion { function },
+            Step::Capabilities => RequestView::GetCapabilities { function },
+            Step::Lock => RequestView::LockInterface {
+                function,
+                flags: self.flags,
+                stream: self.stream,
+                offset: self.offset,
+                mask: 0,
+            },
+            Step::Report => RequestView::GetDeviceInterfaceReport {
+                function,
+                offset: read,
+                length: asked,
+            },
+            Step::Start => RequestView::StartInterface {
+                function,
+                nonce: self.standing.nonce(),
+            },
+            Step::Halt => RequestView::StopInterface { function },
+            Step::State => RequestView::GetDeviceInterfaceState { function },
+        }
+    }
+}

@@ -1,0 +1,336 @@
+//! The manager of the interfaces of all links.
+
+ghost use Rattle.std.specs.Prelude.{◌≡◌, ℕ, ◌+◌, ◌++◌, ◌≤◌, ◌<◌, IsSome, IfSome, IfOk, Option, is_some, length, map};
+ghost use Rattle.std.specs.Prelude.{position, slice_get, vec_len, vec_capacity};
+ghost use Rattle.tdisp_codec.specs.Requests.{request_spelling};
+ghost use Rattle.tdi_host.specs.Views.{view_of, ok_unless, refusal_of, left_by_stop, keyed_by, left_by_reset};
+ghost use Rattle.tdi_host.specs.Views.{is_granted};
+ghost use Rattle.tdi_host.specs.Managers.{new_interfaces, asking_after};
+
+use crate::interface::HostInterface;
+use crate::judge::judge;
+use crate::operation::{InterfaceOp, Outcome, Refusal, View};
+use crate::portions::Portions;
+use crate::step::{Step, first_step};
+use ide_plan::{InterfacePlan, LinkPlan};
+use ide_types::{Items, Memory, StreamStatus};
+use std::alloc::Global;
+use std::marker::Model;
+use tdisp_codec::request_write;
+use tsm_host::Carried;
+
+/// The exchange that is to be asked and taken: of the interface at this place; so many draws were made as its operation
+/// began.
+#[derive(Clone, Copy, Debug, PartialEq, Eq)]
+pub struct Asking {
+    place: usize,
+    step: Step,
+    draws: u32,
+}
+
+/// The host's manager of the interfaces of all links, which are numbered in the order of the links and of each link's
+/// interfaces, from 0. It has at most one exchange under way: that of the operation which `begin` began last.
+#[derive(Drop)]
+pub struct Interfaces {
+    interfaces: Vec<HostInterface>,
+    portion: u16,
+    asking: Option<Asking>,
+    read: Portions,
+}
+
+impl Model for Interfaces {
+    ghost use Rattle.tdi_host.specs.Managers.{ManagerView};
+
+    ghost Value = { ManagerView };
+
+    ghost view = { λ m. record {
+      interfaces = m.interfaces.items;
+      portion = m.portion;
+      asking = m.asking;
+      read = m.read;
+    } };
+}
+
+// Adds a link's interfaces.
+fn add_interfaces(
+    interfaces: &mut Vec<HostInterface>,
+    link: u8,
+    plans: &[InterfacePlan],
+) -> Result<(), Memory>
+    ensures { IfOk result (λ _. interfaces.new.items ≡ interfaces.old.items ++ new_interfaces link plans.now) }
+{
+    for plan in plans {
+        interfaces.push(HostInterface::new(link, plan))?;
+    }
+    Ok(())
+}
+
+// The exchange that is next, where the operation goes on.
+fn still_asking(asking: Asking, outcome: Outcome) -> Option<Asking>
+    ensures { result ≡ asking_after asking outcome }
+{
+    match outcome {
+        Outcome::Next => Some(Asking {
+            place: asking.place,
+            step: asking.step.next(),
+            draws: asking.draws,
+        }),
+        Outcome::Done(_) | Outcome::Refused(_) => None,
+    }
+}
+
+fn stop_all(interfaces: &mut Vec<HostInterface>, link: u8, stream: u8)
+    ensures { interfaces.new.items ≡ map (left_by_stop link stream) interfaces.old.items }
+{
+    for interface in interfaces.iter_mut() {
+        interface.stop_begun(link, stream);
+    }
+}
+
+fn key_all(interfaces: &mut Vec<HostInterface>, link: u8, stream: u8, draw: u32)
+    ensures { interfaces.new.items ≡ map (keyed_by link stream draw) interfaces.old.items }
+{
+    for interface in interfaces.iter_mut() {
+        interface.stream_keyed(link, stream, draw);
+    }
+}
+
+fn reset_all(interfaces: &mut Vec<HostInterface>, link: u8)
+    ensures { interfaces.new.items ≡ map (left_by_reset link) interfaces.old.items }
+{
+    for interface in interfaces.iter_mut() {
+        interface.link_reset(link);
+    }
+}
+
+impl Interfaces {
+    ghost use Rattle.tdi_host.specs.Managers.{
+      new_manager,
+      nothing_read,
+      current,
+      current_exchange,
+      begun,
+      request_asked,
+      judged_now,
+      outcome_by,
+      taken_by,
+      stop_begun,
+      stream_keyed,
+      reset_manager,
+      granted,
+    };
+
+    /// A manager of the interfaces of these links, of which there are up to 8; none is locked. A portion of a report is
+    /// asked of `portion` bytes.
+    pub fn make(alloc: Global, links: &Items<LinkPlan>, portion: u16) -> Result<Interfaces, Memory>
+        requires { length links.now ≤ 8 }
+        ensures { IfOk result (λ m. m ≡ new_manager links.now portion) }
+    {
+        let mut interfaces = Vec::new(alloc);
+        let mut number = 0;
+        for link in links.as_slice() {
+            add_interfaces(&mut interfaces, number, link.interfaces.as_slice())?;
+            number += 1;
+        }
+        let read = Portions::make(alloc)?;
+        Ok(Interfaces {
+            interfaces,
+            portion,
+            asking: None,
+            read,
+        })
+    }
+
+    /// How many interfaces there are.
+    pub fn count(&self) -> usize
+        ensures { result ≡ length self.now.interfaces }
+    {
+        self.interfaces.len()
+    }
+
+    /// The number of an interface's link.
+    pub fn link(&self, interface: usize) -> u8
+        requires { interface < length self.now.interfaces }
+        ensures { IfSome (slice_get self.now.interfaces interface) (λ i. result ≡ i.link) }
+    {
+        self.interfaces[interface].link()
+    }
+
+    /// The requester ID of an interface.
+    pub fn requester(&self, interface: usize) -> u16
+        requires { interface < length self.now.interfaces }
+        ensures { IfSome (slice_get self.now.interfaces interface) (λ i. result ≡ i.requester) }
+    {
+        self.interfaces[interface].requester()
+    }
+
+    /// The manager's view of an interface.
+    pub fn view(&self, interface: usize) -> View
+        requires { interface < length self.now.interfaces }
+        ensures { IfSome (slice_get self.now.interfaces interface) (λ i. result ≡ view_of i.seen) }
+    {
+        self.interfaces[interface].view()
+    }
+
+    /// The least draw that a start of the interface wants.
+    pub fn needs(&self, interface: usize) -> u32
+        requires { interface < length self.now.interfaces }
+        ensures { IfSome (slice_get self.now.interfaces interface) (λ i. result ≡ i.needs) }
+    {
+        self.interfaces[interface].needs()
+    }
+
+    fn granted_place(&self, link: u8, requester: u16) -> Option<usize>
+        ensures { result ≡ position (is_granted link requester) self.now.interfaces }
+    {
+        self.interfaces
+            .iter()
+            .position(|i| i.is_granted(link, requester))
+    }
+
+    /// The bound stream and the floor of the interface of this link with this requester ID; `None` where it is not
+    /// running.
+    pub fn grant(&self, link: u8, requester: u16) -> Option<(u8, u32)>
+        ensures { result ≡ granted self.now link requester }
+    {
+        match self.granted_place(link, requester) {
+            None => None,
+            Some(place) => match self.interfaces.get(place) {
+                None => None,
+                Some(interface) => interface.grant(),
+            },
+        }
+    }
+
+    /// The ID of an interface's bound stream.
+    pub fn stream(&self, interface: usize) -> u8
+        requires { interface < length self.now.interfaces }
+        ensures { IfSome (slice_get self.now.interfaces interface) (λ i. result ≡ i.stream) }
+    {
+        self.interfaces[interface].stream()
+    }
+
+    /// Begins an operation on an interface; `status` is that of its bound stream at the host's port of its link, Idle
+    /// where the port has no such stream, and `draws` were made so far.
+    /// Refused, in this order: of lock WrongState unless Unlocked, NotSecure; of report WrongState unless Locked or
+    /// Running; of start WrongState unless Locked, NotReported, NotSecure, RefreshFirst. A refusal changes nothing.
+    pub fn begin(
+        &mut self,
+        interface: usize,
+        op: InterfaceOp,
+        status: StreamStatus,
+        draws: u32,
+    ) -> Result<(), Refusal>
+        requires { interface < length self.old.interfaces }
+        ensures answer { IfSome (slice_get self.old.interfaces interface) (λ i.
+            result ≡ ok_unless (refusal_of op status i)) }
+        ensures manager { IfSome (slice_get self.old.interfaces interface) (λ i.
+            self.new ≡ begun self.old interface op status draws i) }
+    {
+        match self.interfaces[interface].refusal(op, status) {
+            Some(refusal) => Err(refusal),
+            None => {
+                self.read.clear();
+                self.asking = Some(Asking {
+                    place: interface,
+                    step: first_step(op),
+                    draws,
+                });
+                Ok(())
+            }
+        }
+    }
+
+    /// Whether an exchange is to be asked and taken: from a `begin` that answered `Ok` on, until the operation is over,
+    /// a stop begins, a stream is keyed or a link is reset.
+    pub fn is_asking(&self) -> bool
+        ensures { result ≡ is_some (current self.now) }
+    {
+        match self.asking {
+            None => false,
+            Some(asking) => self.interfaces.get(asking.place).is_some(),
+        }
+    }
+
+    /// The number of the exchange that `ask` writes, from 1.
+    pub fn exchange(&self) -> u32
+        requires { IsSome (current self.now) }
+        ensures { IfSome (current self.now) (λ c. result ≡ current_exchange self.now c) }
+    {
+        let Some(asking) = self.asking else {
+            unreachable!()
+        };
+        self.read.exchange(asking.step)
+    }
+
+    /// Appends the request of the exchange that is next, for which `out` has 49 bytes of room. It takes no memory.
+    pub fn ask(&self, out: &mut Vec<u8>)
+        requires asking { IsSome (current self.now) }
+        requires room { vec_len out.old + 49 ≤ vec_capacity out.old }
+        ensures items { IfSome (current self.now) (λ c. out.new.items ≡ out.old.items
+            ++ request_spelling (request_asked self.now c)) }
+        ensures capacity { vec_capacity out.old ≤ vec_capacity out.new }
+    {
+        let Some(asking) = self.asking else {
+            unreachable!()
+        };
+        let interface = &self.interfaces[asking.place];
+        let read = self.read.len() as u16;
+        request_write(&interface.request(asking.step, self.portion, read), out);
+    }
+
+    /// Takes what was carried in answer to the request of the exchange that is next.
+    pub fn take(&mut self, carried: Carried) -> Outcome
+        requires { IsSome (current self.old) }
+        ensures outcome { IfSome (current self.old) (λ c.
+            result ≡ outcome_by self.old c (judged_now self.old c carried.entry)) }
+        ensures manager { IfSome (current self.old) (λ c.
+            self.new ≡ taken_by self.old c (judged_now self.old c carried.entry)) }
+    {
+        let Some(asking) = self.asking else {
+            unreachable!()
+        };
+        let read = self.read.len();
+        let exchange = self.read.exchange(asking.step);
+        let interface = &mut self.interfaces[asking.place];
+        let function = u32::from(interface.requester());
+        let answer = judge(asking.step, function, self.portion, read, carried);
+        interface.take(asking.step, asking.draws, answer);
+        let outcome = interface.outcome(asking.step, exchange, answer);
+        self.read.take(answer);
+        self.asking = still_asking(asking, outcome);
+        outcome
+    }
+
+    /// The report that the last operation read, where that was a report and came to its end.
+    pub fn report(&self) -> &[u8]
+        ensures value { result.now ≡ self.now.read.bytes }
+        ensures short { length result.now ≤ 1140 }
+    {
+        self.read.as_slice()
+    }
+
+    /// A stop of a stream began: views of its interfaces that are Locked, Running or Doubt are Broken.
+    pub fn stop_begun(&mut self, link: u8, stream: u8)
+        ensures { self.new ≡ stop_begun link stream self.old }
+    {
+        stop_all(&mut self.interfaces, link, stream);
+        self.asking = None;
+    }
+
+    /// An establish of a stream began with this draw, or a refresh came to its end with it.
+    pub fn stream_keyed(&mut self, link: u8, stream: u8, draw: u32)
+        ensures { self.new ≡ stream_keyed link stream draw self.old }
+    {
+        key_all(&mut self.interfaces, link, stream, draw);
+        self.asking = None;
+    }
+
+    /// A link was reset: views of its interfaces that are Locked, Running or Doubt are Broken.
+    pub fn link_reset(&mut self, link: u8)
+        ensures { self.new ≡ reset_manager link self.old }
+    {
+        reset_all(&mut self.interfaces, link);
+        self.asking = None;
+    }
+}

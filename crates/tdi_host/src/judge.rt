@@ -1,0 +1,191 @@
+//! What a reply comes to.
+
+ghost use Rattle.std.specs.Prelude.{◌≡◌, ◌+◌, ◌≤◌, length};
+ghost use Rattle.tdisp_codec.specs.Replies.{reply_shown, reply_answer, reply_reading};
+ghost use Rattle.tdi_host.specs.Judging.{answer_shown, if_same, refusal_in, version_in, capabilities_in, nonce_in};
+ghost use Rattle.tdi_host.specs.Judging.{is_portion, if_portion, portion_in, start_in, halt_in, state_in, judged_as};
+ghost use Rattle.tdi_host.specs.Judging.{judged_reply, judged, HasRoom};
+
+use crate::step::Step;
+use tdisp_codec::{ReplyView, reply_read};
+use tsm_host::Carried;
+
+/// What was carried in answer to a request: the expected reply with its value, a refusal with its code, nothing at all,
+/// or anything else.
+#[derive(Clone, Copy, Debug, PartialEq, Eq)]
+pub(crate) enum Answer<'a> {
+    Passed,
+    Nonce([u8; 32]),
+    Portion { bytes: &'a [u8], remainder: u16 },
+    State(u8),
+    Refused(u32),
+    Lost,
+    Bad,
+}
+
+// The answer of a reply that gives back the function ID, and of no other.
+fn if_same<'a>(function: u32, back: u32, answer: Answer<'a>) -> Answer<'a>
+    ensures { answer_shown result ≡ if_same function back (answer_shown answer.entry) }
+{
+    if back == function {
+        answer
+    } else {
+        Answer::Bad
+    }
+}
+
+fn refusal<'a>(reply: ReplyView<'a>) -> Answer<'a>
+    ensures { answer_shown result ≡ refusal_in (reply_shown reply.entry) }
+{
+    match reply {
+        ReplyView::Error { code, .. } => Answer::Refused(code),
+        _ => Answer::Bad,
+    }
+}
+
+fn version<'a>(function: u32, reply: ReplyView<'a>) -> Answer<'a>
+    ensures { answer_shown result ≡ version_in function (reply_shown reply.entry) }
+{
+    match reply {
+        ReplyView::Version { function: back, .. } => if_same(function, back, Answer::Passed),
+        _ => refusal(reply),
+    }
+}
+
+fn capabilities<'a>(function: u32, reply: ReplyView<'a>) -> Answer<'a>
+    ensures { answer_shown result ≡ capabilities_in function (reply_shown reply.entry) }
+{
+    match reply {
+        ReplyView::Capabilities { function: back, .. } => if_same(function, back, Answer::Passed),
+        _ => refusal(reply),
+    }
+}
+
+fn nonce<'a>(function: u32, reply: ReplyView<'a>) -> Answer<'a>
+    ensures { answer_shown result ≡ nonce_in function (reply_shown reply.entry) }
+{
+    match reply {
+        ReplyView::LockInterface {
+            function: back,
+            nonce,
+        } => if_same(function, back, Answer::Nonce(nonce)),
+        _ => refusal(reply),
+    }
+}
+
+// Whether a portion has 1 to the asked number of bytes and comes with what was read before, and what is behind it, to
+// at most 1,140 bytes.
+fn is_portion(asked: u16, read: usize, size: usize, remainder: u16) -> bool
+    requires read { read ≤ 1140 }
+    ensures { result ≡ is_portion asked read size remainder }
+{
+    (1 <= size && size <= usize::from(asked)) && read + size + usize::from(remainder) <= 1_140
+}
+
+fn if_portion<'a>(fits: bool, bytes: &'a [u8], remainder: u16) -> Answer<'a>
+    ensures { answer_shown result ≡ if_portion fits bytes.now remainder }
+{
+    if fits {
+        Answer::Portion { bytes, remainder }
+    } else {
+        Answer::Bad
+    }
+}
+
+fn portion<'a>(asked: u16, read: usize, function: u32, reply: ReplyView<'a>) -> Answer<'a>
+    requires { read ≤ 1140 }
+    ensures { answer_shown result ≡ portion_in asked read function (reply_shown reply.entry) }
+{
+    match reply {
+        ReplyView::DeviceInterfaceReport {
+            function: back,
+            remainder,
+            portion,
+        } => {
+            let fits = is_portion(asked, read, portion.len(), remainder);
+            if_same(function, back, if_portion(fits, portion, remainder))
+        }
+        _ => refusal(reply),
+    }
+}
+
+fn start<'a>(function: u32, reply: ReplyView<'a>) -> Answer<'a>
+    ensures { answer_shown result ≡ start_in function (reply_shown reply.entry) }
+{
+    match reply {
+        ReplyView::StartInterface { function: back } => if_same(function, back, Answer::Passed),
+        _ => refusal(reply),
+    }
+}
+
+fn halt<'a>(function: u32, reply: ReplyView<'a>) -> Answer<'a>
+    ensures { answer_shown result ≡ halt_in function (reply_shown reply.entry) }
+{
+    match reply {
+        ReplyView::StopInterface { function: back } => if_same(function, back, Answer::Passed),
+        _ => refusal(reply),
+    }
+}
+
+fn state<'a>(function: u32, reply: ReplyView<'a>) -> Answer<'a>
+    ensures { answer_shown result ≡ state_in function (reply_shown reply.entry) }
+{
+    match reply {
+        ReplyView::DeviceInterfaceState {
+            function: back,
+            state,
+        } => if_same(function, back, Answer::State(state)),
+        _ => refusal(reply),
+    }
+}
+
+fn of_step<'a>(
+    step: Step,
+    function: u32,
+    asked: u16,
+    read: usize,
+    reply: ReplyView<'a>,
+) -> Answer<'a>
+    requires { read ≤ 1140 }
+    ensures { answer_shown result ≡ judged_as step function asked read (reply_shown reply.entry) }
+{
+    match step {
+        Step::Version => version(function, reply),
+        Step::Capabilities => capabilities(function, reply),
+        Step::Lock => nonce(function, reply),
+        Step::Report => portion(asked, read, function, reply),
+        Step::Start => start(function, reply),
+        Step::Halt => halt(function, reply),
+        Step::State => state(function, reply),
+    }
+}
+
+fn of_bytes<'a>(step: Step, function: u32, asked: u16, read: usize, bytes: &'a [u8]) -> Answer<'a>
+    requires { read ≤ 1140 }
+    ensures { answer_shown result ≡ judged_reply step function asked read (reply_reading bytes.now) }
+{
+    match reply_read(bytes) {
+        Ok(reply) => of_step(step, function, asked, read, reply),
+        Err(_) => Answer::Bad,
+    }
+}
+
+/// What was carried in answer to a request of this exchange with the interface of this function ID comes to: `asked` is
+/// the number of bytes that a portion of a report is asked of, `read` how many were read before (this profile).
+pub(crate) fn judge<'a>(
+    step: Step,
+    function: u32,
+    asked: u16,
+    read: usize,
+    carried: Carried<'a>,
+) -> Answer<'a>
+    requires { read ≤ 1140 }
+    ensures answer { answer_shown result ≡ judged step function asked read carried.entry }
+    ensures room { HasRoom read (answer_shown result) }
+{
+    match carried {
+        Carried::Lost => Answer::Lost,
+        Carried::Reply(None) => Answer::Bad,
+        Carried::Reply(Some(bytes)) => of_bytes(step, function, asked, read, bytes),
+    }
+}

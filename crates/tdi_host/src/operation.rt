@@ -1,0 +1,76 @@
+//! Operations of the manager on interfaces, and what becomes of them.
+
+use ide_types::StreamStatus;
+
+/// An operation on an interface. Each begins anew whenever it is asked for (TDISP section 11.3, and this profile).
+#[derive(Clone, Copy, Debug, PartialEq, Eq)]
+pub enum InterfaceOp {
+    /// Locks the interface, and gets the nonce of the lock.
+    Lock,
+    /// Reads the report of the lock.
+    Report,
+    /// Starts the interface, by the nonce of its lock.
+    Start,
+    /// Stops and unlocks the interface.
+    Halt,
+    /// Asks for the state of the interface.
+    State,
+}
+
+/// What the manager knows of an interface (this profile). The device may leave a lock by itself, so this is the
+/// manager's view alone.
+#[derive(Clone, Copy, Debug, PartialEq, Eq)]
+pub enum View {
+    /// It was not locked, or it was halted.
+    Unlocked,
+    /// It was locked.
+    Locked,
+    /// It was started.
+    Running,
+    /// A message was lost that may have changed it.
+    Doubt,
+    /// It left its lock, or its stream was stopped.
+    Broken,
+}
+
+/// What an exchange comes to: the operation's next one is to be asked; the operation is at its end; it is over.
+#[derive(Clone, Copy, Debug, PartialEq, Eq)]
+pub enum Outcome {
+    Next,
+    Done(Shown),
+    Refused(Refusal),
+}
+
+/// What an operation shows at its end.
+#[derive(Clone, Copy, Debug, PartialEq, Eq)]
+pub enum Shown {
+    /// Of lock: the nonce.
+    Nonce([u8; 32]),
+    /// Of report: the report was read, and is lent by `Interfaces::report`.
+    Report,
+    /// Of start: the draw of the stream, below which nothing is trusted.
+    Draw(u32),
+    /// Of halt: the least draw that the next start wants.
+    Needs(u32),
+    /// Of state: the device's state, by its code.
+    State(u8),
+}
+
+/// Why an operation does not begin, or is over before its end. Exchanges are numbered from 1.
+#[derive(Clone, Copy, Debug, PartialEq, Eq)]
+pub enum Refusal {
+    /// The view does not allow it.
+    WrongState(View),
+    /// Of start: the report was not read since the lock.
+    NotReported,
+    /// The bound stream is not Secure at the host's port, and what it is there.
+    NotSecure(StreamStatus),
+    /// Of start: the draw of the bound stream, and the least one that is wanted.
+    RefreshFirst(u32, u32),
+    /// The request or the reply of this exchange was lost.
+    SessionLost(u32),
+    /// The device refused this exchange, with this code.
+    DeviceRefused(u32, u32),
+    /// The reply to this exchange is neither the expected one nor a refusal.
+    BadReply(u32),
+}

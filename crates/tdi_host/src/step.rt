@@ -1,0 +1,47 @@
+//! The exchanges of the operations.
+
+ghost use Rattle.std.specs.Prelude.{◌≡◌};
+ghost use Rattle.tdi_host.specs.Steps.{first_step, exchange_of};
+
+use crate::operation::InterfaceOp;
+
+/// An exchange with the device: lock has three, report as many as the report has portions, each other operation one
+/// (TDISP section 11.3).
+#[derive(Clone, Copy, Debug, PartialEq, Eq)]
+pub enum Step {
+    Version,
+    Capabilities,
+    Lock,
+    Report,
+    Start,
+    Halt,
+    State,
+}
+
+/// The first exchange of an operation.
+pub(crate) fn first_step(op: InterfaceOp) -> Step
+    ensures { result ≡ first_step op }
+{
+    match op {
+        InterfaceOp::Lock => Step::Version,
+        InterfaceOp::Report => Step::Report,
+        InterfaceOp::Start => Step::Start,
+        InterfaceOp::Halt => Step::Halt,
+        InterfaceOp::State => Step::State,
+    }
+}
+
+impl Step {
+    ghost use Rattle.tdi_host.specs.Steps.{next_step};
+
+    /// The exchange behind this one, where the operation goes on.
+    pub(crate) fn next(self) -> Step
+        ensures { result ≡ next_step self }
+    {
+        match self {
+            Step::Version => Step::Capabilities,
+            Step::Capabilities => Step::Lock,
+            step => step,
+        }
+    }
+}

@@ -1,0 +1,87 @@
+-- The manager reads the device's replies as what is due.
+use Rattle.std.proofs.Common.{◌≡◌, ℕ, ◌+◌, ◌<◌, ◌≤◌, ◌==◌, Bool, true, false, List, length, take, drop, Option, Some}
+use Rattle.std.proofs.Common.{None, Result, Ok, Err, refl, ◌∙◌, arith, length-take, length-drop}
+use Rattle.std.specs.Prelude.{IfSome, if◌then◌else◌, ◌||◌, nat_le}
+use Rattle.std.specs.Option.{option_map}
+use Rattle.key_laws.proofs.Tests.{le-true, same-true, neither-true, false-le}
+use Rattle.tdi_state.specs.declared.error_codes.ErrorCode.TheVariants.{InvalidRequest}
+use Rattle.tdi_state.specs.declared.states.Lock.{Lock}
+use Rattle.tdi_state.specs.Kept.{kept_report}
+use Rattle.tdi_state.specs.Machine.{Tdi, lock_of, error_code, portion_of}
+use Rattle.tdi_host.specs.declared.step.Step.{Step}
+use Rattle.tdi_host.specs.declared.step.Step.TheVariants as step
+use Rattle.tdi_host.specs.Judging.{Judged, if_same, is_portion, nonce_in, portion_in, start_in, judged_as}
+use Rattle.tdi_host.specs.Views.{HostTdi, request_of}
+use Rattle.tdi_device.specs.Replies.{DeviceTdis, Named, lock_reply, portion_reply, start_reply, tdi_reply, next_nonce}
+use Rattle.tdi_walks.specs.Exchanges.{nonce_due, portion_due, start_due, judged_due, IsReport, Meets}
+
+-- a reply that gives back the function ID
+same_function : (f : ℕ) (j : Judged) → if_same f f j ≡ j
+same_function f j = rw (same-true f) refl
+
+lock_read : (f : ℕ) (answer : Result (List ℕ) ℕ) → nonce_in f (lock_reply f answer) ≡ nonce_due answer
+lock_read f (Ok nonce) = same_function f _
+lock_read f (Err code) = refl
+
+start_read : (f : ℕ) (answer : Result (Unit {0}) ℕ) → start_in f (start_reply f answer) ≡ start_due answer
+start_read f (Ok done) = same_function f _
+start_read f (Err code) = refl
+
+-- ---- portions
+
+abbrev portion_at : List ℕ → ℕ → ℕ → Bool → Result (List ℕ × ℕ) ℕ
+portion_at report offset size b = if b then Err (error_code InvalidRequest) else Ok
+    (take size (drop offset report), length (drop (offset + size) report))
+
+-- it is no longer than asked, and comes with what is behind it to no more than a report
+fits_read : (report : List ℕ) (offset size : ℕ) → IsReport report → 1 ≤ size → offset < length report
+    → is_portion size offset (length (take size (drop offset report))) (length (drop (offset + size) report)) ≡ true
+fits_read report offset size is some lt =
+    let short = is.short in
+    let long : length (take size (drop offset report)) ≤ size = omega (arith, length-take size (drop offset report)) in
+    let least : 1 ≤ length (take size (drop offset report)) = omega
+    (arith, length-take size (drop offset report), length-drop offset report) in
+    let most : offset + length (take size (drop offset report)) + length (drop (offset + size) report) ≤ 1140
+    = omega (
+      arith,
+      length-take size (drop offset report),
+      length-drop offset report,
+      length-drop (offset + size)
+          report,
+    ) in
+    rw (le-true 1 _ least, le-true _ size long, le-true _ 1140 most) refl
+
+part_read : (f : ℕ) (report : List ℕ) (offset size : ℕ) (b : Bool) → IsReport report → 1 ≤ size
+    → ((size == 0) || nat_le (length report) offset) ≡ b
+    → portion_in size offset f (portion_reply f (portion_at report offset size b))
+    ≡ portion_due (portion_at report offset size b)
+part_read f report offset size true is some e = refl
+part_read f report offset size false is some e =
+    let fits = fits_read report offset size is some (false-le (length report) offset (neither-true _ _ e).1) in
+    same_function f _ ∙ (rw fits refl)
+
+report_read : (f : ℕ) (report : Option (List ℕ)) (offset size : ℕ) → IfSome report IsReport → 1 ≤ size
+    → portion_in size offset f (portion_reply f (portion_of report offset size))
+    ≡ portion_due (portion_of report offset size)
+report_read f None offset size is some = refl
+report_read f (Some report) offset size is some = part_read f report offset size _ is some refl
+
+kept_read : (f : ℕ) (tdi : Tdi) (lock : Option Lock) (offset size : ℕ)
+    → IfSome lock (λ l. IsReport (kept_report tdi.plan l)) → 1 ≤ size
+    → portion_in size offset f (portion_reply f (portion_of (option_map (kept_report tdi.plan) lock) offset size))
+    ≡ portion_due (portion_of (option_map (kept_report tdi.plan) lock) offset size)
+kept_read f tdi None offset size is some = refl
+kept_read f tdi (Some lock) offset size is some = report_read f (Some (kept_report tdi.plan lock)) offset size is some
+
+pub reply_due : (s : Step) (portion read : ℕ) (i : HostTdi) (d : DeviceTdis) (n : Named) (secure : Bool)
+    → Meets portion i d n
+    → judged_as s i.requester portion read (tdi_reply n.tdi (request_of s portion read i) secure (next_nonce d))
+    ≡ judged_due s portion read i n.tdi secure (next_nonce d)
+reply_due step.Version portion read i d n secure m = same_function i.requester _
+reply_due step.Capabilities portion read i d n secure m = same_function i.requester _
+reply_due step.Lock portion read i d n secure m = lock_read i.requester _
+reply_due step.Report portion read i d n secure m = kept_read i.requester n.tdi (lock_of n.tdi.state) read portion
+    m.report m.portion_least
+reply_due step.Start portion read i d n secure m = start_read i.requester _
+reply_due step.Halt portion read i d n secure m = same_function i.requester _
+reply_due step.State portion read i d n secure m = same_function i.requester _

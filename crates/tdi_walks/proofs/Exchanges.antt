@@ -1,0 +1,87 @@
+-- One exchange of the manager with the device.
+use Rattle.std.proofs.Common.{◌≡◌, ◌≢◌, ℕ, ◌≤◌, Bool, List, length, Option, Some, Result, Ok, Err, refl, ap, sym, ◌∙◌}
+use Rattle.std.proofs.Common.{arith, length-append}
+use Rattle.key_laws.proofs.Tests.{lt-false}
+use Rattle.tdisp_codec.specs.declared.request.RequestView.{RequestView}
+use Rattle.tdisp_codec.specs.Messages.{message_spelling}
+use Rattle.tdisp_codec.specs.Requests.{request_function, request_type, request_spelling, FitsRequest, request_reading}
+use Rattle.tdisp_codec.specs.Replies.{Reply, reply_spelling, FitsReply, reply_reading}
+use Rattle.tdi_state.specs.Machine.{Tdi}
+use Rattle.tdi_host.specs.declared.step.Step.{Step}
+use Rattle.tdi_host.specs.declared.step.Step.TheVariants as step
+use Rattle.tdi_host.specs.Judging.{Bad, judged_reply}
+use Rattle.tdi_host.specs.Views.{HostTdi, request_of}
+use Rattle.tdi_device.specs.Replies.{DeviceTdis, Named, named, next_nonce, asked_at, asked_by, reply_by, request_asked}
+use Rattle.tdi_device.specs.Replies.{answered, answer_of, answer_bytes, tdi_reply, function_or_none, tdis_by}
+use Rattle.tdi_device.specs.Replies.{reply_from}
+use Rattle.tdi_walks.specs.Exchanges.{judged_due, nonce_due, portion_due, start_due, ExchangesAreDue}
+use Rattle.tdi_walks.specs.Exchanges.{RepliesAreNeverBad}
+use Rattle.tdi_walks.proofs.Widths.{function_of, request_fits, reply_fits}
+use Rattle.tdi_walks.proofs.Due.{reply_due}
+
+abbrev pub RequestsRead : Type 0
+RequestsRead = (request : RequestView) → FitsRequest request → request_reading (request_spelling request) ≡ Ok request
+
+abbrev pub RepliesRead : Type 0
+RepliesRead = (reply : Reply) → FitsReply reply → reply_reading (reply_spelling reply) ≡ Ok reply
+
+-- a message has a header
+long : (type function : ℕ) (body : List ℕ) → 17 ≤ length (message_spelling type function body)
+long type function body = grind (arith, length-append)
+
+asked : RequestsRead → (r : RequestView) → FitsRequest r → request_asked (request_spelling r) ≡ Ok r
+asked reads r fits = rw
+    (lt-false (length (request_spelling r)) 17 (long (request_type r) (request_function r) _), reads r fits) refl
+
+device : (d : DeviceTdis) (n : Named) (r : RequestView) (bytes : List ℕ) (secure : Bool) → request_asked bytes ≡ Ok r
+    → named d (request_function r) ≡ Some n
+    → answered d bytes secure ≡ asked_at d n r secure
+device d n r bytes secure is found = ap (tdis_by d secure) is ∙ ap (asked_by d r secure) found
+
+replied : (d : DeviceTdis) (n : Named) (r : RequestView) (bytes : List ℕ) (secure : Bool) → request_asked bytes ≡ Ok r
+    → named d (request_function r) ≡ Some n
+    → answer_of d bytes secure ≡ tdi_reply n.tdi r secure (next_nonce d)
+replied d n r bytes secure is found = ap (reply_from d secure (function_or_none bytes)) is ∙ ap (reply_by d r secure)
+    found
+
+pub exchange_due : RequestsRead → RepliesRead → ExchangesAreDue
+exchange_due requests replies s portion read i d n secure short m =
+    let r = request_of s portion read i in
+    let is : request_asked (request_spelling r) ≡ Ok r = asked requests r (request_fits s portion read i d n short m) in
+    let found : named d (request_function r) ≡ Some n = ap (named d) (function_of s portion read i) ∙ m.named_is in
+    let reply : answer_of d (request_spelling r) secure ≡ tdi_reply n.tdi r secure (next_nonce d) = replied d n r
+    (request_spelling r) secure is found in
+    let back : reply_reading (answer_bytes d (request_spelling r) secure) ≡ Ok (tdi_reply n.tdi r secure (next_nonce d))
+    = ap (λ x. reply_reading (reply_spelling x)) reply ∙ replies _ (reply_fits s portion read i d n secure m) in
+    record {
+      judged = ap (judged_reply s i.requester portion read) back ∙ reply_due s portion read i d n secure m;
+      device = device d n r (request_spelling r) secure is found;
+    }
+
+-- ---- what is due is no bad reply
+
+nonce_good : (answer : Result (List ℕ) ℕ) → nonce_due answer ≢ Bad
+nonce_good (Ok nonce) e = absurd cc
+nonce_good (Err code) e = absurd cc
+
+portion_good : (answer : Result (List ℕ × ℕ) ℕ) → portion_due answer ≢ Bad
+portion_good (Ok portion) e = absurd cc
+portion_good (Err code) e = absurd cc
+
+start_good : (answer : Result (Unit {0}) ℕ) → start_due answer ≢ Bad
+start_good (Ok done) e = absurd cc
+start_good (Err code) e = absurd cc
+
+due_good : (s : Step) (portion read : ℕ) (i : HostTdi) (tdi : Tdi) (secure : Bool) (drawn : Option (List ℕ))
+    → judged_due s portion read i tdi secure drawn ≢ Bad
+due_good step.Version portion read i tdi secure drawn e = absurd cc
+due_good step.Capabilities portion read i tdi secure drawn e = absurd cc
+due_good step.Lock portion read i tdi secure drawn e = nonce_good _ e
+due_good step.Report portion read i tdi secure drawn e = portion_good _ e
+due_good step.Start portion read i tdi secure drawn e = start_good _ e
+due_good step.Halt portion read i tdi secure drawn e = absurd cc
+due_good step.State portion read i tdi secure drawn e = absurd cc
+
+pub never_bad : ExchangesAreDue → RepliesAreNeverBad
+never_bad due s portion read i d n secure short m e = due_good s portion read i n.tdi secure (next_nonce d)
+    (sym (due s portion read i d n secure short m).judged ∙ e)

@@ -1,0 +1,190 @@
+-- Operations of up to three exchanges.
+use Rattle.std.proofs.Common.{◌≡◌, ℕ, suc, zero, ◌≤◌, Bool, List, [], ◌∷◌, length, Option, Some, None, refl, ap, sym}
+use Rattle.std.proofs.Common.{subst, ◌∙◌, arith}
+use Rattle.std.specs.Prelude.{slice_set, slice_get}
+use Rattle.link_events.specs.declared.event.Loss.{Loss}
+use Rattle.link_events.specs.declared.event.Lost.{Lost}
+use Rattle.link_events.specs.declared.event.Lost.TheVariants.{Request, Reply}
+use Rattle.tdi_state.specs.Machine.{Tdi}
+use Rattle.tdi_host.specs.declared.operation.InterfaceOp.TheVariants as op
+use Rattle.tdi_host.specs.declared.operation.Outcome.{Outcome}
+use Rattle.tdi_host.specs.declared.operation.Outcome.TheVariants as outcome
+use Rattle.tdi_host.specs.declared.step.Step.{Step}
+use Rattle.tdi_host.specs.declared.step.Step.TheVariants as step
+use Rattle.tdi_host.specs.Judging.{Judged, Passed, Nonce, Portion, State, Refused, Lost as NotCarried, Bad}
+use Rattle.tdi_host.specs.Views.{HostTdi, start_outcome, halt_outcome, state_outcome, lock_outcome}
+use Rattle.tdi_device.specs.Replies.{DeviceTdis, Named, named, named_in, named_at, place_of, next_nonce}
+use Rattle.tdi_walks.specs.Exchanges.{device_as, judged_due, Meets, ExchangesAreDue}
+use Rattle.tdi_walks.specs.Operations.{lost_in, carried, reached, Walking, Walked, walked_by, walked_once, walking_on}
+use Rattle.tdi_walks.specs.Operations.{continued, walk, begun_at, number_in, stated_once, at_step, lost_early}
+use Rattle.tdi_walks.specs.Operations.{unless_lost, stated_lock, OperationsAreStated}
+
+-- ---- a device that is asked what changes nothing
+
+set_same : {A : Type 0} (xs : List A) (p : ℕ) (x : A) → slice_get xs p ≡ Some x → slice_set xs p x ≡ xs
+set_same [] p x is = refl
+set_same (y ∷ xs) zero x is = ap (λ z. z ∷ xs) (sym (same_some is))
+  where
+    same_some : {A : Type 0} {a b : A} → Some a ≡ Some b → a ≡ b
+    same_some e = cc
+set_same (y ∷ xs) (suc p) x is = ap (λ zs. y ∷ zs) (set_same xs p x is)
+
+at_place : (xs : List Tdi) (p : ℕ) (t : Option Tdi) (n : Named) → slice_get xs p ≡ t → named_at p t ≡ Some n
+    → slice_get xs n.place ≡ Some n.tdi
+at_place xs p None n g e = absurd cc
+at_place xs p (Some t) n g e =
+    let same : (let k : Named = record { place = p; tdi = t } in k) ≡ n = cc in
+    subst (λ (k : Named). slice_get xs k.place ≡ Some k.tdi) same g
+
+in_list : (xs : List Tdi) (place : Option ℕ) (n : Named) → named_in xs place ≡ Some n → slice_get xs n.place
+    ≡ Some n.tdi
+in_list xs None n e = absurd cc
+in_list xs (Some p) n e = at_place xs p (slice_get xs p) n refl e
+
+pub same_set : (d : DeviceTdis) (f : ℕ) (n : Named) → named d f ≡ Some n → slice_set d.interfaces n.place n.tdi
+    ≡ d.interfaces
+same_set d f n is = set_same d.interfaces n.place n.tdi (in_list d.interfaces (place_of d f) n is)
+
+-- ---- an exchange
+
+pub once_stated : ExchangesAreDue → (portion draws : ℕ) (secure : Bool) (loss : Option Loss) (n : Named) (w : Walking)
+    → length w.read.bytes ≤ 1140 → Meets portion w.interface w.device n
+    → walked_once portion draws secure loss w ≡ stated_once portion draws secure (lost_in loss (number_in w)) n w
+once_stated due portion draws secure loss n w short m =
+    let e = due w.step portion (length w.read.bytes) w.interface w.device n secure short m in
+    ap (λ j. walked_by draws w (carried (lost_in loss (number_in w)) j)
+    (reached (lost_in loss (number_in w)) w.device
+    (device_as w.step portion (length w.read.bytes) w.interface w.device secure))) e.judged
+    ∙ ap (λ x. walked_by draws w
+    (carried (lost_in loss (number_in w))
+    (judged_due w.step portion (length w.read.bytes) w.interface n.tdi secure (next_nonce w.device)))
+    (reached (lost_in loss (number_in w)) w.device x)) e.device
+
+-- an exchange and the rest
+pub goes : (more portion draws : ℕ) (secure : Bool) (loss : Option Loss) (w : Walking) (now : Walked)
+    → walked_once portion draws secure loss w ≡ now
+    → walk (suc more) portion draws secure loss w ≡ continued now.outcome now
+    (walk more portion draws secure loss (walking_on w.step now))
+goes more portion draws secure loss w now is = ap
+    (λ x. continued x.outcome x (walk more portion draws secure loss (walking_on w.step x))) is
+
+-- ---- what is over with its one exchange
+
+abbrev pub IsOver : Outcome → Type 0
+IsOver outcome.Next = ⊥
+IsOver o = Unit {0}
+
+pub stops : (o : Outcome) (now rest : Walked) → IsOver o → continued o now rest ≡ now
+stops outcome.Next now rest over = absurd over
+stops (outcome.Done shown) now rest over = refl
+stops (outcome.Refused refusal) now rest over = refl
+
+lock_over : (e : ℕ) (j : Judged) → IsOver (lock_outcome e j)
+lock_over e Passed = tt
+lock_over e (Nonce nonce) = tt
+lock_over e (Portion bytes remainder) = tt
+lock_over e (State code) = tt
+lock_over e (Refused code) = tt
+lock_over e NotCarried = tt
+lock_over e Bad = tt
+
+start_over : (e draw : ℕ) (j : Judged) → IsOver (start_outcome e draw j)
+start_over e draw Passed = tt
+start_over e draw (Nonce nonce) = tt
+start_over e draw (Portion bytes remainder) = tt
+start_over e draw (State code) = tt
+start_over e draw (Refused code) = tt
+start_over e draw NotCarried = tt
+start_over e draw Bad = tt
+
+halt_over : (e needs : ℕ) (j : Judged) → IsOver (halt_outcome e needs j)
+halt_over e needs Passed = tt
+halt_over e needs (Nonce nonce) = tt
+halt_over e needs (Portion bytes remainder) = tt
+halt_over e needs (State code) = tt
+halt_over e needs (Refused code) = tt
+halt_over e needs NotCarried = tt
+halt_over e needs Bad = tt
+
+state_over : (e : ℕ) (j : Judged) → IsOver (state_outcome e j)
+state_over e Passed = tt
+state_over e (Nonce nonce) = tt
+state_over e (Portion bytes remainder) = tt
+state_over e (State code) = tt
+state_over e (Refused code) = tt
+state_over e NotCarried = tt
+state_over e Bad = tt
+
+alone : ExchangesAreDue → (s : Step) (more portion draws : ℕ) (secure : Bool) (loss : Option Loss) (i : HostTdi)
+    (d : DeviceTdis) (n : Named) → Meets portion i d n
+    → ((now : Walked) → now ≡ stated_once portion draws secure (lost_in loss (number_in (at_step s i d))) n
+    (at_step s i d) → IsOver now.outcome)
+    → walk (suc more) portion draws secure loss (at_step s i d)
+    ≡ stated_once portion draws secure (lost_in loss (number_in (at_step s i d))) n (at_step s i d)
+alone due s more portion draws secure loss i d n m over =
+    let now = stated_once portion draws secure (lost_in loss (number_in (at_step s i d))) n (at_step s i d) in
+    goes more portion draws secure loss (at_step s i d) now
+    (once_stated due portion draws secure loss n (at_step s i d) (omega arith) m)
+    ∙ stops now.outcome now _ (over now refl)
+
+-- ---- lock
+
+-- GET_VERSION, and GET_CAPABILITIES, leave both ends
+quiet_version : (portion draws : ℕ) (secure : Bool) (loss : Option Loss) (i : HostTdi) (d : DeviceTdis) (n : Named)
+    → named d i.requester ≡ Some n
+    → (l : Option Lost) (more : ℕ) (rest : Walked) → walk more portion draws secure loss (at_step step.Capabilities i d)
+    ≡ rest
+    → continued (stated_once portion draws secure l n (at_step step.Version i d)).outcome
+    (stated_once portion draws secure l n (at_step step.Version i d))
+    (walk more portion draws secure loss
+    (walking_on step.Version (stated_once portion draws secure l n (at_step step.Version i d))))
+    ≡ unless_lost l (lost_early 1 i d) rest
+quiet_version portion draws secure loss i d n is None more rest e =
+    ap (λ xs. walk more portion draws secure loss (at_step step.Capabilities i (record d { interfaces = xs })))
+    (same_set d i.requester n is) ∙ e
+quiet_version portion draws secure loss i d n is (Some Request) more rest e = refl
+quiet_version portion draws secure loss i d n is (Some Reply) more rest e = ap
+    (λ xs. lost_early 1 i (record d { interfaces = xs })) (same_set d i.requester n is)
+
+quiet_capabilities : (portion draws : ℕ) (secure : Bool) (loss : Option Loss) (i : HostTdi) (d : DeviceTdis) (n : Named)
+    → named d i.requester ≡ Some n
+    → (l : Option Lost) (more : ℕ) (rest : Walked) → walk more portion draws secure loss (at_step step.Lock i d) ≡ rest
+    → continued (stated_once portion draws secure l n (at_step step.Capabilities i d)).outcome
+    (stated_once portion draws secure l n (at_step step.Capabilities i d))
+    (walk more portion draws secure loss
+    (walking_on step.Capabilities (stated_once portion draws secure l n (at_step step.Capabilities i d))))
+    ≡ unless_lost l (lost_early 2 i d) rest
+quiet_capabilities portion draws secure loss i d n is None more rest e =
+    ap (λ xs. walk more portion draws secure loss (at_step step.Lock i (record d { interfaces = xs })))
+    (same_set d i.requester n is) ∙ e
+quiet_capabilities portion draws secure loss i d n is (Some Request) more rest e = refl
+quiet_capabilities portion draws secure loss i d n is (Some Reply) more rest e = ap
+    (λ xs. lost_early 2 i (record d { interfaces = xs })) (same_set d i.requester n is)
+
+lock_stated : ExchangesAreDue → (more portion draws : ℕ) (secure : Bool) (loss : Option Loss) (i : HostTdi)
+    (d : DeviceTdis) (n : Named) → Meets portion i d n
+    → walk (suc (suc (suc more))) portion draws secure loss (begun_at op.Lock i d)
+    ≡ stated_lock portion draws secure loss i d n
+lock_stated due more portion draws secure loss i d n m =
+    let third = alone due step.Lock more portion draws secure loss i d n m
+    (λ now e. subst (λ x. IsOver x.outcome) (sym e) (lock_over 3 _)) in
+    let second = goes (suc more) portion draws secure loss (at_step step.Capabilities i d) _
+    (once_stated due portion draws secure loss n (at_step step.Capabilities i d) (omega arith) m)
+    ∙ quiet_capabilities portion draws secure loss i d n m.named_is (lost_in loss 2) (suc more) _ third in
+    goes (suc (suc more)) portion draws secure loss (at_step step.Version i d) _
+    (once_stated due portion draws secure loss n (at_step step.Version i d) (omega arith) m)
+    ∙ quiet_version portion draws secure loss i d n m.named_is (lost_in loss 1) (suc (suc more)) _ second
+
+pub operations_stated : ExchangesAreDue → OperationsAreStated
+operations_stated due op.Lock more portion draws secure loss i d n short m = lock_stated due more portion draws secure
+    loss i d n m
+operations_stated due op.Report more portion draws secure loss i d n short m = absurd short
+operations_stated due op.Start more portion draws secure loss i d n short m =
+    alone due step.Start (suc (suc more)) portion draws secure loss i d n m
+    (λ now e. subst (λ x. IsOver x.outcome) (sym e) (start_over 1 _ _))
+operations_stated due op.Halt more portion draws secure loss i d n short m =
+    alone due step.Halt (suc (suc more)) portion draws secure loss i d n m
+    (λ now e. subst (λ x. IsOver x.outcome) (sym e) (halt_over 1 _ _))
+operations_stated due op.State more portion draws secure loss i d n short m =
+    alone due step.State (suc (suc more)) portion draws secure loss i d n m
+    (λ now e. subst (λ x. IsOver x.outcome) (sym e) (state_over 1 _))

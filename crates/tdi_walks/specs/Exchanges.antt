@@ -1,0 +1,108 @@
+-- One exchange of the manager with the device.
+use Rattle.std.specs.Prelude.{ℕ, ◌≡◌, ◌≢◌, ◌<◌, ◌≤◌, ◌^◌, Bool, List, length, All, Option, Some, None, IfSome, Result}
+use Rattle.std.specs.Prelude.{Ok, Err}
+use Rattle.tdisp_codec.specs.Requests.{request_spelling}
+use Rattle.tdisp_codec.specs.Replies.{reply_reading}
+use Rattle.ide_plan.specs.declared.interface.InterfacePlan.{InterfacePlan}
+use Rattle.ide_plan.specs.Fits.{AreBytes}
+use Rattle.tdi_state.specs.declared.states.Lock.{Lock}
+use Rattle.tdi_state.specs.Held.{FitsTdi}
+use Rattle.tdi_state.specs.Kept.{kept_report}
+use Rattle.tdi_state.specs.Machine.{Tdi, lock_of, state_code, lock_answer, portion_answer, start_answer, Call}
+use Rattle.tdi_state.specs.Machine.{LockInterface, StartInterface, StopInterface}
+use Rattle.tdi_host.specs.declared.step.Step.{Step}
+use Rattle.tdi_host.specs.declared.step.Step.TheVariants as step
+use Rattle.tdi_host.specs.Judging.{Judged, Passed, Nonce, Portion, State, Refused, Bad, judged_reply}
+use Rattle.tdi_host.specs.Views.{HostTdi, nonce_of, request_of}
+use Rattle.tdi_device.specs.Replies.{DeviceTdis, Named, named, next_nonce, asked_at, answered, answer_bytes}
+
+-- ---- what is carried
+
+-- the request's bytes; `portion` is asked of a report, and `read` bytes were read before
+abbrev pub asked_bytes : Step → ℕ → ℕ → HostTdi → List ℕ
+asked_bytes s portion read i = request_spelling (request_of s portion read i)
+
+-- what the device's reply comes to at the manager
+abbrev pub judged_as : Step → ℕ → ℕ → HostTdi → DeviceTdis → Bool → Judged
+judged_as s portion read i d secure =
+    judged_reply s i.requester portion read (reply_reading (answer_bytes d (asked_bytes s portion read i) secure))
+
+-- the device behind the request
+abbrev pub device_as : Step → ℕ → ℕ → HostTdi → DeviceTdis → Bool → DeviceTdis
+device_as s portion read i d secure = answered d (asked_bytes s portion read i) secure
+
+-- ---- what is due
+
+abbrev pub nonce_due : Result (List ℕ) ℕ → Judged
+nonce_due (Ok nonce) = Nonce nonce
+nonce_due (Err code) = Refused code
+
+abbrev pub portion_due : Result (List ℕ × ℕ) ℕ → Judged
+portion_due (Ok portion) = Portion portion.0 portion.1
+portion_due (Err code) = Refused code
+
+abbrev pub start_due : Result (Unit {0}) ℕ → Judged
+start_due (Ok done) = Passed
+start_due (Err code) = Refused code
+
+-- by the device's interface alone; `drawn` is the device's next nonce
+abbrev pub judged_due : Step → ℕ → ℕ → HostTdi → Tdi → Bool → Option (List ℕ) → Judged
+judged_due step.Version portion read i tdi secure drawn = Passed
+judged_due step.Capabilities portion read i tdi secure drawn = Passed
+judged_due step.Lock portion read i tdi secure drawn = nonce_due (lock_answer tdi i.flags i.offset secure drawn)
+judged_due step.Report portion read i tdi secure drawn = portion_due (portion_answer tdi read portion)
+judged_due step.Start portion read i tdi secure drawn = start_due (start_answer tdi.state (nonce_of i.seen))
+judged_due step.Halt portion read i tdi secure drawn = Passed
+judged_due step.State portion read i tdi secure drawn = State (state_code tdi.state)
+
+-- the call of the interface that the exchange comes to
+abbrev pub call_due : Step → HostTdi → Bool → Option (List ℕ) → Option Call
+call_due step.Lock i secure drawn = Some (LockInterface i.flags i.stream i.offset secure drawn)
+call_due step.Start i secure drawn = Some (StartInterface (nonce_of i.seen))
+call_due step.Halt i secure drawn = Some StopInterface
+call_due s i secure drawn = None
+
+-- ---- both ends
+
+abbrev pub IsNonce : List ℕ → Type 0
+IsNonce nonce = (length nonce ≡ 32) × All (λ b. b < 256) nonce
+
+-- 1 to 1,140 bytes
+pub record IsReport (report : List ℕ) : Type 0 where
+  pub some : 1 ≤ length report
+  pub short : length report ≤ 1140
+  pub bytes : All (λ b. b < 256) report
+
+-- a lock keeps one
+abbrev pub ReportsFit : Type 0
+ReportsFit = (plan : InterfacePlan) (lock : Lock) → FitsTdi plan → AreBytes plan.info → IsReport (kept_report plan lock)
+
+-- The manager's interface has the widths of its fields; the device has it, and what it gives are nonces and a report.
+pub record Meets (portion : ℕ) (i : HostTdi) (d : DeviceTdis) (n : Named) : Type 0 where
+  pub requester : i.requester < 2 ^ 16
+  pub flags : i.flags < 2 ^ 16
+  pub stream : i.stream < 256
+  pub offset : i.offset < 2 ^ 64
+  pub nonce : IsNonce (nonce_of i.seen)
+  pub portion_least : 1 ≤ portion
+  pub portion_most : portion < 2 ^ 16
+  pub named_is : named d i.requester ≡ Some n
+  pub drawn : IfSome (next_nonce d) IsNonce
+  pub report : IfSome (lock_of n.tdi.state) (λ lock. IsReport (kept_report n.tdi.plan lock))
+
+-- ---- the law
+
+pub record ExchangeIsDue (s : Step) (portion read : ℕ) (i : HostTdi) (d : DeviceTdis) (n : Named) (secure : Bool) : Type
+    0 where
+  -- what the reply comes to
+  pub judged : judged_as s portion read i d secure ≡ judged_due s portion read i n.tdi secure (next_nonce d)
+  -- what the request makes of the device
+  pub device : device_as s portion read i d secure ≡ asked_at d n (request_of s portion read i) secure
+
+abbrev pub ExchangesAreDue : Type 0
+ExchangesAreDue = (s : Step) (portion read : ℕ) (i : HostTdi) (d : DeviceTdis) (n : Named) (secure : Bool)
+    → read ≤ 1140 → Meets portion i d n → ExchangeIsDue s portion read i d n secure
+
+abbrev pub RepliesAreNeverBad : Type 0
+RepliesAreNeverBad = (s : Step) (portion read : ℕ) (i : HostTdi) (d : DeviceTdis) (n : Named) (secure : Bool)
+    → read ≤ 1140 → Meets portion i d n → judged_as s portion read i d secure ≢ Bad

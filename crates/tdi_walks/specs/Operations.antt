@@ -1,0 +1,149 @@
+-- An operation on an interface at one event: the manager begins it, and its exchanges are carried one after another,
+-- each of which the session may lose.
+use Rattle.std.specs.Prelude.{ℕ, zero, suc, ◌≡◌, ◌==◌, Bool, length, Option, Some, None, if◌then◌else◌}
+use Rattle.link_events.specs.declared.event.Loss.{Loss}
+use Rattle.link_events.specs.declared.event.Lost.{Lost}
+use Rattle.link_events.specs.declared.event.Lost.TheVariants.{Request}
+use Rattle.tdi_host.specs.declared.operation.InterfaceOp.{InterfaceOp}
+use Rattle.tdi_host.specs.declared.operation.InterfaceOp.TheVariants as op
+use Rattle.tdi_host.specs.declared.operation.Outcome.{Outcome}
+use Rattle.tdi_host.specs.declared.operation.Outcome.TheVariants as outcome
+use Rattle.tdi_host.specs.declared.operation.Refusal.TheVariants.{SessionLost}
+use Rattle.tdi_host.specs.declared.step.Step.{Step}
+use Rattle.tdi_host.specs.declared.step.Step.TheVariants as step
+use Rattle.tdi_host.specs.Steps.{Read, first_step, next_step, exchange_of}
+use Rattle.tdi_host.specs.Judging.{Judged, Lost as NotCarried}
+use Rattle.tdi_host.specs.Views.{HostTdi, request_of, taken_interface, outcome_of}
+use Rattle.tdi_host.specs.Managers.{nothing_read, read_after}
+use Rattle.tdi_device.specs.Replies.{DeviceTdis, Named, next_nonce, asked_at}
+use Rattle.tdi_walks.specs.Exchanges.{judged_as, device_as, judged_due, Meets}
+
+-- ---- an exchange that may be lost
+
+-- what is lost of the exchange of this number
+abbrev pub lost_in : Option Loss → ℕ → Option Lost
+lost_in None exchange = None
+lost_in (Some loss) exchange = if loss.exchange == exchange then Some loss.lost else None
+
+abbrev pub carried : Option Lost → Judged → Judged
+carried None judged = judged
+carried (Some lost) judged = NotCarried
+
+-- a request that is lost does not come to the device
+abbrev pub reached : Option Lost → DeviceTdis → DeviceTdis → DeviceTdis
+reached (Some Request) before after = before
+reached lost before after = after
+
+-- ---- the walk
+
+-- both ends, and the exchange that is next
+pub record Walking : Type 0 where
+  pub interface : HostTdi
+  pub step : Step
+  pub read : Read
+  pub device : DeviceTdis
+
+-- what the event comes to, and both ends behind it
+pub record Walked : Type 0 where
+  pub outcome : Outcome
+  pub interface : HostTdi
+  pub read : Read
+  pub device : DeviceTdis
+
+abbrev pub number_in : Walking → ℕ
+number_in w = exchange_of w.step w.read
+
+abbrev pub judged_in : ℕ → Bool → Option Loss → Walking → Judged
+judged_in portion secure loss w = carried (lost_in loss (number_in w))
+    (judged_as w.step portion (length w.read.bytes) w.interface w.device secure)
+
+abbrev pub device_in : ℕ → Bool → Option Loss → Walking → DeviceTdis
+device_in portion secure loss w = reached (lost_in loss (number_in w)) w.device
+    (device_as w.step portion (length w.read.bytes) w.interface w.device secure)
+
+-- both ends behind an exchange whose reply comes to this
+abbrev pub walked_by : ℕ → Walking → Judged → DeviceTdis → Walked
+walked_by draws w judged device =
+    let after = taken_interface w.step draws judged w.interface in
+    record {
+      outcome = outcome_of w.step (number_in w) judged after;
+      interface = after;
+      read = read_after judged w.read;
+      device = device;
+    }
+
+abbrev pub walked_once : ℕ → ℕ → Bool → Option Loss → Walking → Walked
+walked_once portion draws secure loss w =
+    walked_by draws w (judged_in portion secure loss w) (device_in portion secure loss w)
+
+-- at the next exchange
+abbrev pub walking_on : Step → Walked → Walking
+walking_on s w = record { interface = w.interface; step = next_step s; read = w.read; device = w.device }
+
+abbrev pub continued : Outcome → Walked → Walked → Walked
+continued outcome.Next now rest = rest
+continued o now rest = now
+
+-- exchange after exchange, up to so many
+abbrev pub walk : (more : ℕ) → ℕ → ℕ → Bool → Option Loss → Walking → Walked
+walk zero portion draws secure loss w =
+    record { outcome = outcome.Next; interface = w.interface; read = w.read; device = w.device }
+walk (suc more) portion draws secure loss w =
+    continued (walked_once portion draws secure loss w).outcome (walked_once portion draws secure loss w)
+    (walk more portion draws secure loss (walking_on w.step (walked_once portion draws secure loss w)))
+
+abbrev pub begun_at : InterfaceOp → HostTdi → DeviceTdis → Walking
+begun_at op i d = record { interface = i; step = first_step op; read = nothing_read; device = d }
+
+-- ---- the stated step of an operation that is not refused at its beginning
+
+-- an exchange with these ends, of which this is lost
+abbrev pub stated_once : ℕ → ℕ → Bool → Option Lost → Named → Walking → Walked
+stated_once portion draws secure lost n w =
+    walked_by draws w
+    (carried lost (judged_due w.step portion (length w.read.bytes) w.interface n.tdi secure (next_nonce w.device)))
+    (reached lost w.device (asked_at w.device n (request_of w.step portion (length w.read.bytes) w.interface) secure))
+
+abbrev pub at_step : Step → HostTdi → DeviceTdis → Walking
+at_step s i d = record { interface = i; step = s; read = nothing_read; device = d }
+
+-- an operation of one exchange
+abbrev pub stated_alone : Step → ℕ → ℕ → Bool → Option Loss → HostTdi → DeviceTdis → Named → Walked
+stated_alone s portion draws secure loss i d n = stated_once portion draws secure (lost_in loss 1) n (at_step s i d)
+
+-- a loss ahead of the exchange that changes something leaves both ends
+abbrev pub lost_early : ℕ → HostTdi → DeviceTdis → Walked
+lost_early exchange i d =
+    record { outcome = outcome.Refused (SessionLost exchange); interface = i; read = nothing_read; device = d }
+
+abbrev pub unless_lost : Option Lost → Walked → Walked → Walked
+unless_lost None lost rest = rest
+unless_lost (Some l) lost rest = lost
+
+-- GET_VERSION and GET_CAPABILITIES change nothing; LOCK_INTERFACE is exchange 3
+abbrev pub stated_lock : ℕ → ℕ → Bool → Option Loss → HostTdi → DeviceTdis → Named → Walked
+stated_lock portion draws secure loss i d n =
+    unless_lost (lost_in loss 1) (lost_early 1 i d)
+    (unless_lost (lost_in loss 2) (lost_early 2 i d)
+    (stated_once portion draws secure (lost_in loss 3) n (at_step step.Lock i d)))
+
+abbrev pub stated : InterfaceOp → ℕ → ℕ → Bool → Option Loss → HostTdi → DeviceTdis → Named → Walked
+stated op.Lock portion draws secure loss i d n = stated_lock portion draws secure loss i d n
+stated op.Report portion draws secure loss i d n = stated_alone step.Report portion draws secure loss i d n
+stated op.Start portion draws secure loss i d n = stated_alone step.Start portion draws secure loss i d n
+stated op.Halt portion draws secure loss i d n = stated_alone step.Halt portion draws secure loss i d n
+stated op.State portion draws secure loss i d n = stated_alone step.State portion draws secure loss i d n
+
+-- ---- the law
+
+abbrev pub IsShortOp : InterfaceOp → Type 0
+IsShortOp op.Report = ⊥
+IsShortOp op = Unit {0}
+
+-- up to three exchanges
+abbrev pub OperationsAreStated : Type 0
+OperationsAreStated =
+    (o : InterfaceOp) (more portion draws : ℕ) (secure : Bool) (loss : Option Loss) (i : HostTdi) (d : DeviceTdis)
+    (n : Named)
+    → IsShortOp o → Meets portion i d n
+    → walk (suc (suc (suc more))) portion draws secure loss (begun_at o i d) ≡ stated o portion draws secure loss i d n

@@ -1,0 +1,62 @@
+-- A report, read portion by portion at one event.
+use Rattle.std.specs.Prelude.{ℕ, zero, suc, ◌+◌, ◌-◌, ◌≡◌, ◌≤◌, Bool, ◌&&◌, nat_le, nat_lt, List, length, Option, Some}
+use Rattle.std.specs.Prelude.{None, if◌then◌else◌}
+use Rattle.link_events.specs.declared.event.Loss.{Loss}
+use Rattle.tdi_state.specs.declared.states.Lock.{Lock}
+use Rattle.tdi_state.specs.Kept.{kept_report}
+use Rattle.tdi_state.specs.Machine.{lock_of}
+use Rattle.tdi_host.specs.declared.operation.InterfaceOp.TheVariants as op
+use Rattle.tdi_host.specs.declared.operation.Outcome.{Outcome}
+use Rattle.tdi_host.specs.declared.operation.Outcome.TheVariants as outcome
+use Rattle.tdi_host.specs.declared.operation.Refusal.TheVariants.{SessionLost}
+use Rattle.tdi_host.specs.declared.operation.Shown.TheVariants as shown
+use Rattle.tdi_host.specs.declared.step.Step.TheVariants as step
+use Rattle.tdi_host.specs.Views.{HostTdi, reported}
+use Rattle.tdi_device.specs.Replies.{DeviceTdis, Named}
+use Rattle.tdi_walks.specs.Exchanges.{Meets}
+use Rattle.tdi_walks.specs.Operations.{Walked, walk, begun_at, stated_alone}
+
+-- how many portions of up to so many bytes are in `left` bytes, of which there are no more than `more`
+abbrev pub portion_count : (more : ℕ) → ℕ → ℕ → ℕ
+portion_count zero portion left = 0
+portion_count (suc more) portion left =
+    if nat_le left portion then 1 else suc (portion_count more portion (left - portion))
+
+-- the exchange that is lost, where it is one of `count` from this number on
+abbrev pub lost_within : Option Loss → ℕ → ℕ → Option ℕ
+lost_within None from count = None
+lost_within (Some loss) from count =
+    if nat_le from loss.exchange && nat_lt loss.exchange (from + count) then Some loss.exchange else None
+
+abbrev pub read_outcome : Option ℕ → Outcome
+read_outcome None = outcome.Done shown.Report
+read_outcome (Some exchange) = outcome.Refused (SessionLost exchange)
+
+abbrev pub read_interface : Option ℕ → HostTdi → HostTdi
+read_interface None i = record i { seen = reported i.seen }
+read_interface (Some exchange) i = i
+
+-- Where one of its exchanges is lost, the view is as before; else the report is read, and it is the one that the lock
+-- kept. The device is as before.
+pub record ReportIsRead (lost : Option ℕ) (report : List ℕ) (i : HostTdi) (d : DeviceTdis) (w : Walked) : Type 0 where
+  pub outcome_is : w.outcome ≡ read_outcome lost
+  pub interface_is : w.interface ≡ read_interface lost i
+  pub device_is : w.device ≡ d
+  pub report_is : lost ≡ None → w.read.bytes ≡ report
+
+-- the device's interface is in CONFIG_LOCKED or RUN
+abbrev pub ReportsAreRead : Type 0
+ReportsAreRead =
+    (more portion draws : ℕ) (secure : Bool) (loss : Option Loss) (i : HostTdi) (d : DeviceTdis) (n : Named)
+    (lock : Lock)
+    → Meets portion i d n → lock_of n.tdi.state ≡ Some lock → length (kept_report n.tdi.plan lock) ≤ more
+    → ReportIsRead (lost_within loss 1 (portion_count more portion (length (kept_report n.tdi.plan lock))))
+    (kept_report n.tdi.plan lock) i d (walk more portion draws secure loss (begun_at op.Report i d))
+
+-- the device's interface is in no lock: its first exchange is refused, or lost
+abbrev pub ReportsAreRefused : Type 0
+ReportsAreRefused =
+    (more portion draws : ℕ) (secure : Bool) (loss : Option Loss) (i : HostTdi) (d : DeviceTdis) (n : Named)
+    → Meets portion i d n → lock_of n.tdi.state ≡ None
+    → walk (suc more) portion draws secure loss (begun_at op.Report i d)
+    ≡ stated_alone step.Report portion draws secure loss i d n

@@ -1,0 +1,44 @@
+//! What the exchanges of an operation come to.
+
+ghost use Rattle.tdi_walks.specs.Exchanges.{ExchangesAreDue, RepliesAreNeverBad, ReportsFit};
+ghost use Rattle.tdi_walks.specs.Operations.{OperationsAreStated};
+ghost use Rattle.tdi_walks.specs.Reports.{ReportsAreRead, ReportsAreRefused};
+
+use tdisp_codec::{reply_read_again, request_read_again};
+
+/// Carried to the device that has the interface, a request of the manager makes the call of the interface that is due,
+/// and its reply comes to what is due: the expected one with its value, or a refusal with its code.
+pub fn exchanges_are_due()
+    ensures { ExchangesAreDue }
+{
+    request_read_again();
+    reply_read_again();
+}
+
+/// No reply of the device is a bad one.
+pub fn replies_are_never_bad()
+    ensures { RepliesAreNeverBad }
+{
+    exchanges_are_due();
+}
+
+/// Lock, start, halt and state, carried exchange by exchange, each of which may be lost, come to one stated step.
+pub fn operations_are_stated()
+    ensures { OperationsAreStated }
+{
+    exchanges_are_due();
+}
+
+/// A report, carried portion by portion, each exchange of which may be lost, is read whole, and is the one that the
+/// lock kept; or it is cut short by the loss, or refused by a device that is in no lock. It changes no device.
+pub fn reports_are_read()
+    ensures read { ReportsAreRead }
+    ensures refused { ReportsAreRefused }
+{
+    exchanges_are_due();
+}
+
+/// The report that a lock keeps has 1 to 1,140 bytes, so the manager takes it.
+pub fn reports_fit()
+    ensures { ReportsFit }
+{}

@@ -1,0 +1,69 @@
+-- Regions of trusted memory and what stands in them (this profile).
+use Rattle.std.specs.Prelude.{ℕ, zero, suc, ◌≡◌, ◌+◌, ◌-◌, ◌/◌, ◌==◌, not, Bool, false, if◌then◌else◌, List, [], ◌∷◌}
+use Rattle.std.specs.Prelude.{map, replicate, slice_index, Option, Some, None}
+use Rattle.std.specs.List.{list_any}
+use Rattle.ide_plan.specs.declared.plan.Region.{Region}
+use Rattle.link_verdicts.specs.declared.verdict.BlockCause.{BlockCause}
+use Rattle.link_verdicts.specs.declared.verdict.Effect.{Effect}
+use Rattle.link_verdicts.specs.declared.verdict.Effect.TheVariants.{Applied}
+use Rattle.trusted_memory.specs.declared.span.Span.{Span}
+use Rattle.trusted_memory.specs.Writes.{Write, written, byte_after, newest_first}
+use Rattle.trusted_memory.specs.Regions.{is_inside}
+
+-- the regions, and the bytes of each from its base on
+pub record Contents : Type 0 where
+  pub regions : List Region
+  pub bytes : List (List ℕ)
+
+-- What is kept of them: the contents; beside them the numbers of the pages of 4,096 bytes that are there, and of how
+-- many more the memory is taken already.
+pub record TrustedMemory : Type 0 where
+  pub contents : Contents
+  pub pages : List ℕ
+  pub spare : ℕ
+
+-- 0 at first
+abbrev pub new_contents : List Region → Contents
+new_contents regions = record { regions = regions; bytes = map (λ r. replicate r.size 0) regions }
+
+abbrev pub new_memory : List Region → TrustedMemory
+new_memory regions = record { contents = new_contents regions; pages = []; spare = 0 }
+
+abbrev pub byte_in : List Region → List (List ℕ) → ℕ → ℕ
+byte_in (r ∷ rs) (b ∷ bs) a = if is_inside r a then slice_index b (a - r.base) else byte_in rs bs a
+byte_in _ _ a = 0
+
+-- the byte at an address, 0 where no region has it
+abbrev pub byte_at : Contents → ℕ → ℕ
+byte_at m a = byte_in m.regions m.bytes a
+
+-- n bytes from an address on
+abbrev pub bytes_from : (ℕ → ℕ) → ℕ → ℕ → List ℕ
+bytes_from byte at zero = []
+bytes_from byte at (suc n) = byte at ∷ bytes_from byte (at + 1) n
+
+-- ---- pages
+
+-- the page of this number, whose first byte is at 4096 times the number, is there
+abbrev pub has_page : TrustedMemory → ℕ → Bool
+has_page m n = list_any (λ k. n == k) m.pages
+
+-- a write takes a spare page where it is applied and its page is not there
+abbrev pub takes_page : TrustedMemory → Span → Option BlockCause → Bool
+takes_page m s None = not (has_page m (s.address / 4096))
+takes_page m s (Some cause) = false
+
+-- ---- writes
+
+-- what stands at an address after a write of this effect
+abbrev pub byte_by : Effect → Write → (ℕ → ℕ) → ℕ → ℕ
+byte_by Applied w old a = written w old a
+byte_by _ w old a = old a
+
+-- what is read anywhere is what these writes left, the newest first
+abbrev pub IsLeftBy : Contents → List Write → Type 0
+IsLeftBy m writes = (a : ℕ) → byte_at m a ≡ byte_after writes a
+
+-- writes that come one behind another lead from the first contents to the second
+abbrev pub Leads : Contents → List (Option Write) → Contents → Type 0
+Leads m os n = (older : List Write) → IsLeftBy m older → IsLeftBy n (newest_first os older)
