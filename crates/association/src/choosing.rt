@@ -2,7 +2,8 @@
 
 ghost use Rattle.std.specs.Prelude.{◌≡◌, ◌==◌, Some, if◌then◌else◌};
 ghost use Rattle.std.specs.List.{list_any};
-ghost use Rattle.association.specs.Choice.{address_of, id_of, holds, holds_address, holds_id, takes_by_range, takes_the_rest, takes_class, lesser_id, least_of, choice_of};
+ghost use Rattle.association.specs.Choice.{address_of, id_of, holds, holds_address, holds_id, takes_by_range};
+ghost use Rattle.association.specs.Choice.{takes_the_rest, takes_class, lesser_id, least_of, choice_of};
 ghost use Rattle.association.specs.Ways.{test_of};
 
 use crate::Choice;
@@ -48,6 +49,13 @@ fn id(side: Side, fields: &Fields) -> Option<u16>
         (Side::Device, Fields::Message(message)) => Some(message.requester),
         (Side::Device, Fields::Completion(completion)) => Some(completion.completer),
     }
+}
+
+/// The ID of the function that owns a TLP which it sends: the requester of a request, the completer of a completion.
+pub fn owner(head: &HeadView) -> Option<u16>
+    ensures { result ≡ id_of Side.Device head.now.fields }
+{
+    id(Side::Device, &head.fields)
 }
 
 fn range_holds(range: &AddressRange, address: Option<u64>) -> bool

@@ -7,4 +7,4 @@ mod choosing;
 mod tests;
 
 pub use choice::Choice;
-pub use choosing::{Table, choose};
+pub use choosing::{Table, choose, owner};

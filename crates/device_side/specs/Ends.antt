@@ -1,23 +1,54 @@
--- The device's end of a link: its port, and what its responder answers (PCI Express Base 6.0 section 6.33, in this
--- profile).
-use Rattle.std.specs.Prelude.{ℕ, List, Option, Some, None}
-use Rattle.ide_types.specs.declared.port.Side.TheVariants.{Device}
+-- The device's end of a link: its port, what its responder of keys answers, and its interfaces (PCI Express Base 6.0
+-- section 6.33 and chapter 11, in this profile).
+use Rattle.std.specs.Prelude.{ℕ, ◌==◌, Bool, true, false, List, [], ◌∷◌, Option, Some, None, if◌then◌else◌}
+use Rattle.std.specs.Option.{option_map_or}
+use Rattle.ide_types.specs.declared.port.Side.TheVariants as side
 use Rattle.ide_types.specs.declared.port.PortName.{PortName}
+use Rattle.ide_types.specs.declared.status.StreamStatus.{StreamStatus}
+use Rattle.ide_types.specs.declared.status.StreamStatus.TheVariants.{Secure}
+use Rattle.ide_plan.specs.declared.interface.InterfacePlan.{InterfacePlan}
 use Rattle.ide_plan.specs.declared.stream.StreamPlan.{StreamPlan}
+use Rattle.tlp_layout.specs.declared.head.HeadView.{HeadView}
+use Rattle.association.specs.Choice.{id_of}
 use Rattle.ide_km.specs.{PortCall, call_of, reply_of}
-use Rattle.ide_port.specs.{PortEnd, new_port, shown, called_port}
+use Rattle.tdi_device.specs.Replies.{DeviceTdis, new_tdis, settled, sets_t, answered, answer_bytes, stream_asked}
+use Rattle.tdi_device.specs.Replies.{reset_tdis}
+use Rattle.ide_port.specs.{PortEnd, new_port, reset_port, shown, called_port, status_in}
+use Rattle.device_side.specs.declared.device.Device.{Device}
 
--- the port, and the requester ID that it is asked for
-pub record DeviceEnd : Type 0 where
-  pub port : PortEnd
-  pub requester : ℕ
+-- its port, the requester ID that it is asked for, and its interfaces
+abbrev pub DeviceEnd : Type 0
+DeviceEnd = Device
 
 abbrev pub device_port : ℕ → PortName
-device_port link = record { side = Device; link = link }
+device_port link = record { side = side.Device; link = link }
 
-abbrev pub new_device : ℕ → List StreamPlan → ℕ → ℕ → DeviceEnd
-new_device link plans limit requester =
-    record { port = new_port (device_port link) plans limit; requester = requester }
+abbrev pub new_device : ℕ → List StreamPlan → ℕ → ℕ → List InterfacePlan → List (List ℕ) → DeviceEnd
+new_device link plans limit requester interfaces nonces = record {
+  port = new_port (device_port link) plans limit;
+  requester = requester;
+  interfaces = new_tdis interfaces nonces;
+}
+
+-- ---- streams
+
+abbrev pub says_secure : Option StreamStatus → Bool
+says_secure (Some Secure) = true
+says_secure status = false
+
+-- the port has the stream, and it is Secure there
+abbrev pub secure_at : PortEnd → ℕ → Bool
+secure_at port stream = says_secure (status_in port stream)
+
+-- interfaces whose stream is not Secure at the port leave their lock
+abbrev pub settled_device : DeviceEnd → DeviceEnd
+settled_device e = record e { interfaces = settled (secure_at e.port) e.interfaces }
+
+-- with another port, they do so by that one
+abbrev pub with_port : DeviceEnd → PortEnd → DeviceEnd
+with_port e port = settled_device (record e { port = port })
+
+-- ---- keys
 
 -- the call of the port that a request comes to
 abbrev pub call_asked : DeviceEnd → List ℕ → ℕ → Option PortCall
@@ -32,3 +63,48 @@ after_call port (Some call) = called_port call port
 
 abbrev pub asked_device : DeviceEnd → List ℕ → ℕ → DeviceEnd
 asked_device e request draw = record e { port = after_call e.port (call_asked e request draw) }
+
+-- ---- interfaces
+
+-- whether a stream that is asked to be locked to is Secure
+abbrev pub is_lockable : PortEnd → Option ℕ → Bool
+is_lockable port None = false
+is_lockable port (Some stream) = secure_at port stream
+
+abbrev pub lockable : DeviceEnd → List ℕ → Bool
+lockable e request = is_lockable e.port (stream_asked request)
+
+abbrev pub asked_interfaces : DeviceEnd → List ℕ → DeviceEnd
+asked_interfaces e request = record e { interfaces = answered e.interfaces request (lockable e request) }
+
+abbrev pub reply_of_interfaces : DeviceEnd → List ℕ → List ℕ
+reply_of_interfaces e request = answer_bytes e.interfaces request (lockable e request)
+
+-- ---- any message: the first byte of those to interfaces is 1
+
+abbrev pub is_to_interfaces : List ℕ → Bool
+is_to_interfaces [] = false
+is_to_interfaces (b ∷ bs) = b == 1
+
+abbrev pub device_asked : DeviceEnd → List ℕ → ℕ → DeviceEnd
+device_asked e request draw =
+    if is_to_interfaces request then asked_interfaces e request else settled_device (asked_device e request draw)
+
+abbrev pub device_reply : DeviceEnd → List ℕ → ℕ → List ℕ
+device_reply e request draw =
+    if is_to_interfaces request then reply_of_interfaces e request else reply_given e request draw
+
+-- ---- T
+
+abbrev pub owner_sets : DeviceTdis → ℕ → Option ℕ → Bool
+owner_sets d stream None = false
+owner_sets d stream (Some requester) = sets_t d requester stream
+
+-- of a TLP with this header on a stream
+abbrev pub device_trusting : DeviceTdis → HeadView → ℕ → Bool
+device_trusting d head stream = owner_sets d stream (id_of side.Device head.fields)
+
+-- ---- a reset of the link
+
+abbrev pub reset_device : DeviceEnd → DeviceEnd
+reset_device e = record e { port = reset_port e.port; interfaces = reset_tdis e.interfaces }

@@ -1,62 +1,102 @@
 //! A device.
 
-ghost use Rattle.std.specs.Prelude.{◌≡◌, ◌+◌, ◌<◌, ◌≤◌, ◌^◌, ◌++◌, ℕ, Some, false, IfOk, All, length, map, slice_get, vec_len, vec_capacity};
+ghost use Rattle.std.specs.Prelude.{◌≡◌, ◌+◌, ◌<◌, ◌≤◌, ◌^◌, ◌++◌, ℕ, Some, true, IfOk, IfSome, All, length, map};
+ghost use Rattle.std.specs.Prelude.{slice_get, vec_len, vec_capacity};
 ghost use Rattle.ide_plan.specs.Fits.{FitsStream};
-ghost use Rattle.ide_port.specs.{IsSent, take_step, status_in, reset_port};
+ghost use Rattle.tdi_state.specs.Held.{FitsTdi};
+ghost use Rattle.interface_words.specs.RegisterNames.{has_register, width_of};
+ghost use Rattle.tdi_state.specs.Machine.{state_code, LevelReset, FirmwareUpdate, WriteRegister};
+ghost use Rattle.tdi_device.specs.Replies.{called_at};
+ghost use Rattle.ide_port.specs.{IsSent, take_step, status_in};
 ghost use Rattle.sub_stream.specs.{lent_parts, mark_of};
+ghost use Rattle.device_side.specs.Ends.{is_to_interfaces, is_lockable, secure_at};
 
+use crate::wiring::{Owners, SecureStreams, is_secure_at};
 use ide_km::Responder;
-use ide_plan::StreamPlan;
+use ide_plan::{InterfacePlan, StreamPlan};
 use ide_port::{Arrival, Port, Sent};
-use ide_types::{Memory, PortName, Side, StreamStatus};
+use ide_types::{Items, Memory, PortName, Side, StreamStatus};
 use std::alloc::Global;
-use std::marker::Model;
 use sub_stream::PacketMark;
+use tdi_device::{DeviceInterfaces, TDISP_REPLY_ROOM, stream_asked};
+use tdi_state::Register;
 
 /// The room that a reply needs, in bytes.
-pub const REPLY_ROOM: usize = 8;
+pub const REPLY_ROOM: usize = TDISP_REPLY_ROOM;
 
-/// The device of a link: its port with the link's streams, whose keys its responder moves.
+/// The device of a link: its port with the link's streams, whose keys its responder moves, and its interfaces.
 #[derive(Drop)]
 pub struct Device {
-    port: Port,
-    responder: Responder,
+    /// The port, whose keys are moved by `answer` alone.
+    pub port: Port,
+    /// The requester ID that the responder names when it is asked what it is.
+    pub requester: u16,
+    /// The interfaces, by their place on the link.
+    pub interfaces: DeviceInterfaces,
 }
 
-impl Model for Device {
-    ghost use Rattle.device_side.specs.Ends.{DeviceEnd};
+// Whether a message is to the interfaces.
+fn is_to_interfaces(message: &[u8]) -> bool
+    ensures { result ≡ is_to_interfaces message.now }
+{
+    match message.first() {
+        None => false,
+        Some(byte) => *byte == 1,
+    }
+}
 
-    ghost Value = { DeviceEnd };
-
-    ghost view = { λ d. record { port = d.port; requester = d.responder.rid } };
+// Whether a stream that is asked to be locked to is Secure at the port.
+fn is_lockable(port: &Port, stream: Option<u8>) -> bool
+    ensures { result ≡ is_lockable port.now stream }
+{
+    match stream {
+        None => false,
+        Some(stream) => is_secure_at(port, stream),
+    }
 }
 
 impl Device {
-    ghost use Rattle.device_side.specs.Ends.{new_device, asked_device, reply_given};
+    ghost use Rattle.device_side.specs.Ends.{
+      new_device,
+      settled_device,
+      with_port,
+      asked_device,
+      reply_given,
+      asked_interfaces,
+      reply_of_interfaces,
+      device_asked,
+      device_reply,
+      device_trusting,
+      reset_device,
+    };
 
-    /// The device of a link with these streams, without keys; a key seals at most `limit` units. `requester` is the
-    /// requester ID that it names when it is asked what it is, 0 where it has no interface.
+    /// The device of a link with these streams, without keys, and these interfaces, whose locks get these nonces; a key
+    /// seals at most `limit` units. `requester` is the requester ID that it names when it is asked what it is, 0 where
+    /// it has no interface.
     pub fn make(
         alloc: Global,
         link: u8,
         plans: &[StreamPlan],
         limit: u64,
         requester: u16,
+        interfaces: &Items<InterfacePlan>,
+        nonces: &Items<[u8; 32]>,
     ) -> Result<Device, Memory>
-        requires { All FitsStream plans.now }
-        ensures { IfOk result (λ d. d ≡ new_device link plans.now limit requester) }
+        requires streams { All FitsStream plans.now }
+        requires interfaces { All FitsTdi interfaces.now }
+        ensures { IfOk result (λ d. d ≡ new_device link plans.now limit requester interfaces.now nonces.now) }
     {
         let name = PortName {
             side: Side::Device,
             link,
         };
-        match Port::make(alloc, name, plans, limit) {
-            Err(memory) => Err(memory),
-            Ok(port) => Ok(Device {
-                port,
-                responder: Responder::make(requester),
-            }),
-        }
+        let port = Port::make(alloc, name, plans, limit)?;
+        let interfaces = DeviceInterfaces::make(alloc, interfaces, nonces)?;
+        Ok(Device {
+            port,
+            requester,
+            interfaces,
+        })
     }
 
     /// How many TLPs its port was to send, and arrivals it had.
@@ -66,24 +106,74 @@ impl Device {
         self.port.calls()
     }
 
-    /// Answers a request of key management: makes at most one call of its port, and appends the reply, or nothing.
-    /// `draw` is the number under which a KEY_PROG's key is kept. `reply` has room for `REPLY_ROOM` bytes.
+    /// Interfaces in CONFIG_LOCKED and RUN whose stream is not Secure at the port go to ERROR.
+    pub fn settle(&mut self)
+        ensures { self.new ≡ settled_device self.old }
+    {
+        let streams = SecureStreams { port: &self.port };
+        self.interfaces.settle(&streams);
+    }
+
+    /// Answers a message of the host, of key management or to an interface, which its first byte tells: makes at most
+    /// one call of its port or of one interface, and appends the reply, or nothing. `draw` is the number under which a
+    /// KEY_PROG's key is kept. Interfaces in CONFIG_LOCKED and RUN go to ERROR where their stream is not Secure behind
+    /// it. `reply` has room for `REPLY_ROOM` bytes.
     pub fn answer(&mut self, request: &[u8], draw: u32, reply: &mut Vec<u8>)
         requires { vec_len reply.old + REPLY_ROOM ≤ vec_capacity reply.old }
+        ensures device { self.new ≡ device_asked self.old request.now draw }
+        ensures reply { reply.new.items ≡ reply.old.items ++ device_reply self.old request.now draw }
+        ensures capacity { vec_capacity reply.old ≤ vec_capacity reply.new }
+    {
+        if is_to_interfaces(request) {
+            self.answer_to_interfaces(request, reply)
+        } else {
+            self.answer_of_keys(request, draw, reply);
+            self.settle();
+        }
+    }
+
+    /// Answers a message of key management, one of several that come to a device at one event, behind the last of which
+    /// it settles (`settle`). `reply` has 8 bytes of room.
+    pub fn answer_of_keys(&mut self, request: &[u8], draw: u32, reply: &mut Vec<u8>)
+        requires { vec_len reply.old + 8 ≤ vec_capacity reply.old }
         ensures device { self.new ≡ asked_device self.old request.now draw }
         ensures reply { reply.new.items ≡ reply.old.items ++ reply_given self.old request.now draw }
         ensures capacity { vec_capacity reply.old ≤ vec_capacity reply.new }
     {
-        self.responder.answer(&mut self.port, request, draw, reply)
+        let mut responder = Responder::make(self.requester);
+        responder.answer(&mut self.port, request, draw, reply);
     }
 
-    /// Sends a TLP's bytes, as its port does; it sets T of none.
+    // Answers a message to an interface.
+    fn answer_to_interfaces(&mut self, request: &[u8], reply: &mut Vec<u8>)
+        requires { vec_len reply.old + REPLY_ROOM ≤ vec_capacity reply.old }
+        ensures device { self.new ≡ asked_interfaces self.old request.now }
+        ensures reply { reply.new.items ≡ reply.old.items ++ reply_of_interfaces self.old request.now }
+        ensures capacity { vec_capacity reply.old ≤ vec_capacity reply.new }
+    {
+        let secure = is_lockable(&self.port, stream_asked(request));
+        self.interfaces.answer(request, secure, reply);
+    }
+
+    /// Whether the port has the stream, and it is Secure there.
+    pub fn is_secure(&self, stream: u8) -> bool
+        ensures { result ≡ secure_at self.now.port stream }
+    {
+        is_secure_at(&self.port, stream)
+    }
+
+    /// Sends a TLP's bytes, as its port does; T is set where the TLP's owner is an interface in RUN, on the stream that
+    /// the interface is bound to.
     pub fn send(&mut self, tlp: &[u8], more: bool) -> Sent
         requires { self.old.port.calls < 2 ^ 40 }
-        ensures sent { (number : ℕ) → IsSent self.old.port tlp.now false more number result self.new.port }
-        ensures requester { self.new.requester ≡ self.old.requester }
+        ensures sent { (number : ℕ) → IsSent self.old.port tlp.now (device_trusting self.old.interfaces) more number
+            result self.new.port }
+        ensures others { self.new ≡ record self.old { port = self.new.port } }
     {
-        self.port.send(tlp, false, more)
+        let owners = Owners {
+            interfaces: &self.interfaces,
+        };
+        self.port.send(tlp, &owners, more)
     }
 
     /// The bytes that the last send sealed, its packets joined.
@@ -94,13 +184,16 @@ impl Device {
         self.port.packets()
     }
 
-    /// Takes bytes that arrive. What an accepted unit carries is lent until the next arrival or answer.
+    /// Takes bytes that arrive. What an accepted unit carries is lent until the next arrival or answer. Interfaces in
+    /// CONFIG_LOCKED and RUN go to ERROR where their stream is not Secure behind it.
     pub fn take(&mut self, bytes: &[u8]) -> Arrival
         requires { self.old.port.calls < 2 ^ 40 }
         ensures answer { result ≡ (take_step self.old.port bytes.now).answer }
-        ensures device { self.new ≡ record self.old { port = (take_step self.old.port bytes.now).port } }
+        ensures device { self.new ≡ with_port self.old (take_step self.old.port bytes.now).port }
     {
-        self.port.take(bytes)
+        let arrival = self.port.take(bytes);
+        self.settle();
+        arrival
     }
 
     /// How many packets of an accepted unit are lent, at most 8.
@@ -135,10 +228,68 @@ impl Device {
         self.port.status(stream)
     }
 
-    /// Drops all keys, open units, held packets, counts and failures of its port.
+    /// A reset of the link: drops all keys, open units, held packets, counts and failures of the port; each interface
+    /// is in CONFIG_UNLOCKED, with the topology's registers. Nonces that were given stay so.
     pub fn reset(&mut self)
-        ensures { self.new ≡ record self.old { port = reset_port self.old.port } }
+        ensures { self.new ≡ reset_device self.old }
     {
-        self.port.reset()
+        self.port.reset();
+        self.interfaces.reset();
+    }
+
+    /// How many interfaces it has.
+    pub fn count(&self) -> usize
+        ensures { result ≡ length self.now.interfaces.interfaces }
+    {
+        self.interfaces.count()
+    }
+
+    /// The code of the state of the interface at this place: CONFIG_UNLOCKED 0, CONFIG_LOCKED 1, RUN 2, ERROR 3.
+    pub fn state(&self, place: usize) -> u8
+        requires { place < length self.now.interfaces.interfaces }
+        ensures { IfSome (slice_get self.now.interfaces.interfaces place) (λ tdi. result ≡ state_code tdi.state) }
+    {
+        self.interfaces.state(place)
+    }
+
+    /// Whether the interface at this place has this register.
+    pub fn has_register(&self, place: usize, register: Register) -> bool
+        requires { place < length self.now.interfaces.interfaces }
+        ensures { IfSome (slice_get self.now.interfaces.interfaces place) (λ tdi. result ≡ has_register tdi.plan register) }
+    {
+        self.interfaces.has_register(place, register)
+    }
+
+    /// Writes a register that the interface at this place has, with a value of its width.
+    pub fn write_register(&mut self, place: usize, register: Register, value: u64)
+        requires place { place < length self.old.interfaces.interfaces }
+        requires exists { IfSome (slice_get self.old.interfaces.interfaces place)
+            (λ tdi. has_register tdi.plan register ≡ true) }
+        requires width { value < 2 ^ width_of register }
+        ensures { IfSome (slice_get self.old.interfaces.interfaces place) (λ tdi. self.new ≡ record self.old {
+          interfaces = called_at self.old.interfaces place tdi (WriteRegister register value);
+        }) }
+    {
+        self.interfaces.write_register(place, register, value)
+    }
+
+    /// A function level reset of the interface at this place.
+    pub fn flr(&mut self, place: usize)
+        requires { place < length self.old.interfaces.interfaces }
+        ensures { IfSome (slice_get self.old.interfaces.interfaces place) (λ tdi. self.new ≡ record self.old {
+          interfaces = called_at self.old.interfaces place tdi LevelReset;
+        }) }
+    {
+        self.interfaces.flr(place)
+    }
+
+    /// A firmware update, as it concerns the interface at this place.
+    pub fn firmware(&mut self, place: usize)
+        requires { place < length self.old.interfaces.interfaces }
+        ensures { IfSome (slice_get self.old.interfaces.interfaces place) (λ tdi. self.new ≡ record self.old {
+          interfaces = called_at self.old.interfaces place tdi FirmwareUpdate;
+        }) }
+    {
+        self.interfaces.firmware(place)
     }
 }

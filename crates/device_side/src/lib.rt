@@ -1,9 +1,10 @@
-//! The device's end of a link: a port, and the responder of key management that moves its slots (PCI Express Base 6.0
-//! section 6.33, in this profile). Only `make` takes memory.
+//! The device's end of a link: a port, the responder of key management that moves its slots, and its interfaces (PCI
+//! Express Base 6.0 section 6.33 and chapter 11, in this profile). Only `make` takes memory.
 #![tactic(auto)]
 
 mod device;
 #[cfg(test)]
 mod tests;
+mod wiring;
 
 pub use device::{Device, REPLY_ROOM};

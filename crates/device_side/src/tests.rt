@@ -47,7 +47,9 @@ fn device_is_keyed_and_sends(rt: HostRuntime) -> Result<(), Fail> {
             default: false,
         },
     }];
-    let mut device = Device::make(rt.alloc(), 0, &plans, 0x1_0000_0000, 0x0100)?;
+    let none = Items::new(Vec::new(rt.alloc()));
+    let nonces = Items::new(Vec::new(rt.alloc()));
+    let mut device = Device::make(rt.alloc(), 0, &plans, 0x1_0000_0000, 0x0100, &none, &nonces)?;
     answer(
         &rt,
         rt.alloc(),

@@ -1,6 +1,10 @@
 -- A port keeps what always holds of it.
-use Rattle.ide_port.proofs.Terms.{◌≡◌, ℕ, suc, zero, ◌+◌, ◌<◌, ◌≤◌, List, [], ◌∷◌, length, map, get_or, Option, Some, None, Result, refl, ap, ◌∙◌, arith, slice_set, slice_get, vec_capacity, nat_tests, Side, SubKind, StreamPlan, Packet}
-use Rattle.ide_port.proofs.Terms.{StreamState, Sending, SlotCall, StreamEnd, joined_packets, packets_sent, taken_in, end_taken, called_end, SendRefusal, Inside, PortEnd, Found, found, NoneWaits, AreStreamsOf, IsKept, lent_by}
+use Rattle.ide_port.proofs.Terms.{◌≡◌, ℕ, suc, zero, ◌+◌, ◌<◌, ◌≤◌, List, [], ◌∷◌, length, map, get_or, Option, Some}
+use Rattle.ide_port.proofs.Terms.{None, Result, refl, ap, ◌∙◌, arith, slice_set, slice_get, vec_capacity, nat_tests}
+use Rattle.ide_port.proofs.Terms.{Side, SubKind, StreamPlan, Packet}
+use Rattle.ide_port.proofs.Terms.{StreamState, Sending, SlotCall, StreamEnd, joined_packets, packets_sent, taken_in}
+use Rattle.ide_port.proofs.Terms.{end_taken, called_end, SendRefusal, Inside, PortEnd, Found, found, NoneWaits}
+use Rattle.ide_port.proofs.Terms.{AreStreamsOf, IsKept, lent_by}
 use Rattle.ide_port.proofs.Terms.{delivered_at}
 use Rattle.std.proofs.lemmas.List.{length-set}
 use Rattle.sub_stream.specs.declared.answer.SealedPacket.{SealedPacket}
@@ -13,7 +17,16 @@ use Rattle.ide_port.proofs.Lengths.{sent-length}
 -- a port with these streams, with these bytes, lent and calls
 abbrev pub seen : Inside → List StreamEnd → List ℕ → Option ℕ → ℕ → PortEnd
 seen p xs sealed lent calls =
-    record { name = p.name; plans = p.plans; limit = p.limit; states = map state_of xs; sealed = sealed; delivered = delivered_at xs lent; calls = calls }
+    record {
+      name = p.name;
+      plans = p.plans;
+      limit = p.limit;
+      states = map state_of xs;
+      sealed = sealed;
+      delivered =
+          delivered_at xs lent;
+      calls = calls;
+    }
 
 -- as it is
 abbrev pub now : Inside → PortEnd
@@ -30,52 +43,69 @@ lends-none n p e = absurd cc
 
 -- ---- calls of a stream
 
-module _ (p : Inside) (kept : Keeps p) (id place : ℕ) (x : StreamEnd) (at : place_of p.plans id ≡ Some place) (is : x ≡ get_or p.streams.items place x) where
+module _ (p : Inside) (kept : Keeps p) (id place : ℕ) (x : StreamEnd) (at : place_of p.plans id ≡ Some place)
+    (is : x ≡ get_or p.streams.items place x) where
   pub there : IsPlaced p.name.side p.limit p.calls p.plans p.streams.items id place x
   there = placed _ _ _ _ _ id place x kept.each at is
 
-  kept-with : (more n : ℕ) (y : StreamEnd) (st : StreamState) (packets : List Packet) (lent : Option ℕ) (sealed : List ℕ) (capacity : ℕ) → p.calls ≤ more
-      → y ≡ record x { state = st; delivered = packets; calls = n } → NoneWaits st → n ≤ more → ((q : ℕ) → lent ≡ Some q → q < length p.streams.items)
-      → length sealed ≤ 4184 → 4184 ≤ capacity → IsKept p.name.side p.limit more p.plans (slice_set p.streams.items place y) lent sealed capacity
+  kept-with : (more n : ℕ) (y : StreamEnd) (st : StreamState) (packets : List Packet) (lent : Option ℕ)
+      (sealed : List ℕ) (capacity : ℕ) → p.calls ≤ more
+      → y ≡ record x { state = st; delivered = packets; calls = n } → NoneWaits st → n ≤ more
+      → ((q : ℕ) → lent ≡ Some q → q < length p.streams.items)
+      → length sealed ≤ 4184 → 4184 ≤ capacity → IsKept p.name.side p.limit more p.plans
+      (slice_set p.streams.items place y) lent sealed capacity
   kept-with more n y st packets lent sealed capacity le after none few lends short room = record {
     each = there.keeps more y le
-        (rw after (record { plan = (λ i. record (there.of_plan.plan i) { state = st; delivered = packets; calls = n }); few = few; receivers = none }));
+        (rw after (record {
+          plan = (λ i. record (there.of_plan.plan i) { state = st; delivered = packets; calls = n });
+          few = few;
+          receivers = none;
+        }));
     lends = λ q e. (let lt = lends q e in omega (arith, lt, length-set p.streams.items place y));
     short = short;
     room = room;
   }
 
-  pub kept-sent : (y : StreamEnd) (head payload : List ℕ) (s : Sending) (number : ℕ) (answer : Result (List SealedPacket) SendRefusal) (before out : List ℕ)
+  pub kept-sent : (y : StreamEnd) (head payload : List ℕ) (s : Sending) (number : ℕ)
+      (answer : Result (List SealedPacket) SendRefusal) (before out : List ℕ)
       (capacity : ℕ)
-      → IsSent x head payload s number answer before out y → before ≡ [] → length head ≤ 16 → length payload ≤ 4096 → 4184 ≤ capacity
+      → IsSent x head payload s number answer before out y → before ≡ [] → length head ≤ 16 → length payload ≤ 4096
+      → 4184 ≤ capacity
       → IsKept p.name.side p.limit (p.calls + 1) p.plans (slice_set p.streams.items place y) p.lent out capacity
   kept-sent y head payload s number answer before out capacity sent none h b room =
       let bytes : out ≡ joined_packets (packets_sent x head payload s number) = rw none at sent.bytes in
-      kept-with (p.calls + 1) (x.calls + 1) y _ x.delivered p.lent out capacity (omega arith) sent.stream (none-unless _ x.state _ there.of_plan.receivers)
+      kept-with (p.calls + 1) (x.calls + 1) y _ x.delivered p.lent out capacity (omega arith) sent.stream
+      (none-unless _ x.state _ there.of_plan.receivers)
       (omega (arith, there.of_plan.few)) kept.lends (rw bytes (sent-length x head payload s number h b)) room
 
   pub kept-taken : (y : StreamEnd) (packet : Packet) → y ≡ end_taken x packet
-      → IsKept p.name.side p.limit (p.calls + 1) p.plans (slice_set p.streams.items place y) (Some place) p.sealed.items (vec_capacity p.sealed)
+      → IsKept p.name.side p.limit (p.calls + 1) p.plans (slice_set p.streams.items place y) (Some place) p.sealed.items
+      (vec_capacity p.sealed)
   kept-taken y packet after =
       let lends : (q : ℕ) → Some place ≡ Some q → q < length p.streams.items =
       λ q e. (let same : place ≡ q = cc in rw (← same) (inside p id place kept at)) in
-      kept-with (p.calls + 1) (x.calls + 1) y _ _ (Some place) _ _ (omega arith) after (none-taken x.state packet (taken_in x packet) there.of_plan.receivers)
+      kept-with (p.calls + 1) (x.calls + 1) y _ _ (Some place) _ _ (omega arith) after
+      (none-taken x.state packet (taken_in x packet) there.of_plan.receivers)
       (omega (arith, there.of_plan.few)) lends kept.short kept.room
 
   pub kept-called : (y : StreamEnd) (d : ℕ) (u : SubKind) (c : SlotCall) → y ≡ called_end x d u c
-      → IsKept p.name.side p.limit p.calls p.plans (slice_set p.streams.items place y) None p.sealed.items (vec_capacity p.sealed)
+      → IsKept p.name.side p.limit p.calls p.plans (slice_set p.streams.items place y) None p.sealed.items
+      (vec_capacity p.sealed)
   kept-called y d u c after =
-      kept-with p.calls x.calls y _ [] None _ _ (omega arith) after (none-called _ u c x.state there.of_plan.receivers) there.of_plan.few
+      kept-with p.calls x.calls y _ [] None _ _ (omega arith) after (none-called _ u c x.state there.of_plan.receivers)
+      there.of_plan.few
       (lends-none _) kept.short kept.room
 
 -- ---- what is lent
 
-pub lends-there : (xs : List StreamEnd) (i : ℕ) (y : StreamEnd) → i < length xs → delivered_at (slice_set xs i y) (Some i) ≡ y.delivered
+pub lends-there : (xs : List StreamEnd) (i : ℕ) (y : StreamEnd) → i < length xs
+    → delivered_at (slice_set xs i y) (Some i) ≡ y.delivered
 lends-there [] i y lt = absurd (omega arith)
 lends-there (x ∷ xs) zero y lt = refl
 lends-there (x ∷ xs) (suc i) y lt = lends-there xs i y (omega arith)
 
-same-lent : (xs : List StreamEnd) (i k : ℕ) (x y : StreamEnd) → i < length xs → x ≡ get_or xs i x → y.delivered ≡ x.delivered
+same-lent : (xs : List StreamEnd) (i k : ℕ) (x y : StreamEnd) → i < length xs → x ≡ get_or xs i x → y.delivered
+    ≡ x.delivered
     → lent_by (slice_get (slice_set xs i y) k) ≡ lent_by (slice_get xs k)
 same-lent [] i k x y lt is same = absurd (omega arith)
 same-lent (z ∷ xs) zero zero x y lt is same = same ∙ ap (λ (w : StreamEnd). w.delivered) is
@@ -83,14 +113,16 @@ same-lent (z ∷ xs) zero (suc k) x y lt is same = refl
 same-lent (z ∷ xs) (suc i) zero x y lt is same = refl
 same-lent (z ∷ xs) (suc i) (suc k) x y lt is same = same-lent xs i k x y (omega arith) is same
 
-pub lends-still : (xs : List StreamEnd) (i : ℕ) (lent : Option ℕ) (x y : StreamEnd) → i < length xs → x ≡ get_or xs i x → y.delivered ≡ x.delivered
+pub lends-still : (xs : List StreamEnd) (i : ℕ) (lent : Option ℕ) (x y : StreamEnd) → i < length xs → x ≡ get_or xs i x
+    → y.delivered ≡ x.delivered
     → delivered_at (slice_set xs i y) lent ≡ delivered_at xs lent
 lends-still xs i None x y lt is same = refl
 lends-still xs i (Some k) x y lt is same = same-lent xs i k x y lt is same
 
 -- ---- no call of a stream
 
-pub kept-later : (p : Inside) (lent : Option ℕ) (sealed : List ℕ) (capacity : ℕ) → Keeps p → ((q : ℕ) → lent ≡ Some q → q < length p.streams.items)
+pub kept-later : (p : Inside) (lent : Option ℕ) (sealed : List ℕ) (capacity : ℕ) → Keeps p
+    → ((q : ℕ) → lent ≡ Some q → q < length p.streams.items)
     → length sealed ≤ 4184
     → 4184 ≤ capacity → IsKept p.name.side p.limit (p.calls + 1) p.plans p.streams.items lent sealed capacity
 kept-later p lent sealed capacity kept lends short room =
@@ -98,9 +130,11 @@ kept-later p lent sealed capacity kept lends short room =
 
 -- ---- no receiver waits
 
-pub none-found : (side : Side) (limit calls : ℕ) (ss : List StreamPlan) (xs : List StreamEnd) → AreStreamsOf side limit calls ss xs
+pub none-found : (side : Side) (limit calls : ℕ) (ss : List StreamPlan) (xs : List StreamEnd)
+    → AreStreamsOf side limit calls ss xs
     → (id : ℕ) (f : Found) → found ss (map state_of xs) id ≡ Some f → NoneWaits f.state
 none-found side limit calls [] [] h id f e u = absurd cc
 none-found side limit calls [] (x ∷ xs) h id f e u = absurd h
 none-found side limit calls (s ∷ ss) [] h id f e u = absurd h
-none-found side limit calls (s ∷ ss) (x ∷ xs) h id f e u = grind (arith, nat_tests, none-found side limit calls ss xs h.1 id f, h.0.receivers u)
+none-found side limit calls (s ∷ ss) (x ∷ xs) h id f e u = grind
+    (arith, nat_tests, none-found side limit calls ss xs h.1 id f, h.0.receivers u)

@@ -1,6 +1,10 @@
 -- What one send seals has at most 4,184 bytes.
-use Rattle.ide_port.proofs.Terms.{◌≡◌, ℕ, ◌+◌, ◌≤◌, true, false, List, [], ◌∷◌, ◌++◌, length, Option, Some, None, arith, length-append, if◌then◌else◌, SubKind, Packet, packet_bytes, sync_head, Verdict, Sending, Lanes, described}
-use Rattle.ide_port.proofs.Terms.{needs_sync, sync_before, ends_unit, sets_trusted, front_with, sealed_by, LiveKey, Three, TxSub, at_sub, live_sender, untagged_under, tagged_under, packet_under, sealed_one, sealed_all, StreamEnd}
+use Rattle.ide_port.proofs.Terms.{◌≡◌, ℕ, ◌+◌, ◌≤◌, true, false, List, [], ◌∷◌, ◌++◌, length, Option, Some, None, arith}
+use Rattle.ide_port.proofs.Terms.{length-append, if◌then◌else◌, SubKind, Packet, packet_bytes, sync_head, Verdict}
+use Rattle.ide_port.proofs.Terms.{Sending, Lanes, described}
+use Rattle.ide_port.proofs.Terms.{needs_sync, sync_before, ends_unit, sets_trusted, front_with, sealed_by, LiveKey}
+use Rattle.ide_port.proofs.Terms.{Three, TxSub, at_sub, live_sender, untagged_under, tagged_under, packet_under}
+use Rattle.ide_port.proofs.Terms.{sealed_one, sealed_all, StreamEnd}
 use Rattle.ide_port.proofs.Terms.{joined_packets, packets_sent, lanes_in, unless, sealing, refused}
 use Rattle.std.proofs.Common.{Bool}
 use Rattle.gcm_seal.specs.Gcm.{masked, tag_of}
@@ -20,29 +24,39 @@ room_of d = if d.sync then 28 else 4128
 bytes_length : (p : Packet) → length (packet_bytes p) ≡ 4 + (length p.head + (length p.body + length p.tag))
 bytes_length p = omega (arith, length-append p.head (p.body ++ p.tag), length-append p.body p.tag)
 
-parts_length : (sync : Bool) (key iv : List ℕ) (n : ℕ) (head payload : List ℕ) → length head ≤ 16 → length payload ≤ 4096
-    → length (if sync then sync_head else head) + length (masked key iv n (if sync then [] else payload)) + 16 ≤ (if sync then 28 else 4128)
+parts_length : (sync : Bool) (key iv : List ℕ) (n : ℕ) (head payload : List ℕ) → length head ≤ 16
+    → length payload ≤ 4096
+    → length (if sync then sync_head else head) + length (masked key iv n (if sync then [] else payload)) + 16 ≤
+    (if sync then 28 else 4128)
 parts_length true key iv n head payload h b = omega (arith, length-masked key iv n [])
 parts_length false key iv n head payload h b = omega (arith, length-masked key iv n payload, h, b)
 
-packet_length : (ahead : List ℕ) (o : Option (Bool × LiveKey)) (d : SealedPacket) (head payload : List ℕ) → length head ≤ 16 → length payload ≤ 4096
+packet_length : (ahead : List ℕ) (o : Option (Bool × LiveKey)) (d : SealedPacket) (head payload : List ℕ)
+    → length head ≤ 16 → length payload ≤ 4096
     → length (packet_bytes (packet_under ahead o d head payload)) ≤ room_of d
 packet_length ahead None d head payload h b =
-    omega (arith, bytes_length (untagged_under [] [] d head payload), parts_length d.sync [] (iv_of d.sub d.unit) (length (encrypted [])) head payload h b)
+    omega (
+      arith,
+      bytes_length (untagged_under [] [] d head payload),
+      parts_length d.sync [] (iv_of d.sub d.unit)
+          (length (encrypted [])) head payload h b,
+    )
 packet_length ahead (Some x) d head payload h b =
     let p = untagged_under x.1.key x.1.packets d head payload in
     omega (
       arith,
       bytes_length (tagged_under ahead x.1.key x.1.packets d p),
       parts_length d.sync x.1.key (iv_of d.sub d.unit) (length (encrypted x.1.packets)) head payload h b,
-      tag_length d.m x.1.key (iv_of d.sub d.unit) (ahead ++ authenticated (x.1.packets ++ p ∷ [])) (encrypted (x.1.packets ++ p ∷ [])),
+      tag_length d.m x.1.key (iv_of d.sub d.unit) (ahead ++ authenticated (x.1.packets ++ p ∷ []))
+          (encrypted (x.1.packets ++ p ∷ [])),
     )
 
 room_all : List SealedPacket → ℕ
 room_all [] = 0
 room_all (d ∷ ds) = room_of d + room_all ds
 
-all_length : (closed : Bool) (head payload : List ℕ) (ds : List SealedPacket) (tx : Three TxSub) → length head ≤ 16 → length payload ≤ 4096
+all_length : (closed : Bool) (head payload : List ℕ) (ds : List SealedPacket) (tx : Three TxSub) → length head ≤ 16
+    → length payload ≤ 4096
     → length (joined_packets (sealed_all closed head payload ds tx).0) ≤ room_all ds
 unfolding room_all
 all_length closed head payload [] tx h b = omega arith
@@ -62,7 +76,8 @@ unfolding room_all
 room_append [] ys = omega arith
 room_append (x ∷ xs) ys = omega (arith, room_append xs ys)
 
-sync_room : (b : Bool) (x : Lanes) (s : Sending) (u : SubKind) (number : ℕ) → room_all (if b then described x s u number true false true ∷ [] else []) ≤ 28
+sync_room : (b : Bool) (x : Lanes) (s : Sending) (u : SubKind) (number : ℕ)
+    → room_all (if b then described x s u number true false true ∷ [] else []) ≤ 28
 unfolding room_all
 sync_room b x s u number = grind arith
 
@@ -71,7 +86,8 @@ unfolding room_all
 sealed_room x s number =
     let first = sync_before x s Npr number in
     let second = sync_before x s Cpl (number + length first) in
-    let last = described x s s.class (number + length first + length second) (ends_unit x s) (sets_trusted s.port s.trusted) false in
+    let last = described x s s.class (number + length first + length second) (ends_unit x s)
+    (sets_trusted s.port s.trusted) false in
     omega (
       arith,
       room_append (first ++ second) (last ∷ []),
@@ -80,11 +96,18 @@ sealed_room x s number =
       sync_room (needs_sync x s.class Cpl) x s Cpl (number + length first),
     )
 
-unless_length : (o : Option Verdict) (ps : List Packet) (n : ℕ) → length (joined_packets ps) ≤ n → length (joined_packets (unless o [] ps)) ≤ n
+unless_length : (o : Option Verdict) (ps : List Packet) (n : ℕ) → length (joined_packets ps) ≤ n
+    → length (joined_packets (unless o [] ps)) ≤ n
 unless_length o ps n le = grind arith
 
-pub sent-length : (e : StreamEnd) (head payload : List ℕ) (s : Sending) (number : ℕ) → length head ≤ 16 → length payload ≤ 4096
+pub sent-length : (e : StreamEnd) (head payload : List ℕ) (s : Sending) (number : ℕ) → length head ≤ 16
+    → length payload ≤ 4096
     → length (joined_packets (packets_sent e head payload s number)) ≤ 4184
 sent-length e head payload s number h b =
     unless_length (refused e s) (sealing e head payload s number).0 4184
-    (omega (arith, all_length e.closed head payload (sealed_by (lanes_in e) s number) e.state.tx h b, sealed_room (lanes_in e) s number))
+    (omega (
+      arith,
+      all_length e.closed head payload (sealed_by (lanes_in e) s number) e.state.tx h b,
+      sealed_room
+          (lanes_in e) s number,
+    ))

@@ -1,9 +1,13 @@
 -- What a call makes of slots is what key management says of them.
-use Rattle.ide_port.proofs.Terms.{◌≡◌, true, false, ◌&&◌, ◌||◌, arith, nat_tests, SubKind, Slots, Three, TxSub, RxSub, StreamState, at_sub, set_sub, settled_stream, slot_pair, SlotCall, slots_at, pair_at, called, slots_called_out}
-use Rattle.ide_port.proofs.Terms.{slots_called_into, PortCall, slots_by, is_unfinished, slot_call, is_waiting, NoneWaits}
+use Rattle.ide_port.proofs.Terms.{◌≡◌, true, false, ◌&&◌, ◌||◌, arith, nat_tests, SubKind, Slots, Three, TxSub, RxSub}
+use Rattle.ide_port.proofs.Terms.{StreamState, at_sub, set_sub, settled_stream, slot_pair, SlotCall, slots_at, pair_at}
+use Rattle.ide_port.proofs.Terms.{called, slots_called_out}
+use Rattle.ide_port.proofs.Terms.{slots_called_into, PortCall, slots_by, is_unfinished, slot_call, is_waiting}
+use Rattle.ide_port.proofs.Terms.{NoneWaits}
 use Rattle.std.proofs.Common.{Bool}
 
-slots_out : (c : PortCall) (s : Slots) → slot_pair true (slots_called_out (slot_call c) s) ≡ slots_by c (is_unfinished s) (slot_pair true s)
+slots_out : (c : PortCall) (s : Slots) → slot_pair true (slots_called_out (slot_call c) s)
+    ≡ slots_by c (is_unfinished s) (slot_pair true s)
 slots_out c s = grind (arith, nat_tests)
 
 slots_into : (c : PortCall) (u : Bool) (s : Slots) → (is_waiting s.first || is_waiting s.second) ≡ false
@@ -12,10 +16,12 @@ slots_into c u s h = grind (arith, nat_tests)
 
 -- ---- the place that is called
 
-settled_out : (u : SubKind) (tx : Three TxSub) (rx : Three RxSub) (failed : Bool) → slots_at true u (settled_stream tx rx failed) ≡ (at_sub tx u).slots
+settled_out : (u : SubKind) (tx : Three TxSub) (rx : Three RxSub) (failed : Bool)
+    → slots_at true u (settled_stream tx rx failed) ≡ (at_sub tx u).slots
 settled_out u tx rx failed = grind arith
 
-settled_in : (u : SubKind) (tx : Three TxSub) (rx : Three RxSub) (failed : Bool) → slots_at false u (settled_stream tx rx failed) ≡ (at_sub rx u).slots
+settled_in : (u : SubKind) (tx : Three TxSub) (rx : Three RxSub) (failed : Bool)
+    → slots_at false u (settled_stream tx rx failed) ≡ (at_sub rx u).slots
 settled_in u tx rx failed = grind arith
 
 set_same : {A : Type 0} (t : Three A) (u : SubKind) (x : A) → at_sub (set_sub t u x) u ≡ x
@@ -25,7 +31,8 @@ set_other : {A : Type 0} (t : Three A) (u w : SubKind) (x : A) → (w ≡ u → 
 set_other t u w x ne = grind arith
 
 pub moved-pair : (sends : Bool) (u : SubKind) (c : PortCall) (st : StreamState) → NoneWaits st
-    → pair_at sends u (called sends u (slot_call c) st) ≡ slots_by c (sends && is_unfinished (at_sub st.tx u).slots) (pair_at sends u st)
+    → pair_at sends u (called sends u (slot_call c) st) ≡ slots_by c (sends && is_unfinished (at_sub st.tx u).slots)
+    (pair_at sends u st)
 moved-pair true u c st h = simp (settled_out, set_same, slots_out)
 moved-pair false u c st h = simp (settled_in, set_same) (slots_into c false (at_sub st.rx u).slots (h u))
 

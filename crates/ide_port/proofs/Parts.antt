@@ -1,5 +1,6 @@
 -- The header and the payload of a TLP's bytes.
-use Rattle.ide_port.proofs.Terms.{◌≡◌, ℕ, ◌+◌, ◌≤◌, List, length, take, drop, ap, ◌∙◌, arith, length-append, if◌then◌else◌, Tlp, head_bytes, head_length, header, body}
+use Rattle.ide_port.proofs.Terms.{◌≡◌, ℕ, ◌+◌, ◌≤◌, List, length, take, drop, ap, ◌∙◌, arith, length-append}
+use Rattle.ide_port.proofs.Terms.{if◌then◌else◌, Tlp, head_bytes, head_length, header, body}
 use Rattle.std.specs.Prelude.{Ok, Bool}
 use Rattle.tlp_layout.specs.Reading.{read_of}
 use Rattle.tlp_layout.proofs.Readings.{read_spells_tlp, front_is, rest_is, small_body, head_sized}
@@ -18,7 +19,8 @@ pub parts_of : (bytes : List ℕ) (t : Tlp) → read_of bytes ≡ Ok t → ArePa
 parts_of bytes t is =
     let spells = (read_spells_tlp t bytes).1 is in
     let long : length bytes ≡ head_length (header t) + length (body t) =
-    ap length spells.spelled ∙ length-append (head_bytes (header t)) (body t) ∙ ap (λ (n : ℕ). n + length (body t)) (head_sized (header t) spells.fits.head)
+    ap length spells.spelled ∙ length-append (head_bytes (header t)) (body t) ∙ ap (λ (n : ℕ). n + length (body t))
+    (head_sized (header t) spells.fits.head)
     in record {
       within = omega (arith, long);
       small = small_of (header t).lead.wide;

@@ -1,6 +1,10 @@
 -- A call moves the slots of a port at its place, and nowhere else.
-use Rattle.ide_port.proofs.Terms.{◌≡◌, ℕ, ◌<◌, true, false, ◌&&◌, [], Option, Some, None, refl, ap, ◌∙◌, subst, arith, nat_lt, if◌then◌else◌, option_map, nat_tests, Side, SlotPair, Place, PortCall, called_place, slots_by, SlotsAfter}
-use Rattle.ide_port.proofs.Terms.{StreamState, sends_in, pair_at, called, PortEnd, Found, found, changed, sub_from, is_place, stream_at, shown, unfinished_at, slot_call, called_states, called_port, NoneWaits}
+use Rattle.ide_port.proofs.Terms.{◌≡◌, ℕ, ◌<◌, true, false, ◌&&◌, [], Option, Some, None, refl, ap, ◌∙◌, subst, arith}
+use Rattle.ide_port.proofs.Terms.{nat_lt, if◌then◌else◌, option_map, nat_tests, Side, SlotPair, Place, PortCall}
+use Rattle.ide_port.proofs.Terms.{called_place, slots_by, SlotsAfter}
+use Rattle.ide_port.proofs.Terms.{StreamState, sends_in, pair_at, called, PortEnd, Found, found, changed, sub_from}
+use Rattle.ide_port.proofs.Terms.{is_place, stream_at, shown, unfinished_at, slot_call, called_states, called_port}
+use Rattle.ide_port.proofs.Terms.{NoneWaits}
 use Rattle.ide_km.specs.Calls as km
 use Rattle.ide_port.specs.Calls.{place_of}
 use Rattle.ide_port.proofs.Streams.{found-id, found-changed, found-other}
@@ -22,9 +26,11 @@ same_sub m n a b s = grind (arith, nat_tests)
 same_place : (p q : Place) → km.is_same_place p q ≡ true → p ≡ q
 same_place p q e = grind (arith, nat_tests)
 
-apart : (side : Side) (p q : Place) → is_place p ≡ true → is_place q ≡ true → p.stream ≡ q.stream → km.is_same_place p q ≡ false
+apart : (side : Side) (p q : Place) → is_place p ≡ true → is_place q ≡ true → p.stream ≡ q.stream → km.is_same_place p q
+    ≡ false
     → sends_in side p.direction ≡ sends_in side q.direction → sub_from p.sub ≡ sub_from q.sub → ⊥
-apart side p q hp hq s differ d u = grind (arith, nat_tests, same_sends side p.direction q.direction, same_sub p.sub q.sub)
+apart side p q hp hq s differ d u = grind
+    (arith, nat_tests, same_sends side p.direction q.direction, same_sub p.sub q.sub)
 
 -- ---- what is shown behind a call
 
@@ -35,7 +41,8 @@ pub record Waitless (e : PortEnd) : Type 0 where
   pub none : (id : ℕ) (f : Found) → found e.plans e.states id ≡ Some f → NoneWaits f.state
 
 -- the place has a stream
-there : (e : PortEnd) (q : Place) (f : Found) → stream_at e q ≡ Some f → (is_place q ≡ true) × (found e.plans e.states q.stream ≡ Some f)
+there : (e : PortEnd) (q : Place) (f : Found) → stream_at e q ≡ Some f → (is_place q ≡ true)
+    × (found e.plans e.states q.stream ≡ Some f)
 there e q f at = grind (arith, nat_tests)
 
 -- the stream of the place that is called
@@ -45,13 +52,15 @@ after e c q f = called (sends_in e.name.side q.direction) (sub_from q.sub) (slot
 abbrev with_stream : PortEnd → ℕ → StreamState → PortEnd
 with_stream e id y = record e { states = changed e.plans e.states id y; delivered = [] }
 
-shown_same : (e : PortEnd) (c : PortCall) (q : Place) (f : Found) → Waitless e → is_place q ≡ true → found e.plans e.states q.stream ≡ Some f
+shown_same : (e : PortEnd) (c : PortCall) (q : Place) (f : Found) → Waitless e → is_place q ≡ true
+    → found e.plans e.states q.stream ≡ Some f
     → shown (with_stream e q.stream (after e c q f)) q ≡ option_map (slots_by c (unfinished_at e q)) (shown e q)
 shown_same e c q f h here is =
     rw (here, found-changed e.plans e.states q.stream f (after e c q f) is, is)
     (ap Some (moved-pair (sends_in e.name.side q.direction) (sub_from q.sub) c f.state (h.none q.stream f is)))
 
-shown_other : (e : PortEnd) (c : PortCall) (p q : Place) (f : Found) → is_place q ≡ true → found e.plans e.states q.stream ≡ Some f
+shown_other : (e : PortEnd) (c : PortCall) (p q : Place) (f : Found) → is_place q ≡ true
+    → found e.plans e.states q.stream ≡ Some f
     → km.is_same_place p q ≡ false
     → shown (with_stream e q.stream (after e c q f)) p ≡ shown e p
 shown_other e c p q f here is differ =
@@ -60,16 +69,20 @@ shown_other e c p q f here is differ =
       nat_tests,
       found-changed e.plans e.states q.stream f (after e c q f) is,
       found-other e.plans e.states q.stream p.stream (after e c q f),
-      other-pair (sends_in e.name.side p.direction) (sends_in e.name.side q.direction) (sub_from p.sub) (sub_from q.sub) (slot_call c) f.state,
+      other-pair (sends_in e.name.side p.direction) (sends_in e.name.side q.direction) (sub_from p.sub) (sub_from q.sub)
+          (slot_call c) f.state,
       apart e.name.side p q,
     )
 
 -- an answer by the place that is called
 abbrev ShownAfter : PortEnd → PortCall → Place → Place → Type 0
 ShownAfter e c p q =
-    shown (called_port c e) p ≡ (if km.is_same_place p q && nat_lt p.sub 3 then option_map (slots_by c (unfinished_at e p)) (shown e p) else shown e p)
+    shown (called_port c e) p ≡
+    (if km.is_same_place p q && nat_lt p.sub 3 then option_map (slots_by c (unfinished_at e p)) (shown e p) else
+    shown e p)
 
-shown_there : (e : PortEnd) (c : PortCall) (f : Found) (p : Place) → Waitless e → stream_at e (place_of c) ≡ Some f → ShownAfter e c p (place_of c)
+shown_there : (e : PortEnd) (c : PortCall) (f : Found) (p : Place) → Waitless e → stream_at e (place_of c) ≡ Some f
+    → ShownAfter e c p (place_of c)
 shown_there e c f p h at =
     let q = place_of c in
     let t = there e q f at in
@@ -80,12 +93,15 @@ shown_there e c f p h at =
     ∙ grind (arith, nat_tests, shown_same e c q f h t.0 t.1, shown_other e c p q f t.0 t.1, same_place p q, t.0)
 
 shown_nowhere : (e : PortEnd) (c : PortCall) (p q : Place) → stream_at e q ≡ None
-    → shown e p ≡ (if km.is_same_place p q && nat_lt p.sub 3 then option_map (slots_by c (unfinished_at e p)) (shown e p) else shown e p)
+    → shown e p ≡ (if km.is_same_place p q && nat_lt p.sub 3 then option_map (slots_by c (unfinished_at e p))
+    (shown e p) else shown e p)
 shown_nowhere e c p q at = grind (arith, nat_tests, same_place p q, at)
 
-pub slots-after : (e : PortEnd) (c : PortCall) → Waitless e → SlotsAfter (shown e) (unfinished_at e) c (shown (called_port c e))
+pub slots-after : (e : PortEnd) (c : PortCall) → Waitless e → SlotsAfter (shown e) (unfinished_at e) c
+    (shown (called_port c e))
 slots-after e c h p = subst (ShownAfter e c p) (place_is c) (by (stream_at e (place_of c)) refl)
   where
     by : (o : Option Found) → stream_at e (place_of c) ≡ o → ShownAfter e c p (place_of c)
-    by None at = ap (λ o. shown (record e { states = called_states e c o; delivered = [] }) p) at ∙ shown_nowhere e c p (place_of c) at
+    by None at = ap (λ o. shown (record e { states = called_states e c o; delivered = [] }) p) at ∙ shown_nowhere e c p
+        (place_of c) at
     by (Some f) at = shown_there e c f p h at

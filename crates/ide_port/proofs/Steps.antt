@@ -2,9 +2,15 @@
 -- specs. Streams stand beside their plans one to one, so the stream at the place of an ID is the one that the specs
 -- find, and set back there it alone changes; what its own call came to is given, and is read with the fields of its
 -- plan. Where no plan has the ID the specs find nothing, and no stream changes.
-use Rattle.ide_port.proofs.Terms.{◌≡◌, ℕ, ◌+◌, ◌<◌, true, List, [], length, map, get_or, Option, Some, None, Result, Err, refl, sym, ap, ◌∙◌, subst, arith, slice_set, nat_lt, if◌then◌else◌, option_map, nat_tests, SubKind, StreamPlan}
-use Rattle.ide_port.proofs.Terms.{Packet, Tlp, class_of, head_bytes, header, body, SlotPair, is_one, program_answer, PortCall, SlotsAfter, shown_at, program_at, answer_of, StreamEnd, sending, answer_as, taken_in, end_taken, called_end}
-use Rattle.ide_port.proofs.Terms.{pair_in, lengths_said, Inside, SendRefusal, PortEnd, Found, found, changed, sub_from, stream_at, shown, unfinished_at, slot_call, called_states, called_port, stream_of, IsStep, lane_of, arrival_said}
+use Rattle.ide_port.proofs.Terms.{◌≡◌, ℕ, ◌+◌, ◌<◌, true, List, [], length, map, get_or, Option, Some, None, Result}
+use Rattle.ide_port.proofs.Terms.{Err, refl, sym, ap, ◌∙◌, subst, arith, slice_set, nat_lt, if◌then◌else◌, option_map}
+use Rattle.ide_port.proofs.Terms.{nat_tests, SubKind, StreamPlan}
+use Rattle.ide_port.proofs.Terms.{Packet, Tlp, class_of, head_bytes, header, body, SlotPair, is_one, program_answer}
+use Rattle.ide_port.proofs.Terms.{PortCall, SlotsAfter, shown_at, program_at, answer_of, StreamEnd, sending, answer_as}
+use Rattle.ide_port.proofs.Terms.{taken_in, end_taken, called_end}
+use Rattle.ide_port.proofs.Terms.{pair_in, lengths_said, Inside, SendRefusal, PortEnd, Found, found, changed, sub_from}
+use Rattle.ide_port.proofs.Terms.{stream_at, shown, unfinished_at, slot_call, called_states, called_port, stream_of}
+use Rattle.ide_port.proofs.Terms.{IsStep, lane_of, arrival_said}
 use Rattle.std.proofs.Common.{Bool, Ok}
 use Rattle.ide_types.specs.declared.port.PortName.{PortName}
 use Rattle.key_slots.specs.declared.slots.OnlyLive.{OnlyLive}
@@ -50,38 +56,47 @@ module _ (p : Inside) (e : PortEnd) (view : now p ≡ e) (id : ℕ) (at : place_
   pub gone : found e.plans e.states id ≡ None
   gone = rw (← view) (absent p.plans _ id at)
 
-  pub plain-step : (new : PortEnd) (t : Tlp) (trusted more : Bool) (number : ℕ) → new ≡ record e { sealed = []; calls = e.calls + 1 }
+  pub plain-step : (new : PortEnd) (t : Tlp) (trusted more : Bool) (number : ℕ) → new
+      ≡ record e { sealed = []; calls = e.calls + 1 }
       → IsStep e.name number Plain new (send_found e t trusted more number (found e.plans e.states id))
   plain-step new t trusted more number is = rw gone (record { answered = refl; lengths = refl; port = is })
 
 -- ---- a call of a stream
 
-module _ (p : Inside) (e : PortEnd) (view : now p ≡ e) (kept : Keeps p) (id place : ℕ) (x : StreamEnd) (at : place_of p.plans id ≡ Some place)
+module _ (p : Inside) (e : PortEnd) (view : now p ≡ e) (kept : Keeps p) (id place : ℕ) (x : StreamEnd)
+    (at : place_of p.plans id ≡ Some place)
     (is : x ≡ get_or p.streams.items place x) where
   -- what is read of it
   pub reads : {A : Type 0} (read : Option Found → A)
-      → read (found e.plans e.states id) ≡ read (Some (record { plan = (there p kept id place x at is).plan; state = x.state }))
+      → read (found e.plans e.states id) ≡ read
+      (Some (record { plan = (there p kept id place x at is).plan; state = x.state }))
   reads read = rw (← view) (ap read (there p kept id place x at is).is_found)
 
-  pub sent-step : (y : StreamEnd) (t : Tlp) (trusted more : Bool) (number : ℕ) (answer : Result (List SealedPacket) SendRefusal) (r : Sent)
+  pub sent-step : (y : StreamEnd) (t : Tlp) (trusted more : Bool) (number : ℕ)
+      (answer : Result (List SealedPacket) SendRefusal) (r : Sent)
       (before out : List ℕ) → before ≡ []
-      → IsSent x (head_bytes (header t)) (body t) (sending p.name x.id (class_of (header t)) more trusted) number answer before out y → r ≡ sent_as answer
+      → IsSent x (head_bytes (header t)) (body t) (sending p.name x.id (class_of (header t)) more trusted) number answer
+      before out y → r ≡ sent_as answer
       → IsStep e.name number r (seen p (slice_set p.streams.items place y) out p.lent (p.calls + 1))
       (send_found e t trusted more number (found e.plans e.states id))
   sent-step y t trusted more number answer r before out none sent said =
       let k = there p kept id place x at is in
       let z = stream_of p.name.side p.limit k.plan x in
       let Q : StreamEnd → Type 0 =
-      λ w. IsSent w (head_bytes (header t)) (body t) (sending p.name w.id (class_of (header t)) more trusted) number answer before out y in
-      let mine : IsSent z (head_bytes (header t)) (body t) (sending p.name k.plan.id (class_of (header t)) more trusted) number answer before out y =
+      λ w. IsSent w (head_bytes (header t)) (body t) (sending p.name w.id (class_of (header t)) more trusted) number
+      answer before out y in
+      let mine : IsSent z (head_bytes (header t)) (body t) (sending p.name k.plan.id (class_of (header t)) more trusted)
+      number answer before out y =
       subst Q k.of_plan.plan sent in
       rw (← view, k.is_found) (record {
         answered = ap (sent_verdict p.name number) said ∙ verdict_of p.name number answer ∙ ap as_verdict mine.answered;
         lengths = ap lengths_sent said ∙ lengths_of answer ∙ mine.lengths;
         port = (λ i. record (now p) {
-          states = (k.change y ∙ ap (λ (w : StreamEnd). changed p.plans (map state_of p.streams.items) k.plan.id w.state) mine.stream) i;
+          states = (k.change y ∙ ap
+              (λ (w : StreamEnd). changed p.plans (map state_of p.streams.items) k.plan.id w.state) mine.stream) i;
           sealed = (rw none at mine.bytes) i;
-          delivered = lends-still p.streams.items place p.lent x y (inside p id place kept at) is (ap (λ (w : StreamEnd). w.delivered) sent.stream) i;
+          delivered = lends-still p.streams.items place p.lent x y (inside p id place kept at) is
+              (ap (λ (w : StreamEnd). w.delivered) sent.stream) i;
           calls = p.calls + 1;
         });
       })
@@ -89,7 +104,8 @@ module _ (p : Inside) (e : PortEnd) (view : now p ≡ e) (kept : Keeps p) (id pl
 -- ---- an arrival
 
 module _ (p : Inside) (e : PortEnd) (view : now p ≡ e) (packet : Packet) where
-  pub taken-step : (kept : Keeps p) (place : ℕ) (x y : StreamEnd) (taken : Option Taken) (r : Arrival) → place_of p.plans packet.prefix.stream ≡ Some place
+  pub taken-step : (kept : Keeps p) (place : ℕ) (x y : StreamEnd) (taken : Option Taken) (r : Arrival)
+      → place_of p.plans packet.prefix.stream ≡ Some place
       → x ≡ get_or p.streams.items place x → taken ≡ answer_of (taken_in x packet) → y ≡ end_taken x packet
       → r ≡ arrival_said packet.prefix.stream packet.prefix.sub taken
       → IsTaken r (seen p (slice_set p.streams.items place y) p.sealed.items (Some place) (p.calls + 1))
@@ -100,15 +116,19 @@ module _ (p : Inside) (e : PortEnd) (view : now p ≡ e) (packet : Packet) where
       let same : taken_in x packet ≡ taken_in z packet = ap (λ (w : StreamEnd). taken_in w packet) k.of_plan.plan in
       let mine : y ≡ end_taken z packet = after ∙ ap (λ (w : StreamEnd). end_taken w packet) k.of_plan.plan in
       rw (← view, k.is_found) (record {
-        answer = said ∙ ap (arrival_said packet.prefix.stream packet.prefix.sub) (answered ∙ ap answer_of same) ∙ said_of packet (taken_in z packet);
+        answer = said ∙ ap (arrival_said packet.prefix.stream packet.prefix.sub) (answered ∙ ap answer_of same) ∙
+            said_of packet (taken_in z packet);
         port = (λ i. record (now p) {
-          states = (k.change y ∙ ap (λ (w : StreamEnd). changed p.plans (map state_of p.streams.items) k.plan.id w.state) mine) i;
-          delivered = (lends-there p.streams.items place y (inside p packet.prefix.stream place kept at) ∙ ap (λ (w : StreamEnd). w.delivered) mine) i;
+          states = (k.change y ∙ ap
+              (λ (w : StreamEnd). changed p.plans (map state_of p.streams.items) k.plan.id w.state) mine) i;
+          delivered = (lends-there p.streams.items place y (inside p packet.prefix.stream place kept at) ∙ ap
+              (λ (w : StreamEnd). w.delivered) mine) i;
           calls = p.calls + 1;
         });
       })
 
-  pub unknown-step : (new : PortEnd) → place_of p.plans packet.prefix.stream ≡ None → new ≡ record e { delivered = []; calls = e.calls + 1 }
+  pub unknown-step : (new : PortEnd) → place_of p.plans packet.prefix.stream ≡ None → new
+      ≡ record e { delivered = []; calls = e.calls + 1 }
       → IsTaken (Unknown packet.prefix.stream) new (take_found e packet (found e.plans e.states packet.prefix.stream))
   unknown-step new at is = rw (gone p e view packet.prefix.stream at) (record { answer = refl; port = is })
 
@@ -129,11 +149,14 @@ lane_in three o s place u e = grind arith
 none_in : (three : Bool) (o : Option ℕ) (s : SubKind) → lane_by three o s ≡ None → three ≡ true → o ≡ None
 none_in three o s e t = grind arith
 
-pub lane-some : (plans : List StreamPlan) (id sub place : ℕ) (u : SubKind) → lane_of plans id sub ≡ Some (place, u) → IsLane plans id sub place u
+pub lane-some : (plans : List StreamPlan) (id sub place : ℕ) (u : SubKind) → lane_of plans id sub ≡ Some (place, u)
+    → IsLane plans id sub place u
 lane-some plans id sub place u e =
-    let l = lane_in (nat_lt sub 3) (place_of plans id) (sub_from sub) place u e in record { place_is = l.0; sub_is = l.1; three = l.2 }
+    let l = lane_in (nat_lt sub 3) (place_of plans id) (sub_from sub) place u e in record
+    { place_is = l.0; sub_is = l.1; three = l.2 }
 
-pub lane-inside : (p : Inside) (id sub place : ℕ) (u : SubKind) → Keeps p → lane_of p.plans id sub ≡ Some (place, u) → place < length p.streams.items
+pub lane-inside : (p : Inside) (id sub place : ℕ) (u : SubKind) → Keeps p → lane_of p.plans id sub ≡ Some (place, u)
+    → place < length p.streams.items
 lane-inside p id sub place u kept at = inside p id place kept (lane-some p.plans id sub place u at).place_is
 
 -- the slots that key management sees of the place, and what the call makes of the port
@@ -144,33 +167,46 @@ pub record IsCalled (e new : PortEnd) (c : PortCall) (o : Option SlotPair) : Typ
 
 module _ (p : Inside) (e : PortEnd) (view : now p ≡ e) (kept : Keeps p) (c : PortCall) where
   slots-step : (new : PortEnd) → new ≡ called_port c e → SlotsAfter (shown e) (unfinished_at e) c (shown new)
-  slots-step new is = rw is (slots-after e c (rw (← view) (record { none = none-found p.name.side p.limit p.calls p.plans p.streams.items kept.each })))
+  slots-step new is = rw is
+      (slots-after e c (rw (← view)
+      (record { none = none-found p.name.side p.limit p.calls p.plans p.streams.items kept.each })))
 
-  pub nowhere-step : lane_of p.plans (called_at c).stream (called_at c).sub ≡ None → IsCalled e (seen p p.streams.items p.sealed.items None p.calls) c None
+  pub nowhere-step : lane_of p.plans (called_at c).stream (called_at c).sub ≡ None
+      → IsCalled e (seen p p.streams.items p.sealed.items None p.calls) c None
   nowhere-step at =
       let q = called_at c in
       let none : nat_lt q.sub 3 ≡ true → found e.plans e.states q.stream ≡ None =
       λ t. gone p e view q.stream (none_in (nat_lt q.sub 3) (place_of p.plans q.stream) (sub_from q.sub) at t) in
       let out : stream_at e q ≡ None = grind (arith, nat_tests, none) in
       let moves : seen p p.streams.items p.sealed.items None p.calls ≡ called_port c e =
-      ap (λ (e : PortEnd). record e { delivered = [] }) view ∙ ap (λ o. record e { states = called_states e c o; delivered = [] }) (sym out) in
+      ap (λ (e : PortEnd). record e { delivered = [] }) view ∙ ap
+      (λ o. record e { states = called_states e c o; delivered = [] }) (sym out) in
       record { shows = grind (arith, nat_tests, out); moves = moves; slots = slots-step _ moves }
 
-  pub called-step : (place : ℕ) (u : SubKind) (x y : StreamEnd) → (called_at c).direction < 2 → IsLane p.plans (called_at c).stream (called_at c).sub place u
+  pub called-step : (place : ℕ) (u : SubKind) (x y : StreamEnd) → (called_at c).direction < 2
+      → IsLane p.plans (called_at c).stream (called_at c).sub place u
       → x ≡ get_or p.streams.items place x → y ≡ called_end x (called_at c).direction u (slot_call c)
-      → IsCalled e (seen p (slice_set p.streams.items place y) p.sealed.items None p.calls) c (Some (pair_in x (called_at c).direction u))
+      → IsCalled e (seen p (slice_set p.streams.items place y) p.sealed.items None p.calls) c
+      (Some (pair_in x (called_at c).direction u))
   called-step place u x y dir lane is after =
       let q = called_at c in
       let k = there p kept q.stream place x lane.place_is is in
       let two : nat_lt q.direction 2 ≡ true = grind (arith, nat_tests) in
-      let at : stream_at (now p) q ≡ Some (record { plan = k.plan; state = x.state }) = rw (two, lane.three) k.is_found in
+      let at : stream_at (now p) q ≡ Some (record { plan = k.plan; state = x.state }) = rw (two, lane.three) k.is_found
+      in
       let mine : y ≡ called_end (stream_of p.name.side p.limit k.plan x) q.direction (sub_from q.sub) (slot_call c) =
       after ∙ (λ i. called_end (k.of_plan.plan i) q.direction (lane.sub_is i) (slot_call c)) in
       let was : shown (now p) q ≡ Some (pair_in x q.direction u) =
       ap (option_map _) at ∙ ap Some (sym (λ i. pair_in (k.of_plan.plan i) q.direction (lane.sub_is i))) in
       let moves : seen p (slice_set p.streams.items place y) p.sealed.items None p.calls ≡ called_port c e =
-      (λ i. record (now p) { states = (k.change y ∙ ap (λ (w : StreamEnd). changed p.plans (map state_of p.streams.items) k.plan.id w.state) mine) i; delivered = [] })
-      ∙ ap (λ o. record (now p) { states = called_states (now p) c o; delivered = [] }) (sym at) ∙ ap (called_port c) view in
+      (λ i. record (now p) {
+        states =
+            (k.change y ∙ ap (λ (w : StreamEnd). changed p.plans (map state_of p.streams.items) k.plan.id w.state) mine)
+            i;
+        delivered = [];
+      })
+      ∙ ap (λ o. record (now p) { states = called_states (now p) c o; delivered = [] }) (sym at) ∙ ap (called_port c)
+      view in
       record {
         shows = ap (λ b. if b then shown e q else None) lane.three ∙ rw (← view) was;
         moves = moves;
@@ -182,5 +218,6 @@ abbrev pub key_back : Result (Unit {0}) OnlyLive → Result (Unit {0}) ProgramFa
 key_back (Ok done) = Ok tt
 key_back (Err fault) = Err (km.OnlyLive fault.key)
 
-pub key-back : (pair : SlotPair) (set : ℕ) (key : List ℕ) → key_back (program_answer pair (is_one set) key) ≡ program_at (Some pair) set key
+pub key-back : (pair : SlotPair) (set : ℕ) (key : List ℕ) → key_back (program_answer pair (is_one set) key)
+    ≡ program_at (Some pair) set key
 key-back pair set key = grind arith

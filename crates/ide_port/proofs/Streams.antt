@@ -1,5 +1,7 @@
 -- The streams of a port and their plans: the stream of an ID at its place.
-use Rattle.ide_port.proofs.Terms.{◌≡◌, ◌≢◌, ℕ, suc, zero, ◌<◌, ◌≤◌, true, false, ◌==◌, List, [], ◌∷◌, length, map, get_or, Some, None, refl, sym, ap, subst, arith, slice_set, nat_tests, Side, StreamPlan, StreamState, no_stream}
+use Rattle.ide_port.proofs.Terms.{◌≡◌, ◌≢◌, ℕ, suc, zero, ◌<◌, ◌≤◌, true, false, ◌==◌, List, [], ◌∷◌, length, map}
+use Rattle.ide_port.proofs.Terms.{get_or, Some, None, refl, sym, ap, subst, arith, slice_set, nat_tests, Side}
+use Rattle.ide_port.proofs.Terms.{StreamPlan, StreamState, no_stream}
 use Rattle.ide_port.proofs.Terms.{StreamEnd, reset_end, Found, found, changed, IsStreamOf, AreStreamsOf, new_streams}
 use Rattle.std.specs.List.{position_or_len}
 use Rattle.std.proofs.lemmas.List.Quantifiers.{position-Some}
@@ -11,12 +13,14 @@ state_of x = x.state
 
 -- ---- found among states
 
-pub found-id : (ss : List StreamPlan) (xs : List StreamState) (id : ℕ) (f : Found) → found ss xs id ≡ Some f → f.plan.id ≡ id
+pub found-id : (ss : List StreamPlan) (xs : List StreamState) (id : ℕ) (f : Found) → found ss xs id ≡ Some f → f.plan.id
+    ≡ id
 found-id [] xs id f e = absurd cc
 found-id (s ∷ ss) [] id f e = absurd cc
 found-id (s ∷ ss) (x ∷ xs) id f e = grind (arith, nat_tests, found-id ss xs id f)
 
-pub found-changed : (ss : List StreamPlan) (xs : List StreamState) (id : ℕ) (f : Found) (y : StreamState) → found ss xs id ≡ Some f
+pub found-changed : (ss : List StreamPlan) (xs : List StreamState) (id : ℕ) (f : Found) (y : StreamState)
+    → found ss xs id ≡ Some f
     → found ss (changed ss xs id y) id ≡ Some (record { plan = f.plan; state = y })
 found-changed [] xs id f y e = absurd cc
 found-changed (s ∷ ss) [] id f y e = absurd cc
@@ -30,13 +34,15 @@ found-other (s ∷ ss) (x ∷ xs) id w y ne = grind (arith, nat_tests, found-oth
 
 -- ---- no place
 
-absent_from : (ss : List StreamPlan) (xs : List StreamState) (id : ℕ) → length ss ≤ position_or_len (λ (s : StreamPlan). s.id == id) ss
+absent_from : (ss : List StreamPlan) (xs : List StreamState) (id : ℕ)
+    → length ss ≤ position_or_len (λ (s : StreamPlan). s.id == id) ss
     → found ss xs id ≡ None
 absent_from [] xs id le = refl
 absent_from (s ∷ ss) [] id le = refl
 absent_from (s ∷ ss) (x ∷ xs) id le = grind (arith, nat_tests, absent_from ss xs id)
 
-none_within : (ss : List StreamPlan) (id : ℕ) → place_of ss id ≡ None → length ss ≤ position_or_len (λ (s : StreamPlan). s.id == id) ss
+none_within : (ss : List StreamPlan) (id : ℕ) → place_of ss id ≡ None
+    → length ss ≤ position_or_len (λ (s : StreamPlan). s.id == id) ss
 none_within ss id e = grind arith
 
 pub absent : (ss : List StreamPlan) (xs : List StreamState) (id : ℕ) → place_of ss id ≡ None → found ss xs id ≡ None
@@ -44,22 +50,29 @@ absent ss xs id e = absent_from ss xs id (none_within ss id e)
 
 -- ---- all streams
 
-pub of-plan-later : (side : Side) (limit calls more : ℕ) (s : StreamPlan) (x : StreamEnd) → calls ≤ more → IsStreamOf side limit calls s x
+pub of-plan-later : (side : Side) (limit calls more : ℕ) (s : StreamPlan) (x : StreamEnd) → calls ≤ more
+    → IsStreamOf side limit calls s x
     → IsStreamOf side limit more s x
-of-plan-later side limit calls more s x le h = record { plan = h.plan; few = omega (arith, h.few, le); receivers = h.receivers }
+of-plan-later side limit calls more s x le h = record
+    { plan = h.plan; few = omega (arith, h.few, le); receivers = h.receivers }
 
-pub later : (side : Side) (limit calls more : ℕ) (ss : List StreamPlan) (xs : List StreamEnd) → calls ≤ more → AreStreamsOf side limit calls ss xs
+pub later : (side : Side) (limit calls more : ℕ) (ss : List StreamPlan) (xs : List StreamEnd) → calls ≤ more
+    → AreStreamsOf side limit calls ss xs
     → AreStreamsOf side limit more ss xs
 later side limit calls more [] [] le h = tt
 later side limit calls more [] (x ∷ xs) le h = absurd h
 later side limit calls more (s ∷ ss) [] le h = absurd h
-later side limit calls more (s ∷ ss) (x ∷ xs) le h = (of-plan-later side limit calls more s x le h.0, later side limit calls more ss xs le h.1)
+later side limit calls more (s ∷ ss) (x ∷ xs) le h =
+    (of-plan-later side limit calls more s x le h.0, later side limit calls more ss xs le h.1)
 
-pub streams-new : (side : Side) (limit : ℕ) (ss : List StreamPlan) → AreStreamsOf side limit 0 ss (new_streams side limit ss)
+pub streams-new : (side : Side) (limit : ℕ) (ss : List StreamPlan)
+    → AreStreamsOf side limit 0 ss (new_streams side limit ss)
 streams-new side limit [] = tt
-streams-new side limit (s ∷ ss) = (record { plan = refl; few = omega arith; receivers = none-new }, streams-new side limit ss)
+streams-new side limit (s ∷ ss) =
+    (record { plan = refl; few = omega arith; receivers = none-new }, streams-new side limit ss)
 
-pub states-new : (side : Side) (limit : ℕ) (ss : List StreamPlan) → map state_of (new_streams side limit ss) ≡ map (λ (s : StreamPlan). no_stream) ss
+pub states-new : (side : Side) (limit : ℕ) (ss : List StreamPlan) → map state_of (new_streams side limit ss)
+    ≡ map (λ (s : StreamPlan). no_stream) ss
 states-new side limit [] = refl
 states-new side limit (s ∷ ss) = ap (λ xs. no_stream ∷ xs) (states-new side limit ss)
 
@@ -69,7 +82,8 @@ pub record Resets (side : Side) (limit calls : ℕ) (ss : List StreamPlan) (xs :
   pub each : AreStreamsOf side limit calls ss (map reset_end xs)
   pub states : map state_of (map reset_end xs) ≡ map (λ (s : StreamPlan). no_stream) ss
 
-pub resets : (side : Side) (limit calls : ℕ) (ss : List StreamPlan) (xs : List StreamEnd) → AreStreamsOf side limit calls ss xs → Resets side limit calls ss xs
+pub resets : (side : Side) (limit calls : ℕ) (ss : List StreamPlan) (xs : List StreamEnd)
+    → AreStreamsOf side limit calls ss xs → Resets side limit calls ss xs
 resets side limit calls [] [] h = record { same = refl; each = tt; states = refl }
 resets side limit calls [] (x ∷ xs) h = absurd h
 resets side limit calls (s ∷ ss) [] h = absurd h
@@ -83,29 +97,35 @@ resets side limit calls (s ∷ ss) (x ∷ xs) h =
 -- ---- the stream at a place
 
 -- its plan, that it is the one of the ID, and what another in its place makes of all
-pub record IsPlaced (side : Side) (limit calls : ℕ) (ss : List StreamPlan) (xs : List StreamEnd) (id place : ℕ) (x : StreamEnd) : Type 0 where
+pub record IsPlaced (side : Side) (limit calls : ℕ) (ss : List StreamPlan) (xs : List StreamEnd) (id place : ℕ)
+    (x : StreamEnd) : Type 0 where
   pub plan : StreamPlan
   pub of_plan : IsStreamOf side limit calls plan x
   pub is_found : found ss (map state_of xs) id ≡ Some (record { plan = plan; state = x.state })
   pub change : (y : StreamEnd) → map state_of (slice_set xs place y) ≡ changed ss (map state_of xs) plan.id y.state
-  pub keeps : (more : ℕ) (y : StreamEnd) → calls ≤ more → IsStreamOf side limit more plan y → AreStreamsOf side limit more ss (slice_set xs place y)
+  pub keeps : (more : ℕ) (y : StreamEnd) → calls ≤ more → IsStreamOf side limit more plan y
+      → AreStreamsOf side limit more ss (slice_set xs place y)
 
-placed_at : (side : Side) (limit calls : ℕ) (ss : List StreamPlan) (xs : List StreamEnd) (id place : ℕ) (x : StreamEnd) (d : StreamPlan)
+placed_at : (side : Side) (limit calls : ℕ) (ss : List StreamPlan) (xs : List StreamEnd) (id place : ℕ) (x : StreamEnd)
+    (d : StreamPlan)
     → AreStreamsOf side limit calls ss xs → place < length ss → ((get_or ss place d).id == id) ≡ true
-    → ((k : ℕ) → k < place → ((get_or ss k d).id == id) ≡ false) → x ≡ get_or xs place x → IsPlaced side limit calls ss xs id place x
+    → ((k : ℕ) → k < place → ((get_or ss k d).id == id) ≡ false) → x ≡ get_or xs place x
+    → IsPlaced side limit calls ss xs id place x
 placed_at side limit calls [] xs id place x d h lt at before is = absurd (omega (arith, lt))
 placed_at side limit calls (s ∷ ss) [] id place x d h lt at before is = absurd h
 placed_at side limit calls (s ∷ ss) (z ∷ xs) id zero x d h lt at before is =
     record {
       plan = s;
       of_plan = subst (λ (w : StreamEnd). IsStreamOf side limit calls s w) (sym is) h.0;
-      is_found = rw at (ap (λ (w : StreamEnd). Some (let f : Found = record { plan = s; state = w.state } in f)) (sym is));
+      is_found = rw at (ap (λ (w : StreamEnd). Some (let f : Found = record { plan = s; state = w.state } in f))
+          (sym is));
       change = λ y. grind (arith, nat_tests);
       keeps = λ more y le g. (g, later side limit calls more ss xs le h.1);
     }
 placed_at side limit calls (s ∷ ss) (z ∷ xs) id (suc place) x d h lt at before is =
     let no : (s.id == id) ≡ false = before 0 (omega arith) in
-    let r = placed_at side limit calls ss xs id place x d h.1 (omega (arith, lt)) at (λ k l. before (suc k) (omega (arith, l))) is in
+    let r = placed_at side limit calls ss xs id place x d h.1 (omega (arith, lt)) at
+    (λ k l. before (suc k) (omega (arith, l))) is in
     let named : r.plan.id ≡ id = found-id ss (map state_of xs) id _ r.is_found in
     record {
       plan = r.plan;
@@ -115,14 +135,16 @@ placed_at side limit calls (s ∷ ss) (z ∷ xs) id (suc place) x d h lt at befo
       keeps = λ more y le g. (of-plan-later side limit calls more s z le h.0, r.keeps more y le g);
     }
 
-pub within : (side : Side) (limit calls : ℕ) (ss : List StreamPlan) (xs : List StreamEnd) (id place : ℕ) → AreStreamsOf side limit calls ss xs
+pub within : (side : Side) (limit calls : ℕ) (ss : List StreamPlan) (xs : List StreamEnd) (id place : ℕ)
+    → AreStreamsOf side limit calls ss xs
     → place_of ss id ≡ Some place → place < length xs
 within side limit calls [] xs id place h e = absurd cc
 within side limit calls (s ∷ ss) xs id place h e =
     let lt = (position-Some (λ (s : StreamPlan). s.id == id) (s ∷ ss) place s e).0 in
     omega (arith, lt, (resets side limit calls (s ∷ ss) xs h).same)
 
-pub placed : (side : Side) (limit calls : ℕ) (ss : List StreamPlan) (xs : List StreamEnd) (id place : ℕ) (x : StreamEnd) → AreStreamsOf side limit calls ss xs
+pub placed : (side : Side) (limit calls : ℕ) (ss : List StreamPlan) (xs : List StreamEnd) (id place : ℕ) (x : StreamEnd)
+    → AreStreamsOf side limit calls ss xs
     → place_of ss id ≡ Some place → x ≡ get_or xs place x → IsPlaced side limit calls ss xs id place x
 placed side limit calls [] xs id place x h e is = absurd cc
 placed side limit calls (s ∷ ss) xs id place x h e is =

@@ -2,26 +2,36 @@
 pub use Rattle.ide_km.specs.{Go, Halt, Place, PortCall, Program, SlotsAfter, called_place, place_at, shown_at, slots_by}
 pub use Rattle.ide_km.specs.Calls.{go_at, is_there, program_at}
 pub use Rattle.ide_plan.specs.declared.stream.StreamPlan.{StreamPlan}
-pub use Rattle.ide_port.specs.Calls.{called_port, called_states, is_place, is_unfinished, shown, slot_call, stream_at, sub_from, unfinished_at}
+pub use Rattle.ide_port.specs.Calls.{called_port, called_states, is_place, is_unfinished, shown, slot_call, stream_at}
+pub use Rattle.ide_port.specs.Calls.{sub_from, unfinished_at}
 pub use Rattle.ide_port.specs.Ends.{Found, PortEnd, changed, found, reset_port}
-pub use Rattle.ide_port.specs.Kept.{AreStreamsOf, IsKept, IsStep, IsStreamOf, NoneWaits, arrival_said, delivered_at, is_waiting, lane_of, lent_by, new_streams, stream_of}
+pub use Rattle.ide_port.specs.Kept.{AreStreamsOf, IsKept, IsStep, IsStreamOf, NoneWaits, arrival_said, delivered_at}
+pub use Rattle.ide_port.specs.Kept.{is_waiting, lane_of, lent_by, new_streams, stream_of}
 pub use Rattle.ide_port.specs.declared.port.Port.TheInside.{Inside}
 pub use Rattle.ide_prefix.specs.Packet.{Packet, packet_bytes, sync_head}
-pub use Rattle.ide_stream.specs.{StreamEnd, answer_as, called_end, end_taken, joined_packets, lanes_in, packets_sent, pair_in, reset_end, sending, taken_in}
+pub use Rattle.ide_stream.specs.{StreamEnd, answer_as, called_end, end_taken, joined_packets, lanes_in, packets_sent}
+pub use Rattle.ide_stream.specs.{pair_in, reset_end, sending, taken_in}
 pub use Rattle.ide_stream.specs.Sends.{lengths_said, refused, sealing, unless}
 pub use Rattle.ide_types.specs.declared.port.Side.{Side}
 pub use Rattle.ide_types.specs.declared.sub.SubKind.{SubKind}
 pub use Rattle.key_slots.specs.{SlotPair, is_one, live_set, program_answer}
 pub use Rattle.link_verdicts.specs.declared.verdict.Verdict.{Verdict}
-pub use Rattle.std.proofs.Common.{Err, List, None, Option, Result, Some, [], ap, arith, drop, false, get_or, length, length-append, map, refl, subst, suc, sym, take, true, zero, ℕ, ◌&&◌, ◌++◌, ◌+◌, ◌<◌, ◌==◌, ◌||◌, ◌∙◌, ◌∷◌, ◌≡◌, ◌≢◌, ◌≤◌}
+pub use Rattle.std.proofs.Common.{Err, List, None, Option, Result, Some, [], ap, arith, drop, false, get_or, length}
+pub use Rattle.std.proofs.Common.{length-append, map, refl, subst, suc, sym, take, true, zero, ℕ, ◌&&◌, ◌++◌, ◌+◌, ◌<◌}
+pub use Rattle.std.proofs.Common.{◌==◌, ◌||◌, ◌∙◌, ◌∷◌, ◌≡◌, ◌≢◌, ◌≤◌}
 pub use Rattle.std.proofs.lemmas.Bool.Decides.{nat_tests}
 pub use Rattle.std.specs.Option.{option_and_then, option_map}
 pub use Rattle.std.specs.Prelude.{if◌then◌else◌, nat_lt, slice_get, slice_set, vec_capacity}
-pub use Rattle.stream_calls.specs.Calls.{SlotCall, called, no_stream, pair_at, sends_in, slots_at, slots_called_into, slots_called_out, stream_status}
+pub use Rattle.stream_calls.specs.Calls.{SlotCall, called, no_stream, pair_at, sends_in, slots_at, slots_called_into}
+pub use Rattle.stream_calls.specs.Calls.{slots_called_out, stream_status}
 pub use Rattle.stream_lanes.specs.declared.refusal.SendRefusal.{SendRefusal}
-pub use Rattle.stream_rules.specs.Sending.{Lanes, Sending, described, ends_unit, front_with, needs_sync, sealed_by, sets_trusted, sync_before}
+pub use Rattle.stream_rules.specs.Sending.{Lanes, Sending, described, ends_unit, front_with, needs_sync, sealed_by}
+pub use Rattle.stream_rules.specs.Sending.{sets_trusted, sync_before}
 pub use Rattle.stream_rules.specs.Slots.{settled_stream}
-pub use Rattle.stream_rules.specs.Stream.{Accepted, Failed, Held, Insecure, LiveKey, NotKeyed, RxSub, Slots, StreamState, Three, TxSub, accepted_sub, at_sub, dropped_held, held_sub, live_sender, packet_under, sealed_all, sealed_one, set_sub, state_after, tagged_under, untagged_under}
+pub use Rattle.stream_rules.specs.Stream.{Accepted, Failed, Held, Insecure, LiveKey, NotKeyed, RxSub, Slots}
+pub use Rattle.stream_rules.specs.Stream.{StreamState, Three, TxSub, accepted_sub, at_sub, dropped_held, held_sub}
+pub use Rattle.stream_rules.specs.Stream.{live_sender, packet_under, sealed_all, sealed_one, set_sub, state_after}
+pub use Rattle.stream_rules.specs.Stream.{tagged_under, untagged_under}
 pub use Rattle.sub_stream.specs.{answer_of, slot_pair}
 pub use Rattle.tlp_layout.specs.Class.{class_of}
 pub use Rattle.tlp_layout.specs.Head.{head_bytes, head_length}

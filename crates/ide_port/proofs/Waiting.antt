@@ -1,6 +1,9 @@
 -- The key of a receiver never waits for the end of a unit.
-use Rattle.ide_port.proofs.Terms.{◌≡◌, ℕ, true, false, ◌||◌, List, Option, arith, nat_tests, SubKind, Packet, Verdict, Slots, Three, TxSub, RxSub, StreamState, at_sub, set_sub, dropped_held, held_sub, accepted_sub, Insecure, NotKeyed}
-use Rattle.ide_port.proofs.Terms.{Failed, Held, Accepted, state_after, settled_stream, SlotCall, called, slots_called_out, slots_called_into, no_stream, unless, is_waiting, NoneWaits}
+use Rattle.ide_port.proofs.Terms.{◌≡◌, ℕ, true, false, ◌||◌, List, Option, arith, nat_tests, SubKind, Packet, Verdict}
+use Rattle.ide_port.proofs.Terms.{Slots, Three, TxSub, RxSub, StreamState, at_sub, set_sub, dropped_held, held_sub}
+use Rattle.ide_port.proofs.Terms.{accepted_sub, Insecure, NotKeyed}
+use Rattle.ide_port.proofs.Terms.{Failed, Held, Accepted, state_after, settled_stream, SlotCall, called}
+use Rattle.ide_port.proofs.Terms.{slots_called_out, slots_called_into, no_stream, unless, is_waiting, NoneWaits}
 use Rattle.std.proofs.Common.{Bool}
 use Rattle.stream_rules.specs.Stream.{Taken}
 
@@ -11,7 +14,8 @@ neither s = (is_waiting s.first || is_waiting s.second) ≡ false
 pub none-new : NoneWaits no_stream
 none-new u = grind arith
 
-pub none-unless : (o : Option Verdict) (st : StreamState) (tx : Three TxSub) → NoneWaits st → NoneWaits (unless o st (record st { tx = tx }))
+pub none-unless : (o : Option Verdict) (st : StreamState) (tx : Three TxSub) → NoneWaits st
+    → NoneWaits (unless o st (record st { tx = tx }))
 none-unless o st tx h u = grind (arith, h u)
 
 -- ---- receivers
@@ -28,27 +32,34 @@ none-dropped x h = grind arith
 none-held : (k : Bool) (p : Packet) (x : RxSub) → neither x.slots → neither (held_sub k p x).slots
 none-held k p x h = grind arith
 
-none-accepted : (j : ℕ) (unit : List Packet) (k : Bool) (x : RxSub) → neither x.slots → neither (accepted_sub j k unit x).slots
+none-accepted : (j : ℕ) (unit : List Packet) (k : Bool) (x : RxSub) → neither x.slots
+    → neither (accepted_sub j k unit x).slots
 none-accepted j unit k x h = grind (arith, nat_tests)
 
 pub none-taken : (st : StreamState) (p : Packet) (taken : Taken) → NoneWaits st → NoneWaits (state_after st p taken)
 none-taken st p Insecure h u = h u
 none-taken st p NotKeyed h u = h u
 none-taken st p (Failed cause) h u = grind (arith, none-dropped, h u)
-none-taken st p (Held j n) h u = none-set st.rx p.prefix.sub _ h (none-held p.prefix.k p (at_sub st.rx p.prefix.sub) (h p.prefix.sub)) u
-none-taken st p (Accepted j n unit) h u = none-set st.rx p.prefix.sub _ h (none-accepted j unit p.prefix.k (at_sub st.rx p.prefix.sub) (h p.prefix.sub)) u
+none-taken st p (Held j n) h u = none-set st.rx p.prefix.sub _ h
+    (none-held p.prefix.k p (at_sub st.rx p.prefix.sub) (h p.prefix.sub)) u
+none-taken st p (Accepted j n unit) h u = none-set st.rx p.prefix.sub _ h
+    (none-accepted j unit p.prefix.k (at_sub st.rx p.prefix.sub) (h p.prefix.sub)) u
 
 -- ---- keys
 
 none-into : (call : SlotCall) (s : Slots) → neither s → neither (slots_called_into call s)
 none-into call s h = grind (arith, nat_tests)
 
-none-settled : (tx : Three TxSub) (rx : Three RxSub) (failed : Bool) → NoneIn rx → NoneWaits (settled_stream tx rx failed)
+none-settled : (tx : Three TxSub) (rx : Three RxSub) (failed : Bool) → NoneIn rx
+    → NoneWaits (settled_stream tx rx failed)
 none-settled tx rx failed h u = grind (arith, h u)
 
-pub none-called : (sends : Bool) (u : SubKind) (call : SlotCall) (st : StreamState) → NoneWaits st → NoneWaits (called sends u call st)
+pub none-called : (sends : Bool) (u : SubKind) (call : SlotCall) (st : StreamState) → NoneWaits st
+    → NoneWaits (called sends u call st)
 none-called true u call st h =
-    none-settled (set_sub st.tx u (record (at_sub st.tx u) { slots = slots_called_out call (at_sub st.tx u).slots })) st.rx st.failed h
+    none-settled (set_sub st.tx u (record (at_sub st.tx u) { slots = slots_called_out call (at_sub st.tx u).slots }))
+    st.rx st.failed h
 none-called false u call st h =
     let y : RxSub = record (at_sub st.rx u) { slots = slots_called_into call (at_sub st.rx u).slots } in
-    none-settled st.tx (set_sub st.rx u y) st.failed (none-set st.rx u y h (none-into call (at_sub st.rx u).slots (h u)))
+    none-settled st.tx (set_sub st.rx u y) st.failed
+    (none-set st.rx u y h (none-into call (at_sub st.rx u).slots (h u)))

@@ -4,10 +4,12 @@ use Rattle.link_verdicts.specs.declared.verdict.UnitName.{UnitName}
 use Rattle.ide_prefix.specs.declared.fault.PacketFault.{PacketFault}
 use Rattle.ide_prefix.specs.Packet.{Packet}
 use Rattle.ide_prefix.specs.Reading.{CutValue, PlainTlp, IdePacket, cut_of}
-use Rattle.stream_rules.specs.Stream.{Taken, Insecure as IsInsecure, NotKeyed as IsKeyless, Failed, Held as IsHeld, Accepted as IsAccepted, taken_by, state_after}
+use Rattle.stream_rules.specs.Stream.{Taken, Insecure as IsInsecure, NotKeyed as IsKeyless, Failed, Held as IsHeld}
+use Rattle.stream_rules.specs.Stream.{Accepted as IsAccepted, taken_by, state_after}
 use Rattle.ide_stream.specs.{opened_after}
 use Rattle.ide_port.specs.declared.answer.Arrival.{Arrival}
-use Rattle.ide_port.specs.declared.answer.Arrival.TheVariants.{Malformed, Plain, Unknown, Insecure, NotKeyed, Fail, Held, Accepted}
+use Rattle.ide_port.specs.declared.answer.Arrival.TheVariants.{Malformed, Plain, Unknown, Insecure, NotKeyed, Fail}
+use Rattle.ide_port.specs.declared.answer.Arrival.TheVariants.{Held, Accepted}
 use Rattle.ide_port.specs.Ends.{PortEnd, Found, found, changed}
 
 -- the answer, and the port after it

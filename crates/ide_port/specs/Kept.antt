@@ -1,7 +1,7 @@
 -- The streams of a port as the code keeps them, beside their plans.
-use Rattle.std.specs.Prelude.{◌≡◌, ℕ, ◌==◌, ◌<◌, ◌≤◌, nat_lt, Bool, true, false, ◌&&◌, ◌||◌, List, [], ◌∷◌, map, length, slice_get, position, Option, Some, None, if◌then◌else◌}
+use Rattle.std.specs.Prelude.{◌≡◌, ℕ, ◌==◌, ◌<◌, ◌≤◌, nat_lt, Bool, true, false, ◌&&◌, ◌||◌, List, [], ◌∷◌, map, length}
+use Rattle.std.specs.Prelude.{slice_get, position, Option, Some, None, if◌then◌else◌}
 use Rattle.std.specs.Option.{option_map}
-use Rattle.ide_types.specs.Sub.{sent_direction}
 use Rattle.ide_types.specs.declared.port.Side.{Side}
 use Rattle.ide_types.specs.declared.sub.SubKind.{SubKind}
 use Rattle.ide_plan.specs.declared.stream.StreamPlan.{StreamPlan}
@@ -85,10 +85,6 @@ place_of plans id = position (λ (s : StreamPlan). s.id == id) plans
 -- and the sub-stream of a number, where there is such a one
 abbrev pub lane_of : List StreamPlan → ℕ → ℕ → Option (ℕ × SubKind)
 lane_of plans id sub = if nat_lt sub 3 then option_map (λ place. (place, sub_from sub)) (place_of plans id) else None
-
--- a host's port sets T as it is asked
-abbrev pub trusts : Side → Bool → Bool
-trusts side trusted = (sent_direction side == 0) && trusted
 
 -- ---- answers
 

@@ -4,6 +4,7 @@ use Rattle.ide_types.specs.declared.port.PortName.{PortName}
 use Rattle.link_verdicts.specs.declared.verdict.Verdict.{Verdict}
 use Rattle.link_verdicts.specs.declared.verdict.Verdict.TheVariants as v
 use Rattle.link_verdicts.specs.declared.verdict.SealedPacket.{SealedPacket as Described}
+use Rattle.tlp_layout.specs.declared.head.HeadView.{HeadView}
 use Rattle.tlp_layout.specs.declared.tlp.Tlp.{Tlp}
 use Rattle.tlp_layout.specs.declared.fault.TlpFault.{TlpFault}
 use Rattle.tlp_layout.specs.Class.{class_of}
@@ -16,10 +17,15 @@ use Rattle.fault_words.specs.FaultWords.{tlp_word}
 use Rattle.association.specs.Choice.{choice_of, chosen}
 use Rattle.stream_rules.specs.Sending.{Sending}
 use Rattle.sub_stream.specs.declared.answer.SealedPacket.{SealedPacket}
-use Rattle.ide_stream.specs.{refusal_verdict, numbered_from, sending, sent_descriptions, packets_sent, end_sent, joined_packets, packet_lengths}
+use Rattle.ide_stream.specs.{refusal_verdict, numbered_from, sending, sent_descriptions, packets_sent, end_sent}
+use Rattle.ide_stream.specs.{joined_packets, packet_lengths}
 use Rattle.ide_port.specs.declared.answer.Sent.{Sent}
 use Rattle.ide_port.specs.declared.answer.Sent.TheVariants.{Malformed, Plain, Refused, Sealed}
 use Rattle.ide_port.specs.Ends.{PortEnd, Found, found, changed, end_at}
+
+-- T of a TLP with this header on a stream
+abbrev pub Trusting : Type 0
+Trusting = HeadView → ℕ → Bool
 
 -- the verdict of a send, the packets that were sealed, and the port after it
 pub record SendStep : Type 0 where
@@ -57,18 +63,19 @@ send_found e t trusted more number (Some f) =
     sent_on e t f (sending e.name f.plan.id (class_of (header t)) more trusted) number
 
 -- the TLP takes this stream, or none
-abbrev pub send_chosen : PortEnd → Tlp → Bool → Bool → ℕ → Option ℕ → SendStep
-send_chosen e t trusted more number None = unsealed e (v.Plain e.name)
-send_chosen e t trusted more number (Some id) = send_found e t trusted more number (found e.plans e.states id)
+abbrev pub send_chosen : PortEnd → Tlp → Trusting → Bool → ℕ → Option ℕ → SendStep
+send_chosen e t sets more number None = unsealed e (v.Plain e.name)
+send_chosen e t sets more number (Some id) =
+    send_found e t (sets (header t) id) more number (found e.plans e.states id)
 
-abbrev pub send_read : PortEnd → Bool → Bool → ℕ → Result Tlp TlpFault → SendStep
-send_read e trusted more number (Err fault) = unsealed e (v.Malformed e.name (tlp_word fault) (place_in fault))
-send_read e trusted more number (Ok t) = send_chosen e t trusted more number
+abbrev pub send_read : PortEnd → Trusting → Bool → ℕ → Result Tlp TlpFault → SendStep
+send_read e sets more number (Err fault) = unsealed e (v.Malformed e.name (tlp_word fault) (place_in fault))
+send_read e sets more number (Ok t) = send_chosen e t sets more number
     (chosen (choice_of e.plans e.name.side (header t)))
 
 -- a send of bytes, whose first sealed packet has this number over the run
-abbrev pub send_step : PortEnd → List ℕ → Bool → Bool → ℕ → SendStep
-send_step e bytes trusted more number = send_read e trusted more number (read_of bytes)
+abbrev pub send_step : PortEnd → List ℕ → Trusting → Bool → ℕ → SendStep
+send_step e bytes sets more number = send_read e sets more number (read_of bytes)
 
 -- ---- the answer
 
@@ -84,8 +91,8 @@ abbrev pub lengths_sent : Sent → List ℕ
 lengths_sent (Sealed packets) = map (λ (p : SealedPacket). p.length) packets
 lengths_sent answer = []
 
-pub record IsSent (old : PortEnd) (bytes : List ℕ) (trusted more : Bool) (number : ℕ) (answer : Sent)
+pub record IsSent (old : PortEnd) (bytes : List ℕ) (sets : Trusting) (more : Bool) (number : ℕ) (answer : Sent)
     (new : PortEnd) : Type 0 where
-  pub answered : sent_verdict old.name number answer ≡ (send_step old bytes trusted more number).verdict
-  pub lengths : lengths_sent answer ≡ packet_lengths (send_step old bytes trusted more number).packets
-  pub port : new ≡ (send_step old bytes trusted more number).port
+  pub answered : sent_verdict old.name number answer ≡ (send_step old bytes sets more number).verdict
+  pub lengths : lengths_sent answer ≡ packet_lengths (send_step old bytes sets more number).packets
+  pub port : new ≡ (send_step old bytes sets more number).port

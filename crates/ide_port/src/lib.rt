@@ -8,6 +8,8 @@ mod plans;
 mod port;
 #[cfg(test)]
 mod tests;
+mod trusting;
 
 pub use answer::{Arrival, Sent};
 pub use port::Port;
+pub use trusting::{Asked, Trusting};

@@ -9,10 +9,11 @@ ghost use Rattle.ide_plan.specs.Fits.{FitsStream};
 ghost use Rattle.ide_prefix.specs.Cut.{packet_of_view, IsView};
 ghost use Rattle.sub_stream.specs.{lent_parts, mark_of};
 ghost use Rattle.ide_stream.specs.{reset_end};
-ghost use Rattle.ide_port.specs.Kept.{trusts, arrival_said};
+ghost use Rattle.ide_port.specs.Kept.{arrival_said};
 
 use crate::answer::{Arrival, Sent};
 use crate::plans::{copied, lane, place, planned};
+use crate::trusting::Trusting;
 use association::{Choice, choose};
 use ide_km::{ProgramFault, SlotPort};
 use ide_plan::StreamPlan;
@@ -71,16 +72,6 @@ fn named(choice: Choice) -> Option<u8>
     match choice {
         Choice::Selective(id) | Choice::Default(id) | Choice::Link(id) => Some(id),
         Choice::Plain => None,
-    }
-}
-
-// Whether a port of this side sets T of what is trusted.
-fn trusts(side: Side, trusted: bool) -> bool
-    ensures { result ≡ trusts side trusted }
-{
-    match side {
-        Side::Host => trusted,
-        Side::Device => false,
     }
 }
 
@@ -178,12 +169,12 @@ impl Port {
     }
 
     /// Sends a TLP's bytes: it takes a stream, which seals it behind the sync packets that must go first, or it goes
-    /// plain. A host's port sets T where the TLP is `trusted`; a device's port never does. `more` says that the unit
-    /// goes on where it has room. What was sealed is lent by `packets` until the next send.
-    pub fn send(&mut self, tlp: &[u8], trusted: bool, more: bool) -> Sent
+    /// plain. `trusting` says whether T is set of it. `more` says that the unit goes on where it has room. What was
+    /// sealed is lent by `packets` until the next send.
+    pub fn send<T: Trusting>(&mut self, tlp: &[u8], trusting: &T, more: bool) -> Sent
         requires { self.old.calls < 2 ^ 40 }
         // Whatever the number of the next sealed packet is over the run.
-        ensures { (number : ℕ) → IsSent self.old tlp.now trusted more number result self.new }
+        ensures { (number : ℕ) → IsSent self.old tlp.now (T.trusting trusting.now) more number result self.new }
     {
         match read(tlp) {
             Err(fault) => {
@@ -192,23 +183,23 @@ impl Port {
             }
             Ok(view) => {
                 let choice = choose(&self.plans, self.name.side, &view.head());
-                self.send_chosen(named(choice), tlp, &view, trusted, more)
+                self.send_chosen(named(choice), tlp, &view, trusting, more)
             }
         }
     }
 
     // Sends a TLP on the stream that it takes.
-    fn send_chosen(
+    fn send_chosen<T: Trusting>(
         &mut self,
         id: Option<u8>,
         bytes: &[u8],
         tlp: &TlpView,
-        trusted: bool,
+        trusting: &T,
         more: bool,
     ) -> Sent
         requires few { self.old.calls < 2 ^ 40 }
         requires read { read_of bytes.now ≡ Ok (view_of tlp.now) }
-        ensures { (number : ℕ) → let step = send_chosen self.old (view_of tlp.now) trusted more number id in
+        ensures { (number : ℕ) → let step = send_chosen self.old (view_of tlp.now) (T.trusting trusting.now) more number id in
             IsStep self.old.name number result self.new step }
     {
         match id {
@@ -216,7 +207,10 @@ impl Port {
                 self.unsealed();
                 Sent::Plain
             }
-            Some(id) => self.send_on(id, bytes, tlp, trusted, more),
+            Some(id) => {
+                let t = trusting.is_trusted(&tlp.head(), id);
+                self.send_on(id, bytes, tlp, t, more)
+            }
         }
     }
 
@@ -232,12 +226,11 @@ impl Port {
             return Sent::Plain;
         };
         let (head, payload) = parts(bytes, tlp);
-        let t = trusts(self.name.side, trusted);
         let sealed = &mut self.sealed;
         sealed.clear();
         self.calls += 1;
         let stream = &mut self.streams[place];
-        match stream.send(tlp.class(), head, payload, t, more, sealed) {
+        match stream.send(tlp.class(), head, payload, trusted, more, sealed) {
             Ok(sealed) => Sent::Sealed(sealed),
             Err(refusal) => Sent::Refused(refusal),
         }

@@ -3,7 +3,7 @@
 
 ghost use Rattle.std.specs.Prelude.{◌<◌};
 
-use crate::{Arrival, Port, Sent};
+use crate::{Arrival, Asked, Port, Sent};
 use ide_km::{ProgramFault, SlotPort};
 use ide_plan::{IdRange, Selector, StreamPlan};
 use ide_prefix::PacketFault;
@@ -76,11 +76,11 @@ fn is_malformed(rt: &impl Abort, port: &mut Port, bytes: &[u8], fault: PacketFau
 
 fn send(rt: &impl Abort, port: &mut Port, tlp: &[u8], trusted: bool) -> Sent {
     assert!(rt; port.calls() < 0x100);
-    port.send(tlp, trusted, false)
+    port.send(tlp, &Asked(trusted), false)
 }
 
 // A write is sealed as one packet, the first posted one under draw 0.
-fn is_sealed(rt: &impl Abort, port: &mut Port, trusted: bool, t: bool) {
+fn is_sealed(rt: &impl Abort, port: &mut Port, t: bool) {
     let packet = SealedPacket {
         stream: 5,
         sub: SubKind::Pr,
@@ -93,7 +93,7 @@ fn is_sealed(rt: &impl Abort, port: &mut Port, trusted: bool, t: bool) {
         sync: false,
         length: 32,
     };
-    match send(rt, port, &WRITE, trusted) {
+    match send(rt, port, &WRITE, t) {
         Sent::Sealed(sealed) => assert!(rt; sealed.as_slice() == [packet].as_slice()),
         _ => assert!(rt; false),
     }
@@ -155,7 +155,7 @@ fn posted(rt: &impl Abort, alloc: Global) -> Result<(Port, Port), Fail> {
     let mut device = port(alloc, Side::Device, false)?;
     key(rt, &mut host, 1, 0)?;
     key(rt, &mut device, 1, 0)?;
-    is_sealed(rt, &mut device, true, false);
+    is_sealed(rt, &mut device, false);
     let unit = UnitName {
         stream: 5,
         sub: SubKind::Pr,
@@ -191,7 +191,7 @@ fn packet_comes_again(rt: HostRuntime) -> Result<(), Fail> {
 fn host_sets_t(rt: HostRuntime) -> Result<(), Fail> {
     let mut host = port(rt.alloc(), Side::Host, true)?;
     key(&rt, &mut host, 0, 0)?;
-    is_sealed(&rt, &mut host, true, true);
+    is_sealed(&rt, &mut host, true);
     Ok(())
 }
 

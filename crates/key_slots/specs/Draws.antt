@@ -1,5 +1,6 @@
 -- A pool of keys, and the draws from it (this profile).
-use Rattle.std.specs.Prelude.{ℕ, ◌+◌, ◌*◌, ◌/◌, List, [], ◌∷◌, map, length, slice_index_or, nat_lt, Option, Some, Result, Ok, Err, if◌then◌else◌}
+use Rattle.std.specs.Prelude.{ℕ, ◌+◌, ◌*◌, ◌/◌, List, [], ◌∷◌, map, length, slice_index_or, nat_lt, Option, Some}
+use Rattle.std.specs.Prelude.{Result, Ok, Err, if◌then◌else◌}
 use Rattle.key_slots.specs.declared.pool.PoolEmpty.{PoolEmpty}
 
 -- its keys, and how many draws were made

@@ -1,6 +1,7 @@
 -- The two key slots of one sub-stream in one direction at a port, and what each call makes of them (PCI Express Base
 -- 6.0 section 6.33, in this profile). A key set is said by whether it is set 1.
-use Rattle.std.specs.Prelude.{ℕ, ◌==◌, nat_lt, Bool, true, false, not, ◌&&◌, ◌||◌, if◌then◌else◌, List, Option, Some, None, Result, Ok, Err}
+use Rattle.std.specs.Prelude.{ℕ, ◌==◌, nat_lt, Bool, true, false, not, ◌&&◌, ◌||◌, if◌then◌else◌, List, Option, Some}
+use Rattle.std.specs.Prelude.{None, Result, Ok, Err}
 use Rattle.std.specs.Option.{option_map}
 use Rattle.std.specs.Borrow.{Bor}
 use Rattle.key_slots.specs.Drawn.{DrawnKey}

@@ -1,6 +1,7 @@
 //! A pool of keys, and the six keys of a draw.
 
-ghost use Rattle.std.specs.Prelude.{◌≡◌, ◌*◌, ◌+◌, ◌≤◌, ◌<◌, ℕ, List, [], ◌∷◌, None, IfOk, length, slice_index_or, slice_set};
+ghost use Rattle.std.specs.Prelude.{◌≡◌, ◌*◌, ◌+◌, ◌≤◌, ◌<◌, ℕ, List, [], ◌∷◌, None, IfOk, length, slice_index_or};
+ghost use Rattle.std.specs.Prelude.{slice_set};
 ghost use Rattle.std.specs.Option.{option_copied};
 ghost use Rattle.key_slots.specs.Draws.{new_pool, draw_answer, pool_after, unspent};
 
@@ -88,6 +89,13 @@ impl KeyPool {
     {
         let keys = Vec::from_slice(alloc, keys)?;
         Ok(KeyPool { keys, draws: 0 })
+    }
+
+    /// How many draws were made.
+    pub fn draws(&self) -> u32
+        ensures { result ≡ self.now.draws }
+    {
+        self.draws
     }
 
     /// The six keys of the next draw. `PoolEmpty` comes exactly where all draws were made, and changes nothing.

@@ -1,8 +1,15 @@
 -- What an exchange makes of the manager and of both ends, where its request comes to the device or is lost.
-use Rattle.link_ends.proofs.Terms.{◌≡◌, ℕ, Bool, true, false, List, [], sym, ◌∙◌, arith, Option, Some, None, if◌then◌else◌, slice_get, slice_set, Side, nat_tests, call_of, reply_of, spelling, Loss, Judged, Expected, Refused, Bad}
-use Rattle.link_ends.proofs.Terms.{Outcome, Asked, is_last_receiver_go, StreamView, asked_in, exchange_asked, request_asked, outcome_of, taken_stream, taken_calls, ManagerView, current, current_in, current_at, current_asked}
-use Rattle.link_ends.proofs.Terms.{asking_after, IsAsked, StreamState, requests_called, StreamEnds, Exchanged, exchanged, unless_lost, lost_as, came_to, ends_after, shown_stream, port_called, judged_bytes, Found, DeviceEnd}
-use Rattle.link_ends.proofs.Terms.{asked_device, reply_given, LinkEnds, lost_in, Pool, KeeperView, HasStream, IsOn, Stands, IsExchanged, ap, subst}
+use Rattle.link_ends.proofs.Terms.{◌≡◌, ℕ, Bool, true, false, List, [], sym, ◌∙◌, arith, Option, Some, None}
+use Rattle.link_ends.proofs.Terms.{if◌then◌else◌, slice_get, slice_set, Side, nat_tests, call_of, reply_of, spelling}
+use Rattle.link_ends.proofs.Terms.{Loss, Judged, Expected, Refused, Bad}
+use Rattle.link_ends.proofs.Terms.{Outcome, Asked, is_last_receiver_go, StreamView, asked_in, exchange_asked}
+use Rattle.link_ends.proofs.Terms.{request_asked, outcome_of, taken_stream, taken_calls, ManagerView, current}
+use Rattle.link_ends.proofs.Terms.{current_in, current_at, current_asked}
+use Rattle.link_ends.proofs.Terms.{asking_after, IsAsked, StreamState, requests_called, StreamEnds, Exchanged}
+use Rattle.link_ends.proofs.Terms.{exchanged, unless_lost, lost_as, came_to, ends_after, shown_stream, port_called}
+use Rattle.link_ends.proofs.Terms.{judged_bytes, Found, DeviceEnd}
+use Rattle.link_ends.proofs.Terms.{asked_device, reply_given, LinkEnds, lost_in, Pool, KeeperView, HasStream, IsOn}
+use Rattle.link_ends.proofs.Terms.{Stands, IsExchanged, ap, subst}
 use Rattle.link_events.specs.declared.event.Lost.{Lost}
 use Rattle.tsm_host.specs.declared.judge.Judged.TheVariants.{Lost as NotCarried}
 use Rattle.tsm_host.specs.Local.{goes}
@@ -12,25 +19,32 @@ use Rattle.link_ends.proofs.Exchanges.{DeviceGoes, device_goes}
 
 -- ---- the stream that is asked
 
-pub keeper_read : (m0 m : ManagerView) (l0 l : LinkEnds) (place id : ℕ) (host device : Found) (e : StreamEnds) → IsOn m0 l0 place id host device
+pub keeper_read : (m0 m : ManagerView) (l0 l : LinkEnds) (place id : ℕ) (host device : Found) (e : StreamEnds)
+    → IsOn m0 l0 place id host device
     → Stands m0 l0 place id e m l
     → slice_get m.streams place ≡ Some e.keeper
-keeper_read m0 m l0 l place id host device e on st = ap (λ (vs : List StreamView). slice_get vs place) st.streams ∙ read_set m0.streams place e.keeper on.within
+keeper_read m0 m l0 l place id host device e on st = ap (λ (vs : List StreamView). slice_get vs place) st.streams ∙
+    read_set m0.streams place e.keeper on.within
 
-pub current_is : (m : ManagerView) (place : ℕ) (keeper : StreamView) → m.asking ≡ Some place → slice_get m.streams place ≡ Some keeper
+pub current_is : (m : ManagerView) (place : ℕ) (keeper : StreamView) → m.asking ≡ Some place → slice_get m.streams place
+    ≡ Some keeper
     → current m ≡ current_asked place keeper (asked_in keeper.op)
-current_is m place keeper asking read = ap (λ (o : Option ℕ). current_in m.streams o) asking ∙ ap (λ (o : Option StreamView). current_at place o) read
+current_is m place keeper asking read = ap (λ (o : Option ℕ). current_in m.streams o) asking ∙ ap
+    (λ (o : Option StreamView). current_at place o) read
 
 -- what a manager asks, seen as the keeper shows it
 pub record IsAsking (m0 m : ManagerView) (l0 l : LinkEnds) (place id : ℕ) (e : StreamEnds) (a : Asked) : Type 0 where
   pub stands : Stands m0 l0 place id e m l
   pub current_is : current m ≡ Some (record { place = place; stream = e.keeper; asked = a })
 
-pub is_asking : (m0 m : ManagerView) (pool : Pool) (k : KeeperView) (l0 l : LinkEnds) (place id : ℕ) (host device : Found) (e : StreamEnds) (a : Asked)
-    → (let v : KeeperView = record { manager = m; pool = pool } in v) ≡ k → IsOn m0 l0 place id host device → Stands m0 l0 place id e k.manager l
+pub is_asking : (m0 m : ManagerView) (pool : Pool) (k : KeeperView) (l0 l : LinkEnds) (place id : ℕ)
+    (host device : Found) (e : StreamEnds) (a : Asked)
+    → (let v : KeeperView = record { manager = m; pool = pool } in v) ≡ k → IsOn m0 l0 place id host device
+    → Stands m0 l0 place id e k.manager l
     → k.manager.asking ≡ Some place → asked_in e.keeper.op ≡ Some a → IsAsking m0 m l0 l place id e a
 is_asking m0 m pool k l0 l place id host device e a view on st asking asked =
-    let st' : Stands m0 l0 place id e m l = subst (λ (k : KeeperView). Stands m0 l0 place id e k.manager l) (sym view) st in
+    let st' : Stands m0 l0 place id e m l = subst (λ (k : KeeperView). Stands m0 l0 place id e k.manager l) (sym view)
+    st in
     let read = keeper_read m0 m l0 l place id host device e on st' in
     record {
       stands = st';
@@ -40,7 +54,8 @@ is_asking m0 m pool k l0 l place id host device e a view on st asking asked =
 
 -- ---- what is lost
 
-pub not_lost : (loss : Option Loss) (n : ℕ) (came : Exchanged) (x : StreamState) → lost_in loss n ≡ None → unless_lost loss n came x ≡ came
+pub not_lost : (loss : Option Loss) (n : ℕ) (came : Exchanged) (x : StreamState) → lost_in loss n ≡ None
+    → unless_lost loss n came x ≡ came
 not_lost loss n came x is = grind (arith, nat_tests)
 
 pub is_lost : (loss : Option Loss) (n : ℕ) (came : Exchanged) (x : StreamState) (k : Lost) → lost_in loss n ≡ Some k
@@ -49,22 +64,27 @@ is_lost loss n came x k is = grind (arith, nat_tests)
 
 -- ---- the request came to the device
 
-pub record IsDelivered (l0 : LinkEnds) (id : ℕ) (a : Asked) (e : StreamEnds) (device : DeviceEnd) (reply : List ℕ) : Type 0 where
+pub record IsDelivered (l0 : LinkEnds) (id : ℕ) (a : Asked) (e : StreamEnds) (device : DeviceEnd) (reply : List ℕ) :
+    Type 0 where
   pub after : StreamState
   pub came : came_to l0.device.requester (request_asked a e.keeper) e.keeper.id a.draw e.device
       ≡ record { judged = judged_bytes (request_asked a e.keeper) reply; device = after }
   pub port : HasStream l0.device.port id after device.port
   pub requester : device.requester ≡ l0.device.requester
 
-pub is_delivered : (m0 m : ManagerView) (l0 l : LinkEnds) (place id : ℕ) (host device : Found) (e : StreamEnds) (a : Asked) (after : DeviceEnd) (reply : List ℕ)
+pub is_delivered : (m0 m : ManagerView) (l0 l : LinkEnds) (place id : ℕ) (host device : Found) (e : StreamEnds)
+    (a : Asked) (after : DeviceEnd) (reply : List ℕ)
     → IsOn m0 l0 place id host device → Stands m0 l0 place id e m l → IsAsked (Some a)
-    → after ≡ asked_device l.device (spelling (request_asked a e.keeper)) a.draw → reply ≡ reply_given l.device (spelling (request_asked a e.keeper)) a.draw
+    → after ≡ asked_device l.device (spelling (request_asked a e.keeper)) a.draw → reply
+    ≡ reply_given l.device (spelling (request_asked a e.keeper)) a.draw
     → IsDelivered l0 id a e after reply
 is_delivered m0 m l0 l place id host device e a after reply on st asked after_is reply_is =
     let request : List ℕ = spelling (request_asked a e.keeper) in
     let went : DeviceGoes l0.device.port id e.device request a.draw l.device.port =
-    device_goes l0.device.port l.device.port id device e.device a e.keeper on.device_side on.device_found st.device st.id_is asked in
-    let said : reply_of l0.device.requester request (call_of (shown_stream e.keeper.id e.device) request a.draw) ≡ reply =
+    device_goes l0.device.port l.device.port id device e.device a e.keeper on.device_side on.device_found st.device
+    st.id_is asked in
+    let said : reply_of l0.device.requester request (call_of (shown_stream e.keeper.id e.device) request a.draw)
+    ≡ reply =
     (λ i. reply_of (sym st.requester i) request (call_of (shown_stream (st.id_is i) e.device) request a.draw))
     ∙ (ap (λ o. reply_of l.device.requester request o) (sym went.call) ∙ sym reply_is) in
     record {
@@ -92,23 +112,31 @@ taken_at id a NotCarried = tt
 taken_at id a (Refused code) = tt
 taken_at id a Bad = tt
 
-pub exchange_ends : (m0 m m' : ManagerView) (l0 l l' : LinkEnds) (place id : ℕ) (host device : Found) (e : StreamEnds) (a : Asked) (loss : Option Loss)
+pub exchange_ends : (m0 m m' : ManagerView) (l0 l l' : LinkEnds) (place id : ℕ) (host device : Found) (e : StreamEnds)
+    (a : Asked) (loss : Option Loss)
     (result : Outcome) (j : Judged) (y : StreamState)
     → IsOn m0 l0 place id host device → Stands m0 l0 place id e m l
     → exchanged loss l0.device.requester a e ≡ record { judged = j; device = y }
     → result ≡ outcome_of a j
-    → m' ≡ record { streams = slice_set m.streams place (taken_stream a j e.keeper); asking = asking_after place (outcome_of a j) }
+    → m' ≡ record {
+      streams = slice_set m.streams place (taken_stream a j e.keeper);
+      asking = asking_after place
+          (outcome_of a j);
+    }
     → PortMoves l.host (taken_calls a j e.keeper.id) l'.host
     → HasStream l0.device.port id y l'.device.port → l'.device.requester ≡ l0.device.requester
     → IsExchanged m0 l0 place id loss a e result m' l'
 exchange_ends m0 m m' l0 l l' place id host device e a loss result j y on st is result_is after moves port requester =
     let called : HasStream l0.host id (requests_called l0.host.name.side (taken_calls a j e.keeper.id) e.host) l'.host =
-    requests_there l0.host l.host l'.host id host e.host (taken_calls a j e.keeper.id) on.host_found st.host (rw st.id_is (taken_at id a j)) moves in
+    requests_there l0.host l.host l'.host id host e.host (taken_calls a j e.keeper.id) on.host_found st.host
+    (rw st.id_is (taken_at id a j)) moves in
     let stands : Stands m0 l0 place id (ends_after a (record { judged = j; device = y }) e) m' l' = record {
       id_is = taken_id a j e.keeper ∙ st.id_is;
-      streams = ap (λ (k : ManagerView). k.streams) after ∙ ap (λ (vs : List StreamView). slice_set vs place (taken_stream a j e.keeper)) st.streams
+      streams = ap (λ (k : ManagerView). k.streams) after ∙ ap
+          (λ (vs : List StreamView). slice_set vs place (taken_stream a j e.keeper)) st.streams
           ∙ set_again m0.streams place e.keeper (taken_stream a j e.keeper);
-      host = subst (λ (s : Side). HasStream l0.host id (requests_called s (taken_calls a j e.keeper.id) e.host) l'.host) on.host_side called;
+      host = subst (λ (s : Side). HasStream l0.host id (requests_called s (taken_calls a j e.keeper.id) e.host) l'.host)
+          on.host_side called;
       device = port;
       requester = requester;
     } in

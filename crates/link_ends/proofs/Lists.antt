@@ -1,5 +1,6 @@
 -- Places of a list, read and set.
-use Rattle.link_ends.proofs.Terms.{◌≡◌, ℕ, suc, zero, ◌<◌, List, [], ◌∷◌, length, refl, sym, arith, Some, slice_get, slice_set, same_Some, ap}
+use Rattle.link_ends.proofs.Terms.{◌≡◌, ℕ, suc, zero, ◌<◌, List, [], ◌∷◌, length, refl, sym, arith, Some, slice_get}
+use Rattle.link_ends.proofs.Terms.{slice_set, same_Some, ap}
 
 pub read_set : {A : Type 0} (xs : List A) (p : ℕ) (v : A) → p < length xs → slice_get (slice_set xs p v) p ≡ Some v
 read_set [] p v lt = absurd (omega arith)

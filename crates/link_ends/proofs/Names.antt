@@ -1,6 +1,9 @@
 -- A stream of the manager by its name: the first of the list that has it, and its place.
-use Rattle.link_ends.proofs.Terms.{◌≡◌, ℕ, suc, zero, ◌+◌, ◌<◌, ◌==◌, length, get_or, true, false, List, [], ◌∷◌, refl, sym, ◌∙◌, arith, Option, Some, None, option_map, if◌then◌else◌, position, slice_get, slice_set, same_Some}
-use Rattle.link_ends.proofs.Terms.{nat_tests, true-same, both-true, StreamView, is_named, ManagerView, Named, named, named_in, op_named, ap, subst}
+use Rattle.link_ends.proofs.Terms.{◌≡◌, ℕ, suc, zero, ◌+◌, ◌<◌, ◌==◌, length, get_or, true, false, List, [], ◌∷◌, refl}
+use Rattle.link_ends.proofs.Terms.{sym, ◌∙◌, arith, Option, Some, None, option_map, if◌then◌else◌, position, slice_get}
+use Rattle.link_ends.proofs.Terms.{slice_set, same_Some}
+use Rattle.link_ends.proofs.Terms.{nat_tests, true-same, both-true, StreamView, is_named, ManagerView, Named, named}
+use Rattle.link_ends.proofs.Terms.{named_in, op_named, ap, subst}
 use Rattle.std.specs.List.{position_from}
 use Rattle.std.proofs.lemmas.Iterator.Adapters.{position_from-zero}
 use Rattle.std.proofs.lemmas.List.Quantifiers.{position-Some}
@@ -23,10 +26,12 @@ pub record IsPlaced (link id : ℕ) (vs : List StreamView) (place : ℕ) : Type 
   pub is_it : is_named link id stream ≡ true
   pub sets : (w : StreamView) → slice_set vs place w ≡ set_named link id w vs
 
-placed_at : (link id : ℕ) (vs : List StreamView) (place : ℕ) (d : StreamView) → place < length vs → is_named link id (get_or vs place d) ≡ true
+placed_at : (link id : ℕ) (vs : List StreamView) (place : ℕ) (d : StreamView) → place < length vs
+    → is_named link id (get_or vs place d) ≡ true
     → ((k : ℕ) → k < place → is_named link id (get_or vs k d) ≡ false) → IsPlaced link id vs place
 placed_at link id [] place d lt at before = absurd (omega arith)
-placed_at link id (v ∷ vs) zero d lt at before = record { stream = v; read = refl; first = rw at refl; is_it = at; sets = λ w. rw at refl }
+placed_at link id (v ∷ vs) zero d lt at before = record
+    { stream = v; read = refl; first = rw at refl; is_it = at; sets = λ w. rw at refl }
 placed_at link id (v ∷ vs) (suc place) d lt at before =
     let no : is_named link id v ≡ false = before 0 (omega arith) in
     let r = placed_at link id vs place d (omega arith) at (λ k l. before (suc k) (omega arith)) in
@@ -38,11 +43,13 @@ placed_at link id (v ∷ vs) (suc place) d lt at before =
       sets = λ w. rw no (ap (λ (us : List StreamView). v ∷ us) (r.sets w));
     }
 
-unplaced : (link id : ℕ) (vs : List StreamView) (from : ℕ) → position_from (is_named link id) from vs ≡ None → first_named link id vs ≡ None
+unplaced : (link id : ℕ) (vs : List StreamView) (from : ℕ) → position_from (is_named link id) from vs ≡ None
+    → first_named link id vs ≡ None
 unplaced link id [] from is = refl
 unplaced link id (v ∷ vs) from is = grind (arith, nat_tests, unplaced link id vs (from + 1))
 
-pub placed : (link id : ℕ) (vs : List StreamView) (place : ℕ) → position (is_named link id) vs ≡ Some place → IsPlaced link id vs place
+pub placed : (link id : ℕ) (vs : List StreamView) (place : ℕ) → position (is_named link id) vs ≡ Some place
+    → IsPlaced link id vs place
 placed link id [] place is = absurd cc
 placed link id (v ∷ vs) place is =
     let p = position-Some (is_named link id) (v ∷ vs) place v is in placed_at link id (v ∷ vs) place v p.0 p.1 p.2
@@ -55,7 +62,8 @@ pub record IsNamed (m : ManagerView) (link id : ℕ) (n : Named) : Type 0 where
   pub id_is : n.stream.id ≡ id
   pub sets : (w : StreamView) → slice_set m.streams n.place w ≡ set_named link id w m.streams
 
-by_place : (m : ManagerView) (link id : ℕ) (n : Named) (o : Option ℕ) → place_of m link id ≡ o → named_in m.streams o ≡ Some n → IsNamed m link id n
+by_place : (m : ManagerView) (link id : ℕ) (n : Named) (o : Option ℕ) → place_of m link id ≡ o → named_in m.streams o
+    ≡ Some n → IsNamed m link id n
 by_place m link id n None at is = absurd cc
 by_place m link id n (Some place) at is =
     let p : IsPlaced link id m.streams place = placed link id m.streams place at in
@@ -75,10 +83,12 @@ named_stands m link id n is = by_place m link id n (place_of m link id) refl is
 
 op_by_place : (m : ManagerView) (link id : ℕ) (o : Option ℕ) → place_of m link id ≡ o
     → option_map (λ (v : StreamView). v.op) (first_named link id m.streams) ≡ op_named (named_in m.streams o)
-op_by_place m link id None at = rw (unplaced link id m.streams 0 (sym (position_from-zero (is_named link id) m.streams) ∙ at)) refl
+op_by_place m link id None at = rw
+    (unplaced link id m.streams 0 (sym (position_from-zero (is_named link id) m.streams) ∙ at)) refl
 op_by_place m link id (Some place) at =
     let p : IsPlaced link id m.streams place = placed link id m.streams place at in
     rw (p.first, p.read) refl
 
-pub op_named_first : (m : ManagerView) (link id : ℕ) → option_map (λ (v : StreamView). v.op) (first_named link id m.streams) ≡ op_named (named m link id)
+pub op_named_first : (m : ManagerView) (link id : ℕ) → option_map (λ (v : StreamView). v.op)
+    (first_named link id m.streams) ≡ op_named (named m link id)
 op_named_first m link id = op_by_place m link id (place_of m link id) refl

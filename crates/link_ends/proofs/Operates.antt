@@ -1,8 +1,15 @@
 -- An operation on one stream, from where the manager begins it or goes on with it.
-use Rattle.link_ends.proofs.Terms.{◌≡◌, ℕ, Bool, true, false, [], refl, sym, ◌∙◌, arith, Option, Some, None, Ok, Err, option_map, option_and_then, if◌then◌else◌, slice_set, Side, Pool, live_set, six_keys, Loss, Operation, Work, work}
-use Rattle.link_ends.proofs.Terms.{work_of, op_standing, makes_draw, Outcome, op_name, programs, StreamView, HostView, host_view, asked_in, refusal_of, ok_unless, begun_stream, begun_calls, ManagerView, Named, named, begin_refusal}
-use Rattle.link_ends.proofs.Terms.{begun, pool_begun, calls_begun, IsAsked, pair_at, stream_status, requests_called, Walked, walk_on, walked_unless, begun_ends, event_walk, PortEnd, Found, found, status_in, live_in_port, LinkEnds}
-use Rattle.link_ends.proofs.Terms.{KeeperView, HasStream, IsOn, Stands, IsWalked, Walks, IsOperated, ends_found, ap, subst}
+use Rattle.link_ends.proofs.Terms.{◌≡◌, ℕ, Bool, true, false, [], refl, sym, ◌∙◌, arith, Option, Some, None, Ok, Err}
+use Rattle.link_ends.proofs.Terms.{option_map, option_and_then, if◌then◌else◌, slice_set, Side, Pool, live_set}
+use Rattle.link_ends.proofs.Terms.{six_keys, Loss, Operation, Work, work}
+use Rattle.link_ends.proofs.Terms.{work_of, op_standing, makes_draw, Outcome, op_name, programs, StreamView, HostView}
+use Rattle.link_ends.proofs.Terms.{host_view, asked_in, refusal_of, ok_unless, begun_stream, begun_calls, ManagerView}
+use Rattle.link_ends.proofs.Terms.{Named, named, begin_refusal}
+use Rattle.link_ends.proofs.Terms.{begun, pool_begun, calls_begun, IsAsked, pair_at, stream_status, requests_called}
+use Rattle.link_ends.proofs.Terms.{Walked, walk_on, walked_unless, begun_ends, event_walk, PortEnd, Found, found}
+use Rattle.link_ends.proofs.Terms.{status_in, live_in_port, LinkEnds}
+use Rattle.link_ends.proofs.Terms.{KeeperView, HasStream, IsOn, Stands, IsWalked, Walks, IsOperated, ends_found, ap}
+use Rattle.link_ends.proofs.Terms.{subst}
 use Rattle.ide_types.specs.declared.sub.SubKind.{SubKind}
 use Rattle.tsm_host.specs.declared.operation.Op.{Op}
 use Rattle.tsm_host.specs.declared.operation.Outcome.TheVariants as outcome
@@ -20,7 +27,11 @@ seen e id = host_view (λ port stream. status_in port stream) (λ port stream su
 
 host_seen : (e : PortEnd) (id : ℕ) (f : Found) → found e.plans e.states id ≡ Some f → seen e id ≡ host_of f.state
 host_seen e id f is =
-    ap (λ (o : Option Found). let v : HostView = record { status = option_map (λ (g : Found). stream_status g.state) o; live = λ (u : SubKind). option_and_then (λ (g : Found). live_set (pair_at true u g.state)) o } in v)
+    ap (λ (o : Option Found). let v : HostView = record {
+      status = option_map (λ (g : Found). stream_status g.state) o;
+      live = λ (u : SubKind). option_and_then
+          (λ (g : Found). live_set (pair_at true u g.state)) o;
+    } in v)
     is
 
 refused_by : (o : Option Refusal) (r : Refusal) → Err r ≡ ok_unless o → o ≡ Some r
@@ -31,24 +42,29 @@ not_refused o is = grind arith
 
 -- ---- what it asks where it begins, or goes on
 
-standing_first : (o : Operation) (set : Bool) (draw f : ℕ) (b : Bool) → IsAsked (asked_in (op_standing (work o set draw f b) 1))
+standing_first : (o : Operation) (set : Bool) (draw f : ℕ) (b : Bool)
+    → IsAsked (asked_in (op_standing (work o set draw f b) 1))
 standing_first o set draw f b = grind arith
 
-begun_asked : (w : Work) (pool : Pool) (s : StreamView) → IsAsked (asked_in s.op) → IsAsked (asked_in (begun_stream w pool s).op)
+begun_asked : (w : Work) (pool : Pool) (s : StreamView) → IsAsked (asked_in s.op)
+    → IsAsked (asked_in (begun_stream w pool s).op)
 begun_asked w pool s asked = grind (arith, standing_first w.operation w.set w.draw w.first w.begins)
 
 begun_at : (id : ℕ) (w : Work) (pool : Pool) → AllAt id (begun_calls w pool id)
 begun_at id w pool = by_tests w.begins (makes_draw w.operation)
   where
-    by_tests : (b makes : Bool) → AllAt id (if b then (if makes then programs id w.set (six_keys pool.keys w.draw) w.draw else halts id) else [])
+    by_tests : (b makes : Bool) → AllAt id
+        (if b then (if makes then programs id w.set (six_keys pool.keys w.draw) w.draw else halts id) else [])
     by_tests true true = programs_at id w.set (six_keys pool.keys w.draw) w.draw
     by_tests true false = halts_at id
     by_tests false makes = tt
 
 -- ---- an operation of the name
 
-module _ (k : KeeperView) (m1 : ManagerView) (pool1 : Pool) (l : LinkEnds) (host1 : PortEnd) (op : Op) (loss : Option Loss) (n : Named) (host device : Found)
-    (is : named k.manager (op_name op).link (op_name op).stream ≡ Some n) (on : IsOn k.manager l n.place (op_name op).stream host device)
+module _ (k : KeeperView) (m1 : ManagerView) (pool1 : Pool) (l : LinkEnds) (host1 : PortEnd) (op : Op)
+    (loss : Option Loss) (n : Named) (host device : Found)
+    (is : named k.manager (op_name op).link (op_name op).stream ≡ Some n)
+    (on : IsOn k.manager l n.place (op_name op).stream host device)
     (manager_is : m1 ≡ begun k.manager (op_name op).operation (seen l.host n.stream.id) k.pool n)
     (pool_is : pool1 ≡ pool_begun (op_name op).operation (seen l.host n.stream.id) k.pool n)
     (moves : PortMoves l.host (calls_begun (op_name op).operation (seen l.host n.stream.id) k.pool n) host1) where
@@ -56,7 +72,8 @@ module _ (k : KeeperView) (m1 : ManagerView) (pool1 : Pool) (l : LinkEnds) (host
   at_name = named_stands k.manager (op_name op).link (op_name op).stream n is
 
   view : seen l.host n.stream.id ≡ host_of host.state
-  view = host_seen l.host n.stream.id host (ap (λ (i : ℕ). found l.host.plans l.host.states i) at_name.id_is ∙ on.host_found)
+  view = host_seen l.host n.stream.id host
+      (ap (λ (i : ℕ). found l.host.plans l.host.states i) at_name.id_is ∙ on.host_found)
 
   pool_after : pool1 ≡ pool_begun (op_name op).operation (host_of host.state) k.pool n
   pool_after = pool_is ∙ ap (λ (v : HostView). pool_begun (op_name op).operation v k.pool n) view
@@ -66,20 +83,24 @@ module _ (k : KeeperView) (m1 : ManagerView) (pool1 : Pool) (l : LinkEnds) (host
 
   walk_by : (o : Option Refusal) → begin_refusal (op_name op).operation (seen l.host n.stream.id) k.pool n ≡ o
       → event_walk (op_name op).operation (host_of host.state) k.pool loss l.device.requester (ends_found n host device)
-      ≡ walked_unless o (ends_found n host device) (walk_on 13 loss l.device.requester (begun_ends begun_work k.pool (ends_found n host device)))
+      ≡ walked_unless o (ends_found n host device)
+      (walk_on 13 loss l.device.requester (begun_ends begun_work k.pool (ends_found n host device)))
   walk_by o refusal =
       ap (λ (q : Option Refusal). walked_unless q (ends_found n host device)
       (walk_on 13 loss l.device.requester (begun_ends begun_work k.pool (ends_found n host device))))
       (ap (λ (v : HostView). refusal_of (op_name op).operation n.stream.op v k.pool) (sym view) ∙ refusal)
 
-  pub operate_refused : (r : Refusal) → Err r ≡ ok_unless (begin_refusal (op_name op).operation (seen l.host n.stream.id) k.pool n)
-      → IsOperated k l op loss n host device (outcome.Refused r) (record { manager = m1; pool = pool1 }) (record { host = host1; device = l.device })
+  pub operate_refused : (r : Refusal) → Err r ≡ ok_unless
+      (begin_refusal (op_name op).operation (seen l.host n.stream.id) k.pool n)
+      → IsOperated k l op loss n host device (outcome.Refused r) (record { manager = m1; pool = pool1 })
+      (record { host = host1; device = l.device })
   operate_refused r answer =
       let refusal : begin_refusal (op_name op).operation (seen l.host n.stream.id) k.pool n ≡ Some r =
       refused_by (begin_refusal (op_name op).operation (seen l.host n.stream.id) k.pool n) r answer in
       let same_manager : m1 ≡ k.manager = rw refusal at manager_is in
       let same_host : host1 ≡ l.host = rw refusal at moves in
-      let st : Stands k.manager l n.place (op_name op).stream (ends_found n host device) m1 (record { host = host1; device = l.device }) =
+      let st : Stands k.manager l n.place (op_name op).stream (ends_found n host device) m1
+      (record { host = host1; device = l.device }) =
       rw (same_manager, same_host) (record {
         id_is = at_name.id_is;
         streams = sym (set_read k.manager.streams n.place n.stream at_name.read);
@@ -88,12 +109,14 @@ module _ (k : KeeperView) (m1 : ManagerView) (pool1 : Pool) (l : LinkEnds) (host
         requester = refl;
       }) in
       record {
-        walked = subst (λ (v : Walked). IsWalked k.manager l n.place (op_name op).stream v (outcome.Refused r) m1 (record { host = host1; device = l.device }))
+        walked = subst (λ (v : Walked). IsWalked k.manager l n.place (op_name op).stream v (outcome.Refused r) m1
+            (record { host = host1; device = l.device }))
             (sym (walk_by (Some r) refusal)) (record { outcome = refl; stands = st });
         pool = pool_after;
       }
 
-  pub operate_goes : (m2 : ManagerView) (pool2 : Pool) (l2 : LinkEnds) (result : Outcome) → IsAsked (asked_in n.stream.op)
+  pub operate_goes : (m2 : ManagerView) (pool2 : Pool) (l2 : LinkEnds) (result : Outcome)
+      → IsAsked (asked_in n.stream.op)
       → Ok tt ≡ ok_unless (begin_refusal (op_name op).operation (seen l.host n.stream.id) k.pool n)
       → Walks 13 loss m1 (record { host = host1; device = l.device }) result m2 l2 → pool2 ≡ pool1
       → IsOperated k l op loss n host device result (record { manager = m2; pool = pool2 }) l2
@@ -101,23 +124,31 @@ module _ (k : KeeperView) (m1 : ManagerView) (pool1 : Pool) (l : LinkEnds) (host
       let id : ℕ = (op_name op).stream in
       let refusal : begin_refusal (op_name op).operation (seen l.host n.stream.id) k.pool n ≡ None =
       not_refused (begin_refusal (op_name op).operation (seen l.host n.stream.id) k.pool n) answer in
-      let after : m1 ≡ record { streams = slice_set k.manager.streams n.place (begun_stream begun_work k.pool n.stream); asking = Some n.place } =
+      let after : m1 ≡ record {
+        streams = slice_set k.manager.streams n.place (begun_stream begun_work k.pool n.stream);
+        asking = Some
+            n.place;
+      } =
       rw refusal at manager_is in
       let called : PortMoves l.host (begun_calls begun_work k.pool n.stream.id) host1 = rw refusal at moves in
-      let moved : HasStream l.host id (requests_called l.host.name.side (begun_calls begun_work k.pool n.stream.id) host.state) host1 =
+      let moved : HasStream l.host id
+      (requests_called l.host.name.side (begun_calls begun_work k.pool n.stream.id) host.state) host1 =
       requests_there l.host l.host host1 id host host.state (begun_calls begun_work k.pool n.stream.id) on.host_found
       (stream_stands l.host id host on.host_found)
       (rw at_name.id_is (begun_at id begun_work k.pool)) called in
-      let st : Stands k.manager l n.place id (begun_ends begun_work k.pool (ends_found n host device)) m1 (record { host = host1; device = l.device }) =
+      let st : Stands k.manager l n.place id (begun_ends begun_work k.pool (ends_found n host device)) m1
+      (record { host = host1; device = l.device }) =
       record {
         id_is = begun_id begun_work k.pool n.stream ∙ at_name.id_is;
         streams = ap (λ (m : ManagerView). m.streams) after;
-        host = subst (λ (d : Side). HasStream l.host id (requests_called d (begun_calls begun_work k.pool n.stream.id) host.state) host1) on.host_side moved;
+        host = subst (λ (d : Side). HasStream l.host id
+            (requests_called d (begun_calls begun_work k.pool n.stream.id) host.state) host1) on.host_side moved;
         device = stream_stands l.device.port id device on.device_found;
         requester = refl;
       } in
       record {
         walked = subst (λ (v : Walked). IsWalked k.manager l n.place id v result m2 l2) (sym (walk_by None refusal))
-            (walks k.manager l n.place id host device _ on st (ap (λ (m : ManagerView). m.asking) after) (begun_asked begun_work k.pool n.stream asked));
+            (walks k.manager l n.place id host device _ on st (ap (λ (m : ManagerView). m.asking) after)
+            (begun_asked begun_work k.pool n.stream asked));
         pool = pool_same ∙ pool_after;
       }

@@ -1,28 +1,45 @@
 -- The two ends of a link.
-use Rattle.std.specs.Prelude.{ℕ, List}
+use Rattle.std.specs.Prelude.{ℕ, Bool, List}
 use Rattle.ide_types.specs.declared.port.Side.{Side}
 use Rattle.ide_types.specs.declared.port.Side.TheVariants.{Host, Device}
 use Rattle.ide_plan.specs.declared.stream.StreamPlan.{StreamPlan}
-use Rattle.ide_port.specs.{PortEnd, new_port, reset_port}
-use Rattle.device_side.specs.Ends.{new_device}
+use Rattle.ide_plan.specs.declared.interface.InterfacePlan.{InterfacePlan}
+use Rattle.ide_port.specs.{PortEnd, Trusting, new_port, reset_port}
+use Rattle.device_side.specs.Ends.{new_device, with_port as device_with, settled_device, device_trusting, reset_device}
 use Rattle.link_ports.specs.Machine.{port_at}
 use Rattle.link_ends.specs.declared.ends.LinkEnds.{LinkEnds}
 
 -- no stream has keys
-abbrev pub new_ends : ℕ → List StreamPlan → ℕ → ℕ → LinkEnds
-new_ends link plans limit requester =
-    record { host = new_port (port_at Host link) plans limit; device = new_device link plans limit requester }
+abbrev pub new_ends : ℕ → List StreamPlan → ℕ → ℕ → List InterfacePlan → List (List ℕ) → LinkEnds
+new_ends link plans limit requester interfaces nonces = record {
+  host = new_port (port_at Host link) plans limit;
+  device = new_device link plans limit requester interfaces nonces;
+}
 
 -- the port of a side
 abbrev pub port_in : Side → LinkEnds → PortEnd
 port_in Host l = l.host
 port_in Device l = l.device.port
 
--- with another port of a side
+-- with another port of a side, behind a send
 abbrev pub with_port : Side → PortEnd → LinkEnds → LinkEnds
 with_port Host e l = record l { host = e }
 with_port Device e l = record l { device = record l.device { port = e } }
 
--- both ports are as they were made
+-- with another port of a side, behind bytes that came
+abbrev pub taken_ends : Side → PortEnd → LinkEnds → LinkEnds
+taken_ends Host e l = record l { host = e }
+taken_ends Device e l = record l { device = device_with l.device e }
+
+-- with the interfaces settled by the device's port
+abbrev pub settled_ends : LinkEnds → LinkEnds
+settled_ends l = record l { device = settled_device l.device }
+
+-- T at the port of a side, where a host is asked for it
+abbrev pub trusting_at : Side → LinkEnds → Bool → Trusting
+trusting_at Host l trusted = λ head stream. trusted
+trusting_at Device l trusted = device_trusting l.device.interfaces
+
+-- both ports are as they were made, and the device's interfaces but for the nonces that were given
 abbrev pub reset_ends : LinkEnds → LinkEnds
-reset_ends l = record { host = reset_port l.host; device = record l.device { port = reset_port l.device.port } }
+reset_ends l = record { host = reset_port l.host; device = reset_device l.device }

@@ -94,7 +94,13 @@ Operates k l op loss result k' l' =
 
 -- ---- calls
 
--- an operation is no call that sends or takes
+-- an operation on a stream is no call that sends or takes, and comes to no interface
 pub record SameCalls (l l' : LinkEnds) : Type 0 where
+  pub host : l'.host.calls ≡ l.host.calls
+  pub device : l'.device.port.calls ≡ l.device.port.calls
+  pub interfaces : l'.device.interfaces ≡ l.device.interfaces
+
+-- as before, at its end
+pub record HasCalls (l l' : LinkEnds) : Type 0 where
   pub host : l'.host.calls ≡ l.host.calls
   pub device : l'.device.port.calls ≡ l.device.port.calls

@@ -1,3 +1,4 @@
 pub mod Lost
 pub mod Ends
 pub mod Keepers
+pub mod Hosts

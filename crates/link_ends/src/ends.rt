@@ -1,15 +1,15 @@
 //! The two ends of a link.
 
-ghost use Rattle.std.specs.Prelude.{◌≡◌, ◌+◌, ◌<◌, ◌≤◌, ◌^◌, ℕ, Some, true, IfOk, All, length, map, slice_get};
+ghost use Rattle.std.specs.Prelude.{◌≡◌, ◌+◌, ◌<◌, ◌≤◌, ◌^◌, ℕ, Some, IfOk, All, length, map, slice_get};
 ghost use Rattle.ide_plan.specs.Fits.{FitsStream};
-ghost use Rattle.ide_types.specs.declared.port.Side.TheVariants.{Host};
+ghost use Rattle.tdi_state.specs.Held.{FitsTdi};
 ghost use Rattle.sub_stream.specs.{lent_parts, mark_of};
 ghost use Rattle.ide_port.specs.{IsSent, take_step, status_in};
 
 use device_side::Device;
-use ide_plan::StreamPlan;
-use ide_port::{Arrival, Port, Sent};
-use ide_types::{Memory, PortName, Side, StreamStatus};
+use ide_plan::{InterfacePlan, StreamPlan};
+use ide_port::{Arrival, Asked, Port, Sent};
+use ide_types::{Items, Memory, PortName, Side, StreamStatus};
 use std::alloc::Global;
 use sub_stream::PacketMark;
 
@@ -21,39 +21,42 @@ pub struct LinkEnds {
 }
 
 impl LinkEnds {
-    ghost use Rattle.link_ends.specs.Ends.{new_ends, port_in, with_port, reset_ends};
+    ghost use Rattle.link_ends.specs.Ends.{new_ends, port_in, with_port, taken_ends, trusting_at, reset_ends};
 
     /// The ends of a link with these streams, without keys; a key seals at most `limit` units. `requester` is the
-    /// requester ID that the device names.
+    /// requester ID that the device names; it has these interfaces, whose locks get these nonces.
     pub fn make(
         alloc: Global,
         link: u8,
         plans: &[StreamPlan],
         limit: u64,
         requester: u16,
+        interfaces: &Items<InterfacePlan>,
+        nonces: &Items<[u8; 32]>,
     ) -> Result<LinkEnds, Memory>
-        requires { All FitsStream plans.now }
-        ensures { IfOk result (λ l. l ≡ new_ends link plans.now limit requester) }
+        requires streams { All FitsStream plans.now }
+        requires interfaces { All FitsTdi interfaces.now }
+        ensures { IfOk result (λ l. l ≡ new_ends link plans.now limit requester interfaces.now nonces.now) }
     {
         let name = PortName {
             side: Side::Host,
             link,
         };
         let host = Port::make(alloc, name, plans, limit)?;
-        let device = Device::make(alloc, link, plans, limit, requester)?;
+        let device = Device::make(alloc, link, plans, limit, requester, interfaces, nonces)?;
         Ok(LinkEnds { host, device })
     }
 
-    /// Sends a TLP's bytes at the port of this side. A device's port sets T of none.
+    /// Sends a TLP's bytes at the port of this side. A host's port sets T as it is asked, a device's where the TLP's
+    /// owner is an interface in RUN, on the stream that it is bound to.
     pub fn send(&mut self, side: Side, tlp: &[u8], trusted: bool, more: bool) -> Sent
         requires few { (port_in side self.old).calls < 2 ^ 40 }
-        requires hosts { trusted ≡ true → side ≡ Host }
-        ensures sent { (number : ℕ) → IsSent (port_in side self.old) tlp.now trusted more number result
-            (port_in side self.new) }
+        ensures sent { (number : ℕ) → IsSent (port_in side self.old) tlp.now (trusting_at side self.old trusted) more
+            number result (port_in side self.new) }
         ensures ends { self.new ≡ with_port side (port_in side self.new) self.old }
     {
         match side {
-            Side::Host => self.host.send(tlp, trusted, more),
+            Side::Host => self.host.send(tlp, &Asked(trusted), more),
             Side::Device => self.device.send(tlp, more),
         }
     }
@@ -70,10 +73,11 @@ impl LinkEnds {
     }
 
     /// Takes bytes that arrive at the port of this side. What an accepted unit carries is lent until the next arrival.
+    /// Interfaces of the device in CONFIG_LOCKED and RUN go to ERROR where their stream is not Secure there behind it.
     pub fn take(&mut self, side: Side, bytes: &[u8]) -> Arrival
         requires { (port_in side self.old).calls < 2 ^ 40 }
         ensures answer { result ≡ (take_step (port_in side self.old) bytes.now).answer }
-        ensures ends { self.new ≡ with_port side (take_step (port_in side self.old) bytes.now).port self.old }
+        ensures ends { self.new ≡ taken_ends side (take_step (port_in side self.old) bytes.now).port self.old }
     {
         match side {
             Side::Host => self.host.take(bytes),
@@ -125,7 +129,7 @@ impl LinkEnds {
         }
     }
 
-    /// Both ports begin again.
+    /// Both ports begin again, and the device's interfaces, whose nonces that were given stay so.
     pub fn reset(&mut self)
         ensures { self.new ≡ reset_ends self.old }
     {

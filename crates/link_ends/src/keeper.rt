@@ -1,7 +1,9 @@
 //! The host's manager of key management, and the exchanges that it asks.
 
-ghost use Rattle.std.specs.Prelude.{◌≡◌, ◌+◌, ◌<◌, ◌≤◌, ℕ, [], Some, None, IfOk, IfSome, IsSome, is_some, length, vec_len, vec_capacity};
+ghost use Rattle.std.specs.Prelude.{◌≡◌, ◌+◌, ◌<◌, ◌≤◌, ℕ, [], Some, None, IfOk, IfSome, IsSome, is_some, length};
+ghost use Rattle.std.specs.Prelude.{vec_len, vec_capacity};
 ghost use Rattle.ide_km.specs.{spelling};
+ghost use Rattle.key_laws.specs.Operations.{work_of};
 ghost use Rattle.ide_km.specs.declared.object.KmView.{KmView};
 ghost use Rattle.tsm_host.specs.Judging.{judged};
 ghost use Rattle.tsm_host.specs.Operations.{op_name};
@@ -13,7 +15,7 @@ ghost use Rattle.link_walks.specs.Walks.{judged_bytes};
 ghost use Rattle.link_ends.specs.Lost.{lost_in};
 
 use crate::ends::LinkEnds;
-use device_side::{Device, REPLY_ROOM};
+use device_side::Device;
 use ide_plan::Plan;
 use ide_types::Memory;
 use key_slots::KeyPool;
@@ -24,6 +26,9 @@ use tsm_host::{Carried, Manager, Op, Outcome};
 
 /// The room that a request needs, in bytes.
 const REQUEST_ROOM: usize = 49;
+
+/// The room that a reply needs, in bytes.
+const REPLY_ROOM: usize = 8;
 
 /// The most exchanges of an operation.
 const MOST_EXCHANGES: u8 = 13;
@@ -84,7 +89,7 @@ fn deliver(manager: &Manager, device: &mut Device, request: &mut Vec<u8>, reply:
     request.clear();
     let draw = manager.ask(request);
     reply.clear();
-    device.answer(request, draw, reply);
+    device.answer_of_keys(request, draw, reply);
 }
 
 impl Keeper {
@@ -116,6 +121,22 @@ impl Keeper {
         ensures { result ≡ is_some (named self.now.manager link stream) }
     {
         self.manager.has_stream(link, stream)
+    }
+
+    /// How many draws were made.
+    pub fn draws(&self) -> u32
+        ensures { result ≡ self.now.pool.draws }
+    {
+        self.pool.draws()
+    }
+
+    /// Whether an operation on a stream would begin, and not go on.
+    pub fn begins(&self, op: Op) -> bool
+        requires { IsSome (named self.now.manager (op_name op).link (op_name op).stream) }
+        ensures { IfSome (named self.now.manager (op_name op).link (op_name op).stream) (λ n.
+            result ≡ (work_of (op_name op).operation n.stream.op 0).begins) }
+    {
+        self.manager.begins(op)
     }
 
     // The exchange that is next, of which `loss` is lost where it is that one.

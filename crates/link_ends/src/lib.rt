@@ -3,7 +3,9 @@
 #![tactic(auto)]
 
 mod ends;
+mod host;
 mod keeper;
 
 pub use ends::LinkEnds;
+pub use host::HostKeeper;
 pub use keeper::{Keeper, lost_at};

@@ -1,5 +1,6 @@
 -- What the manager's `begin` makes of the stream that it finds.
-use Rattle.std.proofs.Common.{◌≡◌, ℕ, suc, zero, ◌<◌, true, length, [], ◌∷◌, List, get_or, Option, Some, None, Result, refl, ap, ◌∙◌, arith}
+use Rattle.std.proofs.Common.{◌≡◌, ℕ, suc, zero, ◌<◌, true, length, [], ◌∷◌, List, get_or, Option, Some, None, Result}
+use Rattle.std.proofs.Common.{refl, ap, ◌∙◌, arith}
 use Rattle.std.specs.Prelude.{slice_set, slice_get, is_some}
 use Rattle.std.proofs.lemmas.List.{set-get_or}
 use Rattle.std.proofs.lemmas.List.Quantifiers.{position-Some}
@@ -7,7 +8,8 @@ use Rattle.link_verdicts.specs.declared.verdict.Operation.{Operation}
 use Rattle.key_slots.specs.{Pool}
 use Rattle.key_laws.specs.Operations.{work_of}
 use Rattle.tsm_host.specs.declared.operation.Refusal.{Refusal}
-use Rattle.tsm_host.specs.Streams.{StreamView, new_stream, HostView, is_named, unless, ok_unless, refusal_of, begun_stream}
+use Rattle.tsm_host.specs.Streams.{StreamView, new_stream, HostView, is_named, unless, ok_unless, refusal_of}
+use Rattle.tsm_host.specs.Streams.{begun_stream}
 use Rattle.tsm_host.specs.Managers.{ManagerView, Named, named, named_at, named_in, place_of, asking_begun, begun}
 use Rattle.tsm_host.proofs.Lists.{get_at}
 
@@ -15,30 +17,41 @@ abbrev pub named_as : ℕ → StreamView → Named
 named_as place s = record { place = place; stream = s }
 
 -- the stream at the place that was found
-pub found : (m : ManagerView) (link id place : ℕ) (s : StreamView) → place_of m link id ≡ Some place → s ≡ get_or m.streams place s
+pub found : (m : ManagerView) (link id place : ℕ) (s : StreamView) → place_of m link id ≡ Some place → s
+    ≡ get_or m.streams place s
     → named m link id ≡ Some (named_as place s)
 found m link id place s at is =
     let lt = (position-Some (is_named link id) m.streams place s at).0 in
     ap (named_in m.streams) at ∙ ap (named_at place) (get_at m.streams place s lt is)
 
 -- a refusal leaves the streams and what is asked
-pub begun_as : (streams : List StreamView) (asking : Option ℕ) (m : ManagerView) (place : ℕ) (s new next_one : StreamView) (refusal : Option Refusal) (answer : Result (Unit {0}) Refusal) (asked : Option ℕ)
-    → (let inside : ManagerView = record { streams = streams; asking = asking } in inside) ≡ m → s ≡ get_or streams place s → new ≡ unless refusal s next_one → answer ≡ ok_unless refusal
+pub begun_as : (streams : List StreamView) (asking : Option ℕ) (m : ManagerView) (place : ℕ)
+    (s new next_one : StreamView) (refusal : Option Refusal) (answer : Result (Unit {0}) Refusal) (asked : Option ℕ)
+    → (let inside : ManagerView = record { streams = streams; asking = asking } in inside) ≡ m → s
+    ≡ get_or streams place s → new ≡ unless refusal s next_one → answer ≡ ok_unless refusal
     → asked ≡ asking_begun asking place answer
-    → (let kept : ManagerView = record { streams = slice_set streams place new; asking = asked } in kept) ≡ unless refusal m (record { streams = slice_set m.streams place next_one; asking = Some place })
-begun_as streams asking m place s new next_one None answer asked view is stream result next = rw (next, result, stream, ← view) refl
+    → (let kept : ManagerView = record { streams = slice_set streams place new; asking = asked } in kept)
+    ≡ unless refusal m (record { streams = slice_set m.streams place next_one; asking = Some place })
+begun_as streams asking m place s new next_one None answer asked view is stream result next = rw
+    (next, result, stream, ← view) refl
 begun_as streams asking m place s new next_one (Some refusal) answer asked view is stream result next =
-    let same : slice_set streams place s ≡ streams = ap (λ x. slice_set streams place x) is ∙ set-get_or streams place s in
+    let same : slice_set streams place s ≡ streams = ap (λ x. slice_set streams place x) is ∙ set-get_or streams place s
+    in
     rw (next, result, stream, same) view
 
 -- with the operation by its name
-pub begun_by : (streams : List StreamView) (asking : Option ℕ) (m : ManagerView) (place : ℕ) (s new : StreamView) (host : HostView) (pool : Pool) (o operation : Operation) (answer : Result (Unit {0}) Refusal) (asked : Option ℕ)
-    → (let inside : ManagerView = record { streams = streams; asking = asking } in inside) ≡ m → s ≡ get_or streams place s → o ≡ operation
-    → new ≡ unless (refusal_of o s.op host pool) s (begun_stream (work_of o s.op pool.draws) pool s) → answer ≡ ok_unless (refusal_of o s.op host pool)
+pub begun_by : (streams : List StreamView) (asking : Option ℕ) (m : ManagerView) (place : ℕ) (s new : StreamView)
+    (host : HostView) (pool : Pool) (o operation : Operation) (answer : Result (Unit {0}) Refusal) (asked : Option ℕ)
+    → (let inside : ManagerView = record { streams = streams; asking = asking } in inside) ≡ m → s
+    ≡ get_or streams place s → o ≡ operation
+    → new ≡ unless (refusal_of o s.op host pool) s (begun_stream (work_of o s.op pool.draws) pool s) → answer
+    ≡ ok_unless (refusal_of o s.op host pool)
     → asked ≡ asking_begun asking place answer
-    → (let kept : ManagerView = record { streams = slice_set streams place new; asking = asked } in kept) ≡ begun m operation host pool (named_as place s)
+    → (let kept : ManagerView = record { streams = slice_set streams place new; asking = asked } in kept)
+    ≡ begun m operation host pool (named_as place s)
 begun_by streams asking m place s new host pool o operation answer asked view is same stream result next =
-    rw (← same) (begun_as streams asking m place s new (begun_stream (work_of o s.op pool.draws) pool s) (refusal_of o s.op host pool) answer asked view is stream result next)
+    rw (← same) (begun_as streams asking m place s new (begun_stream (work_of o s.op pool.draws) pool s)
+    (refusal_of o s.op host pool) answer asked view is stream result next)
 
 -- a place that was found has a stream
 within : (xs : List StreamView) (i : ℕ) → i < length xs → is_some (slice_get xs i) ≡ true
@@ -50,7 +63,8 @@ some_at : (place : ℕ) (s : Option StreamView) → is_some (named_at place s) �
 some_at place None = refl
 some_at place (Some s) = refl
 
-pub has_place : (m : ManagerView) (link id : ℕ) (place : Option ℕ) → place_of m link id ≡ place → is_some (named m link id) ≡ is_some place
+pub has_place : (m : ManagerView) (link id : ℕ) (place : Option ℕ) → place_of m link id ≡ place
+    → is_some (named m link id) ≡ is_some place
 has_place m link id None at = ap (λ x. is_some (named_in m.streams x)) at
 has_place m link id (Some place) at =
     let lt = (position-Some (is_named link id) m.streams place (new_stream 0 0) at).0 in

@@ -11,31 +11,39 @@ use Rattle.link_verdicts.specs.declared.verdict.Verdict.{Verdict}
 use Rattle.link_verdicts.specs.declared.verdict.Verdict.TheVariants as v
 use Rattle.key_slots.specs.{Pool, draws_in}
 use Rattle.key_laws.specs.Places.{KeyPlan}
-use Rattle.key_laws.specs.Operations.{Op, Idle, Establishing, Up, Refreshing, Stopping, Work, work, last_of, reach_of, op_standing}
+use Rattle.key_laws.specs.Operations.{Op, Idle, Establishing, Up, Refreshing, Stopping, Work, work, last_of, reach_of}
+use Rattle.key_laws.specs.Operations.{op_standing}
 use Rattle.key_laws.specs.Due.{PortView, is_refused, performed, is_live_sender}
 use Rattle.tsm_host.specs.declared.operation.Refusal.{Refusal}
 use Rattle.tsm_host.specs.declared.operation.Refusal.TheVariants.{PoolEmpty, UnitOpen}
 use Rattle.tsm_host.specs.Exchanges.{WireKeys}
 use Rattle.tsm_host.specs.Streams.{StreamView, HostView, asked_in, first_of, begun_stream}
-use Rattle.tsm_host.specs.Walk.{answers, Walked, walk, walked_unless, verdict_of, op_by, IsAsked, Reads, WalkIsDue, WalksAreDue}
+use Rattle.tsm_host.specs.Walk.{answers, Walked, walk, walked_unless, verdict_of, op_by, IsAsked, Reads, WalkIsDue}
+use Rattle.tsm_host.specs.Walk.{WalksAreDue}
 use Rattle.tsm_host.proofs.Walks.{WorkFits, walk_comes}
 
 -- what an event comes to, with the verdict that is due
-record Both (o : Operation) (w : Work) (link id : ℕ) (loss : Option Loss) (before : Op) (x : Walked) (due : Verdict) : Type 0 where
+record Both (o : Operation) (w : Work) (link id : ℕ) (loss : Option Loss) (before : Op) (x : Walked) (due : Verdict) :
+    Type 0 where
   verdict_is : verdict_of o link id loss x.outcome ≡ due
   op_is : x.stream.op ≡ op_by before w (reach_of o due)
 
 -- an empty pool
-pooled : (o : Operation) (w : Work) (link id : ℕ) (loss : Option Loss) (s : StreamView) (x : Walked) (due : Verdict) (draws : ℕ) → Both o w link id loss s.op x due
-    → (t : Bool) → Both o w link id loss s.op (walked_unless (if not t then Some (PoolEmpty draws) else None) s x) (if t then due else v.RefusedPoolEmpty draws)
+pooled : (o : Operation) (w : Work) (link id : ℕ) (loss : Option Loss) (s : StreamView) (x : Walked) (due : Verdict)
+    (draws : ℕ) → Both o w link id loss s.op x due
+    → (t : Bool) → Both o w link id loss s.op (walked_unless (if not t then Some (PoolEmpty draws) else None) s x)
+    (if t then due else v.RefusedPoolEmpty draws)
 pooled o w link id loss s x due draws both true = both
 pooled o w link id loss s x due draws both false = record { verdict_is = refl; op_is = refl }
 
 -- a unit that is unfinished
-opened : (o : Operation) (w : Work) (link id : ℕ) (loss : Option Loss) (s : StreamView) (x : Walked) (due : Verdict) (rest : Option Refusal) → Both o w link id loss s.op (walked_unless rest s x) due
+opened : (o : Operation) (w : Work) (link id : ℕ) (loss : Option Loss) (s : StreamView) (x : Walked) (due : Verdict)
+    (rest : Option Refusal) → Both o w link id loss s.op (walked_unless rest s x) due
     → (a b c : Bool)
     → Both o w link id loss s.op
-    (walked_unless (first_of (if a then Some (UnitOpen Pr) else if b then Some (UnitOpen Npr) else if c then Some (UnitOpen Cpl) else None) rest) s x)
+    (walked_unless (first_of
+    (if a then Some (UnitOpen Pr) else if b then Some (UnitOpen Npr) else if c then Some (UnitOpen Cpl) else None)
+    rest) s x)
     (if a then v.RefusedUnitOpen Pr else if b then v.RefusedUnitOpen Npr else if c then v.RefusedUnitOpen Cpl else due)
 opened o w link id loss s x due rest both true b c = record { verdict_is = refl; op_is = refl }
 opened o w link id loss s x due rest both false true c = record { verdict_is = refl; op_is = refl }
@@ -46,78 +54,110 @@ abbrev at_op : ℕ → ℕ → Op → WireKeys → StreamView
 at_op link id o keys = record { link = link; id = id; op = o; keys = keys }
 
 -- the walk of an operation that begins or goes on
-performs : (o : Operation) (set : Bool) (draw f : ℕ) (b : Bool) → WorkFits o set draw → (ports : PortView) (link id : ℕ) (loss : Option Loss) (before : Op) (s : StreamView) → f ≤ last_of o
+performs : (o : Operation) (set : Bool) (draw f : ℕ) (b : Bool) → WorkFits o set draw
+    → (ports : PortView) (link id : ℕ) (loss : Option Loss) (before : Op) (s : StreamView) → f ≤ last_of o
     → s.op ≡ op_standing (work o set draw f b) f
-    → Both o (work o set draw f b) link id loss before (walk (last_of o + 1 - f) (answers loss (is_refused ports o set link id)) s) (performed ports link id loss (work o set draw f b))
+    → Both o (work o set draw f b) link id loss before
+    (walk (last_of o + 1 - f) (answers loss (is_refused ports o set link id)) s)
+    (performed ports link id loss (work o set draw f b))
 performs o set draw f b fits ports link id loss before s le at =
     let comes = walk_comes o set draw f b fits ports link id loss before s le at in
     record { verdict_is = comes.verdict_is; op_is = comes.op_is }
 
 -- by the state of the stream: where the operation is refused the cause is the one that is due, and else its walk is
-establishes : (plan : KeyPlan) (ports : PortView) (st : StreamStatus) (host : HostView) (pool : Pool) (loss : Option Loss) (link id : ℕ) (keys : WireKeys) (o : Op) → IsAsked (asked_in o)
+establishes : (plan : KeyPlan) (ports : PortView) (st : StreamStatus) (host : HostView) (pool : Pool)
+    (loss : Option Loss) (link id : ℕ) (keys : WireKeys) (o : Op) → IsAsked (asked_in o)
     → Reads plan ports link id st host pool → WalkIsDue op.Establish plan ports st host pool loss (at_op link id o keys)
 unfolding WorkFits
 establishes plan ports st host pool loss link id keys Idle asked reads =
     let w = work op.Establish false pool.draws 1 true in
     let s = at_op link id Idle keys in
-    let both = performs op.Establish false pool.draws 1 true refl ports link id loss Idle (begun_stream w pool s) (omega arith) refl in
-    let all = pooled op.Establish w link id loss s (walk 13 (answers loss (is_refused ports op.Establish false link id)) (begun_stream w pool s)) (performed ports link id loss w) pool.draws both (nat_lt pool.draws (draws_in pool.keys)) in
+    let both = performs op.Establish false pool.draws 1 true refl ports link id loss Idle (begun_stream w pool s)
+    (omega arith) refl in
+    let all = pooled op.Establish w link id loss s
+    (walk 13 (answers loss (is_refused ports op.Establish false link id)) (begun_stream w pool s))
+    (performed ports link id loss w) pool.draws both (nat_lt pool.draws (draws_in pool.keys)) in
     rw reads.pool_is (record { verdict_is = all.verdict_is; op_is = all.op_is })
 establishes plan ports st host pool loss link id keys (Establishing j n) asked reads =
-    let both = performs op.Establish false j n false refl ports link id loss (Establishing j n) (at_op link id (Establishing j n) keys) asked.1 refl in
+    let both = performs op.Establish false j n false refl ports link id loss (Establishing j n)
+    (at_op link id (Establishing j n) keys) asked.1 refl in
     record { verdict_is = both.verdict_is; op_is = both.op_is }
 establishes plan ports st host pool loss link id keys (Up k j) asked reads = record { verdict_is = refl; op_is = refl }
-establishes plan ports st host pool loss link id keys (Refreshing k j n) asked reads = record { verdict_is = refl; op_is = refl }
-establishes plan ports st host pool loss link id keys (Stopping n) asked reads = record { verdict_is = refl; op_is = refl }
+establishes plan ports st host pool loss link id keys (Refreshing k j n) asked reads = record
+    { verdict_is = refl; op_is = refl }
+establishes plan ports st host pool loss link id keys (Stopping n) asked reads = record
+    { verdict_is = refl; op_is = refl }
 
 -- by the state of the stream: a stop begins in each but its own, where it goes on, and its walk comes to what is due
-stops : (plan : KeyPlan) (ports : PortView) (st : StreamStatus) (host : HostView) (pool : Pool) (loss : Option Loss) (link id : ℕ) (keys : WireKeys) (o : Op) → IsAsked (asked_in o)
+stops : (plan : KeyPlan) (ports : PortView) (st : StreamStatus) (host : HostView) (pool : Pool) (loss : Option Loss)
+    (link id : ℕ) (keys : WireKeys) (o : Op) → IsAsked (asked_in o)
     → WalkIsDue op.Stop plan ports st host pool loss (at_op link id o keys)
 unfolding WorkFits
 stops plan ports st host pool loss link id keys (Stopping n) asked =
-    let both = performs op.Stop false 0 n false (refl, refl) ports link id loss (Stopping n) (at_op link id (Stopping n) keys) asked.1 refl in
+    let both = performs op.Stop false 0 n false (refl, refl) ports link id loss (Stopping n)
+    (at_op link id (Stopping n) keys) asked.1 refl in
     record { verdict_is = both.verdict_is; op_is = both.op_is }
 stops plan ports st host pool loss link id keys Idle asked =
-    let both = performs op.Stop false 0 1 true (refl, refl) ports link id loss Idle (begun_stream (work op.Stop false 0 1 true) pool (at_op link id Idle keys)) (omega arith) refl in
+    let both = performs op.Stop false 0 1 true (refl, refl) ports link id loss Idle
+    (begun_stream (work op.Stop false 0 1 true) pool (at_op link id Idle keys)) (omega arith) refl in
     record { verdict_is = both.verdict_is; op_is = both.op_is }
 stops plan ports st host pool loss link id keys (Establishing j n) asked =
-    let both = performs op.Stop false 0 1 true (refl, refl) ports link id loss (Establishing j n) (begun_stream (work op.Stop false 0 1 true) pool (at_op link id (Establishing j n) keys)) (omega arith) refl in
+    let both = performs op.Stop false 0 1 true (refl, refl) ports link id loss (Establishing j n)
+    (begun_stream (work op.Stop false 0 1 true) pool (at_op link id (Establishing j n) keys)) (omega arith) refl in
     record { verdict_is = both.verdict_is; op_is = both.op_is }
 stops plan ports st host pool loss link id keys (Up k j) asked =
-    let both = performs op.Stop false 0 1 true (refl, refl) ports link id loss (Up k j) (begun_stream (work op.Stop false 0 1 true) pool (at_op link id (Up k j) keys)) (omega arith) refl in
+    let both = performs op.Stop false 0 1 true (refl, refl) ports link id loss (Up k j)
+    (begun_stream (work op.Stop false 0 1 true) pool (at_op link id (Up k j) keys)) (omega arith) refl in
     record { verdict_is = both.verdict_is; op_is = both.op_is }
 stops plan ports st host pool loss link id keys (Refreshing k j n) asked =
-    let both = performs op.Stop false 0 1 true (refl, refl) ports link id loss (Refreshing k j n) (begun_stream (work op.Stop false 0 1 true) pool (at_op link id (Refreshing k j n) keys)) (omega arith) refl in
+    let both = performs op.Stop false 0 1 true (refl, refl) ports link id loss (Refreshing k j n)
+    (begun_stream (work op.Stop false 0 1 true) pool (at_op link id (Refreshing k j n) keys)) (omega arith) refl in
     record { verdict_is = both.verdict_is; op_is = both.op_is }
 
 -- by the state of the stream: where the operation is refused the cause is the one that is due, and else its walk is
-refreshes : (plan : KeyPlan) (ports : PortView) (st : StreamStatus) (host : HostView) (pool : Pool) (loss : Option Loss) (link id : ℕ) (keys : WireKeys) (o : Op) → IsAsked (asked_in o)
+refreshes : (plan : KeyPlan) (ports : PortView) (st : StreamStatus) (host : HostView) (pool : Pool) (loss : Option Loss)
+    (link id : ℕ) (keys : WireKeys) (o : Op) → IsAsked (asked_in o)
     → Reads plan ports link id st host pool → WalkIsDue op.Refresh plan ports st host pool loss (at_op link id o keys)
 unfolding WorkFits
-refreshes plan ports st host pool loss link id keys Idle asked reads = rw reads.status_is (record { verdict_is = refl; op_is = refl })
-refreshes plan ports st host pool loss link id keys (Establishing j n) asked reads = record { verdict_is = refl; op_is = refl }
-refreshes plan ports status.Idle host pool loss link id keys (Up k j) asked reads = rw reads.status_is (record { verdict_is = refl; op_is = refl })
-refreshes plan ports status.Partial host pool loss link id keys (Up k j) asked reads = rw reads.status_is (record { verdict_is = refl; op_is = refl })
-refreshes plan ports status.Insecure host pool loss link id keys (Up k j) asked reads = rw reads.status_is (record { verdict_is = refl; op_is = refl })
+refreshes plan ports st host pool loss link id keys Idle asked reads = rw reads.status_is
+    (record { verdict_is = refl; op_is = refl })
+refreshes plan ports st host pool loss link id keys (Establishing j n) asked reads = record
+    { verdict_is = refl; op_is = refl }
+refreshes plan ports status.Idle host pool loss link id keys (Up k j) asked reads = rw reads.status_is
+    (record { verdict_is = refl; op_is = refl })
+refreshes plan ports status.Partial host pool loss link id keys (Up k j) asked reads = rw reads.status_is
+    (record { verdict_is = refl; op_is = refl })
+refreshes plan ports status.Insecure host pool loss link id keys (Up k j) asked reads = rw reads.status_is
+    (record { verdict_is = refl; op_is = refl })
 refreshes plan ports status.Secure host pool loss link id keys (Up k j) asked reads =
     let w = work op.Refresh (not k) pool.draws 1 true in
     let s = at_op link id (Up k j) keys in
     let x = walk 12 (answers loss (is_refused ports op.Refresh (not k) link id)) (begun_stream w pool s) in
     let t = nat_lt pool.draws (draws_in pool.keys) in
-    let both = performs op.Refresh (not k) pool.draws 1 true tt ports link id loss (Up k j) (begun_stream w pool s) (omega arith) refl in
+    let both = performs op.Refresh (not k) pool.draws 1 true tt ports link id loss (Up k j) (begun_stream w pool s)
+    (omega arith) refl in
     let empty = pooled op.Refresh w link id loss s x (performed ports link id loss w) pool.draws both t in
-    let all = opened op.Refresh w link id loss s x (if t then performed ports link id loss w else v.RefusedPoolEmpty pool.draws) (if not t then Some (PoolEmpty pool.draws) else None) empty
-    (is_live_sender ports link id (not k) Pr) (is_live_sender ports link id (not k) Npr) (is_live_sender ports link id (not k) Cpl) in
+    let all = opened op.Refresh w link id loss s x
+    (if t then performed ports link id loss w else v.RefusedPoolEmpty pool.draws)
+    (if not t then Some (PoolEmpty pool.draws) else None) empty
+    (is_live_sender ports link id (not k) Pr) (is_live_sender ports link id (not k) Npr)
+    (is_live_sender ports link id (not k) Cpl) in
     let pr = reads.live_is (not k) Pr in
     let npr = reads.live_is (not k) Npr in
     let cpl = reads.live_is (not k) Cpl in
-    rw (reads.status_is, reads.pool_is) (record { verdict_is = rw (pr, npr, cpl) all.verdict_is; op_is = rw (pr, npr, cpl) all.op_is })
+    rw (reads.status_is, reads.pool_is)
+    (record { verdict_is = rw (pr, npr, cpl) all.verdict_is; op_is = rw (pr, npr, cpl) all.op_is })
 refreshes plan ports st host pool loss link id keys (Refreshing k j n) asked reads =
-    let both = performs op.Refresh k j n false tt ports link id loss (Refreshing k j n) (at_op link id (Refreshing k j n) keys) asked.1 refl in
+    let both = performs op.Refresh k j n false tt ports link id loss (Refreshing k j n)
+    (at_op link id (Refreshing k j n) keys) asked.1 refl in
     record { verdict_is = both.verdict_is; op_is = both.op_is }
-refreshes plan ports st host pool loss link id keys (Stopping n) asked reads = record { verdict_is = refl; op_is = refl }
+refreshes plan ports st host pool loss link id keys (Stopping n) asked reads = record
+    { verdict_is = refl; op_is = refl }
 
 pub all_due : WalksAreDue
-all_due op.Establish plan ports st host pool loss s asked reads = establishes plan ports st host pool loss s.link s.id s.keys s.op asked reads
-all_due op.Refresh plan ports st host pool loss s asked reads = refreshes plan ports st host pool loss s.link s.id s.keys s.op asked reads
-all_due op.Stop plan ports st host pool loss s asked reads = stops plan ports st host pool loss s.link s.id s.keys s.op asked
+all_due op.Establish plan ports st host pool loss s asked reads = establishes plan ports st host pool loss s.link s.id
+    s.keys s.op asked reads
+all_due op.Refresh plan ports st host pool loss s asked reads = refreshes plan ports st host pool loss s.link s.id
+    s.keys s.op asked reads
+all_due op.Stop plan ports st host pool loss s asked reads = stops plan ports st host pool loss s.link s.id s.keys s.op
+    asked

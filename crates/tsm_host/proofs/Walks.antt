@@ -1,5 +1,6 @@
 -- The walk through the exchanges of an operation comes to the verdict that is due.
-use Rattle.std.proofs.Common.{◌≡◌, ℕ, suc, zero, ◌+◌, ◌-◌, ◌<◌, ◌≤◌, ◌==◌, Bool, true, false, Option, Some, None, refl, ap, sym, ◌∙◌, subst, arith}
+use Rattle.std.proofs.Common.{◌≡◌, ℕ, suc, zero, ◌+◌, ◌-◌, ◌<◌, ◌≤◌, ◌==◌, Bool, true, false, Option, Some, None, refl}
+use Rattle.std.proofs.Common.{ap, sym, ◌∙◌, subst, arith}
 use Rattle.std.specs.Prelude.{nat_lt, ◌||◌, if◌then◌else◌}
 use Rattle.link_events.specs.declared.event.Loss.{Loss}
 use Rattle.link_events.specs.declared.event.Lost.{Lost as LostPart}
@@ -27,16 +28,20 @@ WorkFits op.Stop set draw = (set ≡ false) × (draw ≡ 0)
 abbrev asked_of : Operation → Bool → ℕ → ℕ → Asked
 asked_of o set draw n = record { operation = o; set = set; draw = draw; exchange = n }
 
-standing_asked : (o : Operation) (set : Bool) (draw f : ℕ) (b : Bool) (n : ℕ) → WorkFits o set draw → asked_in (op_standing (work o set draw f b) n) ≡ Some (asked_of o set draw n)
+standing_asked : (o : Operation) (set : Bool) (draw f : ℕ) (b : Bool) (n : ℕ) → WorkFits o set draw
+    → asked_in (op_standing (work o set draw f b) n) ≡ Some (asked_of o set draw n)
 unfolding WorkFits
 standing_asked op.Establish set draw f b n fits = ap (λ k. Some (asked_of op.Establish k draw n)) (sym fits)
 standing_asked op.Refresh set draw f b n fits = refl
-standing_asked op.Stop set draw f b n fits = ap (λ k. Some (asked_of op.Stop k 0 n)) (sym fits.0) ∙ ap (λ j. Some (asked_of op.Stop set j n)) (sym fits.1)
+standing_asked op.Stop set draw f b n fits = ap (λ k. Some (asked_of op.Stop k 0 n)) (sym fits.0) ∙ ap
+    (λ j. Some (asked_of op.Stop set j n)) (sym fits.1)
 
 -- what the rest of a walk comes to
-pub record Comes (o : Operation) (set : Bool) (draw f : ℕ) (b : Bool) (link id : ℕ) (loss : Option Loss) (before : Op) (rest : Option ℕ) (x : Walked) : Type 0 where
+pub record Comes (o : Operation) (set : Bool) (draw f : ℕ) (b : Bool) (link id : ℕ) (loss : Option Loss) (before : Op)
+    (rest : Option ℕ) (x : Walked) : Type 0 where
   pub verdict_is : verdict_of o link id loss x.outcome ≡ comes_to link id (work o set draw f b) loss rest
-  pub op_is : x.stream.op ≡ op_by before (work o set draw f b) (reach_of o (comes_to link id (work o set draw f b) loss rest))
+  pub op_is : x.stream.op ≡ op_by before (work o set draw f b)
+      (reach_of o (comes_to link id (work o set draw f b) loss rest))
 
 -- how an exchange is cut off
 record CutAt (o : Operation) (verdict : Verdict) (n : ℕ) : Type 0 where
@@ -69,42 +74,50 @@ stays : (o : Operation) (set : Bool) (draw f : ℕ) (b : Bool) (loss : Option Lo
     → op_by before (work o set draw f b) (reach_of o (cut_off loss n)) ≡ op_standing (work o set draw f b) n
 stays o set draw f b loss before n le =
     ap (op_by before (work o set draw f b)) (cut_at o loss n).says
-    ∙ not_taken (nat_lt (last_of o) n) (op_ended (work o set draw f b)) (op_standing (work o set draw f b) n) (lt-false (last_of o) n le)
+    ∙ not_taken (nat_lt (last_of o) n) (op_ended (work o set draw f b)) (op_standing (work o set draw f b) n)
+    (lt-false (last_of o) n le)
 
-ended_as : (o : Operation) (set : Bool) (draw n f : ℕ) (b : Bool) → op_ended (work o set draw n false) ≡ op_ended (work o set draw f b)
+ended_as : (o : Operation) (set : Bool) (draw n f : ℕ) (b : Bool) → op_ended (work o set draw n false)
+    ≡ op_ended (work o set draw f b)
 ended_as op.Establish set draw n f b = refl
 ended_as op.Refresh set draw n f b = refl
 ended_as op.Stop set draw n f b = refl
 
-standing_as : (o : Operation) (set : Bool) (draw n f : ℕ) (b : Bool) (k : ℕ) → op_standing (work o set draw n false) k ≡ op_standing (work o set draw f b) k
+standing_as : (o : Operation) (set : Bool) (draw n f : ℕ) (b : Bool) (k : ℕ) → op_standing (work o set draw n false) k
+    ≡ op_standing (work o set draw f b) k
 standing_as op.Establish set draw n f b k = refl
 standing_as op.Refresh set draw n f b k = refl
 standing_as op.Stop set draw n f b k = refl
 
 shows_done : (o : Operation) (set : Bool) (draw n f : ℕ) (b : Bool) (link id : ℕ) (loss : Option Loss)
-    → verdict_of o link id loss (outcome.Done (shown_at_end (asked_of o set draw n))) ≡ done link id (work o set draw f b)
+    → verdict_of o link id loss (outcome.Done (shown_at_end (asked_of o set draw n)))
+    ≡ done link id (work o set draw f b)
 shows_done op.Establish set draw n f b link id loss = refl
 shows_done op.Refresh set draw n f b link id loss = refl
 shows_done op.Stop set draw n f b link id loss = refl
 
-done_says : (o : Operation) (set : Bool) (draw f : ℕ) (b : Bool) (link id : ℕ) → reach_of o (done link id (work o set draw f b)) ≡ Some (reach (last_of o + 1) (last_of o + 1))
+done_says : (o : Operation) (set : Bool) (draw f : ℕ) (b : Bool) (link id : ℕ)
+    → reach_of o (done link id (work o set draw f b)) ≡ Some (reach (last_of o + 1) (last_of o + 1))
 done_says op.Establish set draw f b link id = refl
 done_says op.Refresh set draw f b link id = refl
 done_says op.Stop set draw f b link id = refl
 
 -- what an answer makes of the walk
 abbrev answered_by : Asked → Judged → (ℕ → Judged) → ℕ → StreamView → Walked
-answered_by a j carried more s = continued (outcome_of a j) (taken_stream a j s) (walk more carried (taken_stream a j s))
+answered_by a j carried more s = continued (outcome_of a j) (taken_stream a j s)
+    (walk more carried (taken_stream a j s))
 
 abbrev judged_by : Bool → Bool → Judged
 judged_by l r = if l then Lost else if r then Refused 3 else Expected
 
 -- an exchange that is lost or refused, or else what is given
-cuts : (o : Operation) (set : Bool) (draw f : ℕ) (b : Bool) (link id : ℕ) (loss : Option Loss) (before : Op) (carried : ℕ → Judged) (more n : ℕ) (s : StreamView) (rest : Option ℕ)
+cuts : (o : Operation) (set : Bool) (draw f : ℕ) (b : Bool) (link id : ℕ) (loss : Option Loss) (before : Op)
+    (carried : ℕ → Judged) (more n : ℕ) (s : StreamView) (rest : Option ℕ)
     → n ≤ last_of o → s.op ≡ op_standing (work o set draw f b) n
     → Comes o set draw f b link id loss before rest (answered_by (asked_of o set draw n) Expected carried more s)
     → (l r : Bool) → is_lost loss n ≡ l
-    → Comes o set draw f b link id loss before (if l || r then Some n else rest) (answered_by (asked_of o set draw n) (judged_by l r) carried more s)
+    → Comes o set draw f b link id loss before (if l || r then Some n else rest)
+    (answered_by (asked_of o set draw n) (judged_by l r) carried more s)
 cuts o set draw f b link id loss before carried more n s rest le at goes true r e =
     record { verdict_is = refl; op_is = at ∙ sym (stays o set draw f b loss before n le) }
 cuts o set draw f b link id loss before carried more n s rest le at goes false true e =
@@ -112,60 +125,90 @@ cuts o set draw f b link id loss before carried more n s rest le at goes false t
 cuts o set draw f b link id loss before carried more n s rest le at goes false false e = goes
 
 -- behind the last exchange
-ends : (o : Operation) (set : Bool) (draw f : ℕ) (b : Bool) (link id : ℕ) (loss : Option Loss) (before : Op) (carried : ℕ → Judged) (n : ℕ) (s : StreamView) → n ≡ last_of o
+ends : (o : Operation) (set : Bool) (draw f : ℕ) (b : Bool) (link id : ℕ) (loss : Option Loss) (before : Op)
+    (carried : ℕ → Judged) (n : ℕ) (s : StreamView) → n ≡ last_of o
     → Comes o set draw f b link id loss before None (answered_by (asked_of o set draw n) Expected carried zero s)
 ends o set draw f b link id loss before carried n s same =
     let test : (n == last_of o) ≡ true = subst (λ (z : ℕ). (n == z) ≡ true) same (same-true n) in
     let less : nat_lt (last_of o) (n + 1) ≡ true = lt-true (last_of o) (n + 1) (omega (arith, same)) in
     let end : nat_lt (last_of o) (last_of o + 1) ≡ true = lt-true (last_of o) (last_of o + 1) (omega arith) in
-    let by_end : op_by before (work o set draw f b) (reach_of o (done link id (work o set draw f b))) ≡ op_ended (work o set draw f b) =
-    ap (op_by before (work o set draw f b)) (done_says o set draw f b link id) ∙ taken (nat_lt (last_of o) (last_of o + 1)) (op_ended (work o set draw f b)) (op_standing (work o set draw f b) (last_of o + 1)) end in
+    let by_end : op_by before (work o set draw f b) (reach_of o (done link id (work o set draw f b)))
+    ≡ op_ended (work o set draw f b) =
+    ap (op_by before (work o set draw f b)) (done_says o set draw f b link id) ∙ taken
+    (nat_lt (last_of o) (last_of o + 1)) (op_ended (work o set draw f b))
+    (op_standing (work o set draw f b) (last_of o + 1)) end in
     let now : (acknowledged (asked_of o set draw n) s).op ≡ op_ended (work o set draw f b) =
-    taken (nat_lt (last_of o) (n + 1)) (op_ended (work o set draw n false)) (op_standing (work o set draw n false) (n + 1)) less ∙ ended_as o set draw n f b in
-    subst (λ (t : Bool). Comes o set draw f b link id loss before None (continued (if t then outcome.Done (shown_at_end (asked_of o set draw n)) else outcome.Next) (acknowledged (asked_of o set draw n) s)
+    taken (nat_lt (last_of o) (n + 1)) (op_ended (work o set draw n false))
+    (op_standing (work o set draw n false) (n + 1)) less ∙ ended_as o set draw n f b in
+    subst (λ (t : Bool). Comes o set draw f b link id loss before None
+    (continued (if t then outcome.Done (shown_at_end (asked_of o set draw n)) else outcome.Next)
+    (acknowledged (asked_of o set draw n) s)
     (walk zero carried (acknowledged (asked_of o set draw n) s)))) (sym test)
     (record { verdict_is = shows_done o set draw n f b link id loss; op_is = now ∙ sym by_end })
 
 -- behind another one the walk goes on
-goes_on : (o : Operation) (set : Bool) (draw f : ℕ) (b : Bool) (link id : ℕ) (loss : Option Loss) (before : Op) (carried : ℕ → Judged) (more n : ℕ) (s : StreamView) (rest : Option ℕ) → n < last_of o
+goes_on : (o : Operation) (set : Bool) (draw f : ℕ) (b : Bool) (link id : ℕ) (loss : Option Loss) (before : Op)
+    (carried : ℕ → Judged) (more n : ℕ) (s : StreamView) (rest : Option ℕ) → n < last_of o
     → Comes o set draw f b link id loss before rest (walk more carried (acknowledged (asked_of o set draw n) s))
     → Comes o set draw f b link id loss before rest (answered_by (asked_of o set draw n) Expected carried more s)
 goes_on o set draw f b link id loss before carried more n s rest lt comes =
     let test : (n == last_of o) ≡ false = different-false n (last_of o) lt in
-    subst (λ (t : Bool). Comes o set draw f b link id loss before rest (continued (if t then outcome.Done (shown_at_end (asked_of o set draw n)) else outcome.Next) (acknowledged (asked_of o set draw n) s)
+    subst (λ (t : Bool). Comes o set draw f b link id loss before rest
+    (continued (if t then outcome.Done (shown_at_end (asked_of o set draw n)) else outcome.Next)
+    (acknowledged (asked_of o set draw n) s)
     (walk more carried (acknowledged (asked_of o set draw n) s)))) (sym test) comes
 
-next_standing : (o : Operation) (set : Bool) (draw f : ℕ) (b : Bool) (n : ℕ) (s : StreamView) → n < last_of o → (acknowledged (asked_of o set draw n) s).op ≡ op_standing (work o set draw f b) (n + 1)
+next_standing : (o : Operation) (set : Bool) (draw f : ℕ) (b : Bool) (n : ℕ) (s : StreamView) → n < last_of o
+    → (acknowledged (asked_of o set draw n) s).op ≡ op_standing (work o set draw f b) (n + 1)
 next_standing o set draw f b n s lt =
-    not_taken (nat_lt (last_of o) (n + 1)) (op_ended (work o set draw n false)) (op_standing (work o set draw n false) (n + 1)) (lt-false (last_of o) (n + 1) (omega (arith, lt))) ∙ standing_as o set draw n f b (n + 1)
+    not_taken (nat_lt (last_of o) (n + 1)) (op_ended (work o set draw n false))
+    (op_standing (work o set draw n false) (n + 1)) (lt-false (last_of o) (n + 1) (omega (arith, lt))) ∙ standing_as
+    o set draw n f b (n + 1)
 
--- by how many exchanges are left: at each the walk ends in a loss or a refusal or goes on to the next, and the last ends it
-walk_is : (o : Operation) (set : Bool) (draw f : ℕ) (b : Bool) → WorkFits o set draw → (link id : ℕ) (loss : Option Loss) (refused : ℕ → Bool) (before : Op) (more n : ℕ) (s : StreamView) → n + more ≡ last_of o
+-- by how many exchanges are left: at each the walk ends in a loss or a refusal or goes on to the next, and the last
+-- ends it
+walk_is : (o : Operation) (set : Bool) (draw f : ℕ) (b : Bool) → WorkFits o set draw
+    → (link id : ℕ) (loss : Option Loss) (refused : ℕ → Bool) (before : Op) (more n : ℕ) (s : StreamView) → n + more
+    ≡ last_of o
     → s.op ≡ op_standing (work o set draw f b) n
-    → Comes o set draw f b link id loss before (first_from (λ x. is_lost loss x || refused x) n (suc more)) (walk (suc more) (answers loss refused) s)
+    → Comes o set draw f b link id loss before (first_from (λ x. is_lost loss x || refused x) n (suc more))
+    (walk (suc more) (answers loss refused) s)
 walk_is o set draw f b fits link id loss refused before zero n s count at =
     let le : n ≤ last_of o = omega (arith, count) in
     let same : n ≡ last_of o = omega (arith, count) in
-    subst (λ (q : Option Asked). Comes o set draw f b link id loss before (first_from (λ x. is_lost loss x || refused x) n (suc zero)) (continued (outcome_at q (answers loss refused)) (stream_at q (answers loss refused) s)
+    subst (λ (q : Option Asked). Comes o set draw f b link id loss before
+    (first_from (λ x. is_lost loss x || refused x) n (suc zero))
+    (continued (outcome_at q (answers loss refused)) (stream_at q (answers loss refused) s)
     (walk zero (answers loss refused) (stream_at q (answers loss refused) s))))
     (sym (ap asked_in at ∙ standing_asked o set draw f b n fits))
-    (cuts o set draw f b link id loss before (answers loss refused) zero n s None le at (ends o set draw f b link id loss before (answers loss refused) n s same) (is_lost loss n) (refused n) refl)
+    (cuts o set draw f b link id loss before (answers loss refused) zero n s None le at
+    (ends o set draw f b link id loss before (answers loss refused) n s same) (is_lost loss n) (refused n) refl)
 walk_is o set draw f b fits link id loss refused before (suc more) n s count at =
     let lt : n < last_of o = omega (arith, count) in
     let le : n ≤ last_of o = omega (arith, count) in
     let on : (n + 1) + more ≡ last_of o = omega (arith, count) in
-    let rest = walk_is o set draw f b fits link id loss refused before more (n + 1) (acknowledged (asked_of o set draw n) s) on (next_standing o set draw f b n s lt) in
-    subst (λ (q : Option Asked). Comes o set draw f b link id loss before (first_from (λ x. is_lost loss x || refused x) n (suc (suc more))) (continued (outcome_at q (answers loss refused)) (stream_at q (answers loss refused) s)
+    let rest = walk_is o set draw f b fits link id loss refused before more (n + 1)
+    (acknowledged (asked_of o set draw n) s) on (next_standing o set draw f b n s lt) in
+    subst (λ (q : Option Asked). Comes o set draw f b link id loss before
+    (first_from (λ x. is_lost loss x || refused x) n (suc (suc more)))
+    (continued (outcome_at q (answers loss refused)) (stream_at q (answers loss refused) s)
     (walk (suc more) (answers loss refused) (stream_at q (answers loss refused) s))))
     (sym (ap asked_in at ∙ standing_asked o set draw f b n fits))
-    (cuts o set draw f b link id loss before (answers loss refused) (suc more) n s (first_from (λ x. is_lost loss x || refused x) (n + 1) (suc more)) le at
-    (goes_on o set draw f b link id loss before (answers loss refused) (suc more) n s (first_from (λ x. is_lost loss x || refused x) (n + 1) (suc more)) lt rest) (is_lost loss n) (refused n) refl)
+    (cuts o set draw f b link id loss before (answers loss refused) (suc more) n s
+    (first_from (λ x. is_lost loss x || refused x) (n + 1) (suc more)) le at
+    (goes_on o set draw f b link id loss before (answers loss refused) (suc more) n s
+    (first_from (λ x. is_lost loss x || refused x) (n + 1) (suc more)) lt rest) (is_lost loss n) (refused n) refl)
 
 -- from the first exchange of an event on
-pub walk_comes : (o : Operation) (set : Bool) (draw f : ℕ) (b : Bool) → WorkFits o set draw → (ports : PortView) (link id : ℕ) (loss : Option Loss) (before : Op) (s : StreamView) → f ≤ last_of o → s.op ≡ op_standing (work o set draw f b) f
-    → Comes o set draw f b link id loss before (stays_at ports link id loss (work o set draw f b)) (walk (last_of o + 1 - f) (answers loss (is_refused ports o set link id)) s)
+pub walk_comes : (o : Operation) (set : Bool) (draw f : ℕ) (b : Bool) → WorkFits o set draw
+    → (ports : PortView) (link id : ℕ) (loss : Option Loss) (before : Op) (s : StreamView) → f ≤ last_of o → s.op
+    ≡ op_standing (work o set draw f b) f
+    → Comes o set draw f b link id loss before (stays_at ports link id loss (work o set draw f b))
+    (walk (last_of o + 1 - f) (answers loss (is_refused ports o set link id)) s)
 walk_comes o set draw f b fits ports link id loss before s le at =
     let count : f + (last_of o - f) ≡ last_of o = omega (arith, le) in
     let more : suc (last_of o - f) ≡ last_of o + 1 - f = omega (arith, le) in
-    subst (λ (k : ℕ). Comes o set draw f b link id loss before (first_from (λ x. is_lost loss x || is_refused ports o set link id x) f k) (walk k (answers loss (is_refused ports o set link id)) s)) more
+    subst (λ (k : ℕ). Comes o set draw f b link id loss before
+    (first_from (λ x. is_lost loss x || is_refused ports o set link id x) f k)
+    (walk k (answers loss (is_refused ports o set link id)) s)) more
     (walk_is o set draw f b fits link id loss (is_refused ports o set link id) before (last_of o - f) f s count at)

@@ -1,5 +1,6 @@
 -- What the manager's state of a stream says of the two slots of each of its places at the host's port.
-use Rattle.std.specs.Prelude.{ℕ, ◌≡◌, ◌<◌, ◌==◌, nat_lt, nat_le, Bool, true, false, not, ◌&&◌, ◌||◌, if◌then◌else◌, List}
+use Rattle.std.specs.Prelude.{ℕ, ◌≡◌, ◌<◌, ◌==◌, nat_lt, nat_le, Bool, true, false, not, ◌&&◌, ◌||◌, if◌then◌else◌}
+use Rattle.std.specs.Prelude.{List}
 use Rattle.key_slots.specs.declared.slot.Slot.{Slot}
 use Rattle.key_slots.specs.declared.slot.Slot.TheVariants.{Empty, Programmed, Armed, Live}
 use Rattle.key_slots.specs.{SlotPair, slot_in, is_live, is_only_live, programmed, armed, halted}

@@ -1,6 +1,7 @@
 -- Local calls of the host's port, one after another.
 use Rattle.std.specs.Prelude.{ℕ, ◌≡◌, Bool, false, true, List, [], ◌∷◌, ◌++◌, slice_index_or}
-use Rattle.ide_km.specs.{Place, place_at, PortCall, Program, Go, Halt, Shown, program_answer, go_answer, halt_answer, SlotsAfter}
+use Rattle.ide_km.specs.{Place, place_at, PortCall, Program, Go, Halt, Shown, program_answer, go_answer, halt_answer}
+use Rattle.ide_km.specs.{SlotsAfter}
 use Rattle.tsm_host.specs.Exchanges.{set_number}
 
 -- a call without its answer

@@ -1,5 +1,6 @@
 -- What the manager keeps of all streams, and what each call makes of it (this profile).
-use Rattle.std.specs.Prelude.{ℕ, ◌+◌, Option, Some, None, List, [], ◌∷◌, ◌++◌, map, Result, Ok, Err, position, slice_get, slice_set}
+use Rattle.std.specs.Prelude.{ℕ, ◌+◌, Option, Some, None, List, [], ◌∷◌, ◌++◌, map, Result, Ok, Err, position}
+use Rattle.std.specs.Prelude.{slice_get, slice_set}
 use Rattle.ide_plan.specs.declared.plan.LinkPlan.{LinkPlan}
 use Rattle.ide_plan.specs.declared.stream.StreamPlan.{StreamPlan}
 use Rattle.key_slots.specs.{Pool}
@@ -12,7 +13,9 @@ use Rattle.tsm_host.specs.declared.operation.Refusal.{Refusal}
 use Rattle.tsm_host.specs.declared.stage.Asked.{Asked}
 use Rattle.tsm_host.specs.Judging.{judged}
 use Rattle.tsm_host.specs.Local.{Request}
-use Rattle.tsm_host.specs.Streams.{StreamView, new_stream, is_named, reset_stream, asked_in, request_asked, HostView, refusal_of, unless, begun_stream, begun_pool, begun_calls, outcome_of, taken_stream, taken_calls}
+use Rattle.tsm_host.specs.Streams.{StreamView, new_stream, is_named, reset_stream, asked_in, request_asked, HostView}
+use Rattle.tsm_host.specs.Streams.{refusal_of, unless, begun_stream, begun_pool, begun_calls, outcome_of, taken_stream}
+use Rattle.tsm_host.specs.Streams.{taken_calls}
 
 -- The streams of all links, in the order of the links and of each link's streams, and the place of the one whose
 -- exchange is to be asked and taken.

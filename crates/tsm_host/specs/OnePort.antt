@@ -1,5 +1,6 @@
 -- A port of one stream, for tests.
-use Rattle.std.specs.Prelude.{ℕ, ◌+◌, ◌*◌, ◌==◌, ◌&&◌, nat_lt, if◌then◌else◌, Option, Some, None, List, Bool, false, is_some, slice_get, slice_index_or}
+use Rattle.std.specs.Prelude.{ℕ, ◌+◌, ◌*◌, ◌==◌, ◌&&◌, nat_lt, if◌then◌else◌, Option, Some, None, List, Bool, false}
+use Rattle.std.specs.Prelude.{is_some, slice_get, slice_index_or}
 use Rattle.std.specs.Option.{option_and_then}
 use Rattle.key_slots.specs.{SlotPair, live_set, empty_pair}
 use Rattle.ide_km.specs.{Place}

@@ -1,5 +1,6 @@
 -- What the manager keeps of a stream, and what each call makes of it (this profile).
-use Rattle.std.specs.Prelude.{ℕ, ◌+◌, ◌<◌, ◌≤◌, ◌==◌, nat_lt, Bool, false, not, ◌&&◌, if◌then◌else◌, IsSome, Option, Some, None, List, [], Result, Ok, Err, slice_set}
+use Rattle.std.specs.Prelude.{ℕ, ◌+◌, ◌<◌, ◌≤◌, ◌==◌, nat_lt, Bool, false, not, ◌&&◌, if◌then◌else◌, IsSome, Option}
+use Rattle.std.specs.Prelude.{Some, None, List, [], Result, Ok, Err, slice_set}
 use Rattle.ide_types.specs.declared.sub.SubKind.{SubKind}
 use Rattle.ide_types.specs.declared.sub.SubKind.TheVariants.{Pr, Npr, Cpl}
 use Rattle.ide_types.specs.declared.status.StreamStatus.{StreamStatus}
@@ -7,7 +8,8 @@ use Rattle.ide_types.specs.declared.status.StreamStatus.TheVariants as status
 use Rattle.link_verdicts.specs.declared.verdict.Operation.{Operation}
 use Rattle.link_verdicts.specs.declared.verdict.Operation.TheVariants as op
 use Rattle.key_slots.specs.{Pool, draws_in, six_keys, pool_after, unspent}
-use Rattle.key_laws.specs.Operations.{Op, Idle, Establishing, Up, Refreshing, Stopping, Work, work, work_of, last_of, makes_draw, reach, op_after, op_standing}
+use Rattle.key_laws.specs.Operations.{Op, Idle, Establishing, Up, Refreshing, Stopping, Work, work, work_of, last_of}
+use Rattle.key_laws.specs.Operations.{makes_draw, reach, op_after, op_standing}
 use Rattle.ide_km.specs.declared.object.KmView.{KmView}
 use Rattle.tsm_host.specs.declared.exchange.Exchange.{Exchange}
 use Rattle.tsm_host.specs.declared.exchange.Exchange.TheVariants as exchange
@@ -16,7 +18,8 @@ use Rattle.tsm_host.specs.declared.judge.Judged.TheVariants.{Expected, Lost, Ref
 use Rattle.tsm_host.specs.declared.operation.Outcome.{Outcome}
 use Rattle.tsm_host.specs.declared.operation.Outcome.TheVariants as outcome
 use Rattle.tsm_host.specs.declared.operation.Refusal.{Refusal}
-use Rattle.tsm_host.specs.declared.operation.Refusal.TheVariants.{NotIdle, NotSecure, PoolEmpty, SessionLost, DeviceRefused, BadReply, Busy, UnitOpen}
+use Rattle.tsm_host.specs.declared.operation.Refusal.TheVariants.{NotIdle, NotSecure, PoolEmpty, SessionLost}
+use Rattle.tsm_host.specs.declared.operation.Refusal.TheVariants.{DeviceRefused, BadReply, Busy, UnitOpen}
 use Rattle.tsm_host.specs.declared.operation.Shown.{Shown}
 use Rattle.tsm_host.specs.declared.operation.Shown.TheVariants as shown
 use Rattle.tsm_host.specs.declared.stage.Asked.{Asked}

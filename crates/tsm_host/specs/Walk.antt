@@ -10,17 +10,20 @@ use Rattle.link_verdicts.specs.declared.verdict.Verdict.TheVariants as v
 use Rattle.key_slots.specs.{Pool, draws_in}
 use Rattle.key_laws.specs.Places.{KeyPlan}
 use Rattle.key_laws.specs.Operations.{Op, Work, Reach, work_of, last_of, reach_of, op_after}
-use Rattle.key_laws.specs.Due.{PortView, is_refused, is_lost, cut_off, establish_on, refresh_on, stop_on, is_live_sender}
+use Rattle.key_laws.specs.Due.{PortView, is_refused, is_lost, cut_off, establish_on, refresh_on, stop_on}
+use Rattle.key_laws.specs.Due.{is_live_sender}
 use Rattle.tsm_host.specs.declared.judge.Judged.{Judged}
 use Rattle.tsm_host.specs.declared.judge.Judged.TheVariants.{Expected, Lost, Refused}
 use Rattle.tsm_host.specs.declared.operation.Outcome.{Outcome}
 use Rattle.tsm_host.specs.declared.operation.Outcome.TheVariants as outcome
 use Rattle.tsm_host.specs.declared.operation.Refusal.{Refusal}
-use Rattle.tsm_host.specs.declared.operation.Refusal.TheVariants.{NotIdle, NotSecure, PoolEmpty, SessionLost, DeviceRefused, BadReply, Busy, UnitOpen}
+use Rattle.tsm_host.specs.declared.operation.Refusal.TheVariants.{NotIdle, NotSecure, PoolEmpty, SessionLost}
+use Rattle.tsm_host.specs.declared.operation.Refusal.TheVariants.{DeviceRefused, BadReply, Busy, UnitOpen}
 use Rattle.tsm_host.specs.declared.operation.Shown.{Shown}
 use Rattle.tsm_host.specs.declared.operation.Shown.TheVariants as shown
 use Rattle.tsm_host.specs.declared.stage.Asked.{Asked}
-use Rattle.tsm_host.specs.Streams.{StreamView, HostView, asked_in, is_set, refusal_of, begun_stream, outcome_of, taken_stream}
+use Rattle.tsm_host.specs.Streams.{StreamView, HostView, asked_in, is_set, refusal_of, begun_stream, outcome_of}
+use Rattle.tsm_host.specs.Streams.{taken_stream}
 
 -- ---- the walk
 

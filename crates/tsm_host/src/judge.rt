@@ -1,7 +1,8 @@
 //! What a reply comes to.
 
 ghost use Rattle.std.specs.Prelude.{◌≡◌};
-ghost use Rattle.tsm_host.specs.Judging.{is_description, is_key_acknowledgement, is_acknowledgement, is_expected, refusal_in, judged_reply, judged};
+ghost use Rattle.tsm_host.specs.Judging.{is_description, is_key_acknowledgement, is_acknowledgement, is_expected};
+ghost use Rattle.tsm_host.specs.Judging.{refusal_in, judged_reply, judged};
 ghost use Rattle.ide_km.specs.{reading};
 
 use crate::operation::Carried;

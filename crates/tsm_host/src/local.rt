@@ -3,7 +3,8 @@
 ghost use Rattle.std.specs.Prelude.{◌≡◌, ◌<◌};
 ghost use Rattle.ide_km.specs.{place_at};
 ghost use Rattle.tsm_host.specs.Exchanges.{set_number};
-ghost use Rattle.tsm_host.specs.Local.{CallMoves, CallsMove, AskProgram, AskGo, AskHalt, six_key, programs, goes, halts_in, halts};
+ghost use Rattle.tsm_host.specs.Local.{CallMoves, CallsMove, AskProgram, AskGo, AskHalt, six_key, programs, goes};
+ghost use Rattle.tsm_host.specs.Local.{halts_in, halts};
 
 use crate::exchange::number;
 use ide_km::SlotPort;

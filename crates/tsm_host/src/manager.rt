@@ -1,7 +1,9 @@
 //! The manager of all links.
 
-ghost use Rattle.std.specs.Prelude.{◌≡◌, ℕ, ◌+◌, ◌++◌, ◌≤◌, ◌<◌, IsSome, IfSome, IfOk, is_some, Some, [], length, map, slice_get, vec_len, vec_capacity};
+ghost use Rattle.std.specs.Prelude.{◌≡◌, ℕ, ◌+◌, ◌++◌, ◌≤◌, ◌<◌, IsSome, IfSome, IfOk, is_some, Some, [], length, map};
+ghost use Rattle.std.specs.Prelude.{slice_get, vec_len, vec_capacity};
 ghost use Rattle.ide_km.specs.{spelling};
+ghost use Rattle.key_laws.specs.Operations.{work_of};
 ghost use Rattle.tsm_host.specs.Local.{CallsMove};
 ghost use Rattle.tsm_host.specs.Operations.{op_name};
 ghost use Rattle.tsm_host.specs.Streams.{reset_stream, request_asked, host_view, ok_unless};
@@ -89,6 +91,19 @@ impl Manager {
         ensures { result ≡ is_some (named self.now link stream) }
     {
         self.place(link, stream).is_some()
+    }
+
+    /// Whether an operation on a stream that its link has would begin, and not go on.
+    pub fn begins(&self, op: Op) -> bool
+        requires { IsSome (named self.now (op_name op).link (op_name op).stream) }
+        ensures { let name = op_name op in IfSome (named self.now name.link name.stream) (λ n.
+            result ≡ (work_of name.operation n.stream.op 0).begins) }
+    {
+        let Some(place) = self.place(op.link(), op.stream()) else {
+            unreachable!()
+        };
+        let stream = &self.streams[place];
+        stream.begins(op.operation())
     }
 
     /// Begins an operation on a stream that its link has, or goes on with it where it is unfinished; `port` is the

@@ -3,7 +3,10 @@
 ghost use Rattle.std.specs.Prelude.{◌≡◌, ◌+◌, ◌<◌, ◌≤◌, IsSome, IsTrue, true, not, if◌then◌else◌, [], slice_index_or};
 ghost use Rattle.key_laws.specs.Operations.{work_of, last_of, op_after, reach};
 ghost use Rattle.tsm_host.specs.Exchanges.{exchange_of, exchange_lane, kept_key, key_or_none};
-ghost use Rattle.tsm_host.specs.Streams.{op_in, stage_keys, StageHolds, asked_in, exchange_asked, work_asked, host_view, refusal_at, open_unit, status_or_idle, unless_secure, is_set, keys_after, establish_refusal, refresh_refusal, current_set, next_in, op_advanced};
+ghost use Rattle.tsm_host.specs.Streams.{op_in, stage_keys, StageHolds, asked_in, exchange_asked, work_asked};
+ghost use Rattle.tsm_host.specs.Streams.{host_view, refusal_at, open_unit, status_or_idle, unless_secure, is_set};
+ghost use Rattle.tsm_host.specs.Streams.{keys_after, establish_refusal, refresh_refusal, current_set, next_in};
+ghost use Rattle.tsm_host.specs.Streams.{op_advanced};
 
 use crate::exchange::{Exchange, exchange_at, last, number};
 use crate::operation::{Refusal, Shown};

@@ -93,6 +93,13 @@ impl StreamKeys {
         self.stage.asked()
     }
 
+    /// Whether an operation would begin, and not go on.
+    pub fn begins(&self, operation: Operation) -> bool
+        ensures { result ≡ (work_of operation self.now.op 0).begins }
+    {
+        self.stage.begins(operation)
+    }
+
     /// Begins an operation, or goes on with it.
     pub fn begin<P: HostPort>(
         &mut self,

@@ -1,6 +1,7 @@
 //! A port of one stream, for tests.
 
-ghost use Rattle.std.specs.Prelude.{◌≡◌, ◌+◌, ◌*◌, ◌<◌, ◌==◌, ◌&&◌, nat_lt, false, not, [], ◌∷◌, length, if◌then◌else◌, Some, None, slice_get, slice_index_or};
+ghost use Rattle.std.specs.Prelude.{◌≡◌, ◌+◌, ◌*◌, ◌<◌, ◌==◌, ◌&&◌, nat_lt, false, not, [], ◌∷◌, length, if◌then◌else◌};
+ghost use Rattle.std.specs.Prelude.{Some, None, slice_get, slice_index_or};
 ghost use Rattle.ide_types.specs.Sub.{sub_bits};
 ghost use Rattle.ide_types.specs.declared.status.StreamStatus.TheVariants.{Secure, Partial};
 ghost use Rattle.key_slots.specs.{live_set, empty_pair};

@@ -6,5 +6,6 @@ use Rattle.association.proofs.choosing.holds_address.Goals as goal
 
 pub loop-range-preserved : goal.loop-range-preserved
 loop-range-preserved c =
-    list_any-next (λ (r : AddressRange). holds r.base r.limit c.args.address) _ _ _ c.loop-range-test.true c.loop-range.invariant
+    list_any-next (λ (r : AddressRange). holds r.base r.limit c.args.address) _ _ _ c.loop-range-test.true
+    c.loop-range.invariant
     (sym c.range_holds.ensures ∙ c.if-range_holds.false)

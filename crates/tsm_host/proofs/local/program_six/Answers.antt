@@ -2,9 +2,19 @@ use Rattle.std.proofs.Common.{◌≡◌, ℕ, List, refl, ap}
 use Rattle.tsm_host.proofs.local.program_six.Goals as goal
 
 -- six keys, each by its place
-parts : (a b c d e f a' b' c' d' e' f' : List ℕ) → (let six : List ℕ × List ℕ × List ℕ × List ℕ × List ℕ × List ℕ = (a, b, c, d, e, f) in six) ≡ (a', b', c', d', e', f')
+parts : (a b c d e f a' b' c' d' e' f' : List ℕ) →
+    (let six : List ℕ × List ℕ × List ℕ × List ℕ × List ℕ × List ℕ = (a, b, c, d, e, f) in six)
+    ≡ (a', b', c', d', e', f')
     → (a ≡ a') × (b ≡ b') × (c ≡ c') × (d ≡ d') × (e ≡ e') × (f ≡ f')
-parts a b c d e f a' b' c' d' e' f' same = (ap (λ x. x.0) same, ap (λ x. x.1) same, ap (λ x. x.2) same, ap (λ x. x.3) same, ap (λ x. x.4) same, ap (λ x. x.5) same)
+parts a b c d e f a' b' c' d' e' f' same = (
+  ap (λ x. x.0) same,
+  ap (λ x. x.1) same,
+  ap (λ x. x.2) same,
+  ap (λ x. x.3) same,
+  ap (λ x. x.4) same,
+  ap (λ x. x.5)
+      same,
+)
 
 -- the six calls one after another: the port behind each, with the clause of that call at the key of its lane
 pub returns : goal.returns

@@ -4,7 +4,8 @@ use Rattle.ide_port.proofs.Steps.{gone, reads}
 use Rattle.ide_port.proofs.port.Port.live_set.Goals as goal
 
 pub index-requires : goal.index-requires
-index-requires c = omega (arith, inside c.self.inside c.args.stream c.in-Some.place c.self.invariant (cc), c.self.inside.streams.ok.0)
+index-requires c = omega
+    (arith, inside c.self.inside c.args.stream c.in-Some.place c.self.invariant (cc), c.self.inside.streams.ok.0)
 
 pub returns-in-None : goal.returns-in-None
 returns-in-None c =
@@ -14,5 +15,6 @@ returns-in-None c =
 pub returns-in-Some : goal.returns-in-Some
 returns-in-Some c =
     c.live_set.ensures
-    ∙ sym (reads c.self.inside c.args.self.now c.self.view_is c.self.invariant c.args.stream c.in-Some.place c.index.result.now (cc) c.index.ensures
+    ∙ sym (reads c.self.inside c.args.self.now c.self.view_is c.self.invariant c.args.stream c.in-Some.place
+    c.index.result.now (cc) c.index.ensures
     (option_and_then (λ (f : Found). live_set (pair_at true c.args.sub f.state))))

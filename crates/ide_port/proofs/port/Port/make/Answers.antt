@@ -5,7 +5,8 @@ use Rattle.ide_port.proofs.port.Port.make.Goals as goal
 
 pub invariant_of-result : goal.invariant_of-result
 invariant_of-result c = record {
-  each = rw (c.in_ok-streams.ensures, c.in_ok-plans.ensures) (streams-new c.args.name.side c.args.limit c.args.plans.now);
+  each = rw (c.in_ok-streams.ensures, c.in_ok-plans.ensures)
+      (streams-new c.args.name.side c.args.limit c.args.plans.now);
   lends = lends-none _;
   short = omega (arith, ap length c.in_ok-sealed.ensures.items);
   room = c.in_ok-sealed.ensures.capacity;
@@ -17,7 +18,8 @@ returns c =
       name = c.args.name;
       plans = c.in_ok-plans.ensures i;
       limit = c.args.limit;
-      states = (ap (map state_of) c.in_ok-streams.ensures ∙ states-new c.args.name.side c.args.limit c.args.plans.now) i;
+      states = (ap (map state_of) c.in_ok-streams.ensures ∙ states-new c.args.name.side c.args.limit c.args.plans.now)
+          i;
       sealed = c.in_ok-sealed.ensures.items i;
       delivered = [];
       calls = 0;

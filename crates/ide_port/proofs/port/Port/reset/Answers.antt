@@ -17,7 +17,8 @@ returns c =
       name = c.self.inside.name;
       plans = c.self.inside.plans;
       limit = c.self.inside.limit;
-      states = (ap (map state_of) c.reset_streams.ensures ∙ (resets _ _ _ c.self.inside.plans c.self.inside.streams.items c.self.invariant.each).states) i;
+      states = (ap (map state_of) c.reset_streams.ensures ∙
+          (resets _ _ _ c.self.inside.plans c.self.inside.streams.items c.self.invariant.each).states) i;
       sealed = c.self.inside.sealed.items;
       delivered = [];
       calls = c.self.inside.calls;

@@ -1,4 +1,5 @@
-use Rattle.ide_port.proofs.Terms.{◌≡◌, ℕ, sym, ap, ◌∙◌, arith, view_of, header, body, head_bytes, class_of, StreamEnd, sending, PortEnd}
+use Rattle.ide_port.proofs.Terms.{◌≡◌, ℕ, refl, sym, ap, ◌∙◌, arith, view_of, header, body, head_bytes, class_of}
+use Rattle.ide_port.proofs.Terms.{StreamEnd, sending, PortEnd}
 use Rattle.ide_stream.specs.Sends.{IsSent}
 use Rattle.ide_port.proofs.Keeping.{inside, there, kept-sent}
 use Rattle.ide_port.proofs.Steps.{sent_as, sent-step, plain-step}
@@ -7,39 +8,52 @@ use Rattle.ide_port.proofs.port.Port.send_on.Goals.{in-Ok, in-Err}
 
 pub returns-in_default : goal.returns-in_default
 returns-in_default c = λ number.
-    plain-step c.self.inside c.args.self.now c.self.view_is c.args.id (cc) c.unsealed.new.self (view_of c.args.tlp.now) c.args.trusted c.args.more number
+    plain-step c.self.inside c.args.self.now c.self.view_is c.args.id (cc) c.unsealed.new.self (view_of c.args.tlp.now)
+    c.args.trusted c.args.more number
     c.unsealed.ensures
 
 pub index_mut-stream-requires : goal.index_mut-stream-requires
-index_mut-stream-requires c = omega (arith, inside c.self.inside c.args.id c.in-Some.place c.self.invariant (cc), c.self.inside.streams.ok.0)
+index_mut-stream-requires c = omega
+    (arith, inside c.self.inside c.args.id c.in-Some.place c.self.invariant (cc), c.self.inside.streams.ok.0)
 
 pub send-requires-clause-few : goal.send-requires-clause-few
 send-requires-clause-few c =
-    let k = there c.self.inside c.self.invariant c.args.id c.in-Some.place c.index_mut-stream.result.now (cc) c.index_mut-stream.ensures.value in
+    let k = there c.self.inside c.self.invariant c.args.id c.in-Some.place c.index_mut-stream.result.now (cc)
+    c.index_mut-stream.ensures.value in
     omega (arith, k.of_plan.few, ap (λ (e : PortEnd). e.calls) c.self.view_is, c.requires.few)
 
 -- what the stream sealed, at a number
-sent : (c : goal.Joined-send) (number : ℕ) → IsSent c.index_mut-stream.result.now (head_bytes (header (view_of c.args.tlp.now))) (body (view_of c.args.tlp.now))
-    (sending c.self.inside.name c.index_mut-stream.result.now.id (class_of (header (view_of c.args.tlp.now))) c.args.more c.args.trusted) number
+sent : (c : goal.Joined-send) (number : ℕ) → IsSent c.index_mut-stream.result.now
+    (head_bytes (header (view_of c.args.tlp.now))) (body (view_of c.args.tlp.now))
+    (sending c.self.inside.name c.index_mut-stream.result.now.id (class_of (header (view_of c.args.tlp.now)))
+    c.args.more c.args.trusted) number
     c.send.result c.clear.new.self.items c.send.new.out.items c.send.new.self
 sent c number =
-    let k = there c.self.inside c.self.invariant c.args.id c.in-Some.place c.index_mut-stream.result.now (cc) c.index_mut-stream.ensures.value in
-    let side : c.index_mut-stream.result.now.side ≡ c.self.inside.name.side = ap (λ (x : StreamEnd). x.side) k.of_plan.plan in
+    let k = there c.self.inside c.self.invariant c.args.id c.in-Some.place c.index_mut-stream.result.now (cc)
+    c.index_mut-stream.ensures.value in
+    let side : c.index_mut-stream.result.now.side ≡ c.self.inside.name.side = ap (λ (x : StreamEnd). x.side)
+    k.of_plan.plan in
     rw (← c.parts.ensures.head, ← c.parts.ensures.payload, ← c.class.ensures)
-    (c.send.ensures.sent c.self.inside.name number c.args.trusted (sym side) (sym c.trusts-t.ensures))
+    (c.send.ensures.sent c.self.inside.name number c.args.trusted (sym side) refl)
 
 pub invariant_of-self : goal.invariant_of-self
 invariant_of-self c =
-    kept-sent c.self.inside c.self.invariant c.args.id c.in-Some.place c.index_mut-stream.result.now (cc) c.index_mut-stream.ensures.value _ _ _ _ 0 _ _ _ _
+    kept-sent c.self.inside c.self.invariant c.args.id c.in-Some.place c.index_mut-stream.result.now (cc)
+    c.index_mut-stream.ensures.value _ _ _ _ 0 _ _ _ _
     (sent c 0) c.clear.ensures.items
-    (rw c.parts.ensures.head at c.parts.ensures.head_short) (rw c.parts.ensures.payload at c.parts.ensures.payload_short)
+    (rw c.parts.ensures.head at c.parts.ensures.head_short)
+    (rw c.parts.ensures.payload at c.parts.ensures.payload_short)
     (omega (arith, c.send.ensures.capacity, c.clear.ensures.capacity, c.self.invariant.room))
 
 pub returns : goal.returns
 returns c = λ number.
     let said : c.match-send.result ≡ sent_as c.send.result =
-    elim c.match-send.branch [ in-Ok w ↦ w.result-is ∙ ap sent_as (sym w.in-Ok.is) | in-Err w ↦ w.result-is ∙ ap sent_as (sym w.in-Err.is) ] in
-    sent-step c.self.inside c.args.self.now c.self.view_is c.self.invariant c.args.id c.in-Some.place c.index_mut-stream.result.now (cc)
+    elim c.match-send.branch
+    [ in-Ok w ↦ w.result-is ∙ ap sent_as (sym w.in-Ok.is) | in-Err w ↦ w.result-is ∙ ap sent_as (sym w.in-Err.is) ]
+    in
+    sent-step c.self.inside c.args.self.now c.self.view_is c.self.invariant c.args.id c.in-Some.place
+    c.index_mut-stream.result.now (cc)
     c.index_mut-stream.ensures.value
-    c.send.new.self (view_of c.args.tlp.now) c.args.trusted c.args.more number c.send.result c.match-send.result c.clear.new.self.items c.send.new.out.items
+    c.send.new.self (view_of c.args.tlp.now) c.args.trusted c.args.more number c.send.result c.match-send.result
+    c.clear.new.self.items c.send.new.out.items
     c.clear.ensures.items (sent c number) said

@@ -4,13 +4,17 @@ use Rattle.ide_port.proofs.Steps.{gone, reads}
 use Rattle.ide_port.proofs.port.Port.status.Goals as goal
 
 pub index-requires : goal.index-requires
-index-requires c = omega (arith, inside c.self.inside c.args.stream c.in-Some.place c.self.invariant (cc), c.self.inside.streams.ok.0)
+index-requires c = omega
+    (arith, inside c.self.inside c.args.stream c.in-Some.place c.self.invariant (cc), c.self.inside.streams.ok.0)
 
 pub returns-in-None : goal.returns-in-None
-returns-in-None c = sym (ap (option_map (λ (f : Found). stream_status f.state)) (gone c.self.inside c.args.self.now c.self.view_is c.args.stream (cc)))
+returns-in-None c = sym
+    (ap (option_map (λ (f : Found). stream_status f.state))
+    (gone c.self.inside c.args.self.now c.self.view_is c.args.stream (cc)))
 
 pub returns-in-Some : goal.returns-in-Some
 returns-in-Some c =
     ap Some c.status.ensures
-    ∙ sym (reads c.self.inside c.args.self.now c.self.view_is c.self.invariant c.args.stream c.in-Some.place c.index.result.now (cc) c.index.ensures
+    ∙ sym (reads c.self.inside c.args.self.now c.self.view_is c.self.invariant c.args.stream c.in-Some.place
+    c.index.result.now (cc) c.index.ensures
     (option_map (λ (f : Found). stream_status f.state)))

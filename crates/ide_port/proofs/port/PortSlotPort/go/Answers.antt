@@ -5,11 +5,17 @@ use Rattle.ide_port.proofs.port.PortSlotPort.go.Goals as goal
 
 pub index_mut-stream-requires : goal.index_mut-stream-requires
 index_mut-stream-requires c =
-    omega (arith, lane-inside c.self.inside c.args.stream c.args.sub c.in-Some.place c.in-Some.sub c.self.invariant (cc), c.self.inside.streams.ok.0)
+    omega (
+      arith,
+      lane-inside c.self.inside c.args.stream c.args.sub c.in-Some.place c.in-Some.sub c.self.invariant
+          (cc),
+      c.self.inside.streams.ok.0,
+    )
 
 pub returns-in-None : goal.returns-in-None
 returns-in-None c =
-    let x = nowhere-step c.self.inside c.args.self.now c.self.view_is c.self.invariant (Go (place_at c.args.stream c.args.dir c.args.sub) c.args.set false)
+    let x = nowhere-step c.self.inside c.args.self.now c.self.view_is c.self.invariant
+    (Go (place_at c.args.stream c.args.dir c.args.sub) c.args.set false)
     (cc) in
     record { answer = sym (ap (λ o. go_at o c.args.set) x.shows); moves = x.moves; slots = x.slots }
 
@@ -19,14 +25,17 @@ lane c = lane-some c.self.inside.plans c.args.stream c.args.sub _ _ (cc)
 
 pub invariant_of-self-in-Some : goal.invariant_of-self-in-Some
 invariant_of-self-in-Some c =
-    kept-called c.self.inside c.self.invariant c.args.stream c.in-Some.place c.index_mut-stream.result.now (lane c).place_is c.index_mut-stream.ensures.value
-    c.go.new.self c.args.dir c.in-Some.sub (slot_call (Go (place_at c.args.stream c.args.dir c.args.sub) c.args.set c.is_ok.result)) c.go.ensures.stream
+    kept-called c.self.inside c.self.invariant c.args.stream c.in-Some.place c.index_mut-stream.result.now
+    (lane c).place_is c.index_mut-stream.ensures.value
+    c.go.new.self c.args.dir c.in-Some.sub
+    (slot_call (Go (place_at c.args.stream c.args.dir c.args.sub) c.args.set c.is_ok.result)) c.go.ensures.stream
 
 pub returns-in-Some : goal.returns-in-Some
 returns-in-Some c =
     let x = called-step c.self.inside c.args.self.now c.self.view_is c.self.invariant
     (Go (place_at c.args.stream c.args.dir c.args.sub) c.args.set c.is_ok.result)
-    c.in-Some.place c.in-Some.sub c.index_mut-stream.result.now c.go.new.self c.requires.dir (lane c) c.index_mut-stream.ensures.value c.go.ensures.stream in
+    c.in-Some.place c.in-Some.sub c.index_mut-stream.result.now c.go.new.self c.requires.dir (lane c)
+    c.index_mut-stream.ensures.value c.go.ensures.stream in
     record {
       answer = c.is_ok.ensures.value ∙ c.go.ensures.answer ∙ sym (ap (λ o. go_at o c.args.set) x.shows);
       moves = x.moves;

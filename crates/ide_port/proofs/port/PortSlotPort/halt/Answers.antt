@@ -5,7 +5,12 @@ use Rattle.ide_port.proofs.port.PortSlotPort.halt.Goals as goal
 
 pub index_mut-stream-requires : goal.index_mut-stream-requires
 index_mut-stream-requires c =
-    omega (arith, lane-inside c.self.inside c.args.stream c.args.sub c.in-Some.place c.in-Some.sub c.self.invariant (cc), c.self.inside.streams.ok.0)
+    omega (
+      arith,
+      lane-inside c.self.inside c.args.stream c.args.sub c.in-Some.place c.in-Some.sub c.self.invariant
+          (cc),
+      c.self.inside.streams.ok.0,
+    )
 
 pub returns-in-None : goal.returns-in-None
 returns-in-None c =
@@ -14,18 +19,23 @@ returns-in-None c =
     record { answer = sym (ap (λ o. is_there o) x.shows); moves = x.moves; slots = x.slots }
 
 -- the place that is called
-lane : (c : goal.After-self-in-Some-1) → IsLane c.self.inside.plans c.args.stream c.args.sub c.in-Some.place c.in-Some.sub
+lane : (c : goal.After-self-in-Some-1) → IsLane c.self.inside.plans c.args.stream c.args.sub c.in-Some.place
+    c.in-Some.sub
 lane c = lane-some c.self.inside.plans c.args.stream c.args.sub _ _ (cc)
 
 pub invariant_of-self-in-Some : goal.invariant_of-self-in-Some
 invariant_of-self-in-Some c =
-    kept-called c.self.inside c.self.invariant c.args.stream c.in-Some.place c.index_mut-stream.result.now (lane c).place_is c.index_mut-stream.ensures.value
-    c.halt.new.self c.args.dir c.in-Some.sub (slot_call (Halt (place_at c.args.stream c.args.dir c.args.sub) c.args.set true)) c.halt.ensures
+    kept-called c.self.inside c.self.invariant c.args.stream c.in-Some.place c.index_mut-stream.result.now
+    (lane c).place_is c.index_mut-stream.ensures.value
+    c.halt.new.self c.args.dir c.in-Some.sub
+    (slot_call (Halt (place_at c.args.stream c.args.dir c.args.sub) c.args.set true)) c.halt.ensures
 
 pub returns-in-Some : goal.returns-in-Some
 returns-in-Some c =
-    let x = called-step c.self.inside c.args.self.now c.self.view_is c.self.invariant (Halt (place_at c.args.stream c.args.dir c.args.sub) c.args.set true)
-    c.in-Some.place c.in-Some.sub c.index_mut-stream.result.now c.halt.new.self c.requires.dir (lane c) c.index_mut-stream.ensures.value c.halt.ensures in
+    let x = called-step c.self.inside c.args.self.now c.self.view_is c.self.invariant
+    (Halt (place_at c.args.stream c.args.dir c.args.sub) c.args.set true)
+    c.in-Some.place c.in-Some.sub c.index_mut-stream.result.now c.halt.new.self c.requires.dir (lane c)
+    c.index_mut-stream.ensures.value c.halt.ensures in
     record {
       answer = sym (ap (λ o. is_there o) x.shows);
       moves = x.moves;

@@ -7,12 +7,18 @@ use Rattle.ide_km.specs.declared.port.ProgramFault.TheVariants.{NoPlace}
 
 pub index_mut-stream-requires : goal.index_mut-stream-requires
 index_mut-stream-requires c =
-    omega (arith, lane-inside c.self.inside c.args.stream c.args.sub c.in-Some.place c.in-Some.sub c.self.invariant (cc), c.self.inside.streams.ok.0)
+    omega (
+      arith,
+      lane-inside c.self.inside c.args.stream c.args.sub c.in-Some.place c.in-Some.sub c.self.invariant
+          (cc),
+      c.self.inside.streams.ok.0,
+    )
 
 pub returns-in-None : goal.returns-in-None
 returns-in-None c =
     let x = nowhere-step c.self.inside c.args.self.now c.self.view_is c.self.invariant
-    (Program (place_at c.args.stream c.args.dir c.args.sub) c.args.set c.args.key c.args.draw (Err (NoPlace c.args.key))) (cc) in
+    (Program (place_at c.args.stream c.args.dir c.args.sub) c.args.set c.args.key c.args.draw
+    (Err (NoPlace c.args.key))) (cc) in
     record { answer = sym (ap (λ o. program_at o c.args.set c.args.key) x.shows); moves = x.moves; slots = x.slots }
 
 -- the place that is called
@@ -21,20 +27,28 @@ lane c = lane-some c.self.inside.plans c.args.stream c.args.sub _ _ (cc)
 
 pub invariant_of-self-in-Some : goal.invariant_of-self-in-Some
 invariant_of-self-in-Some c =
-    kept-called c.self.inside c.self.invariant c.args.stream c.in-Some.place c.index_mut-stream.result.now (lane c).place_is c.index_mut-stream.ensures.value
-    c.program.new.self c.args.dir c.in-Some.sub (slot_call (Program (place_at c.args.stream c.args.dir c.args.sub) c.args.set c.args.key c.args.draw c.match-program.result))
+    kept-called c.self.inside c.self.invariant c.args.stream c.in-Some.place c.index_mut-stream.result.now
+    (lane c).place_is c.index_mut-stream.ensures.value
+    c.program.new.self c.args.dir c.in-Some.sub
+    (slot_call (Program (place_at c.args.stream c.args.dir c.args.sub) c.args.set c.args.key c.args.draw
+    c.match-program.result))
     c.program.ensures.stream
 
 pub returns-after-program : goal.returns-after-program
 returns-after-program c =
     let x = called-step c.self.inside c.args.self.now c.self.view_is c.self.invariant
     (Program (place_at c.args.stream c.args.dir c.args.sub) c.args.set c.args.key c.args.draw c.match-program.result)
-    c.in-Some.place c.in-Some.sub c.index_mut-stream.result.now c.program.new.self c.requires.dir (lane c) c.index_mut-stream.ensures.value
+    c.in-Some.place c.in-Some.sub c.index_mut-stream.result.now c.program.new.self c.requires.dir (lane c)
+    c.index_mut-stream.ensures.value
     c.program.ensures.stream in
     let said : c.match-program.result ≡ key_back c.program.result =
-    elim c.match-program.branch [ in-Ok w ↦ w.result-is ∙ ap key_back (sym w.in-Ok.is) | in-Err w ↦ w.result-is ∙ ap key_back (sym w.in-Err.is) ] in
+    elim c.match-program.branch [
+      | in-Ok w ↦ w.result-is ∙ ap key_back (sym w.in-Ok.is)
+      | in-Err w ↦ w.result-is ∙ ap key_back (sym w.in-Err.is)
+    ] in
     record {
-      answer = said ∙ ap key_back c.program.ensures.answer ∙ key-back (pair_in c.index_mut-stream.result.now c.args.dir c.in-Some.sub) c.args.set c.args.key
+      answer = said ∙ ap key_back c.program.ensures.answer ∙ key-back
+          (pair_in c.index_mut-stream.result.now c.args.dir c.in-Some.sub) c.args.set c.args.key
           ∙ sym (ap (λ o. program_at o c.args.set c.args.key) x.shows);
       moves = x.moves;
       slots = x.slots;

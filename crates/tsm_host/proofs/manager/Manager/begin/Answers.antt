@@ -6,20 +6,29 @@ use Rattle.tsm_host.proofs.manager.Manager.begin.Goals as goal
 
 pub returns-clause-pool : goal.returns-clause-pool
 returns-clause-pool g c =
-    let at : place_of c.args.self.now (op_name c.args.op).link (op_name c.args.op).stream ≡ Some c.in-Some.place = rw (← c.link.ensures, ← c.stream.ensures) (sym c.place.ensures ∙ c.in-Some.is) in
-    let is : c.index_mut-stream.result.now ≡ get_or c.args.self.now.streams c.in-Some.place c.index_mut-stream.result.now = rw (← c.self.view_is) c.index_mut-stream.ensures.value in
-    rw (found c.args.self.now _ _ c.in-Some.place c.index_mut-stream.result.now at is, ← c.operation.ensures) c.begin-answer.ensures.pool
+    let at : place_of c.args.self.now (op_name c.args.op).link (op_name c.args.op).stream
+    ≡ Some c.in-Some.place = rw (← c.link.ensures, ← c.stream.ensures) (sym c.place.ensures ∙ c.in-Some.is) in
+    let is : c.index_mut-stream.result.now ≡ get_or c.args.self.now.streams c.in-Some.place
+    c.index_mut-stream.result.now = rw (← c.self.view_is) c.index_mut-stream.ensures.value in
+    rw (found c.args.self.now _ _ c.in-Some.place c.index_mut-stream.result.now at is, ← c.operation.ensures)
+    c.begin-answer.ensures.pool
 
 pub returns-clause-calls : goal.returns-clause-calls
 returns-clause-calls g c =
-    let at : place_of c.args.self.now (op_name c.args.op).link (op_name c.args.op).stream ≡ Some c.in-Some.place = rw (← c.link.ensures, ← c.stream.ensures) (sym c.place.ensures ∙ c.in-Some.is) in
-    let is : c.index_mut-stream.result.now ≡ get_or c.args.self.now.streams c.in-Some.place c.index_mut-stream.result.now = rw (← c.self.view_is) c.index_mut-stream.ensures.value in
-    rw (found c.args.self.now _ _ c.in-Some.place c.index_mut-stream.result.now at is, ← c.operation.ensures) c.begin-answer.ensures.calls
+    let at : place_of c.args.self.now (op_name c.args.op).link (op_name c.args.op).stream
+    ≡ Some c.in-Some.place = rw (← c.link.ensures, ← c.stream.ensures) (sym c.place.ensures ∙ c.in-Some.is) in
+    let is : c.index_mut-stream.result.now ≡ get_or c.args.self.now.streams c.in-Some.place
+    c.index_mut-stream.result.now = rw (← c.self.view_is) c.index_mut-stream.ensures.value in
+    rw (found c.args.self.now _ _ c.in-Some.place c.index_mut-stream.result.now at is, ← c.operation.ensures)
+    c.begin-answer.ensures.calls
 
 pub returns-clause-manager : goal.returns-clause-manager
 returns-clause-manager g c =
-    let at : place_of c.args.self.now (op_name c.args.op).link (op_name c.args.op).stream ≡ Some c.in-Some.place = rw (← c.link.ensures, ← c.stream.ensures) (sym c.place.ensures ∙ c.in-Some.is) in
-    let is : c.index_mut-stream.result.now ≡ get_or c.args.self.now.streams c.in-Some.place c.index_mut-stream.result.now = rw (← c.self.view_is) c.index_mut-stream.ensures.value in
+    let at : place_of c.args.self.now (op_name c.args.op).link (op_name c.args.op).stream
+    ≡ Some c.in-Some.place = rw (← c.link.ensures, ← c.stream.ensures) (sym c.place.ensures ∙ c.in-Some.is) in
+    let is : c.index_mut-stream.result.now ≡ get_or c.args.self.now.streams c.in-Some.place
+    c.index_mut-stream.result.now = rw (← c.self.view_is) c.index_mut-stream.ensures.value in
     rw (found c.args.self.now _ _ c.in-Some.place c.index_mut-stream.result.now at is)
-    (begun_by c.self.inside.streams.items c.self.inside.asking _ c.in-Some.place c.index_mut-stream.result.now _ _ _ c.operation.result _ _ _ c.self.view_is c.index_mut-stream.ensures.value c.operation.ensures
+    (begun_by c.self.inside.streams.items c.self.inside.asking _ c.in-Some.place c.index_mut-stream.result.now _ _ _
+    c.operation.result _ _ _ c.self.view_is c.index_mut-stream.ensures.value c.operation.ensures
     c.begin-answer.ensures.stream c.begin-answer.ensures.answer c.asking_begun-self-inside.ensures)

@@ -17,5 +17,6 @@ stop_calls (Stopping next) host pool id begins = absurd cc
 
 pub returns-in-Stop-clause-calls : goal.returns-in-Stop-clause-calls
 returns-in-Stop-clause-calls g c =
-    let begins : (work_of op.Stop c.args.self.now.op 0).begins ≡ true = rw (← c.self.view_is, ← c.in-Stop.is, ← c.begins.ensures) c.if-not-begins.false in
+    let begins : (work_of op.Stop c.args.self.now.op 0).begins
+    ≡ true = rw (← c.self.view_is, ← c.in-Stop.is, ← c.begins.ensures) c.if-not-begins.false in
     rw (c.in-Stop.is, stop_calls c.args.self.now.op _ _ _ begins, ← c.self.view_is) c.halt_all.ensures

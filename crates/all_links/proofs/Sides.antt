@@ -1,0 +1,414 @@
+-- What an event makes of what stands beside the ports. Most events keep all of it. A call of one link changes that link
+-- alone, so what holds of it and of each unchanged link holds of all (`each_both`); what an operation on a stream tells
+-- the manager of interfaces goes by the cases of its outcome (`told_here`).
+use Rattle.all_links.proofs.Terms.{◌≡◌, ℕ, ◌+◌, ◌==◌, ◌<◌, ◌≤◌, not, Bool, true, false, List, [], length, refl, ap, sym}
+use Rattle.all_links.proofs.Terms.{◌∙◌, subst, arith, nat_tests, Option, Some, None, slice_get, slice_set, map}
+use Rattle.all_links.proofs.Terms.{none-some, same_Some, true-lt, nat_lt, nat_le, is_some, IsSome, if◌then◌else◌, Side}
+use Rattle.all_links.proofs.Terms.{Host, Device, PortName, UnitName, Plan, Verdict, Op, LinkState, PortEnd, take_step}
+use Rattle.all_links.proofs.Terms.{LinkEnds, Links, InterfacesView, port_in, with_port, taken_ends, Contents}
+use Rattle.all_links.proofs.Terms.{TrustedMemory, Leads, Write, IsBounded, AreLinks, links_state, packet_write}
+use Rattle.all_links.proofs.Terms.{unit_writes, ManagerView, Named, named, stream_named, ArrivesAt, OperatesAt}
+use Rattle.all_links.proofs.Terms.{ResetsAt, SendsAt, Sent, LinkPacket, packet_numbered, partner, work_of, passed}
+use Rattle.all_links.proofs.Terms.{altered_to, altered_bytes, cut_short, option_and_then, option_map, take, Arrive}
+use Rattle.all_links.proofs.Terms.{Result, Ok, Err, IfOk}
+use Rattle.std.proofs.Common.{inl, inr}
+use Rattle.std.specs.Prelude.{IfSome}
+use Rattle.ide_types.specs.declared.memory.Memory.{Memory}
+use Rattle.link_events.specs.declared.event.Loss.{Loss}
+use Rattle.link_verdicts.specs.declared.verdict.Operation.{Operation}
+use Rattle.link_verdicts.specs.declared.verdict.Operation.TheVariants as op
+use Rattle.link_verdicts.specs.declared.verdict.Verdict.TheVariants as v
+use Rattle.link_history.specs.History.{Arrival}
+use Rattle.key_laws.specs.Due.{cut_off}
+use Rattle.tsm_host.specs.declared.operation.Op.{Op as OpCall}
+use Rattle.tsm_host.specs.declared.operation.Op.TheVariants as call
+use Rattle.tsm_host.specs.declared.operation.Outcome.{Outcome}
+use Rattle.tsm_host.specs.Operations.{OpName, op_name}
+use Rattle.tsm_host.specs.Walk.{verdict_of}
+use Rattle.tdi_state.specs.Machine.{Tdi, Call}
+use Rattle.tdi_host.specs.declared.operation.InterfaceOp.{InterfaceOp}
+use Rattle.tdi_host.specs.declared.operation.Outcome.{Outcome as Outcome'}
+use Rattle.tdi_host.specs.Managers.{reset_manager}
+use Rattle.tdi_ends.specs.Keepers.{Ended}
+use Rattle.link_ends.specs.Hosts.{told, operated_on}
+use Rattle.link_ends.specs.declared.host.HostKeeper.{HostKeeper}
+use Rattle.whole_machine.specs.Machine.{arrival_of}
+use Rattle.all_links.specs.AllEnds.{grants_in, AsksAt, CallsAt}
+use Rattle.all_links.specs.Interfaces.{interface_named}
+use Rattle.all_links.specs.Sides.{SidesKeep, Follows, AllFollow, writes_by, SidesArrive, told_by, SidesOperate}
+use Rattle.all_links.specs.Sides.{SidesReset, SidesAsk, called_if, SidesCall}
+use Rattle.all_links.proofs.Arrivals.{at_partner, altered_is, numbered_here}
+use Rattle.all_links.proofs.Finds.{there, each_set, port_is}
+use Rattle.all_links.proofs.Operations.{some_named}
+use Rattle.all_links.proofs.Asked.{if_some, set_back, with_interfaces}
+use Rattle.all_links.proofs.Writes.{writes_agree}
+
+-- ---- one link that changes
+
+-- what holds of it, and of each link with itself, holds of all
+each_both : {A : Type 0} (R : A → A → Type 0) (xs : List A) (i : ℕ) (x y : A) → slice_get xs i ≡ Some x → R x y
+    → ((z : A) → R z z) → (j : ℕ) (z z' : A) → slice_get xs j ≡ Some z → slice_get (slice_set xs i y) j ≡ Some z'
+    → R z z'
+each_both {A} R xs i x y is changed same j z z' at at' =
+    each_set (λ n w. (u : A) → slice_get xs n ≡ Some u → R u w) xs i y
+    (λ u at_u. subst (λ (w : A). R w y) (same_Some x u (sym is ∙ at_u)) changed)
+    (λ n w at_w u at_u. subst (λ (t : A). R t w) (same_Some w u (sym at_w ∙ at_u)) (same w)) j z' at' z at
+
+-- ---- nothing
+
+pub keeps_with : (old new : Links) → new.ends ≡ old.ends → new.keeper.interfaces ≡ old.keeper.interfaces
+    → new.trusted.contents ≡ old.trusted.contents → SidesKeep old new
+keeps_with old new ends keeper contents = record {
+  keeper = keeper;
+  devices = λ i l l' at at'.
+      ap (λ (y : LinkEnds). y.device.interfaces)
+      (same_Some l' l (sym at' ∙ ap (λ (xs : List LinkEnds). slice_get xs i) ends ∙ at));
+  contents = contents;
+}
+
+pub keeps_all : {old new : Links} → new ≡ record old { steps = old.steps + 1 } → SidesKeep old new
+keeps_all {old} {new} is =
+    keeps_with old new (ap (λ (s : Links). s.ends) is) (ap (λ (s : Links). s.keeper.interfaces) is)
+    (ap (λ (s : Links). s.trusted.contents) is)
+
+-- room for packets that is taken first
+pub keeps_reserved : {new : Links} (old mid : Links) → mid ≡ record old { packets = mid.packets } → SidesKeep mid new
+    → SidesKeep old new
+keeps_reserved {new} old mid is x = from (subst (λ (m : Links). SidesKeep m new) is x)
+  where
+    from : SidesKeep (record old { packets = mid.packets }) new → SidesKeep old new
+    from y = record { keeper = y.keeper; devices = y.devices; contents = y.contents }
+
+-- ---- sends
+
+same_interfaces : (s : Side) (e : PortEnd) (l : LinkEnds) → (with_port s e l).device.interfaces ≡ l.device.interfaces
+same_interfaces Host e l = refl
+same_interfaces Device e l = refl
+
+pub sent_keeps : (old new : Links) (port : PortName) (tlp : List ℕ) (trusted more : Bool) (answer : Sent)
+    → port.link < length old.ends → SendsAt old.ends port tlp trusted more answer new.ends
+    → new.keeper.interfaces ≡ old.keeper.interfaces → new.trusted ≡ old.trusted → SidesKeep old new
+sent_keeps old new port tlp trusted more answer here sends keeper memory =
+    let f = there old.ends port.link here in
+    let a = sends f.0 f.1 in
+    record {
+      keeper = keeper;
+      devices = λ i l l' at at'.
+          each_both (λ (x y : LinkEnds). y.device.interfaces ≡ x.device.interfaces) old.ends port.link f.0 a.0 f.1
+          (ap (λ (y : LinkEnds). y.device.interfaces) a.2.other
+          ∙ same_interfaces port.side (port_in port.side a.0) f.0)
+          (λ x. refl) i l l' at (ap (λ (xs : List LinkEnds). slice_get xs i) (sym a.1) ∙ at');
+      contents = ap (λ (m : TrustedMemory). m.contents) memory;
+    }
+
+-- ---- what keys and packets make of a device's interfaces
+
+follow_changed : (old new : List LinkEnds) (link : ℕ) (l l' : LinkEnds) → slice_get old link ≡ Some l
+    → new ≡ slice_set old link l' → Follows l l' → AllFollow old new
+follow_changed old new link l l' is ends follows i x y at at' =
+    each_both Follows old link l l' is follows (λ z. inr refl) i x y at
+    (ap (λ (xs : List LinkEnds). slice_get xs i) (sym ends) ∙ at')
+
+follow_same : (old new : List LinkEnds) → new ≡ old → AllFollow old new
+follow_same old new ends i x y at at' =
+    inr (ap (λ (z : LinkEnds). z.device)
+    (same_Some y x (sym at' ∙ ap (λ (xs : List LinkEnds). slice_get xs i) ends ∙ at)))
+
+-- ---- arrivals
+
+taken_follows : (s : Side) (e : PortEnd) (l : LinkEnds) → Follows l (taken_ends s e l)
+taken_follows Host e l = inr refl
+taken_follows Device e l = inl refl
+
+pub nothing_arrives : {verdict : Verdict} {old new : Links} (arrival : Plan → LinkState → Option Arrival)
+    → verdict ≡ v.Nothing → new ≡ record old { steps = old.steps + 1 } → SidesArrive arrival verdict old new
+nothing_arrives {verdict} {old} {new} arrival says is = record {
+  keeper = ap (λ (s : Links). s.keeper.interfaces) is;
+  devices = follow_same old.ends new.ends (ap (λ (s : Links). s.ends) is);
+  contents = λ plan h links stands regions.
+      let wrote = λ (w : Verdict). writes_by plan (grants_in old.keeper.interfaces) (links_state plan old)
+      (arrival plan (links_state plan old)) w in
+      subst (λ (w : Verdict). Leads old.trusted.contents (wrote w) new.trusted.contents) (sym says)
+      (subst (λ (c : Contents). Leads old.trusted.contents [] c) (sym (ap (λ (s : Links). s.trusted.contents) is))
+      (λ older left. left));
+}
+
+pub arrived_beside : (old : Links) (port : PortName) (bytes : List ℕ) (verdict : Verdict) (ends : List LinkEnds)
+    (m : TrustedMemory) → port.link < length old.ends
+    → ArrivesAt old.ends old.trusted.contents.regions (grants_in old.keeper.interfaces) port bytes verdict
+    old.trusted.contents m.contents ends
+    → SidesArrive (λ plan st. Some (record { port = port; bytes = bytes })) verdict old
+    (record old { ends = ends; trusted = m; steps = old.steps + 1 })
+arrived_beside old port bytes verdict ends m here arrives =
+    let f = there old.ends port.link here in
+    let l : LinkEnds = f.0 in
+    let a = arrives l f.1 in
+    let t = take_step (port_in port.side l) bytes in
+    let grants = grants_in old.keeper.interfaces in
+    record {
+      keeper = refl;
+      devices = follow_changed old.ends ends port.link l a.0 f.1 a.1
+          (subst (λ (y : LinkEnds). Follows l y) (sym a.2.ends) (taken_follows port.side t.port l));
+      contents = λ plan h links stands regions.
+          let arrival : Option Arrival = Some (record { port = port; bytes = bytes }) in
+          let at_port = port_is plan old.ends old.keeper.keys port l links f.1 in
+          let same : writes_by plan grants (links_state plan old) arrival verdict
+          ≡ unit_writes t.answer
+          (λ unit. map (packet_write old.trusted.contents.regions grants port unit) t.port.delivered) =
+          ap (λ (w : Verdict). writes_by plan grants (links_state plan old) arrival w) a.2.verdict_is
+          ∙ writes_agree plan grants old.ends old.keeper.keys old.packets.packets h port l stands f.1 at_port bytes _
+          ∙ (λ i. unit_writes t.answer
+          (λ (unit : UnitName). map (packet_write (sym regions i) grants port unit) t.port.delivered)) in
+          subst (λ (os : List (Option Write)). Leads old.trusted.contents os m.contents) (sym same) a.2.written;
+    }
+
+-- an event that brings the same
+pub brings : {verdict : Verdict} {old new : Links} {one two : Plan → LinkState → Option Arrival}
+    → ((plan : Plan) → AreLinks plan old.ends old.keeper.keys → two plan (links_state plan old)
+    ≡ one plan (links_state plan old)) → SidesArrive one verdict old new → SidesArrive two verdict old new
+brings {verdict} {old} {new} {one} {two} same x = record {
+  keeper = x.keeper;
+  devices = x.devices;
+  contents = λ plan h links stands regions.
+      subst (λ (o : Option Arrival). Leads old.trusted.contents
+      (writes_by plan (grants_in old.keeper.interfaces) (links_state plan old) o verdict) new.trusted.contents)
+      (sym (same plan links)) (x.contents plan h links stands regions);
+}
+
+-- ---- what events bring
+
+pub brings_given : (old : Links) (plan : Plan) (port : PortName) (bytes : List ℕ)
+    → AreLinks plan old.ends old.keeper.keys → true ≡ nat_lt port.link (length old.ends)
+    → arrival_of plan (links_state plan old) (Arrive port bytes) ≡ Some (record { port = port; bytes = bytes })
+brings_given old plan port bytes links here =
+    let came : Option Arrival = Some (record { port = port; bytes = bytes }) in
+    ap (λ (b : Bool). if b then came else None)
+    (ap (λ (n : ℕ). nat_lt port.link n) (sym links.many) ∙ sym here)
+
+module _ (old : Links) (n : ℕ) (x : LinkPacket) (is : Some x ≡ packet_numbered old.packets.packets n) where
+  pub brings_whole : option_and_then passed (packet_numbered old.packets.packets n) ≡ Some (at_partner x x.bytes)
+  brings_whole = ap (λ (o : Option LinkPacket). option_and_then passed o) (sym is)
+
+  pub brings_altered : (at mask : ℕ) (port : PortName) (bytes : List ℕ) → Some bytes ≡ altered_bytes at mask x.bytes
+      → port ≡ partner x.port
+      → option_and_then (altered_to at mask) (packet_numbered old.packets.packets n)
+      ≡ Some (record { port = port; bytes = bytes })
+  brings_altered at mask port bytes some port_is =
+      ap (λ (o : Option LinkPacket). option_and_then (altered_to at mask) o) (sym is) ∙ altered_is at mask x
+      ∙ ap (λ (o : Option (List ℕ)). option_map (at_partner x) o) (sym some)
+      ∙ (λ i. Some (record { port = sym port_is i; bytes = bytes }))
+
+  pub brings_cut : (len : ℕ) → nat_le len (length x.bytes) ≡ true
+      → option_and_then (cut_short len) (packet_numbered old.packets.packets n)
+      ≡ Some (at_partner x (take len x.bytes))
+  brings_cut len test =
+      ap (λ (o : Option LinkPacket). option_and_then (cut_short len) o) (sym is)
+      ∙ ap (λ (b : Bool). if b then Some (at_partner x (take len x.bytes)) else None) test
+
+-- the bytes of a packet that come to the other end, whole or in part
+pub packet_beside : (old : Links) (n : ℕ) (x : LinkPacket) (port : PortName) (bytes : List ℕ) (verdict : Verdict)
+    (ends : List LinkEnds) (m : TrustedMemory) → IsBounded old.ends old.packets.packets old.steps
+    → Some x ≡ packet_numbered old.packets.packets n → port ≡ partner x.port
+    → ArrivesAt old.ends old.trusted.contents.regions (grants_in old.keeper.interfaces) port bytes verdict
+    old.trusted.contents m.contents ends
+    → (arrival : Plan → LinkState → Option Arrival)
+    → ((plan : Plan) → arrival plan (links_state plan old) ≡ Some (at_partner x bytes))
+    → SidesArrive arrival verdict old (record old { ends = ends; trusted = m; steps = old.steps + 1 })
+packet_beside old n x port bytes verdict ends m bounded is port_is arrives arrival same =
+    brings {one = λ plan st. Some (record { port = port; bytes = bytes })}
+    (λ plan links. same plan ∙ (λ i. Some (record { port = sym port_is i; bytes = bytes })))
+    (arrived_beside old port bytes verdict ends m
+    (subst (λ (p : PortName). p.link < length old.ends) (sym port_is) (numbered_here old n x bounded is)) arrives)
+
+-- pages that are taken first
+pub arrives_roomed : {verdict : Verdict} {new : Links} (old mid : Links) (arrival : Plan → LinkState → Option Arrival)
+    → mid ≡ record old { trusted = mid.trusted } → mid.trusted.contents ≡ old.trusted.contents
+    → SidesArrive arrival verdict mid new → SidesArrive arrival verdict old new
+arrives_roomed {verdict} {new} old mid arrival is same x = from
+    (subst (λ (m : Links). SidesArrive arrival verdict m new) is x)
+  where
+    from : SidesArrive arrival verdict (record old { trusted = mid.trusted }) new → SidesArrive arrival verdict old new
+    from y = record {
+      keeper = y.keeper;
+      devices = y.devices;
+      contents = λ plan h links stands regions.
+          subst (λ (c : Contents). Leads c (writes_by plan (grants_in old.keeper.interfaces) (links_state plan old)
+          (arrival plan (links_state plan old)) verdict) new.trusted.contents) same
+          (y.contents plan h links stands (ap (λ (c : Contents). c.regions) same ∙ regions));
+    }
+
+pub arrives_roomed_or : (r : Result Verdict Memory) (old mid new : Links)
+    (arrival : Plan → LinkState → Option Arrival) → mid ≡ record old { trusted = mid.trusted }
+    → mid.trusted.contents ≡ old.trusted.contents → IfOk r (λ (w : Verdict). SidesArrive arrival w mid new)
+    → IfOk r (λ (w : Verdict). SidesArrive arrival w old new)
+arrives_roomed_or (Ok verdict) old mid new arrival is same x = arrives_roomed old mid arrival is same x
+arrives_roomed_or (Err e) old mid new arrival is same x = tt
+
+-- ---- resets
+
+pub nothing_resets : {old new : Links} (link : ℕ) → false ≡ nat_lt link (length old.ends)
+    → new ≡ record old { steps = old.steps + 1 } → SidesReset link old new
+nothing_resets {old} {new} link nowhere is = record {
+  contents = ap (λ (s : Links). s.trusted.contents) is;
+  ends = λ lt. absurd (grind (arith, nat_tests, nowhere, lt));
+  keeper = λ lt. absurd (grind (arith, nat_tests, nowhere, lt));
+  absent = λ past. keeps_all is;
+}
+
+pub reset_beside : (old : Links) (link : ℕ) (ends : List LinkEnds) (k : HostKeeper)
+    → nat_lt link (length old.ends) ≡ true → ResetsAt old.ends link ends
+    → k.interfaces ≡ reset_manager link old.keeper.interfaces
+    → SidesReset link old (record old { ends = ends; keeper = k; steps = old.steps + 1 })
+reset_beside old link ends k here resets keeper =
+    let lt : link < length old.ends = true-lt link (length old.ends) here in
+    record {
+      contents = refl;
+      ends = λ there. resets;
+      keeper = λ there. keeper;
+      absent = λ past. absurd (omega (arith, lt, past));
+    }
+
+-- ---- operations of the manager on interfaces
+
+pub nothing_asked : {old new : Links} (n : ℕ) (o : InterfaceOp) (loss : Option Loss)
+    → None ≡ interface_named old.keeper.interfaces old.ends n → new ≡ record old { steps = old.steps + 1 }
+    → SidesAsk n o loss old new
+nothing_asked {old} {new} n o loss nowhere is = record {
+  contents = ap (λ (s : Links). s.trusted.contents) is;
+  unnamed = λ none. keeps_all is;
+  asked = λ at l x named_is link_there kept_there. absurd (none-some at (nowhere ∙ named_is));
+}
+
+pub asked_beside : (old new : Links) (n : ℕ) (at : ℕ × ℕ) (o : InterfaceOp) (loss : Option Loss) (outcome : Outcome')
+    (ends : List LinkEnds) (k : HostKeeper) → Some at ≡ interface_named old.keeper.interfaces old.ends n
+    → AsksAt old.ends at.0 old.keeper n o loss outcome ends k
+    → new ≡ record old { ends = ends; keeper = k; steps = old.steps + 1 } → SidesAsk n o loss old new
+asked_beside old new n at o loss outcome ends k here asks is = record {
+  contents = ap (λ (s : Links). s.trusted.contents) is;
+  unnamed = λ none. absurd (none-some at (sym none ∙ sym here));
+  asked = λ place l x named_is link_there kept_there.
+      let same : at ≡ place = same_Some at place (here ∙ named_is) in
+      let a = subst (λ (p : ℕ × ℕ). AsksAt old.ends p.0 old.keeper n o loss outcome ends k) same asks l link_there in
+      let e : Ended = operated_on n o loss old.keeper.keys.pool.draws old.keeper.interfaces l x in
+      let came = a.2.ended x kept_there in (
+        ap (λ (s : Links). s.keeper.interfaces) is ∙ came.manager_is,
+        ap (λ (s : Links). s.ends) is ∙ a.1
+            ∙ ap (λ (y : LinkEnds). slice_set old.ends place.0 y)
+            (a.2.ends ∙ ap (with_interfaces l) came.device_is),
+      );
+}
+
+-- ---- calls of a device's interface
+
+pub nothing_called : {old new : Links} (n : ℕ) (test : Tdi → Bool) (call : Call)
+    → None ≡ interface_named old.keeper.interfaces old.ends n → new ≡ record old { steps = old.steps + 1 }
+    → SidesCall n test call old new
+nothing_called {old} {new} n test call nowhere is = record {
+  keeper = ap (λ (s : Links). s.keeper.interfaces) is;
+  contents = ap (λ (s : Links). s.trusted.contents) is;
+  unnamed = λ none. keeps_all is;
+  called = λ at l tdi named_is link_there tdi_there. absurd (none-some at (nowhere ∙ named_is));
+}
+
+-- of the interface at this place the test is so
+abbrev pub Tests : List LinkEnds → ℕ × ℕ → (Tdi → Bool) → Bool → Type 0
+Tests ends at test b = (l : LinkEnds) (tdi : Tdi) → slice_get ends at.0 ≡ Some l
+    → slice_get l.device.interfaces.interfaces at.1 ≡ Some tdi → test tdi ≡ b
+
+pub called_beside : (old new : Links) (n : ℕ) (at : ℕ × ℕ) (test : Tdi → Bool) (call : Call) (code : ℕ)
+    (ends : List LinkEnds) → Some at ≡ interface_named old.keeper.interfaces old.ends n → Tests old.ends at test true
+    → CallsAt old.ends at.0 at.1 call code ends → new ≡ record old { ends = ends; steps = old.steps + 1 }
+    → SidesCall n test call old new
+called_beside old new n at test call code ends here tests calls is = record {
+  keeper = ap (λ (s : Links). s.keeper.interfaces) is;
+  contents = ap (λ (s : Links). s.trusted.contents) is;
+  unnamed = λ none. absurd (none-some at (sym none ∙ sym here));
+  called = λ place l tdi named_is link_there tdi_there.
+      let same : at ≡ place = same_Some at place (here ∙ named_is) in
+      let a = subst (λ (p : ℕ × ℕ). CallsAt old.ends p.0 p.1 call code ends) same calls l link_there in
+      let meets = subst (λ (p : ℕ × ℕ). Tests old.ends p test true) same tests l tdi link_there tdi_there in
+      let after : LinkEnds = called_if (λ t. true) l place.1 tdi call in
+      ap (λ (s : Links). s.ends) is ∙ a.1
+      ∙ ap (λ (y : LinkEnds). slice_set old.ends place.0 y)
+      (a.2.ends tdi tdi_there ∙ ap (λ (b : Bool). if b then after else l) (sym meets));
+}
+
+pub not_called : (old new : Links) (n : ℕ) (at : ℕ × ℕ) (test : Tdi → Bool) (call : Call)
+    → Some at ≡ interface_named old.keeper.interfaces old.ends n → Tests old.ends at test false
+    → new ≡ record old { steps = old.steps + 1 } → SidesCall n test call old new
+not_called old new n at test call here tests is = record {
+  keeper = ap (λ (s : Links). s.keeper.interfaces) is;
+  contents = ap (λ (s : Links). s.trusted.contents) is;
+  unnamed = λ none. keeps_all is;
+  called = λ place l tdi named_is link_there tdi_there.
+      let same : at ≡ place = same_Some at place (here ∙ named_is) in
+      let fails = subst (λ (p : ℕ × ℕ). Tests old.ends p test false) same tests l tdi link_there tdi_there in
+      let after : LinkEnds = called_if (λ t. true) l place.1 tdi call in
+      ap (λ (s : Links). s.ends) is ∙ sym (set_back old.ends place.0 l link_there)
+      ∙ ap (λ (b : Bool). slice_set old.ends place.0 (if b then after else l)) (sym fails);
+}
+
+-- ---- operations on streams
+
+module _ (q : Op) (before after : ℕ) (m : InterfacesView) where
+  -- a refusal tells nothing
+  lost_tells : (link id n : ℕ) (loss : Option Loss)
+      → m ≡ told_by op.Refresh link id q before after (cut_off loss n) m
+  lost_tells link id n loss = grind arith
+
+  told_here : (c : OpCall) (loss : Option Loss) (result : Outcome)
+      → told c (work_of (op_name c).operation q 0).begins (not (after == before)) before result m
+      ≡ told_by (op_name c).operation (op_name c).link (op_name c).stream q before after
+      (verdict_of (op_name c).operation (op_name c).link (op_name c).stream loss result) m
+  told_here (call.Establish link id) loss result = refl
+  told_here (call.Stop link id) loss result = refl
+  told_here (call.Refresh link id) loss result = grind arith
+
+pub nothing_operates : {old new : Links} (operation : Operation) (link id : ℕ) (verdict : Verdict)
+    → None ≡ stream_named old.keeper.keys.manager (length old.ends) link id
+    → new ≡ record old { steps = old.steps + 1 } → SidesOperate operation link id verdict old new
+nothing_operates {old} {new} operation link id verdict nowhere is = record {
+  devices = follow_same old.ends new.ends (ap (λ (s : Links). s.ends) is);
+  contents = ap (λ (s : Links). s.trusted.contents) is;
+  unnamed = λ none. ap (λ (s : Links). s.keeper.interfaces) is;
+  told = λ n there_is named_is. absurd (none-some (link, id) (nowhere ∙ there_is));
+}
+
+is_named : (m : ManagerView) (links link id : ℕ) → link < links → id ≤ 255 → is_some (named m link id) ≡ true
+    → stream_named m links link id ≡ Some (link, id)
+is_named m links link id lt small there_is = grind (arith, nat_tests)
+
+pub operated_beside : (old : Links) (ends : List LinkEnds) (k : HostKeeper) (c : OpCall) (operation : Operation)
+    (link id : ℕ) (loss : Option Loss) (result : Outcome) (verdict : Verdict) → link < length old.ends → id ≤ 255
+    → IsSome (named old.keeper.keys.manager link id)
+    → op_name c ≡ record { operation = operation; link = link; stream = id }
+    → OperatesAt old.ends link old.keeper.keys c loss result ends k.keys
+    → IfSome (named old.keeper.keys.manager (op_name c).link (op_name c).stream) (λ (n : Named).
+    k.interfaces ≡ told c (work_of (op_name c).operation n.stream.op 0).begins
+    (not (k.keys.pool.draws == old.keeper.keys.pool.draws)) old.keeper.keys.pool.draws result old.keeper.interfaces)
+    → verdict ≡ verdict_of operation link id loss result
+    → SidesOperate operation link id verdict old (record old { ends = ends; keeper = k; steps = old.steps + 1 })
+operated_beside old ends k c operation link id loss result verdict here small there_is name operates tells says =
+    let f = there old.ends link here in
+    let a = operates f.0 f.1 in
+    let m : ManagerView = old.keeper.keys.manager in
+    let before : ℕ = old.keeper.keys.pool.draws in
+    let after : ℕ = k.keys.pool.draws in
+    let found = some_named (named m link id) there_is in
+    record {
+      devices = follow_changed old.ends ends link f.0 a.0 f.1 a.1 (inl a.2.2);
+      contents = refl;
+      unnamed = λ none.
+          let known : is_some (named m link id) ≡ true = ap (λ (o : Option Named). is_some o) found.1 in
+          absurd (none-some (link, id) (sym none ∙ is_named m (length old.ends) link id here small known));
+      told = λ n at named_is.
+          let same : named m (op_name c).link (op_name c).stream ≡ Some n =
+          ap (λ (x : OpName). named m x.link x.stream) name ∙ named_is in
+          if_some (λ (y : Named). k.interfaces ≡ told c (work_of (op_name c).operation y.stream.op 0).begins
+          (not (after == before)) before result old.keeper.interfaces)
+          (named m (op_name c).link (op_name c).stream) n same tells
+          ∙ told_here n.stream.op before after old.keeper.interfaces c loss result
+          ∙ ap (λ (x : OpName). told_by x.operation x.link x.stream n.stream.op before after
+          (verdict_of x.operation x.link x.stream loss result) old.keeper.interfaces) name
+          ∙ ap (λ (w : Verdict). told_by operation link id n.stream.op before after w old.keeper.interfaces) (sym says);
+    }

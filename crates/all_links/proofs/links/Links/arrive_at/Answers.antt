@@ -1,0 +1,16 @@
+use Rattle.all_links.proofs.Terms.{refl, beside_in}
+use Rattle.all_links.proofs.Arrivals.{arrived, arrival_step}
+use Rattle.all_links.proofs.Sides.{arrived_beside}
+use Rattle.all_links.proofs.links.Links.arrive_at.Goals as goal
+
+pub returns-clause-ends : goal.returns-clause-ends
+returns-clause-ends c =
+    arrived c.args.self.now c.args.port c.args.bytes.now c.arrive-verdict.result c.arrive-verdict.new.self
+    c.arrive-verdict.new.memory c.args.self.now.trusted.contents
+    c.requires.bounded c.requires.here refl c.arrive-verdict.ensures.regions c.arrive-verdict.ensures.arrives
+    (λ plan st. arrival_step (beside_in c.args.self.now) c.args.port c.args.bytes.now plan st) (λ plan links. refl)
+
+pub returns-clause-sides : goal.returns-clause-sides
+returns-clause-sides c =
+    arrived_beside c.args.self.now c.args.port c.args.bytes.now c.arrive-verdict.result c.arrive-verdict.new.self
+    c.arrive-verdict.new.memory c.requires.here c.arrive-verdict.ensures.arrives

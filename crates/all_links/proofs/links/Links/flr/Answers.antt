@@ -1,0 +1,42 @@
+use Rattle.all_links.proofs.Terms.{ℕ, true, Option, refl, ap, sym, option_and_then}
+use Rattle.tdi_state.specs.Machine.{Tdi, LevelReset}
+use Rattle.link_events.specs.declared.event.InterfaceEvent.TheVariants as ie
+use Rattle.link_verdicts.specs.declared.verdict.Verdict.TheVariants as v
+use Rattle.interface_words.specs.declared.verdict.InterfaceVerdict.TheVariants as iv
+use Rattle.all_links.specs.Interfaces.{flr_as, tdi_at}
+use Rattle.all_links.proofs.Finds.{as_answer, only_says}
+use Rattle.all_links.proofs.Asked.{is_there, called}
+use Rattle.all_links.proofs.Sides.{nothing_called, called_beside}
+use Rattle.all_links.proofs.links.Links.flr.Goals as goal
+
+pub flr-state-requires : goal.flr-state-requires
+flr-state-requires c =
+    record {
+      here = is_there c.args.self.now.keeper.interfaces c.args.self.now.ends c.args.number
+          (c.in-Some.link, c.in-Some.place) c.in-Some.ensures;
+    }
+
+pub returns-in-None-clause-ends : goal.returns-in-None-clause-ends
+returns-in-None-clause-ends c =
+    as_answer (ie.Flr c.args.number)
+    (ap (λ (o : Option (ℕ × ℕ)). flr_as c.args.number (option_and_then (tdi_at c.args.self.now.ends) o))
+    c.in-None.ensures)
+    (only_says c.only.ensures.value c.only.ensures.links c.requires.bounded)
+
+pub returns-in-Some-clause-ends : goal.returns-in-Some-clause-ends
+returns-in-Some-clause-ends c =
+    let x = called c.args.self.now c.args.number (c.in-Some.link, c.in-Some.place) LevelReset c.flr-state.result
+    c.flr-state.new.self c.shows.new.self c.shows.result
+    (λ code. v.Interface (iv.Flr c.args.number code)) c.in-Some.ensures c.flr-state.ensures c.shows.ensures.value
+    c.shows.ensures.links c.requires.bounded in
+    as_answer (ie.Flr c.args.number) (ap (λ (o : Option Tdi). flr_as c.args.number o) (sym x.1)) x.2
+
+pub returns-in-None-clause-sides : goal.returns-in-None-clause-sides
+returns-in-None-clause-sides c =
+    nothing_called c.args.number (λ tdi. true) LevelReset c.in-None.ensures c.only.ensures.links
+
+pub returns-in-Some-clause-sides : goal.returns-in-Some-clause-sides
+returns-in-Some-clause-sides c =
+    called_beside c.args.self.now c.shows.new.self c.args.number (c.in-Some.link, c.in-Some.place) (λ tdi. true)
+    LevelReset c.flr-state.result c.flr-state.new.self c.in-Some.ensures
+    (λ l tdi link_there tdi_there. refl) c.flr-state.ensures c.shows.ensures.links

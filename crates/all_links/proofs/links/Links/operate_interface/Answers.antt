@@ -1,0 +1,33 @@
+use Rattle.all_links.proofs.Terms.{ap, sym, ◌∙◌, List, ℕ}
+use Rattle.tdi_ends.specs.Keepers.{Ended}
+use Rattle.all_links.specs.AllEnds.{IsThere}
+use Rattle.all_links.proofs.Asked.{is_there, operated_as}
+use Rattle.all_links.proofs.Sides.{nothing_asked, asked_beside}
+use Rattle.all_links.proofs.links.Links.operate_interface.Goals as goal
+
+pub operate_on-outcome-requires-clause-here : goal.operate_on-outcome-requires-clause-here
+operate_on-outcome-requires-clause-here c =
+    let x : IsThere c.args.self.now.ends c.in-Some.link c.in-Some.field-0-1 =
+    is_there c.args.self.now.keeper.interfaces c.args.self.now.ends c.args.number (c.in-Some.link, c.in-Some.field-0-1)
+    c.in-Some.ensures in
+    x.link_there
+
+pub returns-in-Some-clause-ends : goal.returns-in-Some-clause-ends
+returns-in-Some-clause-ends c =
+    operated_as c.args.self.now c.args.number (c.in-Some.link, c.in-Some.field-0-1) c.args.op c.args.loss
+    c.operate_on-outcome.result c.operate_on-outcome.new.self
+    c.operate_on-outcome.new.keeper c.only-in-Some.new.self c.only-in-Some.result c.new-none.result c.in-Some.ensures
+    c.operate_on-outcome.ensures
+    (c.only-in-Some.ensures.value ∙ c.asked_verdict.ensures)
+    (λ e same. c.new-none.ensures ∙ c.new.ensures.items ∙ sym (ap (λ (f : Ended → List ℕ). f e) c.requires.short))
+    c.only-in-Some.ensures.links c.requires.bounded
+
+pub returns-in-None-clause-sides : goal.returns-in-None-clause-sides
+returns-in-None-clause-sides c =
+    nothing_asked c.args.number c.args.op c.args.loss c.in-None.ensures c.only.ensures.links
+
+pub returns-in-Some-clause-sides : goal.returns-in-Some-clause-sides
+returns-in-Some-clause-sides c =
+    asked_beside c.args.self.now c.only-in-Some.new.self c.args.number (c.in-Some.link, c.in-Some.field-0-1) c.args.op
+    c.args.loss c.operate_on-outcome.result c.operate_on-outcome.new.self c.operate_on-outcome.new.keeper
+    c.in-Some.ensures c.operate_on-outcome.ensures c.only-in-Some.ensures.links

@@ -1,0 +1,107 @@
+use Rattle.all_links.proofs.Terms.{ℕ, List, Bool, true, Option, Some, ap, sym, ◌∙◌, ◌≡◌, if◌then◌else◌, slice_get}
+use Rattle.all_links.proofs.Terms.{same_Some, option_and_then, LinkEnds, Verdict}
+use Rattle.std.specs.Prelude.{IfSome}
+use Rattle.interface_words.specs.declared.register.Register.{Register}
+use Rattle.interface_words.specs.RegisterNames.{has_register}
+use Rattle.tdi_state.specs.Machine.{Tdi, WriteRegister}
+use Rattle.link_verdicts.specs.declared.verdict.Verdict.TheVariants as v
+use Rattle.interface_words.specs.declared.verdict.InterfaceVerdict.TheVariants as iv
+use Rattle.link_events.specs.declared.event.InterfaceEvent.TheVariants as ie
+use Rattle.all_links.specs.Interfaces.{written_as, code_behind, tdi_at}
+use Rattle.all_links.proofs.Finds.{as_answer, only_says}
+use Rattle.all_links.proofs.Asked.{if_some, is_found, is_there, called}
+use Rattle.all_links.proofs.Sides.{nothing_called, called_beside, not_called}
+use Rattle.all_links.proofs.links.Links.write.Goals as goal
+
+pub has_register-requires : goal.has_register-requires
+has_register-requires c =
+    record {
+      here = is_there c.args.self.now.keeper.interfaces c.args.self.now.ends c.args.number
+          (c.in-Some.link, c.in-Some.place) c.in-Some.ensures;
+    }
+
+pub write_register-state-requires-clause-here : goal.write_register-state-requires-clause-here
+write_register-state-requires-clause-here c =
+    is_there c.args.self.now.keeper.interfaces c.args.self.now.ends c.args.number (c.in-Some.link, c.in-Some.place)
+    c.in-Some.ensures
+
+pub returns-in-None-clause-ends : goal.returns-in-None-clause-ends
+returns-in-None-clause-ends c =
+    as_answer (ie.Write c.args.number c.args.register c.args.value)
+    (ap (λ (o : Option (ℕ × ℕ)). written_as c.args.number c.args.register c.args.value
+    (option_and_then (tdi_at c.args.self.now.ends) o)) c.in-None.ensures)
+    (only_says c.only.ensures.value c.only.ensures.links c.requires.bounded)
+
+-- whether it has the register
+module _ (ends : List LinkEnds) (at : ℕ × ℕ) (register : Register) (answer : Bool) where
+  has_it : (l : LinkEnds) (tdi : Tdi) → slice_get ends at.0 ≡ Some l → slice_get l.device.interfaces.interfaces at.1
+      ≡ Some tdi
+      → IfSome (slice_get ends at.0)
+      (λ (y : LinkEnds). IfSome (slice_get y.device.interfaces.interfaces at.1)
+      (λ (t : Tdi). answer ≡ has_register t.plan register))
+      → answer ≡ has_register tdi.plan register
+  has_it l tdi link_there tdi_there says =
+      if_some (λ (t : Tdi). answer ≡ has_register t.plan register) (slice_get l.device.interfaces.interfaces at.1) tdi
+      tdi_there
+      (if_some (λ (y : LinkEnds). IfSome (slice_get y.device.interfaces.interfaces at.1)
+      (λ (t : Tdi). answer ≡ has_register t.plan register)) (slice_get ends at.0) l link_there says)
+
+abbrev written_if : ℕ → Register → ℕ → Tdi → Bool → Verdict
+written_if n register value tdi b = if b then v.Interface
+    (iv.Written n (code_behind tdi (WriteRegister register value))) else v.Nothing
+
+pub returns-then-has_register-clause-ends : goal.returns-then-has_register-clause-ends
+returns-then-has_register-clause-ends c =
+    let n : ℕ = c.args.number in
+    let at : ℕ × ℕ = (c.in-Some.link, c.in-Some.place) in
+    let x = is_found c.args.self.now.keeper.interfaces c.args.self.now.ends n at c.in-Some.ensures in
+    let has : c.has_register.result ≡ has_register x.tdi.plan c.args.register =
+    has_it c.args.self.now.ends at c.args.register c.has_register.result x.ends_at x.tdi x.link_there x.tdi_there
+    c.has_register.ensures in
+    let y = called c.args.self.now n at (WriteRegister c.args.register c.args.value) c.write_register-state.result
+    c.write_register-state.new.self c.shows.new.self c.shows.result
+    (λ code. v.Interface (iv.Written n code)) c.in-Some.ensures c.write_register-state.ensures c.shows.ensures.value
+    c.shows.ensures.links c.requires.bounded in
+    let same : y.0 ≡ x.tdi = same_Some y.0 x.tdi (sym y.1 ∙ x.named_is) in
+    let test : has_register y.0.plan c.args.register ≡ true = ap (λ (t : Tdi). has_register t.plan c.args.register) same
+    ∙ sym has ∙ c.if-has_register.true in
+    as_answer (ie.Write n c.args.register c.args.value)
+    (sym (ap (λ (o : Option Tdi). written_as n c.args.register c.args.value o) y.1 ∙ ap
+    (λ (b : Bool). written_if n c.args.register c.args.value y.0 b) test)) y.2
+
+pub returns-else-has_register-clause-ends : goal.returns-else-has_register-clause-ends
+returns-else-has_register-clause-ends c =
+    let n : ℕ = c.args.number in
+    let at : ℕ × ℕ = (c.in-Some.link, c.in-Some.place) in
+    let x = is_found c.args.self.now.keeper.interfaces c.args.self.now.ends n at c.in-Some.ensures in
+    let has : c.has_register.result ≡ has_register x.tdi.plan c.args.register =
+    has_it c.args.self.now.ends at c.args.register c.has_register.result x.ends_at x.tdi x.link_there x.tdi_there
+    c.has_register.ensures in
+    as_answer (ie.Write n c.args.register c.args.value)
+    (sym (ap (λ (o : Option Tdi). written_as n c.args.register c.args.value o) x.named_is
+    ∙ ap (λ (b : Bool). written_if n c.args.register c.args.value x.tdi b) (sym has ∙ c.if-has_register.false)))
+    (only_says c.only-else-has_register.ensures.value c.only-else-has_register.ensures.links c.requires.bounded)
+
+pub returns-in-None-clause-sides : goal.returns-in-None-clause-sides
+returns-in-None-clause-sides c =
+    nothing_called c.args.number (λ tdi. has_register tdi.plan c.args.register)
+    (WriteRegister c.args.register c.args.value) c.in-None.ensures c.only.ensures.links
+
+pub returns-then-has_register-clause-sides : goal.returns-then-has_register-clause-sides
+returns-then-has_register-clause-sides c =
+    let at : ℕ × ℕ = (c.in-Some.link, c.in-Some.place) in
+    called_beside c.args.self.now c.shows.new.self c.args.number at (λ tdi. has_register tdi.plan c.args.register)
+    (WriteRegister c.args.register c.args.value) c.write_register-state.result c.write_register-state.new.self
+    c.in-Some.ensures
+    (λ l tdi link_there tdi_there. sym (has_it c.args.self.now.ends at c.args.register c.has_register.result l tdi
+    link_there tdi_there c.has_register.ensures) ∙ c.if-has_register.true)
+    c.write_register-state.ensures c.shows.ensures.links
+
+pub returns-else-has_register-clause-sides : goal.returns-else-has_register-clause-sides
+returns-else-has_register-clause-sides c =
+    let at : ℕ × ℕ = (c.in-Some.link, c.in-Some.place) in
+    not_called c.args.self.now c.only-else-has_register.new.self c.args.number at
+    (λ tdi. has_register tdi.plan c.args.register) (WriteRegister c.args.register c.args.value) c.in-Some.ensures
+    (λ l tdi link_there tdi_there. sym (has_it c.args.self.now.ends at c.args.register c.has_register.result l tdi
+    link_there tdi_there c.has_register.ensures) ∙ c.if-has_register.false)
+    c.only-else-has_register.ensures.links

@@ -1,0 +1,72 @@
+//! What operations on interfaces come to, as verdicts.
+
+ghost use Rattle.std.specs.Prelude.{◌≡◌};
+ghost use Rattle.interface_joins.specs.Verdicts.{view_shown, shown_as, refused_as, asked_as};
+
+use crate::stream_verdicts::lost_verdict;
+use ide_types::Bytes;
+use interface_words::{InterfaceVerdict, View};
+use link_events::Loss;
+use link_verdicts::Verdict;
+use tdi_host::{Outcome, Refusal, Shown};
+
+/// The manager's view.
+pub fn view_shown(view: tdi_host::View) -> View
+    ensures { result ≡ view_shown view }
+{
+    match view {
+        tdi_host::View::Unlocked => View::Unlocked,
+        tdi_host::View::Locked => View::Locked,
+        tdi_host::View::Running => View::Running,
+        tdi_host::View::Doubt => View::Doubt,
+        tdi_host::View::Broken => View::Broken,
+    }
+}
+
+fn of_interface(verdict: InterfaceVerdict) -> Verdict
+    ensures { result ≡ Verdict.Interface verdict }
+{
+    Verdict::Interface { verdict }
+}
+
+// What an operation on an interface shows at its end; a report that was read is this one.
+fn shown(interface: u8, shown: Shown, report: Bytes) -> Verdict
+    ensures { result ≡ shown_as interface report shown }
+{
+    of_interface(match shown {
+        Shown::Nonce(nonce) => InterfaceVerdict::Locked { interface, nonce },
+        Shown::Report => InterfaceVerdict::Reported { interface, report },
+        Shown::Draw(draw) => InterfaceVerdict::Started { interface, draw },
+        Shown::Needs(needs) => InterfaceVerdict::Halted { interface, needs },
+        Shown::State(state) => InterfaceVerdict::State { interface, state },
+    })
+}
+
+fn refused(loss: Option<Loss>, refusal: Refusal) -> Verdict
+    ensures { result ≡ refused_as loss refusal }
+{
+    match refusal {
+        Refusal::WrongState(view) => of_interface(InterfaceVerdict::RefusedWrongState {
+            view: view_shown(view),
+        }),
+        Refusal::NotReported => of_interface(InterfaceVerdict::RefusedNotReported),
+        Refusal::NotSecure(status) => Verdict::RefusedNotSecure { status },
+        Refusal::RefreshFirst(draw, needed) => {
+            of_interface(InterfaceVerdict::RefusedRefreshFirst { draw, needed })
+        }
+        Refusal::SessionLost(exchange) => lost_verdict(loss, exchange),
+        Refusal::DeviceRefused(exchange, code) => Verdict::RefusedDevice { exchange, code },
+        Refusal::BadReply(_) => Verdict::Nothing,
+    }
+}
+
+/// The verdict of an operation on the interface of this number; a report that was read is this one.
+pub fn asked_verdict(interface: u8, loss: Option<Loss>, outcome: Outcome, report: Bytes) -> Verdict
+    ensures { result ≡ asked_as interface loss report outcome }
+{
+    match outcome {
+        Outcome::Next => Verdict::Nothing,
+        Outcome::Done(value) => shown(interface, value, report),
+        Outcome::Refused(refusal) => refused(loss, refusal),
+    }
+}

@@ -1,0 +1,666 @@
+//! All links, event by event.
+
+ghost use Rattle.std.specs.Prelude.{◌≡◌, ◌+◌, ◌<◌, ◌≤◌, ◌^◌, ℕ, Some, None, [], IfOk, OnOk, IsSome, Vec, option_map};
+ghost use Rattle.std.specs.Prelude.{length, nat_lt};
+ghost use Rattle.std.specs.declared.alloc.Global.{Global};
+ghost use Rattle.ide_plan.specs.Fits.{FitsPlan};
+ghost use Rattle.link_events.specs.Spells.{IsAllowed};
+ghost use Rattle.link_events.specs.Interfaces.{IsAllowedInterface};
+ghost use Rattle.interface_words.specs.RegisterNames.{width_of};
+ghost use Rattle.link_ports.specs.Machine.{step_of, arrive as arrive_step};
+ghost use Rattle.tsm_host.specs.Managers.{named};
+ghost use Rattle.all_links.specs.Events.{altered_bytes, stream_named, operation_event};
+
+use crate::all_ends::AllEnds;
+use crate::interface_verdicts::{asked_verdict, view_shown};
+use crate::packets::Packets;
+use crate::stream_verdicts::{named_op, operated_verdict};
+use crate::verdicts::{partner, send_verdict};
+use ide_plan::Plan;
+use ide_port::Sent;
+use ide_types::{Bytes, Memory, PortName};
+use interface_words::{InterfaceVerdict, Register};
+use link_ends::HostKeeper;
+use link_events::{Event, InterfaceEvent, Loss};
+use link_verdicts::{Operation, Verdict};
+use std::alloc::Global;
+use tdi_host::InterfaceOp;
+use trusted_memory::Trusted;
+
+/// The ends of all links, the manager, the packets that were sealed, trusted memory, and how many events came.
+#[derive(Drop)]
+pub struct Links {
+    pub ends: AllEnds,
+    pub keeper: HostKeeper,
+    pub packets: Packets,
+    pub trusted: Trusted,
+    pub steps: u64,
+}
+
+/// The most pages that a unit's writes go to: it has at most 8 packets, each in one page.
+const MOST_PAGES: u8 = 8;
+
+/// The most bytes of a report.
+const MOST_REPORT: usize = 1_140;
+
+// ---- packets
+
+// A copy of the bytes, with the one at `at` combined with `mask`; `None` where they end before it.
+fn altered(alloc: Global, bytes: &[u8], at: u64, mask: u8) -> Result<Option<Vec<u8>>, Memory>
+    ensures { IfOk result (λ o. option_map (λ (v : Vec ℕ Global). v.items) o ≡ altered_bytes at mask bytes.now) }
+{
+    if at < bytes.len() as u64 {
+        let mut copy = Vec::from_slice(alloc, bytes)?;
+        copy[at as usize] ^= mask;
+        Ok(Some(copy))
+    } else {
+        Ok(None)
+    }
+}
+
+impl Links {
+    ghost use Rattle.all_links.specs.States.{IsBounded};
+    ghost use Rattle.all_links.specs.Links.{IsFirst, EndsWith, EndsOr};
+    ghost use Rattle.all_links.specs.Sides.{SidesKeep, SidesArrive, SidesOperate, SidesReset, SidesAsk, SidesCall};
+    ghost use Rattle.all_links.specs.Sides.{SidesInterface, Sides, arrival_at};
+    ghost use Rattle.all_links.specs.Besides.{beside_in};
+    ghost use Rattle.all_links.specs.Interfaces.{interface_named, asked_in, ended_in};
+    ghost use Rattle.interface_joins.specs.Verdicts.{report_of, op_event};
+
+    /// The links of the plan before the first event: no stream has keys, no interface is locked, and memory is 0.
+    pub fn make(alloc: Global, plan: &Plan) -> Result<Links, Memory>
+        requires { FitsPlan plan.now }
+        ensures { IfOk result (λ s. IsFirst plan.now s) }
+    {
+        let ends = AllEnds::make(alloc, plan)?;
+        let keeper = HostKeeper::make(alloc, plan)?;
+        let trusted = Trusted::make(alloc, plan.memory.as_slice())?;
+        let packets = Packets::new(alloc);
+        Ok(Links {
+            ends,
+            keeper,
+            packets,
+            trusted,
+            steps: 0,
+        })
+    }
+
+    // A verdict that changes nothing.
+    fn only(&mut self, verdict: Verdict) -> Verdict
+        requires { self.old.steps < 2 ^ 28 }
+        ensures value { result ≡ verdict }
+        ensures links { self.new ≡ record self.old { steps = self.old.steps + 1 } }
+    {
+        self.steps += 1;
+        verdict
+    }
+
+    fn has_link(&self, link: u64) -> bool
+        ensures { result ≡ nat_lt link (length self.now.ends) }
+    {
+        link < self.ends.count() as u64
+    }
+
+    // ---- sends
+
+    // Takes room for what one send seals.
+    fn reserve_packets(&mut self) -> Result<(), Memory>
+        ensures links { self.new ≡ record self.old { packets = self.new.packets } }
+        ensures packets { self.new.packets.packets ≡ self.old.packets.packets }
+        ensures marks { OnOk result (3 ≤ self.new.packets.mark_room) }
+        ensures bytes { OnOk result (4184 ≤ self.new.packets.byte_room) }
+    {
+        self.packets.reserve()
+    }
+
+    fn send(
+        &mut self,
+        port: PortName,
+        bytes: &[u8],
+        trusted: bool,
+        more: bool,
+    ) -> Result<Verdict, Memory>
+        requires steps { self.old.steps < 2 ^ 28 }
+        requires bounded { IsBounded self.old.ends self.old.packets.packets self.old.steps }
+        ensures ends { EndsOr result self.old self.new
+            (λ plan st. step_of plan (beside_in self.old) st (Event.Send port bytes.now more trusted)) }
+        ensures sides { IfOk result (λ v. SidesKeep self.old self.new) }
+    {
+        if !self.has_link(port.link as u64) {
+            return Ok(self.only(Verdict::Nothing));
+        }
+        self.reserve_packets()?;
+        Ok(self.seal(port, bytes, trusted, more))
+    }
+
+    // A send at a port that there is; there is room for what it seals.
+    fn seal(&mut self, port: PortName, bytes: &[u8], trusted: bool, more: bool) -> Verdict
+        requires steps { self.old.steps < 2 ^ 28 }
+        requires bounded { IsBounded self.old.ends self.old.packets.packets self.old.steps }
+        requires here { port.link < length self.old.ends }
+        requires marks { 3 ≤ self.old.packets.mark_room }
+        requires bytes_room { 4184 ≤ self.old.packets.byte_room }
+        ensures ends { EndsWith result self.old self.new
+            (λ plan st. step_of plan (beside_in self.old) st (Event.Send port bytes.now more trusted)) }
+        ensures sides { SidesKeep self.old self.new }
+    {
+        let number = self.packets.count() as u64 + 1;
+        let sent = self.ends.send(port, bytes, trusted, more);
+        if let Sent::Sealed(sealed) = &sent {
+            self.packets
+                .keep(port, sealed.as_slice(), self.ends.packets(port));
+        }
+        self.steps += 1;
+        send_verdict(port, number, &sent)
+    }
+
+    // ---- arrivals
+
+    // Bytes that come to a port that there is.
+    fn arrive_at(&mut self, port: PortName, bytes: &[u8]) -> Verdict
+        requires room { 8 ≤ self.old.trusted.spare }
+        requires steps { self.old.steps < 2 ^ 28 }
+        requires bounded { IsBounded self.old.ends self.old.packets.packets self.old.steps }
+        requires here { port.link < length self.old.ends }
+        ensures ends { EndsWith result self.old self.new
+            (λ plan st. arrive_step plan (beside_in self.old) st (Some (record { port = port; bytes = bytes.now }))) }
+        ensures sides { SidesArrive (λ plan st. Some (record { port = port; bytes = bytes.now })) result self.old
+            self.new }
+    {
+        let keeper = &self.keeper.interfaces;
+        let verdict = self.ends.arrive(port, bytes, keeper, &mut self.trusted);
+        self.steps += 1;
+        verdict
+    }
+
+    fn arrive(&mut self, port: PortName, bytes: &[u8]) -> Verdict
+        requires room { 8 ≤ self.old.trusted.spare }
+        requires steps { self.old.steps < 2 ^ 28 }
+        requires bounded { IsBounded self.old.ends self.old.packets.packets self.old.steps }
+        ensures ends { EndsWith result self.old self.new
+            (λ plan st. step_of plan (beside_in self.old) st (Event.Arrive port bytes.now)) }
+        ensures sides { SidesArrive (arrival_at (Event.Arrive port bytes.now)) result self.old self.new }
+    {
+        if !self.has_link(port.link as u64) {
+            return self.only(Verdict::Nothing);
+        }
+        self.arrive_at(port, bytes)
+    }
+
+    fn pass(&mut self, packet: u64) -> Verdict
+        requires room { 8 ≤ self.old.trusted.spare }
+        requires steps { self.old.steps < 2 ^ 28 }
+        requires bounded { IsBounded self.old.ends self.old.packets.packets self.old.steps }
+        ensures ends { EndsWith result self.old self.new
+            (λ plan st. step_of plan (beside_in self.old) st (Event.Pass packet)) }
+        ensures sides { SidesArrive (arrival_at (Event.Pass packet)) result self.old self.new }
+    {
+        match self.packets.get(packet) {
+            None => self.only(Verdict::Nothing),
+            Some((port, bytes)) => {
+                let keeper = &self.keeper.interfaces;
+                let port = partner(port);
+                let verdict = self.ends.arrive(port, bytes, keeper, &mut self.trusted);
+                self.steps += 1;
+                verdict
+            }
+        }
+    }
+
+    fn alter(&mut self, alloc: Global, packet: u64, at: u64, mask: u8) -> Result<Verdict, Memory>
+        requires room { 8 ≤ self.old.trusted.spare }
+        requires steps { self.old.steps < 2 ^ 28 }
+        requires bounded { IsBounded self.old.ends self.old.packets.packets self.old.steps }
+        ensures ends { EndsOr result self.old self.new
+            (λ plan st. step_of plan (beside_in self.old) st (Event.Alter packet at mask)) }
+        ensures sides { IfOk result (λ v. SidesArrive (arrival_at (Event.Alter packet at mask)) v self.old self.new) }
+    {
+        match self.packets.get(packet) {
+            None => Ok(self.only(Verdict::Nothing)),
+            Some((port, bytes)) => match altered(alloc, bytes, at, mask)? {
+                None => Ok(self.only(Verdict::Nothing)),
+                Some(bytes) => Ok(self.arrive_at(partner(port), &bytes)),
+            },
+        }
+    }
+
+    fn cut_short(&mut self, packet: u64, length: u64) -> Verdict
+        requires room { 8 ≤ self.old.trusted.spare }
+        requires steps { self.old.steps < 2 ^ 28 }
+        requires bounded { IsBounded self.old.ends self.old.packets.packets self.old.steps }
+        ensures ends { EndsWith result self.old self.new
+            (λ plan st. step_of plan (beside_in self.old) st (Event.Cut packet length)) }
+        ensures sides { SidesArrive (arrival_at (Event.Cut packet length)) result self.old self.new }
+    {
+        match self.packets.get(packet) {
+            None => self.only(Verdict::Nothing),
+            Some((port, bytes)) => {
+                if length <= bytes.len() as u64 {
+                    let keeper = &self.keeper.interfaces;
+                    let port = partner(port);
+                    let bytes = &bytes[..length as usize];
+                    let verdict = self.ends.arrive(port, bytes, keeper, &mut self.trusted);
+                    self.steps += 1;
+                    verdict
+                } else {
+                    self.only(Verdict::Nothing)
+                }
+            }
+        }
+    }
+
+    fn dump(&mut self, alloc: Global, packet: u64) -> Result<Verdict, Memory>
+        requires steps { self.old.steps < 2 ^ 28 }
+        requires bounded { IsBounded self.old.ends self.old.packets.packets self.old.steps }
+        ensures ends { EndsOr result self.old self.new
+            (λ plan st. step_of plan (beside_in self.old) st (Event.Dump packet)) }
+        ensures sides { IfOk result (λ v. SidesKeep self.old self.new) }
+    {
+        match self.packets.get(packet) {
+            None => Ok(self.only(Verdict::Nothing)),
+            Some((_, bytes)) => {
+                let bytes = Bytes::copied(alloc, bytes)?;
+                Ok(self.only(Verdict::Packet { packet, bytes }))
+            }
+        }
+    }
+
+    // ---- arrivals that take the pages of what they may write first
+
+    // Takes what the writes of one unit may need.
+    fn reserve_pages(&mut self) -> Result<(), Memory>
+        ensures links { self.new ≡ record self.old { trusted = self.new.trusted } }
+        ensures contents { self.new.trusted.contents ≡ self.old.trusted.contents }
+        ensures room { OnOk result (8 ≤ self.new.trusted.spare) }
+    {
+        self.trusted.spare(MOST_PAGES)
+    }
+
+    fn arrive_event(&mut self, port: PortName, bytes: &[u8]) -> Result<Verdict, Memory>
+        requires steps { self.old.steps < 2 ^ 28 }
+        requires bounded { IsBounded self.old.ends self.old.packets.packets self.old.steps }
+        ensures ends { EndsOr result self.old self.new
+            (λ plan st. step_of plan (beside_in self.old) st (Event.Arrive port bytes.now)) }
+        ensures sides { IfOk result (λ v. SidesArrive (arrival_at (Event.Arrive port bytes.now)) v self.old self.new) }
+    {
+        self.reserve_pages()?;
+        Ok(self.arrive(port, bytes))
+    }
+
+    fn pass_event(&mut self, packet: u64) -> Result<Verdict, Memory>
+        requires steps { self.old.steps < 2 ^ 28 }
+        requires bounded { IsBounded self.old.ends self.old.packets.packets self.old.steps }
+        ensures ends { EndsOr result self.old self.new
+            (λ plan st. step_of plan (beside_in self.old) st (Event.Pass packet)) }
+        ensures sides { IfOk result (λ v. SidesArrive (arrival_at (Event.Pass packet)) v self.old self.new) }
+    {
+        self.reserve_pages()?;
+        Ok(self.pass(packet))
+    }
+
+    fn alter_event(
+        &mut self,
+        alloc: Global,
+        packet: u64,
+        at: u64,
+        mask: u8,
+    ) -> Result<Verdict, Memory>
+        requires steps { self.old.steps < 2 ^ 28 }
+        requires bounded { IsBounded self.old.ends self.old.packets.packets self.old.steps }
+        ensures ends { EndsOr result self.old self.new
+            (λ plan st. step_of plan (beside_in self.old) st (Event.Alter packet at mask)) }
+        ensures sides { IfOk result (λ v. SidesArrive (arrival_at (Event.Alter packet at mask)) v self.old self.new) }
+    {
+        self.reserve_pages()?;
+        self.alter(alloc, packet, at, mask)
+    }
+
+    fn cut_event(&mut self, packet: u64, length: u64) -> Result<Verdict, Memory>
+        requires steps { self.old.steps < 2 ^ 28 }
+        requires bounded { IsBounded self.old.ends self.old.packets.packets self.old.steps }
+        ensures ends { EndsOr result self.old self.new
+            (λ plan st. step_of plan (beside_in self.old) st (Event.Cut packet length)) }
+        ensures sides { IfOk result (λ v. SidesArrive (arrival_at (Event.Cut packet length)) v self.old self.new) }
+    {
+        self.reserve_pages()?;
+        Ok(self.cut_short(packet, length))
+    }
+
+    // ---- operations, resets and states
+
+    // The link and the stream by their numbers, where there is such a stream.
+    fn named(&self, link: u64, stream: u64) -> Option<(u8, u8)>
+        requires { length self.now.ends ≤ 8 }
+        ensures { result ≡ stream_named self.now.keeper.keys.manager (length self.now.ends) link stream }
+    {
+        if !self.has_link(link) {
+            return None;
+        }
+        if stream > 255 {
+            return None;
+        }
+        if !self.keeper.keys.has_stream(link as u8, stream as u8) {
+            return None;
+        }
+        Some((link as u8, stream as u8))
+    }
+
+    fn operate(
+        &mut self,
+        operation: Operation,
+        link: u64,
+        stream: u64,
+        loss: Option<Loss>,
+    ) -> Verdict
+        requires steps { self.old.steps < 2 ^ 28 }
+        requires bounded { IsBounded self.old.ends self.old.packets.packets self.old.steps }
+        ensures ends { EndsWith result self.old self.new
+            (λ plan st. step_of plan (beside_in self.old) st (operation_event operation link stream loss)) }
+        ensures sides { SidesOperate operation link stream result self.old self.new }
+    {
+        match self.named(link, stream) {
+            None => self.only(Verdict::Nothing),
+            Some((link, stream)) => self.operate_on(operation, link, stream, loss),
+        }
+    }
+
+    // An operation on a stream that there is.
+    fn operate_on(
+        &mut self,
+        operation: Operation,
+        link: u8,
+        stream: u8,
+        loss: Option<Loss>,
+    ) -> Verdict
+        requires steps { self.old.steps < 2 ^ 28 }
+        requires bounded { IsBounded self.old.ends self.old.packets.packets self.old.steps }
+        requires here { link < length self.old.ends }
+        requires stream { IsSome (named self.old.keeper.keys.manager link stream) }
+        ensures ends { EndsWith result self.old self.new
+            (λ plan st. step_of plan (beside_in self.old) st (operation_event operation link stream loss)) }
+        ensures sides { SidesOperate operation link stream result self.old self.new }
+    {
+        link_walks::operations_join();
+        let op = named_op(operation, link, stream);
+        let outcome = self.ends.operate(link, &mut self.keeper, op, loss);
+        self.steps += 1;
+        operated_verdict(operation, link, stream, loss, outcome)
+    }
+
+    fn reset(&mut self, link: u64) -> Verdict
+        requires steps { self.old.steps < 2 ^ 28 }
+        requires bounded { IsBounded self.old.ends self.old.packets.packets self.old.steps }
+        ensures ends { EndsWith result self.old self.new
+            (λ plan st. step_of plan (beside_in self.old) st (Event.Reset link)) }
+        ensures sides { SidesReset link self.old self.new }
+    {
+        if !self.has_link(link) {
+            return self.only(Verdict::Nothing);
+        }
+        let link = link as u8;
+        self.ends.reset(link);
+        self.keeper.link_reset(link);
+        self.steps += 1;
+        Verdict::Reset { link }
+    }
+
+    fn status(&mut self, link: u64, stream: u64) -> Verdict
+        requires steps { self.old.steps < 2 ^ 28 }
+        requires bounded { IsBounded self.old.ends self.old.packets.packets self.old.steps }
+        ensures ends { EndsWith result self.old self.new
+            (λ plan st. step_of plan (beside_in self.old) st (Event.Status link stream)) }
+        ensures sides { SidesKeep self.old self.new }
+    {
+        match self.named(link, stream) {
+            None => self.only(Verdict::Nothing),
+            Some((link, stream)) => match self.ends.status(link, stream) {
+                None => self.only(Verdict::Nothing),
+                Some((host, device)) => self.only(Verdict::Status {
+                    link,
+                    stream,
+                    host,
+                    device,
+                }),
+            },
+        }
+    }
+
+    // ---- interfaces
+
+    fn shows(&mut self, verdict: InterfaceVerdict) -> Verdict
+        requires { self.old.steps < 2 ^ 28 }
+        ensures value { result ≡ Verdict.Interface verdict }
+        ensures links { self.new ≡ record self.old { steps = self.old.steps + 1 } }
+    {
+        self.only(Verdict::Interface { verdict })
+    }
+
+    // The link and the place on it of the interface of a number, where there is one.
+    fn interface(&self, number: u64) -> Option<(u8, usize)>
+        requires { length self.now.ends ≤ 8 }
+        ensures { result ≡ interface_named self.now.keeper.interfaces self.now.ends number }
+    {
+        if number >= self.keeper.interfaces.manager().count() as u64 {
+            return None;
+        }
+        if number > 255 {
+            return None;
+        }
+        self.ends.interface(number)
+    }
+
+    // An operation that reads no report.
+    fn operate_interface(
+        &mut self,
+        alloc: Global,
+        op: InterfaceOp,
+        number: u64,
+        loss: Option<Loss>,
+    ) -> Verdict
+        requires steps { self.old.steps < 2 ^ 28 }
+        requires bounded { IsBounded self.old.ends self.old.packets.packets self.old.steps }
+        requires short { report_of op ≡ (λ e. []) }
+        ensures ends { let answer = asked_in number op loss (ended_in self.old.keeper.interfaces self.old.ends
+            self.old.keeper.keys.pool.draws number op loss) in
+            EndsWith result self.old self.new (λ plan st. (answer, st)) }
+        ensures sides { SidesAsk number op loss self.old self.new }
+    {
+        match self.interface(number) {
+            None => self.only(Verdict::Nothing),
+            Some((link, _)) => {
+                let interface = number as usize;
+                let outcome = self
+                    .ends
+                    .operate_on(link, &mut self.keeper, interface, op, loss);
+                let none = Bytes::new(Vec::new(alloc));
+                self.only(asked_verdict(number as u8, loss, outcome, none))
+            }
+        }
+    }
+
+    // Reads a report; the room for the longest is taken first.
+    fn report(&mut self, alloc: Global, number: u64, loss: Option<Loss>) -> Result<Verdict, Memory>
+        requires steps { self.old.steps < 2 ^ 28 }
+        requires bounded { IsBounded self.old.ends self.old.packets.packets self.old.steps }
+        ensures ends { let op = InterfaceOp.Report in let answer = asked_in number op loss (ended_in
+            self.old.keeper.interfaces self.old.ends self.old.keeper.keys.pool.draws number op loss) in
+            EndsOr result self.old self.new (λ plan st. (answer, st)) }
+        ensures sides { IfOk result (λ v. SidesAsk number InterfaceOp.Report loss self.old self.new) }
+    {
+        match self.interface(number) {
+            None => Ok(self.only(Verdict::Nothing)),
+            Some((link, _)) => {
+                let mut report = Vec::with_capacity(alloc, MOST_REPORT)?;
+                let interface = number as usize;
+                let op = InterfaceOp::Report;
+                let outcome = self
+                    .ends
+                    .operate_on(link, &mut self.keeper, interface, op, loss);
+                report
+                    .extend_from_slice(self.keeper.interfaces.manager().report())
+                    .unwrap();
+                let report = Bytes::new(report);
+                Ok(self.only(asked_verdict(number as u8, loss, outcome, report)))
+            }
+        }
+    }
+
+    fn view(&mut self, number: u64) -> Verdict
+        requires steps { self.old.steps < 2 ^ 28 }
+        requires bounded { IsBounded self.old.ends self.old.packets.packets self.old.steps }
+        ensures ends { EndsWith result self.old self.new
+            (λ plan st. step_of plan (beside_in self.old) st (Event.Interface (InterfaceEvent.View number))) }
+        ensures sides { SidesKeep self.old self.new }
+    {
+        match self.interface(number) {
+            None => self.only(Verdict::Nothing),
+            Some(_) => {
+                let interface = number as u8;
+                let view = view_shown(self.keeper.interfaces.manager().view(number as usize));
+                self.shows(InterfaceVerdict::View { interface, view })
+            }
+        }
+    }
+
+    fn write(&mut self, number: u64, register: Register, value: u64) -> Verdict
+        requires steps { self.old.steps < 2 ^ 28 }
+        requires bounded { IsBounded self.old.ends self.old.packets.packets self.old.steps }
+        requires width { value < 2 ^ width_of register }
+        ensures ends { EndsWith result self.old self.new (λ plan st.
+            step_of plan (beside_in self.old) st (Event.Interface (InterfaceEvent.Write number register value))) }
+        ensures sides { SidesInterface (InterfaceEvent.Write number register value) self.old self.new }
+    {
+        match self.interface(number) {
+            None => self.only(Verdict::Nothing),
+            Some((link, place)) => {
+                if self.ends.has_register(link, place, register) {
+                    let interface = number as u8;
+                    let state = self.ends.write_register(link, place, register, value);
+                    self.shows(InterfaceVerdict::Written { interface, state })
+                } else {
+                    self.only(Verdict::Nothing)
+                }
+            }
+        }
+    }
+
+    fn flr(&mut self, number: u64) -> Verdict
+        requires steps { self.old.steps < 2 ^ 28 }
+        requires bounded { IsBounded self.old.ends self.old.packets.packets self.old.steps }
+        ensures ends { EndsWith result self.old self.new
+            (λ plan st. step_of plan (beside_in self.old) st (Event.Interface (InterfaceEvent.Flr number))) }
+        ensures sides { SidesInterface (InterfaceEvent.Flr number) self.old self.new }
+    {
+        match self.interface(number) {
+            None => self.only(Verdict::Nothing),
+            Some((link, place)) => {
+                let interface = number as u8;
+                let state = self.ends.flr(link, place);
+                self.shows(InterfaceVerdict::Flr { interface, state })
+            }
+        }
+    }
+
+    fn firmware(&mut self, number: u64) -> Verdict
+        requires steps { self.old.steps < 2 ^ 28 }
+        requires bounded { IsBounded self.old.ends self.old.packets.packets self.old.steps }
+        ensures ends { EndsWith result self.old self.new
+            (λ plan st. step_of plan (beside_in self.old) st (Event.Interface (InterfaceEvent.Firmware number))) }
+        ensures sides { SidesInterface (InterfaceEvent.Firmware number) self.old self.new }
+    {
+        match self.interface(number) {
+            None => self.only(Verdict::Nothing),
+            Some((link, place)) => {
+                let interface = number as u8;
+                let state = self.ends.firmware(link, place);
+                self.shows(InterfaceVerdict::Firmware { interface, state })
+            }
+        }
+    }
+
+    // Bytes of trusted memory, where one region has them all.
+    fn memory(&mut self, alloc: Global, address: u64, length: u64) -> Result<Verdict, Memory>
+        requires steps { self.old.steps < 2 ^ 28 }
+        requires bounded { IsBounded self.old.ends self.old.packets.packets self.old.steps }
+        ensures ends { EndsOr result self.old self.new (λ plan st.
+            step_of plan (beside_in self.old) st (Event.Interface (InterfaceEvent.Memory address length))) }
+        ensures sides { IfOk result (λ v. SidesKeep self.old self.new) }
+    {
+        let mut bytes = vec![in alloc; 0; length as usize]?;
+        if self.trusted.peek(address, &mut bytes) {
+            let bytes = Bytes::new(bytes);
+            Ok(self.shows(InterfaceVerdict::Memory { bytes }))
+        } else {
+            Ok(self.only(Verdict::Nothing))
+        }
+    }
+
+    fn ask(&mut self, alloc: Global, event: &InterfaceEvent) -> Result<Verdict, Memory>
+        requires steps { self.old.steps < 2 ^ 28 }
+        requires bounded { IsBounded self.old.ends self.old.packets.packets self.old.steps }
+        requires allowed { IsAllowedInterface event.now }
+        ensures ends { EndsOr result self.old self.new
+            (λ plan st. step_of plan (beside_in self.old) st (Event.Interface event.now)) }
+        ensures sides { IfOk result (λ v. SidesInterface event.now self.old self.new) }
+    {
+        match event {
+            InterfaceEvent::Lock { interface, lose } => {
+                Ok(self.operate_interface(alloc, InterfaceOp::Lock, *interface, *lose))
+            }
+            InterfaceEvent::Report { interface, lose } => self.report(alloc, *interface, *lose),
+            InterfaceEvent::Start { interface, lose } => {
+                Ok(self.operate_interface(alloc, InterfaceOp::Start, *interface, *lose))
+            }
+            InterfaceEvent::Halt { interface, lose } => {
+                Ok(self.operate_interface(alloc, InterfaceOp::Halt, *interface, *lose))
+            }
+            InterfaceEvent::State { interface, lose } => {
+                Ok(self.operate_interface(alloc, InterfaceOp::State, *interface, *lose))
+            }
+            InterfaceEvent::View { interface } => Ok(self.view(*interface)),
+            InterfaceEvent::Write {
+                interface,
+                register,
+                value,
+            } => Ok(self.write(*interface, *register, *value)),
+            InterfaceEvent::Flr { interface } => Ok(self.flr(*interface)),
+            InterfaceEvent::Firmware { interface } => Ok(self.firmware(*interface)),
+            InterfaceEvent::Memory { address, length } => self.memory(alloc, *address, *length),
+        }
+    }
+
+    /// The verdict of an event, and what it makes of the links. For want of memory nothing changes.
+    pub fn answer(&mut self, alloc: Global, event: &Event) -> Result<Verdict, Memory>
+        requires steps { self.old.steps < 2 ^ 28 }
+        requires bounded { IsBounded self.old.ends self.old.packets.packets self.old.steps }
+        requires allowed { IsAllowed event.now }
+        ensures ends { EndsOr result self.old self.new (λ plan st. step_of plan (beside_in self.old) st event.now) }
+        ensures sides { IfOk result (λ v. Sides event.now v self.old self.new) }
+    {
+        match event {
+            Event::Send {
+                port,
+                bytes,
+                more,
+                trusted,
+            } => self.send(*port, bytes.as_slice(), *trusted, *more),
+            Event::Pass { packet } => self.pass_event(*packet),
+            Event::Alter { packet, at, mask } => self.alter_event(alloc, *packet, *at, *mask),
+            Event::Cut { packet, length } => self.cut_event(*packet, *length),
+            Event::Arrive { port, bytes } => self.arrive_event(*port, bytes.as_slice()),
+            Event::Dump { packet } => self.dump(alloc, *packet),
+            Event::Establish { link, stream, lose } => {
+                Ok(self.operate(Operation::Establish, *link, *stream, *lose))
+            }
+            Event::Refresh { link, stream, lose } => {
+                Ok(self.operate(Operation::Refresh, *link, *stream, *lose))
+            }
+            Event::Stop { link, stream, lose } => {
+                Ok(self.operate(Operation::Stop, *link, *stream, *lose))
+            }
+            Event::Reset { link } => Ok(self.reset(*link)),
+            Event::Status { link, stream } => Ok(self.status(*link, *stream)),
+            Event::Interface { event } => self.ask(alloc, event),
+        }
+    }
+}

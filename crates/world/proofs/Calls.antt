@@ -1,0 +1,685 @@
+-- An event on one interface changes that one alone, at its device and at the manager (`one_beside`): no other site has
+-- its number, no other interface its place, and only a lock that it accepts takes a nonce. What it binds an interface
+-- to is the stream of the topology, and that is Secure (`asked_binds`). A write, a level reset and a firmware update
+-- call the device's interface where the machine applies them, and the manager keeps what it kept.
+use Rattle.std.proofs.Common.{◌≡◌, ℕ, suc, zero, ◌+◌, ◌≤◌, ◌==◌, ◌&&◌, ◌||◌, Bool, true, false, List, [], ◌∷◌}
+use Rattle.std.proofs.Common.{length, refl, ap, sym, ◌∙◌, subst, arith, Option, Some, Result, Ok, Err, inl, inr}
+use Rattle.std.proofs.Common.{◌⊎◌, ⊎_elim}
+use Rattle.std.specs.Prelude.{slice_get, slice_set, if◌then◌else◌, IfSome}
+use Rattle.std.specs.List.{list_any}
+use Rattle.std.specs.Str.{bytes_eq}
+use Rattle.std.proofs.lemmas.Bool.{cases_Bool, cases_lt, eq-eqb, ne_eqb}
+use Rattle.std.proofs.lemmas.Bool.Decides.{nat_tests}
+use Rattle.std.proofs.lemmas.List.{length-set}
+use Rattle.std.proofs.lemmas.Option.{none-some, same_Some, slice_get_within}
+use Rattle.ide_plan.specs.declared.plan.Plan.{Plan}
+use Rattle.ide_plan.specs.declared.interface.InterfacePlan.{InterfacePlan}
+use Rattle.interface_words.specs.declared.register.Register.{Register}
+use Rattle.interface_words.specs.RegisterNames.{has_register}
+use Rattle.link_events.specs.declared.event.Event.TheVariants as event
+use Rattle.link_events.specs.declared.event.InterfaceEvent.{InterfaceEvent}
+use Rattle.link_events.specs.declared.event.InterfaceEvent.TheVariants as ie
+use Rattle.link_verdicts.specs.declared.verdict.Verdict.{Verdict}
+use Rattle.link_verdicts.specs.declared.verdict.Verdict.TheVariants as v
+use Rattle.interface_words.specs.declared.verdict.InterfaceVerdict.TheVariants as iv
+use Rattle.tdi_state.specs.declared.states.Lock.{Lock}
+use Rattle.tdi_state.specs.declared.states.TdiState.{TdiState}
+use Rattle.tdi_state.specs.declared.states.TdiState.TheVariants.{ConfigUnlocked, ConfigLocked, Run, Error}
+use Rattle.tdi_state.specs.RegisterValues.{has_bit, changes_listed}
+use Rattle.tdi_state.specs.Machine.{Tdi, bound_stream, lock_flags, lock_answer, new_lock, locked_with}
+use Rattle.tdi_state.specs.Machine.{after_start, after_failure, after_change, Call, LockInterface, StartInterface}
+use Rattle.tdi_state.specs.Machine.{StopInterface, WriteRegister, LevelReset, FirmwareUpdate, StreamLeft, LinkReset}
+use Rattle.tdi_state.specs.Machine.{tdi_after}
+use Rattle.interface_states.specs.Exchanges.{carries, is_applied}
+use Rattle.interface_states.specs.Sites.{Site, sites}
+use Rattle.interface_states.specs.Views.{Managed, is_number, number_in, on_operation}
+use Rattle.interface_states.specs.Devices.{Around, called, lock_call, asked, accepts_lock, one_if}
+use Rattle.interface_states.specs.Due.{Standing, asked_due}
+use Rattle.interface_machine.specs.Machine.{Face, Streams, around_of, face_after, gives_nonce}
+use Rattle.interface_machine.specs.Machine.{with_each, is_true, standing_of, asked_of, answer_to}
+use Rattle.link_ports.specs.Machine.{LinkState, Stepped}
+unfoldable use Rattle.link_ports.specs.Machine.{step_of}
+use Rattle.whole_machine.specs.Machine.{Whole, secure_in, streams_of, beside_of, whole_after}
+use Rattle.whole_machine.specs.Machine.{memory_shown}
+use Rattle.interface_joins.specs.Faces.{IsFace, IsManaged}
+use Rattle.tdi_device.specs.Replies.{called_at}
+use Rattle.tdi_host.specs.Views.{HostTdi}
+use Rattle.trusted_memory.specs.{Contents, IsLeftBy}
+use Rattle.link_ends.specs.declared.ends.LinkEnds.{LinkEnds}
+use Rattle.link_ends.specs.Hosts.{InterfacesView}
+use Rattle.link_ends.proofs.Lists.{set_read}
+use Rattle.all_links.specs.declared.links.Links.{Links}
+use Rattle.all_links.specs.Links.{links_state}
+use Rattle.all_links.specs.Interfaces.{located}
+use Rattle.all_links.specs.Sides.{SidesKeep, SidesCall}
+use Rattle.world.specs.Whole.{IsPlaced, IsDevice, IsBeside}
+use Rattle.world.proofs.Places.{get_there}
+use Rattle.world.proofs.Sites.{site_numbered, face_found, located_apart, located_kept, interface_there}
+use Rattle.world.proofs.Sites.{interface_absent}
+use Rattle.world.proofs.Faces.{each_at, each_many, none_of}
+use Rattle.world.proofs.Kept.{AreBoth, elsewhere_beside, written_kept}
+
+-- ---- numbers
+
+pub same_number : (i j : ℕ) → (i == j) ≡ true → i ≡ j
+same_number i j same = grind (arith, nat_tests)
+
+apart_next : (i j : ℕ) → (suc i == suc j) ≡ false → (i == j) ≡ false
+apart_next i j apart = grind (arith, nat_tests)
+
+apart_sooner : (i j : ℕ) → (i == j) ≡ false → (suc i == suc j) ≡ false
+apart_sooner i j apart = grind (arith, nat_tests)
+
+apart_first : (i : ℕ) → (suc i == 0) ≡ false
+apart_first i = grind (arith, nat_tests)
+
+first_apart : (i : ℕ) → (0 == suc i) ≡ false
+first_apart i = grind (arith, nat_tests)
+
+true_false : {A : Type 0} (b : Bool) → b ≡ true → b ≡ false → A
+true_false b is is_not = absurd cc
+
+-- ---- lists
+
+pub set_there : {A : Type 0} (xs : List A) (i : ℕ) (x y : A) → slice_get xs i ≡ Some x → slice_get (slice_set xs i y) i
+    ≡ Some y
+set_there [] i x y is = absurd (none-some x is)
+set_there (z ∷ xs) zero x y is = refl
+set_there (z ∷ xs) (suc i) x y is = set_there xs i x y is
+
+pub set_apart : {A : Type 0} (xs : List A) (i j : ℕ) (y : A) → (i == j) ≡ false → slice_get (slice_set xs i y) j
+    ≡ slice_get xs j
+set_apart [] i j y apart = refl
+set_apart (x ∷ xs) zero zero y apart = true_false (0 == 0) refl apart
+set_apart (x ∷ xs) zero (suc j) y apart = refl
+set_apart (x ∷ xs) (suc i) zero y apart = refl
+set_apart (x ∷ xs) (suc i) (suc j) y apart = set_apart xs i j y (apart_next i j apart)
+
+-- an item of a list in which one was set: that one, or another as before
+pub set_item : {A : Type 0} (xs : List A) (i j : ℕ) (y z : A) → slice_get (slice_set xs i y) j ≡ Some z
+    → ((i ≡ j) × (y ≡ z)) ⊎ (((i == j) ≡ false) × (slice_get xs j ≡ Some z))
+set_item [] i j y z is = absurd (none-some z is)
+set_item (x ∷ xs) zero zero y z is = inl (refl, same_Some y z is)
+set_item (x ∷ xs) zero (suc j) y z is = inr (first_apart j, is)
+set_item (x ∷ xs) (suc i) zero y z is = inr (apart_first i, is)
+set_item (x ∷ xs) (suc i) (suc j) y z is =
+    ⊎_elim (λ same. inl (ap suc same.0, same.1)) (λ other. inr (apart_sooner i j other.0, other.1))
+    (set_item xs i j y z is)
+
+either_none : (a b c : Bool) → a ≡ c → b ≡ false → (a || b) ≡ c
+either_none a b c same none = grind arith
+
+-- a test that one interface alone can meet
+only_one : (g : Site → Face → Bool) (xs : List Site) (fs : List Face) (i : ℕ) (x : Site) (f : Face)
+    → slice_get xs i ≡ Some x → slice_get fs i ≡ Some f
+    → ((j : ℕ) (y : Site) (k : Face) → slice_get xs j ≡ Some y → slice_get fs j ≡ Some k → (i == j) ≡ false
+    → g y k ≡ false)
+    → list_any is_true (with_each g xs fs) ≡ g x f
+only_one g [] fs i x f at there none = absurd (none-some x at)
+only_one g (y ∷ xs) [] i x f at there none = absurd (none-some f there)
+only_one g (y ∷ xs) (k ∷ fs) zero x f at there none =
+    either_none (g y k) (list_any is_true (with_each g xs fs)) (g x f)
+    (λ n. g (same_Some y x at n) (same_Some k f there n))
+    (none_of g xs fs (λ j z m at' there'. none (suc j) z m at' there' (first_apart j)))
+only_one g (y ∷ xs) (k ∷ fs) (suc i) x f at there none =
+    rw (none 0 y k refl refl (apart_first i))
+    (only_one g xs fs i x f at there
+    (λ j z m at' there' apart. none (suc j) z m at' there' (apart_sooner i j apart)))
+
+-- ---- what an interface is bound to
+
+-- P of the stream that it is bound to, where it is
+abbrev pub Binds : (ℕ → Type 0) → TdiState → Type 0
+Binds P state = IfSome (bound_stream state) P
+
+pub failure_binds : (P : ℕ → Type 0) (state : TdiState) → Binds P (after_failure state)
+failure_binds P ConfigUnlocked = tt
+failure_binds P (ConfigLocked lock nonce) = tt
+failure_binds P (Run lock) = tt
+failure_binds P Error = tt
+
+change_binds : (P : ℕ → Type 0) (b : Bool) (state : TdiState) → Binds P state → Binds P (after_change b state)
+change_binds P true state is = failure_binds P state
+change_binds P false state is = is
+
+run_binds : (P : ℕ → Type 0) (b : Bool) (lock : Lock) (held : List ℕ) → P lock.stream
+    → Binds P (if b then Run lock else ConfigLocked lock held)
+run_binds P true lock held is = is
+run_binds P false lock held is = is
+
+start_binds : (P : ℕ → Type 0) (state : TdiState) (nonce : List ℕ) → Binds P state → Binds P (after_start state nonce)
+start_binds P ConfigUnlocked nonce is = is
+start_binds P (ConfigLocked lock held) nonce is = run_binds P (bytes_eq nonce held) lock held is
+start_binds P (Run lock) nonce is = is
+start_binds P Error nonce is = is
+
+-- a lock that is accepted found its stream Secure
+answer_secure : (tdi : Tdi) (flags offset : ℕ) (secure : Bool) (drawn : Option (List ℕ)) (nonce : List ℕ)
+    → lock_answer tdi flags offset secure drawn ≡ Ok nonce → secure ≡ true
+answer_secure tdi flags offset secure drawn nonce is = grind arith
+
+lock_binds : (P : ℕ → Type 0) (tdi : Tdi) (flags stream offset : ℕ) (secure : Bool) (drawn : Option (List ℕ))
+    (answer : Result (List ℕ) ℕ) → lock_answer tdi flags offset secure drawn ≡ answer → (secure ≡ true → P stream)
+    → Binds P tdi.state → Binds P (locked_with tdi (new_lock tdi flags stream offset) answer).state
+lock_binds P tdi flags stream offset secure drawn (Ok nonce) answer binds is =
+    binds (answer_secure tdi flags offset secure drawn nonce answer)
+lock_binds P tdi flags stream offset secure drawn (Err code) answer binds is = is
+
+abbrev MayBind : (ℕ → Type 0) → Call → Type 0
+MayBind P (LockInterface flags stream offset secure drawn) = secure ≡ true → P stream
+MayBind P c = Unit {0}
+
+call_binds : (P : ℕ → Type 0) (tdi : Tdi) (c : Call) → MayBind P c → Binds P tdi.state
+    → Binds P (tdi_after tdi c).state
+call_binds P tdi (LockInterface flags stream offset secure drawn) binds is =
+    lock_binds P tdi flags stream offset secure drawn (lock_answer tdi flags offset secure drawn) refl binds is
+call_binds P tdi (StartInterface nonce) binds is = start_binds P tdi.state nonce is
+call_binds P tdi StopInterface binds is = tt
+call_binds P tdi (WriteRegister register value) binds is =
+    change_binds P (changes_listed (lock_flags tdi.state) tdi.registers register value) tdi.state is
+call_binds P tdi LevelReset binds is = failure_binds P tdi.state
+call_binds P tdi FirmwareUpdate binds is = change_binds P (has_bit 0 (lock_flags tdi.state)) tdi.state is
+call_binds P tdi StreamLeft binds is = failure_binds P tdi.state
+call_binds P tdi LinkReset binds is = tt
+
+pub called_binds : (P : ℕ → Type 0) (b : Bool) (c : Call) (tdi : Tdi) → MayBind P c → Binds P tdi.state
+    → Binds P (called b c tdi).state
+called_binds P true c tdi binds is = call_binds P tdi c binds is
+called_binds P false c tdi binds is = is
+
+pub asked_binds : (P : ℕ → Type 0) (a : Around) (x : Site) (e : InterfaceEvent) (w : Verdict) (tdi : Tdi)
+    → (a.secure ≡ true → P x.plan.stream) → Binds P tdi.state → Binds P (asked a x e w tdi).state
+asked_binds P a x (ie.Lock i loss) w tdi binds is = called_binds P (carries w 3) (lock_call a x) tdi binds is
+asked_binds P a x (ie.Report i loss) w tdi binds is = is
+asked_binds P a x (ie.Start i loss) w tdi binds is = called_binds P (carries w 1) (StartInterface a.nonce) tdi tt is
+asked_binds P a x (ie.Halt i loss) w tdi binds is = called_binds P (carries w 1) StopInterface tdi tt is
+asked_binds P a x (ie.State i loss) w tdi binds is = is
+asked_binds P a x (ie.View i) w tdi binds is = is
+asked_binds P a x (ie.Write i register value) w tdi binds is =
+    called_binds P (is_applied w) (WriteRegister register value) tdi tt is
+asked_binds P a x (ie.Flr i) w tdi binds is = called_binds P (is_applied w) LevelReset tdi tt is
+asked_binds P a x (ie.Firmware i) w tdi binds is = called_binds P (is_applied w) FirmwareUpdate tdi tt is
+asked_binds P a x (ie.Memory at len) w tdi binds is = is
+
+if_binds : (P : ℕ → Type 0) (b : Bool) (new old : Tdi) → Binds P new.state → Binds P old.state
+    → Binds P (if b then new else old).state
+if_binds P true new old is was = is
+if_binds P false new old is was = was
+
+lock_plan : (tdi : Tdi) (lock : Lock) (answer : Result (List ℕ) ℕ) → (locked_with tdi lock answer).plan ≡ tdi.plan
+lock_plan tdi lock (Ok nonce) = refl
+lock_plan tdi lock (Err code) = refl
+
+call_plan : (tdi : Tdi) (c : Call) → (tdi_after tdi c).plan ≡ tdi.plan
+call_plan tdi (LockInterface flags stream offset secure drawn) =
+    lock_plan tdi (new_lock tdi flags stream offset) (lock_answer tdi flags offset secure drawn)
+call_plan tdi (StartInterface nonce) = refl
+call_plan tdi StopInterface = refl
+call_plan tdi (WriteRegister register value) = refl
+call_plan tdi LevelReset = refl
+call_plan tdi FirmwareUpdate = refl
+call_plan tdi StreamLeft = refl
+call_plan tdi LinkReset = refl
+
+pub called_plan : (b : Bool) (c : Call) (tdi : Tdi) → (called b c tdi).plan ≡ tdi.plan
+called_plan true c tdi = call_plan tdi c
+called_plan false c tdi = refl
+
+-- ---- interfaces of another number
+
+pub other_face : (plan : Plan) (s : Streams) (secure : ℕ → ℕ → Bool) (used : ℕ → ℕ) (e : InterfaceEvent)
+    (verdict : Verdict) (x : Site) (f : Face) → is_number (number_in e) x.number ≡ false
+    → face_after plan s secure used (event.Interface e) verdict x f ≡ f
+other_face plan s secure used e verdict x f other = rw other refl
+
+other_lock : (a : Around) (x : Site) (e : InterfaceEvent) (verdict : Verdict) (tdi : Tdi)
+    → is_number (number_in e) x.number ≡ false → accepts_lock a x (event.Interface e) verdict tdi ≡ false
+other_lock a x (ie.Lock i loss) verdict tdi other = rw other refl
+other_lock a x (ie.Report i loss) verdict tdi other = refl
+other_lock a x (ie.Start i loss) verdict tdi other = refl
+other_lock a x (ie.Halt i loss) verdict tdi other = refl
+other_lock a x (ie.State i loss) verdict tdi other = refl
+other_lock a x (ie.View i) verdict tdi other = refl
+other_lock a x (ie.Write i register value) verdict tdi other = refl
+other_lock a x (ie.Flr i) verdict tdi other = refl
+other_lock a x (ie.Firmware i) verdict tdi other = refl
+other_lock a x (ie.Memory at len) verdict tdi other = refl
+
+-- ---- places
+
+places_apart : (ends : List LinkEnds) (i j a b p q : ℕ) → located 0 i ends ≡ Some (a, p)
+    → located 0 j ends ≡ Some (b, q) → a ≡ b → (i == j) ≡ false → (p == q) ≡ false
+places_apart ends i j a b p q is at link apart = ⊎_elim
+    (λ same.
+    let place = sym (same_number p q same) in
+    let from = sym link in
+    true_false (i == j) (eq-eqb i j (located_apart ends i j (a, p) is
+    (at ∙ (λ n. Some (from n, place n))))) apart)
+    (λ other. other) (cases_Bool (p == q))
+
+-- a link's interfaces are as many as before
+pub located_set : (ends : List LinkEnds) (link i : ℕ) (l new : LinkEnds) → slice_get ends link ≡ Some l
+    → length new.device.interfaces.interfaces ≡ length l.device.interfaces.interfaces
+    → located 0 i (slice_set ends link new) ≡ located 0 i ends
+located_set ends link i l new is many = located_kept 0 i ends (slice_set ends link new)
+    (length-set ends link new)
+    (λ k x y was now. ⊎_elim
+    (λ same. sym (ap (λ (z : LinkEnds). length z.device.interfaces.interfaces) same.1)
+    ∙ (many ∙ ap (λ (z : LinkEnds). length z.device.interfaces.interfaces)
+    (same_Some l x (sym is ∙ (ap (slice_get ends) same.0 ∙ was)))))
+    (λ other. ap (λ (z : LinkEnds). length z.device.interfaces.interfaces) (same_Some y x (sym other.1 ∙ was)))
+    (set_item ends link k new y now))
+
+-- ---- an event on one interface
+
+and_none : (a b : Bool) → b ≡ false → (a && b) ≡ false
+and_none a b none = grind arith
+
+no_and : (a b : Bool) → a ≡ false → (a && b) ≡ false
+no_and a b none = grind arith
+
+none_more : (n : ℕ) (b : Bool) → b ≡ false → n + one_if b ≡ n
+none_more n b none = rw none (omega arith)
+
+and_same : (a b : Bool) → a ≡ true → (a && b) ≡ b
+and_same a b is = grind arith
+
+used_one : (d n : ℕ) (a b : Bool) → d ≡ n → a ≡ b → d + one_if b ≡ n + one_if a
+used_one d n a b same is = rw (same, is) refl
+
+abbrev one_link : LinkEnds → ℕ → Tdi → Bool → LinkEnds
+one_link l place tdi gives = record l {
+  device = record l.device {
+    interfaces = record {
+      interfaces = slice_set l.device.interfaces.interfaces place tdi;
+      nonces = l.device.interfaces.nonces;
+      used = l.device.interfaces.used + one_if gives;
+    };
+  };
+}
+
+-- What it made of the interface of number `i`, at the manager and at the device of its link: they keep of it what the
+-- machine keeps after the event, and a lock that it accepts takes a nonce.
+pub record IsOne (plan : Plan) (ends : List LinkEnds) (m : InterfacesView) (w : Whole) (i : ℕ) (x : Site)
+    (p : IsPlaced plan ends m w i x) (e : InterfaceEvent) (verdict : Verdict) (new : List LinkEnds)
+    (m' : InterfacesView) : Type 0 where
+  pub tdi : Tdi
+  pub interface : HostTdi
+  pub portion : m'.portion ≡ m.portion
+  pub manager : m'.interfaces ≡ slice_set m.interfaces i interface
+  pub ends_are : new ≡ slice_set ends x.link (one_link p.link_ends p.place tdi
+      (accepts_lock (around_of plan (streams_of plan w) w.faces.used x p.face) x (event.Interface e) verdict
+      p.face.tdi))
+  pub keeps : IsFace (w.draw x.link x.plan.stream) x interface tdi
+      (face_after plan (streams_of plan w) (secure_in plan w.links) w.faces.used (event.Interface e) verdict x p.face)
+
+module _ (plan : Plan) (ends : List LinkEnds) (m : InterfacesView) (memory : Contents) (w : Whole)
+    (before : IsBeside plan ends m memory w) (i : ℕ) (x : Site) (at : slice_get (sites plan) i ≡ Some x)
+    (p : IsPlaced plan ends m w i x) (e : InterfaceEvent) (verdict : Verdict) (number : number_in e ≡ Some i)
+    (new : List LinkEnds) (m' : InterfacesView) (one : IsOne plan ends m w i x p e verdict new m') where
+  abbrev streams_now : Streams
+  streams_now = streams_of plan w
+
+  abbrev whole_now : Whole
+  whole_now = whole_after plan w (event.Interface e) verdict w.links
+
+  abbrev gives : Bool
+  gives = accepts_lock (around_of plan streams_now w.faces.used x p.face) x (event.Interface e) verdict p.face.tdi
+
+  abbrev link_now : LinkEnds
+  link_now = one_link p.link_ends p.place one.tdi gives
+
+  abbrev ends_now : List LinkEnds
+  ends_now = slice_set ends x.link link_now
+
+  abbrev face_of : Site → Face → Face
+  face_of y f = face_after plan streams_now (secure_in plan w.links) w.faces.used (event.Interface e) verdict y f
+
+  is_other : (j : ℕ) (y : Site) → slice_get (sites plan) j ≡ Some y → (i == j) ≡ false
+      → is_number (number_in e) y.number ≡ false
+  is_other j y there apart =
+      ap (λ (o : Option ℕ). is_number o y.number) number
+      ∙ (ap (λ (n : ℕ). i == n) (site_numbered plan j y there) ∙ apart)
+
+  given_at : (link : ℕ)
+      → list_any is_true (with_each (gives_nonce plan streams_now w.faces.used (event.Interface e) verdict link)
+      (sites plan) w.faces.list)
+      ≡ ((x.link == link) && gives)
+  given_at link = only_one (gives_nonce plan streams_now w.faces.used (event.Interface e) verdict link) (sites plan)
+      w.faces.list i x p.face at p.face_is
+      (λ j y f there kept apart. and_none (y.link == link) _
+      (other_lock (around_of plan streams_now w.faces.used y f) y e verdict f.tdi (is_other j y there apart)))
+
+  located_now : (j : ℕ) → located 0 j ends_now ≡ located 0 j ends
+  located_now j = located_set ends x.link j p.link_ends link_now p.ends_are
+      (length-set p.link_ends.device.interfaces.interfaces p.place one.tdi)
+
+  -- ---- devices
+
+  one_device : IsDevice plan whole_now x.link link_now
+  one_device =
+      let old = before.devices x.link p.link_ends p.ends_are in
+      record {
+        nonces = old.nonces;
+        used = used_one p.link_ends.device.interfaces.used (w.faces.used x.link) _ gives old.used
+            (given_at x.link ∙ and_same (x.link == x.link) gives (eq-eqb x.link x.link refl));
+        many = λ l is. length-set p.link_ends.device.interfaces.interfaces p.place one.tdi ∙ old.many l is;
+      }
+
+  other_device : (link : ℕ) (l : LinkEnds) → (x.link == link) ≡ false → slice_get ends link ≡ Some l
+      → IsDevice plan whole_now link l
+  other_device link l apart is =
+      let old = before.devices link l is in
+      record {
+        nonces = old.nonces;
+        used = old.used ∙ sym (none_more (w.faces.used link) _ (given_at link ∙ no_and (x.link == link) gives apart));
+        many = old.many;
+      }
+
+  devices_now : (link : ℕ) (l : LinkEnds) → slice_get ends_now link ≡ Some l → IsDevice plan whole_now link l
+  devices_now link l is = ⊎_elim
+      (λ same. subst (λ (k : ℕ). IsDevice plan whole_now k l) same.0
+      (subst (λ (y : LinkEnds). IsDevice plan whole_now x.link y) same.1 one_device))
+      (λ other. other_device link l other.0 other.1) (set_item ends x.link link link_now l is)
+
+  -- ---- places
+
+  one_placed : IsPlaced plan ends_now m' whole_now i x
+  one_placed = record {
+    link_ends = link_now;
+    ends_are = set_there ends x.link p.link_ends link_now p.ends_are;
+    place = p.place;
+    located_is = located_now i ∙ p.located_is;
+    tdi = one.tdi;
+    tdi_is = set_there p.link_ends.device.interfaces.interfaces p.place p.tdi one.tdi p.tdi_is;
+    interface = one.interface;
+    interface_is = ap (λ (hs : List HostTdi). slice_get hs i) one.manager
+        ∙ set_there m.interfaces i p.interface one.interface p.interface_is;
+    face = face_of x p.face;
+    face_is = each_at face_of (sites plan) w.faces.list i x p.face at p.face_is;
+    keeps = one.keeps;
+    secure =
+        let P : ℕ → Type 0 = λ stream. secure_in plan w.links x.link stream ≡ true in
+        subst (λ (t : Tdi). Binds P t.state) (sym one.keeps.tdi_is)
+        (if_binds P (is_number (number_in e) x.number) _ p.face.tdi
+        (asked_binds P (around_of plan streams_now w.faces.used x p.face) x e verdict p.face.tdi (λ is. is)
+        (subst (λ (t : Tdi). Binds P t.state) p.keeps.tdi_is p.secure))
+        (subst (λ (t : Tdi). Binds P t.state) p.keeps.tdi_is p.secure));
+  }
+
+  -- another interface of the link
+  near_placed : (j : ℕ) (y : Site) → slice_get (sites plan) j ≡ Some y → (i == j) ≡ false → x.link ≡ y.link
+      → IsPlaced plan ends m w j y → IsPlaced plan ends_now m' whole_now j y
+  near_placed j y there apart same q =
+      let links : p.link_ends ≡ q.link_ends =
+      same_Some p.link_ends q.link_ends (sym p.ends_are ∙ (ap (slice_get ends) same ∙ q.ends_are)) in
+      record {
+        link_ends = link_now;
+        ends_are = ap (slice_get ends_now) (sym same) ∙ set_there ends x.link p.link_ends link_now p.ends_are;
+        place = q.place;
+        located_is = located_now j ∙ q.located_is;
+        tdi = q.tdi;
+        tdi_is = set_apart p.link_ends.device.interfaces.interfaces p.place q.place one.tdi
+            (places_apart ends i j x.link y.link p.place q.place p.located_is q.located_is same apart)
+            ∙ (ap (λ (l : LinkEnds). slice_get l.device.interfaces.interfaces q.place) links ∙ q.tdi_is);
+        interface = q.interface;
+        interface_is = ap (λ (hs : List HostTdi). slice_get hs j) one.manager
+            ∙ (set_apart m.interfaces i j one.interface apart ∙ q.interface_is);
+        face = q.face;
+        face_is = each_at face_of (sites plan) w.faces.list j y q.face there q.face_is
+            ∙ ap Some (other_face plan streams_now (secure_in plan w.links) w.faces.used e verdict y q.face
+            (is_other j y there apart));
+        keeps = q.keeps;
+        secure = q.secure;
+      }
+
+  far_placed : (j : ℕ) (y : Site) → slice_get (sites plan) j ≡ Some y → (i == j) ≡ false → (x.link == y.link) ≡ false
+      → IsPlaced plan ends m w j y → IsPlaced plan ends_now m' whole_now j y
+  far_placed j y there apart far q = record {
+    link_ends = q.link_ends;
+    ends_are = set_apart ends x.link y.link link_now far ∙ q.ends_are;
+    place = q.place;
+    located_is = located_now j ∙ q.located_is;
+    tdi = q.tdi;
+    tdi_is = q.tdi_is;
+    interface = q.interface;
+    interface_is = ap (λ (hs : List HostTdi). slice_get hs j) one.manager
+        ∙ (set_apart m.interfaces i j one.interface apart ∙ q.interface_is);
+    face = q.face;
+    face_is = each_at face_of (sites plan) w.faces.list j y q.face there q.face_is
+        ∙ ap Some (other_face plan streams_now (secure_in plan w.links) w.faces.used e verdict y q.face
+        (is_other j y there apart));
+    keeps = q.keeps;
+    secure = q.secure;
+  }
+
+  placed_now : (j : ℕ) (y : Site) → slice_get (sites plan) j ≡ Some y → IsPlaced plan ends_now m' whole_now j y
+  placed_now j y there = ⊎_elim
+      (λ is_same.
+      let same = same_number i j is_same in
+      let sites_same : x ≡ y = same_Some x y (sym at ∙ (ap (slice_get (sites plan)) same ∙ there)) in
+      subst (λ (k : ℕ). IsPlaced plan ends_now m' whole_now k y) same
+      (subst (λ (z : Site). IsPlaced plan ends_now m' whole_now i z) sites_same one_placed))
+      (λ apart. ⊎_elim
+      (λ near. near_placed j y there apart (same_number x.link y.link near) (before.placed j y there))
+      (λ far. far_placed j y there apart far (before.placed j y there)) (cases_Bool (x.link == y.link)))
+      (cases_Bool (i == j))
+
+  -- ---- all of them
+
+  pub one_beside : IsBeside plan new m' memory whole_now
+  one_beside = subst (λ (ls : List LinkEnds). IsBeside plan ls m' memory whole_now) (sym one.ends_are) (record {
+    portion = one.portion ∙ before.portion;
+    managed = ap length one.manager ∙ (length-set m.interfaces i one.interface ∙ before.managed);
+    faced = each_many face_of (sites plan) w.faces.list (sym before.faced);
+    devices = devices_now;
+    placed = placed_now;
+    regions = before.regions;
+    written = subst (IsLeftBy memory) (sym (written_kept plan w (event.Interface e) verdict refl)) before.written;
+  })
+
+-- ---- the step of the machine
+
+pub interface_step : (plan : Plan) (w : Whole) (st : LinkState) (e : InterfaceEvent) (verdict : Verdict)
+    → ◌≡◌ {A = Stepped} (verdict, st) (step_of plan (beside_of plan w) w.links (event.Interface e))
+    → (verdict ≡ (beside_of plan w).answer e) × (st ≡ w.links)
+unfolding step_of
+interface_step plan w st e verdict is = (ap (λ (s : Stepped). s.0) is, ap (λ (s : Stepped). s.1) is)
+
+-- the verdict of an event on an interface that is there
+pub answer_there : (plan : Plan) (w : Whole) (e : InterfaceEvent) (i : ℕ) (x : Site) (f : Face) → number_in e ≡ Some i
+    → slice_get (sites plan) i ≡ Some x → slice_get w.faces.list i ≡ Some f
+    → (beside_of plan w).answer e ≡ asked_due plan x (standing_of plan (streams_of plan w) w.faces.used x f) e
+answer_there plan w e i x f number at there =
+    ap (λ (o : Option ℕ). answer_to plan (streams_of plan w) w.faces e o (memory_shown plan w.written e)) number
+    ∙ ap (asked_of plan (streams_of plan w) w.faces.used e) (face_found plan w.faces.list i x f at there)
+
+-- an event on a number that no interface has
+pub nowhere_beside : (plan : Plan) (old new : Links) (w : Whole) (e : InterfaceEvent) (verdict : Verdict) (i : ℕ)
+    → AreBoth plan old new w → SidesKeep old new → number_in e ≡ Some i → length (sites plan) ≤ i
+    → ◌≡◌ {A = Stepped} (verdict, links_state plan new) (step_of plan (beside_of plan w) w.links (event.Interface e))
+    → IsBeside plan new.ends new.keeper.interfaces new.trusted.contents
+    (whole_after plan w (event.Interface e) verdict (links_state plan new))
+nowhere_beside plan old new w e verdict i both keep number past is =
+    elsewhere_beside plan old new w verdict (beside_of plan w) both keep e is
+    (λ j y there. ap (λ (o : Option ℕ). is_number o y.number) number
+    ∙ ne_eqb i y.number (λ same. absurd (omega (
+      arith,
+      same,
+      past,
+      site_numbered plan j y there,
+      slice_get_within (sites plan) j y there,
+    ))))
+
+-- an event on an interface that is there
+pub there_beside : (plan : Plan) (old new : Links) (w : Whole) (e : InterfaceEvent) (verdict : Verdict) (i : ℕ)
+    (x : Site) (at : slice_get (sites plan) i ≡ Some x) (before : IsBeside plan old.ends old.keeper.interfaces
+    old.trusted.contents w) → number_in e ≡ Some i → new.trusted.contents ≡ old.trusted.contents
+    → IsOne plan old.ends old.keeper.interfaces w i x (before.placed i x at) e verdict new.ends new.keeper.interfaces
+    → ◌≡◌ {A = Stepped} (verdict, links_state plan new) (step_of plan (beside_of plan w) w.links (event.Interface e))
+    → IsBeside plan new.ends new.keeper.interfaces new.trusted.contents
+    (whole_after plan w (event.Interface e) verdict (links_state plan new))
+there_beside plan old new w e verdict i x at before number contents one is =
+    subst (λ (st : LinkState). IsBeside plan new.ends new.keeper.interfaces new.trusted.contents
+    (whole_after plan w (event.Interface e) verdict st))
+    (sym (interface_step plan w (links_state plan new) e verdict is).1)
+    (subst (λ (c : Contents). IsBeside plan new.ends new.keeper.interfaces c
+    (whole_after plan w (event.Interface e) verdict w.links)) (sym contents)
+    (one_beside plan old.ends old.keeper.interfaces old.trusted.contents w before i x at (before.placed i x at) e
+    verdict number new.ends new.keeper.interfaces one))
+
+-- ---- calls
+
+-- what a call of an interface means: where the machine's verdict applies it, the device's test does
+record IsCall (number : ℕ) (test : Tdi → Bool) (call : Call) (e : InterfaceEvent) : Type 0 where
+  number_is : number_in e ≡ Some number
+  asks : (a : Around) (x : Site) (verdict : Verdict) (tdi : Tdi)
+      → asked a x e verdict tdi ≡ called (is_applied verdict) call tdi
+  manages : (drawn : ℕ) (verdict : Verdict) (g : Managed) → on_operation drawn e verdict g ≡ g
+  locks : (a : Around) (x : Site) (verdict : Verdict) (tdi : Tdi)
+      → accepts_lock a x (event.Interface e) verdict tdi ≡ false
+  applies : (plan : Plan) (x : Site) (s : Standing) (tdi : Tdi) → tdi.plan ≡ x.plan
+      → is_applied (asked_due plan x s e) ≡ test tdi
+  binds : (stream : ℕ) → MayBind (λ s. s ≡ stream) call
+
+called_one : (b gives : Bool) (l : LinkEnds) (place : ℕ) (tdi : Tdi) (call : Call) → gives ≡ false
+    → slice_get l.device.interfaces.interfaces place ≡ Some tdi
+    → (if b then record l { device = record l.device { interfaces = called_at l.device.interfaces place tdi call } }
+    else l) ≡ one_link l place (called b call tdi) gives
+called_one true gives l place tdi call none is =
+    let used = sym (none_more l.device.interfaces.used gives none) in
+    λ n. record l {
+      device = record l.device {
+        interfaces = record {
+          interfaces = slice_set l.device.interfaces.interfaces place (tdi_after tdi call);
+          nonces = l.device.interfaces.nonces;
+          used = used n;
+        };
+      };
+    }
+called_one false gives l place tdi call none is =
+    let used = sym (none_more l.device.interfaces.used gives none) in
+    let same = sym (set_read l.device.interfaces.interfaces place tdi is) in
+    λ n. record l {
+      device = record l.device {
+        interfaces = record { interfaces = same n; nonces = l.device.interfaces.nonces; used = used n };
+      };
+    }
+
+write_applied : (b : Bool) (n code : ℕ)
+    → is_applied (if b then v.Interface (iv.Written n code) else v.Nothing) ≡ b
+write_applied true n code = refl
+write_applied false n code = refl
+
+if_kept : {A : Type 0} (b : Bool) (new old : A) → new ≡ old → (if b then new else old) ≡ old
+if_kept true new old same = same
+if_kept false new old same = refl
+
+if_taken : {A : Type 0} (b : Bool) (new old : A) → b ≡ true → (if b then new else old) ≡ new
+if_taken b new old is = rw is refl
+
+module _ (plan : Plan) (old new : Links) (w : Whole) (verdict : Verdict) (both : AreBoth plan old new w) where
+  -- the interface of this number is called
+  called_there : (number : ℕ) (test : Tdi → Bool) (call : Call) (e : InterfaceEvent) (x : Site)
+      → IsCall number test call e → SidesCall number test call old new → slice_get (sites plan) number ≡ Some x
+      → verdict ≡ (beside_of plan w).answer e
+      → (p : IsPlaced plan old.ends old.keeper.interfaces w number x)
+      → IsOne plan old.ends old.keeper.interfaces w number x p e verdict new.ends new.keeper.interfaces
+  called_there number test call e x c sides at verdict_is p =
+      let before = both.whole.beside in
+      let due = verdict_is ∙ answer_there plan w e number x p.face c.number_is at p.face_is in
+      let here : is_number (number_in e) x.number ≡ true =
+      ap (λ (o : Option ℕ). is_number o x.number) c.number_is
+      ∙ eq-eqb number x.number (sym (site_numbered plan number x at)) in
+      let around = around_of plan (streams_of plan w) w.faces.used x p.face in
+      let applied : is_applied verdict ≡ test p.tdi =
+      ap is_applied due ∙ c.applies plan x
+      (standing_of plan (streams_of plan w) w.faces.used x p.face) p.tdi p.keeps.layout in
+      record {
+        tdi = called (test p.tdi) call p.tdi;
+        interface = p.interface;
+        portion = ap (λ (m : InterfacesView). m.portion) sides.keeper;
+        manager = ap (λ (m : InterfacesView). m.interfaces) sides.keeper
+            ∙ sym (set_read old.keeper.interfaces.interfaces number p.interface p.interface_is);
+        ends_are = sides.called (x.link, p.place) p.link_ends p.tdi
+            (interface_there plan old.ends old.keeper.interfaces old.trusted.contents w number x p before
+            both.links.fits at)
+            p.ends_are p.tdi_is
+            ∙ ap (slice_set old.ends x.link)
+            (called_one (test p.tdi) _ p.link_ends p.place p.tdi call (c.locks around x verdict p.face.tdi) p.tdi_is);
+        keeps = record {
+          managed = subst (λ (g : Managed). IsManaged (w.draw x.link x.plan.stream) x p.interface g)
+              (sym (if_kept (is_number (number_in e) x.number) _ p.face.managed
+              (c.manages w.links.draws verdict p.face.managed)))
+              p.keeps.managed;
+          tdi_is = (λ n. called (sym applied n) call (p.keeps.tdi_is n)) ∙ (sym (c.asks around x verdict p.face.tdi)
+              ∙ sym (if_taken (is_number (number_in e) x.number) _ p.face.tdi here));
+          layout = called_plan (test p.tdi) call p.tdi ∙ p.keeps.layout;
+          bound = called_binds (λ s. s ≡ x.plan.stream) (test p.tdi) call p.tdi (c.binds x.plan.stream) p.keeps.bound;
+        };
+      }
+
+  called_beside : (number : ℕ) (test : Tdi → Bool) (call : Call) (e : InterfaceEvent) → IsCall number test call e
+      → SidesCall number test call old new
+      → ◌≡◌ {A = Stepped} (verdict, links_state plan new) (step_of plan (beside_of plan w) w.links (event.Interface e))
+      → IsBeside plan new.ends new.keeper.interfaces new.trusted.contents
+      (whole_after plan w (event.Interface e) verdict (links_state plan new))
+  called_beside number test call e c sides is =
+      let before = both.whole.beside in
+      ⊎_elim
+      (λ lt.
+      let x = get_there (sites plan) number lt in
+      there_beside plan old new w e verdict number x.0 x.1 before c.number_is sides.contents
+      (called_there number test call e x.0 c sides x.1 (interface_step plan w (links_state plan new) e verdict is).0
+      (before.placed number x.0 x.1)) is)
+      (λ past. nowhere_beside plan old new w e verdict number both
+      (sides.unnamed (interface_absent plan old.ends old.keeper.interfaces old.trusted.contents w number before past))
+      c.number_is past is)
+      (cases_lt number (length (sites plan)))
+
+  -- ---- each of them
+
+  pub write_beside : (i : ℕ) (register : Register) (value : ℕ)
+      → SidesCall i (λ tdi. has_register tdi.plan register) (WriteRegister register value) old new
+      → ◌≡◌ {A = Stepped} (verdict, links_state plan new)
+      (step_of plan (beside_of plan w) w.links (event.Interface (ie.Write i register value)))
+      → IsBeside plan new.ends new.keeper.interfaces new.trusted.contents
+      (whole_after plan w (event.Interface (ie.Write i register value)) verdict (links_state plan new))
+  write_beside i register value sides is = called_beside i (λ tdi. has_register tdi.plan register)
+      (WriteRegister register value) (ie.Write i register value) (record {
+        number_is = refl;
+        asks = λ a x v tdi. refl;
+        manages = λ drawn v g. refl;
+        locks = λ a x v tdi. refl;
+        applies = λ plan x s tdi layout. write_applied (has_register x.plan register) _ _
+            ∙ ap (λ (p : InterfacePlan). has_register p register) (sym layout);
+        binds = λ stream. tt;
+      }) sides is
+
+  pub flr_beside : (i : ℕ) → SidesCall i (λ tdi. true) LevelReset old new
+      → ◌≡◌ {A = Stepped} (verdict, links_state plan new)
+      (step_of plan (beside_of plan w) w.links (event.Interface (ie.Flr i)))
+      → IsBeside plan new.ends new.keeper.interfaces new.trusted.contents
+      (whole_after plan w (event.Interface (ie.Flr i)) verdict (links_state plan new))
+  flr_beside i sides is = called_beside i (λ tdi. true) LevelReset (ie.Flr i) (record {
+    number_is = refl;
+    asks = λ a x v tdi. refl;
+    manages = λ drawn v g. refl;
+    locks = λ a x v tdi. refl;
+    applies = λ plan x s tdi layout. refl;
+    binds = λ stream. tt;
+  }) sides is
+
+  pub firmware_beside : (i : ℕ) → SidesCall i (λ tdi. true) FirmwareUpdate old new
+      → ◌≡◌ {A = Stepped} (verdict, links_state plan new)
+      (step_of plan (beside_of plan w) w.links (event.Interface (ie.Firmware i)))
+      → IsBeside plan new.ends new.keeper.interfaces new.trusted.contents
+      (whole_after plan w (event.Interface (ie.Firmware i)) verdict (links_state plan new))
+  firmware_beside i sides is = called_beside i (λ tdi. true) FirmwareUpdate (ie.Firmware i) (record {
+    number_is = refl;
+    asks = λ a x v tdi. refl;
+    manages = λ drawn v g. refl;
+    locks = λ a x v tdi. refl;
+    applies = λ plan x s tdi layout. refl;
+    binds = λ stream. tt;
+  }) sides is

@@ -1,0 +1,199 @@
+-- A send lets no stream leave Secure at a device's port. A sealed packet leaves a sender's Live key there, or, where it
+-- ends a unit, the waiting one is Live in its place; receivers and what failed are as they were, and so are other
+-- streams and ports.
+use Rattle.std.proofs.Common.{◌≡◌, ℕ, ◌+◌, ◌==◌, ◌&&◌, Bool, true, false, List, [], ◌∷◌, length, Option, Some, None}
+use Rattle.std.proofs.Common.{Result, Ok, Err, refl, ap, sym, ◌∙◌, subst, arith}
+use Rattle.std.specs.Prelude.{not, if◌then◌else◌, is_some}
+use Rattle.ide_types.specs.declared.port.PortName.{PortName}
+use Rattle.ide_types.specs.declared.port.Side.TheVariants.{Device}
+use Rattle.ide_types.specs.declared.sub.SubKind.{SubKind}
+use Rattle.ide_types.specs.declared.sub.SubKind.TheVariants.{Pr, Npr, Cpl}
+use Rattle.ide_types.specs.Sub.{is_same_sub}
+use Rattle.ide_plan.specs.declared.plan.Plan.{Plan}
+use Rattle.tlp_layout.specs.declared.tlp.Tlp.{Tlp}
+use Rattle.tlp_layout.specs.declared.fault.TlpFault.{TlpFault}
+use Rattle.tlp_layout.specs.Class.{class_of}
+use Rattle.tlp_layout.specs.Head.{head_bytes}
+use Rattle.tlp_layout.specs.Tlp.{header, body}
+use Rattle.tlp_layout.specs.Reading.{read_of}
+use Rattle.ide_prefix.specs.Packet.{Packet}
+use Rattle.link_events.specs.declared.event.Event.TheVariants.{Send}
+use Rattle.link_verdicts.specs.declared.verdict.SealedPacket.{SealedPacket}
+use Rattle.link_verdicts.specs.declared.verdict.Verdict.{Verdict}
+use Rattle.link_verdicts.specs.declared.verdict.Verdict.TheVariants as v
+use Rattle.link_history.specs.Plan.{has_port, mode_of, is_closed, is_same_port}
+use Rattle.link_history.specs.Due.{choice, Sending, refusals, sealed_by, first_that_holds}
+use Rattle.stream_rules.specs.Stream.{Slot, Slots, TxSub, Three, StreamState, Empty, Programmed, Armed, Live, gone_on}
+use Rattle.stream_rules.specs.Stream.{counted, ended_slots, sealed_slots, sealed_sub, sealed_one, sealed_all, lanes_of}
+use Rattle.stream_rules.specs.Slots.{is_live, any_live}
+use Rattle.key_laws.specs.History.{status_by}
+use Rattle.interface_states.specs.Devices.{is_secure}
+use Rattle.whole_machine.specs.Machine.{secure_in}
+use Rattle.link_ports.specs.Machine.{Beside, LinkState, LinkPacket, port_at, all_live, some_live, stream_status}
+use Rattle.link_ports.specs.Machine.{answered, send_found, send_on, send_read}
+unfoldable use Rattle.link_ports.specs.Machine.{find, put, step_of}
+use Rattle.link_ports.proofs.Puts.{find-put, find-put_other}
+use Rattle.link_ports.proofs.Changes.{at_place}
+
+-- ---- senders
+
+gone_live : (p : Packet) (s : Slot) → is_live (gone_on p s) ≡ is_live s
+gone_live p (Live x) = refl
+gone_live p s = refl
+
+counted_live : (s : Slot) → is_live (counted s) ≡ is_live s
+counted_live (Live x) = refl
+counted_live s = refl
+
+ended_live : (a b : Slot) → any_live (record { first = a; second = b }) ≡ true
+    → any_live (ended_slots (record { first = a; second = b })) ≡ true
+ended_live Empty b is = rw (counted_live b) is
+ended_live (Programmed j key) b is = rw (counted_live b) is
+ended_live (Armed j key) (Live x) is = refl
+ended_live (Armed j key) b is = is
+ended_live (Live x) b is = grind arith
+
+sealed_live : (m : Bool) (p : Packet) (s : Slots) → any_live s ≡ true → any_live (sealed_slots m p s) ≡ true
+sealed_live true p s is = ended_live s.first s.second is
+sealed_live false p s is = rw (gone_live p s.first, gone_live p s.second) is
+
+sub_by : (own posted : Bool) (d : SealedPacket) (p : Packet) (x y z : TxSub) → any_live x.slots ≡ true
+    → any_live y.slots ≡ true → any_live z.slots ≡ true
+    → any_live (if own then x else if posted then y else z).slots ≡ true
+sub_by true posted d p x y z one two three = one
+sub_by false true d p x y z one two three = two
+sub_by false false d p x y z one two three = three
+
+sub_live : (d : SealedPacket) (p : Packet) (u : SubKind) (x : TxSub) → any_live x.slots ≡ true
+    → any_live (sealed_sub d p u x).slots ≡ true
+sub_live d p u x is =
+    sub_by (is_same_sub d.sub u) (is_same_sub d.sub Pr) d p _ _ x (sealed_live d.m p x.slots is) is is
+
+-- each sub-stream has a Live key
+record AllSend (tx : Three TxSub) : Type 0 where
+  pr : any_live tx.pr.slots ≡ true
+  npr : any_live tx.npr.slots ≡ true
+  cpl : any_live tx.cpl.slots ≡ true
+
+all_sealed : (closed : Bool) (head payload : List ℕ) (ds : List SealedPacket) (tx : Three TxSub) → AllSend tx
+    → AllSend (sealed_all closed head payload ds tx).1
+all_sealed closed head payload [] tx is = is
+all_sealed closed head payload (d ∷ ds) tx is =
+    let one = sealed_one closed head payload d tx in
+    all_sealed closed head payload ds one.1 (record {
+      pr = sub_live d one.0 Pr tx.pr is.pr;
+      npr = sub_live d one.0 Npr tx.npr is.npr;
+      cpl = sub_live d one.0 Cpl tx.cpl is.cpl;
+    })
+
+-- ---- a stream
+
+secure_by : (failed some all : Bool) → is_secure (status_by failed some all) ≡ (not failed && all)
+secure_by failed some all = grind arith
+
+each_of : (failed a b c d e f : Bool) → (not failed && (a && b && c && d && e && f)) ≡ true
+    → (a ≡ true) × (b ≡ true) × (c ≡ true)
+each_of failed a b c d e f is = (grind arith, grind arith, grind arith)
+
+all_with : (failed a b c d e f x y z : Bool) → (not failed && (a && b && c && d && e && f)) ≡ true → x ≡ true
+    → y ≡ true → z ≡ true
+    → (not failed && (x && y && z && d && e && f)) ≡ true
+all_with failed a b c d e f x y z is one two three = grind arith
+
+secure_sealed : (x : StreamState) (closed : Bool) (head payload : List ℕ) (ds : List SealedPacket)
+    → is_secure (stream_status (Some x)) ≡ true
+    → is_secure (stream_status (Some (record x { tx = (sealed_all closed head payload ds x.tx).1 }))) ≡ true
+secure_sealed x closed head payload ds is =
+    let tx = (sealed_all closed head payload ds x.tx).1 in
+    let y = record x { tx = tx } in
+    let all : (not x.failed && all_live x) ≡ true = sym (secure_by x.failed (some_live x) (all_live x)) ∙ is in
+    let old = each_of x.failed (any_live x.tx.pr.slots) (any_live x.tx.npr.slots) (any_live x.tx.cpl.slots)
+    (any_live x.rx.pr.slots) (any_live x.rx.npr.slots) (any_live x.rx.cpl.slots) all in
+    let new = all_sealed closed head payload ds x.tx (record { pr = old.0; npr = old.1; cpl = old.2 }) in
+    secure_by x.failed (some_live y) (all_live y)
+    ∙ all_with x.failed (any_live x.tx.pr.slots) (any_live x.tx.npr.slots) (any_live x.tx.cpl.slots)
+    (any_live x.rx.pr.slots) (any_live x.rx.npr.slots) (any_live x.rx.cpl.slots) (any_live tx.pr.slots)
+    (any_live tx.npr.slots) (any_live tx.cpl.slots) all new.pr new.npr new.cpl
+
+-- ---- a send
+
+-- no stream leaves Secure at a port
+abbrev StaySecure : Plan → LinkState → LinkState → Type 0
+StaySecure plan old new = (q : PortName) (t : ℕ) → is_secure (stream_status (find plan old q t)) ≡ true
+    → is_secure (stream_status (find plan new q t)) ≡ true
+
+find_packets : (plan : Plan) (st : LinkState) (ps : List LinkPacket) (q : PortName) (t : ℕ)
+    → find plan (record st { packets = ps }) q t ≡ find plan st q t
+unfolding find
+find_packets plan st ps q t = refl
+
+put_kept : (plan : Plan) (st : LinkState) (port : PortName) (stream : ℕ) (x y : StreamState)
+    → find plan st port stream ≡ Some x
+    → (is_secure (stream_status (Some x)) ≡ true → is_secure (stream_status (Some y)) ≡ true)
+    → (q : PortName) (t : ℕ) (b : Bool) → (is_same_port port q && (stream == t)) ≡ b
+    → is_secure (stream_status (find plan st q t)) ≡ true
+    → is_secure (stream_status (find plan (put plan st port stream y) q t)) ≡ true
+put_kept plan st port stream x y found keeps q t true same is =
+    at_place port q stream t (λ r n. is_secure (stream_status (find plan st r n)) ≡ true
+    → is_secure (stream_status (find plan (put plan st port stream y) r n)) ≡ true) same
+    (λ old. ap (λ o. is_secure (stream_status o)) (find-put plan st port stream y (ap is_some found))
+    ∙ keeps (ap (λ o. is_secure (stream_status o)) (sym found) ∙ old)) is
+put_kept plan st port stream x y found keeps q t false other is =
+    ap (λ o. is_secure (stream_status o)) (find-put_other plan st port stream y q t other) ∙ is
+
+sealed_kept : (plan : Plan) (st : LinkState) (s : Sending) (t : Tlp) (x : StreamState) (o : Option Verdict)
+    (ds : List SealedPacket) → find plan st s.port s.stream ≡ Some x
+    → StaySecure plan st (answered plan st s t x o ds).1
+sealed_kept plan st s t x (Some w) ds found q n is = is
+sealed_kept plan st s t x None ds found q n is =
+    let sealed = sealed_all (is_closed plan s.port.link s.stream) (head_bytes (header t)) (body t) ds x.tx in
+    let y = record x { tx = sealed.1 } in
+    ap (λ o. is_secure (stream_status o)) (find_packets plan (put plan st s.port s.stream y) _ q n)
+    ∙ put_kept plan st s.port s.stream x y found
+    (secure_sealed x (is_closed plan s.port.link s.stream) (head_bytes (header t)) (body t) ds) q n
+    (is_same_port s.port q && (s.stream == n)) refl is
+
+found_kept : (plan : Plan) (st : LinkState) (s : Sending) (t : Tlp) (o : Option StreamState)
+    → find plan st s.port s.stream ≡ o → StaySecure plan st (send_found plan st s t o).1
+found_kept plan st s t None found q n is = is
+found_kept plan st s t (Some x) found q n is =
+    let lanes = lanes_of (mode_of plan s.port.link s.stream) plan.units_per_key x in
+    sealed_kept plan st s t x (first_that_holds (refusals lanes s.class)) (sealed_by lanes s (length st.packets + 1))
+    found q n is
+
+on_kept : (plan : Plan) (beside : Beside) (st : LinkState) (port : PortName) (t : Tlp) (more trusted : Bool)
+    (o : Option ℕ) → StaySecure plan st (send_on plan beside st port t more trusted o).1
+on_kept plan beside st port t more trusted None q n is = is
+on_kept plan beside st port t more trusted (Some stream) q n is =
+    let s : Sending = record {
+      port = port;
+      stream = stream;
+      class = class_of (header t);
+      more = more;
+      trusted = beside.t port (header t) stream trusted;
+    } in
+    found_kept plan st s t (find plan st port stream) refl q n is
+
+read_kept : (plan : Plan) (beside : Beside) (st : LinkState) (port : PortName) (r : Result Tlp TlpFault)
+    (more trusted : Bool) → StaySecure plan st (send_read plan beside st port r more trusted).1
+read_kept plan beside st port (Err f) more trusted q n is = is
+read_kept plan beside st port (Ok t) more trusted q n is =
+    on_kept plan beside st port t more trusted (choice plan port (header t)) q n is
+
+port_kept : (plan : Plan) (beside : Beside) (st : LinkState) (port : PortName) (bytes : List ℕ)
+    (more trusted has : Bool) → has_port plan port ≡ has
+    → StaySecure plan st (step_of plan beside st (Send port bytes more trusted)).1
+unfolding step_of
+port_kept plan beside st port bytes more trusted true has q n is =
+    subst (λ (b : Bool). is_secure (stream_status (find plan (if b then send_read plan beside st port (read_of bytes)
+    more trusted else (v.Nothing, st)).1 q n)) ≡ true) (sym has)
+    (read_kept plan beside st port (read_of bytes) more trusted q n is)
+port_kept plan beside st port bytes more trusted false has q n is =
+    subst (λ (b : Bool). is_secure (stream_status (find plan (if b then send_read plan beside st port (read_of bytes)
+    more trusted else (v.Nothing, st)).1 q n)) ≡ true) (sym has) is
+
+pub secure_kept : (plan : Plan) (beside : Beside) (st : LinkState) (port : PortName) (bytes : List ℕ)
+    (more trusted : Bool) (link stream : ℕ) → secure_in plan st link stream ≡ true
+    → secure_in plan (step_of plan beside st (Send port bytes more trusted)).1 link stream ≡ true
+secure_kept plan beside st port bytes more trusted link stream is =
+    port_kept plan beside st port bytes more trusted (has_port plan port) refl (port_at Device link) stream is

@@ -1,0 +1,3 @@
+pub mod Whole
+pub mod Worlds
+pub use Rattle.world.specs.Worlds.{WorldView, Stands, IsNew, IsStep, HasStood}

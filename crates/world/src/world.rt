@@ -1,0 +1,70 @@
+//! The world of a run.
+
+ghost use Rattle.std.specs.Prelude.{◌≡◌, ◌<◌, ◌+◌, ◌^◌, IfOk, OnErr};
+ghost use Rattle.ide_plan.specs.Fits.{FitsPlan};
+ghost use Rattle.link_events.specs.Spells.{IsAllowed};
+
+use all_links::Links;
+use ide_plan::Plan;
+use ide_types::Memory;
+use interface_joins::interface_operations_join;
+use link_events::Event;
+use link_verdicts::Verdict;
+use port_operations::points_stand;
+use std::alloc::Global;
+use std::marker::Model;
+use whole_machine::{whole_begins, whole_steps};
+
+/// All links of a topology, with their devices' interfaces, the keys, the packets that were sealed, what the managers
+/// know, and trusted memory.
+#[derive(Drop)]
+pub struct World {
+    alloc: Global,
+    plan: Plan,
+    links: Links,
+}
+
+impl Model for World {
+    ghost use Rattle.world.specs.Worlds.{WorldView, world_of, IsWorld};
+
+    ghost Value = { WorldView };
+
+    ghost view = { λ w. world_of w.plan w.links };
+
+    ghost invariant = { λ w. IsWorld w.plan w.links };
+}
+
+impl World {
+    ghost use Rattle.world.specs.Worlds.{IsNew, IsStep};
+
+    /// The world before the first event: no stream of the plan has keys, no interface is locked, and trusted memory is 0.
+    pub fn make(alloc: Global, plan: Plan) -> Result<World, Memory>
+        requires { FitsPlan plan }
+        ensures { IfOk result (λ w. IsNew plan w) }
+    {
+        let links = Links::make(alloc, &plan)?;
+        whole_begins();
+        Ok(World { alloc, plan, links })
+    }
+
+    /// How many events came to a verdict.
+    pub fn calls(&self) -> u64
+        ensures { result ≡ self.now.steps }
+    {
+        self.links.steps
+    }
+
+    /// The verdict of an event that a script's line spells: the one that is due after the events before it. For want of
+    /// memory nothing changes. Fewer than 2^28 events came before.
+    pub fn step(&mut self, event: &Event) -> Result<Verdict, Memory>
+        requires few { self.old.steps < 2 ^ 28 }
+        requires allowed { IsAllowed event.now }
+        ensures step { IfOk result (λ v. IsStep self.old event.now v self.new) }
+        ensures memory { OnErr result (self.new ≡ self.old) }
+    {
+        whole_steps();
+        points_stand();
+        interface_operations_join();
+        self.links.answer(self.alloc, event)
+    }
+}
