@@ -31,6 +31,23 @@ fn perform(rt: &HostRuntime) -> Status {
     ide_cli::run(rt.alloc(), &words, &mut shelf, &mut out)
 }
 
+// What standard error says of an end: its kind, and no more. Standard output says what was wrong with the words.
+fn word(status: Status) -> Option<&'static str> {
+    match status {
+        Status::Done | Status::Usage => None,
+        Status::Topology => Some("the topology is faulty"),
+        Status::Script => Some("a line is not spelled"),
+        Status::ReadFault => Some("a file could not be read"),
+        Status::WriteFault => Some("standard output could not be written"),
+        Status::Memory => Some("there was no memory"),
+        Status::TooLong => Some("a file is too long"),
+    }
+}
+
 fn main(rt: HostRuntime) -> ExitCode {
-    ExitCode::from(perform(&rt).code())
+    let status = perform(&rt);
+    if let Some(word) = word(status) {
+        let _ = eprintln!(rt; "ide: {word}");
+    }
+    ExitCode::from(status.code())
 }

@@ -1,5 +1,6 @@
 -- The events of a script are few, and each is one that a line may spell.
-use Rattle.std.proofs.Common.{◌≡◌, ℕ, suc, ◌+◌, ◌≤◌, ◌==◌, List, [], ◌∷◌, length, take, length-take, Bool, true, false, Option, Some, None, Result, Ok, Err, refl, arith}
+use Rattle.std.proofs.Common.{◌≡◌, ℕ, suc, ◌+◌, ◌≤◌, ◌==◌, List, [], ◌∷◌, length, take, length-take, Bool, true, false}
+use Rattle.std.proofs.Common.{Option, Some, None, Result, Ok, Err, refl, arith}
 use Rattle.std.specs.Prelude.{if◌then◌else◌, IfOk}
 use Rattle.std.specs.List.{AllByRecursion, slice_index_or}
 use Rattle.std.proofs.lemmas.List.Sums.{count_by-le-length}
@@ -25,10 +26,12 @@ record IsSmall (n : ℕ) (script : Script) : Type 0 where
   few : length script.events ≤ n
   each : AllByRecursion IsAllowed script.events
 
-with_line_small : (n k : ℕ) (m : Result (Option Event) LineFault) (later : Script) → ((e : Event) → m ≡ Ok (Some e) → IsAllowed e) → IsSmall k later → IsSmall (suc k) (with_line n m later)
+with_line_small : (n k : ℕ) (m : Result (Option Event) LineFault) (later : Script)
+    → ((e : Event) → m ≡ Ok (Some e) → IsAllowed e) → IsSmall k later → IsSmall (suc k) (with_line n m later)
 with_line_small n k (Err f) later allowed small = record { few = omega arith; each = tt }
 with_line_small n k (Ok None) later allowed small = record { few = omega (arith, small.few); each = small.each }
-with_line_small n k (Ok (Some e)) later allowed small = record { few = omega (arith, small.few); each = (allowed e refl, small.each) }
+with_line_small n k (Ok (Some e)) later allowed small = record
+    { few = omega (arith, small.few); each = (allowed e refl, small.each) }
 
 none_small : (k : ℕ) → IsSmall k (stops AtEnd)
 none_small k = record { few = omega arith; each = tt }
@@ -37,11 +40,14 @@ script_small : (over : Bool) (n : ℕ) (parts : List Text) → IsSmall (length p
 script_small over n [] = none_small 0
 script_small over n (piece ∷ []) = last over (length piece == 0)
   where
-    last : (o none : Bool) → IsSmall 1 (if o then unended_line n piece else if none then stops AtEnd else with_line n (line_meaning piece) (stops AtEnd))
+    last : (o none : Bool) → IsSmall 1
+        (if o then unended_line n piece else if none then stops AtEnd else with_line n (line_meaning piece)
+        (stops AtEnd))
     last true none = record { few = omega arith; each = tt }
     last false true = none_small 1
     last false false = with_line_small n 0 (line_meaning piece) (stops AtEnd) (line_allowed piece) (none_small 0)
-script_small over n (piece ∷ next ∷ rest) = with_line_small n (length (next ∷ rest)) (line_meaning piece) (script_in over (n + 1) (next ∷ rest)) (line_allowed piece) (script_small over (n + 1) (next ∷ rest))
+script_small over n (piece ∷ next ∷ rest) = with_line_small n (length (next ∷ rest)) (line_meaning piece)
+    (script_in over (n + 1) (next ∷ rest)) (line_allowed piece) (script_small over (n + 1) (next ∷ rest))
 
 cut_small : (limit : ℕ) (file : Text) → length (cut_at limit file) ≤ limit + 1
 cut_small limit file = by_test (slice_index_or file limit 10 == 10)

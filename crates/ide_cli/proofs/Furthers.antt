@@ -1,7 +1,8 @@
 -- How far is read where a run comes to an end, by the words. Behind a sound topology, which was wholly read, the bytes
--- that were given are its own and then the script's, so what holds of the script holds of both; behind any other nothing
--- more was given than it has.
-use Rattle.std.proofs.Common.{◌≡◌, ◌≤◌, ◌+◌, ◌-◌, ℕ, length, Option, Some, None, Result, Ok, Err, refl, sym, subst, arith}
+-- that were given are its own and then the script's, so what holds of the script holds of both; behind any other
+-- nothing more was given than it has.
+use Rattle.std.proofs.Common.{◌≡◌, ◌≤◌, ◌+◌, ◌-◌, ℕ, length, Option, Some, None, Result, Ok, Err, refl, sym, subst}
+use Rattle.std.proofs.Common.{arith}
 use Rattle.std.specs.Prelude.{IfOk}
 use Rattle.ide_base.specs.Outside.{Contents, ShelfSeen}
 use Rattle.ide_words.specs.Words.{Asked}
@@ -19,35 +20,46 @@ use Rattle.ide_cli.specs.Topologies.{loaded}
 use Rattle.ide_cli.proofs.Loads.{joined}
 
 -- of one file, in other words
-pub far_same : (f g : Text → Type 0) (name : Text) (s0 s1 : ShelfSeen) (r : Result End Fault) → ((t : Text) → f t → g t) → IfOk r (λ e. ReadAsFar (λ contents. NoFurther f (bytes_of (contents name))) s0 s1)
+pub far_same : (f g : Text → Type 0) (name : Text) (s0 s1 : ShelfSeen) (r : Result End Fault) → ((t : Text) → f t → g t)
+    → IfOk r (λ e. ReadAsFar (λ contents. NoFurther f (bytes_of (contents name))) s0 s1)
     → IfOk r (λ e. ReadAsFar (λ contents. NoFurther g (bytes_of (contents name))) s0 s1)
 far_same f g name s0 s1 (Err e) same far = tt
 far_same f g name s0 s1 (Ok e) same far = by_told s0.contents far
   where
-    by_told : (told : Option Contents) → ReadAsFarOf (λ contents. NoFurther f (bytes_of (contents name))) told s0 s1 → ReadAsFarOf (λ contents. NoFurther g (bytes_of (contents name))) told s0 s1
+    by_told : (told : Option Contents) → ReadAsFarOf (λ contents. NoFurther f (bytes_of (contents name))) told s0 s1
+        → ReadAsFarOf (λ contents. NoFurther g (bytes_of (contents name))) told s0 s1
     by_told None far = tt
     by_told (Some contents) (n, gave, far) = (n, gave, (far.0, same _ far.1))
 
 -- ---- behind a sound topology
 
-behind_in : (topology script : Option Text) (plan : Plan) (given latest : ℕ) → LoadedIn loaded topology (Sound plan) → NoFurther (ScriptGoesOn plan) (bytes_of script) given (given - latest)
+behind_in : (topology script : Option Text) (plan : Plan) (given latest : ℕ) → LoadedIn loaded topology (Sound plan)
+    → NoFurther (ScriptGoesOn plan) (bytes_of script) given (given - latest)
     → RunNoFurther topology script (length (bytes_of topology) + given) ((length (bytes_of topology) + given) - latest)
 behind_in None script plan given latest is far = absurd is
 behind_in (Some file) script plan given latest is far =
     let all : given ≡ (length file + given) - length file = omega arith in
     let ahead : given - latest ≡ ((length file + given) - latest) - length file = omega arith in
     let P : ℕ → ℕ → Type 0 = NoFurther (ScriptGoesOn plan) (bytes_of script) in
-    let there : LoadedNoFurther (Sound plan) file (bytes_of script) (length file + given) ((length file + given) - latest) =
+    let there : LoadedNoFurther (Sound plan) file (bytes_of script) (length file + given)
+    ((length file + given) - latest) =
     subst (λ (k : ℕ). P k (((length file + given) - latest) - length file)) all (subst (P given) ahead far) in
-    subst (λ (l : Loaded). LoadedNoFurther l file (bytes_of script) (length file + given) ((length file + given) - latest)) is there
+    subst (λ (l : Loaded). LoadedNoFurther l file (bytes_of script) (length file + given)
+    ((length file + given) - latest)) is there
 
-pub far_behind : (topology script : Text) (plan : Plan) (s0 s1 s2 : ShelfSeen) (r : Result End Fault) → s1.contents ≡ s0.contents → LoadedOf loaded s0.contents topology (Sound plan) → GaveAllOf s0.contents topology s0.given s1.given
-    → IfOk r (λ e. ReadAsFar (λ contents. NoFurther (ScriptGoesOn plan) (bytes_of (contents script))) s1 s2) → IfOk r (λ e. ReadAsFar (λ contents. RunNoFurther (contents topology) (contents script)) s0 s2)
+pub far_behind : (topology script : Text) (plan : Plan) (s0 s1 s2 : ShelfSeen) (r : Result End Fault) → s1.contents
+    ≡ s0.contents → LoadedOf loaded s0.contents topology (Sound plan) → GaveAllOf s0.contents topology s0.given s1.given
+    → IfOk r (λ e. ReadAsFar (λ contents. NoFurther (ScriptGoesOn plan) (bytes_of (contents script))) s1 s2)
+    → IfOk r (λ e. ReadAsFar (λ contents. RunNoFurther (contents topology) (contents script)) s0 s2)
 far_behind topology script plan s0 s1 s2 (Err e) same is all far = tt
 far_behind topology script plan s0 s1 s2 (Ok e) same is all far =
-    by_told s0.contents is all (subst (λ (told : Option Contents). ReadAsFarOf (λ contents. NoFurther (ScriptGoesOn plan) (bytes_of (contents script))) told s1 s2) same far)
+    by_told s0.contents is all
+    (subst (λ (told : Option Contents). ReadAsFarOf
+    (λ contents. NoFurther (ScriptGoesOn plan) (bytes_of (contents script))) told s1 s2) same far)
   where
-    by_told : (told : Option Contents) → LoadedOf loaded told topology (Sound plan) → GaveAllOf told topology s0.given s1.given → ReadAsFarOf (λ contents. NoFurther (ScriptGoesOn plan) (bytes_of (contents script))) told s1 s2
+    by_told : (told : Option Contents) → LoadedOf loaded told topology (Sound plan)
+        → GaveAllOf told topology s0.given s1.given → ReadAsFarOf
+        (λ contents. NoFurther (ScriptGoesOn plan) (bytes_of (contents script))) told s1 s2
         → ReadAsFarOf (λ contents. RunNoFurther (contents topology) (contents script)) told s0 s2
     by_told None is all far = tt
     by_told (Some contents) is all (n, gave, far) = (
@@ -63,32 +75,43 @@ IsNoPlan (Sound plan) = ⊥
 IsNoPlan (Faulty fault) = Unit {0}
 IsNoPlan Long = Unit {0}
 
-alone : (l : Loaded) (topology script : Text) (given ahead : ℕ) → IsNoPlan l → given ≤ length topology → LoadedNoFurther l topology script given ahead
+alone : (l : Loaded) (topology script : Text) (given ahead : ℕ) → IsNoPlan l → given ≤ length topology
+    → LoadedNoFurther l topology script given ahead
 alone (Sound plan) topology script given ahead none le = absurd none
 alone (Faulty fault) topology script given ahead none le = le
 alone Long topology script given ahead none le = le
 
-alone_in : (topology script : Option Text) (l : Loaded) (given ahead : ℕ) → IsNoPlan l → LoadedIn loaded topology l → given ≤ length (bytes_of topology) → RunNoFurther topology script given ahead
+alone_in : (topology script : Option Text) (l : Loaded) (given ahead : ℕ) → IsNoPlan l → LoadedIn loaded topology l
+    → given ≤ length (bytes_of topology) → RunNoFurther topology script given ahead
 alone_in None script l given ahead none is le = absurd is
-alone_in (Some file) script l given ahead none is le = subst (λ (l : Loaded). LoadedNoFurther l file (bytes_of script) given ahead) is (alone l file (bytes_of script) given ahead none le)
+alone_in (Some file) script l given ahead none is le = subst
+    (λ (l : Loaded). LoadedNoFurther l file (bytes_of script) given ahead) is
+    (alone l file (bytes_of script) given ahead none le)
 
-pub topology_alone : (told : Option Contents) (topology script : Text) (l : Loaded) (s0 s1 : ShelfSeen) (r : Result End Fault) → IsNoPlan l → LoadedOf loaded told topology l → GaveOf told topology s0.given s1.given
+pub topology_alone : (told : Option Contents) (topology script : Text) (l : Loaded) (s0 s1 : ShelfSeen)
+    (r : Result End Fault) → IsNoPlan l → LoadedOf loaded told topology l → GaveOf told topology s0.given s1.given
     → IfOk r (λ e. ReadAsFarOf (λ contents. RunNoFurther (contents topology) (contents script)) told s0 s1)
 topology_alone told topology script l s0 s1 (Err e) none is gave = tt
 topology_alone None topology script l s0 s1 (Ok e) none is gave = tt
-topology_alone (Some contents) topology script l s0 s1 (Ok e) none is (n, le, gave) = (n, gave, alone_in (contents topology) (contents script) l n (n - s1.latest) none is le)
+topology_alone (Some contents) topology script l s0 s1 (Ok e) none is (n, le, gave) =
+    (n, gave, alone_in (contents topology) (contents script) l n (n - s1.latest) none is le)
 
 -- ---- a topology that is checked, and the words
 
-pub within_file : (told : Option Contents) (name : Text) (s0 s1 : ShelfSeen) (r : Result End Fault) → GaveOf told name s0.given s1.given → IfOk r (λ e. ReadAsFarOf (λ contents given ahead. given ≤ length (bytes_of (contents name))) told s0 s1)
+pub within_file : (told : Option Contents) (name : Text) (s0 s1 : ShelfSeen) (r : Result End Fault)
+    → GaveOf told name s0.given s1.given → IfOk r
+    (λ e. ReadAsFarOf (λ contents given ahead. given ≤ length (bytes_of (contents name))) told s0 s1)
 within_file told name s0 s1 (Err e) gave = tt
 within_file None name s0 s1 (Ok e) gave = tt
 within_file (Some contents) name s0 s1 (Ok e) (n, le, gave) = (n, gave, le)
 
-pub asked_far : (a : Option Asked) (b : Asked) (s0 s1 : ShelfSeen) (r : Result End Fault) → a ≡ Some b → IfOk r (λ e. ReadAsFar (AskedNoFurther (Some b)) s0 s1) → IfOk r (λ e. ReadAsFar (AskedNoFurther a) s0 s1)
-asked_far a b s0 s1 r is far = subst (λ (o : Option Asked). IfOk r (λ e. ReadAsFar (AskedNoFurther o) s0 s1)) (sym is) far
+pub asked_far : (a : Option Asked) (b : Asked) (s0 s1 : ShelfSeen) (r : Result End Fault) → a ≡ Some b
+    → IfOk r (λ e. ReadAsFar (AskedNoFurther (Some b)) s0 s1) → IfOk r (λ e. ReadAsFar (AskedNoFurther a) s0 s1)
+asked_far a b s0 s1 r is far = subst (λ (o : Option Asked). IfOk r (λ e. ReadAsFar (AskedNoFurther o) s0 s1)) (sym is)
+    far
 
-pub nothing_read : (a : Option Asked) (s : ShelfSeen) (r : Result End Fault) → a ≡ None → IfOk r (λ e. ReadAsFar (AskedNoFurther a) s s)
+pub nothing_read : (a : Option Asked) (s : ShelfSeen) (r : Result End Fault) → a ≡ None
+    → IfOk r (λ e. ReadAsFar (AskedNoFurther a) s s)
 nothing_read a s r is = subst (λ (o : Option Asked). IfOk r (λ e. ReadAsFar (AskedNoFurther o) s s)) (sym is) (none r)
   where
     by_told : (told : Option Contents) → ReadAsFarOf (AskedNoFurther None) told s s

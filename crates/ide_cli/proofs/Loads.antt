@@ -2,7 +2,8 @@
 -- then is the script's. One byte more is read than counts: where it comes the file is too long, and else what was read
 -- is the whole file. Given bytes add up: within the topology's length no line is due, and those behind it are the
 -- script's, so that a fault there leaves what it leaves of the script alone.
-use Rattle.std.proofs.Common.{◌≡◌, ◌≢◌, ◌≤◌, ◌<◌, ◌+◌, ◌-◌, ℕ, [], length, length-take, take, true, false, Bool, Option, Some, None, Result, Ok, Err, refl, sym, ap, inr, subst, ◌∙◌, arith, option_map}
+use Rattle.std.proofs.Common.{◌≡◌, ◌≢◌, ◌≤◌, ◌<◌, ◌+◌, ◌-◌, ℕ, [], length, length-take, take, true, false, Bool, Option}
+use Rattle.std.proofs.Common.{Some, None, Result, Ok, Err, refl, sym, ap, inr, subst, ◌∙◌, arith, option_map}
 use Rattle.std.specs.Prelude.{IfErr, IfOk, nat_lt}
 use Rattle.std.proofs.lemmas.Bool.Decides.{nat_tests}
 use Rattle.std.proofs.lemmas.List.{length-take-le, take_all}
@@ -28,32 +29,41 @@ use Rattle.ide_cli.specs.Reads.{GaveAtMost, RanPast}
 use Rattle.ide_cli.specs.Script.{script_due}
 
 -- one byte more than those that count tells what the whole file comes to
-same_loaded : {L : Type 0} (long : L) (by : Text → L) (whole : Text) (b : Bool) → nat_lt topology_limit (length whole) ≡ b → within long by (take 1048577 whole) ≡ within long by whole
+same_loaded : {L : Type 0} (long : L) (by : Text → L) (whole : Text) (b : Bool) → nat_lt topology_limit (length whole)
+    ≡ b → within long by (take 1048577 whole) ≡ within long by whole
 same_loaded long by whole true over =
-    let longer : nat_lt topology_limit (length (take 1048577 whole)) ≡ true = let n = length-take-le 1048577 whole (grind (arith, nat_tests)) in grind (arith, nat_tests) in
+    let longer : nat_lt topology_limit (length (take 1048577 whole))
+    ≡ true = let n = length-take-le 1048577 whole (grind (arith, nat_tests)) in grind (arith, nat_tests) in
     rw (over, longer) refl
 same_loaded long by whole false over = ap (within long by) (take_all 1048577 whole (grind (arith, nat_tests)))
 
-front_in : {L : Type 0} (long : L) (by : Text → L) (file : Option Text) (read : Text) (l : L) → FrontIn 1048577 file read → l ≡ within long by read → LoadedIn (within long by) file l
+front_in : {L : Type 0} (long : L) (by : Text → L) (file : Option Text) (read : Text) (l : L)
+    → FrontIn 1048577 file read → l ≡ within long by read → LoadedIn (within long by) file l
 front_in long by None read l is e = absurd is
-front_in long by (Some whole) read l is e = e ∙ ap (within long by) is ∙ same_loaded long by whole (nat_lt topology_limit (length whole)) refl
+front_in long by (Some whole) read l is e = e ∙ ap (within long by) is ∙ same_loaded long by whole
+    (nat_lt topology_limit (length whole)) refl
 
-front_of : {L : Type 0} (long : L) (by : Text → L) (told : Option Contents) (name read : Text) (l : L) → FrontOf told name 1048577 read → l ≡ within long by read → LoadedOf (within long by) told name l
+front_of : {L : Type 0} (long : L) (by : Text → L) (told : Option Contents) (name read : Text) (l : L)
+    → FrontOf told name 1048577 read → l ≡ within long by read → LoadedOf (within long by) told name l
 front_of long by None name read l is e = tt
 front_of long by (Some contents) name read l is e = front_in long by (contents name) read l is e
 
-pub loads_front : {L : Type 0} (long : L) (by : Text → L) (told : Option Contents) (name read : Text) (r : Result L Fault) → FrontOf told name 1048577 read → IfOk r (λ l. l ≡ within long by read)
+pub loads_front : {L : Type 0} (long : L) (by : Text → L) (told : Option Contents) (name read : Text)
+    (r : Result L Fault) → FrontOf told name 1048577 read → IfOk r (λ l. l ≡ within long by read)
     → Loads (within long by) told name r
 loads_front long by told name read (Ok l) is e = front_of long by told name read l is e
 loads_front long by told name read (Err f) is e = tt
 
 -- ---- how much was given
 
-pub gave_long : {L : Type 0} (long : L) (r : Result L Fault) (n before now : ℕ) → n ≤ 1048577 → Gave before n now → IfOk r (λ l. l ≡ long → 1048576 < n) → IfOk r (λ l. l ≡ long → Gave before 1048577 now)
-gave_long long (Ok l) n before now most gave over = λ is. let lt : 1048576 < n = over is in let same : n ≡ 1048577 = omega arith in rw same at gave
+pub gave_long : {L : Type 0} (long : L) (r : Result L Fault) (n before now : ℕ) → n ≤ 1048577 → Gave before n now
+    → IfOk r (λ l. l ≡ long → 1048576 < n) → IfOk r (λ l. l ≡ long → Gave before 1048577 now)
+gave_long long (Ok l) n before now most gave over = λ is. let lt : 1048576 < n = over is in let same : n
+    ≡ 1048577 = omega arith in rw same at gave
 gave_long long (Err f) n before now most gave over = over
 
-pub gave_few : {L : Type 0} (long : L) (r : Result L Fault) (n before now : ℕ) → Gave before n now → IfOk r (λ l. l ≢ long → n ≤ 1048576) → IfOk r (λ l. l ≢ long → GaveAtMost before 1048576 now)
+pub gave_few : {L : Type 0} (long : L) (r : Result L Fault) (n before now : ℕ) → Gave before n now
+    → IfOk r (λ l. l ≢ long → n ≤ 1048576) → IfOk r (λ l. l ≢ long → GaveAtMost before 1048576 now)
 gave_few long (Ok l) n before now gave few = λ other. (n, few other, gave)
 gave_few long (Err f) n before now gave few = few
 
@@ -61,7 +71,8 @@ pub joined : (a b c m n : ℕ) → Gave a m b → Gave b n c → Gave a (m + n) 
 joined a b c m n one two = (omega (arith, one.0, two.0), omega (arith, one.1, two.1))
 
 -- a topology that is no longer than counts, and then one byte more of a script than count
-pub gave_more : (r : Result End Fault) (a b c : ℕ) → GaveAtMost a 1048576 b → IfOk r (λ e. e ≡ TooLong → Gave b 16777217 c) → IfOk r (λ e. e ≡ TooLong → RanPast a c)
+pub gave_more : (r : Result End Fault) (a b c : ℕ) → GaveAtMost a 1048576 b
+    → IfOk r (λ e. e ≡ TooLong → Gave b 16777217 c) → IfOk r (λ e. e ≡ TooLong → RanPast a c)
 gave_more (Ok e) a b c few more = λ is. inr (few.0, few.1, joined a b c few.0 16777217 few.2 (more is))
 gave_more (Err f) a b c few more = more
 
@@ -75,30 +86,41 @@ done_is_short : (e : End) → e ≡ Done → e ≢ TooLong
 done_is_short e is bad = cc
 
 -- a topology that is checked to its end has no more bytes than count
-pub checked_whole : {L : Type 0} (long l : L) (r : Result End Fault) (before now : ℕ) → (l ≢ long → GaveAtMost before 1048576 now) → IfOk r (λ e. e ≢ TooLong → l ≢ long) → IfOk r (λ e. e ≡ Done → now ≤ before + 1048576)
-checked_whole long l (Ok e) before now few short = λ is. most_given before 1048576 now (few (short (done_is_short e is)))
+pub checked_whole : {L : Type 0} (long l : L) (r : Result End Fault) (before now : ℕ)
+    → (l ≢ long → GaveAtMost before 1048576 now) → IfOk r (λ e. e ≢ TooLong → l ≢ long)
+    → IfOk r (λ e. e ≡ Done → now ≤ before + 1048576)
+checked_whole long l (Ok e) before now few short = λ is. most_given before 1048576 now
+    (few (short (done_is_short e is)))
 checked_whole long l (Err f) before now few short = short
 
 -- nor has a script that is run to its end, behind such a topology
-pub ran_whole : (r : Result End Fault) (a b c : ℕ) → GaveAtMost a 1048576 b → IfOk r (λ e. e ≡ Done → c ≤ b + 16777216) → IfOk r (λ e. e ≡ Done → c ≤ a + 17825792)
-ran_whole (Ok e) a b c few more = λ is. let behind : c ≤ b + 16777216 = more is in omega (arith, behind, most_given a 1048576 b few)
+pub ran_whole : (r : Result End Fault) (a b c : ℕ) → GaveAtMost a 1048576 b → IfOk r (λ e. e ≡ Done → c ≤ b + 16777216)
+    → IfOk r (λ e. e ≡ Done → c ≤ a + 17825792)
+ran_whole (Ok e) a b c few more = λ is. let behind : c ≤ b + 16777216 = more is in omega
+    (arith, behind, most_given a 1048576 b few)
 ran_whole (Err f) a b c few more = more
 
 -- what is due of what was loaded
-due_in : {L : Type 0} (by : Text → L) (due : L → Due) (file : Option Text) (l : L) → LoadedIn by file l → option_map (λ t. due (by t)) file ≡ Some (due l)
+due_in : {L : Type 0} (by : Text → L) (due : L → Due) (file : Option Text) (l : L) → LoadedIn by file l
+    → option_map (λ t. due (by t)) file ≡ Some (due l)
 due_in by due None l is = absurd is
 due_in by due (Some bytes) l is = ap (λ x. Some (due x)) (sym is)
 
-pub due_loaded : {L : Type 0} (by : Text → L) (due : L → Due) (told : Option Contents) (name : Text) (l : L) → LoadedOf by told name l → IsDue told (λ contents. option_map (λ t. due (by t)) (contents name)) (due l)
+pub due_loaded : {L : Type 0} (by : Text → L) (due : L → Due) (told : Option Contents) (name : Text) (l : L)
+    → LoadedOf by told name l → IsDue told (λ contents. option_map (λ t. due (by t)) (contents name)) (due l)
 due_loaded by due None name l is = tt
 due_loaded by due (Some contents) name l is = due_in by due (contents name) l is
 
 -- a topology could not be loaded
-pub cut_by_load : (told : Option Contents) (due : Contents → Option Due) (name : Text) (s0 s1 : ℕ) (write quiet : Type 0) (h : Option Text) (e : Fault)
-    → ((contents : Contents) → contents name ≡ None → due contents ≡ None) → LoadCut s0 s1 told name e → EndsOn told due (Rose s0 s1) write quiet (Gained h h) (Err e)
-cut_by_load told due name s0 s1 write quiet h fault.Read lacks c = stopped told due name s0 s1 write quiet h stop.Fault lacks c
+pub cut_by_load : (told : Option Contents) (due : Contents → Option Due) (name : Text) (s0 s1 : ℕ)
+    (write quiet : Type 0) (h : Option Text) (e : Fault)
+    → ((contents : Contents) → contents name ≡ None → due contents ≡ None) → LoadCut s0 s1 told name e
+    → EndsOn told due (Rose s0 s1) write quiet (Gained h h) (Err e)
+cut_by_load told due name s0 s1 write quiet h fault.Read lacks c = stopped told due name s0 s1 write quiet h stop.Fault
+    lacks c
 cut_by_load told due name s0 s1 write quiet h fault.Write lacks c = absurd c
-cut_by_load told due name s0 s1 write quiet h fault.Memory lacks c = stopped told due name s0 s1 write quiet h stop.Memory lacks c
+cut_by_load told due name s0 s1 write quiet h fault.Memory lacks c = stopped told due name s0 s1 write quiet h
+    stop.Memory lacks c
 
 -- ---- what is due, two ways
 
@@ -106,52 +128,66 @@ same_map : (file : Option Text) (f g : Text → Due) → ((t : Text) → f t ≡
 same_map None f g same = refl
 same_map (Some t) f g same = ap (λ (d : Due). Some d) (same t)
 
-pub same_due : (told : Option Contents) (name : Text) (f g : Text → Due) → ((t : Text) → f t ≡ g t) → SameDue told (λ contents. option_map f (contents name)) (λ contents. option_map g (contents name))
+pub same_due : (told : Option Contents) (name : Text) (f g : Text → Due) → ((t : Text) → f t ≡ g t)
+    → SameDue told (λ contents. option_map f (contents name)) (λ contents. option_map g (contents name))
 same_due None name f g same = tt
 same_due (Some contents) name f g same = same_map (contents name) f g same
 
-run_in : (topology script : Option Text) (plan : Plan) → LoadedIn loaded topology (Sound plan) → option_map (script_due plan) script ≡ run_due topology script
+run_in : (topology script : Option Text) (plan : Plan) → LoadedIn loaded topology (Sound plan)
+    → option_map (script_due plan) script ≡ run_due topology script
 run_in None script plan is = absurd is
 run_in (Some bytes) script plan is = rw (← is) refl
 
 -- once a topology is loaded, what is due is the script's
-pub run_after : (told : Option Contents) (topology script : Text) (plan : Plan) → LoadedOf loaded told topology (Sound plan)
-    → SameDue told (λ contents. option_map (script_due plan) (contents script)) (λ contents. run_due (contents topology) (contents script))
+pub run_after : (told : Option Contents) (topology script : Text) (plan : Plan)
+    → LoadedOf loaded told topology (Sound plan)
+    → SameDue told (λ contents. option_map (script_due plan) (contents script))
+    (λ contents. run_due (contents topology) (contents script))
 run_after None topology script plan is = tt
 run_after (Some contents) topology script plan is = run_in (contents topology) (contents script) plan is
 
 -- what runs once a shelf was read that kept its contents and its count of faults
-pub later : (told now : Option Contents) (due : Contents → Option Due) (before after end o0 o1 : ℕ) (gained : Text → Type 0) (r : Result End Fault) → now ≡ told → after ≡ before
-    → EndsOn now due (Rose after end) (Rose o0 o1) (Quiet after end o0 o1) gained r → EndsOn told due (Rose before end) (Rose o0 o1) (Quiet before end o0 o1) gained r
+pub later : (told now : Option Contents) (due : Contents → Option Due) (before after end o0 o1 : ℕ)
+    (gained : Text → Type 0) (r : Result End Fault) → now ≡ told → after ≡ before
+    → EndsOn now due (Rose after end) (Rose o0 o1) (Quiet after end o0 o1) gained r
+    → EndsOn told due (Rose before end) (Rose o0 o1) (Quiet before end o0 o1) gained r
 later told now due before after end o0 o1 gained r same quiet ran =
-    let P : Option Contents → Type 0 = λ t. EndsOn t due (Rose before end) (Rose o0 o1) (Quiet before end o0 o1) gained r in
+    let P : Option Contents → Type 0 = λ t. EndsOn t due (Rose before end) (Rose o0 o1) (Quiet before end o0 o1) gained
+    r in
     let Q : ℕ → Type 0 = λ n. EndsOn now due (Rose n end) (Rose o0 o1) (Quiet n end o0 o1) gained r in
     subst P same (subst Q quiet ran)
 
 -- ---- where a read fails
 
-gave_all_in : (file : Option Text) (read : Text) (before now : ℕ) → FrontIn 1048577 file read → length read ≤ 1048576 → Gave before (length read) now → Gave before (length (bytes_of file)) now
+gave_all_in : (file : Option Text) (read : Text) (before now : ℕ) → FrontIn 1048577 file read → length read ≤ 1048576
+    → Gave before (length read) now → Gave before (length (bytes_of file)) now
 gave_all_in None read before now is few gave = absurd is
 gave_all_in (Some file) read before now is few gave =
     let same : length read ≡ length file = omega (arith, ap length is, length-take 1048577 file) in
     let P : ℕ → Type 0 = λ n. Gave before n now in
     subst P same gave
 
-gave_all_of : (told : Option Contents) (name read : Text) (before now : ℕ) → FrontOf told name 1048577 read → length read ≤ 1048576 → Gave before (length read) now → GaveAllOf told name before now
+gave_all_of : (told : Option Contents) (name read : Text) (before now : ℕ) → FrontOf told name 1048577 read
+    → length read ≤ 1048576 → Gave before (length read) now → GaveAllOf told name before now
 gave_all_of None name read before now is few gave = tt
 gave_all_of (Some contents) name read before now is few gave = gave_all_in (contents name) read before now is few gave
 
-within_in : (file : Option Text) (read : Text) (most before now : ℕ) → FrontIn most file read → Gave before (length read) now → (n : ℕ) × (n ≤ length (bytes_of file)) × Gave before n now
+within_in : (file : Option Text) (read : Text) (most before now : ℕ) → FrontIn most file read
+    → Gave before (length read) now → (n : ℕ) × (n ≤ length (bytes_of file)) × Gave before n now
 within_in None read most before now is gave = absurd is
-within_in (Some file) read most before now is gave = (length read, omega (arith, ap length is, length-take most file), gave)
+within_in (Some file) read most before now is gave =
+    (length read, omega (arith, ap length is, length-take most file), gave)
 
-pub given_within : (told : Option Contents) (name read : Text) (most before now : ℕ) → FrontOf told name most read → Gave before (length read) now → GaveOf told name before now
+pub given_within : (told : Option Contents) (name read : Text) (most before now : ℕ) → FrontOf told name most read
+    → Gave before (length read) now → GaveOf told name before now
 given_within None name read most before now is gave = tt
 given_within (Some contents) name read most before now is gave = within_in (contents name) read most before now is gave
 
-pub gave_all : {L : Type 0} (long : L) (told : Option Contents) (name read : Text) (r : Result L Fault) (before now : ℕ) → FrontOf told name 1048577 read → Gave before (length read) now → IfOk r (λ l. l ≢ long → length read ≤ 1048576)
+pub gave_all : {L : Type 0} (long : L) (told : Option Contents) (name read : Text) (r : Result L Fault) (before now : ℕ)
+    → FrontOf told name 1048577 read → Gave before (length read) now → IfOk r (λ l. l ≢ long → length read ≤ 1048576)
     → IfOk r (λ l. l ≢ long → GaveAllOf told name before now)
-gave_all long told name read (Ok l) before now is gave few = λ other. gave_all_of told name read before now is (few other) gave
+gave_all long told name read (Ok l) before now is gave few = λ other. gave_all_of told name read before now is
+    (few other) gave
 gave_all long told name read (Err e) before now is gave few = few
 
 -- nothing that was gained is due to a line
@@ -173,16 +209,21 @@ NoLineOf text lines (Some contents) before now = NoLineIn (text contents) (lines
 
 -- in no more bytes than a file has
 pub no_line_in_file : (text lines : Contents → ℕ → Text) (told : Option Contents) (name : Text) (before now : ℕ)
-    → ((contents : Contents) (n : ℕ) → n ≤ length (bytes_of (contents name)) → (text contents n ≡ []) × (lines contents n ≡ [])) → GaveOf told name before now → NoLineOf text lines told before now
+    → ((contents : Contents) (n : ℕ) → n ≤ length (bytes_of (contents name)) → (text contents n ≡ [])
+    × (lines contents n ≡ [])) → GaveOf told name before now → NoLineOf text lines told before now
 no_line_in_file text lines None name before now none gave = tt
-no_line_in_file text lines (Some contents) name before now none (n, le, gave) = (n, (none contents n le).0, (none contents n le).1, gave)
+no_line_in_file text lines (Some contents) name before now none (n, le, gave) =
+    (n, (none contents n le).0, (none contents n le).1, gave)
 
 -- ahead of the first byte
-pub no_line_at_first : (text lines : Contents → ℕ → Text) (told : Option Contents) (given : ℕ) → ((contents : Contents) → (text contents 0 ≡ []) × (lines contents 0 ≡ [])) → NoLineOf text lines told given given
+pub no_line_at_first : (text lines : Contents → ℕ → Text) (told : Option Contents) (given : ℕ)
+    → ((contents : Contents) → (text contents 0 ≡ []) × (lines contents 0 ≡ [])) → NoLineOf text lines told given given
 no_line_at_first text lines None given none = tt
-no_line_at_first text lines (Some contents) given none = (0, (none contents).0, (none contents).1, (omega arith, omega arith))
+no_line_at_first text lines (Some contents) given none =
+    (0, (none contents).0, (none contents).1, (omega arith, omega arith))
 
-no_line_wrote_in : (e : Fault) (text lines : ℕ → Text) (s0 s1 : ShelfSeen) (o0 o1 : SinkSeen) → NoLineIn text lines s0.given s1.given → GainedAt e o0.held o1.held [] → WroteByIn e text lines s0 s1 o0 o1
+no_line_wrote_in : (e : Fault) (text lines : ℕ → Text) (s0 s1 : ShelfSeen) (o0 o1 : SinkSeen)
+    → NoLineIn text lines s0.given s1.given → GainedAt e o0.held o1.held [] → WroteByIn e text lines s0 s1 o0 o1
 no_line_wrote_in e text lines s0 s1 o0 o1 (n, no_text, no_bytes, gave) gained = record {
   given = n;
   ran = n;
@@ -193,24 +234,31 @@ no_line_wrote_in e text lines s0 s1 o0 o1 (n, no_text, no_bytes, gave) gained = 
   gained = subst (λ (t : Text). GainedAt e o0.held o1.held t) (sym no_text) gained;
 }
 
-no_line_wrote_of : (e : Fault) (text lines : Contents → ℕ → Text) (s0 s1 : ShelfSeen) (o0 o1 : SinkSeen) → NoLineOf text lines s0.contents s0.given s1.given → GainedAt e o0.held o1.held [] → WroteBy e text lines s0 s1 o0 o1
+no_line_wrote_of : (e : Fault) (text lines : Contents → ℕ → Text) (s0 s1 : ShelfSeen) (o0 o1 : SinkSeen)
+    → NoLineOf text lines s0.contents s0.given s1.given → GainedAt e o0.held o1.held []
+    → WroteBy e text lines s0 s1 o0 o1
 no_line_wrote_of e text lines s0 s1 o0 o1 none gained = by_told s0.contents none
   where
-    by_told : (told : Option Contents) → NoLineOf text lines told s0.given s1.given → WroteByOf e text lines told s0 s1 o0 o1
+    by_told : (told : Option Contents) → NoLineOf text lines told s0.given s1.given
+        → WroteByOf e text lines told s0 s1 o0 o1
     by_told None none = tt
     by_told (Some contents) none = no_line_wrote_in e (text contents) (lines contents) s0 s1 o0 o1 none gained
 
 -- no line is due, and nothing was written
-pub nothing_yet : (e : Fault) (text lines : Contents → ℕ → Text) (s0 s1 : ShelfSeen) (o : SinkSeen) → NoLineOf text lines s0.contents s0.given s1.given → WroteBy e text lines s0 s1 o o
+pub nothing_yet : (e : Fault) (text lines : Contents → ℕ → Text) (s0 s1 : ShelfSeen) (o : SinkSeen)
+    → NoLineOf text lines s0.contents s0.given s1.given → WroteBy e text lines s0 s1 o o
 nothing_yet e text lines s0 s1 o none = no_line_wrote_of e text lines s0 s1 o o none (gained_none e o.held)
 
 -- no line is due, and something else was written
-pub no_line_wrote : (text lines : Contents → ℕ → Text) (last : Due) (s0 s1 : ShelfSeen) (o0 o1 : SinkSeen) (r : Result End Fault) → NoLineOf text lines s0.contents s0.given s1.given → Ran last o0 o1 r
+pub no_line_wrote : (text lines : Contents → ℕ → Text) (last : Due) (s0 s1 : ShelfSeen) (o0 o1 : SinkSeen)
+    (r : Result End Fault) → NoLineOf text lines s0.contents s0.given s1.given → Ran last o0 o1 r
     → IfErr r (λ e. WroteBy e text lines s0 s1 o0 o1)
 no_line_wrote text lines last s0 s1 o0 o1 (Ok e) none ran = tt
 no_line_wrote text lines last s0 s1 o0 o1 (Err fault.Read) none ran = absurd ran.0
-no_line_wrote text lines last s0 s1 o0 o1 (Err fault.Write) none ran = no_line_wrote_of fault.Write text lines s0 s1 o0 o1 none (some_gained o0.held o1.held last.1 ran.1)
-no_line_wrote text lines last s0 s1 o0 o1 (Err fault.Memory) none ran = no_line_wrote_of fault.Memory text lines s0 s1 o0 o1 none (some_gained o0.held o1.held last.1 ran)
+no_line_wrote text lines last s0 s1 o0 o1 (Err fault.Write) none ran = no_line_wrote_of fault.Write text lines s0 s1 o0
+    o1 none (some_gained o0.held o1.held last.1 ran.1)
+no_line_wrote text lines last s0 s1 o0 o1 (Err fault.Memory) none ran = no_line_wrote_of fault.Memory text lines s0 s1
+    o0 o1 none (some_gained o0.held o1.held last.1 ran)
 
 no_line : (loaded : Loaded) → loaded_so_far loaded [] ≡ []
 no_line (Sound plan) = refl
@@ -218,7 +266,8 @@ no_line (Faulty fault) = refl
 no_line Long = refl
 
 -- while the topology is read
-pub none_so_far : (topology script : Option Text) (n : ℕ) → n ≤ length (bytes_of topology) → (run_so_far topology script n ≡ []) × (script_given topology script n ≡ [])
+pub none_so_far : (topology script : Option Text) (n : ℕ) → n ≤ length (bytes_of topology)
+    → (run_so_far topology script n ≡ []) × (script_given topology script n ≡ [])
 none_so_far None script n le = (refl, refl)
 none_so_far (Some file) script n le =
     let zero : n - length file ≡ 0 = omega arith in
@@ -226,47 +275,78 @@ none_so_far (Some file) script n le =
     (ap (loaded_so_far (loaded file)) none ∙ no_line (loaded file), none)
 
 pub in_topology : (told : Option Contents) (topology script : Text) (before now : ℕ) → GaveOf told topology before now
-    → NoLineOf (λ contents n. run_so_far (contents topology) (contents script) n) (λ contents n. script_given (contents topology) (contents script) n) told before now
+    → NoLineOf (λ contents n. run_so_far (contents topology) (contents script) n)
+    (λ contents n. script_given (contents topology) (contents script) n) told before now
 in_topology told topology script before now gave =
-    no_line_in_file (λ contents n. run_so_far (contents topology) (contents script) n) (λ contents n. script_given (contents topology) (contents script) n) told topology before now
+    no_line_in_file (λ contents n. run_so_far (contents topology) (contents script) n)
+    (λ contents n. script_given (contents topology) (contents script) n) told topology before now
     (λ contents n le. none_so_far (contents topology) (contents script) n le) gave
 
 -- the same text in other words
-same_ended_in : (e : Fault) (f g : Text → Text) (file : Text) (s0 s1 : ShelfSeen) (o0 o1 : SinkSeen) → ((t : Text) → f t ≡ g t) → WroteEndedIn e f file s0 s1 o0 o1 → WroteEndedIn e g file s0 s1 o0 o1
+same_ended_in : (e : Fault) (f g : Text → Text) (file : Text) (s0 s1 : ShelfSeen) (o0 o1 : SinkSeen)
+    → ((t : Text) → f t ≡ g t) → WroteEndedIn e f file s0 s1 o0 o1 → WroteEndedIn e g file s0 s1 o0 o1
 same_ended_in e f g file s0 s1 o0 o1 same wrote =
     let gained = subst (λ (t : Text). GainedAt e o0.held o1.held t) (same (take wrote.ran file)) wrote.gained in
-    record { given = wrote.given; ran = wrote.ran; within = wrote.within; gave = wrote.gave; most = wrote.most; all_but = wrote.all_but; short = wrote.short; gained = gained }
+    record {
+      given = wrote.given;
+      ran = wrote.ran;
+      within = wrote.within;
+      gave = wrote.gave;
+      most = wrote.most;
+      all_but
+          = wrote.all_but;
+      short = wrote.short;
+      gained = gained;
+    }
 
-pub same_ended : (e : Fault) (f g : Text → Text) (name : Text) (s0 s1 : ShelfSeen) (o0 o1 : SinkSeen) → ((t : Text) → f t ≡ g t) → WroteEnded e f name s0 s1 o0 o1 → WroteEnded e g name s0 s1 o0 o1
+pub same_ended : (e : Fault) (f g : Text → Text) (name : Text) (s0 s1 : ShelfSeen) (o0 o1 : SinkSeen)
+    → ((t : Text) → f t ≡ g t) → WroteEnded e f name s0 s1 o0 o1 → WroteEnded e g name s0 s1 o0 o1
 same_ended e f g name s0 s1 o0 o1 same wrote = by_told s0.contents wrote
   where
     by_told : (told : Option Contents) → WroteEndedOf e f told name s0 s1 o0 o1 → WroteEndedOf e g told name s0 s1 o0 o1
     by_told None wrote = tt
     by_told (Some contents) wrote = same_ended_in e f g (bytes_of (contents name)) s0 s1 o0 o1 same wrote
 
-pub ended_same : (f g : Text → Text) (name : Text) (s0 s1 : ShelfSeen) (o0 o1 : SinkSeen) (r : Result End Fault) → ((t : Text) → f t ≡ g t) → IfErr r (λ e. WroteEnded e f name s0 s1 o0 o1)
+pub ended_same : (f g : Text → Text) (name : Text) (s0 s1 : ShelfSeen) (o0 o1 : SinkSeen) (r : Result End Fault)
+    → ((t : Text) → f t ≡ g t) → IfErr r (λ e. WroteEnded e f name s0 s1 o0 o1)
     → IfErr r (λ e. WroteEnded e g name s0 s1 o0 o1)
 ended_same f g name s0 s1 o0 o1 (Ok e) same wrote = tt
 ended_same f g name s0 s1 o0 o1 (Err e) same wrote = same_ended e f g name s0 s1 o0 o1 same wrote
 
 -- of the one file that is read
-pub ended_by : (text : Text → Text) (name : Text) (s0 s1 : ShelfSeen) (o0 o1 : SinkSeen) (r : Result End Fault) → IfErr r (λ e. WroteEnded e text name s0 s1 o0 o1)
-    → IfErr r (λ e. WroteBy e (λ contents n. text (take n (bytes_of (contents name)))) (λ contents n. take n (bytes_of (contents name))) s0 s1 o0 o1)
+pub ended_by : (text : Text → Text) (name : Text) (s0 s1 : ShelfSeen) (o0 o1 : SinkSeen) (r : Result End Fault)
+    → IfErr r (λ e. WroteEnded e text name s0 s1 o0 o1)
+    → IfErr r (λ e. WroteBy e (λ contents n. text (take n (bytes_of (contents name))))
+    (λ contents n. take n (bytes_of (contents name))) s0 s1 o0 o1)
 ended_by text name s0 s1 o0 o1 (Ok e) wrote = tt
 ended_by text name s0 s1 o0 o1 (Err e) wrote = by_told s0.contents wrote
   where
-    by_told : (told : Option Contents) → WroteEndedOf e text told name s0 s1 o0 o1 → WroteByOf e (λ contents n. text (take n (bytes_of (contents name)))) (λ contents n. take n (bytes_of (contents name))) told s0 s1 o0 o1
+    by_told : (told : Option Contents) → WroteEndedOf e text told name s0 s1 o0 o1
+        → WroteByOf e (λ contents n. text (take n (bytes_of (contents name))))
+        (λ contents n. take n (bytes_of (contents name))) told s0 s1 o0 o1
     by_told None wrote = tt
-    by_told (Some contents) wrote = record { given = wrote.given; ran = wrote.ran; gave = wrote.gave; most = wrote.most; all_but = wrote.all_but; short = wrote.short; gained = wrote.gained }
+    by_told (Some contents) wrote = record {
+      given = wrote.given;
+      ran = wrote.ran;
+      gave = wrote.gave;
+      most = wrote.most;
+      all_but = wrote.all_but;
+      short =
+          wrote.short;
+      gained = wrote.gained;
+    }
 
 -- of the script behind a topology that was wholly read
-run_ended_in : (e : Fault) (topology script : Option Text) (plan : Plan) (s0 s1 s2 : ShelfSeen) (o0 o1 : SinkSeen) → LoadedIn loaded topology (Sound plan) → Gave s0.given (length (bytes_of topology)) s1.given
-    → WroteEndedIn e (script_so_far plan) (bytes_of script) s1 s2 o0 o1 → WroteByIn e (λ n. run_so_far topology script n) (λ n. script_given topology script n) s0 s2 o0 o1
+run_ended_in : (e : Fault) (topology script : Option Text) (plan : Plan) (s0 s1 s2 : ShelfSeen) (o0 o1 : SinkSeen)
+    → LoadedIn loaded topology (Sound plan) → Gave s0.given (length (bytes_of topology)) s1.given
+    → WroteEndedIn e (script_so_far plan) (bytes_of script) s1 s2 o0 o1
+    → WroteByIn e (λ n. run_so_far topology script n) (λ n. script_given topology script n) s0 s2 o0 o1
 run_ended_in e None script plan s0 s1 s2 o0 o1 is all wrote = absurd is
 run_ended_in e (Some file) script plan s0 s1 s2 o0 o1 is all wrote =
     let ran = wrote.ran in
     let rest : ran ≡ (length file + ran) - length file = omega arith in
-    let bytes : take ran (bytes_of script) ≡ script_given (Some file) script (length file + ran) = ap (λ (k : ℕ). take k (bytes_of script)) rest in
+    let bytes : take ran (bytes_of script) ≡ script_given (Some file) script (length file + ran) = ap
+    (λ (k : ℕ). take k (bytes_of script)) rest in
     let text : script_so_far plan (take ran (bytes_of script)) ≡ run_so_far (Some file) script (length file + ran) =
     ap (λ (l : Loaded). loaded_so_far l (take ran (bytes_of script))) is ∙ ap (loaded_so_far (loaded file)) bytes in
     record {
@@ -279,13 +359,20 @@ run_ended_in e (Some file) script plan s0 s1 s2 o0 o1 is all wrote =
       gained = subst (λ (t : Text). GainedAt e o0.held o1.held t) text wrote.gained;
     }
 
-pub run_ended : (topology script : Text) (plan : Plan) (s0 s1 s2 : ShelfSeen) (o0 o1 : SinkSeen) (r : Result End Fault) → s1.contents ≡ s0.contents → LoadedOf loaded s0.contents topology (Sound plan) → GaveAllOf s0.contents topology
+pub run_ended : (topology script : Text) (plan : Plan) (s0 s1 s2 : ShelfSeen) (o0 o1 : SinkSeen) (r : Result End Fault)
+    → s1.contents ≡ s0.contents → LoadedOf loaded s0.contents topology (Sound plan) → GaveAllOf s0.contents topology
     s0.given s1.given
-    → IfErr r (λ e. WroteEnded e (script_so_far plan) script s1 s2 o0 o1) → IfErr r (λ e. WroteBy e (λ contents n. run_so_far (contents topology) (contents script) n) (λ contents n. script_given (contents topology) (contents script) n) s0 s2 o0 o1)
+    → IfErr r (λ e. WroteEnded e (script_so_far plan) script s1 s2 o0 o1)
+    → IfErr r (λ e. WroteBy e (λ contents n. run_so_far (contents topology) (contents script) n)
+    (λ contents n. script_given (contents topology) (contents script) n) s0 s2 o0 o1)
 run_ended topology script plan s0 s1 s2 o0 o1 (Ok e) same is all wrote = tt
-run_ended topology script plan s0 s1 s2 o0 o1 (Err e) same is all wrote = by_told s0.contents is all (subst (λ (told : Option Contents). WroteEndedOf e (script_so_far plan) told script s1 s2 o0 o1) same wrote)
+run_ended topology script plan s0 s1 s2 o0 o1 (Err e) same is all wrote = by_told s0.contents is all
+    (subst (λ (told : Option Contents). WroteEndedOf e (script_so_far plan) told script s1 s2 o0 o1) same wrote)
   where
-    by_told : (told : Option Contents) → LoadedOf loaded told topology (Sound plan) → GaveAllOf told topology s0.given s1.given → WroteEndedOf e (script_so_far plan) told script s1 s2 o0 o1
-        → WroteByOf e (λ contents n. run_so_far (contents topology) (contents script) n) (λ contents n. script_given (contents topology) (contents script) n) told s0 s2 o0 o1
+    by_told : (told : Option Contents) → LoadedOf loaded told topology (Sound plan)
+        → GaveAllOf told topology s0.given s1.given → WroteEndedOf e (script_so_far plan) told script s1 s2 o0 o1
+        → WroteByOf e (λ contents n. run_so_far (contents topology) (contents script) n)
+        (λ contents n. script_given (contents topology) (contents script) n) told s0 s2 o0 o1
     by_told None is all wrote = tt
-    by_told (Some contents) is all wrote = run_ended_in e (contents topology) (contents script) plan s0 s1 s2 o0 o1 is all wrote
+    by_told (Some contents) is all wrote = run_ended_in e (contents topology) (contents script) plan s0 s1 s2 o0 o1 is
+        all wrote

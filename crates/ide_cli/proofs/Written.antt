@@ -1,5 +1,6 @@
 -- Each verdict of a history that is written is the one that is due.
-use Rattle.std.proofs.Common.{◌≡◌, ◌≤◌, List, [], ◌++◌, length, length-append, Option, Some, Result, Ok, Err, option_map, refl, sym, ap, subst, ◌∙◌, arith, append_assoc}
+use Rattle.std.proofs.Common.{◌≡◌, ◌≤◌, List, [], ◌++◌, length, length-append, Option, Some, Result, Ok, Err}
+use Rattle.std.proofs.Common.{option_map, refl, sym, ap, subst, ◌∙◌, arith, append_assoc}
 use Rattle.std.specs.Prelude.{IfOk}
 use Rattle.std.proofs.lemmas.List.{append-nil, append_cancel_left}
 use Rattle.ide_base.specs.Outside.{Contents, ShelfSeen, SinkSeen}
@@ -26,43 +27,59 @@ use Rattle.ide_cli.proofs.Plans.{loaded_fits}
 -- ---- what was gained is a front of the text that is due
 
 front_of_front : (a b c : Text) → IsFront a b → IsFront b c → IsFront a c
-front_of_front a b c one two = (one.0 ++ two.0, sym (append_assoc a one.0 two.0) ∙ (ap (λ (t : Text). t ++ two.0) one.1 ∙ two.1))
+front_of_front a b c one two =
+    (one.0 ++ two.0, sym (append_assoc a one.0 two.0) ∙ (ap (λ (t : Text). t ++ two.0) one.1 ∙ two.1))
 
 whole_front : (a : Text) → IsFront a a
 whole_front a = ([], append-nil a)
 
-same_gain : (before now : Option Text) (held gained text : Text) → before ≡ Some held → now ≡ Some (held ++ gained) → Gained before now text → gained ≡ text
+same_gain : (before now : Option Text) (held gained text : Text) → before ≡ Some held → now ≡ Some (held ++ gained)
+    → Gained before now text → gained ≡ text
 same_gain before now held gained text one two is =
     let there : now ≡ Some (held ++ text) = is ∙ ap (option_map (λ (h : Text). h ++ text)) one in
     let same : held ++ gained ≡ held ++ text = cc (two, there) in
     append_cancel_left held gained text same
 
-some_front : (before now : Option Text) (held gained text : Text) → before ≡ Some held → now ≡ Some (held ++ gained) → SomeFront (Gained before now) text → IsFront gained text
-some_front before now held gained text one two is = subst (λ (t : Text). IsFront t text) (sym (same_gain before now held gained is.0 one two is.2)) is.1
+some_front : (before now : Option Text) (held gained text : Text) → before ≡ Some held → now ≡ Some (held ++ gained)
+    → SomeFront (Gained before now) text → IsFront gained text
+some_front before now held gained text one two is = subst (λ (t : Text). IsFront t text)
+    (sym (same_gain before now held gained is.0 one two is.2)) is.1
 
-gained_front : (due : Due) (read write quiet : Type 0) (before now : Option Text) (held gained : Text) (r : Result End Fault) → before ≡ Some held → now ≡ Some (held ++ gained)
+gained_front : (due : Due) (read write quiet : Type 0) (before now : Option Text) (held gained : Text)
+    (r : Result End Fault) → before ≡ Some held → now ≡ Some (held ++ gained)
     → EndsBy due read write quiet (Gained before now) r → IsFront gained due.1
-gained_front due read write quiet before now held gained (Ok e) one two ran = subst (λ (t : Text). IsFront t due.1) (sym (same_gain before now held gained due.1 one two ran.1)) (whole_front due.1)
-gained_front due read write quiet before now held gained (Err fault.Read) one two ran = some_front before now held gained due.1 one two (ran.1.0, ran.1.1, ran.1.3)
-gained_front due read write quiet before now held gained (Err fault.Write) one two ran = some_front before now held gained due.1 one two ran.1
-gained_front due read write quiet before now held gained (Err fault.Memory) one two ran = some_front before now held gained due.1 one two ran
+gained_front due read write quiet before now held gained (Ok e) one two ran = subst (λ (t : Text). IsFront t due.1)
+    (sym (same_gain before now held gained due.1 one two ran.1)) (whole_front due.1)
+gained_front due read write quiet before now held gained (Err fault.Read) one two ran = some_front before now held
+    gained due.1 one two (ran.1.0, ran.1.1, ran.1.3)
+gained_front due read write quiet before now held gained (Err fault.Write) one two ran = some_front before now held
+    gained due.1 one two ran.1
+gained_front due read write quiet before now held gained (Err fault.Memory) one two ran = some_front before now held
+    gained due.1 one two ran
 
 -- ---- the run that the words ask for
 
-due_is : (told : Option Contents) (words : List Text) (plan : Plan) (script : Script) (a : AsksFor told words plan script) → due_of words a.contents ≡ Some (due_after plan [] script)
+due_is : (told : Option Contents) (words : List Text) (plan : Plan) (script : Script)
+    (a : AsksFor told words plan script) → due_of words a.contents ≡ Some (due_after plan [] script)
 due_is told words plan script a = rw (a.asks, a.topology_is, a.plan_is, a.script_is, a.read) refl
 
-ran_script : (told : Option Contents) (words : List Text) (read write quiet : Type 0) (gained : Text → Type 0) (r : Result End Fault) → EndsOn told (due_of words) read write quiet gained r
-    → (plan : Plan) (script : Script) → AsksFor told words plan script → EndsBy (due_after plan [] script) read write quiet gained r
+ran_script : (told : Option Contents) (words : List Text) (read write quiet : Type 0) (gained : Text → Type 0)
+    (r : Result End Fault) → EndsOn told (due_of words) read write quiet gained r
+    → (plan : Plan) (script : Script) → AsksFor told words plan script
+    → EndsBy (due_after plan [] script) read write quiet gained r
 ran_script told words read write quiet gained r ran plan script a =
-    let ran_there : EndsDue (due_of words a.contents) read write quiet gained r = subst (λ (t : Option Contents). EndsOn t (due_of words) read write quiet gained r) a.are_told ran in
+    let ran_there : EndsDue (due_of words a.contents) read write quiet gained r = subst
+    (λ (t : Option Contents). EndsOn t (due_of words) read write quiet gained r) a.are_told ran in
     subst (λ (d : Option Due). EndsDue d read write quiet gained r) (due_is told words plan script a) ran_there
 
-plan_fits : (told : Option Contents) (words : List Text) (plan : Plan) (script : Script) → AsksFor told words plan script → FitsPlan plan
+plan_fits : (told : Option Contents) (words : List Text) (plan : Plan) (script : Script)
+    → AsksFor told words plan script → FitsPlan plan
 plan_fits told words plan script a = loaded_fits a.topology plan a.plan_is
 
-script_allowed : (told : Option Contents) (words : List Text) (plan : Plan) (script : Script) → AsksFor told words plan script → AreAllowed script.events
-script_allowed told words plan script a = subst (λ (t : Script). AreAllowed t.events) (sym a.read) (events_allowed a.bytes)
+script_allowed : (told : Option Contents) (words : List Text) (plan : Plan) (script : Script)
+    → AsksFor told words plan script → AreAllowed script.events
+script_allowed told words plan script a = subst (λ (t : Script). AreAllowed t.events) (sym a.read)
+    (events_allowed a.bytes)
 
 -- ---- the verdicts
 
@@ -72,10 +89,13 @@ pub record IsDue (plan : Plan) (h : History) : Type 0 where
   pub cause : CauseLaw plan h
   pub few : length h ≤ 4294967296
 
-few_written : (h : History) (later : List Event) (script : Script) → events_told h ++ later ≡ script.events → AreAllowed script.events → length h ≤ 4294967296
-few_written h later script same allowed = omega (arith, length-events h, length-append (events_told h) later, ap length same, allowed.few)
+few_written : (h : History) (later : List Event) (script : Script) → events_told h ++ later ≡ script.events
+    → AreAllowed script.events → length h ≤ 4294967296
+few_written h later script same allowed = omega
+    (arith, length-events h, length-append (events_told h) later, ap length same, allowed.few)
 
-pub written_is_due : LinesTell → (words : List Text) (shelf shelf_now : ShelfSeen) (sink sink_now : SinkSeen) (r : Result End Fault) → RanOn (due_of words) shelf shelf_now sink sink_now r
+pub written_is_due : LinesTell → (words : List Text) (shelf shelf_now : ShelfSeen) (sink sink_now : SinkSeen)
+    (r : Result End Fault) → RanOn (due_of words) shelf shelf_now sink sink_now r
     → (plan : Plan) (h : History) → Written shelf words sink sink_now plan h → IsDue plan h
 written_is_due tell words shelf shelf_now sink sink_now r ran plan h w =
     let script = w.script in
@@ -83,22 +103,27 @@ written_is_due tell words shelf shelf_now sink sink_now r ran plan h w =
     let last = last_line script.stop (history_on plan [] script.events) in
     let allowed = script_allowed shelf.contents words plan script w.asks_for in
     let fits = plan_fits shelf.contents words plan script w.asks_for in
-    let gained = gained_front due _ _ _ sink.held sink_now.held w.held w.gained r w.held_before w.holds_now (ran_script shelf.contents words _ _ _ (Gained sink.held sink_now.held) r ran plan script w.asks_for) in
+    let gained = gained_front due _ _ _ sink.held sink_now.held w.held w.gained r w.held_before w.holds_now
+    (ran_script shelf.contents words _ _ _ (Gained sink.held sink_now.held) r ran plan script w.asks_for) in
     let front = front_of_front (lines_told h) w.gained due.1 w.lines gained in
-    let text : lines_told h ++ front.0 ≡ text_on plan [] (events_told h ++ w.later) ++ last = front.1 ∙ ap (λ (es : List Event). text_on plan [] es ++ last) (sym w.events_are) in
+    let text : lines_told h ++ front.0 ≡ text_on plan [] (events_told h ++ w.later)
+    ++ last = front.1 ∙ ap (λ (es : List Event). text_on plan [] es ++ last) (sym w.events_are) in
     record {
       fits = fits;
       cause = tell plan fits h w.later front.0 last (subst AreAllowed (sym w.events_are) allowed) w.verdicts_fit text;
       few = few_written h w.later script w.events_are allowed;
     }
 
-pub all_written : AreTold → (words : List Text) (shelf shelf_now : ShelfSeen) (sink sink_now : SinkSeen) (r : Result End Fault) → RanOn (due_of words) shelf shelf_now sink sink_now r
+pub all_written : AreTold → (words : List Text) (shelf shelf_now : ShelfSeen) (sink sink_now : SinkSeen)
+    (r : Result End Fault) → RanOn (due_of words) shelf shelf_now sink sink_now r
     → IfOk r (λ e. AllWritten shelf words sink sink_now)
 all_written are_told words shelf shelf_now sink sink_now (Err f) ran = tt
 all_written are_told words shelf shelf_now sink sink_now (Ok e) ran = λ plan script held asks held_before.
-    let is = are_told plan (plan_fits shelf.contents words plan script asks) script.events (script_allowed shelf.contents words plan script asks) in
+    let is = are_told plan (plan_fits shelf.contents words plan script asks) script.events
+    (script_allowed shelf.contents words plan script asks) in
     let due = due_after plan [] script in
-    let whole = (ran_script shelf.contents words _ _ _ (Gained sink.held sink_now.held) (Ok e) ran plan script asks).1 in
+    let whole = (ran_script shelf.contents words _ _ _ (Gained sink.held sink_now.held) (Ok e) ran plan script asks).1
+    in
     let h = history_on plan [] script.events in
     let last = last_line script.stop h in
     record {

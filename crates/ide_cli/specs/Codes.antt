@@ -1,7 +1,8 @@
 -- The exit code of each status.
 use Rattle.std.specs.Prelude.{ℕ}
 use Rattle.ide_cli.specs.declared.status.Status.{Status}
-use Rattle.ide_cli.specs.declared.status.Status.TheVariants.{Done, Usage, Topology, Script, ReadFault, WriteFault, Memory, TooLong}
+use Rattle.ide_cli.specs.declared.status.Status.TheVariants.{Done, Usage, Topology, Script, ReadFault, WriteFault}
+use Rattle.ide_cli.specs.declared.status.Status.TheVariants.{Memory, TooLong}
 
 abbrev pub code_of : Status → ℕ
 code_of Done = 0

@@ -6,6 +6,8 @@ use Rattle.ide_words.specs.Words.{run, asked}
 use Rattle.ide_plan.specs.declared.plan.Plan.{Plan}
 use Rattle.link_events.specs.declared.event.Event.{Event}
 use Rattle.key_laws.specs.History.{History}
+use Rattle.interface_states.specs.Sites.{Site, site_at}
+use Rattle.interface_states.specs.Laws.{ViewHolds}
 use Rattle.link_history.specs.Laws.{NoForgery}
 use Rattle.link_texts.specs.Runs.{history_on}
 use Rattle.link_texts.specs.Telling.{VerdictsFit, events_told, lines_told}
@@ -63,6 +65,10 @@ InEvery law shelf words before now = (plan : Plan) (h : History) → Written she
 -- the law holds provided that no tag verified on a unit that its partner had not sealed
 abbrev pub Unforged : (Plan → History → Type 0) → Plan → History → Type 0
 Unforged law plan h = NoForgery plan h → law plan h
+
+-- of every interface of the plan, what the manager's view says of it holds
+abbrev pub ViewFacts : Plan → History → Type 0
+ViewFacts plan h = (x : Site) → site_at plan x.number ≡ Some x → ViewHolds plan h x
 
 -- the history of all events of the script was written, each with the verdict that is due
 abbrev pub AllWritten : ShelfSeen → List Text → SinkSeen → SinkSeen → Type 0

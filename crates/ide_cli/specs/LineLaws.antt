@@ -1,5 +1,6 @@
 -- Lines that are too long come to nothing, and what is written for a line is whole lines.
-use Rattle.std.specs.Prelude.{ℕ, ◌≡◌, nat_lt, true, List, [], ◌∷◌, ◌++◌, length, Option, Some, None, Result, Ok, Err, IfOk, refl}
+use Rattle.std.specs.Prelude.{ℕ, ◌≡◌, nat_lt, true, List, [], ◌∷◌, ◌++◌, length, Option, Some, None, Result, Ok, Err}
+use Rattle.std.specs.Prelude.{IfOk, refl}
 use Rattle.std.proofs.Common.{inl, inr, ap, ◌∙◌, sym, append_assoc}
 use Rattle.ide_types.specs.Names.{joined}
 use Rattle.link_events.specs.declared.event.Event.{Event}
@@ -10,7 +11,7 @@ use Rattle.link_events.specs.Parse.{line_meaning}
 use Rattle.packet_lines.specs.Reading.{packet_meaning}
 use Rattle.line_runs.specs.Gain.{Text}
 use Rattle.line_runs.specs.Outcome.{IsWholeLines}
-use Rattle.ide_cli.specs.Works.{Running, by_meaning, ran_line, showing, shown_line}
+use Rattle.ide_cli.specs.Works.{ScriptPast, by_meaning, ran_line, showing, shown_line}
 
 ends_line : (words : List Text) → (lines : Text) × (joined words ≡ lines ++ 10 ∷ [])
 ends_line [] = ([], refl)
@@ -28,16 +29,17 @@ whole_line front words =
 
 -- ---- of a script
 
-pub long_event : (r : Running) (n : ℕ) (line : Text) → nat_lt line_limit (length line) ≡ true
+pub long_event : (r : ScriptPast) (n : ℕ) (line : Text) → nat_lt line_limit (length line) ≡ true
     → ran_line r n line ≡ Err TooLong
 long_event r n line long = rw long refl
 
-event_lines : (r : Running) (m : Result (Option Event) LineFault) → IfOk (by_meaning r m) (λ came. IsWholeLines came.1)
+event_lines : (r : ScriptPast) (m : Result (Option Event) LineFault)
+    → IfOk (by_meaning r m) (λ came. IsWholeLines came.1)
 event_lines r (Err fault) = tt
 event_lines r (Ok None) = inl refl
 event_lines r (Ok (Some e)) = whole_line _ _
 
-pub whole_event : (r : Running) (n : ℕ) (line : Text) → IfOk (ran_line r n line) (λ came. IsWholeLines came.1)
+pub whole_event : (r : ScriptPast) (n : ℕ) (line : Text) → IfOk (ran_line r n line) (λ came. IsWholeLines came.1)
 whole_event r n line = event_lines r (line_meaning line)
 
 -- ---- of a packet file

@@ -52,7 +52,7 @@ ReadPast (Some (show packets)) before now = Gave before (file_limit + 1) now
 abbrev pub ScriptGoesOn : Plan → Text → Type 0
 ScriptGoesOn plan bytes = (due_after plan [] (script_in true 1 (pieces bytes))).0 ≡ end.TooLong
 
--- the script is read behind a topology that is sound, and behind no other
+-- bytes past a sound topology are those of the script; of any other topology no more bytes are given than it has
 abbrev pub LoadedNoFurther : Loaded → (topology script : Text) → (given ahead : ℕ) → Type 0
 LoadedNoFurther (Sound plan) topology script given ahead =
     NoFurther (ScriptGoesOn plan) script (given - length topology) (ahead - length topology)

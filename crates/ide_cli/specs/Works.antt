@@ -1,5 +1,6 @@
 -- What a line of a script, and of a packet file, comes to by what is kept.
-use Rattle.std.specs.Prelude.{ℕ, ◌+◌, ◌*◌, ◌<◌, ◌≤◌, [], Option, Some, None, Result, Ok, Err}
+use Rattle.std.specs.Prelude.{ℕ, ◌≡◌, ◌+◌, ◌*◌, ◌<◌, ◌≤◌, [], length, Option, Some, None, Result, Ok, Err}
+use Rattle.ide_plan.specs.declared.plan.Plan.{Plan}
 use Rattle.link_events.specs.declared.event.Event.{Event}
 use Rattle.link_events.specs.declared.fault.LineFault.{LineFault}
 use Rattle.link_events.specs.Parse.{line_meaning}
@@ -7,14 +8,16 @@ use Rattle.link_events.specs.Spells.{IsAllowed}
 use Rattle.link_verdicts.specs.declared.verdict.Verdict.{Verdict}
 use Rattle.link_verdicts.specs.declared.verdict.Totals.{Totals}
 use Rattle.link_verdicts.specs.Lines.{line_of}
-use Rattle.link_texts.specs.Runs.{sealed_in, accepted_in, failed_in, blocked_in}
-use Rattle.link_ports.specs.Machine.{step_of}
-use Rattle.keyed_links.specs.Worlds.{WorldView}
+use Rattle.link_verdicts.specs.Lines.{totals_line_of}
+use Rattle.key_laws.specs.History.{History}
+use Rattle.link_history.specs.Due.{due}
+use Rattle.link_texts.specs.Runs.{history_with, totals_of, sealed_in, accepted_in, failed_in, blocked_in}
+use Rattle.world.specs.Worlds.{WorldView, Stands}
 use Rattle.packet_lines.specs.Reading.{packet_meaning}
 use Rattle.packet_lines.specs.Showing.{shown}
 use Rattle.line_runs.specs.Gain.{Text}
 
--- the links and the totals so far
+-- the world and the totals so far
 pub record Running : Type 0 where
   pub world : WorldView
   pub totals : Totals
@@ -28,25 +31,41 @@ totals_with t v = record {
   blocked = t.blocked + blocked_in v;
 }
 
-abbrev pub ran_event : Running → Event → Running × Text
-ran_event r e =
-    let step = step_of r.world.plan r.world.state e in
-    let number = r.world.steps + 1 in (
-      record {
-        world = record { plan = r.world.plan; state = step.1; steps = number };
-        totals = totals_with r.totals step.0;
-      },
-      line_of number step.0,
-    )
+-- the events of the lines so far, each with the verdict that is due after the events before it
+pub record ScriptPast : Type 0 where
+  pub plan : Plan
+  pub history : History
 
-abbrev pub by_meaning : Running → Result (Option Event) LineFault → Result (Running × Text) LineFault
-by_meaning r (Err fault) = Err fault
-by_meaning r (Ok None) = Ok (r, [])
-by_meaning r (Ok (Some e)) = Ok (ran_event r e)
+-- the world stands for that history, so many events came, and the totals are its totals
+pub record Follows (r : Running) (past : ScriptPast) : Type 0 where
+  pub plan_is : r.world.plan ≡ past.plan
+  pub stands : Stands r.world past.history
+  pub steps_are : r.world.steps ≡ length past.history
+  pub totals_are : r.totals ≡ totals_of past.history
+
+abbrev pub ran_event : ScriptPast → Event → ScriptPast × Text
+ran_event past e = (
+  record past { history = history_with past.plan past.history e },
+  line_of (length past.history + 1) (due past.plan past.history e),
+)
+
+abbrev pub by_meaning : ScriptPast → Result (Option Event) LineFault → Result (ScriptPast × Text) LineFault
+by_meaning past (Err fault) = Err fault
+by_meaning past (Ok None) = Ok (past, [])
+by_meaning past (Ok (Some e)) = Ok (ran_event past e)
 
 -- what a line comes to
-abbrev pub ran_line : Running → ℕ → Text → Result (Running × Text) LineFault
-ran_line r n line = by_meaning r (line_meaning line)
+abbrev pub ran_line : ScriptPast → ℕ → Text → Result (ScriptPast × Text) LineFault
+ran_line past n line = by_meaning past (line_meaning line)
+
+-- the text behind the last line
+abbrev pub closing_line : ScriptPast → Text
+closing_line past = totals_line_of (totals_of past.history)
+
+-- the text of an event, and that what is kept follows the past with it
+pub record EventCame (came : ScriptPast × Text) (r : Running) (text : Text) : Type 0 where
+  pub text_is : text ≡ came.1
+  pub follows : Follows r came.0
 
 -- the event of a line, if it has one, is one that a script may ask for
 abbrev pub MayAsk : Option Event → Type 0

@@ -18,9 +18,9 @@ use crate::script::ScriptWork;
 use crate::topologies::{Loaded, load, refuse};
 use ide_base::{Shelf, Sink};
 use ide_plan::Plan;
-use keyed_links::World;
 use line_runs::{End, Fault, run_file};
 use std::alloc::Global;
+use world::World;
 
 // Runs the lines of a script on the links of a plan.
 fn run_script<S: Shelf, O: Sink>(

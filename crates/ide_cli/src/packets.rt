@@ -30,15 +30,19 @@ impl PacketWork {
 }
 
 impl LineWork for PacketWork {
+    ghost Past = { Unit {0} };
+
+    ghost follows = { λ w past. Unit {0} };
+
     ghost fits = { λ w n. Unit {0} };
 
-    ghost advance = { λ w n line. shown_line w n line };
+    ghost advance = { λ past n line. shown_line past n line };
 
-    ghost closing = { λ w. no_text w };
+    ghost closing = { λ past. no_text past };
 
-    ghost long_lines = { λ w n line long. long_packet w n line long };
+    ghost long_lines = { λ past n line long. long_packet past n line long };
 
-    ghost whole_lines = { λ w n line. whole_packet w n line };
+    ghost whole_lines = { λ past n line. whole_packet past n line };
 
     fn line(&mut self, number: u64, line: &[u8]) -> Result<Bytes, LineError> {
         match parse_packet(self.alloc, line) {

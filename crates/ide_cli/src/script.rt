@@ -1,22 +1,23 @@
-//! The lines of a script, run on the links of a topology.
+//! The lines of a script, run on the world of a topology.
 
 ghost use Rattle.std.specs.Prelude.{◌≡◌, ◌<◌, ◌≤◌, ◌+◌, ◌^◌, length, count_by, IfErr, IfOk, OnOk};
 ghost use Rattle.link_events.specs.Parse.{line_meaning, Gives};
 ghost use Rattle.link_events.specs.Spells.{IsAllowed};
-ghost use Rattle.link_verdicts.specs.Lines.{totals_line_of};
 ghost use Rattle.link_texts.specs.Runs.{is_blocked, sealed_in, accepted_in, failed_in, blocked_in};
 ghost use Rattle.ide_cli.specs.LineLaws.{long_event, whole_event};
-ghost use Rattle.ide_cli.specs.Works.{Running, totals_with, ran_event, ran_line, IsEarly, MayAsk};
+ghost use Rattle.ide_cli.specs.Works.{EventCame, Follows, IsEarly, MayAsk, Running, ScriptPast, closing_line};
+ghost use Rattle.ide_cli.specs.Works.{ran_event, ran_line};
+ghost use Rattle.ide_cli.specs.Works.{totals_with};
 
 use ide_types::{Bytes, Memory};
-use keyed_links::World;
 use line_runs::LineWork;
 use link_events::{Event, LineError, lines_spell, parse_line};
 use link_verdicts::{Effect, Totals, Verdict, line, totals_line};
 use std::alloc::Global;
 use std::marker::Model;
+use world::World;
 
-/// The links, and the totals of its verdicts so far.
+/// The world, and the totals of its verdicts so far.
 #[derive(Drop)]
 pub(crate) struct ScriptWork {
     alloc: Global,
@@ -81,7 +82,7 @@ fn asked(alloc: Global, line: &[u8]) -> Result<Option<Event>, LineError>
 }
 
 impl ScriptWork {
-    /// The links before the first event.
+    /// The world before the first event.
     pub(crate) fn new(alloc: Global, world: World) -> ScriptWork
         ensures { result ≡ record {
           world = world;
@@ -110,7 +111,8 @@ impl ScriptWork {
         requires number { number < 2 ^ 26 }
         requires early { IsEarly self.old number }
         requires allowed { IsAllowed event.now }
-        ensures came { IfOk result (λ text. (self.new, text) ≡ ran_event self.old event.now) }
+        ensures came { (past : ScriptPast) → Follows self.old past → IfOk result (EventCame
+            (ran_event past event.now) self.new) }
         ensures early { OnOk result (IsEarly self.new (number + 1)) }
         ensures memory { IfErr result (λ e. e ≡ LineError.Memory) }
     {
@@ -126,15 +128,19 @@ impl ScriptWork {
 }
 
 impl LineWork for ScriptWork {
+    ghost Past = { ScriptPast };
+
+    ghost follows = { λ r past. Follows r past };
+
     ghost fits = { λ r n. IsEarly r n };
 
-    ghost advance = { λ r n line. ran_line r n line };
+    ghost advance = { λ past n line. ran_line past n line };
 
-    ghost closing = { λ r. totals_line_of r.totals };
+    ghost closing = { λ past. closing_line past };
 
-    ghost long_lines = { λ r n line long. long_event r n line long };
+    ghost long_lines = { λ past n line long. long_event past n line long };
 
-    ghost whole_lines = { λ r n line. whole_event r n line };
+    ghost whole_lines = { λ past n line. whole_event past n line };
 
     fn line(&mut self, number: u64, line: &[u8]) -> Result<Bytes, LineError> {
         match asked(self.alloc, line) {

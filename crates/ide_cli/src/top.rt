@@ -3,6 +3,7 @@
 ghost use Rattle.std.specs.Prelude.{◌≡◌, ◌+◌, ◌≤◌, IfErr, IfOk, None, map, string_bytes};
 ghost use Rattle.ide_words.specs.Words.{asked};
 ghost use Rattle.count_laws.specs.Statements.{CountLaw};
+ghost use Rattle.interface_states.specs.Laws.{RunLaw};
 ghost use Rattle.key_laws.specs.Laws.{NeverAgain, Settled, StaysSecure, StreamFacts};
 ghost use Rattle.link_history.specs.Cause.{CauseLaw};
 ghost use Rattle.link_history.specs.Delivered.{DeliveryLaw};
@@ -11,7 +12,8 @@ ghost use Rattle.link_history.specs.Ordered.{OrderLaw};
 ghost use Rattle.line_runs.specs.Front.{AskedPieces};
 ghost use Rattle.line_runs.specs.Gathering.{ReadAsFar};
 ghost use Rattle.line_runs.specs.Outcome.{Ran, RanOn};
-ghost use Rattle.ide_cli.specs.Headline.{AllWritten, InEvery, Unforged, outcome_of, said};
+ghost use Rattle.origin_laws.specs.Origin.{MemoryLaw, OriginLaw};
+ghost use Rattle.ide_cli.specs.Headline.{AllWritten, InEvery, Unforged, ViewFacts, outcome_of, said};
 ghost use Rattle.ide_cli.specs.Meaning.{due_of, usage_line};
 ghost use Rattle.ide_cli.specs.SoFar.{WroteSoFar};
 ghost use Rattle.ide_cli.specs.Reads.{AskedNoFurther, ReadPast, most_counted, most_read};
@@ -23,10 +25,12 @@ use count_laws::count_law;
 use delivery_laws::{delivery_law, draws_never_fall, order_is_no_forgery, prefix_law, whole_law};
 use ide_base::{Shelf, Sink};
 use ide_words::{Request, WordsError, read_words};
+use interface_states::views_hold;
 use key_states::{never_again, settled, stays_secure, stream_facts};
 use line_runs::{End, Fault, finish};
 use link_keys::keys_have_causes;
 use order_laws::order_law;
+use origin_laws::{interfaces_have_causes, memory_law, origin_law, run_law};
 use sealing_laws::totals_fit;
 use std::alloc::Global;
 use text_laws::lines_tell;
@@ -87,8 +91,8 @@ fn status_of(outcome: Result<End, Fault>) -> Status
 /// a shelf, and writes its text to a sink. The words are the program's name and `run TOPOLOGY SCRIPT`,
 /// `check TOPOLOGY` or `show PACKETS`.
 ///
-/// Where the shelf tells its contents, the text of a run is the verdict lines of the script's events, each verdict
-/// the one that is due after the events before it, and the laws hold of the history that is written.
+/// If the shelf tells its contents, the text of a run is the verdict lines of the script's events, each verdict the one
+/// that is due after the events before it, and the laws hold of the history that is written.
 pub fn run<S: Shelf, O: Sink>(
     alloc: Global,
     words: &Vec<String>,
@@ -100,27 +104,27 @@ pub fn run<S: Shelf, O: Sink>(
     ensures refused { asked (said words.now) ≡ None → Ran (End.Usage, usage_line) (O.seen out.old) (O.seen out.new)
         (outcome_of result) }
 
-    // Where the shelf tells its contents, the due status comes with all of the due text, and a fault or want of
-    // memory leaves a front of it. Each fault has its cause.
+    // If the shelf tells its contents, the due status comes with all of the due text, and a fault or want of memory
+    // leaves a prefix of it. Each fault has its cause.
     ensures answers { RanOn (due_of (said words.now)) (S.seen shelf.old) (S.seen shelf.new) (O.seen out.old)
         (O.seen out.new) (outcome_of result) }
 
-    // Where a file could not be read on, the sink has gained exactly what is due to those lines of the script, or of
-    // the packet file, that ended in the bytes that were given, and of the next line at most 20,000 bytes were; where
-    // the topology was not wholly read, the sink has gained nothing. Nor does a line wait while a later piece is read:
-    // where text could not be written, or for want of memory, at least what is due to the lines that ended in all of
-    // the bytes given but those of the last read was written.
+    // If a file could not be read on, the sink has gained exactly what is due to those lines of the script, or of the
+    // packet file, that ended in the bytes that were given, and of the next line at most 20,000 bytes were; if the
+    // topology was not wholly read, the sink has gained nothing. Nor does a line wait while a later piece is read: if
+    // text could not be written, or for want of memory, at least what is due to the lines that ended in all of the
+    // bytes given but those of the last read was written.
     ensures so_far { IfErr (outcome_of result) (λ e. WroteSoFar (said words.now) e (S.seen shelf.old)
         (S.seen shelf.new) (O.seen out.old) (O.seen out.new)) }
 
-    // Where the run comes to an end of its own, it was given no more bytes than are in the files that it reads: behind
-    // a topology that is faulty or too long, none of the script; and in the bytes that were given ahead of the last
-    // read no line ends the run.
+    // If the run ends by itself, it was given no more bytes than are in the files that it reads, and no more than are in
+    // the topology if that is faulty or too long; and in the bytes that were given before the last read no line ends the
+    // run.
     ensures no_further { IfOk (outcome_of result) (λ e. ReadAsFar (AskedNoFurther (asked (said words.now)))
         (S.seen shelf.old) (S.seen shelf.new)) }
 
     // Of each file that the words name, one byte more is read than count, and of no other any; and no read asks for
-    // more than 4,096 bytes. A file is too long where that byte was given, and a file that was read to its end has no
+    // more than 4,096 bytes. A file is too long if that byte was given, and a file that was read to its end has no
     // more than count.
     ensures cap { (S.seen shelf.new).given ≤ (S.seen shelf.old).given + most_read (asked (said words.now)) }
     ensures pieces { AskedPieces (S.seen shelf.old).longest (S.seen shelf.new).longest }
@@ -129,7 +133,7 @@ pub fn run<S: Shelf, O: Sink>(
     ensures whole { result ≡ Status.Done → (S.seen shelf.new).given ≤ (S.seen shelf.old).given + most_counted
         (asked (said words.now)) }
 
-    // Where the run comes to an end of its own, the history of all events of the script was written.
+    // If the run comes to an end of its own, the history of all events of the script was written.
     ensures all_written { IfOk (outcome_of result) (λ e. AllWritten (S.seen shelf.old) (said words.now)
         (O.seen out.old) (O.seen out.new)) }
 
@@ -146,18 +150,31 @@ pub fn run<S: Shelf, O: Sink>(
     ensures settled { InEvery (λ p. Settled) (S.seen shelf.old) words.now (O.seen out.old) (O.seen out.new) }
     ensures stays_secure { InEvery (λ p. StaysSecure) (S.seen shelf.old) words.now (O.seen out.old) (O.seen out.new) }
     // A draw is kept in one key set of a place at most and on one stream, an unfinished operation has made its draw On
-    // where its GO came, and a draw that has ceased to be On at a place is never kept there again.
+    // if its GO came, and a draw that has ceased to be On at a place is never kept there again.
     ensures stream_facts { InEvery (λ p. StreamFacts) (S.seen shelf.old) words.now (O.seen out.old) (O.seen out.new) }
     ensures never_again { InEvery (λ p. NeverAgain) (S.seen shelf.old) words.now (O.seen out.old) (O.seen out.new) }
+    // While an interface is locked or in RUN, its listed registers are those that it had at the lock, which its report
+    // shows; a listed change, a level reset, and a firmware update that flag 0 forbids, take it into the error state.
+    ensures run_law { InEvery RunLaw (S.seen shelf.old) words.now (O.seen out.old) (O.seen out.new) }
+    // If the manager's view of an interface is unlocked or locked, or if no START was asked since the last LOCK, the
+    // interface is not in RUN, and each packet with T that it sealed is of an older key than the manager needs; if the
+    // view is running, each such packet of a key from the view's floor on was sealed in RUN under the present lock.
+    ensures view_facts { InEvery ViewFacts (S.seen shelf.old) words.now (O.seen out.old) (O.seen out.new) }
+    // Of the packets of an accepted unit exactly those are applied whose write is admitted, and each byte of trusted
+    // memory that is shown is the one that the last admitted write left, or 0 if there was none.
+    ensures memory_law { InEvery MemoryLaw (S.seen shelf.old) words.now (O.seen out.old) (O.seen out.new) }
 
     // In every history that was written, provided no tag verified on a unit its partner had not sealed, each sub-stream
     // got, key by key, a prefix of what was sealed, and delivered a prefix of the TLPs that were sent; and, on a closed
-    // stream or where nothing of an overtaken key is missing, non-posted packets and completions came behind the posted
+    // stream or if nothing of an overtaken key is missing, non-posted packets and completions came after the posted
     // packets that were sealed before them.
     ensures prefix_law { InEvery (Unforged PrefixLaw) (S.seen shelf.old) words.now (O.seen out.old) (O.seen out.new) }
     ensures delivery_law { InEvery (Unforged DeliveryLaw) (S.seen shelf.old) words.now (O.seen out.old)
         (O.seen out.new) }
     ensures order_law { InEvery (Unforged OrderLaw) (S.seen shelf.old) words.now (O.seen out.old) (O.seen out.new) }
+    // Under the same proviso, each admitted write was sealed by the interface that it is admitted for, while that was in
+    // RUN under the lock that it has now.
+    ensures origin_law { InEvery (Unforged OriginLaw) (S.seen shelf.old) words.now (O.seen out.old) (O.seen out.new) }
 {
     lines_tell();
     totals_fit();
@@ -173,6 +190,11 @@ pub fn run<S: Shelf, O: Sink>(
     stays_secure();
     stream_facts();
     never_again();
+    interfaces_have_causes();
+    run_law();
+    views_hold();
+    memory_law();
+    origin_law();
     let words = words.as_slice();
     status_of(perform(alloc, words, shelf, out))
 }

@@ -1,5 +1,6 @@
 -- A file that was read, or could not be read, and a part that runs after it.
-use Rattle.std.proofs.Common.{◌≡◌, ℕ, [], Option, Some, None, Result, Ok, Err, refl, sym, ap, inl, inr, option_map, take}
+use Rattle.std.proofs.Common.{◌≡◌, ℕ, [], Option, Some, None, Result, Ok, Err, refl, sym, ap, inl, inr, option_map}
+use Rattle.std.proofs.Common.{take}
 use Rattle.std.proofs.lemmas.List.{append-nil}
 use Rattle.ide_base.specs.Outside.{Contents, Rose}
 use Rattle.line_runs.specs.declared.ends.End.{End}
@@ -32,7 +33,8 @@ fault_of stop.Fault = fault.Read
 fault_of stop.Memory = fault.Memory
 
 -- a file could not be read
-stopped_told : (contents : Contents) (due : Option Due) (name : Text) (s0 s1 : ℕ) (write quiet : Type 0) (h : Option Text) (e : Stop) → (contents name ≡ None → due ≡ None)
+stopped_told : (contents : Contents) (due : Option Due) (name : Text) (s0 s1 : ℕ) (write quiet : Type 0)
+    (h : Option Text) (e : Stop) → (contents name ≡ None → due ≡ None)
     → StopCause s0 s1 (Some contents) name e → EndsDue due (Rose s0 s1) write quiet (Gained h h) (Err (fault_of e))
 stopped_told contents None name s0 s1 write quiet h stop.Fault lacks c = gained_nothing h
 stopped_told contents None name s0 s1 write quiet h stop.Memory lacks c = gained_nothing h
@@ -41,14 +43,18 @@ stopped_told contents (Some due) name s0 s1 write quiet h stop.Fault lacks c =
     (rose, ([], (due.1, refl), inl refl, gained_nothing h))
 stopped_told contents (Some due) name s0 s1 write quiet h stop.Memory lacks c = ([], (due.1, refl), gained_nothing h)
 
-pub stopped : (told : Option Contents) (due : Contents → Option Due) (name : Text) (s0 s1 : ℕ) (write quiet : Type 0) (h : Option Text) (e : Stop)
-    → ((contents : Contents) → contents name ≡ None → due contents ≡ None) → StopCause s0 s1 told name e → EndsOn told due (Rose s0 s1) write quiet (Gained h h) (Err (fault_of e))
+pub stopped : (told : Option Contents) (due : Contents → Option Due) (name : Text) (s0 s1 : ℕ) (write quiet : Type 0)
+    (h : Option Text) (e : Stop)
+    → ((contents : Contents) → contents name ≡ None → due contents ≡ None) → StopCause s0 s1 told name e
+    → EndsOn told due (Rose s0 s1) write quiet (Gained h h) (Err (fault_of e))
 stopped None due name s0 s1 write quiet h stop.Fault lacks c = elim c.1 [ inl r ↦ r | inr none ↦ absurd none ]
 stopped None due name s0 s1 write quiet h stop.Memory lacks c = tt
-stopped (Some contents) due name s0 s1 write quiet h e lacks c = stopped_told contents (due contents) name s0 s1 write quiet h e (lacks contents) c
+stopped (Some contents) due name s0 s1 write quiet h e lacks c = stopped_told contents (due contents) name s0 s1 write
+    quiet h e (lacks contents) c
 
 -- a part that writes ran after the files were read
-pub ran_told : (due : Option Due) (last : Due) (s0 s1 o0 o1 : ℕ) (gained : Text → Type 0) (r : Result End Fault) → due ≡ Some last → s1 ≡ s0
+pub ran_told : (due : Option Due) (last : Due) (s0 s1 o0 o1 : ℕ) (gained : Text → Type 0) (r : Result End Fault) → due
+    ≡ Some last → s1 ≡ s0
     → EndsBy last ⊥ (Rose o0 o1) (o1 ≡ o0) gained r → EndsDue due (Rose s0 s1) (Rose o0 o1) (Quiet s0 s1 o0 o1) gained r
 ran_told due last s0 s1 o0 o1 gained (Ok e) is same h = rw is (h.0, h.1, (same, h.2))
 ran_told due last s0 s1 o0 o1 gained (Err fault.Read) is same h = absurd h.0
@@ -62,28 +68,35 @@ ran_blind last s0 s1 o0 o1 gained (Err fault.Read) same h = absurd h.0
 ran_blind last s0 s1 o0 o1 gained (Err fault.Write) same h = h.0
 ran_blind last s0 s1 o0 o1 gained (Err fault.Memory) same h = tt
 
-pub ran_after : (told : Option Contents) (due : Contents → Option Due) (last : Due) (s0 s1 o0 o1 : ℕ) (gained : Text → Type 0) (r : Result End Fault) → IsDue told due last → s1 ≡ s0
-    → EndsBy last ⊥ (Rose o0 o1) (o1 ≡ o0) gained r → EndsOn told due (Rose s0 s1) (Rose o0 o1) (Quiet s0 s1 o0 o1) gained r
+pub ran_after : (told : Option Contents) (due : Contents → Option Due) (last : Due) (s0 s1 o0 o1 : ℕ)
+    (gained : Text → Type 0) (r : Result End Fault) → IsDue told due last → s1 ≡ s0
+    → EndsBy last ⊥ (Rose o0 o1) (o1 ≡ o0) gained r → EndsOn told due (Rose s0 s1) (Rose o0 o1) (Quiet s0 s1 o0 o1)
+    gained r
 ran_after None due last s0 s1 o0 o1 gained r is same h = ran_blind last s0 s1 o0 o1 gained r same h
-ran_after (Some contents) due last s0 s1 o0 o1 gained r is same h = ran_told (due contents) last s0 s1 o0 o1 gained r is same h
+ran_after (Some contents) due last s0 s1 o0 o1 gained r is same h = ran_told (due contents) last s0 s1 o0 o1 gained r is
+    same h
 
 -- the same is due
-pub redue : (told : Option Contents) (due other : Contents → Option Due) (read write quiet : Type 0) (gained : Text → Type 0) (r : Result End Fault) → SameDue told due other
+pub redue : (told : Option Contents) (due other : Contents → Option Due) (read write quiet : Type 0)
+    (gained : Text → Type 0) (r : Result End Fault) → SameDue told due other
     → EndsOn told due read write quiet gained r → EndsOn told other read write quiet gained r
 redue None due other read write quiet gained r same h = h
 redue (Some contents) due other read write quiet gained r same h = rw (← same) h
 
-memory_told : (due : Option Due) (read write quiet : Type 0) (h : Option Text) → EndsDue due read write quiet (Gained h h) (Err fault.Memory)
+memory_told : (due : Option Due) (read write quiet : Type 0) (h : Option Text)
+    → EndsDue due read write quiet (Gained h h) (Err fault.Memory)
 memory_told None read write quiet h = gained_nothing h
 memory_told (Some due) read write quiet h = ([], (due.1, refl), gained_nothing h)
 
 -- want of memory before anything was written
-pub out_of_memory : (told : Option Contents) (due : Contents → Option Due) (read write quiet : Type 0) (h : Option Text) → EndsOn told due read write quiet (Gained h h) (Err fault.Memory)
+pub out_of_memory : (told : Option Contents) (due : Contents → Option Due) (read write quiet : Type 0) (h : Option Text)
+    → EndsOn told due read write quiet (Gained h h) (Err fault.Memory)
 out_of_memory None due read write quiet h = tt
 out_of_memory (Some contents) due read write quiet h = memory_told (due contents) read write quiet h
 
 -- ---- the front of a file
 
-due_in : (file : Option Text) (read : Text) (most : ℕ) (due : Text → Due) → FrontIn most file read → ((whole : Text) → read ≡ take most whole → due read ≡ due whole) → option_map due file ≡ Some (due read)
+due_in : (file : Option Text) (read : Text) (most : ℕ) (due : Text → Due) → FrontIn most file read
+    → ((whole : Text) → read ≡ take most whole → due read ≡ due whole) → option_map due file ≡ Some (due read)
 due_in None read most due h same = absurd h
 due_in (Some whole) read most due e same = ap (λ (d : Due). Some d) (sym (same whole e))

@@ -1,5 +1,6 @@
 -- Lines that are written again, as the tests do.
-use Rattle.std.specs.Prelude.{ℕ, ◌≡◌, nat_lt, Bool, true, false, [], ◌∷◌, ◌++◌, length, Result, Ok, Err, IfOk, refl, if◌then◌else◌}
+use Rattle.std.specs.Prelude.{ℕ, ◌≡◌, nat_lt, Bool, true, false, [], ◌∷◌, ◌++◌, length, Result, Ok, Err, IfOk, refl}
+use Rattle.std.specs.Prelude.{if◌then◌else◌}
 use Rattle.std.proofs.Common.{inr}
 use Rattle.link_events.specs.declared.fault.LineFault.{LineFault}
 use Rattle.link_events.specs.declared.fault.LineFault.TheVariants.{TooLong}

@@ -1,5 +1,6 @@
 -- The front of a file.
-use Rattle.std.specs.Prelude.{ℕ, ◌+◌, ◌≤◌, ◌≡◌, ◌⊎◌, [], length, max, take, unwrap_or, Option, Some, None, Result, Ok, Err}
+use Rattle.std.specs.Prelude.{ℕ, ◌+◌, ◌≤◌, ◌≡◌, ◌⊎◌, [], length, max, take, unwrap_or, Option, Some, None, Result, Ok}
+use Rattle.std.specs.Prelude.{Err}
 use Rattle.ide_base.specs.Outside.{Contents, Rose, Lacks, counted}
 use Rattle.line_runs.specs.declared.front.Stop.{Stop}
 use Rattle.line_runs.specs.declared.front.Stop.TheVariants as stop

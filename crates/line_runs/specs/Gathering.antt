@@ -1,5 +1,6 @@
 -- A file that is read in pieces, whose text is gathered before it is written.
-use Rattle.std.specs.Prelude.{ℕ, ◌+◌, ◌-◌, ◌≡◌, ◌==◌, ◌≤◌, Bool, true, List, [], ◌∷◌, ◌++◌, length, take, Option, Some, None, Result, Ok, Err, if◌then◌else◌}
+use Rattle.std.specs.Prelude.{ℕ, ◌+◌, ◌-◌, ◌≡◌, ◌==◌, ◌≤◌, Bool, true, List, [], ◌∷◌, ◌++◌, length, take, Option, Some}
+use Rattle.std.specs.Prelude.{None, Result, Ok, Err, if◌then◌else◌}
 use Rattle.ide_base.specs.Outside.{Contents, Rose, ShelfSeen, SinkSeen}
 use Rattle.text_lines.specs.Pieces.{pieces}
 use Rattle.link_events.specs.declared.fault.LineFault.{LineFault}
@@ -49,6 +50,13 @@ pub record SoFar (due later : Bool → Text → Due) (gathered : Text) (before n
   pub whole : IsWholeLines text
   pub gained : Gathered text gathered before now
 
+-- so it is of what is due later by some past that what is kept now follows
+pub record SoFarBy {S : Type 0} (follows : S → Type 0) (due : Bool → Text → Due) (later : S → Bool → Text → Due)
+    (gathered : Text) (before now : SinkSeen) : Type 0 where
+  pub past : S
+  pub followed : follows past
+  pub so_far : SoFar due (later past) gathered before now
+
 -- an end at a piece
 abbrev pub EndsIn : Due → SinkSeen → SinkSeen → Result (Option End) Fault → Type 0
 EndsIn due before now (Ok None) = ⊥
@@ -56,11 +64,12 @@ EndsIn due before now (Ok (Some e)) = Ran due before now (Ok e)
 EndsIn due before now (Err e) = Ran due before now (Err e)
 
 -- the text of the lines that end in a piece was written, or the run ends there, whatever is left of the file
-abbrev pub PieceRan : (due later : Bool → Text → Due) → SinkSeen → SinkSeen → Result (Option End) Fault → Type 0
-PieceRan due later before now (Ok None) = SoFar due later [] before now
-PieceRan due later before now (Ok (Some e)) = (over : Bool) (left : Text) → EndsIn (due over left) before now
+abbrev pub PieceRan : {S : Type 0} → (S → Type 0) → (Bool → Text → Due) → (S → Bool → Text → Due) → SinkSeen
+    → SinkSeen → Result (Option End) Fault → Type 0
+PieceRan follows due later before now (Ok None) = SoFarBy follows due later [] before now
+PieceRan follows due later before now (Ok (Some e)) = (over : Bool) (left : Text) → EndsIn (due over left) before now
     (Ok (Some e))
-PieceRan due later before now (Err e) = (over : Bool) (left : Text) → EndsIn (due over left) before now (Err e)
+PieceRan follows due later before now (Err e) = (over : Bool) (left : Text) → EndsIn (due over left) before now (Err e)
 
 -- what is due of a line that has begun, at the first byte that counts no more: a line feed there ends nothing
 abbrev pub limit_due : ℕ → Text → ℕ → Due

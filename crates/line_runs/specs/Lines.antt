@@ -1,5 +1,6 @@
 -- What the lines of a file come to, one after another.
-use Rattle.std.specs.Prelude.{ℕ, ◌+◌, ◌≡◌, ◌==◌, nat_lt, Bool, List, [], ◌∷◌, ◌++◌, length, take, Result, Ok, Err, if◌then◌else◌}
+use Rattle.std.specs.Prelude.{ℕ, ◌+◌, ◌≡◌, ◌==◌, nat_lt, Bool, List, [], ◌∷◌, ◌++◌, length, take, Result, Ok, Err}
+use Rattle.std.specs.Prelude.{if◌then◌else◌}
 use Rattle.std.specs.List.{slice_index_or}
 use Rattle.text_lines.specs.Pieces.{pieces}
 use Rattle.link_events.specs.declared.fault.LineFault.{LineFault}
@@ -59,8 +60,8 @@ process advance closing over n s (piece ∷ next ∷ rest) = go_on n (advance s 
 abbrev pub file_due : {S : Type 0} → (S → ℕ → Text → Result (S × Text) LineFault) → (S → Text) → S → Text → Due
 file_due advance closing s file = process advance closing (is_over file) 1 s (pieces (cut_text file))
 
--- what a line came to: its text and what is kept now, or its fault, or want of memory
-abbrev pub Came : {S : Type 0} → Result (S × Text) LineFault → S → Result Text LineError → Type 0
-Came due now (Ok text) = due ≡ Ok (now, text)
-Came due now (Err error.Memory) = Unit {0}
-Came due now (Err (error.Fault fault)) = due ≡ Err fault
+-- what a line came to: its text and a past that what is kept now follows, or its fault, or want of memory
+abbrev pub Came : {S : Type 0} → Result (S × Text) LineFault → (S → Type 0) → Result Text LineError → Type 0
+Came {S} due follows (Ok text) = (now : S) × (due ≡ Ok (now, text)) × follows now
+Came due follows (Err error.Memory) = Unit {0}
+Came due follows (Err (error.Fault fault)) = due ≡ Err fault

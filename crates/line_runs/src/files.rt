@@ -66,12 +66,14 @@ pub fn run_file<S: Shelf, O: Sink, W: LineWork>(
 ) -> Result<End, Fault>
     requires { W.fits work.old 1 }
     ensures end { IfOk result (λ e. e ≢ End.Usage) }
-    ensures answers { RanOn (λ contents. option_map (file_due W.advance W.closing work.old) (contents name.now))
-        (S.seen shelf.old) (S.seen shelf.new) (O.seen out.old) (O.seen out.new) result }
-    ensures so_far { IfErr result (λ e. WroteEnded e (ended_text W.advance W.closing work.old) name.now
-        (S.seen shelf.old) (S.seen shelf.new) (O.seen out.old) (O.seen out.new)) }
-    ensures no_further { IfOk result (λ e. ReadAsFar (λ contents. NoFurther (GoesOn W.advance W.closing work.old)
-        (bytes_of (contents name.now))) (S.seen shelf.old) (S.seen shelf.new)) }
+    ensures answers { (past : W.Past) → W.follows work.old past → RanOn (λ contents. option_map
+        (file_due W.advance W.closing past) (contents name.now)) (S.seen shelf.old) (S.seen shelf.new)
+        (O.seen out.old) (O.seen out.new) result }
+    ensures so_far { (past : W.Past) → W.follows work.old past → IfErr result (λ e. WroteEnded e
+        (ended_text W.advance W.closing past) name.now (S.seen shelf.old) (S.seen shelf.new) (O.seen out.old)
+        (O.seen out.new)) }
+    ensures no_further { (past : W.Past) → W.follows work.old past → IfOk result (λ e. ReadAsFar (λ contents. NoFurther
+        (GoesOn W.advance W.closing past) (bytes_of (contents name.now))) (S.seen shelf.old) (S.seen shelf.new)) }
     ensures cap { (S.seen shelf.new).given ≤ (S.seen shelf.old).given + (file_limit + 1) }
     ensures pieces { AskedPieces (S.seen shelf.old).longest (S.seen shelf.new).longest }
     ensures too_long { IfOk result (λ e. e ≡ End.TooLong → Gave (S.seen shelf.old).given (file_limit + 1)

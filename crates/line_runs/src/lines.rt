@@ -1,5 +1,6 @@
 //! What the lines of a file come to, and how a run of them ends.
-ghost use Rattle.std.specs.Prelude.{◌≡◌, ◌≢◌, ◌∷◌, [], ◌+◌, ◌<◌, ◌^◌, ℕ, List, Result, Err, IfOk, IfSome, OnOk, length, nat_lt, true, false};
+ghost use Rattle.std.specs.Prelude.{◌≡◌, ◌≢◌, ◌∷◌, [], ◌+◌, ◌<◌, ◌^◌, ℕ, List, Result, Err, IfOk, IfSome, OnOk, length};
+ghost use Rattle.std.specs.Prelude.{nat_lt, true, false};
 ghost use Rattle.link_events.specs.declared.fault.LineFault.{LineFault};
 ghost use Rattle.link_events.specs.declared.fault.LineFault.TheVariants.{TooLong};
 ghost use Rattle.link_events.specs.Words.{line_limit};
@@ -19,32 +20,40 @@ pub const FILE_LIMIT: usize = 16_777_216;
 
 /// What the lines of a file come to.
 pub trait LineWork {
+    /// What the lines so far came to.
+    ghost Past: { Type 0 };
+
+    /// What is kept follows such a past.
+    ghost follows: { Self → Self.Past → Type 0 };
+
     /// A line of this number may come next.
     ghost fits: { Self → ℕ → Type 0 };
 
-    /// What the line of a number comes to: what is kept then and its text, or its fault.
-    ghost advance: { Self → ℕ → List ℕ → Result (Self × List ℕ) LineFault };
+    /// What the line of a number comes to: the past with it and its text, or its fault.
+    ghost advance: { Self.Past → ℕ → List ℕ → Result (Self.Past × List ℕ) LineFault };
 
     /// The text behind the last line.
-    ghost closing: { Self → List ℕ };
+    ghost closing: { Self.Past → List ℕ };
 
     /// The text of a line, without its line feed, of which the number counts from 1.
     fn line(&mut self, number: u64, line: &[u8]) -> Result<Bytes, LineError>
         requires number { number < 2 ^ 26 }
         requires fits { fits self.old number }
-        ensures came { Came (advance self.old number line.now) self.new result }
+        ensures came { (past : Self.Past) → follows self.old past → Came (advance past number line.now)
+            (follows self.new) result }
         ensures fits { OnOk result (fits self.new (number + 1)) };
 
     /// The text behind the last line.
     fn closing(&self) -> Result<Bytes, Memory>
-        ensures { IfOk result (λ text. text ≡ closing self.now) };
+        ensures { (past : Self.Past) → follows self.now past → IfOk result (λ text. text ≡ closing past) };
 
     /// A line of more than 20,000 bytes is too long, whatever they are.
-    ghost long_lines: { (s : Self) (n : ℕ) (line : List ℕ) → nat_lt line_limit (length line) ≡ true
+    ghost long_lines: { (s : Self.Past) (n : ℕ) (line : List ℕ) → nat_lt line_limit (length line) ≡ true
         → advance s n line ≡ Err TooLong };
 
     /// What is written for a line is whole lines.
-    ghost whole_lines: { (s : Self) (n : ℕ) (line : List ℕ) → IfOk (advance s n line) (λ came. IsWholeLines came.1) };
+    ghost whole_lines: { (s : Self.Past) (n : ℕ) (line : List ℕ) → IfOk (advance s n line)
+        (λ came. IsWholeLines came.1) };
 }
 
 /// Writes what was gathered, and ends at a line that is not spelled.
@@ -68,7 +77,8 @@ pub(crate) fn refuse<O: Sink>(
 // Ends behind the last line.
 fn close<O: Sink, W: LineWork>(work: &W, out: &mut O) -> Result<End, Fault>
     ensures end { IfOk result (λ e. e ≡ End.Done) }
-    ensures ran { Ran (End.Done, W.closing work.now) (O.seen out.old) (O.seen out.new) result }
+    ensures ran { (past : W.Past) → W.follows work.now past → Ran (End.Done, W.closing past) (O.seen out.old)
+        (O.seen out.new) result }
 {
     match work.closing() {
         Ok(text) => finish(out, End::Done, text.as_slice()),
@@ -105,8 +115,8 @@ pub(crate) fn run_last<O: Sink, W: LineWork>(
     requires fits { W.fits work.old number }
     ensures end { IfOk result (λ e. e ≢ End.Usage) }
     ensures short { IfOk result (λ e. e ≢ End.TooLong) }
-    ensures ran { Ran (process W.advance W.closing false number work.old (piece.now ∷ []))
-        (O.seen out.old) (O.seen out.new) result }
+    ensures ran { (past : W.Past) → W.follows work.old past → Ran (process W.advance W.closing false number past
+        (piece.now ∷ [])) (O.seen out.old) (O.seen out.new) result }
 {
     if piece.is_empty() {
         return close(work, out);

@@ -1,5 +1,6 @@
 //! The lines that end in a piece of a file.
-ghost use Rattle.std.specs.Prelude.{◌≡◌, [], ◌++◌, ◌+◌, ◌<◌, ◌≤◌, ◌^◌, IfOk, IfSome, OnOk, None, length, nat_lt, vec_capacity, vec_len};
+ghost use Rattle.std.specs.Prelude.{◌≡◌, [], ◌++◌, ◌+◌, ◌<◌, ◌≤◌, ◌^◌, IfOk, IfSome, OnOk, None, length, nat_lt};
+ghost use Rattle.std.specs.Prelude.{vec_capacity, vec_len};
 ghost use Rattle.link_events.specs.Words.{line_limit};
 ghost use Rattle.line_runs.specs.Lines.{Came};
 ghost use Rattle.line_runs.specs.Gathering.{PieceRan, due_behind};
@@ -53,7 +54,8 @@ impl Lines {
     fn run_line<W: LineWork>(&mut self, work: &mut W, end: &[u8]) -> Result<Bytes, LineError>
         requires number { self.old.number < 2 ^ 26 }
         requires fits { W.fits work.old self.old.number }
-        ensures came { Came (W.advance work.old self.old.number (self.old.unended.items ++ end.now)) work.new result }
+        ensures came { (past : W.Past) → W.follows work.old past → Came (W.advance past self.old.number
+            (self.old.unended.items ++ end.now)) (W.follows work.new) result }
         ensures fits { OnOk result (W.fits work.new self.new.number) }
         ensures unended { OnOk result (self.new.unended.items ≡ []) }
         ensures number { self.new.number ≡ self.old.number + 1 }
@@ -86,9 +88,10 @@ pub(crate) fn run_piece<O: Sink, W: LineWork>(
     requires fits { W.fits work.old lines.old.number }
     requires empty { gathered.old.items ≡ [] }
     ensures end { IfOk result (λ o. IfSome o (λ e. e ≡ End.Script)) }
-    ensures ran { PieceRan (λ over left. due_behind W.advance W.closing over lines.old.number work.old
-        lines.old.unended.items (piece.now ++ left)) (λ over left. due_behind W.advance W.closing over lines.new.number
-        work.new lines.new.unended.items left) (O.seen out.old) (O.seen out.new) result }
+    ensures ran { (past : W.Past) → W.follows work.old past → PieceRan (W.follows work.new) (λ over left. due_behind
+        W.advance W.closing over lines.old.number past lines.old.unended.items (piece.now ++ left))
+        (λ later over left. due_behind W.advance W.closing over lines.new.number later lines.new.unended.items left)
+        (O.seen out.old) (O.seen out.new) result }
     ensures fits { IfOk result (λ o. o ≡ None → W.fits work.new lines.new.number) }
     ensures number { IfOk result (λ o. o ≡ None → lines.new.number ≤ lines.old.number + length piece.now) }
     ensures empty { IfOk result (λ o. o ≡ None → gathered.new.items ≡ []) }

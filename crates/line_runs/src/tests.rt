@@ -14,11 +14,15 @@ use std::test::Fail;
 struct Copies(Global);
 
 impl LineWork for Copies {
+    ghost Past = { Unit {0} };
+
+    ghost follows = { λ s past. Unit {0} };
+
     ghost fits = { λ s n. Unit {0} };
 
-    ghost advance = { λ s n line. copied_of s n line };
+    ghost advance = { λ past n line. copied_of past n line };
 
-    ghost closing = { λ s. codes "end" };
+    ghost closing = { λ past. codes "end" };
 
     ghost long_lines = { λ s n line long. long_copy s n line long };
 

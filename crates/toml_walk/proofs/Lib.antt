@@ -1,3 +1,4 @@
 pub mod Lists
 pub mod Holds
 pub mod Unknown
+pub mod KeysBack

@@ -1,5 +1,6 @@
 -- Lists of a table as lists, and reading them one element after the other.
-use Rattle.std.proofs.Common.{◌≡◌, ℕ, ◌+◌, List, [], ◌∷◌, ◌++◌, Result, Ok, Err, refl, sym, ap, ◌∙◌, append_assoc, map, String, string_bytes}
+use Rattle.std.proofs.Common.{◌≡◌, ℕ, ◌+◌, List, [], ◌∷◌, ◌++◌, Result, Ok, Err, refl, sym, ap, ◌∙◌, append_assoc, map}
+use Rattle.std.proofs.Common.{String, string_bytes}
 use Rattle.toml.specs.Data.{Data}
 use Rattle.toml.specs.View.{view, items_view, items_of, members_view, table_view}
 use Rattle.std.specs.BTreeMap.{BTreeMap, keys}
@@ -18,7 +19,8 @@ list_of_items (d ∷ ds) = ap (λ (xs : List Data). d ∷ xs) (list_of_items ds)
 pub list_of_view : (vs : List Value) → list_of (items_view vs) ≡ map view vs
 list_of_view vs = list_of_items (map view vs)
 
-keys_of_members : (es : List (String Global × Value)) → key_names (members_view es) ≡ map string_bytes (map (λ e. e.0) es)
+keys_of_members : (es : List (String Global × Value)) → key_names (members_view es)
+    ≡ map string_bytes (map (λ e. e.0) es)
 keys_of_members [] = refl
 keys_of_members (e ∷ es) = ap (λ (ks : List Text). string_bytes e.0 ∷ ks) (keys_of_members es)
 
@@ -30,17 +32,21 @@ module _ {A : Type 0} where
   abbrev pub with_front : List A → Result (List A) PlanFault → Result (List A) PlanFault
   with_front front read = read >>= λ xs. Ok (front ++ xs)
 
-  regroup : (front : List A) (x : A) (read : Result (List A) PlanFault) → with_front front (read >>= λ xs. Ok (x ∷ xs)) ≡ with_front (front ++ x ∷ []) read
+  regroup : (front : List A) (x : A) (read : Result (List A) PlanFault) → with_front front (read >>= λ xs. Ok (x ∷ xs))
+      ≡ with_front (front ++ x ∷ []) read
   regroup front x (Ok xs) = ap (λ (ys : List A). Ok ys) (simp append_assoc)
   regroup front x (Err f) = refl
 
   -- one more element was read
-  pub goes_on : (one : Reader A) (path : Text) (front : List A) (i : ℕ) (d : Data) (ds : List Data) (x : A) (total : Result (List A) PlanFault) → one (place path i) d ≡ Ok x
-      → with_front front (each one path i (d ∷ ds)) ≡ total → with_front (front ++ x ∷ []) (each one path (i + 1) ds) ≡ total
+  pub goes_on : (one : Reader A) (path : Text) (front : List A) (i : ℕ) (d : Data) (ds : List Data) (x : A)
+      (total : Result (List A) PlanFault) → one (place path i) d ≡ Ok x
+      → with_front front (each one path i (d ∷ ds)) ≡ total → with_front (front ++ x ∷ []) (each one path (i + 1) ds)
+      ≡ total
   goes_on one path front i d ds x total e so_far = sym (regroup front x (each one path (i + 1) ds)) ∙ (rw e at so_far)
 
   -- an element was refused
-  pub ends : (one : Reader A) (path : Text) (front : List A) (i : ℕ) (d : Data) (ds : List Data) (e : PlanError) (total : Result (List A) PlanFault) → Fails e (one (place path i) d)
+  pub ends : (one : Reader A) (path : Text) (front : List A) (i : ℕ) (d : Data) (ds : List Data) (e : PlanError)
+      (total : Result (List A) PlanFault) → Fails e (one (place path i) d)
       → with_front front (each one path i (d ∷ ds)) ≡ total → Fails e total
   ends one path front i d ds errors.Memory total h so_far = tt
   ends one path front i d ds (errors.Fault f) total h so_far = sym so_far ∙ rw h refl

@@ -1,4 +1,5 @@
 pub mod Fault
 pub mod Bounds
+pub mod Shown
 pub mod Walk
 pub mod Values

@@ -1,5 +1,6 @@
 -- Numbers, truth values and texts.
-use Rattle.std.specs.Prelude.{◌*◌, ℕ, ℤ, pos, negsuc, Bool, nat_le, List, [], ◌∷◌, length, Option, None, Result, Ok, Err, if◌then◌else◌}
+use Rattle.std.specs.Prelude.{◌*◌, ℕ, ℤ, pos, negsuc, Bool, nat_le, List, [], ◌∷◌, length, Option, None, Result, Ok}
+use Rattle.std.specs.Prelude.{Err, if◌then◌else◌}
 use Rattle.std.specs.Result.{result_ok}
 use Rattle.hex.specs.Hex.{decode_of, decode_sized}
 use Rattle.toml.specs.Data.{Data, as_integer, as_bool, as_str}

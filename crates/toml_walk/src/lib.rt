@@ -8,12 +8,13 @@ mod list;
 mod numbers;
 mod path;
 mod reader;
+mod shown;
 mod table;
 mod texts;
 
 pub use bounds::{Bounds, Form, GREATEST};
 pub use fault::{PlanError, PlanFault};
-pub use laws::unknown_is_least;
+pub use laws::{shown_keys_are_apart, unknown_is_least};
 pub use list::{ListOf, Span, items_of};
 pub use numbers::{Byte, Long, Wide, Word, integer_of, two_numbers};
 pub use path::{key_path, place_path};

@@ -9,6 +9,7 @@ ghost use Rattle.toml_walk.specs.declared.fault.PlanFault.TheVariants.{Kind};
 ghost use Rattle.toml_walk.specs.Fault.{Gives, or_fault};
 ghost use Rattle.toml_walk.specs.Walk.{is_known, unknown_in, only_known, key_names, Ascend, required, optional};
 
+use crate::shown::shown_path;
 use crate::{PlanError, PlanFault, Reader, key_path};
 use ide_types::Bytes;
 use std::alloc::Global;
@@ -66,7 +67,7 @@ impl Keys<'_> {
         match first_unknown(known, self.table) {
             None => Ok(()),
             Some(key) => {
-                let path = key_path(self.alloc, self.path.as_slice(), key)?;
+                let path = shown_path(self.alloc, self.path.as_slice(), key)?;
                 Err(PlanError::Fault(PlanFault::Unknown(path)))
             }
         }

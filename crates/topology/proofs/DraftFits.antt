@@ -1,5 +1,6 @@
 -- What the keys of a topology say, ahead of the rules over several values, meets every bound of the keys.
-use Rattle.std.proofs.Common.{◌≡◌, sym, refl, ℕ, ℤ, pos, negsuc, ◌≤◌, ◌<◌, ◌==◌, ◌&&◌, ◌||◌, nat_le, List, [], ◌∷◌, length, Bool, true, false, arith, codes, lit≤, inl, inr}
+use Rattle.std.proofs.Common.{◌≡◌, sym, refl, ℕ, ℤ, pos, negsuc, ◌≤◌, ◌<◌, ◌==◌, ◌&&◌, ◌||◌, nat_le, List, [], ◌∷◌}
+use Rattle.std.proofs.Common.{length, Bool, true, false, arith, codes, lit≤, inl, inr}
 use Rattle.std.specs.List.{All}
 use Rattle.std.proofs.lemmas.Bool.{ltb-false, eqb-true, eq-eqb, le-leb, and_parts, and_from, or_cases}
 use Rattle.std.proofs.lemmas.List.Elements.{All-nil, All-head, All-tail}
@@ -11,11 +12,13 @@ use Rattle.toml_walk.specs.declared.bounds.Form.TheVariants.{Pages, LockFlags}
 use Rattle.toml_walk.specs.Bounds.{greatest, within, formed}
 use Rattle.toml_walk.specs.Walk.{Text, only_known, required, optional, table, list, between, any_number}
 use Rattle.toml_walk.specs.Values.{integer, number, key_bytes, hex_bytes}
-use Rattle.toml_walk.proofs.Holds.{Holds, gives, anything, next, weaker, Admitted, Listed, number_holds, key_holds, hex_holds, required_holds, optional_holds, table_holds, list_holds}
+use Rattle.toml_walk.proofs.Holds.{Holds, gives, anything, next, weaker, Admitted, Listed, number_holds, key_holds}
+use Rattle.toml_walk.proofs.Holds.{hex_holds, required_holds, optional_holds, table_holds, list_holds}
 use Rattle.topology.specs.declared.draft.InterfaceDraft.{InterfaceDraft}
 use Rattle.topology.specs.declared.draft.LinkDraft.{LinkDraft}
 use Rattle.topology.specs.declared.draft.PlanDraft.{PlanDraft}
-use Rattle.topology.specs.Tables.{stream_keys, bar_keys, stream_id_of, interface_names, interface_keys, link_names, link_keys, region_keys, top_names, top_keys}
+use Rattle.topology.specs.Tables.{stream_keys, bar_keys, stream_id_of, interface_names, interface_keys, link_names}
+use Rattle.topology.specs.Tables.{link_keys, region_keys, top_names, top_keys}
 use Rattle.topology.specs.Rules.{is_id, is_bound}
 use Rattle.topology.proofs.TableFits.{Upto, upto, stream_holds, bar_holds, region_holds}
 
@@ -27,15 +30,18 @@ id_is (pos n) id small h =
 id_is (negsuc n) id small h = cc
 
 -- the interface is bound to a selective stream, by its ID
-bound_selective : (z : ℤ) (streams : List StreamPlan) → All FitsStream streams → is_bound streams z ≡ true → has_selective (stream_id_of z) streams ≡ true
+bound_selective : (z : ℤ) (streams : List StreamPlan) → All FitsStream streams → is_bound streams z ≡ true
+    → has_selective (stream_id_of z) streams ≡ true
 bound_selective z [] fits h = cc
 bound_selective z (s ∷ ss) fits h =
     elim (or_cases (is_selective s.selector && is_id z s.id) (is_bound ss z) h) [
       | inl here ↦
           let parts = and_parts (is_selective s.selector) (is_id z s.id) here in
-          let one : (is_selective s.selector && s.id == stream_id_of z) ≡ true = and_from _ _ parts.0 (id_is z s.id (All-head FitsStream s ss fits).id parts.1) in
+          let one : (is_selective s.selector && s.id == stream_id_of z)
+          ≡ true = and_from _ _ parts.0 (id_is z s.id (All-head FitsStream s ss fits).id parts.1) in
           rw one refl
-      | inr later ↦ or_right _ (has_selective (stream_id_of z) ss) (bound_selective z ss (All-tail FitsStream s ss fits) later)
+      | inr later ↦ or_right _ (has_selective (stream_id_of z) ss)
+          (bound_selective z ss (All-tail FitsStream s ss fits) later)
     ]
   where
     or_right : (a b : Bool) → b ≡ true → (a || b) ≡ true
@@ -44,31 +50,47 @@ bound_selective z (s ∷ ss) fits h =
 
 -- an interface meets its bounds where its stream is one of these
 unfoldable pub DraftFits : InterfaceDraft → Type 0
-DraftFits d = (streams : List StreamPlan) → All FitsStream streams → is_bound streams d.stream ≡ true → FitsInterface streams d.interface
+DraftFits d = (streams : List StreamPlan) → All FitsStream streams → is_bound streams d.stream ≡ true
+    → FitsInterface streams d.interface
 
-bars_hold : (path : Text) (d : Data) → Holds (λ xs. (length xs ≤ 6) × All FitsBar xs) (list (between 0 6) (table bar_keys) path d)
+bars_hold : (path : Text) (d : Data) → Holds (λ xs. (length xs ≤ 6) × All FitsBar xs)
+    (list (between 0 6) (table bar_keys) path d)
 bars_hold path d =
-    weaker (Listed (between 0 6) FitsBar) _ _ (list_holds _ FitsBar (table bar_keys) (table_holds FitsBar bar_keys bar_holds) path d) (λ xs l. (ltb-false 6 (length xs) l.most, l.each))
+    weaker (Listed (between 0 6) FitsBar) _ _
+    (list_holds _ FitsBar (table bar_keys) (table_holds FitsBar bar_keys bar_holds) path d)
+    (λ xs l. (ltb-false 6 (length xs) l.most, l.each))
 
 -- key by key, as the keys are read: each reader gives its bound, and the last step collects them
 pub interface_holds : (t : Text) (ms : Members) → Holds DraftFits (interface_keys t ms)
 unfolding interface_keys DraftFits
 interface_holds t ms =
     next (λ _. Unit {0}) DraftFits (only_known t interface_names ms) _ (anything _) (λ _ _.
-    next (Upto 65535) DraftFits (required t ms (codes "rid") (number (within 0 65535))) _ (required_holds _ t ms (codes "rid") _ (upto 65535)) (λ rid rid_fits.
+    next (Upto 65535) DraftFits (required t ms (codes "rid") (number (within 0 65535))) _
+    (required_holds _ t ms (codes "rid") _ (upto 65535)) (λ rid rid_fits.
     next (λ _. Unit {0}) DraftFits (required t ms (codes "stream") integer) _ (anything _) (λ z _.
-    next (Admitted (formed 0 23 LockFlags)) DraftFits (optional t ms (codes "flags") 0 (number (formed 0 23 LockFlags))) _
-    (optional_holds _ t ms (codes "flags") 0 _ (record { least = lit≤ tt; most = lit≤ tt; form = refl }) (number_holds _)) (λ flags flags_fit.
-    next (Admitted (formed 0 greatest Pages)) DraftFits (optional t ms (codes "offset") 0 (number (formed 0 greatest Pages))) _
-    (optional_holds _ t ms (codes "offset") 0 _ (record { least = lit≤ tt; most = lit≤ tt; form = refl }) (number_holds _)) (λ offset offset_fits.
-    next (Upto 65535) DraftFits (optional t ms (codes "command") 0 (number (within 0 65535))) _ (optional_holds _ t ms (codes "command") 0 _ (lit≤ tt) (upto 65535)) (λ command command_fits.
-    next (Upto 65535) DraftFits (optional t ms (codes "msix") 0 (number (within 0 65535))) _ (optional_holds _ t ms (codes "msix") 0 _ (lit≤ tt) (upto 65535)) (λ msix msix_fits.
-    next (Upto 65535) DraftFits (optional t ms (codes "lnr") 0 (number (within 0 65535))) _ (optional_holds _ t ms (codes "lnr") 0 _ (lit≤ tt) (upto 65535)) (λ lnr lnr_fits.
-    next (Upto 255) DraftFits (optional t ms (codes "cacheline") 0 (number (within 0 255))) _ (optional_holds _ t ms (codes "cacheline") 0 _ (lit≤ tt) (upto 255)) (λ line line_fits.
-    next (Upto 4294967295) DraftFits (optional t ms (codes "tph") 0 (number (within 0 4294967295))) _ (optional_holds _ t ms (codes "tph") 0 _ (lit≤ tt) (upto 4294967295)) (λ tph tph_fits.
-    next (λ bytes. (length bytes ≤ 1024) × AreBytes bytes) DraftFits (optional t ms (codes "info") [] (hex_bytes 1024)) _
+    next (Admitted (formed 0 23 LockFlags)) DraftFits (optional t ms (codes "flags") 0 (number (formed 0 23 LockFlags)))
+    _
+    (optional_holds _ t ms (codes "flags") 0 _ (record { least = lit≤ tt; most = lit≤ tt; form = refl })
+    (number_holds _)) (λ flags flags_fit.
+    next (Admitted (formed 0 greatest Pages)) DraftFits
+    (optional t ms (codes "offset") 0 (number (formed 0 greatest Pages))) _
+    (optional_holds _ t ms (codes "offset") 0 _ (record { least = lit≤ tt; most = lit≤ tt; form = refl })
+    (number_holds _)) (λ offset offset_fits.
+    next (Upto 65535) DraftFits (optional t ms (codes "command") 0 (number (within 0 65535))) _
+    (optional_holds _ t ms (codes "command") 0 _ (lit≤ tt) (upto 65535)) (λ command command_fits.
+    next (Upto 65535) DraftFits (optional t ms (codes "msix") 0 (number (within 0 65535))) _
+    (optional_holds _ t ms (codes "msix") 0 _ (lit≤ tt) (upto 65535)) (λ msix msix_fits.
+    next (Upto 65535) DraftFits (optional t ms (codes "lnr") 0 (number (within 0 65535))) _
+    (optional_holds _ t ms (codes "lnr") 0 _ (lit≤ tt) (upto 65535)) (λ lnr lnr_fits.
+    next (Upto 255) DraftFits (optional t ms (codes "cacheline") 0 (number (within 0 255))) _
+    (optional_holds _ t ms (codes "cacheline") 0 _ (lit≤ tt) (upto 255)) (λ line line_fits.
+    next (Upto 4294967295) DraftFits (optional t ms (codes "tph") 0 (number (within 0 4294967295))) _
+    (optional_holds _ t ms (codes "tph") 0 _ (lit≤ tt) (upto 4294967295)) (λ tph tph_fits.
+    next (λ bytes. (length bytes ≤ 1024) × AreBytes bytes) DraftFits (optional t ms (codes "info") [] (hex_bytes 1024))
+    _
     (optional_holds _ t ms (codes "info") [] _ (lit≤ tt, All-nil (λ b. b < 256)) (hex_holds 1024)) (λ info info_fits.
-    next (λ xs. (length xs ≤ 6) × All FitsBar xs) DraftFits (optional t ms (codes "bars") [] (list (between 0 6) (table bar_keys))) _
+    next (λ xs. (length xs ≤ 6) × All FitsBar xs) DraftFits
+    (optional t ms (codes "bars") [] (list (between 0 6) (table bar_keys))) _
     (optional_holds _ t ms (codes "bars") [] _ (lit≤ tt, All-nil FitsBar) bars_hold) (λ bars bars_fit.
     gives DraftFits _ (λ streams streams_fit bound. record {
       requester = rid_fits;
@@ -98,21 +120,29 @@ pub record LinkHolds (l : LinkDraft) : Type 0 where
   pub each_stream : All FitsStream l.streams
   pub each_interface : All DraftFits l.interfaces
 
-nonces_hold : (path : Text) (d : Data) → Holds (λ xs. (length xs ≤ 1024) × All IsKey xs) (list (between 0 1024) key_bytes path d)
-nonces_hold path d = weaker (Listed (between 0 1024) IsKey) _ _ (list_holds _ IsKey key_bytes key_holds path d) (λ xs l. (ltb-false 1024 (length xs) l.most, l.each))
+nonces_hold : (path : Text) (d : Data) → Holds (λ xs. (length xs ≤ 1024) × All IsKey xs)
+    (list (between 0 1024) key_bytes path d)
+nonces_hold path d = weaker (Listed (between 0 1024) IsKey) _ _ (list_holds _ IsKey key_bytes key_holds path d)
+    (λ xs l. (ltb-false 1024 (length xs) l.most, l.each))
 
 interfaces_hold : (path : Text) (d : Data) → Holds (All DraftFits) (list any_number (table interface_keys) path d)
-interfaces_hold path d = weaker (Listed any_number DraftFits) _ _ (list_holds _ DraftFits (table interface_keys) (table_holds DraftFits interface_keys interface_holds) path d) (λ xs l. l.each)
+interfaces_hold path d = weaker (Listed any_number DraftFits) _ _
+    (list_holds _ DraftFits (table interface_keys) (table_holds DraftFits interface_keys interface_holds) path d)
+    (λ xs l. l.each)
 
 -- key by key, as the keys are read
 pub link_holds : (t : Text) (ms : Members) → Holds LinkHolds (link_keys t ms)
 unfolding link_keys
 link_holds t ms =
     next (λ _. Unit {0}) LinkHolds (only_known t link_names ms) _ (anything _) (λ _ _.
-    next (λ xs. (length xs ≤ 1024) × All IsKey xs) LinkHolds (optional t ms (codes "nonces") [] (list (between 0 1024) key_bytes)) _
+    next (λ xs. (length xs ≤ 1024) × All IsKey xs) LinkHolds
+    (optional t ms (codes "nonces") [] (list (between 0 1024) key_bytes)) _
     (optional_holds _ t ms (codes "nonces") [] _ (lit≤ tt, All-nil IsKey) nonces_hold) (λ nonces nonces_fit.
-    next (Listed (between 1 16) FitsStream) LinkHolds (required t ms (codes "stream") (list (between 1 16) (table stream_keys))) _
-    (required_holds _ t ms (codes "stream") _ (list_holds _ FitsStream (table stream_keys) (table_holds FitsStream stream_keys stream_holds))) (λ streams streams_fit.
+    next (Listed (between 1 16) FitsStream) LinkHolds
+    (required t ms (codes "stream") (list (between 1 16) (table stream_keys))) _
+    (required_holds _ t ms (codes "stream") _
+    (list_holds _ FitsStream (table stream_keys) (table_holds FitsStream stream_keys stream_holds)))
+    (λ streams streams_fit.
     next (All DraftFits) LinkHolds (optional t ms (codes "interface") [] (list any_number (table interface_keys))) _
     (optional_holds _ t ms (codes "interface") [] _ (All-nil DraftFits) interfaces_hold) (λ interfaces interfaces_fit.
     gives LinkHolds _ (record {
@@ -138,14 +168,27 @@ top_holds t ms =
     next (λ _. Unit {0}) TopHolds (only_known t top_names ms) _ (anything _) (λ _ _.
     next (λ _. Unit {0}) TopHolds (required t ms (codes "version") (number (within 1 1))) _ (anything _) (λ _ _.
     next (Admitted (within 16 65535)) TopHolds (optional t ms (codes "portion") 64 (number (within 16 65535))) _
-    (optional_holds _ t ms (codes "portion") 64 _ (record { least = lit≤ tt; most = lit≤ tt; form = refl }) (number_holds _)) (λ portion portion_fits.
-    next (Admitted (within 1 4294967296)) TopHolds (optional t ms (codes "units_per_key") 4294967296 (number (within 1 4294967296))) _
-    (optional_holds _ t ms (codes "units_per_key") 4294967296 _ (record { least = lit≤ tt; most = lit≤ tt; form = refl }) (number_holds _)) (λ units units_fit.
+    (optional_holds _ t ms (codes "portion") 64 _ (record { least = lit≤ tt; most = lit≤ tt; form = refl })
+    (number_holds _)) (λ portion portion_fits.
+    next (Admitted (within 1 4294967296)) TopHolds
+    (optional t ms (codes "units_per_key") 4294967296 (number (within 1 4294967296))) _
+    (optional_holds _ t ms (codes "units_per_key") 4294967296 _
+    (record { least = lit≤ tt; most = lit≤ tt; form = refl }) (number_holds _)) (λ units units_fit.
     next (Listed (between 6 6144) IsKey) TopHolds (required t ms (codes "pool") (list (between 6 6144) key_bytes)) _
     (required_holds _ t ms (codes "pool") _ (list_holds _ IsKey key_bytes key_holds)) (λ pool pool_fits.
-    next (Listed (between 1 8) LinkHolds) TopHolds (required t ms (codes "link") (list (between 1 8) (table link_keys))) _
-    (required_holds _ t ms (codes "link") _ (list_holds _ LinkHolds (table link_keys) (table_holds LinkHolds link_keys link_holds))) (λ links links_fit.
-    next (Listed (between 0 16) FitsRegion) TopHolds (optional t ms (codes "memory") [] (list (between 0 16) (table region_keys))) _
+    next (Listed (between 1 8) LinkHolds) TopHolds (required t ms (codes "link") (list (between 1 8) (table link_keys)))
+    _
+    (required_holds _ t ms (codes "link") _
+    (list_holds _ LinkHolds (table link_keys) (table_holds LinkHolds link_keys link_holds))) (λ links links_fit.
+    next (Listed (between 0 16) FitsRegion) TopHolds
+    (optional t ms (codes "memory") [] (list (between 0 16) (table region_keys))) _
     (optional_holds _ t ms (codes "memory") [] _ (record { least = lit≤ tt; most = refl; each = All-nil FitsRegion })
-    (list_holds _ FitsRegion (table region_keys) (table_holds FitsRegion region_keys region_holds))) (λ memory memory_fits.
-    gives TopHolds _ (record { portion = portion_fits; units = units_fit; pool = pool_fits; links = links_fit; regions = memory_fits }))))))))
+    (list_holds _ FitsRegion (table region_keys) (table_holds FitsRegion region_keys region_holds)))
+    (λ memory memory_fits.
+    gives TopHolds _ (record {
+      portion = portion_fits;
+      units = units_fit;
+      pool = pool_fits;
+      links = links_fit;
+      regions = memory_fits;
+    }))))))))

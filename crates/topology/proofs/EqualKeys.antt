@@ -1,5 +1,6 @@
 -- Looking equal keys up among the later ones, from the last key to the first.
-use Rattle.std.proofs.Common.{◌≡◌, ◌∙◌, refl, ℕ, suc, ◌+◌, ◌-◌, ◌≤◌, ◌<◌, List, [], ◌∷◌, Option, Some, drop, length, get_or, arith, drop-cons}
+use Rattle.std.proofs.Common.{◌≡◌, ◌∙◌, refl, ℕ, suc, ◌+◌, ◌-◌, ◌≤◌, ◌<◌, List, [], ◌∷◌, Option, Some, drop, length}
+use Rattle.std.proofs.Common.{get_or, arith, drop-cons}
 use Rattle.std.proofs.lemmas.Map.Text.{is_eq-slice_cmp}
 use Rattle.std.proofs.lemmas.Cmp.{nat_list_eq_equiv}
 use Rattle.std.specs.BTreeMap.{BTreeMap, get, Updates}
@@ -16,8 +17,10 @@ pub record Looked (keys : List (List ℕ)) (places : BTreeMap (List ℕ) ℕ) (p
   pub first : (key : List ℕ) → get (slice_cmp nat_cmp) places key ≡ position_from (bytes_eq key) i (drop i keys)
 
 -- one more key was looked up
-pub looked_more : (keys : List (List ℕ)) (m n : BTreeMap (List ℕ) ℕ) (pair : Option (ℕ × ℕ)) (old : Option ℕ) (i : ℕ) → 0 < i → Looked keys m pair i
-    → old ≡ get (slice_cmp nat_cmp) m (get_or keys (i - 1) []) → Updates (slice_cmp nat_cmp) m n (get_or keys (i - 1) []) (Some (i - 1))
+pub looked_more : (keys : List (List ℕ)) (m n : BTreeMap (List ℕ) ℕ) (pair : Option (ℕ × ℕ)) (old : Option ℕ) (i : ℕ)
+    → 0 < i → Looked keys m pair i
+    → old ≡ get (slice_cmp nat_cmp) m (get_or keys (i - 1) [])
+    → Updates (slice_cmp nat_cmp) m n (get_or keys (i - 1) []) (Some (i - 1))
     → Looked keys n (pair_or (i - 1) old pair) (i - 1)
 looked_more keys m n pair old i some h e u =
     let lt : i - 1 < length keys = omega (arith, h.within) in
@@ -27,5 +30,11 @@ looked_more keys m n pair old i some h e u =
     record {
       within = omega (arith, h.within);
       least = rw (front, more, e, h.first (get_or keys (i - 1) []), h.least) refl;
-      first = λ q. u.0 q ∙ rw (front, more, is_eq-slice_cmp (get_or keys (i - 1) []) q, nat_list_eq_equiv.symm q (get_or keys (i - 1) []), h.first q) refl;
+      first = λ q. u.0 q ∙ rw (
+        front,
+        more,
+        is_eq-slice_cmp (get_or keys (i - 1) []) q,
+        nat_list_eq_equiv.symm q (get_or keys (i - 1) []),
+        h.first q,
+      ) refl;
     }

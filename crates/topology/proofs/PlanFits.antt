@@ -27,7 +27,8 @@ use Rattle.topology.specs.Meaning.{link_of, plan_from, plan_in}
 use Rattle.topology.proofs.DraftFits.{DraftFits, LinkHolds, TopHolds, top_holds}
 use Rattle.topology.proofs.RuleFits.{LinkRuled, Ruled, ruled, clash_free, clash_free_map}
 
-weaker_pairs : {A : Type 0} (R S : A → A → Type 0) (xs : List A) → ((a b : A) → R a b → S a b) → AllPairs R xs → AllPairs S xs
+weaker_pairs : {A : Type 0} (R S : A → A → Type 0) (xs : List A) → ((a b : A) → R a b → S a b) → AllPairs R xs
+    → AllPairs S xs
 weaker_pairs R S xs w h = λ i j d below lt. w _ _ (h i j d below lt)
 
 -- a link that meets its keys' bounds and its rules
@@ -39,19 +40,24 @@ link_fits l h r = record {
   streams_least = h.streams_least;
   streams_most = h.streams_most;
   each_stream = h.each_stream;
-  ids_differ = weaker_pairs (λ s t. same_id s t ≡ false) (λ s t. s.id ≢ t.id) l.streams (λ s t e. eqb-false s.id t.id e) (clash_free _ same_id l.streams r.ids);
+  ids_differ = weaker_pairs (λ s t. same_id s t ≡ false) (λ s t. s.id ≢ t.id) l.streams (λ s t e. eqb-false s.id t.id e)
+      (clash_free _ same_id l.streams r.ids);
   one_default = clash_free _ both_default l.streams r.defaults;
   classes_apart = clash_free _ share_class l.streams r.classes;
-  each_interface = All-map (FitsInterface l.streams) (λ (d : InterfaceDraft). d.interface) l.interfaces (λ k d lt. h.each_interface k d lt l.streams h.each_stream (r.bound k d lt));
-  requesters_differ = clash_free_map _ same_requester (λ (i j : InterfacePlan). i.requester ≢ j.requester) (λ (d : InterfaceDraft). d.interface) l.interfaces
+  each_interface = All-map (FitsInterface l.streams) (λ (d : InterfaceDraft). d.interface) l.interfaces
+      (λ k d lt. h.each_interface k d lt l.streams h.each_stream (r.bound k d lt));
+  requesters_differ = clash_free_map _ same_requester (λ (i j : InterfacePlan). i.requester ≢ j.requester)
+      (λ (d : InterfaceDraft). d.interface) l.interfaces
       (λ a b e. eqb-false a.interface.requester b.interface.requester e) r.requesters;
 }
 
 counts : (ls : List LinkDraft) → sum_by (λ (l : LinkPlan). length l.interfaces) (map link_of ls) ≡ interface_count ls
 counts [] = refl
 counts (l ∷ ls) =
-    let one : length (link_of l).interfaces ≡ length l.interfaces = length-map l.interfaces (λ (d : InterfaceDraft). d.interface) in
-    sum_by-cons (λ (p : LinkPlan). length p.interfaces) (link_of l) (map link_of ls) ∙ rw (one, counts ls) (sym (sum_by-cons (λ (d : LinkDraft). length d.interfaces) l ls))
+    let one : length (link_of l).interfaces ≡ length l.interfaces = length-map l.interfaces
+    (λ (d : InterfaceDraft). d.interface) in
+    sum_by-cons (λ (p : LinkPlan). length p.interfaces) (link_of l) (map link_of ls) ∙ rw (one, counts ls)
+    (sym (sum_by-cons (λ (d : LinkDraft). length d.interfaces) l ls))
 
 -- the bounds of each key come from its reading, the rest from the rule that names it
 plan_fits : (d : PlanDraft) → TopHolds d → Ruled d → FitsPlan (plan_from d)
@@ -66,7 +72,8 @@ plan_fits d h r =
       pool_most = ltb-false 6144 (length d.pool) h.pool.most;
       pool_sixes = r.pool_sixes;
       each_key = h.pool.each;
-      keys_differ = weaker_pairs (λ a b. bytes_eq a b ≡ false) (λ a b. a ≢ b) d.pool (λ a b e. not_from_Decides _ (bytes_eq-Decides a b) e) (clash_free _ bytes_eq d.pool r.pool);
+      keys_differ = weaker_pairs (λ a b. bytes_eq a b ≡ false) (λ a b. a ≢ b) d.pool
+          (λ a b e. not_from_Decides _ (bytes_eq-Decides a b) e) (clash_free _ bytes_eq d.pool r.pool);
       links_least = rw links h.links.least;
       links_most = rw links (ltb-false 8 (length d.links) h.links.most);
       each_link = All-map FitsLink link_of d.links (λ k l lt. link_fits _ (h.links.each k l lt) (r.each_link k l lt));
@@ -84,6 +91,7 @@ meaning_fits ms =
     gives FitsPlan (plan_from d) (plan_fits d h (ruled d e))))
 
 -- a plan that is given
-pub given_fits : (ms : Members) (result : Result Plan PlanError) → Gives (λ p. p) result (plan_in ms) → IfOk result FitsPlan
+pub given_fits : (ms : Members) (result : Result Plan PlanError) → Gives (λ p. p) result (plan_in ms)
+    → IfOk result FitsPlan
 given_fits ms (Ok p) g = (meaning_fits ms).given p g
 given_fits ms (Err e) g = tt

@@ -1,5 +1,6 @@
 -- What the rules over several values say of a topology that meets them.
-use Rattle.std.proofs.Common.{◌≡◌, ap, refl, ℕ, ◌+◌, ◌%◌, ◌≤◌, ◌==◌, nat_le, List, [], ◌∷◌, ◌++◌, map, length, Bool, true, false, Option, Some, None, Result, Ok, Err, cond, arith, codes}
+use Rattle.std.proofs.Common.{◌≡◌, ap, refl, ℕ, ◌+◌, ◌%◌, ◌≤◌, ◌==◌, nat_le, List, [], ◌∷◌, ◌++◌, map, length, Bool}
+use Rattle.std.proofs.Common.{true, false, Option, Some, None, Result, Ok, Err, cond, arith, codes}
 use Rattle.std.specs.Prelude.{sum_by}
 use Rattle.std.specs.List.{All, AllPairs, position_from}
 use Rattle.std.specs.Str.{bytes_eq}
@@ -14,14 +15,17 @@ use Rattle.toml_walk.specs.Walk.{Text, place}
 use Rattle.topology.specs.declared.draft.InterfaceDraft.{InterfaceDraft}
 use Rattle.topology.specs.declared.draft.LinkDraft.{LinkDraft}
 use Rattle.topology.specs.declared.draft.PlanDraft.{PlanDraft}
-use Rattle.topology.specs.Rules.{pair_or, pair_from, refused_pair, no_clash, at_most, in_sixes, same_requester, is_bound, each_bound, link_rules, each_link, interface_count, rules}
+use Rattle.topology.specs.Rules.{pair_or, pair_from, refused_pair, no_clash, at_most, in_sixes, same_requester}
+use Rattle.topology.specs.Rules.{is_bound, each_bound, link_rules, each_link, interface_count, rules}
 
 -- both steps gave a value
-pub steps : {B : Type 0} (r : Result (Unit {0}) PlanFault) (f : Unit {0} → Result B PlanFault) (y : B) → (r >>= f) ≡ Ok y → (r ≡ Ok tt) × (f tt ≡ Ok y)
+pub steps : {B : Type 0} (r : Result (Unit {0}) PlanFault) (f : Unit {0} → Result B PlanFault) (y : B) → (r >>= f)
+    ≡ Ok y → (r ≡ Ok tt) × (f tt ≡ Ok y)
 steps (Ok u) f y e = (refl, e)
 steps (Err g) f y e = cc
 
-tested : {B : Type 0} (b : Bool) (r : Result B PlanFault) (f : PlanFault) (y : B) → cond b r (Err f) ≡ Ok y → (b ≡ true) × (r ≡ Ok y)
+tested : {B : Type 0} (b : Bool) (r : Result B PlanFault) (f : PlanFault) (y : B) → cond b r (Err f) ≡ Ok y → (b ≡ true)
+    × (r ≡ Ok y)
 tested true r f y e = (refl, e)
 tested false r f y e = cc
 
@@ -29,8 +33,10 @@ no_later : (i : ℕ) (o : Option ℕ) (later : Option (ℕ × ℕ)) → pair_or 
 no_later i None later e = (refl, e)
 no_later i (Some j) later e = cc
 
-module _ {A B : Type 0} (clash : A → A → Bool) (R : B → B → Type 0) (f : A → B) (sound : (a b : A) → clash a b ≡ false → R (f a) (f b)) where
-  apart_step : (x y : A) (i : ℕ) (ys : List A) (b : Bool) → clash x y ≡ b → cond b (Some i) (position_from (clash x) (i + 1) ys) ≡ None
+module _ {A B : Type 0} (clash : A → A → Bool) (R : B → B → Type 0) (f : A → B)
+    (sound : (a b : A) → clash a b ≡ false → R (f a) (f b)) where
+  apart_step : (x y : A) (i : ℕ) (ys : List A) (b : Bool) → clash x y ≡ b
+      → cond b (Some i) (position_from (clash x) (i + 1) ys) ≡ None
       → (position_from (clash x) (i + 1) ys ≡ None → All (R (f x)) (map f ys)) → All (R (f x)) (map f (y ∷ ys))
   apart_step x y i ys true h e later = cc
   apart_step x y i ys false h e later = All-cons (R (f x)) (f y) (map f ys) (sound x y h) (later e)
@@ -54,12 +60,15 @@ map_itself [] = refl
 map_itself {A} (x ∷ xs) = ap (λ (ys : List A). x ∷ ys) (map_itself xs)
 
 -- no two elements clash
-pub clash_free : {A : Type 0} (path : Text) (clash : A → A → Bool) (xs : List A) → no_clash path clash xs ≡ Ok tt → AllPairs (λ a b. clash a b ≡ false) xs
+pub clash_free : {A : Type 0} (path : Text) (clash : A → A → Bool) (xs : List A) → no_clash path clash xs ≡ Ok tt
+    → AllPairs (λ a b. clash a b ≡ false) xs
 clash_free path clash xs e =
-    rw (map_itself xs) at (apart clash (λ a b. clash a b ≡ false) (λ x. x) (λ a b h. h) 0 xs (no_pair path (pair_from clash 0 xs) e))
+    rw (map_itself xs) at
+    (apart clash (λ a b. clash a b ≡ false) (λ x. x) (λ a b h. h) 0 xs (no_pair path (pair_from clash 0 xs) e))
 
 -- nor do what they are mapped to
-pub clash_free_map : {A B : Type 0} (path : Text) (clash : A → A → Bool) (R : B → B → Type 0) (f : A → B) (xs : List A) → ((a b : A) → clash a b ≡ false → R (f a) (f b))
+pub clash_free_map : {A B : Type 0} (path : Text) (clash : A → A → Bool) (R : B → B → Type 0) (f : A → B) (xs : List A)
+    → ((a b : A) → clash a b ≡ false → R (f a) (f b))
     → no_clash path clash xs ≡ Ok tt → AllPairs R (map f xs)
 clash_free_map path clash R f xs sound e = apart clash R f sound 0 xs (no_pair path (pair_from clash 0 xs) e)
 
@@ -69,7 +78,8 @@ at_most_is limit path total e = leb-true total limit (tested (nat_le total limit
 pub sixes : (pool : List (List ℕ)) → in_sixes pool ≡ Ok tt → length pool % 6 ≡ 0
 sixes pool e = eqb-true _ _ (tested (length pool % 6 == 0) (Ok tt) _ tt e).0
 
-pub all_bound : (path : Text) (streams : List StreamPlan) (i : ℕ) (xs : List InterfaceDraft) → each_bound path streams i xs ≡ Ok tt → All (λ x. is_bound streams x.stream ≡ true) xs
+pub all_bound : (path : Text) (streams : List StreamPlan) (i : ℕ) (xs : List InterfaceDraft)
+    → each_bound path streams i xs ≡ Ok tt → All (λ x. is_bound streams x.stream ≡ true) xs
 all_bound path streams i [] e = All-nil (λ x. is_bound streams x.stream ≡ true)
 all_bound path streams i (x ∷ xs) e =
     let t = tested (is_bound streams x.stream) (each_bound path streams (i + 1) xs) _ tt e in
@@ -91,7 +101,15 @@ link_ruled path l e =
     let b = steps (no_clash (path ++ codes ".stream") both_default l.streams) _ tt a.1 in
     let c = steps (no_clash (path ++ codes ".stream") share_class l.streams) _ tt b.1 in
     let d = steps (no_clash (path ++ codes ".interface") same_requester l.interfaces) _ tt c.1 in
-    record { path = path; ids = a.0; defaults = b.0; classes = c.0; requesters = d.0; bound = all_bound (path ++ codes ".interface") l.streams 0 l.interfaces d.1 }
+    record {
+      path = path;
+      ids = a.0;
+      defaults = b.0;
+      classes = c.0;
+      requesters = d.0;
+      bound = all_bound
+          (path ++ codes ".interface") l.streams 0 l.interfaces d.1;
+    }
 
 links_ruled : (i : ℕ) (ls : List LinkDraft) → each_link i ls ≡ Ok tt → All LinkRuled ls
 links_ruled i [] e = All-nil LinkRuled

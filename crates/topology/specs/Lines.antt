@@ -2,7 +2,8 @@
 use Rattle.std.specs.Prelude.{ℕ, List, ◌++◌, codes}
 use Rattle.std.specs.Fmt.{decimal, signed_decimal}
 use Rattle.toml_walk.specs.declared.fault.PlanFault.{PlanFault}
-use Rattle.toml_walk.specs.declared.fault.PlanFault.TheVariants.{NotToml, Missing, Kind, Range, Repeated, Unknown, Limit}
+use Rattle.toml_walk.specs.declared.fault.PlanFault.TheVariants.{NotToml, Missing, Kind, Range, Repeated, Unknown}
+use Rattle.toml_walk.specs.declared.fault.PlanFault.TheVariants.{Limit}
 
 abbrev pub fault_line : PlanFault → List ℕ
 fault_line NotToml = codes "topology nottoml"

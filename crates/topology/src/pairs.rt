@@ -3,7 +3,8 @@
 ghost use Rattle.std.specs.Prelude.{◌≡◌, ◌+◌, ◌<◌, ◌^◌, nat_lt, Bool, IfOk, length, ℕ};
 ghost use Rattle.std.specs.List.{position_from, list_any};
 ghost use Rattle.std.specs.Str.{bytes_eq};
-ghost use Rattle.ide_plan.specs.Plans.{is_selective, is_default, classes_of, same_id, both_default, is_among, share_class, overlap};
+ghost use Rattle.ide_plan.specs.Plans.{is_selective, is_default, classes_of, same_id, both_default, is_among};
+ghost use Rattle.ide_plan.specs.Plans.{share_class, overlap};
 ghost use Rattle.topology.specs.Rules.{pair_from, same_requester};
 
 use crate::draft::InterfaceDraft;

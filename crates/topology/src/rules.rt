@@ -5,7 +5,8 @@ ghost use Rattle.std.specs.Str.{bytes_eq};
 ghost use Rattle.toml_walk.specs.Fault.{Gives};
 ghost use Rattle.toml_walk.specs.declared.fault.PlanFault.TheVariants.{Limit};
 ghost use Rattle.ide_plan.specs.Plans.{is_selective};
-ghost use Rattle.topology.specs.Rules.{refused_pair, no_clash, in_sixes, is_id, is_bound, each_bound, link_rules, each_link, interface_count, rules};
+ghost use Rattle.topology.specs.Rules.{refused_pair, no_clash, in_sixes, is_id, is_bound, each_bound, link_rules};
+ghost use Rattle.topology.specs.Rules.{each_link, interface_count, rules};
 
 use crate::draft::{InterfaceDraft, LinkDraft, PlanDraft};
 use crate::pairs::{

@@ -5,7 +5,9 @@ ghost use Rattle.toml.specs.View.{view, table_view};
 ghost use Rattle.toml_walk.specs.Bounds.{greatest, within, formed};
 ghost use Rattle.toml_walk.specs.Fault.{Gives};
 ghost use Rattle.toml_walk.specs.Walk.{table, between, any_number};
-ghost use Rattle.topology.specs.Tables.{kind_named, stream_kind, is_selective_kind, only_if, ids_in_order, id_range, addresses_in_order, address_range, true_if, truth_if, selector_for, stream_keys};
+ghost use Rattle.topology.specs.Tables.{kind_named, stream_kind, is_selective_kind, only_if, ids_in_order, id_range};
+ghost use Rattle.topology.specs.Tables.{addresses_in_order, address_range, true_if, truth_if, selector_for};
+ghost use Rattle.topology.specs.Tables.{stream_keys};
 
 use crate::draft::StreamKind;
 use ide_plan::{AddressRange, IdRange, Selector, StreamPlan};

@@ -531,7 +531,7 @@ const TEXTS: &[(&str, &str)] = &[
         "version = 1\nPOOL\nlink = [{ stream = [{ id = 1, kind = \"link\" }] }]\nmemory = [1, 1, 1, 1, 1, 1, 1, 1, 1, 1, 1, 1, 1, 1, 1, 1, 1]",
         "topology limit memory",
     ),
-    ("version = 1\nPOOL\n\"a.b\" = 1", "topology unknown a.b"),
+    ("version = 1\nPOOL\n\"a.b\" = 1", "topology unknown \"a.b\""),
 ];
 
 #[test]

@@ -26,15 +26,6 @@ const ROWS: &[Row] = &[
     (
         24,
         "id = 5",
-        "send d0 W;send d0 W;send d0 W;pass 1;pass 3",
-        &[
-            "5 accepted h0 5 pr draw 0 unit 1 blocked:nottrusted",
-            "6 fail h0 5 pr tag",
-        ],
-    ),
-    (
-        24,
-        "id = 5",
         "send d0 W;alter 1 1 20",
         &["3 fail h0 5 pr tag"],
     ),
@@ -100,16 +91,6 @@ const ROWS: &[Row] = &[
     (
         24,
         "id = 5",
-        "refresh 0 5;refresh 0 5;status 0 5",
-        &[
-            "2 refreshed 0 5 draw 1",
-            "3 refreshed 0 5 draw 2",
-            "4 status 0 5 secure secure",
-        ],
-    ),
-    (
-        24,
-        "id = 5",
         "refresh 0 5 lose 9 reply;establish 0 5;refresh 0 5",
         &[
             "2 lost reply 9",
@@ -118,6 +99,21 @@ const ROWS: &[Row] = &[
         ],
     ),
     (6, "id = 5", "refresh 0 5", &["2 refused poolempty 1"]),
+    (
+        24,
+        "id = 5",
+        "lock 0;report 0;start 0;send d0 W;pass 1;memory 0x10000000 4;view 0;halt 0",
+        &[
+            "2 locked 0 0101010101010101010101010101010101010101010101010101010101010101",
+            "3 reported 0 02000000000000000000000001000000000004000000000010000000000000004000000000000000000000000000000000000000000000000000000000000000000000000000000000000000000000000000000000000000000000000000000000000000",
+            "4 started 0 draw 0",
+            "5 sealed 1 d0 5 pr draw 0 unit 1 m1 k0 t1 p0",
+            "6 accepted h0 5 pr draw 0 unit 1 applied",
+            "7 memory 11223344",
+            "8 view 0 running",
+            "9 halted 0 needs 1",
+        ],
+    ),
     (
         24,
         "id = 5\nmode = 4",

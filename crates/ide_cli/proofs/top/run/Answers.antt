@@ -5,96 +5,160 @@ use Rattle.ide_cli.proofs.top.run.Goals as goal
 
 pub returns-clause-all_written : goal.returns-clause-all_written
 returns-clause-all_written g c =
-    rw c.status_of.ensures (all_written c.lines_tell.ensures.told (said c.args.words.now) (g.S.Shelf.seen c.args.shelf.now) (g.S.Shelf.seen c.perform.new.shelf) (g.O.Sink.seen c.args.out.now) (g.O.Sink.seen c.perform.new.out)
+    rw c.status_of.ensures
+    (all_written c.lines_tell.ensures.told (said c.args.words.now) (g.S.Shelf.seen c.args.shelf.now)
+    (g.S.Shelf.seen c.perform.new.shelf) (g.O.Sink.seen c.args.out.now) (g.O.Sink.seen c.perform.new.out)
     c.perform.result
     (rw c.as_slice-words.ensures.value at c.perform.ensures.answers))
 
 pub returns-clause-cause_law : goal.returns-clause-cause_law
 returns-clause-cause_law g c plan h w =
-    let is = written_is_due c.lines_tell.ensures.tell (said c.args.words.now) (g.S.Shelf.seen c.args.shelf.now) (g.S.Shelf.seen c.perform.new.shelf) (g.O.Sink.seen c.args.out.now) (g.O.Sink.seen c.perform.new.out) c.perform.result
+    let is = written_is_due c.lines_tell.ensures.tell (said c.args.words.now) (g.S.Shelf.seen c.args.shelf.now)
+    (g.S.Shelf.seen c.perform.new.shelf) (g.O.Sink.seen c.args.out.now) (g.O.Sink.seen c.perform.new.out)
+    c.perform.result
     (rw c.as_slice-words.ensures.value at c.perform.ensures.answers) plan
     h w in
     is.cause
 
 pub returns-clause-draws_never_fall : goal.returns-clause-draws_never_fall
 returns-clause-draws_never_fall g c plan h w =
-    let is = written_is_due c.lines_tell.ensures.tell (said c.args.words.now) (g.S.Shelf.seen c.args.shelf.now) (g.S.Shelf.seen c.perform.new.shelf) (g.O.Sink.seen c.args.out.now) (g.O.Sink.seen c.perform.new.out) c.perform.result
+    let is = written_is_due c.lines_tell.ensures.tell (said c.args.words.now) (g.S.Shelf.seen c.args.shelf.now)
+    (g.S.Shelf.seen c.perform.new.shelf) (g.O.Sink.seen c.args.out.now) (g.O.Sink.seen c.perform.new.out)
+    c.perform.result
     (rw c.as_slice-words.ensures.value at c.perform.ensures.answers) plan
     h w in
     c.draws_never_fall.ensures plan h is.cause
 
 pub returns-clause-whole_law : goal.returns-clause-whole_law
 returns-clause-whole_law g c plan h w =
-    let is = written_is_due c.lines_tell.ensures.tell (said c.args.words.now) (g.S.Shelf.seen c.args.shelf.now) (g.S.Shelf.seen c.perform.new.shelf) (g.O.Sink.seen c.args.out.now) (g.O.Sink.seen c.perform.new.out) c.perform.result
+    let is = written_is_due c.lines_tell.ensures.tell (said c.args.words.now) (g.S.Shelf.seen c.args.shelf.now)
+    (g.S.Shelf.seen c.perform.new.shelf) (g.O.Sink.seen c.args.out.now) (g.O.Sink.seen c.perform.new.out)
+    c.perform.result
     (rw c.as_slice-words.ensures.value at c.perform.ensures.answers) plan
     h w in
     c.whole_law.ensures plan is.fits h is.cause
 
 pub returns-clause-order_is_no_forgery : goal.returns-clause-order_is_no_forgery
 returns-clause-order_is_no_forgery g c plan h w =
-    let is = written_is_due c.lines_tell.ensures.tell (said c.args.words.now) (g.S.Shelf.seen c.args.shelf.now) (g.S.Shelf.seen c.perform.new.shelf) (g.O.Sink.seen c.args.out.now) (g.O.Sink.seen c.perform.new.out) c.perform.result
+    let is = written_is_due c.lines_tell.ensures.tell (said c.args.words.now) (g.S.Shelf.seen c.args.shelf.now)
+    (g.S.Shelf.seen c.perform.new.shelf) (g.O.Sink.seen c.args.out.now) (g.O.Sink.seen c.perform.new.out)
+    c.perform.result
     (rw c.as_slice-words.ensures.value at c.perform.ensures.answers) plan
     h w in
     c.order_is_no_forgery.ensures plan is.fits h is.cause
 
 pub returns-clause-count_law : goal.returns-clause-count_law
 returns-clause-count_law g c plan h w =
-    let is = written_is_due c.lines_tell.ensures.tell (said c.args.words.now) (g.S.Shelf.seen c.args.shelf.now) (g.S.Shelf.seen c.perform.new.shelf) (g.O.Sink.seen c.args.out.now) (g.O.Sink.seen c.perform.new.out) c.perform.result
+    let is = written_is_due c.lines_tell.ensures.tell (said c.args.words.now) (g.S.Shelf.seen c.args.shelf.now)
+    (g.S.Shelf.seen c.perform.new.shelf) (g.O.Sink.seen c.args.out.now) (g.O.Sink.seen c.perform.new.out)
+    c.perform.result
     (rw c.as_slice-words.ensures.value at c.perform.ensures.answers) plan
     h w in
     c.count_law.ensures plan is.fits h is.cause
 
 pub returns-clause-settled : goal.returns-clause-settled
 returns-clause-settled g c plan h w =
-    let is = written_is_due c.lines_tell.ensures.tell (said c.args.words.now) (g.S.Shelf.seen c.args.shelf.now) (g.S.Shelf.seen c.perform.new.shelf) (g.O.Sink.seen c.args.out.now) (g.O.Sink.seen c.perform.new.out) c.perform.result
+    let is = written_is_due c.lines_tell.ensures.tell (said c.args.words.now) (g.S.Shelf.seen c.args.shelf.now)
+    (g.S.Shelf.seen c.perform.new.shelf) (g.O.Sink.seen c.args.out.now) (g.O.Sink.seen c.perform.new.out)
+    c.perform.result
     (rw c.as_slice-words.ensures.value at c.perform.ensures.answers) plan
     h w in
     c.settled.ensures (key_plan plan) h (c.keys_have_causes.ensures plan h is.cause)
 
 pub returns-clause-stays_secure : goal.returns-clause-stays_secure
 returns-clause-stays_secure g c plan h w =
-    let is = written_is_due c.lines_tell.ensures.tell (said c.args.words.now) (g.S.Shelf.seen c.args.shelf.now) (g.S.Shelf.seen c.perform.new.shelf) (g.O.Sink.seen c.args.out.now) (g.O.Sink.seen c.perform.new.out) c.perform.result
+    let is = written_is_due c.lines_tell.ensures.tell (said c.args.words.now) (g.S.Shelf.seen c.args.shelf.now)
+    (g.S.Shelf.seen c.perform.new.shelf) (g.O.Sink.seen c.args.out.now) (g.O.Sink.seen c.perform.new.out)
+    c.perform.result
     (rw c.as_slice-words.ensures.value at c.perform.ensures.answers) plan
     h w in
     c.stays_secure.ensures (key_plan plan) h (c.keys_have_causes.ensures plan h is.cause)
 
 pub returns-clause-stream_facts : goal.returns-clause-stream_facts
 returns-clause-stream_facts g c plan h w =
-    let is = written_is_due c.lines_tell.ensures.tell (said c.args.words.now) (g.S.Shelf.seen c.args.shelf.now) (g.S.Shelf.seen c.perform.new.shelf) (g.O.Sink.seen c.args.out.now) (g.O.Sink.seen c.perform.new.out) c.perform.result
+    let is = written_is_due c.lines_tell.ensures.tell (said c.args.words.now) (g.S.Shelf.seen c.args.shelf.now)
+    (g.S.Shelf.seen c.perform.new.shelf) (g.O.Sink.seen c.args.out.now) (g.O.Sink.seen c.perform.new.out)
+    c.perform.result
     (rw c.as_slice-words.ensures.value at c.perform.ensures.answers) plan
     h w in
     c.stream_facts.ensures (key_plan plan) h (c.keys_have_causes.ensures plan h is.cause)
 
 pub returns-clause-never_again : goal.returns-clause-never_again
 returns-clause-never_again g c plan h w =
-    let is = written_is_due c.lines_tell.ensures.tell (said c.args.words.now) (g.S.Shelf.seen c.args.shelf.now) (g.S.Shelf.seen c.perform.new.shelf) (g.O.Sink.seen c.args.out.now) (g.O.Sink.seen c.perform.new.out) c.perform.result
+    let is = written_is_due c.lines_tell.ensures.tell (said c.args.words.now) (g.S.Shelf.seen c.args.shelf.now)
+    (g.S.Shelf.seen c.perform.new.shelf) (g.O.Sink.seen c.args.out.now) (g.O.Sink.seen c.perform.new.out)
+    c.perform.result
     (rw c.as_slice-words.ensures.value at c.perform.ensures.answers) plan
     h w in
     c.never_again.ensures (key_plan plan) h (c.keys_have_causes.ensures plan h is.cause)
 
 pub returns-clause-prefix_law : goal.returns-clause-prefix_law
 returns-clause-prefix_law g c plan h w =
-    let is = written_is_due c.lines_tell.ensures.tell (said c.args.words.now) (g.S.Shelf.seen c.args.shelf.now) (g.S.Shelf.seen c.perform.new.shelf) (g.O.Sink.seen c.args.out.now) (g.O.Sink.seen c.perform.new.out) c.perform.result
+    let is = written_is_due c.lines_tell.ensures.tell (said c.args.words.now) (g.S.Shelf.seen c.args.shelf.now)
+    (g.S.Shelf.seen c.perform.new.shelf) (g.O.Sink.seen c.args.out.now) (g.O.Sink.seen c.perform.new.out)
+    c.perform.result
     (rw c.as_slice-words.ensures.value at c.perform.ensures.answers) plan
     h w in
     λ forged. c.prefix_law.ensures plan is.fits h is.cause forged (c.totals_fit.ensures plan h is.cause is.few)
 
 pub returns-clause-delivery_law : goal.returns-clause-delivery_law
 returns-clause-delivery_law g c plan h w =
-    let is = written_is_due c.lines_tell.ensures.tell (said c.args.words.now) (g.S.Shelf.seen c.args.shelf.now) (g.S.Shelf.seen c.perform.new.shelf) (g.O.Sink.seen c.args.out.now) (g.O.Sink.seen c.perform.new.out) c.perform.result
+    let is = written_is_due c.lines_tell.ensures.tell (said c.args.words.now) (g.S.Shelf.seen c.args.shelf.now)
+    (g.S.Shelf.seen c.perform.new.shelf) (g.O.Sink.seen c.args.out.now) (g.O.Sink.seen c.perform.new.out)
+    c.perform.result
     (rw c.as_slice-words.ensures.value at c.perform.ensures.answers) plan
     h w in
     c.delivery_law.ensures plan is.fits h is.cause
 
 pub returns-clause-order_law : goal.returns-clause-order_law
 returns-clause-order_law g c plan h w =
-    let is = written_is_due c.lines_tell.ensures.tell (said c.args.words.now) (g.S.Shelf.seen c.args.shelf.now) (g.S.Shelf.seen c.perform.new.shelf) (g.O.Sink.seen c.args.out.now) (g.O.Sink.seen c.perform.new.out) c.perform.result
+    let is = written_is_due c.lines_tell.ensures.tell (said c.args.words.now) (g.S.Shelf.seen c.args.shelf.now)
+    (g.S.Shelf.seen c.perform.new.shelf) (g.O.Sink.seen c.args.out.now) (g.O.Sink.seen c.perform.new.out)
+    c.perform.result
     (rw c.as_slice-words.ensures.value at c.perform.ensures.answers) plan
     h w in
     λ forged. c.order_law.ensures plan is.fits h is.cause forged (c.totals_fit.ensures plan h is.cause is.few)
+
+pub returns-clause-run_law : goal.returns-clause-run_law
+returns-clause-run_law g c plan h w =
+    let is = written_is_due c.lines_tell.ensures.tell (said c.args.words.now) (g.S.Shelf.seen c.args.shelf.now)
+    (g.S.Shelf.seen c.perform.new.shelf) (g.O.Sink.seen c.args.out.now) (g.O.Sink.seen c.perform.new.out)
+    c.perform.result
+    (rw c.as_slice-words.ensures.value at c.perform.ensures.answers) plan
+    h w in
+    c.run_law.ensures plan h is.cause
+
+pub returns-clause-view_facts : goal.returns-clause-view_facts
+returns-clause-view_facts g c plan h w =
+    let is = written_is_due c.lines_tell.ensures.tell (said c.args.words.now) (g.S.Shelf.seen c.args.shelf.now)
+    (g.S.Shelf.seen c.perform.new.shelf) (g.O.Sink.seen c.args.out.now) (g.O.Sink.seen c.perform.new.out)
+    c.perform.result
+    (rw c.as_slice-words.ensures.value at c.perform.ensures.answers) plan
+    h w in
+    c.views_hold.ensures plan (key_plan plan) h (c.keys_have_causes.ensures plan h is.cause)
+    (c.interfaces_have_causes.ensures plan h is.cause)
+
+pub returns-clause-memory_law : goal.returns-clause-memory_law
+returns-clause-memory_law g c plan h w =
+    let is = written_is_due c.lines_tell.ensures.tell (said c.args.words.now) (g.S.Shelf.seen c.args.shelf.now)
+    (g.S.Shelf.seen c.perform.new.shelf) (g.O.Sink.seen c.args.out.now) (g.O.Sink.seen c.perform.new.out)
+    c.perform.result
+    (rw c.as_slice-words.ensures.value at c.perform.ensures.answers) plan
+    h w in
+    c.memory_law.ensures plan h is.cause
+
+pub returns-clause-origin_law : goal.returns-clause-origin_law
+returns-clause-origin_law g c plan h w =
+    let is = written_is_due c.lines_tell.ensures.tell (said c.args.words.now) (g.S.Shelf.seen c.args.shelf.now)
+    (g.S.Shelf.seen c.perform.new.shelf) (g.O.Sink.seen c.args.out.now) (g.O.Sink.seen c.perform.new.out)
+    c.perform.result
+    (rw c.as_slice-words.ensures.value at c.perform.ensures.answers) plan
+    h w in
+    c.origin_law.ensures plan is.fits h is.cause
 
 pub returns-clause-so_far : goal.returns-clause-so_far
 returns-clause-so_far g c = rw c.status_of.ensures (rw c.as_slice-words.ensures.value at c.perform.ensures.so_far)
 
 pub returns-clause-no_further : goal.returns-clause-no_further
-returns-clause-no_further g c = rw c.status_of.ensures (rw c.as_slice-words.ensures.value at c.perform.ensures.no_further)
+returns-clause-no_further g c = rw c.status_of.ensures
+    (rw c.as_slice-words.ensures.value at c.perform.ensures.no_further)

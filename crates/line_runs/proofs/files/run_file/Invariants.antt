@@ -1,7 +1,7 @@
 use Rattle.std.proofs.Common.{◌≡◌, ◌≤◌, ◌-◌, ◌+◌, []}
 use Rattle.ide_base.specs.Outside.{counted}
 use Rattle.line_runs.specs.Front.{AskedPieces}
-use Rattle.line_runs.proofs.FileFronts.{FileSoFar}
+use Rattle.line_runs.proofs.FileFronts.{FileSoFarBy}
 use Rattle.line_runs.proofs.files.run_file.Given as goal
 
 abbrev pub invariant-loop-n : goal.invariant-loop-n
@@ -15,7 +15,10 @@ invariant-loop-n g l = record {
   numbered : l.lines.number ≤ l.at + 1;
   fits : g.W.LineWork.fits l.work l.lines.number;
   empty : l.gathered.items ≡ [];
-  so_far : FileSoFar g.W.LineWork.advance g.W.LineWork.closing l.initial.work (g.S.Shelf.seen l.initial.shelf).contents l.name l.at l.lines.number l.work l.lines.unended.items (g.O.Sink.seen l.initial.out) (g.O.Sink.seen l.out);
+  so_far : (past : g.W.LineWork.Past) → g.W.LineWork.follows l.initial.work past
+      → FileSoFarBy (g.W.LineWork.follows l.work) g.W.LineWork.advance g.W.LineWork.closing past
+      (g.S.Shelf.seen l.initial.shelf).contents l.name l.at l.lines.number l.lines.unended.items
+      (g.O.Sink.seen l.initial.out) (g.O.Sink.seen l.out);
 }
 
 abbrev pub decreases-loop-n : goal.decreases-loop-n

@@ -18,19 +18,23 @@ pub returns-then-n-eq0-clause-bytes : goal.returns-then-n-eq0-clause-bytes
 returns-then-n-eq0-clause-bytes g c =
     let told = (g.S.Shelf.seen c.args.shelf.now).contents in
     let got = rw c.loop-buf.invariant.same at c.in_ok-n.ensures.bytes in
-    whole told c.args.name.now c.read_on.new.bytes.items c.args.most ((got c.loop-buf.invariant.read).1 c.if-n-eq0.true) (omega (arith, c.in_ok-n.ensures.more, c.in_ok-n.ensures.bound))
+    whole told c.args.name.now c.read_on.new.bytes.items c.args.most ((got c.loop-buf.invariant.read).1 c.if-n-eq0.true)
+    (omega (arith, c.in_ok-n.ensures.more, c.in_ok-n.ensures.bound))
 
 pub returns-in_err-n-clause-within : goal.returns-in_err-n-clause-within
 returns-in_err-n-clause-within g c =
     let inv = c.loop-buf.invariant in
-    gave_on (g.S.Shelf.seen c.args.shelf.now).contents c.args.name.now (length c.loop-buf.bytes.items) _ _ _ (inv.given, inv.cap) ((rw inv.same at c.in_err-n.ensures.within) inv.read)
+    gave_on (g.S.Shelf.seen c.args.shelf.now).contents c.args.name.now (length c.loop-buf.bytes.items) _ _ _
+    (inv.given, inv.cap) ((rw inv.same at c.in_err-n.ensures.within) inv.read)
 
 pub returns-then-n-eq0-clause-within : goal.returns-then-n-eq0-clause-within
 returns-then-n-eq0-clause-within g c =
     let inv = c.loop-buf.invariant in
-    gave_on (g.S.Shelf.seen c.args.shelf.now).contents c.args.name.now (length c.loop-buf.bytes.items) _ _ _ (inv.given, inv.cap) ((rw inv.same at c.in_ok-n.ensures.within) inv.read)
+    gave_on (g.S.Shelf.seen c.args.shelf.now).contents c.args.name.now (length c.loop-buf.bytes.items) _ _ _
+    (inv.given, inv.cap) ((rw inv.same at c.in_ok-n.ensures.within) inv.read)
 
 pub returns-clause-within : goal.returns-clause-within
 returns-clause-within g c =
     let inv = c.loop-buf.invariant in
-    gave_of (g.S.Shelf.seen c.args.shelf.now).contents c.args.name.now c.loop-buf.bytes.items _ _ inv.read (inv.given, inv.cap)
+    gave_of (g.S.Shelf.seen c.args.shelf.now).contents c.args.name.now c.loop-buf.bytes.items _ _ inv.read
+    (inv.given, inv.cap)

@@ -8,6 +8,10 @@ loop-rest-preserved g c =
     let n = c.in_ok-n.n in
     let rest = c.loop-rest.rest.now in
     record {
-      bytes = (front.0 ++ take n rest, rest_after front.0 rest c.args.text.now n c.in_ok-n.ensures.some.0 front.1, gained_more _ _ _ front.0 (take n rest) front.2 c.in_ok-n.ensures.bytes);
+      bytes = (
+        front.0 ++ take n rest,
+        rest_after front.0 rest c.args.text.now n c.in_ok-n.ensures.some.0 front.1,
+        gained_more _ _ _ front.0 (take n rest) front.2 c.in_ok-n.ensures.bytes,
+      );
       faults = c.in_ok-n.ensures.cause ∙ c.loop-rest.invariant.faults;
     }

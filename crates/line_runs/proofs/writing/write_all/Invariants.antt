@@ -4,7 +4,8 @@ use Rattle.line_runs.proofs.writing.write_all.Given as goal
 
 abbrev pub invariant-loop-rest : goal.invariant-loop-rest
 invariant-loop-rest g l = record {
-  bytes : (front : Text) × (front ++ l.rest ≡ l.text) × Gained (g.O.Sink.seen l.initial.out).held (g.O.Sink.seen l.out).held front;
+  bytes : (front : Text) × (front ++ l.rest ≡ l.text) × Gained (g.O.Sink.seen l.initial.out).held
+      (g.O.Sink.seen l.out).held front;
   faults : (g.O.Sink.seen l.out).faults ≡ (g.O.Sink.seen l.initial.out).faults;
 }
 
