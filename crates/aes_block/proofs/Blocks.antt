@@ -1,12 +1,14 @@
 -- What the cipher gives is a block: 16 bytes, whatever it is given.
-use Rattle.std.proofs.Common.{◌≡◌, ℕ, zero, suc, ◌+◌, ◌*◌, ◌/◌, ◌%◌, ◌^◌, ◌<◌, List, [], ◌∷◌, length, slice_index, refl, arith, lit<, inl, inr}
+use Rattle.std.proofs.Common.{◌≡◌, ℕ, zero, suc, ◌+◌, ◌*◌, ◌/◌, ◌%◌, ◌^◌, ◌<◌, List, [], ◌∷◌, length, slice_index, refl}
+use Rattle.std.proofs.Common.{arith, lit<, inl, inr}
 use Rattle.std.specs.Prelude.{All}
 use Rattle.std.specs.Int.{w32, byte_at, bytes_high_first, to_be_bytes}
 use Rattle.std.proofs.lemmas.Bool.{cases_lt}
 use Rattle.std.proofs.lemmas.Nat.{xor_lt, mod_below}
 use Rattle.std.proofs.lemmas.List.{get_or_past}
 use Rattle.std.proofs.lemmas.List.Elements.{All-cons, All-nil, All-get_or}
-use Rattle.aes_block.specs.Aes.{aes, cipher, add_round_key, shift_rows, sub_bytes, state_of, cell, word_byte, sbox, from_bits, affine_bit, round_key, round_words, rounds}
+use Rattle.aes_block.specs.Aes.{aes, cipher, add_round_key, shift_rows, sub_bytes, state_of, cell, word_byte, sbox}
+use Rattle.aes_block.specs.Aes.{from_bits, affine_bit, round_key, round_words, rounds}
 use Rattle.aes_block.specs.Field.{inverse}
 
 -- a number below 256
@@ -30,7 +32,8 @@ byte_at-byte (suc k) n = mod_below (n / 256 ^ suc k) 256 (lit< tt)
 
 pub bytes-high_first : (k n : ℕ) → All IsByte (bytes_high_first k n)
 bytes-high_first zero n = All-nil IsByte
-bytes-high_first (suc k) n = All-cons IsByte (byte_at k n) (bytes_high_first k n) (byte_at-byte k n) (bytes-high_first k n)
+bytes-high_first (suc k) n = All-cons IsByte (byte_at k n) (bytes_high_first k n) (byte_at-byte k n)
+    (bytes-high_first k n)
 
 from_bits-lt : (n : ℕ) (f : ℕ → ℕ) → ((i : ℕ) → f i < 2) → from_bits n f < 2 ^ n
 from_bits-lt zero f h = lit< tt
@@ -48,7 +51,8 @@ state_of-bytes f h =
     (All-cons IsByte (f 1 c) (f 2 c ∷ f 3 c ∷ rest) (h 1 c)
     (All-cons IsByte (f 2 c) (f 3 c ∷ rest) (h 2 c) (All-cons IsByte (f 3 c) rest (h 3 c) t))) in
     let from : ℕ → List ℕ → List ℕ = λ c rest. f 0 c ∷ f 1 c ∷ f 2 c ∷ f 3 c ∷ rest in
-    column 0 (from 1 (from 2 (from 3 []))) (column 1 (from 2 (from 3 [])) (column 2 (from 3 []) (column 3 [] (All-nil IsByte))))
+    column 0 (from 1 (from 2 (from 3 [])))
+    (column 1 (from 2 (from 3 [])) (column 2 (from 3 []) (column 3 [] (All-nil IsByte))))
 
 add_round_key-bytes : (k s : List ℕ) → All IsByte s → All IsByte (add_round_key k s)
 unfolding add_round_key
@@ -62,4 +66,5 @@ aes-bytes key b =
     let s : List ℕ = rounds (round_words key) b 13 in
     add_round_key-bytes (round_key (round_words key) 14) (shift_rows (sub_bytes s))
     (state_of-bytes (λ r c. cell (sub_bytes s) r ((c + r) % 4)) (λ r c.
-    at-byte (sub_bytes s) (r + 4 * ((c + r) % 4)) (state_of-bytes (λ r c. sbox (cell s r c)) (λ r c. sbox-byte (cell s r c)))))
+    at-byte (sub_bytes s) (r + 4 * ((c + r) % 4))
+    (state_of-bytes (λ r c. sbox (cell s r c)) (λ r c. sbox-byte (cell s r c)))))

@@ -1,5 +1,6 @@
 -- The S-box table, by a test over all of it, and what holds of each byte.
-use Rattle.std.proofs.Common.{◌≡◌, ℕ, zero, suc, ◌<◌, ◌==◌, ap, nat_lt, Bool, true, ◌&&◌, slice_index, List, ◌∙◌, refl, arith, inl, inr}
+use Rattle.std.proofs.Common.{◌≡◌, ℕ, zero, suc, ◌<◌, ◌==◌, ap, nat_lt, Bool, true, ◌&&◌, slice_index, List, ◌∙◌, refl}
+use Rattle.std.proofs.Common.{arith, inl, inr}
 use Rattle.std.proofs.lemmas.Bool.{and_parts, cases_lt, eqb-true, ltb-true}
 use Rattle.aes_block.specs.declared.tables.TheConstants.{SBOX, TABLES}
 use Rattle.aes_block.specs.Field.{times}
@@ -27,20 +28,23 @@ unfolding sbox
 table_test = refl
 
 pub SBOX-sbox : (b : ℕ) → b < 256 → slice_index SBOX b ≡ sbox b
-SBOX-sbox b lt = eqb-true (slice_index SBOX b) (sbox b) (all_below_at (λ b. slice_index SBOX b == sbox b) 256 b table_test lt)
+SBOX-sbox b lt = eqb-true (slice_index SBOX b) (sbox b)
+    (all_below_at (λ b. slice_index SBOX b == sbox b) 256 b table_test lt)
 
 SBOX_test : all_below (λ b. nat_lt (slice_index SBOX b) 256) 256 ≡ true
 SBOX_test = refl
 
 pub sbox-lt : (b : ℕ) → b < 256 → sbox b < 256
-sbox-lt b lt = rw (SBOX-sbox b lt) at (ltb-true (slice_index SBOX b) 256 (all_below_at (λ b. nat_lt (slice_index SBOX b) 256) 256 b SBOX_test lt))
+sbox-lt b lt = rw (SBOX-sbox b lt) at
+    (ltb-true (slice_index SBOX b) 256 (all_below_at (λ b. nat_lt (slice_index SBOX b) 256) 256 b SBOX_test lt))
 
 bytes_test : all_below (λ b. nat_lt (times 2 b) 256 && nat_lt (times 3 b) 256) 256 ≡ true
 bytes_test = refl
 
 pub times-lt : (b : ℕ) → b < 256 → (times 2 b < 256) × (times 3 b < 256)
 times-lt b lt =
-    let both = and_parts (nat_lt (times 2 b) 256) (nat_lt (times 3 b) 256) (all_below_at (λ b. nat_lt (times 2 b) 256 && nat_lt (times 3 b) 256) 256 b bytes_test lt) in
+    let both = and_parts (nat_lt (times 2 b) 256) (nat_lt (times 3 b) 256)
+    (all_below_at (λ b. nat_lt (times 2 b) 256 && nat_lt (times 3 b) 256) 256 b bytes_test lt) in
     (ltb-true (times 2 b) 256 both.0, ltb-true (times 3 b) 256 both.1)
 
 -- ---- the tables of the rounds
@@ -49,9 +53,11 @@ times-lt b lt =
 abbrev entries : List ℕ → (ℕ → ℕ) → ℕ → Bool
 entries table f b = slice_index table b == f (slice_index SBOX b)
 
-entry : (table : List ℕ) (f : ℕ → ℕ) (b : ℕ) → all_below (entries table f) 256 ≡ true → b < 256 → slice_index table b ≡ f (sbox b)
+entry : (table : List ℕ) (f : ℕ → ℕ) (b : ℕ) → all_below (entries table f) 256 ≡ true → b < 256 → slice_index table b
+    ≡ f (sbox b)
 entry table f b test lt =
-    eqb-true (slice_index table b) (f (slice_index SBOX b)) (all_below_at (entries table f) 256 b test lt) ∙ ap f (SBOX-sbox b lt)
+    eqb-true (slice_index table b) (f (slice_index SBOX b)) (all_below_at (entries table f) 256 b test lt) ∙ ap f
+    (SBOX-sbox b lt)
 
 abbrev pub word0 : ℕ → ℕ
 word0 s = word_of (times 2 s) s s (times 3 s)

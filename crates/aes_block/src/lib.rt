@@ -6,7 +6,8 @@
 
 ghost use Rattle.std.specs.Prelude.{◌≡◌, ℕ, List, [], ◌∷◌, ◌<◌, bit_xor};
 ghost use Rattle.aes_block.specs.Inside.{AreRoundKeys, mixed_word, spread, word_of, words_of};
-ghost use Rattle.aes_block.specs.Aes.{add_round_key, aes, mix_columns, round_words, sbox, shift_rows, sub_bytes, sub_word, temp, word_byte};
+ghost use Rattle.aes_block.specs.Aes.{add_round_key, aes, mix_columns, round_words, sbox, shift_rows, sub_bytes};
+ghost use Rattle.aes_block.specs.Aes.{sub_word, temp, word_byte};
 
 mod tables;
 

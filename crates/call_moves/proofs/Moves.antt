@@ -1,6 +1,9 @@
 -- The calls of a place are the moves that its touches come to.
-use Rattle.call_moves.proofs.Terms.{◌≡◌, Bool, arith, true, ℕ, List, ◌++◌, false, ◌≤◌, Some, nat_tests, SubKind, Plan, Program, Go, Halt, Work, Reach, makes_draw, work, is_within, program_at, go_at, when, worked, Device, Host}
-use Rattle.call_moves.proofs.Terms.{Operation, Place, end_at, moves_of, is_only_live, slot_pair, Slots, SubStream, key_of, Move, slots_moved_out, slots_moved_in, host_go, if◌then◌else◌}
+use Rattle.call_moves.proofs.Terms.{◌≡◌, Bool, arith, true, ℕ, List, ◌++◌, false, ◌≤◌, Some, nat_tests, SubKind, Plan}
+use Rattle.call_moves.proofs.Terms.{Program, Go, Halt, Work, Reach, makes_draw, work, is_within, program_at, go_at}
+use Rattle.call_moves.proofs.Terms.{when, worked, Device, Host}
+use Rattle.call_moves.proofs.Terms.{Operation, Place, end_at, moves_of, is_only_live, slot_pair, Slots, SubStream}
+use Rattle.call_moves.proofs.Terms.{key_of, Move, slots_moved_out, slots_moved_in, host_go, if◌then◌else◌}
 use Rattle.key_laws.specs.Keys.{Program as ProgramTouch, Go as GoTouch, Stop as StopTouch}
 use Rattle.link_verdicts.specs.declared.verdict.Operation.TheVariants as op
 use Rattle.call_moves.proofs.Slots.{first_call, second_call}
@@ -23,20 +26,29 @@ keyed_moves : (plan : Plan) (s : SubStream) (sends : Bool) (refuses : Bool → B
 keyed_moves plan s sends refuses k draw x same a b = grind arith
 
 stopped_moves : (plan : Plan) (s : SubStream) (sends : Bool) (refuses : Bool → Bool) (x : Slots) (a b : Bool)
-    → called_by sends (one_if a (Halt false) ++ one_if b (Halt true)) x ≡ slots_moved sends plan s (moves_of refuses (when a (StopTouch false) ++ when b (StopTouch true))) x
+    → called_by sends (one_if a (Halt false) ++ one_if b (Halt true)) x
+    ≡ slots_moved sends plan s (moves_of refuses (when a (StopTouch false) ++ when b (StopTouch true))) x
 stopped_moves plan s sends refuses x a b = grind arith
 
 -- at the device's port
-pub moves_carried : (plan : Plan) (o : Operation) (set : Bool) (draw first : ℕ) (begins : Bool) (link stream : ℕ) (sends : Bool) (u : SubKind) (r : Reach)
-    (s : SubStream) (x : Slots) (refuses : Bool → Bool) → refuses set ≡ is_only_live (slot_pair sends x) set → let p = end_at link stream sends Device u in
-    AreMoved plan (work o set draw first begins) r p s refuses (is_within first (program_at o p) r.carried) (is_within first (go_at o p) r.carried) x
-moves_carried plan op.Establish set draw first begins link stream sends u r s x refuses same = keyed_moves plan s sends refuses set draw x same _ _
-moves_carried plan op.Refresh set draw first begins link stream sends u r s x refuses same = keyed_moves plan s sends refuses set draw x same _ _
-moves_carried plan op.Stop set draw first begins link stream sends u r s x refuses same = stopped_moves plan s sends refuses x _ _
+pub moves_carried : (plan : Plan) (o : Operation) (set : Bool) (draw first : ℕ) (begins : Bool) (link stream : ℕ)
+    (sends : Bool) (u : SubKind) (r : Reach)
+    (s : SubStream) (x : Slots) (refuses : Bool → Bool) → refuses set ≡ is_only_live (slot_pair sends x) set
+    → let p = end_at link stream sends Device u in
+    AreMoved plan (work o set draw first begins) r p s refuses (is_within first (program_at o p) r.carried)
+    (is_within first (go_at o p) r.carried) x
+moves_carried plan op.Establish set draw first begins link stream sends u r s x refuses same = keyed_moves plan s sends
+    refuses set draw x same _ _
+moves_carried plan op.Refresh set draw first begins link stream sends u r s x refuses same = keyed_moves plan s sends
+    refuses set draw x same _ _
+moves_carried plan op.Stop set draw first begins link stream sends u r s x refuses same = stopped_moves plan s sends
+    refuses x _ _
 
 -- at the host's port
-pub moves_asked : (plan : Plan) (w : Work) (link stream : ℕ) (sends : Bool) (u : SubKind) (r : Reach) (s : SubStream) (x : Slots) (refuses : Bool → Bool)
-    → refuses w.set ≡ is_only_live (slot_pair sends x) w.set → 1 ≤ w.first → w.first ≤ r.acknowledged → (w.begins ≡ true → w.first ≡ 1)
+pub moves_asked : (plan : Plan) (w : Work) (link stream : ℕ) (sends : Bool) (u : SubKind) (r : Reach) (s : SubStream)
+    (x : Slots) (refuses : Bool → Bool)
+    → refuses w.set ≡ is_only_live (slot_pair sends x) w.set → 1 ≤ w.first → w.first ≤ r.acknowledged
+    → (w.begins ≡ true → w.first ≡ 1)
     → AreMoved plan w r (end_at link stream sends Host u) s refuses w.begins
     (if makes_draw w.operation then is_within w.first (host_go w.operation) r.acknowledged else w.begins) x
 moves_asked plan w link stream sends u r s x refuses same low from one = grind (arith, nat_tests)

@@ -1,16 +1,22 @@
 -- What a call does to the slots of a place, and which of them stay Live.
-use Rattle.call_moves.proofs.Terms.{◌≡◌, Bool, arith, true, ℕ, List, false, sym, ◌≢◌, nat_tests, SlotCall, Program, Go, Halt, slots_called_out, slots_called_into, Work, makes_draw, Operation, refuses_in, is_last_in, is_only_live}
-use Rattle.call_moves.proofs.Terms.{is_last_live, live_draw, slot_pair, key_slot, Slots, Slot, Live, LiveKey, WaitsBesideLive, DrawsApart, if◌then◌else◌, not, any_live}
+use Rattle.call_moves.proofs.Terms.{◌≡◌, Bool, arith, true, ℕ, List, false, sym, ◌≢◌, nat_tests, SlotCall, Program, Go}
+use Rattle.call_moves.proofs.Terms.{Halt, slots_called_out, slots_called_into, Work, makes_draw, Operation, refuses_in}
+use Rattle.call_moves.proofs.Terms.{is_last_in, is_only_live}
+use Rattle.call_moves.proofs.Terms.{is_last_live, live_draw, slot_pair, key_slot, Slots, Slot, Live, LiveKey}
+use Rattle.call_moves.proofs.Terms.{WaitsBesideLive, DrawsApart, if◌then◌else◌, not, any_live}
 
 -- ---- KEY_PROG
 
 -- what is refused there is what the rules of links refuse, where two Live draws are apart
-last_live_is : (k : Bool) (a b : Slot) → ((x y : LiveKey) → a ≡ Live x → b ≡ Live y → x.draw ≢ y.draw) → is_last_live k (live_draw (key_slot a)) (live_draw (key_slot b)) ≡ is_last_in a b
+last_live_is : (k : Bool) (a b : Slot) → ((x y : LiveKey) → a ≡ Live x → b ≡ Live y → x.draw ≢ y.draw)
+    → is_last_live k (live_draw (key_slot a)) (live_draw (key_slot b)) ≡ is_last_in a b
 last_live_is k a b apart = grind (arith, nat_tests)
 
-pub only_live_is : (sends : Bool) (s : Slots) (k : Bool) → DrawsApart s → is_only_live (slot_pair sends s) k ≡ refuses_in s k
+pub only_live_is : (sends : Bool) (s : Slots) (k : Bool) → DrawsApart s → is_only_live (slot_pair sends s) k
+    ≡ refuses_in s k
 only_live_is sends s false apart = last_live_is false s.first s.second apart
-only_live_is sends s true apart = last_live_is true s.second s.first (λ x y first second same. apart y x second first (sym same))
+only_live_is sends s true apart = last_live_is true s.second s.first
+    (λ x y first second same. apart y x second first (sym same))
 
 -- ---- no KEY_PROG and no GO leaves a place without a Live slot that had one
 
@@ -36,7 +42,8 @@ abbrev pub slots_by : Bool → SlotCall → Slots → Slots
 slots_by true call s = slots_called_out call s
 slots_by false call s = slots_called_into call s
 
-pub slots_keep : (sends : Bool) (call : SlotCall) (s : Slots) → is_no_halt call ≡ true → any_live s ≡ true → any_live (slots_by sends call s) ≡ true
+pub slots_keep : (sends : Bool) (call : SlotCall) (s : Slots) → is_no_halt call ≡ true → any_live s ≡ true
+    → any_live (slots_by sends call s) ≡ true
 slots_keep sends call s kept some = grind arith
 
 -- ---- STOP: no place without a Live slot gets one

@@ -1,5 +1,6 @@
 -- The posted counts of what was got come to no more than the posted packets that were got.
-use Rattle.std.proofs.Common.{◌≡◌, ◌≢◌, ℕ, ◌<◌, ◌≤◌, true, List, [], ◌∷◌, ◌++◌, length, sum_by, Some, refl, ap, sym, ◌∙◌, subst, inl, inr, ◌⊎◌, arith, length-append}
+use Rattle.std.proofs.Common.{◌≡◌, ◌≢◌, ℕ, ◌<◌, ◌≤◌, true, List, [], ◌∷◌, ◌++◌, length, sum_by, Some, refl, ap, sym}
+use Rattle.std.proofs.Common.{◌∙◌, subst, inl, inr, ◌⊎◌, arith, length-append}
 use Rattle.std.proofs.lemmas.Bool.Decides.{nat_tests}
 use Rattle.ide_types.specs.Sub.{sub_bits}
 use Rattle.ide_types.specs.declared.port.PortName.{PortName}
@@ -16,7 +17,8 @@ use Rattle.key_laws.specs.Operations.{Begun}
 use Rattle.key_laws.specs.History.{History, manager, draws, base, begun_at}
 use Rattle.key_laws.proofs.Owners.{begun_below, after_longer}
 use Rattle.link_history.specs.Plan.{SubStream, is_same}
-use Rattle.link_history.specs.History.{keys_at, arrived_packet, received_in, held, pending, got_since, posted_of, meets_counts}
+use Rattle.link_history.specs.History.{keys_at, arrived_packet, received_in, held, pending, got_since, posted_of}
+use Rattle.link_history.specs.History.{meets_counts}
 use Rattle.link_history.specs.Due.{due, ended}
 use Rattle.link_history.specs.Cause.{CauseLaw}
 use Rattle.link_history.proofs.Tests.{same_stream}
@@ -49,7 +51,8 @@ made_before h e w from below j x is = below j x (after_longer (manager h) e w j 
 on_of : (a : Keyed) (j : ℕ) → on_in a ≡ Some j → a ≡ On j
 on_of a j is = grind arith
 
-got_below : (plan : Plan) (h : History) (e : Event) (port : PortName) (unit : UnitName) (effects : List Effect) (from : ℕ)
+got_below : (plan : Plan) (h : History) (e : Event) (port : PortName) (unit : UnitName) (effects : List Effect)
+    (from : ℕ)
     → Accepted port unit effects ≡ due plan h e → MadeBelow h from → unit.draw < from
 got_below plan h e port unit effects from is below =
     let on = accepted_on plan h e port unit effects is in
@@ -63,7 +66,8 @@ none_more plan h e (Accepted port unit effects) s from is below none =
     grind (arith, nat_tests, got_below plan h e port unit effects from is below, none)
 none_more plan h e w s from is below none = none
 
-none_from : (plan : Plan) (h : History) → CauseLaw plan h → (s : SubStream) (from : ℕ) → MadeBelow h from → got_since plan h s from ≡ []
+none_from : (plan : Plan) (h : History) → CauseLaw plan h → (s : SubStream) (from : ℕ) → MadeBelow h from
+    → got_since plan h s from ≡ []
 unfolding got_since
 none_from plan [] cause s from below = refl
 none_from plan ((e, w) ∷ h) cause s from below =
@@ -82,7 +86,8 @@ base_moves h e w link stream = inl refl
 -- what the verdict that accepts a unit has tested
 abbrev IsMetWith : Plan → History → SubStream → List Packet → Type 0
 IsMetWith plan h s unit =
-    posted_sum (got_since plan h s (base h s.link s.stream) ++ unit) ≤ length (got_since plan h (posted_of s) (base h s.link s.stream))
+    posted_sum (got_since plan h s (base h s.link s.stream) ++ unit) ≤ length
+    (got_since plan h (posted_of s) (base h s.link s.stream))
 
 tested : (plan : Plan) (h : History) (s : SubStream) (unit : List Packet) → sub_bits s.sub ≢ 0
     → meets_counts plan h s unit ≡ true → IsMetWith plan h s unit
@@ -94,7 +99,8 @@ added_is : (plan : Plan) (h : History) (e : Event) (port : PortName) (unit : Uni
     → added plan h e (received_in port unit) unit ≡ ended plan h port (ending by.packet unit)
 added_is plan h e port unit effects by =
     let s = received_in port unit in
-    ap (λ (n : ℕ). held plan h s unit.draw n ++ arrived_packet plan h e ∷ []) (numbered plan h port by.packet unit by.passed)
+    ap (λ (n : ℕ). held plan h s unit.draw n ++ arrived_packet plan h e ∷ [])
+    (numbered plan h port by.packet unit by.passed)
     ∙ ap (λ (q : Packet). pending plan h s unit.draw ++ q ∷ []) (packet_that_came plan h e port by.packet by.came)
 
 with_unit : (plan : Plan) (h : History) (e : Event) (port : PortName) (unit : UnitName) (effects : List Effect)
@@ -103,7 +109,8 @@ with_unit : (plan : Plan) (h : History) (e : Event) (port : PortName) (unit : Un
 with_unit plan h e port unit effects is s other same =
     let by = accepted_by plan h e port unit effects is in
     subst (λ (t : SubStream). sub_bits t.sub ≢ 0 → IsMetWith plan h t (added plan h e t unit)) same
-    (λ other. rw (added_is plan h e port unit effects by) (tested plan h (received_in port unit) _ other by.counts)) other
+    (λ other. rw (added_is plan h e port unit effects by) (tested plan h (received_in port unit) _ other by.counts))
+    other
 
 -- at the base before the pair
 kept : (plan : Plan) (h : History) (e : Event) (w : Verdict) → w ≡ due plan h e → (s : SubStream) → sub_bits s.sub ≢ 0
@@ -113,7 +120,14 @@ kept plan h e (Accepted port unit effects) is s other before =
     let from = base h s.link s.stream in
     let sum = λ (same : is_same (received_in port unit) s ≡ true).
     with_unit plan h e port unit effects is s other (same_stream (received_in port unit) s same) in
-    grind (arith, nat_tests, sum, before, length-append (got_since plan h (posted_of s) from) (added plan h e (posted_of s) unit))
+    grind (
+      arith,
+      nat_tests,
+      sum,
+      before,
+      length-append (got_since plan h (posted_of s) from)
+          (added plan h e (posted_of s) unit),
+    )
 kept plan h e w is s other before = before
 
 next_met : (plan : Plan) (h : History) (e : Event) (w : Verdict) → CauseLaw plan ((e, w) ∷ h) → CountsMet plan h

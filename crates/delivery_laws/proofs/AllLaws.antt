@@ -1,5 +1,6 @@
 -- The laws of what is delivered.
-use Rattle.delivery_laws.specs.Statements.{PrefixLawHolds, DeliveryLawHolds, WholeLawHolds, OrderIsNoForgeryHolds, DrawsNeverFallHolds}
+use Rattle.delivery_laws.specs.Statements.{PrefixLawHolds, DeliveryLawHolds, WholeLawHolds, OrderIsNoForgeryHolds}
+use Rattle.delivery_laws.specs.Statements.{DrawsNeverFallHolds}
 use Rattle.link_keys.proofs.Draws.{draws}
 use Rattle.sealing_laws.proofs.OfPlans.{streams_fit}
 use Rattle.delivery_laws.proofs.Closed.{closed_law}

@@ -2,8 +2,20 @@
 -- induction on the history: a packet joins the open unit, and its payload comes back since it was masked at its place
 -- in the unit's plaintext, and masking twice changes nothing. What was got, opened, is what was delivered; and what was
 -- got is finished units that begin what was sealed.
-use Rattle.sealing_laws.proofs.Terms.{◌≡◌, ◌≤◌, ℕ, suc, ◌+◌, true, false, List, [], ◌∷◌, ◌++◌, length, drop, Ok, Option, refl, ap, sym, ◌∙◌, subst, arith, append_assoc, length-append, length-drop, inl, inr, if◌then◌else◌, ◌==◌, map, filter, slice_index, and_parts, cases_Bool, eqb-true, append-nil, drop-append-le, take-append-le, take_all, flat_map-append}
-use Rattle.sealing_laws.proofs.Terms.{SubKind, PortName, Plan, SubStream, is_same, key_of, units, units_after, open_unit, History, base, is_under, ahead_in, SealedList, KeyName, with_sealed, sealed_packets, sent, sent_in, sub_stream_of, packet_of, arrived_packet, received_in, is_of, held, got, units_got, CauseLaw, NoForgery, Begins, units-append, units-end, units-more, open_unit-end, open_unit-more, accepted_by, packet_that_came, numbered, DrawFacts, same_stream, sent_in-snoc, sealing_is, StreamsFit, Send, Sealed, Accepted, SealedPacket, Tlp, header, body, read_of, read_spells_tlp, Packet, is_sync_packet, begins_sync, iv_of, encrypted, masked, open_of, length-masked, length-open_of, masked-masked, masked-append, SpellsHead, head_bytes, class_of, layout_of, not_sync, lane_is}
+use Rattle.sealing_laws.proofs.Terms.{◌≡◌, ◌≤◌, ℕ, suc, ◌+◌, true, false, List, [], ◌∷◌, ◌++◌, length, drop, Ok, Option}
+use Rattle.sealing_laws.proofs.Terms.{refl, ap, sym, ◌∙◌, subst, arith, append_assoc, length-append, length-drop, inl}
+use Rattle.sealing_laws.proofs.Terms.{inr, if◌then◌else◌, ◌==◌, map, filter, slice_index, and_parts, cases_Bool}
+use Rattle.sealing_laws.proofs.Terms.{eqb-true, append-nil, drop-append-le, take-append-le, take_all, flat_map-append}
+use Rattle.sealing_laws.proofs.Terms.{SubKind, PortName, Plan, SubStream, is_same, key_of, units, units_after}
+use Rattle.sealing_laws.proofs.Terms.{open_unit, History, base, is_under, ahead_in, SealedList, KeyName, with_sealed}
+use Rattle.sealing_laws.proofs.Terms.{sealed_packets, sent, sent_in, sub_stream_of, packet_of, arrived_packet}
+use Rattle.sealing_laws.proofs.Terms.{received_in, is_of, held, got, units_got, CauseLaw, NoForgery, Begins}
+use Rattle.sealing_laws.proofs.Terms.{units-append, units-end, units-more, open_unit-end, open_unit-more, accepted_by}
+use Rattle.sealing_laws.proofs.Terms.{packet_that_came, numbered, DrawFacts, same_stream, sent_in-snoc, sealing_is}
+use Rattle.sealing_laws.proofs.Terms.{StreamsFit, Send, Sealed, Accepted, SealedPacket, Tlp, header, body, read_of}
+use Rattle.sealing_laws.proofs.Terms.{read_spells_tlp, Packet, is_sync_packet, begins_sync, iv_of, encrypted, masked}
+use Rattle.sealing_laws.proofs.Terms.{open_of, length-masked, length-open_of, masked-masked, masked-append, SpellsHead}
+use Rattle.sealing_laws.proofs.Terms.{head_bytes, class_of, layout_of, not_sync, lane_is}
 use Rattle.link_history.specs.Delivered.{carries, tlps_sent, tlps_got, opened, with_payloads, DeliveryLaw}
 use Rattle.delivery_laws.proofs.Received.{held_front}
 use Rattle.tlp_layout.specs.declared.head.HeadView.{HeadView}
@@ -22,13 +34,15 @@ abbrev opened_units : Plan → SubStream → ℕ → ℕ → List (List Packet) 
 opened_units plan s j n [] = []
 opened_units plan s j n (u ∷ us) = opened plan s j n u ++ opened_units plan s j (n + 1) us
 
-opened_units-append : (plan : Plan) (s : SubStream) (j n : ℕ) (us vs : List (List Packet)) → opened_units plan s j n (us ++ vs) ≡ opened_units plan s j n us ++ opened_units plan s j (n + length us) vs
+opened_units-append : (plan : Plan) (s : SubStream) (j n : ℕ) (us vs : List (List Packet))
+    → opened_units plan s j n (us ++ vs) ≡ opened_units plan s j n us ++ opened_units plan s j (n + length us) vs
 opened_units-append plan s j n [] vs = let same : n ≡ n + 0 = omega arith in ap (λ k. opened_units plan s j k vs) same
 opened_units-append plan s j n (u ∷ us) vs =
     let number : n + 1 + length us ≡ n + suc (length us) = omega arith in
     rw (opened_units-append plan s j (n + 1) us vs, number, append_assoc) refl
 
-opened_units-snoc : (plan : Plan) (s : SubStream) (j : ℕ) (us : List (List Packet)) (u : List Packet) → opened_units plan s j 1 (us ++ u ∷ []) ≡ opened_units plan s j 1 us ++ opened plan s j (length us + 1) u
+opened_units-snoc : (plan : Plan) (s : SubStream) (j : ℕ) (us : List (List Packet)) (u : List Packet)
+    → opened_units plan s j 1 (us ++ u ∷ []) ≡ opened_units plan s j 1 us ++ opened plan s j (length us + 1) u
 opened_units-snoc plan s j us u =
     let number : 1 + length us ≡ length us + 1 = omega arith in
     rw (opened_units-append plan s j 1 us (u ∷ []), append-nil (opened plan s j (1 + length us) u), number) refl
@@ -39,15 +53,18 @@ opened_all plan s j ps = opened_units plan s j 1 (units ps) ++ opened plan s j (
 
 -- one more packet joins the open unit
 opened_all-snoc : (plan : Plan) (s : SubStream) (j : ℕ) (ps : List Packet) (p : Packet)
-    → opened_all plan s j (ps ++ p ∷ []) ≡ opened_units plan s j 1 (units ps) ++ opened plan s j (length (units ps) + 1) (open_unit ps ++ p ∷ [])
+    → opened_all plan s j (ps ++ p ∷ []) ≡ opened_units plan s j 1 (units ps)
+    ++ opened plan s j (length (units ps) + 1) (open_unit ps ++ p ∷ [])
 opened_all-snoc plan s j ps p = elim (cases_Bool p.prefix.m) [
-  | inl ends ↦ rw (units-end ps p ends, open_unit-end ps p ends) (append-nil _ ∙ opened_units-snoc plan s j (units ps) (open_unit ps ++ p ∷ []))
+  | inl ends ↦ rw (units-end ps p ends, open_unit-end ps p ends)
+      (append-nil _ ∙ opened_units-snoc plan s j (units ps) (open_unit ps ++ p ∷ []))
   | inr more ↦ rw (units-more ps p more, open_unit-more ps p more) refl
 ]
 
 -- ---- a unit that gains a packet
 
-with_payloads-append : (xs ys : List ℕ) (ps qs : List Packet) → length xs ≡ length (encrypted ps) → with_payloads (xs ++ ys) (ps ++ qs) ≡ with_payloads xs ps ++ with_payloads ys qs
+with_payloads-append : (xs ys : List ℕ) (ps qs : List Packet) → length xs ≡ length (encrypted ps)
+    → with_payloads (xs ++ ys) (ps ++ qs) ≡ with_payloads xs ps ++ with_payloads ys qs
 with_payloads-append [] ys [] qs same = refl
 with_payloads-append (x ∷ xs) ys [] qs same = absurd (omega arith)
 with_payloads-append xs ys (p ∷ ps) qs same =
@@ -63,7 +80,8 @@ abbrev tlp_with : Packet → List ℕ → List (List ℕ)
 tlp_with p payload = if is_sync_packet p then [] else (p.head ++ payload) ∷ []
 
 -- the plaintext of a unit that gains a packet
-plain-snoc : (key iv : List ℕ) (front : List Packet) (p : Packet) (payload : List ℕ) → p.body ≡ masked key iv (length (encrypted front)) payload
+plain-snoc : (key iv : List ℕ) (front : List Packet) (p : Packet) (payload : List ℕ) → p.body
+    ≡ masked key iv (length (encrypted front)) payload
     → open_of key iv (encrypted (front ++ p ∷ [])) ≡ open_of key iv (encrypted front) ++ payload
 unfolding open_of
 plain-snoc key iv front p payload sealed =
@@ -89,81 +107,114 @@ abbrev carried_by : SealedPacket → List ℕ → List ℕ
 carried_by d payload = if d.sync then [] else payload
 
 -- a header of its class begins no sync packet
-head_plain : (head : HeadView) (bytes : List ℕ) (sub : SubKind) → SpellsHead head bytes → class_of head ≡ sub → begins_sync sub (slice_index bytes 0) ≡ false
+head_plain : (head : HeadView) (bytes : List ℕ) (sub : SubKind) → SpellsHead head bytes → class_of head ≡ sub
+    → begins_sync sub (slice_index bytes 0) ≡ false
 head_plain head bytes sub spells class =
     let right = subst (IsRight (layout_of head.fields)) (sym spells.spelled) (kept head spells.fits) in
     not_sync sub head (slice_index bytes 0) right.kind class
 
 -- its packet has the header, and the payload in the ciphertext
-carries_tlp : (plan : Plan) (ahead bytes : List ℕ) (d : SealedPacket) (front : List Packet) (t : Tlp) → read_of bytes ≡ Ok t → (d.sync ≡ false → class_of (header t) ≡ d.sub) → (d.sync ≡ true → IsSyncOf d)
-    → ((packet_of plan ahead bytes d front).body ≡ masked (key_of plan d.draw (sub_stream_of d)) (iv_of d.sub d.unit) (length (encrypted front)) (carried_by d (body t)))
+carries_tlp : (plan : Plan) (ahead bytes : List ℕ) (d : SealedPacket) (front : List Packet) (t : Tlp) → read_of bytes
+    ≡ Ok t → (d.sync ≡ false → class_of (header t) ≡ d.sub) → (d.sync ≡ true → IsSyncOf d)
+    → ((packet_of plan ahead bytes d front).body ≡ masked (key_of plan d.draw (sub_stream_of d)) (iv_of d.sub d.unit)
+    (length (encrypted front)) (carried_by d (body t)))
     × (tlp_with (packet_of plan ahead bytes d front) (carried_by d (body t)) ≡ (if d.sync then [] else bytes ∷ []))
 unfolding packet_of
 carries_tlp plan ahead bytes d front t reads class is_sync = elim (cases_Bool d.sync) [
   | inl sync ↦ (rw sync refl, rw (sync, sync_begins d.sub (is_sync sync).sub) refl)
   | inr no_sync ↦
-      let plain = head_plain (header t) (head_bytes (header t)) d.sub (is_read bytes t reads).head (class no_sync) in
-      (rw (no_sync, reads) refl, rw (no_sync, reads, plain) (ap (λ (bs : List ℕ). bs ∷ []) (sym ((read_spells_tlp t bytes).1 reads).spelled)))
+      let plain = head_plain (header t) (head_bytes (header t)) d.sub (is_read bytes t reads).head (class no_sync) in (
+        rw (no_sync, reads) refl,
+        rw (no_sync, reads, plain)
+            (ap (λ (bs : List ℕ). bs ∷ []) (sym ((read_spells_tlp t bytes).1 reads).spelled)),
+      )
 ]
 
 -- one more packet
-opened_more : (plan : Plan) (xs : SealedList) (s : SubStream) (j : ℕ) (d : SealedPacket) (ahead bytes : List ℕ) (t : Tlp) → read_of bytes ≡ Ok t → (d.sync ≡ false → class_of (header t) ≡ d.sub) → (d.sync ≡ true → IsSyncOf d)
-    → d.unit ≡ length (units (sent_in xs (sub_stream_of d) d.draw)) + 1 → (before : List (List ℕ)) → opened_all plan s j (sent_in xs s j) ≡ before
-    → opened_all plan s j (sent_in (xs ++ (d, packet_of plan ahead bytes d (open_unit (sent_in xs (sub_stream_of d) d.draw))) ∷ []) s j) ≡ before ++ map (λ (d : SealedPacket). bytes) (filter (carries s j) (d ∷ []))
+opened_more : (plan : Plan) (xs : SealedList) (s : SubStream) (j : ℕ) (d : SealedPacket) (ahead bytes : List ℕ)
+    (t : Tlp) → read_of bytes ≡ Ok t → (d.sync ≡ false → class_of (header t) ≡ d.sub) → (d.sync ≡ true → IsSyncOf d)
+    → d.unit ≡ length (units (sent_in xs (sub_stream_of d) d.draw)) + 1 → (before : List (List ℕ))
+    → opened_all plan s j (sent_in xs s j) ≡ before
+    → opened_all plan s j
+    (sent_in (xs ++ (d, packet_of plan ahead bytes d (open_unit (sent_in xs (sub_stream_of d) d.draw))) ∷ []) s j)
+    ≡ before ++ map (λ (d : SealedPacket). bytes) (filter (carries s j) (d ∷ []))
 opened_more plan xs s j d ahead bytes t reads class is_sync unit before same =
     ap (opened_all plan s j) (sent_in-snoc xs (d, p) s j) ∙ elim (cases_Bool (is_under s j (d, p))) [
-      | inl here ↦ let names = in_parts s j (d, p) here in rw here (joins names.2 names.1 ∙ ap (λ later. before ++ later) (grind (arith, here)))
+      | inl here ↦ let names = in_parts s j (d, p) here in rw here
+          (joins names.2 names.1 ∙ ap (λ later. before ++ later) (grind (arith, here)))
       | inr off ↦ rw off (same ∙ (sym (append-nil before) ∙ ap (λ later. before ++ later) (grind (arith, off))))
     ]
   where
     p : Packet
     p = packet_of plan ahead bytes d (open_unit (sent_in xs (sub_stream_of d) d.draw))
 
-    joins : sub_stream_of d ≡ s → d.draw ≡ j → opened_all plan s j (sent_in xs s j ++ p ∷ []) ≡ before ++ (if d.sync then [] else bytes ∷ [])
+    joins : sub_stream_of d ≡ s → d.draw ≡ j → opened_all plan s j (sent_in xs s j ++ p ∷ []) ≡ before
+        ++ (if d.sync then [] else bytes ∷ [])
     joins stream draw =
         let front = open_unit (sent_in xs s j) in
         let n = length (units (sent_in xs s j)) + 1 in
         let here : sent_in xs (sub_stream_of d) d.draw ≡ sent_in xs s j = λ i. sent_in xs (stream i) (draw i) in
         let number : d.unit ≡ n = unit ∙ ap (λ (ps : List Packet). length (units ps) + 1) here in
-        let known = carries_tlp plan ahead bytes d (open_unit (sent_in xs (sub_stream_of d) d.draw)) t reads class is_sync in
+        let known = carries_tlp plan ahead bytes d (open_unit (sent_in xs (sub_stream_of d) d.draw)) t reads class
+        is_sync in
         let payload = carried_by d (body t) in
         let sealed : p.body ≡ masked (key_of plan j s) (iv_of s.sub n) (length (encrypted front)) payload =
         cc (known.0, draw, stream, ap (λ (t : SubStream). t.sub) stream, number, here) in
-        rw (opened_all-snoc plan s j (sent_in xs s j) p, opened-snoc plan s j n front p payload sealed, known.1, ← append_assoc)
+        rw (
+          opened_all-snoc plan s j (sent_in xs s j) p,
+          opened-snoc plan s j n front p payload sealed,
+          known.1,
+          ←
+              append_assoc,
+        )
         (ap (λ front. front ++ (if d.sync then [] else bytes ∷ [])) same)
 
 -- those of one send
 carried-cons : (s : SubStream) (j : ℕ) (bytes : List ℕ) (d : SealedPacket) (ds : List SealedPacket)
-    → map (λ (d : SealedPacket). bytes) (filter (carries s j) (d ∷ [])) ++ map (λ (d : SealedPacket). bytes) (filter (carries s j) ds) ≡ map (λ (d : SealedPacket). bytes) (filter (carries s j) (d ∷ ds))
+    → map (λ (d : SealedPacket). bytes) (filter (carries s j) (d ∷ []))
+    ++ map (λ (d : SealedPacket). bytes) (filter (carries s j) ds)
+    ≡ map (λ (d : SealedPacket). bytes) (filter (carries s j) (d ∷ ds))
 carried-cons s j bytes d ds = grind arith
 
-opened_by : (plan : Plan) (port : PortName) (stream : ℕ) (live : SubKind → Option KeyName) (from : ℕ) (class : SubKind) (ahead : SealedPacket → List ℕ) (bytes : List ℕ) (t : Tlp) → read_of bytes ≡ Ok t → class ≡ class_of (header t)
-    → (s : SubStream) (j : ℕ) (ds : List SealedPacket) (xs : SealedList) → AllOf plan port stream live from class xs ds → (before : List (List ℕ)) → opened_all plan s j (sent_in xs s j) ≡ before
-    → opened_all plan s j (sent_in (with_sealed plan ahead bytes ds xs) s j) ≡ before ++ map (λ (d : SealedPacket). bytes) (filter (carries s j) ds)
-opened_by plan port stream live from class ahead bytes t reads is_class s j [] xs all before same = same ∙ sym (append-nil before)
+opened_by : (plan : Plan) (port : PortName) (stream : ℕ) (live : SubKind → Option KeyName) (from : ℕ) (class : SubKind)
+    (ahead : SealedPacket → List ℕ) (bytes : List ℕ) (t : Tlp) → read_of bytes ≡ Ok t → class ≡ class_of (header t)
+    → (s : SubStream) (j : ℕ) (ds : List SealedPacket) (xs : SealedList) → AllOf plan port stream live from class xs ds
+    → (before : List (List ℕ)) → opened_all plan s j (sent_in xs s j) ≡ before
+    → opened_all plan s j (sent_in (with_sealed plan ahead bytes ds xs) s j) ≡ before
+    ++ map (λ (d : SealedPacket). bytes) (filter (carries s j) ds)
+opened_by plan port stream live from class ahead bytes t reads is_class s j [] xs all before same = same ∙ sym
+    (append-nil before)
 opened_by plan port stream live from class ahead bytes t reads is_class s j (d ∷ ds) xs all before same =
     let of = all.0 in
     let front = open_unit (sent_in xs (sub_stream_of d) d.draw) in
     let p = packet_of plan (ahead d) bytes d front in
-    let unit : d.unit ≡ length (units (sent_in xs (sub_stream_of d) d.draw)) + 1 = rw (lane_is port stream d of.port_is of.stream_is) of.unit in
+    let unit : d.unit ≡ length (units (sent_in xs (sub_stream_of d) d.draw)) + 1 = rw
+    (lane_is port stream d of.port_is of.stream_is) of.unit in
     let first = map (λ (d : SealedPacket). bytes) (filter (carries s j) (d ∷ [])) in
-    let one = opened_more plan xs s j d (ahead d) bytes t reads (λ no_sync. sym is_class ∙ of.class_is no_sync) of.sync unit before same in
-    opened_by plan port stream live from class ahead bytes t reads is_class s j ds (xs ++ (d, p) ∷ []) (all.1 p) (before ++ first) one
-    ∙ (append_assoc before first (map (λ (d : SealedPacket). bytes) (filter (carries s j) ds)) ∙ ap (λ later. before ++ later) (carried-cons s j bytes d ds))
+    let one = opened_more plan xs s j d (ahead d) bytes t reads (λ no_sync. sym is_class ∙ of.class_is no_sync) of.sync
+    unit before same in
+    opened_by plan port stream live from class ahead bytes t reads is_class s j ds (xs ++ (d, p) ∷ []) (all.1 p)
+    (before ++ first) one
+    ∙ (append_assoc before first (map (λ (d : SealedPacket). bytes) (filter (carries s j) ds)) ∙ ap
+    (λ later. before ++ later) (carried-cons s j bytes d ds))
 
-all_opened : (plan : Plan) → DrawFacts plan → (h : History) → CauseLaw plan h → (s : SubStream) (j : ℕ) → opened_all plan s j (sent plan h s j) ≡ tlps_sent h s j
+all_opened : (plan : Plan) → DrawFacts plan → (h : History) → CauseLaw plan h → (s : SubStream) (j : ℕ)
+    → opened_all plan s j (sent plan h s j) ≡ tlps_sent h s j
 unfolding sealed_packets sent_in units open_unit tlps_sent
 all_opened plan facts [] cause s j = refl
 all_opened plan facts ((Send port bytes more trusted, Sealed ds) ∷ h) cause s j =
     let is = sealing_is plan h port bytes more trusted ds cause.0 in
     let from = is.sending in
-    opened_by plan from.port from.stream (live_at plan h from.port from.stream) (from_at plan h from.port from.stream) from.class (ahead_in plan (sealed_packets plan h) (base h)) bytes is.tlp is.reads is.class s j ds (sealed_packets plan h)
+    opened_by plan from.port from.stream (live_at plan h from.port from.stream) (from_at plan h from.port from.stream)
+    from.class (ahead_in plan (sealed_packets plan h) (base h)) bytes is.tlp is.reads is.class s j ds
+    (sealed_packets plan h)
     (all_of_sealing plan facts h cause.1 port bytes ds is) (tlps_sent h s j) (all_opened plan facts h cause.1 s j)
 all_opened plan facts (_ ∷ h) cause s j = all_opened plan facts h cause.1 s j
 
 -- ---- what was got, opened, is what was delivered
 
-got_opened : (plan : Plan) (h : History) → CauseLaw plan h → (s : SubStream) (j : ℕ) → tlps_got plan h s j ≡ opened_units plan s j 1 (units (got plan h s j))
+got_opened : (plan : Plan) (h : History) → CauseLaw plan h → (s : SubStream) (j : ℕ) → tlps_got plan h s j
+    ≡ opened_units plan s j 1 (units (got plan h s j))
 unfolding tlps_got got units
 got_opened plan [] cause s j = refl
 got_opened plan ((e, Accepted port unit effects) ∷ h) cause s j =
@@ -175,9 +226,11 @@ got_opened plan ((e, Accepted port unit effects) ∷ h) cause s j =
           let place : units_got h (received_in port unit) unit.draw ≡ units_got h s j =
           λ i. units_got h (same_stream (received_in port unit) s tests.0 i) (eqb-true unit.draw j tests.1 i) in
           let are = got_units plan h cause.1 s j in
-          let n : unit.unit ≡ length (units (got plan h s j)) + 1 = omega (arith, numbered plan h port by.packet unit by.passed, place, are.count) in
+          let n : unit.unit ≡ length (units (got plan h s j)) + 1 = omega
+          (arith, numbered plan h port by.packet unit by.passed, place, are.count) in
           let m = ap (λ (p : Packet). p.prefix.m) (packet_that_came plan h e port by.packet by.came) ∙ by.ends in
-          let one = one_unit (got plan h s j) (held plan h s j unit.unit) (arrived_packet plan h e) are.none (held_front plan h cause.1 s j unit.unit) m in
+          let one = one_unit (got plan h s j) (held plan h s j unit.unit) (arrived_packet plan h e) are.none
+          (held_front plan h cause.1 s j unit.unit) m in
           let u = held plan h s j unit.unit ++ arrived_packet plan h e ∷ [] in
           rw (is, one, opened_units-snoc, ← n) (ap (λ front. front ++ opened plan s j unit.unit u) same)
       | inr other ↦ rw other same
@@ -186,17 +239,26 @@ got_opened plan (_ ∷ h) cause s j = got_opened plan h cause.1 s j
 
 -- ---- the law
 
-delivered : (plan : Plan) (s : SubStream) (j : ℕ) (ps qs : List Packet) → open_unit ps ≡ [] → Begins ps qs → Begins (opened_units plan s j 1 (units ps)) (opened_all plan s j qs)
+delivered : (plan : Plan) (s : SubStream) (j : ℕ) (ps qs : List Packet) → open_unit ps ≡ [] → Begins ps qs
+    → Begins (opened_units plan s j 1 (units ps)) (opened_all plan s j qs)
 delivered plan s j ps qs none begins =
     let us = units ps in
     let vs = units_after [] begins.0 in
     let last = opened plan s j (length (units qs) + 1) (open_unit qs) in
-    let all : units qs ≡ us ++ vs = ap units (sym begins.1) ∙ (units-append ps begins.0 ∙ ap (λ front. us ++ units_after front begins.0) none) in
+    let all : units qs ≡ us ++ vs = ap units (sym begins.1) ∙
+    (units-append ps begins.0 ∙ ap (λ front. us ++ units_after front begins.0) none) in
     let front = opened_units plan s j 1 us in
-    let back = opened_units plan s j (1 + length us) vs in
-    (back ++ last, sym (append_assoc front back last) ∙ ap (λ all. all ++ last) (sym (ap (opened_units plan s j 1) all ∙ opened_units-append plan s j 1 us vs)))
+    let back = opened_units plan s j (1 + length us) vs in (
+      back ++ last,
+      sym (append_assoc front back last) ∙ ap (λ all. all ++ last)
+          (sym (ap (opened_units plan s j 1) all ∙ opened_units-append plan s j 1 us vs)),
+    )
 
-pub delivery_law : (plan : Plan) → StreamsFit plan → DrawFacts plan → (h : History) → CauseLaw plan h → NoForgery plan h → DeliveryLaw plan h
+pub delivery_law : (plan : Plan) → StreamsFit plan → DrawFacts plan → (h : History) → CauseLaw plan h → NoForgery plan h
+    → DeliveryLaw plan h
 delivery_law plan fits facts h cause forged s j =
-    let begins = delivered plan s j (got plan h s j) (sent plan h s j) (got_units plan h cause s j).none (got_begins plan fits facts h cause forged s j) in
-    subst (λ all. Begins (tlps_got plan h s j) all) (all_opened plan facts h cause s j) (subst (λ front. Begins front (opened_all plan s j (sent plan h s j))) (sym (got_opened plan h cause s j)) begins)
+    let begins = delivered plan s j (got plan h s j) (sent plan h s j) (got_units plan h cause s j).none
+    (got_begins plan fits facts h cause forged s j) in
+    subst (λ all. Begins (tlps_got plan h s j) all) (all_opened plan facts h cause s j)
+    (subst (λ front. Begins front (opened_all plan s j (sent plan h s j))) (sym (got_opened plan h cause s j))
+    begins)

@@ -1,13 +1,17 @@
 -- What was got are finished units, and what is pending finishes none.
-use Rattle.sealing_laws.proofs.Terms.{◌≡◌, ℕ, ◌+◌, true, List, [], ◌∷◌, ◌++◌, length, refl, ap, sym, ◌∙◌, length-append, append_assoc, inl, inr, cases_Bool, append-nil}
-use Rattle.sealing_laws.proofs.Terms.{Plan, SubStream, units, open_unit, History, arrived_packet, is_of, held, got, pending, units_got, CauseLaw, IsFront, units-end, units-more, open_unit-end, open_unit-front, accepted_by, packet_that_came, Accepted, Packet}
+use Rattle.sealing_laws.proofs.Terms.{◌≡◌, ℕ, ◌+◌, true, List, [], ◌∷◌, ◌++◌, length, refl, ap, sym, ◌∙◌, length-append}
+use Rattle.sealing_laws.proofs.Terms.{append_assoc, inl, inr, cases_Bool, append-nil}
+use Rattle.sealing_laws.proofs.Terms.{Plan, SubStream, units, open_unit, History, arrived_packet, is_of, held, got}
+use Rattle.sealing_laws.proofs.Terms.{pending, units_got, CauseLaw, IsFront, units-end, units-more, open_unit-end}
+use Rattle.sealing_laws.proofs.Terms.{open_unit-front, accepted_by, packet_that_came, Accepted, Packet}
 use Rattle.delivery_laws.proofs.Received.{held_front}
 
 -- ---- what was got are finished units, and what is pending finishes none
 
 units-front_append : (ps qs : List Packet) → IsFront qs → units (ps ++ qs) ≡ units ps
 units-front_append ps [] front = ap units (append-nil ps)
-units-front_append ps (q ∷ qs) front = ap units (sym (append_assoc ps (q ∷ []) qs)) ∙ (units-front_append (ps ++ q ∷ []) qs front.1 ∙ units-more ps q front.0)
+units-front_append ps (q ∷ qs) front = ap units (sym (append_assoc ps (q ∷ []) qs)) ∙
+    (units-front_append (ps ++ q ∷ []) qs front.1 ∙ units-more ps q front.0)
 
 -- so many units, and nothing behind them
 pub record AreUnits (ps : List Packet) (n : ℕ) : Type 0 where
@@ -15,19 +19,24 @@ pub record AreUnits (ps : List Packet) (n : ℕ) : Type 0 where
   pub none : open_unit ps ≡ []
 
 -- a unit behind finished ones
-pub one_unit : (ps front : List Packet) (p : Packet) → open_unit ps ≡ [] → IsFront front → p.prefix.m ≡ true → units (ps ++ (front ++ p ∷ [])) ≡ units ps ++ (front ++ p ∷ []) ∷ []
+pub one_unit : (ps front : List Packet) (p : Packet) → open_unit ps ≡ [] → IsFront front → p.prefix.m ≡ true
+    → units (ps ++ (front ++ p ∷ [])) ≡ units ps ++ (front ++ p ∷ []) ∷ []
 one_unit ps front p none is m =
     let open_is : open_unit (ps ++ front) ≡ front = open_unit-front ps front is ∙ ap (λ qs. qs ++ front) none in
     ap units (sym (append_assoc ps front (p ∷ [])))
-    ∙ (units-end (ps ++ front) p m ∙ (ap (λ us. us ++ (open_unit (ps ++ front) ++ p ∷ []) ∷ []) (units-front_append ps front is) ∙ ap (λ qs. units ps ++ (qs ++ p ∷ []) ∷ []) open_is))
+    ∙ (units-end (ps ++ front) p m ∙
+    (ap (λ us. us ++ (open_unit (ps ++ front) ++ p ∷ []) ∷ []) (units-front_append ps front is) ∙ ap
+    (λ qs. units ps ++ (qs ++ p ∷ []) ∷ []) open_is))
 
-one_unit_more : (ps front : List Packet) (p : Packet) (n : ℕ) → AreUnits ps n → IsFront front → p.prefix.m ≡ true → AreUnits (ps ++ (front ++ p ∷ [])) (n + 1)
+one_unit_more : (ps front : List Packet) (p : Packet) (n : ℕ) → AreUnits ps n → IsFront front → p.prefix.m ≡ true
+    → AreUnits (ps ++ (front ++ p ∷ [])) (n + 1)
 one_unit_more ps front p n are is m = record {
   count = rw (one_unit ps front p are.none is m, ← are.count) (length-append (units ps) ((front ++ p ∷ []) ∷ []));
   none = rw (← append_assoc) (open_unit-end (ps ++ front) p m);
 }
 
-pub got_units : (plan : Plan) (h : History) → CauseLaw plan h → (s : SubStream) (j : ℕ) → AreUnits (got plan h s j) (units_got h s j)
+pub got_units : (plan : Plan) (h : History) → CauseLaw plan h → (s : SubStream) (j : ℕ)
+    → AreUnits (got plan h s j) (units_got h s j)
 unfolding got units_got units open_unit
 got_units plan [] cause s j = record { count = refl; none = refl }
 got_units plan ((e, Accepted port unit effects) ∷ h) cause s j =
@@ -36,7 +45,8 @@ got_units plan ((e, Accepted port unit effects) ∷ h) cause s j =
     elim (cases_Bool (is_of s j port unit)) [
       | inl here ↦
           let m = ap (λ (p : Packet). p.prefix.m) (packet_that_came plan h e port by.packet by.came) ∙ by.ends in
-          rw here (one_unit_more (got plan h s j) (held plan h s j unit.unit) (arrived_packet plan h e) _ are (held_front plan h cause.1 s j unit.unit) m)
+          rw here (one_unit_more (got plan h s j) (held plan h s j unit.unit) (arrived_packet plan h e) _ are
+          (held_front plan h cause.1 s j unit.unit) m)
       | inr other ↦ rw other are
     ]
 got_units plan (_ ∷ h) cause s j = got_units plan h cause.1 s j
@@ -46,11 +56,13 @@ pub record StandsAfter (plan : Plan) (h : History) (s : SubStream) (j : ℕ) (ps
   pub count : length (units ps) ≡ units_got h s j
   pub front : open_unit ps ≡ pending plan h s j
 
-pub stands_after : (plan : Plan) (h : History) → CauseLaw plan h → (s : SubStream) (j : ℕ) → StandsAfter plan h s j (got plan h s j ++ pending plan h s j)
+pub stands_after : (plan : Plan) (h : History) → CauseLaw plan h → (s : SubStream) (j : ℕ)
+    → StandsAfter plan h s j (got plan h s j ++ pending plan h s j)
 stands_after plan h cause s j =
     let are = got_units plan h cause s j in
     let front = held_front plan h cause s j (units_got h s j + 1) in
     record {
       count = ap length (units-front_append (got plan h s j) (pending plan h s j) front) ∙ are.count;
-      front = open_unit-front (got plan h s j) (pending plan h s j) front ∙ ap (λ ps. ps ++ pending plan h s j) are.none;
+      front = open_unit-front (got plan h s j) (pending plan h s j) front ∙ ap (λ ps. ps ++ pending plan h s j)
+          are.none;
     }

@@ -1,6 +1,16 @@
 -- What was got is a beginning of what was sealed.
-use Rattle.sealing_laws.proofs.Terms.{◌≡◌, ℕ, ◌+◌, ◌≤◌, Bool, true, false, List, [], ◌∷◌, ◌++◌, length, Some, slice_get, take, drop, map, refl, ap, sym, ◌∙◌, arith, append_assoc, length-append, add-one, inl, inr, if◌then◌else◌, ◌==◌, AllByRecursion, and_parts, cases_Bool, eqb-true, take-append-le, nil_from_length}
-use Rattle.sealing_laws.proofs.Terms.{Plan, SubStream, is_same, units, units_after, open_unit, History, SealedList, sealed_packets, sent, sent_in, arrived_packet, received_in, is_of, held, pending, got, units_got, due, ended, CauseLaw, NoForgery, NotForged, WasSealed, Begins, last_tag, same_stream, joined, units-append, joined_units, EndsInM, EndsInM-snoc, All-snoc, units_all, units_end, unit_at, take_next, below, joined_take, joined-snoc, Came, Passed, accepted_by, ending, packet_that_came, numbered, DrawFacts, StreamsFit, PortName, Event, Verdict, Accepted, UnitName, Effect, Packet, FitsPacket, untagged}
+use Rattle.sealing_laws.proofs.Terms.{◌≡◌, ℕ, ◌+◌, ◌≤◌, Bool, true, false, List, [], ◌∷◌, ◌++◌, length, Some, slice_get}
+use Rattle.sealing_laws.proofs.Terms.{take, drop, map, refl, ap, sym, ◌∙◌, arith, append_assoc, length-append, add-one}
+use Rattle.sealing_laws.proofs.Terms.{inl, inr, if◌then◌else◌, ◌==◌, AllByRecursion, and_parts, cases_Bool, eqb-true}
+use Rattle.sealing_laws.proofs.Terms.{take-append-le, nil_from_length}
+use Rattle.sealing_laws.proofs.Terms.{Plan, SubStream, is_same, units, units_after, open_unit, History, SealedList}
+use Rattle.sealing_laws.proofs.Terms.{sealed_packets, sent, sent_in, arrived_packet, received_in, is_of, held, pending}
+use Rattle.sealing_laws.proofs.Terms.{got, units_got, due, ended, CauseLaw, NoForgery, NotForged, WasSealed, Begins}
+use Rattle.sealing_laws.proofs.Terms.{last_tag, same_stream, joined, units-append, joined_units, EndsInM, EndsInM-snoc}
+use Rattle.sealing_laws.proofs.Terms.{All-snoc, units_all, units_end, unit_at, take_next, below, joined_take}
+use Rattle.sealing_laws.proofs.Terms.{joined-snoc, Came, Passed, accepted_by, ending, packet_that_came, numbered}
+use Rattle.sealing_laws.proofs.Terms.{DrawFacts, StreamsFit, PortName, Event, Verdict, Accepted, UnitName, Effect}
+use Rattle.sealing_laws.proofs.Terms.{Packet, FitsPacket, untagged}
 use Rattle.sealing_laws.proofs.Below.{same_packets}
 use Rattle.delivery_laws.proofs.Received.{came_fits, held_front, held_fits}
 use Rattle.sealing_laws.proofs.Places.{sent_fits}
@@ -9,10 +19,14 @@ use Rattle.sealing_laws.proofs.Fronts.{packets_grow}
 
 -- ---- what was sealed only grows at its end
 
-pub sent_grows : (plan : Plan) (h : History) (e : Event) (w : Verdict) (s : SubStream) (j : ℕ) → Begins (sent plan h s j) (sent plan ((e, w) ∷ h) s j)
+pub sent_grows : (plan : Plan) (h : History) (e : Event) (w : Verdict) (s : SubStream) (j : ℕ)
+    → Begins (sent plan h s j) (sent plan ((e, w) ∷ h) s j)
 sent_grows plan h e w s j =
-    let grown = packets_grow plan h e w in
-    (sent_in grown.0 s j, sym (sent_in-append (sealed_packets plan h) grown.0 s j) ∙ ap (λ (ys : SealedList). sent_in ys s j) grown.1)
+    let grown = packets_grow plan h e w in (
+      sent_in grown.0 s j,
+      sym (sent_in-append (sealed_packets plan h) grown.0 s j) ∙ ap
+          (λ (ys : SealedList). sent_in ys s j) grown.1,
+    )
 
 -- ---- the units got are the first of those sealed
 
@@ -31,7 +45,8 @@ AreFirst-grown ps qs rs n are begins =
     })
 
 -- the next unit joins them
-AreFirst-next : (ps : List Packet) (us : List (List Packet)) (n : ℕ) (x : List Packet) → AreFirst ps us n → slice_get us n ≡ Some x → AreFirst (ps ++ x) us (n + 1)
+AreFirst-next : (ps : List Packet) (us : List (List Packet)) (n : ℕ) (x : List Packet) → AreFirst ps us n
+    → slice_get us n ≡ Some x → AreFirst (ps ++ x) us (n + 1)
 AreFirst-next ps us n x are stands = record {
   within = rw add-one (below us n x stands);
   first = rw (add-one, take_next us n x stands, joined-snoc) (ap (λ z. z ++ x) are.first);
@@ -66,22 +81,29 @@ last_tag-snoc (q ∷ []) p = refl
 last_tag-snoc (q ∷ r ∷ ps) p = last_tag-snoc (r ∷ ps) p
 
 -- the unit that ends here
-pub unit_that_ends : (plan : Plan) (h : History) (e : Event) (port : PortName) (unit : UnitName) (p : Packet) → Came plan h e port p → Passed plan h port p unit
-    → held plan h (received_in port unit) unit.draw unit.unit ++ arrived_packet plan h e ∷ [] ≡ ended plan h port (ending p unit)
+pub unit_that_ends : (plan : Plan) (h : History) (e : Event) (port : PortName) (unit : UnitName) (p : Packet)
+    → Came plan h e port p → Passed plan h port p unit
+    → held plan h (received_in port unit) unit.draw unit.unit ++ arrived_packet plan h e ∷ []
+    ≡ ended plan h port (ending p unit)
 unit_that_ends plan h e port unit p came passed =
-    ap (λ (n : ℕ). held plan h (received_in port unit) unit.draw n ++ arrived_packet plan h e ∷ []) (numbered plan h port p unit passed)
-    ∙ ap (λ (q : Packet). pending plan h (received_in port unit) unit.draw ++ q ∷ []) (packet_that_came plan h e port p came)
+    ap (λ (n : ℕ). held plan h (received_in port unit) unit.draw n ++ arrived_packet plan h e ∷ [])
+    (numbered plan h port p unit passed)
+    ∙ ap (λ (q : Packet). pending plan h (received_in port unit) unit.draw ++ q ∷ [])
+    (packet_that_came plan h e port p came)
 
 -- it was sealed
-as_sealed : (plan : Plan) → StreamsFit plan → DrawFacts plan → (h : History) (e : Event) (port : PortName) (unit : UnitName) (p : Packet) → CauseLaw plan h → Came plan h e port p → p.prefix.m ≡ true
+as_sealed : (plan : Plan) → StreamsFit plan → DrawFacts plan → (h : History) (e : Event) (port : PortName)
+    (unit : UnitName) (p : Packet) → CauseLaw plan h → Came plan h e port p → p.prefix.m ≡ true
     → (was : WasSealed plan h port (ending p unit)) → was.unit ≡ ended plan h port (ending p unit)
 as_sealed plan fits facts h e port unit p cause came ends was =
     let s = received_in port unit in
     let front = pending plan h s unit.draw in
     let us = units (sent plan h s unit.draw) in
-    let sealed_fits = unit_at (AllByRecursion FitsPacket) us was.place was.unit (units_all FitsPacket (sent plan h s unit.draw) (sent_fits plan fits facts h cause s unit.draw)) was.finished in
+    let sealed_fits = unit_at (AllByRecursion FitsPacket) us was.place was.unit
+    (units_all FitsPacket (sent plan h s unit.draw) (sent_fits plan fits facts h cause s unit.draw)) was.finished in
     let sealed_ends = unit_at EndsInM us was.place was.unit (units_end (sent plan h s unit.draw)) was.finished in
-    let all_fit = All-snoc FitsPacket front p (held_fits plan h cause s unit.draw (units_got h s unit.draw + 1)) (came_fits plan h e port p came) in
+    let all_fit = All-snoc FitsPacket front p (held_fits plan h cause s unit.draw (units_got h s unit.draw + 1))
+    (came_fits plan h e port p came) in
     let is_unit = EndsInM-snoc front p (held_front plan h cause s unit.draw (units_got h s unit.draw + 1)) ends in
     same_unit was.unit (front ++ p ∷ []) sealed_fits all_fit sealed_ends is_unit
     (same_packets was.unit (front ++ p ∷ []) sealed_fits all_fit was.same_authenticated was.same_encrypted)
@@ -91,37 +113,47 @@ as_sealed plan fits facts h e port unit p cause came ends was =
 abbrev GotFirst : Plan → History → SubStream → ℕ → Type 0
 GotFirst plan h s j = AreFirst (got plan h s j) (units (sent plan h s j)) (units_got h s j)
 
-one_more : (plan : Plan) → StreamsFit plan → DrawFacts plan → (h : History) (e : Event) (port : PortName) (unit : UnitName) (effects : List Effect) → CauseLaw plan h → NotForged plan h e
+one_more : (plan : Plan) → StreamsFit plan → DrawFacts plan → (h : History) (e : Event) (port : PortName)
+    (unit : UnitName) (effects : List Effect) → CauseLaw plan h → NotForged plan h e
     → Accepted port unit effects ≡ due plan h e → let s = received_in port unit in GotFirst plan h s unit.draw
-    → AreFirst (got plan h s unit.draw ++ (held plan h s unit.draw unit.unit ++ arrived_packet plan h e ∷ [])) (units (sent plan h s unit.draw))
+    → AreFirst (got plan h s unit.draw ++ (held plan h s unit.draw unit.unit ++ arrived_packet plan h e ∷ []))
+    (units (sent plan h s unit.draw))
     (units_got h s unit.draw + 1)
 one_more plan fits facts h e port unit effects cause forged is are =
     let by = accepted_by plan h e port unit effects is in
     let s = received_in port unit in
     let us = units (sent plan h s unit.draw) in
     let x = ended plan h port (ending by.packet unit) in
-    let was = forged (record { port = port; bytes = by.came.bytes }) (ending by.packet unit) by.came.arrival by.before by.verified in
-    let number : was.place ≡ units_got h s unit.draw = omega (arith, was.numbered, numbered plan h port by.packet unit by.passed) in
+    let was = forged (record { port = port; bytes = by.came.bytes }) (ending by.packet unit) by.came.arrival by.before
+    by.verified in
+    let number : was.place ≡ units_got h s unit.draw = omega
+    (arith, was.numbered, numbered plan h port by.packet unit by.passed) in
     let stands : slice_get us (units_got h s unit.draw) ≡ Some x =
     rw (number, as_sealed plan fits facts h e port unit by.packet cause by.came by.ends was) at was.finished in
-    rw (unit_that_ends plan h e port unit by.packet by.came by.passed) (AreFirst-next (got plan h s unit.draw) us (units_got h s unit.draw) x are stands)
+    rw (unit_that_ends plan h e port unit by.packet by.came by.passed)
+    (AreFirst-next (got plan h s unit.draw) us (units_got h s unit.draw) x are stands)
 
-pub all_first : (plan : Plan) → StreamsFit plan → DrawFacts plan → (h : History) → CauseLaw plan h → NoForgery plan h → (s : SubStream) (j : ℕ) → AreFirst (got plan h s j) (units (sent plan h s j)) (units_got h s j)
+pub all_first : (plan : Plan) → StreamsFit plan → DrawFacts plan → (h : History) → CauseLaw plan h → NoForgery plan h
+    → (s : SubStream) (j : ℕ) → AreFirst (got plan h s j) (units (sent plan h s j)) (units_got h s j)
 unfolding got units_got
 all_first plan fits facts [] cause forged s j = record { within = omega arith; first = refl }
 all_first plan fits facts ((e, Accepted port unit effects) ∷ h) cause forged s j =
-    let here = one_more plan fits facts h e port unit effects cause.1 forged.0 cause.0 (all_first plan fits facts h cause.1 forged.1 (received_in port unit) unit.draw) in
+    let here = one_more plan fits facts h e port unit effects cause.1 forged.0 cause.0
+    (all_first plan fits facts h cause.1 forged.1 (received_in port unit) unit.draw) in
     let before = all_first plan fits facts h cause.1 forged.1 s j in
-    AreFirst-grown _ (sent plan h s j) (sent plan ((e, Accepted port unit effects) ∷ h) s j) _ (elim (cases_Bool (is_of s j port unit)) [
+    AreFirst-grown _ (sent plan h s j) (sent plan ((e, Accepted port unit effects) ∷ h) s j) _
+    (elim (cases_Bool (is_of s j port unit)) [
       | inl is ↦
           let tests = and_parts (is_same (received_in port unit) s) (unit.draw == j) is in
           rw is (rw (same_stream (received_in port unit) s tests.0, eqb-true unit.draw j tests.1) at here)
       | inr other ↦ rw other before
     ]) (sent_grows plan h e (Accepted port unit effects) s j)
 all_first plan fits facts ((e, w) ∷ h) cause forged s j =
-    AreFirst-grown (got plan h s j) (sent plan h s j) (sent plan ((e, w) ∷ h) s j) (units_got h s j) (all_first plan fits facts h cause.1 forged.1 s j) (sent_grows plan h e w s j)
+    AreFirst-grown (got plan h s j) (sent plan h s j) (sent plan ((e, w) ∷ h) s j) (units_got h s j)
+    (all_first plan fits facts h cause.1 forged.1 s j) (sent_grows plan h e w s j)
 
-pub got_begins : (plan : Plan) → StreamsFit plan → DrawFacts plan → (h : History) → CauseLaw plan h → NoForgery plan h → (s : SubStream) (j : ℕ) → Begins (got plan h s j) (sent plan h s j)
+pub got_begins : (plan : Plan) → StreamsFit plan → DrawFacts plan → (h : History) → CauseLaw plan h → NoForgery plan h
+    → (s : SubStream) (j : ℕ) → Begins (got plan h s j) (sent plan h s j)
 got_begins plan fits facts h cause forged s j =
     let n = units_got h s j in
     let us = units (sent plan h s j) in

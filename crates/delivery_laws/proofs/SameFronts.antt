@@ -1,6 +1,14 @@
 -- What stood ahead of a packet that ends its unit, and what stands ahead of it where it arrives in order.
-use Rattle.sealing_laws.proofs.Terms.{◌≡◌, ℕ, suc, ◌+◌, ◌<◌, ◌≤◌, ◌==◌, ◌&&◌, true, false, List, [], ◌∷◌, ◌++◌, length, take, slice_get, Some, refl, ap, sym, ◌∙◌, arith, length-append, inl, inr, AllByRecursion, list_any, eqb-true, leb-true, and_parts, cases_Bool, false_from_ne_true, nat_tests, take-append-le}
-use Rattle.sealing_laws.proofs.Terms.{PortName, Send, Sealed, SealedPacket, Packet, Plan, SubStream, is_same, is_closed, lane_in, units, open_unit, History, base, On, key_in, keys_at, SealedList, sealed_packets, packet_of, sent_in, is_under, sub_stream_of, units_got, draws_got, front_of, front_sent, front_due, is_of_unit, ahead_in, CauseLaw, DrawFacts, StreamsFit, is_same-refl, units-end, sent_in-snoc, received_direction, IsOn, Prefix}
+use Rattle.sealing_laws.proofs.Terms.{◌≡◌, ℕ, suc, ◌+◌, ◌<◌, ◌≤◌, ◌==◌, ◌&&◌, true, false, List, [], ◌∷◌, ◌++◌, length}
+use Rattle.sealing_laws.proofs.Terms.{take, slice_get, Some, refl, ap, sym, ◌∙◌, arith, length-append, inl, inr}
+use Rattle.sealing_laws.proofs.Terms.{AllByRecursion, list_any, eqb-true, leb-true, and_parts, cases_Bool}
+use Rattle.sealing_laws.proofs.Terms.{false_from_ne_true, nat_tests, take-append-le}
+use Rattle.sealing_laws.proofs.Terms.{PortName, Send, Sealed, SealedPacket, Packet, Plan, SubStream, is_same, is_closed}
+use Rattle.sealing_laws.proofs.Terms.{lane_in, units, open_unit, History, base, On, key_in, keys_at, SealedList}
+use Rattle.sealing_laws.proofs.Terms.{sealed_packets, packet_of, sent_in, is_under, sub_stream_of, units_got, draws_got}
+use Rattle.sealing_laws.proofs.Terms.{front_of, front_sent, front_due, is_of_unit, ahead_in, CauseLaw, DrawFacts}
+use Rattle.sealing_laws.proofs.Terms.{StreamsFit, is_same-refl, units-end, sent_in-snoc, received_direction, IsOn}
+use Rattle.sealing_laws.proofs.Terms.{Prefix}
 use Rattle.delivery_laws.proofs.Orders.{is_drawn, below_next}
 use Rattle.sealing_laws.proofs.Places.{Placed, placed, unit_is}
 use Rattle.sealing_laws.proofs.Totals.{total-same}
@@ -13,35 +21,53 @@ use Rattle.delivery_laws.proofs.Closed.{Older}
 -- ---- of what was sealed
 
 -- it was sealed with the front that its unit has
-pub record IsFronted (plan : Plan) (h : History) (xs : SealedList) (place : ℕ) (x : SealedPacket × Packet) : Type 0 where
-  pub bytes : List ℕ
-  pub packet : x.1 ≡ packet_of plan (front_sent plan h (sub_stream_of x.0) x.0.draw x.0.unit) bytes x.0 (open_unit (sent_in (take place xs) (sub_stream_of x.0) x.0.draw))
+pub record IsFronted (plan : Plan) (h : History) (xs : SealedList) (place : ℕ) (x : SealedPacket × Packet) : Type 0
+  where
+    pub bytes : List ℕ
+    pub packet : x.1 ≡ packet_of plan (front_sent plan h (sub_stream_of x.0) x.0.draw x.0.unit) bytes x.0
+        (open_unit (sent_in (take place xs) (sub_stream_of x.0) x.0.draw))
 
 -- behind a packet that ends its unit, packets of its sub-stream and draw are of later units
-later_unit : (plan : Plan) (ys : SealedList) → Placed plan ys → (i k : ℕ) (x z : SealedPacket × Packet) → slice_get ys i ≡ Some x → slice_get ys k ≡ Some z → i < k → x.0.m ≡ true → (s : SubStream) (j : ℕ)
+later_unit : (plan : Plan) (ys : SealedList) → Placed plan ys → (i k : ℕ) (x z : SealedPacket × Packet) → slice_get ys i
+    ≡ Some x → slice_get ys k ≡ Some z → i < k → x.0.m ≡ true → (s : SubStream) (j : ℕ)
     → sub_stream_of x.0 ≡ s → x.0.draw ≡ j → sub_stream_of z.0 ≡ s → z.0.draw ≡ j → x.0.unit < z.0.unit
 later_unit plan ys places i k x z at_x at_z less m s j x_stream x_draw z_stream z_draw =
     let m_is = ap (λ (f : Prefix). f.m) (places i x at_x).prefix ∙ m in
-    let test : is_under s j x ≡ true = grind (arith, nat_tests, ap (λ (t : SubStream). is_same t s) x_stream ∙ is_same-refl s) in
+    let test : is_under s j x ≡ true = grind
+    (arith, nat_tests, ap (λ (t : SubStream). is_same t s) x_stream ∙ is_same-refl s) in
     let joins = ap (λ (zs : SealedList). sent_in zs s j) (next_taken ys i x at_x) ∙ sent_in-snoc (take i ys) x s j in
     let front = sent_in (take i ys) s j in
     let counted : length (units (sent_in (take (suc i) ys) s j)) ≡ length (units front) + 1 =
     rw (joins, test, units-end front x.1 m_is) (length-append (units front) ((open_unit front ++ x.1 ∷ []) ∷ [])) in
     let within = units_within ys s j (suc i) k (omega (arith, less)) in
-    omega (arith, unit_is plan ys places i x at_x s j x_stream x_draw, unit_is plan ys places k z at_z s j z_stream z_draw, counted, within)
+    omega (
+      arith,
+      unit_is plan ys places i x at_x s j x_stream x_draw,
+      unit_is plan ys places k z at_z s j z_stream
+          z_draw,
+      counted,
+      within,
+    )
 
-pub fronted : (plan : Plan) → StreamsFit plan → DrawFacts plan → (h : History) → CauseLaw plan h → (place : ℕ) (x : SealedPacket × Packet)
+pub fronted : (plan : Plan) → StreamsFit plan → DrawFacts plan → (h : History) → CauseLaw plan h
+    → (place : ℕ) (x : SealedPacket × Packet)
     → slice_get (sealed_packets plan h) place ≡ Some x → x.0.m ≡ true → IsFronted plan h (sealed_packets plan h) place x
 unfolding sealed_packets front_sent
 fronted plan fits facts [] law place x at m = absurd cc
 fronted plan fits facts ((Send p bytes more trusted, Sealed ds) ∷ h) law place x at m =
-    let before = λ (old : slice_get (sealed_packets plan h) place ≡ Some x). fronted plan fits facts h law.1 place x old m in
+    let before = λ (old : slice_get (sealed_packets plan h) place ≡ Some x). fronted plan fits facts h law.1 place x old
+    m in
     elim (old_or_new plan ahead bytes ds (sealed_packets plan h) place x at) [
       | inl old ↦
           let was = before old in
-          let front = ap (take place) (sym grown.1) ∙ take-append-le place (sealed_packets plan h) grown.0 (omega (arith, within old)) in
+          let front = ap (take place) (sym grown.1) ∙ take-append-le place (sealed_packets plan h) grown.0
+          (omega (arith, within old)) in
           record { bytes = was.bytes; packet = rw (none_of_unit old, front) was.packet }
-      | inr new ↦ record { bytes = bytes; packet = rw (new.among (is_of_unit s j n) (of_unit s j n x.0 refl refl refl)) new.packet }
+      | inr new ↦ record {
+        bytes = bytes;
+        packet = rw (new.among (is_of_unit s j n) (of_unit s j n x.0 refl refl refl))
+            new.packet;
+      }
     ]
   where
     g : History
@@ -66,45 +92,57 @@ fronted plan fits facts ((Send p bytes more trusted, Sealed ds) ∷ h) law place
     within old = (at_front (sealed_packets plan h) grown.0 place x old).1
 
     -- the packets that come behind it are of later units
-    none_of_unit : slice_get (sealed_packets plan h) place ≡ Some x → list_any (is_of_unit (sub_stream_of x.0) x.0.draw x.0.unit) ds ≡ false
+    none_of_unit : slice_get (sealed_packets plan h) place ≡ Some x
+        → list_any (is_of_unit (sub_stream_of x.0) x.0.draw x.0.unit) ds ≡ false
     none_of_unit old =
         false_from_ne_true _ (λ some.
         let new = any_new (is_of_unit s j n) plan ahead bytes ds (sealed_packets plan h) some in
         let of = unit_parts s j n new.1.0 new.3 in
         let places = placed plan fits facts g law in
-        let later = later_unit plan (sealed_packets plan g) places place new.0 x new.1 at new.2 (omega (arith, within old, new.4)) m s j refl refl of.0 of.1 in
+        let later = later_unit plan (sealed_packets plan g) places place new.0 x new.1 at new.2
+        (omega (arith, within old, new.4)) m s j refl refl of.0 of.1 in
         omega (arith, later, of.2))
-fronted plan fits facts ((e, w) ∷ h) law place x at m = let before = fronted plan fits facts h law.1 place x at m in record { bytes = before.bytes; packet = before.packet }
+fronted plan fits facts ((e, w) ∷ h) law place x at m = let before = fronted plan fits facts h law.1 place x at m in
+    record { bytes = before.bytes; packet = before.packet }
 
 -- ---- of what arrives in order
 
-no_front : (plan : Plan) (h : History) (s : SubStream) (j n : ℕ) → (is_closed plan s.link s.stream && (n == 1)) ≡ false → front_sent plan h s j n ≡ []
+no_front : (plan : Plan) (h : History) (s : SubStream) (j n : ℕ) → (is_closed plan s.link s.stream && (n == 1)) ≡ false
+    → front_sent plan h s j n ≡ []
 unfolding front_sent front_of
 no_front plan [] s j n off = refl
 no_front plan ((Send p bytes more trusted, Sealed ds) ∷ h) s j n off = grind (arith, no_front plan h s j n off, off)
 no_front plan (_ ∷ h) s j n off = no_front plan h s j n off
 
-due_off : (plan : Plan) (h : History) (s : SubStream) (n : ℕ) → (is_closed plan s.link s.stream && (n == 1)) ≡ false → front_due plan h s n ≡ []
+due_off : (plan : Plan) (h : History) (s : SubStream) (n : ℕ) → (is_closed plan s.link s.stream && (n == 1)) ≡ false
+    → front_due plan h s n ≡ []
 unfolding front_of
 due_off plan h s n off = rw off refl
 
 -- what the receiver puts ahead is what the sender put ahead
-pub same_fronts : (plan : Plan) → StreamsFit plan → DrawFacts plan → (h : History) → CauseLaw plan h → (port : PortName) (s : SubStream) (j : ℕ) → (port.link ≡ s.link) × (received_direction port.side ≡ s.direction) → IsOn plan h port s j
+pub same_fronts : (plan : Plan) → StreamsFit plan → DrawFacts plan → (h : History) → CauseLaw plan h
+    → (port : PortName) (s : SubStream) (j : ℕ) → (port.link ≡ s.link) × (received_direction port.side ≡ s.direction)
+    → IsOn plan h port s j
     → IsSealedIn plan h s j
-    → (units_got h s j ≡ 0 → is_closed plan s.link s.stream ≡ true → Older plan h s j) → front_sent plan h s j (units_got h s j + 1) ≡ front_due plan h s (units_got h s j + 1)
-same_fronts plan fits facts h law port s j receiver live x older = elim (cases_Bool (is_closed plan s.link s.stream && (units_got h s j + 1 == 1))) [
-  | inl here ↦
-      let tests = and_parts (is_closed plan s.link s.stream) (units_got h s j + 1 == 1) here in
-      let one = eqb-true (units_got h s j + 1) 1 tests.1 in
-      let none : units_got h s j ≡ 0 = omega (arith, one) in
-      let least = leb-true _ _ (facts.from_base h law port s live.0 j on) in
-      let received = since_total h s from (suc j) (below_next j (draws_got h s) above) ∙ last_none from j (λ k. units_got h s k) none in
-      let sums = total-same from j (units_sent plan h s) (λ k. units_got h s k)
-      (λ k up less. ap (λ (ps : List Packet). length (units ps)) (sym (older none tests.0 k up less)) ∙ (got_units plan h law s k).count) in
-      ap (front_sent plan h s j) one
-      ∙ (front_is plan fits facts h law s j x least ∙ (ap (front_of plan s 1) (sums ∙ sym received) ∙ ap (front_due plan h s) (sym one)))
-  | inr off ↦ no_front plan h s j (units_got h s j + 1) off ∙ sym (due_off plan h s (units_got h s j + 1) off)
-]
+    → (units_got h s j ≡ 0 → is_closed plan s.link s.stream ≡ true → Older plan h s j)
+    → front_sent plan h s j (units_got h s j + 1) ≡ front_due plan h s (units_got h s j + 1)
+same_fronts plan fits facts h law port s j receiver live x older = elim
+    (cases_Bool (is_closed plan s.link s.stream && (units_got h s j + 1 == 1))) [
+      | inl here ↦
+          let tests = and_parts (is_closed plan s.link s.stream) (units_got h s j + 1 == 1) here in
+          let one = eqb-true (units_got h s j + 1) 1 tests.1 in
+          let none : units_got h s j ≡ 0 = omega (arith, one) in
+          let least = leb-true _ _ (facts.from_base h law port s live.0 j on) in
+          let received = since_total h s from (suc j) (below_next j (draws_got h s) above) ∙ last_none from j
+          (λ k. units_got h s k) none in
+          let sums = total-same from j (units_sent plan h s) (λ k. units_got h s k)
+          (λ k up less. ap (λ (ps : List Packet). length (units ps)) (sym (older none tests.0 k up less)) ∙
+          (got_units plan h law s k).count) in
+          ap (front_sent plan h s j) one
+          ∙ (front_is plan fits facts h law s j x least ∙
+          (ap (front_of plan s 1) (sums ∙ sym received) ∙ ap (front_due plan h s) (sym one)))
+      | inr off ↦ no_front plan h s j (units_got h s j + 1) off ∙ sym (due_off plan h s (units_got h s j + 1) off)
+    ]
   where
     from : ℕ
     from = base h s.link s.stream

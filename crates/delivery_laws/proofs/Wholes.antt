@@ -1,6 +1,16 @@
 -- Everything that arrived unchanged in order was taken.
-use Rattle.sealing_laws.proofs.Terms.{◌≡◌, ◌≢◌, ℕ, ◌+◌, ◌<◌, Bool, true, false, List, [], ◌∷◌, ◌++◌, length, Some, None, Option, Ok, Err, Result, take, refl, ap, sym, ◌∙◌, subst, arith, if◌then◌else◌, not, ◌||◌, map, is_some, nat_tests, flat_map-append}
-use Rattle.sealing_laws.proofs.Terms.{Plan, SubStream, has_stream, key_of, mode_of, stream_plan, open_unit, History, sealed_packets, sent_in, front_sent, front_due, Arrival, arrived, sent, sub_stream_of, packet_of, pending, units_got, on_draw, failed, meets_counts, received_in, keys_at, Ending, due, arrival_due, settled, before_tag, under_keys, is_mixed, is_overfull, receiving, unit_under, is_verified, effect_of, CauseLaw, WholeLaw, ArrivesInOrder, IsTaken, DrawFacts, On, key_in, StreamsFit, PortName, Event, Pass, Alter, Cut, Arrive, Verdict, Fail, Held, Accepted, SealedPacket, Prefix, Packet, packet_bytes, iv_of, authenticated, encrypted, tag_of, verifies, tag-verifies}
+use Rattle.sealing_laws.proofs.Terms.{◌≡◌, ◌≢◌, ℕ, ◌+◌, ◌<◌, Bool, true, false, List, [], ◌∷◌, ◌++◌, length, Some, None}
+use Rattle.sealing_laws.proofs.Terms.{Option, Ok, Err, Result, take, refl, ap, sym, ◌∙◌, subst, arith, if◌then◌else◌}
+use Rattle.sealing_laws.proofs.Terms.{not, ◌||◌, map, is_some, nat_tests, flat_map-append}
+use Rattle.sealing_laws.proofs.Terms.{Plan, SubStream, has_stream, key_of, mode_of, stream_plan, open_unit, History}
+use Rattle.sealing_laws.proofs.Terms.{sealed_packets, sent_in, front_sent, front_due, Arrival, arrived, sent}
+use Rattle.sealing_laws.proofs.Terms.{sub_stream_of, packet_of, pending, units_got, on_draw, failed, meets_counts}
+use Rattle.sealing_laws.proofs.Terms.{received_in, keys_at, Ending, due, arrival_due, settled, before_tag, under_keys}
+use Rattle.sealing_laws.proofs.Terms.{is_mixed, is_overfull, receiving, unit_under, is_verified, effect_of, CauseLaw}
+use Rattle.sealing_laws.proofs.Terms.{WholeLaw, ArrivesInOrder, IsTaken, DrawFacts, On, key_in, StreamsFit, PortName}
+use Rattle.sealing_laws.proofs.Terms.{Event, Pass, Alter, Cut, Arrive, Verdict, Fail, Held, Accepted, SealedPacket}
+use Rattle.sealing_laws.proofs.Terms.{Prefix, Packet, packet_bytes, iv_of, authenticated, encrypted, tag_of, verifies}
+use Rattle.sealing_laws.proofs.Terms.{tag-verifies}
 use Rattle.ide_types.specs.declared.sub.FailCause.TheVariants as fail
 use Rattle.sealing_laws.proofs.Below.{is_cut}
 use Rattle.delivery_laws.proofs.Orders.{is_drawn}
@@ -12,14 +22,16 @@ use Rattle.delivery_laws.proofs.GotUnits.{StandsAfter, stands_after}
 -- ---- the tag
 
 tag_is : (plan : Plan) (ahead bytes : List ℕ) (d : SealedPacket) (front : List Packet) → d.m ≡ true
-    → (packet_of plan ahead bytes d front).tag ≡ tag_of (key_of plan d.draw (sub_stream_of d)) (iv_of d.sub d.unit) (ahead ++ authenticated (front ++ packet_of plan ahead bytes d front ∷ []))
+    → (packet_of plan ahead bytes d front).tag ≡ tag_of (key_of plan d.draw (sub_stream_of d)) (iv_of d.sub d.unit)
+    (ahead ++ authenticated (front ++ packet_of plan ahead bytes d front ∷ []))
     (encrypted (front ++ packet_of plan ahead bytes d front ∷ []))
 unfolding packet_of
 tag_is plan ahead bytes d front m = rw (m, flat_map-append, flat_map-append, flat_map-append, flat_map-append) refl
 
 -- ---- the verdict
 
-due_arrives : (plan : Plan) (h : History) (e : Event) (a : Arrival) → arrived plan h e ≡ Some a → due plan h e ≡ settled plan h a.port (before_tag plan h a)
+due_arrives : (plan : Plan) (h : History) (e : Event) (a : Arrival) → arrived plan h e ≡ Some a → due plan h e
+    ≡ settled plan h a.port (before_tag plan h a)
 unfolding due arrived
 due_arrives plan h (Pass n) a is = ap (arrival_due plan h) is
 due_arrives plan h (Alter n at mask) a is = ap (arrival_due plan h) is
@@ -27,42 +39,60 @@ due_arrives plan h (Cut n len) a is = ap (arrival_due plan h) is
 due_arrives plan h (Arrive port bytes) a is = ap (arrival_due plan h) is
 due_arrives plan h _ a is = absurd cc
 
-under_keys_is : (plan : Plan) (h : History) (port : PortName) (p : Packet) (s : SubStream) (j : ℕ) (other : Option ℕ) → receiving port p ≡ s
+under_keys_is : (plan : Plan) (h : History) (port : PortName) (p : Packet) (s : SubStream) (j : ℕ) (other : Option ℕ)
+    → receiving port p ≡ s
     → is_mixed plan h s other ≡ false → is_overfull plan h s j p.prefix.m ≡ false
-    → under_keys plan h port p (Some j) other ≡ (if p.prefix.m then Ok (record { packet = p; unit = unit_under h s j }) else Err (Held port (unit_under h s j)))
+    → under_keys plan h port p (Some j) other ≡
+    (if p.prefix.m then Ok (record { packet = p; unit = unit_under h s j }) else Err (Held port (unit_under h s j)))
 under_keys_is plan h port p s j other there alone room = ap in_stream there ∙ rw (alone, room) refl
   where
     in_stream : SubStream → Result Ending Verdict
     in_stream t =
-        if is_mixed plan h t other || is_overfull plan h t j p.prefix.m then Err (Fail port p.prefix.stream p.prefix.sub fail.Unit)
+        if is_mixed plan h t other || is_overfull plan h t j p.prefix.m then Err
+        (Fail port p.prefix.stream p.prefix.sub fail.Unit)
         else if p.prefix.m then Ok (record { packet = p; unit = unit_under h t j })
         else Err (Held port (unit_under h t j))
 
-accepted_is : (plan : Plan) (h : History) (port : PortName) (p : Packet) (s : SubStream) (j : ℕ) → received_in port (unit_under h s j) ≡ s
-    → p.tag ≡ tag_of (key_of plan j s) (iv_of s.sub (units_got h s j + 1)) (front_due plan h s (units_got h s j + 1) ++ authenticated (pending plan h s j ++ p ∷ [])) (encrypted (pending plan h s j ++ p ∷ []))
+accepted_is : (plan : Plan) (h : History) (port : PortName) (p : Packet) (s : SubStream) (j : ℕ)
+    → received_in port (unit_under h s j) ≡ s
+    → p.tag ≡ tag_of (key_of plan j s) (iv_of s.sub (units_got h s j + 1))
+    (front_due plan h s (units_got h s j + 1) ++ authenticated (pending plan h s j ++ p ∷ []))
+    (encrypted (pending plan h s j ++ p ∷ []))
     → meets_counts plan h s (pending plan h s j ++ p ∷ []) ≡ true
-    → settled plan h port (Ok (record { packet = p; unit = unit_under h s j })) ≡ Accepted port (unit_under h s j) (map (effect_of port) (pending plan h s j ++ p ∷ []))
+    → settled plan h port (Ok (record { packet = p; unit = unit_under h s j }))
+    ≡ Accepted port (unit_under h s j)
+    (map (effect_of plan h port (unit_under h s j)) (pending plan h s j ++ p ∷ []))
 unfolding is_verified
 accepted_is plan h port p s j there tag counts =
-    let verified = tag-verifies (key_of plan j s) (iv_of s.sub (units_got h s j + 1)) (front_due plan h s (units_got h s j + 1) ++ authenticated (pending plan h s j ++ p ∷ [])) (encrypted (pending plan h s j ++ p ∷ [])) p.tag tag in
+    let verified = tag-verifies (key_of plan j s) (iv_of s.sub (units_got h s j + 1))
+    (front_due plan h s (units_got h s j + 1) ++ authenticated (pending plan h s j ++ p ∷ []))
+    (encrypted (pending plan h s j ++ p ∷ [])) p.tag tag in
     ap in_stream there ∙ rw (verified, counts) refl
   where
     in_stream : SubStream → Verdict
     in_stream t =
-        if not (verifies (key_of plan j t) (iv_of s.sub (units_got h s j + 1)) (front_due plan h t (units_got h s j + 1) ++ authenticated (pending plan h t j ++ p ∷ [])) (encrypted (pending plan h t j ++ p ∷ [])) p.tag)
+        if not (verifies (key_of plan j t) (iv_of s.sub (units_got h s j + 1))
+        (front_due plan h t (units_got h s j + 1) ++ authenticated (pending plan h t j ++ p ∷ []))
+        (encrypted (pending plan h t j ++ p ∷ [])) p.tag)
         then Fail port s.stream s.sub fail.Tag
         else if not (meets_counts plan h t (pending plan h t j ++ p ∷ [])) then Fail port s.stream s.sub fail.Order
-        else Accepted port (unit_under h s j) (map (effect_of port) (pending plan h t j ++ p ∷ []))
+        else Accepted port (unit_under h s j)
+        (map (effect_of plan h port (unit_under h s j)) (pending plan h t j ++ p ∷ []))
 
 -- ---- the law
 
 -- the draws of the two sets differ
-two_differ : (plan : Plan) → DrawFacts plan → (h : History) → CauseLaw plan h → (port : PortName) (s : SubStream) (k : Bool) (i j : ℕ) → on_draw h port s k ≡ Some j → on_draw h port s (not k) ≡ Some i → i ≢ j
-two_differ plan facts h law port s true i j live other same = grind (arith, nat_tests, facts.apart h law port s i j (is_drawn _ i other) (is_drawn _ j live))
-two_differ plan facts h law port s false i j live other same = grind (arith, nat_tests, facts.apart h law port s j i (is_drawn _ j live) (is_drawn _ i other))
+two_differ : (plan : Plan) → DrawFacts plan → (h : History) → CauseLaw plan h
+    → (port : PortName) (s : SubStream) (k : Bool) (i j : ℕ) → on_draw h port s k ≡ Some j → on_draw h port s (not k)
+    ≡ Some i → i ≢ j
+two_differ plan facts h law port s true i j live other same = grind
+    (arith, nat_tests, facts.apart h law port s i j (is_drawn _ i other) (is_drawn _ j live))
+two_differ plan facts h law port s false i j live other same = grind
+    (arith, nat_tests, facts.apart h law port s j i (is_drawn _ j live) (is_drawn _ i other))
 
 module _
-    (plan : Plan) (fits : StreamsFit plan) (facts : DrawFacts plan) (h : History) (cause : CauseLaw plan h) (e : Event) (s : SubStream) (j m : ℕ)
+    (plan : Plan) (fits : StreamsFit plan) (facts : DrawFacts plan) (h : History) (cause : CauseLaw plan h) (e : Event)
+    (s : SubStream) (j m : ℕ)
     (port : PortName) (p : Packet) (arrives : ArrivesInOrder plan h e s j m port p) where
   abbrev front : List Packet
   front = pending plan h s j
@@ -80,15 +110,18 @@ module _
   there = λ i. record { link = arrives.receiver.0 i; stream = s.stream; direction = arrives.receiver.1 i; sub = s.sub }
 
   -- the fronts of both sides
-  pub fronts_agree : p.prefix.m ≡ true → front_sent plan h s j (units_got h s j + 1) ≡ front_due plan h s (units_got h s j + 1)
+  pub fronts_agree : p.prefix.m ≡ true → front_sent plan h s j (units_got h s j + 1)
+      ≡ front_due plan h s (units_got h s j + 1)
   fronts_agree last =
       let among = place_among (sealed_packets plan h) s j m p arrives.sealed in
-      let sealed : IsSealedIn plan h s j = record { place = among.place; sealed = among.sealed; stands = among.stands; under = among.under } in
+      let sealed : IsSealedIn plan h s j = record
+      { place = among.place; sealed = among.sealed; stands = among.stands; under = among.under } in
       same_fronts plan fits facts h cause port s j arrives.receiver arrives.live sealed (arrives.older last)
 
   -- its tag is that of the unit that it ends, with the front of that unit
   sent_tag : p.prefix.m ≡ true
-      → p.tag ≡ tag_of (key_of plan j s) (iv_of s.sub n) (front_due plan h s n ++ authenticated (front ++ p ∷ [])) (encrypted (front ++ p ∷ []))
+      → p.tag ≡ tag_of (key_of plan j s) (iv_of s.sub n) (front_due plan h s n ++ authenticated (front ++ p ∷ []))
+      (encrypted (front ++ p ∷ []))
   sent_tag last =
       let d = place.description in
       let m_is = sym (ap (λ (f : Prefix). f.m) place.prefix) ∙ last in
@@ -102,7 +135,14 @@ module _
       let packet : p ≡ packet_of plan (front_due plan h s n) with_front.bytes d front =
       with_front.packet ∙ (λ i. packet_of plan (ahead i) with_front.bytes d (opens i)) in
       let sub = ap (λ (t : SubStream). t.sub) place.stream in
-      cc (packet, tag_is plan (front_due plan h s n) with_front.bytes d front m_is, place.draw, place.stream, sub, number)
+      cc (
+        packet,
+        tag_is plan (front_due plan h s n) with_front.bytes d front m_is,
+        place.draw,
+        place.stream,
+        sub,
+        number,
+      )
 
   -- its draw is On in the set that it names
   live : on_draw h port s p.prefix.k ≡ Some j
@@ -110,41 +150,56 @@ module _
       let d = place.description in
       let k = arrives.live.0 in
       let on : key_in (keys_at h port (sub_stream_of d)) k ≡ On d.draw =
-      (λ i. key_in (keys_at h port (place.stream i)) k) ∙ (is_drawn (key_in (keys_at h port s) k) j arrives.live.1 ∙ ap On (sym place.draw)) in
+      (λ i. key_in (keys_at h port (place.stream i)) k) ∙
+      (is_drawn (key_in (keys_at h port s) k) j arrives.live.1 ∙ ap On (sym place.draw)) in
       let set = facts.own_set h cause place.place (d, p) place.stands port k on in
       ap (on_draw h port s) (ap (λ (f : Prefix). f.k) place.prefix ∙ sym set) ∙ arrives.live.1
 
   alone : (o : Option ℕ) → on_draw h port s (not p.prefix.k) ≡ o → is_mixed plan h s o ≡ false
   alone None is = refl
-  alone (Some i) is = rw (arrives.alone i (not p.prefix.k, is) (two_differ plan facts h cause port s p.prefix.k i j live is)) refl
+  alone (Some i) is = rw
+      (arrives.alone i (not p.prefix.k, is) (two_differ plan facts h cause port s p.prefix.k i j live is)) refl
 
   -- it passes what is tested before the tag
   pub before : before_tag plan h (record { port = port; bytes = packet_bytes p })
       ≡ (if p.prefix.m then Ok (record { packet = p; unit = unit_under h s j }) else Err (Held port (unit_under h s j)))
   unfolding before_tag
   before =
-      let stream : p.prefix.stream ≡ s.stream = ap (λ (f : Prefix). f.stream) place.prefix ∙ ap (λ (t : SubStream). t.stream) place.stream in
-      let sub : p.prefix.sub ≡ s.sub = ap (λ (f : Prefix). f.sub) place.prefix ∙ ap (λ (t : SubStream). t.sub) place.stream in
-      let receives : receiving port p ≡ s = λ i. record { link = arrives.receiver.0 i; stream = stream i; direction = arrives.receiver.1 i; sub = sub i } in
+      let stream : p.prefix.stream ≡ s.stream = ap (λ (f : Prefix). f.stream) place.prefix ∙ ap
+      (λ (t : SubStream). t.stream) place.stream in
+      let sub : p.prefix.sub ≡ s.sub = ap (λ (f : Prefix). f.sub) place.prefix ∙ ap (λ (t : SubStream). t.sub)
+      place.stream in
+      let receives : receiving port p ≡ s = λ i. record
+      { link = arrives.receiver.0 i; stream = stream i; direction = arrives.receiver.1 i; sub = sub i } in
       let known : has_stream plan port p.prefix.stream ≡ true =
-      (λ i. is_some (stream_plan plan (arrives.receiver.0 i) (stream i))) ∙ facts.known h cause port s p.prefix.k j (is_drawn _ j live) in
+      (λ i. is_some (stream_plan plan (arrives.receiver.0 i) (stream i))) ∙ facts.known h cause port s p.prefix.k j
+      (is_drawn _ j live) in
       let secure : failed h port p.prefix.stream ≡ false = rw stream arrives.secure in
-      let less = λ (more : p.prefix.m ≡ false). subst (λ ps. length ps + 1 < mode_of plan s.link s.stream) after.front (place.room more) in
+      let less = λ (more : p.prefix.m ≡ false). subst (λ ps. length ps + 1 < mode_of plan s.link s.stream) after.front
+      (place.room more) in
       let room : is_overfull plan h s j p.prefix.m ≡ false = grind (arith, nat_tests, less) in
       rw (is_cut p place.fits, known, secure, receives, live)
-      (under_keys_is plan h port p s j (on_draw h port s (not p.prefix.k)) receives (alone (on_draw h port s (not p.prefix.k)) refl) room)
+      (under_keys_is plan h port p s j (on_draw h port s (not p.prefix.k)) receives
+      (alone (on_draw h port s (not p.prefix.k)) refl) room)
 
   taken : IsTaken plan h s j port p (due plan h e)
   taken =
-      let is = due_arrives plan h e (record { port = port; bytes = packet_bytes p }) arrives.unchanged ∙ ap (settled plan h port) before in
-      (λ more. is ∙ ap by_m more, λ last. is ∙ (ap by_m last ∙ accepted_is plan h port p s j there (sent_tag last) (arrives.counts last)))
+      let is = due_arrives plan h e (record { port = port; bytes = packet_bytes p }) arrives.unchanged ∙ ap
+      (settled plan h port) before in (
+        λ more. is ∙ ap by_m more,
+        λ last. is ∙
+            (ap by_m last ∙ accepted_is plan h port p s j there (sent_tag last) (arrives.counts last)),
+      )
     where
       by_m : Bool → Verdict
-      by_m b = settled plan h port (if b then Ok (record { packet = p; unit = unit_under h s j }) else Err (Held port (unit_under h s j)))
+      by_m b = settled plan h port
+          (if b then Ok (record { packet = p; unit = unit_under h s j }) else Err (Held port (unit_under h s j)))
 
-pub whole_law_holds : (plan : Plan) → StreamsFit plan → DrawFacts plan → (h : History) → CauseLaw plan h → WholeLaw plan h
+pub whole_law_holds : (plan : Plan) → StreamsFit plan → DrawFacts plan → (h : History) → CauseLaw plan h
+    → WholeLaw plan h
 whole_law_holds plan fits facts [] cause = tt
 whole_law_holds plan fits facts ((e, w) ∷ h) cause = (
-  λ s j m port p arrives. subst (IsTaken plan h s j port p) (sym cause.0) (taken plan fits facts h cause.1 e s j m port p arrives),
+  λ s j m port p arrives. subst (IsTaken plan h s j port p) (sym cause.0)
+      (taken plan fits facts h cause.1 e s j m port p arrives),
   whole_law_holds plan fits facts h cause.1,
 )

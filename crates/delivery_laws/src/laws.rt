@@ -1,6 +1,7 @@
 //! Laws of what is delivered.
 
-ghost use Rattle.delivery_laws.specs.Statements.{DeliveryLawHolds, DrawsNeverFallHolds, OrderIsNoForgeryHolds, PrefixLawHolds, WholeLawHolds};
+ghost use Rattle.delivery_laws.specs.Statements.{DeliveryLawHolds, DrawsNeverFallHolds, OrderIsNoForgeryHolds};
+ghost use Rattle.delivery_laws.specs.Statements.{PrefixLawHolds, WholeLawHolds};
 
 /// Provided no tag verified on a unit its partner had not sealed with that front, each sub-stream got, key by key, a
 /// prefix of what was sealed, the draws of its accepted units never fall, and on a closed stream nothing of a newer

@@ -1,9 +1,11 @@
--- Products 4 bits of each half at a time, reduced at the end: a product is the sum over both halves, each step moves both
--- up by x⁴ and adds one entry of the table to each, and bits that pass the end come back by linear maps that are tested at
--- the 128 powers of x.
-use Rattle.std.proofs.Common.{◌≡◌, ℕ, zero, suc, ◌+◌, ◌-◌, ◌*◌, ◌/◌, ◌%◌, ◌^◌, ◌<◌, ◌≤◌, ◌==◌, Bool, true, List, [], ◌∷◌, ◌++◌, length, bit_and, bit_xor, slice_index, refl, sym, ap, ◌∙◌, arith, lit<}
+-- Products 4 bits of each half at a time, reduced at the end: a product is the sum over both halves, each step moves
+-- both up by x⁴ and adds one entry of the table to each, and bits that pass the end come back by linear maps that are
+-- tested at the 128 powers of x.
+use Rattle.std.proofs.Common.{◌≡◌, ℕ, zero, suc, ◌+◌, ◌-◌, ◌*◌, ◌/◌, ◌%◌, ◌^◌, ◌<◌, ◌≤◌, ◌==◌, Bool, true, List, []}
+use Rattle.std.proofs.Common.{◌∷◌, ◌++◌, length, bit_and, bit_xor, slice_index, refl, sym, ap, ◌∙◌, arith, lit<}
 use Rattle.std.proofs.Math.Nat.{pow-suc, mul-mod_left}
-use Rattle.std.proofs.lemmas.Nat.{xor_comm, xor_mod, shr-shr, mod_below, and_mask, pow_pos, pow-add, div-add-mod', mod-pow-add}
+use Rattle.std.proofs.lemmas.Nat.{xor_comm, xor_mod, shr-shr, mod_below, and_mask, pow_pos, pow-add, div-add-mod'}
+use Rattle.std.proofs.lemmas.Nat.{mod-pow-add}
 use lib.Bits.{xor_assoc, xor_shifted, xor_zero_l}
 use Rattle.aes_block.proofs.Entries.{all_below}
 use Rattle.gcm_seal.specs.Polynomials.{bits}
@@ -54,7 +56,8 @@ raised-split n b =
     let low : ℕ = b % 2 ^ n in
     let whole : b ≡ bit_xor (high * 2 ^ n) low =
     sym (div-add-mod' b (2 ^ n)) ∙ sym (xor_shifted high n low (mod_below b (2 ^ n) (pow_pos n))) in
-    ap (raised n) whole ∙ raised-xor n (high * 2 ^ n) low ∙ ap (λ (x : ℕ). bit_xor x (raised n low)) (raised-shifted n high)
+    ap (raised n) whole ∙ raised-xor n (high * 2 ^ n) low ∙ ap (λ (x : ℕ). bit_xor x (raised n low))
+    (raised-shifted n high)
 
 -- ---- polynomials in two parts
 
@@ -76,7 +79,8 @@ bits-append (suc m) n v =
     let same : v / 2 ^ n / 2 ^ m ≡ v / 2 ^ (m + n) = shr-shr v n m ∙ ap (λ (k : ℕ). v / 2 ^ k) turn in
     rw (e, same, bits-append m n v) refl
 
-act-bits_append : (m n v h : ℕ) → act (bits (m + n) v) h ≡ bit_xor (act (bits m (v / 2 ^ n)) h) (raised m (act (bits n v) h))
+act-bits_append : (m n v h : ℕ) → act (bits (m + n) v) h ≡ bit_xor (act (bits m (v / 2 ^ n)) h)
+    (raised m (act (bits n v) h))
 act-bits_append m n v h =
     ap (λ (p : List Bool). act p h) (bits-append m n v)
     ∙ act-append (bits m (v / 2 ^ n)) (bits n v) h
@@ -105,7 +109,8 @@ next-bits m h v i are =
 -- ---- one step of the sum z + x¹²⁸ • w
 
 shuffle : (zh a bh w z b : ℕ)
-    → bit_xor (bit_xor (bit_xor zh a) bh) (bit_xor (bit_xor w z) b) ≡ bit_xor (bit_xor (bit_xor zh z) w) (bit_xor a (bit_xor bh b))
+    → bit_xor (bit_xor (bit_xor zh a) bh) (bit_xor (bit_xor w z) b)
+    ≡ bit_xor (bit_xor (bit_xor zh z) w) (bit_xor a (bit_xor bh b))
 shuffle zh a bh w z b =
     xor_four (bit_xor zh a) bh (bit_xor w z) b
     ∙ ap (λ (x : ℕ). bit_xor x (bit_xor bh b))
@@ -132,7 +137,8 @@ sum-next z w a b even =
     ≡ bit_xor (bit_xor (raised 128 wl) (raised 4 zl)) (raised 64 bl) =
     raised-xor 128 (bit_xor wl (z * 2 ^ 124 % 2 ^ 128)) (b * 2 ^ 64 % 2 ^ 128)
     ∙ ap (λ (x : ℕ). bit_xor x (raised 128 (b * 2 ^ 64 % 2 ^ 128))) (raised-xor 128 wl (z * 2 ^ 124 % 2 ^ 128))
-    ∙ (λ i. bit_xor (bit_xor (raised 128 wl) ((ap (raised 128) ez ∙ raised-low 4 124 zl) i)) ((ap (raised 128) eb ∙ raised-low 64 64 bl) i)) in
+    ∙ (λ i. bit_xor (bit_xor (raised 128 wl) ((ap (raised 128) ez ∙ raised-low 4 124 zl) i))
+    ((ap (raised 128) eb ∙ raised-low 64 64 bl) i)) in
     let right : raised 4 (bit_xor z (raised 128 w)) ≡ bit_xor (bit_xor (z / 2 ^ 4) (raised 4 zl)) (raised 128 wl) =
     raised-xor 4 z (raised 128 w) ∙ (λ i. bit_xor (raised-split 4 z i) (down i)) in
     ap (bit_xor (bit_xor (bit_xor (z / 2 ^ 4) a) (b / 2 ^ 64))) left
@@ -160,7 +166,8 @@ halves-next m h v i z w are even held =
     let turn : 4 * i + 64 ≡ 64 + 4 * i = omega arith in
     let half : rest / 2 ^ 64 ≡ v / 2 ^ 64 / 2 ^ (4 * i) =
     shr-shr v (4 * i) 64 ∙ ap (λ (n : ℕ). v / 2 ^ n) turn ∙ sym (shr-shr v 64 (4 * i)) in
-    let ea : a ≡ slice_index m (v / 2 ^ 64 / 2 ^ (4 * i) % 16) = ap (slice_index m) (and_mask (rest / 2 ^ 64) 4 ∙ ap (λ (n : ℕ). n % 16) half) in
+    let ea : a ≡ slice_index m (v / 2 ^ 64 / 2 ^ (4 * i) % 16) = ap (slice_index m)
+    (and_mask (rest / 2 ^ 64) 4 ∙ ap (λ (n : ℕ). n % 16) half) in
     let eb : b ≡ slice_index m (rest % 16) = ap (slice_index m) (and_mask rest 4) in
     let high = next-bits m h (v / 2 ^ 64) i are in
     let low = next-bits m h v i are in
@@ -171,7 +178,8 @@ halves-next m h v i z w are even held =
     ∙ (λ j. bit_xor (raised-xor 4 k (raised 64 l) j) (bit_xor (ea j) (raised 64 (eb j))))
     ∙ xor_comm (bit_xor (raised 4 k) (raised 4 (raised 64 l))) (bit_xor a' (raised 64 b'))
     ∙ xor_four a' (raised 64 b') (raised 4 k) (raised 4 (raised 64 l))
-    ∙ sym (λ j. bit_xor (high j) ((ap (raised 64) low ∙ raised-xor 64 b' (raised 4 l) ∙ ap (bit_xor (raised 64 b')) (raised-turn 64 4 l)) j))
+    ∙ sym (λ j. bit_xor (high j)
+    ((ap (raised 64) low ∙ raised-xor 64 b' (raised 4 l) ∙ ap (bit_xor (raised 64 b')) (raised-turn 64 4 l)) j))
 
 pub halves-whole : (v h : ℕ) → halves 16 v h ≡ block_product h v
 unfolding block_product
@@ -182,7 +190,8 @@ halves-whole v h = sym (act-bits_append 64 64 v h)
 shifted_mod : (a n k : ℕ) → k ≤ n → a * 2 ^ n % 2 ^ k ≡ 0
 shifted_mod a n k le =
     let e : n ≡ n - k + k = omega arith in
-    let split : a * 2 ^ n ≡ a * 2 ^ (n - k) * 2 ^ k = ap (λ (j : ℕ). a * 2 ^ j) e ∙ rw (pow-add 2 (n - k) k) (omega arith) in
+    let split : a * 2 ^ n ≡ a * 2 ^ (n - k) * 2 ^ k = ap (λ (j : ℕ). a * 2 ^ j) e ∙ rw (pow-add 2 (n - k) k)
+    (omega arith) in
     ap (λ (x : ℕ). x % 2 ^ k) split ∙ mul-mod_left (a * 2 ^ (n - k)) (2 ^ k)
 
 pub low-even : (w k : ℕ) → w % 2 ^ (k + 4) ≡ 0 → (w % 2 ^ 4 ≡ 0) × (w / 2 ^ 4 % 2 ^ k ≡ 0)
@@ -198,7 +207,8 @@ low-next z w b k le even =
     let x : ℕ = bit_xor (w / 2 ^ 4) (z * 2 ^ 124 % 2 ^ 128) in
     let first : x % 2 ^ k ≡ 0 =
     xor_mod (w / 2 ^ 4) (z * 2 ^ 124 % 2 ^ 128) k
-    ∙ (λ i. bit_xor ((low-even w k even).1 i) ((ap (λ (y : ℕ). y % 2 ^ k) ez ∙ shifted_mod (z % 2 ^ 4) 124 k (omega arith)) i)) in
+    ∙ (λ i. bit_xor ((low-even w k even).1 i)
+    ((ap (λ (y : ℕ). y % 2 ^ k) ez ∙ shifted_mod (z % 2 ^ 4) 124 k (omega arith)) i)) in
     xor_mod x (b * 2 ^ 64 % 2 ^ 128) k
     ∙ (λ i. bit_xor (first i) ((ap (λ (y : ℕ). y % 2 ^ k) eb ∙ shifted_mod (b % 2 ^ 64) 64 k (omega arith)) i))
 
@@ -216,7 +226,8 @@ unfolding spill
 spill-linear =
     linear-sum (λ w. bit_xor (bit_xor w (w * 2 ^ 127 % 2 ^ 128)) (w * 2 ^ 126 % 2 ^ 128)) (λ w. w * 2 ^ 121 % 2 ^ 128)
     (linear-sum (λ w. bit_xor w (w * 2 ^ 127 % 2 ^ 128)) (λ w. w * 2 ^ 126 % 2 ^ 128)
-    (linear-sum (λ w. w) (λ w. w * 2 ^ 127 % 2 ^ 128) (λ a b. refl) (linear-up 127 128)) (linear-up 126 128)) (linear-up 121 128)
+    (linear-sum (λ w. w) (λ w. w * 2 ^ 127 % 2 ^ 128) (λ a b. refl) (linear-up 127 128)) (linear-up 126 128))
+    (linear-up 121 128)
 
 four-linear : IsLinear four
 unfolding four
@@ -235,4 +246,5 @@ reduced-zero = raised-zero 128
 
 pub raised-reduced : (w : ℕ) → w < 2 ^ 128 → raised 128 w ≡ four (spill w)
 raised-reduced w lt =
-    linear_same (raised 128) (λ w. four (spill w)) (raised-xor 128) (linear-after four spill four-linear spill-linear) reduced-zero 128 reduced_test w lt
+    linear_same (raised 128) (λ w. four (spill w)) (raised-xor 128) (linear-after four spill four-linear spill-linear)
+    reduced-zero 128 reduced_test w lt

@@ -1,5 +1,6 @@
 -- Functions of numbers that keep sums bit by bit: two that agree on the powers of 2 are the same.
-use Rattle.std.proofs.Common.{◌≡◌, ℕ, zero, suc, ◌+◌, ◌*◌, ◌/◌, ◌%◌, ◌^◌, ◌<◌, ◌==◌, true, bit_xor, sym, ap, ◌∙◌, arith, inl, inr, lit<}
+use Rattle.std.proofs.Common.{◌≡◌, ℕ, zero, suc, ◌+◌, ◌*◌, ◌/◌, ◌%◌, ◌^◌, ◌<◌, ◌==◌, true, bit_xor, sym, ap, ◌∙◌, arith}
+use Rattle.std.proofs.Common.{inl, inr, lit<}
 use Rattle.std.proofs.Math.Nat.{mod-eq_of_lt}
 use Rattle.std.proofs.lemmas.Bool.{and_parts, cases_lt, eqb-true}
 use Rattle.std.proofs.lemmas.Nat.{xor_block, xor_mod, xor_shr, mod_below, pow_pos, mod-pow-add}
@@ -49,7 +50,8 @@ linear_same f g lf lg at0 (suc n) test w lt =
           let e : d * 2 ^ n ≡ 0 = let d0 : d ≡ 0 = omega arith in rw d0 (omega arith) in
           rw e at0
       | inr more ↦
-          let e : d * 2 ^ n ≡ 2 ^ n = let d1 : d ≡ 1 = omega (arith, mod_below (w / 2 ^ n) 2 (lit< tt)) in rw d1 (omega arith) in
+          let e : d * 2 ^ n ≡ 2 ^ n = let d1 : d ≡ 1 = omega (arith, mod_below (w / 2 ^ n) 2 (lit< tt)) in rw d1
+          (omega arith) in
           rw e (eqb-true (f (2 ^ n)) (g (2 ^ n)) parts.0)
     ] in
     ap f whole ∙ lf (d * 2 ^ n) r ∙ (λ i. bit_xor (top i) (below i)) ∙ sym (ap g whole ∙ lg (d * 2 ^ n) r)

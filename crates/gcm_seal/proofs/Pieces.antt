@@ -1,5 +1,6 @@
 -- A buffer that is masked piece by piece.
-use Rattle.std.proofs.Common.{◌≡◌, ℕ, ◌+◌, ◌-◌, ◌*◌, ◌/◌, ◌%◌, ◌≤◌, min, inl, inr, length-append, length-drop, List, [], ◌++◌, length, take, drop, sym, ap, ◌∙◌, arith, length-take, append-nil, append_assoc}
+use Rattle.std.proofs.Common.{◌≡◌, ℕ, ◌+◌, ◌-◌, ◌*◌, ◌/◌, ◌%◌, ◌≤◌, min, inl, inr, length-append, length-drop, List, []}
+use Rattle.std.proofs.Common.{◌++◌, length, take, drop, sym, ap, ◌∙◌, arith, length-take, append-nil, append_assoc}
 use Rattle.std.proofs.lemmas.Bool.{cases_lt}
 use Rattle.std.proofs.Math.Seq.{take-add}
 use Rattle.std.proofs.lemmas.List.{take_at, drop_at, drop-drop, take_all, drop_all}
@@ -15,7 +16,8 @@ length-front : (key iv : List ℕ) (n k : ℕ) (xs : List ℕ) → k ≤ length 
 length-front key iv n k xs le = length-masked key iv n (take k xs) ∙ omega (arith, length-take k xs)
 
 -- what is left of it
-pub left-front : (key iv : List ℕ) (n k : ℕ) (xs now : List ℕ) → k ≤ length xs → now ≡ front_masked key iv n k xs → drop k now ≡ drop k xs
+pub left-front : (key iv : List ℕ) (n k : ℕ) (xs now : List ℕ) → k ≤ length xs → now ≡ front_masked key iv n k xs
+    → drop k now ≡ drop k xs
 left-front key iv n k xs now le e =
     ap (drop k) e ∙ drop_at (masked key iv n (take k xs)) (drop k xs) k (length-front key iv n k xs le)
 
@@ -39,12 +41,14 @@ front-next key iv n k j xs now ys le e masks =
 
 pub front-none : (key iv : List ℕ) (n : ℕ) (xs : List ℕ) → xs ≡ front_masked key iv n 0 xs
 front-none key iv n xs =
-    let none : masked key iv n (take 0 xs) ≡ [] = drop-none (masked key iv n (take 0 xs)) (length-masked key iv n (take 0 xs)) in
+    let none : masked key iv n (take 0 xs) ≡ [] = drop-none (masked key iv n (take 0 xs))
+    (length-masked key iv n (take 0 xs)) in
     ap (λ (r : List ℕ). r ++ xs) (sym none) where
       drop-none : (ys : List ℕ) → length ys ≡ 0 → ys ≡ []
       drop-none ys e = sym (take_all 0 ys (omega (arith, e)))
 
-pub front-whole : (key iv : List ℕ) (n k : ℕ) (xs now : List ℕ) → length xs ≤ k → now ≡ front_masked key iv n k xs → now ≡ masked key iv n xs
+pub front-whole : (key iv : List ℕ) (n k : ℕ) (xs now : List ℕ) → length xs ≤ k → now ≡ front_masked key iv n k xs → now
+    ≡ masked key iv n xs
 front-whole key iv n k xs now le e =
     e ∙ (λ i. masked key iv n (take_all k xs le i) ++ drop_all k xs le i) ∙ append-nil (masked key iv n xs)
 
@@ -57,14 +61,18 @@ pub two_pieces : (key iv : List ℕ) (from f : ℕ) (xs ys zs : List ℕ)
     → f ≡ min ((16 - from % 16) % 16) (length xs)
     → ys ≡ masked key iv (16 * (from / 16) + from % 16) (take f xs)
     → zs ≡ masked key iv (16 * ((from + 15) / 16)) (take (length (ys ++ drop f xs) - f) (drop f (ys ++ drop f xs)))
-    → take f (ys ++ drop f xs) ++ (zs ++ drop (length (ys ++ drop f xs) - f) (drop f (ys ++ drop f xs))) ≡ masked key iv from xs
+    → take f (ys ++ drop f xs) ++ (zs ++ drop (length (ys ++ drop f xs) - f) (drop f (ys ++ drop f xs)))
+    ≡ masked key iv from xs
 two_pieces key iv from f xs ys zs ef ey ez =
     let le : f ≤ length xs = omega (arith, ef) in
     let place : 16 * (from / 16) + from % 16 ≡ from = omega arith in
     let now = ys ++ drop f xs in
     let j : ℕ = length now - f in
-    let held : now ≡ front_masked key iv from f xs = (λ i. (ey ∙ ap (λ (n : ℕ). masked key iv n (take f xs)) place) i ++ drop f xs) in
-    let long : length now ≡ length xs = ap (λ (l : List ℕ). length l) held ∙ length-append (masked key iv from (take f xs)) (drop f xs) ∙ omega (arith, length-front key iv from f xs le, length-drop f xs) in
+    let held : now ≡ front_masked key iv from f xs =
+    (λ i. (ey ∙ ap (λ (n : ℕ). masked key iv n (take f xs)) place) i ++ drop f xs) in
+    let long : length now ≡ length xs = ap (λ (l : List ℕ). length l) held ∙ length-append
+    (masked key iv from (take f xs)) (drop f xs) ∙ omega (arith, length-front key iv from f xs le, length-drop f xs)
+    in
     let rest = take j (drop f now) in
     let count : length rest ≡ length xs - f = omega (arith, length-take j (drop f now), length-drop f now, long) in
     let next : zs ≡ masked key iv (from + f) rest =

@@ -2,11 +2,14 @@
 -- that multiply by x, which are linear, so sums and products of polynomials act as they should, and the sum of products
 -- follows by induction on the blocks. A remainder modulo 1 + x + x² + x⁷ + x¹²⁸ has the bits of what its polynomial
 -- makes of the block of the polynomial 1: both take the same step at each coefficient.
-use Rattle.std.proofs.Common.{◌≡◌, ℕ, zero, suc, ◌+◌, ◌*◌, ◌/◌, ◌%◌, ◌^◌, ◌<◌, ◌≤◌, ◌==◌, Bool, true, false, List, [], ◌∷◌, ◌++◌, length, take, get_or, replicate, lit<, bit_and, bit_xor, refl, sym, ap, ◌∙◌, arith, inl, inr, eq-eqb}
+use Rattle.std.proofs.Common.{◌≡◌, ℕ, zero, suc, ◌+◌, ◌*◌, ◌/◌, ◌%◌, ◌^◌, ◌<◌, ◌≤◌, ◌==◌, Bool, true, false, List, []}
+use Rattle.std.proofs.Common.{◌∷◌, ◌++◌, length, take, get_or, replicate, lit<, bit_and, bit_xor, refl, sym, ap, ◌∙◌}
+use Rattle.std.proofs.Common.{arith, inl, inr, eq-eqb}
 use Rattle.std.specs.Prelude.{if◌then◌else◌}
 use Rattle.std.proofs.Math.Numerals.{one-add}
 use Rattle.std.proofs.lemmas.Bool.{cases_lt, ne_eqb}
-use Rattle.std.proofs.lemmas.Nat.{xor_comm, xor_lt, xor_shr, xor_mod, mod-pow-add, pow_pos, pow-add, mod_below, shl_below, shr-shr}
+use Rattle.std.proofs.lemmas.Nat.{xor_comm, xor_lt, xor_shr, xor_mod, mod-pow-add, pow_pos, pow-add, mod_below}
+use Rattle.std.proofs.lemmas.Nat.{shl_below, shr-shr}
 use Rattle.std.proofs.lemmas.Nat.Bits.{bit_at-lt, bit_at_xor, shr_and_one}
 use Rattle.std.proofs.lemmas.List.{length-take-le}
 use lib.Bits.{xor_assoc, xor_zero_r, xor_self, xor_shifted}
@@ -47,7 +50,12 @@ carry-xor = by_bits (λ p q. carry (bit_xor p q) ≡ bit_xor (carry p) (carry q)
 pub step_x-xor : (a b : ℕ) → step_x (bit_xor a b) ≡ bit_xor (step_x a) (step_x b)
 unfolding step_x
 step_x-xor a b =
-    rw (xor_mod a b 1, xor_shr a b 1, carry-xor (a % 2) (b % 2) (mod_below a 2 (omega arith)) (mod_below b 2 (omega arith)))
+    rw (
+      xor_mod a b 1,
+      xor_shr a b 1,
+      carry-xor (a % 2) (b % 2) (mod_below a 2 (omega arith))
+          (mod_below b 2 (omega arith)),
+    )
     (xor_four (carry (a % 2)) (carry (b % 2)) (a / 2) (b / 2))
 
 pub step_x-zero : step_x 0 ≡ 0
@@ -66,7 +74,8 @@ step_x-lt : (b : ℕ) → b < 2 ^ 128 → step_x b < 2 ^ 128
 unfolding step_x
 step_x-lt b lt = xor_lt 128 (carry (b % 2)) (b / 2) (carry-lt (b % 2)) (omega arith) where
   carry-lt : (d : ℕ) → carry d < 2 ^ 128
-  carry-lt d = elim (d == 1) as (λ (t : Bool). (if t then 0xe1 * 2 ^ 120 else 0) < 2 ^ 128) [ true ↦ omega arith | false ↦ omega arith ]
+  carry-lt d = elim (d == 1) as (λ (t : Bool). (if t then 0xe1 * 2 ^ 120 else 0) < 2 ^ 128)
+      [ true ↦ omega arith | false ↦ omega arith ]
 
 -- ---- how polynomials act
 
@@ -149,7 +158,8 @@ bits-xor : (n a b : ℕ) → bits n (bit_xor a b) ≡ plus (bits n a) (bits n b)
 unfolding bits
 bits-xor zero a b = refl
 bits-xor (suc n) a b =
-    rw (bit_at_xor a b n, digit-differ (a / 2 ^ n % 2) (b / 2 ^ n % 2) (bit_at-lt a n) (bit_at-lt b n), bits-xor n a b) refl
+    rw (bit_at_xor a b n, digit-differ (a / 2 ^ n % 2) (b / 2 ^ n % 2) (bit_at-lt a n) (bit_at-lt b n), bits-xor n a b)
+    refl
 
 polynomial-xor : (a b : ℕ) → polynomial (bit_xor a b) ≡ plus (polynomial a) (polynomial b)
 polynomial-xor a b = bits-xor 128 a b
@@ -177,11 +187,19 @@ act-bits (suc n) r b e =
     let m : ℕ = b % 2 ^ n in
     let sum : n + r ≡ 127 = omega arith in
     let whole : 2 ^ n * 2 ^ r ≡ 2 ^ 127 = sym (pow-add 2 n r) ∙ ap (λ (k : ℕ). 2 ^ k) sum in
-    let fits : m * 2 ^ r < 2 ^ 127 = rw (ap (λ (k : ℕ). 2 ^ k) sum) at (shl_below m n r (mod_below b (2 ^ n) (pow_pos n))) in
+    let fits : m * 2 ^ r < 2 ^ 127 = rw (ap (λ (k : ℕ). 2 ^ k) sum) at
+    (shl_below m n r (mod_below b (2 ^ n) (pow_pos n))) in
     let held = act-bits n (r + 1) b (omega arith) in
     let twice : m * 2 ^ (r + 1) ≡ m * 2 ^ r * 2 = rw (pow-add 2 r 1) (omega arith) in
     let split : b % 2 ^ suc n ≡ d * 2 ^ n + m = ap (λ (k : ℕ). b % 2 ^ k) (sym (one-add n)) ∙ mod-pow-add b 1 n in
-    rw (held, twice, step_x-even (m * 2 ^ r), digit-term d one (bit_at-lt b n), xor_shifted d 127 (m * 2 ^ r) fits, split)
+    rw (
+      held,
+      twice,
+      step_x-even (m * 2 ^ r),
+      digit-term d one (bit_at-lt b n),
+      xor_shifted d 127 (m * 2 ^ r) fits,
+      split,
+    )
     (omega (arith, ap (λ (x : ℕ). d * x) whole))
 
 pub act-polynomial : (b : ℕ) → b < 2 ^ 128 → act (polynomial b) one ≡ b
@@ -212,7 +230,8 @@ plus-zeros zero q le = refl
 plus-zeros (suc m) [] le = absurd (omega arith)
 plus-zeros (suc m) (b ∷ q) le = ap (λ (r : List Bool). b ∷ r) (plus-zeros m q (omega arith))
 
-plus-above : (p : List Bool) (m : ℕ) (q : List Bool) → length p + m ≤ length q → plus (p ++ replicate m false) q ≡ plus p q
+plus-above : (p : List Bool) (m : ℕ) (q : List Bool) → length p + m ≤ length q → plus (p ++ replicate m false) q
+    ≡ plus p q
 plus-above [] m q le = plus-zeros m q (omega arith)
 plus-above (a ∷ p) m [] le = absurd (omega arith)
 plus-above (a ∷ p) m (b ∷ q) le = ap (λ (r : List Bool). differ a b ∷ r) (plus-above p m q (omega arith))
@@ -285,7 +304,8 @@ unfolding bits
 number-bits zero b = omega arith
 number-bits (suc n) b =
     let d : ℕ = b / 2 ^ n % 2 in
-    let split : b % 2 ^ suc n ≡ d * 2 ^ n + b % 2 ^ n = ap (λ (k : ℕ). b % 2 ^ k) (sym (one-add n)) ∙ mod-pow-add b 1 n in
+    let split : b % 2 ^ suc n ≡ d * 2 ^ n + b % 2 ^ n = ap (λ (k : ℕ). b % 2 ^ k) (sym (one-add n)) ∙ mod-pow-add b 1 n
+    in
     rw (length-bits n b, number-bits n b, digit-term d (2 ^ n) (bit_at-lt b n), split) refl
 
 remainder-act : (p : List Bool) → number (remainder p) ≡ act p one
@@ -310,7 +330,8 @@ times-xor : (h y x : ℕ) → h < 2 ^ 128 → y < 2 ^ 128
     → block_product h (bit_xor y x) ≡ bit_xor (act (polynomial h) y) (act (polynomial h) (act (polynomial x) one))
 times-xor h y x hl yl =
     times-act h (bit_xor y x) hl
-    ∙ rw (polynomial-xor y x, act-plus (polynomial y) (polynomial x) one, act-polynomial y yl) (act-xor (polynomial h) y (act (polynomial x) one))
+    ∙ rw (polynomial-xor y x, act-plus (polynomial y) (polynomial x) one, act-polynomial y yl)
+    (act-xor (polynomial h) y (act (polynomial x) one))
 
 absorbed-sum : (h : ℕ) (xs : List ℕ) (y : ℕ) → h < 2 ^ 128 → y < 2 ^ 128
     → absorbed h y xs ≡ bit_xor (act (power (polynomial h) (length xs)) y) (act (sum_of_products h xs) one)
@@ -322,7 +343,8 @@ absorbed-sum h (x ∷ xs) y hl yl =
     let rest = act (sum_of_products h xs) one in
     let more = absorbed-sum h xs (block_product h (bit_xor y x)) hl (times-lt h (bit_xor y x) hl) in
     let turn : act p (block_product h (bit_xor y x)) ≡ bit_xor (act (product hp p) y) (act (product hp p) w) =
-    rw (times-xor h y x hl yl, act-product hp p y, act-product hp p w, act-act hp p y, act-act hp p w) (act-xor p (act hp y) (act hp w)) in
+    rw (times-xor h y x hl yl, act-product hp p y, act-product hp p w, act-act hp p y, act-act hp p w)
+    (act-xor p (act hp y) (act hp w)) in
     let head : act (product (polynomial x) (product hp p)) one ≡ act (product hp p) w =
     act-product (polynomial x) (product hp p) one ∙ act-act (polynomial x) (product hp p) one in
     more ∙ rw (turn, act-plus (product (polynomial x) (product hp p)) (sum_of_products h xs) one, head)
@@ -337,25 +359,30 @@ absorbed-ghash h xs hl =
 
 -- the hash of additional data a and a ciphertext c, in the code's order
 pub hashed-ghash : (h : ℕ) (a c : List ℕ) → h < 2 ^ 128 → 8 * length a < 2 ^ 64 → 8 * length c < 2 ^ 64
-    → block_product h (bit_xor (absorbed h (absorbed h 0 (padded_blocks a (div_ceil (length a) 16))) (padded_blocks c (div_ceil (length c) 16))) (8 * length a * 2 ^ 64 + 8 * length c))
+    → block_product h (bit_xor
+    (absorbed h (absorbed h 0 (padded_blocks a (div_ceil (length a) 16)))
+    (padded_blocks c (div_ceil (length c) 16))) (8 * length a * 2 ^ 64 + 8 * length c))
     ≡ ghash h (blocks (hash_input a c) (length (hash_input a c) / 16))
 hashed-ghash h a c hl ha hc =
     let step = λ (y x : ℕ). block_product h (bit_xor y x) in
     let p : List ℕ = padded_blocks a (div_ceil (length a) 16) in
     let q : List ℕ = padded_blocks c (div_ceil (length c) 16) in
     let n : ℕ = 8 * length a * 2 ^ 64 + 8 * length c in
-    sym (ap (ghash h) (hashed_blocks a c ha hc) ∙ sym (absorbed-ghash h (p ++ q ++ n ∷ []) hl) ∙ fold-append step 0 (p ++ q) (n ∷ []) ∙ ap (λ (y : ℕ). block_product h (bit_xor y n)) (fold-append step 0 p q))
+    sym (ap (ghash h) (hashed_blocks a c ha hc) ∙ sym (absorbed-ghash h (p ++ q ++ n ∷ []) hl) ∙ fold-append step 0
+    (p ++ q) (n ∷ []) ∙ ap (λ (y : ℕ). block_product h (bit_xor y n)) (fold-append step 0 p q))
 
 -- ---- the loop over the bits, lowest first
 
-pub act_one : (i v h z : ℕ) → bit_and (v / 2 ^ i) 1 ≡ 1 → z ≡ act (bits i v) h → bit_xor (step_x z) h ≡ act (bits (i + 1) v) h
+pub act_one : (i v h z : ℕ) → bit_and (v / 2 ^ i) 1 ≡ 1 → z ≡ act (bits i v) h → bit_xor (step_x z) h
+    ≡ act (bits (i + 1) v) h
 unfolding bits
 act_one i v h z set held =
     let next : i + 1 ≡ suc i = omega arith in
     let on = eq-eqb (v / 2 ^ i % 2) 1 (sym (shr_and_one v i) ∙ set) in
     rw (next, on, ← held) (xor_comm (step_x z) h)
 
-pub act_none : (i v h z : ℕ) → (bit_and (v / 2 ^ i) 1 ≡ 1 → ⊥) → z ≡ act (bits i v) h → step_x z ≡ act (bits (i + 1) v) h
+pub act_none : (i v h z : ℕ) → (bit_and (v / 2 ^ i) 1 ≡ 1 → ⊥) → z ≡ act (bits i v) h → step_x z
+    ≡ act (bits (i + 1) v) h
 unfolding bits
 act_none i v h z clear held =
     let next : i + 1 ≡ suc i = omega arith in

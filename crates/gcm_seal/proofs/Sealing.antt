@@ -1,5 +1,6 @@
 -- Sealing and opening: lengths and bytes, what masking twice gives, and when a tag verifies.
-use Rattle.std.proofs.Common.{◌≡◌, ℕ, ◌+◌, ◌-◌, ◌%◌, ◌<◌, true, List, ◌++◌, length, bit_xor, slice_index, refl, sym, ap, ◌∙◌, arith, inl, inr, length-append}
+use Rattle.std.proofs.Common.{◌≡◌, ℕ, ◌+◌, ◌-◌, ◌%◌, ◌<◌, true, List, ◌++◌, length, bit_xor, slice_index, refl, sym, ap}
+use Rattle.std.proofs.Common.{◌∙◌, arith, inl, inr, length-append}
 use Rattle.std.specs.Prelude.{All}
 use Rattle.std.specs.Int.{w128, to_be_bytes}
 use Rattle.std.proofs.lemmas.Bool.{cases_lt}
@@ -23,7 +24,8 @@ masked-masked key iv n xs =
     let within : i < length xs = omega (arith, long) in
     let x : ℕ = slice_index xs i in
     let k : ℕ = stream_byte key iv (n + i) in
-    sym (ap (λ (y : ℕ). bit_xor y k) (masked-at key iv n xs i within) ∙ xor_assoc x k k ∙ ap (bit_xor x) (xor_self k) ∙ xor_zero_r x)))
+    sym (ap (λ (y : ℕ). bit_xor y k) (masked-at key iv n xs i within) ∙ xor_assoc x k k ∙ ap (bit_xor x) (xor_self k) ∙
+    xor_zero_r x)))
 
 -- the masked string of two pieces
 pub masked-append : (key iv : List ℕ) (n : ℕ) (xs ys : List ℕ)
@@ -45,7 +47,8 @@ masked-append key iv n xs ys =
           let within : i - length xs < length ys = omega (arith, length-append xs ys) in
           get_or-append_right a b (length xs) i 0 la back
           ∙ masked-at key iv (n + length xs) ys (i - length xs) within
-          ∙ rw place (sym (ap (λ (x : ℕ). bit_xor x (stream_byte key iv (n + i))) (get_or-append_right xs ys (length xs) i 0 refl back)))
+          ∙ rw place (sym (ap (λ (x : ℕ). bit_xor x (stream_byte key iv (n + i)))
+          (get_or-append_right xs ys (length xs) i 0 refl back)))
     ]))
 
 -- ---- lengths and bytes
@@ -58,7 +61,8 @@ masked-bytes key iv n xs h =
     All-from_get_or IsByte (masked key iv n xs) 0 (λ i lt.
     let within : i < length xs = omega (arith, length-masked key iv n xs) in
     rw (masked-at key iv n xs i within)
-    (xor_lt 8 (slice_index xs i) (stream_byte key iv (n + i)) (All-get_or IsByte xs i 0 within h) (stream_byte-byte key iv (n + i))))
+    (xor_lt 8 (slice_index xs i) (stream_byte key iv (n + i)) (All-get_or IsByte xs i 0 within h)
+    (stream_byte-byte key iv (n + i))))
 
 pub length-open_of : (key iv c : List ℕ) → length (open_of key iv c) ≡ length c
 unfolding open_of

@@ -2,8 +2,12 @@
 -- blocks that are hashed are those that the code reads. The key stream goes by induction on its blocks, so that byte k
 -- is byte k % 16 of one encrypted counter block; a block is fixed by its 16 bytes, so neither zeros behind a string nor
 -- what stands ahead of it in whole blocks changes one.
-use Rattle.std.proofs.Common.{replicate, append_assoc, append-nil, slice_range, ◌≡◌, ℕ, zero, suc, ◌+◌, ◌-◌, ◌*◌, ◌/◌, ◌%◌, ◌^◌, ◌<◌, ◌≤◌, List, [], ◌∷◌, ◌++◌, length, take, drop, bit_xor, slice_index, refl, sym, ap, ◌∙◌, arith, inl, inr, lit<}
-use Rattle.std.proofs.lemmas.List.{get_or-take, get_or-replicate, get_or_past, length-replicate, get_or_append_left, get_or-append_right, get_or-drop, length-append, length-drop, drop_all, take_all, take-append-le, drop-append-le}
+use Rattle.std.proofs.Common.{replicate, append_assoc, append-nil, slice_range, ◌≡◌, ℕ, zero, suc, ◌+◌, ◌-◌, ◌*◌, ◌/◌}
+use Rattle.std.proofs.Common.{◌%◌, ◌^◌, ◌<◌, ◌≤◌, List, [], ◌∷◌, ◌++◌, length, take, drop, bit_xor, slice_index, refl}
+use Rattle.std.proofs.Common.{sym, ap, ◌∙◌, arith, inl, inr, lit<}
+use Rattle.std.proofs.lemmas.List.{get_or-take, get_or-replicate, get_or_past, length-replicate, get_or_append_left}
+use Rattle.std.proofs.lemmas.List.{get_or-append_right, get_or-drop, length-append, length-drop, drop_all, take_all}
+use Rattle.std.proofs.lemmas.List.{take-append-le, drop-append-le}
 use Rattle.std.proofs.lemmas.Bool.{cases_lt}
 use Rattle.std.proofs.lemmas.Grind.{same_number_lists, div_ceil_times}
 use Rattle.std.proofs.lemmas.Nat.{from_be_bytes-to_be_bytes_4, from_be_bytes-to_be_bytes_8}
@@ -14,7 +18,8 @@ use Rattle.gcm_seal.specs.Gcm.{counter, masked, combined, key_stream, padding, h
 use Rattle.gcm_seal.specs.Inside.{padded_block, padded_blocks}
 
 -- two strings with the same first 16 bytes spell the same block
-pub number_same : (a b : List ℕ) → ((k : ℕ) → k < 16 → slice_index a k ≡ slice_index b k) → from_be_bytes w128 a ≡ from_be_bytes w128 b
+pub number_same : (a b : List ℕ) → ((k : ℕ) → k < 16 → slice_index a k ≡ slice_index b k) → from_be_bytes w128 a
+    ≡ from_be_bytes w128 b
 number_same a b h =
     rw (
       h 0 (lit< tt),
@@ -105,7 +110,8 @@ masked-at key iv n xs i lt =
     let m : ℕ = div_ceil (n + length xs) 16 in
     let ks = drop n (key_stream key iv m) in
     let enough = div_ceil_times (n + length xs) 16 (lit< tt) in
-    let long : length xs ≤ length ks = omega (arith, length-drop n (key_stream key iv m), length-stream key iv m, enough) in
+    let long : length xs ≤ length ks = omega
+    (arith, length-drop n (key_stream key iv m), length-stream key iv m, enough) in
     let within : n + i < 16 * m = omega (arith, enough) in
     combined-at xs ks i lt long
     ∙ ap (bit_xor (slice_index xs i)) (get_or-drop n (key_stream key iv m) i 0 ∙ stream-at key iv m (n + i) within)
@@ -125,12 +131,14 @@ pub masked-within : (key iv : List ℕ) (n skip : ℕ) (xs : List ℕ) → skip 
     → combined xs (drop skip (aes key (counter iv (n + 1)))) ≡ masked key iv (16 * n + skip) xs
 masked-within key iv n skip xs le =
     let out = aes key (counter iv (n + 1)) in
-    let long : length xs ≤ length (drop skip out) = omega (arith, length-drop skip out, length-aes key (counter iv (n + 1))) in
+    let long : length xs ≤ length (drop skip out) = omega
+    (arith, length-drop skip out, length-aes key (counter iv (n + 1))) in
     masked_from key iv (16 * n + skip) xs (combined xs (drop skip out)) (length-combined xs (drop skip out))
     (λ i lt.
     let block : (16 * n + skip + i) / 16 ≡ n = omega arith in
     let place : (16 * n + skip + i) % 16 ≡ skip + i = omega arith in
-    combined-at xs (drop skip out) i lt long ∙ rw (block, place) (ap (bit_xor (slice_index xs i)) (get_or-drop skip out i 0)))
+    combined-at xs (drop skip out) i lt long ∙ rw (block, place)
+    (ap (bit_xor (slice_index xs i)) (get_or-drop skip out i 0)))
 
 pub masked-none : (key iv : List ℕ) (n : ℕ) (xs : List ℕ) → length xs ≡ 0 → xs ≡ masked key iv n xs
 masked-none key iv n xs none = masked_from key iv n xs xs refl (λ i lt. absurd (omega (arith, none)))
@@ -151,7 +159,8 @@ at-padded s n j = elim (cases_lt j (length s)) [
       ]
 ]
 
-at-block : (s : List ℕ) (i k : ℕ) → k < 16 → slice_index (slice_range s (16 * i) (16 * i + 16)) k ≡ slice_index s (16 * i + k)
+at-block : (s : List ℕ) (i k : ℕ) → k < 16 → slice_index (slice_range s (16 * i) (16 * i + 16)) k
+    ≡ slice_index s (16 * i + k)
 at-block s i k lt =
     get_or-take (16 * i + 16 - 16 * i) (drop (16 * i) s) k 0 (omega arith) ∙ get_or-drop (16 * i) s k 0
 
@@ -195,7 +204,8 @@ blocks-append p q m (suc n) e =
     rw (next, blocks-append p q m n e, block-back p q m n e) (append_assoc (blocks p m) (blocks q n) (block q n ∷ []))
 
 -- two numbers of 64 bits spell one block
-lengths-block : (x y : ℕ) → x < 2 ^ 64 → y < 2 ^ 64 → blocks (to_be_bytes w64 x ++ to_be_bytes w64 y) 1 ≡ (x * 2 ^ 64 + y) ∷ []
+lengths-block : (x y : ℕ) → x < 2 ^ 64 → y < 2 ^ 64 → blocks (to_be_bytes w64 x ++ to_be_bytes w64 y) 1
+    ≡ (x * 2 ^ 64 + y) ∷ []
 unfolding blocks
 lengths-block x y hx hy =
     let whole : from_be_bytes w128 (to_be_bytes w64 x ++ to_be_bytes w64 y)
@@ -205,7 +215,12 @@ lengths-block x y hx hy =
 length-padded : (s : List ℕ) → length (s ++ padding s) ≡ 16 * div_ceil (length s) 16
 length-padded s =
     length-append s (padding s)
-    ∙ omega (arith, length-replicate {A = ℕ} (16 * div_ceil (length s) 16 - length s) 0, div_ceil_times (length s) 16 (lit< tt))
+    ∙ omega (
+      arith,
+      length-replicate {A = ℕ} (16 * div_ceil (length s) 16 - length s) 0,
+      div_ceil_times (length s) 16
+          (lit< tt),
+    )
 
 -- the blocks that are hashed, as the code reads them
 pub hashed_blocks : (a c : List ℕ) → 8 * length a < 2 ^ 64 → 8 * length c < 2 ^ 64

@@ -1,6 +1,7 @@
 -- AES-256 in Galois/Counter Mode (SP 800-38D), with an IV of 12 bytes and a tag of 12 bytes, as
 -- functions on lists of bytes.
-use Rattle.std.specs.Prelude.{ℕ, zero, suc, ◌+◌, ◌-◌, ◌*◌, ◌/◌, ◌%◌, ◌^◌, Bool, List, [], ◌∷◌, ◌++◌, length, take, drop, replicate, bit_xor, slice_range, bytes_eq}
+use Rattle.std.specs.Prelude.{ℕ, zero, suc, ◌+◌, ◌-◌, ◌*◌, ◌/◌, ◌%◌, ◌^◌, Bool, List, [], ◌∷◌, ◌++◌, length, take, drop}
+use Rattle.std.specs.Prelude.{replicate, bit_xor, slice_range, bytes_eq}
 use Rattle.std.specs.Int.{w32, w64, w128, from_be_bytes, to_be_bytes, div_ceil}
 use Rattle.aes_block.specs.Aes.{Key, Block, aes}
 use Rattle.gcm_seal.specs.Polynomials.{Polynomial, plus, product, power, polynomial, number, remainder}

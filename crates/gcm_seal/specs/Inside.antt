@@ -1,6 +1,7 @@
 -- Only private functions, and what a type keeps of its private fields, cite this: GHASH block by block, as the code
 -- computes it. Gcm says what GHASH is.
-use Rattle.std.specs.Prelude.{◌≡◌, ℕ, zero, suc, ◌*◌, ◌/◌, ◌%◌, ◌^◌, ◌==◌, ◌<◌, slice_index, List, [], ◌∷◌, ◌++◌, drop, bit_xor, if◌then◌else◌, fold}
+use Rattle.std.specs.Prelude.{◌≡◌, ℕ, zero, suc, ◌*◌, ◌/◌, ◌%◌, ◌^◌, ◌==◌, ◌<◌, slice_index, List, [], ◌∷◌, ◌++◌, drop}
+use Rattle.std.specs.Prelude.{bit_xor, if◌then◌else◌, fold}
 use Rattle.std.specs.Int.{w128, from_be_bytes}
 use Rattle.gcm_seal.specs.Polynomials.{Polynomial, bits, polynomial}
 use Rattle.gcm_seal.specs.Gcm.{Bytes, BlockNumber}

@@ -3,7 +3,8 @@
 ghost use Rattle.std.specs.Prelude.{◌≡◌, ℕ, ◌*◌, ◌<◌, ◌≤◌, bit_xor, length};
 ghost use Rattle.std.specs.Int.{div_ceil, from_be_bytes, w128};
 ghost use Rattle.gcm_seal.specs.Polynomials.{bits};
-ghost use Rattle.gcm_seal.specs.Inside.{AreMultiples, absorbed, act, padded_block, padded_blocks, raised, step_x, block_product};
+ghost use Rattle.gcm_seal.specs.Inside.{AreMultiples, absorbed, act, padded_block, padded_blocks, raised, step_x};
+ghost use Rattle.gcm_seal.specs.Inside.{block_product};
 
 use crate::MAX_BYTES;
 

@@ -1,5 +1,6 @@
 -- What a shelf gives and a sink takes.
-use Rattle.std.specs.Prelude.{ℕ, ◌+◌, ◌-◌, ◌^◌, ◌<◌, ◌≤◌, ◌≡◌, ◌⊎◌, min, List, ◌++◌, length, take, drop, Option, Some, None, Result, Ok, Err, IfOk, option_map}
+use Rattle.std.specs.Prelude.{ℕ, ◌+◌, ◌-◌, ◌^◌, ◌<◌, ◌≤◌, ◌≡◌, ◌⊎◌, min, List, ◌++◌, length, take, drop, Option, Some}
+use Rattle.std.specs.Prelude.{None, Result, Ok, Err, IfOk, option_map}
 use Rattle.ide_base.specs.declared.shelf.ShelfFault.{ShelfFault}
 use Rattle.ide_base.specs.declared.sink.SinkFault.{SinkFault}
 use Rattle.ide_base.specs.declared.sink.SinkFault.TheVariants.{Failed, Memory}

@@ -1,5 +1,6 @@
 -- A key that is acknowledged stands in its slot.
-use Rattle.std.proofs.Common.{◌≡◌, ◌≢◌, ℕ, Bool, true, false, cond, eqb, ltb, List, Option, Some, None, Result, Ok, Err, refl, ◌∙◌, inl, inr, arith, slice_index}
+use Rattle.std.proofs.Common.{◌≡◌, ◌≢◌, ℕ, Bool, true, false, cond, eqb, ltb, List, Option, Some, None, Result, Ok, Err}
+use Rattle.std.proofs.Common.{refl, ◌∙◌, inl, inr, arith, slice_index}
 use Rattle.std.proofs.lemmas.Bool.{cases_Bool, and_from, eqb-true, eq-eqb}
 use Rattle.key_slots.specs.declared.slot.Slot.{Slot}
 use Rattle.key_slots.specs.Slots.{SlotPair, slot_in, is_one, with_both, is_only_live, programmed}
@@ -8,15 +9,18 @@ use Rattle.ide_km.specs.declared.object.KmView.TheVariants.{Query, QueryResp, Ke
 use Rattle.ide_km.specs.declared.object.KmFault.{KmFault}
 use Rattle.ide_km.specs.Objects.{reading}
 use Rattle.ide_km.specs.Calls.{Place, Program, Shown, shown_at, program_at, is_same_place, SlotsAfter}
-use Rattle.ide_km.specs.Replies.{set_of, place_of, key_call, call_from, call_of, Kept, status_code, status_after, key_status_of, reply_from, reply_object, HoldsKey, Acknowledged}
+use Rattle.ide_km.specs.Replies.{set_of, place_of, key_call, call_from, call_of, Kept, status_code, status_after}
+use Rattle.ide_km.specs.Replies.{key_status_of, reply_from, reply_object, HoldsKey, Acknowledged}
 
 -- ---- replies that are no success
 
-never : (b : Bool) (stream status selector index x y z : ℕ) → status ≢ 0 → cond b (Some (KpAck stream status selector index)) None ≡ Some (KpAck x 0 y z) → ⊥
+never : (b : Bool) (stream status selector index x y z : ℕ) → status ≢ 0
+    → cond b (Some (KpAck stream status selector index)) None ≡ Some (KpAck x 0 y z) → ⊥
 never true stream status selector index x y z ne e = let same : status ≡ 0 = cc in ne same
 never false stream status selector index x y z ne e = absurd cc
 
-other_object : (b : Bool) (object : KmView) (x y z : ℕ) → (object ≡ KpAck x 0 y z → ⊥) → cond b (Some object) None ≡ Some (KpAck x 0 y z) → ⊥
+other_object : (b : Bool) (object : KmView) (x y z : ℕ) → (object ≡ KpAck x 0 y z → ⊥) → cond b (Some object) None
+    ≡ Some (KpAck x 0 y z) → ⊥
 other_object true object x y z differs e = differs cc
 other_object false object x y z differs e = absurd cc
 
@@ -31,20 +35,26 @@ slot_with sender false mine other = refl
 slot_with sender true mine other = refl
 
 here : (place : Place) → is_same_place place place ≡ true
-here place = and_from _ _ (and_from _ _ (eq-eqb place.stream place.stream refl) (eq-eqb place.direction place.direction refl)) (eq-eqb place.sub place.sub refl)
+here place = and_from _ _
+    (and_from _ _ (eq-eqb place.stream place.stream refl) (eq-eqb place.direction place.direction refl))
+    (eq-eqb place.sub place.sub refl)
 
-key_at : (shown after : Shown) (unfinished : Place → Bool) (place : Place) (set : ℕ) (key : List ℕ) (draw : ℕ) (o : Option SlotPair) → shown_at shown place ≡ o
+key_at : (shown after : Shown) (unfinished : Place → Bool) (place : Place) (set : ℕ) (key : List ℕ) (draw : ℕ)
+    (o : Option SlotPair) → shown_at shown place ≡ o
     → SlotsAfter shown unfinished (Program place set key draw (program_at o set key)) after
     → status_code (status_after (Some (Program place set key draw (program_at o set key)))) ≡ 0
     → HoldsKey (after place) set key draw
 key_at shown after unfinished place set key draw None is h e = absurd (omega (arith, e))
-key_at shown after unfinished place set key draw (Some slots) is h e = elim (cases_Bool (is_only_live slots (is_one set))) [
-  | inl r ↦ let wrong : ◌≡◌ {A = ℕ} 3 0 = rw r at e in absurd (omega (arith, wrong))
-  | inr r ↦
-      let t = some_there (ltb place.sub 3) (shown place) slots is in
-      let moved : after place ≡ Some (programmed slots (is_one set) (record { key = key; draw = draw })) = h place ∙ rw (here place, t.0, t.1) refl in
-      rw moved (rw r (slot_with slots.sender (is_one set) _ _))
-]
+key_at shown after unfinished place set key draw (Some slots) is h e = elim
+    (cases_Bool (is_only_live slots (is_one set))) [
+      | inl r ↦ let wrong : ◌≡◌ {A = ℕ} 3 0 = rw r at e in absurd (omega (arith, wrong))
+      | inr r ↦
+          let t = some_there (ltb place.sub 3) (shown place) slots is in
+          let moved : after place ≡ Some (programmed slots (is_one set) (record { key = key; draw = draw })) = h place ∙
+          rw
+          (here place, t.0, t.1) refl in
+          rw moved (rw r (slot_with slots.sender (is_one set) _ _))
+    ]
 
 -- ---- the request
 
@@ -53,7 +63,8 @@ record Stands (r : Result KmView KmFault) (stream selector draw : ℕ) (after : 
   asked : r ≡ Ok (KeyProg stream selector 0 key 1)
   holds : HoldsKey (after (place_of stream selector)) (set_of selector) key draw
 
-key_stands : (shown after : Shown) (unfinished : Place → Bool) (draw stream selector index : ℕ) (key : List ℕ) (counter : ℕ)
+key_stands : (shown after : Shown) (unfinished : Place → Bool) (draw stream selector index : ℕ) (key : List ℕ)
+    (counter : ℕ)
     → Kept shown unfinished (key_call shown draw stream selector index key counter) after
     → status_code (key_status_of index (key_call shown draw stream selector index key counter)) ≡ 0
     → Stands (Ok (KeyProg stream selector index key counter)) stream selector draw after
@@ -64,29 +75,42 @@ key_stands shown after unfinished draw stream selector index key counter h e = e
     | inl one' ↦
         let i : index ≡ 0 = eqb-true _ _ zero' in
         let n : counter ≡ 1 = eqb-true _ _ one' in
-        record { key = key; asked = rw (i, n) refl; holds = key_at shown after unfinished (place_of stream selector) (set_of selector) key draw _ refl (rw (zero', one') at h) (rw (zero', one') at e) }
+        record {
+          key = key;
+          asked = rw (i, n) refl;
+          holds = key_at shown after unfinished (place_of stream selector)
+              (set_of selector) key draw _ refl (rw (zero', one') at h) (rw (zero', one') at e);
+        }
   ]
 ]
 
 -- status 0 is only given for a KEY_PROG whose call was answered Ok, and such a call leaves the slot Programmed
-stands : (shown after : Shown) (unfinished : Place → Bool) (rid draw stream selector index : ℕ) (request : List ℕ) (r : Result KmView KmFault)
+stands : (shown after : Shown) (unfinished : Place → Bool) (rid draw stream selector index : ℕ) (request : List ℕ)
+    (r : Result KmView KmFault)
     → Kept shown unfinished (call_from shown draw r) after
     → reply_from rid request r (call_from shown draw r) ≡ Some (KpAck stream 0 selector index)
     → Stands r stream selector draw after
-stands shown after unfinished rid draw stream selector index request (Err fault) h e = absurd (never _ (slice_index request 4) 1 (slice_index request 6) (slice_index request 7) stream selector index (λ x. omega (arith, x)) e)
-stands shown after unfinished rid draw stream selector index request (Ok (Query port)) h e = absurd (other_object _ _ _ _ _ (λ x. cc) e)
-stands shown after unfinished rid draw stream selector index request (Ok (QueryResp port device_function bus segment highest)) h e = absurd cc
+stands shown after unfinished rid draw stream selector index request (Err fault) h e = absurd
+    (never _ (slice_index request 4) 1 (slice_index request 6) (slice_index request 7) stream selector index
+    (λ x. omega (arith, x)) e)
+stands shown after unfinished rid draw stream selector index request (Ok (Query port)) h e = absurd
+    (other_object _ _ _ _ _ (λ x. cc) e)
+stands shown after unfinished rid draw stream selector index request
+    (Ok (QueryResp port device_function bus segment highest)) h e = absurd cc
 stands shown after unfinished rid draw stream selector index request (Ok (KeyProg s sel port key counter)) h e =
     let a : s ≡ stream = cc in
     let b : sel ≡ selector = cc in
     let c : status_code (key_status_of port (key_call shown draw s sel port key counter)) ≡ 0 = cc in
     rw (← a, ← b) (key_stands shown after unfinished draw s sel port key counter h c)
 stands shown after unfinished rid draw stream selector index request (Ok (KpAck s status sel port)) h e = absurd cc
-stands shown after unfinished rid draw stream selector index request (Ok (SetGo s sel port)) h e = absurd (other_object _ _ _ _ _ (λ x. cc) e)
-stands shown after unfinished rid draw stream selector index request (Ok (SetStop s sel port)) h e = absurd (other_object _ _ _ _ _ (λ x. cc) e)
+stands shown after unfinished rid draw stream selector index request (Ok (SetGo s sel port)) h e = absurd
+    (other_object _ _ _ _ _ (λ x. cc) e)
+stands shown after unfinished rid draw stream selector index request (Ok (SetStop s sel port)) h e = absurd
+    (other_object _ _ _ _ _ (λ x. cc) e)
 stands shown after unfinished rid draw stream selector index request (Ok (GoStopAck s sel port)) h e = absurd cc
 
-pub acknowledged : (shown after : Shown) (unfinished : Place → Bool) (rid draw stream selector index : ℕ) (request : List ℕ)
+pub acknowledged : (shown after : Shown) (unfinished : Place → Bool) (rid draw stream selector index : ℕ)
+    (request : List ℕ)
     → Kept shown unfinished (call_of shown request draw) after
     → reply_object rid request (call_of shown request draw) ≡ Some (KpAck stream 0 selector index)
     → Acknowledged request stream selector draw after

@@ -1,5 +1,6 @@
 -- The calls of a port that key management moves.
-use Rattle.std.specs.Prelude.{ℕ, ◌≡◌, Bool, true, false, not, ◌&&◌, ◌==◌, nat_lt, List, Option, Some, None, Result, Ok, Err, if◌then◌else◌}
+use Rattle.std.specs.Prelude.{ℕ, ◌≡◌, Bool, true, false, not, ◌&&◌, ◌==◌, nat_lt, List, Option, Some, None, Result, Ok}
+use Rattle.std.specs.Prelude.{Err, if◌then◌else◌}
 use Rattle.std.specs.Option.{option_map}
 use Rattle.key_slots.specs.{SlotPair, slot_in, is_one, is_empty, is_only_live, programmed, armed, halted}
 use Rattle.ide_km.specs.declared.port.ProgramFault.{ProgramFault}

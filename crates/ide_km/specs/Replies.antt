@@ -1,5 +1,6 @@
 -- What the responder does with a request (this profile).
-use Rattle.std.specs.Prelude.{ℕ, ◌≡◌, ◌/◌, ◌%◌, Bool, false, ◌&&◌, ◌==◌, nat_lt, List, [], length, slice_index, Option, Some, None, Result, Ok, Err, if◌then◌else◌}
+use Rattle.std.specs.Prelude.{ℕ, ◌≡◌, ◌/◌, ◌%◌, Bool, false, ◌&&◌, ◌==◌, nat_lt, List, [], length, slice_index, Option}
+use Rattle.std.specs.Prelude.{Some, None, Result, Ok, Err, if◌then◌else◌}
 use Rattle.key_slots.specs.declared.slot.Slot.TheVariants.{Programmed}
 use Rattle.key_slots.specs.{SlotPair, slot_in, is_one}
 use Rattle.ide_km.specs.declared.object.KmView.{KmView}
@@ -8,7 +9,8 @@ use Rattle.ide_km.specs.declared.object.KmFault.{KmFault}
 use Rattle.ide_km.specs.declared.status.KeyStatus.{KeyStatus}
 use Rattle.ide_km.specs.declared.status.KeyStatus.TheVariants as status
 use Rattle.ide_km.specs.Objects.{spelling, reading}
-use Rattle.ide_km.specs.Calls.{Place, place_at, PortCall, Program, Go, Halt, Shown, program_answer, go_answer, halt_answer, SlotsAfter}
+use Rattle.ide_km.specs.Calls.{Place, place_at, PortCall, Program, Go, Halt, Shown, program_answer, go_answer}
+use Rattle.ide_km.specs.Calls.{halt_answer, SlotsAfter}
 
 -- ---- the selector: the key set in bit 0, the direction at the device in bit 1, the sub-stream in bits 7 to 4
 

@@ -2,7 +2,8 @@
 
 ghost use Rattle.std.specs.Prelude.{◌≡◌, ◌<◌, ℕ, Bool, Option};
 ghost use Rattle.key_slots.specs.{SlotPair};
-ghost use Rattle.ide_km.specs.Calls.{Place, place_at, PortCall, Program, Go, Halt, program_answer, go_answer, halt_answer, SlotsAfter};
+ghost use Rattle.ide_km.specs.Calls.{Place, place_at, PortCall, Program, Go, Halt, program_answer, go_answer};
+ghost use Rattle.ide_km.specs.Calls.{halt_answer, SlotsAfter};
 
 use key_slots::Key;
 

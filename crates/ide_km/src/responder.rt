@@ -1,8 +1,10 @@
 //! The device's responder.
 
-ghost use Rattle.std.specs.Prelude.{◌≡◌, ◌+◌, ◌<◌, ◌≤◌, ◌++◌, Some, None, length, slice_index, if◌then◌else◌, vec_len, vec_capacity};
+ghost use Rattle.std.specs.Prelude.{◌≡◌, ◌+◌, ◌<◌, ◌≤◌, ◌++◌, Some, None, length, slice_index, if◌then◌else◌, vec_len};
+ghost use Rattle.std.specs.Prelude.{vec_capacity};
 ghost use Rattle.ide_km.specs.Objects.{spelling};
-ghost use Rattle.ide_km.specs.Replies.{set_of, direction_of, sub_of, key_call, call_for, call_of, Moved, Kept, key_status_of, is_done, description, reply_for, fault_reply, reply_of, bytes_of};
+ghost use Rattle.ide_km.specs.Replies.{set_of, direction_of, sub_of, key_call, call_for, call_of, Moved, Kept};
+ghost use Rattle.ide_km.specs.Replies.{key_status_of, is_done, description, reply_for, fault_reply, reply_of, bytes_of};
 
 use crate::object::KmView;
 use crate::port::SlotPort;

@@ -1,6 +1,7 @@
--- The reading of packets is that of the grammar: the lengths of a packet's parts are read from its prefix and its header,
--- and cutting by them gives the parts back, so first_fault's law of readings holds.
-use Rattle.std.proofs.Common.{◌≡◌, ℕ, ◌≤◌, Bool, true, false, cond, List, ◌++◌, length, get_or, take, drop, Result, Ok, Err, refl, sym, ap, subst, ◌∙◌, inl, inr, arith, true≢false}
+-- The reading of packets is that of the grammar: the lengths of a packet's parts are read from its prefix and its
+-- header, and cutting by them gives the parts back, so first_fault's law of readings holds.
+use Rattle.std.proofs.Common.{◌≡◌, ℕ, ◌≤◌, Bool, true, false, cond, List, ◌++◌, length, get_or, take, drop, Result, Ok}
+use Rattle.std.proofs.Common.{Err, refl, sym, ap, subst, ◌∙◌, inl, inr, arith, true≢false}
 use Rattle.std.specs.Prelude.{◌↔◌, IfOk, IfErr, MatchResult}
 use Rattle.std.proofs.Math.Seq.{drop-append_seam, take-append_seam}
 use Rattle.std.proofs.lemmas.Bool.{cases_Bool}
@@ -8,7 +9,10 @@ use Rattle.std.proofs.lemmas.List.{get_or_append_left}
 use Rattle.first_fault.specs.Walks.{reading}
 use Rattle.first_fault.proofs.Walks.{reads_iff, refuses_iff as refused}
 use Rattle.tlp_layout.specs.{class_of, body_size, head_size, head_of, rest_size, layout_of}
-use Rattle.ide_prefix.specs.{Prefix, PacketFault, packet_bytes, begins_sync, is_sync_packet, IsCarried, IsSync, FitsPacket, SpellsPacket, IsPacket, is_plain, packet_fault_at, IsPacketFault, sync_at, packet_read, wants_packet, packet_may_follow, CutValue, PlainTlp, IdePacket, packet_of_view, cut_value, cut_values, IsCut}
+use Rattle.ide_prefix.specs.{Prefix, PacketFault, packet_bytes, begins_sync, is_sync_packet, IsCarried, IsSync}
+use Rattle.ide_prefix.specs.{FitsPacket, SpellsPacket, IsPacket, is_plain, packet_fault_at, IsPacketFault, sync_at}
+use Rattle.ide_prefix.specs.{packet_read, wants_packet, packet_may_follow, CutValue, PlainTlp, IdePacket}
+use Rattle.ide_prefix.specs.{packet_of_view, cut_value, cut_values, IsCut}
 use Rattle.tlp_layout.specs.Reading.{read_head_of}
 use Rattle.tlp_layout.proofs.Readings.{read_head_spells}
 use Rattle.ide_prefix.specs.declared.packet.Cut.{Cut}
@@ -16,7 +20,8 @@ use Rattle.ide_prefix.specs.declared.packet.Cut.TheVariants.{Plain, Ide}
 use Rattle.ide_prefix.specs.Reading.{head_part, body_part, cut_of}
 use Rattle.ide_prefix.proofs.Units.{not_sync}
 use Rattle.ide_prefix.proofs.Grammar.{packets, prefix_again, sync_is, sync_begins}
-use Rattle.ide_prefix.proofs.Terms.{HeadView, IsRight, kept, again, head_size_at_least, head_size_at_most, body_at_most, Packet}
+use Rattle.ide_prefix.proofs.Terms.{HeadView, IsRight, kept, again, head_size_at_least, head_size_at_most, body_at_most}
+use Rattle.ide_prefix.proofs.Terms.{Packet}
 
 -- ---- the value of what is spelled
 
@@ -24,7 +29,8 @@ carried_right : (p : Packet) (c : IsCarried p) → IsRight (layout_of c.head.fie
 carried_right p c = subst (IsRight (layout_of c.head.fields)) (sym c.spells.spelled) (kept c.head c.spells.fits)
 
 head_first : (p : Packet) (c : IsCarried p) (more : List ℕ) → get_or (p.head ++ more) 0 0 ≡ get_or p.head 0 0
-head_first p c more = get_or_append_left p.head more 0 0 (omega (arith, (carried_right p c).size, head_size_at_least (get_or p.head 0 0)))
+head_first p c more = get_or_append_left p.head more 0 0
+    (omega (arith, (carried_right p c).size, head_size_at_least (get_or p.head 0 0)))
 
 carried_plain : (p : Packet) (c : IsCarried p) → begins_sync p.prefix.sub (get_or p.head 0 0) ≡ false
 carried_plain p c = not_sync p.prefix.sub c.head (get_or p.head 0 0) (carried_right p c).kind c.class
@@ -40,18 +46,24 @@ carried_parts p c =
     let more = p.body ++ p.tag in
     let k = layout_of c.head.fields in
     let first = head_first p c more in
-    let off : sync_at (packet_bytes p) ≡ false = sync_is p.prefix (p.head ++ more) ∙ ap (begins_sync p.prefix.sub) first ∙ carried_plain p c in
-    let same : head_of k (p.head ++ more) ≡ c.head = ap (λ (h : List ℕ). head_of k (h ++ more)) c.spells.spelled ∙ again c.head more c.spells.fits in
-    let wants : rest_size (p.head ++ more) ≡ body_size c.head.has_payload c.head.lead.length = ap (λ (h : HeadView). body_size h.has_payload h.lead.length) same in (
-      ap (λ (y : Bool). cond y 12 (head_size (get_or (p.head ++ more) 0 0))) off ∙ ap head_size first ∙ sym (carried_right p c).size,
+    let off : sync_at (packet_bytes p) ≡ false = sync_is p.prefix (p.head ++ more) ∙ ap (begins_sync p.prefix.sub) first
+    ∙ carried_plain p c in
+    let same : head_of k (p.head ++ more) ≡ c.head = ap (λ (h : List ℕ). head_of k (h ++ more)) c.spells.spelled ∙ again
+    c.head more c.spells.fits in
+    let wants : rest_size (p.head ++ more) ≡ body_size c.head.has_payload c.head.lead.length = ap
+    (λ (h : HeadView). body_size h.has_payload h.lead.length) same in (
+      ap (λ (y : Bool). cond y 12 (head_size (get_or (p.head ++ more) 0 0))) off ∙ ap head_size first ∙ sym
+          (carried_right p c).size,
       ap (λ (y : Bool). cond y 0 (rest_size (p.head ++ more))) off ∙ wants ∙ sym c.size,
     )
 
 sync_parts : (p : Packet) → IsSync p → HasParts p
 sync_parts p y =
     let more = p.body ++ p.tag in
-    let first : get_or (p.head ++ more) 0 0 ≡ get_or p.head 0 0 = get_or_append_left p.head more 0 0 (omega (arith, ap length y.head)) in
-    let on : sync_at (packet_bytes p) ≡ true = sync_is p.prefix (p.head ++ more) ∙ ap (begins_sync p.prefix.sub) first ∙ sync_begun p y in (
+    let first : get_or (p.head ++ more) 0 0 ≡ get_or p.head 0 0 = get_or_append_left p.head more 0 0
+    (omega (arith, ap length y.head)) in
+    let on : sync_at (packet_bytes p) ≡ true = sync_is p.prefix (p.head ++ more) ∙ ap (begins_sync p.prefix.sub) first ∙
+    sync_begun p y in (
       ap (λ (x : Bool). cond x 12 (head_size (get_or (p.head ++ more) 0 0))) on ∙ sym (ap length y.head),
       ap (λ (x : Bool). cond x 0 (rest_size (p.head ++ more))) on ∙ sym (ap length y.body),
     )
@@ -62,7 +74,8 @@ has_parts p f = elim f.carries [ inl c ↦ carried_parts p c | inr y ↦ sync_pa
 abbrev Packet-of : Prefix → List ℕ → List ℕ → List ℕ → Packet
 Packet-of p h b t = record { prefix = p; head = h; body = b; tag = t }
 
-packet_is : (p p' : Prefix) (h h' b b' t t' : List ℕ) → p ≡ p' → h ≡ h' → b ≡ b' → t ≡ t' → Packet-of p h b t ≡ Packet-of p' h' b' t'
+packet_is : (p p' : Prefix) (h h' b b' t t' : List ℕ) → p ≡ p' → h ≡ h' → b ≡ b' → t ≡ t' → Packet-of p h b t
+    ≡ Packet-of p' h' b' t'
 packet_is p p' h h' b b' t t' ep eh eb et = cc
 
 cut_parts : (h b t : List ℕ) (n m : ℕ) → n ≡ length h → m ≡ length b
@@ -77,8 +90,11 @@ cut_parts h b t n m en em =
 packet_again : (p : Packet) → FitsPacket p → packet_read (packet_bytes p) ≡ p
 packet_again p f =
     let sizes = has_parts p f in
-    let parts = cut_parts p.head p.body p.tag (head_part (packet_bytes p)) (body_part (packet_bytes p)) sizes.0 sizes.1 in
-    packet_is _ p.prefix _ p.head _ p.body _ p.tag (prefix_again p.prefix.m p.prefix.k p.prefix.t p.prefix.sub p.prefix.stream p.prefix.posted (p.head ++ (p.body ++ p.tag))) parts.0 parts.1 parts.2
+    let parts = cut_parts p.head p.body p.tag (head_part (packet_bytes p)) (body_part (packet_bytes p)) sizes.0 sizes.1
+    in
+    packet_is _ p.prefix _ p.head _ p.body _ p.tag
+    (prefix_again p.prefix.m p.prefix.k p.prefix.t p.prefix.sub p.prefix.stream p.prefix.posted
+    (p.head ++ (p.body ++ p.tag))) parts.0 parts.1 parts.2
 
 packet_value : (p : Packet) (s : List ℕ) → SpellsPacket p s → packet_read s ≡ p
 packet_value p s sp = ap packet_read sp.spelled ∙ packet_again p sp.fits
@@ -98,7 +114,8 @@ sync_iff p f = (
 )
 
 pub carries_head : (p : Packet) → FitsPacket p → is_sync_packet p ≡ false
-    → (h : HeadView) × (read_head_of p.head ≡ Ok h) × (class_of h ≡ p.prefix.sub) × (length p.body ≡ body_size h.has_payload h.lead.length)
+    → (h : HeadView) × (read_head_of p.head ≡ Ok h) × (class_of h ≡ p.prefix.sub)
+    × (length p.body ≡ body_size h.has_payload h.lead.length)
 carries_head p f e = elim f.carries [
   | inl c ↦ (c.head, (read_head_spells c.head p.head).0 c.spells, c.class, c.size)
   | inr y ↦ absurd (true≢false (sym (sync_begun p y) ∙ e))
@@ -107,8 +124,13 @@ carries_head p f e = elim f.carries [
 pub bounded : (p : Packet) → FitsPacket p → (12 ≤ length p.head) × (length p.head ≤ 16) × (length p.body ≤ 4096)
 bounded p f = elim f.carries [
   | inl c ↦
-      let size = (carried_right p c).size in
-      (omega (arith, size, head_size_at_least (get_or p.head 0 0)), omega (arith, size, head_size_at_most (get_or p.head 0 0)), omega (arith, c.size, body_at_most c.head.has_payload c.head.lead.length c.spells.fits.lead.length))
+      let size = (carried_right p c).size in (
+        omega (arith, size, head_size_at_least (get_or p.head 0 0)),
+        omega
+            (arith, size, head_size_at_most (get_or p.head 0 0)),
+        omega
+            (arith, c.size, body_at_most c.head.has_payload c.head.lead.length c.spells.fits.lead.length),
+      )
   | inr y ↦ (omega (arith, ap length y.head), omega (arith, ap length y.head), omega (arith, ap length y.body))
 ]
 
@@ -124,7 +146,8 @@ cut_plain s e = rw e refl
 abbrev value_in : List ℕ → CutValue
 value_in s = IdePacket (packet_read s)
 
-cut_ide : (s : List ℕ) → is_plain s ≡ false → cut_of s ≡ reading wants_packet packet_may_follow value_in packet_fault_at s
+cut_ide : (s : List ℕ) → is_plain s ≡ false → cut_of s ≡ reading wants_packet packet_may_follow value_in packet_fault_at
+    s
 unfolding cut_of
 cut_ide s e = rw e refl
 
@@ -135,9 +158,11 @@ SpellsValue (IdePacket p) s = SpellsPacket p s
 
 value_is : (v : CutValue) (s : List ℕ) → SpellsValue v s → IsPacket s × (value_in s ≡ v)
 value_is PlainTlp s sp = absurd sp
-value_is (IdePacket p) s sp = (record { packet = p; spells = sp }, ap (λ (x : Packet). IdePacket x) (packet_value p s sp))
+value_is (IdePacket p) s sp =
+    (record { packet = p; spells = sp }, ap (λ (x : Packet). IdePacket x) (packet_value p s sp))
 
-reads_value : (v : CutValue) (s : List ℕ) → (SpellsValue v s) ↔ (reading wants_packet packet_may_follow value_in packet_fault_at s ≡ Ok v)
+reads_value : (v : CutValue) (s : List ℕ) → (SpellsValue v s) ↔
+    (reading wants_packet packet_may_follow value_in packet_fault_at s ≡ Ok v)
 reads_value = reads_iff packets value_in packet_fault_at SpellsValue (λ s x. (IdePacket x.packet, x.spells)) value_is
 
 pub plain_iff : (s : List ℕ) → (is_plain s ≡ true) ↔ (cut_of s ≡ Ok PlainTlp)
@@ -169,12 +194,14 @@ refuses_iff f s = (
 
 -- ---- what `cut` answers
 
-pub cut_again : (s : List ℕ) (r : Result Cut PacketFault) → IfOk r (IsCut s) → IfErr r (IsPacketFault s) → (p : Packet) → SpellsPacket p s → MatchResult r (λ c. cut_value c ≡ IdePacket p) (λ _. ⊥)
+pub cut_again : (s : List ℕ) (r : Result Cut PacketFault) → IfOk r (IsCut s) → IfErr r (IsPacketFault s) → (p : Packet)
+    → SpellsPacket p s → MatchResult r (λ c. cut_value c ≡ IdePacket p) (λ _. ⊥)
 cut_again s (Ok Plain) ok err p sp = absurd (true≢false (sym ok ∙ not_plain p s sp))
 cut_again s (Ok (Ide v)) ok err p sp = ap (λ (x : Packet). IdePacket x) (same_packet (packet_of_view v) p s ok.0 sp)
 cut_again s (Err f) ok err p sp = err.1.1.not_spelled (record { packet = p; spells = sp })
 
-pub cut_is : (s : List ℕ) (r : Result Cut PacketFault) → IfOk r (IsCut s) → IfErr r (IsPacketFault s) → cut_values r ≡ cut_of s
+pub cut_is : (s : List ℕ) (r : Result Cut PacketFault) → IfOk r (IsCut s) → IfErr r (IsPacketFault s) → cut_values r
+    ≡ cut_of s
 cut_is s (Ok Plain) ok err = sym (cut_plain s ok)
 cut_is s (Ok (Ide v)) ok err = sym ((cuts_iff (packet_of_view v) s).0 ok.0)
 cut_is s (Err f) ok err = sym ((refuses_iff f s).0 err)

@@ -1,18 +1,29 @@
--- Packets are a grammar, byte by byte: what is spelled walks; what walks and wants no more is spelled by its parts, a prefix
--- that its flags give back, a header that is right, the payload that it wants, and the tag; and else a byte more may follow.
-use Rattle.std.proofs.Common.{◌≡◌, ℕ, zero, suc, ◌+◌, ◌-◌, ◌*◌, ◌/◌, ◌%◌, ◌<◌, ◌≤◌, Bool, true, false, cond, eqb, ltb, IsTrue, ◌&&◌, not, List, [], ◌∷◌, ◌++◌, length, get_or, take, drop, replicate, Option, Some, None, refl, sym, ap, subst, ◌∙◌, inl, inr, arith, length-append, length-take, length-drop, get_or-take, get_or-drop, take-append-drop}
+-- Packets are a grammar, byte by byte: what is spelled walks; what walks and wants no more is spelled by its parts, a
+-- prefix that its flags give back, a header that is right, the payload that it wants, and the tag; and else a byte more
+-- may follow.
+use Rattle.std.proofs.Common.{◌≡◌, ℕ, zero, suc, ◌+◌, ◌-◌, ◌*◌, ◌/◌, ◌%◌, ◌<◌, ◌≤◌, Bool, true, false, cond, eqb, ltb}
+use Rattle.std.proofs.Common.{IsTrue, ◌&&◌, not, List, [], ◌∷◌, ◌++◌, length, get_or, take, drop, replicate, Option}
+use Rattle.std.proofs.Common.{Some, None, refl, sym, ap, subst, ◌∙◌, inl, inr, arith, length-append, length-take}
+use Rattle.std.proofs.Common.{length-drop, get_or-take, get_or-drop, take-append-drop}
 use Rattle.std.specs.Prelude.{All}
-use Rattle.std.proofs.lemmas.Bool.{true≢false, cases_lt, cases_eq, cases_Bool, ltb-true, lt-ltb, le-ltb, eq-eqb, eqb-true, ne_eqb, and_parts, and_from, agree_below_at}
-use Rattle.std.proofs.lemmas.List.{ext_get_or, drop-take, get_or_past, get_or-replicate, get_or_append_left, get_or-append_right}
+use Rattle.std.proofs.lemmas.Bool.{true≢false, cases_lt, cases_eq, cases_Bool, ltb-true, lt-ltb, le-ltb, eq-eqb}
+use Rattle.std.proofs.lemmas.Bool.{eqb-true, ne_eqb, and_parts, and_from, agree_below_at}
+use Rattle.std.proofs.lemmas.List.{ext_get_or, drop-take, get_or_past, get_or-replicate, get_or_append_left}
+use Rattle.std.proofs.lemmas.List.{get_or-append_right}
 use Rattle.std.proofs.lemmas.List.Elements.{All-from_get_or}
-use Rattle.tlp_layout.specs.{bit, head_size, has_data, layout_at, class_of, kind_class, kind_with, kind_at, head_of, rest_size, may_follow, whole_size, body_size, layout_of}
-use Rattle.ide_prefix.specs.{sub_bits, sync_at, tag_part, packet_size, packet_may_follow, sub_from, prefix_read, fits_first, fits_early, prefix_bytes, packet_bytes, IsCarried, IsSync, FitsPrefix, FitsPacket, SpellsPacket, IsPacket, sync_head, begins_sync, Prefix}
+use Rattle.tlp_layout.specs.{bit, head_size, has_data, layout_at, class_of, kind_class, kind_with, kind_at, head_of}
+use Rattle.tlp_layout.specs.{rest_size, may_follow, whole_size, body_size, layout_of}
+use Rattle.ide_prefix.specs.{sub_bits, sync_at, tag_part, packet_size, packet_may_follow, sub_from, prefix_read}
+use Rattle.ide_prefix.specs.{fits_first, fits_early, prefix_bytes, packet_bytes, IsCarried, IsSync, FitsPrefix}
+use Rattle.ide_prefix.specs.{FitsPacket, SpellsPacket, IsPacket, sync_head, begins_sync, Prefix}
 use Rattle.tlp_layout.specs.declared.layout.Layout.TheVariants as layouts
 use Rattle.ide_prefix.specs.Reading.{fits_late}
 use Rattle.first_fault.proofs.Cells.{IsBytes, cells, drop_cells, all_bytes}
 use Rattle.ide_prefix.proofs.Units.{Prefix-of, flags, parts_of, bit_small, sub_small, sub_again, low_flags, not_sync}
 use Rattle.first_fault.proofs.Fronts.{Fitting, IsGrammar}
-use Rattle.ide_prefix.proofs.Terms.{Layout, HeadView, SubKind, Pr, Npr, Cpl, belongs, Packet, kind_among, IsRight, kept, again, back, IsWalked, fits_from, agrees_there, head_size_at_least, next_fits, rest_front, take_right, walked_of}
+use Rattle.ide_prefix.proofs.Terms.{Layout, HeadView, SubKind, Pr, Npr, Cpl, belongs, Packet, kind_among, IsRight, kept}
+use Rattle.ide_prefix.proofs.Terms.{again, back, IsWalked, fits_from, agrees_there, head_size_at_least, next_fits}
+use Rattle.ide_prefix.proofs.Terms.{rest_front, take_right, walked_of}
 
 -- ---- what a walk says
 
@@ -43,7 +54,8 @@ sync_front : (n : ℕ) (s : List ℕ) → 5 ≤ n → sync_at (take n s) ≡ syn
 sync_front n s le =
     let l4 : 4 < n = omega arith in
     let p : prefix_read (take n s) ≡ prefix_read s = prefix_front n s (omega arith) in
-    ap (λ (x : Prefix). begins_sync x.sub (get_or (take n s) 4 0)) p ∙ ap (begins_sync (prefix_read s).sub) (get_or-take n s 4 0 l4)
+    ap (λ (x : Prefix). begins_sync x.sub (get_or (take n s) 4 0)) p ∙ ap (begins_sync (prefix_read s).sub)
+    (get_or-take n s 4 0 l4)
 
 drop_front : (n : ℕ) (s : List ℕ) → 4 ≤ n → drop 4 (take n s) ≡ take (n - 4) (drop 4 s)
 drop_front n s le =
@@ -64,7 +76,14 @@ size_front n s le =
     let five : 5 ≤ n = omega arith in
     let four : 4 ≤ n = omega arith in
     let first : 0 < n - 4 = omega arith in
-    rw (sync_front n s five, drop_front n s four, rest_front (n - 4) (drop 4 s) some, get_or-take (n - 4) (drop 4 s) 0 0 first, ap (λ (x : Prefix). x.m) (prefix_front n s four)) refl
+    rw (
+      sync_front n s five,
+      drop_front n s four,
+      rest_front (n - 4) (drop 4 s) some,
+      get_or-take (n - 4) (drop 4 s) 0 0
+          first,
+      ap (λ (x : Prefix). x.m) (prefix_front n s four),
+    ) refl
 
 -- ---- a walk, and what is known of its bytes
 
@@ -76,23 +95,31 @@ walks_from s n le w i lt =
       | inr many ↦
           let four : 4 ≤ i = omega arith in
           rw (long, le-ltb i 5 many, sync_front i s many, drop_front i s four) (elim (cases_Bool (sync_at s)) [
-            | inl y ↦ rw y (elim (cases_lt i 16) [ inl less ↦ rw (lt-ltb i 16 less) (eq-eqb _ _ (w.zeros y i many lt less)) | inr past ↦ rw (le-ltb i 16 past) refl ])
+            | inl y ↦ rw y (elim (cases_lt i 16) [
+              | inl less ↦ rw (lt-ltb i 16 less) (eq-eqb _ _ (w.zeros y i many lt less))
+              | inr past ↦ rw
+                  (le-ltb i 16 past) refl
+            ])
             | inr n' ↦ rw n' (w.late n' i many lt)
           ])
     ])
 
-pub walked_early : (s : List ℕ) (i : ℕ) → i < length s → i < 5 → IsTrue (packet_may_follow (take i s) (get_or s i 0)) → fits_early i s (get_or s i 0) ≡ true
+pub walked_early : (s : List ℕ) (i : ℕ) → i < length s → i < 5 → IsTrue (packet_may_follow (take i s) (get_or s i 0))
+    → fits_early i s (get_or s i 0) ≡ true
 walked_early s i lt few t =
     let long : length (take i s) ≡ i = omega (arith, length-take i s) in
-    let there : cond (ltb (length (take i s)) 5) (fits_early (length (take i s)) (take i s) (get_or s i 0)) (fits_late (take i s) (get_or s i 0)) ≡ true = (and_parts _ _ t).1 in
+    let there : cond (ltb (length (take i s)) 5) (fits_early (length (take i s)) (take i s) (get_or s i 0))
+    (fits_late (take i s) (get_or s i 0)) ≡ true = (and_parts _ _ t).1 in
     rw (long, lt-ltb i 5 few, early_front s i (get_or s i 0) few) at there
 
 pub walked_late : (s : List ℕ) (i : ℕ) → i < length s → 5 ≤ i → IsTrue (packet_may_follow (take i s) (get_or s i 0))
-    → cond (sync_at s) (cond (ltb i 16) (eqb (get_or s i 0) 0) true) (may_follow (take (i - 4) (drop 4 s)) (get_or s i 0)) ≡ true
+    → cond (sync_at s) (cond (ltb i 16) (eqb (get_or s i 0) 0) true)
+    (may_follow (take (i - 4) (drop 4 s)) (get_or s i 0)) ≡ true
 walked_late s i lt many t =
     let long : length (take i s) ≡ i = omega (arith, length-take i s) in
     let four : 4 ≤ i = omega arith in
-    let there : cond (ltb (length (take i s)) 5) (fits_early (length (take i s)) (take i s) (get_or s i 0)) (fits_late (take i s) (get_or s i 0)) ≡ true = (and_parts _ _ t).1 in
+    let there : cond (ltb (length (take i s)) 5) (fits_early (length (take i s)) (take i s) (get_or s i 0))
+    (fits_late (take i s) (get_or s i 0)) ≡ true = (and_parts _ _ t).1 in
     rw (long, le-ltb i 5 many, sync_front i s many, drop_front i s four) at there
 
 walked : (s : List ℕ) → Fitting packet_may_follow s (length s) → IsWalkedPacket s (length s)
@@ -108,9 +135,13 @@ walked s w = record {
 abbrev flags_fit : ℕ → Bool
 flags_fit b = cond (eqb (b / 8 % 4) 0) (ltb (b % 8) 3) false
 
-flags_test : (b : ℕ) → b < 256 → flags_fit b ≡ true → 128 * bit (eqb (b / 128) 1) + 64 * bit (eqb (b / 64 % 2) 1) + 32 * bit (eqb (b / 32 % 2) 1) + sub_bits (sub_from (b % 8)) ≡ b
+flags_test : (b : ℕ) → b < 256 → flags_fit b ≡ true → 128 * bit (eqb (b / 128) 1) + 64 * bit (eqb (b / 64 % 2) 1) + 32 *
+    bit (eqb (b / 32 % 2) 1) + sub_bits (sub_from (b % 8)) ≡ b
 flags_test b lt e =
-    let t = agree_below_at flags_fit (λ b. flags_fit b && eqb (128 * bit (eqb (b / 128) 1) + 64 * bit (eqb (b / 64 % 2) 1) + 32 * bit (eqb (b / 32 % 2) 1) + sub_bits (sub_from (b % 8))) b) 256 b refl lt in
+    let t = agree_below_at flags_fit
+    (λ b. flags_fit b && eqb
+    (128 * bit (eqb (b / 128) 1) + 64 * bit (eqb (b / 64 % 2) 1) + 32 * bit (eqb (b / 32 % 2) 1) + sub_bits
+    (sub_from (b % 8))) b) 256 b refl lt in
     eqb-true _ _ (and_parts (flags_fit b) _ (sym t ∙ e)).1
 
 prefix_is_front : (s : List ℕ) → 4 ≤ length s → IsWalkedPacket s (length s) → prefix_bytes (prefix_read s) ≡ cells 4 0 s
@@ -161,14 +192,18 @@ fits_prefix s le w = record {
   posted = w.fit 3 (omega arith);
   none = λ e.
       let z : get_or s 1 0 % 8 ≡ 0 = pr_only _ e in
-      let t : cond (eqb (get_or s 1 0 % 8) 0) (eqb (get_or s 3 0) 0) true ≡ true = w.early 3 (omega arith) (omega arith) in
+      let t : cond (eqb (get_or s 1 0 % 8) 0) (eqb (get_or s 3 0) 0) true
+      ≡ true = w.early 3 (omega arith) (omega arith) in
       eqb-true _ _ (rw (eq-eqb _ _ z) at t);
 }
 
 -- behind the prefix a TLP's header walks
-pub tail_walked : (s : List ℕ) → 5 ≤ length s → IsWalkedPacket s (length s) → sync_at s ≡ false → (k : Layout) × IsWalked k (drop 4 s) (length (drop 4 s)) × (kind_class (kind_with k (has_data (get_or s 4 0))) ≡ (prefix_read s).sub)
+pub tail_walked : (s : List ℕ) → 5 ≤ length s → IsWalkedPacket s (length s) → sync_at s ≡ false → (k : Layout)
+    × IsWalked k (drop 4 s) (length (drop 4 s)) ×
+    (kind_class (kind_with k (has_data (get_or s 4 0))) ≡ (prefix_read s).sub)
 tail_walked s le w n =
-    let first : cond (sync_at s) (cond (prefix_read s).m (not (prefix_read s).t) false) (belongs (prefix_read s).sub (kind_at (get_or s 4 0))) ≡ true = w.early 4 (omega arith) (omega arith) in
+    let first : cond (sync_at s) (cond (prefix_read s).m (not (prefix_read s).t) false)
+    (belongs (prefix_read s).sub (kind_at (get_or s 4 0))) ≡ true = w.early 4 (omega arith) (omega arith) in
     let c : belongs (prefix_read s).sub (kind_at (get_or s 4 0)) ≡ true = rw n at first in
     let k = carried_first (prefix_read s).sub (has_data (get_or s 4 0)) (layout_at (get_or s 4 0)) c in
     let zeroth : get_or (drop 4 s) 0 0 ≡ get_or s 4 0 = get_or-drop 4 s 0 0 in
@@ -179,8 +214,10 @@ tail_walked s le w n =
         kind = kind;
         agrees = λ i pos lt less.
             let j : 4 + i - 4 ≡ i = omega arith in
-            let t : may_follow (take (4 + i - 4) (drop 4 s)) (get_or s (4 + i) 0) ≡ true = w.late n (4 + i) (omega arith) (omega (arith, length-drop 4 s)) in
-            let there : may_follow (take i (drop 4 s)) (get_or (drop 4 s) i 0) ≡ true = rw (j, ← get_or-drop 4 s i 0) at t in
+            let t : may_follow (take (4 + i - 4) (drop 4 s)) (get_or s (4 + i) 0)
+            ≡ true = w.late n (4 + i) (omega arith) (omega (arith, length-drop 4 s)) in
+            let there : may_follow (take i (drop 4 s)) (get_or (drop 4 s) i 0)
+            ≡ true = rw (j, ← get_or-drop 4 s i 0) at t in
             agrees_there k.0 (drop 4 s) kind i lt pos less there;
       },
       k.2,
@@ -192,26 +229,39 @@ packet_of s h b t = record { prefix = prefix_read s; head = h; body = b; tag = t
 take_cells : (s : List ℕ) → 4 ≤ length s → take 4 s ≡ cells 4 0 s
 take_cells s le =
     let long : length (take 4 s) ≡ 4 = omega (arith, length-take 4 s) in
-    drop_cells 4 0 (take 4 s) long ∙ rw (get_or-take 4 s 0 0 (omega arith), get_or-take 4 s 1 0 (omega arith), get_or-take 4 s 2 0 (omega arith), get_or-take 4 s 3 0 (omega arith)) refl
+    drop_cells 4 0 (take 4 s) long ∙ rw (
+      get_or-take 4 s 0 0 (omega arith),
+      get_or-take 4 s 1 0 (omega arith),
+      get_or-take 4 s 2 0 (omega arith),
+      get_or-take 4 s 3 0 (omega arith),
+    ) refl
 
 -- four bytes, and the rest
 parts_are : (s : List ℕ) → 5 ≤ length s → IsWalkedPacket s (length s) → s ≡ prefix_bytes (prefix_read s) ++ drop 4 s
 parts_are s le w =
-    let front : take 4 s ≡ prefix_bytes (prefix_read s) = take_cells s (omega arith) ∙ sym (prefix_is_front s (omega arith) w) in
+    let front : take 4 s ≡ prefix_bytes (prefix_read s) = take_cells s (omega arith) ∙ sym
+    (prefix_is_front s (omega arith) w) in
     sym (take-append-drop 4 s) ∙ ap (λ (x : List ℕ). x ++ drop 4 s) front
 
 pub size_carried : (s : List ℕ) → sync_at s ≡ false → packet_size s ≡ 4 + whole_size (drop 4 s) + tag_part s
 size_carried s n =
-    let e : packet_size s ≡ 4 + head_size (get_or (drop 4 s) 0 0) + rest_size (drop 4 s) + tag_part s = ap (λ (y : Bool). 4 + cond y 12 (head_size (get_or (drop 4 s) 0 0)) + cond y 0 (rest_size (drop 4 s)) + tag_part s) n in
+    let e : packet_size s ≡ 4 + head_size (get_or (drop 4 s) 0 0) + rest_size (drop 4 s) + tag_part s = ap
+    (λ (y : Bool). 4 + cond y 12 (head_size (get_or (drop 4 s) 0 0)) + cond y 0 (rest_size (drop 4 s)) + tag_part s)
+    n in
     e ∙ omega arith
 
 pub size_sync : (s : List ℕ) → sync_at s ≡ true → packet_size s ≡ 16 + tag_part s
 size_sync s y =
-    let e : packet_size s ≡ 4 + 12 + 0 + tag_part s = ap (λ (x : Bool). 4 + cond x 12 (head_size (get_or (drop 4 s) 0 0)) + cond x 0 (rest_size (drop 4 s)) + tag_part s) y in
+    let e : packet_size s ≡ 4 + 12 + 0 + tag_part s = ap
+    (λ (x : Bool). 4 + cond x 12 (head_size (get_or (drop 4 s) 0 0)) + cond x 0 (rest_size (drop 4 s)) + tag_part s)
+    y in
     e ∙ omega arith
 
-pub carried_spells : (s : List ℕ) → 5 ≤ length s → IsWalkedPacket s (length s) → sync_at s ≡ false → length s ≡ packet_size s
-    → SpellsPacket (packet_of s (take (head_size (get_or (drop 4 s) 0 0)) (drop 4 s)) (take (rest_size (drop 4 s)) (drop (head_size (get_or (drop 4 s) 0 0)) (drop 4 s))) (drop (rest_size (drop 4 s)) (drop (head_size (get_or (drop 4 s) 0 0))
+pub carried_spells : (s : List ℕ) → 5 ≤ length s → IsWalkedPacket s (length s) → sync_at s ≡ false → length s
+    ≡ packet_size s
+    → SpellsPacket (packet_of s (take (head_size (get_or (drop 4 s) 0 0)) (drop 4 s))
+    (take (rest_size (drop 4 s)) (drop (head_size (get_or (drop 4 s) 0 0)) (drop 4 s)))
+    (drop (rest_size (drop 4 s)) (drop (head_size (get_or (drop 4 s) 0 0))
     (drop 4 s)))) s
 carried_spells s le w n size =
     let all : IsBytes s = bytes_of s w in
@@ -222,7 +272,8 @@ carried_spells s le w n size =
     let long : length t ≡ hs + r + tag_part s = omega (arith, length-drop 4 s, size, size_carried s n) in
     let right : IsRight k.0 (take hs t) = take_right k.0 t hs refl (omega (arith, long)) k.1 in
     let spells = back k.0 (take hs t) right in
-    let first : get_or (take hs t) 0 0 ≡ get_or s 4 0 = get_or-take hs t 0 0 (omega (arith, head_size_at_least (get_or t 0 0))) ∙ get_or-drop 4 s 0 0 in
+    let first : get_or (take hs t) 0 0 ≡ get_or s 4 0 = get_or-take hs t 0 0
+    (omega (arith, head_size_at_least (get_or t 0 0))) ∙ get_or-drop 4 s 0 0 in
     let wants : rest_size (take hs t) ≡ r = rest_front hs t (omega (arith, head_size_at_least (get_or t 0 0))) in
     record {
       fits = record {
@@ -237,7 +288,8 @@ carried_spells s le w n size =
         tag = rest_bytes (drop hs t) (λ i. rw (get_or-drop, get_or-drop) (all (4 + (hs + i)))) r;
         tag_size = omega (arith, long, length-drop r (drop hs t), length-drop hs t);
       };
-      spelled = parts_are s le w ∙ ap (λ (x : List ℕ). prefix_bytes (prefix_read s) ++ x) (sym (take-append-drop hs t) ∙ ap (λ (x : List ℕ). take hs t ++ x) (sym (take-append-drop r (drop hs t))));
+      spelled = parts_are s le w ∙ ap (λ (x : List ℕ). prefix_bytes (prefix_read s) ++ x)
+          (sym (take-append-drop hs t) ∙ ap (λ (x : List ℕ). take hs t ++ x) (sym (take-append-drop r (drop hs t))));
     }
 
 -- ---- sync packets
@@ -261,20 +313,25 @@ flags_are true true e = absurd cc
 flags_are true false e = (refl, refl)
 flags_are false t e = absurd cc
 
-pub sync_spells : (s : List ℕ) → 5 ≤ length s → IsWalkedPacket s (length s) → sync_at s ≡ true → length s ≡ packet_size s → SpellsPacket (packet_of s (take 12 (drop 4 s)) [] (drop 12 (drop 4 s))) s
+pub sync_spells : (s : List ℕ) → 5 ≤ length s → IsWalkedPacket s (length s) → sync_at s ≡ true → length s
+    ≡ packet_size s → SpellsPacket (packet_of s (take 12 (drop 4 s)) [] (drop 12 (drop 4 s))) s
     × IsSync (packet_of s (take 12 (drop 4 s)) [] (drop 12 (drop 4 s)))
 sync_spells s le w y size =
     let all : IsBytes s = bytes_of s w in
     let long : length s ≡ 16 + tag_part s = size ∙ size_sync s y in
     let f = sync_of (prefix_read s).sub (get_or s 4 0) y in
-    let first : cond (sync_at s) (cond (prefix_read s).m (not (prefix_read s).t) false) (belongs (prefix_read s).sub (kind_at (get_or s 4 0))) ≡ true = w.early 4 (omega arith) (omega arith) in
+    let first : cond (sync_at s) (cond (prefix_read s).m (not (prefix_read s).t) false)
+    (belongs (prefix_read s).sub (kind_at (get_or s 4 0))) ≡ true = w.early 4 (omega arith) (omega arith) in
     let flags : cond (prefix_read s).m (not (prefix_read s).t) false ≡ true = rw y at first in
     let mt = flags_are (prefix_read s).m (prefix_read s).t flags in
     let t = drop 4 s in
     let wide : length (take 12 t) ≡ 12 = omega (arith, length-take 12 t, length-drop 4 s, long) in
     let zeroth : get_or (take 12 t) 0 0 ≡ 0x34 = get_or-take 12 t 0 0 (omega arith) ∙ get_or-drop 4 s 0 0 ∙ f.0 in
-    let zeros : (i : ℕ) → 0 < i → i < 12 → get_or (take 12 t) i 0 ≡ 0 = λ i pos lt. get_or-take 12 t i 0 lt ∙ get_or-drop 4 s i 0 ∙ w.zeros y (4 + i) (omega arith) (omega (arith, long)) (omega arith) in
-    let head = ext_get_or 0 (take 12 t) sync_head wide (λ i lt. twelve_at (take 12 t) zeroth zeros i (omega (arith, wide))) in (
+    let zeros : (i : ℕ) → 0 < i → i < 12 → get_or (take 12 t) i 0
+    ≡ 0 = λ i pos lt. get_or-take 12 t i 0 lt ∙ get_or-drop 4 s i 0 ∙ w.zeros y (4 + i) (omega arith)
+    (omega (arith, long)) (omega arith) in
+    let head = ext_get_or 0 (take 12 t) sync_head wide
+    (λ i lt. twelve_at (take 12 t) zeroth zeros i (omega (arith, wide))) in (
       record {
         fits = record {
           prefix = fits_prefix s (omega arith) w;
@@ -283,7 +340,8 @@ sync_spells s le w y size =
           tag = rest_bytes t (λ i. rw get_or-drop (all (4 + i))) 12;
           tag_size = omega (arith, long, length-drop 12 t, length-drop 4 s);
         };
-        spelled = parts_are s le w ∙ ap (λ (x : List ℕ). prefix_bytes (prefix_read s) ++ x) (sym (take-append-drop 12 t));
+        spelled = parts_are s le w ∙ ap (λ (x : List ℕ). prefix_bytes (prefix_read s) ++ x)
+            (sym (take-append-drop 12 t));
       },
       record { head = head; body = refl; sub = f.1; m = mt.0; t = mt.1 },
     )
@@ -312,7 +370,8 @@ flags_good m k t sub =
     let clear : flags m k t sub / 8 % 4 ≡ 0 = omega arith in
     (omega arith, rw (eq-eqb _ _ clear) (lt-ltb _ _ (omega (arith, low_flags m k t sub))))
 
-posted_good : (sub : SubKind) (posted : ℕ) → (sub ≡ Pr → posted ≡ 0) → cond (eqb (sub_bits sub) 0) (eqb posted 0) true ≡ true
+posted_good : (sub : SubKind) (posted : ℕ) → (sub ≡ Pr → posted ≡ 0) → cond (eqb (sub_bits sub) 0) (eqb posted 0) true
+    ≡ true
 posted_good Pr posted none = eq-eqb _ _ (none refl)
 posted_good Npr posted none = refl
 posted_good Cpl posted none = refl
@@ -324,12 +383,14 @@ at_tail a b c d x i le =
     ap (λ (j : ℕ). get_or s j 0) e ∙ sym (get_or-drop 4 s (i - 4) 0)
 
 -- a prefix, and bytes behind it
-early_good : (p : Prefix) (x : List ℕ) → FitsPrefix p → fits_first p (get_or x 0 0) ≡ true → (i : ℕ) → i < 5 → fits_early i (prefix_bytes p ++ x) (get_or (prefix_bytes p ++ x) i 0) ≡ true
+early_good : (p : Prefix) (x : List ℕ) → FitsPrefix p → fits_first p (get_or x 0 0) ≡ true → (i : ℕ) → i < 5
+    → fits_early i (prefix_bytes p ++ x) (get_or (prefix_bytes p ++ x) i 0) ≡ true
 early_good p x f first zero lt = refl
 early_good p x f first (suc zero) lt = (flags_good p.m p.k p.t p.sub).1
 early_good p x f first (suc (suc zero)) lt = refl
 early_good p x f first (suc (suc (suc zero))) lt = rw (low_flags p.m p.k p.t p.sub) (posted_good p.sub p.posted f.none)
-early_good p x f first (suc (suc (suc (suc zero)))) lt = subst (λ (q : Prefix). fits_first q (get_or x 0 0) ≡ true) (sym (prefix_again p.m p.k p.t p.sub p.stream p.posted x)) first
+early_good p x f first (suc (suc (suc (suc zero)))) lt = subst (λ (q : Prefix). fits_first q (get_or x 0 0) ≡ true)
+    (sym (prefix_again p.m p.k p.t p.sub p.stream p.posted x)) first
 early_good p x f first (suc (suc (suc (suc (suc i))))) lt = absurd (omega arith)
 
 prefix_fit : (p : Prefix) (x : List ℕ) → FitsPrefix p → IsBytes x → IsBytes (prefix_bytes p ++ x)
@@ -363,27 +424,43 @@ carried_spelled p f c =
     let x = p.head ++ more in
     let k = layout_of c.head.fields in
     let r : IsRight k p.head = subst (IsRight k) (sym c.spells.spelled) (kept c.head c.spells.fits) in
-    let same : head_of k x ≡ c.head = ap (λ (h : List ℕ). head_of k (h ++ more)) c.spells.spelled ∙ again c.head more c.spells.fits in
+    let same : head_of k x ≡ c.head = ap (λ (h : List ℕ). head_of k (h ++ more)) c.spells.spelled ∙ again c.head more
+    c.spells.fits in
     let all : IsBytes more = append_bytes p.body p.tag (all_bytes p.body f.body) (all_bytes p.tag f.tag) in
     let w : IsWalked k x (length x) = walked_of k p.head more r all in
     let bytes : IsBytes x = append_bytes p.head more r.fit all in
-    let plain : begins_sync p.prefix.sub (get_or x 0 0) ≡ false = not_sync p.prefix.sub c.head (get_or x 0 0) w.kind c.class in
+    let plain : begins_sync p.prefix.sub (get_or x 0 0) ≡ false = not_sync p.prefix.sub c.head (get_or x 0 0) w.kind
+    c.class in
     let class = ap (λ (h : HeadView). kind_class (kind_with k h.has_payload)) same ∙ c.class in
     let carried : belongs p.prefix.sub (kind_at (get_or x 0 0)) ≡ true = rw w.kind (eq-eqb _ _ (ap sub_bits class)) in
     let first : fits_first p.prefix (get_or x 0 0) ≡ true = rw plain carried in
     let no : sync_at (packet_bytes p) ≡ false = sync_is p.prefix x ∙ plain in
-    let head0 : get_or x 0 0 ≡ get_or p.head 0 0 = get_or_append_left p.head more 0 0 (omega (arith, r.size, head_size_at_least (get_or p.head 0 0))) in
-    let wants : rest_size x ≡ body_size c.head.has_payload c.head.lead.length = ap (λ (h : HeadView). body_size h.has_payload h.lead.length) same in
+    let head0 : get_or x 0 0 ≡ get_or p.head 0 0 = get_or_append_left p.head more 0 0
+    (omega (arith, r.size, head_size_at_least (get_or p.head 0 0))) in
+    let wants : rest_size x ≡ body_size c.head.has_payload c.head.lead.length = ap
+    (λ (h : HeadView). body_size h.has_payload h.lead.length) same in
     record {
       walked = record {
         fit = λ i lt. prefix_fit p.prefix x f.prefix bytes i;
         early = λ i lt few. early_good p.prefix x f.prefix first i few;
         zeros = λ y i many lt less. absurd (true≢false (sym y ∙ no));
         late = λ n i many lt.
-            let byte = at_tail 0x92 (flags p.prefix.m p.prefix.k p.prefix.t p.prefix.sub) p.prefix.stream p.prefix.posted x i (omega arith) in
+            let byte = at_tail 0x92 (flags p.prefix.m p.prefix.k p.prefix.t p.prefix.sub) p.prefix.stream
+            p.prefix.posted x i (omega arith) in
             rw byte (fits_from k x (length x) w (omega arith) (i - 4) (omega arith));
       };
-      size = omega (arith, size_carried (packet_bytes p) no, tag_is p.prefix x, f.tag_size, length-append p.head more, length-append p.body p.tag, r.size, ap head_size head0, wants, c.size);
+      size = omega (
+        arith,
+        size_carried (packet_bytes p) no,
+        tag_is p.prefix x,
+        f.tag_size,
+        length-append p.head more,
+        length-append p.body p.tag,
+        r.size,
+        ap head_size head0,
+        wants,
+        c.size,
+      );
     }
 
 sync_fit : IsBytes sync_head
@@ -404,25 +481,39 @@ sync_spelled p f y =
     let x = p.head ++ more in
     let all : IsBytes more = append_bytes p.body p.tag (all_bytes p.body f.body) (all_bytes p.tag f.tag) in
     let twelve' : length p.head ≡ 12 = ap length y.head in
-    let at_head : (i : ℕ) → i < 12 → get_or x i 0 ≡ get_or sync_head i 0 = λ i lt. get_or_append_left p.head more 0 i (omega arith) ∙ ap (λ (h : List ℕ). get_or h i 0) y.head in
+    let at_head : (i : ℕ) → i < 12 → get_or x i 0 ≡ get_or sync_head i 0 = λ i lt. get_or_append_left p.head more 0 i
+    (omega arith) ∙ ap (λ (h : List ℕ). get_or h i 0) y.head in
     let zero_at : (i : ℕ) → 0 < i → i < 12 → get_or x i 0 ≡ 0 = λ i pos lt. at_head i lt ∙ sync_zero i pos lt in
     let head_fit : IsBytes p.head = subst IsBytes (sym y.head) sync_fit in
     let bytes : IsBytes x = append_bytes p.head more head_fit all in
-    let begins : begins_sync p.prefix.sub (get_or x 0 0) ≡ true = ap (begins_sync p.prefix.sub) (at_head 0 (omega arith)) ∙ sync_begins p.prefix.sub y.sub in
+    let begins : begins_sync p.prefix.sub (get_or x 0 0) ≡ true = ap (begins_sync p.prefix.sub)
+    (at_head 0 (omega arith)) ∙ sync_begins p.prefix.sub y.sub in
     let first : fits_first p.prefix (get_or x 0 0) ≡ true = rw (begins, y.m, y.t) refl in
     let is : sync_at (packet_bytes p) ≡ true = sync_is p.prefix x ∙ begins in
     record {
       walked = record {
         fit = λ i lt. prefix_fit p.prefix x f.prefix bytes i;
         early = λ i lt few. early_good p.prefix x f.prefix first i few;
-        zeros = λ t i many lt less. at_tail 0x92 (flags p.prefix.m p.prefix.k p.prefix.t p.prefix.sub) p.prefix.stream p.prefix.posted x i (omega arith) ∙ zero_at (i - 4) (omega arith) (omega arith);
+        zeros = λ t i many lt less. at_tail 0x92 (flags p.prefix.m p.prefix.k p.prefix.t p.prefix.sub) p.prefix.stream
+            p.prefix.posted x i (omega arith) ∙ zero_at (i - 4) (omega arith) (omega arith);
         late = λ n i many lt. absurd (true≢false (sym is ∙ n));
       };
-      size = omega (arith, size_sync (packet_bytes p) is, tag_is p.prefix x, f.tag_size, length-append p.head more, length-append p.body p.tag, twelve', ap length y.body);
+      size = omega (
+        arith,
+        size_sync (packet_bytes p) is,
+        tag_is p.prefix x,
+        f.tag_size,
+        length-append p.head more,
+        length-append p.body p.tag,
+        twelve',
+        ap length y.body,
+      );
     }
 
 pub spelled_whole : (s : List ℕ) → IsPacket s → IsWholePacket s
-spelled_whole s i = subst IsWholePacket (sym i.spells.spelled) (elim i.spells.fits.carries [ inl c ↦ carried_spelled i.packet i.spells.fits c | inr y ↦ sync_spelled i.packet i.spells.fits y ])
+spelled_whole s i = subst IsWholePacket (sym i.spells.spelled)
+    (elim i.spells.fits.carries
+    [ inl c ↦ carried_spelled i.packet i.spells.fits c | inr y ↦ sync_spelled i.packet i.spells.fits y ])
 
 -- ---- one byte more
 
@@ -431,7 +522,8 @@ first_of Pr = 64
 first_of Npr = 0
 first_of Cpl = 10
 
-first_fits : (p : Prefix) (sub : SubKind) → p.sub ≡ sub → (first_of p.sub < 256) × (fits_first p (first_of p.sub) ≡ true)
+first_fits : (p : Prefix) (sub : SubKind) → p.sub ≡ sub → (first_of p.sub < 256)
+    × (fits_first p (first_of p.sub) ≡ true)
 first_fits p Pr e = rw e (omega arith, refl)
 first_fits p Npr e = rw e (omega arith, refl)
 first_fits p Cpl e = rw e (omega arith, refl)
@@ -445,7 +537,8 @@ early_next zero s lt = (0x92, omega arith, refl)
 early_next (suc zero) s lt = (0, omega arith, refl)
 early_next (suc (suc zero)) s lt = (0, omega arith, refl)
 early_next (suc (suc (suc zero))) s lt = (0, omega arith, either (eqb (get_or s 1 0 % 8) 0))
-early_next (suc (suc (suc (suc zero)))) s lt = let f = first_fits (prefix_read s) (prefix_read s).sub refl in (_, f.0, f.1)
+early_next (suc (suc (suc (suc zero)))) s lt = let f = first_fits (prefix_read s) (prefix_read s).sub refl in
+    (_, f.0, f.1)
 early_next (suc (suc (suc (suc (suc n))))) s lt = absurd (omega arith)
 
 packet_next : (s : List ℕ) → Fitting packet_may_follow s (length s) → (b : ℕ) × IsTrue (packet_may_follow s b)

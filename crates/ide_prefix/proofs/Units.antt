@@ -1,15 +1,19 @@
--- What a unit's tag covers fixes its packets, but for their tags: a prefix has four bytes, the first header byte tells how
--- long the header is, and the header how long the payload, so packet after packet comes off the front.
-use Rattle.std.proofs.Common.{◌≡◌, ℕ, suc, ◌+◌, ◌*◌, ◌/◌, ◌%◌, ◌<◌, Bool, true, false, eqb, List, [], ◌∷◌, ◌++◌, length, map, get_or, Some, refl, sym, ap, subst, ◌∙◌, inl, inr, arith, append-nil}
+-- What a unit's tag covers fixes its packets, but for their tags: a prefix has four bytes, the first header byte tells
+-- how long the header is, and the header how long the payload, so packet after packet comes off the front.
+use Rattle.std.proofs.Common.{◌≡◌, ℕ, suc, ◌+◌, ◌*◌, ◌/◌, ◌%◌, ◌<◌, Bool, true, false, eqb, List, [], ◌∷◌, ◌++◌, length}
+use Rattle.std.proofs.Common.{map, get_or, Some, refl, sym, ap, subst, ◌∙◌, inl, inr, arith, append-nil}
 use Rattle.std.specs.List.{AllByRecursion}
 use Rattle.std.specs.Prelude.{All}
 use Rattle.std.proofs.lemmas.Bool.{ne_eqb, eq-eqb}
 use Rattle.std.proofs.lemmas.List.{get_or_append_left}
 use Rattle.std.proofs.lemmas.List.Concat.{flat_map-cons}
-use Rattle.tlp_layout.specs.{head_bytes, bit, layout_at, class_of, kind_with, kind_class, head_of, rest_size, body_size, layout_of}
-use Rattle.ide_prefix.specs.{sub_bits, clear_size, sub_from, begins_sync, prefix_bytes, IsCarried, IsSync, FitsPacket, clear_bytes, authenticated, encrypted, untagged, Prefix}
+use Rattle.tlp_layout.specs.{head_bytes, bit, layout_at, class_of, kind_with, kind_class, head_of, rest_size, body_size}
+use Rattle.tlp_layout.specs.{layout_of}
+use Rattle.ide_prefix.specs.{sub_bits, clear_size, sub_from, begins_sync, prefix_bytes, IsCarried, IsSync, FitsPacket}
+use Rattle.ide_prefix.specs.{clear_bytes, authenticated, encrypted, untagged, Prefix}
 use Rattle.tlp_layout.specs.declared.layout.Layout.TheVariants as layouts
-use Rattle.ide_prefix.proofs.Terms.{Layout, HeadView, SubKind, Pr, Npr, Cpl, Packet, IsRight, kept, again, head_size_at_least}
+use Rattle.ide_prefix.proofs.Terms.{Layout, HeadView, SubKind, Pr, Npr, Cpl, Packet, IsRight, kept, again}
+use Rattle.ide_prefix.proofs.Terms.{head_size_at_least}
 
 -- ---- the prefix
 
@@ -58,7 +62,8 @@ parts_of m k t sub =
     let es = ap sub_from (low_flags m k t sub) ∙ sub_again sub in
     λ i. (em i, ek i, et i, es i)
 
-prefix_is : (m m' k k' t t' : Bool) (u u' : SubKind) (s s' p p' : ℕ) → four m k t u ≡ four m' k' t' u' → s ≡ s' → p ≡ p' → Prefix-of m k t u s p ≡ Prefix-of m' k' t' u' s' p'
+prefix_is : (m m' k k' t t' : Bool) (u u' : SubKind) (s s' p p' : ℕ) → four m k t u ≡ four m' k' t' u' → s ≡ s' → p ≡ p'
+    → Prefix-of m k t u s p ≡ Prefix-of m' k' t' u' s' p'
 prefix_is m m' k k' t t' u u' s s' p p' e es ep = λ i. Prefix-of (e i).0 (e i).1 (e i).2 (e i).3 (es i) (ep i)
 
 same_prefix : (p q : Prefix) (a b : List ℕ) → prefix_bytes p ++ a ≡ prefix_bytes q ++ b → (p ≡ q) × (a ≡ b)
@@ -66,8 +71,11 @@ same_prefix p q a b e =
     let f : flags p.m p.k p.t p.sub ≡ flags q.m q.k q.t q.sub = cc in
     let s : p.stream ≡ q.stream = cc in
     let c : p.posted ≡ q.posted = cc in
-    let rest : a ≡ b = cc in
-    (prefix_is p.m q.m p.k q.k p.t q.t p.sub q.sub p.stream q.stream p.posted q.posted (sym (parts_of p.m p.k p.t p.sub) ∙ ap parts f ∙ parts_of q.m q.k q.t q.sub) s c, rest)
+    let rest : a ≡ b = cc in (
+      prefix_is p.m q.m p.k q.k p.t q.t p.sub q.sub p.stream q.stream p.posted q.posted
+          (sym (parts_of p.m p.k p.t p.sub) ∙ ap parts f ∙ parts_of q.m q.k q.t q.sub) s c,
+      rest,
+    )
 
 -- ---- lists of one length
 
@@ -111,9 +119,11 @@ record IsSized (p : Packet) : Type 0 where
 
 carried_sized : (p : Packet) → IsCarried p → IsSized p
 carried_sized p c =
-    let r : IsRight (layout_of c.head.fields) p.head = subst (IsRight (layout_of c.head.fields)) (sym c.spells.spelled) (kept c.head c.spells.fits) in
+    let r : IsRight (layout_of c.head.fields) p.head = subst (IsRight (layout_of c.head.fields)) (sym c.spells.spelled)
+    (kept c.head c.spells.fits) in
     let no = not_sync p.prefix.sub c.head (get_or p.head 0 0) r.kind c.class in
-    let same : head_of (layout_of c.head.fields) p.head ≡ c.head = ap (head_of (layout_of c.head.fields)) (c.spells.spelled ∙ sym (append-nil (head_bytes c.head))) ∙ again c.head [] c.spells.fits in
+    let same : head_of (layout_of c.head.fields) p.head ≡ c.head = ap (head_of (layout_of c.head.fields))
+    (c.spells.spelled ∙ sym (append-nil (head_bytes c.head))) ∙ again c.head [] c.spells.fits in
     record {
       some = omega (arith, r.size, head_size_at_least (get_or p.head 0 0));
       head = rw no r.size;
@@ -133,19 +143,24 @@ sized p f = elim f.carries [ inl c ↦ carried_sized p c | inr s ↦ sync_is_siz
 packet_is : (p q : Packet) → p.prefix ≡ q.prefix → p.head ≡ q.head → p.body ≡ q.body → untagged p ≡ untagged q
 packet_is p q e1 e2 e3 = cc
 
-same_packets : (ps qs : List Packet) → AllByRecursion FitsPacket ps → AllByRecursion FitsPacket qs → authenticated ps ≡ authenticated qs → encrypted ps ≡ encrypted qs → map untagged ps ≡ map untagged qs
+same_packets : (ps qs : List Packet) → AllByRecursion FitsPacket ps → AllByRecursion FitsPacket qs → authenticated ps
+    ≡ authenticated qs → encrypted ps ≡ encrypted qs → map untagged ps ≡ map untagged qs
 same_packets [] [] fp fq a c = refl
 same_packets [] (q ∷ qs) fp fq a c = absurd cc
 same_packets (p ∷ ps) [] fp fq a c = absurd cc
 same_packets (p ∷ ps) (q ∷ qs) fp fq a c =
     let sp = sized p fp.0 in
     let sq = sized q fq.0 in
-    let clear : prefix_bytes p.prefix ++ (p.head ++ authenticated ps) ≡ prefix_bytes q.prefix ++ (q.head ++ authenticated qs) = sym (flat_map-cons clear_bytes p ps) ∙ a ∙ flat_map-cons clear_bytes q qs in
+    let clear : prefix_bytes p.prefix ++ (p.head ++ authenticated ps) ≡ prefix_bytes q.prefix
+    ++ (q.head ++ authenticated qs) = sym (flat_map-cons clear_bytes p ps) ∙ a ∙ flat_map-cons clear_bytes q qs in
     let e1 = same_prefix p.prefix q.prefix (p.head ++ authenticated ps) (q.head ++ authenticated qs) clear in
-    let first : get_or p.head 0 0 ≡ get_or q.head 0 0 = sym (get_or_append_left p.head (authenticated ps) 0 0 sp.some) ∙ ap (λ (s : List ℕ). get_or s 0 0) e1.1 ∙ get_or_append_left q.head (authenticated qs) 0 0 sq.some in
-    let long : length p.head ≡ length q.head = sp.head ∙ ap (λ (x : Prefix). clear_size x.sub (get_or p.head 0 0)) e1.0 ∙ ap (clear_size q.prefix.sub) first ∙ sym sq.head in
+    let first : get_or p.head 0 0 ≡ get_or q.head 0 0 = sym (get_or_append_left p.head (authenticated ps) 0 0 sp.some) ∙
+    ap (λ (s : List ℕ). get_or s 0 0) e1.1 ∙ get_or_append_left q.head (authenticated qs) 0 0 sq.some in
+    let long : length p.head ≡ length q.head = sp.head ∙ ap (λ (x : Prefix). clear_size x.sub (get_or p.head 0 0)) e1.0
+    ∙ ap (clear_size q.prefix.sub) first ∙ sym sq.head in
     let e2 = same_front p.head q.head (authenticated ps) (authenticated qs) long e1.1 in
-    let cipher : p.body ++ encrypted ps ≡ q.body ++ encrypted qs = sym (flat_map-cons (λ (x : Packet). x.body) p ps) ∙ c ∙ flat_map-cons (λ (x : Packet). x.body) q qs in
+    let cipher : p.body ++ encrypted ps ≡ q.body ++ encrypted qs = sym (flat_map-cons (λ (x : Packet). x.body) p ps) ∙ c
+    ∙ flat_map-cons (λ (x : Packet). x.body) q qs in
     let wide : length p.body ≡ length q.body = sp.body ∙ ap rest_size e2.0 ∙ sym sq.body in
     let e3 = same_front p.body q.body (encrypted ps) (encrypted qs) wide cipher in
     let rest = same_packets ps qs fp.1 fq.1 e2.1 e3.1 in
@@ -156,5 +171,6 @@ by_recursion : (ps : List Packet) → All FitsPacket ps → AllByRecursion FitsP
 by_recursion [] h = tt
 by_recursion (p ∷ ps) h = (h 0 p (omega arith), by_recursion ps (λ i d lt. h (suc i) d (omega arith)))
 
-pub one_list : (ps qs : List Packet) → All FitsPacket ps → All FitsPacket qs → authenticated ps ≡ authenticated qs → encrypted ps ≡ encrypted qs → map untagged ps ≡ map untagged qs
+pub one_list : (ps qs : List Packet) → All FitsPacket ps → All FitsPacket qs → authenticated ps ≡ authenticated qs
+    → encrypted ps ≡ encrypted qs → map untagged ps ≡ map untagged qs
 one_list ps qs fp fq = same_packets ps qs (by_recursion ps fp) (by_recursion qs fq)

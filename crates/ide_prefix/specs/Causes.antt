@@ -1,5 +1,6 @@
 -- Which byte may stand at each place of a packet, and why another may not (this profile).
-use Rattle.std.specs.Prelude.{ℕ, ◌+◌, ◌-◌, ◌/◌, ◌%◌, Bool, true, false, List, [], ◌∷◌, length, slice_index, Option, Some, None, nat_lt, ◌==◌, not, is_some, if◌then◌else◌}
+use Rattle.std.specs.Prelude.{ℕ, ◌+◌, ◌-◌, ◌/◌, ◌%◌, Bool, true, false, List, [], ◌∷◌, length, slice_index, Option}
+use Rattle.std.specs.Prelude.{Some, None, nat_lt, ◌==◌, not, is_some, if◌then◌else◌}
 use Rattle.ide_types.specs.declared.sub.SubKind.{SubKind}
 use Rattle.ide_types.specs.declared.sub.SubKind.TheVariants.{Pr, Npr, Cpl}
 use Rattle.ide_types.specs.Sub.{sub_bits}
@@ -10,7 +11,8 @@ use Rattle.tlp_layout.specs.Causes.{head_size, cause_at}
 use Rattle.tlp_layout.specs.Class.{kind_at, kind_class}
 use Rattle.ide_prefix.specs.declared.packet.Prefix.{Prefix}
 use Rattle.ide_prefix.specs.declared.fault.PacketFault.{PacketFault}
-use Rattle.ide_prefix.specs.declared.fault.PacketFault.TheVariants.{Short, Reserved, SubStream, Class, Tlp, Sync, Trailing}
+use Rattle.ide_prefix.specs.declared.fault.PacketFault.TheVariants.{Short, Reserved, SubStream, Class, Tlp, Sync}
+use Rattle.ide_prefix.specs.declared.fault.PacketFault.TheVariants.{Trailing}
 use Rattle.ide_prefix.specs.Packet.{packet_first, begins_sync}
 
 -- byte 0 is there and is not 0x92: the bytes are a plain TLP's, and no packet's

@@ -3,7 +3,8 @@ use Rattle.std.specs.Prelude.{◌≡◌, ℕ, false, List}
 use Rattle.first_fault.specs.Fronts.{IsFaultPlace}
 use Rattle.tlp_layout.specs.Faults.{place_in}
 use Rattle.ide_prefix.specs.declared.fault.PacketFault.{PacketFault}
-use Rattle.ide_prefix.specs.declared.fault.PacketFault.TheVariants.{Short, Reserved, SubStream, Class, Tlp, Sync, Trailing}
+use Rattle.ide_prefix.specs.declared.fault.PacketFault.TheVariants.{Short, Reserved, SubStream, Class, Tlp, Sync}
+use Rattle.ide_prefix.specs.declared.fault.PacketFault.TheVariants.{Trailing}
 use Rattle.ide_prefix.specs.Packet.{IsPacket}
 use Rattle.ide_prefix.specs.Causes.{is_plain, packet_fault_at}
 

@@ -1,5 +1,6 @@
 -- Reading a packet from left to right: its parts, or the first fault, as a function.
-use Rattle.std.specs.Prelude.{ℕ, ◌+◌, Bool, true, List, length, take, drop, slice_index, Result, Ok, nat_lt, ◌==◌, ◌&&◌, if◌then◌else◌}
+use Rattle.std.specs.Prelude.{ℕ, ◌+◌, Bool, true, List, length, take, drop, slice_index, Result, Ok, nat_lt, ◌==◌, ◌&&◌}
+use Rattle.std.specs.Prelude.{if◌then◌else◌}
 use Rattle.first_fault.specs.Walks.{reading}
 use Rattle.tlp_layout.specs.Causes.{head_size}
 use Rattle.tlp_layout.specs.Reading.{may_follow, rest_size}

@@ -1,9 +1,11 @@
 //! Cutting a packet into its parts.
 
-ghost use Rattle.std.specs.Prelude.{◌≡◌, ℕ, ◌+◌, ◌<◌, ◌≤◌, ◌%◌, ◌^◌, IfOk, IfErr, OnOk, MatchResult, if◌then◌else◌, length, slice_index, true, Some};
+ghost use Rattle.std.specs.Prelude.{◌≡◌, ℕ, ◌+◌, ◌<◌, ◌≤◌, ◌%◌, ◌^◌, IfOk, IfErr, OnOk, MatchResult, if◌then◌else◌};
+ghost use Rattle.std.specs.Prelude.{length, slice_index, true, Some};
 ghost use Rattle.tlp_layout.specs.Faults.{place_in};
 ghost use Rattle.ide_prefix.specs.Packet.{Packet, SpellsPacket, begins_sync as begins_sync_of};
-ghost use Rattle.ide_prefix.specs.Causes.{is_plain as is_plain_of, prefix_read, sub_from, belongs as belongs_to, fits_first, fits_early, early_cause};
+ghost use Rattle.ide_prefix.specs.Causes.{is_plain as is_plain_of, prefix_read, sub_from, belongs as belongs_to};
+ghost use Rattle.ide_prefix.specs.Causes.{fits_first, fits_early, early_cause};
 ghost use Rattle.ide_prefix.specs.Faults.{GoesOff, IsPacketFault};
 ghost use Rattle.ide_prefix.specs.Reading.{cut_of, IdePacket};
 ghost use Rattle.ide_prefix.specs.Cut.{IsCut, cut_value, cut_values};

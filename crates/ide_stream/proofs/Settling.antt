@@ -1,11 +1,14 @@
 -- What a stream keeps over its calls.
-use Rattle.std.proofs.Common.{◌≡◌, ℕ, ◌+◌, ◌≤◌, Bool, true, false, not, if◌then◌else◌, List, [], ◌++◌, length, Some, None, Ok, refl, sym, ap, ◌∙◌, arith}
+use Rattle.std.proofs.Common.{◌≡◌, ℕ, ◌+◌, ◌≤◌, Bool, true, false, not, if◌then◌else◌, List, [], ◌++◌, length, Some}
+use Rattle.std.proofs.Common.{None, Ok, refl, sym, ap, ◌∙◌, arith}
 use Rattle.ide_types.specs.declared.sub.SubKind.{SubKind}
 use Rattle.ide_types.specs.declared.sub.SubKind.TheVariants.{Pr, Npr, Cpl}
 use Rattle.ide_types.specs.declared.port.Side.{Side}
 use Rattle.ide_prefix.specs.Packet.{Packet}
 use Rattle.stream_rules.specs.Sending.{Sending, sealed_by}
-use Rattle.stream_rules.specs.Stream.{Slots, TxSub, RxSub, Three, StreamState, at_sub, set_sub, slot_in, live_in, Taken, Insecure, NotKeyed, Failed, Held, Accepted, dropped_held, taken_under, state_after}
+use Rattle.stream_rules.specs.Stream.{Slots, TxSub, RxSub, Three, StreamState, at_sub, set_sub, slot_in, live_in, Taken}
+use Rattle.stream_rules.specs.Stream.{Insecure, NotKeyed, Failed, Held, Accepted, dropped_held, taken_under}
+use Rattle.stream_rules.specs.Stream.{state_after}
 use Rattle.sub_stream.specs.{answer_of}
 use Rattle.sub_stream.specs.declared.answer.SealedPacket.{SealedPacket}
 use Rattle.sub_stream.specs.declared.answer.Taken.{Taken as Answer}
@@ -14,7 +17,8 @@ use Rattle.stream_calls.specs.Calls.{SlotCall}
 use Rattle.ide_stream.specs.declared.directions.Directions.{Directions}
 use Rattle.ide_stream.specs.Ends.{StreamEnd, lanes_in, taken_in, end_taken}
 use Rattle.ide_stream.specs.Sends.{ok_unless, refused, unless, IsSent, sealing}
-use Rattle.stream_lanes.specs.{SendEnds, any_out, settled_out, IsSealed, packet_lengths, joined_packets, ReceiveEnds, receiving, taken_among, opened_after, ends_after, is_fail}
+use Rattle.stream_lanes.specs.{SendEnds, any_out, settled_out, IsSealed, packet_lengths, joined_packets, ReceiveEnds}
+use Rattle.stream_lanes.specs.{receiving, taken_among, opened_after, ends_after, is_fail}
 use Rattle.ide_stream.specs.Both.{called_directions, settled_directions, end_of, AtMost, IsStream}
 
 -- ---- calls of key management
@@ -67,9 +71,11 @@ send-kept d calls new inv same totals = record {
   few_takes = omega (arith, inv.few_takes);
 }
 
-pub sent-so : (side : Side) (d : Directions) (calls : ℕ) (head payload : List ℕ) (s : Sending) (number : ℕ) (sealed : List SealedPacket) (before after : List ℕ) (new : SendEnds)
+pub sent-so : (side : Side) (d : Directions) (calls : ℕ) (head payload : List ℕ) (s : Sending) (number : ℕ)
+    (sealed : List SealedPacket) (before after : List ℕ) (new : SendEnds)
     → refused (end_of side d calls) s ≡ None → IsSealed d.tx head payload s number sealed before after new
-    → IsSent (end_of side d calls) head payload s number (Ok sealed) before after (end_of side (record d { tx = new }) (calls + 1))
+    → IsSent (end_of side d calls) head payload s number (Ok sealed) before after
+    (end_of side (record d { tx = new }) (calls + 1))
 sent-so side d calls head payload s number sealed before after new clear is =
     let e : StreamEnd = end_of side d calls in
     let all = sealing e head payload s number in
@@ -79,7 +85,8 @@ sent-so side d calls head payload s number sealed before after new clear is =
       bytes = is.bytes ∙ ap (λ o. before ++ joined_packets (unless o [] all.0)) (sym clear);
       stream =
           ap (λ (x : SendEnds). end_of side (record d { tx = x }) (calls + 1)) is.senders
-          ∙ ap (λ o. record e { state = unless o e.state (record e.state { tx = all.1 }); calls = calls + 1 }) (sym clear);
+          ∙ ap (λ o. record e { state = unless o e.state (record e.state { tx = all.1 }); calls = calls + 1 })
+          (sym clear);
     }
 
 -- ---- an arrival
@@ -105,20 +112,39 @@ pub taken-among : (side : Side) (d : Directions) (calls : ℕ) (p : Packet) → 
     → taken_among d.rx p ≡ taken_in (end_of side d calls) p
 taken-among side d calls p inv clear =
     let slots = (at_sub d.rx.rx p.prefix.sub).slots in
-    (λ i. taken_under (inv.same_mode i) (inv.same_closed i) d.rx.rx p (live_in (slot_in slots p.prefix.k)) (live_in (slot_in slots (not p.prefix.k))))
-    ∙ ap (λ (b : Bool). if b then Insecure else taken_under d.tx.fixed.mode d.tx.fixed.closed d.rx.rx p (live_in (slot_in slots p.prefix.k)) (live_in (slot_in slots (not p.prefix.k)))) (sym clear)
+    (λ i. taken_under (inv.same_mode i) (inv.same_closed i) d.rx.rx p (live_in (slot_in slots p.prefix.k))
+    (live_in (slot_in slots (not p.prefix.k))))
+    ∙ ap (λ (b : Bool). if b then Insecure else taken_under d.tx.fixed.mode d.tx.fixed.closed d.rx.rx p
+    (live_in (slot_in slots p.prefix.k)) (live_in (slot_in slots (not p.prefix.k)))) (sym clear)
 
-state_is : (tx : Three TxSub) (rx : Three RxSub) (failed : Bool) (p : Packet) (t : Taken) (a : Answer) → failed ≡ false → Some a ≡ answer_of t
-    → ◌≡◌ {A = StreamState} (record { tx = tx; rx = (state_after (record { tx = tx; rx = rx; failed = failed }) p t).rx; failed = is_fail a }) (state_after (record { tx = tx; rx = rx; failed = failed }) p t)
+state_is : (tx : Three TxSub) (rx : Three RxSub) (failed : Bool) (p : Packet) (t : Taken) (a : Answer) → failed ≡ false
+    → Some a ≡ answer_of t
+    → ◌≡◌ {A = StreamState}
+    (record {
+      tx = tx;
+      rx = (state_after (record { tx = tx; rx = rx; failed = failed }) p t).rx;
+      failed = is_fail a;
+    }) (state_after (record { tx = tx; rx = rx; failed = failed }) p t)
 state_is tx rx failed p Insecure a clear e = absurd (cc)
-state_is tx rx failed p NotKeyed a clear e = let same : a ≡ answers.NotKeyed = cc in λ i. record { tx = tx; rx = rx; failed = (ap is_fail same ∙ sym clear) i }
-state_is tx rx failed p (Failed cause) a clear e = let same : a ≡ answers.Fail cause = cc in λ i. record { tx = tx; rx = all_dropped rx; failed = is_fail (same i) }
+state_is tx rx failed p NotKeyed a clear e = let same : a ≡ answers.NotKeyed = cc in λ i. record
+    { tx = tx; rx = rx; failed = (ap is_fail same ∙ sym clear) i }
+state_is tx rx failed p (Failed cause) a clear e = let same : a
+    ≡ answers.Fail cause = cc in λ i. record { tx = tx; rx = all_dropped rx; failed = is_fail (same i) }
 state_is tx rx failed p (Held j n) a clear e =
     let same : a ≡ answers.Held j n = cc in
-    λ i. record { tx = tx; rx = (state_after (record { tx = tx; rx = rx; failed = failed }) p (Held j n)).rx; failed = (ap is_fail same ∙ sym clear) i }
+    λ i. record {
+      tx = tx;
+      rx = (state_after (record { tx = tx; rx = rx; failed = failed }) p (Held j n)).rx;
+      failed =
+          (ap is_fail same ∙ sym clear) i;
+    }
 state_is tx rx failed p (Accepted j n unit) a clear e =
     let same : a ≡ answers.Accepted j n (length unit) = cc in
-    λ i. record { tx = tx; rx = (state_after (record { tx = tx; rx = rx; failed = failed }) p (Accepted j n unit)).rx; failed = (ap is_fail same ∙ sym clear) i }
+    λ i. record {
+      tx = tx;
+      rx = (state_after (record { tx = tx; rx = rx; failed = failed }) p (Accepted j n unit)).rx;
+      failed = (ap is_fail same ∙ sym clear) i;
+    }
 
 rx_alone : (x : ReceiveEnds) (tx : Three TxSub) (failed : Bool) (p : Packet) (t : Taken)
     → (state_after (receiving x) p t).rx ≡ (state_after (record { tx = tx; rx = x.rx; failed = failed }) p t).rx
@@ -136,8 +162,10 @@ lent_alone x tx failed p (Failed cause) = refl
 lent_alone x tx failed p (Held j n) = refl
 lent_alone x tx failed p (Accepted j n unit) = refl
 
-pub end-taken : (side : Side) (d : Directions) (calls : ℕ) (p : Packet) (a : Answer) → IsStream d calls → d.failed ≡ false → Some a ≡ answer_of (taken_among d.rx p)
-    → end_of side (record d { rx = ends_after d.rx p (taken_among d.rx p); failed = is_fail a }) (calls + 1) ≡ end_taken (end_of side d calls) p
+pub end-taken : (side : Side) (d : Directions) (calls : ℕ) (p : Packet) (a : Answer) → IsStream d calls → d.failed
+    ≡ false → Some a ≡ answer_of (taken_among d.rx p)
+    → end_of side (record d { rx = ends_after d.rx p (taken_among d.rx p); failed = is_fail a }) (calls + 1)
+    ≡ end_taken (end_of side d calls) p
 end-taken side d calls p a inv clear e =
     let old : StreamEnd = end_of side d calls in
     (λ i. record old {
@@ -150,4 +178,6 @@ end-taken side d calls p a inv clear e =
       delivered = opened_after old.state p (taken_among d.rx p);
       calls = calls + 1;
     })
-    ∙ ap (λ (t : Taken). record old { state = state_after old.state p t; delivered = opened_after old.state p t; calls = calls + 1 }) (taken-among side d calls p inv clear)
+    ∙ ap (λ (t : Taken). record old
+    { state = state_after old.state p t; delivered = opened_after old.state p t; calls = calls + 1 })
+    (taken-among side d calls p inv clear)

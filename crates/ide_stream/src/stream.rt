@@ -1,6 +1,7 @@
 //! A stream at a port.
 
-ghost use Rattle.std.specs.Prelude.{◌≡◌, ◌==◌, ◌&&◌, ◌||◌, ◌+◌, ◌<◌, ◌≤◌, ◌^◌, ℕ, Bool, Some, IfOk, true, false, not, length, is_ok, slice_get, map, vec_len, vec_capacity};
+ghost use Rattle.std.specs.Prelude.{◌≡◌, ◌==◌, ◌&&◌, ◌||◌, ◌+◌, ◌<◌, ◌≤◌, ◌^◌, ℕ, Bool, Some, IfOk, true, false, not};
+ghost use Rattle.std.specs.Prelude.{length, is_ok, slice_get, map, vec_len, vec_capacity};
 ghost use Rattle.std.specs.Option.{option_map};
 ghost use Rattle.ide_plan.specs.Fits.{is_mode};
 ghost use Rattle.ide_types.specs.declared.port.PortName.{PortName};

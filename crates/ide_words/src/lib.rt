@@ -2,7 +2,8 @@
 #![tactic(auto)]
 
 ghost use Rattle.std.specs.Prelude.{◌≡◌, [], ◌∷◌, List, ℕ, None, Some, IfOk, IfErr, codes, false, map, string_bytes};
-ghost use Rattle.clap.specs.Words.{app_of, found_of, new_app, rows_of, rule_of, subcommand_rows_of, with_rule, with_subcommand};
+ghost use Rattle.clap.specs.Words.{app_of, found_of, new_app, rows_of, rule_of, subcommand_rows_of, with_rule};
+ghost use Rattle.clap.specs.Words.{with_subcommand};
 ghost use Rattle.clap.specs.declared.builder.command.Command.TheViews.{out-Command};
 ghost use Rattle.ide_words.specs.Ide.{check_app, ide_app, name_rule, run_app, show_app, top_app};
 ghost use Rattle.ide_words.specs.Words.{IsName, Refuses, asked, asked_by, asked_of, check, run, show, text_of, view};

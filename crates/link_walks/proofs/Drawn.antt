@@ -1,6 +1,10 @@
 -- Every draw was made from a pool that had keys for it, and each stream's ID has one byte.
-use Rattle.link_walks.proofs.Terms.{◌≡◌, Bool, arith, true, ℕ, List, Plan, if◌then◌else◌, nat_tests, ◌≤◌, sym, Reach, lane_key, Host, ◌+◌, [], ◌<◌, subst, ◌∷◌, ◌/◌, Option, length, inl, inr, ◌*◌, is_some, All, reach_of, Manager}
-use Rattle.link_walks.proofs.Terms.{operated, manager_after, get_or-map, get_or_past, length-map, cases_lt, IsKey, FitsPlan, FitsStream, Loss, Verdict, KeyPlan, History, draws, status_of, PortView, ports_at, establish_on, refresh_on}
+use Rattle.link_walks.proofs.Terms.{◌≡◌, Bool, arith, true, ℕ, List, Plan, if◌then◌else◌, nat_tests, ◌≤◌, sym, Reach}
+use Rattle.link_walks.proofs.Terms.{lane_key, Host, ◌+◌, [], ◌<◌, subst, ◌∷◌, ◌/◌, Option, length, inl, inr, ◌*◌}
+use Rattle.link_walks.proofs.Terms.{is_some, All, reach_of, Manager}
+use Rattle.link_walks.proofs.Terms.{operated, manager_after, get_or-map, get_or_past, length-map, cases_lt, IsKey}
+use Rattle.link_walks.proofs.Terms.{FitsPlan, FitsStream, Loss, Verdict, KeyPlan, History, draws, status_of, PortView}
+use Rattle.link_walks.proofs.Terms.{ports_at, establish_on, refresh_on}
 use Rattle.link_walks.proofs.Terms.{streams_by_link, streams_of, with_id}
 use Rattle.key_laws.specs.History.{manager}
 use Rattle.key_laws.specs.Due.{due}
@@ -16,21 +20,25 @@ use Rattle.link_verdicts.specs.declared.verdict.Verdict.TheVariants as v
 
 -- ---- an event draws only where the pool has keys
 
-establish_fits : (plan : KeyPlan) (known : Bool) (m : Manager) (ports : PortView) (l s : ℕ) (loss : Option Loss) (x : Verdict) → length m.begun ≤ plan.pool
+establish_fits : (plan : KeyPlan) (known : Bool) (m : Manager) (ports : PortView) (l s : ℕ) (loss : Option Loss)
+    (x : Verdict) → length m.begun ≤ plan.pool
     → x ≡ (if known then establish_on plan (m.ops l s) (length m.begun) ports l s loss else v.Nothing)
     → length (operated m op.Establish l s (reach_of op.Establish x)).begun ≤ plan.pool
 establish_fits plan known m ports l s loss x le is = grind (arith, nat_tests)
 
-refresh_fits : (plan : KeyPlan) (known : Bool) (m : Manager) (ports : PortView) (host : StreamStatus) (l s : ℕ) (loss : Option Loss) (x : Verdict)
+refresh_fits : (plan : KeyPlan) (known : Bool) (m : Manager) (ports : PortView) (host : StreamStatus) (l s : ℕ)
+    (loss : Option Loss) (x : Verdict)
     → length m.begun ≤ plan.pool
     → x ≡ (if known then refresh_on plan (m.ops l s) (length m.begun) ports host l s loss else v.Nothing)
     → length (operated m op.Refresh l s (reach_of op.Refresh x)).begun ≤ plan.pool
 refresh_fits plan known m ports host l s loss x le is = grind (arith, nat_tests)
 
-stop_fits : (m : Manager) (l s top : ℕ) (r : Option Reach) → length m.begun ≤ top → length (operated m op.Stop l s r).begun ≤ top
+stop_fits : (m : Manager) (l s top : ℕ) (r : Option Reach) → length m.begun ≤ top
+    → length (operated m op.Stop l s r).begun ≤ top
 stop_fits m l s top r le = grind arith
 
-reset_fits : (m : Manager) (link top : ℕ) (x : Verdict) → length m.begun ≤ top → length (manager_after m (event.Reset link) x).begun ≤ top
+reset_fits : (m : Manager) (link top : ℕ) (x : Verdict) → length m.begun ≤ top
+    → length (manager_after m (event.Reset link) x).begun ≤ top
 reset_fits m link top x le = grind arith
 
 pub draws_fit : (plan : KeyPlan) (h : History) → CauseLaw plan h → draws h ≤ plan.pool
@@ -39,14 +47,17 @@ draws_fit plan [] cause = omega arith
 draws_fit plan ((event.Establish l s loss, x) ∷ h) cause =
     establish_fits plan (plan.has_stream l s) (manager h) (ports_at h) l s loss x (draws_fit plan h cause.2) cause.0
 draws_fit plan ((event.Refresh l s loss, x) ∷ h) cause =
-    refresh_fits plan (plan.has_stream l s) (manager h) (ports_at h) (status_of h Host l s) l s loss x (draws_fit plan h cause.2) cause.0
-draws_fit plan ((event.Stop l s loss, x) ∷ h) cause = stop_fits (manager h) l s plan.pool (reach_of op.Stop x) (draws_fit plan h cause.2)
+    refresh_fits plan (plan.has_stream l s) (manager h) (ports_at h) (status_of h Host l s) l s loss x
+    (draws_fit plan h cause.2) cause.0
+draws_fit plan ((event.Stop l s loss, x) ∷ h) cause = stop_fits (manager h) l s plan.pool (reach_of op.Stop x)
+    (draws_fit plan h cause.2)
 draws_fit plan ((event.Reset link, x) ∷ h) cause = reset_fits (manager h) link plan.pool x (draws_fit plan h cause.2)
 draws_fit plan ((e, x) ∷ h) cause = draws_fit plan h cause.2
 
 -- ---- keys of the plan
 
-pub lane_keys : (plan : Plan) → FitsPlan plan → (draw : ℕ) → draw < length plan.pool / 6 → (lane : ℕ) → lane < 6 → IsKey (lane_key plan draw lane)
+pub lane_keys : (plan : Plan) → FitsPlan plan → (draw : ℕ) → draw < length plan.pool / 6 → (lane : ℕ) → lane < 6
+    → IsKey (lane_key plan draw lane)
 lane_keys plan fits draw lt lane low = fits.each_key (6 * draw + lane) [] (omega (arith, lt, low))
 
 -- ---- streams of the plan
@@ -60,9 +71,13 @@ no_link = record { nonces = []; streams = []; interfaces = [] }
 
 streams_fit : (plan : Plan) → FitsPlan plan → (link : ℕ) → All FitsStream (streams_of plan link)
 streams_fit plan fits link = elim (cases_lt link (length plan.links)) [
-  | inl less ↦ subst (λ (ss : List StreamPlan). All FitsStream ss) (sym (get_or-map (λ (l : LinkPlan). l.streams) plan.links link no_link [] less)) ((fits.each_link link no_link less).each_stream)
-  | inr past ↦ let long : length (streams_by_link plan) ≡ length plan.links = length-map plan.links (λ (l : LinkPlan). l.streams) in
-      subst (λ (ss : List StreamPlan). All FitsStream ss) (sym (get_or_past (streams_by_link plan) link [] (omega (arith, long, past)))) (All-nil FitsStream)
+  | inl less ↦ subst (λ (ss : List StreamPlan). All FitsStream ss)
+      (sym (get_or-map (λ (l : LinkPlan). l.streams) plan.links link no_link [] less))
+      ((fits.each_link link no_link less).each_stream)
+  | inr past ↦ let long : length (streams_by_link plan) ≡ length plan.links = length-map plan.links
+      (λ (l : LinkPlan). l.streams) in
+      subst (λ (ss : List StreamPlan). All FitsStream ss)
+      (sym (get_or_past (streams_by_link plan) link [] (omega (arith, long, past)))) (All-nil FitsStream)
 ]
 
 pub id_fits : (plan : Plan) → FitsPlan plan → (link id : ℕ) → is_some (stream_plan plan link id) ≡ true → id ≤ 255

@@ -1,8 +1,16 @@
 -- An event of an operation, walked at both ends, comes to what the machine of links says.
-use Rattle.link_walks.proofs.Terms.{◌≡◌, arith, true, ℕ, List, ◌++◌, Work, Plan, if◌then◌else◌, Operation, ◌≤◌, ◌∙◌, sym, Device, Host, StreamState, ◌+◌, [], suc, refl, ◌-◌, ap, Some, subst, ◌∷◌, last_of, port_at, CallsAreMoves}
-use Rattle.link_walks.proofs.Terms.{DrawsApart, ◌/◌, Option, ◌%◌, None, length, nat_lt, reach_of, work_of, sub_from, requests_called, FitsPlan, Loss, Verdict, History, is_refused, comes_to, stays_at, key_plan, LinkState, find, find_op}
-use Rattle.link_walks.proofs.Terms.{ports_of, status_at, begun_requests, AreMoves, Side, Pool, draws_in, true-lt, Refusal, Request, StreamView, draws_now, refusal_of, begun_stream, begun_pool, ManagerWalk, answers, walk}
-use Rattle.link_walks.proofs.Terms.{manager_walked, verdict_of, op_by, Comes, walk_comes, sends_in, StandsFor, kept_is, StreamEnds, walk_on, begun_ends, walked_unless, event_walk, host_of, KeysKept, verdict_due, IsJoined}
+use Rattle.link_walks.proofs.Terms.{◌≡◌, arith, true, ℕ, List, ◌++◌, Work, Plan, if◌then◌else◌, Operation, ◌≤◌, ◌∙◌}
+use Rattle.link_walks.proofs.Terms.{sym, Device, Host, StreamState, ◌+◌, [], suc, refl, ◌-◌, ap, Some, subst, ◌∷◌}
+use Rattle.link_walks.proofs.Terms.{last_of, port_at, CallsAreMoves}
+use Rattle.link_walks.proofs.Terms.{DrawsApart, ◌/◌, Option, ◌%◌, None, length, nat_lt, reach_of, work_of, sub_from}
+use Rattle.link_walks.proofs.Terms.{requests_called, FitsPlan, Loss, Verdict, History, is_refused, comes_to, stays_at}
+use Rattle.link_walks.proofs.Terms.{key_plan, LinkState, find, find_op}
+use Rattle.link_walks.proofs.Terms.{ports_of, status_at, begun_requests, AreMoves, Side, Pool, draws_in, true-lt}
+use Rattle.link_walks.proofs.Terms.{Refusal, Request, StreamView, draws_now, refusal_of, begun_stream, begun_pool}
+use Rattle.link_walks.proofs.Terms.{ManagerWalk, answers, walk}
+use Rattle.link_walks.proofs.Terms.{manager_walked, verdict_of, op_by, Comes, walk_comes, sends_in, StandsFor, kept_is}
+use Rattle.link_walks.proofs.Terms.{StreamEnds, walk_on, begun_ends, walked_unless, event_walk, host_of, KeysKept}
+use Rattle.link_walks.proofs.Terms.{verdict_due, IsJoined}
 use Rattle.link_walks.proofs.Terms.{OperationsJoin}
 use Rattle.tsm_host.proofs.Dues.{all_due}
 use Rattle.tsm_host.specs.declared.operation.Outcome.TheVariants as outcome
@@ -10,11 +18,13 @@ use Rattle.link_walks.proofs.Lanes.{same_slots}
 use Rattle.link_walks.proofs.Drawn.{lane_keys, id_fits}
 use Rattle.link_walks.proofs.Standing.{is_sound, reads_stream, host_read}
 use Rattle.link_walks.proofs.Kept.{ready_before, draw_below}
-use Rattle.link_walks.proofs.Works.{same_operation, work_fits, begins_first, first_within, is_asked, begun_op, begun_link, begun_id, begun_keys, refused_reach, has_room}
+use Rattle.link_walks.proofs.Works.{same_operation, work_fits, begins_first, first_within, is_asked, begun_op}
+use Rattle.link_walks.proofs.Works.{begun_link, begun_id, begun_keys, refused_reach, has_room}
 use Rattle.link_walks.proofs.Walking.{Knows, IsNext}
 use Rattle.link_walks.proofs.Resting.{goes_from, Rest, rest_is}
 
-requests_append : (side : Side) (rs more : List Request) (x : StreamState) → requests_called side (rs ++ more) x ≡ requests_called side more (requests_called side rs x)
+requests_append : (side : Side) (rs more : List Request) (x : StreamState) → requests_called side (rs ++ more) x
+    ≡ requests_called side more (requests_called side rs x)
 requests_append side [] more x = refl
 requests_append side (r ∷ rs) more x = requests_append side rs more _
 
@@ -37,10 +47,12 @@ record Found (plan : Plan) (st : LinkState) (h : History) (requester : ℕ) (e :
 last_most : (o : Operation) → last_of o ≤ 13
 last_most o = grind arith
 
-draws_on : (w : Work) (pool : Pool) → (draws_now w ≡ true → nat_lt pool.draws (draws_in pool.keys) ≡ true) → (begun_pool w pool).draws ≡ (if draws_now w then pool.draws + 1 else pool.draws)
+draws_on : (w : Work) (pool : Pool) → (draws_now w ≡ true → nat_lt pool.draws (draws_in pool.keys) ≡ true)
+    → (begun_pool w pool).draws ≡ (if draws_now w then pool.draws + 1 else pool.draws)
 draws_on w pool room = grind arith
 
-module _ (plan : Plan) (st : LinkState) (h : History) (operation : Operation) (loss : Option Loss) (requester : ℕ) (e : StreamEnds) (found : Found plan st h requester e) where
+module _ (plan : Plan) (st : LinkState) (h : History) (operation : Operation) (loss : Option Loss) (requester : ℕ)
+    (e : StreamEnds) (found : Found plan st h requester e) where
   -- the operation at the event, the manager's walk, and the verdict that is due
   abbrev w : Work
   w = work_of operation e.keeper.op st.draws
@@ -54,12 +66,15 @@ module _ (plan : Plan) (st : LinkState) (h : History) (operation : Operation) (l
   verdict = verdict_due plan st operation e.keeper.op e.keeper.link e.keeper.id loss
 
   is_due : (r : Option Refusal) → refusal_of operation e.keeper.op (host_of e.host) (pool_of plan st) ≡ r
-      → verdict_of operation e.keeper.link e.keeper.id loss (manager_walked r e.keeper (told operation)).outcome ≡ verdict
+      → verdict_of operation e.keeper.link e.keeper.id loss (manager_walked r e.keeper (told operation)).outcome
+      ≡ verdict
   is_due r is =
-      let due = all_due operation (key_plan plan) (ports_of plan st) (status_at plan st Host e.keeper.link e.keeper.id) (host_of e.host)
+      let due = all_due operation (key_plan plan) (ports_of plan st) (status_at plan st Host e.keeper.link e.keeper.id)
+      (host_of e.host)
       (pool_of plan st) loss e.keeper (is_asked plan e.keeper.op e.keeper.keys found.kept)
       (host_read plan st h found.stands.ports_stand e.keeper.link e.keeper.id e.host found.host st.draws) in
-      sym (λ i. verdict_of operation e.keeper.link e.keeper.id loss (manager_walked (is i) e.keeper (told operation)).outcome) ∙ due.verdict_is
+      sym (λ i. verdict_of operation e.keeper.link e.keeper.id loss
+      (manager_walked (is i) e.keeper (told operation)).outcome) ∙ due.verdict_is
 
   -- ---- a refusal
 
@@ -67,7 +82,8 @@ module _ (plan : Plan) (st : LinkState) (h : History) (operation : Operation) (l
       → IsJoined plan st operation loss (pool_of plan st) e (record { outcome = outcome.Refused r; ends = e })
   refused r is =
       let none : reach_of operation verdict ≡ None =
-      sym (ap (reach_of operation) (is_due (Some r) is)) ∙ refused_reach operation e.keeper.op (host_of e.host) (pool_of plan st) loss r is in
+      sym (ap (reach_of operation) (is_due (Some r) is)) ∙ refused_reach operation e.keeper.op (host_of e.host)
+      (pool_of plan st) loss r is in
       record {
         verdict_is = is_due (Some r) is;
         op_is = rw none;
@@ -87,7 +103,8 @@ module _ (plan : Plan) (st : LinkState) (h : History) (operation : Operation) (l
     id_is = begun_id w (pool_of plan st) e.keeper;
     keys = begun_keys plan operation e.keeper.op st.draws e.keeper found.kept;
     fresh = λ makes lane lt le. refl;
-    ready = λ makes lane lt past le. ready_before plan st h found.stands e.keeper.link e.keeper.id e.keeper.op found.op_is operation e.device found.device
+    ready = λ makes lane lt past le. ready_before plan st h found.stands e.keeper.link e.keeper.id e.keeper.op
+        found.op_is operation e.device found.device
         makes lane lt past;
   }
 
@@ -109,66 +126,88 @@ module _ (plan : Plan) (st : LinkState) (h : History) (operation : Operation) (l
         let id = e.keeper.id in
         record {
           fits = work_fits operation e.keeper.op st.draws;
-          small = id_fits plan found.fits link id (kept_is plan st h (port_at Device link) id e.device found.stands.ports_stand found.device).known;
+          small = id_fits plan found.fits link id
+              (kept_is plan st h (port_at Device link) id e.device found.stands.ports_stand found.device).known;
           requester_most = found.requester_most;
-          keys = λ makes. lane_keys plan found.fits w.draw (draw_below plan st h found.stands link id e.keeper.op found.op_is operation
-              (λ now. true-lt st.draws (length plan.pool / 6) (has_room operation e.keeper.op (host_of e.host) (pool_of plan st) free now)) makes);
+          keys = λ makes. lane_keys plan found.fits w.draw
+              (draw_below plan st h found.stands link id e.keeper.op found.op_is operation
+              (λ now. true-lt st.draws (length plan.pool / 6)
+              (has_room operation e.keeper.op (host_of e.host) (pool_of plan st) free now)) makes);
           reads = λ lane lt. rw (← (same_slots (sends_in Device (lane / 3)) (sub_from (lane % 3)) e.device))
-              (reads_stream plan st Device link id e.device found.device (sends_in Device (lane / 3)) (sub_from (lane % 3)) w.set);
+              (reads_stream plan st Device link id e.device found.device (sends_in Device (lane / 3))
+              (sub_from (lane % 3)) w.set);
           apart = λ lane lt. subst DrawsApart (same_slots (sends_in Device (lane / 3)) (sub_from (lane % 3)) e.device)
-              ((is_sound plan st h found.stands.ports_stand Device link id e.device found.device).apart (sends_in Device (lane / 3)) (sub_from (lane % 3)));
+              ((is_sound plan st h found.stands.ports_stand Device link id e.device found.device).apart
+              (sends_in Device (lane / 3)) (sub_from (lane % 3)));
         }
 
-    verdict_comes : comes_to e.keeper.link e.keeper.id w loss (stays_at (ports_of plan st) e.keeper.link e.keeper.id loss w) ≡ verdict
+    verdict_comes : comes_to e.keeper.link e.keeper.id w loss
+        (stays_at (ports_of plan st) e.keeper.link e.keeper.id loss w) ≡ verdict
     verdict_comes =
         let same = same_operation operation e.keeper.op st.draws in
-        sym comes_is.verdict_is ∙ ((λ i. verdict_of (same i) e.keeper.link e.keeper.id loss (told (same i)).outcome) ∙ is_due None free)
+        sym comes_is.verdict_is ∙
+        ((λ i. verdict_of (same i) e.keeper.link e.keeper.id loss (told (same i)).outcome) ∙ is_due None free)
 
     rest_comes : (more : ℕ) → 12 ≤ more
         → Rest plan w e.keeper.id w.first (begun_from plan st operation e)
-        (comes_to e.keeper.link e.keeper.id w loss (stays_at (ports_of plan st) e.keeper.link e.keeper.id loss w)) (told w.operation)
+        (comes_to e.keeper.link e.keeper.id w loss (stays_at (ports_of plan st) e.keeper.link e.keeper.id loss w))
+        (told w.operation)
         (walk_on (suc more) loss requester (begun_from plan st operation e))
     rest_comes more enough =
         let range = within in
         let top = last_most w.operation in
         let long : suc (last_of w.operation - w.first) ≡ last_of w.operation + 1 - w.first = omega (arith, range) in
-        rw (← long) (rest_is plan (ports_of plan st) w e.keeper.link e.keeper.id requester e.device knows loss (last_of w.operation - w.first) more w.first
+        rw (← long) (rest_is plan (ports_of plan st) w e.keeper.link e.keeper.id requester e.device knows loss
+        (last_of w.operation - w.first) more w.first
         (begun_from plan st operation e) (omega (arith, range)) range.0 (omega (arith, range, top, enough)) first_next)
 
-    joins : CallsAreMoves → (more : ℕ) → 12 ≤ more → IsJoined plan st operation loss (pool_of plan st) e (walk_on (suc more) loss requester (begun_from plan st operation e))
+    joins : CallsAreMoves → (more : ℕ) → 12 ≤ more → IsJoined plan st operation loss (pool_of plan st) e
+        (walk_on (suc more) loss requester (begun_from plan st operation e))
     joins calls more enough =
         let link = e.keeper.link in
         let id = e.keeper.id in
         let same = same_operation operation e.keeper.op st.draws in
         let rest = rest_comes more enough in
         let r = rest.comes in
-        let reached : reach_of operation verdict ≡ Some r = sym (λ i. reach_of (same i) (verdict_comes i)) ∙ rest.says in
+        let reached : reach_of operation verdict ≡ Some r = sym (λ i. reach_of (same i) (verdict_comes i)) ∙ rest.says
+        in
         let stands = found.stands.ports_stand in
-        let moves : AreMoves plan (ports_of plan st) link id w r e.host e.device = calls plan (ports_of plan st) link id w r e.host e.device
+        let moves : AreMoves plan (ports_of plan st) link id w r e.host e.device = calls plan (ports_of plan st) link id
+        w r e.host e.device
         (operation, e.keeper.op, st.draws, refl)
         (assumption (within, rest.within, begins_first operation e.keeper.op st.draws))
-        (is_sound plan st h stands Host link id e.host found.host) (is_sound plan st h stands Device link id e.device found.device)
-        (reads_stream plan st Host link id e.host found.host) (reads_stream plan st Device link id e.device found.device) in
+        (is_sound plan st h stands Host link id e.host found.host)
+        (is_sound plan st h stands Device link id e.device found.device)
+        (reads_stream plan st Host link id e.host found.host)
+        (reads_stream plan st Device link id e.device found.device) in
         record {
-          verdict_is = ap (verdict_of operation link id loss) rest.outcome_is ∙ (sym (λ i. verdict_of (same i) link id loss (told w.operation).outcome)
+          verdict_is = ap (verdict_of operation link id loss) rest.outcome_is ∙
+              (sym (λ i. verdict_of (same i) link id loss (told w.operation).outcome)
               ∙ (comes_is.verdict_is ∙ verdict_comes));
-          op_is = ap (λ (s : StreamView). s.op) rest.keeper_is ∙ (comes_is.op_is ∙ (λ i. op_by e.keeper.op w (reach_of (same i) (verdict_comes i))));
-          host_is = rw reached (rest.host_is ∙ (sym (requests_append Host (begun_requests plan id w) (goes_from w id w.first r.acknowledged) e.host)
+          op_is = ap (λ (s : StreamView). s.op) rest.keeper_is ∙
+              (comes_is.op_is ∙ (λ i. op_by e.keeper.op w (reach_of (same i) (verdict_comes i))));
+          host_is = rw reached (rest.host_is ∙
+              (sym (requests_append Host (begun_requests plan id w) (goes_from w id w.first r.acknowledged) e.host)
               ∙ moves.host_moved));
           device_is = rw reached (rest.device_is ∙ moves.device_moved);
-          draws_is = rw reached (draws_on w (pool_of plan st) (has_room operation e.keeper.op (host_of e.host) (pool_of plan st) free));
+          draws_is = rw reached
+              (draws_on w (pool_of plan st) (has_room operation e.keeper.op (host_of e.host) (pool_of plan st) free));
           link_is = rest.names_are.0 ∙ begun_link w (pool_of plan st) e.keeper;
           id_is = rest.names_are.1 ∙ begun_id w (pool_of plan st) e.keeper;
           keys_are = rest.keys_are;
         }
 
-  by_refusal : CallsAreMoves → (more : ℕ) → 12 ≤ more → (r : Option Refusal) → refusal_of operation e.keeper.op (host_of e.host) (pool_of plan st) ≡ r
-      → IsJoined plan st operation loss (pool_of plan st) e (walked_unless r e (walk_on (suc more) loss requester (begun_from plan st operation e)))
+  by_refusal : CallsAreMoves → (more : ℕ) → 12 ≤ more → (r : Option Refusal)
+      → refusal_of operation e.keeper.op (host_of e.host) (pool_of plan st) ≡ r
+      → IsJoined plan st operation loss (pool_of plan st) e
+      (walked_unless r e (walk_on (suc more) loss requester (begun_from plan st operation e)))
   by_refusal calls more enough (Some r) is = refused r is
   by_refusal calls more enough None is = joins is calls more enough
 
 pub joined : CallsAreMoves → OperationsJoin
 joined calls plan st h operation loss requester pool e fits stands most host device op_is is kept =
     let found : Found plan st h requester e = assumption in
-    subst (λ (p : Pool). IsJoined plan st operation loss p e (event_walk operation (host_of e.host) p loss requester e)) (sym is)
-    (by_refusal plan st h operation loss requester e found calls 12 (omega arith) (refusal_of operation e.keeper.op (host_of e.host) (pool_of plan st)) refl)
+    subst (λ (p : Pool). IsJoined plan st operation loss p e (event_walk operation (host_of e.host) p loss requester e))
+    (sym is)
+    (by_refusal plan st h operation loss requester e found calls 12 (omega arith)
+    (refusal_of operation e.keeper.op (host_of e.host) (pool_of plan st)) refl)

@@ -1,6 +1,9 @@
 -- Exchanges by number: the lanes that they speak of, with their slots, and which of them the device refuses.
-use Rattle.link_walks.proofs.Terms.{◌≡◌, Bool, arith, true, SubKind, ℕ, false, nat_tests, Operation, end_at, Slots, ◌≤◌, makes_draw, Device, slot_pair, StreamState, ◌+◌, zero, suc, refl, ◌-◌, Place, ◌<◌, last_of, slots_of, key_slot}
-use Rattle.link_walks.proofs.Terms.{Slot, ◌/◌, ◌%◌, inl, inr, sub_from, cases_lt, PortView, is_refused, slot_in, is_empty, sends_in, slots_at, exchange_of}
+use Rattle.link_walks.proofs.Terms.{◌≡◌, Bool, arith, true, SubKind, ℕ, false, nat_tests, Operation, end_at, Slots, ◌≤◌}
+use Rattle.link_walks.proofs.Terms.{makes_draw, Device, slot_pair, StreamState, ◌+◌, zero, suc, refl, ◌-◌, Place, ◌<◌}
+use Rattle.link_walks.proofs.Terms.{last_of, slots_of, key_slot}
+use Rattle.link_walks.proofs.Terms.{Slot, ◌/◌, ◌%◌, inl, inr, sub_from, cases_lt, PortView, is_refused, slot_in}
+use Rattle.link_walks.proofs.Terms.{is_empty, sends_in, slots_at, exchange_of}
 use Rattle.key_slots.specs as pair
 use Rattle.link_verdicts.specs.declared.verdict.Operation.TheVariants as op
 use Rattle.tsm_host.specs.declared.exchange.Exchange.TheVariants as exchange
@@ -44,8 +47,10 @@ first_program op.Stop = 1
 
 pub data Turn (o : Operation) (set : Bool) (n : ℕ) : Type 0 where
   asks : o ≡ op.Establish → n ≡ 1 → exchange_of o set n ≡ exchange.Query → Turn o set n
-  puts : (lane : ℕ) → lane < 6 → makes_draw o ≡ true → n ≡ first_program o + lane → exchange_of o set n ≡ exchange.Program set lane → Turn o set n
-  goes : (lane : ℕ) → lane < 6 → makes_draw o ≡ true → n ≡ first_program o + (6 + lane) → exchange_of o set n ≡ exchange.Go set lane → Turn o set n
+  puts : (lane : ℕ) → lane < 6 → makes_draw o ≡ true → n ≡ first_program o + lane → exchange_of o set n
+      ≡ exchange.Program set lane → Turn o set n
+  goes : (lane : ℕ) → lane < 6 → makes_draw o ≡ true → n ≡ first_program o + (6 + lane) → exchange_of o set n
+      ≡ exchange.Go set lane → Turn o set n
   halts : (k : Bool) (lane : ℕ) → lane < 6 → o ≡ op.Stop → exchange_of o set n ≡ exchange.Stop k lane → Turn o set n
 
 pub turn : (o : Operation) (set : Bool) (n : ℕ) → 1 ≤ n → n ≤ last_of o → Turn o set n
@@ -68,10 +73,12 @@ turn op.Stop set n least most = elim (cases_lt n 7) [
 -- ---- refusals
 
 -- only a KEY_PROG may be refused, by its lane's place
-pub put_refused : (ports : PortView) (o : Operation) (set : Bool) (link stream : ℕ) → makes_draw o ≡ true → (lane : ℕ) → lane < 6
+pub put_refused : (ports : PortView) (o : Operation) (set : Bool) (link stream : ℕ) → makes_draw o ≡ true → (lane : ℕ)
+    → lane < 6
     → is_refused ports o set link stream (first_program o + lane) ≡ ports.refuses (lane_place link stream lane) set
 put_refused ports o set link stream draws lane lt = grind (arith, nat_tests)
 
-pub go_refused : (ports : PortView) (o : Operation) (set : Bool) (link stream : ℕ) → makes_draw o ≡ true → (lane : ℕ) → lane < 6
+pub go_refused : (ports : PortView) (o : Operation) (set : Bool) (link stream : ℕ) → makes_draw o ≡ true → (lane : ℕ)
+    → lane < 6
     → is_refused ports o set link stream (first_program o + (6 + lane)) ≡ false
 go_refused ports o set link stream draws lane lt = grind (arith, nat_tests)

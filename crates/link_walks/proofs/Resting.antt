@@ -2,10 +2,18 @@
 -- carried. By induction on the exchanges that are left, each is lost as a request or as a reply or refused, and the
 -- walk stays there (`stays`), or it is answered as expected, and its calls go ahead of those of the rest (`back`). The
 -- host's port is called behind one exchange at the most, the last receiver's GO.
-use Rattle.link_walks.proofs.Terms.{◌≡◌, Bool, arith, true, ℕ, List, ◌++◌, Work, Plan, if◌then◌else◌, false, nat_tests, Operation, ◌≤◌, ◌∙◌, sym, Reach, makes_draw, is_within, StreamCall, Host, StreamState, ◌+◌, ◌==◌, [], zero, suc}
-use Rattle.link_walks.proofs.Terms.{refl, ◌-◌, ap, work, exchange_call, exchanges_called, all_called, host_go, ◌&&◌, ◌<◌, Some, subst, ◌∷◌, last_of, ◌||◌, Option, None, reach_of, Op, op_standing, reach, op_after, requests_called, Loss}
-use Rattle.link_walks.proofs.Terms.{Verdict, PortView, comes_to, is_lost, first_from, done, different-false, Local, go_requests, StreamView, asked_in, outcome_of, taken_stream, taken_calls, shown_at_end, ManagerWalk, answers, walk}
-use Rattle.link_walks.proofs.Terms.{continued, StreamEnds, walk_on, ends_after, Exchanged, unless_lost, Walked, goes_on, HasKeys, KeysKept, KeysKeptIn, exchange_of, WireKeys, is_last_receiver_go, Judged, Expected, Refused, Lost}
+use Rattle.link_walks.proofs.Terms.{◌≡◌, Bool, arith, true, ℕ, List, ◌++◌, Work, Plan, if◌then◌else◌, false, nat_tests}
+use Rattle.link_walks.proofs.Terms.{Operation, ◌≤◌, ◌∙◌, sym, Reach, makes_draw, is_within, StreamCall, Host}
+use Rattle.link_walks.proofs.Terms.{StreamState, ◌+◌, ◌==◌, [], zero, suc}
+use Rattle.link_walks.proofs.Terms.{refl, ◌-◌, ap, work, exchange_call, exchanges_called, all_called, host_go, ◌&&◌}
+use Rattle.link_walks.proofs.Terms.{◌<◌, Some, subst, ◌∷◌, last_of, ◌||◌, Option, None, reach_of, Op, op_standing}
+use Rattle.link_walks.proofs.Terms.{reach, op_after, requests_called, Loss}
+use Rattle.link_walks.proofs.Terms.{Verdict, PortView, comes_to, is_lost, first_from, done, different-false, Local}
+use Rattle.link_walks.proofs.Terms.{go_requests, StreamView, asked_in, outcome_of, taken_stream, taken_calls}
+use Rattle.link_walks.proofs.Terms.{shown_at_end, ManagerWalk, answers, walk}
+use Rattle.link_walks.proofs.Terms.{continued, StreamEnds, walk_on, ends_after, Exchanged, unless_lost, Walked, goes_on}
+use Rattle.link_walks.proofs.Terms.{HasKeys, KeysKept, KeysKeptIn, exchange_of, WireKeys, is_last_receiver_go, Judged}
+use Rattle.link_walks.proofs.Terms.{Expected, Refused, Lost}
 use Rattle.tsm_host.specs.declared.operation.Outcome.{Outcome}
 use Rattle.tsm_host.proofs.Walks.{WorkFits}
 use Rattle.link_verdicts.specs.declared.verdict.Verdict.TheVariants as v
@@ -21,7 +29,8 @@ all_append (c ∷ cs) ys x = all_append cs ys _
 
 -- the calls of so many exchanges, and those of one more ahead
 one_more : (plan : Plan) (w : Work) (n carried : ℕ) (x : StreamState) → n + 1 ≤ carried
-    → all_called (exchanges_called plan w (n + 1) (carried - (n + 1))) (all_called (exchange_call plan w n) x) ≡ all_called (exchanges_called plan w n (carried - n)) x
+    → all_called (exchanges_called plan w (n + 1) (carried - (n + 1))) (all_called (exchange_call plan w n) x)
+    ≡ all_called (exchanges_called plan w n (carried - n)) x
 one_more plan w n carried x le =
     let count : carried - n ≡ suc (carried - (n + 1)) = omega (arith, le) in
     rw (count, all_append (exchange_call plan w n) (exchanges_called plan w (n + 1) (carried - (n + 1))) x)
@@ -29,16 +38,19 @@ one_more plan w n carried x le =
 none_carried : (plan : Plan) (w : Work) (n : ℕ) (x : StreamState) → x ≡ all_called (exchanges_called plan w n (n - n)) x
 none_carried plan w n x = let count : n - n ≡ 0 = omega arith in rw count
 
-one_carried : (plan : Plan) (w : Work) (n : ℕ) (x : StreamState) → all_called (exchange_call plan w n) x ≡ all_called (exchanges_called plan w n (n + 1 - n)) x
+one_carried : (plan : Plan) (w : Work) (n : ℕ) (x : StreamState) → all_called (exchange_call plan w n) x
+    ≡ all_called (exchanges_called plan w n (n + 1 - n)) x
 one_carried plan w n x = let count : n + 1 - n ≡ 1 = omega arith in rw (count, all_append (exchange_call plan w n) [] x)
 
 -- ---- GOs of the host's port
 
 abbrev pub goes_from : Work → ℕ → ℕ → ℕ → List Local
-goes_from w id n below = if makes_draw w.operation then (if is_within n (host_go w.operation) below then go_requests id w.set else []) else []
+goes_from w id n below = if makes_draw w.operation then
+    (if is_within n (host_go w.operation) below then go_requests id w.set else []) else []
 
 -- which exchange makes the host's port go on
-go_at_host : (o : Operation) (set : Bool) (n : ℕ) → 1 ≤ n → n ≤ last_of o → is_last_receiver_go (exchange_of o set n) ≡ (makes_draw o && (n == host_go o))
+go_at_host : (o : Operation) (set : Bool) (n : ℕ) → 1 ≤ n → n ≤ last_of o → is_last_receiver_go (exchange_of o set n)
+    ≡ (makes_draw o && (n == host_go o))
 go_at_host o set n least most = grind (arith, nat_tests)
 
 none_from : (w : Work) (id n : ℕ) → goes_from w id n n ≡ []
@@ -46,21 +58,25 @@ none_from w id n = grind (arith, nat_tests)
 
 -- the GOs of one exchange, and of those behind it
 host_steps : (draws t : Bool) (n go below : ℕ) (requests : List Local) (host : StreamState) → (n == go) ≡ t → n < below
-    → requests_called Host (if draws then (if is_within (n + 1) go below then requests else []) else []) (requests_called Host (if draws && t then requests else []) host)
+    → requests_called Host (if draws then (if is_within (n + 1) go below then requests else []) else [])
+    (requests_called Host (if draws && t then requests else []) host)
     ≡ requests_called Host (if draws then (if is_within n go below then requests else []) else []) host
 host_steps draws t n go below requests host e lt = grind (arith, nat_tests)
 
 host_step : (w : Work) (id n below : ℕ) (host : StreamState) → 1 ≤ n → n ≤ last_of w.operation → n < below
-    → requests_called Host (goes_from w id (n + 1) below) (requests_called Host (taken_calls (asked_of w n) Expected id) host)
+    → requests_called Host (goes_from w id (n + 1) below)
+    (requests_called Host (taken_calls (asked_of w n) Expected id) host)
     ≡ requests_called Host (goes_from w id n below) host
 host_step w id n below host least most lt =
     rw (go_at_host w.operation w.set n least most)
-    (host_steps (makes_draw w.operation) (n == host_go w.operation) n (host_go w.operation) below (go_requests id w.set) host refl lt)
+    (host_steps (makes_draw w.operation) (n == host_go w.operation) n (host_go w.operation) below (go_requests id w.set)
+    host refl lt)
 
 -- ---- keys that are kept
 
 kept_standing : (plan : Plan) (w : Work) (n : ℕ) (keys : WireKeys) → 1 ≤ n → n ≤ last_of w.operation
-    → (makes_draw w.operation ≡ true → HasKeys plan w.draw (first_program w.operation) n keys) → KeysKeptIn plan (op_standing w n) keys
+    → (makes_draw w.operation ≡ true → HasKeys plan w.draw (first_program w.operation) n keys)
+    → KeysKeptIn plan (op_standing w n) keys
 kept_standing plan w n keys least most has = grind arith
 
 kept_ended : (plan : Plan) (w : Work) (n : ℕ) (keys : WireKeys) → n ≡ last_of w.operation
@@ -69,39 +85,50 @@ kept_ended plan w n keys is = grind (arith, nat_tests)
 
 -- ---- what the rest of a walk comes to
 
-pub record Rest (plan : Plan) (w : Work) (id n : ℕ) (e : StreamEnds) (verdict : Verdict) (y : ManagerWalk) (x : Walked) : Type 0 where
+pub record Rest (plan : Plan) (w : Work) (id n : ℕ) (e : StreamEnds) (verdict : Verdict) (y : ManagerWalk) (x : Walked)
+    : Type 0 where
   pub outcome_is : x.outcome ≡ y.outcome
   pub keeper_is : x.ends.keeper ≡ y.stream
   pub comes : Reach
   pub says : reach_of w.operation verdict ≡ Some comes
-  pub within : (n ≤ comes.acknowledged) × (comes.acknowledged ≤ comes.carried) × (comes.carried ≤ last_of w.operation + 1)
+  pub within : (n ≤ comes.acknowledged) × (comes.acknowledged ≤ comes.carried)
+      × (comes.carried ≤ last_of w.operation + 1)
   pub host_is : x.ends.host ≡ requests_called Host (goes_from w id n comes.acknowledged) e.host
   pub device_is : x.ends.device ≡ all_called (exchanges_called plan w n (comes.carried - n)) e.device
   pub names_are : (x.ends.keeper.link ≡ e.keeper.link) × (x.ends.keeper.id ≡ e.keeper.id)
   pub keys_are : KeysKept plan x.ends.keeper
 
 -- what holds of an exchange that is lost on either way, of one that is refused, and of any other
-by_fate : (P : Verdict → Judged → Exchanged → Type 0) (link id : ℕ) (w : Work) (loss : Option Loss) (n : ℕ) (rest : Option ℕ) (r : Bool) (came : Exchanged)
+by_fate : (P : Verdict → Judged → Exchanged → Type 0) (link id : ℕ) (w : Work) (loss : Option Loss) (n : ℕ)
+    (rest : Option ℕ) (r : Bool) (came : Exchanged)
     (x : StreamState)
-    → P (v.LostRequest n) Lost (record { judged = Lost; device = x }) → P (v.LostReply n) Lost (record { judged = Lost; device = came.device })
-    → (r ≡ true → P (v.RefusedDevice n 3) (Refused 3) came) → (r ≡ false → P (comes_to link id w loss rest) Expected came)
-    → P (comes_to link id w loss (if is_lost loss n || r then Some n else rest)) (if is_lost loss n then Lost else if r then Refused 3 else Expected)
+    → P (v.LostRequest n) Lost (record { judged = Lost; device = x })
+    → P (v.LostReply n) Lost (record { judged = Lost; device = came.device })
+    → (r ≡ true → P (v.RefusedDevice n 3) (Refused 3) came) →
+    (r ≡ false → P (comes_to link id w loss rest) Expected came)
+    → P (comes_to link id w loss (if is_lost loss n || r then Some n else rest))
+    (if is_lost loss n then Lost else if r then Refused 3 else Expected)
     (unless_lost loss n came x)
 by_fate P link id w loss n rest r came x request reply refused onward = grind arith
 
-standing_asked : (w : Work) (n : ℕ) → WorkFits w.operation w.set w.draw → asked_in (op_standing w n) ≡ Some (asked_of w n)
+standing_asked : (w : Work) (n : ℕ) → WorkFits w.operation w.set w.draw → asked_in (op_standing w n)
+    ≡ Some (asked_of w n)
 unfolding WorkFits
 standing_asked w n fits = grind arith
 
-done_says : (link id : ℕ) (w : Work) (n : ℕ) → n ≡ last_of w.operation → reach_of w.operation (done link id w) ≡ Some (reach (n + 1) (n + 1))
+done_says : (link id : ℕ) (w : Work) (n : ℕ) → n ≡ last_of w.operation → reach_of w.operation (done link id w)
+    ≡ Some (reach (n + 1) (n + 1))
 done_says link id w n is = grind arith
 
-module _ (plan : Plan) (ports : PortView) (w : Work) (link id requester : ℕ) (before : StreamState) (knows : Knows plan ports w link id requester before)
+module _ (plan : Plan) (ports : PortView) (w : Work) (link id requester : ℕ) (before : StreamState)
+    (knows : Knows plan ports w link id requester before)
     (loss : Option Loss) where
   -- it stays at the exchange
-  stays : (n : ℕ) (e : StreamEnds) → KeysKept plan e.keeper → (verdict : Verdict) (carried : ℕ) → reach_of w.operation verdict ≡ Some (reach carried n)
+  stays : (n : ℕ) (e : StreamEnds) → KeysKept plan e.keeper → (verdict : Verdict) (carried : ℕ)
+      → reach_of w.operation verdict ≡ Some (reach carried n)
       → n ≤ carried → carried ≤ last_of w.operation + 1
-      → (device : StreamState) → device ≡ all_called (exchanges_called plan w n (carried - n)) e.device → (out : Outcome)
+      → (device : StreamState) → device ≡ all_called (exchanges_called plan w n (carried - n)) e.device
+      → (out : Outcome)
       → Rest plan w id n e verdict (record { outcome = out; stream = e.keeper })
       (record { outcome = out; ends = record { host = e.host; device = device; keeper = e.keeper } })
   stays n e kept verdict carried says low high device device_is out = record {
@@ -120,19 +147,23 @@ module _ (plan : Plan) (ports : PortView) (w : Work) (link id requester : ℕ) (
   abbrev told : ℕ → Judged → ℕ → StreamView → ManagerWalk
   told n j k s =
       let a = asked_of w n in
-      continued (outcome_of a j) (taken_stream a j s) (walk k (answers loss (denies ports w link id)) (taken_stream a j s))
+      continued (outcome_of a j) (taken_stream a j s)
+      (walk k (answers loss (denies ports w link id)) (taken_stream a j s))
 
   abbrev walked : ℕ → Exchanged → ℕ → StreamEnds → Walked
-  walked n x more e = let a = asked_of w n in goes_on (outcome_of a x.judged) (ends_after a x e) (walk_on more loss requester (ends_after a x e))
+  walked n x more e = let a = asked_of w n in goes_on (outcome_of a x.judged) (ends_after a x e)
+      (walk_on more loss requester (ends_after a x e))
 
   abbrev answered : ℕ → Bool → StreamEnds → Exchanged
-  answered n r e = record { judged = if r then Refused 3 else Expected; device = all_called (exchange_call plan w n) e.device }
+  answered n r e = record
+      { judged = if r then Refused 3 else Expected; device = all_called (exchange_call plan w n) e.device }
 
   abbrev after : ℕ → StreamEnds → StreamEnds
   after n e = ends_after (asked_of w n) (answered n false e) e
 
   -- what is known behind an exchange tells what is known from it on
-  back : (n : ℕ) (e : StreamEnds) → IsNext plan w id before n e → 1 ≤ n → n ≤ last_of w.operation → (verdict : Verdict) (y : ManagerWalk) (x : Walked)
+  back : (n : ℕ) (e : StreamEnds) → IsNext plan w id before n e → 1 ≤ n → n ≤ last_of w.operation
+      → (verdict : Verdict) (y : ManagerWalk) (x : Walked)
       → Rest plan w id (n + 1) (after n e) verdict y x → Rest plan w id n e verdict y x
   back n e at least most verdict y x rest =
       let within = rest.within in
@@ -157,22 +188,30 @@ module _ (plan : Plan) (ports : PortView) (w : Work) (link id requester : ℕ) (
   ends n more k e at least same =
       let last : (n == last_of w.operation) ≡ true = grind (arith, nat_tests) in
       let next = after n e in
-      let rest = stays (n + 1) next (kept_ended plan w n next.keeper.keys same) (done link id w) (n + 1) (done_says link id w n same) (omega arith)
-      (omega (arith, same)) next.device (none_carried plan w (n + 1) next.device) (outcome.Done (shown_at_end (asked_of w n))) in
+      let rest = stays (n + 1) next (kept_ended plan w n next.keeper.keys same) (done link id w) (n + 1)
+      (done_says link id w n same) (omega arith)
+      (omega (arith, same)) next.device (none_carried plan w (n + 1) next.device)
+      (outcome.Done (shown_at_end (asked_of w n))) in
       rw last (rw last at (back n e at least (omega (arith, same)) _ _ _ rest))
 
   -- behind another one the walk goes on
-  further : (n more k : ℕ) (e : StreamEnds) → IsNext plan w id before n e → 1 ≤ n → n < last_of w.operation → (verdict : Verdict) → let next = after n e in
-      Rest plan w id (n + 1) next verdict (walk k (answers loss (denies ports w link id)) next.keeper) (walk_on more loss requester next)
+  further : (n more k : ℕ) (e : StreamEnds) → IsNext plan w id before n e → 1 ≤ n → n < last_of w.operation
+      → (verdict : Verdict) → let next = after n e in
+      Rest plan w id (n + 1) next verdict (walk k (answers loss (denies ports w link id)) next.keeper)
+      (walk_on more loss requester next)
       → Rest plan w id n e verdict (told n Expected k e.keeper) (walked n (answered n false e) more e)
   further n more k e at least less verdict rest =
-      let other = different-false n (last_of w.operation) less in rw other (rw other at (back n e at least (omega (arith, less)) _ _ _ rest))
+      let other = different-false n (last_of w.operation) less in rw other
+      (rw other at (back n e at least (omega (arith, less)) _ _ _ rest))
 
   -- one exchange, where the rest is known
-  steps : (n more k : ℕ) (e : StreamEnds) → IsNext plan w id before n e → 1 ≤ n → n ≤ last_of w.operation → (rest : Option ℕ)
-      → (denies ports w link id n ≡ false → Rest plan w id n e (comes_to link id w loss rest) (told n Expected k e.keeper)
+  steps : (n more k : ℕ) (e : StreamEnds) → IsNext plan w id before n e → 1 ≤ n → n ≤ last_of w.operation
+      → (rest : Option ℕ)
+      → (denies ports w link id n ≡ false → Rest plan w id n e (comes_to link id w loss rest)
+      (told n Expected k e.keeper)
       (walked n (answered n false e) more e))
-      → Rest plan w id n e (comes_to link id w loss (if is_lost loss n || denies ports w link id n then Some n else rest))
+      → Rest plan w id n e (comes_to link id w loss
+      (if is_lost loss n || denies ports w link id n then Some n else rest))
       (walk (suc k) (answers loss (denies ports w link id)) e.keeper) (walk_on (suc more) loss requester e)
   steps n more k e at least most rest onward =
       let r = denies ports w link id n in
@@ -181,14 +220,18 @@ module _ (plan : Plan) (ports : PortView) (w : Work) (link id requester : ℕ) (
       (kept_standing plan w n e.keeper.keys least most at.keys) in
       let asked : asked_in e.keeper.op ≡ Some (asked_of w n) = ap asked_in at.op_is ∙ standing_asked w n knows.fits in
       rw (asked, came_is plan ports w link id requester before knows n e at least most)
-      (by_fate (λ verdict j x. Rest plan w id n e verdict (told n j k e.keeper) (walked n x more e)) link id w loss n rest r (answered n r e) e.device
+      (by_fate (λ verdict j x. Rest plan w id n e verdict (told n j k e.keeper) (walked n x more e)) link id w loss n
+      rest r (answered n r e) e.device
       (stays n e kept (v.LostRequest n) n refl (omega arith) (omega arith) e.device (none_carried plan w n e.device) _)
       (stays n e kept (v.LostReply n) (n + 1) refl (omega arith) (omega arith) came (one_carried plan w n e.device) _)
-      (λ denied. rw denied (stays n e kept (v.RefusedDevice n 3) (n + 1) refl (omega arith) (omega arith) came (one_carried plan w n e.device) _))
+      (λ denied. rw denied (stays n e kept (v.RefusedDevice n 3) (n + 1) refl (omega arith) (omega arith) came
+      (one_carried plan w n e.device) _))
       (λ free. rw free (onward free)))
 
-  pub rest_is : (k more n : ℕ) (e : StreamEnds) → n + k ≡ last_of w.operation → 1 ≤ n → k ≤ more → IsNext plan w id before n e
-      → Rest plan w id n e (comes_to link id w loss (first_from (λ x. is_lost loss x || denies ports w link id x) n (suc k)))
+  pub rest_is : (k more n : ℕ) (e : StreamEnds) → n + k ≡ last_of w.operation → 1 ≤ n → k ≤ more
+      → IsNext plan w id before n e
+      → Rest plan w id n e (comes_to link id w loss
+      (first_from (λ x. is_lost loss x || denies ports w link id x) n (suc k)))
       (walk (suc k) (answers loss (denies ports w link id)) e.keeper) (walk_on (suc more) loss requester e)
   rest_is zero more n e count least le at =
       let same : n ≡ last_of w.operation = omega (arith, count) in

@@ -1,7 +1,13 @@
 -- What is known of a stream that stands for a history.
-use Rattle.link_walks.proofs.Terms.{◌≡◌, Bool, arith, true, SubKind, ℕ, List, Plan, false, nat_tests, end_at, Slots, ◌∙◌, sym, Host, slot_pair, StreamState, refl, ap, SubStream, WaitsBesideLive, Pr, Npr, Cpl, Some, subst, ◌≢◌, port_at}
-use Rattle.link_walks.proofs.Terms.{slots_of, at_sub, Slot, Live, lane_out, lane_in, IsSound, ReadsStream, DrawsApart, ◌||◌, History, moments, status_by, key_plan, slot_in, Armed, LinkState, find, ports_of, status_at, refuses_at}
-use Rattle.link_walks.proofs.Terms.{live_at, status_there, Side, live_set, is_set, Reads, status_named, has_some, has_all, tx_slots, rx_slots, PortsStand, kept_is, host_of, Keys, Shape, keys_of, key_cause}
+use Rattle.link_walks.proofs.Terms.{◌≡◌, Bool, arith, true, SubKind, ℕ, List, Plan, false, nat_tests, end_at, Slots}
+use Rattle.link_walks.proofs.Terms.{◌∙◌, sym, Host, slot_pair, StreamState, refl, ap, SubStream, WaitsBesideLive, Pr}
+use Rattle.link_walks.proofs.Terms.{Npr, Cpl, Some, subst, ◌≢◌, port_at}
+use Rattle.link_walks.proofs.Terms.{slots_of, at_sub, Slot, Live, lane_out, lane_in, IsSound, ReadsStream, DrawsApart}
+use Rattle.link_walks.proofs.Terms.{◌||◌, History, moments, status_by, key_plan, slot_in, Armed, LinkState, find}
+use Rattle.link_walks.proofs.Terms.{ports_of, status_at, refuses_at}
+use Rattle.link_walks.proofs.Terms.{live_at, status_there, Side, live_set, is_set, Reads, status_named, has_some}
+use Rattle.link_walks.proofs.Terms.{has_all, tx_slots, rx_slots, PortsStand, kept_is, host_of, Keys, Shape, keys_of}
+use Rattle.link_walks.proofs.Terms.{key_cause}
 use Rattle.link_ports.specs.Stands.{standing}
 use Rattle.ide_types.specs.declared.port.PortName.{PortName}
 use Rattle.key_laws.proofs.Whole.{fits}
@@ -24,7 +30,8 @@ may_stand (Armed j key) b = is_live b
 may_stand a (Armed j key) = is_live a
 may_stand a b = true
 
-tx_may : (plan : Plan) (xs : SealedList) (s : SubStream) (sh : Shape) → InOrder sh → may_stand (tx_slots plan xs s (keys_of sh)).first (tx_slots plan xs s (keys_of sh)).second ≡ true
+tx_may : (plan : Plan) (xs : SealedList) (s : SubStream) (sh : Shape) → InOrder sh
+    → may_stand (tx_slots plan xs s (keys_of sh)).first (tx_slots plan xs s (keys_of sh)).second ≡ true
 tx_may plan xs s sh lt = grind (arith, nat_tests)
 
 apart_of : (s : Slots) → may_stand s.first s.second ≡ true → DrawsApart s
@@ -35,90 +42,113 @@ waits_of s may k draw key e = grind arith
 
 -- ---- the slots of a receiver
 
-rx_never : (plan : Plan) (h : History) (port : PortName) (s : SubStream) (keys : Keys) (k : Bool) (draw : ℕ) (key : List ℕ)
+rx_never : (plan : Plan) (h : History) (port : PortName) (s : SubStream) (keys : Keys) (k : Bool) (draw : ℕ)
+    (key : List ℕ)
     → slot_in (rx_slots plan h port s keys) k ≢ Armed draw key
 rx_never plan h port s keys k draw key e = grind arith
 
-rx_apart : (plan : Plan) (h : History) → CauseLaw plan h → (port : PortName) (s : SubStream) → DrawsApart (rx_slots plan h port s (keys_at h port s))
+rx_apart : (plan : Plan) (h : History) → CauseLaw plan h → (port : PortName) (s : SubStream)
+    → DrawsApart (rx_slots plan h port s (keys_at h port s))
 rx_apart plan h law port s x y e f same =
     let differ = (facts plan).apart h law port s x.draw y.draw in grind (arith, nat_tests)
 
 -- ---- a stream
 
 module _ (plan : Plan) (h : History) (law : CauseLaw plan h) (side : Side) (link stream : ℕ) where
-  tx_slots_are : (u : SubKind) → let port = port_at side link in (at_sub (standing plan h port stream).tx u).slots ≡ tx_slots plan (sealed_packets plan h) (lane_out port stream u) (keys_at h port (lane_out port stream u))
+  tx_slots_are : (u : SubKind) → let port = port_at side link in (at_sub (standing plan h port stream).tx u).slots
+      ≡ tx_slots plan (sealed_packets plan h) (lane_out port stream u) (keys_at h port (lane_out port stream u))
   unfolding standing
   tx_slots_are u = grind arith
 
-  rx_slots_are : (u : SubKind) → let port = port_at side link in (at_sub (standing plan h port stream).rx u).slots ≡ rx_slots plan h port (lane_in port stream u) (keys_at h port (lane_in port stream u))
+  rx_slots_are : (u : SubKind) → let port = port_at side link in (at_sub (standing plan h port stream).rx u).slots
+      ≡ rx_slots plan h port (lane_in port stream u) (keys_at h port (lane_in port stream u))
   unfolding standing
   rx_slots_are u = grind arith
 
-  sender_may : (u : SubKind) → let s = (at_sub (standing plan h (port_at side link) stream).tx u).slots in may_stand s.first s.second ≡ true
+  sender_may : (u : SubKind) → let s = (at_sub (standing plan h (port_at side link) stream).tx u).slots in may_stand
+      s.first s.second ≡ true
   sender_may u =
       let port = port_at side link in
       let s = lane_out port stream u in
       let place = end_at link stream true side u in
       let at = fits (key_plan plan) h (key_cause plan h law) place in
       let are : keys_at h port s ≡ keys_of at.shape = keys_out h port stream u ∙ at.is.are in
-      subst (λ (x : Slots). may_stand x.first x.second ≡ true) (sym (tx_slots_are u ∙ ap (tx_slots plan (sealed_packets plan h) s) are))
+      subst (λ (x : Slots). may_stand x.first x.second ≡ true)
+      (sym (tx_slots_are u ∙ ap (tx_slots plan (sealed_packets plan h) s) are))
       (tx_may plan (sealed_packets plan h) s at.shape (in_order true (moments h place) at.shape at.is.sound))
 
-  draws_apart : (sends : Bool) (u : SubKind) → DrawsApart (slots_of sends u (standing plan h (port_at side link) stream))
+  draws_apart : (sends : Bool) (u : SubKind) → DrawsApart
+      (slots_of sends u (standing plan h (port_at side link) stream))
   draws_apart true u = apart_of (at_sub (standing plan h (port_at side link) stream).tx u).slots (sender_may u)
-  draws_apart false u = subst DrawsApart (sym (rx_slots_are u)) (rx_apart plan h law (port_at side link) (lane_in (port_at side link) stream u))
+  draws_apart false u = subst DrawsApart (sym (rx_slots_are u))
+      (rx_apart plan h law (port_at side link) (lane_in (port_at side link) stream u))
 
-  never_armed : (u : SubKind) (k : Bool) (draw : ℕ) (key : List ℕ) → slot_in (at_sub (standing plan h (port_at side link) stream).rx u).slots k ≢ Armed draw key
-  never_armed u k draw key = rw (rx_slots_are u) (rx_never plan h (port_at side link) (lane_in (port_at side link) stream u) _ k draw key)
+  never_armed : (u : SubKind) (k : Bool) (draw : ℕ) (key : List ℕ)
+      → slot_in (at_sub (standing plan h (port_at side link) stream).rx u).slots k ≢ Armed draw key
+  never_armed u k draw key = rw (rx_slots_are u)
+      (rx_never plan h (port_at side link) (lane_in (port_at side link) stream u) _ k draw key)
 
 -- counts are those of directions with a Live key
-out_is : (plan : Plan) (h : History) (port : PortName) (stream : ℕ) → any_of (outs (standing plan h port stream)) ≡ has_live_out h port stream
+out_is : (plan : Plan) (h : History) (port : PortName) (stream : ℕ) → any_of (outs (standing plan h port stream))
+    ≡ has_live_out h port stream
 unfolding standing has_live_out
 out_is plan h port stream =
-    let live = λ (u : SubKind). live_out_is plan (sealed_packets plan h) (lane_out port stream u) (keys_at h port (lane_out port stream u)) in
+    let live = λ (u : SubKind). live_out_is plan (sealed_packets plan h) (lane_out port stream u)
+    (keys_at h port (lane_out port stream u)) in
     λ i. live Pr i || live Npr i || live Cpl i
 
-into_is : (plan : Plan) (h : History) (port : PortName) (stream : ℕ) → any_of (ins (standing plan h port stream)) ≡ has_live_in h port stream
+into_is : (plan : Plan) (h : History) (port : PortName) (stream : ℕ) → any_of (ins (standing plan h port stream))
+    ≡ has_live_in h port stream
 unfolding standing has_live_in
 into_is plan h port stream =
-    let live = λ (u : SubKind). live_in_is plan h port (lane_in port stream u) (keys_at h port (lane_in port stream u)) in
+    let live = λ (u : SubKind). live_in_is plan h port (lane_in port stream u) (keys_at h port (lane_in port stream u))
+    in
     λ i. live Pr i || live Npr i || live Cpl i
 
-settled_standing : (plan : Plan) (h : History) (port : PortName) (stream : ℕ) → settle (standing plan h port stream) ≡ standing plan h port stream
+settled_standing : (plan : Plan) (h : History) (port : PortName) (stream : ℕ) → settle (standing plan h port stream)
+    ≡ standing plan h port stream
 unfolding standing
-settled_standing plan h port stream = rw (out_is plan h port stream, into_is plan h port stream) (let live = failed_live plan h port stream in grind arith)
+settled_standing plan h port stream = rw (out_is plan h port stream, into_is plan h port stream)
+    (let live = failed_live plan h port stream in grind arith)
 
-pub is_sound : (plan : Plan) (st : LinkState) (h : History) → PortsStand plan st h → (side : Side) (link stream : ℕ) (x : StreamState) → find plan st (port_at side link) stream ≡ Some x → IsSound x
+pub is_sound : (plan : Plan) (st : LinkState) (h : History) → PortsStand plan st h
+    → (side : Side) (link stream : ℕ) (x : StreamState) → find plan st (port_at side link) stream ≡ Some x → IsSound x
 is_sound plan st h stands side link stream x found =
     let port = port_at side link in
     let is = kept_is plan st h port stream x stands found in
     subst IsSound (sym is.same) (record {
       settled = settled_standing plan h port stream;
       apart = draws_apart plan h stands.cause side link stream;
-      waits = λ u. waits_of (at_sub (standing plan h port stream).tx u).slots (sender_may plan h stands.cause side link stream u);
+      waits = λ u. waits_of (at_sub (standing plan h port stream).tx u).slots
+          (sender_may plan h stands.cause side link stream u);
       none_waits = never_armed plan h stands.cause side link stream;
     })
 
 -- ---- what operations read of it
 
-pub reads_stream : (plan : Plan) (st : LinkState) (side : Side) (link stream : ℕ) (x : StreamState) → find plan st (port_at side link) stream ≡ Some x → ReadsStream (ports_of plan st) side link stream x
+pub reads_stream : (plan : Plan) (st : LinkState) (side : Side) (link stream : ℕ) (x : StreamState)
+    → find plan st (port_at side link) stream ≡ Some x → ReadsStream (ports_of plan st) side link stream x
 reads_stream plan st side link stream x found sends u k = ap (refuses_at sends u k) found
 
 same_status : (a b c : Bool) → status_named a b c ≡ status_by a b c
 same_status a b c = grind arith
 
 -- the set that is shown is the Live one
-by_first : (set : Bool) (s : Slots) → may_stand s.first s.second ≡ true → is_set set (live_set (slot_pair true s)) ≡ is_live (slot_in s set)
+by_first : (set : Bool) (s : Slots) → may_stand s.first s.second ≡ true → is_set set (live_set (slot_pair true s))
+    ≡ is_live (slot_in s set)
 by_first set s may = grind arith
 
-pub host_read : (plan : Plan) (st : LinkState) (h : History) → PortsStand plan st h → (link stream : ℕ) (x : StreamState) → find plan st (port_at Host link) stream ≡ Some x → (draws : ℕ)
-    → Reads (key_plan plan) (ports_of plan st) link stream (status_at plan st Host link stream) (host_of x) (record { keys = plan.pool; draws = draws })
+pub host_read : (plan : Plan) (st : LinkState) (h : History) → PortsStand plan st h
+    → (link stream : ℕ) (x : StreamState) → find plan st (port_at Host link) stream ≡ Some x → (draws : ℕ)
+    → Reads (key_plan plan) (ports_of plan st) link stream (status_at plan st Host link stream) (host_of x)
+    (record { keys = plan.pool; draws = draws })
 host_read plan st h stands link stream x found draws =
     let is = kept_is plan st h (port_at Host link) stream x stands found in
     record {
       pool_is = refl;
       status_is = ap Some (same_status x.failed (has_some x) (has_all x) ∙ sym (ap status_there found));
       live_is = λ set u.
-          let may = subst (λ (y : StreamState). may_stand (at_sub y.tx u).slots.first (at_sub y.tx u).slots.second ≡ true) (sym is.same) (sender_may plan h stands.cause Host link stream u) in
+          let may = subst (λ (y : StreamState). may_stand (at_sub y.tx u).slots.first (at_sub y.tx u).slots.second
+          ≡ true) (sym is.same) (sender_may plan h stands.cause Host link stream u) in
           by_first set (at_sub x.tx u).slots may ∙ sym (ap (live_at true u set) found);
     }

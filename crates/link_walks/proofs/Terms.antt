@@ -1,10 +1,17 @@
 -- What proofs on walks of links speak of.
-pub use Rattle.call_moves.proofs.Terms.{◌≡◌, Bool, arith, true, SubKind, ℕ, List, ◌++◌, Work, Plan, if◌then◌else◌, false, nat_tests, Operation, end_at, Slots, ◌≤◌, ◌∙◌, sym, Reach, makes_draw, is_within, lane_key, StreamCall, Device}
-pub use Rattle.call_moves.proofs.Terms.{Host, is_only_live, slot_pair, StreamState, ◌+◌, ◌==◌, [], zero, suc, refl, ◌-◌, ap, work, exchange_call, exchanges_called, all_called, Place, SubStream, host_go, WaitsBesideLive, ◌&&◌, Pr, Npr}
-pub use Rattle.call_moves.proofs.Terms.{Cpl, ◌<◌, Some, subst, ◌≢◌, ◌∷◌, called, last_of, port_at, slots_of, refuses_in, key_slot, at_sub, Slot, Live, lane_out, lane_in, key_of, IsSound, ReadsStream, CallsAreMoves, DrawsApart, ◌||◌}
+pub use Rattle.call_moves.proofs.Terms.{◌≡◌, Bool, arith, true, SubKind, ℕ, List, ◌++◌, Work, Plan, if◌then◌else◌}
+pub use Rattle.call_moves.proofs.Terms.{false, nat_tests, Operation, end_at, Slots, ◌≤◌, ◌∙◌, sym, Reach, makes_draw}
+pub use Rattle.call_moves.proofs.Terms.{is_within, lane_key, StreamCall, Device}
+pub use Rattle.call_moves.proofs.Terms.{Host, is_only_live, slot_pair, StreamState, ◌+◌, ◌==◌, [], zero, suc, refl, ◌-◌}
+pub use Rattle.call_moves.proofs.Terms.{ap, work, exchange_call, exchanges_called, all_called, Place, SubStream}
+pub use Rattle.call_moves.proofs.Terms.{host_go, WaitsBesideLive, ◌&&◌, Pr, Npr}
+pub use Rattle.call_moves.proofs.Terms.{Cpl, ◌<◌, Some, subst, ◌≢◌, ◌∷◌, called, last_of, port_at, slots_of, refuses_in}
+pub use Rattle.call_moves.proofs.Terms.{key_slot, at_sub, Slot, Live, lane_out, lane_in, key_of, IsSound, ReadsStream}
+pub use Rattle.call_moves.proofs.Terms.{CallsAreMoves, DrawsApart, ◌||◌}
 pub use Rattle.std.proofs.Common.{◌/◌, Option, ◌%◌, None, length, inl, inr, ◌*◌, option_map, Ok, Err}
 pub use Rattle.std.specs.Prelude.{nat_lt, is_some, All}
-pub use Rattle.key_laws.specs.Operations.{reach_of, work_of, Op, op_standing, reach, op_after, Manager, operated, manager_after}
+pub use Rattle.key_laws.specs.Operations.{reach_of, work_of, Op, op_standing, reach, op_after, Manager, operated}
+pub use Rattle.key_laws.specs.Operations.{manager_after}
 pub use Rattle.call_moves.specs.Calls.{sub_from, requests_called, call_of_exchange}
 pub use Rattle.std.proofs.lemmas.List.{get_or-map, get_or_past, length-map, get_or-set_other}
 pub use Rattle.std.proofs.lemmas.Bool.{cases_lt}
@@ -13,23 +20,30 @@ pub use Rattle.link_events.specs.declared.event.Loss.{Loss}
 pub use Rattle.link_verdicts.specs.declared.verdict.Verdict.{Verdict}
 pub use Rattle.key_laws.specs.Places.{KeyPlan, lane as lane_number}
 pub use Rattle.key_laws.specs.History.{History, draws, moments, status_of, op_of, status_by}
-pub use Rattle.key_laws.specs.Due.{PortView, is_refused, comes_to, ports_at, establish_on, refresh_on, stays_at, is_lost, first_from, done}
+pub use Rattle.key_laws.specs.Due.{PortView, is_refused, comes_to, ports_at, establish_on, refresh_on, stays_at}
+pub use Rattle.key_laws.specs.Due.{is_lost, first_from, done}
 pub use Rattle.link_history.specs.Plan.{key_plan, streams_by_link, streams_of, with_id}
 pub use Rattle.stream_rules.specs.Stream.{slot_in, Armed}
-pub use Rattle.link_ports.specs.Machine.{LinkState, find, find_op, ports_of, status_at, refuses_at, live_at, stream_status as status_there}
+pub use Rattle.link_ports.specs.Machine.{LinkState, find, find_op, ports_of, status_at, refuses_at, live_at}
+pub use Rattle.link_ports.specs.Machine.{stream_status as status_there}
 pub use Rattle.call_moves.specs.Moves.{begun_requests, AreMoves}
 pub use Rattle.ide_types.specs.declared.port.Side.{Side}
-pub use Rattle.key_slots.specs.{is_empty, Pool, draws_in, SlotPair, is_one, live_set, slot_in as pair_slot, six_keys, unspent}
+pub use Rattle.key_slots.specs.{is_empty, Pool, draws_in, SlotPair, is_one, live_set, slot_in as pair_slot, six_keys}
+pub use Rattle.key_slots.specs.{unspent}
 pub use Rattle.key_laws.proofs.Tests.{different-false, true-lt, same-true}
 pub use Rattle.tsm_host.specs.declared.operation.Refusal.{Refusal}
 pub use Rattle.tsm_host.specs.Local.{Request, Request as Local, goes as go_requests}
-pub use Rattle.tsm_host.specs.Streams.{StreamView, draws_now, refusal_of, begun_stream, asked_in, begun_pool, outcome_of, taken_stream, taken_calls, shown_at_end, is_set, request_asked, keys_after, acknowledged, HostView}
-pub use Rattle.tsm_host.specs.Walk.{Walked as ManagerWalk, answers, walk, walked_unless as manager_walked, verdict_of, op_by, continued, Reads, refusal_verdict, IsAsked}
+pub use Rattle.tsm_host.specs.Streams.{StreamView, draws_now, refusal_of, begun_stream, asked_in, begun_pool}
+pub use Rattle.tsm_host.specs.Streams.{outcome_of, taken_stream, taken_calls, shown_at_end, is_set, request_asked}
+pub use Rattle.tsm_host.specs.Streams.{keys_after, acknowledged, HostView}
+pub use Rattle.tsm_host.specs.Walk.{Walked as ManagerWalk, answers, walk, walked_unless as manager_walked, verdict_of}
+pub use Rattle.tsm_host.specs.Walk.{op_by, continued, Reads, refusal_verdict, IsAsked}
 pub use Rattle.tsm_host.proofs.Walks.{Comes, walk_comes, WorkFits}
 pub use Rattle.stream_calls.specs.Calls.{sends_in, slots_at, pair_at, status_by as status_named, has_some, has_all}
 pub use Rattle.link_ports.specs.Stands.{StandsFor, tx_slots, rx_slots, PortsStand}
 pub use Rattle.link_ports.proofs.Changes.{kept_is}
-pub use Rattle.link_walks.specs.Walks.{StreamEnds, walk_on, came_to, ends_after, begun_ends, walked_unless, event_walk, shown_stream, port_called, judged_bytes, Exchanged, unless_lost, Walked, goes_on}
+pub use Rattle.link_walks.specs.Walks.{StreamEnds, walk_on, came_to, ends_after, begun_ends, walked_unless, event_walk}
+pub use Rattle.link_walks.specs.Walks.{shown_stream, port_called, judged_bytes, Exchanged, unless_lost, Walked, goes_on}
 pub use Rattle.link_walks.specs.Joined.{HasKeys, host_of, KeysKept, KeysKeptIn, verdict_due, IsJoined, OperationsJoin}
 pub use Rattle.key_laws.specs.Keys.{key_in, kept_in, Touch, keys, Keys}
 pub use Rattle.key_laws.proofs.Shapes.{Shape, keys_of, Marks}

@@ -1,6 +1,9 @@
 -- Where an event of an operation begins, or goes on.
-use Rattle.link_walks.proofs.Terms.{◌≡◌, arith, true, ℕ, Work, Plan, Operation, ◌≤◌, makes_draw, lane_key, refl, Some, last_of, Option, None, nat_lt, reach_of, work_of, Op, op_standing, Loss, Pool, draws_in, six_keys, unspent, Refusal}
-use Rattle.link_walks.proofs.Terms.{StreamView, draws_now, refusal_of, begun_stream, asked_in, HostView, refusal_verdict, IsAsked, HasKeys, KeysKeptIn, WireKeys, kept_key}
+use Rattle.link_walks.proofs.Terms.{◌≡◌, arith, true, ℕ, Work, Plan, Operation, ◌≤◌, makes_draw, lane_key, refl, Some}
+use Rattle.link_walks.proofs.Terms.{last_of, Option, None, nat_lt, reach_of, work_of, Op, op_standing, Loss, Pool}
+use Rattle.link_walks.proofs.Terms.{draws_in, six_keys, unspent, Refusal}
+use Rattle.link_walks.proofs.Terms.{StreamView, draws_now, refusal_of, begun_stream, asked_in, HostView}
+use Rattle.link_walks.proofs.Terms.{refusal_verdict, IsAsked, HasKeys, KeysKeptIn, WireKeys, kept_key}
 use Rattle.tsm_host.proofs.Walks.{WorkFits}
 use Rattle.link_walks.proofs.Lanes.{by_lane, first_program}
 
@@ -17,7 +20,8 @@ pub begins_first : (o : Operation) (q : Op) (next : ℕ) → (work_of o q next).
 begins_first o q next begins = grind arith
 
 -- it comes to one of its exchanges
-pub first_within : (plan : Plan) (o : Operation) (q : Op) (next : ℕ) (keys : WireKeys) → KeysKeptIn plan q keys → let w = work_of o q next in (1 ≤ w.first) × (w.first ≤ last_of w.operation)
+pub first_within : (plan : Plan) (o : Operation) (q : Op) (next : ℕ) (keys : WireKeys) → KeysKeptIn plan q keys
+    → let w = work_of o q next in (1 ≤ w.first) × (w.first ≤ last_of w.operation)
 first_within plan o q next keys kept = grind arith
 
 pub is_asked : (plan : Plan) (q : Op) (keys : WireKeys) → KeysKeptIn plan q keys → IsAsked (asked_in q)
@@ -25,7 +29,8 @@ is_asked plan q keys kept = grind arith
 
 -- ---- the stream as it begins, or goes on
 
-pub begun_op : (o : Operation) (q : Op) (next : ℕ) (pool : Pool) (s : StreamView) → s.op ≡ q → let w = work_of o q next in (begun_stream w pool s).op ≡ op_standing w w.first
+pub begun_op : (o : Operation) (q : Op) (next : ℕ) (pool : Pool) (s : StreamView) → s.op ≡ q
+    → let w = work_of o q next in (begun_stream w pool s).op ≡ op_standing w w.first
 begun_op o q next pool s is = grind arith
 
 pub begun_link : (w : Work) (pool : Pool) (s : StreamView) → (begun_stream w pool s).link ≡ s.link
@@ -36,18 +41,25 @@ begun_id w pool s = grind arith
 
 -- the six keys of a draw
 six_kept : (plan : Plan) (draw first next : ℕ) → HasKeys plan draw first next (unspent (six_keys plan.pool draw))
-six_kept plan draw first next lane lt le = by_lane (λ lane. kept_key (unspent (six_keys plan.pool draw)) lane ≡ Some (lane_key plan draw lane)) refl refl refl refl refl refl lane lt
+six_kept plan draw first next lane lt le = by_lane
+    (λ lane. kept_key (unspent (six_keys plan.pool draw)) lane ≡ Some (lane_key plan draw lane)) refl refl refl refl
+    refl refl lane lt
 
-pub begun_keys : (plan : Plan) (o : Operation) (q : Op) (next : ℕ) (s : StreamView) → KeysKeptIn plan q s.keys → let w = work_of o q next in
-    makes_draw w.operation ≡ true → HasKeys plan w.draw (first_program w.operation) w.first (begun_stream w (record { keys = plan.pool; draws = next }) s).keys
-begun_keys plan o q next s kept makes lane lt le = grind (arith, six_kept plan next 2 1 lane lt, six_kept plan next 1 1 lane lt)
+pub begun_keys : (plan : Plan) (o : Operation) (q : Op) (next : ℕ) (s : StreamView) → KeysKeptIn plan q s.keys
+    → let w = work_of o q next in
+    makes_draw w.operation ≡ true → HasKeys plan w.draw (first_program w.operation) w.first
+    (begun_stream w (record { keys = plan.pool; draws = next }) s).keys
+begun_keys plan o q next s kept makes lane lt le = grind
+    (arith, six_kept plan next 2 1 lane lt, six_kept plan next 1 1 lane lt)
 
 -- ---- refusals
 
 -- at the beginning no exchange was asked, so its verdict says that nothing was reached
-pub refused_reach : (o : Operation) (q : Op) (host : HostView) (pool : Pool) (loss : Option Loss) (r : Refusal) → refusal_of o q host pool ≡ Some r → reach_of o (refusal_verdict loss r) ≡ None
+pub refused_reach : (o : Operation) (q : Op) (host : HostView) (pool : Pool) (loss : Option Loss) (r : Refusal)
+    → refusal_of o q host pool ≡ Some r → reach_of o (refusal_verdict loss r) ≡ None
 refused_reach o q host pool loss r is = grind arith
 
 -- where it is not refused, the pool has keys for its draw
-pub has_room : (o : Operation) (q : Op) (host : HostView) (pool : Pool) → refusal_of o q host pool ≡ None → draws_now (work_of o q pool.draws) ≡ true → nat_lt pool.draws (draws_in pool.keys) ≡ true
+pub has_room : (o : Operation) (q : Op) (host : HostView) (pool : Pool) → refusal_of o q host pool ≡ None
+    → draws_now (work_of o q pool.draws) ≡ true → nat_lt pool.draws (draws_in pool.keys) ≡ true
 has_room o q host pool none draws = grind arith

@@ -18,7 +18,8 @@ use Rattle.tsm_host.specs.Walk.{verdict_of, due_on, op_by}
 use Rattle.stream_rules.specs.Stream.{StreamState}
 use Rattle.stream_calls.specs.Calls.{pair_at, stream_status}
 use Rattle.call_moves.specs.Calls.{lane_key}
-use Rattle.link_ports.specs.Machine.{LinkState, find, find_op, port_at, end_at, ports_of, status_at, moves_at, draws_after}
+use Rattle.link_ports.specs.Machine.{LinkState, find, find_op, port_at, end_at, ports_of, status_at, moves_at}
+use Rattle.link_ports.specs.Machine.{draws_after}
 use Rattle.link_ports.specs.Moves.{moved_stream}
 use Rattle.link_ports.specs.Stands.{StandsFor}
 use Rattle.link_walks.specs.Walks.{StreamEnds, Walked, event_walk}

@@ -17,7 +17,8 @@ use Rattle.tsm_host.specs.declared.operation.Outcome.TheVariants as outcome
 use Rattle.tsm_host.specs.declared.operation.Refusal.{Refusal}
 use Rattle.tsm_host.specs.declared.stage.Asked.{Asked}
 use Rattle.tsm_host.specs.Judging.{judged_reply}
-use Rattle.tsm_host.specs.Streams.{StreamView, HostView, asked_in, request_asked, refusal_of, begun_stream, begun_calls, outcome_of, taken_stream, taken_calls}
+use Rattle.tsm_host.specs.Streams.{StreamView, HostView, asked_in, request_asked, refusal_of, begun_stream, begun_calls}
+use Rattle.tsm_host.specs.Streams.{outcome_of, taken_stream, taken_calls}
 use Rattle.stream_rules.specs.Stream.{StreamState}
 use Rattle.stream_calls.specs.Calls as stream
 use Rattle.stream_calls.specs.Calls.{SlotCall, sends_in, pair_at, called}

@@ -6,7 +6,8 @@ use Rattle.tlp_layout.specs.declared.fault.TlpFault.{TlpFault}
 use Rattle.tlp_layout.specs.declared.head.HeadView.{HeadView}
 use Rattle.tlp_layout.specs.declared.head.TlpKind.{TlpKind}
 use Rattle.tlp_layout.specs.declared.tlp.Tlp.{Tlp}
-use Rattle.tlp_layout.specs.declared.head.TlpKind.TheVariants.{MemRead, MemWrite, CfgRead, CfgWrite, Message, Completion}
+use Rattle.tlp_layout.specs.declared.head.TlpKind.TheVariants.{MemRead, MemWrite, CfgRead, CfgWrite, Message}
+use Rattle.tlp_layout.specs.declared.head.TlpKind.TheVariants.{Completion}
 use Rattle.tlp_layout.specs.Class.{kind_of}
 use Rattle.tlp_layout.specs.Faults.{place_in}
 use Rattle.tlp_layout.specs.Head.{head_length}

@@ -7,7 +7,8 @@ ghost use Rattle.ide_prefix.specs.Packet.{is_sync_packet};
 ghost use Rattle.ide_prefix.specs.Faults.{packet_place};
 ghost use Rattle.fault_words.specs.FaultWords.{packet_word as packet_word_of};
 ghost use Rattle.ide_types.specs.Names.{Text, joined, fault_word};
-ghost use Rattle.packet_lines.specs.Showing.{carried, carried_word, carried_words, head_words, packet_words, plain_words, prefix_words, shown};
+ghost use Rattle.packet_lines.specs.Showing.{carried, carried_word, carried_words, head_words, packet_words};
+ghost use Rattle.packet_lines.specs.Showing.{plain_words, prefix_words, shown};
 
 use crate::names::{carried_name, kind_name};
 use fault_words::{packet_word, tlp_word};

@@ -1,16 +1,22 @@
 -- Each packet that is not posted carries the number of posted packets behind the last one of its sub-stream.
-use Rattle.sealing_laws.proofs.Terms.{◌≡◌, ◌≢◌, ℕ, ◌≤◌, true, List, [], ◌∷◌, ◌++◌, Option, Some, slice_get, take, ap, sym, ◌∙◌, inl, inr, AllByRecursion, ne_eqb}
-use Rattle.sealing_laws.proofs.Terms.{sub_bits, SubKind, PortName, Event, Send, Verdict, Sealed, SealedPacket, Prefix, Packet, Plan, SubStream, is_same, lane_out, open_unit, History, base, ahead_in, SealedList, KeyName, sealed_packets, sent_in, with_sealed, packet_of, sub_stream_of, posted_in, CauseLaw, DrawFacts, BaseStays, same_stream, sealing_is}
+use Rattle.sealing_laws.proofs.Terms.{◌≡◌, ◌≢◌, ℕ, ◌≤◌, true, List, [], ◌∷◌, ◌++◌, Option, Some, slice_get, take, ap}
+use Rattle.sealing_laws.proofs.Terms.{sym, ◌∙◌, inl, inr, AllByRecursion, ne_eqb}
+use Rattle.sealing_laws.proofs.Terms.{sub_bits, SubKind, PortName, Event, Send, Verdict, Sealed, SealedPacket, Prefix}
+use Rattle.sealing_laws.proofs.Terms.{Packet, Plan, SubStream, is_same, lane_out, open_unit, History, base, ahead_in}
+use Rattle.sealing_laws.proofs.Terms.{SealedList, KeyName, sealed_packets, sent_in, with_sealed, packet_of}
+use Rattle.sealing_laws.proofs.Terms.{sub_stream_of, posted_in, CauseLaw, DrawFacts, BaseStays, same_stream, sealing_is}
 use Rattle.sealing_laws.proofs.Sealings.{AllOf, live_at, from_at, all_of_sealing}
 use Rattle.sealing_laws.proofs.Places.{last_place}
 use Rattle.sealing_laws.proofs.Bounds.{prefix_is}
 
 -- each packet of the sub-stream, of a draw from this one on, carries their number
 abbrev pub IsCounted : ℕ → SubStream → SealedList → Type 0
-IsCounted from s xs = (i : ℕ) (x : SealedPacket × Packet) → slice_get xs i ≡ Some x → is_same (sub_stream_of x.0) s ≡ true → from ≤ x.0.draw → x.1.prefix.posted ≡ posted_in (take i xs) s from
+IsCounted from s xs = (i : ℕ) (x : SealedPacket × Packet) → slice_get xs i ≡ Some x → is_same (sub_stream_of x.0) s
+    ≡ true → from ≤ x.0.draw → x.1.prefix.posted ≡ posted_in (take i xs) s from
 
 counted-snoc : (from : ℕ) (s : SubStream) (xs : SealedList) (x : SealedPacket × Packet) → IsCounted from s xs
-    → (is_same (sub_stream_of x.0) s ≡ true → from ≤ x.0.draw → x.1.prefix.posted ≡ posted_in xs s from) → IsCounted from s (xs ++ x ∷ [])
+    → (is_same (sub_stream_of x.0) s ≡ true → from ≤ x.0.draw → x.1.prefix.posted ≡ posted_in xs s from)
+    → IsCounted from s (xs ++ x ∷ [])
 counted-snoc from s xs x before here i y is in_y up = elim (last_place xs x y i is) [
   | inl p ↦ rw p.1 (before i y p.0 in_y up)
   | inr p ↦ rw (p.0, p.1) (here (rw p.0 at in_y) (rw p.0 at up))
@@ -18,11 +24,14 @@ counted-snoc from s xs x before here i y is in_y up = elim (last_place xs x y i 
 
 -- Base is this where a packet of the list is of the sub-stream and of a draw from it on
 abbrev Stays : Plan → History → ℕ → SubStream → List SealedPacket → Type 0
-Stays plan h from s ds = AllByRecursion (λ (d : SealedPacket). is_same (sub_stream_of d) s ≡ true → from ≤ d.draw → base h s.link s.stream ≡ from) ds
+Stays plan h from s ds = AllByRecursion
+    (λ (d : SealedPacket). is_same (sub_stream_of d) s ≡ true → from ≤ d.draw → base h s.link s.stream ≡ from) ds
 
 -- the packets of one send
-all_counted : (plan : Plan) (h : History) (port : PortName) (stream : ℕ) (live : SubKind → Option KeyName) (class : SubKind) (ahead : SealedPacket → List ℕ) (bytes : List ℕ) (from : ℕ) (s : SubStream) → sub_bits s.sub ≢ 0
-    → (ds : List SealedPacket) (xs : SealedList) → AllOf plan port stream live (from_at plan h port stream) class xs ds → Stays plan h from s ds → IsCounted from s xs → IsCounted from s (with_sealed plan ahead bytes ds xs)
+all_counted : (plan : Plan) (h : History) (port : PortName) (stream : ℕ) (live : SubKind → Option KeyName)
+    (class : SubKind) (ahead : SealedPacket → List ℕ) (bytes : List ℕ) (from : ℕ) (s : SubStream) → sub_bits s.sub ≢ 0
+    → (ds : List SealedPacket) (xs : SealedList) → AllOf plan port stream live (from_at plan h port stream) class xs ds
+    → Stays plan h from s ds → IsCounted from s xs → IsCounted from s (with_sealed plan ahead bytes ds xs)
 all_counted plan h port stream live class ahead bytes from s other [] xs all stays counted = counted
 all_counted plan h port stream live class ahead bytes from s other (d ∷ ds) xs all stays counted =
     let front = open_unit (sent_in xs (sub_stream_of d) d.draw) in
@@ -34,21 +43,28 @@ all_counted plan h port stream live class ahead bytes from s other (d ∷ ds) xs
     says : is_same (sub_stream_of d) s ≡ true → base h s.link s.stream ≡ from → d.posted ≡ posted_in xs s from
     says here is =
         let of = all.0 in
-        let lane : lane_out port stream d.sub ≡ s = sym (λ i. lane_out (of.port_is i) (of.stream_is i) d.sub) ∙ same_stream (sub_stream_of d) s here in
+        let lane : lane_out port stream d.sub ≡ s = sym (λ i. lane_out (of.port_is i) (of.stream_is i) d.sub) ∙
+        same_stream (sub_stream_of d) s here in
         let sub : d.sub ≡ s.sub = ap (λ (t : SubStream). t.sub) lane in
         let from_is : from_at plan h port stream ≡ from = ap (λ (t : SubStream). base h t.link t.stream) lane ∙ is in
-        of.posted (ne_eqb (sub_bits d.sub) 0 (λ zero_is. other (sym (ap sub_bits sub) ∙ zero_is))) ∙ (λ i. posted_in xs (lane i) (from_is i))
+        of.posted (ne_eqb (sub_bits d.sub) 0 (λ zero_is. other (sym (ap sub_bits sub) ∙ zero_is))) ∙
+        (λ i. posted_in xs (lane i) (from_is i))
 
-later_stays : (plan : Plan) (s : SubStream) (from : ℕ) (e : Event) (w : Verdict) (h : History) → BaseStays plan s from ((e, w) ∷ h) → BaseStays plan s from h
+later_stays : (plan : Plan) (s : SubStream) (from : ℕ) (e : Event) (w : Verdict) (h : History)
+    → BaseStays plan s from ((e, w) ∷ h) → BaseStays plan s from h
 later_stays plan s from e (Sealed ds) h stays = stays.1
 later_stays plan s from e _ h stays = stays
 
-pub counted : (plan : Plan) → DrawFacts plan → (h : History) → CauseLaw plan h → (s : SubStream) (from : ℕ) → sub_bits s.sub ≢ 0 → BaseStays plan s from h → IsCounted from s (sealed_packets plan h)
+pub counted : (plan : Plan) → DrawFacts plan → (h : History) → CauseLaw plan h → (s : SubStream) (from : ℕ)
+    → sub_bits s.sub ≢ 0 → BaseStays plan s from h → IsCounted from s (sealed_packets plan h)
 unfolding sealed_packets
 counted plan facts [] cause s from other stays = λ i x is. absurd cc
 counted plan facts ((Send port bytes more trusted, Sealed ds) ∷ h) cause s from other stays =
     let is = sealing_is plan h port bytes more trusted ds cause.0 in
     let t = is.sending in
-    all_counted plan h t.port t.stream (live_at plan h t.port t.stream) t.class (ahead_in plan (sealed_packets plan h) (base h)) bytes from s other ds (sealed_packets plan h) (all_of_sealing plan facts h cause.1 port bytes ds is) stays.0
+    all_counted plan h t.port t.stream (live_at plan h t.port t.stream) t.class
+    (ahead_in plan (sealed_packets plan h) (base h)) bytes from s other ds (sealed_packets plan h)
+    (all_of_sealing plan facts h cause.1 port bytes ds is) stays.0
     (counted plan facts h cause.1 s from other stays.1)
-counted plan facts ((e, w) ∷ h) cause s from other stays = counted plan facts h cause.1 s from other (later_stays plan s from e w h stays)
+counted plan facts ((e, w) ∷ h) cause s from other stays = counted plan facts h cause.1 s from other
+    (later_stays plan s from e w h stays)

@@ -1,15 +1,23 @@
 -- No total passes 8 bytes in a history that may be written.
-use Rattle.sealing_laws.proofs.Terms.{◌≡◌, ℕ, ◌+◌, ◌*◌, ◌≤◌, Bool, List, [], ◌∷◌, ◌++◌, length, filter, arith, length-append}
-use Rattle.sealing_laws.proofs.Terms.{PortName, Send, SealedPacket, Packet, Plan, open_unit, History, base, SealedList, sealed_packets, with_sealed, packet_of, sent_in, sub_stream_of, ahead_in, total_in, ends_in, lanes_at, CauseLaw, TotalsFit, listed, sealed_by_is, IsSealing, sealing_is, Sealed}
+use Rattle.sealing_laws.proofs.Terms.{◌≡◌, ℕ, ◌+◌, ◌*◌, ◌≤◌, Bool, List, [], ◌∷◌, ◌++◌, length, filter, arith}
+use Rattle.sealing_laws.proofs.Terms.{length-append}
+use Rattle.sealing_laws.proofs.Terms.{PortName, Send, SealedPacket, Packet, Plan, open_unit, History, base, SealedList}
+use Rattle.sealing_laws.proofs.Terms.{sealed_packets, with_sealed, packet_of, sent_in, sub_stream_of, ahead_in}
+use Rattle.sealing_laws.proofs.Terms.{total_in, ends_in, lanes_at, CauseLaw, TotalsFit, listed, sealed_by_is, IsSealing}
+use Rattle.sealing_laws.proofs.Terms.{sealing_is, Sealed}
 
-three_sealed : (plan : Plan) (h : History) (port : PortName) (bytes : List ℕ) (ds : List SealedPacket) → IsSealing plan h port bytes ds → length ds ≤ 3
+three_sealed : (plan : Plan) (h : History) (port : PortName) (bytes : List ℕ) (ds : List SealedPacket)
+    → IsSealing plan h port bytes ds → length ds ≤ 3
 unfolding listed
-three_sealed plan h port bytes ds is = rw (is.list, sealed_by_is (lanes_at plan h is.sending.port is.sending.stream) is.sending is.number) (grind arith)
+three_sealed plan h port bytes ds is = rw
+    (is.list, sealed_by_is (lanes_at plan h is.sending.port is.sending.stream) is.sending is.number) (grind arith)
 
-sealed_length : (plan : Plan) (ahead : SealedPacket → List ℕ) (bytes : List ℕ) (ds : List SealedPacket) (xs : SealedList) → length (with_sealed plan ahead bytes ds xs) ≡ length xs + length ds
+sealed_length : (plan : Plan) (ahead : SealedPacket → List ℕ) (bytes : List ℕ) (ds : List SealedPacket)
+    (xs : SealedList) → length (with_sealed plan ahead bytes ds xs) ≡ length xs + length ds
 sealed_length plan ahead bytes [] xs = omega arith
 sealed_length plan ahead bytes (d ∷ ds) xs =
-    let x : SealedPacket × Packet = (d, packet_of plan (ahead d) bytes d (open_unit (sent_in xs (sub_stream_of d) d.draw))) in
+    let x : SealedPacket × Packet =
+    (d, packet_of plan (ahead d) bytes d (open_unit (sent_in xs (sub_stream_of d) d.draw))) in
     let rest = sealed_length plan ahead bytes ds (xs ++ x ∷ []) in
     omega (arith, rest, length-append xs (x ∷ []))
 

@@ -2,16 +2,23 @@
 -- By induction on the history: at the send that seals the first packet of the unit, the total is of what was sealed
 -- before, where no unit of this draw is finished and nothing is of a greater one; later events change no part of it
 -- (Fronts).
-use Rattle.sealing_laws.proofs.Terms.{◌≡◌, ℕ, zero, suc, ◌+◌, ◌<◌, ◌≤◌, Bool, true, false, List, [], ◌∷◌, length, take, slice_get, Some, refl, ap, sym, ◌∙◌, arith, inl, inr, AllByRecursion, list_any, both_ways, cases_Bool, or_cases, take_at, nat_tests}
-use Rattle.sealing_laws.proofs.Terms.{PortName, Send, Sealed, SealedPacket, Packet, Plan, SubStream, is_same, units, History, base, SealedList, sealed_packets, sent, sent_in, is_under, sub_stream_of, total_in, front_of, front_sent, is_of_unit, ahead_in, CauseLaw, DrawFacts, StreamsFit, same_stream, is_same-refl, IsLive, AllLive, sealing_is, all_live}
+use Rattle.sealing_laws.proofs.Terms.{◌≡◌, ℕ, zero, suc, ◌+◌, ◌<◌, ◌≤◌, Bool, true, false, List, [], ◌∷◌, length, take}
+use Rattle.sealing_laws.proofs.Terms.{slice_get, Some, refl, ap, sym, ◌∙◌, arith, inl, inr, AllByRecursion, list_any}
+use Rattle.sealing_laws.proofs.Terms.{both_ways, cases_Bool, or_cases, take_at, nat_tests}
+use Rattle.sealing_laws.proofs.Terms.{PortName, Send, Sealed, SealedPacket, Packet, Plan, SubStream, is_same, units}
+use Rattle.sealing_laws.proofs.Terms.{History, base, SealedList, sealed_packets, sent, sent_in, is_under, sub_stream_of}
+use Rattle.sealing_laws.proofs.Terms.{total_in, front_of, front_sent, is_of_unit, ahead_in, CauseLaw, DrawFacts}
+use Rattle.sealing_laws.proofs.Terms.{StreamsFit, same_stream, is_same-refl, IsLive, AllLive, sealing_is, all_live}
 use Rattle.sealing_laws.proofs.Places.{placed, unit_is}
 use Rattle.sealing_laws.proofs.Totals.{total, total-same}
 use Rattle.sealing_laws.proofs.Sums.{all_at, in_parts, units_within, total_is}
-use Rattle.sealing_laws.proofs.Fronts.{packets_grow, at_front, IsSealedIn, sent_kept, base_kept, first_sealed, any_new, old_or_new, one_draw, others_kept}
+use Rattle.sealing_laws.proofs.Fronts.{packets_grow, at_front, IsSealedIn, sent_kept, base_kept, first_sealed, any_new}
+use Rattle.sealing_laws.proofs.Fronts.{old_or_new, one_draw, others_kept}
 
 -- ---- the front of the first unit under a draw
 
-any_live : (plan : Plan) (h : History) (port : PortName) (stream : ℕ) (q : SealedPacket → Bool) (ds : List SealedPacket) → AllLive plan h port stream ds
+any_live : (plan : Plan) (h : History) (port : PortName) (stream : ℕ) (q : SealedPacket → Bool) (ds : List SealedPacket)
+    → AllLive plan h port stream ds
     → list_any q ds ≡ true → (d : SealedPacket) × IsLive plan h port stream d × (q d ≡ true)
 any_live plan h port stream q [] all some = absurd cc
 any_live plan h port stream q (d ∷ ds) all some = elim (or_cases (q d) (list_any q ds) some) [
@@ -19,22 +26,32 @@ any_live plan h port stream q (d ∷ ds) all some = elim (or_cases (q d) (list_a
   | inr more ↦ any_live plan h port stream q ds all.1 more
 ]
 
-draws_one : (plan : Plan) (h : History) (port : PortName) (stream : ℕ) (x : SealedPacket) (s : SubStream) → IsLive plan h port stream x → sub_stream_of x ≡ s
-    → (ds : List SealedPacket) → AllLive plan h port stream ds → AllByRecursion (λ (d : SealedPacket). is_same (sub_stream_of d) s ≡ true → d.draw ≡ x.draw) ds
+draws_one : (plan : Plan) (h : History) (port : PortName) (stream : ℕ) (x : SealedPacket) (s : SubStream)
+    → IsLive plan h port stream x → sub_stream_of x ≡ s
+    → (ds : List SealedPacket) → AllLive plan h port stream ds
+    → AllByRecursion (λ (d : SealedPacket). is_same (sub_stream_of d) s ≡ true → d.draw ≡ x.draw) ds
 draws_one plan h port stream x s live here [] all = tt
-draws_one plan h port stream x s live here (d ∷ ds) all =
-    (λ also. one_draw plan h port stream d x all.0 live (same_stream (sub_stream_of d) s also ∙ sym here), draws_one plan h port stream x s live here ds all.1)
+draws_one plan h port stream x s live here (d ∷ ds) all = (
+  λ also. one_draw plan h port stream d x all.0 live (same_stream (sub_stream_of d) s also ∙ sym here),
+  draws_one
+      plan h port stream x s live here ds all.1,
+)
 
-pub unit_parts : (s : SubStream) (j n : ℕ) (d : SealedPacket) → is_of_unit s j n d ≡ true → (sub_stream_of d ≡ s) × (d.draw ≡ j) × (d.unit ≡ n)
-unit_parts s j n d is = (same_stream (sub_stream_of d) s (grind arith), grind (arith, nat_tests), grind (arith, nat_tests))
+pub unit_parts : (s : SubStream) (j n : ℕ) (d : SealedPacket) → is_of_unit s j n d ≡ true → (sub_stream_of d ≡ s)
+    × (d.draw ≡ j) × (d.unit ≡ n)
+unit_parts s j n d is =
+    (same_stream (sub_stream_of d) s (grind arith), grind (arith, nat_tests), grind (arith, nat_tests))
 
-pub of_unit : (s : SubStream) (j n : ℕ) (d : SealedPacket) → sub_stream_of d ≡ s → d.draw ≡ j → d.unit ≡ n → is_of_unit s j n d ≡ true
-of_unit s j n d stream draw unit = let here = ap (λ (t : SubStream). is_same t s) stream ∙ is_same-refl s in grind (arith, nat_tests, here)
+pub of_unit : (s : SubStream) (j n : ℕ) (d : SealedPacket) → sub_stream_of d ≡ s → d.draw ≡ j → d.unit ≡ n
+    → is_of_unit s j n d ≡ true
+of_unit s j n d stream draw unit = let here = ap (λ (t : SubStream). is_same t s) stream ∙ is_same-refl s in grind
+    (arith, nat_tests, here)
 
 pub last_none : (from j : ℕ) (f : ℕ → ℕ) → f j ≡ 0 → total from (suc j) f ≡ total from j f
 last_none from j f none = grind arith
 
-pub in_sent : (xs : SealedList) (p : ℕ) (x : SealedPacket × Packet) (s : SubStream) (j : ℕ) → slice_get xs p ≡ Some x → is_under s j x ≡ true → 1 ≤ length (sent_in xs s j)
+pub in_sent : (xs : SealedList) (p : ℕ) (x : SealedPacket × Packet) (s : SubStream) (j : ℕ) → slice_get xs p ≡ Some x
+    → is_under s j x ≡ true → 1 ≤ length (sent_in xs s j)
 unfolding sent_in
 in_sent [] p x s j is under = absurd cc
 in_sent (y ∷ xs) zero x s j is under = let same : y ≡ x = cc in rw (same, under) (omega arith)
@@ -46,8 +63,10 @@ units_sent plan h s i = length (units (sent plan h s i))
 abbrev pub sum_sent : Plan → History → SubStream → ℕ → ℕ → ℕ
 sum_sent plan h s from j = total from j (λ i. units_sent plan h s i)
 
-pub front_is : (plan : Plan) → StreamsFit plan → DrawFacts plan → (h : History) → CauseLaw plan h → (s : SubStream) (j : ℕ) → IsSealedIn plan h s j
-    → base h s.link s.stream ≤ j → front_sent plan h s j 1 ≡ front_of plan s 1 (sum_sent plan h s (base h s.link s.stream) j)
+pub front_is : (plan : Plan) → StreamsFit plan → DrawFacts plan → (h : History) → CauseLaw plan h
+    → (s : SubStream) (j : ℕ) → IsSealedIn plan h s j
+    → base h s.link s.stream ≤ j → front_sent plan h s j 1 ≡ front_of plan s 1
+    (sum_sent plan h s (base h s.link s.stream) j)
 unfolding sealed_packets front_sent units
 front_is plan fits facts [] law s j x up = let none = x.stands in absurd cc
 front_is plan fits facts ((Send p bytes more trusted, Sealed ds) ∷ h) law s j x up =
@@ -57,7 +76,8 @@ front_is plan fits facts ((Send p bytes more trusted, Sealed ds) ∷ h) law s j 
       | inr none ↦
           let older = first_is_old none in
           rw none (before older (omega (arith, up, base_is))
-          ∙ ap (front_of plan s 1) (moved (λ i less. sent_kept plan facts h (Send p bytes more trusted) (Sealed ds) law s i j older less)))
+          ∙ ap (front_of plan s 1)
+          (moved (λ i less. sent_kept plan facts h (Send p bytes more trusted) (Sealed ds) law s i j older less)))
     ]
   where
     g : History
@@ -75,9 +95,11 @@ front_is plan fits facts ((Send p bytes more trusted, Sealed ds) ∷ h) law s j 
     base_is : base g s.link s.stream ≡ base h s.link s.stream
     base_is = base_kept plan facts h (Send p bytes more trusted) (Sealed ds) law s j x up
 
-    moved : ((i : ℕ) → i < j → sent plan g s i ≡ sent plan h s i) → sum_sent plan h s (base h s.link s.stream) j ≡ sum_sent plan g s (base g s.link s.stream) j
+    moved : ((i : ℕ) → i < j → sent plan g s i ≡ sent plan h s i) → sum_sent plan h s (base h s.link s.stream) j
+        ≡ sum_sent plan g s (base g s.link s.stream) j
     moved kept =
-        total-same from j (λ i. units_sent plan h s i) (λ i. units_sent plan g s i) (λ i above less. ap (λ ps. length (units ps)) (sym (kept i less)))
+        total-same from j (λ i. units_sent plan h s i) (λ i. units_sent plan g s i)
+        (λ i above less. ap (λ ps. length (units ps)) (sym (kept i less)))
         ∙ ap (λ (b : ℕ). sum_sent plan g s b j) (sym base_is)
 
     -- the unit of the first packet is 1, so that it is none of the new ones
@@ -93,7 +115,8 @@ front_is plan fits facts ((Send p bytes more trusted, Sealed ds) ∷ h) law s j 
           sealed = y.sealed;
           stands = elim (old_or_new plan (ahead_in plan xs (base h)) bytes ds xs y.place y.sealed y.stands) [
             | inl old ↦ old
-            | inr new ↦ absurd (both_ways _ none (new.among (is_of_unit s j 1) (of_unit s j 1 y.sealed.0 here.2 here.1 one)))
+            | inr new ↦ absurd (both_ways _ none
+                (new.among (is_of_unit s j 1) (of_unit s j 1 y.sealed.0 here.2 here.1 one)))
           ];
           under = y.under;
         }
@@ -111,18 +134,24 @@ front_is plan fits facts ((Send p bytes more trusted, Sealed ds) ∷ h) law s j 
         let z = new.1 in
         let of = unit_parts s j 1 z.0 new.3 in
         let grown = packets_grow plan h (Send p bytes more trusted) (Sealed ds) in
-        let below = all_at (λ (y : SealedPacket × Packet). is_same (sub_stream_of y.0) s ≡ true → y.0.draw < suc j) xs (λ i y at here.
+        let below = all_at (λ (y : SealedPacket × Packet). is_same (sub_stream_of y.0) s ≡ true → y.0.draw < suc j) xs
+        (λ i y at here.
         let front = at_front xs grown.0 i y at in
         let also = ap (λ (t : SubStream). is_same t s) of.0 ∙ is_same-refl s in
-        let most = facts.rises g law s i new.0 y z (omega (arith, front.1, new.4)) (rw grown.1 at front.0) new.2 here also in
+        let most = facts.rises g law s i new.0 y z (omega (arith, front.1, new.4)) (rw grown.1 at front.0) new.2 here
+        also in
         omega (arith, most, of.1)) in
         let unit = unit_is plan ys (placed plan fits facts g law) new.0 z new.2 s j of.0 of.1 in
         let within = units_within ys s j (length xs) new.0 new.4 in
-        let front : take (length xs) ys ≡ xs = ap (take (length xs)) (sym grown.1) ∙ take_at xs grown.0 (length xs) refl in
-        let none : units_sent plan h s j ≡ 0 = omega (arith, ap (λ (zs : SealedList). length (units (sent_in zs s j))) front, within, unit, of.2) in
+        let front : take (length xs) ys ≡ xs = ap (take (length xs)) (sym grown.1) ∙ take_at xs grown.0 (length xs) refl
+        in
+        let none : units_sent plan h s j ≡ 0 = omega
+        (arith, ap (λ (zs : SealedList). length (units (sent_in zs s j))) front, within, unit, of.2) in
         total_is xs s from (suc j) below
-        ∙ (last_none from j (λ i. units_sent plan h s i) none ∙ moved (λ i less. others_kept plan (ahead_in plan xs (base h)) bytes s i j less ds xs each))
+        ∙ (last_none from j (λ i. units_sent plan h s i) none ∙ moved
+        (λ i less. others_kept plan (ahead_in plan xs (base h)) bytes s i j less ds xs each))
 front_is plan fits facts ((e, w) ∷ h) law s j x up =
     let same = base_kept plan facts h e w law s j x up in
-    front_is plan fits facts h law.1 s j (record { place = x.place; sealed = x.sealed; stands = x.stands; under = x.under }) (omega (arith, up, same))
+    front_is plan fits facts h law.1 s j
+    (record { place = x.place; sealed = x.sealed; stands = x.stands; under = x.under }) (omega (arith, up, same))
     ∙ ap (λ (b : ℕ). front_of plan s 1 (sum_sent plan h s b j)) (sym same)

@@ -2,26 +2,37 @@
 -- sealed draws rise, so where one was sealed under, nothing of a smaller one comes behind (`sent_kept`), and Base
 -- stays, since it moves only to a draw of which nothing was sealed (`base_kept`). The rest finds packets among those of
 -- the newest send.
-use Rattle.sealing_laws.proofs.Terms.{◌≡◌, ℕ, zero, suc, ◌<◌, ◌≤◌, Bool, true, List, [], ◌∷◌, ◌++◌, length, take, slice_get, Some, refl, ap, sym, ◌∙◌, subst, arith, append_assoc, length-append, inl, inr, ◌⊎◌, AllByRecursion, list_any, or_cases, or_left, or_right, nat_tests, slice_get_cases, append-nil, take-append-le}
-use Rattle.sealing_laws.proofs.Terms.{PortName, Event, Send, Verdict, Sealed, SealedPacket, Packet, Plan, SubStream, is_same, lane_out, open_unit, History, base, live_key, SealedList, KeyName, sealed_packets, with_sealed, packet_of, sent, sent_in, is_under, sub_stream_of, ahead_in, CauseLaw, DrawFacts, IsLive, sent_in-snoc}
+use Rattle.sealing_laws.proofs.Terms.{◌≡◌, ℕ, zero, suc, ◌<◌, ◌≤◌, Bool, true, List, [], ◌∷◌, ◌++◌, length, take}
+use Rattle.sealing_laws.proofs.Terms.{slice_get, Some, refl, ap, sym, ◌∙◌, subst, arith, append_assoc, length-append}
+use Rattle.sealing_laws.proofs.Terms.{inl, inr, ◌⊎◌, AllByRecursion, list_any, or_cases, or_left, or_right, nat_tests}
+use Rattle.sealing_laws.proofs.Terms.{slice_get_cases, append-nil, take-append-le}
+use Rattle.sealing_laws.proofs.Terms.{PortName, Event, Send, Verdict, Sealed, SealedPacket, Packet, Plan, SubStream}
+use Rattle.sealing_laws.proofs.Terms.{is_same, lane_out, open_unit, History, base, live_key, SealedList, KeyName}
+use Rattle.sealing_laws.proofs.Terms.{sealed_packets, with_sealed, packet_of, sent, sent_in, is_under, sub_stream_of}
+use Rattle.sealing_laws.proofs.Terms.{ahead_in, CauseLaw, DrawFacts, IsLive, sent_in-snoc}
 use Rattle.sealing_laws.proofs.Places.{last_place, place_among}
 use Rattle.sealing_laws.proofs.Sums.{in_parts, smaller_before, element_behind}
 
 -- ---- what was sealed grows at its end
 
-pub with_grows : (plan : Plan) (ahead : SealedPacket → List ℕ) (bytes : List ℕ) (ds : List SealedPacket) (xs : SealedList) → (rest : SealedList) × (xs ++ rest ≡ with_sealed plan ahead bytes ds xs)
+pub with_grows : (plan : Plan) (ahead : SealedPacket → List ℕ) (bytes : List ℕ) (ds : List SealedPacket)
+    (xs : SealedList) → (rest : SealedList) × (xs ++ rest ≡ with_sealed plan ahead bytes ds xs)
 with_grows plan ahead bytes [] xs = ([], append-nil xs)
 with_grows plan ahead bytes (d ∷ ds) xs =
-    let x : SealedPacket × Packet = (d, packet_of plan (ahead d) bytes d (open_unit (sent_in xs (sub_stream_of d) d.draw))) in
+    let x : SealedPacket × Packet =
+    (d, packet_of plan (ahead d) bytes d (open_unit (sent_in xs (sub_stream_of d) d.draw))) in
     let more = with_grows plan ahead bytes ds (xs ++ x ∷ []) in
     (x ∷ more.0, sym (append_assoc xs (x ∷ []) more.0) ∙ more.1)
 
-pub packets_grow : (plan : Plan) (h : History) (e : Event) (w : Verdict) → (rest : SealedList) × (sealed_packets plan h ++ rest ≡ sealed_packets plan ((e, w) ∷ h))
+pub packets_grow : (plan : Plan) (h : History) (e : Event) (w : Verdict) → (rest : SealedList)
+    × (sealed_packets plan h ++ rest ≡ sealed_packets plan ((e, w) ∷ h))
 unfolding sealed_packets
-packets_grow plan h (Send p bytes more trusted) (Sealed ds) = with_grows plan (ahead_in plan (sealed_packets plan h) (base h)) bytes ds (sealed_packets plan h)
+packets_grow plan h (Send p bytes more trusted) (Sealed ds) = with_grows plan
+    (ahead_in plan (sealed_packets plan h) (base h)) bytes ds (sealed_packets plan h)
 packets_grow plan h e w = ([], append-nil (sealed_packets plan h))
 
-pub at_front : {A : Type 0} (xs ys : List A) (i : ℕ) (x : A) → slice_get xs i ≡ Some x → (slice_get (xs ++ ys) i ≡ Some x) × (i < length xs)
+pub at_front : {A : Type 0} (xs ys : List A) (i : ℕ) (x : A) → slice_get xs i ≡ Some x
+    → (slice_get (xs ++ ys) i ≡ Some x) × (i < length xs)
 at_front [] ys i x is = absurd cc
 at_front (z ∷ xs) ys zero x is = (is, omega arith)
 at_front (z ∷ xs) ys (suc i) x is = let rest = at_front xs ys i x is in (rest.0, omega (arith, rest.1))
@@ -33,14 +44,22 @@ pub record IsSealedIn (plan : Plan) (h : History) (s : SubStream) (j : ℕ) : Ty
   pub stands : slice_get (sealed_packets plan h) place ≡ Some sealed
   pub under : is_under s j sealed ≡ true
 
-pub sealed_later : (plan : Plan) (h : History) (e : Event) (w : Verdict) (s : SubStream) (j : ℕ) → IsSealedIn plan h s j → IsSealedIn plan ((e, w) ∷ h) s j
+pub sealed_later : (plan : Plan) (h : History) (e : Event) (w : Verdict) (s : SubStream) (j : ℕ) → IsSealedIn plan h s j
+    → IsSealedIn plan ((e, w) ∷ h) s j
 sealed_later plan h e w s j x =
     let grown = packets_grow plan h e w in
     let at = at_front (sealed_packets plan h) grown.0 x.place x.sealed x.stands in
-    record { place = x.place; sealed = x.sealed; stands = subst (λ (ys : SealedList). slice_get ys x.place ≡ Some x.sealed) grown.1 at.0; under = x.under }
+    record {
+      place = x.place;
+      sealed = x.sealed;
+      stands = subst
+          (λ (ys : SealedList). slice_get ys x.place ≡ Some x.sealed) grown.1 at.0;
+      under = x.under;
+    }
 
 -- from then on nothing of a smaller draw is sealed
-pub sent_kept : (plan : Plan) → DrawFacts plan → (h : History) (e : Event) (w : Verdict) → CauseLaw plan ((e, w) ∷ h) → (s : SubStream) (i j : ℕ) → IsSealedIn plan h s j → i < j → sent plan ((e, w) ∷ h) s i ≡ sent plan h s i
+pub sent_kept : (plan : Plan) → DrawFacts plan → (h : History) (e : Event) (w : Verdict) → CauseLaw plan ((e, w) ∷ h)
+    → (s : SubStream) (i j : ℕ) → IsSealedIn plan h s j → i < j → sent plan ((e, w) ∷ h) s i ≡ sent plan h s i
 unfolding sealed_later
 sent_kept plan facts h e w law s i j x less =
     let xs = sealed_packets plan h in
@@ -48,23 +67,27 @@ sent_kept plan facts h e w law s i j x less =
     let at = at_front xs grown.0 x.place x.sealed x.stands in
     let y = sealed_later plan h e w s j x in
     let old = smaller_before xs s x.place j i x.sealed (facts.rises h law.1) x.stands x.under less in
-    let new = smaller_before (sealed_packets plan ((e, w) ∷ h)) s x.place j i x.sealed (facts.rises ((e, w) ∷ h) law) y.stands x.under less in
+    let new = smaller_before (sealed_packets plan ((e, w) ∷ h)) s x.place j i x.sealed (facts.rises ((e, w) ∷ h) law)
+    y.stands x.under less in
     let front = ap (take x.place) (sym grown.1) ∙ take-append-le x.place xs grown.0 (omega (arith, at.1)) in
     sym new ∙ (ap (λ (zs : SealedList). sent_in zs s i) front ∙ old)
 
 -- Base stays where a draw from it on was sealed
-pub base_kept : (plan : Plan) → DrawFacts plan → (h : History) (e : Event) (w : Verdict) → CauseLaw plan ((e, w) ∷ h) → (s : SubStream) (j : ℕ) → IsSealedIn plan ((e, w) ∷ h) s j → base ((e, w) ∷ h) s.link s.stream ≤ j
+pub base_kept : (plan : Plan) → DrawFacts plan → (h : History) (e : Event) (w : Verdict) → CauseLaw plan ((e, w) ∷ h)
+    → (s : SubStream) (j : ℕ) → IsSealedIn plan ((e, w) ∷ h) s j → base ((e, w) ∷ h) s.link s.stream ≤ j
     → base ((e, w) ∷ h) s.link s.stream ≡ base h s.link s.stream
 base_kept plan facts h e w law s j x up = elim (facts.base_fresh h e w law s.link s.stream) [
   | inl same ↦ same
   | inr none ↦
       let parts = in_parts s j x.sealed x.under in
-      let below = none x.place x.sealed x.stands (ap (λ (t : SubStream). t.link) parts.2) (ap (λ (t : SubStream). t.stream) parts.2) in
+      let below = none x.place x.sealed x.stands (ap (λ (t : SubStream). t.link) parts.2)
+      (ap (λ (t : SubStream). t.stream) parts.2) in
       absurd (omega (arith, below, parts.1, up))
 ]
 
 -- the first of them
-pub first_sealed : (plan : Plan) (h : History) (s : SubStream) (j : ℕ) → 1 ≤ length (sent plan h s j) → (x : IsSealedIn plan h s j) × (sent_in (take x.place (sealed_packets plan h)) s j ≡ [])
+pub first_sealed : (plan : Plan) (h : History) (s : SubStream) (j : ℕ) → 1 ≤ length (sent plan h s j)
+    → (x : IsSealedIn plan h s j) × (sent_in (take x.place (sealed_packets plan h)) s j ≡ [])
 first_sealed plan h s j some = elim (slice_get_cases (sent plan h s j) 0).1 [
   | inl here ↦
       let among = place_among (sealed_packets plan h) s j 0 here.0 here.2 in
@@ -75,11 +98,14 @@ first_sealed plan h s j some = elim (slice_get_cases (sent plan h s j) 0).1 [
 -- ---- new packets
 
 -- what is found among them
-pub any_new : (q : SealedPacket → Bool) (plan : Plan) (ahead : SealedPacket → List ℕ) (bytes : List ℕ) (ds : List SealedPacket) (xs : SealedList) → list_any q ds ≡ true
-    → (place : ℕ) × (z : SealedPacket × Packet) × (slice_get (with_sealed plan ahead bytes ds xs) place ≡ Some z) × (q z.0 ≡ true) × (length xs ≤ place)
+pub any_new : (q : SealedPacket → Bool) (plan : Plan) (ahead : SealedPacket → List ℕ) (bytes : List ℕ)
+    (ds : List SealedPacket) (xs : SealedList) → list_any q ds ≡ true
+    → (place : ℕ) × (z : SealedPacket × Packet) × (slice_get (with_sealed plan ahead bytes ds xs) place ≡ Some z)
+    × (q z.0 ≡ true) × (length xs ≤ place)
 any_new q plan ahead bytes [] xs some = absurd cc
 any_new q plan ahead bytes (d ∷ ds) xs some =
-    let x : SealedPacket × Packet = (d, packet_of plan (ahead d) bytes d (open_unit (sent_in xs (sub_stream_of d) d.draw))) in
+    let x : SealedPacket × Packet =
+    (d, packet_of plan (ahead d) bytes d (open_unit (sent_in xs (sub_stream_of d) d.draw))) in
     elim (or_cases (q d) (list_any q ds) some) [
       | inl is ↦
           let grown = with_grows plan ahead bytes ds (xs ++ x ∷ []) in
@@ -91,17 +117,21 @@ any_new q plan ahead bytes (d ∷ ds) xs some =
 
 -- a packet that was sealed behind those before it, of those that are sealed for a send
 pub record IsNew
-    (plan : Plan) (ahead : SealedPacket → List ℕ) (bytes : List ℕ) (ds : List SealedPacket) (ys : SealedList) (place : ℕ) (x : SealedPacket × Packet)
+    (plan : Plan) (ahead : SealedPacket → List ℕ) (bytes : List ℕ) (ds : List SealedPacket) (ys : SealedList)
+    (place : ℕ) (x : SealedPacket × Packet)
     : Type 0 where
-  pub packet : x.1 ≡ packet_of plan (ahead x.0) bytes x.0 (open_unit (sent_in (take place ys) (sub_stream_of x.0) x.0.draw))
+  pub packet : x.1 ≡ packet_of plan (ahead x.0) bytes x.0
+      (open_unit (sent_in (take place ys) (sub_stream_of x.0) x.0.draw))
   pub among : (q : SealedPacket → Bool) → q x.0 ≡ true → list_any q ds ≡ true
 
-pub old_or_new : (plan : Plan) (ahead : SealedPacket → List ℕ) (bytes : List ℕ) (ds : List SealedPacket) (xs : SealedList)
+pub old_or_new : (plan : Plan) (ahead : SealedPacket → List ℕ) (bytes : List ℕ) (ds : List SealedPacket)
+    (xs : SealedList)
     → (place : ℕ) (x : SealedPacket × Packet) → slice_get (with_sealed plan ahead bytes ds xs) place ≡ Some x
     → (slice_get xs place ≡ Some x) ⊎ IsNew plan ahead bytes ds (with_sealed plan ahead bytes ds xs) place x
 old_or_new plan ahead bytes [] xs place x is = inl is
 old_or_new plan ahead bytes (d ∷ ds) xs place x is =
-    let z : SealedPacket × Packet = (d, packet_of plan (ahead d) bytes d (open_unit (sent_in xs (sub_stream_of d) d.draw))) in
+    let z : SealedPacket × Packet =
+    (d, packet_of plan (ahead d) bytes d (open_unit (sent_in xs (sub_stream_of d) d.draw))) in
     elim (old_or_new plan ahead bytes ds (xs ++ z ∷ []) place x is) [
       | inl old ↦ elim (last_place xs z x place old) [
         | inl p ↦ inl p.0
@@ -109,24 +139,32 @@ old_or_new plan ahead bytes (d ∷ ds) xs place x is =
             let grown = with_grows plan ahead bytes ds (xs ++ z ∷ []) in
             let within = (at_front (xs ++ z ∷ []) grown.0 place x old).1 in
             let front : take place (with_sealed plan ahead bytes ds (xs ++ z ∷ [])) ≡ xs =
-            ap (take place) (sym grown.1) ∙ (take-append-le place (xs ++ z ∷ []) grown.0 (omega (arith, within)) ∙ p.1) in
+            ap (take place) (sym grown.1) ∙ (take-append-le place (xs ++ z ∷ []) grown.0 (omega (arith, within)) ∙ p.1)
+            in
             inr (record { packet = rw (p.0, front) refl; among = λ q here. or_left _ _ (rw p.0 at here) })
       ]
-      | inr new ↦ inr (record { packet = new.packet; among = λ q here. or_right (q d) (list_any q ds) (new.among q here) })
+      | inr new ↦ inr (record
+          { packet = new.packet; among = λ q here. or_right (q d) (list_any q ds) (new.among q here) })
     ]
 
 -- all packets of a send in one sub-stream are under its live key
-pub one_draw : (plan : Plan) (h : History) (port : PortName) (stream : ℕ) (d x : SealedPacket) → IsLive plan h port stream d → IsLive plan h port stream x → sub_stream_of d ≡ sub_stream_of x → d.draw ≡ x.draw
+pub one_draw : (plan : Plan) (h : History) (port : PortName) (stream : ℕ) (d x : SealedPacket)
+    → IsLive plan h port stream d → IsLive plan h port stream x → sub_stream_of d ≡ sub_stream_of x → d.draw ≡ x.draw
 one_draw plan h port stream d x one two same =
     let sub : d.sub ≡ x.sub = ap (λ (s : SubStream). s.sub) same in
-    let keys : Some one.key ≡ Some two.key = sym one.live ∙ ((λ i. live_key h port (lane_out port stream (sub i))) ∙ two.live) in
+    let keys : Some one.key ≡ Some two.key = sym one.live ∙
+    ((λ i. live_key h port (lane_out port stream (sub i))) ∙ two.live) in
     let key : one.key ≡ two.key = cc in
     one.draw ∙ (ap (λ (k : KeyName). k.draw) key ∙ sym two.draw)
 
-pub others_kept : (plan : Plan) (ahead : SealedPacket → List ℕ) (bytes : List ℕ) (s : SubStream) (i j : ℕ) → i < j → (ds : List SealedPacket) (xs : SealedList) → AllByRecursion (λ (d : SealedPacket). is_same (sub_stream_of d) s ≡ true
+pub others_kept : (plan : Plan) (ahead : SealedPacket → List ℕ) (bytes : List ℕ) (s : SubStream) (i j : ℕ) → i < j
+    → (ds : List SealedPacket) (xs : SealedList) → AllByRecursion
+    (λ (d : SealedPacket). is_same (sub_stream_of d) s ≡ true
     → d.draw ≡ j) ds
     → sent_in (with_sealed plan ahead bytes ds xs) s i ≡ sent_in xs s i
 others_kept plan ahead bytes s i j less [] xs each = refl
 others_kept plan ahead bytes s i j less (d ∷ ds) xs each =
-    let x : SealedPacket × Packet = (d, packet_of plan (ahead d) bytes d (open_unit (sent_in xs (sub_stream_of d) d.draw))) in
-    others_kept plan ahead bytes s i j less ds (xs ++ x ∷ []) each.1 ∙ (sent_in-snoc xs x s i ∙ grind (arith, nat_tests, each.0))
+    let x : SealedPacket × Packet =
+    (d, packet_of plan (ahead d) bytes d (open_unit (sent_in xs (sub_stream_of d) d.draw))) in
+    others_kept plan ahead bytes s i j less ds (xs ++ x ∷ []) each.1 ∙
+    (sent_in-snoc xs x s i ∙ grind (arith, nat_tests, each.0))

@@ -1,14 +1,24 @@
 -- Each packet of a send, seen from what was sealed before it.
-use Rattle.sealing_laws.proofs.Terms.{◌≡◌, ◌≢◌, ℕ, ◌+◌, ◌≤◌, ◌==◌, Bool, true, false, List, [], ◌∷◌, ◌++◌, length, Option, Some, inl, inr, ◌⊎◌, refl, ap, sym, ◌∙◌, subst, append_assoc, if◌then◌else◌, not, nat_lt, nat_le, unwrap_or, eq-eqb, ltb-false, or_parts}
-use Rattle.sealing_laws.proofs.Terms.{sub_bits, SubKind, Pr, Npr, Cpl, PortName, SealedPacket, Packet, Plan, SubStream, lane_out, mode_of, units, open_unit, History, base, SealedList, KeyName, sealed_packets, sent_in, posted_in, posted_count, live_key, Sending, Lanes, lanes_at, sent_under, described, needs_sync, is_keyless, is_posted, ends_unit, begins_unit, sets_trusted, no_key, CauseLaw, DrawFacts, is_same_sub, eqb-refl, sent-same, posted-own, posted-same, in_lane, has_key, on_live, listed, sealed_by_is, and_false, needs_posted, IsSealing}
+use Rattle.sealing_laws.proofs.Terms.{◌≡◌, ◌≢◌, ℕ, ◌+◌, ◌≤◌, ◌==◌, Bool, true, false, List, [], ◌∷◌, ◌++◌, length}
+use Rattle.sealing_laws.proofs.Terms.{Option, Some, inl, inr, ◌⊎◌, refl, ap, sym, ◌∙◌, subst, append_assoc}
+use Rattle.sealing_laws.proofs.Terms.{if◌then◌else◌, not, nat_lt, nat_le, unwrap_or, eq-eqb, ltb-false, or_parts}
+use Rattle.sealing_laws.proofs.Terms.{sub_bits, SubKind, Pr, Npr, Cpl, PortName, SealedPacket, Packet, Plan, SubStream}
+use Rattle.sealing_laws.proofs.Terms.{lane_out, mode_of, units, open_unit, History, base, SealedList, KeyName}
+use Rattle.sealing_laws.proofs.Terms.{sealed_packets, sent_in, posted_in, posted_count, live_key, Sending, Lanes}
+use Rattle.sealing_laws.proofs.Terms.{lanes_at, sent_under, described, needs_sync, is_keyless, is_posted, ends_unit}
+use Rattle.sealing_laws.proofs.Terms.{begins_unit, sets_trusted, no_key, CauseLaw, DrawFacts, is_same_sub, eqb-refl}
+use Rattle.sealing_laws.proofs.Terms.{sent-same, posted-own, posted-same, in_lane, has_key, on_live, listed}
+use Rattle.sealing_laws.proofs.Terms.{sealed_by_is, and_false, needs_posted, IsSealing}
 
 pub record IsSyncOf (d : SealedPacket) : Type 0 where
   pub sub : d.sub ≢ Pr
   pub m : d.m ≡ true
   pub t : d.t ≡ false
 
--- A packet of a send on a stream at a port, where these keys are Live and this is Base, behind what was sealed before it.
-pub record IsOf (plan : Plan) (port : PortName) (stream : ℕ) (live : SubKind → Option KeyName) (from : ℕ) (class : SubKind) (xs : SealedList) (d : SealedPacket) : Type 0 where
+-- A packet of a send on a stream at a port, where these keys are Live and this is Base, behind what was sealed before
+-- it.
+pub record IsOf (plan : Plan) (port : PortName) (stream : ℕ) (live : SubKind → Option KeyName) (from : ℕ)
+    (class : SubKind) (xs : SealedList) (d : SealedPacket) : Type 0 where
   pub port_is : d.port ≡ port
   pub stream_is : d.stream ≡ stream
   pub live_is : live d.sub ≡ Some (record { k = d.k; draw = d.draw })
@@ -16,17 +26,21 @@ pub record IsOf (plan : Plan) (port : PortName) (stream : ℕ) (live : SubKind �
   pub unit : d.unit ≡ length (units (sent_in xs (lane_out port stream d.sub) d.draw)) + 1
   pub none : is_posted d.sub ≡ true → d.posted ≡ 0
   pub posted : is_posted d.sub ≡ false → d.posted ≡ posted_in xs (lane_out port stream d.sub) from
-  pub more : d.m ≡ false → (length (open_unit (sent_in xs (lane_out port stream d.sub) d.draw)) + 1 == mode_of plan port.link stream) ≡ false
+  pub more : d.m ≡ false →
+      (length (open_unit (sent_in xs (lane_out port stream d.sub) d.draw)) + 1 == mode_of plan port.link stream) ≡ false
   pub sync : d.sync ≡ true → IsSyncOf d
   pub class_is : d.sync ≡ false → class ≡ d.sub
   -- where it begins a posted unit, no posted count gets too large within it
   pub clear : is_posted d.sub ≡ true → length (open_unit (sent_in xs (lane_out port stream d.sub) d.draw)) ≡ 0
-      → (u : SubKind) → is_posted u ≡ false → posted_in xs (lane_out port stream u) from + mode_of plan port.link stream ≤ 255 ⊎ (posted_in xs (lane_out port stream u) from ≡ 0)
+      → (u : SubKind) → is_posted u ≡ false → posted_in xs (lane_out port stream u) from + mode_of plan port.link stream
+      ≤ 255 ⊎ (posted_in xs (lane_out port stream u) from ≡ 0)
 
-abbrev pub AllOf : Plan → PortName → ℕ → (SubKind → Option KeyName) → ℕ → SubKind → SealedList → List SealedPacket → Type 0
+abbrev pub AllOf : Plan → PortName → ℕ → (SubKind → Option KeyName) → ℕ → SubKind → SealedList → List SealedPacket
+    → Type 0
 AllOf plan port stream live from class xs [] = Unit {0}
 AllOf plan port stream live from class xs (d ∷ ds) =
-    IsOf plan port stream live from class xs d × ((p : Packet) → AllOf plan port stream live from class (xs ++ (d, p) ∷ []) ds)
+    IsOf plan port stream live from class xs d ×
+    ((p : Packet) → AllOf plan port stream live from class (xs ++ (d, p) ∷ []) ds)
 
 -- ---- a description
 
@@ -66,7 +80,8 @@ module _ (plan : Plan) (facts : DrawFacts plan) (h : History) (law : CauseLaw pl
   stays : (u : SubKind) (xs : SealedList) → Same s.port s.stream from u xs xs
   stays u xs = record { sent = λ j. refl; posted = refl }
 
-  describes : (xs : SealedList) (u : SubKind) (number : ℕ) (m t sync : Bool) → is_keyless x u ≡ false → Same s.port s.stream from u (sealed_packets plan h) xs
+  describes : (xs : SealedList) (u : SubKind) (number : ℕ) (m t sync : Bool) → is_keyless x u ≡ false
+      → Same s.port s.stream from u (sealed_packets plan h) xs
       → (m ≡ false → (length (x.lane u).front + 1 == mode) ≡ false)
       → (sync ≡ true → IsSyncOf (described x s u number m t sync)) → (sync ≡ false → s.class ≡ u)
       → (is_posted u ≡ true → (s.class ≡ u) × ((w : SubKind) → is_posted w ≡ false → Clear xs w))
@@ -74,10 +89,13 @@ module _ (plan : Plan) (facts : DrawFacts plan) (h : History) (law : CauseLaw pl
   describes xs u number m t sync keyed same more is_sync class clear =
       let place = lane u in
       let held = has_key x u keyed in
-      let key : unwrap_or (live_key h s.port place) no_key ≡ held.key = ap (λ (o : Option KeyName). unwrap_or o no_key) held.is in
-      let live_is : live_key h s.port place ≡ Some (unwrap_or (live_key h s.port place) no_key) = held.is ∙ ap (λ (n : KeyName). Some n) (sym key) in
+      let key : unwrap_or (live_key h s.port place) no_key ≡ held.key = ap (λ (o : Option KeyName). unwrap_or o no_key)
+      held.is in
+      let live_is : live_key h s.port place ≡ Some (unwrap_or (live_key h s.port place) no_key) = held.is ∙ ap
+      (λ (n : KeyName). Some n) (sym key) in
       let j = (unwrap_or (live_key h s.port place) no_key).draw in
-      let under : sent_in xs place j ≡ sent_under plan h place (live_key h s.port place) = same.sent j ∙ ap (sent_under plan h place) (sym live_is) in
+      let under : sent_in xs place j ≡ sent_under plan h place (live_key h s.port place) = same.sent j ∙ ap
+      (sent_under plan h place) (sym live_is) in
       record {
         port_is = refl;
         stream_is = refl;
@@ -92,7 +110,8 @@ module _ (plan : Plan) (facts : DrawFacts plan) (h : History) (law : CauseLaw pl
         clear = λ posted empty w other.
             let front = sym (ap (λ (ps : List Packet). length (open_unit ps)) under) ∙ empty in
             let known = clear posted in
-            known.1 w other (ap is_posted known.0 ∙ posted) (ap (λ (c : SubKind). begins_unit (x.lane c)) known.0 ∙ eq-eqb _ 0 front);
+            known.1 w other (ap is_posted known.0 ∙ posted)
+            (ap (λ (c : SubKind). begins_unit (x.lane c)) known.0 ∙ eq-eqb _ 0 front);
       }
 
   -- ---- all of a send
@@ -102,45 +121,61 @@ module _ (plan : Plan) (facts : DrawFacts plan) (h : History) (law : CauseLaw pl
   All xs ds = AllOf plan s.port s.stream (live_at plan h s.port s.stream) from s.class xs ds
 
   -- a sync packet of a sub-stream, where one is needed, and what comes behind it
-  with_sync : (u : SubKind) (b : Bool) (number : ℕ) (ys : SealedList) (rest : List SealedPacket) → is_posted u ≡ false → needs_sync x s.class u ≡ b
+  with_sync : (u : SubKind) (b : Bool) (number : ℕ) (ys : SealedList) (rest : List SealedPacket) → is_posted u ≡ false
+      → needs_sync x s.class u ≡ b
       → (b ≡ true → is_keyless x u ≡ false) → Same s.port s.stream from u (sealed_packets plan h) ys
-      → ((zs : SealedList) → Clear zs u → ((w : SubKind) → (b ≡ true → is_same_sub u w ≡ false) → Same s.port s.stream from w ys zs) → All zs rest)
+      → ((zs : SealedList) → Clear zs u →
+      ((w : SubKind) → (b ≡ true → is_same_sub u w ≡ false) → Same s.port s.stream from w ys zs) → All zs rest)
       → All ys ((if b then described x s u number true false true ∷ [] else []) ++ rest)
   with_sync u true number ys rest other needed keyed same next =
       let d = described x s u number true false true in
-      let one = describes ys u number true false true (keyed refl) same (λ is. absurd cc) (λ is. record { sub = not_pr u other; m = refl; t = refl })
+      let one = describes ys u number true false true (keyed refl) same (λ is. absurd cc)
+      (λ is. record { sub = not_pr u other; m = refl; t = refl })
       (λ is. absurd cc) (λ posted. absurd cc) in
       let here = in_lane s.port s.stream d u refl refl ∙ eqb-refl (sub_bits u) in
       let off_posted = in_lane s.port s.stream d Pr refl refl ∙ other in (
         one,
-        λ p. next (ys ++ (d, p) ∷ []) (λ posted begins. inr (posted-own ys (d, p) (lane u) from (rw (here, one.counts) refl))) (λ w behind.
+        λ p. next (ys ++ (d, p) ∷ [])
+            (λ posted begins. inr (posted-own ys (d, p) (lane u) from (rw (here, one.counts) refl))) (λ w behind.
             let off = in_lane s.port s.stream d w refl refl ∙ behind refl in
-            record { sent = λ j. sent-same ys (d, p) (lane w) j off; posted = posted-same ys (d, p) (lane w) from (rw off refl) (rw off_posted refl) }),
+            record {
+              sent = λ j. sent-same ys (d, p) (lane w) j off;
+              posted = posted-same ys (d, p) (lane w) from
+                  (rw off refl) (rw off_posted refl);
+            }),
       )
-  with_sync u false number ys rest other none keyed same next = next ys (λ posted begins. inl (room posted begins)) (λ w behind. stays w ys)
+  with_sync u false number ys rest other none keyed same next = next ys (λ posted begins. inl (room posted begins))
+      (λ w behind. stays w ys)
     where
       room : is_posted s.class ≡ true → begins_unit (x.lane s.class) ≡ true → posted_in ys (lane u) from + mode ≤ 255
       room posted begins =
           let test : nat_lt 255 (posted_count plan h (lane u) + mode) ≡ false = rw (posted, begins) at none in
           rw same.posted (ltb-false 255 _ test)
 
-  all_of : (number : ℕ) (n c : Bool) → needs_sync x s.class Npr ≡ n → needs_sync x s.class Cpl ≡ c → is_keyless x s.class ≡ false
-      → (n ≡ true → (s.class ≡ Pr) × (is_keyless x Npr ≡ false)) → (c ≡ true → (s.class ≡ Pr) × (is_keyless x Cpl ≡ false))
+  all_of : (number : ℕ) (n c : Bool) → needs_sync x s.class Npr ≡ n → needs_sync x s.class Cpl ≡ c
+      → is_keyless x s.class ≡ false
+      → (n ≡ true → (s.class ≡ Pr) × (is_keyless x Npr ≡ false))
+      → (c ≡ true → (s.class ≡ Pr) × (is_keyless x Cpl ≡ false))
       → All (sealed_packets plan h) (listed x s number n c)
   unfolding listed
   all_of number n c n_is c_is keyed requests completions =
       let first : List SealedPacket = if n then described x s Npr number true false true ∷ [] else [] in
-      let second : List SealedPacket = if c then described x s Cpl (number + length first) true false true ∷ [] else [] in
-      let last = described x s s.class (number + length first + length second) (ends_unit x s) (sets_trusted s.port s.trusted) false in
+      let second : List SealedPacket = if c then described x s Cpl (number + length first) true false true
+      ∷ [] else [] in
+      let last = described x s s.class (number + length first + length second) (ends_unit x s)
+      (sets_trusted s.port s.trusted) false in
       subst (All (sealed_packets plan h)) (sym (append_assoc first second (last ∷ [])))
-      (with_sync Npr n number (sealed_packets plan h) (second ++ last ∷ []) refl n_is (λ is. (requests is).1) (stays Npr _) (λ ys npr one.
-      with_sync Cpl c (number + length first) ys (last ∷ []) refl c_is (λ is. (completions is).1) (one Cpl (λ is. refl)) (λ zs cpl two.
+      (with_sync Npr n number (sealed_packets plan h) (second ++ last ∷ []) refl n_is (λ is. (requests is).1)
+      (stays Npr _) (λ ys npr one.
+      with_sync Cpl c (number + length first) ys (last ∷ []) refl c_is (λ is. (completions is).1) (one Cpl (λ is. refl))
+      (λ zs cpl two.
       let before = one s.class (λ is. ap (is_same_sub Npr) (requests is).0) in
       let after = two s.class (λ is. ap (is_same_sub Cpl) (completions is).0) in
       let same : Same s.port s.stream from s.class (sealed_packets plan h) zs =
       record { sent = λ j. after.sent j ∙ before.sent j; posted = after.posted ∙ before.posted } in
       let clear = each zs (λ posted begins. rw (two Npr (λ is. refl)).posted (npr posted begins)) cpl in (
-        describes zs s.class _ (ends_unit x s) (sets_trusted s.port s.trusted) false keyed same (λ is. (or_parts (not s.more) _ is).1)
+        describes zs s.class _ (ends_unit x s) (sets_trusted s.port s.trusted) false keyed same
+            (λ is. (or_parts (not s.more) _ is).1)
             (λ is. absurd cc) (λ is. refl)
             (λ posted. (refl, clear)),
         λ p. tt,
@@ -153,11 +188,15 @@ module _ (plan : Plan) (facts : DrawFacts plan) (h : History) (law : CauseLaw pl
 
 -- ---- of a verdict that was due
 
-pub all_of_sealing : (plan : Plan) → DrawFacts plan → (h : History) → CauseLaw plan h → (port : PortName) (bytes : List ℕ) (ds : List SealedPacket) (is : IsSealing plan h port bytes ds)
-    → let s = is.sending in AllOf plan s.port s.stream (live_at plan h s.port s.stream) (from_at plan h s.port s.stream) s.class (sealed_packets plan h) ds
+pub all_of_sealing : (plan : Plan) → DrawFacts plan → (h : History) → CauseLaw plan h
+    → (port : PortName) (bytes : List ℕ) (ds : List SealedPacket) (is : IsSealing plan h port bytes ds)
+    → let s = is.sending in AllOf plan s.port s.stream (live_at plan h s.port s.stream) (from_at plan h s.port s.stream)
+    s.class (sealed_packets plan h) ds
 all_of_sealing plan facts h law port bytes ds is =
     let s = is.sending in
     let x = lanes_at plan h s.port s.stream in
-    subst (AllOf plan s.port s.stream (live_at plan h s.port s.stream) (from_at plan h s.port s.stream) s.class (sealed_packets plan h)) (sym (is.list ∙ sealed_by_is x s is.number))
+    subst (AllOf plan s.port s.stream (live_at plan h s.port s.stream) (from_at plan h s.port s.stream) s.class
+    (sealed_packets plan h)) (sym (is.list ∙ sealed_by_is x s is.number))
     (all_of plan facts h law s is.number (needs_sync x s.class Npr) (needs_sync x s.class Cpl) refl refl is.free.1.0
-    (λ needs. (needs_posted x s.class Npr needs, and_false _ _ is.free.1.1.1.0 needs)) (λ needs. (needs_posted x s.class Cpl needs, and_false _ _ is.free.1.1.1.1.0 needs)))
+    (λ needs. (needs_posted x s.class Npr needs, and_false _ _ is.free.1.1.1.0 needs))
+    (λ needs. (needs_posted x s.class Cpl needs, and_false _ _ is.free.1.1.1.1.0 needs)))

@@ -1,12 +1,18 @@
 -- The words that these proofs share.
 -- ---- numbers, lists and tests
-pub use Rattle.std.proofs.Common.{◌≡◌, ℕ, ◌<◌, List, length, map, refl, All, Ok, ◌+◌, ◌≤◌, ◌==◌, Bool, true, false, [], ◌∷◌, ◌++◌, Option, Some, inl, inr, ◌⊎◌, ap, sym, ◌∙◌, arith, length-append, ◌&&◌, nat_le, ◌≢◌, slice_get, take, ◌*◌, filter, zero, suc, subst, append_assoc, slice_index_or, nat_lt, drop, sum_by, length-drop, add-one, Err, None, Result}
+pub use Rattle.std.proofs.Common.{◌≡◌, ℕ, ◌<◌, List, length, map, refl, All, Ok, ◌+◌, ◌≤◌, ◌==◌, Bool, true, false, []}
+pub use Rattle.std.proofs.Common.{◌∷◌, ◌++◌, Option, Some, inl, inr, ◌⊎◌, ap, sym, ◌∙◌, arith, length-append, ◌&&◌}
+pub use Rattle.std.proofs.Common.{nat_le, ◌≢◌, slice_get, take, ◌*◌, filter, zero, suc, subst, append_assoc}
+pub use Rattle.std.proofs.Common.{slice_index_or, nat_lt, drop, sum_by, length-drop, add-one, Err, None, Result}
 pub use Rattle.std.proofs.lemmas.List.Elements.{All-from_recursion, All-nil, filter-append}
 pub use Rattle.std.specs.List.{AllByRecursion, after_last, list_any}
 pub use Rattle.std.specs.Prelude.{if◌then◌else◌, is_some, not, unwrap_or, slice_index, ◌||◌}
-pub use Rattle.std.proofs.lemmas.Bool.{and_parts, cases_Bool, eqb-true, leb-true, ne_eqb, both_ways, or_cases, or_left, or_right, eq-eqb, ltb-false, or_parts, false_from_ne_true, le-leb, cases_lt, cases_eq}
+pub use Rattle.std.proofs.lemmas.Bool.{and_parts, cases_Bool, eqb-true, leb-true, ne_eqb, both_ways, or_cases, or_left}
+pub use Rattle.std.proofs.lemmas.Bool.{or_right, eq-eqb, ltb-false, or_parts, false_from_ne_true, le-leb, cases_lt}
+pub use Rattle.std.proofs.lemmas.Bool.{cases_eq}
 pub use Rattle.std.proofs.lemmas.Bool.Decides.{nat_tests}
-pub use Rattle.std.proofs.lemmas.List.{take_at, append-nil, take-append-le, nil_from_length, map-append, take-append-drop, take-take, take_all, drop-append-le}
+pub use Rattle.std.proofs.lemmas.List.{take_at, append-nil, take-append-le, nil_from_length, map-append}
+pub use Rattle.std.proofs.lemmas.List.{take-append-drop, take-take, take_all, drop-append-le}
 pub use Rattle.std.proofs.lemmas.Option.{slice_get_cases}
 pub use Rattle.std.proofs.lemmas.List.Sums.{sum_by-cons, sum_by-append}
 pub use Rattle.std.proofs.lemmas.List.Concat.{flat_map-append}
@@ -27,21 +33,45 @@ pub use Rattle.link_verdicts.specs.declared.verdict.Verdict.{Verdict}
 pub use Rattle.link_verdicts.specs.declared.verdict.SealedPacket.{SealedPacket}
 pub use Rattle.ide_prefix.specs.declared.packet.Prefix.{Prefix}
 pub use Rattle.ide_plan.specs.declared.plan.Plan.{Plan}
-pub use Rattle.link_history.specs.Plan.{SubStream, lane_out, mode_of, is_same, is_same_port, streams_of, with_id, is_closed, key_of, lane_in, has_stream}
+pub use Rattle.link_history.specs.Plan.{SubStream, lane_out, mode_of, is_same, is_same_port, streams_of, with_id}
+pub use Rattle.link_history.specs.Plan.{is_closed, key_of, lane_in, has_stream}
 unfoldable pub use Rattle.link_history.specs.Plan.{stream_plan}
 pub use Rattle.link_history.specs.Units.{units_after}
 unfoldable pub use Rattle.link_history.specs.Units.{open_unit, units}
 pub use Rattle.key_laws.specs.History.{History, base}
-pub use Rattle.link_history.specs.History.{ahead_in, SealedList, KeyName, with_sealed, prefix_of, posted_of, is_in, sub_stream_of, ends_in, sent, is_under, is_of_unit, live_key, untagged_packet, unit_tag, keys_at, posted_count, received_in, arrived_packet, is_of, front_due, pending, Arrival, on_draw, failed}
-unfoldable pub use Rattle.link_history.specs.History.{sealed_packets, packet_of, sent_in, posted_in, total_in, front_of, front_sent, units_got, draws_got, units_since, held, got, got_since, arrived, meets_counts}
-pub use Rattle.link_history.specs.Due.{is_posted, Sending, Lanes, lanes_at, needs_sync, sent_under, described, is_keyless, ends_unit, begins_unit, sets_trusted, no_key, receiving, ended, unit_under, Ending, arrival_due, settled, under_keys, is_mixed, is_overfull, effect_of}
+pub use Rattle.link_history.specs.History.{ahead_in, SealedList, KeyName, with_sealed, prefix_of, posted_of, is_in}
+pub use Rattle.link_history.specs.History.{sub_stream_of, ends_in, sent, is_under, is_of_unit, live_key}
+pub use Rattle.link_history.specs.History.{untagged_packet, unit_tag, keys_at, posted_count, received_in}
+pub use Rattle.link_history.specs.History.{arrived_packet, is_of, front_due, pending, Arrival, on_draw, failed}
+unfoldable pub use Rattle.link_history.specs.History.{
+  sealed_packets,
+  packet_of,
+  sent_in,
+  posted_in,
+  total_in,
+  front_of,
+  front_sent,
+  units_got,
+  draws_got,
+  units_since,
+  held,
+  got,
+  got_since,
+  arrived,
+  meets_counts,
+}
+pub use Rattle.link_history.specs.Due.{is_posted, Sending, Lanes, lanes_at, needs_sync, sent_under, described}
+pub use Rattle.link_history.specs.Due.{is_keyless, ends_unit, begins_unit, sets_trusted, no_key, receiving, ended}
+pub use Rattle.link_history.specs.Due.{unit_under, Ending, arrival_due, settled, under_keys, is_mixed, is_overfull}
+pub use Rattle.link_history.specs.Due.{effect_of}
 unfoldable pub use Rattle.link_history.specs.Due.{due, before_tag, is_verified}
 pub use Rattle.link_history.specs.Cause.{CauseLaw}
 pub use Rattle.link_history.specs.KeyFacts.{DrawFacts, NoneFrom, BaseStays}
 pub use Rattle.key_laws.specs.Places.{is_same_sub, received_direction}
 pub use Rattle.ide_types.specs.Sub.{sub_bits}
 pub use Rattle.link_verdicts.specs.declared.verdict.Verdict.TheVariants.{Sealed, Accepted, Held, Fail}
-pub use Rattle.link_history.specs.Laws.{TotalsFit, NoForgery, NotForged, ClosedLaw, Begins, NeverFalls, WasSealed, last_tag, IsOn, ArrivesInOrder, OrderIsNoForgery, WholeLaw, IsTaken}
+pub use Rattle.link_history.specs.Laws.{TotalsFit, NoForgery, NotForged, ClosedLaw, Begins, NeverFalls, WasSealed}
+pub use Rattle.link_history.specs.Laws.{last_tag, IsOn, ArrivesInOrder, OrderIsNoForgery, WholeLaw, IsTaken}
 pub use Rattle.tlp_layout.specs.Class.{class_of, layout_of}
 pub use Rattle.link_verdicts.specs.declared.verdict.UnitName.{UnitName}
 pub use Rattle.link_verdicts.specs.declared.verdict.Effect.{Effect}
@@ -53,12 +83,18 @@ pub use Rattle.key_laws.specs.Keys.{Keyed, On, key_in, on_in}
 pub use Rattle.tlp_layout.proofs.Readings.{read_spells_tlp}
 pub use Rattle.ide_prefix.proofs.Units.{one_list, not_sync}
 pub use Rattle.link_history.proofs.Tests.{same_sub, same_stream, same_port, eqb-refl, is_same-refl}
-pub use Rattle.link_history.proofs.UnitLemmas.{open_unit-snoc, units-append, joined, joined_units, units-end, units-more, open_unit-end, open_unit-more, IsFront, open_unit-front, EndsInM, EndsInM-snoc, All-snoc, units_all, units_end, unit_at, take_next, below, joined_take, joined-snoc}
-pub use Rattle.link_history.proofs.Sealed.{sent_in-snoc, sent-same, posted-own, posted-more, sent_elsewhere, posted_elsewhere, any_out, is_out, posted-same}
+pub use Rattle.link_history.proofs.UnitLemmas.{open_unit-snoc, units-append, joined, joined_units, units-end}
+pub use Rattle.link_history.proofs.UnitLemmas.{units-more, open_unit-end, open_unit-more, IsFront, open_unit-front}
+pub use Rattle.link_history.proofs.UnitLemmas.{EndsInM, EndsInM-snoc, All-snoc, units_all, units_end, unit_at}
+pub use Rattle.link_history.proofs.UnitLemmas.{take_next, below, joined_take, joined-snoc}
+pub use Rattle.link_history.proofs.Sealed.{sent_in-snoc, sent-same, posted-own, posted-more, sent_elsewhere}
+pub use Rattle.link_history.proofs.Sealed.{posted_elsewhere, any_out, is_out, posted-same}
 pub use Rattle.link_history.proofs.Senders.{in_lane, sealed_by_is, on_live, lane_is, has_key, and_false, needs_posted}
 unfoldable pub use Rattle.link_history.proofs.Senders.{listed}
 pub use Rattle.link_history.proofs.SealingIs.{sealing_is, IsSealing, IsLive, AllLive, all_live, sealed_same}
 pub use Rattle.sealing_laws.proofs.Fits.{StreamsFit}
 pub use Rattle.gcm_seal.proofs.Strings.{length-masked}
-pub use Rattle.gcm_seal.proofs.Sealing.{masked-bytes, length-tag_of, tag_of-bytes, length-open_of, masked-masked, masked-append, tag-verifies}
-pub use Rattle.link_history.proofs.Causes.{ending, accepted_by, received_there, numbered, packet_that_came, AcceptedBy, Came, Passed, HeldBy, held_by}
+pub use Rattle.gcm_seal.proofs.Sealing.{masked-bytes, length-tag_of, tag_of-bytes, length-open_of, masked-masked}
+pub use Rattle.gcm_seal.proofs.Sealing.{masked-append, tag-verifies}
+pub use Rattle.link_history.proofs.Causes.{ending, accepted_by, received_there, numbered, packet_that_came, AcceptedBy}
+pub use Rattle.link_history.proofs.Causes.{Came, Passed, HeldBy, held_by}

@@ -7,7 +7,8 @@ use Rattle.ide_types.specs.declared.status.StreamStatus.{StreamStatus}
 use Rattle.ide_types.specs.declared.status.StreamStatus.TheVariants as status
 use Rattle.key_slots.specs.{SlotPair, is_only_live}
 use Rattle.sub_stream.specs.{slot_pair, no_slots}
-use Rattle.stream_rules.specs.Stream.{Programmed, Empty, Slots, slot_in, with_slot, at_sub, set_sub, each_sub, StreamState}
+use Rattle.stream_rules.specs.Stream.{Programmed, Empty, Slots, slot_in, with_slot, at_sub, set_sub, each_sub}
+use Rattle.stream_rules.specs.Stream.{StreamState}
 use Rattle.stream_rules.specs.Slots.{both_slots, begun, slot_gone, woken, any_live, settled_stream}
 
 -- in a sub-stream: a key is put into a set under its draw, a set gets GO, a set is emptied

@@ -2,18 +2,24 @@
 -- always holds. It goes by the packet's sub-stream and the answer: its own receiver takes the packet, and where that
 -- failed all three drop what they hold, its own one for the second time, which changes nothing. The order stays since
 -- an accepted unit has passed its test, and the number of accepted posted packets never falls.
-use Rattle.std.proofs.Common.{◌≡◌, ℕ, ◌+◌, ◌^◌, ◌<◌, ◌≤◌, Bool, true, false, not, ◌&&◌, ◌||◌, ◌==◌, nat_le, if◌then◌else◌, [], ◌∷◌, ◌++◌, length, Option, Some, None, refl, sym, ap, ◌∙◌, subst, arith}
+use Rattle.std.proofs.Common.{◌≡◌, ℕ, ◌+◌, ◌^◌, ◌<◌, ◌≤◌, Bool, true, false, not, ◌&&◌, ◌||◌, ◌==◌, nat_le}
+use Rattle.std.proofs.Common.{if◌then◌else◌, [], ◌∷◌, ◌++◌, length, Option, Some, None, refl, sym, ap, ◌∙◌, subst}
+use Rattle.std.proofs.Common.{arith}
 use Rattle.std.proofs.lemmas.Grind.{common_steps}
 use Rattle.ide_types.specs.Sub.{sub_bits, is_same_sub}
 use Rattle.ide_types.specs.declared.sub.SubKind.{SubKind}
 use Rattle.ide_types.specs.declared.sub.SubKind.TheVariants.{Pr, Npr, Cpl}
 use Rattle.ide_types.specs.declared.sub.FailCause.TheVariants as fail
 use Rattle.ide_prefix.specs.Packet.{Packet}
-use Rattle.stream_rules.specs.Stream.{Slot, Empty, Programmed, Armed, Live, LiveKey, RxSub, Three, StreamState, at_sub, slot_in, live_in, Taken, Insecure, NotKeyed, Failed, Held, Accepted, holds_any, posted_sum, is_tagged, checked, dropped, dropped_held, taken_under, state_after}
+use Rattle.stream_rules.specs.Stream.{Slot, Empty, Programmed, Armed, Live, LiveKey, RxSub, Three, StreamState, at_sub}
+use Rattle.stream_rules.specs.Stream.{slot_in, live_in, Taken, Insecure, NotKeyed, Failed, Held, Accepted, holds_any}
+use Rattle.stream_rules.specs.Stream.{posted_sum, is_tagged, checked, dropped, dropped_held, taken_under, state_after}
 use Rattle.sub_stream.specs.{answer_of, opened_under}
 use Rattle.sub_stream.specs.declared.answer.Taken.{Taken as Answer}
 use Rattle.sub_stream.specs.declared.answer.Taken.TheVariants as answers
-use Rattle.stream_lanes.specs.Arrivals.{opened_after, ReceiveEnd, ReceiveEnds, allows, taken_at, taken_here, kept_after, end_after, is_fail, lent_after, picked, lent_from, IsReceiveLanes, receiving, taken_among, ends_after}
+use Rattle.stream_lanes.specs.Arrivals.{opened_after, ReceiveEnd, ReceiveEnds, allows, taken_at, taken_here, kept_after}
+use Rattle.stream_lanes.specs.Arrivals.{end_after, is_fail, lent_after, picked, lent_from, IsReceiveLanes, receiving}
+use Rattle.stream_lanes.specs.Arrivals.{taken_among, ends_after}
 
 abbrev pub view : ReceiveEnd → ReceiveEnd → ReceiveEnd → Option SubKind → ℕ → ReceiveEnds
 view pr npr cpl lent takes = record {
@@ -35,26 +41,34 @@ pub record IsPicked (mode : ℕ) (closed : Bool) (rx : Three RxSub) (u : SubKind
 pub picked-right : (pr npr cpl : ReceiveEnd) (takes : ℕ) (u : SubKind) → IsReceiveLanes pr npr cpl takes
     → IsPicked pr.mode pr.closed (record { pr = pr.kept; npr = npr.kept; cpl = cpl.kept }) u (picked u pr npr cpl)
 picked-right pr npr cpl takes Pr inv = record { mode_is = refl; closed_is = refl; sub_is = inv.is_pr; kept_is = refl }
-picked-right pr npr cpl takes Npr inv = record { mode_is = inv.npr_mode; closed_is = inv.npr_closed; sub_is = inv.is_npr; kept_is = refl }
-picked-right pr npr cpl takes Cpl inv = record { mode_is = inv.cpl_mode; closed_is = inv.cpl_closed; sub_is = inv.is_cpl; kept_is = refl }
+picked-right pr npr cpl takes Npr inv = record
+    { mode_is = inv.npr_mode; closed_is = inv.npr_closed; sub_is = inv.is_npr; kept_is = refl }
+picked-right pr npr cpl takes Cpl inv = record
+    { mode_is = inv.cpl_mode; closed_is = inv.cpl_closed; sub_is = inv.is_cpl; kept_is = refl }
 
 -- the one of a sub-stream answers as the stream does
-under_here : (e : ReceiveEnd) (mode : ℕ) (closed : Bool) (rx : Three RxSub) (p : Packet) (x y : Option LiveKey) → IsPicked mode closed rx p.prefix.sub e
+under_here : (e : ReceiveEnd) (mode : ℕ) (closed : Bool) (rx : Three RxSub) (p : Packet) (x y : Option LiveKey)
+    → IsPicked mode closed rx p.prefix.sub e
     → taken_at e rx.pr.got p x y ≡ taken_under mode closed rx p x y
 under_here e mode closed rx p None None is = refl
 under_here e mode closed rx p None (Some y) is = refl
 under_here e mode closed rx p (Some x) y is =
     λ i. if holds_any y || (not p.prefix.m && nat_le (is.mode_is i) (length x.packets + 1)) then Failed fail.Unit
-    else if p.prefix.m then checked (is_tagged (is.closed_is i) (is.kept_is i).total x p) ((sub_bits (is.sub_is i) == 0) || nat_le ((is.kept_is i).sum + posted_sum (x.packets ++ p ∷ [])) rx.pr.got) x p
+    else if p.prefix.m then checked (is_tagged (is.closed_is i) (is.kept_is i).total x p)
+    ((sub_bits (is.sub_is i) == 0) || nat_le ((is.kept_is i).sum + posted_sum (x.packets ++ p ∷ [])) rx.pr.got) x p
     else Held x.draw (x.units + 1)
 
-pub among-here : (pr npr cpl : ReceiveEnd) (lent : Option SubKind) (takes : ℕ) (p : Packet) → IsReceiveLanes pr npr cpl takes
+pub among-here : (pr npr cpl : ReceiveEnd) (lent : Option SubKind) (takes : ℕ) (p : Packet)
+    → IsReceiveLanes pr npr cpl takes
     → taken_here (picked p.prefix.sub pr npr cpl) pr.kept.got p ≡ taken_among (view pr npr cpl lent takes) p
 among-here pr npr cpl lent takes p inv =
     let rx : Three RxSub = record { pr = pr.kept; npr = npr.kept; cpl = cpl.kept } in
     let is = picked-right pr npr cpl takes p.prefix.sub inv in
-    (λ i. taken_at (picked p.prefix.sub pr npr cpl) pr.kept.got p (live_in (slot_in (is.kept_is i).slots p.prefix.k)) (live_in (slot_in (is.kept_is i).slots (not p.prefix.k))))
-    ∙ under_here (picked p.prefix.sub pr npr cpl) pr.mode pr.closed rx p (live_in (slot_in (at_sub rx p.prefix.sub).slots p.prefix.k)) (live_in (slot_in (at_sub rx p.prefix.sub).slots (not p.prefix.k))) is
+    (λ i. taken_at (picked p.prefix.sub pr npr cpl) pr.kept.got p (live_in (slot_in (is.kept_is i).slots p.prefix.k))
+    (live_in (slot_in (is.kept_is i).slots (not p.prefix.k))))
+    ∙ under_here (picked p.prefix.sub pr npr cpl) pr.mode pr.closed rx p
+    (live_in (slot_in (at_sub rx p.prefix.sub).slots p.prefix.k))
+    (live_in (slot_in (at_sub rx p.prefix.sub).slots (not p.prefix.k))) is
 
 -- ---- the receivers after it
 
@@ -65,7 +79,8 @@ dropped_again (Armed j key) = refl
 dropped_again (Live x) = refl
 
 dropped_twice : (rx : RxSub) → dropped_held (dropped_held rx) ≡ dropped_held rx
-dropped_twice rx = λ i. record rx { slots = record { first = dropped_again rx.slots.first i; second = dropped_again rx.slots.second i } }
+dropped_twice rx = λ i. record rx
+    { slots = record { first = dropped_again rx.slots.first i; second = dropped_again rx.slots.second i } }
 
 -- a packet of a sub-stream
 abbrev pub of_sub : Packet → SubKind → Packet
@@ -121,11 +136,13 @@ pub record IsAfter (u w : SubKind) (p : Packet) (t : Taken) (a : Answer) (old ne
   pub delivered_is : is_fail a ≡ false → new.delivered ≡ (if is_same_sub u w then end_after old p t else old).delivered
   pub takes_is : new.takes ≤ old.takes + 1
 
-few_after : (b : Bool) (old : ReceiveEnd) (p : Packet) (t : Taken) → (if b then end_after old p t else old).takes ≤ old.takes + 1
+few_after : (b : Bool) (old : ReceiveEnd) (p : Packet) (t : Taken)
+    → (if b then end_after old p t else old).takes ≤ old.takes + 1
 few_after true old p t = omega arith
 few_after false old p t = omega arith
 
-kept_of : (b : Bool) (old : ReceiveEnd) (p : Packet) (t : Taken) → (if b then end_after old p t else old).kept ≡ (if b then kept_after old.kept p t else old.kept)
+kept_of : (b : Bool) (old : ReceiveEnd) (p : Packet) (t : Taken) → (if b then end_after old p t else old).kept
+    ≡ (if b then kept_after old.kept p t else old.kept)
 kept_of true old p t = refl
 kept_of false old p t = refl
 
@@ -133,11 +150,13 @@ sub_of : (b : Bool) (old : ReceiveEnd) (p : Packet) (t : Taken) → (if b then e
 sub_of true old p t = refl
 sub_of false old p t = refl
 
-mode_of : (b : Bool) (old : ReceiveEnd) (p : Packet) (t : Taken) → (if b then end_after old p t else old).mode ≡ old.mode
+mode_of : (b : Bool) (old : ReceiveEnd) (p : Packet) (t : Taken) → (if b then end_after old p t else old).mode
+    ≡ old.mode
 mode_of true old p t = refl
 mode_of false old p t = refl
 
-closed_of : (b : Bool) (old : ReceiveEnd) (p : Packet) (t : Taken) → (if b then end_after old p t else old).closed ≡ old.closed
+closed_of : (b : Bool) (old : ReceiveEnd) (p : Packet) (t : Taken) → (if b then end_after old p t else old).closed
+    ≡ old.closed
 closed_of true old p t = refl
 closed_of false old p t = refl
 
@@ -152,22 +171,28 @@ is-after u w p t a old mid new mid_is kept delivered rest =
     record {
       sub_is = ap (λ (e : ReceiveEnd). e.sub) rest ∙ ap (λ (e : ReceiveEnd). e.sub) mid_is ∙ sub_of b old p t;
       mode_is = ap (λ (e : ReceiveEnd). e.mode) rest ∙ ap (λ (e : ReceiveEnd). e.mode) mid_is ∙ mode_of b old p t;
-      closed_is = ap (λ (e : ReceiveEnd). e.closed) rest ∙ ap (λ (e : ReceiveEnd). e.closed) mid_is ∙ closed_of b old p t;
+      closed_is = ap (λ (e : ReceiveEnd). e.closed) rest ∙ ap (λ (e : ReceiveEnd). e.closed) mid_is ∙ closed_of b old p
+          t;
       kept_is = kept ∙ ap (kept_last a) (ap (λ (e : ReceiveEnd). e.kept) mid_is ∙ kept_of b old p t);
       delivered_is = λ no_fail. delivered no_fail ∙ ap (λ (e : ReceiveEnd). e.delivered) mid_is;
-      takes_is = subst (λ (n : ℕ). n ≤ old.takes + 1) (sym (ap (λ (e : ReceiveEnd). e.takes) rest ∙ ap (λ (e : ReceiveEnd). e.takes) mid_is)) (few_after b old p t);
+      takes_is = subst (λ (n : ℕ). n ≤ old.takes + 1)
+          (sym (ap (λ (e : ReceiveEnd). e.takes) rest ∙ ap (λ (e : ReceiveEnd). e.takes) mid_is)) (few_after b old p t);
     }
 
-lent_right : (u : SubKind) (p : Packet) (t : Taken) (a : Answer) (pr npr cpl pr' npr' cpl' : ReceiveEnd) (st : StreamState) → Some a ≡ answer_of t
+lent_right : (u : SubKind) (p : Packet) (t : Taken) (a : Answer) (pr npr cpl pr' npr' cpl' : ReceiveEnd)
+    (st : StreamState) → Some a ≡ answer_of t
     → st.rx ≡ record { pr = pr.kept; npr = npr.kept; cpl = cpl.kept }
     → (is_fail a ≡ false → pr'.delivered ≡ (if is_same_sub u Pr then end_after pr (of_sub p u) t else pr).delivered)
     → (is_fail a ≡ false → npr'.delivered ≡ (if is_same_sub u Npr then end_after npr (of_sub p u) t else npr).delivered)
     → (is_fail a ≡ false → cpl'.delivered ≡ (if is_same_sub u Cpl then end_after cpl (of_sub p u) t else cpl).delivered)
     → lent_from (lent_after u a) pr' npr' cpl' ≡ opened_after st (of_sub p u) t
 lent_right u p Insecure a pr npr cpl pr' npr' cpl' st e is d1 d2 d3 = absurd (cc)
-lent_right u p NotKeyed a pr npr cpl pr' npr' cpl' st e is d1 d2 d3 = let same : a ≡ answers.NotKeyed = cc in rw same refl
-lent_right u p (Failed cause) a pr npr cpl pr' npr' cpl' st e is d1 d2 d3 = let same : a ≡ answers.Fail cause = cc in rw same refl
-lent_right u p (Held j n) a pr npr cpl pr' npr' cpl' st e is d1 d2 d3 = let same : a ≡ answers.Held j n = cc in rw same refl
+lent_right u p NotKeyed a pr npr cpl pr' npr' cpl' st e is d1 d2 d3 = let same : a
+    ≡ answers.NotKeyed = cc in rw same refl
+lent_right u p (Failed cause) a pr npr cpl pr' npr' cpl' st e is d1 d2 d3 = let same : a
+    ≡ answers.Fail cause = cc in rw same refl
+lent_right u p (Held j n) a pr npr cpl pr' npr' cpl' st e is d1 d2 d3 = let same : a
+    ≡ answers.Held j n = cc in rw same refl
 lent_right Pr p (Accepted j n unit) a pr npr cpl pr' npr' cpl' st e is d1 d2 d3 =
     let same : a ≡ answers.Accepted j n (length unit) = cc in
     ap (λ (b : Answer). lent_from (lent_after Pr b) pr' npr' cpl') same ∙ d1 (ap is_fail same)
@@ -183,8 +208,10 @@ lent_right Cpl p (Accepted j n unit) a pr npr cpl pr' npr' cpl' st e is d1 d2 d3
 
 -- the packet's own receiver takes it
 own_take : (u w : SubKind) (pr npr cpl : ReceiveEnd) (got : ℕ) (p : Packet)
-    → (if is_same_sub u w then end_after (picked w pr npr cpl) p (taken_here (picked w pr npr cpl) got p) else picked w pr npr cpl)
-    ≡ (if is_same_sub u w then end_after (picked w pr npr cpl) p (taken_here (picked u pr npr cpl) got p) else picked w pr npr cpl)
+    → (if is_same_sub u w then end_after (picked w pr npr cpl) p (taken_here (picked w pr npr cpl) got p) else picked w
+    pr npr cpl)
+    ≡ (if is_same_sub u w then end_after (picked w pr npr cpl) p (taken_here (picked u pr npr cpl) got p) else picked w
+    pr npr cpl)
 own_take Pr Pr pr npr cpl got p = refl
 own_take Pr Npr pr npr cpl got p = refl
 own_take Pr Cpl pr npr cpl got p = refl
@@ -196,26 +223,30 @@ own_take Cpl Npr pr npr cpl got p = refl
 own_take Cpl Cpl pr npr cpl got p = refl
 
 pub own-after : (u w : SubKind) (p : Packet) (a : Answer) (pr npr cpl mid new : ReceiveEnd) (got : ℕ)
-    → mid ≡ (if is_same_sub u w then end_after (picked w pr npr cpl) p (taken_here (picked w pr npr cpl) got p) else picked w pr npr cpl)
+    → mid ≡ (if is_same_sub u w then end_after (picked w pr npr cpl) p (taken_here (picked w pr npr cpl) got p) else
+    picked w pr npr cpl)
     → new.kept ≡ (if is_fail a then dropped_held mid.kept else mid.kept)
     → (is_fail a ≡ false → new.delivered ≡ mid.delivered)
     → new ≡ record mid { kept = new.kept; delivered = new.delivered }
     → IsAfter u w p (taken_here (picked u pr npr cpl) got p) a (picked w pr npr cpl) new
 own-after u w p a pr npr cpl mid new got mid_is kept delivered rest =
-    is-after u w p (taken_here (picked u pr npr cpl) got p) a (picked w pr npr cpl) mid new (mid_is ∙ own_take u w pr npr cpl got p) kept delivered rest
+    is-after u w p (taken_here (picked u pr npr cpl) got p) a (picked w pr npr cpl) mid new
+    (mid_is ∙ own_take u w pr npr cpl got p) kept delivered rest
 
 pub record AreAfter (p : Packet) (t : Taken) (a : Answer) (pr npr cpl pr' npr' cpl' : ReceiveEnd) : Type 0 where
   pub pr_is : IsAfter p.prefix.sub Pr p t a pr pr'
   pub npr_is : IsAfter p.prefix.sub Npr p t a npr npr'
   pub cpl_is : IsAfter p.prefix.sub Cpl p t a cpl cpl'
 
-pub ends-after : (p : Packet) (t : Taken) (a : Answer) (pr npr cpl pr' npr' cpl' : ReceiveEnd) (lent : Option SubKind) (takes : ℕ) → Some a ≡ answer_of t
+pub ends-after : (p : Packet) (t : Taken) (a : Answer) (pr npr cpl pr' npr' cpl' : ReceiveEnd) (lent : Option SubKind)
+    (takes : ℕ) → Some a ≡ answer_of t
     → AreAfter p t a pr npr cpl pr' npr' cpl'
     → view pr' npr' cpl' (lent_after p.prefix.sub a) (takes + 1) ≡ ends_after (view pr npr cpl lent takes) p t
 ends-after p t a pr npr cpl pr' npr' cpl' lent takes e after =
     let old : ReceiveEnds = view pr npr cpl lent takes in
     let delivered : lent_from (lent_after p.prefix.sub a) pr' npr' cpl' ≡ opened_after (receiving old) p t =
-    lent_right p.prefix.sub p t a pr npr cpl pr' npr' cpl' (receiving old) e refl after.pr_is.delivered_is after.npr_is.delivered_is after.cpl_is.delivered_is in
+    lent_right p.prefix.sub p t a pr npr cpl pr' npr' cpl' (receiving old) e refl after.pr_is.delivered_is
+    after.npr_is.delivered_is after.cpl_is.delivered_is in
     (λ i. record {
       mode = after.pr_is.mode_is i;
       closed = after.pr_is.closed_is i;
@@ -223,7 +254,13 @@ ends-after p t a pr npr cpl pr' npr' cpl' lent takes e after =
       delivered = delivered i;
       takes = takes + 1;
     })
-    ∙ ap (λ (rx : Three RxSub). record { mode = pr.mode; closed = pr.closed; rx = rx; delivered = opened_after (receiving old) p t; takes = takes + 1 }) (three-right (receiving old) p t a e)
+    ∙ ap (λ (rx : Three RxSub). record {
+      mode = pr.mode;
+      closed = pr.closed;
+      rx = rx;
+      delivered = opened_after (receiving old) p t;
+      takes = takes + 1;
+    }) (three-right (receiving old) p t a e)
 
 -- ---- what always holds
 
@@ -236,10 +273,12 @@ pub orderly : (e : ReceiveEnd) (got : ℕ) (p : Packet) (x y : Option LiveKey) �
 orderly e got p None None = tt
 orderly e got p None (Some y) = tt
 orderly e got p (Some x) y =
-    by_tests (holds_any y || (not p.prefix.m && nat_le e.mode (length x.packets + 1))) p.prefix.m (is_tagged e.closed e.kept.total x p) (allows e got (x.packets ++ p ∷ [])) refl
+    by_tests (holds_any y || (not p.prefix.m && nat_le e.mode (length x.packets + 1))) p.prefix.m
+    (is_tagged e.closed e.kept.total x p) (allows e got (x.packets ++ p ∷ [])) refl
   where
     by_tests : (b m tagged allowed : Bool) → allows e got (x.packets ++ p ∷ []) ≡ allowed
-        → Orderly e got (if b then Failed fail.Unit else if m then checked tagged allowed x p else Held x.draw (x.units + 1))
+        → Orderly e got (if b then Failed fail.Unit else if m then checked tagged allowed x p else Held x.draw
+        (x.units + 1))
     by_tests true m tagged allowed is = tt
     by_tests false false tagged allowed is = tt
     by_tests false true false allowed is = tt
@@ -264,32 +303,38 @@ got_more rx p (Failed cause) = omega arith
 got_more rx p (Held j n) = omega arith
 got_more rx p (Accepted j n unit) = omega arith
 
-sum_within : (e : ReceiveEnd) (got : ℕ) (p : Packet) (t : Taken) → (sub_bits e.sub == 0) ≡ false → e.kept.sum ≤ got → Orderly e got t
+sum_within : (e : ReceiveEnd) (got : ℕ) (p : Packet) (t : Taken) → (sub_bits e.sub == 0) ≡ false → e.kept.sum ≤ got
+    → Orderly e got t
     → (kept_after e.kept p t).sum ≤ got
 sum_within e got p Insecure other le o = le
 sum_within e got p NotKeyed other le o = le
 sum_within e got p (Failed cause) other le o = le
 sum_within e got p (Held j n) other le o = le
 sum_within e got p (Accepted j n unit) other le o =
-    within (e.kept.sum + posted_sum unit) got (ap (λ (b : Bool). b || nat_le (e.kept.sum + posted_sum unit) got) (sym other) ∙ o)
+    within (e.kept.sum + posted_sum unit) got
+    (ap (λ (b : Bool). b || nat_le (e.kept.sum + posted_sum unit) got) (sym other) ∙ o)
 
 -- the order of a sub-stream, whatever the packet's
-order_kept : (u w : SubKind) (p : Packet) (t : Taken) (pr e : ReceiveEnd) → (u ≡ w → Orderly e pr.kept.got t) → e.sub ≡ w → (sub_bits w == 0) ≡ false
+order_kept : (u w : SubKind) (p : Packet) (t : Taken) (pr e : ReceiveEnd) → (u ≡ w → Orderly e pr.kept.got t) → e.sub
+    ≡ w → (sub_bits w == 0) ≡ false
     → e.kept.sum ≤ pr.kept.got → (kept_in u w e.kept p t).sum ≤ (kept_in u Pr pr.kept p t).got
 order_kept Pr Pr p t pr e o is other le = absurd (cc)
 order_kept Npr Pr p t pr e o is other le = absurd (cc)
 order_kept Cpl Pr p t pr e o is other le = absurd (cc)
 order_kept Pr Npr p t pr e o is other le = let more = got_more pr.kept p t in omega (arith, more, le)
 order_kept Pr Cpl p t pr e o is other le = let more = got_more pr.kept p t in omega (arith, more, le)
-order_kept Npr Npr p t pr e o is other le = sum_within e pr.kept.got p t (ap (λ (w : SubKind). sub_bits w == 0) is) le (o refl)
-order_kept Cpl Cpl p t pr e o is other le = sum_within e pr.kept.got p t (ap (λ (w : SubKind). sub_bits w == 0) is) le (o refl)
+order_kept Npr Npr p t pr e o is other le = sum_within e pr.kept.got p t (ap (λ (w : SubKind). sub_bits w == 0) is) le
+    (o refl)
+order_kept Cpl Cpl p t pr e o is other le = sum_within e pr.kept.got p t (ap (λ (w : SubKind). sub_bits w == 0) is) le
+    (o refl)
 order_kept Npr Cpl p t pr e o is other le = le
 order_kept Cpl Npr p t pr e o is other le = le
 
 order_last : (a : Answer) (x y : RxSub) → x.sum ≤ y.got → (kept_last a x).sum ≤ (kept_last a y).got
 order_last a x y le = omega (arith, le, sum_last (is_fail a) x, got_last (is_fail a) y)
 
-pub lanes-kept : (p : Packet) (t : Taken) (a : Answer) (pr npr cpl pr' npr' cpl' : ReceiveEnd) (takes : ℕ) → takes < 2 ^ 40 → IsReceiveLanes pr npr cpl takes
+pub lanes-kept : (p : Packet) (t : Taken) (a : Answer) (pr npr cpl pr' npr' cpl' : ReceiveEnd) (takes : ℕ)
+    → takes < 2 ^ 40 → IsReceiveLanes pr npr cpl takes
     → taken_here (picked p.prefix.sub pr npr cpl) pr.kept.got p ≡ t → AreAfter p t a pr npr cpl pr' npr' cpl'
     → IsReceiveLanes pr' npr' cpl' (takes + 1)
 lanes-kept p t a pr npr cpl pr' npr' cpl' takes few inv is after =
@@ -306,10 +351,12 @@ lanes-kept p t a pr npr cpl pr' npr' cpl' takes few inv is after =
       npr_closed = after.npr_is.closed_is ∙ inv.npr_closed ∙ sym after.pr_is.closed_is;
       cpl_closed = after.cpl_is.closed_is ∙ inv.cpl_closed ∙ sym after.pr_is.closed_is;
       npr_order =
-          subst (λ (y : RxSub × RxSub). y.0.sum ≤ y.1.got) (λ i. (sym after.npr_is.kept_is i, sym after.pr_is.kept_is i))
+          subst (λ (y : RxSub × RxSub). y.0.sum ≤ y.1.got)
+          (λ i. (sym after.npr_is.kept_is i, sym after.pr_is.kept_is i))
           (order_last a (kept_in p.prefix.sub Npr npr.kept p t) (kept_in p.prefix.sub Pr pr.kept p t) npr_order);
       cpl_order =
-          subst (λ (y : RxSub × RxSub). y.0.sum ≤ y.1.got) (λ i. (sym after.cpl_is.kept_is i, sym after.pr_is.kept_is i))
+          subst (λ (y : RxSub × RxSub). y.0.sum ≤ y.1.got)
+          (λ i. (sym after.cpl_is.kept_is i, sym after.pr_is.kept_is i))
           (order_last a (kept_in p.prefix.sub Cpl cpl.kept p t) (kept_in p.prefix.sub Pr pr.kept p t) cpl_order);
       few_pr = omega (arith, after.pr_is.takes_is, inv.few_pr);
       few_npr = omega (arith, after.npr_is.takes_is, inv.few_npr);
@@ -321,4 +368,6 @@ lanes-kept p t a pr npr cpl pr' npr' cpl' takes few inv is after =
     picked_order w e =
         subst (λ (u : SubKind). Orderly (picked u pr npr cpl) pr.kept.got t) e
         (subst (λ (t : Taken). Orderly (picked p.prefix.sub pr npr cpl) pr.kept.got t) is
-        (orderly (picked p.prefix.sub pr npr cpl) pr.kept.got p (live_in (slot_in (picked p.prefix.sub pr npr cpl).kept.slots p.prefix.k)) (live_in (slot_in (picked p.prefix.sub pr npr cpl).kept.slots (not p.prefix.k)))))
+        (orderly (picked p.prefix.sub pr npr cpl) pr.kept.got p
+        (live_in (slot_in (picked p.prefix.sub pr npr cpl).kept.slots p.prefix.k))
+        (live_in (slot_in (picked p.prefix.sub pr npr cpl).kept.slots (not p.prefix.k)))))

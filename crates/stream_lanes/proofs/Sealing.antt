@@ -2,7 +2,9 @@
 -- Under the Live key both descriptions of the packet agree field by field, and of an open unit the invariant says what
 -- stands ahead. A packet joins its unit, with room for one more, or ends it; a call of key management leaves the open
 -- unit as it is, or none open (`Moved`), by the states of both slots.
-use Rattle.std.proofs.Common.{◌≡◌, ℕ, ◌+◌, ◌<◌, ◌≤◌, Bool, true, false, not, ◌&&◌, ◌||◌, ◌==◌, if◌then◌else◌, List, [], ◌∷◌, ◌++◌, length, Option, Some, None, Ok, Err, unwrap_or, refl, sym, ap, ◌∙◌, subst, arith, inl, inr, ◌⊎◌, length-append}
+use Rattle.std.proofs.Common.{◌≡◌, ℕ, ◌+◌, ◌<◌, ◌≤◌, Bool, true, false, not, ◌&&◌, ◌||◌, ◌==◌, if◌then◌else◌, List, []}
+use Rattle.std.proofs.Common.{◌∷◌, ◌++◌, length, Option, Some, None, Ok, Err, unwrap_or, refl, sym, ap, ◌∙◌, subst}
+use Rattle.std.proofs.Common.{arith, inl, inr, ◌⊎◌, length-append}
 use Rattle.std.specs.Int.{w64, to_be_bytes}
 use Rattle.std.proofs.lemmas.Grind.{common_steps}
 use Rattle.ide_types.specs.declared.port.Side.TheVariants.{Host}
@@ -14,11 +16,15 @@ use Rattle.ide_prefix.specs.Packet.{Packet, packet_bytes, sync_head}
 use Rattle.ide_prefix.specs.Iv.{iv_of}
 use Rattle.ide_prefix.specs.Units.{authenticated, encrypted}
 use Rattle.stream_rules.specs.Sending.{is_posted, no_key, front_with, begins_unit, prefix_of}
-use Rattle.stream_rules.specs.Stream.{Slot, Empty, Programmed, Armed, Live, LiveKey, Slots, with_slot, live_sender, lane_of, packet_under, tagged_under, untagged_under, sealed_slots, ended_slots}
+use Rattle.stream_rules.specs.Stream.{Slot, Empty, Programmed, Armed, Live, LiveKey, Slots, with_slot, live_sender}
+use Rattle.stream_rules.specs.Stream.{lane_of, packet_under, tagged_under, untagged_under, sealed_slots, ended_slots}
 use Rattle.stream_rules.specs.Slots.{is_live, any_live, is_busy, both_slots, slot_gone}
 use Rattle.key_slots.specs.{is_only_live}
-use Rattle.sub_stream.specs.{Sender, Content, packets_under, open_packets, ready_of, ready_under, sealing_of, sealing_under, sealing_as, noted, ends, ahead_for, ahead_of, packet_of, Sealing, slot_pair, gone_slots, gone_sender, programmed_sender}
-use Rattle.stream_lanes.specs.Lanes.{SendEnd, IsSendLane, open_unit, open_in, lane_in, said, is_spent, packet_in, measured, sync_said}
+use Rattle.sub_stream.specs.{Sender, Content, packets_under, open_packets, ready_of, ready_under, sealing_of}
+use Rattle.sub_stream.specs.{sealing_under, sealing_as, noted, ends, ahead_for, ahead_of, packet_of, Sealing, slot_pair}
+use Rattle.sub_stream.specs.{gone_slots, gone_sender, programmed_sender}
+use Rattle.stream_lanes.specs.Lanes.{SendEnd, IsSendLane, open_unit, open_in, lane_in, said, is_spent, packet_in}
+use Rattle.stream_lanes.specs.Lanes.{measured, sync_said}
 
 abbrev pub one_live : Slots → Bool
 one_live s = is_live s.first && is_live s.second
@@ -39,7 +45,8 @@ and_false false = refl
 pub live-some : (s : Slots) → any_live s ≡ true → (x : Bool × LiveKey) × (live_sender s ≡ Some x)
 live-some s = by_slots s.first s.second
   where
-    by_slots : (a b : Slot) → (is_live a || is_live b) ≡ true → (x : Bool × LiveKey) × (live_sender (record { first = a; second = b }) ≡ Some x)
+    by_slots : (a b : Slot) → (is_live a || is_live b) ≡ true → (x : Bool × LiveKey)
+        × (live_sender (record { first = a; second = b }) ≡ Some x)
     by_slots (Live x) b e = ((false, x), refl)
     by_slots Empty (Live y) e = ((true, y), refl)
     by_slots (Programmed i k) (Live y) e = ((true, y), refl)
@@ -61,7 +68,8 @@ Moved old new = ((live_sender new ≡ live_sender old) ⊎ (open_in new ≡ []))
 none_open : (ps : List Packet) → ps ≡ [] → (length ps == 0) ≡ false → ⊥
 none_open ps e f = let g : true ≡ false = ap (λ (qs : List Packet). length qs == 0) (sym e) ∙ f in cc
 
-pub moved-kept : (tx : Sender) (limit : ℕ) (closed : Bool) (posted total : ℕ) (slots : Slots) → IsSendLane tx limit closed posted total → Moved tx.slots slots
+pub moved-kept : (tx : Sender) (limit : ℕ) (closed : Bool) (posted total : ℕ) (slots : Slots)
+    → IsSendLane tx limit closed posted total → Moved tx.slots slots
     → IsSendLane (record tx { slots = slots }) limit closed posted total
 moved-kept tx limit closed posted total slots inv moved =
     elim moved.0 [
@@ -84,13 +92,16 @@ moved-kept tx limit closed posted total slots inv moved =
     ]
 
 go_busy : (k b : Bool) (j : ℕ) (key : List ℕ) (x : LiveKey)
-    → Moved (both_slots k (Programmed j key) (Live x)) (if b then both_slots k (Armed j key) (Live x) else both_slots k (Live (record { draw = j; key = key; units = 0; packets = [] })) Empty)
+    → Moved (both_slots k (Programmed j key) (Live x))
+    (if b then both_slots k (Armed j key) (Live x) else both_slots k
+    (Live (record { draw = j; key = key; units = 0; packets = [] })) Empty)
 go_busy true true j key x = (inl refl, refl)
 go_busy false true j key x = (inl refl, refl)
 go_busy true false j key x = (inr refl, refl)
 go_busy false false j key x = (inr refl, refl)
 
-pub go-moved : (k : Bool) (mine other : Slot) → one_live (both_slots k mine other) ≡ false → Moved (both_slots k mine other) (slot_gone k mine other)
+pub go-moved : (k : Bool) (mine other : Slot) → one_live (both_slots k mine other) ≡ false
+    → Moved (both_slots k mine other) (slot_gone k mine other)
 go-moved k (Programmed j key) (Live x) e = go_busy k (is_busy (Live x)) j key x
 go-moved true (Programmed j key) Empty e = (inr refl, refl)
 go-moved true (Programmed j key) (Programmed i l) e = (inr refl, refl)
@@ -102,15 +113,19 @@ go-moved k Empty other e = (inl refl, e)
 go-moved k (Armed j key) other e = (inl refl, e)
 go-moved k (Live x) other e = (inl refl, e)
 
-pub gone-kept : (k : Bool) (tx : Sender) (limit : ℕ) (closed : Bool) (posted total : ℕ) → IsSendLane tx limit closed posted total
+pub gone-kept : (k : Bool) (tx : Sender) (limit : ℕ) (closed : Bool) (posted total : ℕ)
+    → IsSendLane tx limit closed posted total
     → IsSendLane (gone_sender tx k) limit closed posted total
 gone-kept true tx limit closed posted total inv =
-    moved-kept tx limit closed posted total (gone_slots tx.slots true) inv (go-moved true tx.slots.second tx.slots.first inv.one_live)
+    moved-kept tx limit closed posted total (gone_slots tx.slots true) inv
+    (go-moved true tx.slots.second tx.slots.first inv.one_live)
 gone-kept false tx limit closed posted total inv =
-    moved-kept tx limit closed posted total (gone_slots tx.slots false) inv (go-moved false tx.slots.first tx.slots.second inv.one_live)
+    moved-kept tx limit closed posted total (gone_slots tx.slots false) inv
+    (go-moved false tx.slots.first tx.slots.second inv.one_live)
 
 -- a key that is put in where the slot is not Live
-put_second : (a b : Slot) (j : ℕ) (key : List ℕ) → (is_live a && is_live b) ≡ false → is_only_live (slot_pair true (record { first = a; second = b })) true ≡ false
+put_second : (a b : Slot) (j : ℕ) (key : List ℕ) → (is_live a && is_live b) ≡ false
+    → is_only_live (slot_pair true (record { first = a; second = b })) true ≡ false
     → Moved (record { first = a; second = b }) (record { first = a; second = Programmed j key })
 put_second a Empty j key one e = (inl refl, and_false (is_live a))
 put_second a (Programmed i l) j key one e = (inl refl, and_false (is_live a))
@@ -120,7 +135,8 @@ put_second (Programmed i l) (Live y) j key one e = absurd (cc)
 put_second (Armed i l) (Live y) j key one e = absurd (cc)
 put_second (Live x) (Live y) j key one e = absurd (cc)
 
-put_first : (a b : Slot) (j : ℕ) (key : List ℕ) → (is_live a && is_live b) ≡ false → is_only_live (slot_pair true (record { first = a; second = b })) false ≡ false
+put_first : (a b : Slot) (j : ℕ) (key : List ℕ) → (is_live a && is_live b) ≡ false
+    → is_only_live (slot_pair true (record { first = a; second = b })) false ≡ false
     → Moved (record { first = a; second = b }) (record { first = Programmed j key; second = b })
 put_first Empty b j key one e = (inl refl, refl)
 put_first (Programmed i l) b j key one e = (inl refl, refl)
@@ -130,18 +146,22 @@ put_first (Live x) (Programmed i l) j key one e = absurd (cc)
 put_first (Live x) (Armed i l) j key one e = absurd (cc)
 put_first (Live x) (Live y) j key one e = absurd (cc)
 
-pub programmed-kept : (k : Bool) (tx : Sender) (key : List ℕ) (draw limit : ℕ) (closed : Bool) (posted total : ℕ) → IsSendLane tx limit closed posted total
+pub programmed-kept : (k : Bool) (tx : Sender) (key : List ℕ) (draw limit : ℕ) (closed : Bool) (posted total : ℕ)
+    → IsSendLane tx limit closed posted total
     → IsSendLane (programmed_sender tx k key draw) limit closed posted total
 programmed-kept k tx key draw limit closed posted total inv = by_answer (is_only_live (slot_pair true tx.slots) k) refl
   where
-    moved : (k : Bool) → is_only_live (slot_pair true tx.slots) k ≡ false → Moved tx.slots (with_slot tx.slots k (Programmed draw key))
+    moved : (k : Bool) → is_only_live (slot_pair true tx.slots) k ≡ false
+        → Moved tx.slots (with_slot tx.slots k (Programmed draw key))
     moved true e = put_second tx.slots.first tx.slots.second draw key inv.one_live e
     moved false e = put_first tx.slots.first tx.slots.second draw key inv.one_live e
 
     by_answer : (b : Bool) → is_only_live (slot_pair true tx.slots) k ≡ b
-        → IsSendLane (if b then tx else record tx { slots = with_slot tx.slots k (Programmed draw key) }) limit closed posted total
+        → IsSendLane (if b then tx else record tx { slots = with_slot tx.slots k (Programmed draw key) }) limit closed
+        posted total
     by_answer true e = inv
-    by_answer false e = moved-kept tx limit closed posted total (with_slot tx.slots k (Programmed draw key)) inv (moved k e)
+    by_answer false e = moved-kept tx limit closed posted total (with_slot tx.slots k (Programmed draw key)) inv
+        (moved k e)
 
 -- ---- a sealed packet
 
@@ -183,7 +203,11 @@ sealing_right tx closed posted total c more =
     record {
       description = measured d p;
       packet = p;
-      sender = record tx { ahead = (if d.m then [] else front_with closed d.unit total); slots = sealed_slots d.m p tx.slots };
+      sender = record tx {
+        ahead = (if d.m then [] else front_with closed d.unit total);
+        slots = sealed_slots d.m p
+            tx.slots;
+      };
     }
 
 abbrev sealing_with : Sender → Bool → ℕ → ℕ → Content → Bool → Option (Bool × LiveKey) → Sealing
@@ -194,7 +218,11 @@ sealing_with tx closed posted total c more o =
     record {
       description = measured d p;
       packet = p;
-      sender = record tx { ahead = (if d.m then [] else front_with closed d.unit total); slots = sealed_slots d.m p tx.slots };
+      sender = record tx {
+        ahead = (if d.m then [] else front_with closed d.unit total);
+        slots = sealed_slots d.m p
+            tx.slots;
+      };
     }
 
 front_ahead : (closed : Bool) (total n : ℕ) (front : List ℕ) → front ≡ (if closed then to_be_bytes w64 total else [])
@@ -209,7 +237,8 @@ front_ahead closed total n front e = by_unit closed (n == 1) front e
     by_unit false false front e = refl
 
 -- what stands ahead is what the rules say
-pub ahead-right : (b : Bool) (old : List ℕ) (closed : Bool) (total n : ℕ) (front : List ℕ) → front ≡ (if closed then to_be_bytes w64 total else [])
+pub ahead-right : (b : Bool) (old : List ℕ) (closed : Bool) (total n : ℕ) (front : List ℕ) → front
+    ≡ (if closed then to_be_bytes w64 total else [])
     → (b ≡ false → old ≡ front_with closed n total)
     → (if b then ahead_of front n else old) ≡ front_with closed n total
 ahead-right true old closed total n front e h = front_ahead closed total n front e
@@ -219,11 +248,13 @@ count_said : (b : Bool) (n : ℕ) → (b ≡ true → n ≡ 0) → n ≡ (if b t
 count_said true n h = h refl
 count_said false n h = refl
 
-ready_live : (limit : ℕ) (b : Bool) (x : Bool × LiveKey) → b ≡ false → (if b then Err (Rattle.sub_stream.specs.declared.answer.TxRefusal.TheVariants.Worn limit) else Ok x) ≡ Ok x
+ready_live : (limit : ℕ) (b : Bool) (x : Bool × LiveKey) → b ≡ false
+    → (if b then Err (Rattle.sub_stream.specs.declared.answer.TxRefusal.TheVariants.Worn limit) else Ok x) ≡ Ok x
 ready_live limit true x e = absurd (cc)
 ready_live limit false x e = refl
 
-pub sealing-is : (tx : Sender) (limit : ℕ) (closed : Bool) (posted total : ℕ) (front : List ℕ) (c : Content) (more : Bool)
+pub sealing-is : (tx : Sender) (limit : ℕ) (closed : Bool) (posted total : ℕ) (front : List ℕ) (c : Content)
+    (more : Bool)
     → IsSendLane tx limit closed posted total
     → any_live tx.slots ≡ true → is_spent (view tx closed posted total) ≡ false
     → front ≡ (if closed then to_be_bytes w64 total else []) → c.posted ≡ posted
@@ -235,16 +266,20 @@ sealing-is tx limit closed posted total front c more inv live unspent is_front i
     e : SendEnd
     e = view tx closed posted total
 
-    under : (x : Bool × LiveKey) → live_sender tx.slots ≡ Some x → sealing_of tx front c more ≡ Ok (sealing_right tx closed posted total c more)
+    under : (x : Bool × LiveKey) → live_sender tx.slots ≡ Some x → sealing_of tx front c more
+        ≡ Ok (sealing_right tx closed posted total c more)
     under x is =
         let spent : ((length x.1.packets == 0) && (x.1.units == tx.limit)) ≡ false =
-        ap (λ (o : Option (Bool × LiveKey)). begins_unit (lane_of posted o) && ((lane_of posted o).units == tx.limit)) (sym is) ∙ unspent in
+        ap (λ (o : Option (Bool × LiveKey)). begins_unit (lane_of posted o) && ((lane_of posted o).units == tx.limit))
+        (sym is) ∙ unspent in
         let ready : ready_of tx ≡ Ok x = ap (ready_under tx.limit) is ∙ ready_live tx.limit _ x spent in
         let open_ahead : (length x.1.packets == 0) ≡ false → tx.ahead ≡ front_with closed (x.1.units + 1) total =
-        subst (λ (o : Option (Bool × LiveKey)). (length (packets_under o) == 0) ≡ false → tx.ahead ≡ front_with closed (open_unit o) total) is inv.ahead in
+        subst (λ (o : Option (Bool × LiveKey)). (length (packets_under o) == 0) ≡ false → tx.ahead
+        ≡ front_with closed (open_unit o) total) is inv.ahead in
         let ahead : ahead_for tx x.1 front ≡ front_with closed (x.1.units + 1) total =
         ahead-right (length x.1.packets == 0) tx.ahead closed total (x.1.units + 1) front is_front open_ahead in
-        let count : c.posted ≡ (if is_posted tx.sub then 0 else posted) = is_posted_count ∙ count_said (is_posted tx.sub) posted inv.no_count in
+        let count : c.posted ≡ (if is_posted tx.sub then 0 else posted) = is_posted_count ∙ count_said
+        (is_posted tx.sub) posted inv.no_count in
         ap (sealing_under tx front c more) ready
         ∙ (λ i. Ok (sealed_with x (ahead i) (count i)))
         ∙ ap (λ (o : Option (Bool × LiveKey)). Ok (sealing_with tx closed posted total c more o)) (sym is)
@@ -273,18 +308,32 @@ sealing-is tx limit closed posted total front c more inv live unspent is_front i
             }
 
 same_parts : (b : Bool) (head payload head' payload' : List ℕ) → b ≡ true
-    → ◌≡◌ {A = List ℕ × List ℕ} (if b then sync_head else head, if b then [] else payload) (if b then sync_head else head', if b then [] else payload')
+    → ◌≡◌ {A = List ℕ × List ℕ} (if b then sync_head else head, if b then [] else payload)
+    (if b then sync_head else head', if b then [] else payload')
 same_parts true head payload head' payload' e = refl
 same_parts false head payload head' payload' e = absurd (cc)
 
 -- a sync packet carries neither header nor payload of a TLP
-pub sync-same : (ahead : List ℕ) (o : Option (Bool × LiveKey)) (d : Described) (head payload head' payload' : List ℕ) → d.sync ≡ true
+pub sync-same : (ahead : List ℕ) (o : Option (Bool × LiveKey)) (d : Described) (head payload head' payload' : List ℕ)
+    → d.sync ≡ true
     → packet_under ahead o d head payload ≡ packet_under ahead o d head' payload'
 sync-same ahead None d head payload head' payload' e =
-    ap (λ (y : List ℕ × List ℕ). record { prefix = prefix_of d; head = y.0; body = masked [] (iv_of d.sub d.unit) (length (encrypted [])) y.1; tag = [] })
+    ap (λ (y : List ℕ × List ℕ). record {
+      prefix = prefix_of d;
+      head = y.0;
+      body = masked [] (iv_of d.sub d.unit) (length (encrypted [])) y.1;
+      tag = [];
+    })
     (same_parts d.sync head payload head' payload' e)
 sync-same ahead (Some x) d head payload head' payload' e =
-    ap (λ (y : List ℕ × List ℕ). tagged_under ahead x.1.key x.1.packets d (record { prefix = prefix_of d; head = y.0; body = masked x.1.key (iv_of d.sub d.unit) (length (encrypted x.1.packets)) y.1; tag = [] }))
+    ap (λ (y : List ℕ × List ℕ). tagged_under ahead x.1.key x.1.packets d
+    (record {
+      prefix = prefix_of d;
+      head = y.0;
+      body = masked x.1.key (iv_of d.sub d.unit)
+          (length (encrypted x.1.packets)) y.1;
+      tag = [];
+    }))
     (same_parts d.sync head payload head' payload' e)
 
 -- ---- the sender after it
@@ -313,7 +362,8 @@ ended_open s = by_slots s.first s.second
 pub sealed-one_live : (m : Bool) (p : Packet) (s : Slots) → one_live s ≡ false → one_live (sealed_slots m p s) ≡ false
 sealed-one_live m p s = by_slots m s.first s.second
   where
-    by_slots : (m : Bool) (a b : Slot) → (is_live a && is_live b) ≡ false → one_live (sealed_slots m p (record { first = a; second = b })) ≡ false
+    by_slots : (m : Bool) (a b : Slot) → (is_live a && is_live b) ≡ false
+        → one_live (sealed_slots m p (record { first = a; second = b })) ≡ false
     by_slots m (Live g) (Live h) e = absurd (cc)
     by_slots true Empty b e = refl
     by_slots true (Programmed g l) Empty e = refl
@@ -343,7 +393,8 @@ pub goes_on-live : (p : Packet) (s : Slots) (x : Bool × LiveKey) → live_sende
 unfolding joined
 goes_on-live p s x is = by_slots s.first s.second ∙ ap (joined p) is
   where
-    by_slots : (a b : Slot) → live_sender (sealed_slots false p (record { first = a; second = b })) ≡ joined p (live_sender (record { first = a; second = b }))
+    by_slots : (a b : Slot) → live_sender (sealed_slots false p (record { first = a; second = b }))
+        ≡ joined p (live_sender (record { first = a; second = b }))
     by_slots (Live g) b = refl
     by_slots Empty Empty = refl
     by_slots Empty (Programmed h k) = refl
@@ -359,14 +410,16 @@ goes_on-live p s x is = by_slots s.first s.second ∙ ap (joined p) is
     by_slots (Armed g l) (Live h) = refl
 
 -- a posted packet joins, or ends its unit
-pub room-sealed : (mode n : ℕ) (m : Bool) (p : Packet) (s : Slots) → any_live s ≡ true → n + mode ≤ 255 + length (open_in s)
+pub room-sealed : (mode n : ℕ) (m : Bool) (p : Packet) (s : Slots) → any_live s ≡ true
+    → n + mode ≤ 255 + length (open_in s)
     → (length (open_in (sealed_slots m p s)) == 0) ≡ false → n + 1 + mode ≤ 255 + length (open_in (sealed_slots m p s))
 room-sealed mode n true p s live le e = absurd (none_open _ (ended_open s) e)
 room-sealed mode n false p s live le e =
     let some = live-some s live in
     let on = ap packets_under (goes_on-live p s some.0 some.1) in
     let now : length (open_in (sealed_slots false p s)) ≡ length (open_in s) + 1 =
-    ap length on ∙ length-append some.0.1.packets (p ∷ []) ∙ ap (λ (o : Option (Bool × LiveKey)). length (packets_under o) + 1) (sym some.1) in
+    ap length on ∙ length-append some.0.1.packets (p ∷ []) ∙ ap
+    (λ (o : Option (Bool × LiveKey)). length (packets_under o) + 1) (sym some.1) in
     omega (arith, now, le)
 
 not_last : (more b : Bool) → (not more || b) ≡ false → b ≡ false
@@ -379,13 +432,21 @@ room_left n mode less e = grind (arith, common_steps)
 pub sealed-kept : (tx : Sender) (limit : ℕ) (closed : Bool) (posted total : ℕ) (more : Bool) (p : Packet) (m : Bool)
     → IsSendLane tx limit closed posted total → any_live tx.slots ≡ true
     → m ≡ (not more || (length (lane_of posted (live_sender tx.slots)).front + 1 == tx.mode))
-    → IsSendLane (record tx { ahead = (if m then [] else front_with closed ((lane_of posted (live_sender tx.slots)).units + 1) total); slots = sealed_slots m p tx.slots }) limit closed 0 (if m then total + 1 else total)
+    → IsSendLane (record tx {
+      ahead = (if m then [] else front_with closed ((lane_of posted (live_sender tx.slots)).units + 1) total);
+      slots
+          = sealed_slots m p tx.slots;
+    }) limit closed 0 (if m then total + 1 else total)
 sealed-kept tx limit closed posted total more p m inv live is_m =
     let some = live-some tx.slots live in
     under m is_m some.0 some.1
   where
-    under : (m : Bool) → m ≡ (not more || (length (lane_of posted (live_sender tx.slots)).front + 1 == tx.mode)) → (x : Bool × LiveKey) → live_sender tx.slots ≡ Some x
-        → IsSendLane (record tx { ahead = (if m then [] else front_with closed ((lane_of posted (live_sender tx.slots)).units + 1) total); slots = sealed_slots m p tx.slots }) limit closed 0 (if m then total + 1 else total)
+    under : (m : Bool) → m ≡ (not more || (length (lane_of posted (live_sender tx.slots)).front + 1 == tx.mode))
+        → (x : Bool × LiveKey) → live_sender tx.slots ≡ Some x
+        → IsSendLane (record tx {
+          ahead = (if m then [] else front_with closed ((lane_of posted (live_sender tx.slots)).units + 1) total);
+          slots = sealed_slots m p tx.slots;
+        }) limit closed 0 (if m then total + 1 else total)
     under true is_m x is = record {
       same_limit = inv.same_limit;
       some_mode = inv.some_mode;
@@ -395,17 +456,21 @@ sealed-kept tx limit closed posted total more p m inv live is_m =
       no_count = λ e. refl;
     }
     under false is_m x is =
-        let fits : length x.1.packets < tx.mode = subst (λ (o : Option (Bool × LiveKey)). length (packets_under o) < tx.mode) is inv.fits in
+        let fits : length x.1.packets < tx.mode = subst
+        (λ (o : Option (Bool × LiveKey)). length (packets_under o) < tx.mode) is inv.fits in
         let low : (length x.1.packets + 1 == tx.mode) ≡ false =
-        not_last more _ (ap (λ (o : Option (Bool × LiveKey)). not more || (length (lane_of posted o).front + 1 == tx.mode)) (sym is) ∙ sym is_m) in
-        let more_fits : length (x.1.packets ++ p ∷ []) < tx.mode = rw (length-append x.1.packets (p ∷ [])) (room_left (length x.1.packets) tx.mode fits low) in
+        not_last more _ (ap (λ (o : Option (Bool × LiveKey)). not more
+        || (length (lane_of posted o).front + 1 == tx.mode)) (sym is) ∙ sym is_m) in
+        let more_fits : length (x.1.packets ++ p ∷ []) < tx.mode = rw (length-append x.1.packets (p ∷ []))
+        (room_left (length x.1.packets) tx.mode fits low) in
         let on = goes_on-live p tx.slots x is in
         record {
           same_limit = inv.same_limit;
           some_mode = inv.some_mode;
           one_live = sealed-one_live false p tx.slots inv.one_live;
           fits = subst (λ (o : Option (Bool × LiveKey)). length (packets_under o) < tx.mode) (sym on) more_fits;
-          ahead = λ e. (λ i. front_with closed ((lane_of posted (is i)).units + 1) total) ∙ (λ i. front_with closed (open_unit (sym on i)) total);
+          ahead = λ e. (λ i. front_with closed ((lane_of posted (is i)).units + 1) total) ∙
+              (λ i. front_with closed (open_unit (sym on i)) total);
           no_count = λ e. refl;
         }
 
@@ -415,17 +480,25 @@ short p head body tag =
     let twelve : length p.head ≡ 12 = ap length head in
     omega (arith, length-append p.head (p.body ++ p.tag), length-append p.body p.tag, twelve, body, tag)
 
-short_under : (e : SendEnd) (o : Option (Bool × LiveKey)) (d : Described) → d.m ≡ true → d.sync ≡ true → (ahead : List ℕ) → length (packet_bytes (packet_under ahead o d [] [])) ≤ 28
+short_under : (e : SendEnd) (o : Option (Bool × LiveKey)) (d : Described) → d.m ≡ true → d.sync ≡ true
+    → (ahead : List ℕ) → length (packet_bytes (packet_under ahead o d [] [])) ≤ 28
 short_under e None d m sync ahead =
     short (untagged_under [] [] d [] []) (ap (λ (b : Bool). if b then sync_head else []) sync)
-    (length-masked [] (iv_of d.sub d.unit) (length (encrypted [])) (if d.sync then [] else []) ∙ ap (λ (b : Bool). length {A = ℕ} (if b then [] else [])) sync) (omega arith)
+    (length-masked [] (iv_of d.sub d.unit) (length (encrypted [])) (if d.sync then [] else []) ∙ ap
+    (λ (b : Bool). length {A = ℕ} (if b then [] else [])) sync) (omega arith)
 short_under e (Some x) d m sync ahead =
     let q = untagged_under x.1.key x.1.packets d [] [] in
-    let tag : length (if d.m then tag_of x.1.key (iv_of d.sub d.unit) (ahead ++ authenticated (x.1.packets ++ q ∷ [])) (encrypted (x.1.packets ++ q ∷ [])) else []) ≡ 12 =
-    ap (λ (b : Bool). length (if b then tag_of x.1.key (iv_of d.sub d.unit) (ahead ++ authenticated (x.1.packets ++ q ∷ [])) (encrypted (x.1.packets ++ q ∷ [])) else [])) m
-    ∙ length-tag_of x.1.key (iv_of d.sub d.unit) (ahead ++ authenticated (x.1.packets ++ q ∷ [])) (encrypted (x.1.packets ++ q ∷ [])) in
+    let tag : length (if d.m then tag_of x.1.key (iv_of d.sub d.unit) (ahead ++ authenticated (x.1.packets ++ q ∷ []))
+    (encrypted (x.1.packets ++ q ∷ [])) else []) ≡ 12 =
+    ap (λ (b : Bool). length
+    (if b then tag_of x.1.key (iv_of d.sub d.unit) (ahead ++ authenticated (x.1.packets ++ q ∷ []))
+    (encrypted (x.1.packets ++ q ∷ [])) else [])) m
+    ∙ length-tag_of x.1.key (iv_of d.sub d.unit) (ahead ++ authenticated (x.1.packets ++ q ∷ []))
+    (encrypted (x.1.packets ++ q ∷ [])) in
     short (tagged_under ahead x.1.key x.1.packets d q) (ap (λ (b : Bool). if b then sync_head else []) sync)
-    (length-masked x.1.key (iv_of d.sub d.unit) (length (encrypted x.1.packets)) (if d.sync then [] else []) ∙ ap (λ (b : Bool). length {A = ℕ} (if b then [] else [])) sync) (omega (arith, tag))
+    (length-masked x.1.key (iv_of d.sub d.unit) (length (encrypted x.1.packets)) (if d.sync then [] else []) ∙ ap
+    (λ (b : Bool). length {A = ℕ} (if b then [] else [])) sync) (omega (arith, tag))
 
 pub sync-short : (e : SendEnd) → length (packet_bytes (packet_in e [] [] (sync_said e))) ≤ 28
-sync-short e = short_under e (live_sender e.kept.slots) (sync_said e) refl refl (front_with e.fixed.closed (sync_said e).unit e.kept.total)
+sync-short e = short_under e (live_sender e.kept.slots) (sync_said e) refl refl
+    (front_with e.fixed.closed (sync_said e).unit e.kept.total)

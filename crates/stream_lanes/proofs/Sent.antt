@@ -2,19 +2,23 @@
 -- Only ahead of a posted TLP do sync packets go, so it goes by class and, for a posted one, by which of the two go
 -- first. Each packet is that of the rules, as neither its number nor its port is in it and a sync packet has nothing of
 -- the TLP; behind sync packets the TLP's own sender is as before, and the joined bytes are only grouped anew.
-use Rattle.std.proofs.Common.{◌≡◌, ℕ, ◌+◌, ◌≤◌, Bool, true, false, ◌&&◌, if◌then◌else◌, List, [], ◌∷◌, ◌++◌, length, map, Option, Some, None, refl, sym, ap, ◌∙◌, subst, arith, append_assoc, append-nil}
+use Rattle.std.proofs.Common.{◌≡◌, ℕ, ◌+◌, ◌≤◌, Bool, true, false, ◌&&◌, if◌then◌else◌, List, [], ◌∷◌, ◌++◌, length}
+use Rattle.std.proofs.Common.{map, Option, Some, None, refl, sym, ap, ◌∙◌, subst, arith, append_assoc, append-nil}
 use Rattle.ide_types.specs.declared.sub.SubKind.{SubKind}
 use Rattle.ide_types.specs.declared.sub.SubKind.TheVariants.{Pr, Npr, Cpl}
 use Rattle.ide_types.specs.declared.port.PortName.{PortName}
 use Rattle.link_verdicts.specs.declared.verdict.Verdict.{Verdict}
 use Rattle.link_verdicts.specs.declared.verdict.SealedPacket.{SealedPacket as Described}
 use Rattle.ide_prefix.specs.Packet.{Packet, packet_bytes}
-use Rattle.stream_rules.specs.Sending.{Sending, Lanes, front_with, is_keyless, is_worn, needs_sync, refusals, first_that_holds, described, ends_unit, sets_trusted, sealed_by}
-use Rattle.stream_rules.specs.Stream.{LiveKey, TxSub, at_sub, each_sub, live_sender, packet_under, sealed_sub, sealed_one, sealed_all}
+use Rattle.stream_rules.specs.Sending.{Sending, Lanes, front_with, is_keyless, is_worn, needs_sync, refusals}
+use Rattle.stream_rules.specs.Sending.{first_that_holds, described, ends_unit, sets_trusted, sealed_by}
+use Rattle.stream_rules.specs.Stream.{LiveKey, TxSub, at_sub, each_sub, live_sender, packet_under, sealed_sub}
+use Rattle.stream_rules.specs.Stream.{sealed_one, sealed_all}
 use Rattle.sub_stream.specs.declared.answer.SealedPacket.{SealedPacket}
 use Rattle.stream_lanes.specs.Sends.{numbered_from, joined_packets, packet_lengths, IsSealed}
 use Rattle.stream_lanes.specs.declared.fixed.Fixed.{Fixed}
-use Rattle.stream_lanes.specs.Lanes.{SendEnd, SendEnds, end_at, lanes_at, tlp_said, sync_said, packet_at, sealed_ends, measured, synced, sync_packets, sync_bytes}
+use Rattle.stream_lanes.specs.Lanes.{SendEnd, SendEnds, end_at, lanes_at, tlp_said, sync_said, packet_at, sealed_ends}
+use Rattle.stream_lanes.specs.Lanes.{measured, synced, sync_packets, sync_bytes}
 use Rattle.stream_lanes.proofs.Sealing.{sync-same}
 
 -- ---- what is not refused
@@ -27,7 +31,8 @@ pub record IsClear (x : SendEnds) (sub : SubKind) : Type 0 where
   pub npr_unworn : (needs_sync (lanes_at x) sub Npr && is_worn (lanes_at x) Npr) ≡ false
   pub cpl_unworn : (needs_sync (lanes_at x) sub Cpl && is_worn (lanes_at x) Cpl) ≡ false
 
-not_first : (b : Bool) (v : Verdict) (rest : Option Verdict) → (if b then Some v else rest) ≡ None → (b ≡ false) × (rest ≡ None)
+not_first : (b : Bool) (v : Verdict) (rest : Option Verdict) → (if b then Some v else rest) ≡ None → (b ≡ false)
+    × (rest ≡ None)
 not_first true v rest e = absurd (cc)
 not_first false v rest e = (refl, e)
 
@@ -64,7 +69,8 @@ end-cpl true x = refl
 end-cpl false x = refl
 
 -- behind the sync packets the sender of the TLP is as it was
-pub end-kept : (x : SendEnds) (sub : SubKind) (b c : Bool) → b ≡ needs_sync (lanes_at x) sub Npr → c ≡ needs_sync (lanes_at x) sub Cpl
+pub end-kept : (x : SendEnds) (sub : SubKind) (b c : Bool) → b ≡ needs_sync (lanes_at x) sub Npr → c
+    ≡ needs_sync (lanes_at x) sub Cpl
     → end_at (synced c Cpl (synced b Npr x)) sub ≡ end_at x sub
 end-kept x Pr true true e f = refl
 end-kept x Pr true false e f = refl
@@ -76,8 +82,10 @@ end-kept x Cpl b c e f = rw (e, f) refl
 -- ---- the packets
 
 -- neither the number nor the port is in a packet
-renumbered : (ahead : List ℕ) (o : Option (Bool × LiveKey)) (d : Described) (number : ℕ) (port : PortName) (head payload : List ℕ)
-    → packet_under ahead o d head payload ≡ packet_under ahead o (record d { number = number; port = port }) head payload
+renumbered : (ahead : List ℕ) (o : Option (Bool × LiveKey)) (d : Described) (number : ℕ) (port : PortName)
+    (head payload : List ℕ)
+    → packet_under ahead o d head payload ≡ packet_under ahead o (record d { number = number; port = port }) head
+    payload
 renumbered ahead None d number port head payload = refl
 renumbered ahead (Some x) d number port head payload = refl
 
@@ -85,17 +93,22 @@ renumbered ahead (Some x) d number port head payload = refl
 sync_packet : (x : SendEnds) (d : Described) (number : ℕ) (port : PortName) (head payload : List ℕ) → d.sync ≡ true
     → packet_at x [] [] d ≡ (sealed_one x.fixed.closed head payload (record d { number = number; port = port }) x.tx).0
 sync_packet x d number port head payload e =
-    sync-same (front_with x.fixed.closed d.unit (at_sub x.tx d.sub).total) (live_sender (at_sub x.tx d.sub).slots) d [] [] head payload e
-    ∙ renumbered (front_with x.fixed.closed d.unit (at_sub x.tx d.sub).total) (live_sender (at_sub x.tx d.sub).slots) d number port head payload
+    sync-same (front_with x.fixed.closed d.unit (at_sub x.tx d.sub).total) (live_sender (at_sub x.tx d.sub).slots) d []
+    [] head payload e
+    ∙ renumbered (front_with x.fixed.closed d.unit (at_sub x.tx d.sub).total) (live_sender (at_sub x.tx d.sub).slots) d
+    number port head payload
 
 tlp_packet : (x : SendEnds) (d : Described) (number : ℕ) (port : PortName) (head payload : List ℕ)
-    → packet_at x head payload d ≡ (sealed_one x.fixed.closed head payload (record d { number = number; port = port }) x.tx).0
+    → packet_at x head payload d ≡
+    (sealed_one x.fixed.closed head payload (record d { number = number; port = port }) x.tx).0
 tlp_packet x d number port head payload =
-    renumbered (front_with x.fixed.closed d.unit (at_sub x.tx d.sub).total) (live_sender (at_sub x.tx d.sub).slots) d number port head payload
+    renumbered (front_with x.fixed.closed d.unit (at_sub x.tx d.sub).total) (live_sender (at_sub x.tx d.sub).slots) d
+    number port head payload
 
 -- the senders after the TLP's packet
 after_packet : (x : SendEnds) (d : Described) (p q : Packet) → p ≡ q
-    → ◌≡◌ {A = SendEnds} (record x { tx = each_sub (λ u. sealed_sub d p u (at_sub x.tx u)) }) (record x { tx = each_sub (λ u. sealed_sub d q u (at_sub x.tx u)) })
+    → ◌≡◌ {A = SendEnds} (record x { tx = each_sub (λ u. sealed_sub d p u (at_sub x.tx u)) })
+    (record x { tx = each_sub (λ u. sealed_sub d q u (at_sub x.tx u)) })
 after_packet x d p q e = ap (λ (r : Packet). record x { tx = each_sub (λ u. sealed_sub d r u (at_sub x.tx u)) }) e
 
 -- the packets that were sealed, as the senders say them, and the bytes behind others
@@ -105,7 +118,8 @@ last_ends x b c = synced c Cpl (synced b Npr x)
 abbrev pub all_said : SendEnds → SubKind → Bool → Bool → List ℕ → List ℕ → Bool → Bool → List SealedPacket
 all_said x sub b c head payload t more =
     (([] ++ sync_packets b Npr x) ++ sync_packets c Cpl (synced b Npr x))
-    ++ measured (tlp_said (end_at (last_ends x b c) sub) t more) (packet_at (last_ends x b c) head payload (tlp_said (end_at (last_ends x b c) sub) t more)) ∷ []
+    ++ measured (tlp_said (end_at (last_ends x b c) sub) t more)
+    (packet_at (last_ends x b c) head payload (tlp_said (end_at (last_ends x b c) sub) t more)) ∷ []
 
 abbrev pub all_bytes : SendEnds → SubKind → Bool → Bool → List ℕ → List ℕ → Bool → Bool → List ℕ → List ℕ
 all_bytes x sub b c head payload t more before =
@@ -121,18 +135,22 @@ abbrev flagged : Bool → Bool → Lanes → Sending → ℕ → List Described
 flagged b c x s number =
     let first = if b then described x s Npr number true false true ∷ [] else [] in
     let second = if c then described x s Cpl (number + length first) true false true ∷ [] else [] in
-    first ++ second ++ described x s s.class (number + length first + length second) (ends_unit x s) (sets_trusted s.port s.trusted) false ∷ []
+    first ++ second ++ described x s s.class (number + length first + length second) (ends_unit x s)
+    (sets_trusted s.port s.trusted) false ∷ []
 
-pub record IsSealedAs (x : SendEnds) (head payload : List ℕ) (port : PortName) (number : ℕ) (ds : List Described) (sealed : List SealedPacket) (before after : List ℕ) (new : SendEnds) : Type 0 where
+pub record IsSealedAs (x : SendEnds) (head payload : List ℕ) (port : PortName) (number : ℕ) (ds : List Described)
+    (sealed : List SealedPacket) (before after : List ℕ) (new : SendEnds) : Type 0 where
   pub answered : numbered_from port number sealed ≡ ds
-  pub lengths : map (λ (p : SealedPacket). p.length) sealed ≡ packet_lengths (sealed_all x.fixed.closed head payload ds x.tx).0
+  pub lengths : map (λ (p : SealedPacket). p.length) sealed ≡ packet_lengths
+      (sealed_all x.fixed.closed head payload ds x.tx).0
   pub bytes : after ≡ before ++ joined_packets (sealed_all x.fixed.closed head payload ds x.tx).0
   pub senders : new ≡ record x { tx = (sealed_all x.fixed.closed head payload ds x.tx).1 }
 
 abbrev Runs : SendEnds → List ℕ → List ℕ → Sending → ℕ → Bool → Bool → List ℕ → List Described → Type 0
 Runs x head payload s number b c before ds =
     let t = sets_trusted s.port s.trusted in
-    IsSealedAs x head payload s.port number ds (all_said x s.class b c head payload t s.more) before (all_bytes x s.class b c head payload t s.more before) (all_ends x s.class b c head payload t s.more)
+    IsSealedAs x head payload s.port number ds (all_said x s.class b c head payload t s.more) before
+    (all_bytes x s.class b c head payload t s.more before) (all_ends x s.class b c head payload t s.more)
 
 one_more : (before a : List ℕ) → ((before ++ []) ++ []) ++ a ≡ before ++ (a ++ [])
 one_more before a = simp (append_assoc, append-nil)
@@ -151,8 +169,10 @@ as_sent x port class more trusted =
     record { port = port; stream = x.fixed.stream; class = class; more = more; trusted = trusted }
 
 -- no sync packet goes first
-runs_alone : (x : SendEnds) (head payload : List ℕ) (port : PortName) (class : SubKind) (more trusted : Bool) (number : ℕ) (before : List ℕ)
-    → Runs x head payload (as_sent x port class more trusted) number false false before (flagged false false (lanes_at x) (as_sent x port class more trusted) number)
+runs_alone : (x : SendEnds) (head payload : List ℕ) (port : PortName) (class : SubKind) (more trusted : Bool)
+    (number : ℕ) (before : List ℕ)
+    → Runs x head payload (as_sent x port class more trusted) number false false before
+    (flagged false false (lanes_at x) (as_sent x port class more trusted) number)
 runs_alone x head payload port class more trusted number before =
     let d = tlp_said (end_at x class) (sets_trusted port trusted) more in
     let e = tlp_packet x d (number + 0 + 0) port head payload in
@@ -165,9 +185,12 @@ runs_alone x head payload port class more trusted number before =
     }
 
 -- those of a posted TLP
-runs_posted : (b c : Bool) (x : SendEnds) (head payload : List ℕ) (port : PortName) (more trusted : Bool) (number : ℕ) (before : List ℕ)
-    → Runs x head payload (as_sent x port Pr more trusted) number b c before (flagged b c (lanes_at x) (as_sent x port Pr more trusted) number)
-runs_posted false false x head payload port more trusted number before = runs_alone x head payload port Pr more trusted number before
+runs_posted : (b c : Bool) (x : SendEnds) (head payload : List ℕ) (port : PortName) (more trusted : Bool) (number : ℕ)
+    (before : List ℕ)
+    → Runs x head payload (as_sent x port Pr more trusted) number b c before
+    (flagged b c (lanes_at x) (as_sent x port Pr more trusted) number)
+runs_posted false false x head payload port more trusted number before = runs_alone x head payload port Pr more trusted
+    number before
 runs_posted true false x head payload port more trusted number before =
     let d1 = sync_said (end_at x Npr) in
     let x1 = synced true Npr x in
@@ -212,43 +235,56 @@ runs_posted true true x head payload port more trusted number before =
       answered = refl;
       lengths = λ i. length (packet_bytes (e1 i)) ∷ length (packet_bytes (e2 i)) ∷ length (packet_bytes (e i)) ∷ [];
       bytes =
-          three_more before (packet_bytes (packet_at x [] [] d1)) (packet_bytes (packet_at x1 [] [] d2)) (packet_bytes (packet_at x2 head payload d))
+          three_more before (packet_bytes (packet_at x [] [] d1)) (packet_bytes (packet_at x1 [] [] d2))
+          (packet_bytes (packet_at x2 head payload d))
           ∙ (λ i. before ++ (packet_bytes (e1 i) ++ (packet_bytes (e2 i) ++ (packet_bytes (e i) ++ []))));
       senders = after_packet x2 d _ _ e;
     }
 
-runs : (class : SubKind) (b c : Bool) (x : SendEnds) (head payload : List ℕ) (port : PortName) (more trusted : Bool) (number : ℕ) (before : List ℕ)
+runs : (class : SubKind) (b c : Bool) (x : SendEnds) (head payload : List ℕ) (port : PortName) (more trusted : Bool)
+    (number : ℕ) (before : List ℕ)
     → b ≡ needs_sync (lanes_at x) class Npr → c ≡ needs_sync (lanes_at x) class Cpl
-    → Runs x head payload (as_sent x port class more trusted) number b c before (sealed_by (lanes_at x) (as_sent x port class more trusted) number)
+    → Runs x head payload (as_sent x port class more trusted) number b c before
+    (sealed_by (lanes_at x) (as_sent x port class more trusted) number)
 runs Pr b c x head payload port more trusted number before e f =
-    subst (λ (y : Bool × Bool). Runs x head payload (as_sent x port Pr more trusted) number b c before (flagged y.0 y.1 (lanes_at x) (as_sent x port Pr more trusted) number)) (λ i. (e i, f i))
+    subst (λ (y : Bool × Bool). Runs x head payload (as_sent x port Pr more trusted) number b c before
+    (flagged y.0 y.1 (lanes_at x) (as_sent x port Pr more trusted) number)) (λ i. (e i, f i))
     (runs_posted b c x head payload port more trusted number before)
 runs Npr b c x head payload port more trusted number before e f =
-    subst (λ (y : Bool × Bool). Runs x head payload (as_sent x port Npr more trusted) number y.0 y.1 before (flagged false false (lanes_at x) (as_sent x port Npr more trusted) number)) (λ i. (sym e i, sym f i))
+    subst (λ (y : Bool × Bool). Runs x head payload (as_sent x port Npr more trusted) number y.0 y.1 before
+    (flagged false false (lanes_at x) (as_sent x port Npr more trusted) number)) (λ i. (sym e i, sym f i))
     (runs_alone x head payload port Npr more trusted number before)
 runs Cpl b c x head payload port more trusted number before e f =
-    subst (λ (y : Bool × Bool). Runs x head payload (as_sent x port Cpl more trusted) number y.0 y.1 before (flagged false false (lanes_at x) (as_sent x port Cpl more trusted) number)) (λ i. (sym e i, sym f i))
+    subst (λ (y : Bool × Bool). Runs x head payload (as_sent x port Cpl more trusted) number y.0 y.1 before
+    (flagged false false (lanes_at x) (as_sent x port Cpl more trusted) number)) (λ i. (sym e i, sym f i))
     (runs_alone x head payload port Cpl more trusted number before)
 
 abbrev SealedSo : SendEnds → List ℕ → List ℕ → Sending → ℕ → SubKind → Bool → Bool → Bool → Bool → List ℕ → Type 0
 SealedSo x head payload s number sub b c t more before =
-    IsSealed x head payload s number (all_said x sub b c head payload t more) before (all_bytes x sub b c head payload t more before) (all_ends x sub b c head payload t more)
+    IsSealed x head payload s number (all_said x sub b c head payload t more) before
+    (all_bytes x sub b c head payload t more before) (all_ends x sub b c head payload t more)
 
-pub sent-right : (x : SendEnds) (head payload : List ℕ) (s : Sending) (number : ℕ) (sub : SubKind) (b c t more : Bool) (before : List ℕ)
+pub sent-right : (x : SendEnds) (head payload : List ℕ) (s : Sending) (number : ℕ) (sub : SubKind) (b c t more : Bool)
+    (before : List ℕ)
     → b ≡ needs_sync (lanes_at x) sub Npr → c ≡ needs_sync (lanes_at x) sub Cpl
     → s.stream ≡ x.fixed.stream → s.class ≡ sub → s.more ≡ more → sets_trusted s.port s.trusted ≡ t
     → SealedSo x head payload s number sub b c t more before
 sent-right x head payload s number sub b c t more before e f stream class goes trusted =
-    let ran = runs s.class b c x head payload s.port s.more s.trusted number before (e ∙ ap (λ (u : SubKind). needs_sync (lanes_at x) u Npr) (sym class)) (f ∙ ap (λ (u : SubKind). needs_sync (lanes_at x) u Cpl) (sym class)) in
-    let so : SealedSo x head payload (record s { stream = x.fixed.stream }) number s.class b c (sets_trusted s.port s.trusted) s.more before = record {
+    let ran = runs s.class b c x head payload s.port s.more s.trusted number before
+    (e ∙ ap (λ (u : SubKind). needs_sync (lanes_at x) u Npr) (sym class))
+    (f ∙ ap (λ (u : SubKind). needs_sync (lanes_at x) u Cpl) (sym class)) in
+    let so : SealedSo x head payload (record s { stream = x.fixed.stream }) number s.class b c
+    (sets_trusted s.port s.trusted) s.more before = record {
       answered = ran.answered;
       lengths = ran.lengths;
       bytes = ran.bytes;
       senders = ran.senders;
     } in
     let here : SealedSo x head payload s number s.class b c (sets_trusted s.port s.trusted) s.more before =
-    subst (λ (r : Sending). SealedSo x head payload r number s.class b c (sets_trusted s.port s.trusted) s.more before) (λ i. record s { stream = sym stream i }) so in
-    subst (λ (y : SubKind × Bool × Bool). SealedSo x head payload s number y.0 b c y.1 y.2 before) (λ i. (class i, trusted i, goes i)) here
+    subst (λ (r : Sending). SealedSo x head payload r number s.class b c (sets_trusted s.port s.trusted) s.more before)
+    (λ i. record s { stream = sym stream i }) so in
+    subst (λ (y : SubKind × Bool × Bool). SealedSo x head payload s number y.0 b c y.1 y.2 before)
+    (λ i. (class i, trusted i, goes i)) here
 
 -- ---- totals
 
@@ -259,11 +295,13 @@ total_more false n = omega arith
 same_total : (n : ℕ) → n ≤ n + 1
 same_total n = omega arith
 
-pub totals-after : (x : SendEnds) (head payload : List ℕ) (sub : SubKind) (b c t more : Bool) (u : SubKind) → b ≡ needs_sync (lanes_at x) sub Npr → c ≡ needs_sync (lanes_at x) sub Cpl
+pub totals-after : (x : SendEnds) (head payload : List ℕ) (sub : SubKind) (b c t more : Bool) (u : SubKind) → b
+    ≡ needs_sync (lanes_at x) sub Npr → c ≡ needs_sync (lanes_at x) sub Cpl
     → (at_sub (all_ends x sub b c head payload t more).tx u).total ≤ (at_sub x.tx u).total + 1
 totals-after x head payload sub b c t more u e f = by_subs sub u e f
   where
-    posted : (b c : Bool) (u : SubKind) → (at_sub (all_ends x Pr b c head payload t more).tx u).total ≤ (at_sub x.tx u).total + 1
+    posted : (b c : Bool) (u : SubKind) → (at_sub (all_ends x Pr b c head payload t more).tx u).total ≤
+        (at_sub x.tx u).total + 1
     posted true true Pr = total_more _ x.tx.pr.total
     posted true false Pr = total_more _ x.tx.pr.total
     posted false true Pr = total_more _ x.tx.pr.total
@@ -277,7 +315,8 @@ totals-after x head payload sub b c t more u e f = by_subs sub u e f
     posted false true Cpl = omega arith
     posted false false Cpl = same_total x.tx.cpl.total
 
-    alone : (sub u : SubKind) → (at_sub (all_ends x sub false false head payload t more).tx u).total ≤ (at_sub x.tx u).total + 1
+    alone : (sub u : SubKind) → (at_sub (all_ends x sub false false head payload t more).tx u).total ≤
+        (at_sub x.tx u).total + 1
     alone Pr u = posted false false u
     alone Npr Pr = same_total x.tx.pr.total
     alone Npr Npr = total_more _ x.tx.npr.total
@@ -294,7 +333,8 @@ totals-after x head payload sub b c t more u e f = by_subs sub u e f
 
 -- ---- what always holds
 
-pub lane-kept : (fixed : Fixed) (u : SubKind) (old new : SendEnd) (kept : TxSub) → old ≡ record { fixed = fixed; sub = u; kept = old.kept } → new ≡ record old { kept = kept }
+pub lane-kept : (fixed : Fixed) (u : SubKind) (old new : SendEnd) (kept : TxSub) → old
+    ≡ record { fixed = fixed; sub = u; kept = old.kept } → new ≡ record old { kept = kept }
     → new ≡ record { fixed = fixed; sub = u; kept = new.kept }
 lane-kept fixed u old new kept is e =
     e

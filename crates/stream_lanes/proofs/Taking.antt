@@ -2,7 +2,9 @@
 -- answer goes by the state of the slot; the sum that the code allows tests what the rules test, as the sum so far is
 -- within the posted packets that were accepted and that of a unit is small. The hard case is an accepted unit, which
 -- moves the total that stands ahead: the other slot holds no packets then, and such a slot is right under any total.
-use Rattle.std.proofs.Common.{◌≡◌, ℕ, ◌+◌, ◌-◌, ◌^◌, ◌<◌, ◌≤◌, Bool, true, false, not, ◌&&◌, ◌||◌, ◌==◌, nat_lt, nat_le, if◌then◌else◌, List, [], ◌∷◌, ◌++◌, length, Option, Some, None, refl, sym, ap, ◌∙◌, subst, arith, length-append}
+use Rattle.std.proofs.Common.{◌≡◌, ℕ, ◌+◌, ◌-◌, ◌^◌, ◌<◌, ◌≤◌, Bool, true, false, not, ◌&&◌, ◌||◌, ◌==◌, nat_lt, nat_le}
+use Rattle.std.proofs.Common.{if◌then◌else◌, List, [], ◌∷◌, ◌++◌, length, Option, Some, None, refl, sym, ap, ◌∙◌, subst}
+use Rattle.std.proofs.Common.{arith, length-append}
 use Rattle.std.specs.Int.{w64, to_be_bytes}
 use Rattle.std.proofs.lemmas.Grind.{common_steps}
 use Rattle.std.proofs.lemmas.List.Sums.{sum_by-append}
@@ -14,13 +16,18 @@ use Rattle.gcm_seal.specs.Gcm.{masked}
 use Rattle.ide_prefix.specs.Iv.{iv_of}
 use Rattle.ide_prefix.specs.Packet.{Packet}
 use Rattle.stream_rules.specs.Sending.{is_posted, front_with}
-use Rattle.stream_rules.specs.Stream.{Slot, Empty, Programmed, Armed, Live, LiveKey, Slots, slot_in, with_slot, live_in, Taken, Insecure, NotKeyed, Failed, Held, Accepted, holds_any, posted_sum, is_tagged, checked, dropped, gone_on, counted, retired, accepted_slots}
+use Rattle.stream_rules.specs.Stream.{Slot, Empty, Programmed, Armed, Live, LiveKey, Slots, slot_in, with_slot, live_in}
+use Rattle.stream_rules.specs.Stream.{Taken, Insecure, NotKeyed, Failed, Held, Accepted, holds_any, posted_sum}
+use Rattle.stream_rules.specs.Stream.{is_tagged, checked, dropped, gone_on, counted, retired, accepted_slots}
 use Rattle.key_slots.specs.{is_only_live}
-use Rattle.sub_stream.specs.{Receiver, answer_of, opened_from, opened_under, key_for, ahead_in, ahead_of, is_tagged_behind, judged, taken_with, taken_of, dropped_slots, ahead_held, after_answer, ahead_at, with_slots, programmed_receiver, slot_pair}
+use Rattle.sub_stream.specs.{Receiver, answer_of, opened_from, opened_under, key_for, ahead_in, ahead_of}
+use Rattle.sub_stream.specs.{is_tagged_behind, judged, taken_with, taken_of, dropped_slots, ahead_held, after_answer}
+use Rattle.sub_stream.specs.{ahead_at, with_slots, programmed_receiver, slot_pair}
 use Rattle.sub_stream.specs.Receivers.{is_accepted}
 use Rattle.sub_stream.specs.declared.answer.Taken.{Taken as Answer}
 use Rattle.sub_stream.specs.declared.answer.Taken.TheVariants as answers
-use Rattle.stream_lanes.specs.Arrivals.{ReceiveEnd, allows, taken_at, taken_here, end_after, IsHeld, HoldsRight, IsReceiveLane, count_in}
+use Rattle.stream_lanes.specs.Arrivals.{ReceiveEnd, allows, taken_at, taken_here, end_after, IsHeld, HoldsRight}
+use Rattle.stream_lanes.specs.Arrivals.{IsReceiveLane, count_in}
 use Rattle.stream_lanes.proofs.Sealing.{ahead-right}
 
 abbrev pub view : Receiver → SubKind → Bool → ℕ → ℕ → ℕ → ReceiveEnd
@@ -40,14 +47,18 @@ posted_sum-joined ps p =
     let e = sum_by-append (λ (x : Packet). x.prefix.posted) ps (p ∷ []) in
     e ∙ omega arith
 
-posted_sum-opened_from : (key iv : List ℕ) (n : ℕ) (ps : List Packet) → posted_sum (opened_from key iv n ps) ≡ posted_sum ps
+posted_sum-opened_from : (key iv : List ℕ) (n : ℕ) (ps : List Packet) → posted_sum (opened_from key iv n ps)
+    ≡ posted_sum ps
 posted_sum-opened_from key iv n [] = refl
 posted_sum-opened_from key iv n (p ∷ ps) =
-    sum_by-append (λ (x : Packet). x.prefix.posted) (record { prefix = p.prefix; head = p.head; body = masked key iv n p.body; tag = [] } ∷ []) (opened_from key iv (n + length p.body) ps)
+    sum_by-append (λ (x : Packet). x.prefix.posted)
+    (record { prefix = p.prefix; head = p.head; body = masked key iv n p.body; tag = [] } ∷ [])
+    (opened_from key iv (n + length p.body) ps)
     ∙ ap (λ m. posted_sum (p ∷ []) + m) (posted_sum-opened_from key iv (n + length p.body) ps)
     ∙ sym (sum_by-append (λ (x : Packet). x.prefix.posted) (p ∷ []) ps)
 
-pub posted_sum-opened : (x : LiveKey) (sub : SubKind) (ps : List Packet) → posted_sum (opened_under (Some x) sub ps) ≡ posted_sum ps
+pub posted_sum-opened : (x : LiveKey) (sub : SubKind) (ps : List Packet) → posted_sum (opened_under (Some x) sub ps)
+    ≡ posted_sum ps
 posted_sum-opened x sub ps = posted_sum-opened_from x.key (iv_of sub (x.units + 1)) 0 ps
 
 -- ---- the answer
@@ -63,47 +74,60 @@ within_left sum n got le = by_test (nat_le (sum + n) got) refl
 small_within : (n : ℕ) → n ≤ 2295 → nat_le n (2 ^ 64 - 1) ≡ true
 small_within n le = grind (arith, common_steps)
 
-pub allowed-right : (sub : SubKind) (sum got allowed n : ℕ) → n ≤ 2295 → allowed ≡ (if sub_bits sub == 0 then 2 ^ 64 - 1 else got - sum) → (is_posted sub ≡ false → sum ≤ got)
+pub allowed-right : (sub : SubKind) (sum got allowed n : ℕ) → n ≤ 2295 → allowed
+    ≡ (if sub_bits sub == 0 then 2 ^ 64 - 1 else got - sum) → (is_posted sub ≡ false → sum ≤ got)
     → nat_le n allowed ≡ ((sub_bits sub == 0) || nat_le (sum + n) got)
 allowed-right Pr sum got allowed n few e le = ap (nat_le n) e ∙ small_within n few
 allowed-right Npr sum got allowed n few e le = ap (nat_le n) e ∙ within_left sum n got (le refl)
 allowed-right Cpl sum got allowed n few e le = ap (nat_le n) e ∙ within_left sum n got (le refl)
 
 -- what stands ahead of the packets of a slot, with the next
-next_ahead : (ahead : List ℕ) (mode : ℕ) (closed : Bool) (total : ℕ) (front : List ℕ) (x : LiveKey) → front ≡ (if closed then to_be_bytes w64 total else [])
-    → IsHeld ahead mode closed total x → (if length x.packets == 0 then ahead_of front (x.units + 1) else ahead) ≡ front_with closed (x.units + 1) total
-next_ahead ahead mode closed total front x e held = ahead-right (length x.packets == 0) ahead closed total (x.units + 1) front e held.front
+next_ahead : (ahead : List ℕ) (mode : ℕ) (closed : Bool) (total : ℕ) (front : List ℕ) (x : LiveKey) → front
+    ≡ (if closed then to_be_bytes w64 total else [])
+    → IsHeld ahead mode closed total x → (if length x.packets == 0 then ahead_of front (x.units + 1) else ahead)
+    ≡ front_with closed (x.units + 1) total
+next_ahead ahead mode closed total front x e held = ahead-right (length x.packets == 0) ahead closed total (x.units + 1)
+    front e held.front
 
-few_posted : (ahead : List ℕ) (mode : ℕ) (closed : Bool) (total : ℕ) (x : LiveKey) (p : Packet) → mode ≤ 8 → p.prefix.posted < 256 → IsHeld ahead mode closed total x
+few_posted : (ahead : List ℕ) (mode : ℕ) (closed : Bool) (total : ℕ) (x : LiveKey) (p : Packet) → mode ≤ 8
+    → p.prefix.posted < 256 → IsHeld ahead mode closed total x
     → posted_sum (x.packets ++ p ∷ []) ≤ 2295
-few_posted ahead mode closed total x p small byte held = omega (arith, posted_sum-joined x.packets p, held.posted, held.fits)
+few_posted ahead mode closed total x p small byte held = omega
+    (arith, posted_sum-joined x.packets p, held.posted, held.fits)
 
-taken_slots : (rx : Receiver) (sub : SubKind) (closed : Bool) (sum own total got allowed : ℕ) (front : List ℕ) (p : Packet) (mine : Slot) (other : Option LiveKey)
+taken_slots : (rx : Receiver) (sub : SubKind) (closed : Bool) (sum own total got allowed : ℕ) (front : List ℕ)
+    (p : Packet) (mine : Slot) (other : Option LiveKey)
     → rx.mode ≤ 8 → HoldsRight rx.ahead rx.mode closed total mine → p.prefix.posted < 256
     → allowed ≡ (if sub_bits sub == 0 then 2 ^ 64 - 1 else got - sum) → (is_posted sub ≡ false → sum ≤ got)
     → front ≡ (if closed then to_be_bytes w64 total else [])
-    → taken_with rx allowed front p (live_in mine) other ≡ taken_at (view rx sub closed sum own total) got p (live_in mine) other
-taken_slots rx sub closed sum own total got allowed front p mine other small held byte is_allowed le is_front = by_slot mine held
+    → taken_with rx allowed front p (live_in mine) other ≡ taken_at (view rx sub closed sum own total) got p
+    (live_in mine) other
+taken_slots rx sub closed sum own total got allowed front p mine other small held byte is_allowed le is_front = by_slot
+    mine held
   where
-    by_none : (other : Option LiveKey) → taken_with rx allowed front p None other ≡ taken_at (view rx sub closed sum own total) got p None other
+    by_none : (other : Option LiveKey) → taken_with rx allowed front p None other
+        ≡ taken_at (view rx sub closed sum own total) got p None other
     by_none None = refl
     by_none (Some y) = refl
 
     by_fits : (x : LiveKey) (b : Bool) → (if not b then judged (ahead_in rx x front) allowed x p else Failed fail.Unit)
         ≡ (if b then Failed fail.Unit
-        else if p.prefix.m then checked (is_tagged_behind (ahead_in rx x front) x p) (nat_le (posted_sum (x.packets ++ p ∷ [])) allowed) x p
+        else if p.prefix.m then checked (is_tagged_behind (ahead_in rx x front) x p)
+        (nat_le (posted_sum (x.packets ++ p ∷ [])) allowed) x p
         else Held x.draw (x.units + 1))
     by_fits x true = refl
     by_fits x false = refl
 
     by_slot : (s : Slot) → HoldsRight rx.ahead rx.mode closed total s
-        → taken_with rx allowed front p (live_in s) other ≡ taken_at (view rx sub closed sum own total) got p (live_in s) other
+        → taken_with rx allowed front p (live_in s) other ≡ taken_at (view rx sub closed sum own total) got p
+        (live_in s) other
     by_slot Empty held = by_none other
     by_slot (Programmed j key) held = by_none other
     by_slot (Armed j key) held = by_none other
     by_slot (Live x) held =
         let ahead = next_ahead rx.ahead rx.mode closed total front x is_front held in
-        let within = allowed-right sub sum got allowed (posted_sum (x.packets ++ p ∷ [])) (few_posted rx.ahead rx.mode closed total x p small byte held) is_allowed le in
+        let within = allowed-right sub sum got allowed (posted_sum (x.packets ++ p ∷ []))
+        (few_posted rx.ahead rx.mode closed total x p small byte held) is_allowed le in
         by_fits x (holds_any other || (not p.prefix.m && nat_le rx.mode (length x.packets + 1)))
         ∙ (λ i. if holds_any other || (not p.prefix.m && nat_le rx.mode (length x.packets + 1)) then Failed fail.Unit
         else if p.prefix.m then checked (is_tagged_behind (ahead i) x p) (within i) x p
@@ -114,37 +138,45 @@ slot_right : (k : Bool) (rx : Receiver) (closed : Bool) (sum own total : ℕ) �
 slot_right true rx closed sum own total inv = inv.second
 slot_right false rx closed sum own total inv = inv.first
 
-pub taken-right : (rx : Receiver) (sub : SubKind) (closed : Bool) (sum own total got allowed : ℕ) (front : List ℕ) (p : Packet)
+pub taken-right : (rx : Receiver) (sub : SubKind) (closed : Bool) (sum own total got allowed : ℕ) (front : List ℕ)
+    (p : Packet)
     → IsReceiveLane rx closed sum own total → p.prefix.posted < 256
     → allowed ≡ (if sub_bits sub == 0 then 2 ^ 64 - 1 else got - sum) → (is_posted sub ≡ false → sum ≤ got)
     → front ≡ (if closed then to_be_bytes w64 total else [])
     → taken_of rx allowed front p ≡ taken_here (view rx sub closed sum own total) got p
 taken-right rx sub closed sum own total got allowed front p inv byte is_allowed le is_front =
-    taken_slots rx sub closed sum own total got allowed front p (slot_in rx.slots p.prefix.k) (key_for rx (not p.prefix.k))
+    taken_slots rx sub closed sum own total got allowed front p (slot_in rx.slots p.prefix.k)
+    (key_for rx (not p.prefix.k))
     inv.small_mode (slot_right p.prefix.k rx closed sum own total inv) byte is_allowed le is_front
 
 -- ---- the receiver after it
 
 -- where a unit was accepted its key is Live
-pub accepted-keyed : (e : ReceiveEnd) (got : ℕ) (p : Packet) (j n : ℕ) (unit : List Packet) (x y : Option LiveKey) → taken_at e got p x y ≡ Accepted j n unit
+pub accepted-keyed : (e : ReceiveEnd) (got : ℕ) (p : Packet) (j n : ℕ) (unit : List Packet) (x y : Option LiveKey)
+    → taken_at e got p x y ≡ Accepted j n unit
     → posted_sum (opened_under x p.prefix.sub unit) ≡ posted_sum unit
 accepted-keyed e got p j n unit None None is = absurd (cc)
 accepted-keyed e got p j n unit None (Some y) is = absurd (cc)
 accepted-keyed e got p j n unit (Some x) y is = posted_sum-opened x p.prefix.sub unit
 
-pub end-after : (rx : Receiver) (sub : SubKind) (closed : Bool) (sum own total got : ℕ) (front : List ℕ) (p : Packet) (t : Taken) (a : Answer)
+pub end-after : (rx : Receiver) (sub : SubKind) (closed : Bool) (sum own total got : ℕ) (front : List ℕ) (p : Packet)
+    (t : Taken) (a : Answer)
     → taken_here (view rx sub closed sum own total) got p ≡ t → Some a ≡ answer_of t
     → (let new : Receiver = record (after_answer rx front p t) { takes = rx.takes + 1 } in
-    view new sub closed (if is_accepted a then sum + posted_sum new.delivered else sum) (if is_accepted a then own + count_in a else own) (if is_accepted a then total + 1 else total))
+    view new sub closed (if is_accepted a then sum + posted_sum new.delivered else sum)
+    (if is_accepted a then own + count_in a else own) (if is_accepted a then total + 1 else total))
     ≡ end_after (view rx sub closed sum own total) p t
 end-after rx sub closed sum own total got front p NotKeyed a is e = let same : a ≡ answers.NotKeyed = cc in rw same refl
 end-after rx sub closed sum own total got front p Insecure a is e = absurd (cc)
-end-after rx sub closed sum own total got front p (Failed cause) a is e = let same : a ≡ answers.Fail cause = cc in rw same refl
-end-after rx sub closed sum own total got front p (Held j n) a is e = let same : a ≡ answers.Held j n = cc in rw same refl
+end-after rx sub closed sum own total got front p (Failed cause) a is e = let same : a
+    ≡ answers.Fail cause = cc in rw same refl
+end-after rx sub closed sum own total got front p (Held j n) a is e = let same : a
+    ≡ answers.Held j n = cc in rw same refl
 end-after rx sub closed sum own total got front p (Accepted j n unit) a is e =
     let same : a ≡ answers.Accepted j n (length unit) = cc in
     let posted : posted_sum (opened_under (key_for rx p.prefix.k) p.prefix.sub unit) ≡ posted_sum unit =
-    accepted-keyed (view rx sub closed sum own total) got p j n unit (key_for rx p.prefix.k) (key_for rx (not p.prefix.k)) is in
+    accepted-keyed (view rx sub closed sum own total) got p j n unit (key_for rx p.prefix.k)
+    (key_for rx (not p.prefix.k)) is in
     rw same (λ i. record (end_after (view rx sub closed sum own total) p (Accepted j n unit)) {
       kept = record {
         slots = accepted_slots j p.prefix.k rx.slots;
@@ -166,7 +198,8 @@ clash : (b : Bool) → b ≡ true → b ≡ false → ⊥
 clash b e f = let g : true ≡ false = sym e ∙ f in cc
 
 -- a slot that holds no packets is right under any total
-nothing_held : (slot : Slot) (ahead ahead' : List ℕ) (mode : ℕ) (closed : Bool) (total total' : ℕ) → HoldsRight ahead mode closed total slot
+nothing_held : (slot : Slot) (ahead ahead' : List ℕ) (mode : ℕ) (closed : Bool) (total total' : ℕ)
+    → HoldsRight ahead mode closed total slot
     → holds_any (live_in slot) ≡ false → HoldsRight ahead' mode closed total' slot
 nothing_held Empty ahead ahead' mode closed total total' held e = tt
 nothing_held (Programmed j key) ahead ahead' mode closed total total' held e = tt
@@ -186,19 +219,23 @@ begun_right ahead mode closed total draw units key some = record {
   fits = some;
 }
 
-dropped_right : (slot : Slot) (ahead : List ℕ) (mode : ℕ) (closed : Bool) (total : ℕ) → 0 < mode → HoldsRight ahead mode closed total (dropped slot)
+dropped_right : (slot : Slot) (ahead : List ℕ) (mode : ℕ) (closed : Bool) (total : ℕ) → 0 < mode
+    → HoldsRight ahead mode closed total (dropped slot)
 dropped_right Empty ahead mode closed total some = tt
 dropped_right (Programmed j key) ahead mode closed total some = tt
 dropped_right (Armed j key) ahead mode closed total some = tt
 dropped_right (Live x) ahead mode closed total some = begun_right ahead mode closed total x.draw x.units x.key some
 
-counted_right : (slot : Slot) (ahead : List ℕ) (mode : ℕ) (closed : Bool) (total : ℕ) → 0 < mode → HoldsRight ahead mode closed total (counted slot)
+counted_right : (slot : Slot) (ahead : List ℕ) (mode : ℕ) (closed : Bool) (total : ℕ) → 0 < mode
+    → HoldsRight ahead mode closed total (counted slot)
 counted_right Empty ahead mode closed total some = tt
 counted_right (Programmed j key) ahead mode closed total some = tt
 counted_right (Armed j key) ahead mode closed total some = tt
-counted_right (Live x) ahead mode closed total some = begun_right ahead mode closed total x.draw (x.units + 1) x.key some
+counted_right (Live x) ahead mode closed total some = begun_right ahead mode closed total x.draw (x.units + 1) x.key
+    some
 
-retired_right : (j : ℕ) (slot : Slot) (ahead : List ℕ) (mode : ℕ) (closed : Bool) (total : ℕ) → HoldsRight ahead mode closed total slot
+retired_right : (j : ℕ) (slot : Slot) (ahead : List ℕ) (mode : ℕ) (closed : Bool) (total : ℕ)
+    → HoldsRight ahead mode closed total slot
     → HoldsRight ahead mode closed total (retired j slot)
 retired_right j Empty ahead mode closed total held = tt
 retired_right j (Programmed i key) ahead mode closed total held = tt
@@ -213,8 +250,10 @@ retired_right j (Live x) ahead mode closed total held = by_age (nat_lt x.draw j)
 room_more : (n mode : ℕ) → nat_le mode (n + 1) ≡ false → n + 1 < mode
 room_more n mode e = grind (arith, common_steps)
 
-joined_right : (ahead ahead' : List ℕ) (mode : ℕ) (closed : Bool) (total : ℕ) (x : LiveKey) (p : Packet) → IsHeld ahead mode closed total x
-    → p.prefix.posted < 256 → nat_le mode (length x.packets + 1) ≡ false → ahead' ≡ front_with closed (x.units + 1) total
+joined_right : (ahead ahead' : List ℕ) (mode : ℕ) (closed : Bool) (total : ℕ) (x : LiveKey) (p : Packet)
+    → IsHeld ahead mode closed total x
+    → p.prefix.posted < 256 → nat_le mode (length x.packets + 1) ≡ false → ahead'
+    ≡ front_with closed (x.units + 1) total
     → IsHeld ahead' mode closed total (record x { packets = x.packets ++ p ∷ [] })
 joined_right ahead ahead' mode closed total x p held byte room is =
     let size = length-append x.packets (p ∷ []) in
@@ -236,14 +275,18 @@ or_both : (a b : Bool) → (a || b) ≡ false → (a ≡ false) × (b ≡ false)
 or_both true b e = absurd (cc)
 or_both false b e = (refl, e)
 
-fits_here : (e : ReceiveEnd) (got : ℕ) (p : Packet) (x y : Option LiveKey) → FitsHere e.mode p (taken_at e got p x y) x y
+fits_here : (e : ReceiveEnd) (got : ℕ) (p : Packet) (x y : Option LiveKey)
+    → FitsHere e.mode p (taken_at e got p x y) x y
 fits_here e got p None None = tt
 fits_here e got p None (Some y) = tt
 fits_here e got p (Some x) y =
-    by_fits (holds_any y || (not p.prefix.m && nat_le e.mode (length x.packets + 1))) refl p.prefix.m refl (is_tagged e.closed e.kept.total x p) (allows e got (x.packets ++ p ∷ []))
+    by_fits (holds_any y || (not p.prefix.m && nat_le e.mode (length x.packets + 1))) refl p.prefix.m refl
+    (is_tagged e.closed e.kept.total x p) (allows e got (x.packets ++ p ∷ []))
   where
-    by_fits : (b : Bool) → (holds_any y || (not p.prefix.m && nat_le e.mode (length x.packets + 1))) ≡ b → (m : Bool) → p.prefix.m ≡ m → (tagged allowed : Bool)
-        → FitsHere e.mode p (if b then Failed fail.Unit else if m then checked tagged allowed x p else Held x.draw (x.units + 1)) (Some x) y
+    by_fits : (b : Bool) → (holds_any y || (not p.prefix.m && nat_le e.mode (length x.packets + 1))) ≡ b → (m : Bool)
+        → p.prefix.m ≡ m → (tagged allowed : Bool)
+        → FitsHere e.mode p (if b then Failed fail.Unit else if m then checked tagged allowed x p else Held x.draw
+        (x.units + 1)) (Some x) y
     by_fits true is m is_m tagged allowed = tt
     by_fits false is true is_m false allowed = tt
     by_fits false is true is_m true false = tt
@@ -253,59 +296,75 @@ fits_here e got p (Some x) y =
         (both.0, ap (λ m. not m && nat_le e.mode (length x.packets + 1)) (sym is_m) ∙ both.1)
 
 abbrev BothRight : Bool → List ℕ → ℕ → Bool → ℕ → Slots → Type 0
-BothRight k ahead mode closed total s = HoldsRight ahead mode closed total s.first × HoldsRight ahead mode closed total s.second
+BothRight k ahead mode closed total s = HoldsRight ahead mode closed total s.first
+    × HoldsRight ahead mode closed total s.second
 
-held_both : (k : Bool) (rx : Receiver) (closed : Bool) (sum own total got : ℕ) (front : List ℕ) (p : Packet) (j n : ℕ) → IsReceiveLane rx closed sum own total
+held_both : (k : Bool) (rx : Receiver) (closed : Bool) (sum own total got : ℕ) (front : List ℕ) (p : Packet) (j n : ℕ)
+    → IsReceiveLane rx closed sum own total
     → p.prefix.posted < 256 → front ≡ (if closed then to_be_bytes w64 total else [])
     → FitsHere rx.mode p (Held j n) (live_in (slot_in rx.slots k)) (live_in (slot_in rx.slots (not k)))
-    → BothRight k (ahead_held rx (live_in (slot_in rx.slots k)) front) rx.mode closed total (with_slot rx.slots k (gone_on p (slot_in rx.slots k)))
+    → BothRight k (ahead_held rx (live_in (slot_in rx.slots k)) front) rx.mode closed total
+    (with_slot rx.slots k (gone_on p (slot_in rx.slots k)))
 held_both true rx closed sum own total got front p j n inv byte is_front fits = by_slot rx.slots.second inv.second fits
   where
-    by_slot : (s : Slot) → HoldsRight rx.ahead rx.mode closed total s → FitsHere rx.mode p (Held j n) (live_in s) (live_in rx.slots.first)
-        → HoldsRight (ahead_held rx (live_in s) front) rx.mode closed total rx.slots.first × HoldsRight (ahead_held rx (live_in s) front) rx.mode closed total (gone_on p s)
+    by_slot : (s : Slot) → HoldsRight rx.ahead rx.mode closed total s
+        → FitsHere rx.mode p (Held j n) (live_in s) (live_in rx.slots.first)
+        → HoldsRight (ahead_held rx (live_in s) front) rx.mode closed total rx.slots.first
+        × HoldsRight (ahead_held rx (live_in s) front) rx.mode closed total (gone_on p s)
     by_slot Empty held fits = absurd fits
     by_slot (Programmed i key) held fits = absurd fits
     by_slot (Armed i key) held fits = absurd fits
     by_slot (Live x) held fits = (
       nothing_held rx.slots.first rx.ahead (ahead_in rx x front) rx.mode closed total total inv.first fits.0,
-      joined_right rx.ahead (ahead_in rx x front) rx.mode closed total x p held byte fits.1 (next_ahead rx.ahead rx.mode closed total front x is_front held),
+      joined_right rx.ahead (ahead_in rx x front) rx.mode closed total x p held byte fits.1
+          (next_ahead rx.ahead rx.mode closed total front x is_front held),
     )
 held_both false rx closed sum own total got front p j n inv byte is_front fits = by_slot rx.slots.first inv.first fits
   where
-    by_slot : (s : Slot) → HoldsRight rx.ahead rx.mode closed total s → FitsHere rx.mode p (Held j n) (live_in s) (live_in rx.slots.second)
-        → HoldsRight (ahead_held rx (live_in s) front) rx.mode closed total (gone_on p s) × HoldsRight (ahead_held rx (live_in s) front) rx.mode closed total rx.slots.second
+    by_slot : (s : Slot) → HoldsRight rx.ahead rx.mode closed total s
+        → FitsHere rx.mode p (Held j n) (live_in s) (live_in rx.slots.second)
+        → HoldsRight (ahead_held rx (live_in s) front) rx.mode closed total (gone_on p s)
+        × HoldsRight (ahead_held rx (live_in s) front) rx.mode closed total rx.slots.second
     by_slot Empty held fits = absurd fits
     by_slot (Programmed i key) held fits = absurd fits
     by_slot (Armed i key) held fits = absurd fits
     by_slot (Live x) held fits = (
-      joined_right rx.ahead (ahead_in rx x front) rx.mode closed total x p held byte fits.1 (next_ahead rx.ahead rx.mode closed total front x is_front held),
+      joined_right rx.ahead (ahead_in rx x front) rx.mode closed total x p held byte fits.1
+          (next_ahead rx.ahead rx.mode closed total front x is_front held),
       nothing_held rx.slots.second rx.ahead (ahead_in rx x front) rx.mode closed total total inv.second fits.0,
     )
 
-accepted_both : (k : Bool) (rx : Receiver) (closed : Bool) (sum own total : ℕ) (j : ℕ) → IsReceiveLane rx closed sum own total
+accepted_both : (k : Bool) (rx : Receiver) (closed : Bool) (sum own total : ℕ) (j : ℕ)
+    → IsReceiveLane rx closed sum own total
     → holds_any (live_in (slot_in rx.slots (not k))) ≡ false
     → BothRight k [] rx.mode closed (total + 1) (accepted_slots j k rx.slots)
 accepted_both true rx closed sum own total j inv none = (
-  retired_right j rx.slots.first [] rx.mode closed (total + 1) (nothing_held rx.slots.first rx.ahead [] rx.mode closed total (total + 1) inv.first none),
+  retired_right j rx.slots.first [] rx.mode closed (total + 1)
+      (nothing_held rx.slots.first rx.ahead [] rx.mode closed total (total + 1) inv.first none),
   counted_right rx.slots.second [] rx.mode closed (total + 1) inv.some_mode,
 )
 accepted_both false rx closed sum own total j inv none = (
   counted_right rx.slots.first [] rx.mode closed (total + 1) inv.some_mode,
-  retired_right j rx.slots.second [] rx.mode closed (total + 1) (nothing_held rx.slots.second rx.ahead [] rx.mode closed total (total + 1) inv.second none),
+  retired_right j rx.slots.second [] rx.mode closed (total + 1)
+      (nothing_held rx.slots.second rx.ahead [] rx.mode closed total (total + 1) inv.second none),
 )
 
-pub taken-kept : (rx : Receiver) (sub : SubKind) (closed : Bool) (sum own total got : ℕ) (front : List ℕ) (p : Packet) (t : Taken) (a : Answer) (sum' own' total' : ℕ)
+pub taken-kept : (rx : Receiver) (sub : SubKind) (closed : Bool) (sum own total got : ℕ) (front : List ℕ) (p : Packet)
+    (t : Taken) (a : Answer) (sum' own' total' : ℕ)
     → IsReceiveLane rx closed sum own total → p.prefix.posted < 256 → rx.takes < 2 ^ 40
     → front ≡ (if closed then to_be_bytes w64 total else [])
     → taken_here (view rx sub closed sum own total) got p ≡ t → Some a ≡ answer_of t
     → sum' ≤ sum + 2040 → own' ≤ own + 255 → total' ≡ (if is_accepted a then total + 1 else total)
     → IsReceiveLane (record (after_answer rx front p t) { takes = rx.takes + 1 }) closed sum' own' total'
-taken-kept rx sub closed sum own total got front p t a sum' own' total' inv byte few is_front is e le_sum le_own is_total =
-    by_taken t is e (subst (λ (t : Taken). FitsHere rx.mode p t (key_for rx p.prefix.k) (key_for rx (not p.prefix.k))) is (fits_here (view rx sub closed sum own total) got p (key_for rx p.prefix.k) (key_for rx (not p.prefix.k))))
+taken-kept rx sub closed sum own total got front p t a sum' own' total' inv byte few is_front is e le_sum le_own
+    is_total =
+    by_taken t is e (subst (λ (t : Taken). FitsHere rx.mode p t (key_for rx p.prefix.k) (key_for rx (not p.prefix.k)))
+    is (fits_here (view rx sub closed sum own total) got p (key_for rx p.prefix.k) (key_for rx (not p.prefix.k))))
   where
     with_both : (ahead : List ℕ) (slots : Slots) (delivered : List Packet) → total' ≤ total + 1
         → HoldsRight ahead rx.mode closed total' slots.first → HoldsRight ahead rx.mode closed total' slots.second
-        → IsReceiveLane (record rx { ahead = ahead; slots = slots; delivered = delivered; takes = rx.takes + 1 }) closed sum' own' total'
+        → IsReceiveLane (record rx { ahead = ahead; slots = slots; delivered = delivered; takes = rx.takes + 1 }) closed
+        sum' own' total'
     with_both ahead slots delivered le first second = record {
       some_mode = inv.some_mode;
       small_mode = inv.small_mode;
@@ -318,9 +377,11 @@ taken-kept rx sub closed sum own total got front p t a sum' own' total' inv byte
     }
 
     same_total : (b : Answer) → a ≡ b → is_accepted b ≡ false → total' ≡ total
-    same_total b same quiet = is_total ∙ ap (λ (x : Answer). if is_accepted x then total + 1 else total) same ∙ ap (λ x. if x then total + 1 else total) quiet
+    same_total b same quiet = is_total ∙ ap (λ (x : Answer). if is_accepted x then total + 1 else total) same ∙ ap
+        (λ x. if x then total + 1 else total) quiet
 
-    by_taken : (t : Taken) → taken_here (view rx sub closed sum own total) got p ≡ t → Some a ≡ answer_of t → FitsHere rx.mode p t (key_for rx p.prefix.k) (key_for rx (not p.prefix.k))
+    by_taken : (t : Taken) → taken_here (view rx sub closed sum own total) got p ≡ t → Some a ≡ answer_of t
+        → FitsHere rx.mode p t (key_for rx p.prefix.k) (key_for rx (not p.prefix.k))
         → IsReceiveLane (record (after_answer rx front p t) { takes = rx.takes + 1 }) closed sum' own' total'
     by_taken NotKeyed is e fits =
         let same : a ≡ answers.NotKeyed = cc in
@@ -330,21 +391,28 @@ taken-kept rx sub closed sum own total got front p t a sum' own' total' inv byte
     by_taken (Failed cause) is e fits =
         let same : a ≡ answers.Fail cause = cc in
         let keeps = same_total (answers.Fail cause) same refl in
-        with_both [] (dropped_slots rx.slots) [] (omega (arith, keeps)) (dropped_right rx.slots.first [] rx.mode closed total' inv.some_mode) (dropped_right rx.slots.second [] rx.mode closed total' inv.some_mode)
+        with_both [] (dropped_slots rx.slots) [] (omega (arith, keeps))
+        (dropped_right rx.slots.first [] rx.mode closed total' inv.some_mode)
+        (dropped_right rx.slots.second [] rx.mode closed total' inv.some_mode)
     by_taken (Held j n) is e fits =
         let same : a ≡ answers.Held j n = cc in
         let keeps = same_total (answers.Held j n) same refl in
         let both = held_both p.prefix.k rx closed sum own total got front p j n inv byte is_front fits in
-        with_both (ahead_held rx (key_for rx p.prefix.k) front) (with_slot rx.slots p.prefix.k (gone_on p (slot_in rx.slots p.prefix.k))) [] (omega (arith, keeps)) (rw keeps both.0) (rw keeps both.1)
+        with_both (ahead_held rx (key_for rx p.prefix.k) front)
+        (with_slot rx.slots p.prefix.k (gone_on p (slot_in rx.slots p.prefix.k))) [] (omega (arith, keeps))
+        (rw keeps both.0) (rw keeps both.1)
     by_taken (Accepted j n unit) is e fits =
         let same : a ≡ answers.Accepted j n (length unit) = cc in
-        let next : total' ≡ total + 1 = is_total ∙ ap (λ (x : Answer). if is_accepted x then total + 1 else total) same in
+        let next : total' ≡ total + 1 = is_total ∙ ap (λ (x : Answer). if is_accepted x then total + 1 else total) same
+        in
         let both = accepted_both p.prefix.k rx closed sum own total j inv fits in
-        with_both [] (accepted_slots j p.prefix.k rx.slots) (opened_under (key_for rx p.prefix.k) p.prefix.sub unit) (omega (arith, next)) (rw next both.0) (rw next both.1)
+        with_both [] (accepted_slots j p.prefix.k rx.slots) (opened_under (key_for rx p.prefix.k) p.prefix.sub unit)
+        (omega (arith, next)) (rw next both.0) (rw next both.1)
 
 -- ---- KEY_PROG
 
-kept_ahead : (slot : Slot) (b : Bool) (ahead : List ℕ) (mode : ℕ) (closed : Bool) (total : ℕ) → (holds_any (live_in slot) ≡ true → b ≡ true)
+kept_ahead : (slot : Slot) (b : Bool) (ahead : List ℕ) (mode : ℕ) (closed : Bool) (total : ℕ)
+    → (holds_any (live_in slot) ≡ true → b ≡ true)
     → HoldsRight ahead mode closed total slot → HoldsRight (if b then ahead else []) mode closed total slot
 kept_ahead Empty b ahead mode closed total h held = tt
 kept_ahead (Programmed j key) b ahead mode closed total h held = tt
@@ -358,18 +426,22 @@ kept_ahead (Live x) b ahead mode closed total h held = record {
 or_true : (a b : Bool) → a ≡ true → (a || b) ≡ true
 or_true a b e = ap (λ c. c || b) e
 
-programmed_both : (k : Bool) (rx : Receiver) (closed : Bool) (sum own total : ℕ) (key : List ℕ) (draw : ℕ) → IsReceiveLane rx closed sum own total
-    → (let s = with_slot rx.slots k (Programmed draw key) in HoldsRight (ahead_at s rx.ahead) rx.mode closed total s.first × HoldsRight (ahead_at s rx.ahead) rx.mode closed total s.second)
+programmed_both : (k : Bool) (rx : Receiver) (closed : Bool) (sum own total : ℕ) (key : List ℕ) (draw : ℕ)
+    → IsReceiveLane rx closed sum own total
+    → (let s = with_slot rx.slots k (Programmed draw key) in HoldsRight (ahead_at s rx.ahead) rx.mode closed total
+    s.first × HoldsRight (ahead_at s rx.ahead) rx.mode closed total s.second)
 programmed_both true rx closed sum own total key draw inv =
     (kept_ahead rx.slots.first _ rx.ahead rx.mode closed total (or_true _ false) inv.first, tt)
 programmed_both false rx closed sum own total key draw inv =
     (tt, kept_ahead rx.slots.second _ rx.ahead rx.mode closed total (λ e. e) inv.second)
 
-pub programmed-right : (k : Bool) (rx : Receiver) (closed : Bool) (sum own total : ℕ) (key : List ℕ) (draw : ℕ) → IsReceiveLane rx closed sum own total
+pub programmed-right : (k : Bool) (rx : Receiver) (closed : Bool) (sum own total : ℕ) (key : List ℕ) (draw : ℕ)
+    → IsReceiveLane rx closed sum own total
     → IsReceiveLane (programmed_receiver rx k key draw) closed sum own total
 programmed-right k rx closed sum own total key draw inv = by_answer (is_only_live (slot_pair false rx.slots) k)
   where
-    by_answer : (b : Bool) → IsReceiveLane (if b then rx else with_slots rx (with_slot rx.slots k (Programmed draw key))) closed sum own total
+    by_answer : (b : Bool) → IsReceiveLane
+        (if b then rx else with_slots rx (with_slot rx.slots k (Programmed draw key))) closed sum own total
     by_answer true = inv
     by_answer false =
         let both = programmed_both k rx closed sum own total key draw inv in

@@ -1,12 +1,15 @@
 -- The receivers of a stream, each with the counts beside it, and what a packet makes of them.
-use Rattle.std.specs.Prelude.{◌≡◌, ℕ, ◌+◌, ◌*◌, ◌^◌, ◌≤◌, ◌<◌, Bool, true, false, not, ◌&&◌, ◌||◌, ◌==◌, nat_le, if◌then◌else◌, List, [], ◌∷◌, ◌++◌, length, Option, Some, None}
+use Rattle.std.specs.Prelude.{◌≡◌, ℕ, ◌+◌, ◌*◌, ◌^◌, ◌≤◌, ◌<◌, Bool, true, false, not, ◌&&◌, ◌||◌, ◌==◌, nat_le}
+use Rattle.std.specs.Prelude.{if◌then◌else◌, List, [], ◌∷◌, ◌++◌, length, Option, Some, None}
 use Rattle.ide_types.specs.Sub.{sub_bits}
 use Rattle.ide_types.specs.declared.sub.SubKind.{SubKind}
 use Rattle.ide_types.specs.declared.sub.SubKind.TheVariants.{Pr, Npr, Cpl}
 use Rattle.ide_types.specs.declared.sub.FailCause.TheVariants as fail
 use Rattle.ide_prefix.specs.Packet.{Packet}
 use Rattle.stream_rules.specs.Sending.{front_with}
-use Rattle.stream_rules.specs.Stream.{Slot, Live, LiveKey, RxSub, Three, StreamState, at_sub, set_sub, each_sub, slot_in, live_in, Taken, NotKeyed, Failed, Held, Accepted, holds_any, posted_sum, is_tagged, checked, dropped_held, accepted_sub, held_sub, taken_by, state_after}
+use Rattle.stream_rules.specs.Stream.{Slot, Live, LiveKey, RxSub, Three, StreamState, at_sub, set_sub, each_sub}
+use Rattle.stream_rules.specs.Stream.{slot_in, live_in, Taken, NotKeyed, Failed, Held, Accepted, holds_any, posted_sum}
+use Rattle.stream_rules.specs.Stream.{is_tagged, checked, dropped_held, accepted_sub, held_sub, taken_by, state_after}
 use Rattle.stream_rules.specs.Slots.{any_live}
 use Rattle.sub_stream.specs.{Receiver, no_slots, opened_under}
 use Rattle.sub_stream.specs.declared.answer.Taken.{Taken as Answer}

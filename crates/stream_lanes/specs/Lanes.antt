@@ -1,12 +1,14 @@
 -- The senders of a stream, each with the counts beside it, and what a sealed packet makes of them.
-use Rattle.std.specs.Prelude.{◌≡◌, ℕ, ◌+◌, ◌≤◌, ◌<◌, Bool, true, false, not, ◌&&◌, ◌||◌, ◌==◌, if◌then◌else◌, List, [], ◌∷◌, length, Option, Some, None, unwrap_or}
+use Rattle.std.specs.Prelude.{◌≡◌, ℕ, ◌+◌, ◌≤◌, ◌<◌, Bool, true, false, not, ◌&&◌, ◌||◌, ◌==◌, if◌then◌else◌, List, []}
+use Rattle.std.specs.Prelude.{◌∷◌, length, Option, Some, None, unwrap_or}
 use Rattle.ide_types.specs.declared.sub.SubKind.{SubKind}
 use Rattle.ide_types.specs.declared.sub.SubKind.TheVariants.{Pr, Npr, Cpl}
 use Rattle.ide_types.specs.declared.port.Side.TheVariants.{Host}
 use Rattle.link_verdicts.specs.declared.verdict.SealedPacket.{SealedPacket as Described}
 use Rattle.ide_prefix.specs.Packet.{Packet, packet_bytes}
 use Rattle.stream_rules.specs.Sending.{Lane, Lanes, is_posted, begins_unit, no_key, front_with}
-use Rattle.stream_rules.specs.Stream.{LiveKey, Slots, TxSub, Three, at_sub, set_sub, each_sub, live_sender, lane_of, packet_under, sealed_slots, sealed_one}
+use Rattle.stream_rules.specs.Stream.{LiveKey, Slots, TxSub, Three, at_sub, set_sub, each_sub, live_sender, lane_of}
+use Rattle.stream_rules.specs.Stream.{packet_under, sealed_slots, sealed_one}
 use Rattle.stream_rules.specs.Slots.{is_live, any_live}
 use Rattle.sub_stream.specs.{Sender, no_slots, open_packets, packets_under, with_length}
 use Rattle.sub_stream.specs.declared.answer.SealedPacket.{SealedPacket}

@@ -1,6 +1,7 @@
 //! The receiver of one sub-stream, with the counts beside it.
 
-ghost use Rattle.std.specs.Prelude.{◌≡◌, ◌+◌, ◌-◌, ◌*◌, ◌<◌, ◌≤◌, ◌^◌, ◌==◌, Some, true, false, not, length, map, slice_get, is_ok, if◌then◌else◌};
+ghost use Rattle.std.specs.Prelude.{◌≡◌, ◌+◌, ◌-◌, ◌*◌, ◌<◌, ◌≤◌, ◌^◌, ◌==◌, Some, true, false, not, length, map};
+ghost use Rattle.std.specs.Prelude.{slice_get, is_ok, if◌then◌else◌};
 ghost use Rattle.ide_types.specs.Sub.{sub_bits};
 ghost use Rattle.ide_prefix.specs.Cut.{packet_of_view, IsView};
 ghost use Rattle.key_slots.specs.{is_one, is_empty, program_answer, slot_in as key_slot_in};

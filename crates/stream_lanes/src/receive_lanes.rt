@@ -1,6 +1,7 @@
 //! The receivers of a stream.
 
-ghost use Rattle.std.specs.Prelude.{◌≡◌, ◌+◌, ◌<◌, ◌≤◌, ◌^◌, [], Some, IfOk, true, false, not, length, map, slice_get, is_ok, if◌then◌else◌};
+ghost use Rattle.std.specs.Prelude.{◌≡◌, ◌+◌, ◌<◌, ◌≤◌, ◌^◌, [], Some, IfOk, true, false, not, length, map, slice_get};
+ghost use Rattle.std.specs.Prelude.{is_ok, if◌then◌else◌};
 ghost use Rattle.ide_types.specs.Sub.{is_same_sub};
 ghost use Rattle.ide_types.specs.declared.sub.SubKind.TheVariants.{Pr, Npr, Cpl};
 ghost use Rattle.ide_prefix.specs.Cut.{packet_of_view, IsView};
@@ -8,7 +9,9 @@ ghost use Rattle.key_slots.specs.{is_one, is_empty, program_answer, slot_in as k
 ghost use Rattle.stream_rules.specs.Stream.{at_sub, dropped_held};
 ghost use Rattle.sub_stream.specs.{answer_of, lent_parts, mark_of, slot_pair};
 ghost use Rattle.stream_calls.specs.Calls.{Program, Go, Halt};
-ghost use Rattle.stream_lanes.specs.Arrivals.{new_receive_ends, picked, taken_here, end_after, taken_among, ends_after, is_fail, lent_after, any_into, all_into, settled_into, called_receivers, no_receivers};
+ghost use Rattle.stream_lanes.specs.Arrivals.{new_receive_ends, picked, taken_here, end_after, taken_among, ends_after};
+ghost use Rattle.stream_lanes.specs.Arrivals.{is_fail, lent_after, any_into, all_into, settled_into, called_receivers};
+ghost use Rattle.stream_lanes.specs.Arrivals.{no_receivers};
 
 use crate::fixed::Fixed;
 use crate::receive_lane::ReceiveLane;

@@ -1,13 +1,15 @@
 //! The sender of one sub-stream, with the counts beside it.
 
-ghost use Rattle.std.specs.Prelude.{◌≡◌, ◌+◌, ◌<◌, ◌≤◌, ◌^◌, ◌++◌, [], true, false, not, length, is_ok, is_none, vec_len, vec_capacity, if◌then◌else◌};
+ghost use Rattle.std.specs.Prelude.{◌≡◌, ◌+◌, ◌<◌, ◌≤◌, ◌^◌, ◌++◌, [], true, false, not, length, is_ok, is_none};
+ghost use Rattle.std.specs.Prelude.{vec_len, vec_capacity, if◌then◌else◌};
 ghost use Rattle.ide_prefix.specs.Packet.{packet_bytes};
 ghost use Rattle.key_slots.specs.{is_one, is_empty, program_answer, live_set, slot_in as key_slot_in};
 ghost use Rattle.stream_rules.specs.Sending.{is_posted, begins_unit};
 ghost use Rattle.stream_rules.specs.Slots.{any_live};
 ghost use Rattle.sub_stream.specs.{slot_pair};
 ghost use Rattle.stream_calls.specs.Calls.{Program, Go, Halt};
-ghost use Rattle.stream_lanes.specs.Lanes.{new_send_end, lane_in, is_spent, tlp_said, sync_said, packet_in, sealed_end, posted_end, forgotten_end, called_end, measured, KeepsUnit};
+ghost use Rattle.stream_lanes.specs.Lanes.{new_send_end, lane_in, is_spent, tlp_said, sync_said, packet_in, sealed_end};
+ghost use Rattle.stream_lanes.specs.Lanes.{posted_end, forgotten_end, called_end, measured, KeepsUnit};
 
 use crate::fixed::{Fixed, front};
 use ide_types::SubKind;

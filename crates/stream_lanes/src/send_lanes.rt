@@ -1,18 +1,22 @@
 //! The senders of a stream.
 
-ghost use Rattle.std.specs.Prelude.{◌≡◌, ◌==◌, ◌&&◌, ◌||◌, ◌+◌, ◌*◌, ◌<◌, ◌≤◌, ◌^◌, ◌++◌, [], ℕ, nat_lt, None, IfOk, true, false, not, length, is_ok, vec_len, vec_capacity, if◌then◌else◌};
+ghost use Rattle.std.specs.Prelude.{◌≡◌, ◌==◌, ◌&&◌, ◌||◌, ◌+◌, ◌*◌, ◌<◌, ◌≤◌, ◌^◌, ◌++◌, [], ℕ, nat_lt, None, IfOk};
+ghost use Rattle.std.specs.Prelude.{true, false, not, length, is_ok, vec_len, vec_capacity, if◌then◌else◌};
 ghost use Rattle.std.specs.Option.{option_map};
 ghost use Rattle.ide_types.specs.declared.sub.SubKind.{SubKind};
 ghost use Rattle.ide_types.specs.declared.sub.SubKind.TheVariants.{Pr, Npr, Cpl};
 ghost use Rattle.ide_prefix.specs.Packet.{packet_bytes};
 ghost use Rattle.key_slots.specs.{is_one, is_empty, program_answer, live_set, slot_in as key_slot_in};
-ghost use Rattle.stream_rules.specs.Sending.{Sending, is_posted, is_keyless, is_worn, begins_unit, needs_sync, refusals, first_that_holds, sets_trusted};
+ghost use Rattle.stream_rules.specs.Sending.{Sending, is_posted, is_keyless, is_worn, begins_unit, needs_sync};
+ghost use Rattle.stream_rules.specs.Sending.{refusals, first_that_holds, sets_trusted};
 ghost use Rattle.stream_rules.specs.Stream.{at_sub};
 ghost use Rattle.stream_rules.specs.Slots.{any_live};
 ghost use Rattle.sub_stream.specs.{slot_pair};
 ghost use Rattle.stream_calls.specs.Calls.{Program, Go, Halt};
 ghost use Rattle.stream_lanes.specs.Sends.{refusal_verdict, IsSealed};
-ghost use Rattle.stream_lanes.specs.Lanes.{new_send_ends, end_at, lanes_at, lane_in, is_spent, tlp_said, packet_at, sealed_ends, measured, open_in, any_out, all_out, settled_out, called_ends, synced, sync_packets, sync_bytes};
+ghost use Rattle.stream_lanes.specs.Lanes.{new_send_ends, end_at, lanes_at, lane_in, is_spent, tlp_said, packet_at};
+ghost use Rattle.stream_lanes.specs.Lanes.{sealed_ends, measured, open_in, any_out, all_out, settled_out, called_ends};
+ghost use Rattle.stream_lanes.specs.Lanes.{synced, sync_packets, sync_bytes};
 
 use crate::fixed::Fixed;
 use crate::list::Sealed;

@@ -1,7 +1,8 @@
 -- What a send comes to: the refusals in their order, and the packets that are sealed.
-use Rattle.std.specs.Prelude.{ℕ, ◌+◌, Bool, true, false, not, ◌&&◌, ◌||◌, if◌then◌else◌, ◌==◌, nat_lt, Option, Some, None, List, [], ◌∷◌, ◌++◌, length, is_none, unwrap_or}
+use Rattle.std.specs.Prelude.{ℕ, ◌+◌, Bool, true, false, not, ◌&&◌, ◌||◌, if◌then◌else◌, ◌==◌, nat_lt, Option, Some}
+use Rattle.std.specs.Prelude.{None, List, [], ◌∷◌, ◌++◌, length, is_none, unwrap_or}
 use Rattle.std.specs.Int.{w64, to_be_bytes}
-use Rattle.ide_types.specs.Sub.{sub_bits, sent_direction}
+use Rattle.ide_types.specs.Sub.{sub_bits}
 use Rattle.ide_types.specs.declared.sub.SubKind.{SubKind}
 use Rattle.ide_types.specs.declared.sub.SubKind.TheVariants.{Pr, Npr, Cpl}
 use Rattle.ide_types.specs.declared.port.PortName.{PortName}
@@ -100,9 +101,9 @@ described x s u number m t sync =
 abbrev pub ends_unit : Lanes → Sending → Bool
 ends_unit x s = not s.more || (length (x.lane s.class).front + 1 == x.mode)
 
--- a host's port sets T as it is asked; a device's port sets it for interfaces in RUN, of which there is none
+-- T is set as the port is asked: a host's port by the send, a device's port by its interfaces
 abbrev pub sets_trusted : PortName → Bool → Bool
-sets_trusted port trusted = (sent_direction port.side == 0) && trusted
+sets_trusted port trusted = trusted
 
 abbrev pub sync_before : Lanes → Sending → SubKind → ℕ → List SealedPacket
 sync_before x s u number = if needs_sync x s.class u then described x s u number true false true ∷ [] else []

@@ -1,6 +1,7 @@
 -- What keys do to slots: a key is put in, gets GO, or is taken out.
 use Rattle.std.specs.Prelude.{Bool, true, false, ◌&&◌, ◌||◌, nat_lt, [], length, if◌then◌else◌}
-use Rattle.stream_rules.specs.Stream.{Slot, Empty, Programmed, Armed, Live, Slots, TxSub, RxSub, Three, StreamState, at_sub, each_sub}
+use Rattle.stream_rules.specs.Stream.{Slot, Empty, Programmed, Armed, Live, Slots, TxSub, RxSub, Three, StreamState}
+use Rattle.stream_rules.specs.Stream.{at_sub, each_sub}
 
 abbrev pub both_slots : Bool → Slot → Slot → Slots
 both_slots k a b = if k then record { first = b; second = a } else record { first = a; second = b }

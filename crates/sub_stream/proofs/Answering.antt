@@ -2,7 +2,9 @@
 -- seen as the receiver of the specs. It goes by the answer, by who holds the buffer and by the state of each slot: a
 -- packet that fits finds nothing held in the other key set, so the buffer is its own slot's alone. The hard case is an
 -- accepted unit: its slot counts it, an older key in the other slot goes, and the buffer lends the decrypted packets.
-use Rattle.std.proofs.Common.{◌≡◌, ℕ, ◌+◌, ◌<◌, ◌≤◌, Bool, true, false, not, ◌&&◌, ◌||◌, ◌==◌, nat_lt, nat_le, if◌then◌else◌, List, [], ◌∷◌, ◌++◌, length, Option, Some, None, refl, sym, ap, ◌∙◌, arith, length-append}
+use Rattle.std.proofs.Common.{◌≡◌, ℕ, ◌+◌, ◌<◌, ◌≤◌, Bool, true, false, not, ◌&&◌, ◌||◌, ◌==◌, nat_lt, nat_le}
+use Rattle.std.proofs.Common.{if◌then◌else◌, List, [], ◌∷◌, ◌++◌, length, Option, Some, None, refl, sym, ap, ◌∙◌, arith}
+use Rattle.std.proofs.Common.{length-append}
 use Rattle.std.specs.Option.{option_map}
 use Rattle.std.proofs.lemmas.Grind.{common_steps}
 use Rattle.ide_types.specs.declared.sub.FailCause.{FailCause}
@@ -10,7 +12,9 @@ use Rattle.ide_types.specs.declared.sub.FailCause.TheVariants as fail
 use Rattle.ide_types.specs.declared.sub.SubKind.{SubKind}
 use Rattle.ide_prefix.specs.Packet.{Packet}
 use Rattle.ide_prefix.specs.Units.{untagged}
-use Rattle.stream_rules.specs.Stream.{LiveKey, Taken, NotKeyed, Insecure, Failed, Held, Accepted, slot_in as seen_slot, with_slot, live_in, gone_on, counted, retired, dropped, accepted_slots, posted_sum, checked}
+use Rattle.stream_rules.specs.Stream.{LiveKey, Taken, NotKeyed, Insecure, Failed, Held, Accepted, slot_in as seen_slot}
+use Rattle.stream_rules.specs.Stream.{with_slot, live_in, gone_on, counted, retired, dropped, accepted_slots}
+use Rattle.stream_rules.specs.Stream.{posted_sum, checked}
 use Rattle.stream_rules.specs.Stream.{Empty as EmptySlot, holds_any}
 use Rattle.stream_rules.specs.Slots.{begun}
 use Rattle.key_slots.specs.declared.slot.Slot.{Slot as KeySlot}
@@ -24,7 +28,12 @@ use Rattle.sub_stream.specs.Answers.{answer_of}
 use Rattle.sub_stream.specs.Gathered.{Gathered, no_packets}
 use Rattle.sub_stream.specs.Seen.{seen, live_with, has_armed, is_programmed}
 use Rattle.sub_stream.specs.Senders.{begun_where_empty, ahead_of}
-use Rattle.sub_stream.specs.Receivers.{Receiver, held_zero, held_one, seen_in, lent_by, ahead_by, HoldsFew, IsReceiver, holds_some, holds_apart, held_in, holds_after, held_alone, held_unless_failed, is_accepted, is_draw_below, without_older, slots_after, fits_held, fits_unit, key_for, ahead_in, is_tagged_behind, judged, early_answer, early_of, BufferAfter, taken_with, taken_of, dropped_slots, dropped_receiver, ahead_held, opened_under, after_answer, ahead_at, gone_receiver}
+use Rattle.sub_stream.specs.Receivers.{Receiver, held_zero, held_one, seen_in, lent_by, ahead_by, HoldsFew, IsReceiver}
+use Rattle.sub_stream.specs.Receivers.{holds_some, holds_apart, held_in, holds_after, held_alone, held_unless_failed}
+use Rattle.sub_stream.specs.Receivers.{is_accepted, is_draw_below, without_older, slots_after, fits_held, fits_unit}
+use Rattle.sub_stream.specs.Receivers.{key_for, ahead_in, is_tagged_behind, judged, early_answer, early_of, BufferAfter}
+use Rattle.sub_stream.specs.Receivers.{taken_with, taken_of, dropped_slots, dropped_receiver, ahead_held, opened_under}
+use Rattle.sub_stream.specs.Receivers.{after_answer, ahead_at, gone_receiver}
 use Rattle.sub_stream.proofs.Receiving.{units_of, held_of, key_seen, fits_seen, early_seen, early_by, other_holds}
 
 -- ---- answers that come early
@@ -33,7 +42,8 @@ pub early-taken : (rx : Receiver) (allowed : ℕ) (front : List ℕ) (p : Packet
     → Some a ≡ answer_of (taken_of rx allowed front p)
 early-taken rx allowed front p a = by_keys (key_for rx p.prefix.k) (key_for rx (not p.prefix.k))
   where
-    by_keys : (x y : Option LiveKey) → early_answer rx.mode p x y ≡ Some a → Some a ≡ answer_of (taken_with rx allowed front p x y)
+    by_keys : (x y : Option LiveKey) → early_answer rx.mode p x y ≡ Some a → Some a
+        ≡ answer_of (taken_with rx allowed front p x y)
     by_keys None None e = sym e
     by_keys None (Some y) e = sym e
     by_keys (Some x) y e = by_fits (fits_unit rx.mode x y p) e
@@ -62,7 +72,8 @@ early-after rx allowed front p a = by_keys (key_for rx p.prefix.k) (key_for rx (
     by_keys (Some x) y e = by_fits (fits_unit rx.mode x y p) e
       where
         by_fits : (b : Bool) → (if b then None else Some (answers.Fail fail.Unit)) ≡ Some a
-            → after_answer rx front p (if b then judged (ahead_in rx x front) allowed x p else Failed fail.Unit) ≡ after_early rx a
+            → after_answer rx front p (if b then judged (ahead_in rx x front) allowed x p else Failed fail.Unit)
+            ≡ after_early rx a
         by_fits true e = absurd (cc)
         by_fits false e = by_fail fail.Unit e
 
@@ -73,8 +84,10 @@ dropped_seen (Programmed held) units ps = refl
 dropped_seen (Armed held) units ps = refl
 dropped_seen (Live held) units ps = refl
 
-pub slots-dropped : (pair : SlotPair) (u0 u1 : ℕ) (h : Holds) (ps qs : List Packet) → seen_in pair u0 u1 Nothing qs ≡ dropped_slots (seen_in pair u0 u1 h ps)
-slots-dropped pair u0 u1 h ps qs = λ i. record { first = dropped_seen pair.zero u0 (held_zero h ps) i; second = dropped_seen pair.one u1 (held_one h ps) i }
+pub slots-dropped : (pair : SlotPair) (u0 u1 : ℕ) (h : Holds) (ps qs : List Packet) → seen_in pair u0 u1 Nothing qs
+    ≡ dropped_slots (seen_in pair u0 u1 h ps)
+slots-dropped pair u0 u1 h ps qs = λ i. record
+    { first = dropped_seen pair.zero u0 (held_zero h ps) i; second = dropped_seen pair.one u1 (held_one h ps) i }
 
 -- the receiver that is seen of these fields
 abbrev pub view : ℕ → SubKind → ℕ → ℕ → ℕ → SlotPair → Holds → Gathered → ℕ → Receiver
@@ -88,24 +101,33 @@ view stream sub mode u0 u1 pair h unit takes = record {
   takes = takes;
 }
 
-pub view-dropped : (stream : ℕ) (sub : SubKind) (mode u0 u1 : ℕ) (pair : SlotPair) (h : Holds) (unit new : Gathered) (takes n : ℕ)
-    → view stream sub mode u0 u1 pair Nothing new n ≡ record (dropped_receiver (view stream sub mode u0 u1 pair h unit takes)) { takes = n }
+pub view-dropped : (stream : ℕ) (sub : SubKind) (mode u0 u1 : ℕ) (pair : SlotPair) (h : Holds) (unit new : Gathered)
+    (takes n : ℕ)
+    → view stream sub mode u0 u1 pair Nothing new n ≡ record
+    (dropped_receiver (view stream sub mode u0 u1 pair h unit takes)) { takes = n }
 view-dropped stream sub mode u0 u1 pair h unit new takes n =
-    ap (λ s. record { stream = stream; sub = sub; mode = mode; ahead = []; slots = s; delivered = []; takes = n }) (slots-dropped pair u0 u1 h unit.packets new.packets)
+    ap (λ s. record { stream = stream; sub = sub; mode = mode; ahead = []; slots = s; delivered = []; takes = n })
+    (slots-dropped pair u0 u1 h unit.packets new.packets)
 
-pub view-early : (stream : ℕ) (sub : SubKind) (mode u0 u1 : ℕ) (pair : SlotPair) (h : Holds) (unit : Gathered) (takes n : ℕ) (a : Answer)
-    → view stream sub mode u0 u1 pair (held_unless_failed h a) unit n ≡ record (after_early (view stream sub mode u0 u1 pair h unit takes) a) { takes = n }
+pub view-early : (stream : ℕ) (sub : SubKind) (mode u0 u1 : ℕ) (pair : SlotPair) (h : Holds) (unit : Gathered)
+    (takes n : ℕ) (a : Answer)
+    → view stream sub mode u0 u1 pair (held_unless_failed h a) unit n
+    ≡ record (after_early (view stream sub mode u0 u1 pair h unit takes) a) { takes = n }
 view-early stream sub mode u0 u1 pair h unit takes n answers.NotKeyed = refl
-view-early stream sub mode u0 u1 pair h unit takes n (answers.Fail cause) = view-dropped stream sub mode u0 u1 pair h unit unit takes n
-view-early stream sub mode u0 u1 pair h unit takes n (answers.Held draw m) = view-dropped stream sub mode u0 u1 pair h unit unit takes n
-view-early stream sub mode u0 u1 pair h unit takes n (answers.Accepted draw m count) = view-dropped stream sub mode u0 u1 pair h unit unit takes n
+view-early stream sub mode u0 u1 pair h unit takes n (answers.Fail cause) = view-dropped stream sub mode u0 u1 pair h
+    unit unit takes n
+view-early stream sub mode u0 u1 pair h unit takes n (answers.Held draw m) = view-dropped stream sub mode u0 u1 pair h
+    unit unit takes n
+view-early stream sub mode u0 u1 pair h unit takes n (answers.Accepted draw m count) = view-dropped stream sub mode u0
+    u1 pair h unit unit takes n
 
 -- ---- what is held under a key
 
 abbrev pub kept : Holds → Gathered → Gathered
 kept h unit = if holds_some h then unit else no_packets unit.mode
 
-pub held-kept : (k : Bool) (h : Holds) (unit : Gathered) → holds_apart k h ≡ false → held_of k h unit.packets ≡ (kept h unit).packets
+pub held-kept : (k : Bool) (h : Holds) (unit : Gathered) → holds_apart k h ≡ false → held_of k h unit.packets
+    ≡ (kept h unit).packets
 held-kept true Zero unit e = absurd (cc)
 held-kept true One unit e = refl
 held-kept true Nothing unit e = refl
@@ -127,7 +149,8 @@ held-other false Delivered ps e = refl
 
 -- what stands ahead is the same
 pub ahead-kept : (h : Holds) (unit : Gathered) (front : List ℕ) (n : ℕ)
-    → (if length (kept h unit).packets == 0 then ahead_of front n else ahead_by h unit.front) ≡ (begun_where_empty (kept h unit) front n).front
+    → (if length (kept h unit).packets == 0 then ahead_of front n else ahead_by h unit.front)
+    ≡ (begun_where_empty (kept h unit) front n).front
 ahead-kept Zero unit front n = refl
 ahead-kept One unit front n = refl
 ahead-kept Nothing unit front n = refl
@@ -144,31 +167,37 @@ not_apart h n mode k m e = fits_apart (holds_apart k h) _ e
 
 pub key-kept : (k : Bool) (pair : SlotPair) (u0 u1 : ℕ) (h : Holds) (unit : Gathered) (held : DrawnKey)
     → live_held (slot_in pair k) ≡ Some held → holds_apart k h ≡ false
-    → live_in (seen_slot (seen_in pair u0 u1 h unit.packets) k) ≡ Some (live_with (units_of k u0 u1) (kept h unit).packets held)
+    → live_in (seen_slot (seen_in pair u0 u1 h unit.packets) k)
+    ≡ Some (live_with (units_of k u0 u1) (kept h unit).packets held)
 key-kept k pair u0 u1 h unit held is apart =
     key_seen k pair u0 u1 h unit.packets
     ∙ ap (option_map (live_with (units_of k u0 u1) (held_of k h unit.packets))) is
     ∙ ap (λ ps. Some (live_with (units_of k u0 u1) ps held)) (held-kept k h unit apart)
 
 -- the answers of a packet that fits what is held
-pub fits-early : (k : Bool) (pair : SlotPair) (u0 u1 : ℕ) (h : Holds) (mode : ℕ) (unit : Gathered) (p : Packet) (held : DrawnKey)
+pub fits-early : (k : Bool) (pair : SlotPair) (u0 u1 : ℕ) (h : Holds) (mode : ℕ) (unit : Gathered) (p : Packet)
+    (held : DrawnKey)
     → HoldsFew pair mode h unit.packets → p.prefix.k ≡ k → live_held (slot_in pair k) ≡ Some held
-    → early_answer mode p (live_in (seen_slot (seen_in pair u0 u1 h unit.packets) k)) (live_in (seen_slot (seen_in pair u0 u1 h unit.packets) (not k))) ≡ None
+    → early_answer mode p (live_in (seen_slot (seen_in pair u0 u1 h unit.packets) k))
+    (live_in (seen_slot (seen_in pair u0 u1 h unit.packets) (not k))) ≡ None
     → fits_held h (length unit.packets) mode k p.prefix.m ≡ true
 fits-early k pair u0 u1 h mode unit p held few is_k is none =
     by_fits (fits_held h (length unit.packets) mode k p.prefix.m)
-    (ap (λ o. early_by o (live_held (slot_in pair (not k))) (fits_held h (length unit.packets) mode k p.prefix.m)) (sym is)
+    (ap (λ o. early_by o (live_held (slot_in pair (not k))) (fits_held h (length unit.packets) mode k p.prefix.m))
+    (sym is)
     ∙ sym (early_seen k pair u0 u1 h mode unit.packets p few) ∙ none)
   where
     by_fits : (b : Bool) → (if b then None else Some (answers.Fail fail.Unit)) ≡ None → b ≡ true
     by_fits true e = refl
     by_fits false e = absurd (cc)
 
-pub taken-keyed : (stream : ℕ) (sub : SubKind) (mode u0 u1 : ℕ) (pair : SlotPair) (h : Holds) (unit : Gathered) (takes allowed : ℕ) (front : List ℕ) (p : Packet) (held : DrawnKey)
+pub taken-keyed : (stream : ℕ) (sub : SubKind) (mode u0 u1 : ℕ) (pair : SlotPair) (h : Holds) (unit : Gathered)
+    (takes allowed : ℕ) (front : List ℕ) (p : Packet) (held : DrawnKey)
     → HoldsFew pair mode h unit.packets → live_held (slot_in pair p.prefix.k) ≡ Some held
     → fits_held h (length unit.packets) mode p.prefix.k p.prefix.m ≡ true
     → taken_of (view stream sub mode u0 u1 pair h unit takes) allowed front p
-    ≡ judged (begun_where_empty (kept h unit) front (units_of p.prefix.k u0 u1 + 1)).front allowed (live_with (units_of p.prefix.k u0 u1) (kept h unit).packets held) p
+    ≡ judged (begun_where_empty (kept h unit) front (units_of p.prefix.k u0 u1 + 1)).front allowed
+    (live_with (units_of p.prefix.k u0 u1) (kept h unit).packets held) p
 taken-keyed stream sub mode u0 u1 pair h unit takes allowed front p held few is fits =
     let k = p.prefix.k in
     let rx = view stream sub mode u0 u1 pair h unit takes in
@@ -191,9 +220,11 @@ IsJudged p (Held draw n) = p.prefix.m ≡ false
 IsJudged p (Accepted draw n packets) = Unit {0}
 
 pub judged-is : (ahead : List ℕ) (allowed : ℕ) (x : LiveKey) (p : Packet) → IsJudged p (judged ahead allowed x p)
-judged-is ahead allowed x p = by_tests p.prefix.m (is_tagged_behind ahead x p) (nat_le (posted_sum (x.packets ++ p ∷ [])) allowed) refl
+judged-is ahead allowed x p = by_tests p.prefix.m (is_tagged_behind ahead x p)
+    (nat_le (posted_sum (x.packets ++ p ∷ [])) allowed) refl
   where
-    by_tests : (m tagged order : Bool) → p.prefix.m ≡ m → IsJudged p (if m then checked tagged order x p else Held x.draw (x.units + 1))
+    by_tests : (m tagged order : Bool) → p.prefix.m ≡ m → IsJudged p
+        (if m then checked tagged order x p else Held x.draw (x.units + 1))
     by_tests false tagged order e = e
     by_tests true false order e = tt
     by_tests true true false e = tt
@@ -202,23 +233,27 @@ judged-is ahead allowed x p = by_tests p.prefix.m (is_tagged_behind ahead x p) (
 untagged-same : (p : Packet) → p.tag ≡ [] → untagged p ≡ p
 untagged-same p e = λ i. record { prefix = p.prefix; head = p.head; body = p.body; tag = sym e i }
 
-gone_seen : (slot : KeySlot) (units : ℕ) (ps : List Packet) (q : Packet) → seen units (ps ++ q ∷ []) slot ≡ gone_on q (seen units ps slot)
+gone_seen : (slot : KeySlot) (units : ℕ) (ps : List Packet) (q : Packet) → seen units (ps ++ q ∷ []) slot
+    ≡ gone_on q (seen units ps slot)
 gone_seen Empty units ps q = refl
 gone_seen (Programmed held) units ps q = refl
 gone_seen (Armed held) units ps q = refl
 gone_seen (Live held) units ps q = refl
 
-slots-held : (k : Bool) (pair : SlotPair) (u0 u1 : ℕ) (h : Holds) (unit : Gathered) (q : Packet) → holds_apart k h ≡ false
+slots-held : (k : Bool) (pair : SlotPair) (u0 u1 : ℕ) (h : Holds) (unit : Gathered) (q : Packet) → holds_apart k h
+    ≡ false
     → seen_in pair u0 u1 (held_in k) ((kept h unit).packets ++ q ∷ [])
     ≡ with_slot (seen_in pair u0 u1 h unit.packets) k (gone_on q (seen_slot (seen_in pair u0 u1 h unit.packets) k))
 slots-held true pair u0 u1 h unit q apart =
     (λ i. record {
       first = seen u0 (sym (held-other true h unit.packets apart) i) pair.zero;
-      second = (ap (λ ps. seen u1 (ps ++ q ∷ []) pair.one) (sym (held-kept true h unit apart)) ∙ gone_seen pair.one u1 (held_one h unit.packets) q) i;
+      second = (ap (λ ps. seen u1 (ps ++ q ∷ []) pair.one) (sym (held-kept true h unit apart)) ∙ gone_seen pair.one u1
+          (held_one h unit.packets) q) i;
     })
 slots-held false pair u0 u1 h unit q apart =
     (λ i. record {
-      first = (ap (λ ps. seen u0 (ps ++ q ∷ []) pair.zero) (sym (held-kept false h unit apart)) ∙ gone_seen pair.zero u0 (held_zero h unit.packets) q) i;
+      first = (ap (λ ps. seen u0 (ps ++ q ∷ []) pair.zero) (sym (held-kept false h unit apart)) ∙ gone_seen pair.zero u0
+          (held_zero h unit.packets) q) i;
       second = seen u1 (sym (held-other false h unit.packets apart) i) pair.one;
     })
 
@@ -231,45 +266,54 @@ counted_seen (Live held) units ps = refl
 abbrev pub kept_slot : ℕ → KeySlot → KeySlot
 kept_slot draw slot = if is_draw_below draw (live_draw slot) then Empty else slot
 
-retired_seen : (slot : KeySlot) (units draw : ℕ) → seen units [] (kept_slot draw slot) ≡ retired draw (seen units [] slot)
+retired_seen : (slot : KeySlot) (units draw : ℕ) → seen units [] (kept_slot draw slot)
+    ≡ retired draw (seen units [] slot)
 retired_seen Empty units draw = refl
 retired_seen (Programmed held) units draw = refl
 retired_seen (Armed held) units draw = refl
 retired_seen (Live held) units draw = by_age (nat_lt held.draw draw)
   where
-    by_age : (b : Bool) → seen units [] (if b then Empty else Live held) ≡ (if b then EmptySlot else seen units [] (Live held))
+    by_age : (b : Bool) → seen units [] (if b then Empty else Live held)
+        ≡ (if b then EmptySlot else seen units [] (Live held))
     by_age true = refl
     by_age false = refl
 
 -- the pair without an older other slot
-older_one : (pair : SlotPair) (draw : ℕ) → without_older pair true draw ≡ record pair { zero = kept_slot draw pair.zero }
+older_one : (pair : SlotPair) (draw : ℕ) → without_older pair true draw
+    ≡ record pair { zero = kept_slot draw pair.zero }
 older_one pair draw = by_age (is_draw_below draw (live_draw pair.zero))
   where
-    by_age : (b : Bool) → (if b then record { sender = pair.sender; zero = Empty; one = pair.one } else pair) ≡ record pair { zero = (if b then Empty else pair.zero) }
+    by_age : (b : Bool) → (if b then record { sender = pair.sender; zero = Empty; one = pair.one } else pair)
+        ≡ record pair { zero = (if b then Empty else pair.zero) }
     by_age true = refl
     by_age false = refl
 
-older_zero : (pair : SlotPair) (draw : ℕ) → without_older pair false draw ≡ record pair { one = kept_slot draw pair.one }
+older_zero : (pair : SlotPair) (draw : ℕ) → without_older pair false draw
+    ≡ record pair { one = kept_slot draw pair.one }
 older_zero pair draw = by_age (is_draw_below draw (live_draw pair.one))
   where
-    by_age : (b : Bool) → (if b then record { sender = pair.sender; zero = pair.zero; one = Empty } else pair) ≡ record pair { one = (if b then Empty else pair.one) }
+    by_age : (b : Bool) → (if b then record { sender = pair.sender; zero = pair.zero; one = Empty } else pair)
+        ≡ record pair { one = (if b then Empty else pair.one) }
     by_age true = refl
     by_age false = refl
 
-slots-accepted : (k : Bool) (pair : SlotPair) (u0 u1 draw : ℕ) (h : Holds) (ps qs : List Packet) → holds_apart k h ≡ false
+slots-accepted : (k : Bool) (pair : SlotPair) (u0 u1 draw : ℕ) (h : Holds) (ps qs : List Packet) → holds_apart k h
+    ≡ false
     → seen_in (without_older pair k draw) (if not k then u0 + 1 else u0) (if k then u1 + 1 else u1) Delivered qs
     ≡ accepted_slots draw k (seen_in pair u0 u1 h ps)
 slots-accepted true pair u0 u1 draw h ps qs apart =
     ap (λ (x : SlotPair). seen_in x u0 (u1 + 1) Delivered qs) (older_one pair draw)
     ∙ (λ i. record {
-      first = (retired_seen pair.zero u0 draw ∙ ap (λ xs. retired draw (seen u0 xs pair.zero)) (sym (held-other true h ps apart))) i;
+      first = (retired_seen pair.zero u0 draw ∙ ap (λ xs. retired draw (seen u0 xs pair.zero))
+          (sym (held-other true h ps apart))) i;
       second = counted_seen pair.one u1 (held_one h ps) i;
     })
 slots-accepted false pair u0 u1 draw h ps qs apart =
     ap (λ (x : SlotPair). seen_in x (u0 + 1) u1 Delivered qs) (older_zero pair draw)
     ∙ (λ i. record {
       first = counted_seen pair.zero u0 (held_zero h ps) i;
-      second = (retired_seen pair.one u1 draw ∙ ap (λ xs. retired draw (seen u1 xs pair.one)) (sym (held-other false h ps apart))) i;
+      second = (retired_seen pair.one u1 draw ∙ ap (λ xs. retired draw (seen u1 xs pair.one))
+          (sym (held-other false h ps apart))) i;
     })
 
 held-ahead : (k : Bool) (front : List ℕ) → ahead_by (held_in k) front ≡ front
@@ -286,17 +330,24 @@ counted_zero k u0 a = if is_accepted a && not k then u0 + 1 else u0
 abbrev pub counted_one : Bool → ℕ → Answer → ℕ
 counted_one k u1 a = if is_accepted a && k then u1 + 1 else u1
 
-pub view-answered : (stream : ℕ) (sub : SubKind) (mode u0 u1 : ℕ) (pair : SlotPair) (h : Holds) (unit new : Gathered) (takes : ℕ) (front : List ℕ) (p : Packet) (held : DrawnKey) (a : Answer) (t : Taken)
-    → live_held (slot_in pair p.prefix.k) ≡ Some held → holds_apart p.prefix.k h ≡ false → (p.prefix.m ≡ false → p.tag ≡ [])
+pub view-answered : (stream : ℕ) (sub : SubKind) (mode u0 u1 : ℕ) (pair : SlotPair) (h : Holds) (unit new : Gathered)
+    (takes : ℕ) (front : List ℕ) (p : Packet) (held : DrawnKey) (a : Answer) (t : Taken)
+    → live_held (slot_in pair p.prefix.k) ≡ Some held → holds_apart p.prefix.k h ≡ false
+    → (p.prefix.m ≡ false → p.tag ≡ [])
     → IsJudged p t → Some a ≡ answer_of t
-    → BufferAfter (begun_where_empty (kept h unit) front (units_of p.prefix.k u0 u1 + 1)) (live_with (units_of p.prefix.k u0 u1) (kept h unit).packets held) p t new
-    → view stream sub mode (counted_zero p.prefix.k u0 a) (counted_one p.prefix.k u1 a) (slots_after a p.prefix.k pair) (holds_after p.prefix.k a) new (takes + 1)
+    → BufferAfter (begun_where_empty (kept h unit) front (units_of p.prefix.k u0 u1 + 1))
+    (live_with (units_of p.prefix.k u0 u1) (kept h unit).packets held) p t new
+    → view stream sub mode (counted_zero p.prefix.k u0 a) (counted_one p.prefix.k u1 a) (slots_after a p.prefix.k pair)
+    (holds_after p.prefix.k a) new (takes + 1)
     ≡ record (after_answer (view stream sub mode u0 u1 pair h unit takes) front p t) { takes = takes + 1 }
-view-answered stream sub mode u0 u1 pair h unit new takes front p held a t is apart tagless judged answered buffer = by_taken t judged answered buffer
+view-answered stream sub mode u0 u1 pair h unit new takes front p held a t is apart tagless judged answered buffer =
+    by_taken t judged answered buffer
   where
     by_taken : (t : Taken) → IsJudged p t → Some a ≡ answer_of t
-        → BufferAfter (begun_where_empty (kept h unit) front (units_of p.prefix.k u0 u1 + 1)) (live_with (units_of p.prefix.k u0 u1) (kept h unit).packets held) p t new
-        → view stream sub mode (counted_zero p.prefix.k u0 a) (counted_one p.prefix.k u1 a) (slots_after a p.prefix.k pair) (holds_after p.prefix.k a) new (takes + 1)
+        → BufferAfter (begun_where_empty (kept h unit) front (units_of p.prefix.k u0 u1 + 1))
+        (live_with (units_of p.prefix.k u0 u1) (kept h unit).packets held) p t new
+        → view stream sub mode (counted_zero p.prefix.k u0 a) (counted_one p.prefix.k u1 a)
+        (slots_after a p.prefix.k pair) (holds_after p.prefix.k a) new (takes + 1)
         ≡ record (after_answer (view stream sub mode u0 u1 pair h unit takes) front p t) { takes = takes + 1 }
     by_taken NotKeyed j e b = absurd j
     by_taken Insecure j e b = absurd j
@@ -311,10 +362,21 @@ view-answered stream sub mode u0 u1 pair h unit new takes front p held a t is ap
         let packets : new.packets ≡ (kept h unit).packets ++ p ∷ [] =
         ap (λ (u : Gathered). u.packets) b ∙ ap (λ q. (kept h unit).packets ++ q ∷ []) (untagged-same p (tagless m)) in
         let ahead : ahead_by (held_in k) new.front ≡ ahead_held rx (key_for rx k) front =
-        held-ahead k new.front ∙ ap (λ (u : Gathered). u.front) b ∙ sym (ahead-kept h unit front (units_of k u0 u1 + 1)) ∙ sym (ap (λ o. ahead_held rx o front) key) in
-        let slots : seen_in pair u0 u1 (held_in k) new.packets ≡ with_slot rx.slots k (gone_on p (seen_slot rx.slots k)) =
+        held-ahead k new.front ∙ ap (λ (u : Gathered). u.front) b ∙ sym (ahead-kept h unit front (units_of k u0 u1 + 1))
+        ∙ sym (ap (λ o. ahead_held rx o front) key) in
+        let slots : seen_in pair u0 u1 (held_in k) new.packets
+        ≡ with_slot rx.slots k (gone_on p (seen_slot rx.slots k)) =
         ap (seen_in pair u0 u1 (held_in k)) packets ∙ slots-held k pair u0 u1 h unit p apart in
-        rw same (λ i. record { stream = stream; sub = sub; mode = mode; ahead = ahead i; slots = slots i; delivered = held-lent k new.packets i; takes = takes + 1 })
+        rw same (λ i. record {
+          stream = stream;
+          sub = sub;
+          mode = mode;
+          ahead = ahead i;
+          slots = slots i;
+          delivered =
+              held-lent k new.packets i;
+          takes = takes + 1;
+        })
     by_taken (Accepted draw n packets) j e b =
         let same : a ≡ answers.Accepted draw n (length packets) = cc in
         let k = p.prefix.k in
@@ -322,7 +384,16 @@ view-answered stream sub mode u0 u1 pair h unit new takes front p held a t is ap
         let key = key-kept k pair u0 u1 h unit held is apart in
         let delivered : new.packets ≡ opened_under (key_for rx k) p.prefix.sub packets =
         ap (λ (u : Gathered). u.packets) b ∙ sym (ap (λ o. opened_under o p.prefix.sub packets) key) in
-        rw same (λ i. record { stream = stream; sub = sub; mode = mode; ahead = []; slots = slots-accepted k pair u0 u1 draw h unit.packets new.packets apart i; delivered = delivered i; takes = takes + 1 })
+        rw same (λ i. record {
+          stream = stream;
+          sub = sub;
+          mode = mode;
+          ahead = [];
+          slots = slots-accepted k pair u0 u1
+              draw h unit.packets new.packets apart i;
+          delivered = delivered i;
+          takes = takes + 1;
+        })
 
 -- ---- what always holds
 
@@ -332,17 +403,20 @@ live_of_held (Programmed x) held e = absurd (cc)
 live_of_held (Armed x) held e = absurd (cc)
 live_of_held (Live x) held e = refl
 
-few_in : (k : Bool) (pair : SlotPair) (mode : ℕ) (ps : List Packet) → is_live (slot_in pair k) ≡ true → 0 < length ps → length ps < mode → HoldsFew pair mode (held_in k) ps
+few_in : (k : Bool) (pair : SlotPair) (mode : ℕ) (ps : List Packet) → is_live (slot_in pair k) ≡ true → 0 < length ps
+    → length ps < mode → HoldsFew pair mode (held_in k) ps
 few_in true pair mode ps live some few = (live, some, few)
 few_in false pair mode ps live some few = (live, some, few)
 
-count-kept : (h : Holds) (unit : Gathered) → length (kept h unit).packets ≡ (if holds_some h then length unit.packets else 0)
+count-kept : (h : Holds) (unit : Gathered) → length (kept h unit).packets
+    ≡ (if holds_some h then length unit.packets else 0)
 count-kept Zero unit = refl
 count-kept One unit = refl
 count-kept Nothing unit = refl
 count-kept Delivered unit = refl
 
-pub room_kept : (h : Holds) (unit : Gathered) (mode : ℕ) (k m : Bool) → fits_held h (length unit.packets) mode k m ≡ true → m ≡ false → length (kept h unit).packets + 1 < mode
+pub room_kept : (h : Holds) (unit : Gathered) (mode : ℕ) (k m : Bool) → fits_held h (length unit.packets) mode k m
+    ≡ true → m ≡ false → length (kept h unit).packets + 1 < mode
 room_kept h unit mode k m fits low =
     let n : ℕ = if holds_some h then length unit.packets else 0 in
     let full : nat_le mode (n + 1) ≡ false = by_tests (holds_apart k h) m (nat_le mode (n + 1)) low fits in
@@ -377,30 +451,40 @@ or_right false b e = e
 both_false : (a b : Bool) → a ≡ false → b ≡ false → (a || b) ≡ false
 both_false a b e f = λ i. (ap (λ x. x || b) e ∙ f) i
 
-armed_after_older : (k : Bool) (pair : SlotPair) (draw : ℕ) → has_armed pair ≡ false → has_armed (without_older pair k draw) ≡ false
+armed_after_older : (k : Bool) (pair : SlotPair) (draw : ℕ) → has_armed pair ≡ false
+    → has_armed (without_older pair k draw) ≡ false
 armed_after_older true pair draw e =
     ap has_armed (older_one pair draw)
-    ∙ both_false _ _ (armed_kept pair.zero draw (or_left (is_armed pair.zero) (is_armed pair.one) e)) (or_right (is_armed pair.zero) (is_armed pair.one) e)
+    ∙ both_false _ _ (armed_kept pair.zero draw (or_left (is_armed pair.zero) (is_armed pair.one) e))
+    (or_right (is_armed pair.zero) (is_armed pair.one) e)
 armed_after_older false pair draw e =
     ap has_armed (older_zero pair draw)
-    ∙ both_false _ _ (or_left (is_armed pair.zero) (is_armed pair.one) e) (armed_kept pair.one draw (or_right (is_armed pair.zero) (is_armed pair.one) e))
+    ∙ both_false _ _ (or_left (is_armed pair.zero) (is_armed pair.one) e)
+    (armed_kept pair.one draw (or_right (is_armed pair.zero) (is_armed pair.one) e))
 
 counted_few : (b : Bool) (u n : ℕ) → u ≤ n → (if b then u + 1 else u) ≤ n + 1
 counted_few true u n h = omega arith
 counted_few false u n h = omega arith
 
-pub receiver-answered : (mode u0 u1 takes : ℕ) (pair : SlotPair) (h : Holds) (unit new : Gathered) (front : List ℕ) (p : Packet) (held : DrawnKey) (a : Answer) (t : Taken)
+pub receiver-answered : (mode u0 u1 takes : ℕ) (pair : SlotPair) (h : Holds) (unit new : Gathered) (front : List ℕ)
+    (p : Packet) (held : DrawnKey) (a : Answer) (t : Taken)
     → IsReceiver mode u0 u1 takes pair h unit
-    → live_held (slot_in pair p.prefix.k) ≡ Some held → fits_held h (length unit.packets) mode p.prefix.k p.prefix.m ≡ true
+    → live_held (slot_in pair p.prefix.k) ≡ Some held → fits_held h (length unit.packets) mode p.prefix.k p.prefix.m
+    ≡ true
     → IsJudged p t → Some a ≡ answer_of t
-    → BufferAfter (begun_where_empty (kept h unit) front (units_of p.prefix.k u0 u1 + 1)) (live_with (units_of p.prefix.k u0 u1) (kept h unit).packets held) p t new
+    → BufferAfter (begun_where_empty (kept h unit) front (units_of p.prefix.k u0 u1 + 1))
+    (live_with (units_of p.prefix.k u0 u1) (kept h unit).packets held) p t new
     → new.mode ≡ mode
-    → IsReceiver mode (counted_zero p.prefix.k u0 a) (counted_one p.prefix.k u1 a) (takes + 1) (slots_after a p.prefix.k pair) (holds_after p.prefix.k a) new
-receiver-answered mode u0 u1 takes pair h unit new front p held a t inv is fits judged answered buffer same_mode = by_taken t judged answered buffer
+    → IsReceiver mode (counted_zero p.prefix.k u0 a) (counted_one p.prefix.k u1 a) (takes + 1)
+    (slots_after a p.prefix.k pair) (holds_after p.prefix.k a) new
+receiver-answered mode u0 u1 takes pair h unit new front p held a t inv is fits judged answered buffer same_mode =
+    by_taken t judged answered buffer
   where
-    with_few : (b : Answer) → has_armed (slots_after b p.prefix.k pair) ≡ false → (slots_after b p.prefix.k pair).sender ≡ false
+    with_few : (b : Answer) → has_armed (slots_after b p.prefix.k pair) ≡ false → (slots_after b p.prefix.k pair).sender
+        ≡ false
         → HoldsFew (slots_after b p.prefix.k pair) mode (holds_after p.prefix.k b) new.packets
-        → IsReceiver mode (counted_zero p.prefix.k u0 b) (counted_one p.prefix.k u1 b) (takes + 1) (slots_after b p.prefix.k pair) (holds_after p.prefix.k b) new
+        → IsReceiver mode (counted_zero p.prefix.k u0 b) (counted_one p.prefix.k u1 b) (takes + 1)
+        (slots_after b p.prefix.k pair) (holds_after p.prefix.k b) new
     with_few b armed sender few = record {
       sender = sender;
       never_armed = armed;
@@ -413,8 +497,10 @@ receiver-answered mode u0 u1 takes pair h unit new front p held a t inv is fits 
     }
 
     by_taken : (t : Taken) → IsJudged p t → Some a ≡ answer_of t
-        → BufferAfter (begun_where_empty (kept h unit) front (units_of p.prefix.k u0 u1 + 1)) (live_with (units_of p.prefix.k u0 u1) (kept h unit).packets held) p t new
-        → IsReceiver mode (counted_zero p.prefix.k u0 a) (counted_one p.prefix.k u1 a) (takes + 1) (slots_after a p.prefix.k pair) (holds_after p.prefix.k a) new
+        → BufferAfter (begun_where_empty (kept h unit) front (units_of p.prefix.k u0 u1 + 1))
+        (live_with (units_of p.prefix.k u0 u1) (kept h unit).packets held) p t new
+        → IsReceiver mode (counted_zero p.prefix.k u0 a) (counted_one p.prefix.k u1 a) (takes + 1)
+        (slots_after a p.prefix.k pair) (holds_after p.prefix.k a) new
     by_taken NotKeyed j e b = absurd j
     by_taken Insecure j e b = absurd j
     by_taken (Failed cause) j e b =
@@ -426,10 +512,13 @@ receiver-answered mode u0 u1 takes pair h unit new front p held a t inv is fits 
         ap (λ (u : Gathered). length u.packets) b ∙ length-append (kept h unit).packets (untagged p ∷ []) in
         let room = room_kept h unit mode p.prefix.k p.prefix.m fits m in
         rw same (with_few (answers.Held draw n) inv.never_armed inv.sender
-        (few_in p.prefix.k pair mode new.packets (live_of_held (slot_in pair p.prefix.k) held is) (omega (arith, count)) (omega (arith, count, room))))
+        (few_in p.prefix.k pair mode new.packets (live_of_held (slot_in pair p.prefix.k) held is) (omega (arith, count))
+        (omega (arith, count, room))))
     by_taken (Accepted draw n packets) j e b =
         let same : a ≡ answers.Accepted draw n (length packets) = cc in
-        rw same (with_few (answers.Accepted draw n (length packets)) (armed_after_older p.prefix.k pair draw inv.never_armed) (sender_after_older p.prefix.k pair draw ∙ inv.sender) tt)
+        rw same (with_few (answers.Accepted draw n (length packets))
+        (armed_after_older p.prefix.k pair draw inv.never_armed)
+        (sender_after_older p.prefix.k pair draw ∙ inv.sender) tt)
 
 -- ---- GO
 
@@ -472,25 +561,31 @@ not_programmed (Programmed x) e f = cc
 not_programmed (Armed x) e f = cc
 not_programmed (Live x) e f = cc
 
-none_zero : (pair : SlotPair) (mode : ℕ) (h : Holds) (ps : List Packet) → HoldsFew pair mode h ps → is_programmed pair.zero ≡ true → held_zero h ps ≡ []
+none_zero : (pair : SlotPair) (mode : ℕ) (h : Holds) (ps : List Packet) → HoldsFew pair mode h ps
+    → is_programmed pair.zero ≡ true → held_zero h ps ≡ []
 none_zero pair mode Zero ps few e = absurd (not_programmed pair.zero few.0 e)
 none_zero pair mode One ps few e = refl
 none_zero pair mode Nothing ps few e = refl
 none_zero pair mode Delivered ps few e = refl
 
-none_one : (pair : SlotPair) (mode : ℕ) (h : Holds) (ps : List Packet) → HoldsFew pair mode h ps → is_programmed pair.one ≡ true → held_one h ps ≡ []
+none_one : (pair : SlotPair) (mode : ℕ) (h : Holds) (ps : List Packet) → HoldsFew pair mode h ps
+    → is_programmed pair.one ≡ true → held_one h ps ≡ []
 none_one pair mode One ps few e = absurd (not_programmed pair.one few.0 e)
 none_one pair mode Zero ps few e = refl
 none_one pair mode Nothing ps few e = refl
 none_one pair mode Delivered ps few e = refl
 
-gone_in : (k : Bool) (pair : SlotPair) (u0 u1 mode : ℕ) (h : Holds) (ps : List Packet) → pair.sender ≡ false → HoldsFew pair mode h ps
-    → seen_in (armed pair k false) (if is_programmed (slot_in pair k) && not k then 0 else u0) (if is_programmed (slot_in pair k) && k then 0 else u1) (held_alone h) ps
+gone_in : (k : Bool) (pair : SlotPair) (u0 u1 mode : ℕ) (h : Holds) (ps : List Packet) → pair.sender ≡ false
+    → HoldsFew pair mode h ps
+    → seen_in (armed pair k false) (if is_programmed (slot_in pair k) && not k then 0 else u0)
+    (if is_programmed (slot_in pair k) && k then 0 else u1) (held_alone h) ps
     ≡ with_slot (seen_in pair u0 u1 h ps) k (begun (seen_slot (seen_in pair u0 u1 h ps) k))
 gone_in true pair u0 u1 mode h ps s few =
     (λ i. record {
-      first = seen (if and_false (is_programmed pair.one) i then 0 else u0) (zero_alone h ps i) (after_go (s i) false pair.one pair.zero).1;
-      second = seen (if and_true (is_programmed pair.one) i then 0 else u1) (one_alone h ps i) (after_go (s i) false pair.one pair.zero).0;
+      first = seen (if and_false (is_programmed pair.one) i then 0 else u0) (zero_alone h ps i)
+          (after_go (s i) false pair.one pair.zero).1;
+      second = seen (if and_true (is_programmed pair.one) i then 0 else u1) (one_alone h ps i)
+          (after_go (s i) false pair.one pair.zero).0;
     })
     ∙ (λ i. record {
       first = seen u0 (held_zero h ps) (other_after_go pair.one pair.zero i);
@@ -498,26 +593,32 @@ gone_in true pair u0 u1 mode h ps s few =
     })
 gone_in false pair u0 u1 mode h ps s few =
     (λ i. record {
-      first = seen (if and_true (is_programmed pair.zero) i then 0 else u0) (zero_alone h ps i) (after_go (s i) false pair.zero pair.one).0;
-      second = seen (if and_false (is_programmed pair.zero) i then 0 else u1) (one_alone h ps i) (after_go (s i) false pair.zero pair.one).1;
+      first = seen (if and_true (is_programmed pair.zero) i then 0 else u0) (zero_alone h ps i)
+          (after_go (s i) false pair.zero pair.one).0;
+      second = seen (if and_false (is_programmed pair.zero) i then 0 else u1) (one_alone h ps i)
+          (after_go (s i) false pair.zero pair.one).1;
     })
     ∙ (λ i. record {
       first = begun_seen pair.zero pair.one u0 (held_zero h ps) (none_zero pair mode h ps few) i;
       second = seen u1 (held_one h ps) (other_after_go pair.zero pair.one i);
     })
 
-holds_begun : (slot : KeySlot) (units : ℕ) (ps : List Packet) → holds_any (live_in (begun (seen units ps slot))) ≡ holds_any (live_in (seen units ps slot))
+holds_begun : (slot : KeySlot) (units : ℕ) (ps : List Packet) → holds_any (live_in (begun (seen units ps slot)))
+    ≡ holds_any (live_in (seen units ps slot))
 holds_begun Empty units ps = refl
 holds_begun (Programmed held) units ps = refl
 holds_begun (Armed held) units ps = refl
 holds_begun (Live held) units ps = refl
 
-ahead_alone : (k : Bool) (pair : SlotPair) (u0 u1 mode : ℕ) (h : Holds) (ps : List Packet) (front : List ℕ) → HoldsFew pair mode h ps
-    → ahead_by (held_alone h) front ≡ ahead_at (with_slot (seen_in pair u0 u1 h ps) k (begun (seen_slot (seen_in pair u0 u1 h ps) k))) (ahead_by h front)
+ahead_alone : (k : Bool) (pair : SlotPair) (u0 u1 mode : ℕ) (h : Holds) (ps : List Packet) (front : List ℕ)
+    → HoldsFew pair mode h ps
+    → ahead_by (held_alone h) front ≡ ahead_at
+    (with_slot (seen_in pair u0 u1 h ps) k (begun (seen_slot (seen_in pair u0 u1 h ps) k))) (ahead_by h front)
 ahead_alone k pair u0 u1 mode h ps front few =
     by_holds h ∙ ap (λ b. if b then ahead_by h front else []) (sym (by_set k))
   where
-    by_holds : (h : Holds) → ahead_by (held_alone h) front ≡ (if holds_apart true h || holds_apart false h then ahead_by h front else [])
+    by_holds : (h : Holds) → ahead_by (held_alone h) front ≡
+        (if holds_apart true h || holds_apart false h then ahead_by h front else [])
     by_holds Nothing = refl
     by_holds Zero = refl
     by_holds One = refl
@@ -529,7 +630,9 @@ ahead_alone k pair u0 u1 mode h ps front few =
     second : holds_any (live_in (seen u1 (held_one h ps) pair.one)) ≡ holds_apart false h
     second = other_holds false pair u0 u1 h mode ps few
 
-    by_set : (k : Bool) → (let s = with_slot (seen_in pair u0 u1 h ps) k (begun (seen_slot (seen_in pair u0 u1 h ps) k)) in holds_any (live_in s.first) || holds_any (live_in s.second)) ≡ (holds_apart true h || holds_apart false h)
+    by_set : (k : Bool) →
+        (let s = with_slot (seen_in pair u0 u1 h ps) k (begun (seen_slot (seen_in pair u0 u1 h ps) k)) in holds_any
+        (live_in s.first) || holds_any (live_in s.second)) ≡ (holds_apart true h || holds_apart false h)
     by_set true = λ i. first i || (holds_begun pair.one u1 (held_one h ps) ∙ second) i
     by_set false = λ i. (holds_begun pair.zero u0 (held_zero h ps) ∙ first) i || second i
 
@@ -539,8 +642,10 @@ alone_lent Zero ps = refl
 alone_lent One ps = refl
 alone_lent Delivered ps = refl
 
-pub view-gone : (k : Bool) (stream : ℕ) (sub : SubKind) (mode u0 u1 : ℕ) (pair : SlotPair) (h : Holds) (unit : Gathered) (takes : ℕ) → pair.sender ≡ false → HoldsFew pair mode h unit.packets
-    → view stream sub mode (if is_programmed (slot_in pair k) && not k then 0 else u0) (if is_programmed (slot_in pair k) && k then 0 else u1) (armed pair k false) (held_alone h) unit takes
+pub view-gone : (k : Bool) (stream : ℕ) (sub : SubKind) (mode u0 u1 : ℕ) (pair : SlotPair) (h : Holds) (unit : Gathered)
+    (takes : ℕ) → pair.sender ≡ false → HoldsFew pair mode h unit.packets
+    → view stream sub mode (if is_programmed (slot_in pair k) && not k then 0 else u0)
+    (if is_programmed (slot_in pair k) && k then 0 else u1) (armed pair k false) (held_alone h) unit takes
     ≡ gone_receiver (view stream sub mode u0 u1 pair h unit takes) k
 view-gone k stream sub mode u0 u1 pair h unit takes s few = λ i. record {
   stream = stream;

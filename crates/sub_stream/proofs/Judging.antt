@@ -1,5 +1,6 @@
 -- A packet with the held ones: what is joined, and the answer.
-use Rattle.std.proofs.Common.{◌≡◌, ℕ, suc, ◌+◌, ◌<◌, ◌≤◌, Bool, true, false, nat_le, if◌then◌else◌, List, [], ◌∷◌, ◌++◌, length, refl, sym, ap, ◌∙◌, arith}
+use Rattle.std.proofs.Common.{◌≡◌, ℕ, suc, ◌+◌, ◌<◌, ◌≤◌, Bool, true, false, nat_le, if◌then◌else◌, List, [], ◌∷◌, ◌++◌}
+use Rattle.std.proofs.Common.{length, refl, sym, ap, ◌∙◌, arith}
 use Rattle.std.proofs.lemmas.List.Sums.{sum_by-append}
 use Rattle.ide_types.specs.declared.sub.FailCause.TheVariants as fail
 use Rattle.gcm_seal.specs.Gcm.{masked, verifies}
@@ -13,7 +14,8 @@ use Rattle.sub_stream.specs.Receivers.{is_tagged_behind, judged}
 
 -- ---- a tag is not joined
 
-pub clear-untagged : (ps : List Packet) (p : Packet) → authenticated (ps ++ untagged p ∷ []) ≡ authenticated (ps ++ p ∷ [])
+pub clear-untagged : (ps : List Packet) (p : Packet) → authenticated (ps ++ untagged p ∷ [])
+    ≡ authenticated (ps ++ p ∷ [])
 clear-untagged [] p = refl
 clear-untagged (q ∷ ps) p = ap (λ x. clear_bytes q ++ x) (clear-untagged ps p)
 
@@ -23,14 +25,18 @@ bodies-untagged (q ∷ ps) p = ap (λ x. q.body ++ x) (bodies-untagged ps p)
 
 pub posted-untagged : (ps : List Packet) (p : Packet) → posted_sum (ps ++ untagged p ∷ []) ≡ posted_sum (ps ++ p ∷ [])
 posted-untagged ps p =
-    sum_by-append (λ (x : Packet). x.prefix.posted) ps (untagged p ∷ []) ∙ sym (sum_by-append (λ (x : Packet). x.prefix.posted) ps (p ∷ []))
+    sum_by-append (λ (x : Packet). x.prefix.posted) ps (untagged p ∷ []) ∙ sym
+    (sum_by-append (λ (x : Packet). x.prefix.posted) ps (p ∷ []))
 
-opened_from-untagged : (key iv : List ℕ) (n : ℕ) (ps : List Packet) (p : Packet) → opened_from key iv n (ps ++ untagged p ∷ []) ≡ opened_from key iv n (ps ++ p ∷ [])
+opened_from-untagged : (key iv : List ℕ) (n : ℕ) (ps : List Packet) (p : Packet)
+    → opened_from key iv n (ps ++ untagged p ∷ []) ≡ opened_from key iv n (ps ++ p ∷ [])
 opened_from-untagged key iv n [] p = refl
 opened_from-untagged key iv n (q ∷ ps) p =
-    ap (λ x. record { prefix = q.prefix; head = q.head; body = masked key iv n q.body; tag = [] } ∷ x) (opened_from-untagged key iv (n + length q.body) ps p)
+    ap (λ x. record { prefix = q.prefix; head = q.head; body = masked key iv n q.body; tag = [] } ∷ x)
+    (opened_from-untagged key iv (n + length q.body) ps p)
 
-pub opened-untagged : (key iv : List ℕ) (ps : List Packet) (p : Packet) → opened key iv (ps ++ untagged p ∷ []) ≡ opened key iv (ps ++ p ∷ [])
+pub opened-untagged : (key iv : List ℕ) (ps : List Packet) (p : Packet) → opened key iv (ps ++ untagged p ∷ [])
+    ≡ opened key iv (ps ++ p ∷ [])
 opened-untagged key iv ps p = opened_from-untagged key iv 0 ps p
 
 length-opened_from : (key iv : List ℕ) (n : ℕ) (ps : List Packet) → length (opened_from key iv n ps) ≡ length ps
@@ -48,20 +54,28 @@ pub tag-seen : (ahead : List ℕ) (x : LiveKey) (p : Packet) (iv clear bodies : 
     → b ≡ verifies x.key iv clear bodies p.tag
     → is_tagged_behind ahead x p ≡ b
 tag-seen ahead x p iv clear bodies b is_iv is_clear is_bodies is =
-    sym (is ∙ (λ i. verifies x.key (is_iv i) ((is_clear ∙ ap (λ y. ahead ++ y) (clear-untagged x.packets p)) i) ((is_bodies ∙ bodies-untagged x.packets p) i) p.tag))
+    sym (is ∙ (λ i. verifies x.key (is_iv i) ((is_clear ∙ ap (λ y. ahead ++ y) (clear-untagged x.packets p)) i)
+    ((is_bodies ∙ bodies-untagged x.packets p) i) p.tag))
 
-pub judged-tag : (ahead : List ℕ) (allowed : ℕ) (x : LiveKey) (p : Packet) → p.prefix.m ≡ true → is_tagged_behind ahead x p ≡ false
+pub judged-tag : (ahead : List ℕ) (allowed : ℕ) (x : LiveKey) (p : Packet) → p.prefix.m ≡ true
+    → is_tagged_behind ahead x p ≡ false
     → judged ahead allowed x p ≡ Failed fail.Tag
 judged-tag ahead allowed x p m tag =
-    λ i. if m i then checked (tag i) (nat_le (posted_sum (x.packets ++ p ∷ [])) allowed) x p else Held x.draw (x.units + 1)
+    λ i. if m i then checked (tag i) (nat_le (posted_sum (x.packets ++ p ∷ [])) allowed) x p else Held x.draw
+    (x.units + 1)
 
-pub judged-order : (ahead : List ℕ) (allowed : ℕ) (x : LiveKey) (p : Packet) → p.prefix.m ≡ true → is_tagged_behind ahead x p ≡ true
+pub judged-order : (ahead : List ℕ) (allowed : ℕ) (x : LiveKey) (p : Packet) → p.prefix.m ≡ true
+    → is_tagged_behind ahead x p ≡ true
     → nat_le (posted_sum (x.packets ++ p ∷ [])) allowed ≡ false → judged ahead allowed x p ≡ Failed fail.Order
-judged-order ahead allowed x p m tag order = λ i. if m i then checked (tag i) (order i) x p else Held x.draw (x.units + 1)
+judged-order ahead allowed x p m tag order = λ i. if m i then checked (tag i) (order i) x p else Held x.draw
+    (x.units + 1)
 
-pub judged-accepted : (ahead : List ℕ) (allowed : ℕ) (x : LiveKey) (p : Packet) → p.prefix.m ≡ true → is_tagged_behind ahead x p ≡ true
-    → nat_le (posted_sum (x.packets ++ p ∷ [])) allowed ≡ true → judged ahead allowed x p ≡ Accepted x.draw (x.units + 1) (x.packets ++ p ∷ [])
-judged-accepted ahead allowed x p m tag order = λ i. if m i then checked (tag i) (order i) x p else Held x.draw (x.units + 1)
+pub judged-accepted : (ahead : List ℕ) (allowed : ℕ) (x : LiveKey) (p : Packet) → p.prefix.m ≡ true
+    → is_tagged_behind ahead x p ≡ true
+    → nat_le (posted_sum (x.packets ++ p ∷ [])) allowed ≡ true → judged ahead allowed x p
+    ≡ Accepted x.draw (x.units + 1) (x.packets ++ p ∷ [])
+judged-accepted ahead allowed x p m tag order = λ i. if m i then checked (tag i) (order i) x p else Held x.draw
+    (x.units + 1)
 
 -- the packet is with the held ones
 pub tagged-in : (begun unit : Gathered) (x : LiveKey) (p : Packet) (iv : List ℕ) (b : Bool)
@@ -74,9 +88,11 @@ tagged-in begun unit x p iv b same is_iv is_unit is =
     (ap (λ (u : Gathered). encrypted u.packets) is_unit ∙ ap (λ ps. encrypted (ps ++ untagged p ∷ [])) same) is
 
 pub posted-in : (begun unit : Gathered) (x : LiveKey) (p : Packet) (n : ℕ)
-    → begun.packets ≡ x.packets → unit ≡ with_packet begun (untagged p) → n ≡ posted_sum unit.packets → posted_sum (x.packets ++ p ∷ []) ≡ n
+    → begun.packets ≡ x.packets → unit ≡ with_packet begun (untagged p) → n ≡ posted_sum unit.packets
+    → posted_sum (x.packets ++ p ∷ []) ≡ n
 posted-in begun unit x p n same is_unit is =
-    sym (is ∙ ap (λ (u : Gathered). posted_sum u.packets) is_unit ∙ ap (λ ps. posted_sum (ps ++ untagged p ∷ [])) same ∙ posted-untagged x.packets p)
+    sym (is ∙ ap (λ (u : Gathered). posted_sum u.packets) is_unit ∙ ap (λ ps. posted_sum (ps ++ untagged p ∷ [])) same ∙
+    posted-untagged x.packets p)
 
 pub opened-in : (begun unit new : Gathered) (x : LiveKey) (p : Packet) (iv : List ℕ)
     → begun.packets ≡ x.packets → iv ≡ iv_of p.prefix.sub (x.units + 1) → unit ≡ with_packet begun (untagged p)

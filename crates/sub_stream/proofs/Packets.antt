@@ -1,5 +1,6 @@
 -- Packets in a buffer: what is joined, one more, and decrypted.
-use Rattle.std.proofs.Common.{◌≡◌, ℕ, ◌+◌, ◌-◌, ◌<◌, ◌≤◌, zero, suc, List, [], ◌∷◌, ◌++◌, length, map, take, drop, get_or, slice_index, Some, refl, sym, ap, ◌∙◌, arith}
+use Rattle.std.proofs.Common.{◌≡◌, ℕ, ◌+◌, ◌-◌, ◌<◌, ◌≤◌, zero, suc, List, [], ◌∷◌, ◌++◌, length, map, take, drop}
+use Rattle.std.proofs.Common.{get_or, slice_index, Some, refl, sym, ap, ◌∙◌, arith}
 use Rattle.std.specs.List.{slice_get}
 use Rattle.std.specs.Option.{option_map}
 use Rattle.std.proofs.Math.ListN.{set}
@@ -30,20 +31,24 @@ pub bodies-parts : (ps : List Packet) → bodies_of (map parts_of ps) ≡ encryp
 bodies-parts [] = refl
 bodies-parts (p ∷ ps) = ap (λ x. p.body ++ x) (bodies-parts ps)
 
-pub heads_in : (xs : List Parts) (ps : List Prefix) → map parts_of (packets_in xs ps) ≡ xs → heads_of xs ≡ authenticated (packets_in xs ps)
+pub heads_in : (xs : List Parts) (ps : List Prefix) → map parts_of (packets_in xs ps) ≡ xs → heads_of xs
+    ≡ authenticated (packets_in xs ps)
 heads_in xs ps e = ap heads_of (sym e) ∙ heads-parts (packets_in xs ps)
 
-pub bodies_in : (xs : List Parts) (ps : List Prefix) → map parts_of (packets_in xs ps) ≡ xs → bodies_of xs ≡ encrypted (packets_in xs ps)
+pub bodies_in : (xs : List Parts) (ps : List Prefix) → map parts_of (packets_in xs ps) ≡ xs → bodies_of xs
+    ≡ encrypted (packets_in xs ps)
 bodies_in xs ps e = ap bodies_of (sym e) ∙ bodies-parts (packets_in xs ps)
 
-pub length-packets_in : (xs : List Parts) (ps : List Prefix) → map parts_of (packets_in xs ps) ≡ xs → length (packets_in xs ps) ≡ length xs
+pub length-packets_in : (xs : List Parts) (ps : List Prefix) → map parts_of (packets_in xs ps) ≡ xs
+    → length (packets_in xs ps) ≡ length xs
 length-packets_in xs ps e = sym (length-map (packets_in xs ps) parts_of) ∙ ap length e
 
 -- ---- one more
 
 pub packets-added : (xs : List Parts) (ps : List Prefix) (p : Prefix) (h b : List ℕ)
     → length xs < length ps
-    → packets_in (xs ++ (prefix_bytes p ++ h, b) ∷ []) (set ps (length xs) p) ≡ packets_in xs ps ++ record { prefix = p; head = h; body = b; tag = [] } ∷ []
+    → packets_in (xs ++ (prefix_bytes p ++ h, b) ∷ []) (set ps (length xs) p) ≡ packets_in xs ps
+    ++ record { prefix = p; head = h; body = b; tag = [] } ∷ []
 packets-added [] [] p h b lt = absurd (omega arith)
 packets-added [] (q ∷ ps) p h b lt = refl
 packets-added (x ∷ xs) [] p h b lt = absurd (omega arith)
@@ -60,7 +65,8 @@ length-rebodied (x ∷ xs) bytes = ap (λ n. suc n) (length-rebodied xs (drop (l
 pub posted-cons : (p : Packet) (ps : List Packet) → posted_sum (p ∷ ps) ≡ p.prefix.posted + posted_sum ps
 posted-cons p ps = sum_by-cons (λ (x : Packet). x.prefix.posted) p ps
 
-pub posted-rebodied : (xs : List Parts) (ps : List Prefix) (bytes : List ℕ) → posted_sum (packets_in (rebodied xs bytes) ps) ≡ posted_sum (packets_in xs ps)
+pub posted-rebodied : (xs : List Parts) (ps : List Prefix) (bytes : List ℕ)
+    → posted_sum (packets_in (rebodied xs bytes) ps) ≡ posted_sum (packets_in xs ps)
 posted-rebodied [] ps bytes = refl
 posted-rebodied (x ∷ xs) [] bytes = refl
 posted-rebodied (x ∷ xs) (p ∷ ps) bytes =
@@ -94,10 +100,12 @@ opened-rebodied key iv n (x ∷ xs) (p ∷ ps) =
     let a = masked key iv n x.1 in
     let b = masked key iv (n + length x.1) (bodies_of xs) in
     let la : length x.1 ≡ length a = sym (length-masked key iv n x.1) in
-    let front : take (length x.1) (masked key iv n (x.1 ++ bodies_of xs)) ≡ a = rw both (cut_front a b (length x.1) la) in
+    let front : take (length x.1) (masked key iv n (x.1 ++ bodies_of xs))
+    ≡ a = rw both (cut_front a b (length x.1) la) in
     let back : drop (length x.1) (masked key iv n (x.1 ++ bodies_of xs)) ≡ b = rw both (cut_back a b (length x.1) la) in
     (λ i. record { prefix = p; head = drop 4 x.0; body = front i; tag = [] } ∷ packets_in (rebodied xs (back i)) ps)
-    ∙ ap (λ y. record { prefix = p; head = drop 4 x.0; body = a; tag = [] } ∷ y) (opened-rebodied key iv (n + length x.1) xs ps)
+    ∙ ap (λ y. record { prefix = p; head = drop 4 x.0; body = a; tag = [] } ∷ y)
+    (opened-rebodied key iv (n + length x.1) xs ps)
 
 pub overwritten-all : (old new : List ℕ) → length new ≡ length old → overwritten old new ≡ new
 overwritten-all old new e = grind (arith, common_steps)
@@ -115,7 +123,8 @@ lent_at xs ps i clear body e at =
     ap (λ y. slice_get y i) (sym (parts-lent (packets_in xs ps)) ∙ ap (map cut) e)
     ∙ slice_get-map cut xs i ∙ ap (option_map cut) at
 
-pub clear_long : (xs : List Parts) (ps : List Prefix) (i : ℕ) (clear body : List ℕ) → map parts_of (packets_in xs ps) ≡ xs
+pub clear_long : (xs : List Parts) (ps : List Prefix) (i : ℕ) (clear body : List ℕ) → map parts_of (packets_in xs ps)
+    ≡ xs
     → slice_get xs i ≡ Some (clear, body) → 4 ≤ length clear
 clear_long [] ps i clear body e at = absurd (cc)
 clear_long (x ∷ xs) [] i clear body e at = absurd (cc)
@@ -128,9 +137,11 @@ clear_long (x ∷ xs) (p ∷ ps) (suc i) clear body e at =
     let rest : map parts_of (packets_in xs ps) ≡ xs = cc in
     clear_long xs ps i clear body rest at
 
-pub mark_at : (xs : List Parts) (ps : List Prefix) (i : ℕ) (clear body : List ℕ) (d : Prefix) → i < length xs → map parts_of (packets_in xs ps) ≡ xs
+pub mark_at : (xs : List Parts) (ps : List Prefix) (i : ℕ) (clear body : List ℕ) (d : Prefix) → i < length xs
+    → map parts_of (packets_in xs ps) ≡ xs
     → slice_get xs i ≡ Some (clear, body)
-    → slice_get (map mark_of (packets_in xs ps)) i ≡ Some (record { t = (get_or ps i d).t; sync = begins_sync (get_or ps i d).sub (slice_index clear 4) })
+    → slice_get (map mark_of (packets_in xs ps)) i ≡ Some
+    (record { t = (get_or ps i d).t; sync = begins_sync (get_or ps i d).sub (slice_index clear 4) })
 mark_at [] ps i clear body d lt e at = absurd (omega arith)
 mark_at (x ∷ xs) [] i clear body d lt e at = absurd (cc)
 mark_at (x ∷ xs) (p ∷ ps) zero clear body d lt e at =

@@ -1,5 +1,6 @@
 -- A receiver's slots that are seen, and the answers that come before a look at the tag.
-use Rattle.std.proofs.Common.{◌≡◌, ℕ, ◌+◌, ◌<◌, Bool, true, false, not, ◌&&◌, ◌||◌, nat_le, if◌then◌else◌, List, [], length, Option, Some, None, refl, sym, ap, ◌∙◌}
+use Rattle.std.proofs.Common.{◌≡◌, ℕ, ◌+◌, ◌<◌, Bool, true, false, not, ◌&&◌, ◌||◌, nat_le, if◌then◌else◌, List, []}
+use Rattle.std.proofs.Common.{length, Option, Some, None, refl, sym, ap, ◌∙◌}
 use Rattle.std.specs.Option.{option_map}
 use denote.Ref.{Bor}
 use Rattle.std.proofs.lemmas.Bool.{lt-ltb}
@@ -14,7 +15,8 @@ use Rattle.sub_stream.specs.declared.answer.Taken.TheVariants as answers
 use Rattle.sub_stream.specs.declared.taking.Holds.{Holds}
 use Rattle.sub_stream.specs.declared.taking.Holds.TheVariants.{Nothing, Zero, One, Delivered}
 use Rattle.sub_stream.specs.Seen.{seen, live_with}
-use Rattle.sub_stream.specs.Receivers.{held_zero, held_one, seen_in, HoldsFew, holds_some, holds_apart, fits_held, fits_unit, early_answer}
+use Rattle.sub_stream.specs.Receivers.{held_zero, held_one, seen_in, HoldsFew, holds_some, holds_apart, fits_held}
+use Rattle.sub_stream.specs.Receivers.{fits_unit, early_answer}
 
 -- the units and the packets of a key set
 abbrev pub units_of : Bool → ℕ → ℕ → ℕ
@@ -23,18 +25,21 @@ units_of k in_zero in_one = if k then in_one else in_zero
 abbrev pub held_of : Bool → Holds → List Packet → List Packet
 held_of k h ps = if k then held_one h ps else held_zero h ps
 
-live_seen : (slot : KeySlot) (units : ℕ) (ps : List Packet) → live_in (seen units ps slot) ≡ option_map (live_with units ps) (live_held slot)
+live_seen : (slot : KeySlot) (units : ℕ) (ps : List Packet) → live_in (seen units ps slot)
+    ≡ option_map (live_with units ps) (live_held slot)
 live_seen Empty units ps = refl
 live_seen (Programmed held) units ps = refl
 live_seen (Armed held) units ps = refl
 live_seen (Live held) units ps = refl
 
 pub key_seen : (k : Bool) (pair : SlotPair) (u0 u1 : ℕ) (h : Holds) (ps : List Packet)
-    → live_in (seen_slot (seen_in pair u0 u1 h ps) k) ≡ option_map (live_with (units_of k u0 u1) (held_of k h ps)) (live_held (slot_in pair k))
+    → live_in (seen_slot (seen_in pair u0 u1 h ps) k) ≡ option_map (live_with (units_of k u0 u1) (held_of k h ps))
+    (live_held (slot_in pair k))
 key_seen true pair u0 u1 h ps = live_seen pair.one u1 (held_one h ps)
 key_seen false pair u0 u1 h ps = live_seen pair.zero u0 (held_zero h ps)
 
-holds_in : (slot : KeySlot) (units : ℕ) (ps : List Packet) (b : Bool) → (b ≡ true → (is_live slot ≡ true) × (0 < length ps)) → (b ≡ false → ps ≡ [])
+holds_in : (slot : KeySlot) (units : ℕ) (ps : List Packet) (b : Bool)
+    → (b ≡ true → (is_live slot ≡ true) × (0 < length ps)) → (b ≡ false → ps ≡ [])
     → holds_any (live_in (seen units ps slot)) ≡ b
 holds_in slot units ps false some none = rw (none refl) (by_slot slot)
   where
@@ -49,7 +54,8 @@ holds_in (Armed held) units ps true some none = absurd (let no = (some refl).0 i
 holds_in (Live held) units ps true some none = lt-ltb 0 (length ps) (some refl).1
 
 -- the other key set holds packets
-pub other_holds : (k : Bool) (pair : SlotPair) (u0 u1 : ℕ) (h : Holds) (mode : ℕ) (ps : List Packet) → HoldsFew pair mode h ps
+pub other_holds : (k : Bool) (pair : SlotPair) (u0 u1 : ℕ) (h : Holds) (mode : ℕ) (ps : List Packet)
+    → HoldsFew pair mode h ps
     → holds_any (live_in (seen_slot (seen_in pair u0 u1 h ps) (not k))) ≡ holds_apart k h
 other_holds true pair u0 u1 Zero mode ps few = holds_in pair.zero u0 ps true (λ _. (few.0, few.1)) (λ no. absurd (cc))
 other_holds true pair u0 u1 One mode ps few = holds_in pair.zero u0 [] false (λ no. absurd (cc)) (λ _. refl)
@@ -61,7 +67,8 @@ other_holds false pair u0 u1 Nothing mode ps few = holds_in pair.one u1 [] false
 other_holds false pair u0 u1 Delivered mode ps few = holds_in pair.one u1 [] false (λ no. absurd (cc)) (λ _. refl)
 
 -- how many packets are held in a set, where none are in the other
-count_held : (k : Bool) (h : Holds) (ps : List Packet) → holds_apart k h ≡ false → length (held_of k h ps) ≡ (if holds_some h then length ps else 0)
+count_held : (k : Bool) (h : Holds) (ps : List Packet) → holds_apart k h ≡ false → length (held_of k h ps)
+    ≡ (if holds_some h then length ps else 0)
 count_held true Zero ps e = absurd (cc)
 count_held true One ps e = refl
 count_held true Nothing ps e = refl
@@ -71,14 +78,17 @@ count_held false One ps e = absurd (cc)
 count_held false Nothing ps e = refl
 count_held false Delivered ps e = refl
 
-pub fits_seen : (k : Bool) (pair : SlotPair) (u0 u1 : ℕ) (h : Holds) (mode : ℕ) (ps : List Packet) (p : Packet) (x : LiveKey)
+pub fits_seen : (k : Bool) (pair : SlotPair) (u0 u1 : ℕ) (h : Holds) (mode : ℕ) (ps : List Packet) (p : Packet)
+    (x : LiveKey)
     → HoldsFew pair mode h ps → x.packets ≡ held_of k h ps
-    → fits_unit mode x (live_in (seen_slot (seen_in pair u0 u1 h ps) (not k))) p ≡ fits_held h (length ps) mode k p.prefix.m
+    → fits_unit mode x (live_in (seen_slot (seen_in pair u0 u1 h ps) (not k))) p
+    ≡ fits_held h (length ps) mode k p.prefix.m
 fits_seen k pair u0 u1 h mode ps p x few is =
     rw (other_holds k pair u0 u1 h mode ps few) (by_apart (holds_apart k h) refl)
   where
     by_apart : (b : Bool) → holds_apart k h ≡ b
-        → not (holds_apart k h || (not p.prefix.m && nat_le mode (length x.packets + 1))) ≡ fits_held h (length ps) mode k p.prefix.m
+        → not (holds_apart k h || (not p.prefix.m && nat_le mode (length x.packets + 1)))
+        ≡ fits_held h (length ps) mode k p.prefix.m
     by_apart true e = rw e refl
     by_apart false e = rw (is, count_held k h ps e) refl
 
@@ -91,20 +101,25 @@ early_by (Some x) other fits = if fits then None else Some (answers.Fail fail.Un
 
 pub early_seen : (k : Bool) (pair : SlotPair) (u0 u1 : ℕ) (h : Holds) (mode : ℕ) (ps : List Packet) (p : Packet)
     → HoldsFew pair mode h ps
-    → early_answer mode p (live_in (seen_slot (seen_in pair u0 u1 h ps) k)) (live_in (seen_slot (seen_in pair u0 u1 h ps) (not k)))
-    ≡ early_by (live_held (slot_in pair k)) (live_held (slot_in pair (not k))) (fits_held h (length ps) mode k p.prefix.m)
+    → early_answer mode p (live_in (seen_slot (seen_in pair u0 u1 h ps) k))
+    (live_in (seen_slot (seen_in pair u0 u1 h ps) (not k)))
+    ≡ early_by (live_held (slot_in pair k)) (live_held (slot_in pair (not k)))
+    (fits_held h (length ps) mode k p.prefix.m)
 early_seen k pair u0 u1 h mode ps p few =
     rw (key_seen k pair u0 u1 h ps) (by_key (live_held (slot_in pair k)))
   where
     other : Option LiveKey
     other = live_in (seen_slot (seen_in pair u0 u1 h ps) (not k))
 
-    by_key : (o : Option DrawnKey) → early_answer mode p (option_map (live_with (units_of k u0 u1) (held_of k h ps)) o) (live_in (seen_slot (seen_in pair u0 u1 h ps) (not k)))
+    by_key : (o : Option DrawnKey) → early_answer mode p (option_map (live_with (units_of k u0 u1) (held_of k h ps)) o)
+        (live_in (seen_slot (seen_in pair u0 u1 h ps) (not k)))
         ≡ early_by o (live_held (slot_in pair (not k))) (fits_held h (length ps) mode k p.prefix.m)
-    by_key (Some x) = ap (λ f. if f then None else Some (answers.Fail fail.Unit)) (fits_seen k pair u0 u1 h mode ps p (live_with (units_of k u0 u1) (held_of k h ps) x) few refl)
+    by_key (Some x) = ap (λ f. if f then None else Some (answers.Fail fail.Unit))
+        (fits_seen k pair u0 u1 h mode ps p (live_with (units_of k u0 u1) (held_of k h ps) x) few refl)
     by_key None = rw (key_seen (not k) pair u0 u1 h ps) (by_other (live_held (slot_in pair (not k))))
       where
-        by_other : (o : Option DrawnKey) → early_answer mode p None (option_map (live_with (units_of (not k) u0 u1) (held_of (not k) h ps)) o)
+        by_other : (o : Option DrawnKey) → early_answer mode p None
+            (option_map (live_with (units_of (not k) u0 u1) (held_of (not k) h ps)) o)
             ≡ early_by None o (fits_held h (length ps) mode k p.prefix.m)
         by_other None = refl
         by_other (Some y) = refl

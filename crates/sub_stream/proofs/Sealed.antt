@@ -2,7 +2,8 @@
 -- invariant. Bytes that were written one after another are only grouped anew, and what a packet does to the slots is
 -- tried for all pairs of slot states. The hard part is the limit of a key: a unit that begins has passed the test for a
 -- worn key, and of an open one the invariant says that it is within the limit.
-use Rattle.std.proofs.Common.{◌≡◌, ℕ, ◌+◌, ◌<◌, ◌≤◌, Bool, true, false, not, ◌&&◌, ◌||◌, ◌==◌, if◌then◌else◌, List, [], ◌∷◌, ◌++◌, length, Ok, Err, refl, sym, ap, ◌∙◌, arith, append_assoc}
+use Rattle.std.proofs.Common.{◌≡◌, ℕ, ◌+◌, ◌<◌, ◌≤◌, Bool, true, false, not, ◌&&◌, ◌||◌, ◌==◌, if◌then◌else◌, List, []}
+use Rattle.std.proofs.Common.{◌∷◌, ◌++◌, length, Ok, Err, refl, sym, ap, ◌∙◌, arith, append_assoc}
 use Rattle.std.proofs.lemmas.Grind.{common_steps}
 use Rattle.gcm_seal.specs.Gcm.{masked, tag_of}
 use Rattle.ide_prefix.specs.declared.packet.Prefix.{Prefix}
@@ -16,7 +17,8 @@ use Rattle.key_slots.specs.{SlotPair}
 use Rattle.sub_stream.specs.declared.answer.TxRefusal.TheVariants.{Worn}
 use Rattle.sub_stream.specs.Seen.{seen_out, has_live, both_live}
 use Rattle.sub_stream.specs.Gathered.{Gathered, with_packet, clear_of, no_packets}
-use Rattle.sub_stream.specs.Senders.{Sender, Content, ready_of, ready_under, sealing_of, sealing_under, sealing_as, packet_of, ends, ahead_for, IsSender}
+use Rattle.sub_stream.specs.Senders.{Sender, Content, ready_of, ready_under, sealing_of, sealing_under, sealing_as}
+use Rattle.sub_stream.specs.Senders.{packet_of, ends, ahead_for, IsSender}
 
 pub sealing_with : (tx : Sender) (front : List ℕ) (c : Content) (more : Bool) (x : Bool × LiveKey) → Ok x ≡ ready_of tx
     → sealing_of tx front c more ≡ Ok (sealing_as tx front x c (ends tx x.1 more))
@@ -29,10 +31,14 @@ bare key iv ps prefix head payload =
 
 abbrev pub tagged : Bool → List ℕ → List ℕ → Gathered → Packet → Packet
 tagged m key iv unit q =
-    record q { tag = if m then tag_of key iv (clear_of (with_packet unit q)) (encrypted (with_packet unit q).packets) else [] }
+    record q {
+      tag = if m then tag_of key iv (clear_of (with_packet unit q)) (encrypted (with_packet unit q).packets)
+          else [];
+    }
 
 -- it is the rules' packet
-pub packet-tagged : (tx : Sender) (front : List ℕ) (x : Bool × LiveKey) (c : Content) (m : Bool) (unit : Gathered) (prefix : Prefix) (iv : List ℕ)
+pub packet-tagged : (tx : Sender) (front : List ℕ) (x : Bool × LiveKey) (c : Content) (m : Bool) (unit : Gathered)
+    (prefix : Prefix) (iv : List ℕ)
     → unit.packets ≡ x.1.packets → unit.front ≡ ahead_for tx x.1 front
     → (if c.sync then sync_head else c.head) ≡ c.head → (if c.sync then [] else c.payload) ≡ c.payload
     → prefix ≡ record { m = m; k = x.0; t = c.t; sub = tx.sub; stream = tx.stream; posted = c.posted }
@@ -47,18 +53,23 @@ pub bytes-sealed : (key iv out0 out1 out2 head payload : List ℕ) (prefix : Pre
     → out2 ≡ out1 ++ (if m then tag_of key iv (clear_of unit2) (encrypted unit2.packets) else [])
     → out2 ≡ out0 ++ packet_bytes (tagged m key iv unit (bare key iv unit.packets prefix head payload))
 bytes-sealed key iv out0 out1 out2 head payload prefix unit unit2 m is1 is_unit is2 =
-    let t : List ℕ = if m then tag_of key iv (clear_of (with_packet unit (bare key iv unit.packets prefix head payload))) (encrypted (with_packet unit (bare key iv unit.packets prefix head payload)).packets) else [] in
-    rw (is2, is1, is_unit) (regroup out0 (prefix_bytes prefix) head (masked key iv (length (encrypted unit.packets)) payload) t)
+    let t : List ℕ = if m then tag_of key iv
+    (clear_of (with_packet unit (bare key iv unit.packets prefix head payload)))
+    (encrypted (with_packet unit (bare key iv unit.packets prefix head payload)).packets) else [] in
+    rw (is2, is1, is_unit)
+    (regroup out0 (prefix_bytes prefix) head (masked key iv (length (encrypted unit.packets)) payload) t)
   where
     regroup : (a p h b t : List ℕ) → (a ++ (p ++ (h ++ b))) ++ t ≡ a ++ (p ++ (h ++ (b ++ t)))
     regroup a p h b t = simp append_assoc
 
 -- ---- the slots after it
 
-ended-open : (pair : SlotPair) (units : ℕ) (ps qs : List Packet) → ended_slots (seen_out pair units ps) ≡ ended_slots (seen_out pair units qs)
+ended-open : (pair : SlotPair) (units : ℕ) (ps qs : List Packet) → ended_slots (seen_out pair units ps)
+    ≡ ended_slots (seen_out pair units qs)
 ended-open pair units ps qs = by_slots pair.zero pair.one
   where
-    by_slots : (a b : KeySlot) → ended_slots (seen_out (record { sender = true; zero = a; one = b }) units ps) ≡ ended_slots (seen_out (record { sender = true; zero = a; one = b }) units qs)
+    by_slots : (a b : KeySlot) → ended_slots (seen_out (record { sender = true; zero = a; one = b }) units ps)
+        ≡ ended_slots (seen_out (record { sender = true; zero = a; one = b }) units qs)
     by_slots Empty Empty = refl
     by_slots Empty (Programmed h) = refl
     by_slots Empty (Armed h) = refl
@@ -76,10 +87,12 @@ ended-open pair units ps qs = by_slots pair.zero pair.one
     by_slots (Live g) (Armed h) = refl
     by_slots (Live g) (Live h) = refl
 
-goes_on : (pair : SlotPair) (units : ℕ) (ps : List Packet) (p : Packet) → seen_out pair units (ps ++ p ∷ []) ≡ sealed_slots false p (seen_out pair units ps)
+goes_on : (pair : SlotPair) (units : ℕ) (ps : List Packet) (p : Packet) → seen_out pair units (ps ++ p ∷ [])
+    ≡ sealed_slots false p (seen_out pair units ps)
 goes_on pair units ps p = by_slots pair.zero pair.one
   where
-    by_slots : (a b : KeySlot) → seen_out (record { sender = true; zero = a; one = b }) units (ps ++ p ∷ []) ≡ sealed_slots false p (seen_out (record { sender = true; zero = a; one = b }) units ps)
+    by_slots : (a b : KeySlot) → seen_out (record { sender = true; zero = a; one = b }) units (ps ++ p ∷ [])
+        ≡ sealed_slots false p (seen_out (record { sender = true; zero = a; one = b }) units ps)
     by_slots Empty Empty = refl
     by_slots Empty (Programmed h) = refl
     by_slots Empty (Armed h) = refl
@@ -97,7 +110,8 @@ goes_on pair units ps p = by_slots pair.zero pair.one
     by_slots (Live g) (Armed h) = refl
     by_slots (Live g) (Live h) = refl
 
-pub slots-sealed : (m : Bool) (pair : SlotPair) (units : ℕ) (ps : List Packet) (key iv : List ℕ) (unit : Gathered) (q : Packet) (slots : Slots)
+pub slots-sealed : (m : Bool) (pair : SlotPair) (units : ℕ) (ps : List Packet) (key iv : List ℕ) (unit : Gathered)
+    (q : Packet) (slots : Slots)
     → q.tag ≡ []
     → slots ≡ (if m then ended_slots (seen_out pair units (ps ++ q ∷ [])) else seen_out pair units (ps ++ q ∷ []))
     → slots ≡ sealed_slots m (tagged m key iv unit q) (seen_out pair units ps)
@@ -112,17 +126,20 @@ front_if false a b = refl
 
 -- ---- what always holds
 
-not_worn : (a b : Bool) (x y : Bool × LiveKey) (n : ℕ) → Ok x ≡ (if a && b then Err (Worn n) else Ok y) → a ≡ true → b ≡ false
+not_worn : (a b : Bool) (x y : Bool × LiveKey) (n : ℕ) → Ok x ≡ (if a && b then Err (Worn n) else Ok y) → a ≡ true → b
+    ≡ false
 not_worn true true x y n e h = absurd (cc)
 not_worn true false x y n e h = refl
 not_worn false b x y n e h = absurd (cc)
 
 -- a unit that begins is one of those that the key may seal
 begins_within : (pair : SlotPair) (units limit : ℕ) (ps : List Packet) (x : Bool × LiveKey)
-    → Ok x ≡ ready_under limit (live_sender (seen_out pair units ps)) → (length ps == 0) ≡ true → (units == limit) ≡ false
+    → Ok x ≡ ready_under limit (live_sender (seen_out pair units ps)) → (length ps == 0) ≡ true → (units == limit)
+    ≡ false
 begins_within pair units limit ps x = by_slots pair.zero pair.one
   where
-    by_slots : (a b : KeySlot) → Ok x ≡ ready_under limit (live_sender (seen_out (record { sender = true; zero = a; one = b }) units ps))
+    by_slots : (a b : KeySlot) → Ok x ≡ ready_under limit
+        (live_sender (seen_out (record { sender = true; zero = a; one = b }) units ps))
         → (length ps == 0) ≡ true → (units == limit) ≡ false
     by_slots (Live g) b e h = not_worn (length ps == 0) (units == limit) x _ limit e h
     by_slots Empty (Live g) e h = not_worn (length ps == 0) (units == limit) x _ limit e h
@@ -143,7 +160,8 @@ pub keyed_live : (pair : SlotPair) (units limit : ℕ) (ps : List Packet) (x : B
     → Ok x ≡ ready_under limit (live_sender (seen_out pair units ps)) → has_live pair ≡ true
 keyed_live pair units limit ps x = by_slots pair.zero pair.one
   where
-    by_slots : (a b : KeySlot) → Ok x ≡ ready_under limit (live_sender (seen_out (record { sender = true; zero = a; one = b }) units ps))
+    by_slots : (a b : KeySlot) → Ok x ≡ ready_under limit
+        (live_sender (seen_out (record { sender = true; zero = a; one = b }) units ps))
         → has_live (record { sender = true; zero = a; one = b }) ≡ true
     by_slots (Live g) b e = refl
     by_slots Empty (Live g) e = refl
@@ -171,7 +189,8 @@ within_limit mode limit units pair unit x inv live e = by_open (length unit.pack
         let other : (units == limit) ≡ false = begins_within pair units limit unit.packets x e h in
         grind (arith, common_steps)
 
-pub sender-sealed : (mode limit units units' : ℕ) (pair pair' : SlotPair) (unit unit2 unit' : Gathered) (m more : Bool) (x : Bool × LiveKey)
+pub sender-sealed : (mode limit units units' : ℕ) (pair pair' : SlotPair) (unit unit2 unit' : Gathered) (m more : Bool)
+    (x : Bool × LiveKey)
     → IsSender mode limit units pair unit
     → Ok x ≡ ready_under limit (live_sender (seen_out pair units unit.packets))
     → m ≡ (not more || (length unit.packets + 1 == mode))
@@ -180,8 +199,10 @@ pub sender-sealed : (mode limit units units' : ℕ) (pair pair' : SlotPair) (uni
     → pair'.sender ≡ pair.sender → has_live pair' ≡ true → (both_live pair ≡ false → both_live pair' ≡ false)
     → units' ≤ (if m then units + 1 else units)
     → IsSender mode limit units' pair' unit'
-sender-sealed mode limit units units' pair pair' unit unit2 unit' true more x inv e is_m more_packets same is sender live' one few =
-    let less : units < limit = within_limit mode limit units pair unit x inv (keyed_live pair units limit unit.packets x e) e in
+sender-sealed mode limit units units' pair pair' unit unit2 unit' true more x inv e is_m more_packets same is sender
+    live' one few =
+    let less : units < limit = within_limit mode limit units pair unit x inv
+    (keyed_live pair units limit unit.packets x e) e in
     let none : unit'.packets ≡ [] = ap (λ (u : Gathered). u.packets) is in
     record {
       sender = sender ∙ inv.sender;
@@ -194,9 +215,12 @@ sender-sealed mode limit units units' pair pair' unit unit2 unit' true more x in
       room = rw none (λ no. absurd (cc));
       closed = λ no. absurd (cc);
     }
-sender-sealed mode limit units units' pair pair' unit unit2 unit' false more x inv e is_m more_packets same is sender live' one few =
-    let less : units < limit = within_limit mode limit units pair unit x inv (keyed_live pair units limit unit.packets x e) e in
-    let count : length unit'.packets ≡ length unit.packets + 1 = ap (λ (u : Gathered). length u.packets) is ∙ more_packets in
+sender-sealed mode limit units units' pair pair' unit unit2 unit' false more x inv e is_m more_packets same is sender
+    live' one few =
+    let less : units < limit = within_limit mode limit units pair unit x inv
+    (keyed_live pair units limit unit.packets x e) e in
+    let count : length unit'.packets ≡ length unit.packets + 1 = ap (λ (u : Gathered). length u.packets) is ∙
+    more_packets in
     let not_full : (length unit.packets + 1 == mode) ≡ false = last_false (not more) _ (sym is_m) in
     record {
       sender = sender ∙ inv.sender;

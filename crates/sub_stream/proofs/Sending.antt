@@ -1,5 +1,6 @@
 -- What a GO makes of a sender's slots that are seen.
-use Rattle.std.proofs.Common.{◌≡◌, ℕ, Bool, true, false, not, ◌&&◌, ◌||◌, ◌==◌, nat_lt, if◌then◌else◌, List, [], ◌∷◌, length, refl, sym, ap, ◌∙◌, subst, arith}
+use Rattle.std.proofs.Common.{◌≡◌, ℕ, Bool, true, false, not, ◌&&◌, ◌||◌, ◌==◌, nat_lt, if◌then◌else◌, List, [], ◌∷◌}
+use Rattle.std.proofs.Common.{length, refl, sym, ap, ◌∙◌, subst, arith}
 use Rattle.std.proofs.lemmas.Grind.{common_steps}
 use Rattle.ide_prefix.specs.Packet.{Packet}
 use Rattle.stream_rules.specs.Slots.{is_busy}
@@ -14,7 +15,8 @@ some_or_none [] = refl
 some_or_none (p ∷ ps) = grind (arith, common_steps)
 
 -- a slot is busy where it is Live, and it is Live where packets are open
-busy-seen : (units : ℕ) (ps : List Packet) (slot : KeySlot) (b : Bool) → (length ps == 0) ≡ b → (is_live slot ≡ false → b ≡ true)
+busy-seen : (units : ℕ) (ps : List Packet) (slot : KeySlot) (b : Bool) → (length ps == 0) ≡ b
+    → (is_live slot ≡ false → b ≡ true)
     → is_busy (seen units ps slot) ≡ not b
 busy-seen units ps Empty b e h = rw (h refl) refl
 busy-seen units ps (Programmed held) b e h = rw (h refl) refl
@@ -23,7 +25,8 @@ busy-seen units ps (Live held) b e h = some_or_none ps ∙ ap not e
 
 abbrev pub Goes : Bool → SlotPair → ℕ → List Packet → Type 0
 Goes k pair units ps =
-    seen_out (armed pair k (not (length ps == 0))) (if is_programmed (slot_in pair k) && not (not (length ps == 0)) then 0 else units) ps
+    seen_out (armed pair k (not (length ps == 0)))
+    (if is_programmed (slot_in pair k) && not (not (length ps == 0)) then 0 else units) ps
     ≡ gone_slots (seen_out pair units ps) k
 
 none_open : (ps : List Packet) → ps ≡ [] → (length ps == 0) ≡ true
@@ -70,11 +73,13 @@ or_comm false false = refl
 as_sender : (pair : SlotPair) → pair.sender ≡ true → pair ≡ record { sender = true; zero = pair.zero; one = pair.one }
 as_sender pair s = λ i. record { sender = s i; zero = pair.zero; one = pair.one }
 
-pub goes : (k : Bool) (pair : SlotPair) (units : ℕ) (ps : List Packet) → pair.sender ≡ true → (has_live pair ≡ false → ps ≡ [])
+pub goes : (k : Bool) (pair : SlotPair) (units : ℕ) (ps : List Packet) → pair.sender ≡ true
+    → (has_live pair ≡ false → ps ≡ [])
     → Goes k pair units ps
 goes true pair units ps s h =
     subst (λ (p : SlotPair). Goes true p units ps) (sym (as_sender pair s))
-    (goes_both true pair.one pair.zero units ps (λ no. none_open ps (h (or_comm (is_live pair.zero) (is_live pair.one) ∙ no))))
+    (goes_both true pair.one pair.zero units ps
+    (λ no. none_open ps (h (or_comm (is_live pair.zero) (is_live pair.one) ∙ no))))
 goes false pair units ps s h =
     subst (λ (p : SlotPair). Goes false p units ps) (sym (as_sender pair s))
     (goes_both false pair.zero pair.one units ps (λ no. none_open ps (h no)))

@@ -1,5 +1,6 @@
 -- What each call makes of the packets that are seen.
-use Rattle.std.proofs.Common.{◌≡◌, ℕ, ◌+◌, ◌<◌, true, List, [], ◌∷◌, ◌++◌, length, map, refl, sym, ap, ◌∙◌, subst, arith, length-append}
+use Rattle.std.proofs.Common.{◌≡◌, ℕ, ◌+◌, ◌<◌, true, List, [], ◌∷◌, ◌++◌, length, map, refl, sym, ap, ◌∙◌, subst}
+use Rattle.std.proofs.Common.{arith, length-append}
 use Rattle.std.proofs.Math.ListN.{set}
 use Rattle.std.proofs.lemmas.Bool.{lt-ltb}
 use Rattle.std.proofs.lemmas.List.{length-set, map-append}
@@ -11,7 +12,8 @@ use Rattle.ide_prefix.specs.Packet.{Packet, prefix_bytes}
 use Rattle.stream_rules.specs.Stream.{posted_sum}
 use Rattle.unit_aggregation.specs.{Collected, with_packet as with_parts, has_room, rebodied, with_bodies, body_of}
 use Rattle.sub_stream.specs.Gathered.{Gathered, packets_in, parts_of, opened, with_packet, IsGathered}
-use Rattle.sub_stream.proofs.Packets.{length-packets_in, packets-added, length-rebodied, posted-rebodied, parts-rebodied, opened-rebodied, overwritten-all}
+use Rattle.sub_stream.proofs.Packets.{length-packets_in, packets-added, length-rebodied, posted-rebodied}
+use Rattle.sub_stream.proofs.Packets.{parts-rebodied, opened-rebodied, overwritten-all}
 
 -- the packets that are seen of these fields
 abbrev pub view : List Prefix → Collected → Gathered
@@ -22,12 +24,14 @@ view ps buf = record { mode = buf.mode; front = buf.front; packets = packets_in 
 abbrev pub masked_bodies : List ℕ → List ℕ → Collected → Collected
 masked_bodies key iv buf = with_bodies buf (masked key iv 0 (body_of buf))
 
-rebodied-masked : (key iv : List ℕ) (buf : Collected) → masked_bodies key iv buf ≡ record buf { packets = rebodied buf.packets (masked key iv 0 (body_of buf)) }
+rebodied-masked : (key iv : List ℕ) (buf : Collected) → masked_bodies key iv buf
+    ≡ record buf { packets = rebodied buf.packets (masked key iv 0 (body_of buf)) }
 rebodied-masked key iv buf =
     ap (λ x. record buf { packets = rebodied buf.packets x })
     (overwritten-all (body_of buf) (masked key iv 0 (body_of buf)) (length-masked key iv 0 (body_of buf)))
 
-pub gathered-masked : (key iv : List ℕ) (ps : List Prefix) (n : ℕ) (buf new : Collected) → IsGathered ps n buf → new ≡ masked_bodies key iv buf → IsGathered ps n new
+pub gathered-masked : (key iv : List ℕ) (ps : List Prefix) (n : ℕ) (buf new : Collected) → IsGathered ps n buf → new
+    ≡ masked_bodies key iv buf → IsGathered ps n new
 gathered-masked key iv ps n buf new g is =
     let bytes = masked key iv 0 (body_of buf) in
     let P : Collected → Type 0 = λ x. IsGathered ps n x in
@@ -41,7 +45,8 @@ gathered-masked key iv ps n buf new g is =
     } in
     subst P (sym (is ∙ rebodied-masked key iv buf)) fine
 
-pub view-masked : (key iv : List ℕ) (ps : List Prefix) (buf new : Collected) (old : Gathered) → view ps buf ≡ old → new ≡ masked_bodies key iv buf
+pub view-masked : (key iv : List ℕ) (ps : List Prefix) (buf new : Collected) (old : Gathered) → view ps buf ≡ old → new
+    ≡ masked_bodies key iv buf
     → view ps new ≡ record old { packets = opened key iv old.packets }
 view-masked key iv ps buf new old was is =
     ap (view ps) (is ∙ rebodied-masked key iv buf)
@@ -50,7 +55,8 @@ view-masked key iv ps buf new old was is =
 
 -- ---- one more
 
-pub has_place : (ps : List Prefix) (n : ℕ) (buf : Collected) (old : Gathered) → IsGathered ps n buf → view ps buf ≡ old → length old.packets < old.mode
+pub has_place : (ps : List Prefix) (n : ℕ) (buf : Collected) (old : Gathered) → IsGathered ps n buf → view ps buf ≡ old
+    → length old.packets < old.mode
     → length buf.packets < buf.mode
 has_place ps n buf old g was lt =
     let count : length (packets_in buf.packets ps) ≡ length old.packets = ap (λ (u : Gathered). length u.packets) was in
@@ -64,35 +70,43 @@ added buf new head body lt is =
     rw (is, room) refl
 
 pub gathered-added : (ps : List Prefix) (n i : ℕ) (buf new : Collected) (p : Prefix) (h b head : List ℕ)
-    → IsGathered ps n buf → length buf.packets < buf.mode → i ≡ length buf.packets → p.posted < 256 → head ≡ prefix_bytes p ++ h
+    → IsGathered ps n buf → length buf.packets < buf.mode → i ≡ length buf.packets → p.posted < 256 → head
+    ≡ prefix_bytes p ++ h
     → new ≡ with_parts buf head b → IsGathered (set ps i p) (n + p.posted) new
 gathered-added ps n i buf new p h b head g lt at small clear is =
     let room : length buf.packets < length ps = omega (arith, lt, g.places, g.small_mode) in
     let xs = buf.packets ++ (prefix_bytes p ++ h, b) ∷ [] in
     let q : Packet = record { prefix = p; head = h; body = b; tag = [] } in
-    let packets : packets_in xs (set ps (length buf.packets) p) ≡ packets_in buf.packets ps ++ q ∷ [] = packets-added buf.packets ps p h b room in
+    let packets : packets_in xs (set ps (length buf.packets) p) ≡ packets_in buf.packets ps ++ q
+    ∷ [] = packets-added buf.packets ps p h b room in
     let more : length xs ≡ length buf.packets + 1 = length-append buf.packets ((prefix_bytes p ++ h, b) ∷ []) in
     let P : Collected → Type 0 = λ x. IsGathered (set ps (length buf.packets) p) (n + p.posted) x in
     let fine : P (record buf { packets = xs }) = record {
       places = length-set ps (length buf.packets) p ∙ g.places;
       small_mode = g.small_mode;
       fits = omega (arith, more, lt);
-      parts = ap (map parts_of) packets ∙ map-append parts_of (packets_in buf.packets ps) (q ∷ []) ∙ ap (λ x. x ++ parts_of q ∷ []) g.parts;
-      sum = ap (λ x. x + p.posted) g.sum ∙ (let e : posted_sum (packets_in buf.packets ps) + p.posted ≡ posted_sum (packets_in buf.packets ps) + posted_sum (q ∷ []) = omega arith in e)
-          ∙ sym (sum_by-append (λ (x : Packet). x.prefix.posted) (packets_in buf.packets ps) (q ∷ [])) ∙ ap posted_sum (sym packets);
+      parts = ap (map parts_of) packets ∙ map-append parts_of (packets_in buf.packets ps) (q ∷ []) ∙ ap
+          (λ x. x ++ parts_of q ∷ []) g.parts;
+      sum = ap (λ x. x + p.posted) g.sum ∙
+          (let e : posted_sum (packets_in buf.packets ps) + p.posted
+          ≡ posted_sum (packets_in buf.packets ps) + posted_sum (q ∷ []) = omega arith in e)
+          ∙ sym (sum_by-append (λ (x : Packet). x.prefix.posted) (packets_in buf.packets ps) (q ∷ [])) ∙ ap posted_sum
+          (sym packets);
       few = omega (arith, more, g.few, small);
     } in
     let here : new ≡ record buf { packets = xs } = rw clear at (added buf new head b lt is) in
     rw at (subst P (sym here) fine)
 
 pub view-added : (ps : List Prefix) (n i : ℕ) (buf new : Collected) (old : Gathered) (p : Prefix) (h b head : List ℕ)
-    → IsGathered ps n buf → view ps buf ≡ old → length buf.packets < buf.mode → i ≡ length buf.packets → head ≡ prefix_bytes p ++ h
+    → IsGathered ps n buf → view ps buf ≡ old → length buf.packets < buf.mode → i ≡ length buf.packets → head
+    ≡ prefix_bytes p ++ h
     → new ≡ with_parts buf head b
     → view (set ps i p) new ≡ with_packet old (record { prefix = p; head = h; body = b; tag = [] })
 view-added ps n i buf new old p h b head g was lt at clear is =
     let room : length buf.packets < length ps = omega (arith, lt, g.places, g.small_mode) in
     let q : Packet = record { prefix = p; head = h; body = b; tag = [] } in
-    let here : new ≡ record buf { packets = buf.packets ++ (prefix_bytes p ++ h, b) ∷ [] } = rw clear at (added buf new head b lt is) in
+    let here : new ≡ record buf { packets = buf.packets ++ (prefix_bytes p ++ h, b) ∷ [] } = rw clear at
+    (added buf new head b lt is) in
     rw at
     (ap (view (set ps (length buf.packets) p)) here
     ∙ ap (λ x. record { mode = buf.mode; front = buf.front; packets = x }) (packets-added buf.packets ps p h b room)

@@ -2,7 +2,8 @@
 use Rattle.std.specs.Prelude.{ℕ, length, Option, Some, None}
 use Rattle.ide_types.specs.declared.port.PortName.{PortName}
 use Rattle.link_verdicts.specs.declared.verdict.SealedPacket.{SealedPacket as Described}
-use Rattle.stream_rules.specs.Stream.{Taken as Answer, Insecure, NotKeyed as Keyless, Failed, Held as HeldBack, Accepted as Whole}
+use Rattle.stream_rules.specs.Stream.{Taken as Answer, Insecure, NotKeyed as Keyless, Failed, Held as HeldBack}
+use Rattle.stream_rules.specs.Stream.{Accepted as Whole}
 use Rattle.sub_stream.specs.declared.answer.SealedPacket.{SealedPacket}
 use Rattle.sub_stream.specs.declared.answer.Taken.{Taken}
 use Rattle.sub_stream.specs.declared.answer.Taken.TheVariants.{NotKeyed, Held, Accepted, Fail}

@@ -1,15 +1,19 @@
 -- A receiver of one sub-stream as a machine: what it keeps, and what it answers to a packet (PCI Express Base 6.0
 -- section 6.33, in this profile).
-use Rattle.std.specs.Prelude.{◌≡◌, ℕ, ◌+◌, ◌≤◌, ◌<◌, Bool, true, false, not, ◌&&◌, ◌||◌, ◌==◌, nat_le, nat_lt, List, [], ◌∷◌, ◌++◌, length, Option, Some, None, if◌then◌else◌}
+use Rattle.std.specs.Prelude.{◌≡◌, ℕ, ◌+◌, ◌≤◌, ◌<◌, Bool, true, false, not, ◌&&◌, ◌||◌, ◌==◌, nat_le, nat_lt, List, []}
+use Rattle.std.specs.Prelude.{◌∷◌, ◌++◌, length, Option, Some, None, if◌then◌else◌}
 use Rattle.ide_types.specs.declared.sub.SubKind.{SubKind}
 use Rattle.ide_types.specs.declared.sub.FailCause.TheVariants as fail
 use Rattle.gcm_seal.specs.Gcm.{verifies}
 use Rattle.ide_prefix.specs.Packet.{Packet}
 use Rattle.ide_prefix.specs.Iv.{iv_of}
 use Rattle.ide_prefix.specs.Units.{authenticated, encrypted, untagged}
-use Rattle.stream_rules.specs.Stream.{Empty, Programmed, Slots, LiveKey, Taken, NotKeyed, Failed, Held, Accepted, slot_in, with_slot, live_in, holds_any, posted_sum, checked, dropped, gone_on, accepted_slots}
+use Rattle.stream_rules.specs.Stream.{Empty, Programmed, Slots, LiveKey, Taken, NotKeyed, Failed, Held, Accepted}
+use Rattle.stream_rules.specs.Stream.{slot_in, with_slot, live_in, holds_any, posted_sum, checked, dropped, gone_on}
+use Rattle.stream_rules.specs.Stream.{accepted_slots}
 use Rattle.stream_rules.specs.Slots.{begun}
-use Rattle.key_slots.specs.{SlotPair, slot_in as key_slot_in, with_both, live_draw, is_only_live, is_live as is_live_key}
+use Rattle.key_slots.specs.{SlotPair, slot_in as key_slot_in, with_both, live_draw, is_only_live}
+use Rattle.key_slots.specs.{is_live as is_live_key}
 use Rattle.key_slots.specs.declared.slot.Slot.TheVariants as key
 use Rattle.sub_stream.specs.declared.answer.Taken.{Taken as Answer}
 use Rattle.sub_stream.specs.declared.answer.Taken.TheVariants as answers

@@ -1,12 +1,14 @@
 -- A sender of one sub-stream as a machine: what it keeps, and what it seals (PCI Express Base 6.0 section 6.33, in this
 -- profile).
-use Rattle.std.specs.Prelude.{◌≡◌, ℕ, ◌+◌, ◌≤◌, ◌<◌, Bool, true, false, not, ◌&&◌, ◌||◌, ◌==◌, List, [], length, Option, Some, None, Result, Ok, Err, if◌then◌else◌}
+use Rattle.std.specs.Prelude.{◌≡◌, ℕ, ◌+◌, ◌≤◌, ◌<◌, Bool, true, false, not, ◌&&◌, ◌||◌, ◌==◌, List, [], length, Option}
+use Rattle.std.specs.Prelude.{Some, None, Result, Ok, Err, if◌then◌else◌}
 use Rattle.std.specs.Result.{result_map_both}
 use Rattle.ide_types.specs.declared.sub.SubKind.{SubKind}
 use Rattle.ide_types.specs.declared.port.Side.TheVariants.{Host}
 use Rattle.link_verdicts.specs.declared.verdict.SealedPacket.{SealedPacket as Described}
 use Rattle.ide_prefix.specs.Packet.{Packet, packet_bytes, sync_head}
-use Rattle.stream_rules.specs.Stream.{Empty, Programmed, Slots, LiveKey, live_sender, untagged_under, tagged_under, sealed_slots, slot_in, with_slot}
+use Rattle.stream_rules.specs.Stream.{Empty, Programmed, Slots, LiveKey, live_sender, untagged_under, tagged_under}
+use Rattle.stream_rules.specs.Stream.{sealed_slots, slot_in, with_slot}
 use Rattle.stream_rules.specs.Slots.{both_slots, slot_gone, woken, is_live}
 use Rattle.key_slots.specs.{SlotPair, is_only_live}
 use Rattle.sub_stream.specs.declared.answer.SealedPacket.{SealedPacket}

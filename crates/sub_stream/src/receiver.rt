@@ -1,6 +1,7 @@
 //! The receiver of one sub-stream.
 
-ghost use Rattle.std.specs.Prelude.{◌≡◌, ◌+◌, ◌<◌, ◌≤◌, ◌^◌, ◌*◌, ◌&&◌, Some, None, is_ok, is_some, not, true, false, length, slice_get, map, if◌then◌else◌};
+ghost use Rattle.std.specs.Prelude.{◌≡◌, ◌+◌, ◌<◌, ◌≤◌, ◌^◌, ◌*◌, ◌&&◌, Some, None, is_ok, is_some, not, true, false};
+ghost use Rattle.std.specs.Prelude.{length, slice_get, map, if◌then◌else◌};
 ghost use Rattle.ide_prefix.specs.Cut.{packet_of_view, IsView};
 ghost use Rattle.key_slots.specs.{slot_in as key_slot_in, is_one, is_empty, program_answer};
 ghost use Rattle.stream_rules.specs.Stream.{slot_in, posted_sum};

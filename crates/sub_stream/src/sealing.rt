@@ -1,6 +1,7 @@
 //! Sealing packets under a Live key.
 
-ghost use Rattle.std.specs.Prelude.{◌≡◌, ◌+◌, ◌<◌, ◌≤◌, ◌++◌, [], length, take, drop, vec_len, vec_capacity, if◌then◌else◌};
+ghost use Rattle.std.specs.Prelude.{◌≡◌, ◌+◌, ◌<◌, ◌≤◌, ◌++◌, [], length, take, drop, vec_len, vec_capacity};
+ghost use Rattle.std.specs.Prelude.{if◌then◌else◌};
 ghost use Rattle.gcm_seal.specs.Gcm.{masked, tag_of};
 ghost use Rattle.ide_prefix.specs.Packet.{prefix_bytes};
 ghost use Rattle.ide_prefix.specs.Units.{encrypted};

@@ -1,13 +1,16 @@
 //! The sender of one sub-stream.
 
-ghost use Rattle.std.specs.Prelude.{◌≡◌, ◌==◌, ◌&&◌, ◌||◌, ◌^◌, false, ℕ, ◌+◌, ◌<◌, ◌≤◌, List, ◌++◌, [], length, vec_len, vec_capacity, is_ok, not, true, if◌then◌else◌};
+ghost use Rattle.std.specs.Prelude.{◌≡◌, ◌==◌, ◌&&◌, ◌||◌, ◌^◌, false, ℕ, ◌+◌, ◌<◌, ◌≤◌, List, ◌++◌, [], length};
+ghost use Rattle.std.specs.Prelude.{vec_len, vec_capacity, is_ok, not, true, if◌then◌else◌};
 ghost use Rattle.std.specs.Result.{result_map_both};
 ghost use Rattle.ide_prefix.specs.Packet.{sync_head};
-ghost use Rattle.key_slots.specs.{slot_in as key_slot_in, is_one, is_empty, is_live, is_armed as is_armed_key, program_answer};
+ghost use Rattle.key_slots.specs.{slot_in as key_slot_in, is_one, is_empty, is_live, is_armed as is_armed_key};
+ghost use Rattle.key_slots.specs.{program_answer};
 ghost use Rattle.stream_rules.specs.Stream.{ended_slots, live_sender, slot_in};
 ghost use Rattle.sub_stream.specs.Gathered.{lent_front};
 ghost use Rattle.sub_stream.specs.Gathered as gathered;
-ghost use Rattle.sub_stream.specs.Seen.{shown_in_use, in_use, live_with, seen_out, has_live, both_live, has_armed, is_programmed, slot_pair, key_slot};
+ghost use Rattle.sub_stream.specs.Seen.{shown_in_use, in_use, live_with, seen_out, has_live, both_live, has_armed};
+ghost use Rattle.sub_stream.specs.Seen.{is_programmed, slot_pair, key_slot};
 ghost use Rattle.sub_stream.specs.Senders.{ready_under, begun_where_empty, carried_content, tlp_content, sync_content};
 
 use crate::answer::{SealedPacket, TxRefusal};

@@ -1,13 +1,15 @@
 //! The checks of a packet under a Live key.
 
-ghost use Rattle.std.specs.Prelude.{◌≡◌, ◌-◌, ◌&&◌, ◌+◌, ◌<◌, ◌≤◌, ◌^◌, true, false, not, [], Some, length, if◌then◌else◌};
+ghost use Rattle.std.specs.Prelude.{◌≡◌, ◌-◌, ◌&&◌, ◌+◌, ◌<◌, ◌≤◌, ◌^◌, true, false, not, [], Some, length};
+ghost use Rattle.std.specs.Prelude.{if◌then◌else◌};
 ghost use Rattle.gcm_seal.specs.Gcm.{verifies};
 ghost use Rattle.ide_prefix.specs.Cut.{packet_of_view, lent_tag, IsView};
 ghost use Rattle.ide_prefix.specs.Units.{encrypted};
 ghost use Rattle.key_slots.specs.{slot_in, is_one, is_live};
 ghost use Rattle.sub_stream.specs.Answers.{answer_of};
 ghost use Rattle.sub_stream.specs.Gathered.{lent_front, clear_of, no_packets};
-ghost use Rattle.sub_stream.specs.Receivers.{judged, BufferAfter, holds_some, holds_apart, holds_after, held_alone, held_unless_failed, left_without, is_accepted, without_older, slots_after};
+ghost use Rattle.sub_stream.specs.Receivers.{judged, BufferAfter, holds_some, holds_apart, holds_after, held_alone};
+ghost use Rattle.sub_stream.specs.Receivers.{held_unless_failed, left_without, is_accepted, without_older, slots_after};
 ghost use Rattle.sub_stream.specs.Seen.{live_with};
 ghost use Rattle.sub_stream.specs.Senders.{begun_where_empty};
 

@@ -1,8 +1,10 @@
 -- What the reader finds is a spelling, or the first fault.
-use Rattle.std.proofs.Common.{◌≡◌, ℕ, ◌+◌, ◌<◌, ◌≤◌, true, ltb, List, length, get_or, take, drop, Option, Some, None, is_some, refl, sym, ap, subst, ◌∙◌, inl, inr, arith}
+use Rattle.std.proofs.Common.{◌≡◌, ℕ, ◌+◌, ◌<◌, ◌≤◌, true, ltb, List, length, get_or, take, drop, Option, Some, None}
+use Rattle.std.proofs.Common.{is_some, refl, sym, ap, subst, ◌∙◌, inl, inr, arith}
 use Rattle.std.proofs.lemmas.Bool.{cases_eq, le-ltb, eq-eqb, ne_eqb, and_parts}
 use Rattle.std.proofs.lemmas.List.{take_all}
-use Rattle.tlp_layout.specs.{Layout, HeadView, body_size, TlpFault, SpellsHead, head_size, layout_at, fault_at, IsFault, IsHeadFault, head_of, rest_size, whole_size, may_follow, SpellsTlp, with_payload}
+use Rattle.tlp_layout.specs.{Layout, HeadView, body_size, TlpFault, SpellsHead, head_size, layout_at, fault_at, IsFault}
+use Rattle.tlp_layout.specs.{IsHeadFault, head_of, rest_size, whole_size, may_follow, SpellsTlp, with_payload}
 use Rattle.tlp_layout.specs.declared.fault.TlpFault.TheVariants as faults
 use Rattle.tlp_layout.specs.Inside.{Agrees, Stops, StopsAt}
 use Rattle.first_fault.proofs.Cells.{IsBytes}
@@ -23,16 +25,19 @@ stops_short s f place h = elim (cases_eq place 0) [
   | inr some ↦ (h.behind (omega arith)).2
 ]
 
-stops_end : (size : List ℕ → ℕ) (s : List ℕ) (f : TlpFault) (place : ℕ) → place ≤ size s → IsBytes s → StopsAt s f place → EndsAt size may_follow s place
+stops_end : (size : List ℕ → ℕ) (s : List ℕ) (f : TlpFault) (place : ℕ) → place ≤ size s → IsBytes s → StopsAt s f place
+    → EndsAt size may_follow s place
 stops_end size s f place sized fit h = record {
   within = h.within;
   sized = sized;
   fitting = λ i lt.
       let b = h.behind (omega arith) in
-      fits_from b.0 s place (record { fit = λ j less. fit j; kind = b.1; agrees = λ j p less m. b.3 j p less }) h.within i lt;
+      fits_from b.0 s place (record { fit = λ j less. fit j; kind = b.1; agrees = λ j p less m. b.3 j p less }) h.within
+      i lt;
   off = λ less more fits. elim (cases_eq place 0) [
     | inl none ↦
-        let first : may_follow (take 0 s) (get_or s 0 0) ≡ true = subst (λ (p : ℕ). may_follow (take p s) (get_or s p 0) ≡ true) none fits in
+        let first : may_follow (take 0 s) (get_or s 0 0) ≡ true = subst
+        (λ (p : ℕ). may_follow (take p s) (get_or s p 0) ≡ true) none fits in
         let yes = (and_parts (ltb (get_or s 0 0) 256) (is_some (layout_at (get_or s 0 0))) first).1 in
         no_kind (layout_at (get_or s 0 0)) (h.first none less) yes
     | inr some ↦
@@ -45,8 +50,11 @@ stops_end size s f place sized fit h = record {
 
 pub head_fault : (s : List ℕ) (f : TlpFault) → IsBytes s → Stops s f → IsHeadFault s f
 head_fault s f fit h =
-    let short = stops_short s f h.0 h.1 in
-    (h.0, place_of heads s h.0 (stops_end (λ x. head_size (get_or x 0 0)) s f h.0 (omega arith) fit h.1) (λ _. short), h.1.cause)
+    let short = stops_short s f h.0 h.1 in (
+      h.0,
+      place_of heads s h.0 (stops_end (λ x. head_size (get_or x 0 0)) s f h.0 (omega arith) fit h.1) (λ _. short),
+      h.1.cause,
+    )
 
 pub tlp_fault : (s : List ℕ) (f : TlpFault) → IsBytes s → Stops s f → IsFault s f
 tlp_fault s f fit h =
@@ -73,7 +81,8 @@ pub wanted_is : (k : Layout) (s : List ℕ) {h : HeadView} {wanted : ℕ} → h 
 wanted_is k s is wants = wants ∙ ap (λ (x : HeadView). body_size x.has_payload x.lead.length) is
 
 walked : (k : Layout) (s : List ℕ) (n : ℕ) → HasHead k s n → IsWalked k s (length s)
-walked k s n h = record { fit = λ i lt. h.fit i; kind = h.kind; agrees = λ i p lt less. let size = h.size in h.agrees i p (omega arith) }
+walked k s n h = record
+    { fit = λ i lt. h.fit i; kind = h.kind; agrees = λ i p lt less. let size = h.size in h.agrees i p (omega arith) }
 
 pub head_found : (k : Layout) (s : List ℕ) (n : ℕ) → HasHead k s n → length s ≤ n → SpellsHead (head_of k s) s
 head_found k s n h le =
@@ -81,7 +90,8 @@ head_found k s n h le =
     back k s (rw (take_all n s le) at r)
 
 -- up to the length that they say, they are the front of a spelling
-ends : (size : List ℕ → ℕ) (k : Layout) (s : List ℕ) (n : ℕ) → HasHead k s n → (place : ℕ) → place ≤ length s → place ≤ size s
+ends : (size : List ℕ → ℕ) (k : Layout) (s : List ℕ) (n : ℕ) → HasHead k s n → (place : ℕ) → place ≤ length s
+    → place ≤ size s
     → (place < length s → place ≡ size s) → EndsAt size may_follow s place
 ends size k s n h place le sized there = record {
   within = le;
@@ -90,31 +100,46 @@ ends size k s n h place le sized there = record {
   off = λ less more fits. let at = there less in omega arith;
 }
 
-trailing_is : (s : List ℕ) (place : ℕ) → 12 ≤ place → place < length s → head_size (get_or s 0 0) ≤ place → faults.Trailing place ≡ fault_at s place
-trailing_is s place some lt past = rw (ne_eqb place (length s) (λ e. omega arith), ne_eqb place 0 (λ e. omega arith), le-ltb place (head_size (get_or s 0 0)) past) refl
+trailing_is : (s : List ℕ) (place : ℕ) → 12 ≤ place → place < length s → head_size (get_or s 0 0) ≤ place
+    → faults.Trailing place ≡ fault_at s place
+trailing_is s place some lt past = rw (
+  ne_eqb place (length s) (λ e. omega arith),
+  ne_eqb place 0 (λ e. omega arith),
+  le-ltb place
+      (head_size (get_or s 0 0)) past,
+) refl
 
 pub head_trails : (k : Layout) (s : List ℕ) (n : ℕ) → HasHead k s n → n < length s → IsHeadFault s (faults.Trailing n)
 head_trails k s n h lt =
     let size = h.size in
     let some : 12 ≤ n = omega (arith, head_size_at_least (get_or s 0 0)) in (
       n,
-      place_of heads s n (ends (λ x. head_size (get_or x 0 0)) k s n h n h.within (omega arith) (λ _. size)) (λ e. absurd (omega arith)),
+      place_of heads s n (ends (λ x. head_size (get_or x 0 0)) k s n h n h.within (omega arith) (λ _. size))
+          (λ e. absurd (omega arith)),
       trailing_is s n some lt (omega arith),
     )
 
-pub tlp_short : (k : Layout) (s : List ℕ) (n wanted : ℕ) → HasHead k s n → wanted ≡ rest_size s → length s < n + wanted → IsFault s (faults.Short (length s))
+pub tlp_short : (k : Layout) (s : List ℕ) (n wanted : ℕ) → HasHead k s n → wanted ≡ rest_size s → length s < n + wanted
+    → IsFault s (faults.Short (length s))
 tlp_short k s n wanted h e lt =
     let size = h.size in
-    let less : length s < whole_size s = omega arith in
-    (length s, place_of tlps s (length s) (ends whole_size k s n h (length s) (omega arith) (omega arith) (λ l. absurd (omega arith))) (λ _. less), rw (eq-eqb (length s) (length s) refl) refl)
+    let less : length s < whole_size s = omega arith in (
+      length s,
+      place_of tlps s (length s)
+          (ends whole_size k s n h (length s) (omega arith) (omega arith) (λ l. absurd (omega arith))) (λ _. less),
+      rw
+          (eq-eqb (length s) (length s) refl) refl,
+    )
 
-pub tlp_trails : (k : Layout) (s : List ℕ) (n wanted : ℕ) → HasHead k s n → wanted ≡ rest_size s → n + wanted < length s → IsFault s (faults.Trailing (n + wanted))
+pub tlp_trails : (k : Layout) (s : List ℕ) (n wanted : ℕ) → HasHead k s n → wanted ≡ rest_size s → n + wanted < length s
+    → IsFault s (faults.Trailing (n + wanted))
 tlp_trails k s n wanted h e lt =
     let size = h.size in
     let all : n + wanted ≡ whole_size s = omega arith in
     let some : 12 ≤ n = omega (arith, head_size_at_least (get_or s 0 0)) in (
       n + wanted,
-      place_of tlps s (n + wanted) (ends whole_size k s n h (n + wanted) (omega arith) (omega arith) (λ _. all)) (λ e. absurd (omega arith)),
+      place_of tlps s (n + wanted) (ends whole_size k s n h (n + wanted) (omega arith) (omega arith) (λ _. all))
+          (λ e. absurd (omega arith)),
       trailing_is s (n + wanted) (omega arith) lt (omega arith),
     )
 

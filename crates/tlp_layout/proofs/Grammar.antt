@@ -1,11 +1,16 @@
 -- Headers are a grammar, and TLPs are one: what is spelled walks byte by byte; what walks and wants no more has a right
--- header and as many bytes behind it as that wants, and is spelled; and else a byte more may follow, until none is wanted.
-use Rattle.std.proofs.Common.{◌≡◌, ℕ, ◌+◌, ◌-◌, ◌<◌, ◌≤◌, List, ◌++◌, length, get_or, take, drop, refl, sym, ap, subst, ◌∙◌, inl, inr, arith, length-append, length-take, length-drop, get_or-take, get_or-drop, take-append-drop}
+-- header and as many bytes behind it as that wants, and is spelled; and else a byte more may follow, until none is
+-- wanted.
+use Rattle.std.proofs.Common.{◌≡◌, ℕ, ◌+◌, ◌-◌, ◌<◌, ◌≤◌, List, ◌++◌, length, get_or, take, drop, refl, sym, ap, subst}
+use Rattle.std.proofs.Common.{◌∙◌, inl, inr, arith, length-append, length-take, length-drop, get_or-take, get_or-drop}
+use Rattle.std.proofs.Common.{take-append-drop}
 use Rattle.std.specs.Prelude.{All}
 use Rattle.std.proofs.lemmas.Bool.{cases_lt}
 use Rattle.std.proofs.lemmas.List.{get_or_past, take_all, get_or_append_left, get_or-append_right}
 use Rattle.std.proofs.lemmas.List.Elements.{All-from_get_or}
-use Rattle.tlp_layout.specs.{Layout, HeadView, head_bytes, FitsHead, SpellsHead, IsHead, head_size, head_of, rest_size, whole_size, may_follow, layout_of, body_size, tlp_bytes, FitsTlp, SpellsTlp, IsTlp, header, body, with_payload}
+use Rattle.tlp_layout.specs.{Layout, HeadView, head_bytes, FitsHead, SpellsHead, IsHead, head_size, head_of, rest_size}
+use Rattle.tlp_layout.specs.{whole_size, may_follow, layout_of, body_size, tlp_bytes, FitsTlp, SpellsTlp, IsTlp, header}
+use Rattle.tlp_layout.specs.{body, with_payload}
 use Rattle.tlp_layout.specs.Terms.{Tlp}
 use Rattle.tlp_layout.specs.Terms.layouts
 use Rattle.tlp_layout.specs.Reading.{fields_of}
@@ -20,9 +25,14 @@ right_walks : (k : Layout) (s : List ℕ) → IsRight k s → IsWalked k s (leng
 right_walks k s r = record { fit = λ i lt. r.fit i; kind = r.kind; agrees = λ i p lt less. r.agrees i p lt }
 
 pub is_right : (s : List ℕ) → IsHead s → (k : Layout) × IsRight k s
-is_right s h = (layout_of h.head.fields, subst (IsRight (layout_of h.head.fields)) (sym h.spells.spelled) (kept h.head h.spells.fits))
+is_right s h = (
+  layout_of h.head.fields,
+  subst (IsRight (layout_of h.head.fields)) (sym h.spells.spelled)
+      (kept h.head h.spells.fits),
+)
 
-pub take_right : (k : Layout) (s : List ℕ) (n : ℕ) → n ≡ head_size (get_or s 0 0) → n ≤ length s → IsWalked k s (length s) → IsRight k (take n s)
+pub take_right : (k : Layout) (s : List ℕ) (n : ℕ) → n ≡ head_size (get_or s 0 0) → n ≤ length s
+    → IsWalked k s (length s) → IsRight k (take n s)
 take_right k s n e le w =
     let some : 12 ≤ n = omega (arith, head_size_at_least (get_or s 0 0)) in
     let long : length (take n s) ≡ n = omega (arith, length-take n s) in
@@ -34,7 +44,8 @@ take_right k s n e le w =
       ];
       kind = rw first w.kind;
       size = rw first (long ∙ e);
-      agrees = λ i p lt. let here : i < n = omega arith in rw (first, get_or-take n s i 0 here) (w.agrees i p (omega arith) (omega arith));
+      agrees = λ i p lt. let here : i < n = omega arith in rw (first, get_or-take n s i 0 here)
+          (w.agrees i p (omega arith) (omega arith));
     }
 
 pub heads : IsGrammar IsHead (λ s. head_size (get_or s 0 0)) may_follow 1
@@ -85,12 +96,18 @@ whole_of k h b r all e =
 
 pub whole_from : (t : Tlp) → FitsTlp t → IsWhole (layout_of (header t).fields) (tlp_bytes t)
 whole_from t fits =
-    let same : head_of (layout_of (header t).fields) (head_bytes (header t) ++ body t) ≡ header t = again (header t) (body t) fits.head in
+    let same : head_of (layout_of (header t).fields) (head_bytes (header t) ++ body t)
+    ≡ header t = again (header t) (body t) fits.head in
     let wants = ap (λ (v : HeadView). body_size v.has_payload v.lead.length) same in
-    whole_of (layout_of (header t).fields) (head_bytes (header t)) (body t) (kept (header t) fits.head) (all_bytes (body t) fits.bytes) (fits.size ∙ sym wants)
+    whole_of (layout_of (header t).fields) (head_bytes (header t)) (body t) (kept (header t) fits.head)
+    (all_bytes (body t) fits.bytes) (fits.size ∙ sym wants)
 
 pub is_whole : (s : List ℕ) → IsTlp s → (k : Layout) × IsWhole k s
-is_whole s t = (layout_of (header t.tlp).fields, subst (IsWhole (layout_of (header t.tlp).fields)) (sym t.spells.spelled) (whole_from t.tlp t.spells.fits))
+is_whole s t = (
+  layout_of (header t.tlp).fields,
+  subst (IsWhole (layout_of (header t.tlp).fields))
+      (sym t.spells.spelled) (whole_from t.tlp t.spells.fits),
+)
 
 kind_again : (k : Layout) (s : List ℕ) → layout_of (fields_of k s) ≡ k
 kind_again layouts.Memory s = refl
@@ -99,12 +116,15 @@ kind_again layouts.Message s = refl
 kind_again layouts.Completion s = refl
 
 -- the header is that of its bytes alone
-head_front : (k : Layout) (s : List ℕ) (n : ℕ) → SpellsHead (head_of k (take n s)) (take n s) → head_of k s ≡ head_of k (take n s)
+head_front : (k : Layout) (s : List ℕ) (n : ℕ) → SpellsHead (head_of k (take n s)) (take n s) → head_of k s
+    ≡ head_of k (take n s)
 head_front k s n r =
     let v = head_of k (take n s) in
     let one : head_of (layout_of v.fields) (head_bytes v ++ drop n s) ≡ v = again v (drop n s) r.fits in
-    let parts : head_bytes v ++ drop n s ≡ s = ap (λ (x : List ℕ). x ++ drop n s) (sym r.spelled) ∙ take-append-drop n s in
-    subst (λ (j : Layout). head_of j s ≡ v) (kind_again k (take n s)) (subst (λ (x : List ℕ). head_of (layout_of v.fields) x ≡ v) parts one)
+    let parts : head_bytes v ++ drop n s ≡ s = ap (λ (x : List ℕ). x ++ drop n s) (sym r.spelled) ∙ take-append-drop n s
+    in
+    subst (λ (j : Layout). head_of j s ≡ v) (kind_again k (take n s))
+    (subst (λ (x : List ℕ). head_of (layout_of v.fields) x ≡ v) parts one)
 
 -- what walks and is as long as its header says is spelled by its parts
 pub parts_spell : (k : Layout) (s : List ℕ) → IsWalked k s (length s) → length s ≡ whole_size s
@@ -116,10 +136,13 @@ parts_spell k s w size =
     let same : head_of k s ≡ v = head_front k s n r in
     let long : length (drop n s) ≡ body_size v.has_payload v.lead.length =
     omega (arith, length-drop n s, ap (λ (x : HeadView). body_size x.has_payload x.lead.length) same) in
-    let bytes = All-from_get_or (λ (x : ℕ). x < 256) (drop n s) 0 (λ i lt. rw get_or-drop (w.fit (n + i) (omega (arith, length-drop n s)))) in
+    let bytes = All-from_get_or (λ (x : ℕ). x < 256) (drop n s) 0
+    (λ i lt. rw get_or-drop (w.fit (n + i) (omega (arith, length-drop n s)))) in
     let one = spells_with v (drop n s) r.fits long bytes in
-    let parts : head_bytes v ++ drop n s ≡ s = ap (λ (x : List ℕ). x ++ drop n s) (sym r.spelled) ∙ take-append-drop n s in
-    subst (λ (x : HeadView). SpellsTlp (with_payload x (drop n s)) s) (sym same) (subst (SpellsTlp (with_payload v (drop n s))) parts one)
+    let parts : head_bytes v ++ drop n s ≡ s = ap (λ (x : List ℕ). x ++ drop n s) (sym r.spelled) ∙ take-append-drop n s
+    in
+    subst (λ (x : HeadView). SpellsTlp (with_payload x (drop n s)) s) (sym same)
+    (subst (SpellsTlp (with_payload v (drop n s))) parts one)
 
 pub tlps : IsGrammar IsTlp whole_size may_follow 4
 tlps = record {

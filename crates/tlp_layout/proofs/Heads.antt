@@ -1,7 +1,9 @@
--- Headers: the fields that are read are those that were written, and the other way round. A header is taken in three parts:
--- byte 0, of which all 256 values are tried; bytes 1 to 3, whose fields are sums and remainders; and the fields of its
--- layout, whose numbers come back by the laws of std and of byteorder.
-use Rattle.std.proofs.Common.{◌≡◌, ℕ, zero, suc, ◌+◌, ◌*◌, ◌/◌, ◌%◌, ◌^◌, ◌<◌, ◌≤◌, Bool, true, false, cond, ◌&&◌, eqb, bit_and, List, [], ◌∷◌, ◌++◌, length, get_or, drop, add-zero, add-suc, suc-add, add-one, one-add, Option, Some, None, refl, sym, ap, subst, ◌∙◌, inl, inr, arith}
+-- Headers: the fields that are read are those that were written, and the other way round. A header is taken in three
+-- parts: byte 0, of which all 256 values are tried; bytes 1 to 3, whose fields are sums and remainders; and the fields
+-- of its layout, whose numbers come back by the laws of std and of byteorder.
+use Rattle.std.proofs.Common.{◌≡◌, ℕ, zero, suc, ◌+◌, ◌*◌, ◌/◌, ◌%◌, ◌^◌, ◌<◌, ◌≤◌, Bool, true, false, cond, ◌&&◌, eqb}
+use Rattle.std.proofs.Common.{bit_and, List, [], ◌∷◌, ◌++◌, length, get_or, drop, add-zero, add-suc, suc-add, add-one}
+use Rattle.std.proofs.Common.{one-add, Option, Some, None, refl, sym, ap, subst, ◌∙◌, inl, inr, arith}
 use Rattle.std.proofs.lemmas.Bool.{not-true, eqb-true, eq-eqb, agree_below_at, cases_lt, and_parts, and_from}
 use Rattle.std.proofs.lemmas.Bool.Decides.{nat_tests}
 use Rattle.std.proofs.lemmas.List.{get_or_past, drop_more}
@@ -10,7 +12,9 @@ use Rattle.std.proofs.lemmas.Nat.{be_bytes_2, be_bytes_4, be_bytes_8}
 use Rattle.byteorder.specs.Endian.{big_bytes, big_number}
 use Rattle.byteorder.specs.Numbers.{big_from-lt, big_number-reads_back}
 use Rattle.first_fault.proofs.Cells.{IsBytes, cells, drop_cells, all_bytes}
-use Rattle.tlp_layout.specs.{Layout, Lead, HeadView, Fields, Routing, bit, routing_bits, routing_from, status_bits, status_from, head_bytes, FitsLead, FitsFields, FitsHead, SpellsHead, is_wide, has_data, head_size, layout_at, allowed, reserved, layout_of, head_of}
+use Rattle.tlp_layout.specs.{Layout, Lead, HeadView, Fields, Routing, bit, routing_bits, routing_from, status_bits}
+use Rattle.tlp_layout.specs.{status_from, head_bytes, FitsLead, FitsFields, FitsHead, SpellsHead, is_wide, has_data}
+use Rattle.tlp_layout.specs.{head_size, layout_at, allowed, reserved, layout_of, head_of}
 use Rattle.tlp_layout.specs.Terms.layouts
 use Rattle.tlp_layout.specs.declared.head.MemoryFields.{MemoryFields}
 use Rattle.tlp_layout.specs.declared.head.ConfigFields.{ConfigFields}
@@ -79,7 +83,8 @@ first_back k b lt kind =
 
 second_back : (b1 b2 low : ℕ) → b1 < 256 → b1 % 4 ≡ 0 → low < 256
     → 0x80 * ((512 * (b1 / 128) + 256 * (b1 / 8 % 2) + low) / 512) + 0x10 * (b1 / 16 % 8)
-    + 0x08 * ((512 * (b1 / 128) + 256 * (b1 / 8 % 2) + low) / 256 % 2) + 0x04 * ((4 * (b1 / 4 % 2) + b2 / 16 % 4) / 4) ≡ b1
+    + 0x08 * ((512 * (b1 / 128) + 256 * (b1 / 8 % 2) + low) / 256 % 2) + 0x04 * ((4 * (b1 / 4 % 2) + b2 / 16 % 4) / 4)
+    ≡ b1
 second_back b1 b2 low lt z less = omega arith
 
 third_back : (b1 b2 b3 : ℕ) → b2 < 64 → b3 < 256
@@ -105,7 +110,8 @@ halves_back b = omega arith
 
 -- ---- the fields of each layout, from byte 8 on
 
-joined_4 : {xs : List ℕ} {a b c d c' d' : ℕ} → xs ≡ a ∷ b ∷ [] → c ≡ c' → d ≡ d' → xs ++ c ∷ d ∷ [] ≡ a ∷ b ∷ c' ∷ d' ∷ []
+joined_4 : {xs : List ℕ} {a b c d c' d' : ℕ} → xs ≡ a ∷ b ∷ [] → c ≡ c' → d ≡ d' → xs ++ c ∷ d ∷ [] ≡ a ∷ b ∷ c' ∷ d'
+    ∷ []
 joined_4 {a = a} {b = b} {c' = c'} {d' = d'} e ec ed = rw (e, ec, ed) refl
 
 config_tail : (t : List ℕ) → IsBytes t → length t ≡ 4 → get_or t 3 0 % 4 ≡ 0
@@ -178,32 +184,45 @@ last_in : (w : Bool) (b0 b1 b2 b3 b4 b5 b6 b7 : ℕ) (t : List ℕ)
 last_in true b0 b1 b2 b3 b4 b5 b6 b7 t = refl
 last_in false b0 b1 b2 b3 b4 b5 b6 b7 t = refl
 
-early_clear : (k : Layout) (size b1 b2 : ℕ) → b1 < 256 → b2 < 256 → allowed k size 1 b1 ≡ true → allowed k size 2 b2 ≡ true
+early_clear : (k : Layout) (size b1 b2 : ℕ) → b1 < 256 → b2 < 256 → allowed k size 1 b1 ≡ true → allowed k size 2 b2
+    ≡ true
     → (b1 % 4 ≡ 0) × (b2 < 64)
-early_clear layouts.Memory size b1 b2 f1 f2 a1 a2 = ((clear_3 b1 f1).0 (and_parts _ _ a1).0, (clear_192 b2 f2).0 (and_parts _ _ a2).0)
-early_clear layouts.Config size b1 b2 f1 f2 a1 a2 = ((clear_3 b1 f1).0 (and_parts _ _ a1).0, ((clear_195 b2 f2).0 (and_parts _ _ a2).0).0)
-early_clear layouts.Message size b1 b2 f1 f2 a1 a2 = ((clear_3 b1 f1).0 (and_parts _ _ a1).0, (clear_192 b2 f2).0 (and_parts _ _ a2).0)
-early_clear layouts.Completion size b1 b2 f1 f2 a1 a2 = ((clear_3 b1 f1).0 (and_parts _ _ a1).0, (clear_192 b2 f2).0 (and_parts _ _ a2).0)
+early_clear layouts.Memory size b1 b2 f1 f2 a1 a2 =
+    ((clear_3 b1 f1).0 (and_parts _ _ a1).0, (clear_192 b2 f2).0 (and_parts _ _ a2).0)
+early_clear layouts.Config size b1 b2 f1 f2 a1 a2 =
+    ((clear_3 b1 f1).0 (and_parts _ _ a1).0, ((clear_195 b2 f2).0 (and_parts _ _ a2).0).0)
+early_clear layouts.Message size b1 b2 f1 f2 a1 a2 =
+    ((clear_3 b1 f1).0 (and_parts _ _ a1).0, (clear_192 b2 f2).0 (and_parts _ _ a2).0)
+early_clear layouts.Completion size b1 b2 f1 f2 a1 a2 =
+    ((clear_3 b1 f1).0 (and_parts _ _ a1).0, (clear_192 b2 f2).0 (and_parts _ _ a2).0)
 
 -- the first six bytes come back in each layout; low is the byte of the tag, and x what is written behind them
-back_by : (k : Layout) (b0 b1 b2 b3 b4 b5 low : ℕ) (r x : List ℕ) → IsRight k (b0 ∷ b1 ∷ b2 ∷ b3 ∷ b4 ∷ b5 ∷ r) → low < 256
+back_by : (k : Layout) (b0 b1 b2 b3 b4 b5 low : ℕ) (r x : List ℕ) → IsRight k (b0 ∷ b1 ∷ b2 ∷ b3 ∷ b4 ∷ b5 ∷ r)
+    → low < 256
     → type_of (fields_of k (b0 ∷ b1 ∷ b2 ∷ b3 ∷ b4 ∷ b5 ∷ r)) ≡ type_from k b0
     → tag_in (fields_of k (b0 ∷ b1 ∷ b2 ∷ b3 ∷ b4 ∷ b5 ∷ r)) ≡ 512 * (b1 / 128) + 256 * (b1 / 8 % 2) + low
-    → field_bytes (is_wide b0) (fields_of k (b0 ∷ b1 ∷ b2 ∷ b3 ∷ b4 ∷ b5 ∷ r)) ≡ big_bytes 2 (big_number 2 (b4 ∷ b5 ∷ r)) ++ x → x ≡ r
+    → field_bytes (is_wide b0) (fields_of k (b0 ∷ b1 ∷ b2 ∷ b3 ∷ b4 ∷ b5 ∷ r))
+    ≡ big_bytes 2 (big_number 2 (b4 ∷ b5 ∷ r)) ++ x → x ≡ r
     → FitsFields (lead_of (b0 ∷ b1 ∷ b2 ∷ b3 ∷ b4 ∷ b5 ∷ r)) (fields_of k (b0 ∷ b1 ∷ b2 ∷ b3 ∷ b4 ∷ b5 ∷ r))
     → SpellsHead (head_of k (b0 ∷ b1 ∷ b2 ∷ b3 ∷ b4 ∷ b5 ∷ r)) (b0 ∷ b1 ∷ b2 ∷ b3 ∷ b4 ∷ b5 ∷ r)
 back_by k b0 b1 b2 b3 b4 b5 low r x right lt type tag fields rest fit =
-    let z = early_clear k _ b1 b2 (right.fit 1) (right.fit 2) (right.agrees 1 (omega arith) (omega arith)) (right.agrees 2 (omega arith) (omega arith)) in
+    let z = early_clear k _ b1 b2 (right.fit 1) (right.fit 2) (right.agrees 1 (omega arith) (omega arith))
+    (right.agrees 2 (omega arith) (omega arith)) in
     let e0 = first_back k b0 (right.fit 0) right.kind in
     let e1 = second_back b1 b2 low (right.fit 1) z.0 lt in
     let e2 = third_back b1 b2 b3 z.1 (right.fit 3) in
     let e3 = low_back (b2 % 4) b3 (right.fit 3) in
     let number = number_2 (b4 ∷ b5 ∷ r) (λ i. right.fit (suc (suc (suc (suc i))))) in
     let behind = fields ∙ ap (λ (l : List ℕ). l ++ x) number ∙ ap (λ (l : List ℕ). b4 ∷ b5 ∷ l) rest in
-    record { fits = record { lead = fits_lead (b0 ∷ b1 ∷ b2 ∷ b3 ∷ b4 ∷ b5 ∷ r) right.fit; fields = fit }; spelled = sym (rw (type, tag, behind, e0, e1, e2, e3) refl) }
+    record {
+      fits = record { lead = fits_lead (b0 ∷ b1 ∷ b2 ∷ b3 ∷ b4 ∷ b5 ∷ r) right.fit; fields = fit };
+      spelled = sym
+          (rw (type, tag, behind, e0, e1, e2, e3) refl);
+    }
 
 back_8 : (k : Layout) (b0 b1 b2 b3 b4 b5 b6 b7 : ℕ) (t : List ℕ)
-    → IsRight k (b0 ∷ b1 ∷ b2 ∷ b3 ∷ b4 ∷ b5 ∷ b6 ∷ b7 ∷ t) → length (b0 ∷ b1 ∷ b2 ∷ b3 ∷ b4 ∷ b5 ∷ b6 ∷ b7 ∷ t) ≡ head_size b0
+    → IsRight k (b0 ∷ b1 ∷ b2 ∷ b3 ∷ b4 ∷ b5 ∷ b6 ∷ b7 ∷ t) → length (b0 ∷ b1 ∷ b2 ∷ b3 ∷ b4 ∷ b5 ∷ b6 ∷ b7 ∷ t)
+    ≡ head_size b0
     → big_number 2 (b4 ∷ b5 ∷ b6 ∷ b7 ∷ t) < 2 ^ 16 → IsBytes t
     → SpellsHead (head_of k (b0 ∷ b1 ∷ b2 ∷ b3 ∷ b4 ∷ b5 ∷ b6 ∷ b7 ∷ t)) (b0 ∷ b1 ∷ b2 ∷ b3 ∷ b4 ∷ b5 ∷ b6 ∷ b7 ∷ t)
 back_8 layouts.Memory b0 b1 b2 b3 b4 b5 b6 b7 t r size number behind =
@@ -212,7 +231,8 @@ back_8 layouts.Memory b0 b1 b2 b3 b4 b5 b6 b7 t r size number behind =
     let last = last_clear (b0 ∷ b1 ∷ b2 ∷ b3 ∷ b4 ∷ b5 ∷ b6 ∷ b7 ∷ t) (is_wide b0) r refl in
     let address = address_fits (is_wide b0) t behind (ap (λ (x : ℕ). x % 4) z ∙ last) in
     let tail = address_back (is_wide b0) t behind (rest_long (is_wide b0) (length t) (omega arith)) in
-    back_by layouts.Memory b0 b1 b2 b3 b4 b5 b6 _ _ r (r.fit 6) refl refl refl (two_and (tag_back b1 b6 (r.fit 6)) (halves_back b7) tail)
+    back_by layouts.Memory b0 b1 b2 b3 b4 b5 b6 _ _ r (r.fit 6) refl refl refl
+    (two_and (tag_back b1 b6 (r.fit 6)) (halves_back b7) tail)
     (number, tag_fits b1 b6 (r.fit 1) (r.fit 6), omega arith, omega arith, address.0, address.1)
 back_8 layouts.Config b0 b1 b2 b3 b4 b5 b6 b7 t r size number behind =
     let s = b0 ∷ b1 ∷ b2 ∷ b3 ∷ b4 ∷ b5 ∷ b6 ∷ b7 ∷ t in
@@ -222,17 +242,29 @@ back_8 layouts.Config b0 b1 b2 b3 b4 b5 b6 b7 t r size number behind =
     let z2 = (clear_195 b2 (r.fit 2)).0 (clear_at layouts.Config s 2 r (omega arith) (omega arith)) in
     let z10 = (clear_240 (get_or t 2 0) (r.fit 10)).0 (clear_at layouts.Config s 10 r (omega arith) (omega arith)) in
     let z11 = (clear_3 (get_or t 3 0) (r.fit 11)).0 (clear_at layouts.Config s 11 r (omega arith) (omega arith)) in
-    let one : b3 ≡ 1 = eqb-true _ _ (and_parts (eqb (bit_and 0 b3) 0) (eqb b3 1) (r.agrees 3 (omega arith) (omega arith))).1 in
+    let one : b3 ≡ 1 = eqb-true _ _
+    (and_parts (eqb (bit_and 0 b3) 0) (eqb b3 1) (r.agrees 3 (omega arith) (omega arith))).1 in
     let f11 : get_or t 3 0 < 256 = r.fit 11 in
     let tail = config_tail t behind (omega arith) z11 in
-    back_by layouts.Config b0 b1 b2 b3 b4 b5 b6 _ _ r (r.fit 6) refl refl refl (two_and (tag_back b1 b6 (r.fit 6)) (halves_back b7) tail)
-    (wide, omega (arith, z2.1), number, tag_fits b1 b6 (r.fit 1) (r.fit 6), omega arith, omega arith, number_below t behind, omega arith)
+    back_by layouts.Config b0 b1 b2 b3 b4 b5 b6 _ _ r (r.fit 6) refl refl refl
+    (two_and (tag_back b1 b6 (r.fit 6)) (halves_back b7) tail) (
+      wide,
+      omega (arith, z2.1),
+      number,
+      tag_fits b1 b6 (r.fit 1) (r.fit 6),
+      omega arith,
+      omega arith,
+      number_below t
+          behind,
+      omega arith,
+    )
 back_8 layouts.Message b0 b1 b2 b3 b4 b5 b6 b7 t r size number behind =
     let wide : is_wide b0 ≡ true = width_of layouts.Message b0 (r.fit 0) r.kind in
     let long : length t ≡ 8 = rest_long true (length t) (omega (arith, size ∙ ap (λ (w : Bool). cond w 16 12) wide)) in
     let kept : IsBytes (cells 8 0 t) = subst IsBytes (drop_cells 8 0 t long) behind in
     let bytes = All-from_get_or (λ (b : ℕ). b < 256) (cells 6 2 t) 0 (λ i lt. kept (suc (suc i))) in
-    back_by layouts.Message b0 b1 b2 b3 b4 b5 b6 _ _ r (r.fit 6) refl refl refl (two_and (tag_back b1 b6 (r.fit 6)) refl (message_tail t behind long))
+    back_by layouts.Message b0 b1 b2 b3 b4 b5 b6 _ _ r (r.fit 6) refl refl refl
+    (two_and (tag_back b1 b6 (r.fit 6)) refl (message_tail t behind long))
     (wide, number, tag_fits b1 b6 (r.fit 1) (r.fit 6), r.fit 7, number_below t behind, refl, bytes)
 back_8 layouts.Completion b0 b1 b2 b3 b4 b5 b6 b7 t r size number behind =
     let s = b0 ∷ b1 ∷ b2 ∷ b3 ∷ b4 ∷ b5 ∷ b6 ∷ b7 ∷ t in
@@ -240,7 +272,8 @@ back_8 layouts.Completion b0 b1 b2 b3 b4 b5 b6 b7 t r size number behind =
     let f7 : b7 < 256 = r.fit 7 in
     let wide : is_wide b0 ≡ false = not-true _ (width_of layouts.Completion b0 (r.fit 0) r.kind) in
     let long : length s ≡ 12 = size ∙ ap (λ (w : Bool). cond w 16 12) wide in
-    let z11 = (clear_128 (get_or t 3 0) (r.fit 11)).0 (clear_at layouts.Completion s 11 r (omega arith) (omega arith)) in
+    let z11 = (clear_128 (get_or t 3 0) (r.fit 11)).0 (clear_at layouts.Completion s 11 r (omega arith) (omega arith))
+    in
     let status = status_back (b6 / 32) (omega arith) in
     let tail = completion_tail b1 t behind (omega arith) in
     back_by layouts.Completion b0 b1 b2 b3 b4 b5 (get_or t 2 0) _ _ r (r.fit 10) refl refl refl
@@ -261,7 +294,8 @@ back k s r =
     let right = subst (IsRight k) is r in
     let bytes : IsBytes (drop 8 s) = λ i. right.fit (suc (suc (suc (suc (suc (suc (suc (suc i)))))))) in
     let number = number_below (cells 4 4 s ++ drop 8 s) (λ i. right.fit (suc (suc (suc (suc i))))) in
-    subst (λ (x : List ℕ). SpellsHead (head_of k x) x) (sym is) (back_8 k _ _ _ _ _ _ _ _ (drop 8 s) right right.size number bytes)
+    subst (λ (x : List ℕ). SpellsHead (head_of k x) x) (sym is)
+    (back_8 k _ _ _ _ _ _ _ _ (drop 8 s) right right.size number bytes)
 
 -- ---- what is written is right
 
@@ -296,7 +330,8 @@ first_is p w t lt = grind (arith, nat_tests)
 
 -- byte 0, and bytes that may stand behind it
 right : (k : Layout) (p w : Bool) (t : ℕ) (bs : List ℕ) → layout_at (0x40 * bit p + 0x20 * bit w + t) ≡ Some k → t < 32
-    → suc (length bs) ≡ cond w 16 12 → FitFrom k (cond w 16 12) 1 bs → IsRight k ((0x40 * bit p + 0x20 * bit w + t) ∷ bs)
+    → suc (length bs) ≡ cond w 16 12 → FitFrom k (cond w 16 12) 1 bs
+    → IsRight k ((0x40 * bit p + 0x20 * bit w + t) ∷ bs)
 right k p w t bs kind lt long f =
     let n = first_is p w t lt in
     let b = 0x40 * bit p + 0x20 * bit w + t in
@@ -360,8 +395,10 @@ memory_fit w f l fl ff =
     let last = cleared (f.address % 256) (low_byte f.address) (omega (arith, ff.4)) in
     let third = and_from _ _ (plain_third l fl) refl in
     elim w as (λ (v : Bool). FitFrom layouts.Memory (cond v 16 12) 1 (lead_bytes l f.tag ++ field_bytes v (Memory f))) [
-      | true ↦ lead_fit layouts.Memory 16 l f.tag (field_bytes true (Memory f)) cleared third refl fl ff.1 (search (low_byte, last, be) depth 20)
-      | false ↦ lead_fit layouts.Memory 12 l f.tag (field_bytes false (Memory f)) cleared third refl fl ff.1 (search (low_byte, last, be) depth 20)
+      | true ↦ lead_fit layouts.Memory 16 l f.tag (field_bytes true (Memory f)) cleared third refl fl ff.1
+          (search (low_byte, last, be) depth 20)
+      | false ↦ lead_fit layouts.Memory 12 l f.tag (field_bytes false (Memory f)) cleared third refl fl ff.1
+          (search (low_byte, last, be) depth 20)
     ]
 
 memory_long : (w : Bool) (f : MemoryFields) → suc (suc (suc (suc (length (field_bytes w (Memory f)))))) ≡ cond w 16 12
@@ -381,7 +418,8 @@ config_fit f l fl ff =
     let h = and_from _ _ ((clear_240 _ (omega arith)).1 high) refl in
     let small : f.register / 64 < 256 = omega arith in
     let last = cleared _ low (omega arith) in
-    let more : FitFrom layouts.Config 12 4 (field_bytes false (Config f)) = search (low_byte, be, small, h, low, last) depth 20 in
+    let more : FitFrom layouts.Config 12 4 (field_bytes false (Config f)) = search (low_byte, be, small, h, low, last)
+    depth 20 in
     lead_fit layouts.Config 12 l f.tag (field_bytes false (Config f)) cleared (and_from _ _ clear refl) one fl ff.3 more
 
 message_fit : (f : MessageFields) (l : Lead) → FitsLead l → FitsFields l (Message f)
@@ -391,7 +429,8 @@ message_fit f l fl ff =
     let six : FitFrom layouts.Message 16 10 (cells 6 0 f.kept) = search k depth 20 in
     let rest = subst (FitFrom layouts.Message 16 10) (sym (drop_cells 6 0 f.kept ff.5)) six in
     let more : FitFrom layouts.Message 16 4 (field_bytes true (Message f)) = search (low_byte, ff.3, rest) depth 20 in
-    lead_fit layouts.Message 16 l f.tag (field_bytes true (Message f)) cleared (and_from _ _ (plain_third l fl) refl) refl fl ff.2 more
+    lead_fit layouts.Message 16 l f.tag (field_bytes true (Message f)) cleared (and_from _ _ (plain_third l fl) refl)
+    refl fl ff.2 more
 
 completion_fit : (f : CompletionFields) (l : Lead) → FitsLead l → FitsFields l (Completion f)
     → FitFrom layouts.Completion 12 1 (lead_bytes l f.tag ++ field_bytes false (Completion f))
@@ -399,8 +438,10 @@ completion_fit f l fl ff =
     let status = (status_again (status_bits f.status) f.bcm f.count ff.2.0 ff.3).3 in
     let lower : f.lower < 256 = omega (arith, ff.6) in
     let clear = and_from _ _ ((clear_128 f.lower lower).1 ff.6) refl in
-    let more : FitFrom layouts.Completion 12 4 (field_bytes false (Completion f)) = search (low_byte, status, lower, clear) depth 20 in
-    lead_fit layouts.Completion 12 l f.tag (field_bytes false (Completion f)) cleared (and_from _ _ (plain_third l fl) refl) refl fl ff.5 more
+    let more : FitFrom layouts.Completion 12 4 (field_bytes false (Completion f)) = search
+    (low_byte, status, lower, clear) depth 20 in
+    lead_fit layouts.Completion 12 l f.tag (field_bytes false (Completion f)) cleared
+    (and_from _ _ (plain_third l fl) refl) refl fl ff.5 more
 
 routing_again : (r : Routing) → (routing_bits r < 6) × (routing_from (routing_bits r) ≡ r)
 routing_again r = grind arith
@@ -414,13 +455,15 @@ type_small one = grind arith
 kept_fields : (l : Lead) (p : Bool) (f : Fields) → FitsLead l → FitsFields l f
     → IsRight (layout_of f) (head_bytes (head_with l p f))
 kept_fields l p (Memory f) fl ff =
-    right layouts.Memory p l.wide 0x00 _ (memory_kind p l.wide) (omega arith) (memory_long l.wide f) (memory_fit l.wide f l fl ff)
+    right layouts.Memory p l.wide 0x00 _ (memory_kind p l.wide) (omega arith) (memory_long l.wide f)
+    (memory_fit l.wide f l fl ff)
 kept_fields l p (Config f) fl ff =
     let type = type_small f.one in
     rw ff.0 (right layouts.Config p false (0x04 + bit f.one) _ (config_kind p f.one) type refl (config_fit f l fl ff))
 kept_fields l p (Message f) fl ff =
     let small : routing_bits f.routing < 6 = (routing_again f.routing).0 in
-    rw ff.0 (right layouts.Message p true (0x10 + routing_bits f.routing) _ (message_at (routing_bits f.routing) p small) (omega arith) (rw ff.5 refl) (message_fit f l fl ff))
+    rw ff.0 (right layouts.Message p true (0x10 + routing_bits f.routing) _
+    (message_at (routing_bits f.routing) p small) (omega arith) (rw ff.5 refl) (message_fit f l fl ff))
 kept_fields l p (Completion f) fl ff =
     rw ff.0 (right layouts.Completion p false 0x0a _ (completion_kind p) (omega arith) refl (completion_fit f l fl ff))
 
@@ -446,7 +489,8 @@ lead_again first tag l more fl lt w =
 
 tag_again : (l : Lead) (tag : ℕ) → FitsLead l → tag < 1024
     → 512 * ((0x80 * (tag / 512) + 0x10 * l.tc + 0x08 * (tag / 256 % 2) + 0x04 * (l.attr / 4)) / 128)
-    + 256 * ((0x80 * (tag / 512) + 0x10 * l.tc + 0x08 * (tag / 256 % 2) + 0x04 * (l.attr / 4)) / 8 % 2) + tag % 256 ≡ tag
+    + 256 * ((0x80 * (tag / 512) + 0x10 * l.tc + 0x08 * (tag / 256 % 2) + 0x04 * (l.attr / 4)) / 8 % 2) + tag % 256
+    ≡ tag
 tag_again l tag fl lt = omega (arith, fl.tc, fl.attr)
 
 one_again : (p w one : Bool) → eqb ((0x40 * bit p + 0x20 * bit w + (0x04 + bit one)) % 32) 0x05 ≡ one
@@ -459,7 +503,8 @@ register_again : (n : ℕ) → 64 * (n / 64) + (0x04 * (n % 64)) / 4 ≡ n
 register_again n = omega arith
 
 address_again : (w : Bool) (first x1 x2 x3 requester tag be address : ℕ) (more : List ℕ) → address < address_limit w
-    → address_read w (first ∷ x1 ∷ x2 ∷ x3 ∷ (big_bytes 2 requester ++ tag ∷ be ∷ address_bytes w address ++ more)) ≡ address
+    → address_read w (first ∷ x1 ∷ x2 ∷ x3 ∷ (big_bytes 2 requester ++ tag ∷ be ∷ address_bytes w address ++ more))
+    ≡ address
 address_again true first x1 x2 x3 requester tag be address more lt = big_number-reads_back 8 address [] lt
 address_again false first x1 x2 x3 requester tag be address more lt = big_number-reads_back 4 address [] lt
 
@@ -479,7 +524,14 @@ again_fields l p (Memory f) more fl ff =
     let t = address_bytes l.wide f.address ++ more in
     let address = ap (λ (w : Bool). cond w (big_number 8 t) (big_number 4 t)) k.0
     ∙ address_again l.wide 0 0 0 0 f.requester (f.tag % 256) 0 f.address more ff.5 in
-    head_is lead k.1 (λ i. Memory (record { requester = number_again f.requester ff.0 i; tag = tag_again l f.tag fl ff.1 i; last_be = be.0 i; first_be = be.1 i; address = address i }))
+    head_is lead k.1 (λ i. Memory
+    (record {
+      requester = number_again f.requester ff.0 i;
+      tag = tag_again l f.tag fl ff.1 i;
+      last_be = be.0 i;
+      first_be = be.1 i;
+      address = address i;
+    }))
 again_fields l p (Config f) more fl ff =
     let k = first_is p l.wide (0x04 + bit f.one) (type_small f.one) in
     let lead = lead_again _ f.tag l (field_bytes l.wide (Config f) ++ more) fl ff.3 k.0 in
@@ -498,7 +550,8 @@ again_fields l p (Message f) more fl ff =
     let r = routing_again f.routing in
     let k = first_is p l.wide (0x10 + routing_bits f.routing) (omega (arith, r.0)) in
     let lead = lead_again _ f.tag l (field_bytes l.wide (Message f) ++ more) fl ff.2 k.0 in
-    let number : (0x40 * bit p + 0x20 * bit l.wide + (0x10 + routing_bits f.routing)) % 8 ≡ routing_bits f.routing = omega (arith, r.0) in
+    let number : (0x40 * bit p + 0x20 * bit l.wide + (0x10 + routing_bits f.routing)) % 8
+    ≡ routing_bits f.routing = omega (arith, r.0) in
     let routing = ap routing_from number ∙ r.1 in
     head_is lead k.1 (λ i. Message (record {
       routing = routing i;
@@ -513,7 +566,17 @@ again_fields l p (Completion f) more fl ff =
     let lead = lead_again _ f.tag l (field_bytes l.wide (Completion f) ++ more) fl ff.5 k.0 in
     let s = status_again (status_bits f.status) f.bcm f.count ff.2.0 ff.3 in
     let status = ap status_from s.0 ∙ ff.2.1 in
-    head_is lead k.1 (λ i. Completion (record { completer = number_again f.completer ff.1 i; status = status i; bcm = s.1 i; count = s.2 i; requester = number_again f.requester ff.4 i; tag = tag_again l f.tag fl ff.5 i; lower = f.lower }))
+    head_is lead k.1 (λ i. Completion
+    (record {
+      completer = number_again f.completer ff.1 i;
+      status = status i;
+      bcm = s.1 i;
+      count = s.2 i;
+      requester
+          = number_again f.requester ff.4 i;
+      tag = tag_again l f.tag fl ff.5 i;
+      lower = f.lower;
+    }))
 
 pub again : (h : HeadView) (more : List ℕ) → FitsHead h → head_of (layout_of h.fields) (head_bytes h ++ more) ≡ h
 again h more fits = again_fields h.lead h.has_payload h.fields more fits.lead fits.fields

@@ -1,17 +1,20 @@
 -- Facts on single bytes, each tried at all 256 of them.
-use Rattle.std.proofs.Common.{◌≡◌, ℕ, ◌%◌, ◌<◌, Bool, true, ◌&&◌, not, ltb, eqb, bit_and, Option, Some, None, refl, sym, ap, ◌∙◌}
+use Rattle.std.proofs.Common.{◌≡◌, ℕ, ◌%◌, ◌<◌, Bool, true, ◌&&◌, not, ltb, eqb, bit_and, Option, Some, None, refl, sym}
+use Rattle.std.proofs.Common.{ap, ◌∙◌}
 use Rattle.std.specs.Prelude.{◌↔◌}
 use Rattle.std.proofs.lemmas.Bool.{agree_below, agree_below_at, eqb-true, ltb-true, eq-eqb, lt-ltb, and_parts, and_from}
 use Rattle.tlp_layout.specs.{is_wide, layout_at, Layout}
 use Rattle.tlp_layout.specs.Terms.layouts
 
-mask_is : (m : ℕ) (test : ℕ → Bool) → agree_below (λ b. eqb (bit_and m b) 0) test 256 ≡ true → (b : ℕ) → b < 256 → eqb (bit_and m b) 0 ≡ test b
+mask_is : (m : ℕ) (test : ℕ → Bool) → agree_below (λ b. eqb (bit_and m b) 0) test 256 ≡ true → (b : ℕ) → b < 256
+    → eqb (bit_and m b) 0 ≡ test b
 mask_is m test e b lt = agree_below_at (λ b. eqb (bit_and m b) 0) test 256 b e lt
 
 -- what the bits that are 0 say of a byte
 pub clear_3 : (b : ℕ) → b < 256 → (eqb (bit_and 0x03 b) 0 ≡ true) ↔ (b % 4 ≡ 0)
 clear_3 b lt =
-    let same = mask_is 0x03 (λ b. eqb (b % 4) 0) refl b lt in (λ e. eqb-true _ _ (sym same ∙ e), λ e. same ∙ eq-eqb _ _ e)
+    let same = mask_is 0x03 (λ b. eqb (b % 4) 0) refl b lt in
+    (λ e. eqb-true _ _ (sym same ∙ e), λ e. same ∙ eq-eqb _ _ e)
 
 pub clear_192 : (b : ℕ) → b < 256 → (eqb (bit_and 0xc0 b) 0 ≡ true) ↔ (b < 64)
 clear_192 b lt =
@@ -19,8 +22,11 @@ clear_192 b lt =
 
 pub clear_195 : (b : ℕ) → b < 256 → (eqb (bit_and 0xc3 b) 0 ≡ true) ↔ ((b < 64) × (b % 4 ≡ 0))
 clear_195 b lt =
-    let same = mask_is 0xc3 (λ b. ltb b 64 && eqb (b % 4) 0) refl b lt in
-    (λ e. let p = and_parts (ltb b 64) (eqb (b % 4) 0) (sym same ∙ e) in (ltb-true _ _ p.0, eqb-true _ _ p.1), λ e. same ∙ and_from _ _ (lt-ltb _ _ e.0) (eq-eqb _ _ e.1))
+    let same = mask_is 0xc3 (λ b. ltb b 64 && eqb (b % 4) 0) refl b lt in (
+      λ e. let p = and_parts (ltb b 64) (eqb (b % 4) 0) (sym same ∙ e) in (ltb-true _ _ p.0, eqb-true _ _ p.1),
+      λ e. same
+          ∙ and_from _ _ (lt-ltb _ _ e.0) (eq-eqb _ _ e.1),
+    )
 
 pub clear_240 : (b : ℕ) → b < 256 → (eqb (bit_and 0xf0 b) 0 ≡ true) ↔ (b < 16)
 clear_240 b lt =

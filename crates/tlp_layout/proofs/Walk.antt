@@ -1,10 +1,14 @@
--- Headers and TLPs as grammars: which byte may follow a front. The bytes behind byte 0 are judged each by its place alone,
--- so what walks is known place by place, and a byte that may come next is always at hand: 0, or the Length that is asked.
-use Rattle.std.proofs.Common.{◌≡◌, ℕ, zero, suc, ◌<◌, ◌≤◌, Bool, true, false, cond, eqb, ltb, bit_and, ◌&&◌, IsTrue, List, [], ◌∷◌, length, get_or, take, Option, Some, None, is_some, refl, ap, inl, inr, arith, length-take, get_or-take}
+-- Headers and TLPs as grammars: which byte may follow a front. The bytes behind byte 0 are judged each by its place
+-- alone, so what walks is known place by place, and a byte that may come next is always at hand: 0, or the Length that
+-- is asked.
+use Rattle.std.proofs.Common.{◌≡◌, ℕ, zero, suc, ◌<◌, ◌≤◌, Bool, true, false, cond, eqb, ltb, bit_and, ◌&&◌, IsTrue}
+use Rattle.std.proofs.Common.{List, [], ◌∷◌, length, get_or, take, Option, Some, None, is_some, refl, ap, inl, inr}
+use Rattle.std.proofs.Common.{arith, length-take, get_or-take}
 use Rattle.std.proofs.lemmas.Bool.{cases_lt, ltb-true, lt-ltb, le-ltb, ne_eqb, and_parts, and_from, cases_eq, eq-eqb}
 use Rattle.std.proofs.lemmas.Nat.{and_comm}
 use Rattle.first_fault.proofs.Fronts.{Fitting}
-use Rattle.tlp_layout.specs.{Layout, may_follow, rest_size, whole_size, is_wide, head_size, layout_at, reserved, allowed, body_size}
+use Rattle.tlp_layout.specs.{Layout, may_follow, rest_size, whole_size, is_wide, head_size, layout_at, reserved}
+use Rattle.tlp_layout.specs.{allowed, body_size}
 use Rattle.tlp_layout.specs.Terms.layouts
 pub use Rattle.tlp_layout.proofs.Heads.{head_size_at_least}
 
@@ -15,7 +19,8 @@ head_size_at_most b = elim (is_wide b) as (λ (w : Bool). cond w 16 12 ≤ 16) [
 
 -- a payload has 4,096 bytes at most
 pub body_at_most : (p : Bool) (n : ℕ) → n < 1024 → body_size p n ≤ 4096
-body_at_most true n lt = elim (cases_eq n 0) [ inl e ↦ rw (eq-eqb _ _ e) (omega arith) | inr ne ↦ rw (ne_eqb _ _ ne) (omega arith) ]
+body_at_most true n lt = elim (cases_eq n 0)
+    [ inl e ↦ rw (eq-eqb _ _ e) (omega arith) | inr ne ↦ rw (ne_eqb _ _ ne) (omega arith) ]
 body_at_most false n lt = omega arith
 
 pub rest_front : (i : ℕ) (s : List ℕ) → 4 ≤ i → rest_size (take i s) ≡ rest_size s
@@ -34,11 +39,13 @@ whole_front i s le = omega (arith, rest_front i s le, ap head_size (get_or-take 
 pub record IsWalked (k : Layout) (s : List ℕ) (n : ℕ) : Type 0 where
   pub fit : (i : ℕ) → i < n → get_or s i 0 < 256
   pub kind : layout_at (get_or s 0 0) ≡ Some k
-  pub agrees : (i : ℕ) → 0 < i → i < n → i < head_size (get_or s 0 0) → allowed k (head_size (get_or s 0 0)) i (get_or s i 0) ≡ true
+  pub agrees : (i : ℕ) → 0 < i → i < n → i < head_size (get_or s 0 0)
+      → allowed k (head_size (get_or s 0 0)) i (get_or s i 0) ≡ true
 
 -- behind byte 0 of a layout, what may follow a front goes by its place
 follow_is : (k : Layout) (s : List ℕ) → layout_at (get_or s 0 0) ≡ Some k → (i b : ℕ) → 0 < i → i ≤ length s
-    → may_follow (take i s) b ≡ (ltb b 256 && cond (ltb i (head_size (get_or s 0 0))) (allowed k (head_size (get_or s 0 0)) i b) true)
+    → may_follow (take i s) b ≡
+    (ltb b 256 && cond (ltb i (head_size (get_or s 0 0))) (allowed k (head_size (get_or s 0 0)) i b) true)
 follow_is k s kind zero b pos le = absurd (omega arith)
 follow_is k s kind (suc i) b pos le =
     let long : length (take (suc i) s) ≡ suc i = omega (arith, length-take (suc i) s) in
@@ -47,7 +54,8 @@ follow_is k s kind (suc i) b pos le =
 
 pub fits_from : (k : Layout) (s : List ℕ) (n : ℕ) → IsWalked k s n → n ≤ length s → Fitting may_follow s n
 fits_from k s n w le zero lt = and_from _ _ (lt-ltb _ _ (w.fit 0 lt)) (rw w.kind refl)
-fits_from k s n w le (suc i) lt = rw (follow_is k s w.kind (suc i) (get_or s (suc i) 0) (omega arith) (omega arith)) (and_from _ _ (lt-ltb _ _ (w.fit (suc i) lt)) (
+fits_from k s n w le (suc i) lt = rw (follow_is k s w.kind (suc i) (get_or s (suc i) 0) (omega arith) (omega arith))
+    (and_from _ _ (lt-ltb _ _ (w.fit (suc i) lt)) (
     elim (cases_lt (suc i) (head_size (get_or s 0 0))) [
       | inl less ↦ rw (lt-ltb _ _ less) (w.agrees (suc i) (omega arith) lt less)
       | inr past ↦ rw (le-ltb _ _ past) refl
@@ -67,8 +75,16 @@ agrees_there k s kind i lt pos less f =
 
 pub walked_in : (s : List ℕ) → 0 < length s → Fitting may_follow s (length s) → (k : Layout) × IsWalked k s (length s)
 walked_in s pos f =
-    let sk = some_of (layout_at (get_or s 0 0)) ((and_parts (ltb (get_or s 0 0) 256) (is_some (layout_at (get_or s 0 0))) (f 0 pos)).1) in
-    (sk.0, record { fit = λ i lt. ltb-true _ _ ((and_parts _ _ (f i lt)).0); kind = sk.1; agrees = λ i p lt less. agrees_there sk.0 s sk.1 i lt p less (f i lt) })
+    let sk = some_of (layout_at (get_or s 0 0))
+    ((and_parts (ltb (get_or s 0 0) 256) (is_some (layout_at (get_or s 0 0))) (f 0 pos)).1) in (
+      sk.0,
+      record {
+        fit = λ i lt. ltb-true _ _ ((and_parts _ _ (f i lt)).0);
+        kind = sk.1;
+        agrees = λ i p lt less.
+            agrees_there sk.0 s sk.1 i lt p less (f i lt);
+      },
+    )
 
 -- ---- one byte more
 
@@ -83,7 +99,8 @@ next_allowed layouts.Config size i = elim (cases_eq i 3) [
 ]
 next_allowed layouts.Memory size i = (0, omega arith, and_from _ _ (zero_clear (reserved layouts.Memory size i)) refl)
 next_allowed layouts.Message size i = (0, omega arith, and_from _ _ (zero_clear (reserved layouts.Message size i)) refl)
-next_allowed layouts.Completion size i = (0, omega arith, and_from _ _ (zero_clear (reserved layouts.Completion size i)) refl)
+next_allowed layouts.Completion size i =
+    (0, omega arith, and_from _ _ (zero_clear (reserved layouts.Completion size i)) refl)
 
 pub next_fits : (s : List ℕ) → Fitting may_follow s (length s) → (b : ℕ) × IsTrue (may_follow s b)
 next_fits [] f = (0, refl)

@@ -1,6 +1,7 @@
 -- Which byte may stand at each place of a header, and why another may not (PCI Express Base 6.0 section 2.2, as this
 -- profile has it: see Head).
-use Rattle.std.specs.Prelude.{ℕ, ◌+◌, ◌/◌, ◌%◌, Bool, true, List, length, slice_index, Option, Some, None, nat_lt, nat_le, ◌==◌, ◌&&◌, not, bit_and, if◌then◌else◌}
+use Rattle.std.specs.Prelude.{ℕ, ◌+◌, ◌/◌, ◌%◌, Bool, true, List, length, slice_index, Option, Some, None, nat_lt}
+use Rattle.std.specs.Prelude.{nat_le, ◌==◌, ◌&&◌, not, bit_and, if◌then◌else◌}
 use Rattle.tlp_layout.specs.Terms.{Layout, TlpFault, Short, Kind, Bit, Length, Trailing}
 use Rattle.tlp_layout.specs.declared.layout.Layout.TheVariants.{Memory, Config, Message, Completion}
 

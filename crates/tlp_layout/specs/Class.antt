@@ -6,7 +6,8 @@ use Rattle.ide_types.specs.declared.sub.SubKind.TheVariants.{Pr, Npr, Cpl}
 use Rattle.tlp_layout.specs.Terms.{HeadView, Fields, Layout, TlpKind}
 use Rattle.tlp_layout.specs.Terms.fields
 use Rattle.tlp_layout.specs.Terms.layouts
-use Rattle.tlp_layout.specs.declared.head.TlpKind.TheVariants.{MemRead, MemWrite, CfgRead, CfgWrite, Message, Completion}
+use Rattle.tlp_layout.specs.declared.head.TlpKind.TheVariants.{MemRead, MemWrite, CfgRead, CfgWrite, Message}
+use Rattle.tlp_layout.specs.declared.head.TlpKind.TheVariants.{Completion}
 use Rattle.tlp_layout.specs.Causes.{layout_at, has_data}
 
 abbrev pub layout_of : Fields → Layout

@@ -3,7 +3,8 @@
 -- is checked, which is 1; AT is kept at every value; no rule is kept on byte enables, on 4 KiB boundaries or on the
 -- payload's size; routings 6 and 7 are refused. Left out are I/O requests, locked reads, AtomicOps, deferrable memory
 -- writes, prefixes, the digest, processing hints, poisoned TLPs, and the headers of flit mode.
-use Rattle.std.specs.Prelude.{◌≡◌, ℕ, ◌+◌, ◌*◌, ◌/◌, ◌%◌, ◌^◌, ◌<◌, Bool, true, false, List, [], ◌∷◌, ◌++◌, length, if◌then◌else◌, All}
+use Rattle.std.specs.Prelude.{◌≡◌, ℕ, ◌+◌, ◌*◌, ◌/◌, ◌%◌, ◌^◌, ◌<◌, Bool, true, false, List, [], ◌∷◌, ◌++◌, length}
+use Rattle.std.specs.Prelude.{if◌then◌else◌, All}
 use Rattle.byteorder.specs.Endian.{big_bytes}
 use Rattle.tlp_layout.specs.Terms.{Lead, HeadView, Fields, Memory, Config, Message, Completion}
 use Rattle.tlp_layout.specs.Numbers.{bit, routing_bits, status_bits, FitsStatus}

@@ -1,5 +1,7 @@
 -- Reading from left to right: the header or the TLP that bytes spell, or their first fault, as functions.
-use Rattle.std.specs.Prelude.{ℕ, zero, suc, ◌+◌, ◌*◌, ◌/◌, ◌%◌, Bool, true, false, List, [], ◌∷◌, length, drop, slice_index, Option, Some, None, is_some, unwrap_or, Result, nat_lt, ◌==◌, ◌&&◌, if◌then◌else◌}
+use Rattle.std.specs.Prelude.{ℕ, zero, suc, ◌+◌, ◌*◌, ◌/◌, ◌%◌, Bool, true, false, List, [], ◌∷◌, length, drop}
+use Rattle.std.specs.Prelude.{slice_index, Option, Some, None, is_some, unwrap_or, Result, nat_lt, ◌==◌, ◌&&◌}
+use Rattle.std.specs.Prelude.{if◌then◌else◌}
 use Rattle.byteorder.specs.Endian.{big_number}
 use Rattle.first_fault.specs.Walks.{reading}
 use Rattle.tlp_layout.specs.Terms.{Layout, TlpFault, Lead, HeadView, Fields, Memory, Config, Message, Completion, Tlp}

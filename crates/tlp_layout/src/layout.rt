@@ -2,7 +2,8 @@
 //! (PCI Express Base 6.0 section 2.2).
 
 ghost use Rattle.std.specs.Prelude.{◌≡◌, ◌<◌};
-ghost use Rattle.tlp_layout.specs.Causes.{layout_at as layout_named, head_size as size_named, reserved as reserved_at, allowed, cause_at};
+ghost use Rattle.tlp_layout.specs.Causes.{layout_at as layout_named, head_size as size_named, reserved as reserved_at};
+ghost use Rattle.tlp_layout.specs.Causes.{allowed, cause_at};
 ghost use Rattle.tlp_layout.specs.Class.{kind_with, kind_at as kind_named};
 
 use crate::fault::TlpFault;

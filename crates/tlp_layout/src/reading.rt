@@ -1,11 +1,13 @@
 //! Reading TLPs.
 
-ghost use Rattle.std.specs.Prelude.{◌≡◌, ◌<◌, ◌≤◌, ◌+◌, Some, IfOk, IfErr, MatchResult, length, slice_index, if◌then◌else◌};
+ghost use Rattle.std.specs.Prelude.{◌≡◌, ◌<◌, ◌≤◌, ◌+◌, Some, IfOk, IfErr, MatchResult, length, slice_index};
+ghost use Rattle.std.specs.Prelude.{if◌then◌else◌};
 ghost use Rattle.tlp_layout.specs.Head.{SpellsHead};
 ghost use Rattle.tlp_layout.specs.Tlp.{SpellsTlp, view_of, viewed};
 ghost use Rattle.tlp_layout.specs.Causes.{layout_at as layout_named, head_size as size_named};
 ghost use Rattle.tlp_layout.specs.Faults.{IsFault, IsHeadFault};
-ghost use Rattle.tlp_layout.specs.Reading.{read_of, read_head_of, head_of, lead_of, fields_of, address_read, number_at as number_named, tag_at as tag_named};
+ghost use Rattle.tlp_layout.specs.Reading.{read_of, read_head_of, head_of, lead_of, fields_of, address_read};
+ghost use Rattle.tlp_layout.specs.Reading.{number_at as number_named, tag_at as tag_named};
 ghost use Rattle.tlp_layout.specs.Inside.{Agrees, Stops};
 ghost use Rattle.tlp_layout.specs.declared.tlp.Tlp.{Tlp};
 ghost use Rattle.tlp_layout.specs.declared.head.Fields.TheVariants.{Memory, Config, Message, Completion};

@@ -3,7 +3,8 @@
 ghost use Rattle.std.specs.Prelude.{◌≡◌, ◌+◌, ◌<◌, ◌≤◌, ◌++◌, OnOk, OnErr, length, vec_len, vec_capacity};
 ghost use Rattle.arrayvec.specs.ArrayVec.{array_vec_len};
 ghost use Rattle.byteorder.specs.Endian.{big_bytes};
-ghost use Rattle.tlp_layout.specs.Head.{head_bytes, lead_bytes as lead_bytes_of, field_bytes, first_byte as first_byte_of, tag_in, FitsLead, FitsFields, FitsHead};
+ghost use Rattle.tlp_layout.specs.Head.{head_bytes, lead_bytes as lead_bytes_of, field_bytes};
+ghost use Rattle.tlp_layout.specs.Head.{first_byte as first_byte_of, tag_in, FitsLead, FitsFields, FitsHead};
 ghost use Rattle.tlp_layout.specs.Tlp.{tlp_bytes, FitsTlp};
 ghost use Rattle.tlp_layout.specs.declared.head.Fields.TheVariants as variants;
 

@@ -1,26 +1,32 @@
 -- What each call makes of the unit that is seen.
-use Rattle.std.proofs.Common.{◌≡◌, ℕ, ◌+◌, ◌<◌, ◌≤◌, true, false, List, [], ◌∷◌, ◌++◌, length, take, drop, get_or, slice_range, Some, refl, sym, ap, ◌∙◌, subst, arith, length-append}
+use Rattle.std.proofs.Common.{◌≡◌, ℕ, ◌+◌, ◌<◌, ◌≤◌, true, false, List, [], ◌∷◌, ◌++◌, length, take, drop, get_or}
+use Rattle.std.proofs.Common.{slice_range, Some, refl, sym, ap, ◌∙◌, subst, arith, length-append}
 use Rattle.std.specs.List.{slice_get}
 use Rattle.std.proofs.lemmas.Bool.{lt-ltb, le-ltb}
 use Rattle.std.proofs.lemmas.List.{take-append-le, take_all}
 use Rattle.unit_aggregation.specs.declared.ends.PacketEnds.{PacketEnds}
-use Rattle.unit_aggregation.specs.Units.{Collected, empty_unit, has_room, with_packet, body_of, overwritten, with_bodies}
+use Rattle.unit_aggregation.specs.Units.{Collected, empty_unit, has_room, with_packet, body_of, overwritten}
+use Rattle.unit_aggregation.specs.Units.{with_bodies}
 use Rattle.unit_aggregation.specs.Layout.{parts, Rises, IsLaidOut, LieWithin}
-use Rattle.unit_aggregation.proofs.Parts.{rises_below, length-parts, bodies_of-parts, rises_on, parts-added, parts_at, rises_at, parts-rebodied}
+use Rattle.unit_aggregation.proofs.Parts.{rises_below, length-parts, bodies_of-parts, rises_on, parts-added, parts_at}
+use Rattle.unit_aggregation.proofs.Parts.{rises_at, parts-rebodied}
 
 -- the unit that is seen of these fields
 abbrev pub view : ℕ → ℕ → List ℕ → List ℕ → List PacketEnds → Collected
 view mode front x y es = record { mode = mode; front = take front x; packets = parts x y front 0 es }
 
-pub count_of : (mode front : ℕ) (x y : List ℕ) (es : List PacketEnds) (v : Collected) → view mode front x y es ≡ v → length v.packets ≡ length es
+pub count_of : (mode front : ℕ) (x y : List ℕ) (es : List PacketEnds) (v : Collected) → view mode front x y es ≡ v
+    → length v.packets ≡ length es
 count_of mode front x y es v is = ap (λ (u : Collected). length u.packets) (sym is) ∙ length-parts x y front 0 es
 
 -- ---- one more packet
 
-pub has_room-less : (mode front : ℕ) (x y : List ℕ) (es : List PacketEnds) (v : Collected) → view mode front x y es ≡ v → length es < mode → has_room v ≡ true
+pub has_room-less : (mode front : ℕ) (x y : List ℕ) (es : List PacketEnds) (v : Collected) → view mode front x y es ≡ v
+    → length es < mode → has_room v ≡ true
 has_room-less mode front x y es v is less = rw (← is, length-parts x y front 0 es) (lt-ltb (length es) mode less)
 
-pub has_room-full : (mode front : ℕ) (x y : List ℕ) (es : List PacketEnds) (v : Collected) → view mode front x y es ≡ v → mode ≤ length es → has_room v ≡ false
+pub has_room-full : (mode front : ℕ) (x y : List ℕ) (es : List PacketEnds) (v : Collected) → view mode front x y es ≡ v
+    → mode ≤ length es → has_room v ≡ false
 has_room-full mode front x y es v is full = rw (← is, length-parts x y front 0 es) (le-ltb (length es) mode full)
 
 pub view-full : (v : Collected) (head body : List ℕ) → has_room v ≡ false → v ≡ with_packet v head body
@@ -33,8 +39,13 @@ pub view-added : (mode front : ℕ) (x y head body : List ℕ) (es : List Packet
 view-added mode front x y head body es n m v is less r en em =
     let room = has_room-less mode front x y es v is less in
     let below = rises_below front 0 es (length x) (length y) r in
-    let one : view mode front (x ++ head) (y ++ body) (es ++ record { head = n; body = m } ∷ []) ≡ record (view mode front x y es) { packets = parts x y front 0 es ++ (head, body) ∷ [] } =
-    rw (en, em) (λ i. record { mode = mode; front = take-append-le front x head below.0 i; packets = parts-added x y head body front 0 es r i }) in
+    let one : view mode front (x ++ head) (y ++ body) (es ++ record { head = n; body = m } ∷ [])
+    ≡ record (view mode front x y es) { packets = parts x y front 0 es ++ (head, body) ∷ [] } =
+    rw (en, em) (λ i. record {
+      mode = mode;
+      front = take-append-le front x head below.0 i;
+      packets = parts-added x y head body front 0 es r i;
+    }) in
     rw room (one ∙ ap (λ (u : Collected). record u { packets = u.packets ++ (head, body) ∷ [] }) is)
 
 -- the new packet ends where the bytes now end, so all that stood before lies as it did
@@ -45,11 +56,13 @@ pub laid-added : (mode front : ℕ) (x y head body : List ℕ) (es : List Packet
 laid-added mode front x y head body es n m xs ys xs' ys' p less short_head short_body wider_x wider_y en em =
     let lx : length (x ++ head) ≡ n = length-append x head ∙ sym en in
     let ly : length (y ++ body) ≡ m = length-append y body ∙ sym em in
-    let more : length (es ++ record { head = n; body = m } ∷ []) ≡ length es + 1 = length-append es (record { head = n; body = m } ∷ []) in
+    let more : length (es ++ record { head = n; body = m } ∷ [])
+    ≡ length es + 1 = length-append es (record { head = n; body = m } ∷ []) in
     record {
       mode_fits = p.mode_fits;
       packets_fit = omega (arith, more, less);
-      rising = rw (lx, ly) (rises_on front 0 es (length x) (length y) n m p.rising (omega (arith, en)) (omega (arith, em)));
+      rising = rw (lx, ly) (rises_on front 0 es (length x) (length y) n m p.rising (omega (arith, en))
+          (omega (arith, em)));
       heads_fit = omega (arith, lx, en, more, p.heads_fit, short_head);
       bodies_fit = omega (arith, ly, em, more, p.bodies_fit, short_body);
       room_for_heads = omega (arith, p.room_for_heads, wider_x);
@@ -58,32 +71,48 @@ laid-added mode front x y head body es n m xs ys xs' ys' p less short_head short
 
 -- ---- one packet
 
-pub packet_at : (mode front : ℕ) (x y : List ℕ) (es : List PacketEnds) (i : ℕ) (s t : PacketEnds) (v : Collected) → view mode front x y es ≡ v
+pub packet_at : (mode front : ℕ) (x y : List ℕ) (es : List PacketEnds) (i : ℕ) (s t : PacketEnds) (v : Collected)
+    → view mode front x y es ≡ v
     → i < length es → s ≡ get_or (record { head = front; body = 0 } ∷ es) i s → t ≡ get_or es i t
     → slice_get v.packets i ≡ Some (slice_range x s.head t.head, slice_range y s.body t.body)
 packet_at mode front x y es i s t v is less es' et =
-    rw (← is) (subst (λ (u : PacketEnds). slice_get (parts x y front 0 es) i ≡ Some (slice_range x u.head t.head, slice_range y u.body t.body)) (sym es')
-    (subst (λ (w : PacketEnds). slice_get (parts x y front 0 es) i ≡ Some (slice_range x (get_or (record { head = front; body = 0 } ∷ es) i s).head w.head, slice_range y (get_or (record { head = front; body = 0 } ∷ es) i s).body w.body))
+    rw (← is) (subst (λ (u : PacketEnds). slice_get (parts x y front 0 es) i
+    ≡ Some (slice_range x u.head t.head, slice_range y u.body t.body)) (sym es')
+    (subst (λ (w : PacketEnds). slice_get (parts x y front 0 es) i
+    ≡ Some (
+      slice_range x (get_or (record { head = front; body = 0 } ∷ es) i s).head w.head,
+      slice_range y
+          (get_or (record { head = front; body = 0 } ∷ es) i s).body w.body,
+    ))
     (sym et)
     (parts_at x y front 0 es i s t less)))
 
-pub lies_within : (front : ℕ) (x y : List ℕ) (es : List PacketEnds) (i : ℕ) (s t : PacketEnds) → Rises front 0 es (length x) (length y)
+pub lies_within : (front : ℕ) (x y : List ℕ) (es : List PacketEnds) (i : ℕ) (s t : PacketEnds)
+    → Rises front 0 es (length x) (length y)
     → i < length es → s ≡ get_or (record { head = front; body = 0 } ∷ es) i s → t ≡ get_or es i t
     → LieWithin s t (length x) (length y)
 lies_within front x y es i s t r less es' et =
     subst (λ (u : PacketEnds). LieWithin u t (length x) (length y)) (sym es')
-    (subst (λ (w : PacketEnds). LieWithin (get_or (record { head = front; body = 0 } ∷ es) i s) w (length x) (length y)) (sym et)
+    (subst (λ (w : PacketEnds). LieWithin (get_or (record { head = front; body = 0 } ∷ es) i s) w (length x) (length y))
+    (sym et)
     (rises_at front 0 es (length x) (length y) i s t r less))
 
 -- ---- other bodies
 
-pub view-rebodied : (mode front n : ℕ) (x y new : List ℕ) (es : List PacketEnds) (v : Collected) → view mode front x y es ≡ v
+pub view-rebodied : (mode front n : ℕ) (x y new : List ℕ) (es : List PacketEnds) (v : Collected)
+    → view mode front x y es ≡ v
     → Rises front 0 es (length x) (length y) → n ≡ length y
     → view mode front x (take n (new ++ drop (length new) y)) es ≡ with_bodies v new
 view-rebodied mode front n x y new es v is r en =
     let bodies : body_of (view mode front x y es) ≡ y = bodies_of-parts x y front 0 es r in
-    let same : take n (new ++ drop (length new) y) ≡ overwritten (body_of (view mode front x y es)) new = rw (en, bodies) refl in
-    rw (← is) (rw same (λ i. record { mode = mode; front = take front x; packets = parts-rebodied x y (overwritten (body_of (view mode front x y es)) new) front 0 es r i }))
+    let same : take n (new ++ drop (length new) y) ≡ overwritten (body_of (view mode front x y es)) new = rw
+    (en, bodies) refl in
+    rw (← is) (rw same (λ i. record {
+      mode = mode;
+      front = take front x;
+      packets = parts-rebodied x y
+          (overwritten (body_of (view mode front x y es)) new) front 0 es r i;
+    }))
 
 -- ---- no packet
 
@@ -92,17 +121,25 @@ pub record IsEmpty (front : ℕ) (x y : List ℕ) (es : List PacketEnds) : Type 
   pub heads : x ≡ []
   pub bodies : y ≡ []
 
-pub nothing_left : (front : ℕ) (x y : List ℕ) (es : List PacketEnds) → take front x ≡ [] → parts x y front 0 es ≡ [] → Rises front 0 es (length x) (length y) → IsEmpty front x y es
+pub nothing_left : (front : ℕ) (x y : List ℕ) (es : List PacketEnds) → take front x ≡ [] → parts x y front 0 es ≡ []
+    → Rises front 0 es (length x) (length y) → IsEmpty front x y es
 nothing_left front x y [] none no_packets r =
-    record { ends = refl; heads = sym (take_all front x (omega (arith, r.0))) ∙ none; bodies = sym (take_all 0 y (omega (arith, r.1))) }
+    record {
+      ends = refl;
+      heads = sym (take_all front x (omega (arith, r.0))) ∙ none;
+      bodies = sym
+          (take_all 0 y (omega (arith, r.1)));
+    }
 nothing_left front x y (e ∷ es) none no_packets r = absurd cc
 
-pub emptied : (mode mode' front : ℕ) (x y : List ℕ) (es : List PacketEnds) → view mode front x y es ≡ empty_unit mode' → Rises front 0 es (length x) (length y) → IsEmpty front x y es
+pub emptied : (mode mode' front : ℕ) (x y : List ℕ) (es : List PacketEnds) → view mode front x y es ≡ empty_unit mode'
+    → Rises front 0 es (length x) (length y) → IsEmpty front x y es
 emptied mode mode' front x y es is r =
     nothing_left front x y es (ap (λ (u : Collected). u.front) is) (ap (λ (u : Collected). u.packets) is) r
 
 -- there was no packet, so the front alone lies in the heads
-pub laid-front : (mode front : ℕ) (x y bytes : List ℕ) (es : List PacketEnds) (xs ys xs' : ℕ) → IsLaidOut mode front es x y xs ys → IsEmpty front x y es
+pub laid-front : (mode front : ℕ) (x y bytes : List ℕ) (es : List PacketEnds) (xs ys xs' : ℕ)
+    → IsLaidOut mode front es x y xs ys → IsEmpty front x y es
     → length bytes ≡ 8 → xs ≤ xs' → IsLaidOut mode 8 es (x ++ bytes) y xs' ys
 laid-front mode front x y bytes es xs ys xs' p e long wider =
     rw (e.ends, e.heads, e.bodies) (record {
@@ -115,8 +152,11 @@ laid-front mode front x y bytes es xs ys xs' p e long wider =
       room_for_bodies = p.room_for_bodies;
     })
 
-pub view-front : (mode front : ℕ) (x y bytes : List ℕ) (es : List PacketEnds) (old : Collected) → IsEmpty front x y es → length bytes ≡ 8
-    → view mode front x y es ≡ empty_unit old.mode → old.packets ≡ [] → view mode 8 (x ++ bytes) y es ≡ record old { front = bytes }
+pub view-front : (mode front : ℕ) (x y bytes : List ℕ) (es : List PacketEnds) (old : Collected) → IsEmpty front x y es
+    → length bytes ≡ 8
+    → view mode front x y es ≡ empty_unit old.mode → old.packets ≡ [] → view mode 8 (x ++ bytes) y es
+    ≡ record old { front = bytes }
 view-front mode front x y bytes es old e long is none =
     let whole : take 8 bytes ≡ bytes = take_all 8 bytes (omega (arith, long)) in
-    rw (e.ends, e.heads) (λ i. record { mode = ap (λ (u : Collected). u.mode) is i; front = whole i; packets = sym none i })
+    rw (e.ends, e.heads) (λ i. record
+    { mode = ap (λ (u : Collected). u.mode) is i; front = whole i; packets = sym none i })

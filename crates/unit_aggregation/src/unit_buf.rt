@@ -1,6 +1,7 @@
 //! The packets of one unit.
 
-ghost use Rattle.std.specs.Prelude.{◌≡◌, ◌+◌, ◌*◌, ◌<◌, ◌≤◌, ◌++◌, [], ◌∷◌, IfOk, is_ok, Some, length, slice_get, slice_index_or, slice_range, vec_len, vec_capacity};
+ghost use Rattle.std.specs.Prelude.{◌≡◌, ◌+◌, ◌*◌, ◌<◌, ◌≤◌, ◌++◌, [], ◌∷◌, IfOk, is_ok, Some, length, slice_get};
+ghost use Rattle.std.specs.Prelude.{slice_index_or, slice_range, vec_len, vec_capacity};
 ghost use Rattle.unit_aggregation.specs.Layout.{LieWithin};
 
 use crate::ends::PacketEnds;

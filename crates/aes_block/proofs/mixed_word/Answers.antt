@@ -12,4 +12,5 @@ returns c =
     let lc : IsByte c.args.c = omega arith in
     let ld : IsByte c.args.d = omega arith in
     rw (row0-word c.args.a la, row1-word c.args.b lb, row2-word c.args.c lc, row3-word c.args.d ld)
-    (words-mixed (sbox c.args.a) (sbox c.args.b) (sbox c.args.c) (sbox c.args.d) (sbox-lt c.args.a la) (sbox-lt c.args.b lb) (sbox-lt c.args.c lc) (sbox-lt c.args.d ld))
+    (words-mixed (sbox c.args.a) (sbox c.args.b) (sbox c.args.c) (sbox c.args.d) (sbox-lt c.args.a la)
+    (sbox-lt c.args.b lb) (sbox-lt c.args.c lc) (sbox-lt c.args.d ld))

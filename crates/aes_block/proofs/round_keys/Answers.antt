@@ -14,9 +14,11 @@ keys-preserved c =
     record {
       long = length-set _ _ _ ∙ c.keys.invariant.long;
       made = λ k lt. elim (cases_lt k n) [
-        | inl old ↦ ap words_of (get_or-set_other c.keys.keys n k c.joined.result 0 (omega arith)) ∙ c.keys.invariant.made k old
+        | inl old ↦ ap words_of (get_or-set_other c.keys.keys n k c.joined.result 0 (omega arith)) ∙
+            c.keys.invariant.made k old
         | inr new ↦
             let e : k ≡ n = omega arith in
-            rw e (ap words_of (get_or-set_same c.keys.keys n c.joined.result 0 long) ∙ c.joined.ensures ∙ sym (four ws (4 * n) within))
+            rw e (ap words_of (get_or-set_same c.keys.keys n c.joined.result 0 long) ∙ c.joined.ensures ∙ sym
+            (four ws (4 * n) within))
       ];
     }

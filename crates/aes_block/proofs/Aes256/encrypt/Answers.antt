@@ -1,5 +1,6 @@
 use Rattle.std.proofs.Common.{refl, ℕ, ◌≡◌, ◌<◌, ◌+◌, ◌-◌, suc, sym, ap, ◌∙◌, arith, lit<}
-use Rattle.aes_block.specs.Aes.{rounds, round_words, aes, cipher, round_key, add_round_key, mix_columns, shift_rows, sub_bytes}
+use Rattle.aes_block.specs.Aes.{rounds, round_words, aes, cipher, round_key, add_round_key, mix_columns, shift_rows}
+use Rattle.aes_block.specs.Aes.{sub_bytes}
 use Rattle.aes_block.proofs.Aes256.encrypt.Goals as goal
 
 pub rounds-init : goal.rounds-init
@@ -16,7 +17,8 @@ rounds-preserved c =
     let within : c.rounds.n < 15 = omega arith in
     let held = rounds ws c.args.block.now m in
     c.round-t.ensures
-    ∙ (λ i. add_round_key (c.self.invariant c.rounds.n within i) (mix_columns (shift_rows (sub_bytes (c.rounds.invariant i)))))
+    ∙ (λ i. add_round_key (c.self.invariant c.rounds.n within i)
+    (mix_columns (shift_rows (sub_bytes (c.rounds.invariant i)))))
     ∙ ap (λ (n : ℕ). add_round_key (round_key ws n) (mix_columns (shift_rows (sub_bytes held)))) this
     ∙ sym (ap (rounds ws c.args.block.now) next)
 

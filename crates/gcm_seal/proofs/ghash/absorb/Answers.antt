@@ -5,7 +5,8 @@ use Rattle.gcm_seal.specs.Inside.{padded_block, padded_blocks}
 use Rattle.gcm_seal.specs.Inside.{absorbed, block_product}
 use Rattle.gcm_seal.proofs.ghash.absorb.Goals as goal
 
-absorbed-next : (h y : ℕ) (s : List ℕ) (i : ℕ) → absorbed h y (padded_blocks s (i + 1)) ≡ block_product h (bit_xor (absorbed h y (padded_blocks s i)) (padded_block s i))
+absorbed-next : (h y : ℕ) (s : List ℕ) (i : ℕ) → absorbed h y (padded_blocks s (i + 1))
+    ≡ block_product h (bit_xor (absorbed h y (padded_blocks s i)) (padded_block s i))
 unfolding padded_blocks
 absorbed-next h y s i =
     let next : i + 1 ≡ suc i = omega arith in
@@ -17,7 +18,8 @@ loop-i-init c = λ h are. refl
 
 pub loop-i-preserved : goal.loop-i-preserved
 loop-i-preserved c = λ h are.
-    c.times-x.ensures h are ∙ rw (c.loop-i.invariant h are, c.block_at.ensures) (sym (absorbed-next h c.args.y c.args.s.now c.loop-i.i))
+    c.times-x.ensures h are ∙ rw (c.loop-i.invariant h are, c.block_at.ensures)
+    (sym (absorbed-next h c.args.y c.args.s.now c.loop-i.i))
 
 pub returns : goal.returns
 returns c =

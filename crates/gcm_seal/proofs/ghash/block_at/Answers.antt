@@ -9,7 +9,8 @@ returns c =
     let rest : List ℕ = drop (16 * c.args.i) s in
     let whole = take_all (length s - 16 * c.args.i) rest (omega (arith, length-drop (16 * c.args.i) s)) in
     c.from_be_bytes.ensures
-    ∙ number_same c.loop-k.b rest (λ k lt. c.loop-k.invariant.copied k (omega arith) ∙ ap (λ (l : List ℕ). slice_index l k) whole)
+    ∙ number_same c.loop-k.b rest
+    (λ k lt. c.loop-k.invariant.copied k (omega arith) ∙ ap (λ (l : List ℕ). slice_index l k) whole)
 
 pub returns-then-rest-ge16 : goal.returns-then-rest-ge16
 returns-then-rest-ge16 c =
@@ -18,4 +19,5 @@ returns-then-rest-ge16 c =
     let front : List ℕ = take (length s - 16 * c.args.i) rest in
     let whole = take_all (length s - 16 * c.args.i) rest (omega (arith, length-drop (16 * c.args.i) s)) in
     c.whole_block.ensures
-    ∙ number_same (take 16 front) rest (λ k lt. get_or-take 16 front k 0 lt ∙ ap (λ (l : List ℕ). slice_index l k) whole)
+    ∙ number_same (take 16 front) rest
+    (λ k lt. get_or-take 16 front k 0 lt ∙ ap (λ (l : List ℕ). slice_index l k) whole)

@@ -12,9 +12,11 @@ pub loop-i-preserved : goal.loop-i-preserved
 loop-i-preserved c =
     elim c.if-n-i-eq1.branch [
       | then-n-i-eq1 w ↦
-          rw (w.z-is, c.times_x-z.ensures) (act_one c.loop-i.i c.args.n c.args.h c.loop-i.z w.if-n-i-eq1.true c.loop-i.invariant)
+          rw (w.z-is, c.times_x-z.ensures)
+          (act_one c.loop-i.i c.args.n c.args.h c.loop-i.z w.if-n-i-eq1.true c.loop-i.invariant)
       | else-n-i-eq1 w ↦
-          rw (w.z-is, c.times_x-z.ensures) (act_none c.loop-i.i c.args.n c.args.h c.loop-i.z w.if-n-i-eq1.false c.loop-i.invariant)
+          rw (w.z-is, c.times_x-z.ensures)
+          (act_none c.loop-i.i c.args.n c.args.h c.loop-i.z w.if-n-i-eq1.false c.loop-i.invariant)
     ]
 
 pub returns : goal.returns

@@ -18,12 +18,16 @@ loop-i-preserved c =
     let width : 64 - 4 * i ≡ k + 4 = omega arith in
     let even = rw width at c.loop-i.invariant.even in
     record {
-      shifted = ap (λ (x : ℕ). x / 2 ^ 4) c.loop-i.invariant.shifted ∙ shr-shr c.args.v (4 * i) 4 ∙ ap (λ (n : ℕ). c.args.v / 2 ^ n) next;
+      shifted = ap (λ (x : ℕ). x / 2 ^ 4) c.loop-i.invariant.shifted ∙ shr-shr c.args.v (4 * i) 4 ∙ ap
+          (λ (n : ℕ). c.args.v / 2 ^ n) next;
       even = low-next c.loop-i.z c.loop-i.w _ k (omega arith) even;
-      sum = λ h are. rw c.loop-i.invariant.shifted (halves-next c.args.m.now h c.args.v i c.loop-i.z c.loop-i.w are (low-even c.loop-i.w k even).0 (c.loop-i.invariant.sum h are));
+      sum = λ h are. rw c.loop-i.invariant.shifted
+          (halves-next c.args.m.now h c.args.v i c.loop-i.z c.loop-i.w are (low-even c.loop-i.w k even).0
+          (c.loop-i.invariant.sum h are));
     }
 
 pub returns : goal.returns
 returns c =
     let all : c.loop-i._i ≡ 16 = omega arith in
-    λ h are. c.reduced.ensures ∙ c.loop-i.invariant.sum h are ∙ ap (λ (i : ℕ). halves i c.args.v h) all ∙ halves-whole c.args.v h
+    λ h are. c.reduced.ensures ∙ c.loop-i.invariant.sum h are ∙ ap (λ (i : ℕ). halves i c.args.v h) all ∙ halves-whole
+    c.args.v h

@@ -6,7 +6,8 @@ use Rattle.ide_prefix.proofs.cutting.early.Goals as goal
 pub loop-place-preserved : goal.loop-place-preserved
 loop-place-preserved c = record {
   within = omega arith;
-  fits = below_more (λ (i : ℕ). fits_early i c.args.bytes.now (get_or c.args.bytes.now i 0) ≡ true) _ c.loop-place.invariant.fits (sym c.if-not-allows_early.ensures);
+  fits = below_more (λ (i : ℕ). fits_early i c.args.bytes.now (get_or c.args.bytes.now i 0) ≡ true) _
+      c.loop-place.invariant.fits (sym c.if-not-allows_early.ensures);
 }
 
 pub returns-then-place-bytes-clause-stops : goal.returns-then-place-bytes-clause-stops

@@ -4,4 +4,5 @@ use Rattle.packet_lines.proofs.Shows.{parts_join}
 use Rattle.packet_lines.proofs.showing.packet_text.Goals as goal
 
 pub returns : goal.returns
-returns c = parts_join (decimal c.args.number) _ _ _ (packet_of_view c.args.packet.now) c.in_ok-text.ensures.ok c.in_ok-push_prefix.ensures c.in_ok-push_carried.ensures
+returns c = parts_join (decimal c.args.number) _ _ _ (packet_of_view c.args.packet.now) c.in_ok-text.ensures.ok
+    c.in_ok-push_prefix.ensures c.in_ok-push_carried.ensures

@@ -12,24 +12,30 @@ returns-in_err-layout-clause-err c =
 pub returns-then-payload-wanted-clause-err : goal.returns-then-payload-wanted-clause-err
 returns-then-payload-wanted-clause-err c =
     let h = c.in_ok-layout.ensures in
-    let begun = has_head c.in_ok-layout.layout c.args.bytes.now c.in_ok-layout.size h.layout h.size h.agrees (λ i. omega (arith, c.type_inv.bytes i)) in
-    let wanted = wanted_is c.in_ok-layout.layout c.args.bytes.now c.head_view-head.ensures c.payload_size-wanted.ensures in
+    let begun = has_head c.in_ok-layout.layout c.args.bytes.now c.in_ok-layout.size h.layout h.size h.agrees
+    (λ i. omega (arith, c.type_inv.bytes i)) in
+    let wanted = wanted_is c.in_ok-layout.layout c.args.bytes.now c.head_view-head.ensures c.payload_size-wanted.ensures
+    in
     let less = rw take_rest at c.if-payload-wanted.true in
     tlp_short _ _ _ _ begun wanted (omega (arith, less, length-drop c.in_ok-layout.size c.args.bytes.now))
 
 pub returns-then-payload-wanted-2-clause-err : goal.returns-then-payload-wanted-2-clause-err
 returns-then-payload-wanted-2-clause-err c =
     let h = c.in_ok-layout.ensures in
-    let begun = has_head c.in_ok-layout.layout c.args.bytes.now c.in_ok-layout.size h.layout h.size h.agrees (λ i. omega (arith, c.type_inv.bytes i)) in
-    let wanted = wanted_is c.in_ok-layout.layout c.args.bytes.now c.head_view-head.ensures c.payload_size-wanted.ensures in
+    let begun = has_head c.in_ok-layout.layout c.args.bytes.now c.in_ok-layout.size h.layout h.size h.agrees
+    (λ i. omega (arith, c.type_inv.bytes i)) in
+    let wanted = wanted_is c.in_ok-layout.layout c.args.bytes.now c.head_view-head.ensures c.payload_size-wanted.ensures
+    in
     let more = rw take_rest at c.if-payload-wanted-2.true in
     tlp_trails _ _ _ _ begun wanted (omega (arith, more, length-drop c.in_ok-layout.size c.args.bytes.now))
 
 pub returns-clause-ok : goal.returns-clause-ok
 returns-clause-ok c =
     let h = c.in_ok-layout.ensures in
-    let begun = has_head c.in_ok-layout.layout c.args.bytes.now c.in_ok-layout.size h.layout h.size h.agrees (λ i. omega (arith, c.type_inv.bytes i)) in
-    let wanted = wanted_is c.in_ok-layout.layout c.args.bytes.now c.head_view-head.ensures c.payload_size-wanted.ensures in
+    let begun = has_head c.in_ok-layout.layout c.args.bytes.now c.in_ok-layout.size h.layout h.size h.agrees
+    (λ i. omega (arith, c.type_inv.bytes i)) in
+    let wanted = wanted_is c.in_ok-layout.layout c.args.bytes.now c.head_view-head.ensures c.payload_size-wanted.ensures
+    in
     let less = rw take_rest at c.if-payload-wanted.false in
     let more = rw take_rest at c.if-payload-wanted-2.false in
     let long = length-drop c.in_ok-layout.size c.args.bytes.now in

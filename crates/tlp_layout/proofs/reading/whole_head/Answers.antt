@@ -11,11 +11,13 @@ returns-in_err-layout-clause-err c =
 pub returns-then-bytes-size-clause-err : goal.returns-then-bytes-size-clause-err
 returns-then-bytes-size-clause-err c =
     let h = c.in_ok-layout.ensures in
-    let begun = has_head c.in_ok-layout.layout c.args.bytes.now c.in_ok-layout.size h.layout h.size h.agrees (λ i. omega (arith, c.type_inv.bytes i)) in
+    let begun = has_head c.in_ok-layout.layout c.args.bytes.now c.in_ok-layout.size h.layout h.size h.agrees
+    (λ i. omega (arith, c.type_inv.bytes i)) in
     head_trails _ _ _ begun (omega arith)
 
 pub returns-clause-ok : goal.returns-clause-ok
 returns-clause-ok c =
     let h = c.in_ok-layout.ensures in
-    let begun = has_head c.in_ok-layout.layout c.args.bytes.now c.in_ok-layout.size h.layout h.size h.agrees (λ i. omega (arith, c.type_inv.bytes i)) in
+    let begun = has_head c.in_ok-layout.layout c.args.bytes.now c.in_ok-layout.size h.layout h.size h.agrees
+    (λ i. omega (arith, c.type_inv.bytes i)) in
     rw c.head_view.ensures (head_found _ _ _ begun (omega arith))

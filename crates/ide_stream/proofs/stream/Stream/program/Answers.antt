@@ -8,5 +8,7 @@ use Rattle.ide_stream.proofs.stream.Stream.program.Goals as goal
 
 pub invariant_of-self : goal.invariant_of-self
 invariant_of-self c =
-    subst (λ (d : Directions). IsStream d c.self.inside.calls) (sym (c.settle.ensures ∙ ap settled_directions c.program-answer.ensures.directions))
-    (call-kept c.sends.result c.args.sub (Program (is_one c.args.set) c.args.key c.args.draw) c.self.inside.directions c.self.inside.calls c.self.invariant)
+    subst (λ (d : Directions). IsStream d c.self.inside.calls)
+    (sym (c.settle.ensures ∙ ap settled_directions c.program-answer.ensures.directions))
+    (call-kept c.sends.result c.args.sub (Program (is_one c.args.set) c.args.key c.args.draw) c.self.inside.directions
+    c.self.inside.calls c.self.invariant)

@@ -10,12 +10,17 @@ pub returns-clause-stream : goal.returns-clause-stream
 returns-clause-stream c =
     let inside = c.self.inside in
     let p = packet_of_view c.args.packet.now in
-    (λ i. end_of inside.side (record inside.directions { rx = c.take-taken.ensures.lanes i; failed = c.failed-self-inside.ensures i }) (inside.calls + 1))
-    ∙ end-taken inside.side inside.directions inside.calls p c.take-taken.result c.self.invariant c.if-self.false c.take-taken.ensures.answer
+    (λ i. end_of inside.side
+    (record inside.directions { rx = c.take-taken.ensures.lanes i; failed = c.failed-self-inside.ensures i })
+    (inside.calls + 1))
+    ∙ end-taken inside.side inside.directions inside.calls p c.take-taken.result c.self.invariant c.if-self.false
+    c.take-taken.ensures.answer
     ∙ ap (λ (e : StreamEnd). end_taken e p) c.self.view_is
 
 pub invariant_of-self-2 : goal.invariant_of-self-2
 invariant_of-self-2 c =
     let inside = c.self.inside in
-    subst (λ (x : ReceiveEnds). IsStream (record inside.directions { rx = x; failed = c.failed-self-inside.result }) (inside.calls + 1)) (sym c.take-taken.ensures.lanes)
-    (take-kept inside.directions inside.calls (packet_of_view c.args.packet.now) c.failed-self-inside.result c.self.invariant)
+    subst (λ (x : ReceiveEnds). IsStream (record inside.directions { rx = x; failed = c.failed-self-inside.result })
+    (inside.calls + 1)) (sym c.take-taken.ensures.lanes)
+    (take-kept inside.directions inside.calls (packet_of_view c.args.packet.now) c.failed-self-inside.result
+    c.self.invariant)

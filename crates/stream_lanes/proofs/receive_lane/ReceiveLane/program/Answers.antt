@@ -7,5 +7,7 @@ use Rattle.stream_lanes.proofs.receive_lane.ReceiveLane.program.Goals as goal
 
 pub invariant_of-self : goal.invariant_of-self
 invariant_of-self c =
-    subst (λ (rx : Receiver). IsReceiveLane rx c.self.inside.closed c.self.inside.sum c.self.inside.got c.self.inside.total) (sym c.program.ensures.receiver)
-    (programmed-right (is_one c.args.set) c.self.inside.rx c.self.inside.closed c.self.inside.sum c.self.inside.got c.self.inside.total c.args.key c.args.draw c.self.invariant)
+    subst (λ (rx : Receiver). IsReceiveLane rx c.self.inside.closed c.self.inside.sum c.self.inside.got
+    c.self.inside.total) (sym c.program.ensures.receiver)
+    (programmed-right (is_one c.args.set) c.self.inside.rx c.self.inside.closed c.self.inside.sum c.self.inside.got
+    c.self.inside.total c.args.key c.args.draw c.self.invariant)

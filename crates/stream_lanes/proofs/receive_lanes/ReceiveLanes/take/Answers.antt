@@ -12,32 +12,42 @@ packet : goal.After-self-2-1 → Packet
 packet c = packet_of_view c.args.packet.now
 
 here : goal.After-self-2-1 → Taken
-here c = taken_here (picked (packet c).prefix.sub c.self.inside.pr c.self.inside.npr c.self.inside.cpl) c.self.inside.pr.kept.got (packet c)
+here c = taken_here (picked (packet c).prefix.sub c.self.inside.pr c.self.inside.npr c.self.inside.cpl)
+    c.self.inside.pr.kept.got (packet c)
 
-after : (c : goal.After-self-2-1) → AreAfter (packet c) (here c) c.take_in-taken.result c.self.inside.pr c.self.inside.npr c.self.inside.cpl c.drop_failed.new.lane c.drop_failed-2.new.lane c.drop_failed-3.new.lane
+after : (c : goal.After-self-2-1) → AreAfter (packet c) (here c) c.take_in-taken.result c.self.inside.pr
+    c.self.inside.npr c.self.inside.cpl c.drop_failed.new.lane c.drop_failed-2.new.lane c.drop_failed-3.new.lane
 unfolding packet here
 after c =
     let inside = c.self.inside in
     let u = c.args.packet.now.prefix.sub in
     record {
-      pr_is = own-after u Pr (packet c) c.take_in-taken.result inside.pr inside.npr inside.cpl c.take_in-taken.new.pr c.drop_failed.new.lane inside.pr.kept.got c.take_in-taken.ensures.pr c.drop_failed.ensures.kept
+      pr_is = own-after u Pr (packet c) c.take_in-taken.result inside.pr inside.npr inside.cpl c.take_in-taken.new.pr
+          c.drop_failed.new.lane inside.pr.kept.got c.take_in-taken.ensures.pr c.drop_failed.ensures.kept
           c.drop_failed.ensures.delivered c.drop_failed.ensures.rest;
-      npr_is = own-after u Npr (packet c) c.take_in-taken.result inside.pr inside.npr inside.cpl c.take_in-taken.new.npr c.drop_failed-2.new.lane inside.pr.kept.got c.take_in-taken.ensures.npr c.drop_failed-2.ensures.kept
+      npr_is = own-after u Npr (packet c) c.take_in-taken.result inside.pr inside.npr inside.cpl c.take_in-taken.new.npr
+          c.drop_failed-2.new.lane inside.pr.kept.got c.take_in-taken.ensures.npr c.drop_failed-2.ensures.kept
           c.drop_failed-2.ensures.delivered c.drop_failed-2.ensures.rest;
-      cpl_is = own-after u Cpl (packet c) c.take_in-taken.result inside.pr inside.npr inside.cpl c.take_in-taken.new.cpl c.drop_failed-3.new.lane inside.pr.kept.got c.take_in-taken.ensures.cpl c.drop_failed-3.ensures.kept
+      cpl_is = own-after u Cpl (packet c) c.take_in-taken.result inside.pr inside.npr inside.cpl c.take_in-taken.new.cpl
+          c.drop_failed-3.new.lane inside.pr.kept.got c.take_in-taken.ensures.cpl c.drop_failed-3.ensures.kept
           c.drop_failed-3.ensures.delivered c.drop_failed-3.ensures.rest;
     }
 
-among : (c : goal.After-self-2-1) → here c ≡ taken_among (view c.self.inside.pr c.self.inside.npr c.self.inside.cpl c.self.inside.lent c.self.inside.takes) (packet c)
+among : (c : goal.After-self-2-1) → here c ≡ taken_among
+    (view c.self.inside.pr c.self.inside.npr c.self.inside.cpl c.self.inside.lent c.self.inside.takes) (packet c)
 unfolding here
-among c = among-here c.self.inside.pr c.self.inside.npr c.self.inside.cpl c.self.inside.lent c.self.inside.takes (packet c) c.self.invariant
+among c = among-here c.self.inside.pr c.self.inside.npr c.self.inside.cpl c.self.inside.lent c.self.inside.takes
+    (packet c) c.self.invariant
 
 pub returns-clause-lanes : goal.returns-clause-lanes
 unfolding packet here
 returns-clause-lanes c =
     let inside = c.self.inside in
-    ap (λ (o : Option SubKind). view c.drop_failed.new.lane c.drop_failed-2.new.lane c.drop_failed-3.new.lane o (inside.takes + 1)) c.lends-self-inside.ensures
-    ∙ ends-after (packet c) (here c) c.take_in-taken.result inside.pr inside.npr inside.cpl c.drop_failed.new.lane c.drop_failed-2.new.lane c.drop_failed-3.new.lane inside.lent inside.takes c.take_in-taken.ensures.answer (after c)
+    ap (λ (o : Option SubKind). view c.drop_failed.new.lane c.drop_failed-2.new.lane c.drop_failed-3.new.lane o
+    (inside.takes + 1)) c.lends-self-inside.ensures
+    ∙ ends-after (packet c) (here c) c.take_in-taken.result inside.pr inside.npr inside.cpl c.drop_failed.new.lane
+    c.drop_failed-2.new.lane c.drop_failed-3.new.lane inside.lent inside.takes c.take_in-taken.ensures.answer
+    (after c)
     ∙ ap (ends_after (view inside.pr inside.npr inside.cpl inside.lent inside.takes) (packet c)) (among c)
     ∙ ap (λ (x : ReceiveEnds). ends_after x (packet c) (taken_among x (packet c))) c.self.view_is
 
@@ -45,5 +55,6 @@ pub invariant_of-self : goal.invariant_of-self
 unfolding packet here
 invariant_of-self c =
     let inside = c.self.inside in
-    lanes-kept (packet c) (here c) c.take_in-taken.result inside.pr inside.npr inside.cpl c.drop_failed.new.lane c.drop_failed-2.new.lane c.drop_failed-3.new.lane inside.takes
+    lanes-kept (packet c) (here c) c.take_in-taken.result inside.pr inside.npr inside.cpl c.drop_failed.new.lane
+    c.drop_failed-2.new.lane c.drop_failed-3.new.lane inside.takes
     (subst (λ (x : ReceiveEnds). x.takes < 2 ^ 40) (sym c.self.view_is) c.requires.few) c.self.invariant refl (after c)

@@ -1,7 +1,8 @@
 use Rattle.std.proofs.Common.{◌≡◌, ◌+◌, ◌++◌, true, if◌then◌else◌, [], ℕ, List, Result, Ok, sym, ap, ◌∙◌, subst, refl}
 use Rattle.ide_prefix.specs.Packet.{packet_bytes}
 use Rattle.stream_rules.specs.Slots.{any_live}
-use Rattle.sub_stream.specs.{Sender, Sealing, Content, tlp_content, sealing_of, sealing_answer, sealing_bytes, sender_after}
+use Rattle.sub_stream.specs.{Sender, Sealing, Content, tlp_content, sealing_of, sealing_answer, sealing_bytes}
+use Rattle.sub_stream.specs.{sender_after}
 use Rattle.sub_stream.specs.Gathered.{lent_front}
 use Rattle.sub_stream.specs.declared.answer.SealedPacket.{SealedPacket}
 use Rattle.sub_stream.specs.declared.answer.TxRefusal.{TxRefusal}
@@ -19,19 +20,24 @@ content : goal.After-count → Content
 content c = tlp_content c.args.head.now c.args.payload.now c.self.inside.posted c.args.t
 
 sealed : goal.After-count → Sealing
-sealed c = sealing_right c.self.inside.tx c.self.inside.closed c.self.inside.posted c.self.inside.total (content c) c.args.more
+sealed c = sealing_right c.self.inside.tx c.self.inside.closed c.self.inside.posted c.self.inside.total (content c)
+    c.args.more
 
-right : (c : goal.After-count) → sealing_of c.self.inside.tx (lent_front c.front-front.result) (content c) c.args.more ≡ Ok (sealed c)
+right : (c : goal.After-count) → sealing_of c.self.inside.tx (lent_front c.front-front.result) (content c) c.args.more
+    ≡ Ok (sealed c)
 unfolding sealed content
 right c =
-    sealing-is c.self.inside.tx c.self.inside.limit c.self.inside.closed c.self.inside.posted c.self.inside.total (lent_front c.front-front.result) (content c) c.args.more
+    sealing-is c.self.inside.tx c.self.inside.limit c.self.inside.closed c.self.inside.posted c.self.inside.total
+    (lent_front c.front-front.result) (content c) c.args.more
     c.self.invariant (live c) (ap is_spent c.self.view_is ∙ c.requires.unworn)
-    (c.front-front.ensures ∙ ap (λ (b : List ℕ). if c.self.inside.closed then b else []) c.to_be_bytes-total.ensures) refl
+    (c.front-front.ensures ∙ ap (λ (b : List ℕ). if c.self.inside.closed then b else []) c.to_be_bytes-total.ensures)
+    refl
 
 ok_is : (a b : SealedPacket) (r : Result SealedPacket TxRefusal) → r ≡ Ok a → r ≡ Ok b → a ≡ b
 ok_is a b r e f = cc
 
-packet_is : (c : goal.After-count) → c.in-Ok.packet ≡ measured (tlp_said (end c) c.args.t c.args.more) (packet_in (end c) c.args.head.now c.args.payload.now (tlp_said (end c) c.args.t c.args.more))
+packet_is : (c : goal.After-count) → c.in-Ok.packet ≡ measured (tlp_said (end c) c.args.t c.args.more)
+    (packet_in (end c) c.args.head.now c.args.payload.now (tlp_said (end c) c.args.t c.args.more))
 unfolding sealed content end
 packet_is c = ok_is _ _ _ (sym c.in-Ok.ensures.answer) (ap sealing_answer (right c))
 
@@ -39,20 +45,23 @@ pub returns-clause-answer : goal.returns-clause-answer
 unfolding end
 returns-clause-answer c =
     packet_is c
-    ∙ ap (λ (e : SendEnd). measured (tlp_said e c.args.t c.args.more) (packet_in e c.args.head.now c.args.payload.now (tlp_said e c.args.t c.args.more))) c.self.view_is
+    ∙ ap (λ (e : SendEnd). measured (tlp_said e c.args.t c.args.more)
+    (packet_in e c.args.head.now c.args.payload.now (tlp_said e c.args.t c.args.more))) c.self.view_is
 
 pub returns-clause-bytes : goal.returns-clause-bytes
 unfolding sealed content end
 returns-clause-bytes c =
     c.in-Ok.ensures.bytes
     ∙ ap (λ (s : Result Sealing TxRefusal). c.args.out.now.items ++ sealing_bytes s) (right c)
-    ∙ ap (λ (e : SendEnd). c.args.out.now.items ++ packet_bytes (packet_in e c.args.head.now c.args.payload.now (tlp_said e c.args.t c.args.more))) c.self.view_is
+    ∙ ap (λ (e : SendEnd). c.args.out.now.items ++ packet_bytes
+    (packet_in e c.args.head.now c.args.payload.now (tlp_said e c.args.t c.args.more))) c.self.view_is
 
 sender_is : (c : goal.After-count) → c.seal.new.self ≡ (sealed c).sender
 unfolding content
 sender_is c = c.in-Ok.ensures.sender ∙ ap (sender_after c.self.inside.tx) (right c)
 
-total_is : (c : goal.After-count) → c.count.new.total ≡ (if (tlp_said (end c) c.args.t c.args.more).m then c.self.inside.total + 1 else c.self.inside.total)
+total_is : (c : goal.After-count) → c.count.new.total ≡
+    (if (tlp_said (end c) c.args.t c.args.more).m then c.self.inside.total + 1 else c.self.inside.total)
 unfolding end
 total_is c =
     c.count.ensures.total
@@ -62,11 +71,13 @@ pub returns-clause-lane : goal.returns-clause-lane
 unfolding sealed content end
 returns-clause-lane c =
     (λ i. view (sender_is c i) c.self.inside.closed (c.count.ensures.posted i) (total_is c i))
-    ∙ ap (λ (e : SendEnd). sealed_end e c.args.head.now c.args.payload.now (tlp_said e c.args.t c.args.more)) c.self.view_is
+    ∙ ap (λ (e : SendEnd). sealed_end e c.args.head.now c.args.payload.now (tlp_said e c.args.t c.args.more))
+    c.self.view_is
 
 pub invariant_of-self : goal.invariant_of-self
 unfolding sealed content end
 invariant_of-self c =
     let Kept : Sender × ℕ × ℕ → Type 0 = λ y. IsSendLane y.0 c.self.inside.limit c.self.inside.closed y.1 y.2 in
     subst Kept (λ i. (sym (sender_is c) i, sym c.count.ensures.posted i, sym (total_is c) i))
-    (sealed-kept c.self.inside.tx c.self.inside.limit c.self.inside.closed c.self.inside.posted c.self.inside.total c.args.more (sealed c).packet _ c.self.invariant (live c) refl)
+    (sealed-kept c.self.inside.tx c.self.inside.limit c.self.inside.closed c.self.inside.posted c.self.inside.total
+    c.args.more (sealed c).packet _ c.self.invariant (live c) refl)

@@ -11,20 +11,28 @@ invariant_of-self c =
     let inside = c.self.inside in
     let d = tlp_said inside.pr c.args.t c.args.more in
     let p = packet_in inside.pr c.args.head.now c.args.payload.now d in
-    let live : any_live inside.pr.kept.slots ≡ true = subst (λ (x : SendEnds). any_live x.tx.pr.slots ≡ true) (sym c.self.view_is) c.requires.live in
+    let live : any_live inside.pr.kept.slots ≡ true = subst (λ (x : SendEnds). any_live x.tx.pr.slots ≡ true)
+    (sym c.self.view_is) c.requires.live in
     let npr : inside.npr.kept.posted + inside.fixed.mode ≤ 255 + length (open_in inside.pr.kept.slots) =
-    subst (λ (x : SendEnds). x.tx.npr.posted + x.fixed.mode ≤ 255 + length (open_in x.tx.pr.slots)) (sym c.self.view_is) c.requires.npr_room in
+    subst (λ (x : SendEnds). x.tx.npr.posted + x.fixed.mode ≤ 255 + length (open_in x.tx.pr.slots)) (sym c.self.view_is)
+    c.requires.npr_room in
     let cpl : inside.cpl.kept.posted + inside.fixed.mode ≤ 255 + length (open_in inside.pr.kept.slots) =
-    subst (λ (x : SendEnds). x.tx.cpl.posted + x.fixed.mode ≤ 255 + length (open_in x.tx.pr.slots)) (sym c.self.view_is) c.requires.cpl_room in
+    subst (λ (x : SendEnds). x.tx.cpl.posted + x.fixed.mode ≤ 255 + length (open_in x.tx.pr.slots)) (sym c.self.view_is)
+    c.requires.cpl_room in
     record {
-      is_pr = lane-kept inside.fixed Pr inside.pr c.seal-packet.new.self _ c.self.invariant.is_pr c.seal-packet.ensures.lane;
-      is_npr = lane-kept inside.fixed Npr inside.npr c.count_posted.new.self _ c.self.invariant.is_npr c.count_posted.ensures;
-      is_cpl = lane-kept inside.fixed Cpl inside.cpl c.count_posted-2.new.self _ c.self.invariant.is_cpl c.count_posted-2.ensures;
+      is_pr = lane-kept inside.fixed Pr inside.pr c.seal-packet.new.self _ c.self.invariant.is_pr
+          c.seal-packet.ensures.lane;
+      is_npr = lane-kept inside.fixed Npr inside.npr c.count_posted.new.self _ c.self.invariant.is_npr
+          c.count_posted.ensures;
+      is_cpl = lane-kept inside.fixed Cpl inside.cpl c.count_posted-2.new.self _ c.self.invariant.is_cpl
+          c.count_posted-2.ensures;
       small_mode = c.self.invariant.small_mode;
       npr_room =
-          subst (λ (y : SendEnd × SendEnd). HasRoom inside.fixed.mode y.0.kept y.1.kept) (λ i. (sym c.seal-packet.ensures.lane i, sym c.count_posted.ensures i))
+          subst (λ (y : SendEnd × SendEnd). HasRoom inside.fixed.mode y.0.kept y.1.kept)
+          (λ i. (sym c.seal-packet.ensures.lane i, sym c.count_posted.ensures i))
           (room-sealed inside.fixed.mode inside.npr.kept.posted d.m p inside.pr.kept.slots live npr);
       cpl_room =
-          subst (λ (y : SendEnd × SendEnd). HasRoom inside.fixed.mode y.0.kept y.1.kept) (λ i. (sym c.seal-packet.ensures.lane i, sym c.count_posted-2.ensures i))
+          subst (λ (y : SendEnd × SendEnd). HasRoom inside.fixed.mode y.0.kept y.1.kept)
+          (λ i. (sym c.seal-packet.ensures.lane i, sym c.count_posted-2.ensures i))
           (room-sealed inside.fixed.mode inside.cpl.kept.posted d.m p inside.pr.kept.slots live cpl);
     }

@@ -13,8 +13,13 @@ returns-in-Some c =
     record {
       answer = early-taken c.args.self.now c.args.allowed (lent_front c.args.front) p c.in-Some.taken early;
       receiver =
-          ap (λ (h : Holds). view c.self.inside.stream c.self.inside.sub c.self.inside.mode c.self.inside.zero c.self.inside.one c.self.inside.slots h c.self.inside.unit (c.self.inside.takes + 1)) c.unless_failed-self-inside.ensures
-          ∙ view-early c.self.inside.stream c.self.inside.sub c.self.inside.mode c.self.inside.zero c.self.inside.one c.self.inside.slots c.self.inside.holds c.self.inside.unit c.self.inside.takes (c.self.inside.takes + 1) c.in-Some.taken
+          ap (λ (h : Holds). view c.self.inside.stream c.self.inside.sub c.self.inside.mode c.self.inside.zero
+          c.self.inside.one c.self.inside.slots h c.self.inside.unit (c.self.inside.takes + 1))
+          c.unless_failed-self-inside.ensures
+          ∙ view-early c.self.inside.stream c.self.inside.sub c.self.inside.mode c.self.inside.zero c.self.inside.one
+          c.self.inside.slots c.self.inside.holds c.self.inside.unit c.self.inside.takes (c.self.inside.takes + 1)
+          c.in-Some.taken
           ∙ ap (λ (rx : Receiver). record (after_early rx c.in-Some.taken) { takes = rx.takes + 1 }) c.self.view_is
-          ∙ ap (λ (rx : Receiver). record rx { takes = c.args.self.now.takes + 1 }) (sym (early-after c.args.self.now c.args.allowed (lent_front c.args.front) p c.in-Some.taken early));
+          ∙ ap (λ (rx : Receiver). record rx { takes = c.args.self.now.takes + 1 })
+          (sym (early-after c.args.self.now c.args.allowed (lent_front c.args.front) p c.in-Some.taken early));
     }

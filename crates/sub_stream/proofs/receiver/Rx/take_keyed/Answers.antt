@@ -1,4 +1,5 @@
-use Rattle.std.proofs.Common.{◌≡◌, ℕ, ◌+◌, Bool, true, false, List, [], ◌∷◌, length, arith, Some, refl, sym, ap, ◌∙◌, subst, if◌then◌else◌}
+use Rattle.std.proofs.Common.{◌≡◌, ℕ, ◌+◌, Bool, true, false, List, [], ◌∷◌, length, arith, Some, refl, sym, ap, ◌∙◌}
+use Rattle.std.proofs.Common.{subst, if◌then◌else◌}
 use Rattle.ide_prefix.specs.Cut.{packet_of_view}
 use Rattle.ide_prefix.specs.Packet.{Packet}
 use Rattle.stream_rules.specs.Stream.{Taken}
@@ -8,9 +9,11 @@ use Rattle.sub_stream.specs.Answers.{answer_of}
 use Rattle.sub_stream.specs.Gathered.{Gathered, lent_front}
 use Rattle.sub_stream.specs.Seen.{live_with}
 use Rattle.sub_stream.specs.Senders.{begun_where_empty}
-use Rattle.sub_stream.specs.Receivers.{Receiver, fits_held, judged, early_of, taken_of, after_answer, BufferAfter, IsReceiver}
+use Rattle.sub_stream.specs.Receivers.{Receiver, fits_held, judged, early_of, taken_of, after_answer, BufferAfter}
+use Rattle.sub_stream.specs.Receivers.{IsReceiver}
 use Rattle.sub_stream.proofs.Receiving.{units_of, key_held}
-use Rattle.sub_stream.proofs.Answering.{kept, view, judged-is, not_apart, fits-early, taken-keyed, view-answered, receiver-answered, mode_kept, IsJudged}
+use Rattle.sub_stream.proofs.Answering.{kept, view, judged-is, not_apart, fits-early, taken-keyed, view-answered}
+use Rattle.sub_stream.proofs.Answering.{receiver-answered, mode_kept, IsJudged}
 use Rattle.sub_stream.proofs.receiver.Rx.take_keyed.Goals as goal
 
 packet : goal.After-self-1 → Packet
@@ -21,38 +24,53 @@ held c = record { key = c.in-Some.cipher.now; draw = c.in-Some.draw }
 
 key : (c : goal.After-self-1) → live_held (slot_in c.self.inside.slots (packet c).prefix.k) ≡ Some (held c)
 unfolding packet held
-key c = key_held c.self.inside.slots c.args.packet.now.prefix.k _ _ _ c.live_key.ensures c.set_of.ensures.mine c.in-Some.is
+key c = key_held c.self.inside.slots c.args.packet.now.prefix.k _ _ _ c.live_key.ensures c.set_of.ensures.mine
+    c.in-Some.is
 
-fits : (c : goal.After-self-1) → fits_held c.self.inside.holds (length c.self.inside.unit.packets) c.self.inside.mode (packet c).prefix.k (packet c).prefix.m ≡ true
+fits : (c : goal.After-self-1) → fits_held c.self.inside.holds (length c.self.inside.unit.packets) c.self.inside.mode
+    (packet c).prefix.k (packet c).prefix.m ≡ true
 unfolding packet
 fits c =
-    fits-early (packet c).prefix.k c.self.inside.slots c.self.inside.zero c.self.inside.one c.self.inside.holds c.self.inside.mode c.self.inside.unit (packet c) (held c)
+    fits-early (packet c).prefix.k c.self.inside.slots c.self.inside.zero c.self.inside.one c.self.inside.holds
+    c.self.inside.mode c.self.inside.unit (packet c) (held c)
     c.self.invariant.few refl (key c) (ap (λ (rx : Receiver). early_of rx (packet c)) c.self.view_is ∙ c.requires.early)
 
 answer : goal.After-self-1 → Taken
 answer c =
-    judged (begun_where_empty (kept c.self.inside.holds c.self.inside.unit) (lent_front c.args.front) (units_of (packet c).prefix.k c.self.inside.zero c.self.inside.one + 1)).front
-    c.args.allowed (live_with (units_of (packet c).prefix.k c.self.inside.zero c.self.inside.one) (kept c.self.inside.holds c.self.inside.unit).packets (held c)) (packet c)
+    judged (begun_where_empty (kept c.self.inside.holds c.self.inside.unit) (lent_front c.args.front)
+    (units_of (packet c).prefix.k c.self.inside.zero c.self.inside.one + 1)).front
+    c.args.allowed (live_with (units_of (packet c).prefix.k c.self.inside.zero c.self.inside.one)
+    (kept c.self.inside.holds c.self.inside.unit).packets (held c)) (packet c)
 
-taken_is : (c : goal.After-self-1) → taken_of c.args.self.now c.args.allowed (lent_front c.args.front) (packet c) ≡ answer c
+taken_is : (c : goal.After-self-1) → taken_of c.args.self.now c.args.allowed (lent_front c.args.front) (packet c)
+    ≡ answer c
 unfolding packet answer
 taken_is c =
     ap (λ (rx : Receiver). taken_of rx c.args.allowed (lent_front c.args.front) (packet c)) (sym c.self.view_is)
-    ∙ taken-keyed c.self.inside.stream c.self.inside.sub c.self.inside.mode c.self.inside.zero c.self.inside.one c.self.inside.slots c.self.inside.holds c.self.inside.unit c.self.inside.takes
+    ∙ taken-keyed c.self.inside.stream c.self.inside.sub c.self.inside.mode c.self.inside.zero c.self.inside.one
+    c.self.inside.slots c.self.inside.holds c.self.inside.unit c.self.inside.takes
     c.args.allowed (lent_front c.args.front) (packet c) (held c) c.self.invariant.few (key c) (fits c)
 
 answered : (c : goal.After-self-1) → Some c.take_under-taken.result ≡ answer_of (answer c)
 unfolding packet held answer
 answered c =
     c.take_under-taken.ensures.answer
-    ∙ (λ i. answer_of (judged (begun_where_empty (c.keep_held.ensures i) (lent_front c.args.front) (c.units_in-units.ensures i + 1)).front c.args.allowed (live_with (c.units_in-units.ensures i) (c.keep_held.ensures i).packets
+    ∙ (λ i. answer_of (judged
+    (begun_where_empty (c.keep_held.ensures i) (lent_front c.args.front) (c.units_in-units.ensures i + 1)).front
+    c.args.allowed (live_with (c.units_in-units.ensures i) (c.keep_held.ensures i).packets
     (held c)) (packet c)))
 
-buffer : (c : goal.After-self-1) → BufferAfter (begun_where_empty (kept c.self.inside.holds c.self.inside.unit) (lent_front c.args.front) (units_of (packet c).prefix.k c.self.inside.zero c.self.inside.one + 1))
-    (live_with (units_of (packet c).prefix.k c.self.inside.zero c.self.inside.one) (kept c.self.inside.holds c.self.inside.unit).packets (held c)) (packet c) (answer c) c.take_under-taken.new.unit
+buffer : (c : goal.After-self-1) → BufferAfter
+    (begun_where_empty (kept c.self.inside.holds c.self.inside.unit) (lent_front c.args.front)
+    (units_of (packet c).prefix.k c.self.inside.zero c.self.inside.one + 1))
+    (live_with (units_of (packet c).prefix.k c.self.inside.zero c.self.inside.one)
+    (kept c.self.inside.holds c.self.inside.unit).packets (held c)) (packet c) (answer c)
+    c.take_under-taken.new.unit
 unfolding packet held answer
 buffer c =
-    let Left : ℕ × Gathered → Type 0 = λ y. BufferAfter (begun_where_empty y.1 (lent_front c.args.front) (y.0 + 1)) (live_with y.0 y.1.packets (held c)) (packet c) (judged (begun_where_empty y.1 (lent_front c.args.front) (y.0 + 1)).front
+    let Left : ℕ × Gathered → Type 0 = λ y. BufferAfter (begun_where_empty y.1 (lent_front c.args.front) (y.0 + 1))
+    (live_with y.0 y.1.packets (held c)) (packet c)
+    (judged (begun_where_empty y.1 (lent_front c.args.front) (y.0 + 1)).front
     c.args.allowed (live_with y.0 y.1.packets (held c)) (packet c)) c.take_under-taken.new.unit in
     subst Left (λ i. (c.units_in-units.ensures i, c.keep_held.ensures i)) c.take_under-taken.ensures.buffer
 
@@ -78,19 +96,35 @@ returns-clause-answer c = answered c ∙ ap answer_of (sym (taken_is c))
 pub returns-clause-receiver : goal.returns-clause-receiver
 unfolding packet
 returns-clause-receiver c =
-    (λ i. view c.self.inside.stream c.self.inside.sub c.self.inside.mode (c.count_accepted.ensures.zero i) (c.count_accepted.ensures.one i) (c.count_accepted.ensures.slots i) (c.after-self-inside.ensures i) c.take_under-taken.new.unit
+    (λ i. view c.self.inside.stream c.self.inside.sub c.self.inside.mode (c.count_accepted.ensures.zero i)
+    (c.count_accepted.ensures.one i) (c.count_accepted.ensures.slots i) (c.after-self-inside.ensures i)
+    c.take_under-taken.new.unit
     (c.self.inside.takes + 1))
-    ∙ view-answered c.self.inside.stream c.self.inside.sub c.self.inside.mode c.self.inside.zero c.self.inside.one c.self.inside.slots c.self.inside.holds c.self.inside.unit c.take_under-taken.new.unit c.self.inside.takes
+    ∙ view-answered c.self.inside.stream c.self.inside.sub c.self.inside.mode c.self.inside.zero c.self.inside.one
+    c.self.inside.slots c.self.inside.holds c.self.inside.unit c.take_under-taken.new.unit c.self.inside.takes
     (lent_front c.args.front) (packet c) (held c) c.take_under-taken.result (answer c) (key c)
-    (not_apart c.self.inside.holds (length c.self.inside.unit.packets) c.self.inside.mode (packet c).prefix.k (packet c).prefix.m (fits c)) (tagless c) (judged_so c) (answered c) (buffer c)
-    ∙ ap (λ (rx : Receiver). record (after_answer rx (lent_front c.args.front) (packet c) (answer c)) { takes = rx.takes + 1 }) c.self.view_is
-    ∙ ap (λ (t : Taken). record (after_answer c.args.self.now (lent_front c.args.front) (packet c) t) { takes = c.args.self.now.takes + 1 }) (sym (taken_is c))
+    (not_apart c.self.inside.holds (length c.self.inside.unit.packets) c.self.inside.mode (packet c).prefix.k
+    (packet c).prefix.m (fits c)) (tagless c) (judged_so c) (answered c) (buffer c)
+    ∙ ap (λ (rx : Receiver). record (after_answer rx (lent_front c.args.front) (packet c) (answer c))
+    { takes = rx.takes + 1 }) c.self.view_is
+    ∙ ap (λ (t : Taken). record (after_answer c.args.self.now (lent_front c.args.front) (packet c) t)
+    { takes = c.args.self.now.takes + 1 }) (sym (taken_is c))
 
 pub invariant_of-self : goal.invariant_of-self
 unfolding packet
 invariant_of-self c =
-    let Kept : ℕ × ℕ × SlotPair × Holds → Type 0 = λ y. IsReceiver c.self.inside.mode y.0 y.1 (c.self.inside.takes + 1) y.2 y.3 c.take_under-taken.new.unit in
-    subst Kept (λ i. (sym c.count_accepted.ensures.zero i, sym c.count_accepted.ensures.one i, sym c.count_accepted.ensures.slots i, sym c.after-self-inside.ensures i))
-    (receiver-answered c.self.inside.mode c.self.inside.zero c.self.inside.one c.self.inside.takes c.self.inside.slots c.self.inside.holds c.self.inside.unit c.take_under-taken.new.unit
-    (lent_front c.args.front) (packet c) (held c) c.take_under-taken.result (answer c) c.self.invariant (key c) (fits c) (judged_so c) (answered c) (buffer c)
-    (c.take_under-taken.ensures.mode ∙ ap (λ (u : Gathered). u.mode) c.keep_held.ensures ∙ mode_kept c.self.inside.holds c.self.inside.unit ∙ c.self.invariant.same_mode))
+    let Kept : ℕ × ℕ × SlotPair × Holds → Type 0 = λ y. IsReceiver c.self.inside.mode y.0 y.1 (c.self.inside.takes + 1)
+    y.2 y.3 c.take_under-taken.new.unit in
+    subst Kept (λ i. (
+      sym c.count_accepted.ensures.zero i,
+      sym c.count_accepted.ensures.one i,
+      sym
+          c.count_accepted.ensures.slots i,
+      sym c.after-self-inside.ensures i,
+    ))
+    (receiver-answered c.self.inside.mode c.self.inside.zero c.self.inside.one c.self.inside.takes c.self.inside.slots
+    c.self.inside.holds c.self.inside.unit c.take_under-taken.new.unit
+    (lent_front c.args.front) (packet c) (held c) c.take_under-taken.result (answer c) c.self.invariant (key c) (fits c)
+    (judged_so c) (answered c) (buffer c)
+    (c.take_under-taken.ensures.mode ∙ ap (λ (u : Gathered). u.mode) c.keep_held.ensures ∙ mode_kept c.self.inside.holds
+    c.self.inside.unit ∙ c.self.invariant.same_mode))

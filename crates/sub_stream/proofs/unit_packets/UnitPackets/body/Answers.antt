@@ -6,4 +6,5 @@ use Rattle.sub_stream.proofs.unit_packets.UnitPackets.body.Goals as goal
 
 pub returns-clause-value : goal.returns-clause-value
 returns-clause-value c =
-    c.body.ensures.value ∙ bodies_in _ _ c.self.invariant.parts ∙ ap (λ (u : Gathered). encrypted u.packets) c.self.view_is
+    c.body.ensures.value ∙ bodies_in _ _ c.self.invariant.parts ∙ ap (λ (u : Gathered). encrypted u.packets)
+    c.self.view_is

@@ -8,7 +8,14 @@ place : (c : goal.After-clear-1) → c.args.i < 8
 place c =
     let count : length (packets_in c.self.inside.buf.packets c.self.inside.prefixes) ≡ length c.args.self.now.packets =
     ap (λ (u : Gathered). length u.packets) c.self.view_is in
-    omega (arith, count, length-packets_in _ _ c.self.invariant.parts, c.self.invariant.fits, c.self.invariant.small_mode, c.requires)
+    omega (
+      arith,
+      count,
+      length-packets_in _ _ c.self.invariant.parts,
+      c.self.invariant.fits,
+      c.self.invariant.small_mode,
+      c.requires,
+    )
 
 pub offset_bounds-self-inside-i : goal.offset_bounds-self-inside-i
 offset_bounds-self-inside-i c = omega (arith, place c)

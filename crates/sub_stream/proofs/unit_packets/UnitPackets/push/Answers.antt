@@ -12,7 +12,9 @@ clear c = c.deref.ensures.0 ∙ c.clear_part-clear.ensures
 pub invariant_of-self : goal.invariant_of-self
 invariant_of-self c =
     rw c.posted_in.ensures.value
-    (gathered-added _ _ _ _ _ _ _ _ _ c.self.invariant (place c) c.count-i.ensures.count (omega (arith, c.posted_in.ensures.value, c.posted_in.ensures.small)) (clear c) c.add.ensures.unit)
+    (gathered-added _ _ _ _ _ _ _ _ _ c.self.invariant (place c) c.count-i.ensures.count
+    (omega (arith, c.posted_in.ensures.value, c.posted_in.ensures.small)) (clear c) c.add.ensures.unit)
 
 pub returns : goal.returns
-returns c = view-added _ _ _ _ _ _ _ _ _ _ c.self.invariant c.self.view_is (place c) c.count-i.ensures.count (clear c) c.add.ensures.unit
+returns c = view-added _ _ _ _ _ _ _ _ _ _ c.self.invariant c.self.view_is (place c) c.count-i.ensures.count (clear c)
+    c.add.ensures.unit

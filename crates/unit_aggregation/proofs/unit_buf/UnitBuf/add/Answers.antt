@@ -4,7 +4,8 @@ use Rattle.unit_aggregation.proofs.Views.{has_room-less, has_room-full, view-ful
 use Rattle.unit_aggregation.proofs.unit_buf.UnitBuf.add.Goals as goal
 
 full : (c : goal.Then-len-self) → has_room c.args.self.now ≡ false
-full c = has_room-full _ _ _ _ c.self.inside.ends.items c.args.self.now c.self.view_is (omega (arith, c.if-len-self.true, c.len.ensures.value))
+full c = has_room-full _ _ _ _ c.self.inside.ends.items c.args.self.now c.self.view_is
+    (omega (arith, c.if-len-self.true, c.len.ensures.value))
 
 pub returns-then-len-self-clause-answer : goal.returns-then-len-self-clause-answer
 returns-then-len-self-clause-answer c = sym (full c)
@@ -24,7 +25,8 @@ body_ends c = omega (arith, c.len-3.ensures, c.append-2.ensures.len, c.self.insi
 pub invariant_of-self : goal.invariant_of-self
 invariant_of-self c =
     rw (c.push.ensures.items, c.append.ensures.items, c.append-2.ensures.items)
-    (laid-added _ _ _ _ _ _ _ _ _ _ _ _ _ c.self.invariant (less c) c.requires.head_short c.requires.body_short c.append.ensures.capacity c.append-2.ensures.capacity (head_ends c) (body_ends c))
+    (laid-added _ _ _ _ _ _ _ _ _ _ _ _ _ c.self.invariant (less c) c.requires.head_short c.requires.body_short
+    c.append.ensures.capacity c.append-2.ensures.capacity (head_ends c) (body_ends c))
 
 pub returns-clause-answer : goal.returns-clause-answer
 returns-clause-answer c = sym (has_room-less _ _ _ _ c.self.inside.ends.items c.args.self.now c.self.view_is (less c))
@@ -32,4 +34,5 @@ returns-clause-answer c = sym (has_room-less _ _ _ _ c.self.inside.ends.items c.
 pub returns-clause-unit : goal.returns-clause-unit
 returns-clause-unit c =
     rw (c.push.ensures.items, c.append.ensures.items, c.append-2.ensures.items)
-    (view-added _ _ _ _ _ _ _ _ _ c.args.self.now c.self.view_is (less c) c.self.invariant.rising (head_ends c) (body_ends c))
+    (view-added _ _ _ _ _ _ _ _ _ c.args.self.now c.self.view_is (less c) c.self.invariant.rising (head_ends c)
+    (body_ends c))

@@ -5,10 +5,16 @@ use Rattle.unit_aggregation.proofs.unit_buf.UnitBuf.body_mut.Goals as goal
 
 pub returns : goal.returns
 returns c = (
-  (refl, λ w. view-rebodied _ _ _ _ _ w _ c.args.self.now c.self.view_is c.self.invariant.rising c.self.inside.bodies.ok.0),
+  (
+    refl,
+    λ w. view-rebodied _ _ _ _ _ w _ c.args.self.now c.self.view_is c.self.invariant.rising
+        c.self.inside.bodies.ok.0,
+  ),
   record {
     writes_back = tt;
-    value = rw (← c.self.view_is) (c.as_mut_slice.ensures.value ∙ joined_bodies c.self.inside.heads.items _ _ _ c.self.invariant.rising);
-    short = let p = c.self.invariant in let e = c.as_mut_slice.ensures in rw e.value (omega (arith, p.bodies_fit, p.packets_fit, p.mode_fits));
+    value = rw (← c.self.view_is)
+        (c.as_mut_slice.ensures.value ∙ joined_bodies c.self.inside.heads.items _ _ _ c.self.invariant.rising);
+    short = let p = c.self.invariant in let e = c.as_mut_slice.ensures in rw e.value
+        (omega (arith, p.bodies_fit, p.packets_fit, p.mode_fits));
   },
 )

@@ -16,4 +16,5 @@ invariant_of-self c =
 pub returns : goal.returns
 returns c =
     let e = emptied _ _ _ _ _ c.self.inside.ends.items (c.self.view_is ∙ c.clear.ensures) c.self.invariant.rising in
-    rw c.append.ensures.items (view-front _ _ _ _ _ _ c.args.self.now e c.told-bytes (c.self.view_is ∙ c.clear.ensures) c.requires)
+    rw c.append.ensures.items
+    (view-front _ _ _ _ _ _ c.args.self.now e c.told-bytes (c.self.view_is ∙ c.clear.ensures) c.requires)
