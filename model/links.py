@@ -1,8 +1,8 @@
 """A second model of keyed links, in Python, written from the rules alone (docs/RULES.md, docs/FORMATS.md).
 
 It keeps counters and slots and walks through every exchange, where the proved definitions filter whole histories; the
-two share no code and no form. `compare.py` runs both on random scripts. AES and GCM come from the `cryptography`
-package.
+two share no code and no form. Interfaces and trusted memory stand beside it, in world.py. AES and GCM come from the
+`cryptography` package.
 """
 
 from dataclasses import dataclass, field
@@ -11,52 +11,14 @@ from typing import List, Optional, Tuple
 from cryptography.hazmat.primitives.ciphers import Cipher, algorithms, modes
 from cryptography.hazmat.primitives.ciphers.aead import AESGCM
 
+from plan import Plan, StreamPlan
+
 HOST, DEVICE = 0, 1
 PR, NPR, CPL = 0, 1, 2
 SUB_NAMES = ["pr", "npr", "cpl"]
 LANES = [(direction, sub) for direction in (0, 1) for sub in (PR, NPR, CPL)]
 TAG_BYTES = 12
-
-
-# ---- a topology
-
-
-@dataclass
-class StreamPlan:
-    id: int
-    kind: str = "selective"
-    mode: int = 1
-    rid: Optional[Tuple[int, int]] = None
-    ranges: List[Tuple[int, int]] = field(default_factory=list)
-    default: bool = False
-    tcs: List[int] = field(default_factory=list)
-    closed: bool = False
-
-
-@dataclass
-class Plan:
-    pool: List[bytes]
-    links: List[List[StreamPlan]]
-    units_per_key: int = 4294967296
-
-    def toml(self) -> str:
-        keys = ", ".join(f'"{key.hex()}"' for key in self.pool)
-        rows = ["version = 1", f"units_per_key = {self.units_per_key}", f"pool = [{keys}]"]
-        for streams in self.links:
-            rows.append("[[link]]")
-            for s in streams:
-                rows += ["[[link.stream]]", f"id = {s.id}", f'kind = "{s.kind}"', f"mode = {s.mode}"]
-                if s.rid:
-                    rows.append(f"rid = {list(s.rid)}")
-                if s.ranges:
-                    rows.append(f"ranges = {[list(r) for r in s.ranges]}")
-                if s.default:
-                    rows.append("default = true")
-                if s.tcs:
-                    rows.append(f"tcs = {s.tcs}")
-                if s.closed:
-                    rows.append("closed = true")
-        return "\n".join(rows) + "\n"
+Loss = Optional[Tuple[int, str]]
 
 
 # ---- TLPs and packets
@@ -252,8 +214,8 @@ class Lane:
 class End:
     """A stream at a port."""
 
-    def __init__(self, plan: StreamPlan, side: int):
-        self.plan, self.side = plan, side
+    def __init__(self, plan: StreamPlan, link: int, side: int):
+        self.plan, self.link, self.side = plan, link, side
         self.tx = [Lane() for _ in SUB_NAMES]
         self.rx = [Lane() for _ in SUB_NAMES]
         self.failed = False
@@ -329,11 +291,24 @@ ENDS = {"establish": "established", "refresh": "refreshed"}
 # ---- all links
 
 
+def number(word: str) -> int:
+    return int(word, 16) if word.startswith("0x") else int(word)
+
+
+def loss(words: List[str]) -> Loss:
+    """What the words `lose N request` or `lose N reply` lose."""
+    return (number(words[1]), words[2]) if words else None
+
+
 class Links:
+    """The ports of all links. What has no interfaces and no trusted memory is these four: `sets_t`, `write_effect`,
+    `stop_begins` and `device_moved`; world.py has them with both."""
+
     def __init__(self, plan: Plan):
         self.plan = plan
         self.ends = {}
         self.operations = {}
+        self.stream_draws = {}
         for link in range(len(plan.links)):
             self.clear(link)
         self.draws = 0
@@ -341,10 +316,26 @@ class Links:
         self.totals = {"sealed": 0, "accepted": 0, "failed": 0, "blocked": 0}
 
     def clear(self, link: int):
-        for stream in self.plan.links[link]:
+        for stream in self.plan.links[link].streams:
             for side in (HOST, DEVICE):
-                self.ends[link, side, stream.id] = End(stream, side)
+                self.ends[link, side, stream.id] = End(stream, link, side)
             self.operations[link, stream.id] = Operation()
+
+    # -- what stands beside the links
+
+    def sets_t(self, end: End, header: bytes, trusted: bool) -> bool:
+        """Whether the packet of a TLP has T."""
+        return end.side == HOST and trusted
+
+    def write_effect(self, end: End, draw: int, packet: Packet, payload: bytes) -> str:
+        """What a memory write that the host's port accepted gives."""
+        return "blocked:notrunning" if packet.t else "blocked:nottrusted"
+
+    def stop_begins(self, link: int, stream: int):
+        """Before the first exchange of a stop."""
+
+    def device_moved(self, link: int, stream: int):
+        """After whatever may take the stream out of Secure at the device's port."""
 
     def key(self, draw: int, direction: int, sub: int) -> bytes:
         return self.plan.pool[6 * draw + 3 * direction + sub]
@@ -359,7 +350,7 @@ class Links:
         else:
             identity = pair(8) if by_id or kind.name == "completion" else None
         address = int.from_bytes(header[8:], "big") if kind.name.startswith("mem") else None
-        streams = self.plan.links[link]
+        streams = self.plan.links[link].streams
         selective = [
             s.id
             for s in streams
@@ -383,8 +374,8 @@ class Links:
         refusal, syncs = self.refusal(end, kind.sub)
         if refusal:
             return f"refused {refusal}"
-        rows = [self.seal(link, end, sub, bytes([0x34]) + bytes(11), b"", False, 0, True) for sub in syncs]
-        rows.append(self.seal(link, end, kind.sub, header, payload, more, int(side == HOST and trusted), False))
+        rows = [self.seal(end, sub, bytes([0x34]) + bytes(11), b"", False, False, True) for sub in syncs]
+        rows.append(self.seal(end, kind.sub, header, payload, more, self.sets_t(end, header, trusted), False))
         self.totals["sealed"] += len(rows)
         return "sealed " + " ; ".join(rows)
 
@@ -408,7 +399,7 @@ class Links:
                 return f"worn {SUB_NAMES[u]} {self.plan.units_per_key}", []
         return None, syncs
 
-    def seal(self, link, end, sub, header, payload, more, trusted, sync) -> str:
+    def seal(self, end: End, sub: int, header: bytes, payload: bytes, more: bool, trusted: bool, sync: bool) -> str:
         lane = end.tx[sub]
         key_set = lane.live()
         slot, other = lane.slots[key_set], lane.slots[1 - key_set]
@@ -430,10 +421,10 @@ class Links:
         for counting in end.tx[NPR:] if sub == PR else []:
             counting.posted += 1
         lane.posted = 0
-        self.packets.append((link, end.side, prefix + header + body + packet.tag))
+        self.packets.append((end.link, end.side, prefix + header + body + packet.tag))
         return (
-            f"{len(self.packets)} {'hd'[end.side]}{link} {end.plan.id} {SUB_NAMES[sub]} draw {draw} unit {unit}"
-            f" m{int(last)} k{key_set} t{trusted} p{posted}{' sync' if sync else ''}"
+            f"{len(self.packets)} {'hd'[end.side]}{end.link} {end.plan.id} {SUB_NAMES[sub]} draw {draw} unit {unit}"
+            f" m{int(last)} k{key_set} t{int(trusted)} p{posted}{' sync' if sync else ''}"
         )
 
     def unit_tag(self, end: End, lane: Lane, slot: Slot, key: bytes, iv: bytes) -> bytes:
@@ -457,7 +448,10 @@ class Links:
             return f"unknown {port} {packet.stream}"
         if end.failed:
             return f"insecure {port} {packet.stream}"
-        return self.take(end, packet, f"{port} {packet.stream} {SUB_NAMES[packet.sub]}")
+        verdict = self.take(end, packet, f"{port} {packet.stream} {SUB_NAMES[packet.sub]}")
+        if side == DEVICE:
+            self.device_moved(link, packet.stream)
+        return verdict
 
     def take(self, end: End, packet: Packet, where: str) -> str:
         lane = end.rx[packet.sub]
@@ -472,13 +466,13 @@ class Links:
         slot.packets.append(packet)
         if not packet.m:
             return f"held {name}"
-        key = self.key(slot.draw, 1 - end.side, packet.sub)
-        if self.unit_tag(end, lane, slot, key, nonce(packet.sub, slot.units + 1)) != packet.tag:
+        key, iv = self.key(slot.draw, 1 - end.side, packet.sub), nonce(packet.sub, slot.units + 1)
+        if self.unit_tag(end, lane, slot, key, iv) != packet.tag:
             return self.fail(end, where, "tag")
         carried = lane.carried + sum(p.posted for p in slot.packets)
         if packet.sub != PR and carried > end.rx[PR].got:
             return self.fail(end, where, "order")
-        effects = [self.effect(end, p) for p in slot.packets]
+        effects = self.effects(end, slot, key, iv)
         lane.carried = carried
         lane.got += len(slot.packets)
         lane.total += 1
@@ -497,12 +491,19 @@ class Links:
         self.totals["failed"] += 1
         return f"fail {where} {cause}"
 
-    def effect(self, end: End, packet: Packet) -> str:
-        if packet.sync:
-            return "sync"
-        if end.side == HOST and kind_of(packet.header[0]).name == "memwrite":
-            return "blocked:notrunning" if packet.t else "blocked:nottrusted"
-        return "delivered"
+    def effects(self, end: End, slot: Slot, key: bytes, iv: bytes) -> List[str]:
+        """What the packets of an accepted unit give, one after another."""
+        effects, place = [], 0
+        for packet in slot.packets:
+            payload = masked(key, iv, place, packet.body)
+            place += len(payload)
+            if packet.sync:
+                effects.append("sync")
+            elif end.side == HOST and kind_of(packet.header[0]).name == "memwrite":
+                effects.append(self.write_effect(end, slot.draw, packet, payload))
+            else:
+                effects.append("delivered")
+        return effects
 
     # -- operations
 
@@ -516,6 +517,7 @@ class Links:
                 for direction, sub in LANES:
                     host.halt(key_set, direction, sub)
             self.operations[link, stream] = Operation("stop")
+            self.stop_begins(link, stream)
             return None
         if operation.name in EXCHANGES:
             return f"busy {operation.name}"
@@ -532,12 +534,14 @@ class Links:
         if 6 * self.draws == len(self.plan.pool):
             return f"poolempty {self.draws}"
         self.operations[link, stream] = Operation(name, key_set, self.draws)
+        if name == "establish":
+            self.stream_draws[link, stream] = self.draws
         for direction, sub in LANES:
             host.program(key_set, direction, sub, self.draws)
         self.draws += 1
         return None
 
-    def operate(self, name: str, link: int, stream: int, lost: Optional[Tuple[int, str]]) -> str:
+    def operate(self, name: str, link: int, stream: int, lost: Loss) -> str:
         refusal = self.begins(name, link, stream)
         if refusal:
             return f"refused {refusal}"
@@ -549,25 +553,29 @@ class Links:
                 return stays
             operation.exchange += 1
         self.operations[link, stream] = Operation("idle" if name == "stop" else "up", operation.key_set, operation.draw)
-        return f"stopped {link} {stream}" if name == "stop" else f"{ENDS[name]} {link} {stream} draw {operation.draw}"
+        if name == "stop":
+            return f"stopped {link} {stream}"
+        self.stream_draws[link, stream] = operation.draw
+        return f"{ENDS[name]} {link} {stream} draw {operation.draw}"
 
-    def exchange(self, operation: Operation, link: int, stream: int, lost) -> Optional[str]:
+    def exchange(self, operation: Operation, link: int, stream: int, lost: Loss) -> Optional[str]:
         host, device = (self.ends[link, side, stream] for side in (HOST, DEVICE))
-        number = operation.exchange
-        what, lane = EXCHANGES[operation.name][number - 1]
-        if lost == (number, "request"):
-            return f"lost request {number}"
+        place = operation.exchange
+        what, lane = EXCHANGES[operation.name][place - 1]
+        if lost == (place, "request"):
+            return f"lost request {place}"
         well = True
         if what == "program":
             well = device.program(operation.key_set, *lane, operation.draw)
         elif what == "go":
             device.go(operation.key_set, *lane)
         elif what == "stop":
-            device.halt((number - 1) // 6, *lane)
-        if lost == (number, "reply"):
-            return f"lost reply {number}"
+            device.halt((place - 1) // 6, *lane)
+        self.device_moved(link, stream)
+        if lost == (place, "reply"):
+            return f"lost reply {place}"
         if not well:
-            return f"refused devicerefused {number} 3"
+            return f"refused devicerefused {place} 3"
         if (what, lane) == ("go", (0, CPL)):
             for direction, sub in LANES[3:] + LANES[:3]:
                 host.go(operation.key_set, direction, sub)
@@ -579,21 +587,26 @@ class Links:
         words = line.split()
         event, rest = words[0], words[1:]
         if event in EXCHANGES or event == "status":
-            return self.on_stream(event, int(rest[0]), int(rest[1]), rest[2:])
+            return self.on_stream(event, number(rest[0]), number(rest[1]), rest[2:])
         if event == "reset":
-            if int(rest[0]) >= len(self.plan.links):
-                return "none"
-            self.clear(int(rest[0]))
-            return f"reset {rest[0]}"
+            return self.reset(number(rest[0]))
         if event in ("send", "arrive"):
-            side, link = "hd".index(rest[0][0]), int(rest[0][1])
-            data = bytes.fromhex(rest[1].strip("-"))
-            if link >= len(self.plan.links):
-                return "none"
-            if event == "arrive":
-                return self.arrive(link, side, data)
-            return self.send(link, side, data, "more" in rest, "trusted" in rest)
-        return self.on_packet(event, int(rest[0]), rest[1:])
+            return self.on_port(event, rest[0], bytes.fromhex(rest[1].strip("-")), rest[2:])
+        return self.on_packet(event, number(rest[0]), rest[1:])
+
+    def reset(self, link: int) -> str:
+        if link >= len(self.plan.links):
+            return "none"
+        self.clear(link)
+        return f"reset {link}"
+
+    def on_port(self, event: str, port: str, data: bytes, words: List[str]) -> str:
+        side, link = "hd".index(port[0]), int(port[1])
+        if link >= len(self.plan.links):
+            return "none"
+        if event == "arrive":
+            return self.arrive(link, side, data)
+        return self.send(link, side, data, "more" in words, "trusted" in words)
 
     def on_stream(self, event: str, link: int, stream: int, lose: List[str]) -> str:
         if (link, stream) not in self.operations:
@@ -601,23 +614,23 @@ class Links:
         if event == "status":
             host, device = (self.ends[link, side, stream].status() for side in (HOST, DEVICE))
             return f"status {link} {stream} {host} {device}"
-        return self.operate(event, link, stream, (int(lose[1]), lose[2]) if lose else None)
+        return self.operate(event, link, stream, loss(lose))
 
-    def on_packet(self, event: str, number: int, rest: List[str]) -> str:
-        if not 1 <= number <= len(self.packets):
+    def on_packet(self, event: str, place: int, rest: List[str]) -> str:
+        if not 1 <= place <= len(self.packets):
             return "none"
-        link, side, data = self.packets[number - 1]
+        link, side, data = self.packets[place - 1]
         if event == "dump":
-            return f"packet {number} {data.hex()}"
+            return f"packet {place} {data.hex()}"
         if event == "alter":
-            place = int(rest[0])
-            if place >= len(data):
+            at = number(rest[0])
+            if at >= len(data):
                 return "none"
-            data = data[:place] + bytes([data[place] ^ int(rest[1], 16)]) + data[place + 1:]
+            data = data[:at] + bytes([data[at] ^ int(rest[1], 16)]) + data[at + 1:]
         if event == "cut":
-            if int(rest[0]) > len(data):
+            if number(rest[0]) > len(data):
                 return "none"
-            data = data[: int(rest[0])]
+            data = data[: number(rest[0])]
         return self.arrive(link, 1 - side, data)
 
     def total(self) -> str:
