@@ -1,5 +1,5 @@
 -- The worked cases by computation.
-use Rattle.std.proofs.Common.{refl}
+use Rattle.std.proofs.Common.{◌∷◌, refl}
 use Rattle.aes_block.specs.Aes.{key_words, temp, mixed, sbox, sub_bytes, shift_rows, mix_columns, add_round_key}
 use Rattle.aes_block.specs.Aes.{sub_word, expansion, rounds, cipher, aes}
 use Rattle.gcm_seal.specs.Polynomials.{bits}
@@ -23,13 +23,74 @@ use Rattle.link_history.specs.History.{has_live_in, front_of, total_in, arrived,
 use Rattle.link_history.specs.History.{units_got, units_since}
 use Rattle.link_history.specs.Memory.{writes}
 use Rattle.link_history.specs.Due.{choice, due, before_tag, is_verified}
-use Rattle.memory_cases.specs.Cases.{MemoryCases}
+use Rattle.link_verdicts.specs.declared.verdict.Effect.TheVariants.{Applied, Blocked}
+use Rattle.link_verdicts.specs.declared.verdict.BlockCause.TheVariants.{NotRunning, Stale}
+use Rattle.memory_cases.specs.Cases.{IsDue, MemoryCases, reported, started, unheard, sealed, accepted, shown, halted}
+use Rattle.memory_cases.specs.Cases.{run_again}
 
-pub computed : MemoryCases
+-- each is a declaration of its own, since the checker counts its steps by declarations
+sealed_due : IsDue (started ∷ reported) sealed
 unfolding due key_due manager moments keys is_open failed_there base interface_due devices managed stream_draw sites
     read_of reading walk_length walked_from choice choice_of keys_at has_live_out has_live_in stream_plan sent_in
     sealed_packets packet_of units open_unit posted_in writes byte_after front_of total_in arrived read_head_of cut_of
     key_of before_tag is_verified meets_counts got_since held units_got units_since verifies tag_of ghash hash_key
     blocks counter key_stream masked bits aes cipher rounds add_round_key mixed mix_columns shift_rows sub_bytes
     key_words temp expansion sub_word sbox open_of
-computed = (refl, refl, refl, refl, refl, refl, refl)
+sealed_due = refl
+
+applied_due : IsDue (sealed ∷ started ∷ reported) (accepted Applied)
+unfolding due key_due manager moments keys is_open failed_there base interface_due devices managed stream_draw sites
+    read_of reading walk_length walked_from choice choice_of keys_at has_live_out has_live_in stream_plan sent_in
+    sealed_packets packet_of units open_unit posted_in writes byte_after front_of total_in arrived read_head_of cut_of
+    key_of before_tag is_verified meets_counts got_since held units_got units_since verifies tag_of ghash hash_key
+    blocks counter key_stream masked bits aes cipher rounds add_round_key mixed mix_columns shift_rows sub_bytes
+    key_words temp expansion sub_word sbox open_of
+applied_due = refl
+
+shown_due : IsDue (accepted Applied ∷ sealed ∷ started ∷ reported) shown
+unfolding due key_due manager moments keys is_open failed_there base interface_due devices managed stream_draw sites
+    read_of reading walk_length walked_from choice choice_of keys_at has_live_out has_live_in stream_plan sent_in
+    sealed_packets packet_of units open_unit posted_in writes byte_after front_of total_in arrived read_head_of cut_of
+    key_of before_tag is_verified meets_counts got_since held units_got units_since verifies tag_of ghash hash_key
+    blocks counter key_stream masked bits aes cipher rounds add_round_key mixed mix_columns shift_rows sub_bytes
+    key_words temp expansion sub_word sbox open_of
+shown_due = refl
+
+unheard_due : IsDue (unheard ∷ reported) sealed
+unfolding due key_due manager moments keys is_open failed_there base interface_due devices managed stream_draw sites
+    read_of reading walk_length walked_from choice choice_of keys_at has_live_out has_live_in stream_plan sent_in
+    sealed_packets packet_of units open_unit posted_in writes byte_after front_of total_in arrived read_head_of cut_of
+    key_of before_tag is_verified meets_counts got_since held units_got units_since verifies tag_of ghash hash_key
+    blocks counter key_stream masked bits aes cipher rounds add_round_key mixed mix_columns shift_rows sub_bytes
+    key_words temp expansion sub_word sbox open_of
+unheard_due = refl
+
+blocked_due : IsDue (sealed ∷ unheard ∷ reported) (accepted (Blocked NotRunning))
+unfolding due key_due manager moments keys is_open failed_there base interface_due devices managed stream_draw sites
+    read_of reading walk_length walked_from choice choice_of keys_at has_live_out has_live_in stream_plan sent_in
+    sealed_packets packet_of units open_unit posted_in writes byte_after front_of total_in arrived read_head_of cut_of
+    key_of before_tag is_verified meets_counts got_since held units_got units_since verifies tag_of ghash hash_key
+    blocks counter key_stream masked bits aes cipher rounds add_round_key mixed mix_columns shift_rows sub_bytes
+    key_words temp expansion sub_word sbox open_of
+blocked_due = refl
+
+halted_due : IsDue halted (accepted (Blocked NotRunning))
+unfolding due key_due manager moments keys is_open failed_there base interface_due devices managed stream_draw sites
+    read_of reading walk_length walked_from choice choice_of keys_at has_live_out has_live_in stream_plan sent_in
+    sealed_packets packet_of units open_unit posted_in writes byte_after front_of total_in arrived read_head_of cut_of
+    key_of before_tag is_verified meets_counts got_since held units_got units_since verifies tag_of ghash hash_key
+    blocks counter key_stream masked bits aes cipher rounds add_round_key mixed mix_columns shift_rows sub_bytes
+    key_words temp expansion sub_word sbox open_of
+halted_due = refl
+
+stale_due : IsDue run_again (accepted (Blocked Stale))
+unfolding due key_due manager moments keys is_open failed_there base interface_due devices managed stream_draw sites
+    read_of reading walk_length walked_from choice choice_of keys_at has_live_out has_live_in stream_plan sent_in
+    sealed_packets packet_of units open_unit posted_in writes byte_after front_of total_in arrived read_head_of cut_of
+    key_of before_tag is_verified meets_counts got_since held units_got units_since verifies tag_of ghash hash_key
+    blocks counter key_stream masked bits aes cipher rounds add_round_key mixed mix_columns shift_rows sub_bytes
+    key_words temp expansion sub_word sbox open_of
+stale_due = refl
+
+pub computed : MemoryCases
+computed = (sealed_due, applied_due, shown_due, unheard_due, blocked_due, halted_due, stale_due)
