@@ -150,7 +150,7 @@ pub fn run<S: Shelf, O: Sink>(
     ensures settled { InEvery (λ p. Settled) (S.seen shelf.old) words.now (O.seen out.old) (O.seen out.new) }
     ensures stays_secure { InEvery (λ p. StaysSecure) (S.seen shelf.old) words.now (O.seen out.old) (O.seen out.new) }
     // A draw is kept in one key set of a place at most and on one stream, an unfinished operation has made its draw On
-    // if its GO came, and a draw that has ceased to be On at a place is never kept there again.
+    // if its GO came, and once its GO came a draw is kept at a place only while it is On there.
     ensures stream_facts { InEvery (λ p. StreamFacts) (S.seen shelf.old) words.now (O.seen out.old) (O.seen out.new) }
     ensures never_again { InEvery (λ p. NeverAgain) (S.seen shelf.old) words.now (O.seen out.old) (O.seen out.new) }
     // While an interface is locked or in RUN, its listed registers are those that it had at the lock, which its report
