@@ -26,7 +26,7 @@ at-byte s i h = elim (cases_lt i (length s)) [
   | inr past ↦ rw (get_or_past s i 0 past) (lit< tt)
 ]
 
-byte_at-byte : (k n : ℕ) → IsByte (byte_at k n)
+pub byte_at-byte : (k n : ℕ) → IsByte (byte_at k n)
 byte_at-byte zero n = mod_below n 256 (lit< tt)
 byte_at-byte (suc k) n = mod_below (n / 256 ^ suc k) 256 (lit< tt)
 
@@ -39,11 +39,11 @@ from_bits-lt : (n : ℕ) (f : ℕ → ℕ) → ((i : ℕ) → f i < 2) → from_
 from_bits-lt zero f h = lit< tt
 from_bits-lt (suc n) f h = omega (arith, h 0, from_bits-lt n (λ i. f (i + 1)) (λ i. h (i + 1)))
 
-sbox-byte : (b : ℕ) → IsByte (sbox b)
+pub sbox-byte : (b : ℕ) → IsByte (sbox b)
 unfolding sbox
 sbox-byte b = from_bits-lt 8 (affine_bit (inverse b)) (λ i. mod_below _ 2 (lit< tt))
 
-state_of-bytes : (f : ℕ → ℕ → ℕ) → ((r c : ℕ) → IsByte (f r c)) → All IsByte (state_of f)
+pub state_of-bytes : (f : ℕ → ℕ → ℕ) → ((r c : ℕ) → IsByte (f r c)) → All IsByte (state_of f)
 state_of-bytes f h =
     let column : (c : ℕ) (rest : List ℕ) → All IsByte rest → All IsByte (f 0 c ∷ f 1 c ∷ f 2 c ∷ f 3 c ∷ rest) =
     λ c rest t.
@@ -54,7 +54,7 @@ state_of-bytes f h =
     column 0 (from 1 (from 2 (from 3 [])))
     (column 1 (from 2 (from 3 [])) (column 2 (from 3 []) (column 3 [] (All-nil IsByte))))
 
-add_round_key-bytes : (k s : List ℕ) → All IsByte s → All IsByte (add_round_key k s)
+pub add_round_key-bytes : (k s : List ℕ) → All IsByte s → All IsByte (add_round_key k s)
 unfolding add_round_key
 add_round_key-bytes k s h = state_of-bytes _ (λ r c.
     xor_lt 8 (cell s r c) (word_byte (slice_index k c) r) (at-byte s (r + 4 * c) h)

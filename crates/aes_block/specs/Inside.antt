@@ -1,16 +1,12 @@
 -- Only private functions, and what a type keeps of its private fields, cite this: the state as four words, a column
 -- each, and the round keys, as the code keeps them. Aes says what the cipher is.
-use Rattle.std.specs.Prelude.{◌≡◌, ℕ, ◌<◌, ◌/◌, ◌%◌, ◌^◌, List, [], ◌∷◌, ◌++◌, slice_index}
+use Rattle.std.specs.Prelude.{ℕ, ◌/◌, ◌%◌, ◌^◌, List, [], ◌∷◌, ◌++◌, slice_index}
 use Rattle.std.specs.Int.{w32, from_be_bytes, to_be_bytes}
-use Rattle.aes_block.specs.Aes.{mixed, round_key}
+use Rattle.aes_block.specs.Aes.{Block, add_round_key, mix_columns, shift_rows, sub_bytes}
 
 -- the word of four bytes, highest first
 abbrev pub word_of : ℕ → ℕ → ℕ → ℕ → ℕ
 word_of a b c d = from_be_bytes w32 (a ∷ b ∷ c ∷ d ∷ [])
-
--- the word of a column times the matrix of MixColumns
-unfoldable pub mixed_word : ℕ → ℕ → ℕ → ℕ → ℕ
-mixed_word a b c d = word_of (mixed a b c d) (mixed b c d a) (mixed c d a b) (mixed d a b c)
 
 -- the state of four words
 unfoldable pub spread : List ℕ → List ℕ
@@ -22,6 +18,6 @@ spread s =
 abbrev pub words_of : ℕ → List ℕ
 words_of n = n / 2 ^ 96 % 2 ^ 32 ∷ n / 2 ^ 64 % 2 ^ 32 ∷ n / 2 ^ 32 % 2 ^ 32 ∷ n % 2 ^ 32 ∷ []
 
--- the words of each of 15 numbers are those of a round
-abbrev pub AreRoundKeys : List ℕ → List ℕ → Type 0
-AreRoundKeys words keys = (n : ℕ) → n < 15 → words_of (slice_index keys n) ≡ round_key words n
+-- the block after a round with the words k
+abbrev pub after_round : List ℕ → Block → Block
+after_round k b = add_round_key k (mix_columns (shift_rows (sub_bytes b)))

@@ -1,137 +1,33 @@
 //! The block cipher AES-256 (FIPS 197 of 2001, whose sections are cited).
 //!
-//! Only what the cipher computes is proved. Nothing is claimed of secrecy: its time and the entries
-//! of its tables that it reads depend on the key and on the block.
+//! What the cipher computes is proved. Its code is written so that no branch and no address in memory depends on the
+//! key or on the block: the S-box is looked up within vectors. That is no part of what is proved.
 #![tactic(auto)]
 
-ghost use Rattle.std.specs.Prelude.{◌≡◌, ℕ, List, [], ◌∷◌, ◌<◌, bit_xor};
-ghost use Rattle.aes_block.specs.Inside.{AreRoundKeys, mixed_word, spread, word_of, words_of};
-ghost use Rattle.aes_block.specs.Aes.{add_round_key, aes, mix_columns, round_words, sbox, shift_rows, sub_bytes};
-ghost use Rattle.aes_block.specs.Aes.{sub_word, temp, word_byte};
+ghost use Rattle.std.specs.Prelude.{◌≡◌, ℕ, List, [], ◌∷◌, ◌++◌, ◌+◌, ◌/◌, ◌%◌, ◌^◌, ◌<◌};
+ghost use Rattle.std.specs.Int.{w32, to_be_bytes};
+ghost use Rattle.aes_block.specs.Inside.{spread, words_of};
+ghost use Rattle.aes_block.specs.Nibbles.{AreRoundKeys};
+ghost use Rattle.aes_block.specs.Aes.{aes, round_key, round_words, sub_word, temp};
 
-mod tables;
+mod lanes;
 
+use lanes::{coded, first_round, last_round, round, sub_bytes};
 use std::marker::Model;
-use tables::{SBOX, TABLES};
+use std::simd::prelude::*;
 
-fn sub(b: u8) -> u8
-    ensures { result ≡ sbox b }
-{
-    SBOX[b as usize]
-}
-
-// Byte `n` of a word, highest first.
-fn byte0(w: u32) -> u8
-    ensures { result ≡ word_byte w 0 }
-{
-    (w >> 24) as u8
-}
-
-fn byte1(w: u32) -> u8
-    ensures { result ≡ word_byte w 1 }
-{
-    (w >> 16 & 0xff) as u8
-}
-
-fn byte2(w: u32) -> u8
-    ensures { result ≡ word_byte w 2 }
-{
-    (w >> 8 & 0xff) as u8
-}
-
-fn byte3(w: u32) -> u8
-    ensures { result ≡ word_byte w 3 }
-{
-    (w & 0xff) as u8
-}
-
-// A column of a round: the bytes `a` to `d` through the S-box and the matrix.
-fn mixed_word(a: u8, b: u8, c: u8, d: u8) -> u32
-    ensures { result ≡ mixed_word (sbox a) (sbox b) (sbox c) (sbox d) }
-{
-    TABLES.row0[a as usize]
-        ^ TABLES.row1[b as usize]
-        ^ TABLES.row2[c as usize]
-        ^ TABLES.row3[d as usize]
-}
-
-// A column of the last round.
-fn sub_bytes_word(a: u8, b: u8, c: u8, d: u8) -> u32
-    ensures { result ≡ word_of (sbox a) (sbox b) (sbox c) (sbox d) }
-{
-    u32::from_be_bytes([sub(a), sub(b), sub(c), sub(d)])
-}
-
-fn column(a: u32, b: u32, c: u32, d: u32, k: u32) -> u32
-    ensures { result ≡ bit_xor (mixed_word (sbox (word_byte a 0)) (sbox (word_byte b 1)) (sbox (word_byte c 2))
-        (sbox (word_byte d 3))) k }
-{
-    mixed_word(byte0(a), byte1(b), byte2(c), byte3(d)) ^ k
-}
-
-fn last_column(a: u32, b: u32, c: u32, d: u32, k: u32) -> u32
-    ensures { result ≡ bit_xor (word_of (sbox (word_byte a 0)) (sbox (word_byte b 1)) (sbox (word_byte c 2))
-        (sbox (word_byte d 3))) k }
-{
-    sub_bytes_word(byte0(a), byte1(b), byte2(c), byte3(d)) ^ k
-}
-
-// A round key is one number, so that the compiler keeps the columns in registers of their own.
 fn joined(a: u32, b: u32, c: u32, d: u32) -> u128
     ensures { words_of result ≡ a ∷ b ∷ c ∷ d ∷ [] }
 {
     ((a as u128) << 96) + ((b as u128) << 64) + ((c as u128) << 32) + d as u128
 }
 
-fn words(k: u128) -> [u32; 4]
-    ensures { result ≡ words_of k }
-{
-    [
-        (k >> 96) as u32,
-        (k >> 64 & 0xffff_ffff) as u32,
-        (k >> 32 & 0xffff_ffff) as u32,
-        (k & 0xffff_ffff) as u32,
-    ]
-}
-
-fn first_round(s: [u32; 4], k: u128) -> [u32; 4]
-    ensures { spread result ≡ add_round_key (words_of k) (spread s) }
-{
-    let [a, b, c, d] = s;
-    let [p, q, r, t] = words(k);
-    [a ^ p, b ^ q, c ^ r, d ^ t]
-}
-
-fn round(s: [u32; 4], k: u128) -> [u32; 4]
-    ensures { spread result ≡ add_round_key (words_of k) (mix_columns (shift_rows (sub_bytes (spread s)))) }
-{
-    let [a, b, c, d] = s;
-    let [p, q, r, t] = words(k);
-    [
-        column(a, b, c, d, p),
-        column(b, c, d, a, q),
-        column(c, d, a, b, r),
-        column(d, a, b, c, t),
-    ]
-}
-
-fn last_round(s: [u32; 4], k: u128) -> [u32; 4]
-    ensures { spread result ≡ add_round_key (words_of k) (shift_rows (sub_bytes (spread s))) }
-{
-    let [a, b, c, d] = s;
-    let [p, q, r, t] = words(k);
-    [
-        last_column(a, b, c, d, p),
-        last_column(b, c, d, a, q),
-        last_column(c, d, a, b, r),
-        last_column(d, a, b, c, t),
-    ]
-}
-
 fn sub_word(w: u32) -> u32
     ensures { result ≡ sub_word w }
 {
-    sub_bytes_word(byte0(w), byte1(w), byte2(w), byte3(w))
+    let v = u32x4::from_array([w, 0, 0, 0]).to_le_bytes();
+    let s = u32x4::from_le_bytes(sub_bytes(v));
+    s.to_array()[0]
 }
 
 // What is added to the word 8 back, in word `i`, after the word `t`.
@@ -161,18 +57,42 @@ fn expanded(key: &[u8; 32]) -> [u32; 60]
     words
 }
 
-fn round_keys(words: &[u32; 60]) -> [u128; 15]
+// The bytes of the words of round `n`.
+fn key_bytes(words: &[u32; 60], n: usize) -> u8x16
+    requires { n < 15 }
+    ensures { result ≡ spread (round_key words.now n) }
+{
+    vector([
+        words[4 * n],
+        words[4 * n + 1],
+        words[4 * n + 2],
+        words[4 * n + 3],
+    ])
+}
+
+// The words of a round, as they are added.
+#[derive(Clone, Copy)]
+struct RoundKey {
+    bytes: u8x16,
+}
+
+// The words of the rounds as they are added: to codes, and in the last round to bytes.
+fn round_keys(words: &[u32; 60]) -> [RoundKey; 15]
     ensures { AreRoundKeys words.now result }
 {
-    let mut keys = [0u128; 15];
-    'keys: for n in 0..15 {
-        keys[n] = joined(
-            words[4 * n],
-            words[4 * n + 1],
-            words[4 * n + 2],
-            words[4 * n + 3],
-        );
+    let constant = u8x16::splat(0x63);
+    let first = RoundKey {
+        bytes: coded(key_bytes(words, 0)),
+    };
+    let mut keys = [first; 15];
+    'keys: for n in 1..14 {
+        keys[n] = RoundKey {
+            bytes: coded(key_bytes(words, n) ^ constant),
+        };
     }
+    keys[14] = RoundKey {
+        bytes: key_bytes(words, 14) ^ constant,
+    };
     keys
 }
 
@@ -180,7 +100,7 @@ fn round_keys(words: &[u32; 60]) -> [u128; 15]
 #[derive(Drop)]
 pub struct Aes256 {
     key: [u8; 32],
-    round_keys: [u128; 15],
+    round_keys: [RoundKey; 15],
 }
 
 impl Model for Aes256 {
@@ -203,42 +123,128 @@ impl Aes256 {
         }
     }
 
+    // The cipher's output at a block.
+    #[inline(always)]
+    fn output(&self, block: u8x16) -> u8x16
+        ensures { result ≡ aes self.now block }
+    {
+        let mut s = first_round(block, self.round_keys[0].bytes);
+        'rounds: for n in 1..14 {
+            s = round(s, self.round_keys[n].bytes);
+        }
+        last_round(s, self.round_keys[14].bytes)
+    }
+
+    // The cipher's outputs at two blocks, whose rounds go side by side.
+    #[inline(always)]
+    fn output_two(&self, a: u8x16, b: u8x16) -> (u8x16, u8x16)
+        ensures first { result.0 ≡ aes self.now a }
+        ensures second { result.1 ≡ aes self.now b }
+    {
+        let mut s = first_round(a, self.round_keys[0].bytes);
+        let mut t = first_round(b, self.round_keys[0].bytes);
+        'rounds: for n in 1..14 {
+            let k = self.round_keys[n].bytes;
+            s = round(s, k);
+            t = round(t, k);
+        }
+        let k = self.round_keys[14].bytes;
+        (last_round(s, k), last_round(t, k))
+    }
+
+    // The same at four blocks.
+    #[inline(always)]
+    fn output_four(&self, a: u8x16, b: u8x16, c: u8x16, d: u8x16) -> (u8x16, u8x16, u8x16, u8x16)
+        ensures first { result.0 ≡ aes self.now a }
+        ensures second { result.1 ≡ aes self.now b }
+        ensures third { result.2 ≡ aes self.now c }
+        ensures fourth { result.3 ≡ aes self.now d }
+    {
+        let mut s = first_round(a, self.round_keys[0].bytes);
+        let mut t = first_round(b, self.round_keys[0].bytes);
+        let mut u = first_round(c, self.round_keys[0].bytes);
+        let mut v = first_round(d, self.round_keys[0].bytes);
+        'rounds: for n in 1..14 {
+            let k = self.round_keys[n].bytes;
+            s = round(s, k);
+            t = round(t, k);
+            u = round(u, k);
+            v = round(v, k);
+        }
+        let k = self.round_keys[14].bytes;
+        (
+            last_round(s, k),
+            last_round(t, k),
+            last_round(u, k),
+            last_round(v, k),
+        )
+    }
+
     /// The cipher's output at a block of 16 bytes (FIPS 197 section 5.1).
     pub fn encrypt(&self, block: &[u8; 16]) -> [u8; 16]
         ensures { result ≡ aes self.now block.now }
     {
-        let mut s = first_round(load(block), self.round_keys[0]);
-        'rounds: for n in 1..14 {
-            let t = round(s, self.round_keys[n]);
-            s = t;
-        }
-        store(last_round(s, self.round_keys[14]))
+        self.output(u8x16::from_array(*block)).to_array()
+    }
+
+    /// The cipher's output at the block that begins with `front` and ends with the bytes of `n`, the highest
+    /// first (FIPS 197 section 5.1).
+    pub fn encrypt_counter(&self, front: &[u8; 12], n: u32) -> u8x16
+        ensures { result ≡ aes self.now (front.now ++ to_be_bytes w32 n) }
+    {
+        self.output(with_counter(front, n))
+    }
+
+    /// The cipher's outputs at two blocks (FIPS 197 section 5.1): both blocks begin with `front`, and end with
+    /// the bytes of `n` and of `n + 1`, the highest first.
+    #[inline(never)]
+    pub fn encrypt_counters(&self, front: &[u8; 12], n: u32) -> (u8x16, u8x16)
+        requires { n < 0xffff_ffff }
+        ensures first { result.0 ≡ aes self.now (front.now ++ to_be_bytes w32 n) }
+        ensures second { result.1 ≡ aes self.now (front.now ++ to_be_bytes w32 (n + 1)) }
+    {
+        self.output_two(with_counter(front, n), with_counter(front, n + 1))
+    }
+
+    /// The cipher's outputs at four blocks, in the same way, from `n` to `n + 3`.
+    #[inline(never)]
+    pub fn encrypt_four(&self, front: &[u8; 12], n: u32) -> (u8x16, u8x16, u8x16, u8x16)
+        requires { n < 0xffff_fffd }
+        ensures first { result.0 ≡ aes self.now (front.now ++ to_be_bytes w32 n) }
+        ensures second { result.1 ≡ aes self.now (front.now ++ to_be_bytes w32 (n + 1)) }
+        ensures third { result.2 ≡ aes self.now (front.now ++ to_be_bytes w32 (n + 2)) }
+        ensures fourth { result.3 ≡ aes self.now (front.now ++ to_be_bytes w32 (n + 3)) }
+    {
+        self.output_four(
+            with_counter(front, n),
+            with_counter(front, n + 1),
+            with_counter(front, n + 2),
+            with_counter(front, n + 3),
+        )
     }
 }
 
-fn load(block: &[u8; 16]) -> [u32; 4]
-    ensures { spread result ≡ block.now }
-{
-    [
-        u32::from_be_bytes([block[0], block[1], block[2], block[3]]),
-        u32::from_be_bytes([block[4], block[5], block[6], block[7]]),
-        u32::from_be_bytes([block[8], block[9], block[10], block[11]]),
-        u32::from_be_bytes([block[12], block[13], block[14], block[15]]),
-    ]
-}
-
-fn store(s: [u32; 4]) -> [u8; 16]
+// The bytes of four words.
+fn vector(s: [u32; 4]) -> u8x16
     ensures { result ≡ spread s }
 {
     let [a, b, c, d] = s;
-    let a = a.to_be_bytes();
-    let b = b.to_be_bytes();
-    let c = c.to_be_bytes();
-    let d = d.to_be_bytes();
-    [
-        a[0], a[1], a[2], a[3], b[0], b[1], b[2], b[3], c[0], c[1], c[2], c[3], d[0], d[1], d[2],
-        d[3],
-    ]
+    let n = joined(a, b, c, d);
+    u64x2::from_array([(n & 0xffff_ffff_ffff_ffff) as u64, (n >> 64) as u64])
+        .to_le_bytes()
+        .reverse()
+}
+
+// The block that begins with `front` and ends with the bytes of `n`, the highest first.
+fn with_counter(front: &[u8; 12], n: u32) -> u8x16
+    ensures { result ≡ front.now ++ to_be_bytes w32 n }
+{
+    vector([
+        u32::from_be_bytes([front[0], front[1], front[2], front[3]]),
+        u32::from_be_bytes([front[4], front[5], front[6], front[7]]),
+        u32::from_be_bytes([front[8], front[9], front[10], front[11]]),
+        n,
+    ])
 }
 
 #[cfg(test)]
@@ -271,6 +277,17 @@ mod tests {
             b"\x00\x01\x02\x03\x04\x05\x06\x07\x08\x09\x0a\x0b\x0c\x0d\x0e\x0f\x10\x11\x12\x13\x14\x15\x16\x17\x18\x19\x1a\x1b\x1c\x1d\x1e\x1f";
         let block = b"\x00\x11\x22\x33\x44\x55\x66\x77\x88\x99\xaa\xbb\xcc\xdd\xee\xff";
         let output = b"\x8e\xa2\xb7\xca\x51\x67\x45\xbf\xea\xfc\x49\x90\x4b\x49\x60\x89";
-        assert!(rt; Aes256::prepare(key).encrypt(block) == *output);
+        let aes = Aes256::prepare(key);
+        assert!(rt; aes.encrypt(block) == *output);
+        // The same block as 12 bytes and a counter.
+        let front = b"\x00\x11\x22\x33\x44\x55\x66\x77\x88\x99\xaa\xbb";
+        let n = 0xccddeeff;
+        assert!(rt; aes.encrypt_counter(front, n).to_array() == *output);
+        assert!(rt; aes.encrypt_counters(front, n).0.to_array() == *output);
+        assert!(rt; aes.encrypt_counters(front, n - 1).1.to_array() == *output);
+        assert!(rt; aes.encrypt_four(front, n).0.to_array() == *output);
+        assert!(rt; aes.encrypt_four(front, n - 1).1.to_array() == *output);
+        assert!(rt; aes.encrypt_four(front, n - 2).2.to_array() == *output);
+        assert!(rt; aes.encrypt_four(front, n - 3).3.to_array() == *output);
     }
 }

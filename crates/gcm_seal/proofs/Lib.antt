@@ -1,7 +1,11 @@
 pub mod Ring
 pub mod Linear
-pub mod Halves
+pub mod Reduction
+pub mod Places
+pub mod Moves
+pub mod Lookups
 pub mod Strings
+pub mod Numbers
 pub mod Sealing
 pub mod Pieces
 pub mod Vectors

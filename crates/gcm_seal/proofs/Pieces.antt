@@ -1,11 +1,13 @@
 -- A buffer that is masked piece by piece.
-use Rattle.std.proofs.Common.{◌≡◌, ℕ, ◌+◌, ◌-◌, ◌*◌, ◌/◌, ◌%◌, ◌≤◌, min, inl, inr, length-append, length-drop, List, []}
-use Rattle.std.proofs.Common.{◌++◌, length, take, drop, sym, ap, ◌∙◌, arith, length-take, append-nil, append_assoc}
+use Rattle.std.proofs.Common.{◌≡◌, ℕ, ◌+◌, ◌-◌, ◌*◌, ◌/◌, ◌%◌, ◌≤◌, ◌<◌, refl, min, inl, inr, length-append}
+use Rattle.std.proofs.Common.{length-drop, List, [], ◌++◌, length, take, drop, sym, ap, ◌∙◌, arith, length-take}
+use Rattle.std.proofs.Common.{append-nil, append_assoc}
 use Rattle.std.proofs.lemmas.Bool.{cases_lt}
 use Rattle.std.proofs.Math.Seq.{take-add}
 use Rattle.std.proofs.lemmas.List.{take_at, drop_at, drop-drop, take_all, drop_all}
-use Rattle.gcm_seal.specs.Gcm.{masked}
-use Rattle.gcm_seal.proofs.Strings.{length-masked, masked-none}
+use Rattle.gcm_seal.specs.Gcm.{masked, combined, counter}
+use Rattle.aes_block.specs.Aes.{aes}
+use Rattle.gcm_seal.proofs.Strings.{length-masked, masked-none, masked-within}
 use Rattle.gcm_seal.proofs.Sealing.{masked-append}
 
 -- the first k bytes of xs are masked, from byte n of the plaintext on
@@ -56,6 +58,28 @@ front-whole key iv n k xs now le e =
 masked-same : (key iv : List ℕ) (m n : ℕ) (xs : List ℕ) → length xs ≡ 0 → masked key iv m xs ≡ masked key iv n xs
 masked-same key iv m n xs none = sym (masked-none key iv m xs none) ∙ masked-none key iv n xs none
 
+-- the first f bytes, and then all that are left, which stand at place m if there are any
+pub two_parts : (key iv : List ℕ) (n m f : ℕ) (xs ys zs : List ℕ) → f ≤ length xs → (f < length xs → m ≡ n + f)
+    → ys ≡ masked key iv n (take f xs)
+    → zs ≡ masked key iv m (take (length (ys ++ drop f xs) - f) (drop f (ys ++ drop f xs)))
+    → take f (ys ++ drop f xs) ++ (zs ++ drop (length (ys ++ drop f xs) - f) (drop f (ys ++ drop f xs)))
+    ≡ masked key iv n xs
+two_parts key iv n m f xs ys zs le at ey ez =
+    let now = ys ++ drop f xs in
+    let j : ℕ = length now - f in
+    let held : now ≡ front_masked key iv n f xs = λ i. ey i ++ drop f xs in
+    let long : length now ≡ length xs = ap (λ (l : List ℕ). length l) held ∙ length-append (masked key iv n (take f xs))
+    (drop f xs) ∙ omega (arith, length-front key iv n f xs le, length-drop f xs) in
+    let rest = take j (drop f now) in
+    let count : length rest ≡ length xs - f = omega (arith, length-take j (drop f now), length-drop f now, long) in
+    let next : zs ≡ masked key iv (n + f) rest =
+    ez
+    ∙ elim (cases_lt f (length xs)) [
+      | inl more ↦ ap (λ (n : ℕ). masked key iv n rest) (at more)
+      | inr done ↦ masked-same key iv m (n + f) rest (omega (arith, count))
+    ] in
+    front-whole key iv n (f + j) xs _ (omega (arith, long)) (front-next key iv n f j xs now zs le held next)
+
 -- the first f bytes, up to the end of their block, and then all that are left
 pub two_pieces : (key iv : List ℕ) (from f : ℕ) (xs ys zs : List ℕ)
     → f ≡ min ((16 - from % 16) % 16) (length xs)
@@ -64,23 +88,39 @@ pub two_pieces : (key iv : List ℕ) (from f : ℕ) (xs ys zs : List ℕ)
     → take f (ys ++ drop f xs) ++ (zs ++ drop (length (ys ++ drop f xs) - f) (drop f (ys ++ drop f xs)))
     ≡ masked key iv from xs
 two_pieces key iv from f xs ys zs ef ey ez =
-    let le : f ≤ length xs = omega (arith, ef) in
     let place : 16 * (from / 16) + from % 16 ≡ from = omega arith in
-    let now = ys ++ drop f xs in
-    let j : ℕ = length now - f in
-    let held : now ≡ front_masked key iv from f xs =
-    (λ i. (ey ∙ ap (λ (n : ℕ). masked key iv n (take f xs)) place) i ++ drop f xs) in
-    let long : length now ≡ length xs = ap (λ (l : List ℕ). length l) held ∙ length-append
-    (masked key iv from (take f xs)) (drop f xs) ∙ omega (arith, length-front key iv from f xs le, length-drop f xs)
+    two_parts key iv from (16 * ((from + 15) / 16)) f xs ys zs (omega (arith, ef)) (λ more. omega (arith, ef, more))
+    (ey ∙ ap (λ (n : ℕ). masked key iv n (take f xs)) place) ez
+
+-- the first 16 bytes and 16 more, each combined with a block of the key stream
+pub two_blocks : (key iv : List ℕ) (block : ℕ) (xs ys zs out more : List ℕ) → length xs ≡ 32
+    → out ≡ aes key (counter iv (block + 1))
+    → more ≡ aes key (counter iv (block + 1 + 1))
+    → ys ≡ combined (take 16 xs) out
+    → zs ≡ combined (take (length (ys ++ drop 16 xs) - 16) (drop 16 (ys ++ drop 16 xs))) more
+    → take 16 (ys ++ drop 16 xs) ++ (zs ++ drop (length (ys ++ drop 16 xs) - 16) (drop 16 (ys ++ drop 16 xs)))
+    ≡ masked key iv (16 * block) xs
+two_blocks key iv block xs ys zs out more long eo em ey ez =
+    let now = ys ++ drop 16 xs in
+    let front = take 16 xs in
+    let rest = take (length now - 16) (drop 16 now) in
+    let first : 16 * block + 0 ≡ 16 * block = omega arith in
+    let second : 16 * (block + 1) + 0 ≡ 16 * block + 16 = omega arith in
+    let short : 0 + length front ≤ 16 = omega (arith, length-take 16 xs) in
+    let masks : ys ≡ masked key iv (16 * block) front =
+    ey ∙ ap (combined front) eo ∙ masked-within key iv block 0 front short ∙ ap (λ (n : ℕ). masked key iv n front) first
     in
-    let rest = take j (drop f now) in
-    let count : length rest ≡ length xs - f = omega (arith, length-take j (drop f now), length-drop f now, long) in
-    let next : zs ≡ masked key iv (from + f) rest =
-    ez
-    ∙ elim (cases_lt f (length xs)) [
-      | inl more ↦
-          let begun : 16 * ((from + 15) / 16) ≡ from + f = omega (arith, ef) in
-          ap (λ (n : ℕ). masked key iv n rest) begun
-      | inr done ↦ masked-same key iv (16 * ((from + 15) / 16)) (from + f) rest (omega (arith, count))
-    ] in
-    front-whole key iv from (f + j) xs _ (omega (arith, long)) (front-next key iv from f j xs now zs le held next)
+    let size : length now ≡ 32 =
+    length-append ys (drop 16 xs)
+    ∙ omega (
+      arith,
+      ap (λ (l : List ℕ). length l) masks ∙ length-masked key iv (16 * block) front,
+      length-take 16 xs,
+      length-drop 16 xs,
+      long,
+    ) in
+    let fits : 0 + length rest ≤ 16 = omega
+    (arith, length-take (length now - 16) (drop 16 now), length-drop 16 now, size) in
+    two_parts key iv (16 * block) (16 * block + 16) 16 xs ys zs (omega (arith, long)) (λ more. refl) masks
+    (ez ∙ ap (combined rest) em ∙ masked-within key iv (block + 1) 0 rest fits ∙ ap (λ (n : ℕ). masked key iv n rest)
+    second)

@@ -3,14 +3,14 @@
 -- follows by induction on the blocks. A remainder modulo 1 + x + x² + x⁷ + x¹²⁸ has the bits of what its polynomial
 -- makes of the block of the polynomial 1: both take the same step at each coefficient.
 use Rattle.std.proofs.Common.{◌≡◌, ℕ, zero, suc, ◌+◌, ◌*◌, ◌/◌, ◌%◌, ◌^◌, ◌<◌, ◌≤◌, ◌==◌, Bool, true, false, List, []}
-use Rattle.std.proofs.Common.{◌∷◌, ◌++◌, length, take, get_or, replicate, lit<, bit_and, bit_xor, refl, sym, ap, ◌∙◌}
-use Rattle.std.proofs.Common.{arith, inl, inr, eq-eqb}
+use Rattle.std.proofs.Common.{◌∷◌, ◌++◌, length, take, get_or, replicate, lit<, bit_xor, refl, sym, ap, ◌∙◌}
+use Rattle.std.proofs.Common.{arith, inl, inr}
 use Rattle.std.specs.Prelude.{if◌then◌else◌}
 use Rattle.std.proofs.Math.Numerals.{one-add}
-use Rattle.std.proofs.lemmas.Bool.{cases_lt, ne_eqb}
+use Rattle.std.proofs.lemmas.Bool.{cases_lt}
 use Rattle.std.proofs.lemmas.Nat.{xor_comm, xor_lt, xor_shr, xor_mod, mod-pow-add, pow_pos, pow-add, mod_below}
 use Rattle.std.proofs.lemmas.Nat.{shl_below, shr-shr}
-use Rattle.std.proofs.lemmas.Nat.Bits.{bit_at-lt, bit_at_xor, shr_and_one}
+use Rattle.std.proofs.lemmas.Nat.Bits.{bit_at-lt, bit_at_xor}
 use Rattle.std.proofs.lemmas.List.{length-take-le}
 use lib.Bits.{xor_assoc, xor_zero_r, xor_self, xor_shifted}
 use Rattle.gcm_seal.specs.Polynomials.{differ, plus, product, power, bits, number, polynomial, remainder, times_x}
@@ -18,7 +18,7 @@ use Rattle.gcm_seal.specs.Gcm.{sum_of_products, ghash, blocks, hash_input}
 use Rattle.gcm_seal.proofs.Strings.{hashed_blocks}
 use Rattle.std.specs.Int.{div_ceil}
 use Rattle.std.proofs.lemmas.List.Sums.{fold-append}
-use Rattle.gcm_seal.specs.Inside.{step_x, act, block_product, absorbed, padded_blocks}
+use Rattle.gcm_seal.specs.Inside.{step_x, act, block_product, absorbed, padded_block, padded_blocks}
 
 -- ---- xor
 
@@ -325,6 +325,29 @@ pub times-lt : (h v : ℕ) → h < 2 ^ 128 → block_product h v < 2 ^ 128
 unfolding block_product
 times-lt h v lt = act-lt (polynomial v) h lt
 
+-- ---- two blocks at once
+
+times-acts : (h v : ℕ) → h < 2 ^ 128 → v < 2 ^ 128 → block_product h v ≡ act (polynomial h) v
+times-acts h v hl vl = times-act h v hl ∙ ap (act (polynomial h)) (act-polynomial v vl)
+
+-- the product with the square of h
+times-square : (h u : ℕ) → h < 2 ^ 128 → block_product (block_product h h) u ≡ block_product h (block_product h u)
+unfolding block_product
+times-square h u hl =
+    act-act (polynomial u) (polynomial h) h
+    ∙ sym (times-acts h (block_product h u) hl (times-lt h u hl))
+
+times-sum : (h a b : ℕ) → block_product h (bit_xor a b) ≡ bit_xor (block_product h a) (block_product h b)
+unfolding block_product
+times-sum h a b =
+    ap (λ (p : List Bool). act p h) (polynomial-xor a b) ∙ act-plus (polynomial a) (polynomial b) h
+
+pub two-products : (h u w : ℕ) → h < 2 ^ 128
+    → bit_xor (block_product (block_product h h) u) (block_product h w)
+    ≡ block_product h (bit_xor (block_product h u) w)
+two-products h u w hl =
+    ap (λ (x : ℕ). bit_xor x (block_product h w)) (times-square h u hl) ∙ sym (times-sum h (block_product h u) w)
+
 -- h times the sum of y and x
 times-xor : (h y x : ℕ) → h < 2 ^ 128 → y < 2 ^ 128
     → block_product h (bit_xor y x) ≡ bit_xor (act (polynomial h) y) (act (polynomial h) (act (polynomial x) one))
@@ -371,20 +394,13 @@ hashed-ghash h a c hl ha hc =
     sym (ap (ghash h) (hashed_blocks a c ha hc) ∙ sym (absorbed-ghash h (p ++ q ++ n ∷ []) hl) ∙ fold-append step 0
     (p ++ q) (n ∷ []) ∙ ap (λ (y : ℕ). block_product h (bit_xor y n)) (fold-append step 0 p q))
 
--- ---- the loop over the bits, lowest first
+-- ---- the loop over the blocks
 
-pub act_one : (i v h z : ℕ) → bit_and (v / 2 ^ i) 1 ≡ 1 → z ≡ act (bits i v) h → bit_xor (step_x z) h
-    ≡ act (bits (i + 1) v) h
-unfolding bits
-act_one i v h z set held =
+pub absorbed-next : (h y : ℕ) (s : List ℕ) (i : ℕ)
+    → block_product h (bit_xor (absorbed h y (padded_blocks s i)) (padded_block s i))
+    ≡ absorbed h y (padded_blocks s (i + 1))
+unfolding padded_blocks
+absorbed-next h y s i =
     let next : i + 1 ≡ suc i = omega arith in
-    let on = eq-eqb (v / 2 ^ i % 2) 1 (sym (shr_and_one v i) ∙ set) in
-    rw (next, on, ← held) (xor_comm (step_x z) h)
-
-pub act_none : (i v h z : ℕ) → (bit_and (v / 2 ^ i) 1 ≡ 1 → ⊥) → z ≡ act (bits i v) h → step_x z
-    ≡ act (bits (i + 1) v) h
-unfolding bits
-act_none i v h z clear held =
-    let next : i + 1 ≡ suc i = omega arith in
-    let off = ne_eqb (v / 2 ^ i % 2) 1 (λ e. clear (shr_and_one v i ∙ e)) in
-    rw (next, off, ← held) refl
+    rw next
+    (sym (fold-append (λ y x. block_product h (bit_xor y x)) y (padded_blocks s i) (padded_block s i ∷ [])))

@@ -14,6 +14,7 @@ use Rattle.std.proofs.lemmas.Nat.{from_be_bytes-to_be_bytes_4, from_be_bytes-to_
 use Rattle.std.specs.Int.{div_ceil, w32, w64, w128, from_be_bytes, to_be_bytes}
 use Rattle.aes_block.specs.Aes.{aes}
 use Rattle.aes_block.proofs.Blocks.{length-aes}
+use lib.Lanes.{zip2}
 use Rattle.gcm_seal.specs.Gcm.{counter, masked, combined, key_stream, padding, hash_input, block, blocks}
 use Rattle.gcm_seal.specs.Inside.{padded_block, padded_blocks}
 
@@ -101,6 +102,12 @@ combined-at (x ∷ xs) (k ∷ ks) (suc i) lt le = combined-at xs ks i (omega ari
 pub length-masked : (key iv : List ℕ) (n : ℕ) (xs : List ℕ) → length (masked key iv n xs) ≡ length xs
 unfolding masked
 length-masked key iv n xs = length-combined xs (drop n (key_stream key iv (div_ceil (n + length xs) 16)))
+
+-- strings of one length, combined lane by lane
+pub zip2-combined : (xs ks : List ℕ) → length xs ≡ length ks → zip2 bit_xor xs ks ≡ combined xs ks
+zip2-combined [] ks e = refl
+zip2-combined (x ∷ xs) [] e = absurd (omega (arith, e))
+zip2-combined (x ∷ xs) (k ∷ ks) e = ap (λ (l : List ℕ). bit_xor x k ∷ l) (zip2-combined xs ks (omega (arith, e)))
 
 -- byte i of a masked string
 pub masked-at : (key iv : List ℕ) (n : ℕ) (xs : List ℕ) (i : ℕ) → i < length xs

@@ -1,10 +1,13 @@
 -- Only private functions, and what a type keeps of its private fields, cite this: GHASH block by block, as the code
 -- computes it. Gcm says what GHASH is.
-use Rattle.std.specs.Prelude.{◌≡◌, ℕ, zero, suc, ◌*◌, ◌/◌, ◌%◌, ◌^◌, ◌==◌, ◌<◌, slice_index, List, [], ◌∷◌, ◌++◌, drop}
-use Rattle.std.specs.Prelude.{bit_xor, if◌then◌else◌, fold}
-use Rattle.std.specs.Int.{w128, from_be_bytes}
+use Rattle.std.specs.Prelude.{◌≡◌, ℕ, zero, suc, ◌*◌, ◌/◌, ◌%◌, ◌^◌, ◌==◌, ◌<◌, slice_index, List, [], ◌∷◌, ◌++◌}
+use Rattle.std.specs.Prelude.{drop, get_or, bit_xor, if◌then◌else◌, fold}
+use Rattle.std.specs.Int.{w128, from_be_bytes, to_be_bytes}
 use Rattle.gcm_seal.specs.Polynomials.{Polynomial, bits, polynomial}
 use Rattle.gcm_seal.specs.Gcm.{Bytes, BlockNumber}
+use Rattle.gcm_seal.specs.declared.ghash.Multiples.{Multiples}
+use Rattle.gcm_seal.specs.declared.ghash.Row.{Row}
+use Rattle.gcm_seal.specs.declared.ghash.Steps.{Steps}
 
 -- x • b modulo 1 + x + x² + x⁷ + x¹²⁸, for a block as a number
 unfoldable pub step_x : BlockNumber → BlockNumber
@@ -37,6 +40,39 @@ unfoldable pub padded_blocks : Bytes → ℕ → List BlockNumber
 padded_blocks s zero = []
 padded_blocks s (suc n) = padded_blocks s n ++ padded_block s n ∷ []
 
--- the 16 multiples of h by the polynomials of 4 bits
-abbrev pub AreMultiples : BlockNumber → List BlockNumber → Type 0
-AreMultiples h m = (n : ℕ) → n < 16 → slice_index m n ≡ act (bits 4 n) h
+-- byte j of a block, the highest the first
+abbrev pub byte_of : ℕ → BlockNumber → ℕ
+byte_of j b = slice_index (to_be_bytes w128 b) j
+
+-- byte j of the product of h and the polynomial of a byte
+abbrev pub byte_product : BlockNumber → ℕ → ℕ → ℕ
+byte_product h j x = byte_of j (act (bits 8 x) h)
+
+-- the sum of bytes, each moved up to its place: byte i times x⁸ⁱ
+abbrev pub joined : List ℕ → BlockNumber
+joined [] = 0
+joined (b ∷ bs) = bit_xor (b * 2 ^ 120) (raised 8 (joined bs))
+
+-- b, x • b, x² • b and x³ • b, as bytes
+abbrev pub AreSteps : BlockNumber → Steps → Type 0
+AreSteps b s =
+    (s.once ≡ to_be_bytes w128 b) × (s.by_x ≡ to_be_bytes w128 (step_x b))
+    × (s.by_x2 ≡ to_be_bytes w128 (step_x (step_x b))) × (s.by_x3 ≡ to_be_bytes w128 (step_x (step_x (step_x b))))
+
+-- byte j of the multiples of b by the polynomials of 4 bits
+abbrev pub IsTable : BlockNumber → ℕ → List ℕ → Type 0
+IsTable b j table = (n : ℕ) → n < 16 → slice_index table n ≡ byte_of j (act (bits 4 n) b)
+
+-- byte j of the multiples of h by the upper 4 bits of a byte, and by the lower
+abbrev pub IsRow : BlockNumber → ℕ → Row → Type 0
+IsRow h j row = IsTable h j row.upper × IsTable (raised 4 h) j row.lower
+
+abbrev pub row_at : List Row → ℕ → Row
+row_at rows j = get_or rows j (record { upper = []; lower = [] })
+
+abbrev pub AreRows : BlockNumber → List Row → Type 0
+AreRows h rows = (j : ℕ) → j < 16 → IsRow h j (row_at rows j)
+
+-- the rows of h and of its square
+abbrev pub AreMultiples : BlockNumber → Multiples → Type 0
+AreMultiples h m = AreRows h m.first × AreRows (block_product h h) m.second

@@ -1,12 +1,16 @@
-//! GHASH of blocks (SP 800-38D section 6.4), 4 bits of a block at a time.
+//! GHASH of blocks (SP 800-38D section 6.4) by look-ups of 4 bits within vectors: the code is written so that no
+//! address in memory and no branch depends on the hash key or on a block.
 
-ghost use Rattle.std.specs.Prelude.{◌≡◌, ℕ, ◌*◌, ◌<◌, ◌≤◌, bit_xor, length};
-ghost use Rattle.std.specs.Int.{div_ceil, from_be_bytes, w128};
-ghost use Rattle.gcm_seal.specs.Polynomials.{bits};
-ghost use Rattle.gcm_seal.specs.Inside.{AreMultiples, absorbed, act, padded_block, padded_blocks, raised, step_x};
-ghost use Rattle.gcm_seal.specs.Inside.{block_product};
+ghost use Rattle.std.specs.Prelude.{◌≡◌, ℕ, T, ◌+◌, ◌*◌, ◌^◌, ◌<◌, ◌≤◌, ◌==◌, ◌||◌, ◌++◌, bit_xor, length, map};
+ghost use Rattle.std.specs.Prelude.{◌/◌, slice_index, take, ◌∷◌};
+ghost use Rattle.std.specs.Int.{div_ceil, from_be_bytes, to_be_bytes, w128};
+ghost use lib.Lanes.{Each1};
+ghost use Rattle.aes_block.specs.Nibbles.{IsVector, entry_of};
+ghost use Rattle.gcm_seal.specs.Inside.{AreMultiples, AreRows, AreSteps, IsRow, IsTable, absorbed, block_product};
+ghost use Rattle.gcm_seal.specs.Inside.{byte_product, joined, padded_block, padded_blocks, raised, step_x};
 
 use crate::MAX_BYTES;
+use std::simd::prelude::*;
 
 // x^128 modulo the polynomial, 1 + x + x^2 + x^7, as a block.
 const REDUCTION: u128 = 0xe1000000000000000000000000000000;
@@ -14,32 +18,166 @@ const REDUCTION: u128 = 0xe1000000000000000000000000000000;
 fn times_x(b: u128) -> u128
     ensures { result ≡ step_x b }
 {
-    if b % 2 == 1 { b / 2 ^ REDUCTION } else { b / 2 }
+    (b % 2 * REDUCTION) ^ b / 2
 }
 
-// h times the polynomial of the last 4 bits of `n`.
-fn multiple(h: u128, n: u128) -> u128
-    ensures { result ≡ act (bits 4 n) h }
+// x^4 • b.
+fn times_x4(b: u128) -> u128
+    ensures { result ≡ raised 4 b }
 {
-    let mut z = 0;
-    for i in 0..4u32 {
-        z = times_x(z);
-        if n >> i & 1 == 1 {
-            z ^= h;
-        }
-    }
-    z
+    times_x(times_x(times_x(times_x(b))))
 }
 
-// The multiples of h by the polynomials of 4 bits.
-pub fn multiples(h: u128) -> [u128; 16]
+/// The bytes of a block, as a number.
+#[inline(always)]
+pub fn vector_of(n: u128) -> u8x16
+    ensures { result ≡ to_be_bytes w128 n }
+{
+    u64x2::from_array([(n & 0xffff_ffff_ffff_ffff) as u64, (n >> 64) as u64])
+        .to_le_bytes()
+        .reverse()
+}
+
+// The number of the bytes of a block.
+#[inline(always)]
+fn number_of(v: u8x16) -> u128
+    ensures { result ≡ from_be_bytes w128 v }
+{
+    u128::from_be_bytes(v.to_array())
+}
+
+// The bytes of a block, and of its products by x, x^2 and x^3.
+#[derive(Clone, Copy)]
+struct Steps {
+    once: u8x16,
+    by_x: u8x16,
+    by_x2: u8x16,
+    by_x3: u8x16,
+}
+
+#[inline(always)]
+fn steps_of(b: u128) -> Steps
+    ensures { AreSteps b result }
+{
+    let x = times_x(b);
+    let x2 = times_x(x);
+    let x3 = times_x(x2);
+    Steps {
+        once: vector_of(b),
+        by_x: vector_of(x),
+        by_x2: vector_of(x2),
+        by_x3: vector_of(x3),
+    }
+}
+
+// For the bits of 8, 4, 2 and 1 in the numbers from 0 to 15: 0 if the bit is set, else 128, at which a look-up gives 0.
+const EIGHT: [u8; 16] = [
+    128, 128, 128, 128, 128, 128, 128, 128, 0, 0, 0, 0, 0, 0, 0, 0,
+];
+
+const FOUR: [u8; 16] = [
+    128, 128, 128, 128, 0, 0, 0, 0, 128, 128, 128, 128, 0, 0, 0, 0,
+];
+
+const TWO: [u8; 16] = [
+    128, 128, 0, 0, 128, 128, 0, 0, 128, 128, 0, 0, 128, 128, 0, 0,
+];
+
+const ONE: [u8; 16] = [
+    128, 0, 128, 0, 128, 0, 128, 0, 128, 0, 128, 0, 128, 0, 128, 0,
+];
+
+// Byte `j` of `v` in the lanes in which `unset` is 0, and 0 in those in which it is 128.
+#[inline(always)]
+fn chosen(v: u8x16, unset: u8x16, j: u8) -> u8x16
+    requires index { j < 16 }
+    requires places { Each1 (λ s. T (s == 0 || s == 128)) unset }
+    ensures { result ≡ map (λ s. entry_of v (bit_xor s j)) unset }
+{
+    v.swizzle_dyn(unset ^ u8x16::splat(j))
+}
+
+// Byte `j` of the multiples of a block by the polynomials of 4 bits.
+#[inline(always)]
+fn table(s: &Steps, j: u8) -> u8x16
+    requires { j < 16 }
+    ensures { (b : ℕ) → AreSteps b s.now → IsTable b j result }
+{
+    let upper = chosen(s.once, u8x16::from_array(EIGHT), j)
+        ^ chosen(s.by_x, u8x16::from_array(FOUR), j);
+    let lower = chosen(s.by_x2, u8x16::from_array(TWO), j)
+        ^ chosen(s.by_x3, u8x16::from_array(ONE), j);
+    upper ^ lower
+}
+
+// A byte of the multiples of a block by the upper 4 bits of a byte, and by the lower.
+#[derive(Clone, Copy)]
+struct Row {
+    upper: u8x16,
+    lower: u8x16,
+}
+
+fn rows(h: u128) -> [Row; 16]
+    ensures { AreRows h result }
+{
+    let upper = steps_of(h);
+    let lower = steps_of(times_x4(h));
+    let none = Row {
+        upper: u8x16::splat(0),
+        lower: u8x16::splat(0),
+    };
+    let mut rows = [none; 16];
+    for j in 0..16u8 {
+        rows[j as usize] = Row {
+            upper: table(&upper, j),
+            lower: table(&lower, j),
+        };
+    }
+    rows
+}
+
+/// The 16 bytes of the multiples of a hash key and of its square, ready for products with two blocks at once.
+#[derive(Drop)]
+pub struct Multiples {
+    first: [Row; 16],
+    second: [Row; 16],
+}
+
+/// The multiples of `h`, which take 1 KiB.
+pub fn multiples_of(h: u128) -> Multiples
     ensures { AreMultiples h result }
 {
-    let mut m = [0u128; 16];
-    for n in 0..16usize {
-        m[n] = multiple(h, n as u128);
+    let first = rows(h);
+    let square = product_of(&first, h);
+    Multiples {
+        first,
+        second: rows(square),
     }
-    m
+}
+
+// A byte of the products of each byte of a block.
+#[inline(always)]
+fn partial(row: &Row, v: u8x16) -> u8x16
+    ensures { (h j : ℕ) → IsRow h j row.now → result ≡ map (byte_product h j) v }
+{
+    let upper = v >> u8x16::splat(4);
+    let lower = v & u8x16::splat(15);
+    row.upper.swizzle_dyn(upper) ^ row.lower.swizzle_dyn(lower)
+}
+
+const UP: [usize; 16] = [
+    15, 16, 17, 18, 19, 20, 21, 22, 23, 24, 25, 26, 27, 28, 29, 30,
+];
+
+// Moves a sum of 32 bytes up by one byte, and adds the next.
+#[inline(always)]
+fn moved(low: u8x16, high: u8x16, next: u8x16) -> (u8x16, u8x16)
+    ensures sum { slice_index high 15 ≡ 0
+        → joined (result.0 ++ result.1) ≡ bit_xor (joined next) (raised 8 (joined (low ++ high))) }
+    ensures high { result.1 ≡ slice_index low 15 ∷ take 15 high }
+{
+    let none = u8x16::splat(0);
+    (none.shuffle(low, UP) ^ next, low.shuffle(high, UP))
 }
 
 // z + x^128 w, reduced.
@@ -50,58 +188,136 @@ fn reduced(z: u128, w: u128) -> u128
     z ^ (d ^ (d >> 1) ^ (d >> 2) ^ (d >> 7))
 }
 
-// The product of h, whose multiples are `m`, and a block: 4 bits of each of its halves at a time, and
-// reduced at the end.
-pub fn times(m: &[u128; 16], v: u128) -> u128
-    ensures { (h : ℕ) → AreMultiples h m.now → result ≡ block_product h v }
+// A sum of 32 bytes, reduced.
+#[inline(always)]
+fn reduced_sum(low: u8x16, high: u8x16) -> u128
+    ensures { result ≡ joined (low ++ high) }
 {
-    let mut z = 0u128;
-    let mut w = 0u128;
-    let mut rest = v;
-    for _i in 0..16u32 {
-        let b = m[(rest & 15) as usize];
-        w = (w >> 4) ^ (z << 124) ^ (b << 64);
-        z = (z >> 4) ^ m[(rest >> 64 & 15) as usize] ^ (b >> 64);
-        rest = rest >> 4;
-    }
-    reduced(z, w)
+    reduced(number_of(low), number_of(high))
 }
 
-fn whole_block(s: &[u8]) -> u128
-    requires { length s.now ≡ 16 }
-    ensures { result ≡ from_be_bytes w128 s.now }
+// The product of a block with the one whose rows are given.
+#[inline(always)]
+fn product(rows: &[Row; 16], v: u8x16) -> u128
+    ensures { (h : ℕ) → h < 2 ^ 128 → AreRows h rows.now → result ≡ block_product h (from_be_bytes w128 v) }
 {
-    let mut b = [0u8; 16];
-    b.copy_from_slice(s);
-    u128::from_be_bytes(b)
+    let mut low = u8x16::splat(0);
+    let mut high = u8x16::splat(0);
+    for i in 0..16usize {
+        let p = moved(low, high, partial(&rows[15 - i], v));
+        low = p.0;
+        high = p.1;
+    }
+    reduced_sum(low, high)
+}
+
+// The same, of the block as a number.
+fn product_of(rows: &[Row; 16], x: u128) -> u128
+    ensures { (h : ℕ) → h < 2 ^ 128 → AreRows h rows.now → result ≡ block_product h x }
+{
+    product(rows, vector_of(x))
+}
+
+/// The product of the hash key and a block.
+pub fn times(m: &Multiples, x: u128) -> u128
+    ensures { (h : ℕ) → h < 2 ^ 128 → AreMultiples h m.now → result ≡ block_product h x }
+{
+    product_of(&m.first, x)
+}
+
+// The sum of the products of `a` and the square of the hash key, and of `b` and the hash key.
+fn times_two(m: &Multiples, a: u8x16, b: u8x16) -> u128
+    ensures { (h : ℕ) → h < 2 ^ 128 → AreMultiples h m.now
+        → result ≡ bit_xor (block_product (block_product h h) (from_be_bytes w128 a))
+        (block_product h (from_be_bytes w128 b)) }
+{
+    let mut low = u8x16::splat(0);
+    let mut high = u8x16::splat(0);
+    for i in 0..16usize {
+        let next = partial(&m.second[15 - i], a) ^ partial(&m.first[15 - i], b);
+        let p = moved(low, high, next);
+        low = p.0;
+        high = p.1;
+    }
+    reduced_sum(low, high)
 }
 
 // Block `i` of `s`, with zeros past its end.
-fn block_at(s: &[u8], i: usize) -> u128
+#[inline(always)]
+fn block_at(s: &[u8], i: usize) -> u8x16
     requires { 16 * i < length s.now }
-    ensures { result ≡ padded_block s.now i }
+    ensures { from_be_bytes w128 result ≡ padded_block s.now i }
 {
     let rest = &s[16 * i..];
     if rest.len() >= 16 {
-        return whole_block(&rest[..16]);
+        return u8x16::from_slice(&rest[..16]);
     }
+    last_block(rest)
+}
+
+// The bytes of `rest`, with zeros past its end.
+fn last_block(rest: &[u8]) -> u8x16
+    ensures { from_be_bytes w128 result ≡ from_be_bytes w128 rest.now }
+{
     let mut b = [0u8; 16];
     for k in 0..16 {
         b[k] = if k < rest.len() { rest[k] } else { 0 };
     }
-    u128::from_be_bytes(b)
+    u8x16::from_array(b)
 }
 
-// The hash `y` after the blocks of `s`.
-pub fn absorb(m: &[u128; 16], y: u128, s: &[u8]) -> u128
-    requires { length s.now ≤ MAX_BYTES }
-    ensures { (h : ℕ) → AreMultiples h m.now
-        → result ≡ absorbed h y (padded_blocks s.now (div_ceil (length s.now) 16)) }
+// The sum of a block, as a number, and another.
+#[inline(always)]
+fn added(y: u128, v: u8x16) -> u8x16
+    ensures { from_be_bytes w128 result ≡ bit_xor y (from_be_bytes w128 v) }
 {
-    let mut x = y;
-    let n = (s.len() + 15) / 16;
-    for i in 0..n {
-        x = times(m, x ^ block_at(s, i));
+    vector_of(y) ^ v
+}
+
+// The hash `y` after blocks `i` and `i + 1` of `s`.
+#[inline(always)]
+fn absorb_two(m: &Multiples, y: u128, s: &[u8], i: usize) -> u128
+    requires { 16 * i + 16 < length s.now }
+    ensures { (h : ℕ) → h < 2 ^ 128 → AreMultiples h m.now
+        → result ≡ block_product h (bit_xor (block_product h (bit_xor y (padded_block s.now i)))
+        (padded_block s.now (i + 1))) }
+{
+    times_two(m, added(y, block_at(s, i)), block_at(s, i + 1))
+}
+
+// The hash `y` after a block.
+#[inline(always)]
+fn absorb_one(m: &Multiples, y: u128, v: u8x16) -> u128
+    ensures { (h : ℕ) → h < 2 ^ 128 → AreMultiples h m.now
+        → result ≡ block_product h (bit_xor y (from_be_bytes w128 v)) }
+{
+    product(&m.first, added(y, v))
+}
+
+// The hash `x` after the last of `n` blocks of `s`, if two at a time leave one over.
+#[inline(always)]
+fn absorb_odd(m: &Multiples, x: u128, s: &[u8], n: usize) -> u128
+    requires { 16 * n < length s.now + 16 }
+    ensures { (h y : ℕ) → h < 2 ^ 128 → AreMultiples h m.now
+        → x ≡ absorbed h y (padded_blocks s.now (2 * (n / 2)))
+        → result ≡ absorbed h y (padded_blocks s.now n) }
+{
+    if n % 2 == 1 {
+        return absorb_one(m, x, block_at(s, n - 1));
     }
     x
+}
+
+/// The hash `y` after the blocks of `s`.
+pub fn absorb(m: &Multiples, y: u128, s: &[u8]) -> u128
+    requires { length s.now ≤ MAX_BYTES }
+    ensures { (h : ℕ) → h < 2 ^ 128 → AreMultiples h m.now
+        → result ≡ absorbed h y (padded_blocks s.now (div_ceil (length s.now) 16)) }
+{
+    let n = (s.len() + 15) / 16;
+    let mut x = y;
+    for i in 0..n / 2 {
+        x = absorb_two(m, x, s, 2 * i);
+    }
+    absorb_odd(m, x, s, n)
 }

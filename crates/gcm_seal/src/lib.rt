@@ -1,12 +1,13 @@
 //! Sealing and opening by AES-256 in Galois/Counter Mode (FIPS 197, SP 800-38D), with an IV of 12
 //! bytes and a tag of 12 bytes.
 //!
-//! Only what the functions compute is proved. Nothing is claimed of secrecy, nor of how hard a tag is to
-//! forge: time, and the entries of tables that are read, depend on the key and on what is sealed, and no
-//! key is erased. No call takes memory.
+//! What the functions compute is proved, and no more: not secrecy, and not how hard a tag is to forge. The code is
+//! written so that no branch and no address in memory depends on the key or on what is sealed; whether a build has
+//! one is looked for in its machine code. No key is erased. No call takes memory.
 #![tactic(auto)]
 
-ghost use Rattle.std.specs.Prelude.{◌≡◌, ℕ, List, ◌+◌, ◌*◌, ◌^◌, ◌<◌, ◌≤◌, length};
+ghost use Rattle.std.specs.Prelude.{◌≡◌, ℕ, List, ◌+◌, ◌-◌, ◌*◌, ◌^◌, ◌<◌, ◌≤◌, length};
+ghost use Rattle.std.specs.Int.{w128, to_be_bytes};
 ghost use Rattle.aes_block.specs.Aes.{aes};
 ghost use Rattle.gcm_seal.specs.Gcm.{combined, counter, hash_key, masked, seal_of, tag_of, verifies};
 ghost use Rattle.gcm_seal.specs.Inside.{AreMultiples};
@@ -14,8 +15,9 @@ ghost use Rattle.gcm_seal.specs.Inside.{AreMultiples};
 mod ghash;
 
 use aes_block::Aes256;
-use ghash::{absorb, multiples, times};
+use ghash::{Multiples, absorb, multiples_of, times, vector_of};
 use std::marker::Model;
+use std::simd::prelude::*;
 
 /// The most bytes that a call takes of additional data, of plaintext and of ciphertext: 1 MiB (this
 /// profile).
@@ -31,12 +33,33 @@ fn combine(buf: &mut [u8], out: &[u8])
     }
 }
 
-/// A key of 32 bytes, prepared: its key expansion, and the products of its hash subkey by the
-/// polynomials of 4 bits. Contracts see the key.
+// Combines the 16 bytes of `buf` with those of `out`.
+#[inline(always)]
+fn combine_block(buf: &mut [u8], out: u8x16)
+    requires { length buf.old ≡ 16 }
+    ensures { buf.new ≡ combined buf.old out }
+{
+    let block = u8x16::from_slice(buf) ^ out;
+    block.copy_to_slice(buf);
+}
+
+// Combines two blocks of `buf` with `first` and `second`.
+#[inline(always)]
+fn combine_two(buf: &mut [u8], first: u8x16, second: u8x16)
+    requires { length buf.old ≡ 32 }
+    ensures { (key iv : List ℕ) → (block : ℕ) → first ≡ aes key (counter iv (block + 1))
+        → second ≡ aes key (counter iv (block + 1 + 1)) → buf.new ≡ masked key iv (16 * block) buf.old }
+{
+    combine_block(&mut buf[..16], first);
+    combine_block(&mut buf[16..], second);
+}
+
+/// A key of 32 bytes, prepared: its key expansion, and what products with its hash subkey and with the square of that
+/// are looked up in. Contracts see the key.
 #[derive(Drop)]
 pub struct Gcm {
     cipher: Aes256,
-    multiples: [u128; 16],
+    multiples: Multiples,
 }
 
 impl Model for Gcm {
@@ -56,20 +79,38 @@ impl Gcm {
         let h = u128::from_be_bytes(cipher.encrypt(&[0; 16]));
         Gcm {
             cipher,
-            multiples: multiples(h),
+            multiples: multiples_of(h),
         }
     }
 
     // The cipher's output at the counter block after `n` increments.
-    fn output(&self, iv: &[u8; 12], n: u32) -> [u8; 16]
+    fn output(&self, iv: &[u8; 12], n: u32) -> u8x16
         requires { n < 0xffff_ffff }
         ensures { result ≡ aes self.now (counter iv.now n) }
     {
-        let [a, b, c, d] = (n + 1).to_be_bytes();
-        self.cipher.encrypt(&[
-            iv[0], iv[1], iv[2], iv[3], iv[4], iv[5], iv[6], iv[7], iv[8], iv[9], iv[10], iv[11],
-            a, b, c, d,
-        ])
+        self.cipher.encrypt_counter(iv, n + 1)
+    }
+
+    // The cipher's outputs at two counter blocks, after `n` increments and one more.
+    #[inline(always)]
+    fn outputs_two(&self, iv: &[u8; 12], n: u32) -> (u8x16, u8x16)
+        requires { n < 0xffff_fffe }
+        ensures first { result.0 ≡ aes self.now (counter iv.now n) }
+        ensures second { result.1 ≡ aes self.now (counter iv.now (n + 1)) }
+    {
+        self.cipher.encrypt_counters(iv, n + 1)
+    }
+
+    // The same at four counter blocks.
+    #[inline(always)]
+    fn outputs_four(&self, iv: &[u8; 12], n: u32) -> (u8x16, u8x16, u8x16, u8x16)
+        requires { n < 0xffff_fffc }
+        ensures first { result.0 ≡ aes self.now (counter iv.now n) }
+        ensures second { result.1 ≡ aes self.now (counter iv.now (n + 1)) }
+        ensures third { result.2 ≡ aes self.now (counter iv.now (n + 2)) }
+        ensures fourth { result.3 ≡ aes self.now (counter iv.now (n + 3)) }
+    {
+        self.cipher.encrypt_four(iv, n + 1)
     }
 
     // Masks bytes that lie within block `block` of the plaintext, from its byte `skip` on.
@@ -81,8 +122,56 @@ impl Gcm {
         if buf.is_empty() {
             return;
         }
-        let out = self.output(iv, block + 1);
+        let out = self.output(iv, block + 1).to_array();
         combine(buf, &out[skip..]);
+    }
+
+    // Masks two blocks of the plaintext, `block` and the next.
+    #[inline(always)]
+    fn mask_two(&self, iv: &[u8; 12], block: u32, buf: &mut [u8])
+        requires two { length buf.old ≡ 32 }
+        requires block { block ≤ MAX_BYTES }
+        ensures { buf.new ≡ masked self.now iv.now (16 * block) buf.old }
+    {
+        let out = self.outputs_two(iv, block + 1);
+        combine_two(buf, out.0, out.1);
+    }
+
+    // Masks four blocks of the plaintext from `block` on.
+    #[inline(always)]
+    fn mask_four(&self, iv: &[u8; 12], block: u32, buf: &mut [u8])
+        requires four { length buf.old ≡ 64 }
+        requires block { block ≤ MAX_BYTES }
+        ensures { buf.new ≡ masked self.now iv.now (16 * block) buf.old }
+    {
+        let out = self.outputs_four(iv, block + 1);
+        combine_two(&mut buf[..32], out.0, out.1);
+        combine_two(&mut buf[32..], out.2, out.3);
+    }
+
+    // Masks at most as many bytes as two blocks have, from block `block` of the plaintext on.
+    fn mask_short(&self, iv: &[u8; 12], block: u32, buf: &mut [u8])
+        requires short { length buf.old ≤ 32 }
+        requires block { block + 1 ≤ MAX_BYTES }
+        ensures { buf.new ≡ masked self.now iv.now (16 * block) buf.old }
+    {
+        let first = buf.len().min(16);
+        self.mask_within(iv, block, 0, &mut buf[..first]);
+        self.mask_within(iv, block + 1, 0, &mut buf[first..]);
+    }
+
+    // Masks at most as many bytes as four blocks have, from block `block` of the plaintext on.
+    fn mask_last(&self, iv: &[u8; 12], block: u32, buf: &mut [u8])
+        requires short { length buf.old ≤ 64 }
+        requires block { block + 3 ≤ MAX_BYTES }
+        ensures { buf.new ≡ masked self.now iv.now (16 * block) buf.old }
+    {
+        if buf.len() < 32 {
+            self.mask_short(iv, block, buf);
+        } else {
+            self.mask_two(iv, block, &mut buf[..32]);
+            self.mask_short(iv, block + 2, &mut buf[32..]);
+        }
     }
 
     // Masks the bytes from block `block` of the plaintext on.
@@ -90,12 +179,11 @@ impl Gcm {
         requires { 16 * block + length buf.old ≤ MAX_BYTES + 15 }
         ensures { buf.new ≡ masked self.now iv.now (16 * block) buf.old }
     {
-        let whole = buf.len() / 16;
-        'parts: for i in 0..whole {
-            let out = self.output(iv, block + i as u32 + 1);
-            combine(&mut buf[16 * i..16 * i + 16], &out);
+        let fours = buf.len() / 64;
+        'fours: for i in 0..fours {
+            self.mask_four(iv, block + 4 * i as u32, &mut buf[64 * i..64 * i + 64]);
         }
-        self.mask_within(iv, block + whole as u32, 0, &mut buf[16 * whole..]);
+        self.mask_last(iv, block + 4 * fours as u32, &mut buf[64 * fours..]);
     }
 
     /// Combines `buf` with the key stream from byte `from` of the plaintext on: bytes of the plaintext
@@ -120,8 +208,8 @@ impl Gcm {
     {
         let lengths = ((8 * a.len() as u128) << 64) + 8 * c.len() as u128;
         let y = absorb(&self.multiples, absorb(&self.multiples, 0, a), c);
-        let s = times(&self.multiples, y ^ lengths) ^ u128::from_be_bytes(self.output(iv, 0));
-        let t = s.to_be_bytes();
+        let s = vector_of(times(&self.multiples, y ^ lengths)) ^ self.output(iv, 0);
+        let t = s.to_array();
         [
             t[0], t[1], t[2], t[3], t[4], t[5], t[6], t[7], t[8], t[9], t[10], t[11],
         ]

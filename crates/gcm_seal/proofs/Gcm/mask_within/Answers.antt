@@ -15,11 +15,11 @@ pub returns : goal.returns
 returns c =
     let xs = c.args.buf.now in
     let skip : ℕ = c.args.skip in
-    let out = c.output-out.result in
-    let long : length out ≡ 16 = ap (λ (l : List ℕ). length l) c.output-out.ensures ∙ length-aes c.args.self.now
+    let out = c.output.result in
+    let long : length out ≡ 16 = ap (λ (l : List ℕ). length l) c.output.ensures ∙ length-aes c.args.self.now
     (counter c.args.iv.now (c.args.block + 1)) in
     let whole : take (16 - skip) (drop skip out) ≡ drop skip out = take_all (16 - skip) (drop skip out)
     (omega (arith, length-drop skip out, long)) in
     c.combine.ensures
-    ∙ ap (combined xs) (whole ∙ ap (drop skip) c.output-out.ensures)
+    ∙ ap (combined xs) (whole ∙ ap (drop skip) c.output.ensures)
     ∙ masked-within c.args.self.now c.args.iv.now c.args.block skip xs c.requires.within

@@ -1,5 +1,5 @@
 use Rattle.std.proofs.Common.{bit_xor, sym, ap, arith}
-use Rattle.gcm_seal.proofs.Halves.{raised-reduced, spill, four}
+use Rattle.gcm_seal.proofs.Reduction.{raised-reduced, spill, four}
 use Rattle.gcm_seal.proofs.ghash.reduced.Goals as goal
 
 pub returns : goal.returns

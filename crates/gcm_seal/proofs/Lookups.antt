@@ -1,0 +1,226 @@
+-- Look-ups of 4 bits: a byte of a product with a byte is the sum of two entries, and a table of 16 entries has the sums
+-- of one byte of a block, of x, of x² and of x³ times it.
+use Rattle.std.proofs.Common.{◌≡◌, ℕ, zero, suc, ◌+◌, ◌*◌, ◌/◌, ◌%◌, ◌^◌, ◌<◌, ◌==◌, Bool, true, false, List, [], ◌∷◌}
+use Rattle.std.proofs.Common.{length, T}
+use Rattle.std.proofs.Common.{map, replicate, cond, leb, bit_and, bit_xor, slice_index, get_or, refl, sym, ap, ◌∙◌}
+use Rattle.std.proofs.Common.{arith}
+use Rattle.std.proofs.Common.{eqb-true, w8, ◌⊎◌, inl, inr}
+use Rattle.std.specs.Prelude.{◌||◌}
+use Rattle.std.specs.Int.{w128, byte_at, bytes_high_first, to_be_bytes}
+use Rattle.std.proofs.lemmas.Bool.{lt-leb, le-leb, lt-ltb, or_left, or_right}
+use Rattle.std.proofs.lemmas.Nat.{and_mask, xor_shr, xor_mod}
+use Rattle.std.proofs.lemmas.Simd.{swz_l, SwzOk, zip2_splat, zip2_of_maps, length-zip2, get_or-zip2}
+use lib.Bits.{xor_assoc, xor_self, xor_shifted, xor_zero_l}
+use lib.Dec.{ltb}
+use lib.Lanes.{Each1, zip2}
+use Rattle.aes_block.specs.Nibbles.{IsVector, entry_of, is_place, low, high}
+use Rattle.aes_block.proofs.Entries.{all_below, all_below_at}
+use Rattle.std.proofs.lemmas.List.{get_or-map}
+use Rattle.aes_block.proofs.Places.{holds, looked, may_look, placed, after, low_map, high_map, low_place, high_place}
+use Rattle.aes_block.proofs.Places.{same_map}
+use Rattle.gcm_seal.specs.Polynomials.{bits}
+use Rattle.gcm_seal.specs.Inside.{step_x, act, raised, byte_of, byte_product, AreSteps, IsTable, IsRow}
+use Rattle.gcm_seal.specs.declared.ghash.Row.{Row}
+use Rattle.gcm_seal.specs.declared.ghash.Steps.{Steps}
+use Rattle.gcm_seal.proofs.Moves.{byte_at-is}
+use Rattle.gcm_seal.proofs.Places.{split, bits-low, act-four}
+use Rattle.gcm_seal.proofs.Ring.{term}
+
+-- ---- bytes of a sum
+
+byte_at-xor : (k a b : ℕ) → byte_at k (bit_xor a b) ≡ bit_xor (byte_at k a) (byte_at k b)
+byte_at-xor k a b =
+    byte_at-is k (bit_xor a b)
+    ∙ ap (λ (x : ℕ). x % 2 ^ 8) (xor_shr a b (8 * k))
+    ∙ xor_mod (a / 2 ^ (8 * k)) (b / 2 ^ (8 * k)) 8
+    ∙ (λ i. bit_xor (sym (byte_at-is k a) i) (sym (byte_at-is k b) i))
+
+pub byte_of-xor : (j a b : ℕ) → byte_of j (bit_xor a b) ≡ bit_xor (byte_of j a) (byte_of j b)
+byte_of-xor j a b = go 16 j where
+  go : (k j : ℕ) → slice_index (bytes_high_first k (bit_xor a b)) j
+      ≡ bit_xor (slice_index (bytes_high_first k a) j) (slice_index (bytes_high_first k b) j)
+  go zero j = refl
+  go (suc k) zero = byte_at-xor k a b
+  go (suc k) (suc j) = go k j
+
+byte_of-term : (j : ℕ) (t : Bool) (a : ℕ) → byte_of j (term t a) ≡ term t (byte_of j a)
+byte_of-term j true a = refl
+byte_of-term j false a = byte_of-none j where
+  byte_of-none : (j : ℕ) → byte_of j 0 ≡ 0
+  byte_of-none j = byte_of-xor j 0 0 ∙ xor_self (byte_of j 0)
+
+-- ---- a look-up by each half of a byte
+
+entry_below : (t : List ℕ) (n : ℕ) → n < 16 → entry_of t n ≡ slice_index t n
+entry_below t n lt = ap (λ (b : Bool). cond b 0 (get_or t n 0)) (lt-leb 128 n (omega arith))
+
+halves : (h j : ℕ) (row : Row) → IsRow h j row → (x : ℕ) → x < 256
+    → bit_xor (entry_of row.upper (high x)) (entry_of row.lower (low x)) ≡ byte_product h j x
+halves h j row is x lt =
+    let n : ℕ = x / 16 in
+    let m : ℕ = x % 16 in
+    let low_is : low x ≡ m = and_mask x 4 in
+    let top : entry_of row.upper n ≡ byte_of j (act (bits 4 n) h) =
+    entry_below row.upper n (omega arith) ∙ is.0 n (omega arith) in
+    let bottom : entry_of row.lower (low x) ≡ byte_of j (act (bits 4 x) (raised 4 h)) =
+    ap (entry_of row.lower) low_is
+    ∙ entry_below row.lower m (omega arith)
+    ∙ is.1 m (omega arith)
+    ∙ ap (λ (p : List Bool). byte_of j (act p (raised 4 h))) (bits-low x) in
+    (λ i. bit_xor (top i) (bottom i))
+    ∙ sym (ap (byte_of j) (split 4 4 x h) ∙ byte_of-xor j (act (bits 4 n) h) (act (bits 4 x) (raised 4 h)))
+
+pub high_may : (v : List ℕ) → IsVector v → SwzOk w8 16 16 0 (zip2 (λ a b. a / 2 ^ b) v (replicate 16 4))
+high_may v fits =
+    may_look _ (length-zip2 (λ a b. a / 2 ^ b) v (replicate 16 4) fits.0 ∙ fits.0)
+    (placed high v _ fits.1 (high_map v fits) high_place)
+
+pub low_may : (v : List ℕ) → IsVector v → SwzOk w8 16 16 0 (zip2 bit_and v (replicate 16 15))
+low_may v fits =
+    may_look _ (length-zip2 bit_and v (replicate 16 15) fits.0 ∙ fits.0)
+    (placed low v _ fits.1 (low_map v fits) low_place)
+
+pub products : (h j : ℕ) (row : Row) (v : List ℕ) → IsVector v → IsRow h j row
+    → zip2 bit_xor (swz_l w8 16 row.upper 0 (zip2 (λ a b. a / 2 ^ b) v (replicate 16 4)))
+    (swz_l w8 16 row.lower 0 (zip2 bit_and v (replicate 16 15)))
+    ≡ map (byte_product h j) v
+products h j row v fits is =
+    zip2_of_maps bit_xor (λ x. entry_of row.upper (high x)) (λ x. entry_of row.lower (low x)) v
+    (after (entry_of row.upper) high v _ _
+    (looked row.upper _ (length-zip2 (λ a b. a / 2 ^ b) v (replicate 16 4) fits.0 ∙ fits.0)) (high_map v fits))
+    (after (entry_of row.lower) low v _ _
+    (looked row.lower _ (length-zip2 bit_and v (replicate 16 15) fits.0 ∙ fits.0)) (low_map v fits))
+    ∙ same_map (λ x. bit_xor (entry_of row.upper (high x)) (entry_of row.lower (low x))) (byte_product h j)
+    (halves h j row is) v fits.1
+
+-- ---- tables
+
+-- entry j where `unset` is 0, and 0 where it is 128
+abbrev pub picked : List ℕ → ℕ → ℕ → ℕ
+picked v j s = entry_of v (bit_xor s j)
+
+picked-set : (v : List ℕ) (j : ℕ) → j < 16 → picked v j 0 ≡ slice_index v j
+picked-set v j lt = ap (entry_of v) (xor_zero_l j) ∙ entry_below v j lt
+
+picked-unset : (v : List ℕ) (j : ℕ) → j < 16 → picked v j 128 ≡ 0
+picked-unset v j lt =
+    ap (entry_of v) (xor_shifted 1 7 j (omega arith))
+    ∙ ap (λ (b : Bool). cond b 0 (get_or v (128 + j) 0)) (le-leb 128 (128 + j) (omega arith))
+
+pub picked_map : (v unset : List ℕ) (j : ℕ) → length unset ≡ 16
+    → swz_l w8 16 v 0 (zip2 bit_xor unset (replicate 16 j)) ≡ map (picked v j) unset
+picked_map v unset j long =
+    after (entry_of v) (λ s. bit_xor s j) unset _ _
+    (looked v _ (length-zip2 bit_xor unset (replicate 16 j) long ∙ long)) (zip2_splat bit_xor unset 16 j long)
+
+either : (a b : Bool) → T (a || b) → (a ≡ true) ⊎ (b ≡ true)
+either true b t = inl refl
+either false true t = inr refl
+either false false t = absurd t
+
+pub may_pick : (unset : List ℕ) (j : ℕ) → length unset ≡ 16 → j < 16 → Each1 (λ s. T (s == 0 || s == 128)) unset
+    → SwzOk w8 16 16 0 (zip2 bit_xor unset (replicate 16 j))
+may_pick unset j long lt each =
+    may_look _ (length-zip2 bit_xor unset (replicate 16 j) long ∙ long)
+    (rw (zip2_splat bit_xor unset 16 j long) (go unset each))
+  where
+    place : (s : ℕ) → T (s == 0 || s == 128) → T (is_place (bit_xor s j))
+    place s t = elim (either (s == 0) (s == 128) t) [
+      | inl none ↦
+          let e : s ≡ 0 = eqb-true s 0 none in
+          rw (e, xor_zero_l j) (holds _ (or_right (leb 128 j) (ltb j 16) (lt-ltb j 16 lt)))
+      | inr high ↦
+          let e : s ≡ 128 = eqb-true s 128 high in
+          let n : ℕ = 128 + j in
+          rw (e, xor_shifted 1 7 j (omega arith))
+          (holds _ (or_left (leb 128 n) (ltb n 16) (le-leb 128 n (omega arith))))
+    ]
+
+    go : (l : List ℕ) → Each1 (λ s. T (s == 0 || s == 128)) l → Each1 (λ j. T (is_place j)) (map (λ s. bit_xor s j) l)
+    go [] h = tt
+    go (s ∷ l) h = (place s h.0, go l h.1)
+
+lanes-sum : (p q r t : List ℕ) (n : ℕ) → length p ≡ 16 → length q ≡ 16 → length r ≡ 16 → length t ≡ 16 → n < 16
+    → slice_index (zip2 bit_xor (zip2 bit_xor p q) (zip2 bit_xor r t)) n
+    ≡ bit_xor (bit_xor (slice_index p n) (slice_index q n)) (bit_xor (slice_index r n) (slice_index t n))
+lanes-sum p q r t n lp lq lr lt ln =
+    let lpq = length-zip2 bit_xor p q (lp ∙ sym lq) in
+    let lrt = length-zip2 bit_xor r t (lr ∙ sym lt) in
+    get_or-zip2 bit_xor (zip2 bit_xor p q) (zip2 bit_xor r t) n 0 0 0 (omega (arith, lpq)) (omega (arith, lrt))
+    ∙ (λ i. bit_xor (get_or-zip2 bit_xor p q n 0 0 0 (omega arith) (omega arith) i)
+    (get_or-zip2 bit_xor r t n 0 0 0 (omega arith) (omega arith) i))
+
+-- byte j of the multiple of b by a polynomial of four terms
+sum-of-bytes : (p q r t : Bool) (b j : ℕ)
+    → bit_xor (bit_xor (term p (byte_of j b)) (term q (byte_of j (step_x b))))
+    (bit_xor (term r (byte_of j (step_x (step_x b)))) (term t (byte_of j (step_x (step_x (step_x b))))))
+    ≡ byte_of j (act (p ∷ q ∷ r ∷ t ∷ []) b)
+sum-of-bytes p q r t b j =
+    let x1 : ℕ = step_x b in
+    let x2 : ℕ = step_x x1 in
+    let x3 : ℕ = step_x x2 in
+    let c : ℕ = bit_xor (term r x2) (term t x3) in
+    xor_assoc (term p (byte_of j b)) (term q (byte_of j x1)) (bit_xor (term r (byte_of j x2)) (term t (byte_of j x3)))
+    ∙ sym (ap (byte_of j) (act-four p q r t b)
+    ∙ byte_of-xor j (term p b) (bit_xor (term q x1) c)
+    ∙ (λ i. bit_xor (byte_of-term j p b i) ((byte_of-xor j (term q x1) c
+    ∙ (λ k. bit_xor (byte_of-term j q x1 k) ((byte_of-xor j (term r x2) (term t x3)
+    ∙ (λ l. bit_xor (byte_of-term j r x2 l) (byte_of-term j t x3 l))) k))) i)))
+
+-- the lanes of a table, where the numbers from 0 to 15 have a bit and where not
+abbrev eight : List ℕ
+eight = 128 ∷ 128 ∷ 128 ∷ 128 ∷ 128 ∷ 128 ∷ 128 ∷ 128 ∷ 0 ∷ 0 ∷ 0 ∷ 0 ∷ 0 ∷ 0 ∷ 0 ∷ 0 ∷ []
+
+abbrev four : List ℕ
+four = 128 ∷ 128 ∷ 128 ∷ 128 ∷ 0 ∷ 0 ∷ 0 ∷ 0 ∷ 128 ∷ 128 ∷ 128 ∷ 128 ∷ 0 ∷ 0 ∷ 0 ∷ 0 ∷ []
+
+abbrev two : List ℕ
+two = 128 ∷ 128 ∷ 0 ∷ 0 ∷ 128 ∷ 128 ∷ 0 ∷ 0 ∷ 128 ∷ 128 ∷ 0 ∷ 0 ∷ 128 ∷ 128 ∷ 0 ∷ 0 ∷ []
+
+abbrev one : List ℕ
+one = 128 ∷ 0 ∷ 128 ∷ 0 ∷ 128 ∷ 0 ∷ 128 ∷ 0 ∷ 128 ∷ 0 ∷ 128 ∷ 0 ∷ 128 ∷ 0 ∷ 128 ∷ 0 ∷ []
+
+-- the bit of 2ᵏ in n
+abbrev has : ℕ → ℕ → Bool
+has k n = n / 2 ^ k % 2 == 1
+
+-- a lane of the lists above is 0 where the bit is set, and else 128
+abbrev tells : List ℕ → ℕ → ℕ → Bool
+tells unset k n = slice_index unset n == cond (has k n) 0 128
+
+lane_of : (v unset : List ℕ) (j k n : ℕ) → j < 16 → n < 16 → length unset ≡ 16
+    → all_below (tells unset k) 16 ≡ true → slice_index (map (picked v j) unset) n ≡ term (has k n) (slice_index v j)
+lane_of v unset j k n lj ln long test =
+    get_or-map (picked v j) unset n 0 0 (omega (arith, long))
+    ∙ ap (picked v j) (eqb-true (slice_index unset n) (cond (has k n) 0 128)
+    (all_below_at (tells unset k) 16 n test ln))
+    ∙ go (has k n)
+  where
+    go : (b : Bool) → picked v j (cond b 0 128) ≡ term b (slice_index v j)
+    go true = picked-set v j lj
+    go false = picked-unset v j lj
+
+pub table-is : (b : ℕ) (s : Steps) (j : ℕ) → AreSteps b s → j < 16 → (p q r t : List ℕ)
+    → p ≡ map (picked s.once j) eight → q ≡ map (picked s.by_x j) four → r ≡ map (picked s.by_x2 j) two
+    → t ≡ map (picked s.by_x3 j) one → IsTable b j (zip2 bit_xor (zip2 bit_xor p q) (zip2 bit_xor r t))
+unfolding bits
+table-is b s j are lj p q r t ep eq er et n ln =
+    let x1 : ℕ = step_x b in
+    let x2 : ℕ = step_x x1 in
+    let x3 : ℕ = step_x x2 in
+    let at : (k x : ℕ) → ℕ = λ k x. term (has k n) (byte_of j x) in
+    let lane : (v unset l : List ℕ) (k x : ℕ) → length unset ≡ 16 → all_below (tells unset k) 16 ≡ true
+    → v ≡ to_be_bytes w128 x → l ≡ map (picked v j) unset → slice_index l n ≡ at k x =
+    λ v unset l k x long test ev el.
+    ap (λ (l : List ℕ). slice_index l n) el
+    ∙ lane_of v unset j k n lj ln long test
+    ∙ ap (λ (v : List ℕ). term (has k n) (slice_index v j)) ev in
+    let lp : length p ≡ 16 = ap (λ (l : List ℕ). length l) ep in
+    let lq : length q ≡ 16 = ap (λ (l : List ℕ). length l) eq in
+    let lr : length r ≡ 16 = ap (λ (l : List ℕ). length l) er in
+    let lt : length t ≡ 16 = ap (λ (l : List ℕ). length l) et in
+    lanes-sum p q r t n lp lq lr lt ln
+    ∙ (λ i. bit_xor (bit_xor (lane s.once eight p 3 b refl refl are.0 ep i)
+    (lane s.by_x four q 2 x1 refl refl are.1 eq i))
+    (bit_xor (lane s.by_x2 two r 1 x2 refl refl are.2 er i) (lane s.by_x3 one t 0 x3 refl refl are.3 et i)))
+    ∙ sum-of-bytes (has 3 n) (has 2 n) (has 1 n) (has 0 n) b j

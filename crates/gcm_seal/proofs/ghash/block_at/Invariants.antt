@@ -1,8 +1,0 @@
-use Rattle.std.proofs.Common.{◌≡◌, ◌<◌, ℕ, length, slice_index}
-use Rattle.gcm_seal.proofs.ghash.block_at.Given as goal
-
-abbrev pub invariant-loop-k : goal.invariant-loop-k
-invariant-loop-k l = record {
-  long : length l.b ≡ 16;
-  copied : (j : ℕ) → j < l.k → slice_index l.b j ≡ slice_index l.rest j;
-}
