@@ -1,5 +1,5 @@
 /* Answers one call of malloc or realloc of the program with no memory: that whose number, from 1, is in REFUSED_GROWTH.
-   Calls that the C library makes itself are not counted. Where the program ends before that call, the file named in
+   Calls that the C library makes itself are not counted. If the program ends before that call, the file named in
    REFUSED_NONE is made. */
 #define _GNU_SOURCE
 #include <dlfcn.h>

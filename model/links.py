@@ -1,6 +1,6 @@
 """A second model of keyed links, in Python, written from the rules alone (docs/RULES.md, docs/FORMATS.md).
 
-It keeps counters and slots and walks through every exchange, where the proved definitions filter whole histories; the
+It keeps counters and slots and walks through every exchange, while the proved definitions filter whole histories; the
 two share no code and no form. Interfaces and trusted memory stand beside it, in world.py. AES and GCM come from the
 `cryptography` package.
 """
@@ -114,7 +114,7 @@ class Packet:
 
 
 def cut(data: bytes) -> Optional[Packet]:
-    """The packet; None where byte 0 says that it is no packet of a stream."""
+    """The packet; None if byte 0 says that it is no packet of a stream."""
     if not data:
         raise Malformed("short", 0)
     if data[0] != 0x92:
@@ -428,7 +428,7 @@ class Links:
         )
 
     def unit_tag(self, end: End, lane: Lane, slot: Slot, key: bytes, iv: bytes) -> bytes:
-        """Over the packets of the slot; on a closed stream the total stands ahead of unit 1."""
+        """Over the packets of the slot; on a closed stream the total is authenticated before unit 1."""
         front = lane.total.to_bytes(8, "big") if end.plan.closed and slot.units == 0 else b""
         authenticated = front + b"".join(p.prefix + p.header for p in slot.packets)
         return tag_of(key, iv, authenticated, b"".join(p.body for p in slot.packets))

@@ -166,7 +166,7 @@ class Bands:
             self.end_faces(link, id, UNKNOWN)
 
     def half_established(self, link: int, id: int, exchange: int, done: int):
-        """The host's keys are Live behind the third GO's reply, the device's one by one with each GO."""
+        """The host's keys are Live after the third GO's reply, the device's one by one with each GO."""
         if exchange > HOST_KEYED:
             self.keyed(link, HOST, id, "secure")
         if done >= FIRST_GO:
@@ -198,7 +198,7 @@ class Bands:
             self.put(("view", place), "broken")
 
     def end_faces(self, link: int, id: int, state: str):
-        """The stream is not secure at the device any more: its interfaces that are locked or run come to this state."""
+        """The stream is no longer secure at the device: its interfaces that are locked or run go to this state."""
         for place in self.bound(link, id):
             if self.values["state", place] in ("locked", "run"):
                 self.put(("state", place), state)

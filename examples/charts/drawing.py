@@ -79,7 +79,7 @@ def width_of(text: str, size: float = LINE) -> float:
 
 
 def clipped(text: str, room: float, size: float = LINE) -> str:
-    """The text, or a front of it with a mark that more follows, where it does not fit."""
+    """The text, or a prefix of it with a mark that more follows, if it does not fit."""
     if width_of(text, size) <= room:
         return text
     while text and width_of(f"{text}…", size) > room:
@@ -147,7 +147,7 @@ def total_width(row: list) -> float:
 
 
 def fitted(row: list, room: float) -> list:
-    """The chips, the last one cut where they have no room beside each other."""
+    """The chips, the last one cut if they have no room beside each other."""
     room -= sum(chip.width() + 5 for chip in row[:-1])
     return row[:-1] + [Chip(clipped(row[-1].text, room - 12), row[-1].css)]
 

@@ -124,7 +124,7 @@ class Chart:
         return parts
 
     def height_of(self, event: int, first: int) -> float:
-        """Where an event stands; one that this link's chart does not show stands ahead of the next one that it does."""
+        """Where an event stands; one that this link's chart does not show stands before the next one that it does."""
         if event < first:
             return 0
         later = [y for number, y in self.heights.items() if number >= event]
@@ -217,7 +217,7 @@ def window_of(run: Run, first: int) -> Window:
 
 
 def draw_all(run: Run, window: Window) -> List[str]:
-    """A section for each link. The bands follow all events, those ahead of the window too."""
+    """A section for each link. The bands follow all events, those before the window too."""
     bands = follow_all(Bands(run), run)
     fates, charts = fates_of(run), [laid_out(link, bands) for link in range(run.links())]
     drawn, again, follower = {row.number for row in window.rows}, set(), Bands(run)

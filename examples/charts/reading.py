@@ -94,7 +94,7 @@ class Row:
         return self.verdict[0] if self.verdict else ""
 
     def raw(self) -> str:
-        """The script line and the verdict line, as they are shown behind a row."""
+        """The script line and the verdict line, as they are shown after a row."""
         verdict = f"{self.number} {' '.join(self.verdict)}" if self.verdict else self.fault or "(no verdict)"
         return f"line {self.line}: {shortened(' '.join(self.words))}\n{shortened(verdict)}"
 
@@ -132,7 +132,7 @@ def number(word: str) -> Optional[int]:
 
 
 def read_rows(script: bytes) -> List[Row]:
-    """The lines that are events, each with the comment that stands ahead of it."""
+    """The lines that are events, each with the comment that stands before it."""
     rows, comment = [], []
     for place, line in enumerate(script.split(b"\n"), 1):
         if line.startswith(b"#"):
@@ -222,7 +222,7 @@ def packet_of(match: re.Match) -> Packet:
 
 
 def numbers(row: Row) -> List[Optional[int]]:
-    """The words behind the first one, as numbers."""
+    """The words after the first one, as numbers."""
     return [number(word) for word in row.words[1:]]
 
 
@@ -269,6 +269,6 @@ def receiver_of(row: Row, run: Run) -> Optional[str]:
 
 
 def is_arrival(row: Row, run: Run) -> bool:
-    """Whether bytes came to a port in this event."""
+    """Whether bytes arrived at a port in this event."""
     there = row.verdict is not None and row.answer() != "none"
     return row.verb() in ARRIVALS and there and receiver_of(row, run) is not None

@@ -3,26 +3,28 @@
 -- effects are read of decrypted packets, by the machine of encrypted ones, and decryption changes only bodies and tags.
 -- A packet by number, whole, altered or cut, arrives at the partner of its port.
 use Rattle.all_links.proofs.Terms.{◌≡◌, ℕ, ◌+◌, ◌-◌, ◌==◌, ◌<◌, take, Bool, List, [], ◌∷◌, length, refl, ap, sym, ◌∙◌}
-use Rattle.all_links.proofs.Terms.{subst, arith, Option, Some, None, Result, Ok, Err, option_map, slice_get, slice_set}
-use Rattle.all_links.proofs.Terms.{map, nat_le, nat_lt, if◌then◌else◌, option_and_then, PortName, Plan, Packet, Verdict}
-use Rattle.all_links.proofs.Terms.{Effect, mode_of, is_closed, partner, Pass, Alter, Cut, Arrive, Dump, StreamState}
-use Rattle.all_links.proofs.Terms.{LiveKey, Taken, taken_by, state_after, opened_from, opened_under, opened_after}
-use Rattle.all_links.proofs.Terms.{LinkPacket, LinkState, Stepped, verdict_of, unit_name, put, arrive, arrive_read}
-use Rattle.all_links.proofs.Terms.{take_found as found_step, step_of, packet_numbered, passed, altered_to, cut_short}
-use Rattle.all_links.proofs.Terms.{shown, PortEnd, Found, found, changed, TakeStep, take_step, LinkEnds, Links, port_in}
-use Rattle.all_links.proofs.Terms.{with_port, KeeperView, Beside, beside_in, Side, Host, Device, UnitName, Contents}
-use Rattle.all_links.proofs.Terms.{TrustedMemory, packet_effect, taken_ends, arrival_verdict, ArrivesAt, state_of}
-use Rattle.all_links.proofs.Terms.{IsBounded, AreLinks, links_state, Ends, EndsWith, altered_bytes, found_id}
+use Rattle.all_links.proofs.Terms.{subst, arith, Option, Some, None, Result, Ok, Err, option_map, slice_get}
+use Rattle.all_links.proofs.Terms.{slice_set, map, nat_le, nat_lt, if◌then◌else◌, option_and_then, PortName, Plan}
+use Rattle.all_links.proofs.Terms.{Packet, Verdict, Effect, mode_of, is_closed, partner, Pass, Alter, Cut, Arrive}
+use Rattle.all_links.proofs.Terms.{Dump, StreamState, LiveKey, Taken, taken_by, state_after, opened_from}
+use Rattle.all_links.proofs.Terms.{opened_under, opened_after, LinkPacket, LinkState, Stepped, verdict_of, unit_name}
+use Rattle.all_links.proofs.Terms.{put, arrive, arrive_read, take_found as found_step, step_of, packet_numbered}
+use Rattle.all_links.proofs.Terms.{passed, altered_to, cut_short, shown, PortEnd, Found, found, changed, TakeStep}
+use Rattle.all_links.proofs.Terms.{take_step, LinkEnds, Links, port_in, with_port, KeeperView, Beside, beside_in}
+use Rattle.all_links.proofs.Terms.{UnitName, Contents, TrustedMemory, packet_effect, taken_ends, arrival_verdict}
+use Rattle.all_links.proofs.Terms.{ArrivesAt, state_of, IsBounded, AreLinks, links_state, Ends, EndsWith}
+use Rattle.all_links.proofs.Terms.{altered_bytes, found_id}
 use Rattle.ide_prefix.specs.declared.fault.PacketFault.{PacketFault}
 use Rattle.ide_prefix.specs.Reading.{CutValue, PlainTlp, IdePacket, cut_of}
 use Rattle.link_verdicts.specs.declared.verdict.Verdict.TheVariants as v
 use Rattle.link_history.specs.History.{Arrival}
 use Rattle.ide_port.specs.Arrivals.{arrival_of, take_found, take_read, taken_on}
-use Rattle.all_links.specs.AllEnds.{grants_in}
+use Rattle.all_ends.specs.AllEnds.{grants_in}
 use Rattle.stream_rules.specs.Stream.{Accepted}
-use Rattle.all_links.proofs.Writes.{IsTaken, taken_is}
-use Rattle.all_links.proofs.Finds.{ports_same, there, IsPort, Keeps, KeepsEnds, keeps_port, port_is, bounded_kept}
-use Rattle.all_links.proofs.Finds.{links_kept, find_at, put_at, state_kept, mode_at, closed_at}
+use Rattle.all_ends.proofs.Writes.{IsTaken, taken_is}
+use Rattle.all_ends.proofs.Finds.{there, IsPort, KeepsEnds, keeps_port, port_is, bounded_kept, links_kept, find_at}
+use Rattle.all_ends.proofs.Finds.{put_at, state_kept, mode_at, closed_at}
+use Rattle.all_ends.proofs.Arrivals.{keeps_taken, state_taken, take_keeps}
 
 -- ---- the verdict
 
@@ -50,9 +52,6 @@ module _ (old : Links) where
   taken_says port p x t under = refl
 
 -- ---- one step
-
-take_keeps : (e : PortEnd) (r : Result CutValue PacketFault) → Keeps e (take_read e r).port
-take_keeps e r = grind arith
 
 -- what a step of the port makes of all links
 abbrev stepped : Links → Plan → List LinkEnds → KeeperView → List LinkPacket → PortName → LinkEnds → TakeStep → Stepped
@@ -116,25 +115,6 @@ arrives_as old plan ends k packets port l (Ok (IdePacket p)) is at_port =
 
 abbrev pub arrival_step : Beside → PortName → List ℕ → Plan → LinkState → Stepped
 arrival_step b port bytes plan st = arrive plan b st (Some (record { port = port; bytes = bytes }))
-
--- the ports are seen, and not the interfaces
-state_taken : (plan : Plan) (ends : List LinkEnds) (k : KeeperView) (packets : List LinkPacket) (link : ℕ) (side : Side)
-    (e : PortEnd) (l : LinkEnds)
-    → state_of plan (slice_set ends link (taken_ends side e l)) k packets
-    ≡ state_of plan (slice_set ends link (with_port side e l)) k packets
-state_taken plan ends k packets link Host e l = refl
-state_taken plan ends k packets link Device e l =
-    ap (λ (ps : List (List StreamState)). record (state_of plan ends k packets) { ports = ps })
-    (ports_same ends link (taken_ends Device e l) (with_port Device e l) refl refl)
-
-pub port_taken : (side : Side) (e : PortEnd) (l : LinkEnds) → port_in side (taken_ends side e l) ≡ e
-port_taken Host e l = refl
-port_taken Device e l = refl
-
-keeps_taken : (side : Side) (e : PortEnd) (l : LinkEnds) → KeepsEnds l (with_port side e l)
-    → KeepsEnds l (taken_ends side e l)
-keeps_taken Host e l keeps = keeps
-keeps_taken Device e l keeps = record { host = keeps.host; device = keeps.device; requester = keeps.requester }
 
 pub arrived : (old : Links) (port : PortName) (bytes : List ℕ) (verdict : Verdict) (ends : List LinkEnds)
     (m : TrustedMemory) (n : Contents)

@@ -2,25 +2,31 @@
 -- the manager's streams are as before, since only the interfaces of its device change, and what the manager knows of
 -- it.
 use Rattle.all_links.proofs.Terms.{◌≡◌, ℕ, suc, zero, ◌+◌, ◌-◌, ◌<◌, Bool, true, false, List, [], ◌∷◌, length, refl, ap}
-use Rattle.all_links.proofs.Terms.{sym, ◌∙◌, subst, arith, nat_tests, Option, Some, slice_get, slice_set, nat_lt}
-use Rattle.all_links.proofs.Terms.{if◌then◌else◌, option_and_then, none-some, same_Some, slice_get_within, Verdict}
+use Rattle.all_links.proofs.Terms.{sym, ◌∙◌, subst, arith, nat_tests, Option, Some, None, IsSome, slice_get, slice_set}
+use Rattle.all_links.proofs.Terms.{nat_lt, option_map, if◌then◌else◌, option_and_then, none-some, same_Some}
+use Rattle.all_links.proofs.Terms.{slice_get_within, Verdict}
 use Rattle.all_links.proofs.Terms.{StreamState, LinkEnds, Links, InterfacesView, KeeperView, ports_in, IsBounded}
 use Rattle.all_links.proofs.Terms.{links_state, EndsWith}
 use Rattle.std.specs.Prelude.{IfSome}
+use Rattle.std.specs.Option.{unwrap_or}
+use Rattle.link_verdicts.specs.declared.verdict.Verdict.TheVariants as v
 use Rattle.tdi_state.specs.Machine.{Tdi, Call}
 use Rattle.tdi_device.specs.Replies.{DeviceTdis, called_at}
 use Rattle.tdi_host.specs.declared.operation.InterfaceOp.{InterfaceOp}
 use Rattle.tdi_host.specs.declared.operation.Outcome.{Outcome}
+use Rattle.tdi_host.specs.declared.operation.Outcome.TheVariants.{Next, Done, Refused}
 use Rattle.tdi_host.specs.Views.{HostTdi}
 use Rattle.tdi_ends.specs.Keepers.{Ended}
 use Rattle.link_events.specs.declared.event.Loss.{Loss}
 use Rattle.link_ends.specs.Hosts.{operated_on}
 use Rattle.link_ends.specs.declared.host.HostKeeper.{HostKeeper}
-use Rattle.all_links.specs.AllEnds.{IsThere, CallsAt, AsksAt}
-use Rattle.all_links.specs.Interfaces.{located, interface_named, tdi_named, tdi_at, code_behind, ended_in, ended_at}
-use Rattle.all_links.specs.Interfaces.{ended_on, asked_in}
+use Rattle.all_ends.specs.AllEnds.{IsThere, CallsAt, AsksAt}
+use Rattle.all_links.specs.Interfaces.{interface_named, tdi_named, tdi_at, ended_in, ended_at}
+use Rattle.all_ends.specs.Places.{located, code_behind}
+use Rattle.all_links.specs.Interfaces.{ended_on, asked_in, verdict_in, link_named}
+use Rattle.all_links.specs.Besides.{verdict_asked}
 use Rattle.interface_joins.specs.Verdicts.{asked_as, report_of}
-use Rattle.all_links.proofs.Finds.{there, ports_same, as_before, KeepsEnds, links_kept, bounded_kept}
+use Rattle.all_ends.proofs.Finds.{there, ports_same, as_before, KeepsEnds, links_kept, bounded_kept}
 
 pub if_some : {A : Type 0} (P : A → Type 0) (o : Option A) (x : A) → o ≡ Some x → IfSome o P → P x
 if_some P o x is p = subst (λ y. IfSome y P) is p
@@ -185,13 +191,44 @@ called old n at call code ends new verdict w named calls says new_is bounded =
           (a.1 ∙ ap (λ (y : LinkEnds). slice_set old.ends at.0 y) (a.2.ends x.tdi x.tdi_there)) bounded),
     )
 
+-- a report does not say whether an operation has a verdict
+any_report : (n : ℕ) (loss : Option Loss) (report other : List ℕ) (outcome : Outcome)
+    → IsSome (asked_as n loss report outcome) → IsSome (asked_as n loss other outcome)
+any_report n loss report other Next some = some
+any_report n loss report other (Done shown) some = refl
+any_report n loss report other (Refused r) some = some
+
+pub link_of : (o : Option (ℕ × ℕ)) (link : ℕ) → option_map (λ (at : ℕ × ℕ). at.0) o ≡ Some link
+    → (at : ℕ × ℕ) × (Some at ≡ o) × (at.0 ≡ link)
+link_of None link is = absurd (none-some link is)
+link_of (Some at) link is = (at, refl, same_Some at.0 link is)
+
+pub answered : (old : Links) (n link : ℕ) (o : InterfaceOp) (loss : Option Loss) (outcome : Outcome)
+    (ends : List LinkEnds) (k : HostKeeper) → link_named old.keeper.interfaces old.ends n ≡ Some link
+    → AsksAt old.ends link old.keeper n o loss outcome ends k → IsSome (verdict_asked old n o loss)
+    → (report : List ℕ) → IsSome (asked_as n loss report outcome)
+answered old n link o loss outcome ends k here asks some report =
+    let m : InterfacesView = old.keeper.interfaces in
+    let draws : ℕ = old.keeper.keys.pool.draws in
+    let at = link_of (interface_named m old.ends n) link here in
+    let x = is_found m old.ends n at.0 at.1 in
+    let a = asks x.ends_at (ap (λ (i : ℕ). slice_get old.ends i) (sym at.2) ∙ x.link_there) in
+    let e : Ended = operated_on n o loss draws m x.ends_at x.kept in
+    let came : ended_in m old.ends draws n o loss ≡ Some e =
+    ap (λ (p : Option (ℕ × ℕ)). ended_at m old.ends draws n o loss p) (sym at.1)
+    ∙ (λ i. ended_on m draws n o loss (x.link_there i) (x.kept_there i)) in
+    any_report n loss (report_of o e) report outcome
+    (subst (λ (z : Outcome). IsSome (asked_as n loss (report_of o e) z))
+    (sym (a.2.ended x.kept x.kept_there).outcome_is)
+    (subst (λ (y : Option Ended). IsSome (verdict_in n o loss y)) came some))
+
 -- an operation on it
 pub operated_as : (old : Links) (n : ℕ) (at : ℕ × ℕ) (o : InterfaceOp) (loss : Option Loss) (outcome : Outcome)
     (ends : List LinkEnds) (k : HostKeeper) (new : Links) (verdict : Verdict)
     (report : List ℕ)
     → Some at ≡ interface_named old.keeper.interfaces old.ends n
     → AsksAt old.ends at.0 old.keeper n o loss outcome ends k
-    → verdict ≡ asked_as n loss report outcome → ((e : Ended) → k.interfaces ≡ e.manager → report ≡ report_of o e)
+    → asked_as n loss report outcome ≡ Some verdict → ((e : Ended) → k.interfaces ≡ e.manager → report ≡ report_of o e)
     → new ≡ record old { ends = ends; keeper = k; steps = old.steps + 1 }
     → IsBounded old.ends old.packets.packets old.steps
     → EndsWith verdict old new
@@ -207,8 +244,8 @@ operated_as old n at o loss outcome ends k new verdict report named asks says re
     ap (λ (p : Option (ℕ × ℕ)). ended_at m old.ends draws n o loss p) (sym named)
     ∙ (λ i. ended_on m draws n o loss (x.link_there i) (x.kept_there i)) in
     let due : verdict ≡ asked_in n o loss (ended_in m old.ends draws n o loss) =
-    says ∙ (λ i. asked_as n loss (reads e is.manager_is i) (is.outcome_is i)) ∙ ap
-    (λ (y : Option Ended). asked_in n o loss y) (sym came) in
+    sym (ap (λ (w : Option Verdict). unwrap_or w v.Nothing) (ap (λ (y : Option Ended). verdict_in n o loss y) came
+    ∙ sym (λ i. asked_as n loss (reads e is.manager_is i) (is.outcome_is i)) ∙ says)) in
     subst (λ (q : Links). EndsWith verdict old q
     (λ plan st. (asked_in n o loss (ended_in m old.ends draws n o loss), st))) (sym new_is)
     (subst (λ (q : HostKeeper). EndsWith verdict old (record old { ends = ends; keeper = q; steps = old.steps + 1 })

@@ -4,12 +4,12 @@
 -- draws as the machine says, since an operation that is not refused came to one of its exchanges.
 use Rattle.all_links.proofs.Terms.{Beside, InterfacesView, ◌≡◌, ℕ, suc, zero, ◌+◌, ◌==◌, ◌<◌, Bool, true, false, List}
 use Rattle.all_links.proofs.Terms.{[], ◌∷◌, ◌++◌, length, refl, ap, sym, ◌∙◌, subst, arith, Option, Some, None}
-use Rattle.all_links.proofs.Terms.{option_map, is_some, IsSome, slice_get, slice_set, map, not, ◌||◌, slice_index_or}
+use Rattle.all_links.proofs.Terms.{option_map, is_some, IsSome, slice_get, slice_set, map, slice_index_or}
 use Rattle.all_links.proofs.Terms.{same_Some, slice_get_within, nat_tests, set-get_or, Side, Host, Device, PortName}
-use Rattle.all_links.proofs.Terms.{StreamStatus, Plan, StreamPlan, Verdict, Pool, KeyPlan, Op, Work, Reach, work_of}
-use Rattle.all_links.proofs.Terms.{reach_of, History, StreamState, streams_of, streams_by_link, stream_plan, key_plan}
+use Rattle.all_links.proofs.Terms.{Plan, StreamPlan, Verdict, Pool, Op, Work, Reach, work_of}
+use Rattle.all_links.proofs.Terms.{reach_of, History, StreamState, streams_of, streams_by_link, stream_plan}
 use Rattle.all_links.proofs.Terms.{LinkState, LinkPacket, Stepped, find_op, put, put_op, port_at, end_at, ports_of}
-use Rattle.all_links.proofs.Terms.{status_at, moves_at, moved_found, moved_at, moved_state, work_done, operated}
+use Rattle.all_links.proofs.Terms.{moves_at, moved_found, moved_at, moved_state, work_done, operated}
 use Rattle.all_links.proofs.Terms.{step_of, StandsFor, StreamView, HostView, asked_in, outcome_of, refusal_of, unless}
 use Rattle.all_links.proofs.Terms.{begun_pool, ManagerView, Named, named, op_named, pool_begun, host_of, KeysKept}
 use Rattle.all_links.proofs.Terms.{moved_by, draws_by, verdict_due, pool_by, IsJoined, OperationsJoin, PortEnd, Found}
@@ -22,7 +22,6 @@ use Rattle.link_events.specs.declared.event.Loss.{Loss}
 use Rattle.link_verdicts.specs.declared.verdict.Operation.{Operation}
 use Rattle.link_verdicts.specs.declared.verdict.Operation.TheVariants as op
 use Rattle.link_verdicts.specs.declared.verdict.Verdict.TheVariants as v
-use Rattle.key_laws.specs.Due.{PortView, comes_to, stays_at}
 use Rattle.link_ports.specs.Machine as machine
 use Rattle.link_ports.specs.Moves.{Move, moved_stream}
 use Rattle.tsm_host.specs.declared.judge.Judged.{Judged}
@@ -33,25 +32,22 @@ use Rattle.tsm_host.specs.declared.operation.Refusal.{Refusal}
 use Rattle.tsm_host.specs.declared.stage.Asked.{Asked}
 use Rattle.tsm_host.specs.Operations.{OpName, op_name}
 use Rattle.tsm_host.specs.Exchanges.{WireKeys}
-use Rattle.tsm_host.specs.Walk.{verdict_of, due_on, op_by}
+use Rattle.tsm_host.specs.Walk.{verdict_of, op_by}
 use Rattle.link_walks.specs.Walks.{StreamEnds, exchanged, Walked, goes_on, outcome_next, walk_on, walked_unless}
 use Rattle.link_walks.specs.Walks.{begun_ends, event_walk}
 use Rattle.link_walks.proofs.Works.{is_asked, refused_reach}
-use Rattle.all_links.proofs.Managers.{Apart, ops_changed}
-use Rattle.all_links.proofs.Finds.{there, set_there, each_set, ends_both, IsPort, port_is, Keeps, KeepsEnds, links_kept}
-use Rattle.all_links.proofs.Finds.{bounded_kept, find_at, put_at, state_kept}
-use Rattle.all_links.proofs.Resets.{op_is, planned, port_found}
+use Rattle.all_links.specs.Links.{Standing}
+use Rattle.all_ends.proofs.Managers.{Apart, ops_changed}
+use Rattle.all_ends.proofs.Finds.{there, set_there, each_set, ends_both, IsPort, port_is, Keeps, KeepsEnds, links_kept}
+use Rattle.all_ends.proofs.Finds.{bounded_kept, find_at, put_at, state_kept}
+use Rattle.all_ends.proofs.Streams.{op_is, planned, port_found}
 
 -- ---- what an event that is not refused at its beginning comes to
 
--- a verdict of an operation on a stream that there is
-abbrev is_said : Verdict → Bool
-is_said v.Nothing = false
-is_said x = true
-
--- where it is such a verdict, the operation came to one of its exchanges
-abbrev is_told : Operation → Verdict → Bool
-is_told o x = not (is_said x) || is_some (reach_of o x)
+-- where there is a verdict, the operation came to one of its exchanges
+abbrev is_told : Operation → Option Verdict → Bool
+is_told o None = true
+is_told o (Some x) = is_some (reach_of o x)
 
 module _ (o : Operation) (link id : ℕ) (loss : Option Loss) where
   outcome_told : (a : Asked) (j : Judged) → is_told o (verdict_of o link id loss (outcome_of a j)) ≡ true
@@ -74,36 +70,23 @@ module _ (o : Operation) (link id : ℕ) (loss : Option Loss) where
   walk_told (suc more) requester e = goes_told _ _ _ (next_told requester e (asked_in e.keeper.op))
       (walk_told more requester _)
 
-comes_said : (w : Work) (link id : ℕ) (loss : Option Loss) (stays : Option ℕ) → is_said (comes_to link id w loss stays)
-    ≡ true
-comes_said w link id loss stays = grind arith
-
-due_said : (o : Operation) (plan : KeyPlan) (q : Op) (next : ℕ) (ports : PortView) (host : StreamStatus) (link id : ℕ)
-    (loss : Option Loss)
-    → is_said (due_on o plan q next ports host link id loss) ≡ true
-due_said o plan q next ports host link id loss =
-    let said = comes_said (work_of o q next) link id loss (stays_at ports link id loss (work_of o q next)) in
-    grind (arith, said)
-
 -- ---- the pool
 
 -- an operation that began draws from the pool as the machine says, since its verdict came to an exchange
-pool_told : (o : Operation) (x : Verdict) (w : Work) (pool : Pool) → is_told o x ≡ true → is_said x ≡ true
-    → begun_pool w pool ≡ pool_by w (reach_of o x) pool
-pool_told o x w pool told said = grind arith
+pool_told : (w : Work) (r : Option Reach) (pool : Pool) → is_some r ≡ true → begun_pool w pool ≡ pool_by w r pool
+pool_told w r pool told = grind arith
 
 pool_same : (o : Operation) (e : StreamEnds) (host : HostView) (pool : Pool) (loss : Option Loss) (x : Walked)
     (verdict : Verdict) (w : Work)
     (r : Option Refusal) → refusal_of o e.keeper.op host pool ≡ r
-    → is_told o (verdict_of o e.keeper.link e.keeper.id loss x.outcome) ≡ true → is_said verdict ≡ true
-    → verdict_of o e.keeper.link e.keeper.id loss (walked_unless r e x).outcome ≡ verdict
+    → is_told o (verdict_of o e.keeper.link e.keeper.id loss x.outcome) ≡ true
+    → verdict_of o e.keeper.link e.keeper.id loss (walked_unless r e x).outcome ≡ Some verdict
     → unless r pool (begun_pool w pool) ≡ pool_by w (reach_of o verdict) pool
-pool_same o e host pool loss x verdict w (Some r) refused told said is =
-    let none : reach_of o verdict ≡ None = sym (ap (reach_of o) is) ∙ refused_reach o e.keeper.op host pool loss r
-    refused in
+pool_same o e host pool loss x verdict w (Some r) refused told is =
+    let none : reach_of o verdict ≡ None = refused_reach o e.keeper.op host pool loss r verdict refused is in
     sym (ap (λ (p : Option Reach). pool_by w p pool) none)
-pool_same o e host pool loss x verdict w None refused told said is = pool_told o verdict w pool
-    (sym (ap (λ (y : Verdict). is_told o y) is) ∙ told) said
+pool_same o e host pool loss x verdict w None refused told is = pool_told w (reach_of o verdict) pool
+    (sym (ap (λ (y : Option Verdict). is_told o y) is) ∙ told)
 
 pool_keys : (w : Work) (r : Option Reach) (pool : Pool) → (pool_by w r pool).keys ≡ pool.keys
 pool_keys w r pool = grind arith
@@ -340,7 +323,7 @@ ends_by : (plan : Plan) (old : Links) (m : InterfacesView) (k' : KeeperView) (op
     → (let w = work_of operation q old.keeper.keys.pool.draws in k'.pool
     ≡ pool_by w (reach_of operation (verdict_due plan (links_state plan old) operation q link id loss))
     old.keeper.keys.pool)
-    → verdict ≡ verdict_of operation link id loss result
+    → verdict_of operation link id loss result ≡ Some verdict
     → Ends plan (record old
     { ends = slice_set old.ends link l'; keeper = record { keys = k'; interfaces = m }; steps = old.steps + 1 })
     verdict (operated plan (links_state plan old) operation link id q
@@ -359,7 +342,8 @@ ends_by plan old m k' operation link id place q keys loss l l' host device x res
       requester = walked.stands.requester;
     } in
     record {
-      verdict_is = says ∙ (ap (λ (o : Outcome). verdict_of operation link id loss o) walked.outcome ∙ j.verdict_is);
+      verdict_is = same_Some verdict _ (sym says
+          ∙ (ap (λ (o : Outcome). verdict_of operation link id loss o) walked.outcome ∙ j.verdict_is));
       state_is = state_by plan old.ends old.keeper.keys k' old.packets.packets link id l l' host device n x.ends w r
           links is named both walked.stands.streams here
           (record {
@@ -385,18 +369,30 @@ pub some_named : (o : Option Named) → IsSome o → (n : Named) × (o ≡ Some 
 some_named None is = absurd cc
 some_named (Some n) is = (n, refl)
 
-ends_at : OperationsJoin → (plan : Plan) (b : Beside) (h : History) (old : Links) (m : InterfacesView) (k' : KeeperView)
-    (call : OpCall) (operation : Operation) (link id : ℕ) (loss : Option Loss) (l l' : LinkEnds) (result : Outcome)
-    (verdict : Verdict) (n : Named)
+-- what an operation on the stream comes to: both ends have it, and its walk joins the machine
+record Walk (plan : Plan) (old : Links) (k' : KeeperView) (operation : Operation) (link id : ℕ) (n : Named)
+    (loss : Option Loss) (l l' : LinkEnds) (result : Outcome) : Type 0 where
+  named_is : IsNamed old.keeper.keys.manager link id n
+  here : find_op plan (links_state plan old) link id ≡ Some n.stream.op
+  host : Found
+  device : Found
+  on : IsOn old.keeper.keys.manager l n.place id host device
+  walked : IsWalked old.keeper.keys.manager l n.place id
+      (event_walk operation (host_of host.state) old.keeper.keys.pool loss l.device.requester
+      (ends_found n host device)) result k'.manager l'
+  begun : k'.pool ≡ pool_begun operation (host_of host.state) old.keeper.keys.pool n
+  joins : IsJoined plan (links_state plan old) operation loss old.keeper.keys.pool (ends_found n host device)
+      (event_walk operation (host_of host.state) old.keeper.keys.pool loss l.device.requester
+      (ends_found n host device))
+
+walks_at : OperationsJoin → (plan : Plan) (h : History) (old : Links) (k' : KeeperView) (call : OpCall)
+    (operation : Operation) (link id : ℕ) (loss : Option Loss) (l l' : LinkEnds) (result : Outcome) (n : Named)
     → AreLinks plan old.ends old.keeper.keys → StandsFor plan (links_state plan old) h → slice_get old.ends link
     ≡ Some l → named old.keeper.keys.manager link id ≡ Some n
     → op_name call ≡ record { operation = operation; link = link; stream = id }
-    → Operates old.keeper.keys l call loss result k' l' → verdict ≡ verdict_of operation link id loss result
-    → Ends plan (record old
-    { ends = slice_set old.ends link l'; keeper = record { keys = k'; interfaces = m }; steps = old.steps + 1 })
-    verdict (step_of plan b (links_state plan old) (operation_event operation link id loss))
-ends_at joins plan b h old m k' call operation link id loss l l' result verdict n0 links stands is named_is name
-    operates says =
+    → Operates old.keeper.keys l call loss result k' l'
+    → Walk plan old k' operation link id (at_place link id n.place n.stream.op n.stream.keys) loss l l' result
+walks_at joins plan h old k' call operation link id loss l l' result n0 links stands is named_is name operates =
     let st : LinkState = links_state plan old in
     let k : KeeperView = old.keeper.keys in
     let q : Op = n0.stream.op in
@@ -425,32 +421,75 @@ ends_at joins plan b h old m k' call operation link id loss l l' result verdict 
     let o : IsOperated k l call loss n host device result k' l' =
     operates n host device (subst (λ (a : OpName). named k.manager a.link a.stream ≡ Some n) (sym name) is_named)
     (subst (λ (a : OpName). IsOn k.manager l n.place a.stream host device) (sym name) on) (is_asked plan q keys kept) in
-    let walked = subst (λ (a : OpName). IsWalked k.manager l n.place a.stream
-    (event_walk a.operation (host_of host.state) k.pool loss l.device.requester e) result k'.manager l') name o.walked
-    in
-    let begun = subst (λ (a : OpName). k'.pool ≡ pool_begun a.operation (host_of host.state) k.pool n) name o.pool in
-    let walk : Walked = event_walk operation (host_of host.state) k.pool loss l.device.requester e in
     let pool : k.pool ≡ record { keys = plan.pool; draws = st.draws } = (λ i. record k.pool { keys = links.keys i }) in
-    let j : IsJoined plan st operation loss k.pool e walk = joins plan st h operation loss l.device.requester k.pool e
-    links.fits stands x.requester hf.2 df.2 here pool kept in
+    record {
+      named_is = placed;
+      here = here;
+      host = host;
+      device = device;
+      on = on;
+      walked = subst (λ (a : OpName). IsWalked k.manager l n.place a.stream
+          (event_walk a.operation (host_of host.state) k.pool loss l.device.requester e) result k'.manager l') name
+          o.walked;
+      begun = subst (λ (a : OpName). k'.pool ≡ pool_begun a.operation (host_of host.state) k.pool n) name o.pool;
+      joins = joins plan st h operation loss l.device.requester k.pool e links.fits stands x.requester hf.2 df.2 here
+          pool kept;
+    }
+
+ends_at : OperationsJoin → (plan : Plan) (b : Beside) (h : History) (old : Links) (m : InterfacesView) (k' : KeeperView)
+    (call : OpCall) (operation : Operation) (link id : ℕ) (loss : Option Loss) (l l' : LinkEnds) (result : Outcome)
+    (verdict : Verdict) (n : Named)
+    → AreLinks plan old.ends old.keeper.keys → StandsFor plan (links_state plan old) h → slice_get old.ends link
+    ≡ Some l → named old.keeper.keys.manager link id ≡ Some n
+    → op_name call ≡ record { operation = operation; link = link; stream = id }
+    → Operates old.keeper.keys l call loss result k' l' → verdict_of operation link id loss result ≡ Some verdict
+    → Ends plan (record old
+    { ends = slice_set old.ends link l'; keeper = record { keys = k'; interfaces = m }; steps = old.steps + 1 })
+    verdict (step_of plan b (links_state plan old) (operation_event operation link id loss))
+ends_at joins plan b h old m k' call operation link id loss l l' result verdict n0 links stands is named_is name
+    operates says =
+    let st : LinkState = links_state plan old in
+    let k : KeeperView = old.keeper.keys in
+    let q : Op = n0.stream.op in
+    let keys : WireKeys = n0.stream.keys in
+    let n : Named = at_place link id n0.place q keys in
+    let at = walks_at joins plan h old k' call operation link id loss l l' result n0 links stands is named_is name
+    operates in
+    let e : StreamEnds = ends_found n at.host at.device in
+    let walk : Walked = event_walk operation (host_of at.host.state) k.pool loss l.device.requester e in
     let w : Work = work_of operation q k.pool.draws in
     let due : Verdict = verdict_due plan st operation q link id loss in
     let same : k'.pool ≡ pool_by w (reach_of operation due) k.pool =
-    begun ∙ pool_same operation e (host_of host.state) k.pool loss
+    at.begun ∙ pool_same operation e (host_of at.host.state) k.pool loss
     (walk_on 13 loss l.device.requester (begun_ends w k.pool e)) due w
-    (refusal_of operation q (host_of host.state) k.pool) refl
-    (walk_told operation link id loss 13 l.device.requester (begun_ends w k.pool e))
-    (due_said operation (key_plan plan) q st.draws (ports_of plan st) (status_at plan st Host link id) link id loss)
-    j.verdict_is in
+    (refusal_of operation q (host_of at.host.state) k.pool) refl
+    (walk_told operation link id loss 13 l.device.requester (begun_ends w k.pool e)) at.joins.verdict_is in
     subst (λ (s : Stepped). Ends plan
     (record old {
       ends = slice_set old.ends link l';
       keeper = record { keys = k'; interfaces = m };
-      steps =
-          old.steps + 1;
-    }) verdict s) (sym (step_is plan b st operation link id loss q here))
-    (ends_by plan old m k' operation link id n.place q keys loss l l' host device walk result verdict links is placed on
-    here walked j same says)
+      steps = old.steps + 1;
+    }) verdict s) (sym (step_is plan b st operation link id loss q at.here))
+    (ends_by plan old m k' operation link id n.place q keys loss l l' at.host at.device walk result verdict links is
+    at.named_is at.on at.here at.walked at.joins same says)
+
+-- where the links stand for a history, the outcome has a verdict
+pub operates_due : OperationsJoin → (old : Links) (ends : List LinkEnds) (k' : KeeperView) (call : OpCall)
+    (loss : Option Loss) (result : Outcome) → Standing old → (op_name call).link < length old.ends
+    → IsSome (named old.keeper.keys.manager (op_name call).link (op_name call).stream)
+    → OperatesAt old.ends (op_name call).link old.keeper.keys call loss result ends k'
+    → (verdict : Verdict)
+    × (verdict_of (op_name call).operation (op_name call).link (op_name call).stream loss result ≡ Some verdict)
+operates_due joins old ends k' call loss result standing here there_is operates =
+    let a : OpName = op_name call in
+    let f = there old.ends a.link here in
+    let c = operates f.0 f.1 in
+    let n = some_named (named old.keeper.keys.manager a.link a.stream) there_is in
+    let at = walks_at joins standing.plan standing.history old k' call a.operation a.link a.stream loss f.0 c.0 result
+    n.0 standing.links standing.stands f.1 n.1 refl c.2.0 in (
+      verdict_due standing.plan (links_state standing.plan old) a.operation n.0.stream.op a.link a.stream loss,
+      ap (λ (o : Outcome). verdict_of a.operation a.link a.stream loss o) at.walked.outcome ∙ at.joins.verdict_is,
+    )
 
 pub operates_on : OperationsJoin → (b : Beside) (old : Links) (ends : List LinkEnds) (m : InterfacesView)
     (k' : KeeperView) (call : OpCall) (operation : Operation) (link id : ℕ) (loss : Option Loss) (result : Outcome)
@@ -458,8 +497,8 @@ pub operates_on : OperationsJoin → (b : Beside) (old : Links) (ends : List Lin
     → IsBounded old.ends old.packets.packets old.steps → link < length old.ends
     → IsSome (named old.keeper.keys.manager link id)
     → op_name call ≡ record { operation = operation; link = link; stream = id }
-    → OperatesAt old.ends link old.keeper.keys call loss result ends k' → verdict
-    ≡ verdict_of operation link id loss result
+    → OperatesAt old.ends link old.keeper.keys call loss result ends k'
+    → verdict_of operation link id loss result ≡ Some verdict
     → EndsWith verdict old
     (record old { ends = ends; keeper = record { keys = k'; interfaces = m }; steps = old.steps + 1 })
     (λ plan st. step_of plan b st (operation_event operation link id loss))

@@ -16,10 +16,8 @@ use Rattle.std.specs.Prelude.{IfSome}
 use Rattle.ide_types.specs.declared.memory.Memory.{Memory}
 use Rattle.link_events.specs.declared.event.Loss.{Loss}
 use Rattle.link_verdicts.specs.declared.verdict.Operation.{Operation}
-use Rattle.link_verdicts.specs.declared.verdict.Operation.TheVariants as op
 use Rattle.link_verdicts.specs.declared.verdict.Verdict.TheVariants as v
 use Rattle.link_history.specs.History.{Arrival}
-use Rattle.key_laws.specs.Due.{cut_off}
 use Rattle.tsm_host.specs.declared.operation.Op.{Op as OpCall}
 use Rattle.tsm_host.specs.declared.operation.Op.TheVariants as call
 use Rattle.tsm_host.specs.declared.operation.Outcome.{Outcome}
@@ -33,15 +31,16 @@ use Rattle.tdi_ends.specs.Keepers.{Ended}
 use Rattle.link_ends.specs.Hosts.{told, operated_on}
 use Rattle.link_ends.specs.declared.host.HostKeeper.{HostKeeper}
 use Rattle.whole_machine.specs.Machine.{arrival_of}
-use Rattle.all_links.specs.AllEnds.{grants_in, AsksAt, CallsAt}
+use Rattle.all_ends.specs.AllEnds.{grants_in, AsksAt, CallsAt}
 use Rattle.all_links.specs.Interfaces.{interface_named}
-use Rattle.all_links.specs.Sides.{SidesKeep, Follows, AllFollow, writes_by, SidesArrive, told_by, SidesOperate}
+use Rattle.all_links.specs.Sides.{SidesKeep, Follows, AllFollow, SidesArrive, told_by, SidesOperate}
+use Rattle.all_ends.specs.Writes.{writes_by}
 use Rattle.all_links.specs.Sides.{SidesReset, SidesAsk, called_if, SidesCall}
 use Rattle.all_links.proofs.Arrivals.{at_partner, altered_is, numbered_here}
-use Rattle.all_links.proofs.Finds.{there, each_set, port_is}
+use Rattle.all_ends.proofs.Finds.{there, each_set, port_is}
 use Rattle.all_links.proofs.Operations.{some_named}
 use Rattle.all_links.proofs.Asked.{if_some, set_back, with_interfaces}
-use Rattle.all_links.proofs.Writes.{writes_agree}
+use Rattle.all_ends.proofs.Writes.{writes_agree}
 
 -- ---- one link that changes
 
@@ -351,18 +350,13 @@ not_called old new n at test call here tests is = record {
 -- ---- operations on streams
 
 module _ (q : Op) (before after : ℕ) (m : InterfacesView) where
-  -- a refusal tells nothing
-  lost_tells : (link id n : ℕ) (loss : Option Loss)
-      → m ≡ told_by op.Refresh link id q before after (cut_off loss n) m
-  lost_tells link id n loss = grind arith
-
-  told_here : (c : OpCall) (loss : Option Loss) (result : Outcome)
+  told_here : (c : OpCall) (loss : Option Loss) (result : Outcome) (verdict : Verdict)
+      → verdict_of (op_name c).operation (op_name c).link (op_name c).stream loss result ≡ Some verdict
       → told c (work_of (op_name c).operation q 0).begins (not (after == before)) before result m
-      ≡ told_by (op_name c).operation (op_name c).link (op_name c).stream q before after
-      (verdict_of (op_name c).operation (op_name c).link (op_name c).stream loss result) m
-  told_here (call.Establish link id) loss result = refl
-  told_here (call.Stop link id) loss result = refl
-  told_here (call.Refresh link id) loss result = grind arith
+      ≡ told_by (op_name c).operation (op_name c).link (op_name c).stream q before after verdict m
+  told_here (call.Establish link id) loss result verdict says = refl
+  told_here (call.Stop link id) loss result verdict says = refl
+  told_here (call.Refresh link id) loss result verdict says = grind arith
 
 pub nothing_operates : {old new : Links} (operation : Operation) (link id : ℕ) (verdict : Verdict)
     → None ≡ stream_named old.keeper.keys.manager (length old.ends) link id
@@ -386,7 +380,7 @@ pub operated_beside : (old : Links) (ends : List LinkEnds) (k : HostKeeper) (c :
     → IfSome (named old.keeper.keys.manager (op_name c).link (op_name c).stream) (λ (n : Named).
     k.interfaces ≡ told c (work_of (op_name c).operation n.stream.op 0).begins
     (not (k.keys.pool.draws == old.keeper.keys.pool.draws)) old.keeper.keys.pool.draws result old.keeper.interfaces)
-    → verdict ≡ verdict_of operation link id loss result
+    → verdict_of operation link id loss result ≡ Some verdict
     → SidesOperate operation link id verdict old (record old { ends = ends; keeper = k; steps = old.steps + 1 })
 operated_beside old ends k c operation link id loss result verdict here small there_is name operates tells says =
     let f = there old.ends link here in
@@ -407,8 +401,8 @@ operated_beside old ends k c operation link id loss result verdict here small th
           if_some (λ (y : Named). k.interfaces ≡ told c (work_of (op_name c).operation y.stream.op 0).begins
           (not (after == before)) before result old.keeper.interfaces)
           (named m (op_name c).link (op_name c).stream) n same tells
-          ∙ told_here n.stream.op before after old.keeper.interfaces c loss result
-          ∙ ap (λ (x : OpName). told_by x.operation x.link x.stream n.stream.op before after
-          (verdict_of x.operation x.link x.stream loss result) old.keeper.interfaces) name
-          ∙ ap (λ (w : Verdict). told_by operation link id n.stream.op before after w old.keeper.interfaces) (sym says);
+          ∙ told_here n.stream.op before after old.keeper.interfaces c loss result verdict
+          (subst (λ (x : OpName). verdict_of x.operation x.link x.stream loss result ≡ Some verdict) (sym name) says)
+          ∙ ap (λ (x : OpName). told_by x.operation x.link x.stream n.stream.op before after verdict
+          old.keeper.interfaces) name;
     }

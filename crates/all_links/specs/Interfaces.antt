@@ -1,7 +1,7 @@
 -- What events on interfaces and on trusted memory come to, by what is kept.
-use Rattle.std.specs.Prelude.{ℕ, ◌+◌, ◌-◌, Bool, true, false, nat_lt, nat_le, if◌then◌else◌, List, [], ◌∷◌, length}
+use Rattle.std.specs.Prelude.{ℕ, Bool, true, false, nat_lt, nat_le, if◌then◌else◌, List, length}
 use Rattle.std.specs.Prelude.{slice_get, Option, Some, None}
-use Rattle.std.specs.Option.{option_and_then}
+use Rattle.std.specs.Option.{option_and_then, option_map, unwrap_or}
 use Rattle.interface_words.specs.declared.register.Register.{Register}
 use Rattle.interface_words.specs.declared.verdict.InterfaceVerdict.TheVariants as iv
 use Rattle.interface_words.specs.RegisterNames.{has_register}
@@ -10,7 +10,7 @@ use Rattle.link_events.specs.declared.event.InterfaceEvent.{InterfaceEvent}
 use Rattle.link_events.specs.declared.event.InterfaceEvent.TheVariants as ie
 use Rattle.link_verdicts.specs.declared.verdict.Verdict.{Verdict}
 use Rattle.link_verdicts.specs.declared.verdict.Verdict.TheVariants as v
-use Rattle.tdi_state.specs.Machine.{Tdi, Call, WriteRegister, LevelReset, FirmwareUpdate, tdi_after, state_code}
+use Rattle.tdi_state.specs.Machine.{Tdi, WriteRegister, LevelReset, FirmwareUpdate}
 use Rattle.tdi_device.specs.Replies.{DeviceTdis}
 use Rattle.tdi_host.specs.declared.operation.InterfaceOp.{InterfaceOp}
 use Rattle.tdi_host.specs.declared.operation.InterfaceOp.TheVariants as op
@@ -20,20 +20,18 @@ use Rattle.tdi_ends.specs.Keepers.{Ended}
 use Rattle.trusted_memory.specs.{Contents, byte_at, bytes_from, in_one_region}
 use Rattle.link_ends.specs.declared.ends.LinkEnds.{LinkEnds}
 use Rattle.link_ends.specs.Hosts.{operated_on}
+use Rattle.all_ends.specs.Places.{located, code_behind}
 use Rattle.interface_joins.specs.Verdicts.{view_shown, ended_as}
 
 -- ---- interfaces by number
 
--- the link and the place on it, of the links from this number on
-abbrev pub located : ℕ → ℕ → List LinkEnds → Option (ℕ × ℕ)
-located link n [] = None
-located link n (l ∷ ls) =
-    if nat_lt n (length l.device.interfaces.interfaces) then Some (link, n)
-    else located (link + 1) (n - length l.device.interfaces.interfaces) ls
-
 abbrev pub interface_named : ManagerView → List LinkEnds → ℕ → Option (ℕ × ℕ)
 interface_named m ends n =
     if nat_lt n (length m.interfaces) then (if nat_le n 255 then located 0 n ends else None) else None
+
+-- the link that it is on
+abbrev pub link_named : ManagerView → List LinkEnds → ℕ → Option ℕ
+link_named m ends n = option_map (λ (at : ℕ × ℕ). at.0) (interface_named m ends n)
 
 -- ---- what the manager asks
 
@@ -49,9 +47,14 @@ ended_at m ends draws i o loss (Some at) =
 abbrev pub ended_in : ManagerView → List LinkEnds → ℕ → ℕ → InterfaceOp → Option Loss → Option Ended
 ended_in m ends draws i o loss = ended_at m ends draws i o loss (interface_named m ends i)
 
+-- the verdict, if the operation has one; what is asked of no interface comes to nothing
+abbrev pub verdict_in : ℕ → InterfaceOp → Option Loss → Option Ended → Option Verdict
+verdict_in i o loss None = Some v.Nothing
+verdict_in i o loss (Some e) = ended_as i o loss e
+
+-- of an operation that has one
 abbrev pub asked_in : ℕ → InterfaceOp → Option Loss → Option Ended → Verdict
-asked_in i o loss None = v.Nothing
-asked_in i o loss (Some e) = ended_as i o loss e
+asked_in i o loss e = unwrap_or (verdict_in i o loss e) v.Nothing
 
 -- ---- what is done to the device
 
@@ -64,9 +67,6 @@ tdi_at ends at = option_and_then (λ d. slice_get d.interfaces at.1) (device_int
 
 abbrev pub tdi_named : ManagerView → List LinkEnds → ℕ → Option Tdi
 tdi_named m ends i = option_and_then (tdi_at ends) (interface_named m ends i)
-
-abbrev pub code_behind : Tdi → Call → ℕ
-code_behind tdi call = state_code (tdi_after tdi call).state
 
 abbrev pub written_as : ℕ → Register → ℕ → Option Tdi → Verdict
 written_as i register value None = v.Nothing

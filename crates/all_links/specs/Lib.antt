@@ -1,11 +1,5 @@
-pub mod Cuts
-pub mod Requester
-pub mod AllEnds
-pub mod States
 pub mod Events
 pub mod Links
-pub mod Verdicts
 pub mod Interfaces
 pub mod Besides
 pub mod Sides
-pub mod Packets

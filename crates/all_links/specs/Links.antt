@@ -11,8 +11,8 @@ use Rattle.tsm_host.specs.Managers.{new_manager}
 use Rattle.tdi_host.specs.Managers.{new_manager as new_interfaces}
 use Rattle.trusted_memory.specs.{new_memory}
 use Rattle.all_links.specs.declared.links.Links.{Links}
-use Rattle.all_links.specs.AllEnds.{ends_from}
-use Rattle.all_links.specs.States.{state_of, AreLinks, IsBounded}
+use Rattle.all_ends.specs.AllEnds.{ends_from}
+use Rattle.all_ends.specs.States.{state_of, AreLinks, IsBounded}
 
 abbrev pub links_state : Plan → Links → LinkState
 links_state plan s = state_of plan s.ends s.keeper.keys s.packets.packets
@@ -27,13 +27,20 @@ pub record IsFirst (plan : Plan) (s : Links) : Type 0 where
   pub trusted : s.trusted ≡ new_memory plan.memory
   pub steps : s.steps ≡ 0
 
+-- the links are those of a plan, and stand for some history
+pub record Standing (s : Links) : Type 0 where
+  pub plan : Plan
+  pub history : History
+  pub links : AreLinks plan s.ends s.keeper.keys
+  pub stands : StandsFor plan (links_state plan s) history
+
 -- this verdict and the state after it
 pub record Ends (plan : Plan) (new : Links) (verdict : Verdict) (step : Stepped) : Type 0 where
   pub verdict_is : verdict ≡ step.0
   pub state_is : links_state plan new ≡ step.1
   pub links : AreLinks plan new.ends new.keeper.keys
 
--- An event with this verdict: where the links are those of a plan, and stand for some history, they come to the state
+-- An event with this verdict: if the links are those of a plan, and stand for some history, they are then in the state
 -- after it.
 pub record EndsWith (verdict : Verdict) (old new : Links) (step : Plan → LinkState → Stepped) : Type 0 where
   pub counted : new.steps ≡ old.steps + 1

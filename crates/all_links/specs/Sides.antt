@@ -1,5 +1,5 @@
 -- What an event makes of what stands beside the ports: the devices' interfaces, the manager's, and trusted memory.
-use Rattle.std.specs.Prelude.{ℕ, ◌≡◌, ◌<◌, ◌≤◌, ◌==◌, ◌⊎◌, Bool, true, not, List, [], length, slice_get, slice_set}
+use Rattle.std.specs.Prelude.{ℕ, ◌≡◌, ◌<◌, ◌≤◌, ◌==◌, ◌⊎◌, Bool, true, not, List, length, slice_get, slice_set}
 use Rattle.std.specs.Prelude.{Option, Some, None, if◌then◌else◌}
 use Rattle.ide_plan.specs.declared.plan.Plan.{Plan}
 use Rattle.interface_words.specs.RegisterNames.{has_register}
@@ -15,7 +15,6 @@ use Rattle.link_verdicts.specs.declared.verdict.Verdict.TheVariants as v
 use Rattle.key_laws.specs.History.{History}
 use Rattle.key_laws.specs.Operations.{Op, work_of}
 use Rattle.link_history.specs.History.{Arrival}
-use Rattle.link_history.specs.Memory.{Grants, admitted_in}
 use Rattle.link_ports.specs.Machine.{LinkState}
 use Rattle.link_ports.specs.Stands.{StandsFor}
 use Rattle.tsm_host.specs.Managers.{Named, named}
@@ -25,16 +24,17 @@ use Rattle.tdi_host.specs.declared.operation.InterfaceOp.{InterfaceOp}
 use Rattle.tdi_host.specs.declared.operation.InterfaceOp.TheVariants as op
 use Rattle.tdi_host.specs.Views.{HostTdi}
 use Rattle.tdi_host.specs.Managers.{stream_keyed, reset_manager}
-use Rattle.trusted_memory.specs.{Write, Leads}
+use Rattle.trusted_memory.specs.{Leads}
 use Rattle.device_side.specs.Ends.{secure_at}
 use Rattle.link_ends.specs.declared.ends.LinkEnds.{LinkEnds}
 use Rattle.link_ends.specs.Hosts.{InterfacesView, keyed_if, stopped_if, operated_on}
-use Rattle.whole_machine.specs.Machine.{arrival_of, unit_in}
+use Rattle.whole_machine.specs.Machine.{arrival_of}
 use Rattle.all_links.specs.declared.links.Links.{Links}
-use Rattle.all_links.specs.States.{AreLinks}
+use Rattle.all_ends.specs.States.{AreLinks}
 use Rattle.all_links.specs.Links.{links_state}
-use Rattle.all_links.specs.AllEnds.{grants_in, ResetsAt}
-use Rattle.all_links.specs.Events.{stream_named}
+use Rattle.all_ends.specs.AllEnds.{grants_in, ResetsAt}
+use Rattle.all_ends.specs.Places.{stream_named}
+use Rattle.all_ends.specs.Writes.{writes_by}
 use Rattle.all_links.specs.Interfaces.{interface_named}
 
 -- ---- nothing
@@ -56,12 +56,6 @@ abbrev pub AllFollow : List LinkEnds → List LinkEnds → Type 0
 AllFollow old new = (i : ℕ) (l l' : LinkEnds) → slice_get old i ≡ Some l → slice_get new i ≡ Some l' → Follows l l'
 
 -- ---- arrivals
-
--- the writes of the unit that the arrival ends, where it was accepted
-abbrev pub writes_by : Plan → Grants → LinkState → Option Arrival → Verdict → List (Option Write)
-writes_by plan grants st arrival (v.Accepted port unit effects) =
-    admitted_in plan grants port unit (unit_in plan st arrival)
-writes_by plan grants st arrival verdict = []
 
 pub record SidesArrive (arrival : Plan → LinkState → Option Arrival) (verdict : Verdict) (old new : Links) :
     Type 0 where

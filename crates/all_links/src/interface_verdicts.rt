@@ -1,11 +1,12 @@
 //! What operations on interfaces come to, as verdicts.
 
-ghost use Rattle.std.specs.Prelude.{◌≡◌};
+ghost use Rattle.std.specs.Prelude.{◌≡◌, Some, IsSome};
 ghost use Rattle.interface_joins.specs.Verdicts.{view_shown, shown_as, refused_as, asked_as};
 
 use crate::stream_verdicts::lost_verdict;
 use ide_types::Bytes;
 use interface_words::{InterfaceVerdict, View};
+use link_ends::lost_at;
 use link_events::Loss;
 use link_verdicts::Verdict;
 use tdi_host::{Outcome, Refusal, Shown};
@@ -43,7 +44,8 @@ fn shown(interface: u8, shown: Shown, report: Bytes) -> Verdict
 }
 
 fn refused(loss: Option<Loss>, refusal: Refusal) -> Verdict
-    ensures { result ≡ refused_as loss refusal }
+    requires carried { IsSome (refused_as loss refusal) }
+    ensures { refused_as loss refusal ≡ Some result }
 {
     match refusal {
         Refusal::WrongState(view) => of_interface(InterfaceVerdict::RefusedWrongState {
@@ -54,18 +56,22 @@ fn refused(loss: Option<Loss>, refusal: Refusal) -> Verdict
         Refusal::RefreshFirst(draw, needed) => {
             of_interface(InterfaceVerdict::RefusedRefreshFirst { draw, needed })
         }
-        Refusal::SessionLost(exchange) => lost_verdict(loss, exchange),
+        Refusal::SessionLost(exchange) => match lost_at(loss, exchange) {
+            Some(lost) => lost_verdict(lost, exchange),
+            None => unreachable!(),
+        },
         Refusal::DeviceRefused(exchange, code) => Verdict::RefusedDevice { exchange, code },
-        Refusal::BadReply(_) => Verdict::Nothing,
+        Refusal::BadReply(_) => unreachable!(),
     }
 }
 
 /// The verdict of an operation on the interface of this number; a report that was read is this one.
 pub fn asked_verdict(interface: u8, loss: Option<Loss>, outcome: Outcome, report: Bytes) -> Verdict
-    ensures { result ≡ asked_as interface loss report outcome }
+    requires carried { IsSome (asked_as interface loss report outcome) }
+    ensures { asked_as interface loss report outcome ≡ Some result }
 {
     match outcome {
-        Outcome::Next => Verdict::Nothing,
+        Outcome::Next => unreachable!(),
         Outcome::Done(value) => shown(interface, value, report),
         Outcome::Refused(refusal) => refused(loss, refusal),
     }

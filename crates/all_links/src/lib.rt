@@ -3,11 +3,8 @@
 //! 11, in this profile).
 #![tactic(auto)]
 
-mod all_ends;
 mod interface_verdicts;
 mod links;
-mod packets;
 mod stream_verdicts;
-mod verdicts;
 
 pub use links::Links;

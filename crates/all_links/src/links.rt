@@ -1,21 +1,25 @@
 //! All links, event by event.
 
 ghost use Rattle.std.specs.Prelude.{◌≡◌, ◌+◌, ◌<◌, ◌≤◌, ◌^◌, ℕ, Some, None, [], IfOk, OnOk, IsSome, Vec, option_map};
-ghost use Rattle.std.specs.Prelude.{length, nat_lt};
+ghost use Rattle.std.specs.Prelude.{List, length, nat_lt};
 ghost use Rattle.std.specs.declared.alloc.Global.{Global};
 ghost use Rattle.ide_plan.specs.Fits.{FitsPlan};
 ghost use Rattle.link_events.specs.Spells.{IsAllowed};
 ghost use Rattle.link_events.specs.Interfaces.{IsAllowedInterface};
 ghost use Rattle.interface_words.specs.RegisterNames.{width_of};
 ghost use Rattle.link_ports.specs.Machine.{step_of, arrive as arrive_step};
+ghost use Rattle.std.specs.Prelude.{not, ◌==◌, IfSome};
+ghost use Rattle.key_laws.specs.Operations.{work_of};
 ghost use Rattle.tsm_host.specs.Managers.{named};
-ghost use Rattle.all_links.specs.Events.{altered_bytes, stream_named, operation_event};
+ghost use Rattle.tsm_host.specs.Operations.{op_name};
+ghost use Rattle.tsm_host.specs.Walk.{NoBadReply as NoBadStreamReply, verdict_of};
+ghost use Rattle.link_ends.specs.Hosts.{told};
+ghost use Rattle.all_links.specs.Events.{altered_bytes, operation_event};
+ghost use Rattle.all_ends.specs.Places.{stream_named};
 
-use crate::all_ends::AllEnds;
 use crate::interface_verdicts::{asked_verdict, view_shown};
-use crate::packets::Packets;
 use crate::stream_verdicts::{named_op, operated_verdict};
-use crate::verdicts::{partner, send_verdict};
+use all_ends::{AllEnds, Packets, partner, send_verdict};
 use ide_plan::Plan;
 use ide_port::Sent;
 use ide_types::{Bytes, Memory, PortName};
@@ -26,6 +30,7 @@ use link_verdicts::{Operation, Verdict};
 use std::alloc::Global;
 use tdi_host::InterfaceOp;
 use trusted_memory::Trusted;
+use tsm_host::{Op, Outcome};
 
 /// The ends of all links, the manager, the packets that were sealed, trusted memory, and how many events came.
 #[derive(Drop)]
@@ -59,13 +64,15 @@ fn altered(alloc: Global, bytes: &[u8], at: u64, mask: u8) -> Result<Option<Vec<
 }
 
 impl Links {
-    ghost use Rattle.all_links.specs.States.{IsBounded};
-    ghost use Rattle.all_links.specs.Links.{IsFirst, EndsWith, EndsOr};
+    ghost use Rattle.all_ends.specs.States.{IsBounded};
+    ghost use Rattle.all_ends.specs.AllEnds.{OperatesAt};
+    ghost use Rattle.all_links.specs.Links.{IsFirst, Standing, EndsWith, EndsOr};
     ghost use Rattle.all_links.specs.Sides.{SidesKeep, SidesArrive, SidesOperate, SidesReset, SidesAsk, SidesCall};
     ghost use Rattle.all_links.specs.Sides.{SidesInterface, Sides, arrival_at};
-    ghost use Rattle.all_links.specs.Besides.{beside_in};
-    ghost use Rattle.all_links.specs.Interfaces.{interface_named, asked_in, ended_in};
-    ghost use Rattle.interface_joins.specs.Verdicts.{report_of, op_event};
+    ghost use Rattle.all_ends.specs.AllEnds.{AsksAt};
+    ghost use Rattle.all_links.specs.Besides.{beside_in, verdict_asked, AskIsAnswered, IsAnswered};
+    ghost use Rattle.all_links.specs.Interfaces.{interface_named, link_named, asked_in, ended_in};
+    ghost use Rattle.interface_joins.specs.Verdicts.{report_of, op_event, asked_as, NoBadReply};
 
     /// The links of the plan before the first event: no stream has keys, no interface is locked, and memory is 0.
     pub fn make(alloc: Global, plan: &Plan) -> Result<Links, Memory>
@@ -354,6 +361,7 @@ impl Links {
     ) -> Verdict
         requires steps { self.old.steps < 2 ^ 28 }
         requires bounded { IsBounded self.old.ends self.old.packets.packets self.old.steps }
+        requires stands { Standing self.old }
         ensures ends { EndsWith result self.old self.new
             (λ plan st. step_of plan (beside_in self.old) st (operation_event operation link stream loss)) }
         ensures sides { SidesOperate operation link stream result self.old self.new }
@@ -362,6 +370,27 @@ impl Links {
             None => self.only(Verdict::Nothing),
             Some((link, stream)) => self.operate_on(operation, link, stream, loss),
         }
+    }
+
+    // Carries an operation on a stream that there is.
+    fn carry_stream(&mut self, op: Op, loss: Option<Loss>) -> Outcome
+        requires stands { Standing self.old }
+        requires here { (op_name op).link < length self.old.ends }
+        requires stream { IsSome (named self.old.keeper.keys.manager (op_name op).link (op_name op).stream) }
+        ensures links { self.new ≡ record self.old { ends = self.new.ends; keeper = self.new.keeper } }
+        ensures operates { OperatesAt self.old.ends (op_name op).link self.old.keeper.keys op loss result
+            self.new.ends self.new.keeper.keys }
+        ensures interfaces { IfSome (named self.old.keeper.keys.manager (op_name op).link (op_name op).stream) (λ n.
+            let begins = (work_of (op_name op).operation n.stream.op 0).begins in
+            let draw = self.old.keeper.keys.pool.draws in
+            let drew = not (self.new.keeper.keys.pool.draws == draw) in
+            self.new.keeper.interfaces ≡ told op begins drew draw result self.old.keeper.interfaces) }
+        ensures answered { let name = op_name op in
+            IsSome (verdict_of name.operation name.link name.stream loss result) }
+        ensures no_bad_reply { NoBadStreamReply loss result }
+    {
+        link_walks::operations_join();
+        self.ends.operate(op.link(), &mut self.keeper, op, loss)
     }
 
     // An operation on a stream that there is.
@@ -374,6 +403,7 @@ impl Links {
     ) -> Verdict
         requires steps { self.old.steps < 2 ^ 28 }
         requires bounded { IsBounded self.old.ends self.old.packets.packets self.old.steps }
+        requires stands { Standing self.old }
         requires here { link < length self.old.ends }
         requires stream { IsSome (named self.old.keeper.keys.manager link stream) }
         ensures ends { EndsWith result self.old self.new
@@ -382,7 +412,7 @@ impl Links {
     {
         link_walks::operations_join();
         let op = named_op(operation, link, stream);
-        let outcome = self.ends.operate(link, &mut self.keeper, op, loss);
+        let outcome = self.carry_stream(op, loss);
         self.steps += 1;
         operated_verdict(operation, link, stream, loss, outcome)
     }
@@ -449,6 +479,26 @@ impl Links {
         self.ends.interface(number)
     }
 
+    // Carries an operation on the interface of this number, which is on this link.
+    fn carry_interface(
+        &mut self,
+        link: u8,
+        number: u64,
+        op: InterfaceOp,
+        loss: Option<Loss>,
+    ) -> tdi_host::Outcome
+        requires here { link_named self.old.keeper.interfaces self.old.ends number ≡ Some link }
+        requires carried { IsSome (verdict_asked self.old number op loss) }
+        ensures links { self.new ≡ record self.old { ends = self.new.ends; keeper = self.new.keeper } }
+        ensures asks { AsksAt self.old.ends link self.old.keeper number op loss result self.new.ends self.new.keeper }
+        ensures answered { (report : List ℕ) → IsSome (asked_as number loss report result) }
+        ensures no_bad_reply { NoBadReply loss result }
+    {
+        let interface = number as usize;
+        self.ends
+            .operate_on(link, &mut self.keeper, interface, op, loss)
+    }
+
     // An operation that reads no report.
     fn operate_interface(
         &mut self,
@@ -460,6 +510,7 @@ impl Links {
         requires steps { self.old.steps < 2 ^ 28 }
         requires bounded { IsBounded self.old.ends self.old.packets.packets self.old.steps }
         requires short { report_of op ≡ (λ e. []) }
+        requires carried { IsSome (verdict_asked self.old number op loss) }
         ensures ends { let answer = asked_in number op loss (ended_in self.old.keeper.interfaces self.old.ends
             self.old.keeper.keys.pool.draws number op loss) in
             EndsWith result self.old self.new (λ plan st. (answer, st)) }
@@ -468,10 +519,7 @@ impl Links {
         match self.interface(number) {
             None => self.only(Verdict::Nothing),
             Some((link, _)) => {
-                let interface = number as usize;
-                let outcome = self
-                    .ends
-                    .operate_on(link, &mut self.keeper, interface, op, loss);
+                let outcome = self.carry_interface(link, number, op, loss);
                 let none = Bytes::new(Vec::new(alloc));
                 self.only(asked_verdict(number as u8, loss, outcome, none))
             }
@@ -482,6 +530,7 @@ impl Links {
     fn report(&mut self, alloc: Global, number: u64, loss: Option<Loss>) -> Result<Verdict, Memory>
         requires steps { self.old.steps < 2 ^ 28 }
         requires bounded { IsBounded self.old.ends self.old.packets.packets self.old.steps }
+        requires carried { IsSome (verdict_asked self.old number InterfaceOp.Report loss) }
         ensures ends { let op = InterfaceOp.Report in let answer = asked_in number op loss (ended_in
             self.old.keeper.interfaces self.old.ends self.old.keeper.keys.pool.draws number op loss) in
             EndsOr result self.old self.new (λ plan st. (answer, st)) }
@@ -491,11 +540,7 @@ impl Links {
             None => Ok(self.only(Verdict::Nothing)),
             Some((link, _)) => {
                 let mut report = Vec::with_capacity(alloc, MOST_REPORT)?;
-                let interface = number as usize;
-                let op = InterfaceOp::Report;
-                let outcome = self
-                    .ends
-                    .operate_on(link, &mut self.keeper, interface, op, loss);
+                let outcome = self.carry_interface(link, number, InterfaceOp::Report, loss);
                 report
                     .extend_from_slice(self.keeper.interfaces.manager().report())
                     .unwrap();
@@ -599,6 +644,7 @@ impl Links {
         requires steps { self.old.steps < 2 ^ 28 }
         requires bounded { IsBounded self.old.ends self.old.packets.packets self.old.steps }
         requires allowed { IsAllowedInterface event.now }
+        requires carried { AskIsAnswered self.old event.now }
         ensures ends { EndsOr result self.old self.new
             (λ plan st. step_of plan (beside_in self.old) st (Event.Interface event.now)) }
         ensures sides { IfOk result (λ v. SidesInterface event.now self.old self.new) }
@@ -631,9 +677,11 @@ impl Links {
 
     /// The verdict of an event, and what it makes of the links. For want of memory nothing changes.
     pub fn answer(&mut self, alloc: Global, event: &Event) -> Result<Verdict, Memory>
+        requires stands { Standing self.old }
         requires steps { self.old.steps < 2 ^ 28 }
         requires bounded { IsBounded self.old.ends self.old.packets.packets self.old.steps }
         requires allowed { IsAllowed event.now }
+        requires carried { IsAnswered self.old event.now }
         ensures ends { EndsOr result self.old self.new (λ plan st. step_of plan (beside_in self.old) st event.now) }
         ensures sides { IfOk result (λ v. Sides event.now v self.old self.new) }
     {

@@ -1,9 +1,10 @@
 //! What operations on streams come to, as verdicts.
 
 ghost use Rattle.std.specs.Prelude.{◌≡◌};
-ghost use Rattle.key_laws.specs.Due.{cut_off};
+ghost use Rattle.key_laws.specs.Due.{lost_at as verdict_lost};
 ghost use Rattle.tsm_host.specs.Operations.{op_name};
 ghost use Rattle.tsm_host.specs.Walk.{shown_verdict as verdict_shown, refusal_verdict as verdict_refused, verdict_of};
+ghost use Rattle.std.specs.Prelude.{Some, IsSome};
 
 use link_ends::lost_at;
 use link_events::{Loss, Lost};
@@ -23,45 +24,56 @@ pub fn named_op(operation: Operation, link: u8, stream: u8) -> Op
 
 // What an operation shows at its end.
 fn shown_verdict(operation: Operation, link: u8, stream: u8, shown: Shown) -> Verdict
-    ensures { result ≡ verdict_shown operation link stream shown }
+    requires carried { IsSome (verdict_shown operation link stream shown) }
+    ensures { verdict_shown operation link stream shown ≡ Some result }
 {
-    match shown {
-        Shown::Stopped => Verdict::Stopped { link, stream },
-        Shown::Draw(draw) => match operation {
-            Operation::Establish => Verdict::Established { link, stream, draw },
-            Operation::Refresh => Verdict::Refreshed { link, stream, draw },
-            Operation::Stop => Verdict::Stopped { link, stream },
+    match operation {
+        Operation::Establish => match shown {
+            Shown::Draw(draw) => Verdict::Established { link, stream, draw },
+            Shown::Stopped => unreachable!(),
+        },
+        Operation::Refresh => match shown {
+            Shown::Draw(draw) => Verdict::Refreshed { link, stream, draw },
+            Shown::Stopped => unreachable!(),
+        },
+        Operation::Stop => match shown {
+            Shown::Stopped => Verdict::Stopped { link, stream },
+            Shown::Draw(_) => unreachable!(),
         },
     }
 }
 
-/// What an exchange that was not carried comes to. Without a loss there it is a refusal.
-pub fn lost_verdict(loss: Option<Loss>, exchange: u32) -> Verdict
-    ensures { result ≡ cut_off loss exchange }
+/// The verdict of an exchange of which this message was lost.
+pub fn lost_verdict(lost: Lost, exchange: u32) -> Verdict
+    ensures { result ≡ verdict_lost lost exchange }
 {
-    match lost_at(loss, exchange) {
-        Some(Lost::Request) => Verdict::LostRequest { exchange },
-        Some(Lost::Reply) => Verdict::LostReply { exchange },
-        None => Verdict::RefusedDevice { exchange, code: 3 },
+    match lost {
+        Lost::Request => Verdict::LostRequest { exchange },
+        Lost::Reply => Verdict::LostReply { exchange },
     }
 }
 
 fn refusal_verdict(loss: Option<Loss>, refusal: Refusal) -> Verdict
-    ensures { result ≡ verdict_refused loss refusal }
+    requires carried { IsSome (verdict_refused loss refusal) }
+    ensures { verdict_refused loss refusal ≡ Some result }
 {
     match refusal {
         Refusal::NotIdle => Verdict::RefusedNotIdle,
         Refusal::NotSecure(status) => Verdict::RefusedNotSecure { status },
         Refusal::PoolEmpty(draws) => Verdict::RefusedPoolEmpty { draws },
-        Refusal::SessionLost(exchange) => lost_verdict(loss, exchange),
+        Refusal::SessionLost(exchange) => match lost_at(loss, exchange) {
+            Some(lost) => lost_verdict(lost, exchange),
+            None => unreachable!(),
+        },
         Refusal::DeviceRefused(exchange, code) => Verdict::RefusedDevice { exchange, code },
-        Refusal::BadReply(_) => Verdict::Nothing,
+        Refusal::BadReply(_) => unreachable!(),
         Refusal::Busy(operation) => Verdict::RefusedBusy { operation },
         Refusal::UnitOpen(sub) => Verdict::RefusedUnitOpen { sub },
     }
 }
 
-/// The verdict of an operation's event on a stream of a link.
+/// The verdict of an operation's event on a stream of a link. The operation is at its end, or stays at an exchange: no
+/// reply was bad, and no exchange was lost but one of which a message is lost.
 pub fn operated_verdict(
     operation: Operation,
     link: u8,
@@ -69,10 +81,11 @@ pub fn operated_verdict(
     loss: Option<Loss>,
     outcome: Outcome,
 ) -> Verdict
-    ensures { result ≡ verdict_of operation link stream loss outcome }
+    requires carried { IsSome (verdict_of operation link stream loss outcome) }
+    ensures { verdict_of operation link stream loss outcome ≡ Some result }
 {
     match outcome {
-        Outcome::Next => Verdict::Nothing,
+        Outcome::Next => unreachable!(),
         Outcome::Done(shown) => shown_verdict(operation, link, stream, shown),
         Outcome::Refused(refusal) => refusal_verdict(loss, refusal),
     }

@@ -1,4 +1,4 @@
-//! What a TLP's choice of a stream comes to.
+//! The outcomes of a TLP's choice of a stream.
 
 /// The stream that a TLP takes at a port, by its ID and by what named it (PCI Express Base 6.0 section 6.33; the
 /// order is this profile's).

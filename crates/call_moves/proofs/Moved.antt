@@ -1,7 +1,7 @@
 -- The calls of an event leave the stream as the machine's moves do.
 use Rattle.call_moves.proofs.Terms.{◌≡◌, Bool, arith, true, ℕ, List, ◌++◌, false, ◌∙◌, sym, ◌-◌, ap, SubKind, Plan}
 use Rattle.call_moves.proofs.Terms.{SlotCall, Work, Reach, lane_key, StreamCall, all_called, Device, Host, Operation}
-use Rattle.call_moves.proofs.Terms.{lane, Place, end_at, port_at}
+use Rattle.call_moves.proofs.Terms.{lane, Place, end_at, port_at, refuses_in, is_some}
 use Rattle.call_moves.proofs.Terms.{slots_of, moves_at, is_only_live, slot_pair, StreamState, SubStream, lane_out}
 use Rattle.call_moves.proofs.Terms.{lane_in, moved_stream, IsSound, ReadsStream, device_calls, CallsAreMoves}
 use Rattle.link_history.specs.Plan.{key_of}
@@ -10,7 +10,7 @@ use Rattle.ide_types.specs.declared.port.Side.{Side}
 use Rattle.key_laws.specs.Due.{PortView}
 use Rattle.link_verdicts.specs.declared.verdict.Operation.TheVariants as op
 use Rattle.call_moves.proofs.Settling.{outs, ins, with_slots, settle}
-use Rattle.call_moves.proofs.Slots.{only_live_is, first_call, second_call, is_of}
+use Rattle.call_moves.proofs.Slots.{only_live_is, is_refusal, first_call, second_call, is_of}
 use Rattle.call_moves.proofs.Streams.{one_if, calls_at, called_by, places_are, all_by, called_once, keyed_once}
 use Rattle.call_moves.proofs.Streams.{halted_once}
 use Rattle.call_moves.proofs.Moves.{AreMoved, moves_carried, moves_asked}
@@ -45,9 +45,12 @@ module _ (plan : Plan) (ports : PortView) (link stream : ℕ) (w : Work) (r : Re
   abbrev at : Bool → SubKind → Place
   at sends u = end_at link stream sends side u
 
-  refused_is : (sends : Bool) (u : SubKind) → ports.refuses (at sends u) w.set
+  refused_is : (sends : Bool) (u : SubKind) → is_some (ports.refusal (at sends u) w.set)
       ≡ is_only_live (slot_pair sends (slots_of sends u x)) w.set
-  refused_is sends u = reads sends u w.set ∙ sym (only_live_is sends (slots_of sends u x) w.set (sound.apart sends u))
+  refused_is sends u =
+      ap is_some (reads sends u w.set)
+      ∙ (is_refusal (refuses_in (slots_of sends u x) w.set)
+      ∙ sym (only_live_is sends (slots_of sends u x) w.set (sound.apart sends u)))
 
   -- calls that are the operation's first and second at each place, and move its slots as its touches do
   all_moved : (cs : List StreamCall) (first second : Bool → SubKind → Bool) → all_by (is_of w.operation) cs ≡ true
@@ -55,7 +58,8 @@ module _ (plan : Plan) (ports : PortView) (link stream : ℕ) (w : Work) (r : Re
       ≡ one_if (first sends u) (first_call w (lane_key plan w.draw (lane (at sends u))))
       ++ one_if (second sends u) (second_call w))
       → ((sends : Bool) (u : SubKind)
-      → AreMoved plan w r (at sends u) (place_lane sends (port_at side link) stream u) (ports.refuses (at sends u))
+      → AreMoved plan w r (at sends u) (place_lane sends (port_at side link) stream u)
+      (λ k. is_some (ports.refusal (at sends u) k))
       (first sends u)
       (second sends u) (slots_of sends u x))
       → all_called cs x ≡ moved_stream plan (port_at side link) stream (λ u. moves_at ports w r (at true u))

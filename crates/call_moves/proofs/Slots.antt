@@ -3,7 +3,8 @@ use Rattle.call_moves.proofs.Terms.{◌≡◌, Bool, arith, true, ℕ, List, fal
 use Rattle.call_moves.proofs.Terms.{Halt, slots_called_out, slots_called_into, Work, makes_draw, Operation, refuses_in}
 use Rattle.call_moves.proofs.Terms.{is_last_in, is_only_live}
 use Rattle.call_moves.proofs.Terms.{is_last_live, live_draw, slot_pair, key_slot, Slots, Slot, Live, LiveKey}
-use Rattle.call_moves.proofs.Terms.{WaitsBesideLive, DrawsApart, if◌then◌else◌, not, any_live}
+use Rattle.call_moves.proofs.Terms.{WaitsBesideLive, DrawsApart, if◌then◌else◌, not, any_live, refl, is_some}
+use Rattle.call_moves.proofs.Terms.{refusal_if}
 
 -- ---- KEY_PROG
 
@@ -17,6 +18,11 @@ pub only_live_is : (sends : Bool) (s : Slots) (k : Bool) → DrawsApart s → is
 only_live_is sends s false apart = last_live_is false s.first s.second apart
 only_live_is sends s true apart = last_live_is true s.second s.first
     (λ x y first second same. apart y x second first (sym same))
+
+-- a status is there exactly where it is refused
+pub is_refusal : (b : Bool) → is_some (refusal_if b) ≡ b
+is_refusal true = refl
+is_refusal false = refl
 
 -- ---- no KEY_PROG and no GO leaves a place without a Live slot that had one
 

@@ -20,6 +20,7 @@ pub use Rattle.link_history.specs.Plan.{SubStream, lane_out, lane_in, key_of}
 pub use Rattle.link_ports.specs.Moves.{moved_stream, Move, slots_moved_out, slots_moved_in}
 pub use Rattle.call_moves.specs.Moves.{host_go, WaitsBesideLive, IsSound, ReadsStream, device_calls, CallsAreMoves}
 pub use Rattle.call_moves.specs.Moves.{host_requests, DrawsApart}
-pub use Rattle.std.specs.Prelude.{if◌then◌else◌, ◌&&◌, not, map, ◌||◌}
+pub use Rattle.std.specs.Prelude.{if◌then◌else◌, ◌&&◌, not, map, ◌||◌, is_some}
+pub use Rattle.key_laws.specs.Keys.{refusal_if}
 pub use Rattle.ide_types.specs.declared.sub.SubKind.TheVariants.{Pr, Npr, Cpl}
 pub use Rattle.stream_rules.specs.Slots.{any_live}

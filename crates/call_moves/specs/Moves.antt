@@ -10,6 +10,7 @@ use Rattle.key_laws.specs.Operations.{Op, Work, Reach, work_of, last_of, makes_d
 use Rattle.link_verdicts.specs.declared.verdict.Operation.{Operation}
 use Rattle.key_laws.specs.History.{is_within, go_at}
 use Rattle.key_laws.specs.Places.{place_at}
+use Rattle.key_laws.specs.Keys.{refusal_if}
 use Rattle.key_laws.specs.Due.{PortView}
 use Rattle.tsm_host.specs.Local.{Request, programs, goes, halts}
 use Rattle.stream_rules.specs.Stream.{Live, Armed, Slots, StreamState, LiveKey, slot_in, at_sub}
@@ -39,8 +40,8 @@ pub record IsSound (x : StreamState) : Type 0 where
 -- what an operation reads of the ports is what this stream says
 abbrev pub ReadsStream : PortView → Side → ℕ → ℕ → StreamState → Type 0
 ReadsStream ports side link stream x =
-    (sends : Bool) (u : SubKind) (k : Bool) → ports.refuses (end_at link stream sends side u) k
-    ≡ refuses_in (slots_of sends u x) k
+    (sends : Bool) (u : SubKind) (k : Bool) → ports.refusal (end_at link stream sends side u) k
+    ≡ refusal_if (refuses_in (slots_of sends u x) k)
 
 -- ---- the calls of an event
 

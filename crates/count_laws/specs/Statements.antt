@@ -10,7 +10,7 @@ use Rattle.link_history.specs.History.{got_since, posted_of}
 use Rattle.key_laws.specs.History.{History, base}
 
 -- Since the last establish of a stream, the posted counts of all packets that a non-posted or completion sub-stream got
--- come to no more than the posted packets that were got in its direction.
+-- sum to no more than the posted packets that were got in its direction.
 abbrev pub CountsMet : Plan → History → Type 0
 CountsMet plan h =
     (s : SubStream) → sub_bits s.sub ≢ 0

@@ -2,20 +2,21 @@
 -- induction on the history: a packet joins the open unit, and its payload comes back since it was masked at its place
 -- in the unit's plaintext, and masking twice changes nothing. What was got, opened, is what was delivered; and what was
 -- got is finished units that begin what was sealed.
-use Rattle.sealing_laws.proofs.Terms.{◌≡◌, ◌≤◌, ℕ, suc, ◌+◌, true, false, List, [], ◌∷◌, ◌++◌, length, drop, Ok, Option}
-use Rattle.sealing_laws.proofs.Terms.{refl, ap, sym, ◌∙◌, subst, arith, append_assoc, length-append, length-drop, inl}
-use Rattle.sealing_laws.proofs.Terms.{inr, if◌then◌else◌, ◌==◌, map, filter, slice_index, and_parts, cases_Bool}
-use Rattle.sealing_laws.proofs.Terms.{eqb-true, append-nil, drop-append-le, take-append-le, take_all, flat_map-append}
-use Rattle.sealing_laws.proofs.Terms.{SubKind, PortName, Plan, SubStream, is_same, key_of, units, units_after}
-use Rattle.sealing_laws.proofs.Terms.{open_unit, History, base, is_under, ahead_in, SealedList, KeyName, with_sealed}
-use Rattle.sealing_laws.proofs.Terms.{sealed_packets, sent, sent_in, sub_stream_of, packet_of, arrived_packet}
-use Rattle.sealing_laws.proofs.Terms.{received_in, is_of, held, got, units_got, CauseLaw, NoForgery, Begins}
-use Rattle.sealing_laws.proofs.Terms.{units-append, units-end, units-more, open_unit-end, open_unit-more, accepted_by}
-use Rattle.sealing_laws.proofs.Terms.{packet_that_came, numbered, DrawFacts, same_stream, sent_in-snoc, sealing_is}
-use Rattle.sealing_laws.proofs.Terms.{StreamsFit, Send, Sealed, Accepted, SealedPacket, Tlp, header, body, read_of}
-use Rattle.sealing_laws.proofs.Terms.{read_spells_tlp, Packet, is_sync_packet, begins_sync, iv_of, encrypted, masked}
-use Rattle.sealing_laws.proofs.Terms.{open_of, length-masked, length-open_of, masked-masked, masked-append, SpellsHead}
-use Rattle.sealing_laws.proofs.Terms.{head_bytes, class_of, layout_of, not_sync, lane_is}
+use Rattle.sealing_laws.proofs.Terms.{◌≡◌, ◌≤◌, ℕ, suc, ◌+◌, true, false, List, [], ◌∷◌, ◌++◌, length, drop, Ok}
+use Rattle.sealing_laws.proofs.Terms.{Option, refl, ap, sym, ◌∙◌, subst, arith, append_assoc, length-append}
+use Rattle.sealing_laws.proofs.Terms.{length-drop, inl, inr, if◌then◌else◌, ◌==◌, map, filter, slice_index, and_parts}
+use Rattle.sealing_laws.proofs.Terms.{cases_Bool, eqb-true, append-nil, drop-append-le, take-append-le, take_all}
+use Rattle.sealing_laws.proofs.Terms.{flat_map-append, SubKind, PortName, Plan, SubStream, is_same, key_of, units}
+use Rattle.sealing_laws.proofs.Terms.{units_after, open_unit, History, base, is_under, ahead_in, SealedList, KeyName}
+use Rattle.sealing_laws.proofs.Terms.{with_sealed, sealed_packets, sent, sent_in, sub_stream_of, packet_of}
+use Rattle.sealing_laws.proofs.Terms.{arrived_packet, received_in, is_of, held, got, units_got, CauseLaw, NoForgery}
+use Rattle.sealing_laws.proofs.Terms.{Begins, units-append, units-end, units-more, open_unit-end, open_unit-more}
+use Rattle.sealing_laws.proofs.Terms.{accepted_by, packet_that_came, numbered, DrawFacts, same_stream, sent_in-snoc}
+use Rattle.sealing_laws.proofs.Terms.{sealing_is, StreamsFit, Sealed, Accepted, SealedPacket, Tlp, header, body}
+use Rattle.sealing_laws.proofs.Terms.{read_of, read_spells_tlp, Packet, is_sync_packet, begins_sync, iv_of, encrypted}
+use Rattle.sealing_laws.proofs.Terms.{masked, open_of, length-masked, length-open_of, masked-masked, masked-append}
+use Rattle.sealing_laws.proofs.Terms.{SpellsHead, head_bytes, class_of, layout_of, not_sync, lane_is, sent_bytes}
+use Rattle.sealing_laws.proofs.Terms.{sending_port}
 use Rattle.link_history.specs.Delivered.{carries, tlps_sent, tlps_got, opened, with_payloads, DeliveryLaw}
 use Rattle.delivery_laws.proofs.Received.{held_front}
 use Rattle.tlp_layout.specs.declared.head.HeadView.{HeadView}
@@ -199,16 +200,17 @@ opened_by plan port stream live from class ahead bytes t reads is_class s j (d �
     (λ later. before ++ later) (carried-cons s j bytes d ds))
 
 all_opened : (plan : Plan) → DrawFacts plan → (h : History) → CauseLaw plan h → (s : SubStream) (j : ℕ)
-    → opened_all plan s j (sent plan h s j) ≡ tlps_sent h s j
+    → opened_all plan s j (sent plan h s j) ≡ tlps_sent plan h s j
 unfolding sealed_packets sent_in units open_unit tlps_sent
 all_opened plan facts [] cause s j = refl
-all_opened plan facts ((Send port bytes more trusted, Sealed ds) ∷ h) cause s j =
-    let is = sealing_is plan h port bytes more trusted ds cause.0 in
+all_opened plan facts ((e, Sealed ds) ∷ h) cause s j =
+    let is = sealing_is plan h e ds cause.0 in
     let from = is.sending in
     opened_by plan from.port from.stream (live_at plan h from.port from.stream) (from_at plan h from.port from.stream)
-    from.class (ahead_in plan (sealed_packets plan h) (base h)) bytes is.tlp is.reads is.class s j ds
-    (sealed_packets plan h)
-    (all_of_sealing plan facts h cause.1 port bytes ds is) (tlps_sent h s j) (all_opened plan facts h cause.1 s j)
+    from.class (ahead_in plan (sealed_packets plan h) (base h)) (sent_bytes plan h e) is.tlp is.reads is.class s j
+    ds (sealed_packets plan h)
+    (all_of_sealing plan facts h cause.1 (sending_port e) (sent_bytes plan h e) ds is) (tlps_sent plan h s j)
+    (all_opened plan facts h cause.1 s j)
 all_opened plan facts (_ ∷ h) cause s j = all_opened plan facts h cause.1 s j
 
 -- ---- what was got, opened, is what was delivered

@@ -1,14 +1,13 @@
 -- What stood ahead of a packet that ends its unit, and what stands ahead of it where it arrives in order.
-use Rattle.sealing_laws.proofs.Terms.{◌≡◌, ℕ, suc, ◌+◌, ◌<◌, ◌≤◌, ◌==◌, ◌&&◌, true, false, List, [], ◌∷◌, ◌++◌, length}
-use Rattle.sealing_laws.proofs.Terms.{take, slice_get, Some, refl, ap, sym, ◌∙◌, arith, length-append, inl, inr}
-use Rattle.sealing_laws.proofs.Terms.{AllByRecursion, list_any, eqb-true, leb-true, and_parts, cases_Bool}
-use Rattle.sealing_laws.proofs.Terms.{false_from_ne_true, nat_tests, take-append-le}
-use Rattle.sealing_laws.proofs.Terms.{PortName, Send, Sealed, SealedPacket, Packet, Plan, SubStream, is_same, is_closed}
-use Rattle.sealing_laws.proofs.Terms.{lane_in, units, open_unit, History, base, On, key_in, keys_at, SealedList}
-use Rattle.sealing_laws.proofs.Terms.{sealed_packets, packet_of, sent_in, is_under, sub_stream_of, units_got, draws_got}
-use Rattle.sealing_laws.proofs.Terms.{front_of, front_sent, front_due, is_of_unit, ahead_in, CauseLaw, DrawFacts}
-use Rattle.sealing_laws.proofs.Terms.{StreamsFit, is_same-refl, units-end, sent_in-snoc, received_direction, IsOn}
-use Rattle.sealing_laws.proofs.Terms.{Prefix}
+use Rattle.sealing_laws.proofs.Terms.{◌≡◌, ℕ, suc, ◌+◌, ◌<◌, ◌≤◌, ◌==◌, ◌&&◌, true, false, List, [], ◌∷◌, ◌++◌}
+use Rattle.sealing_laws.proofs.Terms.{length, take, slice_get, Some, refl, ap, sym, ◌∙◌, arith, length-append, inl}
+use Rattle.sealing_laws.proofs.Terms.{inr, AllByRecursion, list_any, eqb-true, leb-true, and_parts, cases_Bool}
+use Rattle.sealing_laws.proofs.Terms.{false_from_ne_true, nat_tests, take-append-le, PortName, Sealed, SealedPacket}
+use Rattle.sealing_laws.proofs.Terms.{Packet, Plan, SubStream, is_same, is_closed, lane_in, units, open_unit, History}
+use Rattle.sealing_laws.proofs.Terms.{base, On, key_in, keys_at, SealedList, sealed_packets, packet_of, sent_in}
+use Rattle.sealing_laws.proofs.Terms.{is_under, sub_stream_of, units_got, draws_got, front_of, front_sent, front_due}
+use Rattle.sealing_laws.proofs.Terms.{is_of_unit, ahead_in, CauseLaw, DrawFacts, StreamsFit, is_same-refl, units-end}
+use Rattle.sealing_laws.proofs.Terms.{sent_in-snoc, received_direction, IsOn, Prefix, sent_bytes}
 use Rattle.delivery_laws.proofs.Orders.{is_drawn, below_next}
 use Rattle.sealing_laws.proofs.Places.{Placed, placed, unit_is}
 use Rattle.sealing_laws.proofs.Totals.{total-same}
@@ -54,24 +53,23 @@ pub fronted : (plan : Plan) → StreamsFit plan → DrawFacts plan → (h : Hist
     → slice_get (sealed_packets plan h) place ≡ Some x → x.0.m ≡ true → IsFronted plan h (sealed_packets plan h) place x
 unfolding sealed_packets front_sent
 fronted plan fits facts [] law place x at m = absurd cc
-fronted plan fits facts ((Send p bytes more trusted, Sealed ds) ∷ h) law place x at m =
+fronted plan fits facts ((e, Sealed ds) ∷ h) law place x at m =
     let before = λ (old : slice_get (sealed_packets plan h) place ≡ Some x). fronted plan fits facts h law.1 place x old
     m in
-    elim (old_or_new plan ahead bytes ds (sealed_packets plan h) place x at) [
+    elim (old_or_new plan ahead (sent_bytes plan h e) ds (sealed_packets plan h) place x at) [
       | inl old ↦
           let was = before old in
           let front = ap (take place) (sym grown.1) ∙ take-append-le place (sealed_packets plan h) grown.0
           (omega (arith, within old)) in
           record { bytes = was.bytes; packet = rw (none_of_unit old, front) was.packet }
       | inr new ↦ record {
-        bytes = bytes;
-        packet = rw (new.among (is_of_unit s j n) (of_unit s j n x.0 refl refl refl))
-            new.packet;
+        bytes = sent_bytes plan h e;
+        packet = rw (new.among (is_of_unit s j n) (of_unit s j n x.0 refl refl refl)) new.packet;
       }
     ]
   where
     g : History
-    g = (Send p bytes more trusted, Sealed ds) ∷ h
+    g = (e, Sealed ds) ∷ h
 
     ahead : SealedPacket → List ℕ
     ahead = ahead_in plan (sealed_packets plan h) (base h)
@@ -86,7 +84,7 @@ fronted plan fits facts ((Send p bytes more trusted, Sealed ds) ∷ h) law place
     n = x.0.unit
 
     grown : (rest : SealedList) × (sealed_packets plan h ++ rest ≡ sealed_packets plan g)
-    grown = packets_grow plan h (Send p bytes more trusted) (Sealed ds)
+    grown = packets_grow plan h e (Sealed ds)
 
     within : slice_get (sealed_packets plan h) place ≡ Some x → place < length (sealed_packets plan h)
     within old = (at_front (sealed_packets plan h) grown.0 place x old).1
@@ -96,7 +94,7 @@ fronted plan fits facts ((Send p bytes more trusted, Sealed ds) ∷ h) law place
         → list_any (is_of_unit (sub_stream_of x.0) x.0.draw x.0.unit) ds ≡ false
     none_of_unit old =
         false_from_ne_true _ (λ some.
-        let new = any_new (is_of_unit s j n) plan ahead bytes ds (sealed_packets plan h) some in
+        let new = any_new (is_of_unit s j n) plan ahead (sent_bytes plan h e) ds (sealed_packets plan h) some in
         let of = unit_parts s j n new.1.0 new.3 in
         let places = placed plan fits facts g law in
         let later = later_unit plan (sealed_packets plan g) places place new.0 x new.1 at new.2
@@ -111,7 +109,7 @@ no_front : (plan : Plan) (h : History) (s : SubStream) (j n : ℕ) → (is_close
     → front_sent plan h s j n ≡ []
 unfolding front_sent front_of
 no_front plan [] s j n off = refl
-no_front plan ((Send p bytes more trusted, Sealed ds) ∷ h) s j n off = grind (arith, no_front plan h s j n off, off)
+no_front plan ((e, Sealed ds) ∷ h) s j n off = grind (arith, no_front plan h s j n off, off)
 no_front plan (_ ∷ h) s j n off = no_front plan h s j n off
 
 due_off : (plan : Plan) (h : History) (s : SubStream) (n : ℕ) → (is_closed plan s.link s.stream && (n == 1)) ≡ false

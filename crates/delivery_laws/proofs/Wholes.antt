@@ -1,16 +1,16 @@
 -- Everything that arrived unchanged in order was taken.
-use Rattle.sealing_laws.proofs.Terms.{◌≡◌, ◌≢◌, ℕ, ◌+◌, ◌<◌, Bool, true, false, List, [], ◌∷◌, ◌++◌, length, Some, None}
-use Rattle.sealing_laws.proofs.Terms.{Option, Ok, Err, Result, take, refl, ap, sym, ◌∙◌, subst, arith, if◌then◌else◌}
-use Rattle.sealing_laws.proofs.Terms.{not, ◌||◌, map, is_some, nat_tests, flat_map-append}
-use Rattle.sealing_laws.proofs.Terms.{Plan, SubStream, has_stream, key_of, mode_of, stream_plan, open_unit, History}
+use Rattle.sealing_laws.proofs.Terms.{◌≡◌, ◌≢◌, ℕ, ◌+◌, ◌<◌, Bool, true, false, List, [], ◌∷◌, ◌++◌, length, Some}
+use Rattle.sealing_laws.proofs.Terms.{None, Option, Ok, Err, Result, take, refl, ap, sym, ◌∙◌, subst, arith}
+use Rattle.sealing_laws.proofs.Terms.{if◌then◌else◌, not, ◌||◌, is_some, nat_tests, flat_map-append, Plan}
+use Rattle.sealing_laws.proofs.Terms.{SubStream, has_stream, key_of, mode_of, stream_plan, open_unit, History}
 use Rattle.sealing_laws.proofs.Terms.{sealed_packets, sent_in, front_sent, front_due, Arrival, arrived, sent}
 use Rattle.sealing_laws.proofs.Terms.{sub_stream_of, packet_of, pending, units_got, on_draw, failed, meets_counts}
 use Rattle.sealing_laws.proofs.Terms.{received_in, keys_at, Ending, due, arrival_due, settled, before_tag, under_keys}
-use Rattle.sealing_laws.proofs.Terms.{is_mixed, is_overfull, receiving, unit_under, is_verified, effect_of, CauseLaw}
-use Rattle.sealing_laws.proofs.Terms.{WholeLaw, ArrivesInOrder, IsTaken, DrawFacts, On, key_in, StreamsFit, PortName}
-use Rattle.sealing_laws.proofs.Terms.{Event, Pass, Alter, Cut, Arrive, Verdict, Fail, Held, Accepted, SealedPacket}
-use Rattle.sealing_laws.proofs.Terms.{Prefix, Packet, packet_bytes, iv_of, authenticated, encrypted, tag_of, verifies}
-use Rattle.sealing_laws.proofs.Terms.{tag-verifies}
+use Rattle.sealing_laws.proofs.Terms.{is_mixed, is_overfull, receiving, unit_under, is_verified, CauseLaw, WholeLaw}
+use Rattle.sealing_laws.proofs.Terms.{ArrivesInOrder, IsTaken, DrawFacts, On, key_in, StreamsFit, PortName, Event}
+use Rattle.sealing_laws.proofs.Terms.{Pass, Alter, Cut, Arrive, Verdict, Fail, Held, Accepted, SealedPacket, Prefix}
+use Rattle.sealing_laws.proofs.Terms.{Packet, packet_bytes, iv_of, authenticated, encrypted, tag_of, verifies}
+use Rattle.sealing_laws.proofs.Terms.{tag-verifies, effects_of}
 use Rattle.ide_types.specs.declared.sub.FailCause.TheVariants as fail
 use Rattle.sealing_laws.proofs.Below.{is_cut}
 use Rattle.delivery_laws.proofs.Orders.{is_drawn}
@@ -60,8 +60,7 @@ accepted_is : (plan : Plan) (h : History) (port : PortName) (p : Packet) (s : Su
     (encrypted (pending plan h s j ++ p ∷ []))
     → meets_counts plan h s (pending plan h s j ++ p ∷ []) ≡ true
     → settled plan h port (Ok (record { packet = p; unit = unit_under h s j }))
-    ≡ Accepted port (unit_under h s j)
-    (map (effect_of plan h port (unit_under h s j)) (pending plan h s j ++ p ∷ []))
+    ≡ Accepted port (unit_under h s j) (effects_of plan h port (unit_under h s j) (pending plan h s j ++ p ∷ []))
 unfolding is_verified
 accepted_is plan h port p s j there tag counts =
     let verified = tag-verifies (key_of plan j s) (iv_of s.sub (units_got h s j + 1))
@@ -76,8 +75,7 @@ accepted_is plan h port p s j there tag counts =
         (encrypted (pending plan h t j ++ p ∷ [])) p.tag)
         then Fail port s.stream s.sub fail.Tag
         else if not (meets_counts plan h t (pending plan h t j ++ p ∷ [])) then Fail port s.stream s.sub fail.Order
-        else Accepted port (unit_under h s j)
-        (map (effect_of plan h port (unit_under h s j)) (pending plan h t j ++ p ∷ []))
+        else Accepted port (unit_under h s j) (effects_of plan h port (unit_under h s j) (pending plan h t j ++ p ∷ []))
 
 -- ---- the law
 

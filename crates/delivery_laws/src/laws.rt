@@ -3,30 +3,35 @@
 ghost use Rattle.delivery_laws.specs.Statements.{DeliveryLawHolds, DrawsNeverFallHolds, OrderIsNoForgeryHolds};
 ghost use Rattle.delivery_laws.specs.Statements.{PrefixLawHolds, WholeLawHolds};
 
-/// Provided no tag verified on a unit its partner had not sealed with that front, each sub-stream got, key by key, a
-/// prefix of what was sealed, the draws of its accepted units never fall, and on a closed stream nothing of a newer
-/// key was accepted before all of the older ones.
+/// In every history in which each verdict is the one that is due and the totals fit in 8 bytes: provided no tag
+/// verified on a unit that its partner had not sealed with that front, each sub-stream got, key by key, a prefix of
+/// what was sealed, the draws of its accepted units never fall, and on a closed stream nothing of a newer key was
+/// accepted before all of the older ones.
 pub fn prefix_law()
     ensures { PrefixLawHolds }
 {}
 
-/// Provided no tag verified on a unit its partner had not sealed with that front, each sub-stream delivered, key by
-/// key, a prefix of the TLPs that were sent in it.
+/// In every history in which each verdict is the one that is due: provided no tag verified on a unit that its partner
+/// had not sealed with that front, each sub-stream delivered, key by key, a prefix of the TLPs that were sent in it.
 pub fn delivery_law()
     ensures { DeliveryLawHolds }
 {}
 
-/// Everything that arrived unchanged in order was taken.
+/// In every history in which each verdict is the one that is due, each packet that arrives unchanged and in order is
+/// taken, held or accepted, if its key is Live, nothing of another draw is held, the stream has not failed and the
+/// posted counts are met.
 pub fn whole_law()
     ensures { WholeLawHolds }
 {}
 
-/// What arrives unchanged and in order is never a forgery.
+/// In every history in which each verdict is the one that is due, what arrives unchanged and in order is never a
+/// forgery.
 pub fn order_is_no_forgery()
     ensures { OrderIsNoForgeryHolds }
 {}
 
-/// The draws of successive accepted units of a sub-stream never fall.
+/// In every history in which each verdict is the one that is due, the draws of successive accepted units of a
+/// sub-stream never fall.
 pub fn draws_never_fall()
     ensures { DrawsNeverFallHolds }
 {}

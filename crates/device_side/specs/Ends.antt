@@ -50,7 +50,7 @@ with_port e port = settled_device (record e { port = port })
 
 -- ---- keys
 
--- the call of the port that a request comes to
+-- the call of the port that a request makes
 abbrev pub call_asked : DeviceEnd → List ℕ → ℕ → Option PortCall
 call_asked e request draw = call_of (shown e.port) request draw
 

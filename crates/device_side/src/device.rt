@@ -29,7 +29,7 @@ pub const REPLY_ROOM: usize = TDISP_REPLY_ROOM;
 pub struct Device {
     /// The port, whose keys are moved by `answer` alone.
     pub port: Port,
-    /// The requester ID that the responder names when it is asked what it is.
+    /// The requester ID that the responder gives in its answer to QUERY.
     pub requester: u16,
     /// The interfaces, by their place on the link.
     pub interfaces: DeviceInterfaces,
@@ -71,8 +71,8 @@ impl Device {
     };
 
     /// The device of a link with these streams, without keys, and these interfaces, whose locks get these nonces; a key
-    /// seals at most `limit` units. `requester` is the requester ID that it names when it is asked what it is, 0 where
-    /// it has no interface.
+    /// seals at most `limit` units. `requester` is the requester ID that it gives in its answer to QUERY, 0 if it has
+    /// no interface.
     pub fn make(
         alloc: Global,
         link: u8,
@@ -99,14 +99,14 @@ impl Device {
         })
     }
 
-    /// How many TLPs its port was to send, and arrivals it had.
+    /// How many TLPs its port was asked to send, and how many arrivals it had, together.
     pub fn calls(&self) -> u64
         ensures { result ≡ self.now.port.calls }
     {
         self.port.calls()
     }
 
-    /// Interfaces in CONFIG_LOCKED and RUN whose stream is not Secure at the port go to ERROR.
+    /// Sends each interface in CONFIG_LOCKED or RUN to ERROR if its stream is not Secure at the port.
     pub fn settle(&mut self)
         ensures { self.new ≡ settled_device self.old }
     {
@@ -116,8 +116,8 @@ impl Device {
 
     /// Answers a message of the host, of key management or to an interface, which its first byte tells: makes at most
     /// one call of its port or of one interface, and appends the reply, or nothing. `draw` is the number under which a
-    /// KEY_PROG's key is kept. Interfaces in CONFIG_LOCKED and RUN go to ERROR where their stream is not Secure behind
-    /// it. `reply` has room for `REPLY_ROOM` bytes.
+    /// KEY_PROG's key is kept. After it, each interface in CONFIG_LOCKED or RUN goes to ERROR if its stream is not
+    /// Secure. `reply` has room for `REPLY_ROOM` bytes.
     pub fn answer(&mut self, request: &[u8], draw: u32, reply: &mut Vec<u8>)
         requires { vec_len reply.old + REPLY_ROOM ≤ vec_capacity reply.old }
         ensures device { self.new ≡ device_asked self.old request.now draw }
@@ -132,8 +132,8 @@ impl Device {
         }
     }
 
-    /// Answers a message of key management, one of several that come to a device at one event, behind the last of which
-    /// it settles (`settle`). `reply` has 8 bytes of room.
+    /// Answers a message of key management, one of several that reach the device at one event; after the last of them
+    /// the caller calls `settle`. `reply` has 8 bytes of room.
     pub fn answer_of_keys(&mut self, request: &[u8], draw: u32, reply: &mut Vec<u8>)
         requires { vec_len reply.old + 8 ≤ vec_capacity reply.old }
         ensures device { self.new ≡ asked_device self.old request.now draw }
@@ -162,8 +162,8 @@ impl Device {
         is_secure_at(&self.port, stream)
     }
 
-    /// Sends a TLP's bytes, as its port does; T is set where the TLP's owner is an interface in RUN, on the stream that
-    /// the interface is bound to.
+    /// Sends a TLP's bytes, as its port does; T is set if the TLP's owner is an interface in RUN and the TLP takes the
+    /// stream that the interface is bound to.
     pub fn send(&mut self, tlp: &[u8], more: bool) -> Sent
         requires { self.old.port.calls < 2 ^ 40 }
         ensures sent { (number : ℕ) → IsSent self.old.port tlp.now (device_trusting self.old.interfaces) more number
@@ -184,8 +184,8 @@ impl Device {
         self.port.packets()
     }
 
-    /// Takes bytes that arrive. What an accepted unit carries is lent until the next arrival or answer. Interfaces in
-    /// CONFIG_LOCKED and RUN go to ERROR where their stream is not Secure behind it.
+    /// Takes bytes that arrive. What an accepted unit carries is lent until the next arrival or answer. After it, each
+    /// interface in CONFIG_LOCKED or RUN goes to ERROR if its stream is not Secure.
     pub fn take(&mut self, bytes: &[u8]) -> Arrival
         requires { self.old.port.calls < 2 ^ 40 }
         ensures answer { result ≡ (take_step self.old.port bytes.now).answer }
@@ -221,15 +221,15 @@ impl Device {
         self.port.mark(i)
     }
 
-    /// The status of a stream; `None` where the link has no such stream.
+    /// The status of a stream; `None` if the link has no such stream.
     pub fn status(&self, stream: u8) -> Option<StreamStatus>
         ensures { result ≡ status_in self.now.port stream }
     {
         self.port.status(stream)
     }
 
-    /// A reset of the link: drops all keys, open units, held packets, counts and failures of the port; each interface
-    /// is in CONFIG_UNLOCKED, with the topology's registers. Nonces that were given stay so.
+    /// Resets its end of the link: drops all keys, open units, held packets, counts and failures of the port; each
+    /// interface is in CONFIG_UNLOCKED, with the topology's registers. No nonce that was given is given again.
     pub fn reset(&mut self)
         ensures { self.new ≡ reset_device self.old }
     {
@@ -255,7 +255,8 @@ impl Device {
     /// Whether the interface at this place has this register.
     pub fn has_register(&self, place: usize, register: Register) -> bool
         requires { place < length self.now.interfaces.interfaces }
-        ensures { IfSome (slice_get self.now.interfaces.interfaces place) (λ tdi. result ≡ has_register tdi.plan register) }
+        ensures { IfSome (slice_get self.now.interfaces.interfaces place)
+            (λ tdi. result ≡ has_register tdi.plan register) }
     {
         self.interfaces.has_register(place, register)
     }
@@ -273,7 +274,7 @@ impl Device {
         self.interfaces.write_register(place, register, value)
     }
 
-    /// A function level reset of the interface at this place.
+    /// Makes a function level reset of the interface at this place.
     pub fn flr(&mut self, place: usize)
         requires { place < length self.old.interfaces.interfaces }
         ensures { IfSome (slice_get self.old.interfaces.interfaces place) (λ tdi. self.new ≡ record self.old {
@@ -283,7 +284,7 @@ impl Device {
         self.interfaces.flr(place)
     }
 
-    /// A firmware update, as it concerns the interface at this place.
+    /// Makes a firmware update at the interface at this place.
     pub fn firmware(&mut self, place: usize)
         requires { place < length self.old.interfaces.interfaces }
         ensures { IfSome (slice_get self.old.interfaces.interfaces place) (λ tdi. self.new ≡ record self.old {

@@ -21,7 +21,7 @@ pub fn tlp_word(fault: TlpFault) -> FaultWord
     }
 }
 
-/// The word of a packet's fault, which is the TLP's where its header is at fault (this profile).
+/// The word of a packet's fault, which is the TLP's if its header is at fault (this profile).
 pub fn packet_word(fault: PacketFault) -> FaultWord
     ensures { result ≡ packet_word_of fault }
 {

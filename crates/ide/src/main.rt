@@ -8,7 +8,7 @@ use std::io::ErrorKind;
 use std::process::ExitCode;
 use std::{env, io};
 
-// The words of the command line. Where one of them is no text, there are none, and no words ask for nothing
+// The words of the command line. If one of them is not UTF-8 there are none, and no words ask for nothing
 // (`ide_words::no_words_are_refused`).
 fn words(rt: &HostRuntime, alloc: Global) -> Result<Vec<String>, Status> {
     match env::args(rt) {

@@ -18,7 +18,7 @@ held_under files name = option_map (λ f. f.bytes.items) (find (λ f. bytes_eq (
 abbrev pub fails_now : Calls → Bool
 fails_now c = list_any (λ n. nat_eq n c.made) c.failing.items
 
--- after one more call, which is counted as a fault where it fails
+-- after one more call, which is counted as a fault if it fails
 abbrev pub called : Calls → Calls
 called c = record c { made = counted c.made 1; faults = if fails_now c then counted c.faults 1 else c.faults }
 

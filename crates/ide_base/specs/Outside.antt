@@ -5,7 +5,7 @@ use Rattle.ide_base.specs.declared.shelf.ShelfFault.{ShelfFault}
 use Rattle.ide_base.specs.declared.sink.SinkFault.{SinkFault}
 use Rattle.ide_base.specs.declared.sink.SinkFault.TheVariants.{Failed, Memory}
 
--- the bytes of each name, where there is a file of that name
+-- the bytes of each name, if there is a file of that name
 abbrev pub Contents : Type 0
 Contents = List ℕ → Option (List ℕ)
 
@@ -37,7 +37,7 @@ Rose before now = counted before 1 ≤ now
 
 -- ---- what a read gives
 
--- n bytes of the file from place at on stand at the front of the buffer; none only at the end
+-- n bytes of the file from place at on are the first of the buffer; none only at the end
 pub record ReadAt (file : List ℕ) (at n : ℕ) (buf : List ℕ) : Type 0 where
   pub front : take n buf ≡ take n (drop at file)
   pub within : n ≤ length (drop at file)
@@ -49,7 +49,7 @@ ReadOf None at (Ok n) buf = ⊥
 ReadOf (Some file) at (Ok n) buf = ReadAt file at n buf
 ReadOf file at (Err e) buf = Unit {0}
 
--- where the contents are told, what is read is what they have there
+-- if the contents are told, what is read is what they have there
 abbrev pub ReadFrom : Option Contents → List ℕ → ℕ → Result ℕ ShelfFault → List ℕ → Type 0
 ReadFrom None name at result buf = Unit {0}
 ReadFrom (Some contents) name at result buf = ReadOf (contents name) at result buf
@@ -76,11 +76,11 @@ ShelfCause before now told name (Err e) = (before ≤ now) × (Rose before now �
 
 -- ---- what a sink takes
 
--- some of the piece is taken, where it has any
+-- some of the piece is taken, if it has any
 abbrev pub TakesSome : List ℕ → Result ℕ SinkFault → Type 0
 TakesSome piece result = IfOk result (λ n. (n ≤ length piece) × (0 < length piece → 0 < n))
 
--- the first bytes of the piece are held behind the others, and after an error the same as before
+-- the first bytes of the piece are held after the others, and after an error the same as before
 abbrev pub PutInto : Option (List ℕ) → Option (List ℕ) → List ℕ → Result ℕ SinkFault → Type 0
 PutInto before now piece (Ok n) = now ≡ option_map (λ held. held ++ take n piece) before
 PutInto before now piece (Err e) = now ≡ before

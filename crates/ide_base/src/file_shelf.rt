@@ -17,8 +17,8 @@ pub(crate) struct OpenFile<F> {
     pub(crate) place: Option<u64>,
 }
 
-/// Files of the system by path. It tells no contents, and counts each read that fails. The file that was read
-/// last stays open, and is sought only where a read does not go on from where the last one ended: so a pipe can be
+/// Files of the system by path. It tells no contents, and counts each read that fails. The file that was read last
+/// stays open, and is sought only if a read does not go on from the place where the last one ended: so a pipe can be
 /// read from its beginning to its end.
 #[derive(Drop)]
 pub struct FileShelf<R: Files> {

@@ -12,9 +12,9 @@ pub trait Shelf {
     /// for at most; and up to the last value of 64 bits how many bytes the shelf gave, and how many reads failed.
     ghost seen: { Self → ShelfSeen };
 
-    /// Reads bytes of the file of this name from place `at` on into the front of `buf`, and answers how
-    /// many. None into a buffer with room is the end of the file. `ShelfFault` comes only where the
-    /// count of faults rose, or stands at its last value, or the contents are told and lack the name.
+    /// Reads bytes of the file of this name from place `at` (in bytes, from 0) on into the first bytes of `buf`, and
+    /// answers how many. If `buf` is not empty, 0 means the end of the file. Returns `ShelfFault` only if the count of
+    /// faults rose, or stands at its last value, or the contents are told and lack the name.
     fn read(&mut self, name: &str, at: u64, buf: &mut [u8]) -> Result<usize, ShelfFault>
         ensures same { (seen self.new).contents ≡ (seen self.old).contents }
         ensures bound { IfOk result (λ n. n ≤ length buf.new) }

@@ -14,9 +14,9 @@ pub trait Sink {
     /// 64 bits.
     ghost seen: { Self → SinkSeen };
 
-    /// Takes the first bytes of a piece, at least one where it has any, and answers how many. After an
-    /// error the sink holds what it held. `Failed` comes only where the count of faults rose, or stands
-    /// at its last value; `Memory` is want of memory, and counts nothing.
+    /// Takes the first bytes of a piece, at least one if it has any, and answers how many. After an error the sink
+    /// holds what it held. Returns `Failed` only if the count of faults rose, or stands at its last value; `Memory` is
+    /// want of memory, and is not counted.
     fn put(&mut self, bytes: &[u8]) -> Result<usize, SinkFault>
         ensures some { TakesSome bytes.now result }
         ensures bytes { PutInto (seen self.old).held (seen self.new).held bytes.now result }

@@ -50,7 +50,7 @@ fn sinks_in_memory(rt: HostRuntime) -> Result<(), Fail> {
     Ok(())
 }
 
-// The file that was read last can still be read where its name is gone, and no other.
+// The file that was read last can still be read after its name is gone, and no other.
 #[test]
 fn files_of_the_system(rt: HostRuntime) -> Result<(), Fail> {
     let mut buf = [0u8; 4];

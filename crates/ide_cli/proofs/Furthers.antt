@@ -5,7 +5,7 @@ use Rattle.std.proofs.Common.{◌≡◌, ◌≤◌, ◌+◌, ◌-◌, ℕ, lengt
 use Rattle.std.proofs.Common.{arith}
 use Rattle.std.specs.Prelude.{IfOk}
 use Rattle.ide_base.specs.Outside.{Contents, ShelfSeen}
-use Rattle.ide_words.specs.Words.{Asked}
+use Rattle.ide_words.specs.Words.{Asked, generate}
 use Rattle.ide_plan.specs.declared.plan.Plan.{Plan}
 use Rattle.line_runs.specs.declared.ends.End.{End}
 use Rattle.line_runs.specs.declared.ends.Fault.{Fault}
@@ -119,5 +119,19 @@ nothing_read a s r is = subst (λ (o : Option Asked). IfOk r (λ e. ReadAsFar (A
     by_told (Some contents) = (0, (omega arith, omega arith), refl)
 
     none : (r : Result End Fault) → IfOk r (λ e. ReadAsFar (AskedNoFurther None) s s)
+    none (Ok e) = by_told s.contents
+    none (Err e) = tt
+
+-- nor is anything read of generated events
+pub none_is_read : (a : Option Asked) (seed count : ℕ) (s : ShelfSeen) (r : Result End Fault)
+    → a ≡ Some (generate seed count) → IfOk r (λ e. ReadAsFar (AskedNoFurther a) s s)
+none_is_read a seed count s r is = subst (λ (o : Option Asked). IfOk r (λ e. ReadAsFar (AskedNoFurther o) s s))
+    (sym is) (none r)
+  where
+    by_told : (told : Option Contents) → ReadAsFarOf (AskedNoFurther (Some (generate seed count))) told s s
+    by_told None = tt
+    by_told (Some contents) = (0, (omega arith, omega arith), refl)
+
+    none : (r : Result End Fault) → IfOk r (λ e. ReadAsFar (AskedNoFurther (Some (generate seed count))) s s)
     none (Ok e) = by_told s.contents
     none (Err e) = tt

@@ -17,7 +17,7 @@ use Rattle.key_laws.specs.History.{History}
 use Rattle.link_history.specs.Due.{due}
 use Rattle.link_texts.specs.Runs.{history_with, history_on, text_on, totals_of, sealed_in, accepted_in, failed_in}
 use Rattle.link_texts.specs.Runs.{blocked_in}
-use Rattle.world.specs.Worlds.{WorldView, Stands, IsNew, IsStep}
+use Rattle.world_states.specs.Worlds.{WorldView, Stands, IsNew, IsStep}
 use Rattle.line_runs.specs.Gain.{Text}
 use Rattle.line_runs.specs.Outcome.{Due}
 use Rattle.text_lines.specs.Pieces.{pieces}
@@ -27,8 +27,8 @@ use Rattle.ide_cli.specs.Script.{script_due}
 use Rattle.line_runs.specs.Gathering.{GoesOn, ended_text}
 use Rattle.ide_cli.specs.Reads.{ScriptGoesOn}
 use Rattle.ide_cli.specs.SoFar.{script_so_far}
-use Rattle.ide_cli.specs.Works.{Running, ScriptPast, Follows, EventCame, totals_with, ran_event, by_meaning, ran_line}
-use Rattle.ide_cli.specs.Works.{closing_line}
+use Rattle.ide_cli.specs.Works.{RunningView, ScriptPast, Follows, EventCame, VerdictCame, totals_with, ran_event}
+use Rattle.ide_cli.specs.Works.{by_meaning, closing_line, ran_line}
 
 -- ---- the world follows the past
 
@@ -52,19 +52,19 @@ totals_more t h e v is =
     ∙ same_totals _ _ _ _ _ _ _ _ (one_more (λ x. sealed_in x.1) (e, v) h) (one_more (λ x. accepted_in x.1) (e, v) h)
     (one_more (λ x. failed_in x.1) (e, v) h) (one_more (λ x. blocked_in x.1) (e, v) h)
 
-running : WorldView → Totals → Running
+running : WorldView → Totals → RunningView
 running world totals = record { world = world; totals = totals }
 
--- a step that comes to the due verdict, and the line of that verdict
-event_due : (past : ScriptPast) (t : Totals) (e : Event) (old new : WorldView) (v : Verdict) (text : Text)
+-- a step that comes to the due verdict
+event_due : (past : ScriptPast) (t : Totals) (e : Event) (old new : WorldView) (v : Verdict)
     → Follows (running old t) past → IsStep old e v new → v ≡ due past.plan past.history e
-    → text ≡ line_of new.steps v → EventCame (ran_event past e) (running new (totals_with t v)) text
+    → VerdictCame past e (running new (totals_with t v)) v
 unfolding running
-event_due past t e old new v text follows step is line =
+event_due past t e old new v follows step is =
     let h = past.history in
     let steps : new.steps ≡ length h + 1 = omega (arith, step.steps_are, follows.steps_are) in
     record {
-      text_is = line ∙ ap (λ (n : ℕ). line_of n v) steps ∙ ap (line_of (length h + 1)) is;
+      verdict_is = is;
       follows = record {
         plan_is = step.plan_is ∙ follows.plan_is;
         stands = subst (λ (w : Verdict). Stands new ((e, w) ∷ h)) is (step.stood h follows.stands).stands;
@@ -73,15 +73,24 @@ event_due past t e old new v text follows step is line =
       };
     }
 
-pub event_comes : (past : ScriptPast) (t now : Totals) (e : Event) (old new : WorldView) (v : Verdict) (n : ℕ)
-    (text : Text) → Follows (record { world = old; totals = t }) past → IsStep old e v new → now ≡ totals_with t v
-    → n ≡ new.steps → text ≡ line_of n v
-    → EventCame (ran_event past e) (record { world = new; totals = now }) text
+pub verdict_comes : (past : ScriptPast) (t now : Totals) (e : Event) (old new : WorldView) (v : Verdict)
+    → Follows (record { world = old; totals = t }) past → IsStep old e v new → now ≡ totals_with t v
+    → VerdictCame past e (record { world = new; totals = now }) v
 unfolding running
-event_comes past t now e old new v n text follows step more same line =
+verdict_comes past t now e old new v follows step more =
     let due_is = (step.stood past.history follows.stands).due_is in
-    rw more (event_due past t e old new v text follows step
-    (due_is ∙ ap (λ (p : Plan). due p past.history e) follows.plan_is) (line ∙ ap (λ (m : ℕ). line_of m v) same))
+    rw more (event_due past t e old new v follows step
+    (due_is ∙ ap (λ (p : Plan). due p past.history e) follows.plan_is))
+
+-- the line of that verdict
+pub event_comes : (past : ScriptPast) (e : Event) (r : RunningView) (v : Verdict) (n : ℕ) (text : Text)
+    → VerdictCame past e r v → n ≡ r.world.steps → text ≡ line_of n v → EventCame (ran_event past e) r text
+event_comes past e r v n text came same line =
+    let number : n ≡ length past.history + 1 = omega (arith, same, came.follows.steps_are) in
+    record {
+      text_is = line ∙ ap (λ (m : ℕ). line_of m v) number ∙ ap (line_of (length past.history + 1)) came.verdict_is;
+      follows = came.follows;
+    }
 
 -- the first world follows no events
 pub follows_nothing : (plan : Plan) (world : WorldView) → IsNew plan world

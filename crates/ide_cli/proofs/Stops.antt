@@ -2,7 +2,7 @@
 use Rattle.std.proofs.Common.{◌≡◌, [], Option, Some, None, Result, refl, sym, subst, arith}
 use Rattle.std.specs.Prelude.{IfErr}
 use Rattle.ide_base.specs.Outside.{Contents, ShelfSeen, SinkSeen}
-use Rattle.ide_words.specs.Words.{Asked, run, check, show}
+use Rattle.ide_words.specs.Words.{Asked, run, check, migrate, show, generate}
 use Rattle.line_runs.specs.declared.ends.End.{End}
 use Rattle.line_runs.specs.declared.ends.Fault.{Fault}
 use Rattle.ide_cli.specs.SoFar.{WroteBy, asked_so_far, lines_given}
@@ -20,4 +20,6 @@ pub none_at_first : (a : Option Asked) (contents : Contents) → (asked_so_far a
 none_at_first None contents = (refl, refl)
 none_at_first (Some (run topology script)) contents = none_so_far (contents topology) (contents script) 0 (omega arith)
 none_at_first (Some (check topology)) contents = (refl, refl)
+none_at_first (Some (migrate topology)) contents = (refl, refl)
 none_at_first (Some (show packets)) contents = (refl, refl)
+none_at_first (Some (generate seed count)) contents = (refl, refl)

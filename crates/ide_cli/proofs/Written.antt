@@ -1,26 +1,33 @@
--- Each verdict of a history that is written is the one that is due.
+-- Each verdict of a history that is written, or of generated events, is the one that is due.
 use Rattle.std.proofs.Common.{◌≡◌, ◌≤◌, List, [], ◌++◌, length, length-append, Option, Some, Result, Ok, Err}
-use Rattle.std.proofs.Common.{option_map, refl, sym, ap, subst, ◌∙◌, arith, append_assoc}
+use Rattle.std.proofs.Common.{option_map, refl, sym, ap, subst, ◌∙◌, ◌⊎◌, ℕ, ◌+◌, ◌∷◌, inl, inr, arith, append_assoc}
 use Rattle.std.specs.Prelude.{IfOk}
 use Rattle.std.proofs.lemmas.List.{append-nil, append_cancel_left}
 use Rattle.ide_base.specs.Outside.{Contents, ShelfSeen, SinkSeen}
 use Rattle.ide_plan.specs.declared.plan.Plan.{Plan}
 use Rattle.ide_plan.specs.Fits.{FitsPlan}
+use Rattle.ide_words.specs.Words.{asked}
+use Rattle.ide_words.proofs.Rounds.{few_rounds}
+use Rattle.generated_events.specs.Events.{generated}
+use Rattle.generated_events.specs.Topology.{the_plan}
+use Rattle.generated_events.proofs.Allowed.{few_events}
+use Rattle.generated_events.proofs.PlanFits.{the_plan_fits}
 use Rattle.link_events.specs.declared.event.Event.{Event}
 use Rattle.key_laws.specs.History.{History}
 use Rattle.link_history.specs.Cause.{CauseLaw}
-use Rattle.link_texts.specs.Runs.{history_on, text_on}
+use Rattle.link_texts.specs.Runs.{history_on, history_with, text_on}
 use Rattle.link_texts.specs.Telling.{events_told, lines_told, AreAllowed}
 use Rattle.text_laws.specs.Statements.{LinesTell, AreTold}
 use Rattle.text_laws.proofs.Reading.{length-events}
 use Rattle.line_runs.specs.Gain.{Text, IsFront, Gained}
-use Rattle.line_runs.specs.Outcome.{Due, EndsBy, EndsDue, EndsOn, RanOn, SomeFront}
+use Rattle.line_runs.specs.Outcome.{Due, EndsBy, EndsDue, EndsOn, SomeFront}
 use Rattle.line_runs.specs.declared.ends.End.{End}
 use Rattle.line_runs.specs.declared.ends.Fault.{Fault}
 use Rattle.line_runs.specs.declared.ends.Fault.TheVariants as fault
 use Rattle.ide_cli.specs.Script.{Script, last_line, due_after}
-use Rattle.ide_cli.specs.Meaning.{due_of}
-use Rattle.ide_cli.specs.Headline.{AsksFor, AllWritten, Written}
+use Rattle.ide_cli.specs.Generated.{WentOver, generated_history, generated_line}
+use Rattle.ide_cli.specs.Meaning.{Answered, RanGenerated, asked_due}
+use Rattle.ide_cli.specs.Headline.{AllCounted, AllWritten, AsksFor, Written}
 use Rattle.ide_cli.proofs.Events.{events_allowed}
 use Rattle.ide_cli.proofs.Plans.{loaded_fits}
 
@@ -59,18 +66,20 @@ gained_front due read write quiet before now held gained (Err fault.Memory) one 
 
 -- ---- the run that the words ask for
 
-due_is : (told : Option Contents) (words : List Text) (plan : Plan) (script : Script)
-    (a : AsksFor told words plan script) → due_of words a.contents ≡ Some (due_after plan [] script)
-due_is told words plan script a = rw (a.asks, a.topology_is, a.plan_is, a.script_is, a.read) refl
+due_is : (migrated : Text) (told : Option Contents) (words : List Text) (plan : Plan) (script : Script)
+    (a : AsksFor told words plan script) → asked_due migrated (asked words) a.contents ≡ Some (due_after plan [] script)
+due_is migrated told words plan script a = rw (a.asks, a.topology_is, a.plan_is, a.script_is, a.read) refl
 
-ran_script : (told : Option Contents) (words : List Text) (read write quiet : Type 0) (gained : Text → Type 0)
-    (r : Result End Fault) → EndsOn told (due_of words) read write quiet gained r
-    → (plan : Plan) (script : Script) → AsksFor told words plan script
+ran_script : (migrated : Text) (told : Option Contents) (words : List Text) (read write quiet : Type 0)
+    (gained : Text → Type 0) (r : Result End Fault)
+    → EndsOn told (asked_due migrated (asked words)) read write quiet gained r → (plan : Plan) (script : Script)
+    → AsksFor told words plan script
     → EndsBy (due_after plan [] script) read write quiet gained r
-ran_script told words read write quiet gained r ran plan script a =
-    let ran_there : EndsDue (due_of words a.contents) read write quiet gained r = subst
-    (λ (t : Option Contents). EndsOn t (due_of words) read write quiet gained r) a.are_told ran in
-    subst (λ (d : Option Due). EndsDue d read write quiet gained r) (due_is told words plan script a) ran_there
+ran_script migrated told words read write quiet gained r ran plan script a =
+    let due = asked_due migrated (asked words) in
+    let ran_there : EndsDue (due a.contents) read write quiet gained r = subst
+    (λ (t : Option Contents). EndsOn t due read write quiet gained r) a.are_told ran in
+    subst (λ (d : Option Due). EndsDue d read write quiet gained r) (due_is migrated told words plan script a) ran_there
 
 plan_fits : (told : Option Contents) (words : List Text) (plan : Plan) (script : Script)
     → AsksFor told words plan script → FitsPlan plan
@@ -94,17 +103,18 @@ few_written : (h : History) (later : List Event) (script : Script) → events_to
 few_written h later script same allowed = omega
     (arith, length-events h, length-append (events_told h) later, ap length same, allowed.few)
 
-pub written_is_due : LinesTell → (words : List Text) (shelf shelf_now : ShelfSeen) (sink sink_now : SinkSeen)
-    (r : Result End Fault) → RanOn (due_of words) shelf shelf_now sink sink_now r
+written_is_due : LinesTell → (words : List Text) (shelf shelf_now : ShelfSeen) (sink sink_now : SinkSeen)
+    (r : Result End Fault) → Answered words shelf shelf_now sink sink_now r
     → (plan : Plan) (h : History) → Written shelf words sink sink_now plan h → IsDue plan h
-written_is_due tell words shelf shelf_now sink sink_now r ran plan h w =
+written_is_due tell words shelf shelf_now sink sink_now r answered plan h w =
     let script = w.script in
     let due = due_after plan [] script in
     let last = last_line script.stop (history_on plan [] script.events) in
     let allowed = script_allowed shelf.contents words plan script w.asks_for in
     let fits = plan_fits shelf.contents words plan script w.asks_for in
     let gained = gained_front due _ _ _ sink.held sink_now.held w.held w.gained r w.held_before w.holds_now
-    (ran_script shelf.contents words _ _ _ (Gained sink.held sink_now.held) r ran plan script w.asks_for) in
+    (ran_script answered.migrated shelf.contents words _ _ _ (Gained sink.held sink_now.held) r answered.ran plan script
+    w.asks_for) in
     let front = front_of_front (lines_told h) w.gained due.1 w.lines gained in
     let text : lines_told h ++ front.0 ≡ text_on plan [] (events_told h ++ w.later)
     ++ last = front.1 ∙ ap (λ (es : List Event). text_on plan [] es ++ last) (sym w.events_are) in
@@ -114,16 +124,57 @@ written_is_due tell words shelf shelf_now sink sink_now r ran plan h w =
       few = few_written h w.later script w.events_are allowed;
     }
 
+-- ---- generated events
+
+-- the history of events has a verdict for each, the one that is due
+caused : (plan : Plan) (h : History) (events : List Event) → CauseLaw plan h → CauseLaw plan (history_on plan h events)
+caused plan h [] cause = cause
+caused plan h (e ∷ events) cause = caused plan (history_with plan h e) events (refl, cause)
+
+so_many : (plan : Plan) (h : History) (events : List Event) → length (history_on plan h events)
+    ≡ length h + length events
+so_many plan h [] = omega arith
+so_many plan h (e ∷ events) = omega (arith, so_many plan (history_with plan h e) events)
+
+few_generated : (seed count : ℕ) → count ≤ 100000 → length (generated_history seed count) ≤ 4294967296
+few_generated seed count few = omega (arith, so_many the_plan [] (generated seed count), few_events seed count, few)
+
+generated_is_due : (seed count : ℕ) → count ≤ 100000 → IsDue the_plan (generated_history seed count)
+generated_is_due seed count few = record {
+  fits = the_plan_fits;
+  cause = caused the_plan [] (generated seed count) tt;
+  few = few_generated seed count few;
+}
+
+went_is_due : (words : List Text) (sink sink_now : SinkSeen) (plan : Plan) (h : History)
+    → WentOver words sink sink_now plan h → IsDue plan h
+went_is_due words sink sink_now plan h w =
+    let is = generated_is_due w.seed w.count (few_rounds words w.seed w.count w.asks).1 in
+    subst (λ (p : Plan). IsDue p h) (sym w.plan_is) (subst (IsDue the_plan) (sym w.history_is) is)
+
+-- ---- either
+
+pub history_is_due : LinesTell → (words : List Text) (shelf shelf_now : ShelfSeen) (sink sink_now : SinkSeen)
+    (r : Result End Fault) → Answered words shelf shelf_now sink sink_now r
+    → (plan : Plan) (h : History) → Written shelf words sink sink_now plan h ⊎ WentOver words sink sink_now plan h
+    → IsDue plan h
+history_is_due tell words shelf shelf_now sink sink_now r answered plan h (inl w) = written_is_due tell words shelf
+    shelf_now sink sink_now r answered plan h w
+history_is_due tell words shelf shelf_now sink sink_now r answered plan h (inr w) = went_is_due words sink sink_now plan
+    h w
+
+-- ---- a run that comes to an end of its own
+
 pub all_written : AreTold → (words : List Text) (shelf shelf_now : ShelfSeen) (sink sink_now : SinkSeen)
-    (r : Result End Fault) → RanOn (due_of words) shelf shelf_now sink sink_now r
+    (r : Result End Fault) → Answered words shelf shelf_now sink sink_now r
     → IfOk r (λ e. AllWritten shelf words sink sink_now)
-all_written are_told words shelf shelf_now sink sink_now (Err f) ran = tt
-all_written are_told words shelf shelf_now sink sink_now (Ok e) ran = λ plan script held asks held_before.
+all_written are_told words shelf shelf_now sink sink_now (Err f) answered = tt
+all_written are_told words shelf shelf_now sink sink_now (Ok e) answered = λ plan script held asks held_before.
     let is = are_told plan (plan_fits shelf.contents words plan script asks) script.events
     (script_allowed shelf.contents words plan script asks) in
     let due = due_after plan [] script in
-    let whole = (ran_script shelf.contents words _ _ _ (Gained sink.held sink_now.held) (Ok e) ran plan script asks).1
-    in
+    let whole = (ran_script answered.migrated shelf.contents words _ _ _ (Gained sink.held sink_now.held) (Ok e)
+    answered.ran plan script asks).1 in
     let h = history_on plan [] script.events in
     let last = last_line script.stop h in
     record {
@@ -137,4 +188,21 @@ all_written are_told words shelf shelf_now sink sink_now (Ok e) ran = λ plan sc
       gained = due.1;
       holds_now = whole ∙ ap (option_map (λ (t : Text). t ++ due.1)) held_before;
       lines = (last, ap (λ (t : Text). t ++ last) is.lines_are);
+    }
+
+pub all_counted : (words : List Text) (sink sink_now : SinkSeen) (r : Result End Fault)
+    → RanGenerated words sink sink_now r → IfOk r (λ e. AllCounted words sink sink_now)
+all_counted words sink sink_now (Err f) ran = tt
+all_counted words sink sink_now (Ok e) ran = λ seed count held asks held_before.
+    let line = generated_line (generated_history seed count) in
+    let whole = (ran seed count asks).1 in
+    record {
+      seed = seed;
+      count = count;
+      asks = asks;
+      plan_is = refl;
+      history_is = refl;
+      held = held;
+      held_before = held_before;
+      holds_now = whole ∙ ap (option_map (λ (t : Text). t ++ line)) held_before;
     }

@@ -1,8 +1,10 @@
 -- The histories that a run writes.
-use Rattle.std.specs.Prelude.{◌≡◌, List, [], ◌++◌, map, Option, Some, Result, Ok, Err, String, Vec, string_bytes}
+use Rattle.std.specs.Prelude.{ℕ, ◌≡◌, ◌⊎◌, List, [], ◌++◌, map, Option, Some, Result, Ok, Err, String, Vec}
+use Rattle.std.specs.Prelude.{string_bytes}
 use Rattle.std.proofs.Common.{Global}
 use Rattle.ide_base.specs.Outside.{Contents, ShelfSeen, SinkSeen}
-use Rattle.ide_words.specs.Words.{run, asked}
+use Rattle.ide_words.specs.Words.{run, generate, asked}
+use Rattle.generated_events.specs.Topology.{the_plan}
 use Rattle.ide_plan.specs.declared.plan.Plan.{Plan}
 use Rattle.link_events.specs.declared.event.Event.{Event}
 use Rattle.key_laws.specs.History.{History}
@@ -19,6 +21,7 @@ use Rattle.line_runs.specs.declared.ends.Fault.TheVariants as fault
 use Rattle.ide_cli.specs.declared.topologies.Loaded.TheVariants.{Sound}
 use Rattle.ide_cli.specs.declared.status.Status.{Status}
 use Rattle.ide_cli.specs.declared.status.Status.TheVariants as status
+use Rattle.ide_cli.specs.Generated.{WentOver, generated_history}
 use Rattle.ide_cli.specs.Script.{Script, script_of}
 use Rattle.ide_cli.specs.Topologies.{loaded}
 
@@ -57,10 +60,10 @@ pub record Written (shelf : ShelfSeen) (words : List Text) (before now : SinkSee
   pub holds_now : now.held ≡ Some (held ++ gained)
   pub lines : IsFront (lines_told h) gained
 
--- the law holds of every history that a run with these words wrote
+-- the law holds of every history that a run with these words wrote, or went over
 abbrev pub InEvery : (Plan → History → Type 0) → ShelfSeen → Vec (String Global) Global → SinkSeen → SinkSeen → Type 0
-InEvery law shelf words before now = (plan : Plan) (h : History) → Written shelf (said words) before now plan h
-    → law plan h
+InEvery law shelf words before now = (plan : Plan) (h : History)
+    → Written shelf (said words) before now plan h ⊎ WentOver (said words) before now plan h → law plan h
 
 -- the law holds provided that no tag verified on a unit that its partner had not sealed
 abbrev pub Unforged : (Plan → History → Type 0) → Plan → History → Type 0
@@ -75,6 +78,12 @@ abbrev pub AllWritten : ShelfSeen → List Text → SinkSeen → SinkSeen → Ty
 AllWritten shelf words before now =
     (plan : Plan) (script : Script) (held : Text) → AsksFor shelf.contents words plan script → before.held ≡ Some held
     → Written shelf words before now plan (history_on plan [] script.events)
+
+-- the line of the history of all events of this seed and number of rounds was written
+abbrev pub AllCounted : List Text → SinkSeen → SinkSeen → Type 0
+AllCounted words before now =
+    (seed count : ℕ) (held : Text) → asked words ≡ Some (generate seed count) → before.held ≡ Some held
+    → WentOver words before now the_plan (generated_history seed count)
 
 -- what a status says of the run
 abbrev pub outcome_of : Status → Result End Fault

@@ -4,6 +4,7 @@ pub mod Topologies
 pub mod Script
 pub mod Works
 pub mod LineLaws
+pub mod Generated
 pub mod Meaning
 pub mod Headline
 pub mod Reads

@@ -1,7 +1,7 @@
 -- How much of the files is read.
 use Rattle.std.specs.Prelude.{ℕ, ◌+◌, ◌-◌, ◌≤◌, ◌≡◌, ◌⊎◌, true, [], length, Option, Some, None}
 use Rattle.ide_base.specs.Outside.{Contents}
-use Rattle.ide_words.specs.Words.{Asked, run, check, show}
+use Rattle.ide_words.specs.Words.{Asked, run, check, migrate, show, generate}
 use Rattle.ide_plan.specs.declared.plan.Plan.{Plan}
 use Rattle.text_lines.specs.Pieces.{pieces}
 use Rattle.line_runs.specs.declared.ends.End.TheVariants as end
@@ -21,14 +21,18 @@ abbrev pub most_read : Option Asked → ℕ
 most_read None = 0
 most_read (Some (run topology script)) = topology_limit + 1 + (file_limit + 1)
 most_read (Some (check topology)) = topology_limit + 1
+most_read (Some (migrate topology)) = topology_limit + 1
 most_read (Some (show packets)) = file_limit + 1
+most_read (Some (generate seed count)) = 0
 
 -- how many bytes count at most
 abbrev pub most_counted : Option Asked → ℕ
 most_counted None = 0
 most_counted (Some (run topology script)) = topology_limit + file_limit
 most_counted (Some (check topology)) = topology_limit
+most_counted (Some (migrate topology)) = topology_limit
 most_counted (Some (show packets)) = file_limit
+most_counted (Some (generate seed count)) = 0
 
 -- no more than so many bytes were given
 abbrev pub GaveAtMost : ℕ → ℕ → ℕ → Type 0
@@ -44,7 +48,9 @@ abbrev pub ReadPast : Option Asked → ℕ → ℕ → Type 0
 ReadPast None before now = ⊥
 ReadPast (Some (run topology script)) before now = RanPast before now
 ReadPast (Some (check topology)) before now = Gave before (topology_limit + 1) now
+ReadPast (Some (migrate topology)) before now = Gave before (topology_limit + 1) now
 ReadPast (Some (show packets)) before now = Gave before (file_limit + 1) now
+ReadPast (Some (generate seed count)) before now = ⊥
 
 -- ---- how far is read where the run comes to an end: of the bytes that were given, and those ahead of the last read
 
@@ -64,11 +70,13 @@ RunNoFurther None script given ahead = given ≡ 0
 RunNoFurther (Some topology) script given ahead =
     LoadedNoFurther (loaded topology) topology (bytes_of script) given ahead
 
--- nothing is read for words that ask for nothing
+-- nothing is read for words that ask for nothing, nor for generated events
 abbrev pub AskedNoFurther : Option Asked → Contents → (given ahead : ℕ) → Type 0
 AskedNoFurther None contents given ahead = given ≡ 0
 AskedNoFurther (Some (run topology script)) contents given ahead =
     RunNoFurther (contents topology) (contents script) given ahead
 AskedNoFurther (Some (check topology)) contents given ahead = given ≤ length (bytes_of (contents topology))
+AskedNoFurther (Some (migrate topology)) contents given ahead = given ≤ length (bytes_of (contents topology))
 AskedNoFurther (Some (show packets)) contents given ahead =
     NoFurther (GoesOn shown_line no_text tt) (bytes_of (contents packets)) given ahead
+AskedNoFurther (Some (generate seed count)) contents given ahead = given ≡ 0

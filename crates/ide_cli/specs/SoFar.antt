@@ -1,7 +1,7 @@
 -- What a run has written where a fault ends it.
 use Rattle.std.specs.Prelude.{ℕ, ◌+◌, ◌-◌, ◌≤◌, true, List, [], length, take, Option, Some, None}
 use Rattle.ide_base.specs.Outside.{Contents, ShelfSeen, SinkSeen}
-use Rattle.ide_words.specs.Words.{Asked, run, check, show, asked}
+use Rattle.ide_words.specs.Words.{Asked, run, check, migrate, show, generate, asked}
 use Rattle.ide_plan.specs.declared.plan.Plan.{Plan}
 use Rattle.text_lines.specs.Pieces.{pieces}
 use Rattle.link_events.specs.Words.{line_limit}
@@ -42,14 +42,18 @@ abbrev pub asked_so_far : Option Asked → Contents → ℕ → Text
 asked_so_far None contents n = []
 asked_so_far (Some (run topology script)) contents n = run_so_far (contents topology) (contents script) n
 asked_so_far (Some (check topology)) contents n = []
+asked_so_far (Some (migrate topology)) contents n = []
 asked_so_far (Some (show packets)) contents n = shown_so_far (take n (bytes_of (contents packets)))
+asked_so_far (Some (generate seed count)) contents n = []
 
 -- of n bytes that were given, those of the script or of the packet file
 abbrev pub lines_given : Option Asked → Contents → ℕ → Text
 lines_given None contents n = []
 lines_given (Some (run topology script)) contents n = script_given (contents topology) (contents script) n
 lines_given (Some (check topology)) contents n = []
+lines_given (Some (migrate topology)) contents n = []
 lines_given (Some (show packets)) contents n = take n (bytes_of (contents packets))
+lines_given (Some (generate seed count)) contents n = []
 
 -- Some number of bytes were given, all of which but those that may wait were run: the line that has begun in those of
 -- them that are cut into lines is within its limit, and the sink gained the text that is due by then.

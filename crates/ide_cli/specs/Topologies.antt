@@ -33,6 +33,15 @@ report Long = (end.TooLong, [])
 abbrev pub check_due : Text → Due
 check_due file = report (loaded file)
 
+-- the end and the text of a topology that is migrated, where this is the text in version 2
+abbrev pub migrated_as : Text → Loaded → Due
+migrated_as text (Sound plan) = (end.Done, text)
+migrated_as text (Faulty fault) = (end.Topology, refusal fault)
+migrated_as text Long = (end.TooLong, [])
+
+abbrev pub migrate_due : Text → Text → Due
+migrate_due text file = migrated_as text (loaded file)
+
 -- a plan meets every bound and rule
 abbrev pub HasFitting : Loaded → Type 0
 HasFitting (Sound plan) = FitsPlan plan

@@ -12,13 +12,13 @@ use Rattle.link_verdicts.specs.Lines.{totals_line_of}
 use Rattle.key_laws.specs.History.{History}
 use Rattle.link_history.specs.Due.{due}
 use Rattle.link_texts.specs.Runs.{history_with, totals_of, sealed_in, accepted_in, failed_in, blocked_in}
-use Rattle.world.specs.Worlds.{WorldView, Stands}
+use Rattle.world_states.specs.Worlds.{WorldView, Stands}
 use Rattle.packet_lines.specs.Reading.{packet_meaning}
 use Rattle.packet_lines.specs.Showing.{shown}
 use Rattle.line_runs.specs.Gain.{Text}
 
 -- the world and the totals so far
-pub record Running : Type 0 where
+pub record RunningView : Type 0 where
   pub world : WorldView
   pub totals : Totals
 
@@ -37,15 +37,19 @@ pub record ScriptPast : Type 0 where
   pub history : History
 
 -- the world stands for that history, so many events came, and the totals are its totals
-pub record Follows (r : Running) (past : ScriptPast) : Type 0 where
+pub record Follows (r : RunningView) (past : ScriptPast) : Type 0 where
   pub plan_is : r.world.plan ≡ past.plan
   pub stands : Stands r.world past.history
   pub steps_are : r.world.steps ≡ length past.history
   pub totals_are : r.totals ≡ totals_of past.history
 
+-- the past with one more event
+abbrev pub past_with : ScriptPast → Event → ScriptPast
+past_with past e = record past { history = history_with past.plan past.history e }
+
 abbrev pub ran_event : ScriptPast → Event → ScriptPast × Text
 ran_event past e = (
-  record past { history = history_with past.plan past.history e },
+  past_with past e,
   line_of (length past.history + 1) (due past.plan past.history e),
 )
 
@@ -62,8 +66,13 @@ ran_line past n line = by_meaning past (line_meaning line)
 abbrev pub closing_line : ScriptPast → Text
 closing_line past = totals_line_of (totals_of past.history)
 
+-- the verdict of an event is the one that is due, and what is kept follows the past with it
+pub record VerdictCame (past : ScriptPast) (e : Event) (r : RunningView) (v : Verdict) : Type 0 where
+  pub verdict_is : v ≡ due past.plan past.history e
+  pub follows : Follows r (past_with past e)
+
 -- the text of an event, and that what is kept follows the past with it
-pub record EventCame (came : ScriptPast × Text) (r : Running) (text : Text) : Type 0 where
+pub record EventCame (came : ScriptPast × Text) (r : RunningView) (text : Text) : Type 0 where
   pub text_is : text ≡ came.1
   pub follows : Follows r came.0
 
@@ -73,7 +82,7 @@ MayAsk None = Unit {0}
 MayAsk (Some e) = IsAllowed e
 
 -- fewer events than lines, and few packets an event
-pub record IsEarly (r : Running) (n : ℕ) : Type 0 where
+pub record IsEarly (r : RunningView) (n : ℕ) : Type 0 where
   pub steps : r.world.steps < n
   pub sealed : r.totals.sealed ≤ 8 * r.world.steps
   pub accepted : r.totals.accepted ≤ 8 * r.world.steps

@@ -2,7 +2,9 @@
 #![tactic(auto)]
 
 mod command;
+mod generate;
 mod packets;
+mod running;
 mod script;
 mod status;
 mod top;

@@ -1,75 +1,34 @@
 //! The lines of a script, run on the world of a topology.
 
-ghost use Rattle.std.specs.Prelude.{◌≡◌, ◌<◌, ◌≤◌, ◌+◌, ◌^◌, length, count_by, IfErr, IfOk, OnOk};
+ghost use Rattle.std.specs.Prelude.{◌≡◌, ◌<◌, ◌+◌, ◌^◌, IfErr, IfOk, OnOk};
 ghost use Rattle.link_events.specs.Parse.{line_meaning, Gives};
 ghost use Rattle.link_events.specs.Spells.{IsAllowed};
-ghost use Rattle.link_texts.specs.Runs.{is_blocked, sealed_in, accepted_in, failed_in, blocked_in};
 ghost use Rattle.ide_cli.specs.LineLaws.{long_event, whole_event};
-ghost use Rattle.ide_cli.specs.Works.{EventCame, Follows, IsEarly, MayAsk, Running, ScriptPast, closing_line};
-ghost use Rattle.ide_cli.specs.Works.{ran_event, ran_line};
-ghost use Rattle.ide_cli.specs.Works.{totals_with};
+ghost use Rattle.ide_cli.specs.Works.{EventCame, Follows, IsEarly, MayAsk, ScriptPast, closing_line, ran_event};
+ghost use Rattle.ide_cli.specs.Works.{ran_line};
 
+use crate::running::Running;
 use ide_types::{Bytes, Memory};
 use line_runs::LineWork;
 use link_events::{Event, LineError, lines_spell, parse_line};
-use link_verdicts::{Effect, Totals, Verdict, line, totals_line};
+use link_verdicts::{line, totals_line};
 use std::alloc::Global;
 use std::marker::Model;
 use world::World;
 
-/// The world, and the totals of its verdicts so far.
+/// The world that runs, and the memory for its lines.
 #[derive(Drop)]
 pub(crate) struct ScriptWork {
     alloc: Global,
-    world: World,
-    totals: Totals,
+    running: Running,
 }
 
 impl Model for ScriptWork {
-    ghost use Rattle.ide_cli.specs.Works.{Running};
+    ghost use Rattle.ide_cli.specs.Works.{RunningView};
 
-    ghost Value = { Running };
+    ghost Value = { RunningView };
 
-    ghost view = { λ w. record { world = w.world; totals = w.totals } };
-}
-
-fn blocked(effects: &[Effect]) -> usize
-    ensures count { result ≡ count_by is_blocked effects.now }
-    ensures most { result ≤ length effects.now }
-{
-    effects
-        .iter()
-        .filter(|effect| matches!(effect, Effect::Blocked(_)))
-        .count()
-}
-
-fn with_verdict(totals: Totals, verdict: &Verdict) -> Totals
-    requires sealed { totals.sealed < 2 ^ 32 }
-    requires accepted { totals.accepted < 2 ^ 32 }
-    requires failed { totals.failed < 2 ^ 32 }
-    requires blocked { totals.blocked < 2 ^ 32 }
-    ensures totals { result ≡ totals_with totals verdict.now }
-    ensures sealed { sealed_in verdict.now ≤ 8 }
-    ensures accepted { accepted_in verdict.now ≤ 8 }
-    ensures failed { failed_in verdict.now ≤ 8 }
-    ensures blocked { blocked_in verdict.now ≤ 8 }
-{
-    match verdict {
-        Verdict::Sealed { packets } => Totals {
-            sealed: totals.sealed + packets.len() as u64,
-            ..totals
-        },
-        Verdict::Fail { .. } => Totals {
-            failed: totals.failed + 1,
-            ..totals
-        },
-        Verdict::Accepted { effects, .. } => Totals {
-            accepted: totals.accepted + effects.len() as u64,
-            blocked: totals.blocked + blocked(effects.as_slice()) as u64,
-            ..totals
-        },
-        _ => totals,
-    }
+    ghost view = { λ w. w.running };
 }
 
 // The event that a line asks for.
@@ -96,13 +55,7 @@ impl ScriptWork {
     {
         ScriptWork {
             alloc,
-            world,
-            totals: Totals {
-                sealed: 0,
-                accepted: 0,
-                failed: 0,
-                blocked: 0,
-            },
+            running: Running::new(world),
         }
     }
 
@@ -116,11 +69,10 @@ impl ScriptWork {
         ensures early { OnOk result (IsEarly self.new (number + 1)) }
         ensures memory { IfErr result (λ e. e ≡ LineError.Memory) }
     {
-        let Ok(verdict) = self.world.step(event) else {
+        let Ok(verdict) = self.running.step(event, number) else {
             return Err(LineError::Memory);
         };
-        self.totals = with_verdict(self.totals, &verdict);
-        match line(self.alloc, self.world.calls(), &verdict) {
+        match line(self.alloc, self.running.events(), &verdict) {
             Ok(text) => Ok(Bytes::new(text)),
             Err(_) => Err(LineError::Memory),
         }
@@ -151,7 +103,7 @@ impl LineWork for ScriptWork {
     }
 
     fn closing(&self) -> Result<Bytes, Memory> {
-        let text = totals_line(self.alloc, &self.totals)?;
+        let text = totals_line(self.alloc, &self.running.totals())?;
         Ok(Bytes::new(text))
     }
 }

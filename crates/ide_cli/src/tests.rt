@@ -1,6 +1,8 @@
 //! Worked scripts with their text, and each status.
 mod check;
 mod files;
+mod generate;
+mod migrate;
 mod outsides;
 mod rows;
 
@@ -10,7 +12,7 @@ use std::alloc::Global;
 use std::test::Fail;
 
 const USAGE: &str =
-    "usage: run TOPOLOGY SCRIPT, check TOPOLOGY, show PACKETS, generate SEED COUNT\n";
+    "usage: run TOPOLOGY SCRIPT, check TOPOLOGY [--migrate], show PACKETS, generate SEED COUNT\n";
 
 // A write of 11 22 33 44 at 10000000h, behind the word for its port.
 const SEND: &str = "send d0 400000010100000f1000000011223344\n";

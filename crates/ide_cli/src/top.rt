@@ -4,34 +4,36 @@ ghost use Rattle.std.specs.Prelude.{◌≡◌, ◌+◌, ◌≤◌, IfErr, IfOk, 
 ghost use Rattle.ide_words.specs.Words.{asked};
 ghost use Rattle.count_laws.specs.Statements.{CountLaw};
 ghost use Rattle.interface_states.specs.Laws.{RunLaw};
-ghost use Rattle.key_laws.specs.Laws.{NeverAgain, Settled, StaysSecure, StreamFacts};
+ghost use Rattle.key_laws.specs.Laws.{GosFindKeys, NeverAgain, Settled, StaysSecure, StreamFacts};
 ghost use Rattle.link_history.specs.Cause.{CauseLaw};
 ghost use Rattle.link_history.specs.Delivered.{DeliveryLaw};
 ghost use Rattle.link_history.specs.Laws.{DrawsNeverFall, OrderIsNoForgery, PrefixLaw, WholeLaw};
+ghost use Rattle.link_history.specs.Numbers.{NumbersFresh};
 ghost use Rattle.link_history.specs.Ordered.{OrderLaw};
 ghost use Rattle.line_runs.specs.Front.{AskedPieces};
 ghost use Rattle.line_runs.specs.Gathering.{ReadAsFar};
-ghost use Rattle.line_runs.specs.Outcome.{Ran, RanOn};
+ghost use Rattle.line_runs.specs.Outcome.{Ran};
 ghost use Rattle.origin_laws.specs.Origin.{MemoryLaw, OriginLaw};
-ghost use Rattle.ide_cli.specs.Headline.{AllWritten, InEvery, Unforged, ViewFacts, outcome_of, said};
-ghost use Rattle.ide_cli.specs.Meaning.{due_of, usage_line};
+ghost use Rattle.ide_cli.specs.Headline.{AllCounted, AllWritten, InEvery, Unforged, ViewFacts, outcome_of, said};
+ghost use Rattle.ide_cli.specs.Meaning.{Answered, RanGenerated, usage_line};
 ghost use Rattle.ide_cli.specs.SoFar.{WroteSoFar};
 ghost use Rattle.ide_cli.specs.Reads.{AskedNoFurther, ReadPast, most_counted, most_read};
 
 use crate::command::{run_files, show_packets};
+use crate::generate::generate;
 use crate::status::Status;
-use crate::topologies::check_topology;
+use crate::topologies::{check_topology, migrate_topology};
 use count_laws::count_law;
 use delivery_laws::{delivery_law, draws_never_fall, order_is_no_forgery, prefix_law, whole_law};
 use ide_base::{Shelf, Sink};
 use ide_words::{Request, WordsError, read_words};
 use interface_states::views_hold;
-use key_states::{never_again, settled, stays_secure, stream_facts};
+use key_states::{gos_find_keys, never_again, settled, stays_secure, stream_facts};
 use line_runs::{End, Fault, finish};
 use link_keys::keys_have_causes;
 use order_laws::order_law;
 use origin_laws::{interfaces_have_causes, memory_law, origin_law, run_law};
-use sealing_laws::totals_fit;
+use sealing_laws::{numbers_fresh, totals_fit};
 use std::alloc::Global;
 use text_laws::lines_tell;
 
@@ -44,9 +46,9 @@ fn perform<S: Shelf, O: Sink>(
 ) -> Result<End, Fault>
     ensures usage { IfOk result (λ e. e ≡ End.Usage → asked (map string_bytes words.now) ≡ None) }
     ensures refused { asked (map string_bytes words.now) ≡ None → Ran (End.Usage, usage_line) (O.seen out.old)
-        (O.seen out.new)
-        result }
-    ensures answers { RanOn (due_of (map string_bytes words.now)) (S.seen shelf.old) (S.seen shelf.new) (O.seen out.old)
+        (O.seen out.new) result }
+    ensures generated { RanGenerated (map string_bytes words.now) (O.seen out.old) (O.seen out.new) result }
+    ensures answers { Answered (map string_bytes words.now) (S.seen shelf.old) (S.seen shelf.new) (O.seen out.old)
         (O.seen out.new) result }
     ensures so_far { IfErr result (λ e. WroteSoFar (map string_bytes words.now) e (S.seen shelf.old)
         (S.seen shelf.new) (O.seen out.old) (O.seen out.new)) }
@@ -63,12 +65,14 @@ fn perform<S: Shelf, O: Sink>(
         Err(WordsError::Usage) => finish(
             out,
             End::Usage,
-            b"usage: run TOPOLOGY SCRIPT, check TOPOLOGY, show PACKETS, generate SEED COUNT\n",
+            b"usage: run TOPOLOGY SCRIPT, check TOPOLOGY [--migrate], show PACKETS, generate SEED COUNT\n",
         ),
         Err(WordsError::Memory) => Err(Fault::Memory),
         Ok(Request::Run(topology, script)) => run_files(alloc, topology, script, shelf, out),
         Ok(Request::Check(topology)) => check_topology(alloc, topology, shelf, out),
+        Ok(Request::Migrate(topology)) => migrate_topology(alloc, topology, shelf, out),
         Ok(Request::Show(packets)) => show_packets(alloc, packets, shelf, out),
+        Ok(Request::Generate(seed, count)) => generate(alloc, seed, count, out),
     }
 }
 
@@ -89,10 +93,12 @@ fn status_of(outcome: Result<End, Fault>) -> Status
 
 /// Does what the words of the command line ask for, of which the first is the program's name, over the files of
 /// a shelf, and writes its text to a sink. The words are the program's name and `run TOPOLOGY SCRIPT`,
-/// `check TOPOLOGY` or `show PACKETS`.
+/// `check TOPOLOGY`, `check TOPOLOGY --migrate`, `show PACKETS` or `generate SEED COUNT`.
 ///
 /// If the shelf tells its contents, the text of a run is the verdict lines of the script's events, each verdict the one
-/// that is due after the events before it, and the laws hold of the history that is written.
+/// that is due after the events before it, and the laws hold of the history that is written. A migration writes a text
+/// that reads to the topology's table with version 2. Generated events are given to the same world one after another,
+/// and one line tells the totals of their history, of which the laws hold too.
 pub fn run<S: Shelf, O: Sink>(
     alloc: Global,
     words: &Vec<String>,
@@ -106,7 +112,7 @@ pub fn run<S: Shelf, O: Sink>(
 
     // If the shelf tells its contents, the due status comes with all of the due text, and a fault or want of memory
     // leaves a prefix of it. Each fault has its cause.
-    ensures answers { RanOn (due_of (said words.now)) (S.seen shelf.old) (S.seen shelf.new) (O.seen out.old)
+    ensures answers { Answered (said words.now) (S.seen shelf.old) (S.seen shelf.new) (O.seen out.old)
         (O.seen out.new) (outcome_of result) }
 
     // If a file could not be read on, the sink has gained exactly what is due to those lines of the script, or of the
@@ -117,9 +123,9 @@ pub fn run<S: Shelf, O: Sink>(
     ensures so_far { IfErr (outcome_of result) (λ e. WroteSoFar (said words.now) e (S.seen shelf.old)
         (S.seen shelf.new) (O.seen out.old) (O.seen out.new)) }
 
-    // If the run ends by itself, it was given no more bytes than are in the files that it reads, and no more than are in
-    // the topology if that is faulty or too long; and in the bytes that were given before the last read no line ends the
-    // run.
+    // If the run ends by itself, it was given no more bytes than are in the files that it reads, and no more than are
+    // in the topology if that is faulty or too long; and in the bytes that were given before the last read no line
+    // ends the run.
     ensures no_further { IfOk (outcome_of result) (λ e. ReadAsFar (AskedNoFurther (asked (said words.now)))
         (S.seen shelf.old) (S.seen shelf.new)) }
 
@@ -133,9 +139,16 @@ pub fn run<S: Shelf, O: Sink>(
     ensures whole { result ≡ Status.Done → (S.seen shelf.new).given ≤ (S.seen shelf.old).given + most_counted
         (asked (said words.now)) }
 
-    // If the run comes to an end of its own, the history of all events of the script was written.
+    // If the words ask for generated events, the line with the totals of their history is due, whatever the shelf
+    // tells.
+    ensures generated { RanGenerated (said words.now) (O.seen out.old) (O.seen out.new) (outcome_of result) }
+
+    // If the run comes to an end of its own, the history of all events of the script was written; if the words ask for
+    // generated events, one line with the totals of their history.
     ensures all_written { IfOk (outcome_of result) (λ e. AllWritten (S.seen shelf.old) (said words.now)
         (O.seen out.old) (O.seen out.new)) }
+    ensures all_counted { IfOk (outcome_of result) (λ e. AllCounted (said words.now) (O.seen out.old)
+        (O.seen out.new)) }
 
     // In every history that was written, each verdict is the one that is due, the draws of accepted units never fall,
     // everything that arrived unchanged in order was taken, and is no forgery; an operation on keys ends in the key
@@ -150,9 +163,13 @@ pub fn run<S: Shelf, O: Sink>(
     ensures settled { InEvery (λ p. Settled) (S.seen shelf.old) words.now (O.seen out.old) (O.seen out.new) }
     ensures stays_secure { InEvery (λ p. StaysSecure) (S.seen shelf.old) words.now (O.seen out.old) (O.seen out.new) }
     // A draw is kept in one key set of a place at most and on one stream, an unfinished operation has made its draw On
-    // if its GO came, and once its GO came a draw is kept at a place only while it is On there.
+    // if its GO came, and each GO that comes to a place finds its draw kept there. A draw that was On at a place and
+    // then kept in neither set is never kept there again.
     ensures stream_facts { InEvery (λ p. StreamFacts) (S.seen shelf.old) words.now (O.seen out.old) (O.seen out.new) }
+    ensures gos_find_keys { InEvery (λ p. GosFindKeys) (S.seen shelf.old) words.now (O.seen out.old) (O.seen out.new) }
     ensures never_again { InEvery (λ p. NeverAgain) (S.seen shelf.old) words.now (O.seen out.old) (O.seen out.new) }
+    // No key is used twice with one IV: packets that have both are of one unit.
+    ensures numbers_fresh { InEvery NumbersFresh (S.seen shelf.old) words.now (O.seen out.old) (O.seen out.new) }
     // While an interface is locked or in RUN, its listed registers are those that it had at the lock, which its report
     // shows; a listed change, a level reset, and a firmware update that flag 0 forbids, take it into the error state.
     ensures run_law { InEvery RunLaw (S.seen shelf.old) words.now (O.seen out.old) (O.seen out.new) }
@@ -172,8 +189,8 @@ pub fn run<S: Shelf, O: Sink>(
     ensures delivery_law { InEvery (Unforged DeliveryLaw) (S.seen shelf.old) words.now (O.seen out.old)
         (O.seen out.new) }
     ensures order_law { InEvery (Unforged OrderLaw) (S.seen shelf.old) words.now (O.seen out.old) (O.seen out.new) }
-    // Under the same proviso, each admitted write was sealed by the interface that it is admitted for, while that was in
-    // RUN under the lock that it has now.
+    // Under the same proviso, each admitted write was sealed by the interface that it is admitted for, while that was
+    // in RUN under the lock that it has now.
     ensures origin_law { InEvery (Unforged OriginLaw) (S.seen shelf.old) words.now (O.seen out.old) (O.seen out.new) }
 {
     lines_tell();
@@ -189,7 +206,9 @@ pub fn run<S: Shelf, O: Sink>(
     settled();
     stays_secure();
     stream_facts();
+    gos_find_keys();
     never_again();
+    numbers_fresh();
     interfaces_have_causes();
     run_law();
     views_hold();

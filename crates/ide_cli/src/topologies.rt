@@ -1,10 +1,12 @@
-//! A topology that is read and checked.
+//! A topology that is read and checked, or migrated.
 
-ghost use Rattle.std.specs.Prelude.{◌≡◌, ◌≢◌, ◌+◌, ◌<◌, ◌≤◌, IfOk, IfErr, length, option_map, []};
+ghost use Rattle.std.specs.Prelude.{◌≡◌, ◌≢◌, ◌+◌, ◌<◌, ◌≤◌, IfOk, IfErr, Some, length, option_map, []};
+ghost use Rattle.ide_words.specs.Words.{migrate};
 ghost use Rattle.line_runs.specs.Front.{AskedPieces, Gave, GaveOf, bytes_of};
 ghost use Rattle.line_runs.specs.Gathering.{ReadAsFar};
 ghost use Rattle.line_runs.specs.Outcome.{Ran, RanOn};
 ghost use Rattle.ide_cli.specs.Loading.{GaveAllOf, LoadCause, Loads, topology_limit};
+ghost use Rattle.ide_cli.specs.Meaning.{AnsweredFor, WritesMigrated};
 ghost use Rattle.ide_cli.specs.Reads.{GaveAtMost};
 ghost use Rattle.ide_cli.specs.SoFar.{WroteBy};
 ghost use Rattle.ide_cli.specs.Topologies.{check_due, loaded, refusal as refusal_of, report as report_of, HasFitting};
@@ -127,5 +129,50 @@ pub(crate) fn check_topology<S: Shelf, O: Sink>(
     match load(alloc, shelf, topology) {
         Ok(loaded) => report(alloc, &loaded, out),
         Err(e) => Err(e),
+    }
+}
+
+// Writes the front of a topology in version 2, of which one byte more than those that count was read.
+fn write_migrated<O: Sink>(alloc: Global, front: &[u8], out: &mut O) -> Result<End, Fault>
+    ensures end { IfOk result (λ e. e ≢ End.Usage) }
+    ensures long { IfOk result (λ e. e ≡ End.TooLong → topology_limit < length front.now) }
+    ensures few { IfOk result (λ e. e ≢ End.TooLong → length front.now ≤ topology_limit) }
+    ensures writes { WritesMigrated front.now (O.seen out.old) (O.seen out.new) result }
+{
+    if front.len() > TOPOLOGY_LIMIT {
+        return Ok(End::TooLong);
+    }
+    match topology::migrate(alloc, front) {
+        Ok(text) => finish(out, End::Done, text.as_slice()),
+        Err(PlanError::Fault(fault)) => refuse(alloc, &fault, out),
+        Err(PlanError::Memory) => Err(Fault::Memory),
+    }
+}
+
+/// `check TOPOLOGY --migrate`: the text of a topology in version 2, or its first fault.
+pub(crate) fn migrate_topology<S: Shelf, O: Sink>(
+    alloc: Global,
+    topology: &str,
+    shelf: &mut S,
+    out: &mut O,
+) -> Result<End, Fault>
+    ensures end { IfOk result (λ e. e ≢ End.Usage) }
+    ensures answers { AnsweredFor (Some (migrate topology.now)) (S.seen shelf.old) (S.seen shelf.new)
+        (O.seen out.old) (O.seen out.new) result }
+    ensures so_far { IfErr result (λ e. WroteBy e (λ contents n. []) (λ contents n. [])
+        (S.seen shelf.old) (S.seen shelf.new) (O.seen out.old) (O.seen out.new)) }
+    ensures no_further { IfOk result (λ e. ReadAsFar (λ contents given ahead. given
+        ≤ length (bytes_of (contents topology.now))) (S.seen shelf.old) (S.seen shelf.new)) }
+    ensures cap { (S.seen shelf.new).given ≤ (S.seen shelf.old).given + (topology_limit + 1) }
+    ensures pieces { AskedPieces (S.seen shelf.old).longest (S.seen shelf.new).longest }
+    ensures too_long { IfOk result (λ e. e ≡ End.TooLong → Gave (S.seen shelf.old).given (topology_limit + 1)
+        (S.seen shelf.new).given) }
+    ensures whole { IfOk result (λ e. e ≡ End.Done → (S.seen shelf.new).given
+        ≤ (S.seen shelf.old).given + topology_limit) }
+{
+    match read_front(alloc, shelf, topology, TOPOLOGY_LIMIT + 1) {
+        Err(Stop::Fault) => Err(Fault::Read),
+        Err(Stop::Memory) => Err(Fault::Memory),
+        Ok(front) => write_migrated(alloc, &front, out),
     }
 }

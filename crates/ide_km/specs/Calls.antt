@@ -23,7 +23,7 @@ pub data PortCall : Type 0 where
 
 -- ---- answers
 
--- the slots by place, where the port has the place
+-- the slots by place, if the port has the place
 abbrev pub Shown : Type 0
 Shown = Place → Option SlotPair
 

@@ -26,7 +26,7 @@ sub_of selector = selector / 16
 abbrev pub place_of : ℕ → ℕ → Place
 place_of stream selector = place_at stream (direction_of selector) (sub_of selector)
 
--- ---- the call of the port that a request comes to, with its answer
+-- ---- the call of the port that a request makes, with its answer
 
 -- the initial counter of units is 1, and the port's index is 0
 abbrev pub key_call : Shown → ℕ → ℕ → ℕ → ℕ → List ℕ → ℕ → Option PortCall
@@ -117,7 +117,7 @@ abbrev pub bytes_of : Option KmView → List ℕ
 bytes_of None = []
 bytes_of (Some object) = spelling object
 
--- no bytes where there is no reply
+-- no bytes if there is no reply
 abbrev pub reply_of : ℕ → List ℕ → Option PortCall → List ℕ
 reply_of rid request call = bytes_of (reply_object rid request call)
 

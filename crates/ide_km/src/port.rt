@@ -7,8 +7,8 @@ ghost use Rattle.ide_km.specs.Calls.{halt_answer, SlotsAfter};
 
 use key_slots::Key;
 
-/// Why a key was not taken, with the key: the port has no such place, or the slot is Live and the other is not a
-/// newer Live one.
+/// Why a key was not taken, with the key: the port has no such place, or the slot is Live and the other holds no newer
+/// Live key.
 #[derive(Debug, Drop)]
 pub enum ProgramFault {
     NoPlace(Key),
@@ -45,7 +45,7 @@ pub trait SlotPort {
             SlotsAfter (slots self.old) (unfinished self.old) call (slots self.new) }
         ensures moves { moves self.old (Program (place_at stream dir sub) set key draw result) self.new };
 
-    /// GO; false where the port has no such place, and of an Empty slot.
+    /// GO; false if the port has no such place or the slot is Empty.
     fn go(&mut self, stream: u8, set: u8, dir: u8, sub: u8) -> bool
         requires set { set < 2 }
         requires dir { dir < 2 }
@@ -54,7 +54,7 @@ pub trait SlotPort {
             SlotsAfter (slots self.old) (unfinished self.old) call (slots self.new) }
         ensures moves { moves self.old (Go (place_at stream dir sub) set result) self.new };
 
-    /// STOP; false where the port has no such place.
+    /// STOP; false if the port has no such place.
     fn halt(&mut self, stream: u8, set: u8, dir: u8, sub: u8) -> bool
         requires set { set < 2 }
         requires dir { dir < 2 }

@@ -38,7 +38,7 @@ fn sub(selector: u8) -> u8
     selector / 16
 }
 
-/// Programs a key, where the port index is 0 and the initial counter is 1.
+/// Programs a key, if the port index is 0 and the initial counter is 1.
 fn program<P: SlotPort>(
     port: &mut P,
     stream: u8,
@@ -73,7 +73,7 @@ fn program<P: SlotPort>(
     }
 }
 
-/// Starts or stops a slot, where the port index is 0, and answers whether it did.
+/// Starts or stops a slot, if the port index is 0, and answers whether it did.
 fn go<P: SlotPort>(port: &mut P, stream: u8, selector: u8, index: u8, draw: u32) -> bool
     ensures moved { let call = call_for (P.slots port.old) draw (KmView.SetGo stream selector index) in
         Moved P.moves port.old call port.new }
@@ -105,7 +105,7 @@ fn acknowledgement(done: bool, stream: u8, selector: u8, port: u8) -> Option<KmV
     })
 }
 
-/// The byte at a place, 0 where it is missing.
+/// The byte at a place, 0 if it is missing.
 fn byte(bytes: &[u8], place: usize) -> u8
     ensures { result ≡ slice_index bytes.now place }
 {
@@ -130,7 +130,7 @@ fn refusal(request: &[u8]) -> Option<KmView>
     })
 }
 
-/// Appends the reply, where there is one.
+/// Appends the reply, if there is one.
 fn append(object: Option<KmView>, reply: &mut Vec<u8>)
     requires { vec_len reply.old + length (bytes_of object) ≤ vec_capacity reply.old }
     ensures items { reply.new.items ≡ reply.old.items ++ bytes_of object }
@@ -142,7 +142,7 @@ fn append(object: Option<KmView>, reply: &mut Vec<u8>)
 }
 
 impl Responder {
-    /// The responder of a device whose first interface has this requester ID, 0 where there is none.
+    /// The responder of a device whose first interface has this requester ID, 0 if there is none.
     pub fn make(rid: u16) -> Responder
         ensures { result ≡ record { rid = rid } }
     {

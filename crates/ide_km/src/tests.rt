@@ -205,7 +205,7 @@ fn statuses_of_a_key(rt: HostRuntime) -> Result<(), Fail> {
     Ok(())
 }
 
-// Fields that a front lacks are given back as 0.
+// Fields that a prefix lacks are given back as 0.
 #[test]
 fn fronts_of_a_key(rt: HostRuntime) -> Result<(), Fail> {
     let alloc = rt.alloc();

@@ -11,7 +11,7 @@ use Rattle.ide_plan.specs.declared.interface.BarPlan.{BarPlan}
 use Rattle.ide_plan.specs.declared.plan.Region.{Region}
 use Rattle.ide_plan.specs.declared.plan.LinkPlan.{LinkPlan}
 use Rattle.ide_plan.specs.declared.plan.Plan.{Plan}
-use Rattle.ide_plan.specs.Plans.{both_default, share_class, has_selective, overlap}
+use Rattle.ide_plan.specs.Plans.{interface_limit, both_default, share_class, has_selective, overlap}
 
 abbrev pub AreBytes : List ℕ → Type 0
 AreBytes bytes = All (λ b. b < 256) bytes
@@ -89,6 +89,8 @@ pub record FitsRegion (r : Region) : Type 0 where
   pub most : r.base + r.size ≤ 2 ^ 63
 
 pub record FitsPlan (p : Plan) : Type 0 where
+  pub version_least : 1 ≤ p.version
+  pub version_most : p.version ≤ 2
   pub portion_least : 16 ≤ p.portion
   pub portion_most : p.portion ≤ 65535
   pub units_least : 1 ≤ p.units_per_key
@@ -101,7 +103,7 @@ pub record FitsPlan (p : Plan) : Type 0 where
   pub links_least : 1 ≤ length p.links
   pub links_most : length p.links ≤ 8
   pub each_link : All FitsLink p.links
-  pub interfaces_most : sum_by (λ l. length l.interfaces) p.links ≤ 32
+  pub interfaces_most : sum_by (λ l. length l.interfaces) p.links ≤ interface_limit p.version
   pub regions_most : length p.memory ≤ 16
   pub each_region : All FitsRegion p.memory
   pub memory_most : sum_by (λ r. r.size) p.memory ≤ 16777216

@@ -1,5 +1,5 @@
 -- What is told of the parts of a plan.
-use Rattle.std.specs.Prelude.{ℕ, ◌+◌, ◌==◌, ◌&&◌, nat_lt, Bool, true, false, List, []}
+use Rattle.std.specs.Prelude.{ℕ, ◌+◌, ◌==◌, ◌&&◌, nat_lt, Bool, true, false, List, [], if◌then◌else◌}
 use Rattle.std.specs.List.{list_any}
 use Rattle.ide_plan.specs.declared.stream.Selector.{Selector}
 use Rattle.ide_plan.specs.declared.stream.Selector.TheVariants.{Selective, Link}
@@ -9,6 +9,10 @@ use Rattle.ide_plan.specs.declared.plan.Region.{Region}
 abbrev pub is_selective : Selector → Bool
 is_selective (Selective ids addresses default) = true
 is_selective (Link classes) = false
+
+-- how many interfaces a topology of the version has at most, over all links
+abbrev pub interface_limit : ℕ → ℕ
+interface_limit version = if version == 2 then 64 else 32
 
 -- a stream takes what no selective stream takes by ID or address
 abbrev pub is_default : Selector → Bool

@@ -23,9 +23,9 @@ pub struct InterfacePlan {
     pub lnr: u16,
     /// The TPH control register.
     pub tph: u32,
-    /// The PASID control register, 0 where the topology has none.
+    /// The PASID control register, 0 in version 1.
     pub pasid: u16,
-    /// The ATS control register, 0 where the topology has none.
+    /// The ATS control register, 0 in version 1.
     pub ats: u16,
     /// Device information, which its report ends with; up to 1,024 bytes.
     pub info: Bytes,

@@ -6,6 +6,8 @@ use ide_types::Items;
 /// What there is before the first event of a run.
 #[derive(Debug, Drop)]
 pub struct Plan {
+    /// The version of the topology, 1 or 2.
+    pub version: u8,
     /// How many bytes of an interface report one request asks for, 16 to 65,535.
     pub portion: u16,
     /// How many units a key seals at the most, 1 to 2^32.

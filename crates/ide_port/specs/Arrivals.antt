@@ -1,4 +1,4 @@
--- What bytes that come to a port come to.
+-- What becomes of bytes that arrive at a port.
 use Rattle.std.specs.Prelude.{ℕ, ◌+◌, List, [], length, Option, Some, None, Result, Ok, Err}
 use Rattle.link_verdicts.specs.declared.verdict.UnitName.{UnitName}
 use Rattle.ide_prefix.specs.declared.fault.PacketFault.{PacketFault}

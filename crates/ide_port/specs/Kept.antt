@@ -82,7 +82,7 @@ pub record IsKept (side : Side) (limit calls : ℕ) (plans : List StreamPlan) (s
 abbrev pub place_of : List StreamPlan → ℕ → Option ℕ
 place_of plans id = position (λ (s : StreamPlan). s.id == id) plans
 
--- and the sub-stream of a number, where there is such a one
+-- and the sub-stream of a number, if there is such a one
 abbrev pub lane_of : List StreamPlan → ℕ → ℕ → Option (ℕ × SubKind)
 lane_of plans id sub = if nat_lt sub 3 then option_map (λ place. (place, sub_from sub)) (place_of plans id) else None
 

@@ -1,4 +1,4 @@
--- What a send at a port comes to.
+-- What becomes of a send at a port.
 use Rattle.std.specs.Prelude.{ℕ, ◌≡◌, ◌+◌, Bool, List, [], map, Option, Some, None, Result, Ok, Err}
 use Rattle.ide_types.specs.declared.port.PortName.{PortName}
 use Rattle.link_verdicts.specs.declared.verdict.Verdict.{Verdict}

@@ -6,7 +6,7 @@ use ide_types::{FailCause, SubKind};
 use link_verdicts::UnitName;
 use tlp_layout::TlpFault;
 
-/// What a send comes to.
+/// What becomes of a send.
 #[derive(Debug, Drop)]
 pub enum Sent {
     /// The bytes are no TLP.
@@ -15,11 +15,11 @@ pub enum Sent {
     Plain,
     /// It is not sealed, and nothing changes.
     Refused(SendRefusal),
-    /// It is sealed, behind the sync packets that went first.
+    /// It is sealed, after the sync packets that went first.
     Sealed(Sealed),
 }
 
-/// What arriving bytes come to.
+/// What becomes of arriving bytes.
 #[derive(Clone, Copy, Debug, PartialEq, Eq)]
 pub enum Arrival {
     /// They are no packet.

@@ -1,4 +1,4 @@
-//! A port of a link, over all its streams: which stream a TLP takes, what is sealed, what comes of the bytes that
+//! A port of a link, over all its streams: which stream a TLP takes, what is sealed, what becomes of the bytes that
 //! arrive, and the calls of key management (PCI Express Base 6.0 section 6.33, in this profile). Only `make` takes
 //! memory.
 #![tactic(auto)]

@@ -152,7 +152,7 @@ impl Port {
         })
     }
 
-    /// How many TLPs it was to send, and arrivals it had.
+    /// How many TLPs it was asked to send, and how many arrivals it had, together.
     pub fn calls(&self) -> u64
         ensures { result ≡ self.now.calls }
     {
@@ -168,9 +168,9 @@ impl Port {
         self.calls += 1;
     }
 
-    /// Sends a TLP's bytes: it takes a stream, which seals it behind the sync packets that must go first, or it goes
-    /// plain. `trusting` says whether T is set of it. `more` says that the unit goes on where it has room. What was
-    /// sealed is lent by `packets` until the next send.
+    /// Sends a TLP's bytes: the TLP takes a stream, which seals it after the sync packets that must go first, or it
+    /// goes plain. `trusting` says whether T is set. `more` says that the unit goes on if it has room. What was sealed
+    /// is lent by `packets` until the next send.
     pub fn send<T: Trusting>(&mut self, tlp: &[u8], trusting: &T, more: bool) -> Sent
         requires { self.old.calls < 2 ^ 40 }
         // Whatever the number of the next sealed packet is over the run.
@@ -326,7 +326,7 @@ impl Port {
         self.streams[place].mark(i)
     }
 
-    /// The status of a stream; `None` where the port has no such stream.
+    /// The status of a stream; `None` if the port has no such stream.
     pub fn status(&self, stream: u8) -> Option<StreamStatus>
         ensures { result ≡ status_in self.now stream }
     {
@@ -336,7 +336,7 @@ impl Port {
         }
     }
 
-    /// The key set, 0 or 1, of the Live slot of a stream's sender in a sub-stream; `None` where none is Live.
+    /// The key set, 0 or 1, of the Live slot of a stream's sender in a sub-stream; `None` if none is Live.
     pub fn live_set(&self, stream: u8, sub: SubKind) -> Option<u8>
         ensures { result ≡ live_in_port self.now stream sub }
     {

@@ -34,8 +34,8 @@ const fn read(flags: u8, stream: u8) -> [u8; 28] {
     ]
 }
 
-// A port of link 0. At the device's, stream 5 takes what requester 0100h sends; at the host's, everything where it is
-// the default.
+// A port of link 0. At the device's, stream 5 takes what requester 0100h sends; at the host's, everything if it is the
+// default.
 fn port(alloc: Global, side: Side, default: bool) -> Result<Port, Fail> {
     let plans = [StreamPlan {
         id: 5,

@@ -69,7 +69,7 @@ early_cause place s b =
     else Tlp (tlps.Kind 4))
     else Reserved place
 
--- a header's fault, its place behind the prefix
+-- a header's fault, its place after the prefix
 abbrev pub moved : TlpFault → TlpFault
 moved (tlps.Short place) = tlps.Short (place + 4)
 moved (tlps.Kind place) = tlps.Kind (place + 4)
@@ -77,11 +77,11 @@ moved (tlps.Bit place) = tlps.Bit (place + 4)
 moved (tlps.Length place) = tlps.Length (place + 4)
 moved (tlps.Trailing place) = tlps.Trailing (place + 4)
 
--- the length of what stands in clear behind the prefix, by its first byte
+-- the length of what stands in clear after the prefix, by its first byte
 abbrev pub clear_size : SubKind → ℕ → ℕ
 clear_size sub b = if begins_sync sub b then 12 else head_size b
 
--- behind byte 4: in a sync packet, in a TLP's header, behind the packet
+-- after byte 4: in a sync packet, in a TLP's header, after the packet
 abbrev pub late_cause : List ℕ → ℕ → PacketFault
 late_cause s place =
     if nat_lt place (4 + clear_size (prefix_read s).sub (slice_index s 4))

@@ -30,7 +30,7 @@ abbrev pub cut_values : Result Cut PacketFault → Result CutValue PacketFault
 cut_values (Ok c) = Ok (cut_value c)
 cut_values (Err f) = Err f
 
--- a packet that has a spelling is shown, with its flag of sync packets, and with a tag where M is set
+-- a packet that has a spelling is shown, with its flag of sync packets, and with a tag if M is set
 abbrev pub IsView : PacketView → Type 0
 IsView v =
     FitsPacket (packet_of_view v) × (v.sync ≡ is_sync_packet (packet_of_view v)) × (is_some v.tag ≡ v.prefix.m)

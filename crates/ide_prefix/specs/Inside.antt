@@ -21,7 +21,7 @@ pub record StopsEarly (s : List ℕ) (fault : PacketFault) (place : ℕ) : Type 
   pub before : (i : ℕ) → i < place → fits_early i s (slice_index s i) ≡ true
   pub off : place < length s → fits_early place s (slice_index s place) ≡ false
 
--- a sync packet goes off behind byte 4
+-- a sync packet goes off after byte 4
 pub record StopsSync (s : List ℕ) (fault : PacketFault) (place : ℕ) : Type 0 where
   pub within : place ≤ length s
   pub behind : (5 ≤ place) × (place < 16)
@@ -38,7 +38,7 @@ shifted f = Tlp (moved f)
 abbrev pub head_slice : List ℕ → List ℕ
 head_slice s = take (head_size (slice_index s 4)) (drop 4 s)
 
--- behind the prefix stands a header, which wants that many bytes of payload
+-- after the prefix stands a header, which wants that many bytes of payload
 pub record HasHeader (s : List ℕ) (wanted : ℕ) : Type 0 where
   pub head : HeadView
   pub spells : SpellsHead head (head_slice s)
@@ -47,7 +47,7 @@ pub record HasHeader (s : List ℕ) (wanted : ℕ) : Type 0 where
 abbrev pub StopsInHead : List ℕ → PacketFault → Type 0
 StopsInHead s fault = (f : TlpFault) × IsHeadFault (head_slice s) f × (fault ≡ shifted f)
 
--- the bytes behind the prefix begin a sync packet, or with a header: its length, and that of the payload
+-- the bytes after the prefix begin a sync packet, or with a header: its length, and that of the payload
 pub record SizesAre (s : List ℕ) (size wanted : ℕ) : Type 0 where
   pub size_is : size ≡ clear_size (prefix_read s).sub (slice_index s 4)
   pub within : 4 + size ≤ length s

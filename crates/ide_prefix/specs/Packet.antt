@@ -39,7 +39,7 @@ sync_first = 0x34
 abbrev pub sync_head : List ℕ
 sync_head = sync_first ∷ replicate 11 0
 
--- the byte behind the prefix begins a sync packet
+-- the byte after the prefix begins a sync packet
 abbrev pub begins_sync : SubKind → ℕ → Bool
 begins_sync Pr b = false
 begins_sync Npr b = b == sync_first

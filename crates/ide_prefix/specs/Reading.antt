@@ -8,7 +8,7 @@ use Rattle.ide_prefix.specs.declared.fault.PacketFault.{PacketFault}
 use Rattle.ide_prefix.specs.Packet.{Packet, begins_sync}
 use Rattle.ide_prefix.specs.Causes.{is_plain, prefix_read, fits_early, packet_fault_at}
 
--- ---- the parts of a packet, whose bytes count as 0 where they are not there yet
+-- ---- the parts of a packet, whose bytes count as 0 if they are not there yet
 
 abbrev pub sync_at : List ℕ → Bool
 sync_at s = begins_sync (prefix_read s).sub (slice_index s 4)
@@ -39,13 +39,13 @@ packet_read s = record {
 abbrev pub wants_packet : List ℕ → Bool
 wants_packet front = nat_lt (length front) (packet_size front)
 
--- behind byte 4: zeros in a sync packet's 16 bytes in clear, a TLP's header, and then any byte
+-- after byte 4: zeros in a sync packet's 16 bytes in clear, a TLP's header, and then any byte
 abbrev pub fits_late : List ℕ → ℕ → Bool
 fits_late front b =
     if sync_at front then (if nat_lt (length front) 16 then b == 0 else true)
     else may_follow (drop 4 front) b
 
--- the byte may follow the front
+-- the byte may follow these first bytes of a packet
 abbrev pub packet_may_follow : List ℕ → ℕ → Bool
 packet_may_follow front b =
     nat_lt b 256 && (if nat_lt (length front) 5 then fits_early (length front) front b else fits_late front b)
@@ -57,7 +57,7 @@ pub data CutValue : Type 0 where
   PlainTlp : CutValue
   IdePacket : Packet → CutValue
 
--- the packet that the bytes spell, all of the bytes, or their first fault, where they are not plain
+-- the packet that the bytes spell, all of the bytes, or their first fault, if they are not plain
 unfoldable pub cut_of : List ℕ → Result CutValue PacketFault
 cut_of bytes =
     if is_plain bytes then Ok PlainTlp

@@ -131,7 +131,7 @@ fn early(bytes: &[u8]) -> Result<(), PacketFault>
     Ok(())
 }
 
-/// The bytes behind byte 4 of a sync packet are 0.
+/// The bytes after byte 4 of a sync packet are 0.
 fn sync_zeros(bytes: &[u8]) -> Result<(), PacketFault>
     requires long { 5 ≤ length bytes.now }
     requires sync { begins_sync_of (prefix_read bytes.now).sub (slice_index bytes.now 4) ≡ true }
@@ -177,7 +177,7 @@ fn head_front(bytes: &[u8]) -> &[u8]
     &rest[..size]
 }
 
-/// How many bytes of payload the header behind the prefix wants.
+/// How many bytes of payload the header after the prefix wants.
 fn header(bytes: &[u8]) -> Result<usize, PacketFault>
     requires { 5 ≤ length bytes.now }
     ensures ok { IfOk result (HasHeader bytes.now) }
@@ -195,7 +195,7 @@ fn tag_size(m: bool) -> usize
     if m { 12 } else { 0 }
 }
 
-/// The length of what stands in clear behind the prefix, and of the payload.
+/// The length in bytes of what stands in clear after the prefix, and of the payload.
 fn sizes(sync: bool, bytes: &[u8]) -> Result<(usize, usize), PacketFault>
     requires long { 5 ≤ length bytes.now }
     requires fits { (i : ℕ) → i < 5 → fits_early i bytes.now (slice_index bytes.now i) ≡ true }
@@ -268,8 +268,8 @@ fn whole(bytes: &[u8]) -> Result<Cut<'_>, PacketFault>
     }
 }
 
-/// The parts of the packet that the bytes spell, all of the bytes; `Plain` exactly where byte 0 is there
-/// and is not 0x92; else the first fault (this profile).
+/// The parts of the packet that the bytes spell, all of the bytes; `Plain` exactly if byte 0 is there and is not 0x92;
+/// else the first fault (this profile).
 pub fn cut(bytes: &[u8]) -> Result<Cut<'_>, PacketFault>
     // What is cut is plain or spelled so.
     ensures ok { IfOk result (IsCut bytes.now) }

@@ -15,7 +15,7 @@ pub enum PacketFault {
     Class(usize),
     /// A fault of the TLP's header but for its end; the place inside it is that of the packet too.
     Tlp(TlpFault),
-    /// A sync packet without M or with T, or one whose bytes behind 0x34 are not 0.
+    /// A sync packet without M or with T, or one whose bytes after 0x34 are not 0.
     Sync(usize),
     /// Bytes follow the packet.
     Trailing(usize),

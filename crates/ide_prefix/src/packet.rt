@@ -12,7 +12,7 @@ pub const PACKET_FIRST: u8 = 0x92;
 /// The first header byte of a sync packet.
 pub const SYNC_FIRST: u8 = 0x34;
 
-/// What stands ahead of a TLP's header.
+/// What stands before a TLP's header: four bytes (this profile).
 #[derive(Clone, Copy, Debug, PartialEq, Eq)]
 pub struct Prefix {
     /// Whether a tag ends the packet, which is the last of its unit.
@@ -51,7 +51,7 @@ pub struct PacketView<'a> {
     pub head: &'a [u8],
     /// The encrypted payload, up to 4,096 bytes.
     pub body: &'a [u8],
-    /// The tag, where M is set.
+    /// The tag, if M is set.
     pub tag: Option<&'a [u8; 12]>,
     /// Whether it is a sync packet, which carries no TLP.
     pub sync: bool,
@@ -61,8 +61,7 @@ impl PacketView<'_> {
     ghost use Rattle.std.specs.Prelude.{◌≡◌};
     ghost use Rattle.ide_prefix.specs.Cut.{view_header};
 
-    /// The header of the TLP that the packet carries; `None` of a sync packet, and only there where
-    /// `cut` gave the view.
+    /// The header of the TLP that the packet carries; `None` of a sync packet, and of no other packet that `cut` gave.
     pub fn header(&self) -> Option<HeadView>
         ensures { result ≡ view_header self.now }
     {

@@ -1,4 +1,4 @@
--- What a send of a stream comes to: its answer, the packets' bytes, and the stream after it.
+-- What becomes of a send of a stream: its answer, the packets' bytes, and the stream after it.
 use Rattle.std.specs.Prelude.{ℕ, ◌≡◌, ◌+◌, Bool, List, [], ◌++◌, map, Option, Some, None, Result, Ok, Err}
 use Rattle.std.specs.Result.{result_map_both}
 use Rattle.ide_types.specs.declared.sub.SubKind.{SubKind}

@@ -20,7 +20,8 @@ pub struct Directions {
 impl Directions {
     ghost use Rattle.ide_stream.specs.Both.{pair_of, called_directions, settled_directions};
 
-    /// Puts a key of this draw into a slot.
+    /// Puts a key of this draw into a slot. Returns `OnlyLive` exactly if this slot is Live and the other holds no
+    /// newer Live key: then the key comes back.
     pub fn program(
         &mut self,
         sends: bool,
@@ -40,7 +41,7 @@ impl Directions {
         }
     }
 
-    /// GO.
+    /// GO: takes a Programmed key into use. Returns `SlotEmpty` exactly if the slot is Empty.
     pub fn go(&mut self, sends: bool, sub: SubKind, set: u8) -> Result<(), SlotEmpty>
         requires { set < 2 }
         ensures answer { is_ok result ≡ not (is_empty (slot_in (pair_of sends sub self.old) (is_one set))) }
@@ -53,7 +54,7 @@ impl Directions {
         }
     }
 
-    /// STOP.
+    /// STOP: empties a slot, with the open unit or the held packets under its key.
     pub fn halt(&mut self, sends: bool, sub: SubKind, set: u8)
         requires { set < 2 }
         ensures { self.new ≡ called_directions sends sub (Halt (is_one set)) self.old }
@@ -65,8 +66,8 @@ impl Directions {
         }
     }
 
-    /// What holds after each call: a direction of which no slot is Live counts from 0, a stream of which none is Live
-    /// has not failed, and nothing is lent.
+    /// Ends each call: a direction without a Live slot counts from 0 again, a failure of a stream without a Live slot
+    /// is forgotten, and nothing is lent any more.
     pub fn settle(&mut self)
         ensures { self.new ≡ settled_directions self.old }
     {

@@ -111,14 +111,14 @@ impl Stream {
         self.directions.tx.fixed().stream
     }
 
-    /// How many TLPs it was to send, and packets it was given.
+    /// How many TLPs it was asked to send, and how many packets it was given, together.
     pub fn calls(&self) -> u64
         ensures { result ≡ self.now.calls }
     {
         self.calls
     }
 
-    // Why a TLP of this sub-stream is not sealed, where it is not.
+    // Why a TLP of this sub-stream is not sealed; `None` if it is.
     fn refusal(&self, sub: SubKind) -> Option<SendRefusal>
         ensures { option_map refusal_verdict result ≡ first_that_holds (refusals (lanes_in self.now) sub) }
     {
@@ -128,9 +128,11 @@ impl Stream {
         self.directions.tx.refusal(sub)
     }
 
-    /// Seals a TLP's header and payload, of at most 16 and 4,096 bytes, behind the sync packets that must go first, and
+    /// Seals a TLP's header and payload, of at most 16 and 4,096 bytes, after the sync packets that must go first, and
     /// appends the packets to `out`, which has room for `SEND_ROOM` bytes more. `t` says that the TLP is trusted,
-    /// `more` that its unit goes on where it has room. A refusal changes nothing.
+    /// `more` that its unit goes on if it has room. Refused, in this order: Insecure, NoKey of the sub-stream,
+    /// Unfinished, NoKey of a sub-stream that needs a sync packet first, Worn of the sub-stream, Worn of one that needs
+    /// a sync packet first. A refusal changes nothing.
     pub fn send(
         &mut self,
         sub: SubKind,
@@ -158,9 +160,9 @@ impl Stream {
         }
     }
 
-    /// Takes a packet of the stream that `cut` gave, and answers what became of it; `None` where the stream is
-    /// insecure. Only an accepted unit moves a counter or empties a slot; what it carries is lent until the next packet
-    /// or call of key management. A failed check makes the stream insecure, and drops what its receivers hold.
+    /// Takes a packet of the stream that `cut` gave, and answers what became of it; `None` if the stream is insecure.
+    /// Only an accepted unit moves a counter or empties a slot; what it carries is lent until the next packet or call
+    /// of key management. A failed check makes the stream insecure, and drops what its receivers hold.
     pub fn take(&mut self, packet: &PacketView) -> Option<Taken>
         requires view { IsView packet.now }
         requires few { self.old.calls < 2 ^ 40 }
@@ -202,8 +204,8 @@ impl Stream {
         self.directions.rx.mark(i)
     }
 
-    /// Puts a key of this draw into a slot. `OnlyLive` comes exactly where the slot is Live and the other is not a
-    /// newer Live one: the key comes back, and no slot changes.
+    /// Puts a key of this draw into a slot. Returns `OnlyLive` exactly if this slot is Live and the other holds no
+    /// newer Live key: then the key comes back, and no slot changes.
     pub fn program(
         &mut self,
         set: u8,
@@ -224,7 +226,8 @@ impl Stream {
         answer
     }
 
-    /// GO: a Programmed key is Live, at a sender from the next unit on. `SlotEmpty` comes exactly of an Empty slot.
+    /// GO: a Programmed key is Live, at a sender from the next unit on. Returns `SlotEmpty` exactly if the slot is
+    /// Empty.
     pub fn go(&mut self, set: u8, dir: u8, sub: SubKind) -> Result<(), SlotEmpty>
         requires set { set < 2 }
         requires dir { dir < 2 }
@@ -246,7 +249,8 @@ impl Stream {
         self.directions.settle();
     }
 
-    /// The stream's status: insecure where a check failed, secure where all six sub-streams have a Live key.
+    /// The stream's status: Insecure if a check failed, else Secure if all six sub-streams have a Live key, Idle if
+    /// none has, and Partial between.
     pub fn status(&self) -> StreamStatus
         ensures { result ≡ stream_status self.now.state }
     {
@@ -255,7 +259,7 @@ impl Stream {
         status_of(self.directions.failed, some, all)
     }
 
-    /// The key set, 0 or 1, of the Live slot of a sender; `None` where none is Live.
+    /// The key set, 0 or 1, of the Live slot of a sender; `None` if none is Live.
     pub fn live_set(&self, sub: SubKind) -> Option<u8>
         ensures { result ≡ live_set (pair_at true sub self.now.state) }
     {

@@ -17,7 +17,7 @@ use Rattle.ide_types.specs.declared.status.StreamStatus.TheVariants as status
 abbrev pub Text : Type 0
 Text = List ℕ
 
--- words, each behind a space, and a line feed
+-- words, each after a space, and a line feed
 abbrev pub joined : List Text → Text
 joined [] = 10 ∷ []
 joined (w ∷ ws) = 32 ∷ (w ++ joined ws)

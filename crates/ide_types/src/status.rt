@@ -5,8 +5,8 @@ ghost use Rattle.ide_types.specs.Names.{status_word};
 
 use std::fmt;
 
-/// The state of an IDE stream at a port: none of its six sub-streams has a Live key, some have, each has, or a
-/// check failed since it came to have one (PCI Express Base 6.0 section 6.33, and this profile).
+/// The state of an IDE stream at a port: none of its six sub-streams has a Live key, some have, each has, or a check
+/// failed since it last had none (PCI Express Base 6.0 section 6.33, and this profile).
 #[derive(Clone, Copy, Debug, PartialEq, Eq)]
 pub enum StreamStatus {
     Idle,

@@ -1,2 +1,4 @@
 pub mod App
 pub mod Forms
+pub mod Numbers
+pub mod Rounds

@@ -1,7 +1,9 @@
 -- The command of the program, in the terms of `clap`.
-use Rattle.std.specs.Prelude.{true, codes}
+use Rattle.std.specs.Prelude.{ℕ, true, Some, codes}
 use Rattle.clap.specs.Words.{App, Rule, Text, new_app, new_rule, with_rule, with_subcommand}
 use Rattle.clap.specs.Simple.{on_top}
+use Rattle.clap.specs.declared.builder.action.ArgAction.TheVariants.{SetTrue}
+use Rattle.clap.specs.declared.builder.value_parser.ValueParser.TheVariants.{Unsigned}
 
 -- a required argument of any text
 abbrev pub name_rule : Text → Rule
@@ -10,11 +12,24 @@ name_rule id = record (new_rule id) { required = true }
 abbrev pub run_app : App
 run_app = with_rule (with_rule (new_app (codes "run")) (name_rule (codes "TOPOLOGY"))) (name_rule (codes "SCRIPT"))
 
+-- a flag by its long name, which is `true` if it is given
+abbrev pub flag_rule : Text → Rule
+flag_rule id = record (new_rule id) { long = Some id; action = Some SetTrue }
+
 abbrev pub check_app : App
-check_app = with_rule (new_app (codes "check")) (name_rule (codes "TOPOLOGY"))
+check_app = with_rule (with_rule (new_app (codes "check")) (name_rule (codes "TOPOLOGY"))) (flag_rule (codes "migrate"))
 
 abbrev pub show_app : App
 show_app = with_rule (new_app (codes "show")) (name_rule (codes "PACKETS"))
+
+-- a required number between these, in decimal digits
+abbrev pub number_rule : Text → (least most : ℕ) → Rule
+number_rule id least most = record (new_rule id) { required = true; parser = Some (Unsigned least most) }
+
+-- the seed is of 32 bits, and the rounds are 1 to 100,000
+abbrev pub generate_app : App
+generate_app = with_rule (with_rule (new_app (codes "generate")) (number_rule (codes "SEED") 0 4294967295))
+    (number_rule (codes "COUNT") 1 100000)
 
 -- a subcommand must be given, and neither help nor a version is offered
 abbrev pub top_app : App
@@ -24,5 +39,9 @@ top_app = on_top (λ s. record s {
   subcommand_required = true;
 }) (new_app (codes "ide"))
 
+-- the program with the subcommands that read a topology
+abbrev pub topologies_app : App
+topologies_app = with_subcommand (with_subcommand top_app run_app.top) check_app.top
+
 abbrev pub ide_app : App
-ide_app = with_subcommand (with_subcommand (with_subcommand top_app run_app.top) check_app.top) show_app.top
+ide_app = with_subcommand (with_subcommand topologies_app show_app.top) generate_app.top

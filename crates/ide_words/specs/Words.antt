@@ -1,29 +1,54 @@
 -- What the words of a command line ask for.
-use Rattle.std.specs.Prelude.{◌≡◌, ◌==◌, List, [], ◌∷◌, Bool, true, false, Option, Some, None, codes, unwrap_or}
+use Rattle.std.specs.Prelude.{◌≡◌, ◌==◌, ◌≤◌, ℕ, List, [], ◌∷◌, Bool, true, false, Option, Some, None, codes, unwrap_or}
 use Rattle.std.specs.Prelude.{if◌then◌else◌}
 use Rattle.std.specs.Str.{bytes_eq}
+use Rattle.std.specs.Str.Parse.{digits_value, without_leading_plus}
 use Rattle.clap.specs.Words.{Row, Text, fault_of, first_of, subcommand_of}
+use Rattle.clap.specs.ValueTests.{is_unsigned_in}
 use Rattle.clap.specs.Walk.{is_empty}
 use Rattle.ide_words.specs.Ide.{ide_app}
 use Rattle.ide_words.specs.declared.Request.{Request}
-use Rattle.ide_words.specs.declared.Request.TheVariants.{Run, Check, Show}
+use Rattle.ide_words.specs.declared.Request.TheVariants.{Run, Check, Migrate, Show, Generate}
 use Rattle.ide_words.specs.declared.WordsError.{WordsError}
 use Rattle.ide_words.specs.declared.WordsError.TheVariants.{Usage, Memory}
 
--- a request by the bytes of its names
+-- a request by the bytes of its names, and by its numbers
 pub data Asked : Type 0 where
   run : (topology script : Text) → Asked
   check : (topology : Text) → Asked
+  migrate : (topology : Text) → Asked
   show : (packets : Text) → Asked
+  generate : (seed count : ℕ) → Asked
 
--- the argument's text; `clap` gives each required one, and where there were none it would be the empty text
+-- the argument's text; `clap` gives each required one, and if there were none it would be the empty text
 abbrev pub text_of : Text → List Row → Text
 text_of id rows = unwrap_or (first_of id rows) []
+
+-- the flag is given
+abbrev pub is_set : Text → List Row → Bool
+is_set id rows = bytes_eq (text_of id rows) (codes "true")
+
+-- a topology is checked, or migrated if the flag is given
+abbrev pub checked : List Row → Asked
+checked rows =
+    if is_set (codes "migrate") rows then migrate (text_of (codes "TOPOLOGY") rows)
+    else check (text_of (codes "TOPOLOGY") rows)
+
+-- The number that a text writes in decimal digits. `clap` lets no text through whose number is not between these, and
+-- of such a text it would be the least.
+abbrev pub number_of : (least most : ℕ) → Text → ℕ
+number_of least most text =
+    if is_unsigned_in least most text then digits_value 10 (without_leading_plus text) else least
+
+abbrev pub generated : List Row → Asked
+generated rows = generate (number_of 0 4294967295 (text_of (codes "SEED") rows))
+    (number_of 1 100000 (text_of (codes "COUNT") rows))
 
 abbrev pub asked_by : Text → List Row → Asked
 asked_by name rows =
     if bytes_eq name (codes "run") then run (text_of (codes "TOPOLOGY") rows) (text_of (codes "SCRIPT") rows)
-    else if bytes_eq name (codes "check") then check (text_of (codes "TOPOLOGY") rows)
+    else if bytes_eq name (codes "check") then checked rows
+    else if bytes_eq name (codes "generate") then generated rows
     else show (text_of (codes "PACKETS") rows)
 
 -- what a subcommand and its arguments ask for; `clap` gives one, since it is required
@@ -35,16 +60,23 @@ asked_of (Some p) = asked_by p.0 p.1
 abbrev pub is_refused : List Text → Bool
 is_refused words = if is_empty (fault_of ide_app words) then false else true
 
--- what the words ask for, of which the first is the program's name; nothing where `clap` refuses them
+-- what the words ask for, of which the first is the program's name; nothing if `clap` refuses them
 abbrev pub asked : List Text → Option Asked
 asked words = if is_refused words then None else Some (asked_of (subcommand_of ide_app words))
 
 abbrev pub view : Request → Asked
 view (Run topology script) = run topology.now script.now
 view (Check topology) = check topology.now
+view (Migrate topology) = migrate topology.now
 view (Show packets) = show packets.now
+view (Generate seed count) = generate seed count
 
--- the words are refused exactly where `clap` refuses them, and want of memory is free
+-- 1 to 100,000 rounds are asked for
+abbrev pub HasFewRounds : Request → Type 0
+HasFewRounds (Generate seed count) = (1 ≤ count) × (count ≤ 100000)
+HasFewRounds _ = Unit {0}
+
+-- the words are refused exactly if `clap` refuses them, and want of memory is free
 abbrev pub Refuses : Option Asked → WordsError → Type 0
 Refuses asked Usage = asked ≡ None
 Refuses asked Memory = Unit {0}

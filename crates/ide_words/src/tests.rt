@@ -3,7 +3,7 @@ use crate::{Request, WordsError, read_words};
 use std::alloc::Global;
 use std::test::Fail;
 
-// The words behind the program's name.
+// The words after the program's name.
 fn words_of(alloc: Global, line: &[&str]) -> Result<Vec<String>, Fail> {
     let mut words = Vec::new(alloc);
     words.push(String::from_str(alloc, "ide")?)?;
@@ -28,6 +28,16 @@ fn takes_its_forms(rt: HostRuntime) -> Result<(), Fail> {
         Ok(Request::Check(topology)) => assert_eq!(rt; topology, "base.toml"),
         other => panic!(rt; "{other:?}"),
     }
+    for line in [
+        &["check", "base.toml", "--migrate"],
+        &["check", "--migrate", "base.toml"],
+    ] {
+        let words = words_of(rt.alloc(), line.as_slice())?;
+        match read_words(rt.alloc(), &words) {
+            Ok(Request::Migrate(topology)) => assert_eq!(rt; topology, "base.toml"),
+            other => panic!(rt; "{other:?}"),
+        }
+    }
     let words = words_of(rt.alloc(), &["show", "--", "-packets"])?;
     match read_words(rt.alloc(), &words) {
         Ok(Request::Show(packets)) => assert_eq!(rt; packets, "-packets"),
@@ -36,10 +46,32 @@ fn takes_its_forms(rt: HostRuntime) -> Result<(), Fail> {
     Ok(())
 }
 
+// A plus sign and leading zeros are numbers to `clap`.
+#[test]
+fn takes_numbers(rt: HostRuntime) -> Result<(), Fail> {
+    let lines: [(&str, &str, u32, u32); 4] = [
+        ("0", "1", 0, 1),
+        ("4294967295", "100000", 4294967295, 100000),
+        ("7", "100", 7, 100),
+        ("+7", "007", 7, 7),
+    ];
+    for (seed, count, x, rounds) in lines {
+        let words = words_of(rt.alloc(), &["generate", seed, count])?;
+        match read_words(rt.alloc(), &words) {
+            Ok(Request::Generate(a, b)) => {
+                assert_eq!(rt; a, x);
+                assert_eq!(rt; b, rounds);
+            }
+            other => panic!(rt; "{other:?}"),
+        }
+    }
+    Ok(())
+}
+
 // Neither help nor a version is offered.
 #[test]
 fn refuses_other_words(rt: HostRuntime) -> Result<(), Fail> {
-    let lines: [&[&str]; 16] = [
+    let lines: [&[&str]; 25] = [
         &[],
         &["jump"],
         &["run", "base.toml"],
@@ -47,8 +79,17 @@ fn refuses_other_words(rt: HostRuntime) -> Result<(), Fail> {
         &["run", "base.toml", "-x"],
         &["check"],
         &["check", "a", "b"],
-        &["check", "a", "--migrate"],
-        &["generate", "1", "10"],
+        &["check", "a", "--migrate", "--migrate"],
+        &["generate", "1"],
+        &["generate", "1", "10", "2"],
+        &["generate", "4294967296", "10"],
+        &["generate", "-1", "10"],
+        &["generate", "0x1", "10"],
+        &["generate", "1", "0"],
+        &["generate", "1", "100001"],
+        &["generate", "1", ""],
+        &["generate", "1", " 1"],
+        &["generate", "1", "ten"],
         &["show"],
         &["show", "a", "b"],
         &["help"],

@@ -28,6 +28,7 @@ small_key n = replicate 31 0 ++ n ∷ []
 -- link 0 has stream 5 in mode 1 and interface 0, which is bound to it; the pool has four draws, the device three nonces
 abbrev pub plan : Plan
 plan = record {
+  version = 1;
   portion = 64;
   units_per_key = 4294967296;
   pool = replicate 24 (small_key 0);
@@ -147,7 +148,7 @@ written_verdicts =
     run_verdicts ++ says (iv.Written 0 2) ∷ says (iv.Written 0 3) ∷ says (iv.State 0 3) ∷ says (iv.View 0 Broken)
     ∷ v.Sealed (packet false) ∷ v.Nothing ∷ says (iv.Memory (replicate 4 0)) ∷ v.Nothing ∷ []
 
--- a lock where the stream is not Secure at the host's port, and at the device's
+-- a lock while the stream is not Secure at the host's port, and at the device's
 abbrev pub half_keyed : List Event
 half_keyed =
     Interface (ie.Lock 0 None) ∷ Establish 0 5 (Some (record { exchange = 11; lost = Request })) ∷ Status 0 5

@@ -118,7 +118,7 @@ device_behind x st place o loss d due = device_with d place (tdi_behind x st o l
 
 pub record Comes (x : Site) (st : Standing) (place : ℕ) (o : InterfaceOp) (loss : Option Loss) (d : DeviceTdis)
     (due : Verdict) (w : Walked) : Type 0 where
-  pub verdict : asked_as x.number loss (read_in o w.read) w.outcome ≡ due
+  pub verdict : asked_as x.number loss (read_in o w.read) w.outcome ≡ Some due
   pub device : w.device ≡ device_behind x st place o loss d due
   pub managed : IsManaged st.draw x w.interface
       (on_operation st.drawn (op_event o x.number loss) due st.managed)
@@ -156,7 +156,7 @@ pub quiet : (x : Site) (st : Standing) (place : ℕ) (o : InterfaceOp) (loss : O
     → accepts_lock st.around x (event.Interface (op_event o x.number loss)) due st.tdi ≡ false
     → on_operation st.drawn (op_event o x.number loss) due st.managed ≡ st.managed
     → IsManaged st.draw x i st.managed
-    → asked_as x.number loss (read_in o read) out ≡ due
+    → asked_as x.number loss (read_in o read) out ≡ Some due
     → Comes x st place o loss d due (record { outcome = out; interface = i; read = read; device = d })
 quiet x st place o loss d due out i read same still none kept managed is = record {
   verdict = is;

@@ -19,7 +19,8 @@ use Rattle.tdi_host.specs.declared.step.Step.TheVariants as step
 use Rattle.tdi_host.specs.Judging.{Passed}
 use Rattle.tdi_host.specs.Views.{Seen, IsUnlocked, IsDoubt, halt_outcome, needs_after, taken_interface}
 use Rattle.tdi_device.specs.Replies.{DeviceTdis, Named, next_nonce}
-use Rattle.tdi_walks.specs.Operations.{lost_in, carried, reached, stated_once, stated_alone, at_step}
+use Rattle.key_laws.specs.Due.{lost_in}
+use Rattle.tdi_walks.specs.Operations.{carried, reached, stated_once, stated_alone, at_step}
 use Rattle.interface_joins.specs.Verdicts.{asked_as}
 use Rattle.interface_joins.specs.Faces.{IsManaged}
 use Rattle.interface_joins.proofs.Losses.{by_loss, once_lost, cut}
@@ -33,7 +34,7 @@ halted x draws m = v.Interface (iv.Halted x.number (needs_then m draws))
 halt_verdict : (x : Site) (draws : ℕ) (m : Managed) (loss : Option Loss) (l : Option Lost) → lost_in loss 1 ≡ l
     → asked_as x.number loss []
     (halt_outcome 1 (needs_after step.Halt draws (carried l Passed) m.started m.needs) (carried l Passed))
-    ≡ by_loss l 1 (halted x draws m)
+    ≡ Some (by_loss l 1 (halted x draws m))
 halt_verdict x draws m loss None is = refl
 halt_verdict x draws m loss (Some k) is = cut loss 1 k is
 

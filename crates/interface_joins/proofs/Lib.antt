@@ -10,3 +10,4 @@ pub mod Meeting
 pub mod Ends
 pub mod Faces
 pub mod Joins
+pub mod NoBadReply

@@ -12,7 +12,7 @@ use Rattle.link_events.specs.declared.event.Loss.{Loss}
 use Rattle.link_events.specs.declared.event.Lost.{Lost}
 use Rattle.link_events.specs.declared.event.Lost.TheVariants.{Request, Reply}
 use Rattle.link_verdicts.specs.declared.verdict.Verdict.{Verdict}
-use Rattle.key_laws.specs.Due.{lost_at}
+use Rattle.key_laws.specs.Due.{lost_in, lost_at}
 use Rattle.interface_states.specs.Sites.{Site}
 use Rattle.interface_states.specs.Views.{Managed, on_lock}
 use Rattle.interface_states.specs.Devices.{called, one_if, is_given, lock_call}
@@ -33,7 +33,7 @@ use Rattle.tdi_host.specs.Views.{Seen, IsUnlocked, IsLocked, IsRunning, IsDoubt,
 use Rattle.tdi_host.specs.Views.{lock_outcome, lock_refusal, taken_interface}
 use Rattle.tdi_device.specs.Replies.{DeviceTdis, Named, next_nonce, used_after, is_given as gives}
 use Rattle.tdi_walks.specs.Exchanges.{nonce_due}
-use Rattle.tdi_walks.specs.Operations.{lost_in, carried, reached, unless_lost, lost_early, stated_once, at_step}
+use Rattle.tdi_walks.specs.Operations.{carried, reached, unless_lost, lost_early, stated_once, at_step}
 use Rattle.tdi_walks.specs.Operations.{stated_lock}
 use Rattle.interface_joins.specs.Verdicts.{asked_as}
 use Rattle.interface_joins.specs.Faces.{IsManaged}
@@ -44,7 +44,7 @@ use Rattle.interface_joins.proofs.Comes.{begun_walk, refused_walk, same_device, 
 -- ---- the third exchange, by what the device answers
 
 lock_verdict : (x : Site) (loss : Option Loss) (l : Option Lost) (r : Result (List ℕ) ℕ) → lost_in loss 3 ≡ l
-    → asked_as x.number loss [] (lock_outcome 3 (carried l (nonce_due r))) ≡ by_loss l 3 (locked_as x r)
+    → asked_as x.number loss [] (lock_outcome 3 (carried l (nonce_due r))) ≡ Some (by_loss l 3 (locked_as x r))
 lock_verdict x loss None (Ok nonce) is = refl
 lock_verdict x loss None (Err code) is = refl
 lock_verdict x loss (Some k) r is = cut loss 3 k is
@@ -161,7 +161,7 @@ module _ (x : Site) (draw drawn portion place : ℕ) (secure : Bool) (loss : Opt
   refused : (seen : Seen) (host : StreamStatus) (due : Verdict) (r : Refusal) → slice_set d.interfaces place tdi
       ≡ d.interfaces → IsKey (nonce_of seen)
       → carries due 3 ≡ false → on_lock (told seen m) due ≡ told seen m
-      → asked_as x.number loss [] (outcome.Refused r) ≡ due
+      → asked_as x.number loss [] (outcome.Refused r) ≡ Some due
       → Comes x (standing seen host) place op.Lock loss d due
       (refused_walk r (host_of x draw seen m) read d)
   refused seen host due r same key none kept is =

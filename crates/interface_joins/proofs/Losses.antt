@@ -3,17 +3,17 @@
 use Rattle.std.proofs.Common.{◌≡◌, ℕ, ◌+◌, ◌<◌, ◌==◌, Bool, true, false, Option, Some, None, refl, ap, sym, subst, ◌∙◌}
 use Rattle.std.proofs.Common.{arith}
 use Rattle.std.specs.Prelude.{nat_le, nat_lt, ◌&&◌, if◌then◌else◌}
+use Rattle.std.specs.Option.{option_map}
 use Rattle.key_laws.proofs.Terms.{nat_tests}
 use Rattle.key_laws.proofs.Tests.{true-same, same-true, lt-false, le-false, different-false}
 use Rattle.link_events.specs.declared.event.Loss.{Loss}
 use Rattle.link_events.specs.declared.event.Lost.{Lost}
 use Rattle.link_events.specs.declared.event.Lost.TheVariants.{Request, Reply}
 use Rattle.link_verdicts.specs.declared.verdict.Verdict.{Verdict}
-use Rattle.key_laws.specs.Due.{lost_at, cut_off}
+use Rattle.key_laws.specs.Due.{lost_in, lost_at}
 use Rattle.interface_states.specs.Due.{unless_lost}
 use Rattle.interface_states.specs.Exchanges.{carries}
 use Rattle.interface_states.specs.Views.{Managed, on_lock}
-use Rattle.tdi_walks.specs.Operations.{lost_in}
 use Rattle.tdi_walks.specs.Reports.{lost_within}
 
 -- what an exchange of this number comes to, of which this is lost
@@ -58,17 +58,12 @@ pub thrice_lost : (loss : Option Loss) (w : Verdict) → unless_lost loss 3 w
 thrice_lost None w = refl
 thrice_lost (Some l) w = thrice_by l.exchange l.lost w _ _ _ refl refl refl
 
-cut_by : (l : Loss) (n : ℕ) (k : Lost) (b : Bool) → (l.exchange == n) ≡ b → (if b then Some l.lost else None) ≡ Some k
-    → cut_off (Some l) n ≡ lost_at k n
-cut_by l n k true test is =
-    let same : l.lost ≡ k = cc in
-    rw test (ap (λ j. lost_at j n) same)
-cut_by l n k false test is = absurd cc
+-- what an exchange comes to at which a message is lost
+abbrev pub lost_verdict : Option Loss → ℕ → Option Verdict
+lost_verdict loss n = option_map (λ k. lost_at k n) (lost_in loss n)
 
--- the verdict of the exchange that is lost
-pub cut : (loss : Option Loss) (n : ℕ) (k : Lost) → lost_in loss n ≡ Some k → cut_off loss n ≡ lost_at k n
-cut None n k is = absurd cc
-cut (Some l) n k is = cut_by l n k (l.exchange == n) refl is
+pub cut : (loss : Option Loss) (n : ℕ) (k : Lost) → lost_in loss n ≡ Some k → lost_verdict loss n ≡ Some (lost_at k n)
+cut loss n k is = ap (option_map (λ k. lost_at k n)) is
 
 -- ---- a lock that is lost ahead of its third exchange
 
@@ -86,18 +81,18 @@ within : (e c : ℕ) → (nat_le 1 e && nat_le e c) ≡ (nat_le 1 e && nat_lt e 
 within e c = grind (arith, nat_tests)
 
 -- what several exchanges come to, of which this one is lost
-abbrev pub by_number : Option Loss → Option ℕ → Verdict → Verdict
-by_number loss None w = w
-by_number loss (Some n) w = cut_off loss n
+abbrev pub by_number : Option Loss → Option ℕ → Verdict → Option Verdict
+by_number loss None w = Some w
+by_number loss (Some n) w = lost_verdict loss n
 
-number_by : (l : Loss) (w : Verdict) (b : Bool) → (if b then lost_at l.lost l.exchange else w)
+number_by : (l : Loss) (w : Verdict) (b : Bool) → Some (if b then lost_at l.lost l.exchange else w)
     ≡ by_number (Some l) (if b then Some l.exchange else None) w
 number_by l w true = rw (same-true l.exchange) refl
 number_by l w false = refl
 
-pub number_lost : (loss : Option Loss) (c : ℕ) (w : Verdict) → unless_lost loss c w
+pub number_lost : (loss : Option Loss) (c : ℕ) (w : Verdict) → Some (unless_lost loss c w)
     ≡ by_number loss (lost_within loss 1 c) w
 number_lost None c w = refl
 number_lost (Some l) c w =
-    ap (λ b. if b then lost_at l.lost l.exchange else w) (within l.exchange c)
+    ap (λ b. Some (if b then lost_at l.lost l.exchange else w)) (within l.exchange c)
     ∙ number_by l w (nat_le 1 l.exchange && nat_lt l.exchange (1 + c))

@@ -1,9 +1,10 @@
 -- A report: what is refused ahead of its first portion, by the device, or is lost, changes nothing; a report that is
 -- read whole is the one that the lock kept.
 use Rattle.std.proofs.Common.{◌≡◌, ℕ, ◌+◌, Bool, true, false, List, length, Option, Some, None}
-use Rattle.std.proofs.Common.{◌==◌, refl, ap, sym, subst, ◌∙◌}
-use Rattle.std.specs.Prelude.{slice_set, if◌then◌else◌}
+use Rattle.std.proofs.Common.{refl, ap, sym, subst, ◌∙◌}
+use Rattle.std.specs.Prelude.{slice_set}
 use Rattle.std.specs.Option.{option_map}
+use Rattle.std.proofs.lemmas.Option.{none-some, same_Some}
 use Rattle.ide_types.specs.declared.status.StreamStatus.{StreamStatus}
 use Rattle.ide_plan.specs.declared.plan.Plan.{Plan}
 use Rattle.ide_plan.specs.Fits.{IsKey}
@@ -13,7 +14,7 @@ use Rattle.link_events.specs.declared.event.Lost.{Lost}
 use Rattle.link_events.specs.declared.event.Lost.TheVariants.{Request, Reply}
 use Rattle.link_verdicts.specs.declared.verdict.Verdict.{Verdict}
 use Rattle.link_verdicts.specs.declared.verdict.Verdict.TheVariants as v
-use Rattle.key_laws.specs.Due.{lost_at, cut_off}
+use Rattle.key_laws.specs.Due.{lost_in, lost_at}
 use Rattle.interface_states.specs.Sites.{Site}
 use Rattle.interface_states.specs.Views.{Managed, on_report}
 use Rattle.interface_states.specs.Due.{Standing, reported_as, report_due, portions}
@@ -30,7 +31,7 @@ use Rattle.tdi_host.specs.Views.{Seen, IsUnlocked, IsLocked, IsRunning, IsDoubt,
 use Rattle.tdi_host.specs.Views.{report_outcome, report_refusal, taken_interface}
 use Rattle.tdi_device.specs.Replies.{DeviceTdis, Named, next_nonce}
 use Rattle.tdi_walks.specs.Exchanges.{portion_due}
-use Rattle.tdi_walks.specs.Operations.{Walked, lost_in, carried, reached, stated_alone}
+use Rattle.tdi_walks.specs.Operations.{Walked, carried, reached, stated_alone}
 use Rattle.tdi_walks.specs.Reports.{lost_within, read_outcome, read_interface, ReportIsRead}
 use Rattle.interface_joins.specs.Verdicts.{asked_as}
 use Rattle.interface_joins.specs.Faces.{SeenAs, IsManaged}
@@ -41,7 +42,7 @@ use Rattle.interface_joins.proofs.Comes.{begun_walk, refused_walk, same_device, 
 -- ---- the device is in no lock
 
 none_verdict : (x : Site) (loss : Option Loss) (bytes : List ℕ) (l : Option Lost) → lost_in loss 1 ≡ l
-    → asked_as x.number loss bytes (report_outcome 1 (carried l (Refused 4))) ≡ by_loss l 1 (v.RefusedDevice 1 4)
+    → asked_as x.number loss bytes (report_outcome 1 (carried l (Refused 4))) ≡ Some (by_loss l 1 (v.RefusedDevice 1 4))
 none_verdict x loss bytes None is = refl
 none_verdict x loss bytes (Some k) is = cut loss 1 k is
 
@@ -76,29 +77,30 @@ key_reported (IsRunning floor) key = key
 key_reported IsDoubt key = key
 key_reported IsBroken key = key
 
-cut_kept : (loss : Option Loss) (n : ℕ) (m : Managed) → on_report m (cut_off loss n) ≡ m
-cut_kept None n m = refl
-cut_kept (Some l) n m = by (l.exchange == n) l.lost
-  where
-    by : (b : Bool) (k : Lost) → on_report m (if b then lost_at k n else v.RefusedDevice n 3) ≡ m
-    by true Request = refl
-    by true Reply = refl
-    by false k = refl
+lost_kept : (l : Option Lost) (n : ℕ) (m : Managed) (due : Verdict) → Some due ≡ option_map (λ k. lost_at k n) l
+    → on_report m due ≡ m
+lost_kept None n m due is = absurd (none-some due (sym is))
+lost_kept (Some Request) n m due is =
+    subst (λ w. on_report m w ≡ m) (same_Some (v.LostRequest n) due (sym is)) refl
+lost_kept (Some Reply) n m due is =
+    subst (λ w. on_report m w ≡ m) (same_Some (v.LostReply n) due (sym is)) refl
 
 read_verdict : (x : Site) (loss : Option Loss) (report bytes : List ℕ) (lost : Option ℕ)
     → (lost ≡ None → bytes ≡ report)
     → asked_as x.number loss bytes (read_outcome lost) ≡ by_number loss lost (v.Interface (iv.Reported x.number report))
-read_verdict x loss report bytes None is = ap (λ k. v.Interface (iv.Reported x.number k)) (is refl)
+read_verdict x loss report bytes None is = ap (λ k. Some (v.Interface (iv.Reported x.number k))) (is refl)
 read_verdict x loss report bytes (Some n) is = refl
 
 read_managed : (x : Site) (draw : ℕ) (seen : Seen) (m : Managed) (loss : Option Loss) (report : List ℕ)
-    (lost : Option ℕ) → IsKey (nonce_of seen)
-    → IsManaged draw x (read_interface lost (host_of x draw seen m))
-    (on_report (told seen m) (by_number loss lost (v.Interface (iv.Reported x.number report))))
-read_managed x draw seen m loss report None key =
-    managed_of x draw (reported seen) _ (seen_reported seen m) (key_reported seen key)
-read_managed x draw seen m loss report (Some n) key =
-    subst (λ k. IsManaged draw x (host_of x draw seen m) k) (sym (cut_kept loss n (told seen m)))
+    (lost : Option ℕ) (due : Verdict) → IsKey (nonce_of seen)
+    → Some due ≡ by_number loss lost (v.Interface (iv.Reported x.number report))
+    → IsManaged draw x (read_interface lost (host_of x draw seen m)) (on_report (told seen m) due)
+read_managed x draw seen m loss report None due key is =
+    subst (λ w. IsManaged draw x (read_interface None (host_of x draw seen m)) (on_report (told seen m) w))
+    (same_Some (v.Interface (iv.Reported x.number report)) due (sym is))
+    (managed_of x draw (reported seen) _ (seen_reported seen m) (key_reported seen key))
+read_managed x draw seen m loss report (Some n) due key is =
+    subst (λ k. IsManaged draw x (host_of x draw seen m) k) (sym (lost_kept (lost_in loss n) n (told seen m) due is))
     (managed_of x draw seen _ (told_seen seen m) key)
 
 -- ---- the operation
@@ -148,20 +150,20 @@ module _ (x : Site) (plan : Plan) (draw drawn portion place : ℕ) (secure : Boo
   walked seen host (Some report) w same key is walk =
       let lost = lost_within loss 1 (portions plan.portion (length report)) in
       let done = v.Interface (iv.Reported x.number report) in
-      let due : by_number loss lost done ≡ reported_as plan x loss (Some report)
-      = sym (number_lost loss (portions plan.portion (length report)) done) in
-      subst (λ k. Comes x (standing seen host) place op.Report loss d k w) due
-      (record {
+      let due = reported_as plan x loss (Some report) in
+      let due_is : Some due ≡ by_number loss lost done
+      = number_lost loss (portions plan.portion (length report)) done in
+      record {
         verdict = ap (asked_as x.number loss w.read.bytes) walk.outcome_is
-            ∙ read_verdict x loss report w.read.bytes lost walk.report_is;
+            ∙ read_verdict x loss report w.read.bytes lost walk.report_is ∙ sym due_is;
         device = walk.device_is ∙ left_device d place tdi _ false same refl refl;
-        managed = subst (λ j. IsManaged draw x j (on_report (told seen m) (by_number loss lost done)))
-            (sym walk.interface_is) (read_managed x draw seen m loss report lost key);
-      })
+        managed = subst (λ j. IsManaged draw x j (on_report (told seen m) due))
+            (sym walk.interface_is) (read_managed x draw seen m loss report lost due key due_is);
+      }
 
   refused : (seen : Seen) (host : StreamStatus) (due : Verdict) (r : Refusal)
       → slice_set d.interfaces place tdi ≡ d.interfaces → IsKey (nonce_of seen)
-      → on_report (told seen m) due ≡ told seen m → asked_as x.number loss read.bytes (outcome.Refused r) ≡ due
+      → on_report (told seen m) due ≡ told seen m → asked_as x.number loss read.bytes (outcome.Refused r) ≡ Some due
       → Comes x (standing seen host) place op.Report loss d due (refused_walk r (host_of x draw seen m) read d)
   refused seen host due r same key kept is =
       quiet x (standing seen host) place op.Report loss d due _ _ _ same refl refl kept

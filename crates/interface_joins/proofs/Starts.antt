@@ -28,7 +28,8 @@ use Rattle.tdi_host.specs.Views.{Seen, IsUnlocked, IsLocked, IsRunning, IsDoubt,
 use Rattle.tdi_host.specs.Views.{start_outcome, start_refusal, taken_interface}
 use Rattle.tdi_device.specs.Replies.{DeviceTdis, Named, next_nonce}
 use Rattle.tdi_walks.specs.Exchanges.{start_due as start_judged}
-use Rattle.tdi_walks.specs.Operations.{lost_in, carried, reached, stated_once, stated_alone, at_step}
+use Rattle.key_laws.specs.Due.{lost_in}
+use Rattle.tdi_walks.specs.Operations.{carried, reached, stated_once, stated_alone, at_step}
 use Rattle.interface_joins.specs.Verdicts.{asked_as}
 use Rattle.interface_joins.specs.Faces.{IsManaged}
 use Rattle.interface_joins.proofs.Losses.{by_loss, once_lost, cut}
@@ -39,7 +40,8 @@ use Rattle.interface_joins.proofs.Comes.{begun_walk, refused_walk, same_device, 
 
 start_verdict : (x : Site) (draw : ℕ) (loss : Option Loss) (l : Option Lost) (r : Result (Unit {0}) ℕ)
     → lost_in loss 1 ≡ l
-    → asked_as x.number loss [] (start_outcome 1 draw (carried l (start_judged r))) ≡ by_loss l 1 (started_as x draw r)
+    → asked_as x.number loss [] (start_outcome 1 draw (carried l (start_judged r)))
+    ≡ Some (by_loss l 1 (started_as x draw r))
 start_verdict x draw loss None (Ok done) is = refl
 start_verdict x draw loss None (Err code) is = refl
 start_verdict x draw loss (Some k) r is = cut loss 1 k is
@@ -87,7 +89,7 @@ module _ (x : Site) (draw drawn portion place : ℕ) (secure : Bool) (loss : Opt
   refused : (seen : Seen) (host : StreamStatus) (due : Verdict) (r : Refusal)
       → slice_set d.interfaces place tdi ≡ d.interfaces
       → IsKey (nonce_of seen) → carries due 1 ≡ false → on_start (told seen m) due ≡ told seen m
-      → asked_as x.number loss [] (outcome.Refused r) ≡ due
+      → asked_as x.number loss [] (outcome.Refused r) ≡ Some due
       → Comes x (standing seen host) place op.Start loss d due
       (refused_walk r (host_of x draw seen m) read d)
   refused seen host due r same key none kept is =

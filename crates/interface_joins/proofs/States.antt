@@ -20,7 +20,8 @@ use Rattle.tdi_host.specs.Judging.{State}
 use Rattle.tdi_host.specs.Views.{Seen, IsUnlocked, IsLocked, IsRunning, IsDoubt, IsBroken, nonce_of, state_outcome}
 use Rattle.tdi_host.specs.Views.{taken_interface}
 use Rattle.tdi_device.specs.Replies.{DeviceTdis, Named, next_nonce}
-use Rattle.tdi_walks.specs.Operations.{lost_in, carried, reached, stated_once, stated_alone, at_step}
+use Rattle.key_laws.specs.Due.{lost_in}
+use Rattle.tdi_walks.specs.Operations.{carried, reached, stated_once, stated_alone, at_step}
 use Rattle.interface_joins.specs.Verdicts.{asked_as}
 use Rattle.interface_joins.specs.Faces.{IsManaged}
 use Rattle.interface_joins.proofs.Losses.{by_loss, once_lost, cut}
@@ -32,7 +33,7 @@ abbrev told_state : Site → ℕ → Verdict
 told_state x code = v.Interface (iv.State x.number code)
 
 state_verdict : (x : Site) (code : ℕ) (loss : Option Loss) (l : Option Lost) → lost_in loss 1 ≡ l
-    → asked_as x.number loss [] (state_outcome 1 (carried l (State code))) ≡ by_loss l 1 (told_state x code)
+    → asked_as x.number loss [] (state_outcome 1 (carried l (State code))) ≡ Some (by_loss l 1 (told_state x code))
 state_verdict x code loss None is = refl
 state_verdict x code loss (Some k) is = cut loss 1 k is
 

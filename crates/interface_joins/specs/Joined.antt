@@ -42,7 +42,7 @@ pub record IsJoined (plan : Plan) (s : Streams) (used : ℕ → ℕ) (x : Site) 
     (o : InterfaceOp) (loss : Option Loss) (m : ManagerView) (d : DeviceTdis) (e : Ended) : Type 0 where
   pub verdict : Verdict
   pub verdict_is : verdict ≡ asked_due plan x (standing_of plan s used x f) (op_event o number loss)
-  pub ended_is : ended_as number o loss e ≡ verdict
+  pub ended_is : ended_as number o loss e ≡ Some verdict
   pub interface : HostTdi
   pub tdi : Tdi
   pub manager_is : e.manager.interfaces ≡ slice_set m.interfaces number interface

@@ -1,5 +1,6 @@
 -- What operations on interfaces come to, as verdicts.
-use Rattle.std.specs.Prelude.{ℕ, List, [], Option}
+use Rattle.std.specs.Prelude.{ℕ, List, [], Option, Some, None, IsSome}
+use Rattle.std.specs.Option.{option_map}
 use Rattle.interface_words.specs.declared.view.View.{View}
 use Rattle.interface_words.specs.declared.view.View.TheVariants as word
 use Rattle.interface_words.specs.declared.verdict.InterfaceVerdict.TheVariants as iv
@@ -8,7 +9,7 @@ use Rattle.link_events.specs.declared.event.InterfaceEvent.{InterfaceEvent}
 use Rattle.link_events.specs.declared.event.InterfaceEvent.TheVariants as ie
 use Rattle.link_verdicts.specs.declared.verdict.Verdict.{Verdict}
 use Rattle.link_verdicts.specs.declared.verdict.Verdict.TheVariants as v
-use Rattle.key_laws.specs.Due.{cut_off}
+use Rattle.key_laws.specs.Due.{lost_in, lost_at}
 use Rattle.tdi_host.specs.declared.operation.View.{View as Seen}
 use Rattle.tdi_host.specs.declared.operation.View.TheVariants as seen
 use Rattle.tdi_host.specs.declared.operation.InterfaceOp.{InterfaceOp}
@@ -35,20 +36,28 @@ shown_as i report (shown.Draw draw) = v.Interface (iv.Started i draw)
 shown_as i report (shown.Needs needs) = v.Interface (iv.Halted i needs)
 shown_as i report (shown.State state) = v.Interface (iv.State i state)
 
-abbrev pub refused_as : Option Loss → Refusal → Verdict
-refused_as loss (refusal.WrongState view) = v.Interface (iv.RefusedWrongState (view_shown view))
-refused_as loss refusal.NotReported = v.Interface iv.RefusedNotReported
-refused_as loss (refusal.NotSecure status) = v.RefusedNotSecure status
-refused_as loss (refusal.RefreshFirst draw needed) = v.Interface (iv.RefusedRefreshFirst draw needed)
-refused_as loss (refusal.SessionLost exchange) = cut_off loss exchange
-refused_as loss (refusal.DeviceRefused exchange code) = v.RefusedDevice exchange code
-refused_as loss (refusal.BadReply exchange) = v.Nothing
+-- A lost exchange has the verdict of the message that was lost there. If none was, it has no verdict, nor has a bad
+-- reply.
+abbrev pub refused_as : Option Loss → Refusal → Option Verdict
+refused_as loss (refusal.WrongState view) = Some (v.Interface (iv.RefusedWrongState (view_shown view)))
+refused_as loss refusal.NotReported = Some (v.Interface iv.RefusedNotReported)
+refused_as loss (refusal.NotSecure status) = Some (v.RefusedNotSecure status)
+refused_as loss (refusal.RefreshFirst draw needed) = Some (v.Interface (iv.RefusedRefreshFirst draw needed))
+refused_as loss (refusal.SessionLost exchange) = option_map (λ lost. lost_at lost exchange) (lost_in loss exchange)
+refused_as loss (refusal.DeviceRefused exchange code) = Some (v.RefusedDevice exchange code)
+refused_as loss (refusal.BadReply exchange) = None
 
--- of the interface of this number; a report that was read is this one
-abbrev pub asked_as : ℕ → Option Loss → List ℕ → Outcome → Verdict
-asked_as i loss report outcome.Next = v.Nothing
-asked_as i loss report (outcome.Done s) = shown_as i report s
+-- of the interface of this number; a report that was read is this one; an operation that is not at its end has none
+abbrev pub asked_as : ℕ → Option Loss → List ℕ → Outcome → Option Verdict
+asked_as i loss report outcome.Next = None
+asked_as i loss report (outcome.Done s) = Some (shown_as i report s)
 asked_as i loss report (outcome.Refused r) = refused_as loss r
+
+-- No reply was bad, and no exchange was lost but one whose message is lost.
+abbrev pub NoBadReply : Option Loss → Outcome → Type 0
+NoBadReply loss (outcome.Refused (refusal.BadReply n)) = ⊥
+NoBadReply loss (outcome.Refused (refusal.SessionLost n)) = IsSome (lost_in loss n)
+NoBadReply loss o = Unit {0}
 
 -- the bytes that a report is shown by
 abbrev pub report_of : InterfaceOp → Ended → List ℕ
@@ -56,7 +65,7 @@ report_of op.Report e = e.manager.read.bytes
 report_of o e = []
 
 -- the verdict of an operation that ended so
-abbrev pub ended_as : ℕ → InterfaceOp → Option Loss → Ended → Verdict
+abbrev pub ended_as : ℕ → InterfaceOp → Option Loss → Ended → Option Verdict
 ended_as i o loss e = asked_as i loss (report_of o e) e.outcome
 
 -- the event of an operation

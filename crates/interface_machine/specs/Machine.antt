@@ -57,7 +57,7 @@ around_of plan s used x f = record {
 
 -- ---- one step
 
--- `secure` is what is read behind the event
+-- `secure` is what is read after the event
 abbrev pub face_after : Plan → Streams → (ℕ → ℕ → Bool) → (ℕ → ℕ) → Event → Verdict → Site → Face → Face
 face_after plan s secure used e w x f = record {
   tdi =

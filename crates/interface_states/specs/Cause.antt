@@ -30,7 +30,7 @@ owner_read plan link (Err f) = None
 
 -- ---- T
 
--- T of a TLP on a stream: at a host's port as it is asked, at a device's where its owner is in RUN
+-- T of a TLP on a stream: at a host's port as it is asked, at a device's if its owner is in RUN
 abbrev pub t_due : Plan → History → PortName → Side → Option Site → ℕ → Bool → Bool
 t_due plan h port Host owner stream trusted = trusted
 t_due plan h port Device owner stream trusted = sets_t plan h port.link stream owner

@@ -37,7 +37,7 @@ around plan h used x = record {
   nonce = (managed h x).nonce;
 }
 
--- ---- what comes to it
+-- ---- what reaches it
 
 abbrev pub called : Bool → Call → Tdi → Tdi
 called true call tdi = tdi_after tdi call
@@ -56,7 +56,7 @@ asked a x (ie.Flr i) w tdi = called (is_applied w) LevelReset tdi
 asked a x (ie.Firmware i) w tdi = called (is_applied w) FirmwareUpdate tdi
 asked a x e w tdi = tdi
 
--- `left` says that its stream was Secure at the device's port before the pair, and is not behind it
+-- `left` says that its stream was Secure at the device's port before the pair, and is not after it
 abbrev pub next_tdi : Around → Bool → Site → Event → Verdict → Tdi → Tdi
 next_tdi a left x (event.Interface e) w tdi = if is_number (number_in e) x.number then asked a x e w tdi else tdi
 next_tdi a left x (event.Reset link) (v.Reset l) tdi = called (link == x.link) LinkReset tdi
@@ -131,7 +131,7 @@ is_run _ = false
 abbrev pub runs_at : Plan → History → Site → Bool
 runs_at plan h x = is_run (tdi_at plan h x).state
 
--- a device's port sets T on a stream where the TLP's owner is an interface in RUN that is bound to it
+-- a device's port sets T on a stream if the TLP's owner is an interface in RUN that is bound to it
 abbrev pub sets_t : Plan → History → ℕ → ℕ → Option Site → Bool
 sets_t plan h link stream None = false
 sets_t plan h link stream (Some x) = runs_at plan h x && (x.plan.stream == stream)

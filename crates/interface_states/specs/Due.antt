@@ -12,13 +12,13 @@ use Rattle.link_events.specs.declared.event.InterfaceEvent.TheVariants as ie
 use Rattle.link_verdicts.specs.declared.verdict.Verdict.TheVariants as v
 use Rattle.interface_words.specs.declared.verdict.InterfaceVerdict.TheVariants as iv
 
--- what an operation comes to whose last exchange has this number: what it would, unless one is lost
+-- the verdict of an operation whose last exchange has this number: this one, unless an exchange is lost
 abbrev pub unless_lost : Option Loss → ℕ → Verdict → Verdict
 unless_lost None last w = w
 unless_lost (Some loss) last w =
     if nat_le 1 loss.exchange && nat_le loss.exchange last then lost_at loss.lost loss.exchange else w
 
--- ---- what stands where an interface is asked
+-- ---- what stands when an interface is asked
 
 pub record Standing : Type 0 where
   pub around : Around
@@ -114,7 +114,7 @@ halt_due x s loss = unless_lost loss 1 (v.Interface (iv.Halted x.number (needs_t
 abbrev pub state_due : Site → Standing → Option Loss → Verdict
 state_due x s loss = unless_lost loss 1 (v.Interface (iv.State x.number (state_code s.tdi.state)))
 
--- ---- what is done to the device: each shows the state behind it
+-- ---- what is done to the device: each shows the state after it
 
 abbrev pub code_after : Tdi → Call → ℕ
 code_after tdi call = state_code (tdi_after tdi call).state
@@ -150,6 +150,6 @@ abbrev pub with_number : Plan → History → InterfaceEvent → Option ℕ → 
 with_number plan h e None given = given
 with_number plan h e (Some i) given = on_site (λ x. interface_due plan h x e) (site_at plan i)
 
--- the verdict that is due; where the event names no interface it is given
+-- the verdict that is due; if the event names no interface it is given
 unfoldable pub due : Plan → History → InterfaceEvent → Verdict → Verdict
 due plan h e given = with_number plan h e (number_in e) given

@@ -5,7 +5,7 @@ use Rattle.interface_states.specs.Terms.{Verdict, InterfaceVerdict}
 use Rattle.link_verdicts.specs.declared.verdict.Verdict.TheVariants as v
 use Rattle.interface_words.specs.declared.verdict.InterfaceVerdict.TheVariants as iv
 
--- it came to its end
+-- it ended
 abbrev pub is_done : InterfaceVerdict → Bool
 is_done (iv.Locked i nonce) = true
 is_done (iv.Reported i report) = true

@@ -32,6 +32,6 @@ site_with plan link requester = find (λ x. (x.link == link) && (x.plan.requeste
 abbrev pub nonces_of : Plan → ℕ → List (List ℕ)
 nonces_of plan link = slice_index_or (map (λ (l : LinkPlan). l.nonces) plan.links) link []
 
--- the one that comes behind so many
+-- the one that comes after so many
 abbrev pub nonce_behind : Plan → ℕ → ℕ → Option (List ℕ)
 nonce_behind plan link used = slice_get (nonces_of plan link) used

@@ -49,7 +49,7 @@ on_start m w =
     else if is_refused_at w 1 then record m { view = Broken; started = true }
     else m
 
--- all draws so far, where it may have run since it was last locked
+-- all draws so far, if it may have run since it was last locked
 abbrev pub needs_then : Managed → ℕ → ℕ
 needs_then m drawn = if m.started then drawn else m.needs
 
@@ -132,7 +132,7 @@ needs_at h x = (managed h x).needs
 
 -- ---- the draw of a stream
 
--- that of its last establish that began, or of the last refresh that came to its end since
+-- that of its last establish that began, or of the last refresh that ended since
 unfoldable pub stream_draw : History → ℕ → ℕ → ℕ
 stream_draw [] link stream = 0
 stream_draw ((event.Establish l s loss, w) ∷ h) link stream =
@@ -152,6 +152,6 @@ abbrev pub granted : History → Option Site → Option (ℕ × ℕ)
 granted h None = None
 granted h (Some x) = bound_if (view_at h x) x.plan.stream (floor_at h x)
 
--- the bound stream and the floor of the interface of a link with this requester ID, where its view is Running
+-- the bound stream and the floor of the interface of a link with this requester ID, if its view is Running
 abbrev pub grant_at : Plan → History → ℕ → ℕ → Option (ℕ × ℕ)
 grant_at plan h link requester = granted h (site_with plan link requester)

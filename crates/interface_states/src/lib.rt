@@ -1,4 +1,5 @@
-//! Device interfaces, the manager's views of them and what they come to, over whole histories; and their laws.
+//! Device interfaces, the manager's views of them and the verdicts of their events, over whole histories; and their
+//! laws.
 #![tactic(auto)]
 
 mod laws;

@@ -1,5 +1,5 @@
-//! Words of device interfaces: their registers, the manager's views of them, and what an event that names an interface
-//! or trusted memory comes to.
+//! Words of device interfaces: their registers, the manager's views of them, and the verdicts of events that name an
+//! interface or trusted memory.
 #![tactic(auto)]
 
 mod register;

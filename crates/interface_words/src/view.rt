@@ -16,7 +16,7 @@ pub enum View {
     Running,
     /// A message was lost on the way, so that the device may be in one of two states.
     Doubt,
-    /// Known not to be what it was.
+    /// Its lock is known to have ended.
     Broken,
 }
 

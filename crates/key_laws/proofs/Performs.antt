@@ -1,24 +1,33 @@
 -- How far an operation comes, by the verdict that is due.
 use Rattle.key_laws.proofs.Terms.{◌≡◌, ℕ, suc, zero, ◌+◌, ◌-◌, ◌<◌, ◌≤◌, Bool, true, false, Option, Some, None, arith}
-use Rattle.key_laws.proofs.Terms.{◌||◌, if◌then◌else◌, SubKind, Pr, Npr, Cpl, Device, Loss, Verdict, Work, Reach, reach}
-use Rattle.key_laws.proofs.Terms.{last_of, reach_of, program_at}
-use Rattle.key_laws.proofs.Terms.{PortView, is_refused, is_lost, first_from, comes_to, stays_at, performed}
+use Rattle.key_laws.proofs.Terms.{◌⊎◌, inl, inr, SubKind, Pr, Npr, Cpl, Device, Loss, Lost, Operation, Verdict, Work}
+use Rattle.key_laws.proofs.Terms.{Reach, reach, last_of, reach_of, program_at, option_or, unwrap_or, refl}
+use Rattle.key_laws.proofs.Terms.{List, [], ◌∷◌, ◌==◌, ◌∙◌, Place, places_of, if◌then◌else◌, first_status}
+use Rattle.key_laws.proofs.Terms.{PortView, cut_at, done, first_from, lost_in, performed, refusal_at, stays}
 use Rattle.link_verdicts.specs.declared.verdict.Operation.TheVariants as op
-use Rattle.key_laws.proofs.Tests.{neither-true}
+use Rattle.link_verdicts.specs.declared.verdict.Verdict.TheVariants as v
 use Rattle.key_laws.proofs.Fits.{Reached}
 
--- the first that passes the test, and those before it do not; or none does
-abbrev First : (ℕ → Bool) → ℕ → ℕ → Option ℕ → Type 0
-First test n c None = (x : ℕ) → n ≤ x → x < n + c → test x ≡ false
-First test n c (Some y) = (n ≤ y) × (y < n + c) × ((x : ℕ) → n ≤ x → x < y → test x ≡ false)
+-- the first exchange that gives a verdict, and those before it give none; or none does
+abbrev First : (ℕ → Option Verdict) → ℕ → ℕ → Option Verdict → Type 0
+First cut n c None = (x : ℕ) → n ≤ x → x < n + c → cut x ≡ None
+First cut n c (Some verdict) =
+    (y : ℕ) × (n ≤ y) × (y < n + c) × (cut y ≡ Some verdict) × ((x : ℕ) → n ≤ x → x < y → cut x ≡ None)
 
-one_more : (test : ℕ → Bool) (n c : ℕ) (o : Option ℕ) → First test (n + 1) c o
-    → First test n (suc c) (if test n then Some n else o)
-one_more test n c o rest = grind arith
+after_none : (cut : ℕ → Option Verdict) (n c : ℕ) (o : Option Verdict) → cut n ≡ None → First cut (n + 1) c o
+    → First cut n (suc c) o
+after_none cut n c None none rest = λ x le lt. grind (arith, none, rest)
+after_none cut n c (Some verdict) none (y, le, lt, is, before) =
+    (y, omega arith, omega arith, is, λ x from to. grind (arith, none, before))
 
-first_is : (test : ℕ → Bool) (n c : ℕ) → First test n c (first_from test n c)
-first_is test n zero = λ x le lt. absurd (omega arith)
-first_is test n (suc c) = one_more test n c (first_from test (n + 1) c) (first_is test (n + 1) c)
+first_is : (cut : ℕ → Option Verdict) (n c : ℕ) → First cut n c (first_from cut n c)
+first_is cut n zero = λ x le lt. absurd (omega arith)
+first_is cut n (suc c) = by_cut (cut n) refl (first_is cut (n + 1) c)
+  where
+    by_cut : (o : Option Verdict) → cut n ≡ o → First cut (n + 1) c (first_from cut (n + 1) c)
+        → First cut n (suc c) (option_or o (first_from cut (n + 1) c))
+    by_cut None none rest = after_none cut n c _ none rest
+    by_cut (Some verdict) is rest = (n, omega arith, omega arith, is, λ x le lt. absurd (omega arith))
 
 -- ---- an event of an operation
 
@@ -27,39 +36,140 @@ pub record Performs (ports : PortView) (link stream : ℕ) (w : Work) (verdict :
   pub reached_to : Reach
   pub says : reach_of w.operation verdict ≡ Some reached_to
   pub reached : Reached w.first (last_of w.operation) reached_to
-  pub taken : (n : ℕ) → w.first ≤ n → n < reached_to.acknowledged → is_refused ports w.operation w.set link stream n
-      ≡ false
+  pub taken : (n : ℕ) → w.first ≤ n → n < reached_to.acknowledged → refusal_at ports w.operation w.set link stream n
+      ≡ None
+
+not_refused : (lost : Option Lost) (status : Option ℕ) (n : ℕ) → cut_at lost status n ≡ None → status ≡ None
+not_refused lost status n none = grind arith
+
+done_says : (link stream : ℕ) (w : Work) → reach_of w.operation (done link stream w)
+    ≡ Some (reach (last_of w.operation + 1) (last_of w.operation + 1))
+done_says link stream w = grind arith
 
 -- how far the verdict came
 abbrev came_to : Option Reach → Reach
 came_to (Some r) = r
 came_to None = reach 0 0
 
-come_by : (link stream : ℕ) (w : Work) (loss : Option Loss) (o : Option ℕ) (test : ℕ → Bool)
-    → w.first ≤ last_of w.operation + 1
-    → First test w.first (last_of w.operation + 1 - w.first) o
-    → (reach_of w.operation (comes_to link stream w loss o) ≡ Some
-    (came_to (reach_of w.operation (comes_to link stream w loss o))))
-    × Reached w.first (last_of w.operation) (came_to (reach_of w.operation (comes_to link stream w loss o)))
-    × ((n : ℕ) → w.first ≤ n → n < (came_to (reach_of w.operation (comes_to link stream w loss o))).acknowledged
-    → test n ≡ false)
-come_by link stream w loss o test within first = grind arith
+cut_says : (o : Operation) (lost : Option Lost) (status : Option ℕ) (n : ℕ) (verdict : Verdict)
+    → cut_at lost status n ≡ Some verdict
+    → (reach_of o verdict ≡ Some (came_to (reach_of o verdict))) × ((came_to (reach_of o verdict)).acknowledged ≡ n)
+    × (n ≤ (came_to (reach_of o verdict)).carried) × ((came_to (reach_of o verdict)).carried ≤ n + 1)
+cut_says o lost status n verdict is = grind arith
 
 pub performs : (ports : PortView) (link stream : ℕ) (loss : Option Loss) (w : Work) → w.first ≤ last_of w.operation + 1
     → Performs ports link stream w (performed ports link stream loss w)
-performs ports link stream loss w within =
-    let first = first_is (λ n. is_lost loss n || is_refused ports w.operation w.set link stream n) w.first
-    (last_of w.operation + 1 - w.first) in
-    let come = come_by link stream w loss (stays_at ports link stream loss w) _ within first in
-    record { reached_to = _; says = come.0; reached = come.1; taken = λ n le lt. (neither-true _ _ (come.2 n le lt)).1 }
+performs ports link stream loss w within = by_stay (stays ports link stream loss w)
+    (first_is cut w.first (last_of w.operation + 1 - w.first))
+  where
+    cut : ℕ → Option Verdict
+    cut n = cut_at (lost_in loss n) (refusal_at ports w.operation w.set link stream n) n
+
+    by_stay : (o : Option Verdict) → First cut w.first (last_of w.operation + 1 - w.first) o
+        → Performs ports link stream w (unwrap_or o (done link stream w))
+    by_stay None none = record {
+      reached_to = reach (last_of w.operation + 1) (last_of w.operation + 1);
+      says = done_says link stream w;
+      reached = record
+          { forward = within; carried = omega arith; within_one = omega arith; at_most = omega arith };
+      taken = λ n le lt. not_refused (lost_in loss n) _ n (none n le (omega (arith, within)));
+    }
+    by_stay (Some verdict) (y, le, lt, is, none) =
+        let says = cut_says w.operation (lost_in loss y) (refusal_at ports w.operation w.set link stream y) y verdict
+        is in
+        record {
+          reached_to = came_to (reach_of w.operation verdict);
+          says = says.0;
+          reached = record {
+            forward = omega (arith, says.1, le);
+            carried = omega (arith, says.1, says.2);
+            within_one = omega (arith, says.1, says.3);
+            at_most = omega (arith, says.1, lt, within);
+          };
+          taken = λ n from to. not_refused (lost_in loss n) _ n (none n from (omega (arith, says.1, to)));
+        }
+
+-- ---- the verdict of an event of an operation
+
+-- an exchange at which the operation stays, and what it gives
+pub record StaysAt (ports : PortView) (link stream : ℕ) (loss : Option Loss) (w : Work)
+    (verdict : Verdict) : Type 0 where
+  pub exchange : ℕ
+  pub at_least : w.first ≤ exchange
+  pub at_most : exchange ≤ last_of w.operation
+  pub gives : cut_at (lost_in loss exchange) (refusal_at ports w.operation w.set link stream exchange) exchange
+      ≡ Some verdict
+
+-- it ended, or it stays at an exchange
+pub performed_stays : (ports : PortView) (link stream : ℕ) (loss : Option Loss) (w : Work)
+    → (performed ports link stream loss w ≡ done link stream w)
+    ⊎ StaysAt ports link stream loss w (performed ports link stream loss w)
+performed_stays ports link stream loss w = by_stay (stays ports link stream loss w)
+    (first_is _ w.first (last_of w.operation + 1 - w.first))
+  where
+    by_stay : (o : Option Verdict)
+        → First (λ n. cut_at (lost_in loss n) (refusal_at ports w.operation w.set link stream n) n) w.first
+        (last_of w.operation + 1 - w.first) o
+        → (unwrap_or o (done link stream w) ≡ done link stream w)
+        ⊎ StaysAt ports link stream loss w (unwrap_or o (done link stream w))
+    by_stay None none = inl refl
+    by_stay (Some verdict) (y, le, lt, is, none) = inr
+        (record { exchange = y; at_least = le; at_most = omega (arith, le, lt); gives = is })
+
+-- whether a verdict is that of an operation that stays at an exchange
+abbrev pub is_cut : Verdict → Bool
+is_cut (v.LostRequest n) = true
+is_cut (v.LostReply n) = true
+is_cut (v.RefusedDevice n status) = true
+is_cut verdict = false
+
+cut_is : (lost : Option Lost) (status : Option ℕ) (n : ℕ) (verdict : Verdict) → cut_at lost status n ≡ Some verdict
+    → is_cut verdict ≡ true
+cut_is lost status n verdict is = grind arith
+
+pub performed_is : (ports : PortView) (link stream : ℕ) (loss : Option Loss) (w : Work)
+    → (performed ports link stream loss w ≡ done link stream w) ⊎ (is_cut (performed ports link stream loss w) ≡ true)
+performed_is ports link stream loss w = by_end _ (performed_stays ports link stream loss w)
+  where
+    by_end : (x : Verdict) → (x ≡ done link stream w) ⊎ StaysAt ports link stream loss w x
+        → (x ≡ done link stream w) ⊎ (is_cut x ≡ true)
+    by_end x (inl ended) = inl ended
+    by_end x (inr at) = inr (cut_is (lost_in loss at.exchange) _ at.exchange x at.gives)
 
 -- ---- the places of the device
 
+first_of_place : (status : Place → Option ℕ) (ps : List Place) (given : ℕ) → first_status status ps ≡ Some given
+    → (p : Place) × (status p ≡ Some given)
+first_of_place status [] given is = absurd cc
+first_of_place status (p ∷ ps) given is = by_first (status p) refl is (first_of_place status ps given)
+  where
+    by_first : (o : Option ℕ) → status p ≡ o → option_or o (first_status status ps) ≡ Some given
+        → (first_status status ps ≡ Some given → (q : Place) × (status q ≡ Some given))
+        → (q : Place) × (status q ≡ Some given)
+    by_first None e is later = later is
+    by_first (Some i) e is later = (p, e ∙ is)
+
+asked_refusal : (b : Bool) (o : Option ℕ) (given : ℕ) → (if b then o else None) ≡ Some given → o ≡ Some given
+asked_refusal b o given is = grind arith
+
+-- the status with which an exchange is refused is that of a place
+pub refusal_of_place : (ports : PortView) (o : Operation) (set : Bool) (link stream n given : ℕ)
+    → refusal_at ports o set link stream n ≡ Some given → (p : Place) × (ports.refusal p set ≡ Some given)
+refusal_of_place ports op.Stop set link stream n given is = absurd cc
+refusal_of_place ports op.Establish set link stream n given is =
+    let found = first_of_place (λ p. if program_at op.Establish p == n then ports.refusal p set else None)
+    (places_of Device link stream) given is in
+    (found.0, asked_refusal (program_at op.Establish found.0 == n) _ given found.1)
+refusal_of_place ports op.Refresh set link stream n given is =
+    let found = first_of_place (λ p. if program_at op.Refresh p == n then ports.refusal p set else None)
+    (places_of Device link stream) given is in
+    (found.0, asked_refusal (program_at op.Refresh found.0 == n) _ given found.1)
+
 -- a device's place takes the KEY_PROG whose exchange is not refused
 pub device_takes : (ports : PortView) (set : Bool) (link stream : ℕ) (sends : Bool) (u : SubKind)
-    → is_refused ports op.Refresh set link stream
-    (program_at op.Refresh (record { side = Device; link = link; stream = stream; sends = sends; sub = u })) ≡ false
-    → ports.refuses (record { side = Device; link = link; stream = stream; sends = sends; sub = u }) set ≡ false
+    → refusal_at ports op.Refresh set link stream
+    (program_at op.Refresh (record { side = Device; link = link; stream = stream; sends = sends; sub = u })) ≡ None
+    → ports.refusal (record { side = Device; link = link; stream = stream; sends = sends; sub = u }) set ≡ None
 device_takes ports set link stream false Pr free = grind arith
 device_takes ports set link stream false Npr free = grind arith
 device_takes ports set link stream false Cpl free = grind arith

@@ -4,12 +4,15 @@
 -- host's port has its keys, and only the device's places are left.
 use Rattle.key_laws.proofs.Terms.{◌≡◌, ℕ, ◌<◌, ◌≤◌, Bool, true, false, List, sym, ◌∙◌, arith, SubKind, Side, Host}
 use Rattle.key_laws.proofs.Terms.{Device, Touch, Keys, refuses, keys, slot_of, is_live, Reach, work, PortView}
-use Rattle.key_laws.proofs.Terms.{is_refused, is_live_sender, nat_tests}
+use Rattle.key_laws.proofs.Terms.{None, refusal_if, refusal_at, is_live_sender, nat_tests}
 use Rattle.link_verdicts.specs.declared.verdict.Operation.TheVariants as op
 use Rattle.key_laws.proofs.Shapes.{Marks, marks, Shape, keys_of, Sound}
 use Rattle.key_laws.proofs.Stages.{Rising}
 use Rattle.key_laws.proofs.Fits.{place, RisesFrom, TakesKey}
 use Rattle.key_laws.proofs.Performs.{device_takes}
+
+not_refused : (b : Bool) → refusal_if b ≡ None → b ≡ false
+not_refused b none = grind arith
 
 -- a sender takes a key in a set that is not Live
 sender_takes : (ks : Keys) (set : Bool) → is_live (slot_of true ks set) ≡ false → refuses true ks set ≡ false
@@ -25,25 +28,27 @@ receiver_takes k j a b n u sh ts le sound rising = grind (arith, nat_tests)
 -- host's senders is in the set.
 pub refresh_first_takes : (side : Side) (link stream : ℕ) (sends : Bool) (u : SubKind) (ports : PortView)
     (ts : List Touch) (k : Bool) (j : ℕ) (r : Reach)
-    → ((x : Bool) → ports.refuses (place side link stream sends u) x ≡ refuses sends (keys sends ts) x)
+    → ((x : Bool) → ports.refusal (place side link stream sends u) x
+    ≡ refusal_if (refuses sends (keys sends ts) x))
     → ((x : Bool) → ports.is_live (place side link stream sends u) x ≡ is_live (slot_of sends (keys sends ts) x))
     → is_live_sender ports link stream k u ≡ false
-    → ((n : ℕ) → 1 ≤ n → n < r.acknowledged → is_refused ports op.Refresh k link stream n ≡ false)
+    → ((n : ℕ) → 1 ≤ n → n < r.acknowledged → refusal_at ports op.Refresh k link stream n ≡ None)
     → RisesFrom true (work op.Refresh k j 1 true) (place side link stream sends u) ts
     → TakesKey (work op.Refresh k j 1 true) r (place side link stream sends u) ts
 refresh_first_takes Host link stream true u ports ts k j r same live dead free at le lt = sender_takes (keys true ts) k
     (sym (live k) ∙ dead)
 refresh_first_takes Host link stream false u ports ts k j r same live dead free at le lt =
     rw at.is.are (receiver_takes k j _ _ _ (marks ts) at.shape ts le at.is.sound at.fits)
-refresh_first_takes Device link stream sends u ports ts k j r same live dead free at le lt = sym (same k) ∙ device_takes
-    ports k link stream sends u (free _ le lt)
+refresh_first_takes Device link stream sends u ports ts k j r same live dead free at le lt =
+    not_refused _ (sym (same k) ∙ device_takes ports k link stream sends u (free _ le lt))
 
 -- where it goes on the host's port has its key
 pub refresh_again_takes : (side : Side) (link stream : ℕ) (sends : Bool) (u : SubKind) (ports : PortView)
     (ts : List Touch) (k : Bool) (j n : ℕ) (r : Reach) → 1 ≤ n
-    → ((x : Bool) → ports.refuses (place side link stream sends u) x ≡ refuses sends (keys sends ts) x)
-    → ((x : ℕ) → n ≤ x → x < r.acknowledged → is_refused ports op.Refresh k link stream x ≡ false)
+    → ((x : Bool) → ports.refusal (place side link stream sends u) x
+    ≡ refusal_if (refuses sends (keys sends ts) x))
+    → ((x : ℕ) → n ≤ x → x < r.acknowledged → refusal_at ports op.Refresh k link stream x ≡ None)
     → TakesKey (work op.Refresh k j n false) r (place side link stream sends u) ts
 refresh_again_takes Host link stream sends u ports ts k j n r least same free le lt = absurd (omega (arith, le, least))
-refresh_again_takes Device link stream sends u ports ts k j n r least same free le lt = sym (same k) ∙ device_takes
-    ports k link stream sends u (free _ le lt)
+refresh_again_takes Device link stream sends u ports ts k j n r least same free le lt =
+    not_refused _ (sym (same k) ∙ device_takes ports k link stream sends u (free _ le lt))

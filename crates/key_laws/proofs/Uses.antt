@@ -1,7 +1,7 @@
 -- What is sealed and what is accepted leaves a place fit for the state of its stream.
 use Rattle.key_laws.proofs.Terms.{◌≡◌, ℕ, ◌+◌, ◌<◌, ◌≤◌, Bool, true, false, Option, Some, None, List, ◌∷◌, refl, ◌∙◌}
 use Rattle.key_laws.proofs.Terms.{arith, max, Place, Touch, Seal, Accept, Keyed, Keys, key_in, on_in, keys, slot_from}
-use Rattle.key_laws.proofs.Terms.{slot_of, live_in, first_of_two}
+use Rattle.key_laws.proofs.Terms.{slot_of, live_in, option_or}
 use Rattle.key_laws.proofs.Terms.{live_draw, uses, Op}
 use Rattle.key_laws.proofs.Shapes.{Marks, marks, started, Shape, Bare, used, IsAt, sealed_shape, is_newer, seals}
 use Rattle.key_laws.proofs.Shapes.{accepts, used_bound, none_above_used, never_more}
@@ -34,7 +34,7 @@ slot_on_live mine other j e = grind arith
 pub live_is_on : (ks : Keys) (j : ℕ) → live_draw ks ≡ Some j → (set : Bool) × (on_in (key_in ks set) ≡ Some j)
 live_is_on ks j live = by_first (live_in (slot_of true ks false)) refl live
   where
-    by_first : (o : Option ℕ) → live_in (slot_of true ks false) ≡ o → first_of_two o (live_in (slot_of true ks true))
+    by_first : (o : Option ℕ) → live_in (slot_of true ks false) ≡ o → option_or o (live_in (slot_of true ks true))
         ≡ Some j → (set : Bool) × (on_in (key_in ks set) ≡ Some j)
     by_first None e live = (true, slot_on_live ks.second ks.first j live)
     by_first (Some i) e live = (false, slot_on_live ks.first ks.second j (e ∙ live))

@@ -7,7 +7,7 @@ use Rattle.key_laws.proofs.Terms.{None, List, [], ◌∷◌, ◌++◌, length, r
 use Rattle.key_laws.proofs.Terms.{if◌then◌else◌, SubKind, Pr, Npr, Cpl, Host}
 use Rattle.key_laws.proofs.Terms.{Event, Loss, Operation, SealedPacket, Verdict, KeyPlan, Place, lane, is_same_side}
 use Rattle.key_laws.proofs.Terms.{is_same_sub, is_on_stream, Touch, Seal, Accept, Clear, keys, refuses, is_live}
-use Rattle.key_laws.proofs.Terms.{slot_of, Op, Idle, Establishing, Up}
+use Rattle.key_laws.proofs.Terms.{refusal_if, slot_of, Op, Idle, Establishing, Up}
 use Rattle.key_laws.proofs.Terms.{Refreshing, Work, Reach, Manager, Begun, work, work_of, reach_of, op_after}
 use Rattle.key_laws.proofs.Terms.{begun_after, operated, History, manager, op_of, draws, worked, on_it, when, is_sender}
 use Rattle.key_laws.proofs.Terms.{sealed_here, came, touches, moments}
@@ -74,7 +74,8 @@ refresh_or plan host ports link stream next set Npr x = grind arith
 refresh_or plan host ports link stream next set Cpl x = grind arith
 
 refresh_turns : (plan : KeyPlan) (q : Op) (bs : List Begun) (ports : PortView) (host : StreamStatus) (p : Place)
-    (ts : List Touch) (loss : Option Loss) → ((x : Bool) → ports.refuses p x ≡ refuses p.sends (keys p.sends ts) x)
+    (ts : List Touch) (loss : Option Loss)
+    → ((x : Bool) → ports.refusal p x ≡ refusal_if (refuses p.sends (keys p.sends ts) x))
     → ((x : Bool) → ports.is_live p x ≡ is_live (slot_of p.sends (keys p.sends ts) x))
     → FitsAt q (length bs) p ts → Turns op.Refresh q bs p.link p.stream p ts
     (reach_of op.Refresh (refresh_on plan q (length bs) ports host p.link p.stream loss))

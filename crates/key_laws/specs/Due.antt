@@ -1,7 +1,8 @@
 -- The one verdict that an operation or a reset gets after a history.
-use Rattle.std.specs.Prelude.{◌+◌, ◌-◌, ◌==◌, ◌&&◌, ◌||◌, if◌then◌else◌, ℕ, suc, zero, nat_lt, Bool, false, Option}
-use Rattle.std.specs.Prelude.{Some, None}
-use Rattle.key_laws.specs.Terms.{list_any, SubKind, Pr, Npr, Cpl, Host, Device, Event, Loss, Lost, Request, Reply}
+use Rattle.std.specs.Prelude.{◌+◌, ◌-◌, ◌==◌, ◌∷◌, if◌then◌else◌, ℕ, suc, zero, nat_lt, Bool, false, Option, Some}
+use Rattle.std.specs.Prelude.{None, List, []}
+use Rattle.key_laws.specs.Terms.{option_or, unwrap_or, SubKind, Pr, Npr, Cpl, Host, Device, Event, Loss, Lost, Request}
+use Rattle.key_laws.specs.Terms.{Reply}
 use Rattle.key_laws.specs.Terms.{Operation, StreamStatus}
 use Rattle.key_laws.specs.Terms.{Verdict}
 use Rattle.link_events.specs.declared.event.Event.TheVariants as event
@@ -9,46 +10,54 @@ use Rattle.link_verdicts.specs.declared.verdict.Operation.TheVariants as op
 use Rattle.ide_types.specs.declared.status.StreamStatus.TheVariants as status
 use Rattle.link_verdicts.specs.declared.verdict.Verdict.TheVariants as v
 use Rattle.key_laws.specs.Places.{KeyPlan, Place, place_at, places_of}
-use Rattle.key_laws.specs.Keys.{refuses, is_live}
+use Rattle.key_laws.specs.Keys.{refuses, refusal_if, is_live}
 use Rattle.key_laws.specs.Operations.{Op, Idle, Establishing, Up, Refreshing, Stopping, Work, work_of, last_of}
 use Rattle.key_laws.specs.History.{History, op_of, draws, program_at, keys_at, slot_at, status_of}
 
--- what an operation reads of the ports: which places refuse a KEY_PROG of a set, and in which a set is Live
+-- what an operation reads of the ports: the status with which a place refuses a KEY_PROG of a set, and in which sets it
+-- is Live
 pub record PortView : Type 0 where
-  pub refuses : Place → Bool → Bool
+  pub refusal : Place → Bool → Option ℕ
   pub is_live : Place → Bool → Bool
 
 abbrev pub ports_at : History → PortView
 ports_at h = record {
-  refuses = λ p set. refuses p.sends (keys_at h p) set;
+  refusal = λ p set. refusal_if (refuses p.sends (keys_at h p) set);
   is_live = λ p set. is_live (slot_at h p set);
 }
 
 -- ---- the exchanges
 
--- whether the device refuses an exchange: a KEY_PROG at a place that refuses it
-abbrev pub is_refused : PortView → Operation → Bool → ℕ → ℕ → ℕ → Bool
-is_refused ports op.Stop set link stream n = false
-is_refused ports o set link stream n = list_any (λ p. (program_at o p == n) && ports.refuses p set)
+-- what is lost of the exchange of this number
+abbrev pub lost_in : Option Loss → ℕ → Option Lost
+lost_in None n = None
+lost_in (Some loss) n = if loss.exchange == n then Some loss.lost else None
+
+abbrev pub first_status : (Place → Option ℕ) → List Place → Option ℕ
+first_status status [] = None
+first_status status (p ∷ ps) = option_or (status p) (first_status status ps)
+
+-- the status with which the device refuses an exchange: that of a KEY_PROG at a place that refuses it
+abbrev pub refusal_at : PortView → Operation → Bool → ℕ → ℕ → ℕ → Option ℕ
+refusal_at ports op.Stop set link stream n = None
+refusal_at ports o set link stream n = first_status (λ p. if program_at o p == n then ports.refusal p set else None)
     (places_of Device link stream)
-
-abbrev pub is_lost : Option Loss → ℕ → Bool
-is_lost None n = false
-is_lost (Some loss) n = loss.exchange == n
-
--- the first of so many exchanges from this one on that is lost or refused
-abbrev pub first_from : (ℕ → Bool) → ℕ → ℕ → Option ℕ
-first_from test n zero = None
-first_from test n (suc more) = if test n then Some n else first_from test (n + 1) more
 
 abbrev pub lost_at : Lost → ℕ → Verdict
 lost_at Request n = v.LostRequest n
 lost_at Reply n = v.LostReply n
 
--- a loss goes ahead of a refusal
-abbrev pub cut_off : Option Loss → ℕ → Verdict
-cut_off None n = v.RefusedDevice n 3
-cut_off (Some loss) n = if loss.exchange == n then lost_at loss.lost n else v.RefusedDevice n 3
+-- the verdict of an operation that stays at the exchange, if its message is lost or the device refuses it; a loss goes
+-- ahead of a refusal
+abbrev pub cut_at : Option Lost → Option ℕ → ℕ → Option Verdict
+cut_at (Some lost) status n = Some (lost_at lost n)
+cut_at None (Some status) n = Some (v.RefusedDevice n status)
+cut_at None None n = None
+
+-- the first that one of so many exchanges gives, from this one on
+abbrev pub first_from : (ℕ → Option Verdict) → ℕ → ℕ → Option Verdict
+first_from cut n zero = None
+first_from cut n (suc more) = option_or (cut n) (first_from cut (n + 1) more)
 
 abbrev pub done : ℕ → ℕ → Work → Verdict
 done link stream w = by_operation w.operation
@@ -58,18 +67,14 @@ done link stream w = by_operation w.operation
     by_operation op.Refresh = v.Refreshed link stream w.draw
     by_operation op.Stop = v.Stopped link stream
 
-abbrev pub comes_to : ℕ → ℕ → Work → Option Loss → Option ℕ → Verdict
-comes_to link stream w loss None = done link stream w
-comes_to link stream w loss (Some n) = cut_off loss n
-
--- the exchange at which the operation stays
-abbrev pub stays_at : PortView → ℕ → ℕ → Option Loss → Work → Option ℕ
-stays_at ports link stream loss w =
-    first_from (λ n. is_lost loss n || is_refused ports w.operation w.set link stream n) w.first
+-- the verdict of an operation that stays at an exchange
+abbrev pub stays : PortView → ℕ → ℕ → Option Loss → Work → Option Verdict
+stays ports link stream loss w =
+    first_from (λ n. cut_at (lost_in loss n) (refusal_at ports w.operation w.set link stream n) n) w.first
     (last_of w.operation + 1 - w.first)
 
 abbrev pub performed : PortView → ℕ → ℕ → Option Loss → Work → Verdict
-performed ports link stream loss w = comes_to link stream w loss (stays_at ports link stream loss w)
+performed ports link stream loss w = unwrap_or (stays ports link stream loss w) (done link stream w)
 
 -- ---- refusals at the beginning
 

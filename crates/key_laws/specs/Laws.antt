@@ -1,12 +1,13 @@
 -- What the keys of a history obey.
-use Rattle.std.specs.Prelude.{◌≡◌, ◌≢◌, ◌≤◌, ◌<◌, ◌∷◌, ◌==◌, if◌then◌else◌, ℕ, Bool, true, false, Some, None, List, []}
+use Rattle.std.specs.Prelude.{◌≡◌, ◌≢◌, ◌≤◌, ◌<◌, ◌∷◌, ◌==◌, ◌&&◌, ◌||◌, if◌then◌else◌, ℕ, Bool, true, false, not}
+use Rattle.std.specs.Prelude.{Option, Some, None, List, []}
 use Rattle.key_laws.specs.Terms.{Side, Event, Verdict}
 use Rattle.link_events.specs.declared.event.Event.TheVariants as event
 use Rattle.link_verdicts.specs.declared.verdict.Operation.TheVariants as op
 use Rattle.ide_types.specs.declared.status.StreamStatus.TheVariants as status
 use Rattle.link_verdicts.specs.declared.verdict.Verdict.TheVariants as v
 use Rattle.key_laws.specs.Places.{KeyPlan, Place}
-use Rattle.key_laws.specs.Keys.{Touch, Go, Seal, Accept, keys, key_in, kept_in, on_in, live_draw}
+use Rattle.key_laws.specs.Keys.{Touch, Go, Seal, Accept, Keys, keys, key_in, kept_in, on_in, live_draw}
 use Rattle.key_laws.specs.Operations.{Idle, Establishing, Up, Refreshing, work_of}
 use Rattle.key_laws.specs.History.{History, op_of, draws, moments, came, kept_draw, on_draw, status_of, go_at, manager}
 use Rattle.key_laws.specs.History.{touches}
@@ -77,7 +78,7 @@ pub record StreamFacts (h : History) : Type 0 where
   pub idle : (p : Place) → op_of h p.link p.stream ≡ Idle → (set : Bool) → kept_draw h p set ≡ None
   pub establishing : (p : Place) (j n : ℕ) → op_of h p.link p.stream ≡ Establishing j n
       → (go_at op.Establish p < n → on_draw h p false ≡ Some j) × ((set : Bool) (i : ℕ)
-      → on_draw h p set ≡ Some i → i ≡ j)
+      → kept_draw h p set ≡ Some i → i ≡ j)
   pub up : (p : Place) (set : Bool) (j : ℕ) → op_of h p.link p.stream ≡ Up set j
       → (on_draw h p set ≡ Some j) × ((other : Bool) (i : ℕ) → on_draw h p other ≡ Some i → i ≢ j → i < j)
   pub refreshing : (p : Place) (set : Bool) (j n : ℕ) → op_of h p.link p.stream ≡ Refreshing set j n
@@ -104,21 +105,54 @@ went [] j = false
 went (Go set i ∷ ts) j = if i == j then true else went ts j
 went (_ ∷ ts) j = went ts j
 
--- Where its GO came, a draw is kept only while it is On: once it has ceased to be On it is never kept there again.
-abbrev pub NeverAgain : History → Type 0
-NeverAgain h = (p : Place) (set : Bool) (j : ℕ) → kept_draw h p set ≡ Some j → went (moments h p) j ≡ true
-    → on_draw h p set ≡ Some j
+-- whether a key set has this draw
+abbrev pub has_draw : Option ℕ → ℕ → Bool
+has_draw None j = false
+has_draw (Some i) j = i == j
+
+-- whether the draw is On in a set, and whether it is kept in one
+abbrev pub is_on_there : Keys → ℕ → Bool
+is_on_there ks j = has_draw (on_in ks.first) j || has_draw (on_in ks.second) j
+
+abbrev pub is_kept_there : Keys → ℕ → Bool
+is_kept_there ks j = has_draw (kept_in ks.first) j || has_draw (kept_in ks.second) j
+
+-- whether the draw was On at some moment
+abbrev pub was_on : Bool → List Touch → ℕ → Bool
+was_on sends [] j = false
+was_on sends (t ∷ ts) j = is_on_there (keys sends (t ∷ ts)) j || was_on sends ts j
+
+-- whether the draw was On at one moment, and at a later one was kept in neither set
+abbrev pub has_gone : Bool → List Touch → ℕ → Bool
+has_gone sends [] j = false
+has_gone sends (t ∷ ts) j =
+    has_gone sends ts j || (was_on sends ts j && not (is_kept_there (keys sends (t ∷ ts)) j))
+
+-- At each moment, a draw that has gone is kept in neither set.
+abbrev pub StaysGone : Bool → List Touch → Type 0
+StaysGone sends [] = Unit {0}
+StaysGone sends (t ∷ ts) =
+    ((j : ℕ) → has_gone sends (t ∷ ts) j ≡ true → is_kept_there (keys sends (t ∷ ts)) j ≡ false) × StaysGone sends ts
+
+-- A key never comes back.
+pub record NeverAgain (h : History) : Type 0 where
+  -- a draw that was On at a place, and then kept in neither of its sets, is kept in neither at any later moment
+  pub gone : (p : Place) → StaysGone p.sends (moments h p)
+  -- once its GO came, a draw is kept at a place only while it is On there
+  pub on : (p : Place) (set : Bool) (j : ℕ) → kept_draw h p set ≡ Some j → went (moments h p) j ≡ true
+      → on_draw h p set ≡ Some j
 
 -- ---- ends of operations
 
--- At an established or refreshed verdict the draw of the operation is On in all places of the stream; then no other
--- draw is On, or only smaller ones. At a stopped verdict none is kept.
+-- At an established or refreshed verdict the draw of the operation is On in all places of the stream. At an established
+-- verdict no other draw is kept there, at a refreshed one only smaller ones are On. At a stopped verdict none is kept.
 abbrev pub SettledAt : History → Event → Verdict → Type 0
 SettledAt h (event.Establish link stream loss) (v.Established l t j) =
     (j ≡ (work_of op.Establish (op_of h link stream) (draws h)).draw)
     × ((p : Place) → p.link ≡ link → p.stream ≡ stream
     → (on_draw ((event.Establish link stream loss, v.Established l t j) ∷ h) p false ≡ Some j)
-    × (on_draw ((event.Establish link stream loss, v.Established l t j) ∷ h) p true ≡ None))
+    × ((set : Bool) (i : ℕ) → kept_draw ((event.Establish link stream loss, v.Established l t j) ∷ h) p set ≡ Some i
+    → i ≡ j))
 SettledAt h (event.Refresh link stream loss) (v.Refreshed l t j) =
     (j ≡ (work_of op.Refresh (op_of h link stream) (draws h)).draw)
     × ((p : Place) → p.link ≡ link → p.stream ≡ stream

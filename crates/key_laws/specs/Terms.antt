@@ -11,4 +11,5 @@ pub use Rattle.link_verdicts.specs.declared.verdict.Operation.{Operation}
 pub use Rattle.link_verdicts.specs.declared.verdict.Verdict.{Verdict}
 pub use Rattle.link_verdicts.specs.declared.verdict.SealedPacket.{SealedPacket}
 pub use Rattle.std.specs.List.{list_any, list_all}
+pub use Rattle.std.specs.Option.{option_or, unwrap_or}
 pub use Rattle.ide_types.specs.declared.status.StreamStatus.{StreamStatus}

@@ -35,7 +35,7 @@ pub record DrawnSix : Type 0 where
   pub draw : ℕ
   pub keys : List (List ℕ)
 
--- the next draw; where all were made, how many they are
+-- the next draw; if all were made, how many they are
 abbrev pub draw_answer : Pool → Result DrawnSix PoolEmpty
 draw_answer pool =
     if nat_lt pool.draws (draws_in pool.keys) then

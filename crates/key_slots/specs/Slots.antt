@@ -113,8 +113,7 @@ after_go true false (Programmed held) other = (Live held, Empty)
 after_go true true (Programmed held) other = (Armed held, other)
 after_go sender unfinished mine other = (mine, other)
 
--- a receiver's Programmed slot is Live; a sender's is Live, and the other emptied, where no unit is unfinished, else
--- Armed
+-- a receiver's Programmed slot is Live; a sender's is Live, and the other emptied, if no unit is unfinished, else Armed
 abbrev pub armed : SlotPair → Bool → Bool → SlotPair
 armed pair set unfinished =
     with_both pair.sender set (after_go pair.sender unfinished (slot_in pair set) (slot_in pair (not set)))

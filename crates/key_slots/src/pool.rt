@@ -98,7 +98,8 @@ impl KeyPool {
         self.draws
     }
 
-    /// The six keys of the next draw. `PoolEmpty` comes exactly where all draws were made, and changes nothing.
+    /// Takes the six keys of the next draw. Returns `PoolEmpty` exactly if all draws were made, and then changes
+    /// nothing.
     pub fn draw(&mut self) -> Result<KeySix, PoolEmpty>
         ensures answer { result ≡ draw_answer self.old }
         ensures pool { self.new ≡ pool_after self.old }
@@ -165,7 +166,7 @@ impl HostSix {
 }
 
 impl WireSix {
-    /// The key at place `i`, 3 * direction + sub-stream; `None` exactly where it was spent.
+    /// The key at place `i`, 3 * direction + sub-stream; `None` exactly if it was spent.
     pub fn key(&self, i: u8) -> Option<&Key>
         requires { i < 6 }
         ensures { option_copied result ≡ slice_index_or self.now i None }

@@ -101,7 +101,7 @@ impl Slot {
         }
     }
 
-    /// Its key, where it has one.
+    /// Its key, if it has one.
     pub fn held(&self) -> Option<&HeldKey>
         ensures { option_copied result ≡ held_key self.now }
     {
@@ -111,7 +111,7 @@ impl Slot {
         }
     }
 
-    /// The draw of its key where that is Live.
+    /// The draw of its key if that is Live.
     pub fn live_draw(&self) -> Option<u32>
         ensures { result ≡ live_draw self.now }
     {

@@ -10,7 +10,7 @@ use gcm_seal::Gcm;
 use std::marker::Model;
 use std::mem;
 
-/// The slot is Live and the other is not a newer Live one. The key comes back.
+/// Why a slot is not programmed: it is Live, and the other holds no newer Live key. The key comes back.
 #[derive(Debug, Drop)]
 pub struct OnlyLive {
     pub key: Key,
@@ -118,8 +118,8 @@ impl Slots {
         }
     }
 
-    /// Programs the slot with a key of this draw. `OnlyLive` comes exactly where the slot is Live and the other is
-    /// not a newer Live one: the key comes back, and the slots are as before.
+    /// Programs the slot with a key of this draw. Returns `OnlyLive` exactly if this slot is Live and the other holds
+    /// no newer Live key: then the key comes back, and the slots are as before.
     pub fn program(&mut self, set: u8, key: Key, draw: u32) -> Result<(), OnlyLive>
         requires { set < 2 }
         ensures answer { result ≡ program_answer self.old (is_one set) key }
@@ -133,9 +133,9 @@ impl Slots {
         Ok(())
     }
 
-    /// GO: takes a Programmed key into use. A receiver's is Live at once; a sender's at once where no unit is
-    /// `unfinished`, and the other slot is emptied, else it is Armed until that unit ends. A Live or Armed slot
-    /// stays as it is. `SlotEmpty` comes exactly of an Empty slot.
+    /// GO: takes a Programmed key into use. A receiver's is Live at once; a sender's at once if no unit is
+    /// `unfinished`, and the other slot is emptied, else it is Armed until that unit ends. A Live or Armed slot stays
+    /// as it is. Returns `SlotEmpty` exactly if the slot is Empty.
     pub fn arm(&mut self, set: u8, unfinished: bool) -> Result<(), SlotEmpty>
         requires { set < 2 }
         ensures answer { is_ok result ≡ not (is_empty (slot_in self.old (is_one set))) }
@@ -160,7 +160,7 @@ impl Slots {
         self.put(set, Slot::Empty, other.woken());
     }
 
-    /// A sender's unit ended: an Armed slot becomes Live, and the other is emptied.
+    /// Notes that a sender's unit ended: an Armed slot becomes Live, and the other is emptied.
     pub fn ended(&mut self)
         ensures { self.new ≡ ended self.old }
     {
@@ -169,7 +169,7 @@ impl Slots {
         self.put(0, zero, one);
     }
 
-    /// A unit was accepted under this Live slot of a receiver: an older Live one is emptied.
+    /// Notes that a unit was accepted under this Live slot of a receiver: an older Live one is emptied.
     pub fn accepted(&mut self, set: u8)
         requires { set < 2 }
         ensures { self.new ≡ accepted self.old (is_one set) }
@@ -192,8 +192,8 @@ impl Slots {
         }
     }
 
-    /// The Live set; of two Live slots of a receiver the newer, the one of the greater draw, between equal draws
-    /// set 1.
+    /// The key set, 0 or 1, whose slot is Live; of two Live slots of a receiver the one of the greater draw, between
+    /// equal draws set 1; `None` if none is Live.
     pub fn live(&self) -> Option<u8>
         ensures live { result ≡ live_set self.now }
         // A sender has at most one Live slot, and a receiver no Armed one.
@@ -207,7 +207,7 @@ impl Slots {
         }
     }
 
-    /// The state of a slot, and its key, lent, with its draw, where it has one.
+    /// The state of a slot, and its key, lent, with its draw, if it has one.
     pub fn slot(&self, set: u8) -> (SlotState, Option<(&Key, u32)>)
         requires { set < 2 }
         ensures state { result.0 ≡ state_of (slot_in self.now (is_one set)) }
@@ -231,7 +231,7 @@ impl Slots {
         }
     }
 
-    /// The prepared form of a slot's key, lent, where it has one.
+    /// The prepared form of a slot's key, lent, if it has one.
     pub fn cipher(&self, set: u8) -> Option<&Gcm>
         requires { set < 2 }
         ensures { option_copied result ≡ option_map (λ held. held.key) (held_key (slot_in self.now (is_one set))) }

@@ -1,10 +1,11 @@
 -- What stands at the end of an operation.
-use Rattle.key_states.proofs.Terms.{◌≡◌, ℕ, Bool, true, false, Option, Some, None, List, [], ◌∷◌, refl, ap, sym, ◌∙◌}
+use Rattle.key_states.proofs.Terms.{◌≡◌, ℕ, Bool, true, false, Option, Some, List, [], ◌∷◌, refl, ap, sym, ◌∙◌}
 use Rattle.key_states.proofs.Terms.{arith, if◌then◌else◌, Host, Event, Loss, StreamStatus, Verdict, KeyPlan, Place}
-use Rattle.key_states.proofs.Terms.{is_on_stream, Touch, Keys, on_in, Op}
+use Rattle.key_states.proofs.Terms.{is_on_stream, Touch, Keys, keys, key_in, kept_in, on_in, Op}
 use Rattle.key_states.proofs.Terms.{Idle, Establishing, Up, Refreshing, Stopping, reach, work_of, op_after, History}
-use Rattle.key_states.proofs.Terms.{manager, op_of, draws, worked, behind, moments, on_draw, status_of, PortView}
-use Rattle.key_states.proofs.Terms.{ports_at, establish_on, refresh_on, due}
+use Rattle.key_states.proofs.Terms.{manager, op_of, draws, worked, behind, moments, kept_draw, on_draw, status_of}
+use Rattle.key_states.proofs.Terms.{PortView, ports_at, establish_on, refresh_on, due, done, is_cut, performed_is}
+use Rattle.key_states.proofs.Terms.{may_establish, may_refresh, unless_open, ◌⊎◌}
 use Rattle.key_states.proofs.Terms.{CauseLaw, Settled, SettledAt, same-true, Alone, IsAt, FitsAt, establish_ends}
 use Rattle.key_states.proofs.Terms.{establish_takes, establish_begins, establish_goes_on, fits, elsewhere}
 use Rattle.link_events.specs.declared.event.Event.TheVariants as event
@@ -37,11 +38,20 @@ refreshed_op : (q : Op) (next : ℕ) → op_after (work_of op.Refresh q next) (r
     ≡ Up (work_of op.Refresh q next).set (work_of op.Refresh q next).draw
 refreshed_op q next = grind arith
 
+refreshed_as : (has : Bool) (plan : KeyPlan) (q : Op) (next : ℕ) (ports : PortView) (host : StreamStatus)
+    (link stream : ℕ) (x : Verdict) (l t j : ℕ)
+    → (x ≡ done link stream (work_of op.Refresh q next)) ⊎ (is_cut x ≡ true) → v.Refreshed l t j
+    ≡ (if has then may_refresh plan next q host (unless_open ports link stream (work_of op.Refresh q next).set) x
+    else v.Nothing)
+    → j ≡ (work_of op.Refresh q next).draw
+refreshed_as has plan q next ports host link stream x l t j performs is = grind arith
+
 refreshed_draw : (has : Bool) (plan : KeyPlan) (q : Op) (next : ℕ) (ports : PortView) (host : StreamStatus)
     (link stream : ℕ) (loss : Option Loss) (l t j : ℕ)
     → v.Refreshed l t j ≡ (if has then refresh_on plan q next ports host link stream loss else v.Nothing) → j
     ≡ (work_of op.Refresh q next).draw
-refreshed_draw has plan q next ports host link stream loss l t j is = grind arith
+refreshed_draw has plan q next ports host link stream loss l t j is = refreshed_as has plan q next ports host link
+    stream _ l t j (performed_is ports link stream loss (work_of op.Refresh q next)) is
 
 refresh_settles : (plan : KeyPlan) (h : History) (link stream : ℕ) (loss : Option Loss) (l t j : ℕ)
     → CauseLaw plan ((event.Refresh link stream loss, v.Refreshed l t j) ∷ h)
@@ -59,12 +69,28 @@ refresh_settles plan h link stream loss l t j cause =
 
 -- ---- an establish
 
+established_as : (plan : KeyPlan) (q : Op) (next link stream : ℕ) (x : Verdict) (l t j : ℕ)
+    → (x ≡ done link stream (work_of op.Establish q next)) ⊎ (is_cut x ≡ true)
+    → v.Established l t j ≡ may_establish plan next q x → j ≡ (work_of op.Establish q next).draw
+established_as plan q next link stream x l t j performs is = grind arith
+
 established_draw : (plan : KeyPlan) (h : History) (link stream : ℕ) (loss : Option Loss) (l t j : ℕ)
     → v.Established l t j ≡ due plan h (event.Establish link stream loss) (v.Established l t j)
     → (j ≡ (work_of op.Establish (op_of h link stream) (draws h)).draw)
     × (v.Established l t j ≡ establish_on plan (op_of h link stream) (draws h) (ports_at h) link stream loss)
 unfolding due
-established_draw plan h link stream loss l t j is = grind arith
+established_draw plan h link stream loss l t j is = by_has (plan.has_stream link stream) is
+  where
+    by_has : (has : Bool) → v.Established l t j
+        ≡ (if has then establish_on plan (op_of h link stream) (draws h) (ports_at h) link stream loss else v.Nothing)
+        → (j ≡ (work_of op.Establish (op_of h link stream) (draws h)).draw)
+        × (v.Established l t j ≡ establish_on plan (op_of h link stream) (draws h) (ports_at h) link stream loss)
+    by_has true is = (
+      established_as plan (op_of h link stream) (draws h) link stream _ l t j
+          (performed_is (ports_at h) link stream loss (work_of op.Establish (op_of h link stream) (draws h))) is,
+      is,
+    )
+    by_has false is = absurd cc
 
 -- an establish that ended left its key alone
 established_alone : (plan : KeyPlan) (q : Op) (next : ℕ) (p : Place) (ts : List Touch) (ports : PortView)
@@ -94,6 +120,10 @@ alone_there plan h p loss l t j cause =
     (established_alone plan (op_of h p.link p.stream) (draws h) p (moments h p) (ports_at h) loss l t j
     (fits plan h cause.2 p) draw.1)
 
+alone_kept : (s : Bool) (ts : List Touch) (j : ℕ) (set : Bool) (i : ℕ) → IsAt s ts (Alone false j)
+    → kept_in (key_in (keys s ts) set) ≡ Some i → i ≡ j
+alone_kept s ts j set i is kept = grind arith
+
 establish_settles : (plan : KeyPlan) (h : History) (link stream : ℕ) (loss : Option Loss) (l t j : ℕ)
     → CauseLaw plan ((event.Establish link stream loss, v.Established l t j) ∷ h)
     → SettledAt h (event.Establish link stream loss)
@@ -103,13 +133,14 @@ establish_settles plan h link stream loss l t j cause =
   where
     places : (p : Place) → p.link ≡ link → p.stream ≡ stream
         → (on_draw ((event.Establish link stream loss, v.Established l t j) ∷ h) p false ≡ Some j)
-        × (on_draw ((event.Establish link stream loss, v.Established l t j) ∷ h) p true ≡ None)
+        × ((set : Bool) (i : ℕ) → kept_draw ((event.Establish link stream loss, v.Established l t j) ∷ h) p set ≡ Some i
+        → i ≡ j)
     places p on_link on_id =
         let is = elsewhere p link stream
         (λ (x y : ℕ). CauseLaw plan ((event.Establish x y loss, v.Established l t j) ∷ h)
         → IsAt p.sends (moments ((event.Establish x y loss, v.Established l t j) ∷ h) p) (Alone false j))
         (on_link, on_id) (alone_there plan h p loss l t j) cause in
-        (ap (λ (ks : Keys). on_in ks.first) is.are, ap (λ (ks : Keys). on_in ks.second) is.are)
+        (ap (λ (ks : Keys). on_in ks.first) is.are, λ set i kept. alone_kept p.sends _ j set i is kept)
 
 -- ---- all pairs
 

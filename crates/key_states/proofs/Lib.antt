@@ -2,6 +2,7 @@ pub mod Terms
 pub mod Ends
 pub mod States
 pub mod Gos
+pub mod Gone
 pub mod Again
 pub mod Secures
 pub mod Bases

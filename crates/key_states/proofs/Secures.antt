@@ -6,6 +6,7 @@ use Rattle.key_states.proofs.Terms.{keys, Op, Reach, work_of, reach_of, op_after
 use Rattle.key_states.proofs.Terms.{draws, worked, on_it, behind, moments, keys_at, is_keyed, has_key, has_all}
 use Rattle.key_states.proofs.Terms.{fails_at, failed, status_by, status_of}
 use Rattle.key_states.proofs.Terms.{PortView, ports_at, refresh_on, due, CauseLaw, StaysSecure, StaysSecureAt}
+use Rattle.key_states.proofs.Terms.{done, is_cut, performed_is, may_refresh, unless_open, ◌⊎◌}
 use Rattle.std.specs.List.{list_all}
 use Rattle.key_laws.proofs.Terms.{Side, SubKind}
 use Rattle.link_events.specs.declared.event.Event.TheVariants as event
@@ -40,10 +41,18 @@ place_keyed plan h link stream loss x cause p same keyed = by_reach (reach_of op
 
 -- ---- no check fails
 
+refresh_free_as : (has : Bool) (plan : KeyPlan) (q : Op) (next : ℕ) (ports : PortView) (host : StreamStatus)
+    (link stream : ℕ) (x : Verdict) (side : Side)
+    → (x ≡ done link stream (work_of op.Refresh q next)) ⊎ (is_cut x ≡ true) → fails_at side link stream
+    (if has then may_refresh plan next q host (unless_open ports link stream (work_of op.Refresh q next).set) x
+    else v.Nothing) ≡ false
+refresh_free_as has plan q next ports host link stream x side performs = grind arith
+
 refresh_free : (has : Bool) (plan : KeyPlan) (q : Op) (next : ℕ) (ports : PortView) (host : StreamStatus)
     (link stream : ℕ) (loss : Option Loss) (side : Side)
     → fails_at side link stream (if has then refresh_on plan q next ports host link stream loss else v.Nothing) ≡ false
-refresh_free has plan q next ports host link stream loss side = grind arith
+refresh_free has plan q next ports host link stream loss side = refresh_free_as has plan q next ports host link stream _
+    side (performed_is ports link stream loss (work_of op.Refresh q next))
 
 -- ---- all six places
 

@@ -3,6 +3,7 @@ pub use Rattle.key_laws.proofs.Terms.{Bool, List, None, Option, Some, [], ap, ar
 pub use Rattle.key_laws.proofs.Terms.{true, ℕ, ◌<◌, ◌==◌, ◌∙◌, ◌∷◌, ◌≡◌, ◌≢◌, ◌≤◌, KeyPlan, Place, is_on_stream}
 pub use Rattle.key_laws.proofs.Terms.{place_at, places_of, Keyed, Keys, On, Seal}
 pub use Rattle.key_laws.proofs.Terms.{Touch, kept_in, key_in, no_keys, on_in, settled, touched, History, begins_keyed}
+pub use Rattle.key_laws.proofs.Terms.{kept_draw, Go, StaysGone, has_gone, is_kept_there, is_on_there, was_on, not}
 pub use Rattle.key_laws.proofs.Terms.{behind, came, draws, fails_at, has_all, has_key, is_keyed, keys_at, on_draw}
 pub use Rattle.key_laws.proofs.Terms.{on_it, op_of, status_by, status_of}
 pub use Rattle.key_laws.proofs.Terms.{touches, worked, CauseLaw, GoesKept, GosFindKeys, NeverAgain, Settled, SettledAt}
@@ -10,7 +11,9 @@ pub use Rattle.key_laws.proofs.Terms.{StaysSecure, StaysSecureAt, StreamFacts, w
 pub use Rattle.key_laws.proofs.Terms.{◌&&◌, ◌||◌, Event, Loss, Operation}
 pub use Rattle.key_laws.proofs.Terms.{Verdict, Begun, Establishing, Idle, Manager, Op, Reach, Refreshing, Stopping, Up}
 pub use Rattle.key_laws.proofs.Terms.{Work, manager_after, op_after, operated, reach, reach_of, work_of, PortView}
-pub use Rattle.key_laws.proofs.Terms.{establish_on, ports_at, refresh_on, Host}
+pub use Rattle.key_laws.proofs.Terms.{establish_on, ports_at, refresh_on, done, may_establish, may_refresh, unless_open}
+pub use Rattle.key_laws.proofs.Terms.{Host, ◌⊎◌}
+pub use Rattle.key_laws.proofs.Performs.{is_cut, performed_is}
 unfoldable pub use Rattle.key_laws.proofs.Terms.{is_open, keys, base, failed, manager, moments, due}
 pub use Rattle.key_laws.proofs.Shapes.{Alone, IsAt, Marks, Shape, keys_of, marks}
 unfoldable pub use Rattle.key_laws.proofs.Shapes.{started, used}

@@ -4,18 +4,19 @@ ghost use Rattle.key_laws.specs.Places.{KeyPlan};
 ghost use Rattle.key_laws.specs.History.{History};
 ghost use Rattle.key_laws.specs.Laws.{CauseLaw, GosFindKeys, NeverAgain, Settled, StaysSecure, StreamFacts};
 
-/// Before each GO that comes to a place, its key is kept there.
+/// Before each GO that reaches a place, its key is kept there.
 pub fn gos_find_keys()
     ensures { (plan : KeyPlan) (h : History) → CauseLaw plan h → GosFindKeys h }
 {}
 
-/// A draw whose GO came to a place is kept there only while it is On.
+/// A draw that was On at a place and then kept in neither of its sets is never kept there again, and a draw whose GO
+/// came there is kept only while it is On.
 pub fn never_again()
     ensures { (plan : KeyPlan) (h : History) → CauseLaw plan h → NeverAgain h }
 {}
 
-/// Where no operation was asked of a stream no key is kept, an unfinished operation has made its draw On where its
-/// GO came, and a stream that is up has its draw On everywhere.
+/// If no operation was asked of a stream no key is kept, an unfinished operation has made its draw On at the places
+/// that its GO reached, in an establish no other draw is kept, and a stream that is up has its draw On everywhere.
 pub fn stream_facts()
     ensures { (plan : KeyPlan) (h : History) → CauseLaw plan h → StreamFacts h }
 {}

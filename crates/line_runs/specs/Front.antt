@@ -1,4 +1,4 @@
--- The front of a file.
+-- The first bytes of a file.
 use Rattle.std.specs.Prelude.{ℕ, ◌+◌, ◌≤◌, ◌≡◌, ◌⊎◌, [], length, max, take, unwrap_or, Option, Some, None, Result, Ok}
 use Rattle.std.specs.Prelude.{Err}
 use Rattle.ide_base.specs.Outside.{Contents, Rose, Lacks, counted}
@@ -6,12 +6,12 @@ use Rattle.line_runs.specs.declared.front.Stop.{Stop}
 use Rattle.line_runs.specs.declared.front.Stop.TheVariants as stop
 use Rattle.line_runs.specs.Gain.{Text, IsFront}
 
--- so many bytes of the file, or all where it has no more
+-- so many bytes of the file, or all if it has no more
 abbrev pub FrontIn : ℕ → Option Text → Text → Type 0
 FrontIn most None read = ⊥
 FrontIn most (Some file) read = read ≡ take most file
 
--- where the contents are told, it is the file of this name
+-- if the contents are told, it is so of the file of this name
 abbrev pub FrontOf : Option Contents → Text → ℕ → Text → Type 0
 FrontOf None name most read = Unit {0}
 FrontOf (Some contents) name most read = FrontIn most (contents name) read
@@ -37,12 +37,12 @@ AskedPieces before now = now ≤ max before 4096
 abbrev pub bytes_of : Option Text → Text
 bytes_of file = unwrap_or file []
 
--- where the contents are told, no more bytes were given than the file has
+-- if the contents are told, no more bytes were given than the file has
 abbrev pub GaveOf : Option Contents → Text → ℕ → ℕ → Type 0
 GaveOf None name before now = Unit {0}
 GaveOf (Some contents) name before now = (n : ℕ) × (n ≤ length (bytes_of (contents name))) × Gave before n now
 
--- and no more than it has behind a place
+-- and no more than it has after a place
 abbrev pub GaveBehind : Option Contents → Text → ℕ → ℕ → ℕ → Type 0
 GaveBehind None name at before now = Unit {0}
 GaveBehind (Some contents) name at before now = (n : ℕ) × (at + n ≤ length (bytes_of (contents name)))
@@ -50,7 +50,7 @@ GaveBehind (Some contents) name at before now = (n : ℕ) × (at + n ≤ length 
 
 -- ---- piece by piece
 
--- what was read is a front of the file
+-- what was read is a prefix of the file
 abbrev pub IsReadIn : Option Text → Text → Type 0
 IsReadIn None read = read ≡ []
 IsReadIn (Some file) read = IsFront read file
@@ -68,7 +68,7 @@ abbrev pub IsWholeOf : Option Contents → Text → Text → Type 0
 IsWholeOf None name read = Unit {0}
 IsWholeOf (Some contents) name read = IsWholeIn (contents name) read
 
--- after one more piece it still is a front, and the whole file where the piece was empty
+-- after one more piece it still is a prefix, and the whole file if the piece was empty
 abbrev pub ReadsOn : {E : Type 0} → Option Contents → Text → Text → Result ℕ E → Type 0
 ReadsOn told name read (Ok n) = IsReadOf told name read × (n ≡ 0 → IsWholeOf told name read)
 ReadsOn told name read (Err e) = Unit {0}

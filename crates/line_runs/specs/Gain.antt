@@ -7,15 +7,15 @@ use Rattle.ide_base.specs.declared.sink.SinkFault.{SinkFault}
 abbrev pub Text : Type 0
 Text = List ℕ
 
--- the sink holds this text more, where it tells what it holds
+-- the sink holds this text more, if it tells what it holds
 abbrev pub Gained : Option Text → Option Text → Text → Type 0
 Gained before now text = now ≡ option_map (λ held. held ++ text) before
 
--- a front of the text
+-- a prefix of the text
 abbrev pub IsFront : Text → Text → Type 0
 IsFront front text = (rest : Text) × (front ++ rest ≡ text)
 
--- the sink gained some front of the text
+-- the sink gained some prefix of the text
 abbrev pub GainedFront : Option Text → Option Text → Text → Type 0
 GainedFront before now text = (front : Text) × IsFront front text × Gained before now front
 
@@ -23,7 +23,7 @@ GainedFront before now text = (front : Text) × IsFront front text × Gained bef
 abbrev pub GainedMore : Option Text → Option Text → Text → Type 0
 GainedMore before now text = (more : Text) × Gained before now (text ++ more)
 
--- all of a text was written, or a front of it
+-- all of a text was written, or a prefix of it
 abbrev pub WritesAll : Option Text → Option Text → Text → Result (Unit {0}) SinkFault → Type 0
 WritesAll before now text (Ok u) = Gained before now text
 WritesAll before now text (Err e) = GainedFront before now text

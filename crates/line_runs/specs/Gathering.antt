@@ -16,7 +16,7 @@ use Rattle.line_runs.specs.Outcome.{CutOff, Due, IsWholeLines, Ran}
 
 -- ---- what is gathered
 
--- a front of a text was written, and the rest of it is gathered
+-- a prefix of a text was written, and the rest of it is gathered
 abbrev pub Gathered : (text gathered : Text) → (before now : SinkSeen) → Type 0
 Gathered text gathered before now = (written : Text) × (written ++ gathered ≡ text)
     × Gained before.held now.held written × (now.faults ≡ before.faults)
@@ -25,7 +25,7 @@ Gathered text gathered before now = (written : Text) × (written ++ gathered ≡
 abbrev pub CutIn : Text → SinkSeen → SinkSeen → Fault → Type 0
 CutIn text before now e = CutOff text ⊥ (Rose before.faults now.faults) (Gained before.held now.held) e
 
--- a text was gathered behind an earlier one
+-- a text was gathered after an earlier one
 abbrev pub Gathers : (earlier text gathered : Text) → SinkSeen → SinkSeen → Result (Unit {0}) Fault → Type 0
 Gathers earlier text gathered before now (Ok u) = Gathered (earlier ++ text) gathered before now
 Gathers earlier text gathered before now (Err e) = CutIn (earlier ++ text) before now e
@@ -75,9 +75,9 @@ PieceRan follows due later before now (Err e) = (over : Bool) (left : Text) → 
 abbrev pub limit_due : ℕ → Text → ℕ → Due
 limit_due n before byte = unended n (if byte == 10 then before else before ++ byte ∷ [])
 
--- ---- where a fault ends the run
+-- ---- if a fault ends the run
 
--- the text that is due of some bytes of a file that goes on behind them: that of the lines that ended in them
+-- the text that is due of some bytes of a file that goes on after them: that of the lines that ended in them
 abbrev pub ended_text : {S : Type 0} → (S → ℕ → Text → Result (S × Text) LineFault) → (S → Text) → S → Text → Text
 ended_text advance closing s bytes = (process advance closing true 1 s (pieces bytes)).1
 
@@ -87,7 +87,7 @@ last_piece [] = []
 last_piece (piece ∷ []) = piece
 last_piece (piece ∷ next ∷ rest) = last_piece (next ∷ rest)
 
--- the open line: the bytes behind the last line feed
+-- the open line: the bytes after the last line feed
 abbrev pub open_line : Text → Text
 open_line bytes = last_piece (pieces bytes)
 
@@ -123,14 +123,14 @@ WroteEndedOf e text None name shelf shelf_now sink sink_now = Unit {0}
 WroteEndedOf e text (Some contents) name shelf shelf_now sink sink_now = WroteEndedIn e text (bytes_of (contents name))
     shelf shelf_now sink sink_now
 
--- where the shelf tells its contents
+-- if the shelf tells its contents
 abbrev pub WroteEnded : Fault → (Text → Text) → Text → ShelfSeen → ShelfSeen → SinkSeen → SinkSeen → Type 0
 WroteEnded e text name shelf shelf_now sink sink_now = WroteEndedOf e text shelf.contents name shelf shelf_now sink
     sink_now
 
--- ---- where the run comes to an end
+-- ---- how the run ends
 
--- no line ends the run in these bytes of a file that goes on behind them
+-- no line ends the run in these bytes of a file that goes on after them
 abbrev pub GoesOn : {S : Type 0} → (S → ℕ → Text → Result (S × Text) LineFault) → (S → Text) → S → Text → Type 0
 GoesOn advance closing s bytes = (process advance closing true 1 s (pieces bytes)).0 ≡ end.TooLong
 
@@ -139,7 +139,7 @@ GoesOn advance closing s bytes = (process advance closing true 1 s (pieces bytes
 abbrev pub NoFurther : (Text → Type 0) → Text → (given ahead : ℕ) → Type 0
 NoFurther goes_on file given ahead = (given ≤ length file) × goes_on (take ahead file)
 
--- where the contents are told, so many bytes were given, and so many of them ahead of the last read, as their files say
+-- if the contents are told, so many bytes were given, and so many of them before the last read, as their files say
 abbrev pub ReadAsFarOf : (Contents → (given ahead : ℕ) → Type 0) → Option Contents → ShelfSeen → ShelfSeen → Type 0
 ReadAsFarOf far None shelf shelf_now = Unit {0}
 ReadAsFarOf far (Some contents) shelf shelf_now = (n : ℕ) × Gave shelf.given n shelf_now.given

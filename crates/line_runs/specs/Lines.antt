@@ -1,4 +1,4 @@
--- What the lines of a file come to, one after another.
+-- What is written for the lines of a file, one after another.
 use Rattle.std.specs.Prelude.{ℕ, ◌+◌, ◌≡◌, ◌==◌, nat_lt, Bool, List, [], ◌∷◌, ◌++◌, length, take, Result, Ok, Err}
 use Rattle.std.specs.Prelude.{if◌then◌else◌}
 use Rattle.std.specs.List.{slice_index_or}
@@ -16,11 +16,11 @@ use Rattle.line_runs.specs.Outcome.{Due}
 abbrev pub file_limit : ℕ
 file_limit = 16777216
 
--- the file goes on behind the bytes that count
+-- the file goes on after the bytes that count
 abbrev pub is_over : Text → Bool
 is_over file = nat_lt file_limit (length file)
 
--- The bytes that lines are cut from, of a file of which so many count: those, and the one behind them, which may be one
+-- The bytes that lines are cut from, of a file of which so many count: those, and the one after them, which may be one
 -- too many for the last line; but a line feed there ends nothing.
 abbrev pub cut_at : ℕ → Text → Text
 cut_at limit file = if slice_index_or file limit 10 == 10 then take limit file else take (limit + 1) file
@@ -44,8 +44,8 @@ go_on n (Err fault) later = refusal n fault
 abbrev pub unended : ℕ → Text → Due
 unended n piece = if nat_lt line_limit (length piece) then refusal n line.TooLong else (TooLong, [])
 
--- The end and the text of the pieces between line feeds, by what a line of each number comes to (a state and a text, or
--- a fault) and by the text behind the last one. The last piece is a line where it has bytes.
+-- The end and the text of the pieces between line feeds, by what a line of each number gives (a state and a text, or a
+-- fault) and by the text after the last one. The last piece is a line if it has bytes.
 abbrev pub process : {S : Type 0} → (S → ℕ → Text → Result (S × Text) LineFault) → (S → Text) → Bool → ℕ → S
     → List Text → Due
 process advance closing over n s [] = (Done, closing s)
@@ -60,7 +60,7 @@ process advance closing over n s (piece ∷ next ∷ rest) = go_on n (advance s 
 abbrev pub file_due : {S : Type 0} → (S → ℕ → Text → Result (S × Text) LineFault) → (S → Text) → S → Text → Due
 file_due advance closing s file = process advance closing (is_over file) 1 s (pieces (cut_text file))
 
--- what a line came to: its text and a past that what is kept now follows, or its fault, or want of memory
+-- what a line gave: its text and a past that what is kept now follows, or its fault, or want of memory
 abbrev pub Came : {S : Type 0} → Result (S × Text) LineFault → (S → Type 0) → Result Text LineError → Type 0
 Came {S} due follows (Ok text) = (now : S) × (due ≡ Ok (now, text)) × follows now
 Came due follows (Err error.Memory) = Unit {0}

@@ -13,7 +13,7 @@ Due = End × Text
 -- In what follows `read`, `write` and `quiet` say that a count of read faults rose, that one of write faults did,
 -- and that none did; `gained` says of a text that the sink has gained it.
 
--- some front of the text was gained
+-- some prefix of the text was gained
 abbrev pub SomeFront : (Text → Type 0) → Text → Type 0
 SomeFront gained text = (front : Text) × IsFront front text × gained front
 
@@ -21,7 +21,7 @@ SomeFront gained text = (front : Text) × IsFront front text × gained front
 abbrev pub IsWholeLines : Text → Type 0
 IsWholeLines text = (text ≡ []) ⊎ ((lines : Text) × (text ≡ lines ++ 10 ∷ []))
 
--- some front of whole lines was gained
+-- some prefix of whole lines was gained
 abbrev pub SomeLines : (Text → Type 0) → Text → Type 0
 SomeLines gained text = (front : Text) × IsFront front text × IsWholeLines front × gained front
 
@@ -48,7 +48,7 @@ abbrev pub Wrote : Text → SinkSeen → SinkSeen → Result (Unit {0}) Fault �
 Wrote text before now (Ok u) = Gained before.held now.held text × (now.faults ≡ before.faults)
 Wrote text before now (Err e) = CutOff text ⊥ (Rose before.faults now.faults) (Gained before.held now.held) e
 
--- ---- where a shelf may tell its contents
+-- ---- if a shelf may tell its contents
 
 -- a file that is wanted is not there
 abbrev pub Unreadable : (Text → Type 0) → Result End Fault → Type 0
@@ -66,12 +66,12 @@ CutCause read write fault.Read = read
 CutCause read write fault.Write = write
 CutCause read write fault.Memory = Unit {0}
 
--- where nothing is told, the causes alone
+-- if nothing is told, the causes alone
 abbrev pub EndsBlind : (read write quiet : Type 0) → Result End Fault → Type 0
 EndsBlind read write quiet (Ok e) = quiet
 EndsBlind read write quiet (Err e) = CutCause read write e
 
--- where the contents are told, by what they call for: an end and a text, or nothing where a file is not there
+-- if the contents are told, by what they call for: an end and a text, or nothing if a file is not there
 abbrev pub EndsOn : Option Contents → (Contents → Option Due) → (read write quiet : Type 0) → (Text → Type 0)
     → Result End Fault → Type 0
 EndsOn None due read write quiet gained r = EndsBlind read write quiet r

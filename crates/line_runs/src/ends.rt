@@ -1,6 +1,6 @@
 //! How a part of the program ends.
 
-/// How the program ends where nothing cuts it off.
+/// How the program ends if nothing cuts it off.
 #[derive(Clone, Copy, Debug, PartialEq, Eq)]
 pub enum End {
     /// All input was read, and all lines were written.
@@ -11,7 +11,7 @@ pub enum End {
     Topology,
     /// A line is not spelled.
     Script,
-    /// A file goes on behind its limit.
+    /// A file is longer than its limit.
     TooLong,
 }
 

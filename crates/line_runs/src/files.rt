@@ -14,7 +14,7 @@ use ide_base::{Shelf, ShelfFault, Sink};
 use link_events::{LINE_LIMIT, LineFault};
 use std::alloc::Global;
 
-// Reads on from a place of a file, up to the last byte that counts, or there the one behind it.
+// Reads on from a place of a file, up to the last byte that counts; after that byte, one byte more.
 fn read_piece<S: Shelf>(
     shelf: &mut S,
     name: &str,
@@ -54,9 +54,10 @@ fn run_limit<O: Sink>(alloc: Global, lines: &Lines, byte: u8, out: &mut O) -> Re
     Ok(End::TooLong)
 }
 
-/// What the lines of the file of this name come to, written line by line. The file is read in pieces of at most 4,096
-/// bytes, and no byte behind byte 16,777,217 of it; what is due to the lines that end in a piece is written before the
-/// next one is read. A line is refused at its 20,001st byte.
+/// Reads the file of this name and writes the text of its lines, line by line. The file is read in pieces of at most
+/// 4,096 bytes, and no byte after byte 16,777,217 of it is asked for; what is due to the lines that end in a piece is
+/// written before the next one is read. A line is refused at its 20,001st byte. Returns a `Fault` if a read or a write
+/// failed or there was no memory.
 pub fn run_file<S: Shelf, O: Sink, W: LineWork>(
     alloc: Global,
     work: &mut W,

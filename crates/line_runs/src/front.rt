@@ -1,4 +1,4 @@
-//! The front of a file.
+//! The first bytes of a file.
 ghost use Rattle.std.specs.Prelude.{◌≡◌, ◌≤◌, ◌<◌, ◌+◌, ◌^◌, length, IfOk, OnErr};
 ghost use Rattle.ide_base.specs.Outside.{counted};
 ghost use Rattle.line_runs.specs.Front.{AskedPieces, FrontOf, Gave, GaveBehind, GaveOf, IsReadOf, ReadCause, ReadsOn};
@@ -18,7 +18,7 @@ pub enum Stop {
 /// How much of a file is read at once, in bytes (this profile).
 pub(crate) const PIECE: usize = 4096;
 
-// Reads on behind what was read, at most a piece, and answers how many bytes; none at the end of the file.
+// Reads on after what was read, at most a piece, and answers how many bytes; none at the end of the file.
 fn read_on<S: Shelf>(
     shelf: &mut S,
     name: &str,
@@ -52,8 +52,7 @@ fn read_on<S: Shelf>(
     }
 }
 
-/// The first bytes of a file, at most `most` of them, and all where it has no more. No byte behind them is asked
-/// for.
+/// Reads the first bytes of a file, at most `most` of them, and all if it has no more. No byte after them is asked for.
 pub fn read_front<S: Shelf>(
     alloc: Global,
     shelf: &mut S,

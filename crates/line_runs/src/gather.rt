@@ -30,7 +30,7 @@ pub(crate) fn end_for_memory<O: Sink>(gathered: &[u8], out: &mut O) -> Fault
     }
 }
 
-/// Gathers the text of a line, and writes what is gathered where that is much.
+/// Gathers the text of a line, and writes what is gathered if that is much.
 pub(crate) fn gather<O: Sink>(gathered: &mut Vec<u8>, text: &[u8], out: &mut O) -> Result<(), Fault>
     ensures { Gathers gathered.old.items text.now gathered.new.items (O.seen out.old) (O.seen out.new) result }
 {

@@ -1,4 +1,4 @@
-//! A file is read in pieces up to a limit, and what each of its lines comes to is written.
+//! A file is read in pieces up to a limit, and the text of each of its lines is written.
 #![tactic(auto)]
 
 mod ends;

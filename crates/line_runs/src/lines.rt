@@ -1,4 +1,4 @@
-//! What the lines of a file come to, and how a run of them ends.
+//! What is written for the lines of a file, and how a run over them ends.
 ghost use Rattle.std.specs.Prelude.{◌≡◌, ◌≢◌, ◌∷◌, [], ◌+◌, ◌<◌, ◌^◌, ℕ, List, Result, Err, IfOk, IfSome, OnOk, length};
 ghost use Rattle.std.specs.Prelude.{nat_lt, true, false};
 ghost use Rattle.link_events.specs.declared.fault.LineFault.{LineFault};
@@ -18,9 +18,9 @@ use std::alloc::Global;
 /// How many bytes of a file count (this profile).
 pub const FILE_LIMIT: usize = 16_777_216;
 
-/// What the lines of a file come to.
+/// What is written for the lines of a file, line by line.
 pub trait LineWork {
-    /// What the lines so far came to.
+    /// What is known of the lines so far.
     ghost Past: { Type 0 };
 
     /// What is kept follows such a past.
@@ -29,10 +29,11 @@ pub trait LineWork {
     /// A line of this number may come next.
     ghost fits: { Self → ℕ → Type 0 };
 
-    /// What the line of a number comes to: the past with it and its text, or its fault.
+    /// The line of a number, after this past: the past with that line and the text that is written for it, or its
+    /// fault.
     ghost advance: { Self.Past → ℕ → List ℕ → Result (Self.Past × List ℕ) LineFault };
 
-    /// The text behind the last line.
+    /// The text that is written after the last line.
     ghost closing: { Self.Past → List ℕ };
 
     /// The text of a line, without its line feed, of which the number counts from 1.
@@ -43,7 +44,7 @@ pub trait LineWork {
             (follows self.new) result }
         ensures fits { OnOk result (fits self.new (number + 1)) };
 
-    /// The text behind the last line.
+    /// The text that is written after the last line.
     fn closing(&self) -> Result<Bytes, Memory>
         ensures { (past : Self.Past) → follows self.now past → IfOk result (λ text. text ≡ closing past) };
 
@@ -74,7 +75,7 @@ pub(crate) fn refuse<O: Sink>(
     }
 }
 
-// Ends behind the last line.
+// Ends after the last line.
 fn close<O: Sink, W: LineWork>(work: &W, out: &mut O) -> Result<End, Fault>
     ensures end { IfOk result (λ e. e ≡ End.Done) }
     ensures ran { (past : W.Past) → W.follows work.now past → Ran (End.Done, W.closing past) (O.seen out.old)

@@ -25,7 +25,7 @@ pub(crate) struct Lines {
 }
 
 impl Lines {
-    /// Ahead of the first line.
+    /// The state before the first line.
     pub(crate) fn make(alloc: Global) -> Result<Lines, Memory>
         ensures number { IfOk result (λ l. l.number ≡ 1) }
         ensures unended { IfOk result (λ l. l.unended.items ≡ []) }
@@ -50,7 +50,7 @@ impl Lines {
         let _ = self.unended.extend_from_slice(more);
     }
 
-    // What the line comes to that ends with these bytes. Where it lies in one piece, it is not copied.
+    // Runs the line that ends with these bytes. If it lies in one piece, it is not copied.
     fn run_line<W: LineWork>(&mut self, work: &mut W, end: &[u8]) -> Result<Bytes, LineError>
         requires number { self.old.number < 2 ^ 26 }
         requires fits { W.fits work.old self.old.number }

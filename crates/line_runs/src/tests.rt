@@ -48,7 +48,7 @@ fn copied(alloc: Global, line: &[u8]) -> Result<Bytes, Memory>
     Ok(Bytes::new(text))
 }
 
-// What comes of a file of these bytes, where the reads and the puts of these numbers fail.
+// The end of a run over a file of these bytes, if the reads and the puts of these numbers fail.
 fn ran_failing(
     alloc: Global,
     bytes: &[u8],
@@ -64,7 +64,7 @@ fn ran_failing(
     Ok((end, out))
 }
 
-// Where the reads of these numbers fail.
+// If the reads of these numbers fail.
 fn ran(alloc: Global, bytes: &[u8], reads: &[u64]) -> Result<(Result<End, Fault>, MemSink), Fail> {
     ran_failing(alloc, bytes, reads, &[])
 }
@@ -137,8 +137,8 @@ fn writes_piece_by_piece(rt: HostRuntime) -> Result<(), Fail> {
     Ok(())
 }
 
-// 4,096 lines in the first piece, one in the second, and the text behind the last: each is put at once, and ahead of
-// the read that comes next, which would fail.
+// 4,096 lines in the first piece, one in the second, and the text after the last: each is put at once, before the next
+// read, which would fail.
 #[test]
 fn puts_once_a_piece(rt: HostRuntime) -> Result<(), Fail> {
     let alloc = rt.alloc();

@@ -19,7 +19,7 @@ fn write_all<O: Sink>(out: &mut O, text: &[u8]) -> Result<(), SinkFault>
     Ok(())
 }
 
-/// Writes a text.
+/// Writes a whole text. Returns `Fault::Write` if the sink failed, `Fault::Memory` for want of memory.
 pub fn write<O: Sink>(out: &mut O, text: &[u8]) -> Result<(), Fault>
     ensures { Wrote text.now (O.seen out.old) (O.seen out.new) result }
 {
@@ -30,7 +30,7 @@ pub fn write<O: Sink>(out: &mut O, text: &[u8]) -> Result<(), Fault>
     }
 }
 
-/// Writes the last text, and ends so.
+/// Writes the last text, and answers this end.
 pub fn finish<O: Sink>(out: &mut O, end: End, text: &[u8]) -> Result<End, Fault>
     ensures end { IfOk result (λ e. e ≡ end) }
     ensures ran { Ran (end, text.now) (O.seen out.old) (O.seen out.new) result }

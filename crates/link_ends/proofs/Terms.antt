@@ -12,7 +12,7 @@ pub use Rattle.key_laws.specs.Operations.{Work, last_of, makes_draw, op_standing
 pub use Rattle.key_slots.specs.{Pool, SlotPair, live_set, six_keys}
 pub use Rattle.link_ends.specs.Keepers.{Exchanges, HasStream, IsExchanged, IsOn, IsOperated, IsWalked, KeeperView}
 pub use Rattle.link_ends.specs.Keepers.{SameCalls, Stands, Walks, ends_found}
-pub use Rattle.link_ends.specs.Lost.{lost_in}
+pub use Rattle.key_laws.specs.Due.{lost_in}
 pub use Rattle.link_ends.specs.declared.ends.LinkEnds.{LinkEnds}
 pub use Rattle.link_events.specs.declared.event.Loss.{Loss}
 pub use Rattle.link_verdicts.specs.declared.verdict.Operation.{Operation}

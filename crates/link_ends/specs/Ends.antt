@@ -21,12 +21,12 @@ abbrev pub port_in : Side → LinkEnds → PortEnd
 port_in Host l = l.host
 port_in Device l = l.device.port
 
--- with another port of a side, behind a send
+-- with another port of a side, after a send
 abbrev pub with_port : Side → PortEnd → LinkEnds → LinkEnds
 with_port Host e l = record l { host = e }
 with_port Device e l = record l { device = record l.device { port = e } }
 
--- with another port of a side, behind bytes that came
+-- with another port of a side, after bytes that came
 abbrev pub taken_ends : Side → PortEnd → LinkEnds → LinkEnds
 taken_ends Host e l = record l { host = e }
 taken_ends Device e l = record l { device = device_with l.device e }
@@ -35,7 +35,7 @@ taken_ends Device e l = record l { device = device_with l.device e }
 abbrev pub settled_ends : LinkEnds → LinkEnds
 settled_ends l = record l { device = settled_device l.device }
 
--- T at the port of a side, where a host is asked for it
+-- T at the port of a side, if a host is asked for it
 abbrev pub trusting_at : Side → LinkEnds → Bool → Trusting
 trusting_at Host l trusted = λ head stream. trusted
 trusting_at Device l trusted = device_trusting l.device.interfaces

@@ -32,8 +32,7 @@ keyed_at_end outcome link stream m = m
 abbrev pub stopped_if : Bool → ℕ → ℕ → ManagerView → ManagerView
 stopped_if begins link stream m = if begins then stop_begun link stream m else m
 
--- an establish that drew gave the stream its draw, and so does a refresh at its end; a stop breaks views where it
--- begins
+-- an establish that drew gave the stream its draw, and so does a refresh at its end; a stop breaks views if it begins
 abbrev pub told : Op → Bool → Bool → ℕ → Outcome → ManagerView → ManagerView
 told (Establish link stream) begins drew draw outcome m = keyed_if drew link stream draw m
 told (Refresh link stream) begins drew draw outcome m = keyed_at_end outcome link stream m

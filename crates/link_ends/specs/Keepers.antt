@@ -94,7 +94,7 @@ Operates k l op loss result k' l' =
 
 -- ---- calls
 
--- an operation on a stream is no call that sends or takes, and comes to no interface
+-- an operation on a stream is no call that sends or takes, and reaches no interface
 pub record SameCalls (l l' : LinkEnds) : Type 0 where
   pub host : l'.host.calls ≡ l.host.calls
   pub device : l'.device.port.calls ≡ l.device.port.calls

@@ -1,4 +1,3 @@
-pub mod Lost
 pub mod Ends
 pub mod Keepers
 pub mod Hosts

@@ -24,7 +24,8 @@ impl LinkEnds {
     ghost use Rattle.link_ends.specs.Ends.{new_ends, port_in, with_port, taken_ends, trusting_at, reset_ends};
 
     /// The ends of a link with these streams, without keys; a key seals at most `limit` units. `requester` is the
-    /// requester ID that the device names; it has these interfaces, whose locks get these nonces.
+    /// requester ID that the device gives in its answer to QUERY, 0 if it has no interface; it has these interfaces,
+    /// whose locks get these nonces.
     pub fn make(
         alloc: Global,
         link: u8,
@@ -47,8 +48,8 @@ impl LinkEnds {
         Ok(LinkEnds { host, device })
     }
 
-    /// Sends a TLP's bytes at the port of this side. A host's port sets T as it is asked, a device's where the TLP's
-    /// owner is an interface in RUN, on the stream that it is bound to.
+    /// Sends a TLP's bytes at the port of this side. A host's port sets T as it is asked. A device's port sets T if the
+    /// TLP's owner is an interface in RUN and the TLP takes the stream that the interface is bound to.
     pub fn send(&mut self, side: Side, tlp: &[u8], trusted: bool, more: bool) -> Sent
         requires few { (port_in side self.old).calls < 2 ^ 40 }
         ensures sent { (number : ℕ) → IsSent (port_in side self.old) tlp.now (trusting_at side self.old trusted) more
@@ -73,7 +74,8 @@ impl LinkEnds {
     }
 
     /// Takes bytes that arrive at the port of this side. What an accepted unit carries is lent until the next arrival.
-    /// Interfaces of the device in CONFIG_LOCKED and RUN go to ERROR where their stream is not Secure there behind it.
+    /// After it, each interface of the device in CONFIG_LOCKED or RUN goes to ERROR if its stream is not Secure at the
+    /// device's port.
     pub fn take(&mut self, side: Side, bytes: &[u8]) -> Arrival
         requires { (port_in side self.old).calls < 2 ^ 40 }
         ensures answer { result ≡ (take_step (port_in side self.old) bytes.now).answer }
@@ -119,7 +121,7 @@ impl LinkEnds {
         }
     }
 
-    /// The status of a stream at the port of this side; `None` where the link has no such stream.
+    /// The status of a stream at the port of this side; `None` if the link has no such stream.
     pub fn status(&self, side: Side, stream: u8) -> Option<StreamStatus>
         ensures { result ≡ status_in (port_in side self.now) stream }
     {
@@ -129,7 +131,8 @@ impl LinkEnds {
         }
     }
 
-    /// Both ports begin again, and the device's interfaces, whose nonces that were given stay so.
+    /// Resets the link: both ports drop all keys, open units, held packets, counts and failures, and each interface of
+    /// the device is in CONFIG_UNLOCKED with the topology's registers. No nonce that was given is given again.
     pub fn reset(&mut self)
         ensures { self.new ≡ reset_ends self.old }
     {

@@ -47,7 +47,7 @@ fn keyed_if(interfaces: &mut InterfaceKeeper, drew: bool, link: u8, stream: u8, 
     }
 }
 
-// A refresh came to its end, or not.
+// Whether a refresh ended.
 fn keyed_at_end(interfaces: &mut InterfaceKeeper, outcome: Outcome, link: u8, stream: u8)
     ensures { interfaces.new ≡ keyed_at_end outcome link stream interfaces.old }
 {
@@ -100,10 +100,10 @@ impl HostKeeper {
         Ok(HostKeeper { keys, interfaces })
     }
 
-    /// An operation on a stream of the link with these ends begins or goes on, and its exchanges are carried until it
-    /// is done or refused, but for the one that is lost. Views of the stream's interfaces that are Locked, Running or
-    /// Doubt are Broken where a stop begins; the device's interfaces in CONFIG_LOCKED and RUN go to ERROR where their
-    /// stream is not Secure at its port behind all this.
+    /// Begins an operation on a stream of the link with these ends, or goes on with it, and carries its exchanges until
+    /// it is done or refused, or `loss` loses one. If a stop begins, views of the stream's interfaces that are Locked,
+    /// Running or Doubt become Broken. At the end, each of the device's interfaces in CONFIG_LOCKED or RUN goes to
+    /// ERROR if its stream is not Secure at the device's port.
     pub fn operate(&mut self, ends: &mut LinkEnds, op: Op, loss: Option<Loss>) -> Outcome
         requires { IsSome (named self.old.keys.manager (op_name op).link (op_name op).stream) }
         ensures operates { Operates self.old.keys ends.old op loss result self.new.keys ends.new }
@@ -125,8 +125,8 @@ impl HostKeeper {
         outcome
     }
 
-    /// An operation on an interface of the link with these ends begins, and its exchanges are carried until it is over,
-    /// but for the one that is lost.
+    /// Begins an operation on an interface of the link with these ends, and carries its exchanges until it is over, or
+    /// `loss` loses one.
     pub fn operate_on(
         &mut self,
         ends: &mut LinkEnds,
@@ -156,8 +156,8 @@ impl HostKeeper {
             .operate(device, interface, op, status, secure, draws, loss)
     }
 
-    /// The streams of a link are without keys again, and their operations dropped; views of its interfaces that are
-    /// Locked, Running or Doubt are Broken.
+    /// Notes a reset of a link: its streams are without keys again and their operations are dropped; views of its
+    /// interfaces that are Locked, Running or Doubt become Broken.
     pub fn link_reset(&mut self, link: u8)
         ensures { self.new ≡ record {
           keys = record self.old.keys { manager = reset_manager link self.old.keys.manager };

@@ -12,7 +12,7 @@ ghost use Rattle.tsm_host.specs.Managers.{new_manager, named, current, reset_man
 ghost use Rattle.key_slots.specs.{new_pool};
 ghost use Rattle.device_side.specs.Ends.{asked_device, reply_given};
 ghost use Rattle.link_walks.specs.Walks.{judged_bytes};
-ghost use Rattle.link_ends.specs.Lost.{lost_in};
+ghost use Rattle.key_laws.specs.Due.{lost_in};
 
 use crate::ends::LinkEnds;
 use device_side::Device;
@@ -53,7 +53,7 @@ impl Model for Keeper {
     ghost invariant = { λ k. (49 ≤ vec_capacity k.request) × (8 ≤ vec_capacity k.reply) };
 }
 
-/// What is lost of the exchange of this number.
+/// What is lost of the exchange of this number; `None` if nothing is.
 pub fn lost_at(loss: Option<Loss>, exchange: u32) -> Option<Lost>
     ensures { result ≡ lost_in loss exchange }
 {
@@ -74,7 +74,7 @@ fn carried(reply: &[u8]) -> Carried<'_>
     }
 }
 
-// The request of the exchange that is next comes to the device, and `reply` holds what it answers.
+// Gives the device the request of the exchange that is next; `reply` holds what it answers.
 fn deliver(manager: &Manager, device: &mut Device, request: &mut Vec<u8>, reply: &mut Vec<u8>)
     requires asking { IsSome (current manager.now) }
     requires request_room { 49 ≤ vec_capacity request.old }
@@ -139,7 +139,7 @@ impl Keeper {
         self.manager.begins(op)
     }
 
-    // The exchange that is next, of which `loss` is lost where it is that one.
+    // Carries the exchange that is next, but for the message of it that `loss` loses, if any.
     fn exchange(&mut self, ends: &mut LinkEnds, loss: Option<Loss>) -> Outcome
         requires { IsSome (current self.old.manager) }
         ensures calls { SameCalls ends.old ends.new }
@@ -187,8 +187,8 @@ impl Keeper {
         }
     }
 
-    /// An operation on a stream of the link with these ends begins or goes on, and its exchanges are carried until it
-    /// is done or refused, but for the one that is lost.
+    /// Begins an operation on a stream of the link with these ends, or goes on with it, and carries its exchanges until
+    /// it is done or refused, or `loss` loses one.
     pub fn operate(&mut self, ends: &mut LinkEnds, op: Op, loss: Option<Loss>) -> Outcome
         requires { IsSome (named self.old.manager (op_name op).link (op_name op).stream) }
         ensures operates { Operates self.old ends.old op loss result self.new ends.new }
@@ -200,7 +200,7 @@ impl Keeper {
         }
     }
 
-    /// The streams of a link are without keys again, and their operations dropped.
+    /// Notes a reset of a link: its streams are without keys again, and their operations are dropped.
     pub fn link_reset(&mut self, link: u8)
         ensures { self.new ≡ record self.old { manager = reset_manager link self.old.manager } }
     {

@@ -15,7 +15,7 @@ pub use Rattle.link_events.specs.Parts.{two_number_tests}
 use Rattle.link_events.specs.Interfaces.{interface_rows}
 use Rattle.link_events.specs.Parse.{is_comment, line_meaning}
 
--- ---- what a word behind the first has to be
+-- ---- what a word after the first has to be
 
 abbrev pub mask_test : WordTest
 mask_test = record { is_spelled = λ w. is_some (mask_in w); fault = Hex }
@@ -30,7 +30,7 @@ abbrev pub is_at_host : Side → Bool
 is_at_host Host = true
 is_at_host Device = false
 
--- trusted, behind a host's port
+-- trusted, after a host's port
 abbrev pub is_trusted_at : Text → Text → Bool
 is_trusted_at port w = bytes_eq w (codes "trusted") && option_map_or (λ (p : PortName). is_at_host p.side)
     (port_in port) false
@@ -38,7 +38,7 @@ is_trusted_at port w = bytes_eq w (codes "trusted") && option_map_or (λ (p : Po
 abbrev pub trusted_test : Text → WordTest
 trusted_test port = record { is_spelled = is_trusted_at port; fault = Word }
 
--- more, or behind a host's port trusted
+-- more, or after a host's port trusted
 abbrev pub mark_test : Text → WordTest
 mark_test port = record { is_spelled = λ w. bytes_eq w (codes "more") || is_trusted_at port w; fault = Word }
 
@@ -99,7 +99,7 @@ abbrev pub WordsFault : List Text → LineFault → Type 0
 WordsFault [] fault = ⊥
 WordsFault (first ∷ rest) fault = TableFault event_table first rest fault
 
--- The first fault of a line, by the order of causes: its length, its bytes, its words. A comment has none behind its
+-- The first fault of a line, by the order of causes: its length, its bytes, its words. A comment has none after its
 -- length.
 abbrev pub FirstFault : Text → LineFault → Type 0
 FirstFault line fault =

@@ -85,7 +85,7 @@ memory_in (a ∷ l ∷ []) = do
   Ok (ie.Memory address len)
 memory_in _ = Err Count
 
--- what the manager does to an interface; nothing where the first word is none of theirs
+-- what the manager does to an interface; nothing if the first word is none of these events
 abbrev pub asking_event_of : Text → List Text → Option (Result InterfaceEvent LineFault)
 asking_event_of first rest =
     if bytes_eq first (codes "lock") then Some (asked_in rest >>= λ a. Ok (ie.Lock a.0 a.1))
@@ -95,7 +95,7 @@ asking_event_of first rest =
     else if bytes_eq first (codes "state") then Some (asked_in rest >>= λ a. Ok (ie.State a.0 a.1))
     else None
 
--- an event on an interface or on memory; nothing where the first word is none of theirs
+-- an event on an interface or on memory; nothing if the first word is none of these events
 abbrev pub interface_event_of : Text → List Text → Option (Result InterfaceEvent LineFault)
 interface_event_of first rest =
     if bytes_eq first (codes "view") then Some (one_number_in rest >>= λ n. Ok (ie.View n))

@@ -15,7 +15,7 @@ use Rattle.link_events.specs.Words.{line_limit, is_printable, words_in, number_i
 pub use Rattle.link_events.specs.Parts.{◌>>=◌, lost_exchange_in, loss_in, is_loss_long, one_number_in, two_numbers_in}
 use Rattle.link_events.specs.Interfaces.{interface_event_of}
 
--- ---- the words behind the first
+-- ---- the words after the first
 
 -- a link and a stream, and what is lost
 abbrev pub operation_in : List Text → Result (ℕ × ℕ × Option Loss) LineFault
@@ -69,7 +69,7 @@ arrive_in _ = Err Count
 
 -- ---- lines
 
--- an event that names packets; nothing where the first word is none of theirs
+-- an event that names packets; nothing if the first word is none of these events
 abbrev pub packet_event_of : Text → List Text → Option (Result Event LineFault)
 packet_event_of first rest =
     if bytes_eq first (codes "pass") then Some (one_number_in rest >>= λ n. Ok (Pass n))

@@ -66,7 +66,7 @@ TwoSpelledBy first one two words = (m : WordOf number_in one) × (n : WordOf num
 
 -- ---- as the table tests them
 
--- a test of a word, and the fault where the word does not meet it
+-- a test of a word, and the fault if the word does not meet it
 pub record WordTest : Type 0 where
   pub is_spelled : Text → Bool
   pub fault : LineFault
@@ -81,8 +81,8 @@ lost_test = record { is_spelled = λ w. is_some (lost_in w); fault = Word }
 abbrev pub word_test : Text → WordTest
 word_test word = record { is_spelled = λ w. bytes_eq w word; fault = Word }
 
--- A row of the table: an event's word, and the tests of the words behind it, by how many stand there; nothing where it
--- may not have so many.
+-- A row of the table: an event's word, and the tests of the words after it, by how many stand there; nothing if it may
+-- not have so many.
 abbrev pub Row : Type 0
 Row = Text × (List Text → Option (List WordTest))
 

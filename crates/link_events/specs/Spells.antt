@@ -49,7 +49,7 @@ pub record SpellsEvent (event : Event) (line : Text) : Type 0 where
   pub printable : list_all is_printable line ≡ true
   pub words : SpelledBy event (words_in line)
 
--- a line means an event where it spells it
+-- a line means an event if it spells it
 abbrev pub MeaningIsSpelling : Type 0
 MeaningIsSpelling = (line : Text) (event : Event) → (line_meaning line ≡ Ok (Some event)) ↔ SpellsEvent event line
 
@@ -57,7 +57,7 @@ MeaningIsSpelling = (line : Text) (event : Event) → (line_meaning line ≡ Ok 
 abbrev pub IsSkipped : Text → Type 0
 IsSkipped line = (length line ≤ line_limit) × ((is_comment line ≡ true) ⊎ (list_all (λ b. b == 32) line ≡ true))
 
--- a line means no event where it is skipped
+-- a line means no event if it is skipped
 abbrev pub NothingIsSkipped : Type 0
 NothingIsSkipped = (line : Text) → (line_meaning line ≡ Ok None) ↔ IsSkipped line
 

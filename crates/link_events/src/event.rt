@@ -10,7 +10,7 @@ pub enum Lost {
     Reply,
 }
 
-/// The exchange that is lost where the event comes to it, by its number from 1.
+/// The exchange that is lost if the event gets that far, by its number from 1, and which message of it.
 #[derive(Clone, Copy, Debug, PartialEq, Eq)]
 pub struct Loss {
     pub exchange: u64,
@@ -92,8 +92,8 @@ pub enum Event {
         stream: u64,
         lose: Option<Loss>,
     },
-    /// `send PORT HEX`: a TLP's bytes go out at the port; `more` leaves the unit unfinished, `trusted` asks
-    /// a host's port to set T.
+    /// `send PORT HEX`: the port sends the TLP of these bytes; `more` lets its unit go on if it has room, `trusted`
+    /// asks a host's port to set T.
     Send {
         port: PortName,
         bytes: Bytes,
@@ -124,7 +124,8 @@ pub enum Event {
     Dump {
         packet: u64,
     },
-    /// `reset LINK`: both ports of the link, and the manager's operations on its streams, begin again.
+    /// `reset LINK`: both ports of the link lose all keys, units, counts and failures, the manager's operations on its
+    /// streams are dropped, and its device's interfaces are unlocked.
     Reset {
         link: u64,
     },

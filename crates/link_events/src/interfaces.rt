@@ -129,7 +129,7 @@ fn memory(words: &[&[u8]]) -> Result<InterfaceEvent, LineFault>
     Ok(InterfaceEvent::Memory { address, length })
 }
 
-// What the manager does to an interface; nothing where the first word is none of theirs.
+// What the manager does to an interface; `None` if the first word is none of these events.
 fn asking_event(first: &[u8], rest: &[&[u8]]) -> Option<Result<InterfaceEvent, LineFault>>
     ensures { result ≡ asking_event_of first.now (map (λ w. w.now) rest.now) }
 {
@@ -154,7 +154,7 @@ fn asking_event(first: &[u8], rest: &[&[u8]]) -> Option<Result<InterfaceEvent, L
     None
 }
 
-// An event on an interface or on memory; nothing where the first word is none of theirs.
+// An event on an interface or on memory; `None` if the first word is none of these events.
 pub(crate) fn interface_event(
     first: &[u8],
     rest: &[&[u8]],

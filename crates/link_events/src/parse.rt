@@ -46,7 +46,7 @@ fn alter(words: &[&[u8]]) -> Result<Event, LineFault>
     Ok(Event::Alter { packet, at, mask })
 }
 
-// Whether `more` and `trusted` stand behind the bytes of a send.
+// Whether `more` and `trusted` stand after the bytes of a send.
 fn marks_at(side: Side, marks: &[&[u8]]) -> Result<(bool, bool), LineFault>
     ensures { result ≡ ok_or (marks_in side (map (λ w. w.now) marks.now)) fault.Word }
 {
@@ -105,7 +105,7 @@ fn bytes_event(alloc: Global, first: &[u8], rest: &[&[u8]]) -> Result<Event, Lin
     Err(LineError::Fault(LineFault::Word))
 }
 
-// An event that names packets; nothing where the first word is none of theirs.
+// An event that names packets; `None` if the first word is none of these events.
 fn packet_event(first: &[u8], rest: &[&[u8]]) -> Option<Result<Event, LineFault>>
     ensures { result ≡ packet_event_of first.now (map (λ w. w.now) rest.now) }
 {
@@ -227,8 +227,8 @@ fn event_in_line(alloc: Global, line: &[u8]) -> Result<Option<Event>, LineError>
     event_on(alloc, line)
 }
 
-/// The event that a line without its line feed spells, None on a line of spaces and on one that begins with
-/// `#`, or the first fault of any other line (this profile). Only the events `send` and `arrive` take memory.
+/// The event that a line without its line feed spells, `None` on a line of spaces and on one that begins with `#`, or
+/// the first fault of any other line (this profile). Only the events `send` and `arrive` take memory.
 pub fn parse_line(alloc: Global, line: &[u8]) -> Result<Option<Event>, LineError>
     ensures gives { Gives (line_meaning line.now) result }
     ensures exact { begins_bytes (words_in line.now) ≡ false → result ≡ answer_of (line_meaning line.now) }
@@ -238,16 +238,16 @@ pub fn parse_line(alloc: Global, line: &[u8]) -> Result<Option<Event>, LineError
     event_in_line(alloc, line)
 }
 
-/// A line means an event exactly where it spells it, and none exactly where it is a comment or of spaces only.
-/// A spelled event is of one of eight links, and trusted at a host's port alone (this profile).
+/// A line means an event exactly if it spells that event, and none exactly if it is a comment or of spaces only. A
+/// spelled event is of one of eight links, and trusted at a host's port alone (this profile).
 pub fn lines_spell()
     ensures exact { MeaningIsSpelling }
     ensures none { NothingIsSkipped }
     ensures allowed { SpelledAreAllowed }
 {}
 
-/// The fault of a line is its first: by the causes in their order, and then by the first word that is not what stands
-/// in its place behind its event's word (this profile).
+/// The fault of a line is its first: by the causes in their order, and then by the first word that does not fit its
+/// place after its event's word (this profile).
 pub fn faults_are_first()
     ensures { FaultsAreFirst }
 {}

@@ -45,7 +45,7 @@ fn is_signed(word: &[u8]) -> bool
     matches!(word, [b'+', ..])
 }
 
-// The number that digits write, where there is one and it is below 2^64.
+// The number that digits write, if there is one and it is below 2^64.
 fn value(digits: &[u8], radix: u32) -> Option<u64>
     requires lower_bound { 2 ≤ radix }
     requires upper_bound { radix ≤ 36 }
@@ -58,7 +58,7 @@ fn value(digits: &[u8], radix: u32) -> Option<u64>
     }
 }
 
-// The number that 1 to `most` digits write, where it is below 2^64.
+// The number that 1 to `most` digits write, if it is below 2^64.
 fn digits(word: &[u8], radix: u32, most: usize) -> Option<u64>
     requires lower_bound { 2 ≤ radix }
     requires upper_bound { radix ≤ 36 }

@@ -4,15 +4,17 @@
 use Rattle.link_history.proofs.Terms.{Bool, Err, List, None, Ok, Option, Result, Some, [], ap, arith, false, length}
 use Rattle.link_history.proofs.Terms.{refl, subst, sym, true, ℕ, ◌+◌, ◌∙◌, ◌∷◌, ◌≡◌, unwrap_or, key_due, Ending}
 use Rattle.link_history.proofs.Terms.{Sending, arrival_due, before_tag}
-use Rattle.link_history.proofs.Terms.{before_tag_of, choice, due, dump_due, effect_of, ended, first_that_holds}
+use Rattle.link_history.proofs.Terms.{before_tag_of, choice, due, dump_due, effects_of, ended, first_that_holds}
 use Rattle.link_history.proofs.Terms.{is_mixed, is_overfull, is_verified, lanes_at, receiving, refusals, sealed_by}
 use Rattle.link_history.proofs.Terms.{send_on, send_read, unit_under, Arrival}
 use Rattle.link_history.proofs.Terms.{arrived, arrived_packet, cut_packet, failed, meets_counts, on_draw, packet_at}
 use Rattle.link_history.proofs.Terms.{packet_in, received_in, sealed_packets, units_got, is_quiet, SubStream, has_link}
 use Rattle.link_history.proofs.Terms.{has_port, has_stream, stream_plan}
-use Rattle.link_history.proofs.Terms.{AllByRecursion, Dump, Effect, Establish, Interface, Event, t_due, owner_at}
+use Rattle.link_history.proofs.Terms.{AllByRecursion, Alter, Arrive, Cut, Dump, Effect, Establish, Interface, Event}
+use Rattle.link_history.proofs.Terms.{t_due}
+use Rattle.link_history.proofs.Terms.{owner_at, sent_bytes, Host, Pass}
 use Rattle.link_history.proofs.Terms.{History, Packet, Plan, PortName, Refresh, Reset, SealedPacket, Send, Status, Stop}
-use Rattle.link_history.proofs.Terms.{UnitName, Verdict, if◌then◌else◌, is_some, map, not}
+use Rattle.link_history.proofs.Terms.{UnitName, Verdict, if◌then◌else◌, is_some, not}
 use Rattle.link_history.specs.Due.{settled}
 use Rattle.link_history.proofs.Senders.{AreFalse}
 use Rattle.link_history.proofs.KeyVerdicts.{establish_due_quiet, refresh_due_quiet, stop_due_quiet, interface_due_quiet}
@@ -61,9 +63,9 @@ pub record AcceptedBy (plan : Plan) (h : History) (e : Event) (port : PortName) 
   pub ends : packet.prefix.m ≡ true
   pub verified : is_verified plan h port (ending packet unit) ≡ true
   pub counts : meets_counts plan h (received_in port unit) (ended plan h port (ending packet unit)) ≡ true
-  pub effects_are : effects ≡ map (effect_of plan h port unit) (ended plan h port (ending packet unit))
+  pub effects_are : effects ≡ effects_of plan h port unit (ended plan h port (ending packet unit))
 
--- what a send that was sealed tells
+-- what a sealed verdict tells of the port that sealed and the bytes
 pub record IsSealing (plan : Plan) (h : History) (port : PortName) (bytes : List ℕ) (ds : List SealedPacket) : Type 0
   where
     pub sending : Sending
@@ -71,6 +73,7 @@ pub record IsSealing (plan : Plan) (h : History) (port : PortName) (bytes : List
     pub reads : read_of bytes ≡ Ok tlp
     pub class : sending.class ≡ class_of (header tlp)
     pub at_port : sending.port ≡ port
+    pub chosen : choice plan port (header tlp) ≡ Some sending.stream
     pub free : AreFalse (refusals (lanes_at plan h sending.port sending.stream) sending.class)
     pub number : ℕ
     pub next : number ≡ length (sealed_packets plan h) + 1
@@ -78,9 +81,15 @@ pub record IsSealing (plan : Plan) (h : History) (port : PortName) (bytes : List
 
 -- ---- what a verdict tells of its event
 
-abbrev pub is_send : Event → Bool
-is_send (Send port bytes more trusted) = true
-is_send _ = false
+-- the events that may seal
+abbrev pub is_sealing : Event → Bool
+is_sealing (Send port bytes more trusted) = true
+is_sealing _ = false
+
+-- the port at which an event that may seal does
+abbrev pub sending_port : Event → PortName
+sending_port (Send port bytes more trusted) = port
+sending_port _ = record { side = Host; link = 0 }
 
 -- the verdict is that of a packet which the event brought
 record Brought (plan : Plan) (h : History) (e : Event) (w : Verdict) : Type 0 where
@@ -91,8 +100,7 @@ record Brought (plan : Plan) (h : History) (e : Event) (w : Verdict) : Type 0 wh
   is : w ≡ settled plan h at.port (before_tag_of plan h at.port (Ok (IdePacket packet)))
 
 abbrev Sent : Plan → History → Event → List SealedPacket → Type 0
-Sent plan h (Send port bytes more trusted) ds = IsSealing plan h port bytes ds
-Sent plan h _ ds = ⊥
+Sent plan h e ds = (is_sealing e ≡ true) × IsSealing plan h (sending_port e) (sent_bytes plan h e) ds
 
 abbrev Tells : Plan → History → Event → Verdict → Type 0
 Tells plan h e (v.Held port unit) = Brought plan h e (v.Held port unit)
@@ -109,11 +117,13 @@ first_tells plan h e [] last all ends = ends tt
 first_tells plan h e ((true, w) ∷ xs) last all ends = all.0
 first_tells plan h e ((false, w) ∷ xs) last all ends = first_tells plan h e xs last all.1 (λ free. ends (refl, free))
 
-on_tells : (plan : Plan) (h : History) (port : PortName) (bytes : List ℕ) (t : Tlp) → read_of bytes ≡ Ok t
-    → (more trusted : Bool) (o : Option ℕ)
-    → Tells plan h (Send port bytes more trusted) (send_on plan h port (header t) more trusted o)
-on_tells plan h port bytes t reads more trusted None = tt
-on_tells plan h port bytes t reads more trusted (Some stream) =
+on_tells : (plan : Plan) (h : History) (e : Event) → is_sealing e ≡ true → (t : Tlp)
+    → read_of (sent_bytes plan h e) ≡ Ok t → (more trusted : Bool) (o : Option ℕ)
+    → choice plan (sending_port e) (header t) ≡ o
+    → Tells plan h e (send_on plan h (sending_port e) (header t) more trusted o)
+on_tells plan h e seals t reads more trusted None chosen = tt
+on_tells plan h e seals t reads more trusted (Some stream) chosen =
+    let port = sending_port e in
     let s : Sending = record {
       port = port;
       stream = stream;
@@ -121,28 +131,42 @@ on_tells plan h port bytes t reads more trusted (Some stream) =
       more = more;
       trusted = t_due plan h port port.side (owner_at plan port.link (header t)) stream trusted;
     } in
-    first_tells plan h (Send port bytes more trusted) (refusals (lanes_at plan h port stream) s.class) _
+    first_tells plan h e (refusals (lanes_at plan h port stream) s.class) _
     (tt, (tt, (tt, (tt, (tt, (tt, (tt, (tt, tt))))))))
-    (λ free. record {
-      sending = s;
-      tlp = t;
-      reads = reads;
-      class = refl;
-      at_port = refl;
-      free = free;
-      number = _;
-      next =
-          refl;
-      list = refl;
-    })
+    (λ free. (
+      seals,
+      record {
+        sending = s;
+        tlp = t;
+        reads = reads;
+        class = refl;
+        at_port = refl;
+        chosen = chosen;
+        free = free;
+        number = _;
+        next = refl;
+        list = refl;
+      },
+    ))
 
-read_tells : (plan : Plan) (h : History) (port : PortName) (bytes : List ℕ) (more trusted : Bool)
-    (r : Result Tlp TlpFault) → read_of bytes ≡ r → (here : Bool)
-    → Tells plan h (Send port bytes more trusted) (if here then send_read plan h port r more trusted else v.Nothing)
-read_tells plan h port bytes more trusted r reads false = tt
-read_tells plan h port bytes more trusted (Err f) reads true = tt
-read_tells plan h port bytes more trusted (Ok t) reads true = on_tells plan h port bytes t reads more trusted
-    (choice plan port (header t))
+read_tells : (plan : Plan) (h : History) (e : Event) → is_sealing e ≡ true → (more trusted : Bool)
+    (r : Result Tlp TlpFault) → read_of (sent_bytes plan h e) ≡ r
+    → Tells plan h e (send_read plan h (sending_port e) r more trusted)
+read_tells plan h e seals more trusted (Err f) reads = tt
+read_tells plan h e seals more trusted (Ok t) reads =
+    on_tells plan h e seals t reads more trusted (choice plan (sending_port e) (header t)) refl
+
+if_tells : (plan : Plan) (h : History) (e : Event) (here : Bool) (x y : Verdict) → Tells plan h e x → Tells plan h e y
+    → Tells plan h e (if here then x else y)
+if_tells plan h e true x y one two = one
+if_tells plan h e false x y one two = two
+
+send_tells : (plan : Plan) (h : History) (port : PortName) (bytes : List ℕ) (more trusted here : Bool)
+    → Tells plan h (Send port bytes more trusted)
+    (if here then send_read plan h port (read_of bytes) more trusted else v.Nothing)
+send_tells plan h port bytes more trusted here =
+    let e = Send port bytes more trusted in
+    if_tells plan h e here _ v.Nothing (read_tells plan h e refl more trusted (read_of bytes) refl) tt
 
 -- ---- arrivals
 
@@ -186,8 +210,7 @@ quiet_tells plan h e _ is = tt
 
 tells : (plan : Plan) (h : History) (e : Event) → Tells plan h e (due plan h e)
 unfolding due key_due
-tells plan h (Send port bytes more trusted) = read_tells plan h port bytes more trusted (read_of bytes) refl
-    (has_port plan port)
+tells plan h (Send port bytes more trusted) = send_tells plan h port bytes more trusted (has_port plan port)
 tells plan h (Dump n) = quiet_tells plan h (Dump n) _ (dump_quiet n (packet_at (sealed_packets plan h) n))
 tells plan h (Establish link stream lose) = quiet_tells plan h (Establish link stream lose) _
     (establish_due_quiet plan h link stream lose)
@@ -200,7 +223,10 @@ tells plan h (Reset link) = quiet_tells plan h (Reset link) _
 tells plan h (Status link stream) = quiet_tells plan h (Status link stream) _
     (if_quiet (is_some (stream_plan plan link stream)) _ v.Nothing refl refl)
 tells plan h (Interface e) = quiet_tells plan h (Interface e) _ (interface_due_quiet plan h e)
-tells plan h e = arrival_tells plan h e (arrived plan h e) refl
+tells plan h (Pass n) = arrival_tells plan h (Pass n) (arrived plan h (Pass n)) refl
+tells plan h (Alter n at mask) = arrival_tells plan h (Alter n at mask) (arrived plan h (Alter n at mask)) refl
+tells plan h (Cut n len) = arrival_tells plan h (Cut n len) (arrived plan h (Cut n len)) refl
+tells plan h (Arrive port bytes) = arrival_tells plan h (Arrive port bytes) (arrived plan h (Arrive port bytes)) refl
 
 -- ---- one lemma a verdict
 
@@ -282,20 +308,14 @@ accepted_by plan h e port unit effects is =
     accepted_of plan h e by.at.port port by.packet unit effects
     (came_to plan h e (v.Accepted port unit effects) port by) by.is
 
-sent_is_send : (plan : Plan) (h : History) (e : Event) (ds : List SealedPacket) → Sent plan h e ds → is_send e ≡ true
-sent_is_send plan h (Send port bytes more trusted) ds sent = refl
-sent_is_send plan h _ ds sent = absurd sent
+-- no other event seals
+pub sealed_by_sealing : (plan : Plan) (h : History) (e : Event) (ds : List SealedPacket) → v.Sealed ds ≡ due plan h e
+    → is_sealing e ≡ true
+sealed_by_sealing plan h e ds is = (subst (Tells plan h e) (sym is) (tells plan h e)).0
 
--- only a send seals
-pub sealed_by_send : (plan : Plan) (h : History) (e : Event) (ds : List SealedPacket) → v.Sealed ds ≡ due plan h e
-    → is_send e ≡ true
-sealed_by_send plan h e ds is = sent_is_send plan h e ds (subst (Tells plan h e) (sym is) (tells plan h e))
-
-pub sealing_is : (plan : Plan) (h : History) (port : PortName) (bytes : List ℕ) (more trusted : Bool)
-    (ds : List SealedPacket)
-    → v.Sealed ds ≡ due plan h (Send port bytes more trusted) → IsSealing plan h port bytes ds
-sealing_is plan h port bytes more trusted ds is =
-    subst (Tells plan h (Send port bytes more trusted)) (sym is) (tells plan h (Send port bytes more trusted))
+pub sealing_is : (plan : Plan) (h : History) (e : Event) (ds : List SealedPacket) → v.Sealed ds ≡ due plan h e
+    → IsSealing plan h (sending_port e) (sent_bytes plan h e) ds
+sealing_is plan h e ds is = (subst (Tells plan h e) (sym is) (tells plan h e)).1
 
 -- ---- what follows
 

@@ -1,6 +1,8 @@
 -- The verdicts of operations tell of no packet.
 use Rattle.link_history.proofs.Terms.{Bool, Option, arith, false, refl, true, ℕ, ◌≡◌, StreamStatus, Loss, PortView}
-use Rattle.link_history.proofs.Terms.{comes_to, key_due, may_establish, may_refresh, performed, ports_at, stays_at}
+use Rattle.link_history.proofs.Terms.{done, key_due, may_establish, may_refresh, performed, ports_at, inl, inr, ap}
+use Rattle.link_history.proofs.Terms.{◌∙◌}
+use Rattle.key_laws.proofs.Performs.{is_cut, performed_is}
 use Rattle.link_history.proofs.Terms.{unless_open, draws, op_of, Op, Work}
 use Rattle.link_history.proofs.Terms.{work_of, due, is_quiet, key_plan, stream_plan, Establish, History, Host, KeyPlan}
 use Rattle.link_history.proofs.Terms.{Plan, Refresh, Stop, Verdict, if◌then◌else◌, is_some, status_of}
@@ -29,13 +31,18 @@ pub if_quiet : (b : Bool) (x y : Verdict) → is_quiet x ≡ true → is_quiet y
 if_quiet true x y one two = one
 if_quiet false x y one two = two
 
-comes_quiet : (link stream : ℕ) (w : Work) (loss : Option Loss) (o : Option ℕ)
-    → is_quiet (comes_to link stream w loss o) ≡ true
-comes_quiet link stream w loss o = grind arith
+cut_quiet : (x : Verdict) → is_cut x ≡ true → is_quiet x ≡ true
+cut_quiet x cut = grind arith
+
+done_quiet : (link stream : ℕ) (w : Work) → is_quiet (done link stream w) ≡ true
+done_quiet link stream w = grind arith
 
 performed_quiet : (ports : PortView) (link stream : ℕ) (loss : Option Loss) (w : Work)
     → is_quiet (performed ports link stream loss w) ≡ true
-performed_quiet ports link stream loss w = comes_quiet link stream w loss (stays_at ports link stream loss w)
+performed_quiet ports link stream loss w = elim (performed_is ports link stream loss w) [
+  | inl ended ↦ ap is_quiet ended ∙ done_quiet link stream w
+  | inr cut ↦ cut_quiet (performed ports link stream loss w) cut
+]
 
 establish_quiet : (kp : KeyPlan) (q : Op) (next : ℕ) (x : Verdict) → is_quiet x ≡ true
     → is_quiet (may_establish kp next q x) ≡ true

@@ -5,7 +5,9 @@ use Rattle.link_history.proofs.Terms.{is_keyless, lanes_at, needs_sync, no_key}
 use Rattle.link_history.proofs.Terms.{KeyName, live_key, sealed_packets, is_quiet, lane_out, Event, History, Plan}
 use Rattle.link_history.proofs.Terms.{PortName, Sealed, SealedPacket, Send, SubKind, Verdict}
 use Rattle.link_history.proofs.Senders.{has_key, listed, sealed_by_is, and_false, AreOther, needs_posted}
-pub use Rattle.link_history.proofs.Causes.{IsSealing, sealing_is}
+pub use Rattle.link_history.proofs.Causes.{IsSealing, is_sealing, sealed_by_sealing, sealing_is, sending_port}
+use Rattle.link_history.proofs.Terms.{Place, Op, touches, sealed_here}
+unfoldable use Rattle.link_history.proofs.Terms.{base, manager}
 
 -- ---- each packet under the live key of its sub-stream
 
@@ -96,5 +98,23 @@ quiet_seals_none w none = grind arith
 pub sealed_same : (plan : Plan) (h : History) (e : Event) (w : Verdict) → seals_none w ≡ true
     → sealed_packets plan ((e, w) ∷ h) ≡ sealed_packets plan h
 unfolding sealed_packets
-sealed_same plan h (Send p bytes more trusted) (Sealed ds) none = absurd cc
+sealed_same plan h e (Sealed ds) none = absurd cc
 sealed_same plan h _ _ none = refl
+
+-- ---- an event that may seal is no operation and no reset
+
+pub sealing_touches : (ops : ℕ → ℕ → Op) (n : ℕ) (e : Event) (ds : List SealedPacket) (p : Place)
+    → is_sealing e ≡ true → touches ops n e (Sealed ds) p ≡ sealed_here p ds
+sealing_touches ops n (Send q bytes more trusted) ds p seals = refl
+sealing_touches ops n e ds p seals = absurd cc
+
+pub sealing_manager : (h : History) (e : Event) (w : Verdict) → is_sealing e ≡ true → manager ((e, w) ∷ h) ≡ manager h
+unfolding manager
+sealing_manager h (Send q bytes more trusted) w seals = refl
+sealing_manager h e w seals = absurd cc
+
+pub sealing_base : (h : History) (e : Event) (w : Verdict) (link stream : ℕ) → is_sealing e ≡ true
+    → base ((e, w) ∷ h) link stream ≡ base h link stream
+unfolding base
+sealing_base h (Send q bytes more trusted) w link stream seals = refl
+sealing_base h e w link stream seals = absurd cc

@@ -16,8 +16,8 @@ pub use Rattle.ide_types.specs.declared.status.StreamStatus.{StreamStatus}
 pub use Rattle.ide_types.specs.declared.sub.SubKind.TheVariants.{Cpl, Npr, Pr}
 pub use Rattle.link_events.specs.declared.event.Loss.{Loss}
 pub use Rattle.link_verdicts.specs.declared.verdict.Operation.{Operation}
-pub use Rattle.key_laws.specs.Due.{PortView, comes_to, establish_on, may_establish, may_refresh, performed, ports_at}
-pub use Rattle.key_laws.specs.Due.{refresh_on, stays_at, unless_open}
+pub use Rattle.key_laws.specs.Due.{PortView, done, establish_on, may_establish, may_refresh, performed, ports_at}
+pub use Rattle.key_laws.specs.Due.{refresh_on, unless_open}
 unfoldable pub use Rattle.key_laws.specs.Due.{due as key_due}
 pub use Rattle.key_laws.specs.History.{begins_keyed, behind, came, draws, has_key, is_sender, on_it, op_of, sealed_here}
 pub use Rattle.key_laws.specs.History.{touches, when, worked}
@@ -31,7 +31,8 @@ pub use Rattle.key_laws.specs.Operations.{work_of}
 pub use Rattle.key_laws.specs.Places.{is_on_stream, is_same_side, is_same_sub, lane, places_of}
 pub use Rattle.link_history.specs.Cause.{CauseLaw, OneHistory, events_of}
 pub use Rattle.link_history.specs.Due.{Ending, Lanes, Sending, arrival_due, before_tag_of, described, dump_due}
-pub use Rattle.link_history.specs.Due.{effect_of, ended, ends_unit, first_that_holds, is_keyless, is_mixed, is_overfull}
+pub use Rattle.link_history.specs.Due.{effects_of, ended, ends_unit, first_that_holds, is_keyless, is_mixed}
+pub use Rattle.link_history.specs.Due.{is_overfull}
 pub use Rattle.link_history.specs.Due.{is_verified, lanes_at}
 pub use Rattle.link_history.specs.Due.{needs_sync, no_key, receiving, refusals, sealed_by, send_on, send_read}
 pub use Rattle.link_history.specs.Due.{sets_trusted, unit_under}
@@ -40,32 +41,20 @@ pub use Rattle.link_history.specs.History.{Arrival, KeyName, SealedList, accepte
 pub use Rattle.link_history.specs.History.{arrived_packet, cut_packet, ended_keys, ends_at, ends_in, failed, fails_at}
 pub use Rattle.link_history.specs.History.{has_live, is_in, is_keyed, is_under}
 pub use Rattle.link_history.specs.History.{keys_by, lesser, live_key, meets_counts, on_draw, packet_at, packet_in}
-pub use Rattle.link_history.specs.History.{place, posted_of, received_in, receives_it, sends_it, sent, sub_stream_of}
-pub use Rattle.link_history.specs.History.{waits, with_sealed}
-unfoldable pub use Rattle.link_history.specs.History.{
-  arrived,
-  draws_got,
-  got_since,
-  has_live_in,
-  has_live_out,
-  held,
-  keys_at,
-  packet_of,
-  posted_in,
-  sealed_packets,
-  sent_in,
-  total_in,
-  units_got,
-  units_since,
-}
+pub use Rattle.link_history.specs.History.{place, posted_of, received_in, receives_it, sends_it, sent, sent_bytes}
+pub use Rattle.link_history.specs.History.{sub_stream_of, waits, with_sealed}
+unfoldable pub use Rattle.link_history.specs.History.{arrived, draws_got, got_since, has_live_in, has_live_out, held}
+unfoldable pub use Rattle.link_history.specs.History.{keys_at, packet_of, posted_in, sealed_packets, sent_in, total_in}
+unfoldable pub use Rattle.link_history.specs.History.{units_got, units_since}
 pub use Rattle.link_history.specs.KeyFacts.{BaseStays, DrawFacts, KeyFacts, NoneFrom, is_quiet, is_steady}
 unfoldable pub use Rattle.link_history.specs.KeyFacts.{operates}
 pub use Rattle.link_history.specs.Plan.{SubStream, has_link, has_port, has_stream, is_same, is_same_port, key_plan}
 pub use Rattle.link_history.specs.Plan.{lane_in, lane_out, partner, streams_of, with_id}
 unfoldable pub use Rattle.link_history.specs.Plan.{stream_plan}
-pub use Rattle.link_history.specs.Terms.{Accepted, AllByRecursion, Device, Dump, Effect, Establish, Event, Held}
+pub use Rattle.link_history.specs.Terms.{Accepted, AllByRecursion, Alter, Arrive, Cut, Device, Dump, Effect, Establish}
+pub use Rattle.link_history.specs.Terms.{Event, Held}
 pub use Rattle.link_history.specs.Terms.{History, Host, KeyPlan, Keyed, Keys, Off, On, Packet, Place, Plan, PortName}
-pub use Rattle.link_history.specs.Terms.{Refresh, Reset, Sealed, SealedPacket}
+pub use Rattle.link_history.specs.Terms.{Pass, Refresh, Reset, Sealed, SealedPacket}
 pub use Rattle.link_history.specs.Terms.{Send, Status, Stop, SubKind, UnitName, Verdict, after_last, keeps_live, key_in}
 pub use Rattle.link_history.specs.Terms.{keys_there, list_any, no_keys, on_in}
 pub use Rattle.link_history.specs.Terms.{received_direction, sent_direction, status_of, sub_bits}

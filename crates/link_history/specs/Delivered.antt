@@ -2,11 +2,11 @@
 -- Sync packets carry none.
 use Rattle.std.specs.Prelude.{if◌then◌else◌, ◌&&◌, ◌++◌, ◌==◌, ◌∷◌, Bool, List, [], drop, filter, length, map, not}
 use Rattle.std.specs.Prelude.{take, ℕ}
-use Rattle.link_history.specs.Terms.{Plan, Send, SealedPacket, Accepted, Sealed, iv_of, Packet, is_sync_packet}
+use Rattle.link_history.specs.Terms.{Plan, SealedPacket, Accepted, Sealed, iv_of, Packet, is_sync_packet}
 use Rattle.link_history.specs.Terms.{encrypted, open_of, History}
 use Rattle.link_history.specs.Plan.{SubStream, is_same, key_of}
 use Rattle.link_history.specs.Laws.{Begins}
-use Rattle.link_history.specs.History.{sub_stream_of, arrived_packet, is_of, held}
+use Rattle.link_history.specs.History.{sub_stream_of, sent_bytes, arrived_packet, is_of, held}
 
 -- ---- sent
 
@@ -15,11 +15,11 @@ abbrev pub carries : SubStream → ℕ → SealedPacket → Bool
 carries s j d = not d.sync && is_same (sub_stream_of d) s && (d.draw == j)
 
 -- the bytes that were sent and sealed in a sub-stream under a draw, in order
-unfoldable pub tlps_sent : History → SubStream → ℕ → List (List ℕ)
-tlps_sent [] s j = []
-tlps_sent ((Send port bytes more trusted, Sealed ds) ∷ h) s j =
-    tlps_sent h s j ++ map (λ d. bytes) (filter (carries s j) ds)
-tlps_sent (_ ∷ h) s j = tlps_sent h s j
+unfoldable pub tlps_sent : Plan → History → SubStream → ℕ → List (List ℕ)
+tlps_sent plan [] s j = []
+tlps_sent plan ((e, Sealed ds) ∷ h) s j =
+    tlps_sent plan h s j ++ map (λ d. sent_bytes plan h e) (filter (carries s j) ds)
+tlps_sent plan (_ ∷ h) s j = tlps_sent plan h s j
 
 -- ---- delivered
 
@@ -45,4 +45,4 @@ tlps_got plan (_ ∷ h) s j = tlps_got plan h s j
 
 -- Key by key, each sub-stream delivered a prefix of the TLPs that were sent in it.
 abbrev pub DeliveryLaw : Plan → History → Type 0
-DeliveryLaw plan h = (s : SubStream) (j : ℕ) → Begins (tlps_got plan h s j) (tlps_sent h s j)
+DeliveryLaw plan h = (s : SubStream) (j : ℕ) → Begins (tlps_got plan h s j) (tlps_sent plan h s j)

@@ -1,8 +1,9 @@
 -- The one verdict that an event gets after a history.
 use Rattle.std.specs.Prelude.{if◌then◌else◌, ◌&&◌, ◌++◌, ◌+◌, ◌||◌, ◌∷◌, Bool, Err, List, None, Ok, Option, Result}
-use Rattle.std.specs.Prelude.{Some, [], is_some, length, map, nat_le, nat_lt, not, ℕ}
+use Rattle.std.specs.Prelude.{Some, [], is_some, length, nat_le, nat_lt, not, ℕ}
 use Rattle.link_history.specs.Terms.{option_map_or, PortName, Device, Host}
-use Rattle.link_history.specs.Terms.{Plan, Event, Dump, Establish, Interface, Refresh, Reset, Send, Status, Stop, t_due}
+use Rattle.link_history.specs.Terms.{Plan, Event, Alter, Arrive, Cut, Dump, Establish, Interface, Pass, Refresh, Reset}
+use Rattle.link_history.specs.Terms.{Send, Status, Stop, t_due}
 use Rattle.link_history.specs.Terms.{owner_at, SealedPacket, UnitName, Verdict, read_of, header, TlpFault, Tlp, iv_of}
 use Rattle.link_history.specs.Terms.{Packet, packet_bytes}
 use Rattle.link_history.specs.Terms.{CutValue, IdePacket, PlainTlp, cut_of, authenticated, encrypted, PacketFault}
@@ -22,7 +23,7 @@ use Rattle.link_history.specs.Units.{units, open_unit}
 use Rattle.link_history.specs.History.{Arrival, KeyName, sealed_packets, sent, arrived, packet_at, pending, units_got}
 use Rattle.link_history.specs.History.{on_draw, live_key, failed, posted_count, meets_counts, received_in, front_due}
 use Rattle.link_verdicts.specs.declared.verdict.Verdict.TheVariants as v
-pub use Rattle.link_history.specs.Memory.{effect_of, memory_due}
+pub use Rattle.link_history.specs.Memory.{effects_of, memory_due}
 pub use Rattle.stream_rules.specs.Sending.{first_that_holds, Sending, Lane, Lanes, is_posted, begins_unit, needs_sync}
 pub use Rattle.stream_rules.specs.Sending.{is_worn, is_keyless, refusals, no_key, described, ends_unit, sets_trusted}
 pub use Rattle.stream_rules.specs.Sending.{sync_before, sealed_by, sent_as}
@@ -137,7 +138,7 @@ settled plan h port (Ok x) =
     if not (is_verified plan h port x) then v.Fail port x.unit.stream x.unit.sub fail.Tag
     else if not (meets_counts plan h (received_in port x.unit) (ended plan h port x)) then v.Fail port x.unit.stream
     x.unit.sub fail.Order
-    else v.Accepted port x.unit (map (effect_of plan h port x.unit) (ended plan h port x))
+    else v.Accepted port x.unit (effects_of plan h port x.unit (ended plan h port x))
 
 abbrev pub arrival_due : Plan → History → Option Arrival → Verdict
 arrival_due plan h None = v.Nothing
@@ -150,7 +151,7 @@ dump_due n (Some x) = v.Packet n (packet_bytes x.1)
 -- ---- the verdict
 
 -- Each event has one verdict. An operation and a reset get that of their keys, what is asked of an interface that of
--- the interfaces; whatever else is no send and shows nothing brings bytes.
+-- the interfaces.
 unfoldable pub due : Plan → History → Event → Verdict
 due plan h (Send port bytes more trusted) =
     if has_port plan port then send_read plan h port (read_of bytes) more trusted else v.Nothing
@@ -163,4 +164,7 @@ due plan h (Interface e) = interface_due plan h e (memory_due plan h e)
 due plan h (Status link stream) =
     if is_some (stream_plan plan link stream) then v.Status link stream (status_of h Host link stream)
     (status_of h Device link stream) else v.Nothing
-due plan h e = arrival_due plan h (arrived plan h e)
+due plan h (Pass n) = arrival_due plan h (arrived plan h (Pass n))
+due plan h (Alter n at mask) = arrival_due plan h (arrived plan h (Alter n at mask))
+due plan h (Cut n len) = arrival_due plan h (arrived plan h (Cut n len))
+due plan h (Arrive port bytes) = arrival_due plan h (arrived plan h (Arrive port bytes))

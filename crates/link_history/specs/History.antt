@@ -32,7 +32,7 @@ abbrev pub payload_in : Result Tlp TlpFault → List ℕ
 payload_in (Ok tlp) = body tlp
 payload_in (Err f) = []
 
--- the packet before its tag: its body is its part of the unit's ciphertext, behind the bodies of the front
+-- the packet before its tag: its body is its part of the unit's ciphertext, after the bodies of the packets before it
 abbrev pub untagged_packet : Plan → List ℕ → SealedPacket → List Packet → Packet
 untagged_packet plan bytes d front = record {
   prefix = prefix_of d;
@@ -51,7 +51,7 @@ abbrev pub unit_tag : Plan → List ℕ → SealedPacket → List Packet → Lis
 unit_tag plan ahead d unit =
     tag_of (key_of plan d.draw (sub_stream_of d)) (iv_of d.sub d.unit) (ahead ++ authenticated unit) (encrypted unit)
 
--- the packet that was sealed for the bytes of a send, behind the front of its unit
+-- the packet that was sealed for the bytes of a send, after the packets before it in its unit
 unfoldable pub packet_of : Plan → List ℕ → List ℕ → SealedPacket → List Packet → Packet
 packet_of plan ahead bytes d front =
     let p = untagged_packet plan bytes d front in
@@ -69,7 +69,7 @@ is_under s j x = is_same (sub_stream_of x.0) s && (x.0.draw == j)
 unfoldable pub sent_in : SealedList → SubStream → ℕ → List Packet
 sent_in xs s j = map (λ (x : SealedPacket × Packet). x.1) (filter (is_under s j) xs)
 
--- the packets of one send behind those before
+-- the packets of one send after those before
 abbrev pub with_sealed : Plan → (SealedPacket → List ℕ) → List ℕ → List SealedPacket → SealedList → SealedList
 with_sealed plan ahead bytes [] before = before
 with_sealed plan ahead bytes (d ∷ ds) before =
@@ -91,11 +91,16 @@ total_in xs s from = length (filter (ends_in s from) xs)
 abbrev pub ahead_in : Plan → SealedList → (ℕ → ℕ → ℕ) → SealedPacket → List ℕ
 ahead_in plan xs from d = let s = sub_stream_of d in front_of plan s d.unit (total_in xs s (from s.link s.stream))
 
+-- the bytes that an event gives a port to seal, after a history
+abbrev pub sent_bytes : Plan → History → Event → List ℕ
+sent_bytes plan h (Send port bytes more trusted) = bytes
+sent_bytes plan h e = []
+
 -- all packets that were sealed, in order: packet N stands at place N - 1
 unfoldable pub sealed_packets : Plan → History → SealedList
 sealed_packets plan [] = []
-sealed_packets plan ((Send port bytes more trusted, Sealed ds) ∷ h) =
-    with_sealed plan (ahead_in plan (sealed_packets plan h) (base h)) bytes ds (sealed_packets plan h)
+sealed_packets plan ((e, Sealed ds) ∷ h) =
+    with_sealed plan (ahead_in plan (sealed_packets plan h) (base h)) (sent_bytes plan h e) ds (sealed_packets plan h)
 sealed_packets plan (_ ∷ h) = sealed_packets plan h
 
 -- the packets that were sealed in a sub-stream under a draw, in order
@@ -108,7 +113,7 @@ is_of_unit s j n d = is_same (sub_stream_of d) s && (d.draw == j) && (d.unit == 
 
 unfoldable pub front_sent : Plan → History → SubStream → ℕ → ℕ → List ℕ
 front_sent plan [] s j n = []
-front_sent plan ((Send port bytes more trusted, Sealed ds) ∷ h) s j n =
+front_sent plan ((e, Sealed ds) ∷ h) s j n =
     if list_any (is_of_unit s j n) ds then front_of plan s n (total_in (sealed_packets plan h) s
     (base h s.link s.stream)) else front_sent plan h s j n
 front_sent plan (_ ∷ h) s j n = front_sent plan h s j n
@@ -122,7 +127,7 @@ pub record Arrival : Type 0 where
 abbrev pub packet_at : SealedList → ℕ → Option (SealedPacket × Packet)
 packet_at xs n = if n == 0 then None else slice_get xs (n - 1)
 
--- bytes of packet N come to the partner of the port that sealed it
+-- bytes of packet N arrive at the partner of the port that sealed it
 abbrev pub brought : SealedPacket × Packet → List ℕ → Arrival
 brought x bytes = record { port = partner x.0.port; bytes = bytes }
 
@@ -137,7 +142,7 @@ shortened len x =
     let bytes = packet_bytes x.1 in
     if nat_le len (length bytes) then Some (brought x (take len bytes)) else None
 
--- what an event brings, and where; nothing where a packet or byte that it names does not exist
+-- what an event brings, and where; nothing if a packet or byte that it names does not exist
 unfoldable pub arrived : Plan → History → Event → Option Arrival
 arrived plan h (Pass n) =
     option_map (λ (x : SealedPacket × Packet). brought x (packet_bytes x.1)) (packet_at (sealed_packets plan h) n)
@@ -316,7 +321,7 @@ got_since plan ((e, Accepted port unit effects) ∷ h) s from =
     else got_since plan h s from
 got_since plan (_ ∷ h) s from = got_since plan h s from
 
--- whether the posted counts of all packets of a non-posted or completion sub-stream, this unit among them, come to no
+-- whether the posted counts of all packets of a non-posted or completion sub-stream, this unit among them, sum to no
 -- more than the posted packets that were got
 unfoldable pub meets_counts : Plan → History → SubStream → List Packet → Bool
 meets_counts plan h s unit =

@@ -91,7 +91,7 @@ pub record DrawFacts (plan : Plan) : Type 0 where
   pub apart : (h : History) → CauseLaw plan h → (port : PortName) (s : SubStream) (i j : ℕ)
       → (keys_at h port s).first ≡ On i → (keys_at h port s).second ≡ On j
       → (i == j) ≡ false
-  -- a key that comes to be Live at a sender has sealed nothing
+  -- a key that becomes Live at a sender has sealed nothing
   pub fresh : (h : History) (e : Event) (v : Verdict) → CauseLaw plan ((e, v) ∷ h)
       → (port : PortName) (stream : ℕ) (u : SubKind) (key : KeyName) → let s = lane_out port stream u in
       live_key ((e, v) ∷ h) port s ≡ Some key
@@ -100,7 +100,7 @@ pub record DrawFacts (plan : Plan) : Type 0 where
   pub base_fresh : (h : History) (e : Event) (v : Verdict) → CauseLaw plan ((e, v) ∷ h) → (link stream : ℕ)
       → (base ((e, v) ∷ h) link stream ≡ base h link stream) ⊎ NoneFrom plan ((e, v) ∷ h) link stream
       (base ((e, v) ∷ h) link stream)
-  -- a draw is On only where the plan has the stream
+  -- a draw is On only if the plan has the stream
   pub known : (h : History) → CauseLaw plan h → (port : PortName) (s : SubStream) (k : Bool) (j : ℕ)
       → key_in (keys_at h port s) k ≡ On j
       → is_some (stream_plan plan s.link s.stream) ≡ true
@@ -118,7 +118,7 @@ pub record DrawFacts (plan : Plan) : Type 0 where
       → is_same (sub_stream_of x.0) s ≡ true → is_same (sub_stream_of y.0) s ≡ true → x.0.draw ≤ y.0.draw
   -- the packets of draws from Base on were sealed since it is Base
   pub since_base : (h : History) → CauseLaw plan h → (s : SubStream) → BaseStays plan s (base h s.link s.stream) h
-  -- Where a draw is On at a receiver, and a packet of it was sealed, no unit of a smaller draw from Base on is open.
+  -- If a draw is On at a receiver, and a packet of it was sealed, no unit of a smaller draw from Base on is open.
   -- (Without the first this is false: a stop that is left in the middle drops a sender's open unit and makes its other
   -- key Live, when the receiver's keys are gone.)
   pub ended : (h : History) → CauseLaw plan h

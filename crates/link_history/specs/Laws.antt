@@ -1,5 +1,5 @@
 -- The laws of a history.
-use Rattle.std.specs.Prelude.{◌++◌, ◌+◌, ◌<◌, ◌∷◌, ◌≡◌, ◌≢◌, ◌≤◌, Bool, List, Ok, Some, [], false, map, slice_get, take}
+use Rattle.std.specs.Prelude.{◌++◌, ◌+◌, ◌<◌, ◌∷◌, ◌≡◌, ◌≢◌, ◌≤◌, Bool, List, Ok, Some, [], false, slice_get, take}
 use Rattle.std.specs.Prelude.{true, ℕ}
 use Rattle.link_history.specs.Terms.{PortName, Plan, Event, Verdict, Accepted, Held, Packet, packet_bytes}
 use Rattle.link_history.specs.Terms.{authenticated, encrypted}
@@ -8,7 +8,7 @@ use Rattle.link_history.specs.Plan.{SubStream, is_closed}
 use Rattle.link_history.specs.Units.{units}
 use Rattle.link_history.specs.History.{units_got, sealed_packets, total_in, front_sent, front_due, Arrival, arrived}
 use Rattle.link_history.specs.History.{sent, got, pending, draws_got, on_draw, failed, meets_counts, received_in}
-use Rattle.link_history.specs.Due.{Ending, before_tag, is_verified, ended, effect_of, unit_under}
+use Rattle.link_history.specs.Due.{Ending, before_tag, is_verified, ended, effects_of, unit_under}
 
 -- the tag of the last packet
 abbrev pub last_tag : List Packet → List ℕ
@@ -80,8 +80,8 @@ TotalsFit plan ((event, verdict) ∷ h) =
 abbrev pub IsOn : Plan → History → PortName → SubStream → ℕ → Type 0
 IsOn plan h port s j = (k : Bool) × (on_draw h port s k ≡ Some j)
 
--- Packet m of what was sealed in a sub-stream under a draw arrives unchanged and in order, where its key is
--- Live, nothing of another draw is held, the stream has not failed and the posted counts are met.
+-- Packet m of what was sealed in a sub-stream under a draw arrives unchanged and in order; its key is Live, nothing of
+-- another draw is held, the stream has not failed and the posted counts are met.
 pub record ArrivesInOrder (plan : Plan) (h : History) (e : Event) (s : SubStream) (j m : ℕ) (port : PortName)
     (p : Packet) : Type 0 where
   pub receiver : (port.link ≡ s.link) × (received_direction port.side ≡ s.direction)
@@ -92,7 +92,7 @@ pub record ArrivesInOrder (plan : Plan) (h : History) (e : Event) (s : SubStream
   pub alone : (i : ℕ) → IsOn plan h port s i → i ≢ j → pending plan h s i ≡ []
   pub secure : failed h port s.stream ≡ false
   pub counts : p.prefix.m ≡ true → meets_counts plan h s (pending plan h s j ++ p ∷ []) ≡ true
-  -- on a closed stream, where it ends unit 1, all was got of the smaller draws from Base on
+  -- on a closed stream, if it ends unit 1, all was got of the smaller draws from Base on
   pub older : p.prefix.m ≡ true → units_got h s j ≡ 0 → is_closed plan s.link s.stream ≡ true → (i : ℕ)
       → base h s.link s.stream ≤ i → i < j → got plan h s i ≡ sent plan h s i
 
@@ -109,7 +109,7 @@ abbrev pub IsTaken : Plan → History → SubStream → ℕ → PortName → Pac
 IsTaken plan h s j port p verdict =
     (p.prefix.m ≡ false → verdict ≡ Held port (unit_under h s j))
     × (p.prefix.m ≡ true → verdict ≡ Accepted port (unit_under h s j)
-    (map (effect_of plan h port (unit_under h s j)) (pending plan h s j ++ p ∷ [])))
+    (effects_of plan h port (unit_under h s j) (pending plan h s j ++ p ∷ [])))
 
 abbrev pub TakesWhole : Plan → History → Event → Verdict → Type 0
 TakesWhole plan h e verdict =

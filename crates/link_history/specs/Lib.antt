@@ -9,11 +9,13 @@ pub mod KeyFacts
 pub mod Laws
 pub mod Delivered
 pub mod Ordered
+pub mod Numbers
 pub use Rattle.key_laws.specs.History.{base, status_of}
 pub use Rattle.link_history.specs.Plan.{SubStream, is_same, lane_out, lane_in, streams_of, has_link, has_port}
 pub use Rattle.link_history.specs.Plan.{has_stream, mode_of, is_closed, key_of}
 pub use Rattle.link_history.specs.Units.{units, open_unit}
-pub use Rattle.link_history.specs.History.{sealed_packets, sent, arrived, got, held, pending, units_got, draws_got}
+pub use Rattle.link_history.specs.History.{sealed_packets, sent_bytes, sent, arrived, got, held, pending, units_got}
+pub use Rattle.link_history.specs.History.{draws_got}
 pub use Rattle.link_history.specs.History.{keys_at, on_draw, live_key, failed, posted_count, meets_counts, total_in}
 pub use Rattle.link_history.specs.History.{units_since, front_with, front_sent, front_due}
 pub use Rattle.link_history.specs.Due.{due, choice}
@@ -22,3 +24,4 @@ pub use Rattle.link_history.specs.Cause.{CauseLaw, OneHistory}
 pub use Rattle.link_history.specs.Laws.{NoForgery, PrefixLaw, DrawsNeverFall, TotalsFit, WholeLaw, OrderIsNoForgery}
 pub use Rattle.link_history.specs.Delivered.{DeliveryLaw, tlps_sent, tlps_got}
 pub use Rattle.link_history.specs.Ordered.{OrderLaw}
+pub use Rattle.link_history.specs.Numbers.{NumbersFresh}

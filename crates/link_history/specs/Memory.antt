@@ -1,6 +1,6 @@
 -- What accepted units do to trusted memory, and what stands in it.
 use Rattle.std.specs.Prelude.{◌≡◌, if◌then◌else◌, ◌&&◌, ◌++◌, ◌==◌, ◌∷◌, Bool, Err, List, None, Ok, Option, Result, []}
-use Rattle.std.specs.Prelude.{drop, false, length, not, take, true, ℕ}
+use Rattle.std.specs.Prelude.{drop, false, length, map, not, take, true, ℕ}
 use Rattle.link_history.specs.Terms.{option_and_then, PortName, Plan, Event, InterfaceEvent, Effect, UnitName, Verdict}
 use Rattle.link_history.specs.Terms.{Accepted, read_head_of, TlpFault, iv_of, Packet, is_sync_packet, encrypted}
 use Rattle.link_history.specs.Terms.{open_of, History, Device, Host, sent_direction}
@@ -17,8 +17,7 @@ use Rattle.interface_words.specs.declared.verdict.InterfaceVerdict.TheVariants a
 
 -- ---- effects
 
--- what the manager says of requesters, by link and requester ID: the bound stream and the floor, where its view is
--- Running
+-- what the manager says of requesters, by link and requester ID: the bound stream and the floor, if its view is Running
 abbrev pub Grants : Type 0
 Grants = ℕ → ℕ → Option (ℕ × ℕ)
 
@@ -42,14 +41,18 @@ effect_by plan grants port unit p =
     else if sent_direction port.side == 0 then host_effect plan grants port unit p (read_head_of p.head)
     else effect.Delivered
 
+-- of the packets of a unit, in order
+abbrev pub effects_by : Plan → Grants → PortName → UnitName → List Packet → List Effect
+effects_by plan grants port unit ps = map (effect_by plan grants port unit) ps
+
 -- by what the history says of requesters
-abbrev pub effect_of : Plan → History → PortName → UnitName → Packet → Effect
-effect_of plan h port unit p = effect_by plan (grant_at plan h) port unit p
+abbrev pub effects_of : Plan → History → PortName → UnitName → List Packet → List Effect
+effects_of plan h port unit ps = effects_by plan (grant_at plan h) port unit ps
 
 -- ---- the writes that are admitted
 
--- the write that a packet with this payload is, where it is admitted: it has T, and its requester is an interface
--- of the link whose view is Running, on its bound stream, under a draw from its floor on
+-- the write that a packet with this payload is, if it is admitted: it has T, and its requester is an interface of the
+-- link whose view is Running, on its bound stream, under a draw from its floor on
 abbrev pub admitted_as : Plan → Grants → PortName → UnitName → Bool → List ℕ → Result HeadView TlpFault → Option Write
 admitted_as plan grants port unit t payload (Err f) = None
 admitted_as plan grants port unit t payload (Ok head) =
@@ -98,7 +101,7 @@ abbrev pub shown_if : Bool → List ℕ → Verdict
 shown_if true bytes = v.Interface (iv.Memory bytes)
 shown_if false bytes = v.Nothing
 
--- the bytes from an address on, where one region has them all
+-- the bytes from an address on, if one region has them all
 abbrev pub memory_due : Plan → History → InterfaceEvent → Verdict
 memory_due plan h (ie.Memory at len) =
     shown_if (in_one_region plan.memory at len) (bytes_from (byte_after (writes plan h)) at len)
@@ -110,10 +113,10 @@ abbrev pub ends_unit : Verdict → Bool
 ends_unit (Accepted port unit effects) = true
 ends_unit w = false
 
--- Where contents are what the writes of a history left: the contents that an accepted unit's packets lead to are so
--- once its verdict is there, and at any other verdict the same contents are. At a device's port no packet leads
--- elsewhere, nor does a sync packet; at a host's port a packet leads to where the write of its header and payload does,
--- if it is admitted.
+-- If contents are what the writes of a history left: the contents that an accepted unit's packets lead to are so once
+-- its verdict is there, and at any other verdict the same contents are. At a device's port no packet leads elsewhere,
+-- nor does a sync packet; at a host's port a packet leads to where the write of its header and payload does, if it is
+-- admitted.
 pub record ContentsFollow : Type 0 where
   pub accepted : (plan : Plan) (h : History) (e : Event) (port : PortName) (unit : UnitName) (effects : List Effect)
       (m n : Contents) → IsLeftBy m (writes plan h) → Leads m (admitted_by plan h e port unit) n

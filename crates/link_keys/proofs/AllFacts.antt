@@ -40,7 +40,7 @@ unused plan h law port stream u k j on waiting =
     let there = ap (λ (x : Keys). key_in x (not k)) (sym (keys_out h port stream u)) ∙ other.on in
     let most = used_most plan h law (place port s true) (not k) other.draw there in
     let less = differ (keys_at h port s) k other.draw j (apart plan h law port s) on other.on other.least in
-    none_sent plan h port s j (sends_lane port stream u) (omega (arith, most, less))
+    none_sent plan h law port s j (sends_lane port stream u) (omega (arith, most, less))
 
 pub from_base : (plan : Plan) (h : History) → CauseLaw plan h → (port : PortName) (s : SubStream) (k : Bool) (j : ℕ)
     → key_in (keys_at h port s) k ≡ On j → nat_le (base h s.link s.stream) j ≡ true

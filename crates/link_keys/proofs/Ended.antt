@@ -15,7 +15,7 @@ use Rattle.link_history.proofs.Terms.{ended_keys, ends_at, is_under, keys_at, pa
 use Rattle.link_history.proofs.Terms.{sent_in, sub_stream_of, with_sealed, SubStream, is_same, key_plan, lane_in}
 use Rattle.link_history.proofs.Terms.{lane_out, partner, AllByRecursion, Device}
 use Rattle.link_history.proofs.Terms.{Establish, Event, History, Host, KeyPlan, Keys, Off, On, Packet, Place, Plan}
-use Rattle.link_history.proofs.Terms.{PortName, Refresh, Reset, SealedPacket, Send, Stop, SubKind, Verdict}
+use Rattle.link_history.proofs.Terms.{PortName, Refresh, Reset, SealedPacket, Stop, SubKind, Verdict}
 use Rattle.link_history.proofs.Terms.{if◌then◌else◌, is_some, key_in, keys_there}
 use Rattle.link_history.proofs.Terms.{nat_lt, no_keys, status_of, ◌&&◌, open_unit}
 use Rattle.key_laws.proofs.Shapes.{Shape, Bare, Sound, keys_of, live_waiting, live_alone, live_following, live_both}
@@ -30,11 +30,12 @@ use Rattle.key_states.proofs.Bases.{based}
 use Rattle.key_states.proofs.Firsts.{state_of, refresh_state}
 use Rattle.link_history.proofs.Tests.{eqb-sym}
 use Rattle.link_history.proofs.UnitLemmas.{open_unit-end}
-use Rattle.link_history.proofs.Causes.{sealed_by_send}
+use Rattle.link_history.proofs.Terms.{sent_bytes, Manager}
 use Rattle.link_history.proofs.Senders.{AreOther, on_live}
 use Rattle.link_history.proofs.Sealed.{sent_in-snoc, sent-same, left_alone}
-use Rattle.link_history.proofs.SealingIs.{IsLive, AllLive, sealing_is, all_live, AllApart, all_apart, seals_none}
-use Rattle.link_history.proofs.SealingIs.{sealed_same}
+use Rattle.link_history.proofs.SealingIs.{sending_port, IsLive, AllLive, sealing_is, all_live, AllApart, all_apart}
+use Rattle.link_history.proofs.SealingIs.{seals_none}
+use Rattle.link_history.proofs.SealingIs.{sealed_same, sealed_by_sealing, sealing_manager}
 use Rattle.link_keys.proofs.Seats.{own_key, keys_out, keys_into, live_of, live_here, on_key}
 use Rattle.link_keys.proofs.Unplanned.{never_on, acts}
 use Rattle.link_keys.proofs.Given.{key_cause}
@@ -347,33 +348,31 @@ none_seals plan h law port stream u host is q t d live here =
     never_on live.key.k live.key.draw
     (ap (λ (ks : Keys). key_in ks live.key.k) (sym bare ∙ sym (keys_out h port stream u)) ∙ on)
 
-still_above : (plan : Plan) (h : History) (p : PortName) (bytes : List ℕ) (more trusted : Bool) (ds : List SealedPacket)
-    → CauseLaw plan ((Send p bytes more trusted, v.Sealed ds) ∷ h)
+still_above : (plan : Plan) (h : History) (e : Event) (ds : List SealedPacket) → CauseLaw plan ((e, v.Sealed ds) ∷ h)
     → (port : PortName) (stream : ℕ) (u : SubKind) (i : ℕ)
     → port.side ≡ Host → stops (op_of h port.link stream) ≡ true → NoneAbove plan h (lane_out port stream u) i
-    → NoneAbove plan ((Send p bytes more trusted, v.Sealed ds) ∷ h) (lane_out port stream u) i
+    → NoneAbove plan ((e, v.Sealed ds) ∷ h) (lane_out port stream u) i
 unfolding sealed_packets
-still_above plan h p bytes more trusted ds law port stream u i host is none place x at =
-    let sealing = sealing_is plan h p bytes more trusted ds law.0 in
+still_above plan h e ds law port stream u i host is none place x at =
+    let sealing = sealing_is plan h e ds law.0 in
     each_more (λ (d : SealedPacket). is_same (sub_stream_of d) (lane_out port stream u) ≡ true → d.draw ≤ i) plan
-    (ahead_in plan (sealed_packets plan h) (base h)) bytes ds (sealed_packets plan h)
+    (ahead_in plan (sealed_packets plan h) (base h)) (sent_bytes plan h e) ds (sealed_packets plan h)
     (live_all (λ (d : SealedPacket). is_same (sub_stream_of d) (lane_out port stream u) ≡ true → d.draw ≤ i) plan h
     sealing.sending.port sealing.sending.stream ds
     (λ d live here. absurd
     (none_seals plan h law.1 port stream u host is sealing.sending.port sealing.sending.stream d live here))
-    (all_live plan h p bytes ds sealing))
+    (all_live plan h (sending_port e) (sent_bytes plan h e) ds sealing))
     none place x at
 
-excuse_sent : (plan : Plan) (h : History) (p : PortName) (bytes : List ℕ) (more trusted : Bool) (ds : List SealedPacket)
-    → CauseLaw plan ((Send p bytes more trusted, v.Sealed ds) ∷ h)
+excuse_sent : (plan : Plan) (h : History) (e : Event) (ds : List SealedPacket) → CauseLaw plan ((e, v.Sealed ds) ∷ h)
     → (port : PortName) (stream : ℕ) (u : SubKind) (i : ℕ)
-    → Excuse plan h port stream u i → Excuse plan ((Send p bytes more trusted, v.Sealed ds) ∷ h) port stream u i
-unfolding manager
-excuse_sent plan h p bytes more trusted ds law port stream u i x =
+    → Excuse plan h port stream u i → Excuse plan ((e, v.Sealed ds) ∷ h) port stream u i
+excuse_sent plan h e ds law port stream u i x =
+    let same = sealing_manager h e (v.Sealed ds) (sealed_by_sealing plan h e ds law.0) in
     record {
-      stopping = x.stopping;
-      left = λ host. still_above plan h p bytes more trusted ds law port stream u i host
-          x.stopping (x.left host);
+      stopping = ap (λ (m : Manager). stops (m.ops port.link stream)) same ∙ x.stopping;
+      left = λ host.
+          still_above plan h e ds law port stream u i host x.stopping (x.left host);
     }
 
 -- of draws that were not made nothing was sealed
@@ -409,22 +408,22 @@ abbrev Opens : Plan → History → PortName → ℕ → SubKind → ℕ → Typ
 Opens plan h port stream u i = OpenIs (Excuse plan h port stream u i) i (sealed_packets plan h) (lane_out port stream u)
     (keys_at h port (lane_out port stream u))
 
-opens_sent : (plan : Plan) (h : History) (p : PortName) (bytes : List ℕ) (more trusted : Bool) (ds : List SealedPacket)
-    → CauseLaw plan ((Send p bytes more trusted, v.Sealed ds) ∷ h)
+opens_sent : (plan : Plan) (h : History) (e : Event) (ds : List SealedPacket) → CauseLaw plan ((e, v.Sealed ds) ∷ h)
     → (port : PortName) (stream : ℕ) (u : SubKind) (i : ℕ)
-    → Opens plan h port stream u i → Opens plan ((Send p bytes more trusted, v.Sealed ds) ∷ h) port stream u i
+    → Opens plan h port stream u i → Opens plan ((e, v.Sealed ds) ∷ h) port stream u i
 unfolding sealed_packets
-opens_sent plan h p bytes more trusted ds law port stream u i opens =
+opens_sent plan h e ds law port stream u i opens =
     let s = lane_out port stream u in
-    let is = sealing_is plan h p bytes more trusted ds law.0 in
+    let is = sealing_is plan h e ds law.0 in
     let done = all_open (Excuse plan h port stream u i) i plan h is.sending.port is.sending.stream
-    (ahead_in plan (sealed_packets plan h) (base h)) bytes
-    port stream u ds (sealed_packets plan h) (all_live plan h p bytes ds is) (all_apart plan h p bytes ds is) opens in
-    let keys = sealed plan h (Send p bytes more trusted) ds law port s in
+    (ahead_in plan (sealed_packets plan h) (base h)) (sent_bytes plan h e)
+    port stream u ds (sealed_packets plan h) (all_live plan h (sending_port e) (sent_bytes plan h e) ds is)
+    (all_apart plan h (sending_port e) (sent_bytes plan h e) ds is) opens in
+    let keys = sealed plan h e ds law port s in
     elim done [
       | inl none ↦ inl none
       | inr (inl live) ↦ inr (inl (ap live_draw keys ∙ live))
-      | inr (inr x) ↦ inr (inr (excuse_sent plan h p bytes more trusted ds law port stream u i x))
+      | inr (inr x) ↦ inr (inr (excuse_sent plan h e ds law port stream u i x))
     ]
 
 -- a pair that seals nothing
@@ -498,11 +497,10 @@ opens_at : (plan : Plan) (h : History) → CauseLaw plan h → (port : PortName)
     → base h port.link stream ≤ i → Opens plan h port stream u i
 unfolding sealed_packets sent_in open_unit
 opens_at plan [] law port stream u i up = inl refl
-opens_at plan ((Send p bytes more trusted, v.Sealed ds) ∷ h) law port stream u i up =
-    opens_sent plan h p bytes more trusted ds law port stream u i
+opens_at plan ((e, v.Sealed ds) ∷ h) law port stream u i up =
+    opens_sent plan h e ds law port stream u i
     (opens_at plan h law.1 port stream u i
-    (base_up plan h (Send p bytes more trusted) (v.Sealed ds) law (place port (lane_out port stream u) true) i up))
-opens_at plan ((e, v.Sealed ds) ∷ h) law port stream u i up = absurd (let send = sealed_by_send plan h e ds law.0 in cc)
+    (base_up plan h e (v.Sealed ds) law (place port (lane_out port stream u) true) i up))
 opens_at plan ((e, w) ∷ h) law port stream u i up =
     opens_moved plan h e w refl law port stream u i up
     (opens_at plan h law.1 port stream u i (base_up plan h e w law (place port (lane_out port stream u) true) i up))

@@ -1,20 +1,19 @@
 -- A key that comes to be Live at a sender has sealed nothing.
-use Rattle.link_history.proofs.Terms.{Bool, List, Some, [], ap, arith, false, inl, inr, refl, subst, sym, true, ℕ, ◌<◌}
-use Rattle.link_history.proofs.Terms.{◌==◌, ◌∙◌, ◌∷◌, ◌≡◌, ◌≤◌, ◌⊎◌, nat_tests, base, behind, draws, manager, moments}
-use Rattle.link_history.proofs.Terms.{touches, GoTouch as Go, Touch}
-use Rattle.link_history.proofs.Terms.{is_open, keys, settled, touched, CauseLaw, KeyName, SealedList, after_ends}
-use Rattle.link_history.proofs.Terms.{ahead_in, ended_keys, keys_at, lesser, live_key, place, sealed_packets, sent}
-use Rattle.link_history.proofs.Terms.{sent_in, sub_stream_of, waits, SubStream}
-use Rattle.link_history.proofs.Terms.{is_same, key_plan, lane_out, Event, History, Keyed, Keys, Off, On, Plan, PortName}
-use Rattle.link_history.proofs.Terms.{Sealed, SealedPacket, Send, SubKind, Verdict, key_in, keys_there, not, on_in}
-use Rattle.link_history.proofs.Terms.{◌&&◌}
+use Rattle.link_history.proofs.Terms.{Bool, List, Some, [], ap, arith, false, inl, inr, refl, subst, sym, true, ℕ}
+use Rattle.link_history.proofs.Terms.{◌<◌, ◌==◌, ◌∙◌, ◌∷◌, ◌≡◌, ◌≤◌, ◌⊎◌, nat_tests, base, behind, draws, manager}
+use Rattle.link_history.proofs.Terms.{moments, touches, GoTouch as Go, Touch, is_open, keys, settled, touched}
+use Rattle.link_history.proofs.Terms.{CauseLaw, KeyName, SealedList, after_ends, ahead_in, ended_keys, keys_at}
+use Rattle.link_history.proofs.Terms.{lesser, live_key, place, sealed_packets, sent, sent_in, sub_stream_of, waits}
+use Rattle.link_history.proofs.Terms.{SubStream, is_same, key_plan, lane_out, Event, History, Keyed, Keys, Off, On}
+use Rattle.link_history.proofs.Terms.{Plan, PortName, Sealed, SealedPacket, SubKind, Verdict, key_in}
+use Rattle.link_history.proofs.Terms.{keys_there, not, on_in, ◌&&◌, sent_bytes}
 use Rattle.key_laws.proofs.Shapes.{Shape, used, IsAt}
 use Rattle.key_laws.proofs.Touches.{Goes, waiting_goes, alone_goes, following_goes, both_goes, Comes, AllCome}
 use Rattle.key_states.proofs.Behind.{used_behind}
 use Rattle.key_laws.proofs.Whole.{fits, next_fits}
 use Rattle.link_history.proofs.Sealed.{sent_in-snoc, left_alone}
 use Rattle.link_history.proofs.Senders.{on_live}
-use Rattle.link_history.proofs.SealingIs.{IsLive, sealing_is, all_live, sealed_same}
+use Rattle.link_history.proofs.SealingIs.{sending_port, IsLive, sealing_is, all_live, sealed_same}
 use Rattle.link_keys.proofs.Seats.{own_key, keys_out, on_key, live_here}
 use Rattle.link_keys.proofs.SealedKeys.{live_all}
 use Rattle.link_keys.proofs.Given.{key_cause}
@@ -131,16 +130,16 @@ sent_before : (plan : Plan) (h : History) (e : Event) (w : Verdict) → CauseLaw
     key_in (keys_at h port s) k ≡ On j → waits k j (key_in (keys_at h port s) (not k)) ≡ true
     → sent plan ((e, w) ∷ h) s j ≡ sent plan h s j
 unfolding sealed_packets
-sent_before plan h (Send p bytes more trusted) (Sealed ds) law port stream u k j on waiting =
+sent_before plan h e (Sealed ds) law port stream u k j on waiting =
     let s = lane_out port stream u in
-    let is = sealing_is plan h p bytes more trusted ds law.0 in
+    let is = sealing_is plan h e ds law.0 in
     let xs = sealed_packets plan h in
     left_alone (λ xs. sent_in xs s j) (λ d. (is_same (sub_stream_of d) s && (d.draw == j)) ≡ false)
     (λ xs d q off. sent_in-snoc xs (d, q) s j ∙ rw off refl)
-    plan (ahead_in plan xs (base h)) bytes ds xs
+    plan (ahead_in plan xs (base h)) (sent_bytes plan h e) ds xs
     (live_all _ plan h is.sending.port is.sending.stream ds
     (none_under plan h law.1 port stream u k j on waiting is.sending.port is.sending.stream)
-    (all_live plan h p bytes ds is))
+    (all_live plan h (sending_port e) (sent_bytes plan h e) ds is))
 sent_before plan h e w law port stream u k j on waiting = refl
 
 abbrev IsFresh : Plan → History → Event → Verdict → SubStream → PortName → KeyName → Type 0
@@ -177,5 +176,5 @@ fresh plan h e w law port stream u key live =
       | inl was ↦ on_fresh plan h e w law port stream u key was
       | inr none ↦
           let same = ap (λ (xs : SealedList). sent_in xs s key.draw) (sealed_same plan h e w refl) in
-          inr (same ∙ none_sent plan h port s key.draw (sends_lane port stream u) none)
+          inr (same ∙ none_sent plan h law.1 port s key.draw (sends_lane port stream u) none)
     ]

@@ -1,16 +1,15 @@
 -- What is sealed and what is accepted is under keys that are Live or On: the rules of keys may suppose it.
 use Rattle.link_history.proofs.Terms.{Bool, List, Some, [], ap, arith, false, refl, subst, sym, true, ℕ, ◌++◌, ◌==◌}
-use Rattle.link_history.proofs.Terms.{◌∙◌, ◌∷◌, ◌≡◌, key_due, came, is_sender, moments, sealed_here, when, Accept, Seal}
-use Rattle.link_history.proofs.Terms.{keys, live_draw, GivenFits}
-use Rattle.link_history.proofs.Terms.{KeyCauseLaw, UsesFit, is_on_stream, is_same_side, is_same_sub, CauseLaw, due}
-use Rattle.link_history.proofs.Terms.{keys_at, lesser, live_key, on_draw, place, received_in, SubStream, key_plan}
-use Rattle.link_history.proofs.Terms.{lane_out, Accepted, Effect}
-use Rattle.link_history.proofs.Terms.{Establish, Event, Held, History, Keys, Packet, Place, Plan, PortName, Refresh}
-use Rattle.link_history.proofs.Terms.{Reset, Sealed, SealedPacket, Send, Stop, UnitName, Verdict, key_in, keys_there}
-use Rattle.link_history.proofs.Terms.{not, on_in, sub_bits, ◌&&◌}
-use Rattle.link_history.proofs.Causes.{Passed, held_by, accepted_by, received_there, sealed_by_send}
+use Rattle.link_history.proofs.Terms.{◌∙◌, ◌∷◌, ◌≡◌, key_due, came, is_sender, moments, sealed_here, when, Accept}
+use Rattle.link_history.proofs.Terms.{Seal, keys, live_draw, GivenFits, KeyCauseLaw, UsesFit, is_on_stream}
+use Rattle.link_history.proofs.Terms.{is_same_side, is_same_sub, CauseLaw, due, keys_at, lesser, live_key, on_draw}
+use Rattle.link_history.proofs.Terms.{place, received_in, SubStream, key_plan, lane_out, Accepted, Effect, Establish}
+use Rattle.link_history.proofs.Terms.{Event, Held, History, Keys, Packet, Place, Plan, PortName, Refresh, Reset}
+use Rattle.link_history.proofs.Terms.{Sealed, SealedPacket, Stop, UnitName, Verdict, key_in, keys_there, not}
+use Rattle.link_history.proofs.Terms.{on_in, sub_bits, ◌&&◌, sent_bytes}
+use Rattle.link_history.proofs.Causes.{Passed, held_by, accepted_by, received_there}
 use Rattle.link_history.proofs.Senders.{AreOther}
-use Rattle.link_history.proofs.SealingIs.{IsLive, AllLive, sealing_is, all_live, AllApart, all_apart}
+use Rattle.link_history.proofs.SealingIs.{sending_port, IsLive, AllLive, sealing_is, all_live, AllApart, all_apart}
 use Rattle.link_keys.proofs.Seats.{keys_out, keys_into, sender_is, receiver_is, live_of}
 
 -- ---- what is sealed
@@ -59,12 +58,13 @@ all_uses plan h p port stream (d ∷ ds) live differ =
     one_use h p d ds (live_there plan h port stream d p live.0) (λ here. none_behind p d ds here differ.0)
     (all_uses plan h p port stream ds live.1 differ.1)
 
-pub sealed_given : (plan : Plan) (h : History) (port : PortName) (bytes : List ℕ) (more trusted : Bool)
-    (ds : List SealedPacket) (p : Place) → Sealed ds ≡ due plan h (Send port bytes more trusted) → Uses h p ds
-sealed_given plan h port bytes more trusted ds p due_is =
-    let is = sealing_is plan h port bytes more trusted ds due_is in
-    all_uses plan h p is.sending.port is.sending.stream ds (all_live plan h port bytes ds is)
-    (all_apart plan h port bytes ds is)
+pub sealed_given : (plan : Plan) (h : History) (e : Event) (ds : List SealedPacket) (p : Place) → Sealed ds
+    ≡ due plan h e → Uses h p ds
+sealed_given plan h e ds p due_is =
+    let is = sealing_is plan h e ds due_is in
+    all_uses plan h p is.sending.port is.sending.stream ds
+    (all_live plan h (sending_port e) (sent_bytes plan h e) ds is)
+    (all_apart plan h (sending_port e) (sent_bytes plan h e) ds is)
 
 -- ---- what is accepted
 
@@ -113,8 +113,7 @@ accepted_given plan h e port unit effects p is = by_test
 
 came_given : (plan : Plan) (h : History) (e : Event) (w : Verdict) → w ≡ due plan h e → (p : Place)
     → UsesFit p.sends (moments h p) (came p w)
-came_given plan h (Send port bytes more trusted) (Sealed ds) is p = sealed_given plan h port bytes more trusted ds p is
-came_given plan h e (Sealed ds) is p = absurd (let send = sealed_by_send plan h e ds is in cc)
+came_given plan h e (Sealed ds) is p = sealed_given plan h e ds p is
 came_given plan h e (Accepted port unit effects) is p = accepted_given plan h e port unit effects p is
 came_given plan h e _ is p = tt
 

@@ -2,27 +2,25 @@
 -- those whose GO came nothing was held or accepted, and a unit is open just where the touches say so. Each is by
 -- induction on the history, since bounds on the touches hold of the earlier ones too. A sealed packet is itself a
 -- touch; what is held or accepted was under a draw that is On, so its GO had come.
-use Rattle.link_history.proofs.Terms.{Bool, List, Some, [], ap, arith, drop, false, filter, length, length-append, refl}
-use Rattle.link_history.proofs.Terms.{suc, sym, true, zero, ℕ, ◌++◌, ◌+◌, ◌-◌, ◌<◌, ◌==◌, ◌∙◌, ◌∷◌, ◌≡◌, ◌≤◌, nat_tests}
-use Rattle.link_history.proofs.Terms.{append-nil, filter-append}
-use Rattle.link_history.proofs.Terms.{suffix_len, max, Pr, base, behind, draws as draws_made, is_sender, manager}
-use Rattle.link_history.proofs.Terms.{moments, sealed_here, touches, when, Seal, Touch, is_open, CauseLaw, SealedList}
-use Rattle.link_history.proofs.Terms.{ahead_in, ends_in, got_since, held, is_in}
-use Rattle.link_history.proofs.Terms.{is_under, keys_at, packet_of, place, posted_in, received_in, sealed_packets}
-use Rattle.link_history.proofs.Terms.{sends_it, sent_in, sub_stream_of, total_in, units_got, units_since, with_sealed}
-use Rattle.link_history.proofs.Terms.{SubStream, is_same, lane_in, lane_out}
-use Rattle.link_history.proofs.Terms.{Accepted, AllByRecursion, Event, Held, History, Keys, Packet, Place, Plan}
-use Rattle.link_history.proofs.Terms.{PortName, Sealed, SealedPacket, Send, SubKind, UnitName, Verdict, if◌then◌else◌}
-use Rattle.link_history.proofs.Terms.{key_in, nat_le, nat_lt, not, on_in}
-use Rattle.link_history.proofs.Terms.{sent_direction, ◌&&◌, open_unit}
+use Rattle.link_history.proofs.Terms.{Bool, List, Some, [], ap, arith, drop, false, filter, length, length-append}
+use Rattle.link_history.proofs.Terms.{refl, suc, sym, true, zero, ℕ, ◌++◌, ◌+◌, ◌-◌, ◌<◌, ◌==◌, ◌∙◌, ◌∷◌, ◌≡◌, ◌≤◌}
+use Rattle.link_history.proofs.Terms.{nat_tests, append-nil, filter-append, suffix_len, max, Pr, base, behind}
+use Rattle.link_history.proofs.Terms.{draws as draws_made, is_sender, manager, moments, sealed_here, touches, when}
+use Rattle.link_history.proofs.Terms.{Seal, Touch, is_open, CauseLaw, SealedList, ahead_in, ends_in, got_since, held}
+use Rattle.link_history.proofs.Terms.{is_in, is_under, keys_at, packet_of, place, posted_in, received_in}
+use Rattle.link_history.proofs.Terms.{sealed_packets, sends_it, sent_in, sub_stream_of, total_in, units_got}
+use Rattle.link_history.proofs.Terms.{units_since, with_sealed, SubStream, is_same, lane_in, lane_out, Accepted}
+use Rattle.link_history.proofs.Terms.{AllByRecursion, Event, Held, History, Keys, Packet, Place, Plan, PortName}
+use Rattle.link_history.proofs.Terms.{Sealed, SealedPacket, SubKind, UnitName, Verdict, if◌then◌else◌, key_in}
+use Rattle.link_history.proofs.Terms.{nat_le, nat_lt, not, on_in, sent_direction, ◌&&◌, open_unit, sent_bytes, subst}
 use Rattle.key_laws.proofs.Tests.{both-true}
 use Rattle.key_laws.proofs.Shapes.{used, started}
 use Rattle.key_states.proofs.Behind.{used_behind, started_behind, on_started, open_behind, touches_no_seal}
 use Rattle.link_history.proofs.Tests.{same_stream, same_receiver, eqb-refl}
-use Rattle.link_history.proofs.Causes.{sealed_by_send}
+use Rattle.link_history.proofs.SealingIs.{sealed_by_sealing}
 use Rattle.link_keys.proofs.Seats.{keys_into}
 use Rattle.link_keys.proofs.Given.{accepted_on, held_on}
-use Rattle.link_history.proofs.SealingIs.{sealed_same}
+use Rattle.link_history.proofs.SealingIs.{sealed_same, sealing_touches}
 use Rattle.link_history.proofs.Sealed.{sent_in-snoc, left_alone}
 use Rattle.link_history.proofs.UnitLemmas.{open_unit-snoc}
 
@@ -94,46 +92,48 @@ unfolding moments
 earlier_used h e w p n le = let before = used_behind (moments h p) (touches (manager h).ops (draws_made h) e w p) in
     omega (arith, before, le)
 
-pub none_in : (plan : Plan) (h : History) (port : PortName) (s : SubStream) (from : ℕ) → sends_it port s ≡ true
-    → used (moments h (place port s true)) ≤ from → NoneIn s from (sealed_packets plan h)
+pub none_in : (plan : Plan) (h : History) → CauseLaw plan h → (port : PortName) (s : SubStream) (from : ℕ)
+    → sends_it port s ≡ true → used (moments h (place port s true)) ≤ from → NoneIn s from (sealed_packets plan h)
 unfolding sealed_packets moments
-none_in plan [] port s from here le = refl
-none_in plan ((Send q bytes more trusted, Sealed ds) ∷ h) port s from here le =
+none_in plan [] law port s from here le = refl
+none_in plan ((e, Sealed ds) ∷ h) law port s from here le =
     let ts = moments h (place port s true) in
+    let touched = sealing_touches (manager h).ops (draws_made h) e ds (place port s true)
+    (sealed_by_sealing plan h e ds law.0) in
     left_alone (filter (is_in s from)) (λ d. is_from s from d ≡ false)
     (λ xs d q off. filter-append (is_in s from) xs ((d, q) ∷ []) ∙ rw off (append-nil _))
-    plan (ahead_in plan (sealed_packets plan h) (base h)) bytes ds (sealed_packets plan h)
-    (none_used port s from here ts ds le)
-    ∙ none_in plan h port s from here
-    (earlier_used h (Send q bytes more trusted) (Sealed ds) (place port s true) from le)
-none_in plan ((e, w) ∷ h) port s from here le = none_in plan h port s from here
+    plan (ahead_in plan (sealed_packets plan h) (base h)) (sent_bytes plan h e) ds (sealed_packets plan h)
+    (none_used port s from here ts ds (subst (λ (us : List Touch). used (behind ts us) ≤ from) touched le))
+    ∙ none_in plan h law.1 port s from here (earlier_used h e (Sealed ds) (place port s true) from le)
+none_in plan ((e, w) ∷ h) law port s from here le = none_in plan h law.1 port s from here
     (earlier_used h e w (place port s true) from le)
 
-pub none_sent : (plan : Plan) (h : History) (port : PortName) (s : SubStream) (j : ℕ) → sends_it port s ≡ true
-    → used (moments h (place port s true)) ≤ j → sent_in (sealed_packets plan h) s j ≡ []
+pub none_sent : (plan : Plan) (h : History) → CauseLaw plan h → (port : PortName) (s : SubStream) (j : ℕ)
+    → sends_it port s ≡ true → used (moments h (place port s true)) ≤ j → sent_in (sealed_packets plan h) s j ≡ []
 unfolding sent_in
-none_sent plan h port s j here le =
+none_sent plan h law port s j here le =
     rw (filter_less (is_in s j) (is_under s j) (sealed_packets plan h) (λ x is. grind (arith, nat_tests))
-    (none_in plan h port s j here le)) refl
+    (none_in plan h law port s j here le)) refl
 
 -- where no posted packet from a draw on was sealed the count from it on is 0
-pub none_posted : (plan : Plan) (h : History) (port : PortName) (stream : ℕ) (u : SubKind) (from : ℕ)
+pub none_posted : (plan : Plan) (h : History) → CauseLaw plan h
+    → (port : PortName) (stream : ℕ) (u : SubKind) (from : ℕ)
     → used (moments h (place port (lane_out port stream Pr) true)) ≤ from → posted_in (sealed_packets plan h)
     (lane_out port stream u) from ≡ 0
 unfolding posted_in
-none_posted plan h port stream u from le =
+none_posted plan h law port stream u from le =
     ap length (filter_drop (is_in (lane_out port stream Pr) from)
     (length (sealed_packets plan h) - suffix_len (λ x. not (is_in (lane_out port stream u) from x))
     (sealed_packets plan h)) (sealed_packets plan h)
-    (none_in plan h port (lane_out port stream Pr) from (sends_lane port stream Pr) le))
+    (none_in plan h law port (lane_out port stream Pr) from (sends_lane port stream Pr) le))
 
 -- where no packet from a draw on was sealed, no unit was finished
-pub none_finished : (plan : Plan) (h : History) (port : PortName) (s : SubStream) (from : ℕ) → sends_it port s ≡ true
-    → used (moments h (place port s true)) ≤ from → total_in (sealed_packets plan h) s from ≡ 0
+pub none_finished : (plan : Plan) (h : History) → CauseLaw plan h → (port : PortName) (s : SubStream) (from : ℕ)
+    → sends_it port s ≡ true → used (moments h (place port s true)) ≤ from → total_in (sealed_packets plan h) s from ≡ 0
 unfolding total_in
-none_finished plan h port s from here le =
+none_finished plan h law port s from here le =
     ap length (filter_less (is_in s from) (ends_in s from) (sealed_packets plan h)
-    (λ x is. (both-true (is_in s from x) x.1.prefix.m is).0) (none_in plan h port s from here le))
+    (λ x is. (both-true (is_in s from x) x.1.prefix.m is).0) (none_in plan h law port s from here le))
 
 -- ---- receivers
 
@@ -273,10 +273,11 @@ pub busy_is : (plan : Plan) (h : History) → CauseLaw plan h → (port : PortNa
     → sends_it port s ≡ true → Busy s j (sealed_packets plan h) (moments h (place port s true))
 unfolding sealed_packets moments is_open sent_in open_unit
 busy_is plan [] law port s j here = refl
-busy_is plan ((Send q bytes more trusted, Sealed ds) ∷ h) law port s j here =
-    busy_more plan (ahead_in plan (sealed_packets plan h) (base h)) bytes port s j ds _ (moments h (place port s true))
-    here (busy_is plan h law.1 port s j here)
-busy_is plan ((e, Sealed ds) ∷ h) law port s j here = absurd (let send = sealed_by_send plan h e ds law.0 in cc)
+busy_is plan ((e, Sealed ds) ∷ h) law port s j here =
+    let touched = sealing_touches (manager h).ops (draws_made h) e ds (place port s true)
+    (sealed_by_sealing plan h e ds law.0) in
+    rw touched (busy_more plan (ahead_in plan (sealed_packets plan h) (base h)) (sent_bytes plan h e) port s j ds _
+    (moments h (place port s true)) here (busy_is plan h law.1 port s j here))
 busy_is plan ((e, w) ∷ h) law port s j here =
     ap (λ (xs : SealedList). nat_lt 0 (length (open_unit (sent_in xs s j)))) (sealed_same plan h e w refl) ∙ busy_is
     plan h law.1 port s j here ∙ sym

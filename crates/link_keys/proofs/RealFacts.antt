@@ -11,14 +11,16 @@ use Rattle.link_history.proofs.Terms.{ended_keys, ends_at, is_keyed, keys_at}
 use Rattle.link_history.proofs.Terms.{keys_by, place, received_in, receives_it, sends_it, sub_stream_of, is_steady}
 use Rattle.link_history.proofs.Terms.{operates, SubStream, is_same, is_same_port, key_plan, Effect, Establish, Event}
 use Rattle.link_history.proofs.Terms.{History, Keyed, Keys, On, Place, Plan}
-use Rattle.link_history.proofs.Terms.{PortName, Refresh, Reset, SealedPacket, Send, Stop, UnitName, Verdict}
+use Rattle.link_history.proofs.Terms.{PortName, Refresh, Reset, SealedPacket, Stop, UnitName, Verdict}
 use Rattle.link_history.proofs.Terms.{if◌then◌else◌, keeps_live, key_in, keys_there, no_keys, not, on_in, ◌&&◌, ◌||◌}
 use Rattle.key_laws.proofs.Shapes.{used, used_bound, Shape, Both, keys_of, Sound, IsAt, sealed_shape, seals}
 use Rattle.key_laws.proofs.Touches.{AllCome}
 use Rattle.key_laws.proofs.Facts.{key_facts}
 use Rattle.key_laws.proofs.Whole.{fits, next_fits}
 use Rattle.link_history.proofs.Tests.{same_port, same_stream, eqb-sym, in_not_out, out_not_in, same_in}
-use Rattle.link_history.proofs.Causes.{accepted_by, sealed_by_send}
+use Rattle.link_history.proofs.Causes.{accepted_by}
+use Rattle.link_history.proofs.SealingIs.{sealed_by_sealing, sealing_touches}
+use Rattle.link_history.proofs.Terms.{subst}
 use Rattle.link_keys.proofs.Given.{accepted_on, key_cause}
 use Rattle.link_keys.proofs.Unplanned.{on_at}
 use Rattle.link_verdicts.specs.declared.verdict.Verdict.TheVariants as v
@@ -140,31 +142,31 @@ ends_keep P kept port s (d ∷ ds) ks holds = ends_keep P kept port s ds _ (by_t
 ends_bare : (port : PortName) (s : SubStream) (ds : List SealedPacket) → after_ends port s ds no_keys ≡ no_keys
 ends_bare port s ds = ends_keep (λ ks. ks ≡ no_keys) (λ ks is. rw is refl) port s ds no_keys refl
 
-sent_keys : (plan : Plan) (h : History) (q : PortName) (bytes : List ℕ) (more trusted : Bool) (ds : List SealedPacket)
-    → CauseLaw plan ((Send q bytes more trusted, v.Sealed ds) ∷ h) → (port : PortName) (s : SubStream)
-    → keys_at ((Send q bytes more trusted, v.Sealed ds) ∷ h) port s ≡ after_ends port s ds (keys_at h port s)
-unfolding keys_at moments
-sent_keys plan h q bytes more trusted ds law port s = by_seat (sends_it port s) (receives_it port s) refl refl
-  where
-    come : AllCome true (moments h (place port s true)) (sealed_here (place port s true) ds)
-    come = let cause = key_cause plan ((Send q bytes more trusted, v.Sealed ds) ∷ h) law in
-        (next_fits (key_plan plan) h (Send q bytes more trusted) (v.Sealed ds) cause (place port s true)
-        (fits (key_plan plan) h cause.2 (place port s true))).come
-
-    by_seat : (a b : Bool) → sends_it port s ≡ a → receives_it port s ≡ b
-        → keys_by ((Send q bytes more trusted, v.Sealed ds) ∷ h) port s a b
-        ≡ after_ends port s ds (keys_by h port s a b)
-    by_seat true b here there = sealing port s here (moments h (place port s true)) ds come
-    by_seat false true here there =
-        ap (λ (ts : List Touch). (keys false (behind (moments h (place port s false)) ts))) (none_sealed port s ds)
-        ∙ sym (never_ends port s ds ((keys false (moments h (place port s false)))) (λ d. not_ending port s d there))
-    by_seat false false here there = sym (ends_bare port s ds)
-
 pub sealed : (plan : Plan) (h : History) (e : Event) (ds : List SealedPacket) → CauseLaw plan ((e, v.Sealed ds) ∷ h)
     → (port : PortName) (s : SubStream)
     → keys_at ((e, v.Sealed ds) ∷ h) port s ≡ after_ends port s ds (keys_at h port s)
-sealed plan h (Send q bytes more trusted) ds law port s = sent_keys plan h q bytes more trusted ds law port s
-sealed plan h e ds law port s = absurd (let send = sealed_by_send plan h e ds law.0 in cc)
+unfolding keys_at moments
+sealed plan h e ds law port s = by_seat (sends_it port s) (receives_it port s) refl refl
+  where
+    touched : (p : Place) → touches (manager h).ops (draws_made h) e (v.Sealed ds) p ≡ sealed_here p ds
+    touched p = sealing_touches (manager h).ops (draws_made h) e ds p (sealed_by_sealing plan h e ds law.0)
+
+    come : AllCome true (moments h (place port s true)) (sealed_here (place port s true) ds)
+    come = let cause = key_cause plan ((e, v.Sealed ds) ∷ h) law in
+        subst (AllCome true (moments h (place port s true))) (touched (place port s true))
+        (next_fits (key_plan plan) h e (v.Sealed ds) cause (place port s true)
+        (fits (key_plan plan) h cause.2 (place port s true))).come
+
+    by_seat : (a b : Bool) → sends_it port s ≡ a → receives_it port s ≡ b → keys_by ((e, v.Sealed ds) ∷ h) port s a b
+        ≡ after_ends port s ds (keys_by h port s a b)
+    by_seat true b here there =
+        ap (λ (ts : List Touch). keys true (behind (moments h (place port s true)) ts)) (touched (place port s true))
+        ∙ sealing port s here (moments h (place port s true)) ds come
+    by_seat false true here there =
+        ap (λ (ts : List Touch). (keys false (behind (moments h (place port s false)) ts)))
+        (touched (place port s false) ∙ none_sealed port s ds)
+        ∙ sym (never_ends port s ds ((keys false (moments h (place port s false)))) (λ d. not_ending port s d there))
+    by_seat false false here there = sym (ends_bare port s ds)
 
 -- ---- accepted units
 

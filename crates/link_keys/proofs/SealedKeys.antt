@@ -1,15 +1,15 @@
 -- The draws of sealed packets: whose they are, and that they never fall.
 use Rattle.link_history.proofs.Terms.{Bool, List, Option, Some, [], ap, false, inl, inr, refl, slice_get, subst, sym}
 use Rattle.link_history.proofs.Terms.{true, ℕ, ◌++◌, ◌<◌, ◌==◌, ◌∙◌, ◌∷◌, ◌≡◌, ◌⊎◌, Loss, base, begins_keyed, draws}
-use Rattle.link_history.proofs.Terms.{manager, Begun, CauseLaw, SealedList}
-use Rattle.link_history.proofs.Terms.{ahead_in, keys_at, packet_of, place, sealed_packets, sent_in, sub_stream_of}
-use Rattle.link_history.proofs.Terms.{with_sealed, NoneFrom, SubStream, lane_out, AllByRecursion, Establish, Event}
-use Rattle.link_history.proofs.Terms.{History, On, Packet, Plan, PortName, Sealed}
-use Rattle.link_history.proofs.Terms.{SealedPacket, Send, Verdict, if◌then◌else◌, key_in, on_in, ◌&&◌, open_unit}
+use Rattle.link_history.proofs.Terms.{manager, Begun, CauseLaw, SealedList, ahead_in, keys_at, packet_of, place}
+use Rattle.link_history.proofs.Terms.{sealed_packets, sent_in, sub_stream_of, with_sealed, NoneFrom, SubStream}
+use Rattle.link_history.proofs.Terms.{lane_out, AllByRecursion, Establish, Event, History, On, Packet, Plan, PortName}
+use Rattle.link_history.proofs.Terms.{Sealed, SealedPacket, Verdict, if◌then◌else◌, key_in, on_in, ◌&&◌, open_unit}
+use Rattle.link_history.proofs.Terms.{sent_bytes}
 use Rattle.key_laws.proofs.Owners.{Owner, owner, begun_below, after_longer, on_owned}
 use Rattle.link_history.proofs.LastPlaces.{place_of_last}
 use Rattle.link_history.proofs.Senders.{on_live}
-use Rattle.link_history.proofs.SealingIs.{IsLive, AllLive, sealing_is, all_live}
+use Rattle.link_history.proofs.SealingIs.{sending_port, sealed_by_sealing, IsLive, AllLive, sealing_is, all_live}
 use Rattle.link_keys.proofs.Unplanned.{on_at}
 
 -- ---- all that were sealed
@@ -67,14 +67,15 @@ pub all_owned : (plan : Plan) (h : History) → CauseLaw plan h → (i : ℕ) (x
     → slice_get (sealed_packets plan h) i ≡ Some x → IsOwned h x.0
 unfolding sealed_packets
 all_owned plan [] law i x is = absurd cc
-all_owned plan ((Send p bytes more trusted, Sealed ds) ∷ h) law i x is =
-    let sealing = sealing_is plan h p bytes more trusted ds law.0 in
+all_owned plan ((e, Sealed ds) ∷ h) law i x is =
+    let sealing = sealing_is plan h e ds law.0 in
     let port = sealing.sending.port in
     let stream = sealing.sending.stream in
-    owned_later h (Send p bytes more trusted) (Sealed ds) x.0
-    (each_more (IsOwned h) plan (ahead_in plan (sealed_packets plan h) (base h)) bytes ds (sealed_packets plan h)
+    owned_later h e (Sealed ds) x.0
+    (each_more (IsOwned h) plan (ahead_in plan (sealed_packets plan h) (base h)) (sent_bytes plan h e) ds
+    (sealed_packets plan h)
     (live_all (IsOwned h) plan h port stream ds (live_owned plan h port stream)
-    (all_live plan h p bytes ds sealing))
+    (all_live plan h (sending_port e) (sent_bytes plan h e) ds sealing))
     (all_owned plan h law.1) i x is)
 all_owned plan ((e, w) ∷ h) law i x is = owned_later h e w x.0 (all_owned plan h law.1 i x is)
 
@@ -103,10 +104,13 @@ live_below plan h port stream d live = begun_below (manager h).begun d.draw (own
 
 -- ---- Base
 
-none_new : (plan : Plan) (h : History) (l s : ℕ) (loss : Option Loss) (w : Verdict) → CauseLaw plan h
-    → (link stream : ℕ) → NoneFrom plan ((Establish l s loss, w) ∷ h) link stream (draws h)
+none_new : (plan : Plan) (h : History) (l s : ℕ) (loss : Option Loss) (w : Verdict)
+    → CauseLaw plan ((Establish l s loss, w) ∷ h) → (link stream : ℕ)
+    → NoneFrom plan ((Establish l s loss, w) ∷ h) link stream (draws h)
 unfolding sealed_packets
-none_new plan h l s loss w law link stream i x is on_link on_stream = below_draws plan h law i x is
+none_new plan h l s loss (Sealed ds) law link stream i x is on_link on_stream = absurd
+    (let sealing = sealed_by_sealing plan h (Establish l s loss) ds law.0 in cc)
+none_new plan h l s loss w law link stream i x is on_link on_stream = below_draws plan h law.1 i x is
 
 pub base_fresh : (plan : Plan) (h : History) (e : Event) (w : Verdict) → CauseLaw plan ((e, w) ∷ h) → (link stream : ℕ)
     → (base ((e, w) ∷ h) link stream ≡ base h link stream) ⊎ NoneFrom plan ((e, w) ∷ h) link stream
@@ -117,6 +121,6 @@ base_fresh plan h (Establish l s loss) w law link stream = by_test
   where
     by_test : (b : Bool) → ((if b then draws h else base h link stream) ≡ base h link stream)
         ⊎ NoneFrom plan ((Establish l s loss, w) ∷ h) link stream (if b then draws h else base h link stream)
-    by_test true = inr (none_new plan h l s loss w law.1 link stream)
+    by_test true = inr (none_new plan h l s loss w law link stream)
     by_test false = inl refl
 base_fresh plan h e w law link stream = inl refl

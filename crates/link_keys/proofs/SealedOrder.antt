@@ -12,7 +12,7 @@ use Rattle.link_history.proofs.Terms.{due, KeyName, SealedList, ahead_in, draws_
 use Rattle.link_history.proofs.Terms.{place, received_in, sealed_packets, sent_in, sub_stream_of, with_sealed}
 use Rattle.link_history.proofs.Terms.{BaseStays, is_quiet, SubStream, is_same}
 use Rattle.link_history.proofs.Terms.{lane_in, lane_out, AllByRecursion, Effect, Establish, Event, History, Keyed, Keys}
-use Rattle.link_history.proofs.Terms.{On, Packet, Plan, PortName, Refresh, Reset, SealedPacket, Send, Stop, SubKind}
+use Rattle.link_history.proofs.Terms.{On, Packet, Plan, PortName, Refresh, Reset, SealedPacket, Stop, SubKind}
 use Rattle.link_history.proofs.Terms.{UnitName, Verdict}
 use Rattle.link_history.proofs.Terms.{if◌then◌else◌, key_in, not, ◌&&◌, open_unit}
 use Rattle.link_history.proofs.Senders.{on_live}
@@ -21,8 +21,10 @@ use Rattle.key_laws.proofs.Whole.{more_begun}
 use Rattle.link_history.proofs.Tests.{same_stream, same_in, is_same-refl}
 use Rattle.link_history.proofs.KeyVerdicts.{establish_due_quiet}
 use Rattle.link_history.proofs.LastPlaces.{place_of_last, all_of}
-use Rattle.link_history.proofs.Causes.{sealed_by_send}
-use Rattle.link_history.proofs.SealingIs.{quiet_seals_none, IsLive, AllLive, sealing_is, all_live, seals_none}
+use Rattle.link_history.proofs.Terms.{sent_bytes}
+use Rattle.link_history.proofs.SealingIs.{sending_port, is_sealing, sealed_by_sealing, sealing_base, quiet_seals_none}
+use Rattle.link_history.proofs.SealingIs.{IsLive}
+use Rattle.link_history.proofs.SealingIs.{AllLive, sealing_is, all_live, seals_none}
 use Rattle.link_keys.proofs.Seats.{keys_out, keys_into, live_here}
 use Rattle.link_keys.proofs.RealFacts.{used_most, accepted_touches}
 use Rattle.link_keys.proofs.Moments.{earlier_used, none_in, none_left, sends_lane}
@@ -47,7 +49,7 @@ on_above plan h law port stream u k j on i x at same =
     let most = used_most plan h law (place port s true) k j
     (ap (λ (ks : Keys). key_in ks k) (sym (keys_out h port stream u)) ∙ on) in
     let none = none_at (is_in s (j + 1)) (sealed_packets plan h) i x
-    (none_in plan h port s (j + 1) (sends_lane port stream u) most) at in
+    (none_in plan h law port s (j + 1) (sends_lane port stream u) most) at in
     grind (arith, nat_tests)
 
 -- what is On where a sub-stream is sealed is none below what was sealed there
@@ -130,10 +132,11 @@ with_rises plan h port stream ahead bytes (d ∷ ds) xs all above rises =
 pub rises : (plan : Plan) (h : History) → CauseLaw plan h → RisesIn (sealed_packets plan h)
 unfolding sealed_packets
 rises plan [] law = λ s i k x y le at_x at_y in_x in_y. absurd cc
-rises plan ((Send p bytes more trusted, v.Sealed ds) ∷ h) law =
-    let is = sealing_is plan h p bytes more trusted ds law.0 in
-    with_rises plan h is.sending.port is.sending.stream (ahead_in plan (sealed_packets plan h) (base h)) bytes ds
-    (sealed_packets plan h) (all_live plan h p bytes ds is) (all_above plan h law.1) (rises plan h law.1)
+rises plan ((e, v.Sealed ds) ∷ h) law =
+    let is = sealing_is plan h e ds law.0 in
+    with_rises plan h is.sending.port is.sending.stream (ahead_in plan (sealed_packets plan h) (base h))
+    (sent_bytes plan h e) ds (sealed_packets plan h) (all_live plan h (sending_port e) (sent_bytes plan h e) ds is)
+    (all_above plan h law.1) (rises plan h law.1)
 rises plan ((e, w) ∷ h) law = rises plan h law.1
 
 -- ---- what is On at a receiver is none below what was accepted there
@@ -219,27 +222,32 @@ rest_stays plan s from h e w none stays = stays
 none_stays : (plan : Plan) (h : History) → CauseLaw plan h → (s : SubStream) (n : ℕ) → draws h ≤ n
     → BaseStays plan s n h
 none_stays plan [] law s n le = tt
-none_stays plan ((Send p bytes more trusted, v.Sealed ds) ∷ h) law s n le =
-    let sealing = sealing_is plan h p bytes more trusted ds law.0 in
-    let grown = draws_more h (Send p bytes more trusted) (v.Sealed ds) in (
+none_stays plan ((e, v.Sealed ds) ∷ h) law s n le =
+    let sealing = sealing_is plan h e ds law.0 in
+    let grown = draws_more h e (v.Sealed ds) in (
       live_all _ plan h sealing.sending.port sealing.sending.stream ds
           (λ d live here up. absurd
           (let below = live_below plan h sealing.sending.port sealing.sending.stream d live in omega
           (arith, below, up, grown, le)))
-          (all_live plan h p bytes ds sealing),
+          (all_live plan h (sending_port e) (sent_bytes plan h e) ds sealing),
       none_stays plan h law.1 s n (omega (arith, grown, le)),
     )
-none_stays plan ((e, v.Sealed ds) ∷ h) law s n le = absurd (let send = sealed_by_send plan h e ds law.0 in cc)
 none_stays plan ((e, w) ∷ h) law s n le = let more = draws_more h e w in rest_stays plan s n h e w refl
     (none_stays plan h law.1 s n (omega (arith, more, le)))
+
+sealed_stays : (plan : Plan) (h : History) (e : Event) (ds : List SealedPacket) (s : SubStream) → is_sealing e ≡ true
+    → BaseStays plan s (base h s.link s.stream) h
+    → BaseStays plan s (base ((e, v.Sealed ds) ∷ h) s.link s.stream) ((e, v.Sealed ds) ∷ h)
+sealed_stays plan h e ds s seals stays =
+    subst (λ (n : ℕ). BaseStays plan s n ((e, v.Sealed ds) ∷ h))
+    (sym (sealing_base h e (v.Sealed ds) s.link s.stream seals)) (all_of _ (λ d here up. refl) ds, stays)
 
 pub since_base : (plan : Plan) (h : History) → CauseLaw plan h → (s : SubStream)
     → BaseStays plan s (base h s.link s.stream) h
 unfolding base
 since_base plan [] law s = tt
-since_base plan ((Send p bytes more trusted, v.Sealed ds) ∷ h) law s =
-    (all_of _ (λ d here up. refl) ds, since_base plan h law.1 s)
-since_base plan ((e, v.Sealed ds) ∷ h) law s = absurd (let send = sealed_by_send plan h e ds law.0 in cc)
+since_base plan ((e, v.Sealed ds) ∷ h) law s = sealed_stays plan h e ds s (sealed_by_sealing plan h e ds law.0)
+    (since_base plan h law.1 s)
 since_base plan ((Establish l t loss, w) ∷ h) law s = by_test (since_base plan h law.1 s)
     ((l == s.link) && (t == s.stream) && begins_keyed ((manager h).ops l t) (draws h) w)
   where

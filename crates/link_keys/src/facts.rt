@@ -2,7 +2,7 @@
 
 ghost use Rattle.link_keys.specs.Facts.{DrawsHold, FactsHold, KeysHaveCauses};
 
-/// Where each verdict is the one that is due, it is so by the rules of keys.
+/// If each verdict is the one that is due, it is so by the rules of keys.
 pub fn keys_have_causes()
     ensures { KeysHaveCauses }
 {}
@@ -12,7 +12,7 @@ pub fn facts_hold()
     ensures { FactsHold }
 {}
 
-/// All that the laws use of draws holds: one that comes to be Live has sealed nothing, those of sealed packets and of
+/// All that the laws use of draws holds: one that becomes Live has sealed nothing, those of sealed packets and of
 /// accepted units never fall, and each belongs to one key set of one stream.
 pub fn draws_hold()
     ensures { DrawsHold }

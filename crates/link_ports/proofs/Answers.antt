@@ -3,9 +3,10 @@
 -- under it, so that each check in turn sees what the history says. Their counts are the history's only while the stream
 -- has a Live key, which a draw that is On provides.
 use Rattle.link_ports.specs.Stands.{beside_at}
-use Rattle.link_ports.proofs.Terms.{◌≡◌, ℕ, ◌+◌, Bool, true, false, List, [], ◌∷◌, ◌++◌, map, Option, Some, None, Ok}
+use Rattle.link_ports.proofs.Terms.{◌≡◌, ℕ, ◌+◌, Bool, true, false, List, [], ◌∷◌, ◌++◌, Option, Some, None, Ok}
 use Rattle.link_ports.proofs.Terms.{Err, option_map, refl, ap, sym, ◌∙◌, subst, arith, if◌then◌else◌, not, ◌||◌}
-use Rattle.link_ports.proofs.Terms.{Accepted, at_sub, base, checked, Cpl, each_sub, effect_of, Failed, failed, front_of}
+use Rattle.link_ports.proofs.Terms.{Accepted, at_sub, base, checked, Cpl, each_sub, effects_of, Failed, failed}
+use Rattle.link_ports.proofs.Terms.{front_of}
 use Rattle.link_ports.proofs.Terms.{got_in, has_live_in, Held, History, holds_any, Insecure, is_allowed, is_closed}
 use Rattle.link_ports.proofs.Terms.{is_keyed, is_mixed, is_on, is_overfull, is_tagged, is_verified, key_in, key_of}
 use Rattle.link_ports.proofs.Terms.{Keys, keys_at, lane_in, live_in, LiveKey, meets_counts, mode_of, NotKeyed, Npr}
@@ -113,7 +114,7 @@ taken_is plan h port p (Some j) other live =
         ≡ (if not verified then v.Fail port p.prefix.stream p.prefix.sub fail.Tag else if not counts then v.Fail port
         p.prefix.stream p.prefix.sub fail.Order
         else v.Accepted port (unit_under h s j)
-        (map (effect_of plan h port (unit_under h s j)) (pending plan h s j ++ p ∷ [])))
+        (effects_of plan h port (unit_under h s j) (pending plan h s j ++ p ∷ [])))
     by_checks verified counts = grind arith
 
     by_room : (full m : Bool) → verdict_of (beside_at plan h) port p (if full then Failed fail.Unit

@@ -1,10 +1,9 @@
 -- The verdict of an arrival is the one that is due, and the state after it stands for the history with it.
-use Rattle.link_ports.specs.Machine.{Beside}
-use Rattle.link_ports.proofs.Terms.{unit_under}
+use Rattle.link_ports.specs.Machine.{Beside, unit_name}
 use Rattle.link_ports.specs.Stands.{beside_at}
-use Rattle.link_ports.proofs.Terms.{◌≡◌, true, List, [], ◌∷◌, ◌++◌, map, Option, Some, None, Result, Ok, Err, refl, ap}
+use Rattle.link_ports.proofs.Terms.{◌≡◌, true, List, [], ◌∷◌, ◌++◌, Option, Some, None, Result, Ok, Err, refl, ap}
 use Rattle.link_ports.proofs.Terms.{sym, ◌∙◌, subst, arith, Accepted, Arrival, arrival_due, arrive, arrive_read}
-use Rattle.link_ports.proofs.Terms.{arrived, before_tag, before_tag_of, Came, due, effect_of, Event, Failed, find}
+use Rattle.link_ports.proofs.Terms.{arrived, before_tag, before_tag_of, Came, due, effects_of, Event, Failed, find}
 use Rattle.link_ports.proofs.Terms.{has_stream, Held, History, Insecure, IsNoOperation, KeyFacts, LinkState, NotKeyed}
 use Rattle.link_ports.proofs.Terms.{Packet, packet_that_came, packet_word, pending, Plan, PortName, PortsStand, put}
 use Rattle.link_ports.proofs.Terms.{receiving, sealed_same, seals_none, settled, standing, state_after, StreamState}
@@ -56,7 +55,7 @@ module _ (plan : Plan) (facts : KeyFacts plan) (st : LinkState) (h : History) (e
       ≡ standing plan ((e, verdict_of (beside_at plan h) port p (Accepted j n ps)) ∷ h) port p.prefix.stream)
       (sym said.3)
       (λ due_is. after_accepted plan facts h e port p j n
-      (map (effect_of plan h port (unit_under h (receiving port p) j))
+      (effects_of plan h port (unit_name p j n)
       (pending plan h (receiving port p) j ++ p ∷ [])) (record {
         law = (due_is, stands.cause);
         still = still port.link p.prefix.stream;

@@ -9,11 +9,12 @@ use Rattle.link_ports.proofs.Terms.{has_live, has_live_in, has_live_out, held, H
 use Rattle.link_ports.proofs.Terms.{Keyed, KeyFacts, Keys, keys_at, lane_in, lane_out, Loaded, nat_tests, not_here, Npr}
 use Rattle.link_ports.proofs.Terms.{Off, On, operates, Plan, PortName, posted_elsewhere, posted_in, posted_sum, Pr}
 use Rattle.link_ports.proofs.Terms.{received_in, rx_slot, rx_slots, rx_standing, RxSub, same_in, sealed_packets}
-use Rattle.link_ports.proofs.Terms.{SealedList, SealedPacket, Send, sent_elsewhere, sent_in, Slots, standing}
+use Rattle.link_ports.proofs.Terms.{SealedList, SealedPacket, sent_elsewhere, sent_in, Slots, standing}
 use Rattle.link_ports.proofs.Terms.{StreamState, sub_stream_of, SubKind, SubStream, total_elsewhere, total_in, tx_slot}
 use Rattle.link_ports.proofs.Terms.{tx_slots, tx_standing, TxSub, UnitName, units, units_got, units_since, Verdict}
 use Rattle.link_ports.proofs.Terms.{with_sealed}
 use Rattle.link_verdicts.specs.declared.verdict.Verdict.TheVariants as v
+use Rattle.link_history.specs.History.{sent_bytes}
 use Rattle.link_keys.proofs.Failures.{failed_next}
 
 -- the verdict tells of packets that the port sealed on the stream
@@ -125,7 +126,7 @@ sealed_elsewhere : {A : Type 0} (plan : Plan) (h : History) (e : Event) (w : Ver
     ≡ f (sealed_packets plan h))
     → f (sealed_packets plan ((e, w) ∷ h)) ≡ f (sealed_packets plan h)
 unfolding sealed_packets
-sealed_elsewhere plan h (Send p bytes more trusted) (v.Sealed ds) port stream f none same = same bytes ds none
+sealed_elsewhere plan h e (v.Sealed ds) port stream f none same = same (sent_bytes plan h e) ds none
 sealed_elsewhere plan h _ _ port stream f none same = refl
 
 tx_slot_same : (plan : Plan) (xs ys : SealedList) (s : SubStream) (k : Bool) (a b : Keyed)

@@ -2,7 +2,10 @@
 -- machine's own cases. With a Live key on the stream the rules of sealing see what the history says: a refusal changes
 -- nothing, and packets that are sealed fit the senders, which then stand for the list with them. Without one the kept
 -- counts are 0, whatever the history counts, but the TLP is refused ahead of all counts.
-use Rattle.link_ports.specs.Stands.{beside_at}
+use Rattle.link_ports.specs.Stands.{beside_at, is_of_packets}
+use Rattle.link_ports.specs.Machine.{Stepped}
+use Rattle.link_history.specs.History.{sent_bytes}
+use Rattle.link_events.specs.declared.event.Event.{Event}
 use Rattle.link_history.specs.Terms.{t_due, owner_at}
 use Rattle.link_ports.proofs.Terms.{◌≡◌, ℕ, ◌+◌, ◌==◌, Bool, true, false, List, [], ◌∷◌, ◌++◌, length, map, Option}
 use Rattle.link_ports.proofs.Terms.{Some, None, Result, Ok, Err, refl, ap, sym, ◌∙◌, subst, arith, if◌then◌else◌, ◌&&◌}
@@ -143,27 +146,27 @@ unfolding find
 find_packets plan st ps q t = refl
 
 -- the packets of a send are sealed, and the pair is lawful
-module _ (plan : Plan) (facts : KeyFacts plan) (h : History) (s : Sending) (bytes : List ℕ) (more trusted : Bool)
+module _ (plan : Plan) (facts : KeyFacts plan) (h : History) (s : Sending) (e : Event) (on : is_of_packets e ≡ true)
     (ds : List SealedPacket)
-    (law : CauseLaw plan ((Send s.port bytes more trusted, v.Sealed ds) ∷ h)) where
-  sealed_with : sealed_packets plan ((Send s.port bytes more trusted, v.Sealed ds) ∷ h)
-      ≡ with_sealed plan (ahead_in plan (sealed_packets plan h) (base h)) bytes ds (sealed_packets plan h)
+    (law : CauseLaw plan ((e, v.Sealed ds) ∷ h)) where
+  sealed_with : sealed_packets plan ((e, v.Sealed ds) ∷ h)
+      ≡ with_sealed plan (ahead_in plan (sealed_packets plan h) (base h)) (sent_bytes plan h e) ds
+      (sealed_packets plan h)
   unfolding sealed_packets
   sealed_with = refl
 
-  still : operates (Send s.port bytes more trusted) s.port.link s.stream ≡ false
-  still = none_of_packets (Send s.port bytes more trusted) refl s.port.link s.stream
+  still : operates e s.port.link s.stream ≡ false
+  still = none_of_packets e on s.port.link s.stream
 
   after_seals : (tx : Three TxSub) → has_live_out h s.port s.stream ≡ true
       → tx ≡ each_sub (tx_at plan s.port s.stream (base h s.port.link s.stream)
-      (with_sealed plan (ahead_in plan (sealed_packets plan h) (base h)) bytes ds
+      (with_sealed plan (ahead_in plan (sealed_packets plan h) (base h)) (sent_bytes plan h e) ds
       (sealed_packets plan h))
       (λ u. after_ends s.port (lane_out s.port s.stream u) ds (keys_at h s.port (lane_out s.port s.stream u))))
       → record (standing plan h s.port s.stream) { tx = tx } ≡ standing plan
-      ((Send s.port bytes more trusted, v.Sealed ds) ∷ h) s.port s.stream
+      ((e, v.Sealed ds) ∷ h) s.port s.stream
   unfolding standing
   after_seals tx live same =
-      let e = Send s.port bytes more trusted in
       let w = v.Sealed ds in
       let now = live_out plan facts h e w law s.port s.stream still ∙ live in
       let from = facts.base_same h e w law s.port.link s.stream still in
@@ -204,53 +207,52 @@ refusal_quiet b class = grind arith
 -- ---- a send where the ports stand for the history
 
 module _ (plan : Plan) (facts : KeyFacts plan) (st : LinkState) (h : History) (stands : PortsStand plan st h)
-    (bytes : List ℕ) (more trusted : Bool) where
-  tells : (port : PortName) (w : Verdict) → is_quiet w ≡ true → w ≡ due plan h (Send port bytes more trusted)
-      → Steps plan h (Send port bytes more trusted) (w, st)
-  tells port w none is = quiet plan facts st h (Send port bytes more trusted) w stands none is
-      (none_of_packets (Send port bytes more trusted) refl)
+    (e : Event) (on : is_of_packets e ≡ true) (more trusted : Bool) where
+  tells : (port : PortName) (w : Verdict) → is_quiet w ≡ true → w ≡ due plan h e
+      → Steps plan h e (w, st)
+  tells port w none is = quiet plan facts st h e w stands none is
+      (none_of_packets e on)
 
   -- the packets are sealed
   seals : (s : Sending) (t : Tlp) (ds : List SealedPacket) → has_stream plan s.port s.stream ≡ true
       → is_some (find plan st s.port s.stream) ≡ true
-      → read_of bytes ≡ Ok t → v.Sealed ds ≡ due plan h (Send s.port bytes more trusted)
+      → read_of (sent_bytes plan h e) ≡ Ok t → v.Sealed ds ≡ due plan h e
       → has_live_out h s.port s.stream ≡ true → FitBehind plan h s ds
       → let x = standing plan h s.port s.stream in
-      Steps plan h (Send s.port bytes more trusted) (sealed_in plan st s x ds
+      Steps plan h e (sealed_in plan st s x ds
       (sealed_all (is_closed plan s.port.link s.stream) (head_bytes (header t)) (body t) ds x.tx))
   seals s t ds known found reads is live all =
-      let e = Send s.port bytes more trusted in
       let closed = is_closed plan s.port.link s.stream in
       let front = ahead_in plan (sealed_packets plan h) (base h) in
       let from = base h s.port.link s.stream in
       let xs = sealed_packets plan h in
       let keys : SubKind → Keys = λ u. keys_at h s.port (lane_out s.port s.stream u) in
       let r = sealed_all closed (head_bytes (header t)) (body t) ds (standing plan h s.port s.stream).tx in
-      let done : IsSealed plan front s.port s.stream from bytes xs keys ds r =
-      subst (λ (tx : Three TxSub). IsSealed plan front s.port s.stream from bytes xs keys ds
+      let done : IsSealed plan front s.port s.stream from (sent_bytes plan h e) xs keys ds r =
+      subst (λ (tx : Three TxSub). IsSealed plan front s.port s.stream from (sent_bytes plan h e) xs keys ds
       (sealed_all closed (head_bytes (header t)) (body t) ds tx))
       (sym (senders_before plan h s.port s.stream live))
-      (all_sealed plan closed front s.port s.stream from bytes t reads ds xs keys all) in
+      (all_sealed plan closed front s.port s.stream from (sent_bytes plan h e) t reads ds xs keys all) in
       let x : StreamState = record (standing plan h s.port s.stream) { tx = r.1 } in
       let ps : List LinkPacket = st.packets ++ map (kept_at s.port) r.0 in
       let new = put plan st s.port s.stream x in
       let law : CauseLaw plan ((e, v.Sealed ds) ∷ h) = (is, stands.cause) in
       changes plan facts st (record new { packets = ps }) h e (v.Sealed ds) s.port s.stream x stands is
-      (none_of_packets e refl) known
+      (none_of_packets e on) known
       (λ q n other. (only_out closed front s.port s.stream from xs keys ds all q n other, refl))
       (find_packets plan new ps s.port s.stream ∙ find-put plan st s.port s.stream x found)
       (λ q n other. find_packets plan new ps q n ∙ find-put_other plan st s.port s.stream x q n other)
-      (after_seals plan facts h s bytes more trusted ds law r.1 live done.senders)
+      (after_seals plan facts h s e on ds law r.1 live done.senders)
       (ap (λ (ks : List LinkPacket). ks ++ map (kept_at s.port) r.0) stands.packets
-      ∙ (done.packets ∙ ap kept_all (sym (sealed_with plan facts h s bytes more trusted ds law))))
+      ∙ (done.packets ∙ ap kept_all (sym (sealed_with plan facts h s e on ds law))))
 
   -- what the sealing rules come to
   answers : (s : Sending) (t : Tlp) → has_stream plan s.port s.stream ≡ true → is_some (find plan st s.port s.stream)
-      ≡ true → read_of bytes ≡ Ok t
+      ≡ true → read_of (sent_bytes plan h e) ≡ Ok t
       → let x = lanes_at plan h s.port s.stream in (number : ℕ) → sent_as x s number
-      ≡ due plan h (Send s.port bytes more trusted)
+      ≡ due plan h e
       → (o : Option Verdict) → first_that_holds (refusals x s.class) ≡ o
-      → Steps plan h (Send s.port bytes more trusted)
+      → Steps plan h e
       (answered plan st s t (standing plan h s.port s.stream) o (sealed_by x s number))
   answers s t known found reads number is (Some w) first =
       let x = lanes_at plan h s.port s.stream in
@@ -266,8 +268,8 @@ module _ (plan : Plan) (facts : KeyFacts plan) (st : LinkState) (h : History) (s
 
   -- a port that has no Live key on the stream refuses
   refuses : (s : Sending) (t : Tlp) (number : ℕ) → sent_as (lanes_at plan h s.port s.stream) s number
-      ≡ due plan h (Send s.port bytes more trusted)
-      → has_live_out h s.port s.stream ≡ false → Steps plan h (Send s.port bytes more trusted)
+      ≡ due plan h e
+      → has_live_out h s.port s.stream ≡ false → Steps plan h e
       (send_as plan st s t (standing plan h s.port s.stream))
   refuses s t number is none =
       let x = lanes_at plan h s.port s.stream in
@@ -283,23 +285,23 @@ module _ (plan : Plan) (facts : KeyFacts plan) (st : LinkState) (h : History) (s
       (ap (λ (o : Option Verdict). unwrap_or o (v.Sealed (sealed_by x s number)))
       (sym (refused_keyless x s.class keyless)) ∙ is))
 
-  sends_as : (s : Sending) (t : Tlp) → read_of bytes ≡ Ok t
+  sends_as : (s : Sending) (t : Tlp) → read_of (sent_bytes plan h e) ≡ Ok t
       → sent_as (lanes_at plan h s.port s.stream) s (length (sealed_packets plan h) + 1)
-      ≡ due plan h (Send s.port bytes more trusted)
+      ≡ due plan h e
       → (y : StreamState) → find plan st s.port s.stream ≡ Some y
-      → Steps plan h (Send s.port bytes more trusted) (send_as plan st s t y)
+      → Steps plan h e (send_as plan st s t y)
   sends_as s t reads is y found =
       let kept = kept_is plan st h s.port s.stream y stands found in
-      subst (λ (z : StreamState). Steps plan h (Send s.port bytes more trusted) (send_as plan st s t z)) (sym kept.same)
+      subst (λ (z : StreamState). Steps plan h e (send_as plan st s t z)) (sym kept.same)
       (by_live kept.known (has_live_out h s.port s.stream) refl)
     where
       by_live : has_stream plan s.port s.stream ≡ true → (b : Bool) → has_live_out h s.port s.stream ≡ b
-          → Steps plan h (Send s.port bytes more trusted) (send_as plan st s t (standing plan h s.port s.stream))
+          → Steps plan h e (send_as plan st s t (standing plan h s.port s.stream))
       by_live known true live =
           let x = lanes_at plan h s.port s.stream in
           let number : length st.packets ≡ length (sealed_packets plan h) = ap length stands.packets
           ∙ length-map (sealed_packets plan h) (λ (z : SealedPacket × Packet). kept_at z.0.port z.1) in
-          subst (λ (l : Lanes). Steps plan h (Send s.port bytes more trusted)
+          subst (λ (l : Lanes). Steps plan h e
           (answered plan st s t (standing plan h s.port s.stream)
           (first_that_holds (refusals l s.class)) (sealed_by l s (length st.packets + 1))))
           (sym (lanes_is plan h s.port s.stream live))
@@ -308,17 +310,18 @@ module _ (plan : Plan) (facts : KeyFacts plan) (st : LinkState) (h : History) (s
           (first_that_holds (refusals x s.class)) refl)
       by_live known false none = refuses s t (length (sealed_packets plan h) + 1) is none
 
-  by_found : (s : Sending) (t : Tlp) → read_of bytes ≡ Ok t → has_stream plan s.port s.stream ≡ true
+  by_found : (s : Sending) (t : Tlp) → read_of (sent_bytes plan h e) ≡ Ok t → has_stream plan s.port s.stream ≡ true
       → sent_as (lanes_at plan h s.port s.stream) s (length (sealed_packets plan h) + 1)
-      ≡ due plan h (Send s.port bytes more trusted)
+      ≡ due plan h e
       → (o : Option StreamState) → find plan st s.port s.stream ≡ o
-      → Steps plan h (Send s.port bytes more trusted) (send_found plan st s t o)
+      → Steps plan h e (send_found plan st s t o)
   by_found s t reads known is None found = let other = not_kept plan st h s.port s.stream stands found in absurd cc
   by_found s t reads known is (Some y) found = sends_as s t reads is y found
 
-  by_choice : (port : PortName) (t : Tlp) → read_of bytes ≡ Ok t → (c : Option ℕ) → choice plan port (header t) ≡ c
-      → due_on plan h port (header t) more trusted c ≡ due plan h (Send port bytes more trusted)
-      → Steps plan h (Send port bytes more trusted) (send_on plan (beside_at plan h) st port t more trusted c)
+  by_choice : (port : PortName) (t : Tlp) → read_of (sent_bytes plan h e) ≡ Ok t → (c : Option ℕ)
+      → choice plan port (header t) ≡ c
+      → due_on plan h port (header t) more trusted c ≡ due plan h e
+      → Steps plan h e (send_on plan (beside_at plan h) st port t more trusted c)
   by_choice port t reads None chose is = tells port (v.Plain port) refl is
   by_choice port t reads (Some stream) chose is =
       by_found (record {
@@ -331,21 +334,26 @@ module _ (plan : Plan) (facts : KeyFacts plan) (st : LinkState) (h : History) (s
       }) t reads
       (choice_known plan port (header t) stream chose) is (find plan st port stream) refl
 
-  by_reading : (port : PortName) (r : Result Tlp TlpFault) → read_of bytes ≡ r → due_read plan h port r more trusted
-      ≡ due plan h (Send port bytes more trusted)
-      → Steps plan h (Send port bytes more trusted) (send_read plan (beside_at plan h) st port r more trusted)
+  by_reading : (port : PortName) (r : Result Tlp TlpFault) → read_of (sent_bytes plan h e) ≡ r
+      → due_read plan h port r more trusted
+      ≡ due plan h e
+      → Steps plan h e (send_read plan (beside_at plan h) st port r more trusted)
   by_reading port (Err f) reads is = tells port (v.Malformed port (tlp_word f) (place_in f)) refl is
   by_reading port (Ok t) reads is = by_choice port t reads (choice plan port (header t)) refl is
 
-  pub sends : (port : PortName)
-      → Steps plan h (Send port bytes more trusted)
-      (if has_port plan port then send_read plan (beside_at plan h) st port (read_of bytes) more trusted else
-      (v.Nothing, st))
-  unfolding due
-  sends port = by_port (has_port plan port) refl
-    where
-      by_port : (b : Bool) → has_port plan port ≡ b
-          → Steps plan h (Send port bytes more trusted)
-          (if b then send_read plan (beside_at plan h) st port (read_of bytes) more trusted else (v.Nothing, st))
-      by_port true here = by_reading port (read_of bytes) refl (rw here refl)
-      by_port false none = tells port v.Nothing refl (rw none refl)
+if_steps : (plan : Plan) (h : History) (e : Event) (b : Bool) (x y : Stepped) → (b ≡ true → Steps plan h e x)
+    → (b ≡ false → Steps plan h e y) → Steps plan h e (if b then x else y)
+if_steps plan h e true x y one two = one refl
+if_steps plan h e false x y one two = two refl
+
+pub sends : (plan : Plan) → KeyFacts plan → (st : LinkState) (h : History) → PortsStand plan st h
+    → (bytes : List ℕ) (more trusted : Bool) (port : PortName)
+    → Steps plan h (Send port bytes more trusted)
+    (if has_port plan port then send_read plan (beside_at plan h) st port (read_of bytes) more trusted else
+    (v.Nothing, st))
+unfolding due
+sends plan facts st h stands bytes more trusted port =
+    let e = Send port bytes more trusted in
+    if_steps plan h e (has_port plan port) _ _
+    (λ here. by_reading plan facts st h stands e refl more trusted port (read_of bytes) refl (rw here refl))
+    (λ none. tells plan facts st h stands e refl more trusted port v.Nothing refl (rw none refl))

@@ -29,7 +29,7 @@ pub use Rattle.link_history.proofs.Tests.{eqb-refl, eqb-sym, is_same-refl, is_sa
 pub use Rattle.link_history.proofs.Tests.{same_stream, same_sub}
 pub use Rattle.link_history.specs.Cause.{CauseLaw}
 pub use Rattle.link_history.specs.Due.{Lane, Lanes, Sending, arrival_due, before_tag_of, choice, described, dump_due}
-pub use Rattle.link_history.specs.Due.{effect_of, first_that_holds, is_keyless, is_mixed, is_overfull, lane_at}
+pub use Rattle.link_history.specs.Due.{effects_of, first_that_holds, is_keyless, is_mixed, is_overfull, lane_at}
 pub use Rattle.link_history.specs.Due.{lanes_at, needs_sync, no_key, receiving, refusals, sealed_by, send_on as due_on}
 pub use Rattle.link_history.specs.Due.{send_read as due_read, sent_as, sent_under, settled, under_keys, unit_under}
 unfoldable pub use Rattle.link_history.specs.Due.{before_tag, due, is_verified}

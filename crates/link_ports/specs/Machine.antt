@@ -1,7 +1,7 @@
 -- What is kept of all links between two events, and one step.
 use Rattle.std.specs.Prelude.{true, false, not, ◌&&◌, ◌||◌, ℕ, ◌+◌, ◌-◌, ◌*◌, ◌==◌, nat_lt, nat_le, Bool, if◌then◌else◌}
 use Rattle.std.specs.Prelude.{List, [], ◌∷◌, ◌++◌, length, map, take, slice_get, slice_index, slice_set, bit_xor}
-use Rattle.std.specs.Prelude.{Option, Some, None, Result, Ok, Err}
+use Rattle.std.specs.Prelude.{Option, Some, None, is_some, Result, Ok, Err}
 use Rattle.std.specs.List.{slice_index_or}
 use Rattle.std.specs.Option.{option_and_then}
 use Rattle.ide_types.specs.declared.port.PortName.{PortName}
@@ -33,6 +33,7 @@ use Rattle.link_verdicts.specs.declared.verdict.Operation.TheVariants as op
 use Rattle.ide_types.specs.declared.status.StreamStatus.{StreamStatus}
 use Rattle.key_laws.specs.Places.{Place, sent_direction}
 use Rattle.key_laws.specs.Keys.{Touch, Program as ProgramTouch, Go as GoTouch, Stop as StopTouch, Clear as ClearTouch}
+use Rattle.key_laws.specs.Keys.{refusal_if}
 use Rattle.key_laws.specs.Operations.{Op, Idle, Work, Reach, work_of, reach_of, op_after, makes_draw}
 use Rattle.key_laws.specs.History.{status_by, worked}
 use Rattle.key_laws.specs.Due.{PortView, establish_on, refresh_on, stop_on}
@@ -125,10 +126,10 @@ send_found plan st s t None = (v.Nothing, st)
 send_found plan st s t (Some x) = send_as plan st s t x
 
 -- what is said beside the ports: by the interfaces of T of a TLP on a stream, and of events on them; by the manager of
--- what a packet of an accepted unit does
+-- what the packets of an accepted unit do
 pub record Beside : Type 0 where
   pub t : PortName → HeadView → ℕ → Bool → Bool
-  pub effect : PortName → UnitName → Packet → Effect
+  pub effects : PortName → UnitName → List Packet → List Effect
   pub answer : InterfaceEvent → Verdict
 
 abbrev pub send_on : Plan → Beside → LinkState → PortName → Tlp → Bool → Bool → Option ℕ → Stepped
@@ -158,7 +159,7 @@ verdict_of beside port p NotKeyed = v.NotKeyed port p.prefix.stream p.prefix.sub
 verdict_of beside port p (Failed cause) = v.Fail port p.prefix.stream p.prefix.sub cause
 verdict_of beside port p (Held j n) = v.Held port (unit_name p j n)
 verdict_of beside port p (Accepted j n unit) = v.Accepted port (unit_name p j n)
-    (map (beside.effect port (unit_name p j n)) unit)
+    (beside.effects port (unit_name p j n) unit)
 
 abbrev pub take_as : Plan → Beside → LinkState → PortName → Packet → StreamState → Stepped
 take_as plan beside st port p x =
@@ -184,7 +185,7 @@ arrive plan beside st (Some a) = arrive_read plan beside st a.port (cut_of a.byt
 abbrev pub packet_numbered : List LinkPacket → ℕ → Option LinkPacket
 packet_numbered xs n = if n == 0 then None else slice_get xs (n - 1)
 
--- the whole packet comes to the partner of the port that sealed it
+-- the whole packet arrives at the partner of the port that sealed it
 abbrev pub passed : LinkPacket → Option Arrival
 passed x = Some (record { port = partner x.port; bytes = x.bytes })
 
@@ -231,7 +232,7 @@ port_at side link = record { side = side; link = link }
 abbrev pub slots_of : Bool → SubKind → StreamState → Slots
 slots_of sends u x = if sends then (at_sub x.tx u).slots else (at_sub x.rx u).slots
 
--- a KEY_PROG of a Live slot is refused where the other is not a newer Live one
+-- a KEY_PROG of a Live slot is refused if the other slot holds no newer Live key
 abbrev pub is_newer : ℕ → Slot → Bool
 is_newer i (Live x) = nat_lt i x.draw
 is_newer i _ = false
@@ -253,7 +254,7 @@ live_at sends u k (Some x) = is_live (slot_in (slots_of sends u x) k)
 
 abbrev pub ports_of : Plan → LinkState → PortView
 ports_of plan st = record {
-  refuses = λ p k. refuses_at p.sends p.sub k (find plan st (port_at p.side p.link) p.stream);
+  refusal = λ p k. refusal_if (refuses_at p.sends p.sub k (find plan st (port_at p.side p.link) p.stream));
   is_live = λ p k. live_at p.sends p.sub k (find plan st (port_at p.side p.link) p.stream);
 }
 
@@ -276,7 +277,7 @@ status_at plan st side link stream = stream_status (find plan st (port_at side l
 
 -- ---- operations
 
--- the moves of touches, where the slots refuse a KEY_PROG of these sets; only the first touch may be one
+-- the moves of touches, if the slots refuse a KEY_PROG of these sets; only the first touch may be one
 abbrev pub moves_of : (Bool → Bool) → List Touch → List Move
 moves_of refuses [] = []
 moves_of refuses (ProgramTouch k j ∷ ts) = if refuses k then moves_of refuses ts else Program k j ∷ moves_of refuses ts
@@ -290,7 +291,7 @@ abbrev pub end_at : ℕ → ℕ → Bool → Side → SubKind → Place
 end_at link stream sends side u = record { side = side; link = link; stream = stream; sends = sends; sub = u }
 
 abbrev pub moves_at : PortView → Work → Reach → Place → List Move
-moves_at ports w r p = moves_of (ports.refuses p) (worked w (Some r) p)
+moves_at ports w r p = moves_of (λ k. is_some (ports.refusal p k)) (worked w (Some r) p)
 
 abbrev pub draws_after : ℕ → Work → ℕ
 draws_after next w = if w.begins && makes_draw w.operation then next + 1 else next

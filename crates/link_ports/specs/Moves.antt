@@ -30,7 +30,7 @@ key_moved_in (Program k j) keys = with_key keys k (Loaded j)
 key_moved_in (Go k) keys = with_key keys k (started (key_in keys k))
 key_moved_in (Halt k) keys = with_key keys k Off
 
--- the other set at a sender's GO: it stays where a unit is unfinished under its draw
+-- the other set at a sender's GO: it stays if a unit is unfinished under its draw
 abbrev pub left_by : (ℕ → Bool) → Keyed → Keyed
 left_by busy (On i) = if busy i then On i else Off
 left_by busy a = Off

@@ -14,7 +14,7 @@ use Rattle.key_laws.specs.Keys.{Keyed, Off, Loaded, On, Keys}
 use Rattle.link_history.specs.History.{keys_at, SealedList, sealed_packets, sent_in, pending, units_got, got_since}
 use Rattle.link_history.specs.History.{failed, has_live_out, has_live_in, posted_count, waits, total_in, units_since}
 use Rattle.link_history.specs.Terms.{t_due, owner_at}
-use Rattle.link_history.specs.Due.{due, effect_of}
+use Rattle.link_history.specs.Due.{due, effects_of}
 use Rattle.link_history.specs.Cause.{CauseLaw}
 use Rattle.link_history.specs.KeyFacts.{KeyFacts}
 use Rattle.link_ports.specs.Stream.{Slot, Empty, Programmed, Armed, Live, LiveKey, Slots, TxSub, RxSub, StreamState}
@@ -57,7 +57,7 @@ tx_standing plan h port s = record {
 
 -- ---- receivers
 
--- the units that were got under a draw, and what is held for the next; nothing where the stream failed
+-- the units that were got under a draw, and what is held for the next; nothing if the stream failed
 abbrev pub receiving_key : Plan → History → PortName → SubStream → ℕ → LiveKey
 receiving_key plan h port s j =
     record {
@@ -118,7 +118,7 @@ pub record StandsFor (plan : Plan) (st : LinkState) (h : History) : Type 0 where
 abbrev pub beside_at : Plan → History → Beside
 beside_at plan h = record {
   t = λ port head stream trusted. t_due plan h port port.side (owner_at plan port.link head) stream trusted;
-  effect = effect_of plan h;
+  effects = effects_of plan h;
   answer = λ e. due plan h (event.Interface e);
 }
 

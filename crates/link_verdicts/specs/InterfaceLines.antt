@@ -1,4 +1,4 @@
--- The words of what events on device interfaces and on trusted memory come to.
+-- The words of the verdicts of events on device interfaces and on trusted memory.
 use Rattle.std.specs.Prelude.{◌<◌, ◌^◌, List, [], ◌∷◌, codes}
 use Rattle.std.specs.Fmt.{decimal}
 use Rattle.hex.specs.Hex.{encode_lower, IsBytes}

@@ -107,7 +107,7 @@ IsOperationRefusal (RefusedBusy operation) = Unit {0}
 IsOperationRefusal (RefusedUnitOpen sub) = Unit {0}
 IsOperationRefusal _ = ⊥
 
--- of an operation on a stream that came to its end or lost a message
+-- of an operation on a stream that ended or lost a message
 abbrev pub IsOutcome : Verdict → Type 0
 IsOutcome (Established link stream draw) = Unit {0}
 IsOutcome (Refreshed link stream draw) = Unit {0}
@@ -116,7 +116,7 @@ IsOutcome (LostRequest exchange) = Unit {0}
 IsOutcome (LostReply exchange) = Unit {0}
 IsOutcome _ = ⊥
 
--- a verdict's line behind its event's number
+-- a verdict's line after its event's number
 abbrev pub line_of : ℕ → Verdict → Text
 line_of number v = decimal number ++ joined (verdict_words v)
 

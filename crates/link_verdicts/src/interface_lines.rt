@@ -1,4 +1,4 @@
-//! The line of what an event on a device interface or on trusted memory comes to.
+//! The line of the verdict of an event on a device interface or on trusted memory.
 
 ghost use Rattle.std.specs.Prelude.{◌≡◌, ◌++◌, IfOk, string_bytes};
 ghost use Rattle.std.specs.Fmt.{decimal};

@@ -1,4 +1,4 @@
-//! The lines of what events on device interfaces and on trusted memory come to.
+//! The lines of the verdicts of events on device interfaces and on trusted memory.
 
 use crate::tests::shows;
 use crate::*;

@@ -1,5 +1,5 @@
-//! The verdicts that events come to, and their lines: each verdict has one line, and two verdicts with one line are
-//! equal (this profile).
+//! The verdicts of events, and their lines: each verdict has one line, and two verdicts with one line are equal (this
+//! profile).
 #![tactic(auto)]
 
 mod interface_lines;

@@ -271,7 +271,7 @@ fn arrival_text(alloc: Global, number: u64, verdict: &Verdict) -> Result<String,
     }
 }
 
-/// The line of a verdict behind its event's number, from 1, with its line feed (this profile).
+/// The line of a verdict after its event's number, from 1, with its line feed (this profile).
 pub fn line(alloc: Global, number: u64, verdict: &Verdict) -> Result<Vec<u8>, Memory>
     ensures { IfOk result (λ text. text.items ≡ line_of number verdict.now) }
 {

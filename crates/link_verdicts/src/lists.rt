@@ -31,7 +31,7 @@ impl SealedPackets {
         }
     }
 
-    /// Puts a packet behind the others.
+    /// Appends a packet.
     pub fn push(&mut self, packet: SealedPacket)
         requires { length self.old < 3 }
         ensures { self.new ≡ self.old ++ packet ∷ [] }
@@ -55,7 +55,7 @@ impl SealedPackets {
     }
 }
 
-/// What each packet of an accepted unit came to, in order; a unit has at most 8.
+/// The effect of each packet of an accepted unit, in order; a unit has at most 8.
 #[derive(Debug, Drop)]
 pub struct Effects {
     effects: ArrayVec<Effect, 8>,
@@ -80,7 +80,7 @@ impl Effects {
         }
     }
 
-    /// Puts an effect behind the others.
+    /// Appends an effect.
     pub fn push(&mut self, effect: Effect)
         requires { length self.old < 8 }
         ensures { self.new ≡ self.old ++ effect ∷ [] }

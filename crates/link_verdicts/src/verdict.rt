@@ -1,11 +1,11 @@
-//! What each event of a script comes to.
+//! The verdict of each event of a script.
 
 use crate::{Effects, SealedPackets};
 use ide_types::{Bytes, FailCause, FaultWord, PortName, StreamStatus, SubKind};
 use interface_words::InterfaceVerdict;
 
-/// A sealed packet: its number over the run, from 1, and what its prefix says (PCI Express Base 6.0
-/// section 6.33).
+/// A sealed packet: its number over the run, from 1, the port that sealed it, and what its prefix says: `posted` is the
+/// posted count, `sync` marks a sync packet (PCI Express Base 6.0 section 6.33).
 #[derive(Clone, Copy, Debug, Default, PartialEq, Eq)]
 pub struct SealedPacket {
     pub number: u64,
@@ -15,11 +15,11 @@ pub struct SealedPacket {
     pub draw: u32,
     /// The unit's counter under its draw, from 1.
     pub unit: u64,
-    /// The unit's last packet, which carries the tag.
+    /// Whether it is its unit's last packet, which carries the tag.
     pub m: bool,
-    /// The key set.
+    /// The key set: 1 if true.
     pub k: bool,
-    /// Trusted.
+    /// Whether it is trusted.
     pub t: bool,
     pub posted: u8,
     pub sync: bool,
@@ -34,9 +34,9 @@ pub struct UnitName {
     pub unit: u64,
 }
 
-/// Why a memory write at a host's port was not applied: it was not trusted, its requester is no running
-/// interface, came on another stream than its own, or under a key from before it started, the bytes are not
-/// in one region of the trusted memory, or they cross 4 KiB (this profile).
+/// Why a memory write at a host's port was not applied, the first that holds: it is not trusted; its requester is no
+/// running interface; it came on another stream than that interface's own; its key is from before the interface
+/// started; its bytes are not in one region of the trusted memory; they cross a 4 KiB boundary (this profile).
 #[derive(Clone, Copy, Debug, PartialEq, Eq)]
 pub enum BlockCause {
     NotTrusted,
@@ -47,7 +47,8 @@ pub enum BlockCause {
     Crosses,
 }
 
-/// What a packet of an accepted unit came to.
+/// The effect of a packet of an accepted unit: `Sync` of a sync packet, `Applied` or `Blocked` of a memory write at a
+/// host's port, `Delivered` of any other TLP (this profile).
 #[derive(Clone, Copy, Debug, Default, PartialEq, Eq)]
 pub enum Effect {
     #[default]
@@ -65,7 +66,7 @@ pub enum Operation {
     Stop,
 }
 
-/// What an event comes to. `place` is the first byte, from 0, at which no spelling goes on.
+/// The verdict of an event. `place` is the first byte, from 0, at which no spelling goes on.
 #[derive(Debug, Drop)]
 pub enum Verdict {
     /// The event names what does not exist.
@@ -93,7 +94,7 @@ pub enum Verdict {
         sub: SubKind,
         units: u64,
     },
-    /// Sealed, with the sync packets ahead of it.
+    /// Sealed: the sync packets that went first, and the TLP's packet.
     Sealed {
         packets: SealedPackets,
     },
@@ -143,30 +144,32 @@ pub enum Verdict {
         stream: u8,
         draw: u32,
     },
-    /// The stream has no keys any more.
+    /// The stream has no keys.
     Stopped {
         link: u8,
         stream: u8,
     },
-    /// The request of this exchange was lost, and the operation stays there.
+    /// The request of this exchange was lost: an operation on a stream stays there, one on an interface is over.
     LostRequest {
         exchange: u32,
     },
-    /// The reply of this exchange was lost, and the operation stays there.
+    /// The reply of this exchange was lost: an operation on a stream stays there, one on an interface is over.
     LostReply {
         exchange: u32,
     },
-    /// The stream has keys, or is being given them.
+    /// Of an establish: the stream has keys.
     RefusedNotIdle,
-    /// The stream's state at the host's port is another one.
+    /// Of a refresh, and of a lock or a start of an interface: the stream is not Secure at the host's port, but in this
+    /// state.
     RefusedNotSecure {
         status: StreamStatus,
     },
-    /// All draws of the pool were made; so many.
+    /// All draws of the pool were made: this many.
     RefusedPoolEmpty {
         draws: u32,
     },
-    /// The device refused this exchange with the code, and the operation stays there.
+    /// The device refused this exchange with the code: an operation on a stream stays there, one on an interface is
+    /// over.
     RefusedDevice {
         exchange: u32,
         code: u32,
@@ -175,7 +178,8 @@ pub enum Verdict {
     RefusedBusy {
         operation: Operation,
     },
-    /// The key set that is next still seals an unfinished unit of the sub-stream.
+    /// Of a refresh: the key set that is to be given still seals an unfinished unit of the sub-stream at the host's
+    /// port.
     RefusedUnitOpen {
         sub: SubKind,
     },
@@ -184,7 +188,7 @@ pub enum Verdict {
         packet: u64,
         bytes: Bytes,
     },
-    /// The link began again.
+    /// The link was reset.
     Reset {
         link: u8,
     },
@@ -195,7 +199,7 @@ pub enum Verdict {
         host: StreamStatus,
         device: StreamStatus,
     },
-    /// What an event on a device interface or on trusted memory comes to.
+    /// The verdict of an event on a device interface or on trusted memory.
     Interface {
         verdict: InterfaceVerdict,
     },

@@ -3,8 +3,9 @@ use Rattle.link_walks.proofs.Terms.{◌≡◌, Bool, arith, true, ℕ, List, Pla
 use Rattle.link_walks.proofs.Terms.{lane_key, Host, ◌+◌, [], ◌<◌, subst, ◌∷◌, ◌/◌, Option, length, inl, inr, ◌*◌}
 use Rattle.link_walks.proofs.Terms.{is_some, All, reach_of, Manager}
 use Rattle.link_walks.proofs.Terms.{operated, manager_after, get_or-map, get_or_past, length-map, cases_lt, IsKey}
-use Rattle.link_walks.proofs.Terms.{FitsPlan, FitsStream, Loss, Verdict, KeyPlan, History, draws, status_of, PortView}
-use Rattle.link_walks.proofs.Terms.{ports_at, establish_on, refresh_on}
+use Rattle.link_walks.proofs.Terms.{FitsPlan, FitsStream, Verdict, KeyPlan, History, draws, status_of, PortView}
+use Rattle.link_walks.proofs.Terms.{ports_at, performed, work_of, op_of}
+use Rattle.key_laws.specs.Due.{may_establish, may_refresh, unless_open}
 use Rattle.link_walks.proofs.Terms.{streams_by_link, streams_of, with_id}
 use Rattle.key_laws.specs.History.{manager}
 use Rattle.key_laws.specs.Due.{due}
@@ -20,18 +21,19 @@ use Rattle.link_verdicts.specs.declared.verdict.Verdict.TheVariants as v
 
 -- ---- an event draws only where the pool has keys
 
-establish_fits : (plan : KeyPlan) (known : Bool) (m : Manager) (ports : PortView) (l s : ℕ) (loss : Option Loss)
-    (x : Verdict) → length m.begun ≤ plan.pool
-    → x ≡ (if known then establish_on plan (m.ops l s) (length m.begun) ports l s loss else v.Nothing)
+establish_fits : (plan : KeyPlan) (known : Bool) (m : Manager) (l s : ℕ) (performed x : Verdict)
+    → length m.begun ≤ plan.pool
+    → x ≡ (if known then may_establish plan (length m.begun) (m.ops l s) performed else v.Nothing)
     → length (operated m op.Establish l s (reach_of op.Establish x)).begun ≤ plan.pool
-establish_fits plan known m ports l s loss x le is = grind (arith, nat_tests)
+establish_fits plan known m l s performed x le is = grind (arith, nat_tests)
 
 refresh_fits : (plan : KeyPlan) (known : Bool) (m : Manager) (ports : PortView) (host : StreamStatus) (l s : ℕ)
-    (loss : Option Loss) (x : Verdict)
+    (set : Bool) (performed x : Verdict)
     → length m.begun ≤ plan.pool
-    → x ≡ (if known then refresh_on plan (m.ops l s) (length m.begun) ports host l s loss else v.Nothing)
+    → x ≡ (if known then may_refresh plan (length m.begun) (m.ops l s) host (unless_open ports l s set) performed
+    else v.Nothing)
     → length (operated m op.Refresh l s (reach_of op.Refresh x)).begun ≤ plan.pool
-refresh_fits plan known m ports host l s loss x le is = grind (arith, nat_tests)
+refresh_fits plan known m ports host l s set performed x le is = grind (arith, nat_tests)
 
 stop_fits : (m : Manager) (l s top : ℕ) (r : Option Reach) → length m.begun ≤ top
     → length (operated m op.Stop l s r).begun ≤ top
@@ -45,10 +47,13 @@ pub draws_fit : (plan : KeyPlan) (h : History) → CauseLaw plan h → draws h �
 unfolding manager due
 draws_fit plan [] cause = omega arith
 draws_fit plan ((event.Establish l s loss, x) ∷ h) cause =
-    establish_fits plan (plan.has_stream l s) (manager h) (ports_at h) l s loss x (draws_fit plan h cause.2) cause.0
+    establish_fits plan (plan.has_stream l s) (manager h) l s
+    (performed (ports_at h) l s loss (work_of op.Establish (op_of h l s) (draws h))) x (draws_fit plan h cause.2)
+    cause.0
 draws_fit plan ((event.Refresh l s loss, x) ∷ h) cause =
-    refresh_fits plan (plan.has_stream l s) (manager h) (ports_at h) (status_of h Host l s) l s loss x
-    (draws_fit plan h cause.2) cause.0
+    let w = work_of op.Refresh (op_of h l s) (draws h) in
+    refresh_fits plan (plan.has_stream l s) (manager h) (ports_at h) (status_of h Host l s) l s w.set
+    (performed (ports_at h) l s loss w) x (draws_fit plan h cause.2) cause.0
 draws_fit plan ((event.Stop l s loss, x) ∷ h) cause = stop_fits (manager h) l s plan.pool (reach_of op.Stop x)
     (draws_fit plan h cause.2)
 draws_fit plan ((event.Reset link, x) ∷ h) cause = reset_fits (manager h) link plan.pool x (draws_fit plan h cause.2)

@@ -3,7 +3,8 @@ use Rattle.link_walks.proofs.Terms.{◌≡◌, arith, true, ℕ, List, ◌++◌,
 use Rattle.link_walks.proofs.Terms.{sym, Device, Host, StreamState, ◌+◌, [], suc, refl, ◌-◌, ap, Some, subst, ◌∷◌}
 use Rattle.link_walks.proofs.Terms.{last_of, port_at, CallsAreMoves}
 use Rattle.link_walks.proofs.Terms.{DrawsApart, ◌/◌, Option, ◌%◌, None, length, nat_lt, reach_of, work_of, sub_from}
-use Rattle.link_walks.proofs.Terms.{requests_called, FitsPlan, Loss, Verdict, History, is_refused, comes_to, stays_at}
+use Rattle.link_walks.proofs.Terms.{requests_called, FitsPlan, Loss, Verdict, History, refusal_at, performed}
+use Rattle.link_walks.proofs.Terms.{stays, unwrap_or}
 use Rattle.link_walks.proofs.Terms.{key_plan, LinkState, find, find_op}
 use Rattle.link_walks.proofs.Terms.{ports_of, status_at, begun_requests, AreMoves, Side, Pool, draws_in, true-lt}
 use Rattle.link_walks.proofs.Terms.{Refusal, Request, StreamView, draws_now, refusal_of, begun_stream, begun_pool}
@@ -59,7 +60,7 @@ module _ (plan : Plan) (st : LinkState) (h : History) (operation : Operation) (l
 
   abbrev told : Operation → ManagerWalk
   told o =
-      walk (last_of o + 1 - w.first) (answers loss (is_refused (ports_of plan st) o w.set e.keeper.link e.keeper.id))
+      walk (last_of o + 1 - w.first) (answers loss (refusal_at (ports_of plan st) o w.set e.keeper.link e.keeper.id))
       (begun_stream w (pool_of plan st) e.keeper)
 
   abbrev verdict : Verdict
@@ -67,7 +68,7 @@ module _ (plan : Plan) (st : LinkState) (h : History) (operation : Operation) (l
 
   is_due : (r : Option Refusal) → refusal_of operation e.keeper.op (host_of e.host) (pool_of plan st) ≡ r
       → verdict_of operation e.keeper.link e.keeper.id loss (manager_walked r e.keeper (told operation)).outcome
-      ≡ verdict
+      ≡ Some verdict
   is_due r is =
       let due = all_due operation (key_plan plan) (ports_of plan st) (status_at plan st Host e.keeper.link e.keeper.id)
       (host_of e.host)
@@ -81,9 +82,8 @@ module _ (plan : Plan) (st : LinkState) (h : History) (operation : Operation) (l
   refused : (r : Refusal) → refusal_of operation e.keeper.op (host_of e.host) (pool_of plan st) ≡ Some r
       → IsJoined plan st operation loss (pool_of plan st) e (record { outcome = outcome.Refused r; ends = e })
   refused r is =
-      let none : reach_of operation verdict ≡ None =
-      sym (ap (reach_of operation) (is_due (Some r) is)) ∙ refused_reach operation e.keeper.op (host_of e.host)
-      (pool_of plan st) loss r is in
+      let none : reach_of operation verdict ≡ None = refused_reach operation e.keeper.op (host_of e.host)
+      (pool_of plan st) loss r verdict is (is_due (Some r) is) in
       record {
         verdict_is = is_due (Some r) is;
         op_is = rw none;
@@ -113,7 +113,7 @@ module _ (plan : Plan) (st : LinkState) (h : History) (operation : Operation) (l
 
   -- what the walk comes to
   comes_is : Comes w.operation w.set w.draw w.first w.begins e.keeper.link e.keeper.id loss e.keeper.op
-      (stays_at (ports_of plan st) e.keeper.link e.keeper.id loss w) (told w.operation)
+      (stays (ports_of plan st) e.keeper.link e.keeper.id loss w) (told w.operation)
   comes_is =
       walk_comes w.operation w.set w.draw w.first w.begins (work_fits operation e.keeper.op st.draws)
       (ports_of plan st) e.keeper.link e.keeper.id loss e.keeper.op (begun_stream w (pool_of plan st) e.keeper)
@@ -141,16 +141,15 @@ module _ (plan : Plan) (st : LinkState) (h : History) (operation : Operation) (l
               (sends_in Device (lane / 3)) (sub_from (lane % 3)));
         }
 
-    verdict_comes : comes_to e.keeper.link e.keeper.id w loss
-        (stays_at (ports_of plan st) e.keeper.link e.keeper.id loss w) ≡ verdict
+    verdict_comes : performed (ports_of plan st) e.keeper.link e.keeper.id loss w ≡ verdict
     verdict_comes =
         let same = same_operation operation e.keeper.op st.draws in
-        sym comes_is.verdict_is ∙
-        ((λ i. verdict_of (same i) e.keeper.link e.keeper.id loss (told (same i)).outcome) ∙ is_due None free)
+        ap (λ (o : Option Verdict). unwrap_or o verdict) (sym comes_is.verdict_is ∙
+        ((λ i. verdict_of (same i) e.keeper.link e.keeper.id loss (told (same i)).outcome) ∙ is_due None free))
 
     rest_comes : (more : ℕ) → 12 ≤ more
         → Rest plan w e.keeper.id w.first (begun_from plan st operation e)
-        (comes_to e.keeper.link e.keeper.id w loss (stays_at (ports_of plan st) e.keeper.link e.keeper.id loss w))
+        (performed (ports_of plan st) e.keeper.link e.keeper.id loss w)
         (told w.operation)
         (walk_on (suc more) loss requester (begun_from plan st operation e))
     rest_comes more enough =
@@ -183,7 +182,7 @@ module _ (plan : Plan) (st : LinkState) (h : History) (operation : Operation) (l
         record {
           verdict_is = ap (verdict_of operation link id loss) rest.outcome_is ∙
               (sym (λ i. verdict_of (same i) link id loss (told w.operation).outcome)
-              ∙ (comes_is.verdict_is ∙ verdict_comes));
+              ∙ (comes_is.verdict_is ∙ ap Some verdict_comes));
           op_is = ap (λ (s : StreamView). s.op) rest.keeper_is ∙
               (comes_is.op_is ∙ (λ i. op_by e.keeper.op w (reach_of (same i) (verdict_comes i))));
           host_is = rw reached (rest.host_is ∙

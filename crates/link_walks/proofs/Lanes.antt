@@ -2,7 +2,7 @@
 use Rattle.link_walks.proofs.Terms.{◌≡◌, Bool, arith, true, SubKind, ℕ, false, nat_tests, Operation, end_at, Slots, ◌≤◌}
 use Rattle.link_walks.proofs.Terms.{makes_draw, Device, slot_pair, StreamState, ◌+◌, zero, suc, refl, ◌-◌, Place, ◌<◌}
 use Rattle.link_walks.proofs.Terms.{last_of, slots_of, key_slot}
-use Rattle.link_walks.proofs.Terms.{Slot, ◌/◌, ◌%◌, inl, inr, sub_from, cases_lt, PortView, is_refused, slot_in}
+use Rattle.link_walks.proofs.Terms.{Slot, ◌/◌, ◌%◌, inl, inr, sub_from, cases_lt, PortView, refusal_at, slot_in, None}
 use Rattle.link_walks.proofs.Terms.{is_empty, sends_in, slots_at, exchange_of}
 use Rattle.key_slots.specs as pair
 use Rattle.link_verdicts.specs.declared.verdict.Operation.TheVariants as op
@@ -75,10 +75,10 @@ turn op.Stop set n least most = elim (cases_lt n 7) [
 -- only a KEY_PROG may be refused, by its lane's place
 pub put_refused : (ports : PortView) (o : Operation) (set : Bool) (link stream : ℕ) → makes_draw o ≡ true → (lane : ℕ)
     → lane < 6
-    → is_refused ports o set link stream (first_program o + lane) ≡ ports.refuses (lane_place link stream lane) set
+    → refusal_at ports o set link stream (first_program o + lane) ≡ ports.refusal (lane_place link stream lane) set
 put_refused ports o set link stream draws lane lt = grind (arith, nat_tests)
 
 pub go_refused : (ports : PortView) (o : Operation) (set : Bool) (link stream : ℕ) → makes_draw o ≡ true → (lane : ℕ)
     → lane < 6
-    → is_refused ports o set link stream (first_program o + (6 + lane)) ≡ false
+    → refusal_at ports o set link stream (first_program o + (6 + lane)) ≡ None
 go_refused ports o set link stream draws lane lt = grind (arith, nat_tests)

@@ -3,7 +3,7 @@ use Rattle.link_walks.proofs.Terms.{◌≡◌, Bool, arith, true, ℕ, List, if�
 use Rattle.link_walks.proofs.Terms.{is_only_live, StreamState, [], refl, ap, ◌<◌, Some, ◌∷◌, called, ◌/◌, Option, ◌%◌}
 use Rattle.link_walks.proofs.Terms.{None, Ok, Err, sub_from, IsKey}
 use Rattle.link_walks.proofs.Terms.{is_empty, SlotPair, is_one, same-true, sends_in, pair_at, came_to, shown_stream}
-use Rattle.link_walks.proofs.Terms.{port_called, judged_bytes, selector_of, Judged, Expected, Refused}
+use Rattle.link_walks.proofs.Terms.{port_called, judged_bytes, selector_of, Judged, Expected, carried_as, refusal_if}
 use Rattle.key_slots.specs.{slot_in}
 use Rattle.ide_km.specs.declared.object.KmView.{KmView}
 use Rattle.ide_km.specs.declared.object.KmView.TheVariants.{Query, KeyProg, KpAck, SetGo, SetStop, GoStopAck}
@@ -66,7 +66,7 @@ answers : (requester id sel : ℕ) (key : List ℕ) (place : Place) (k draw : �
     → let request = KeyProg id sel 0 key 1 in
     judged_bytes request (bytes_of
     (reply_for requester request (Some (Program place k key draw (if b then Err (OnlyLive key) else Ok tt)))))
-    ≡ (if b then Refused 3 else Expected)
+    ≡ carried_as None (refusal_if b)
 answers requester id sel key place k draw small low true = rw
     (replied (KeyProg id sel 0 key 1) (KpAck id 3 sel 0) (omega arith), same-true id, same-true sel)
 answers requester id sel key place k draw small low false = rw
@@ -76,7 +76,7 @@ pub program_comes : (requester draw id : ℕ) (set : Bool) (lane : ℕ) (key : L
     → lane < 6 → IsKey key
     → came_to requester (KeyProg id (selector_of set lane) 0 key 1) id draw x
     ≡ record {
-      judged = if is_only_live (lane_pair lane x) set then Refused 3 else Expected;
+      judged = carried_as None (refusal_if (is_only_live (lane_pair lane x) set));
       device = lane_called lane
           (stream.Program set key draw) x;
     }

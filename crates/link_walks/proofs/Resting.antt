@@ -6,20 +6,21 @@ use Rattle.link_walks.proofs.Terms.{◌≡◌, Bool, arith, true, ℕ, List, ◌
 use Rattle.link_walks.proofs.Terms.{Operation, ◌≤◌, ◌∙◌, sym, Reach, makes_draw, is_within, StreamCall, Host}
 use Rattle.link_walks.proofs.Terms.{StreamState, ◌+◌, ◌==◌, [], zero, suc}
 use Rattle.link_walks.proofs.Terms.{refl, ◌-◌, ap, work, exchange_call, exchanges_called, all_called, host_go, ◌&&◌}
-use Rattle.link_walks.proofs.Terms.{◌<◌, Some, subst, ◌∷◌, last_of, ◌||◌, Option, None, reach_of, Op, op_standing}
+use Rattle.link_walks.proofs.Terms.{◌<◌, Some, subst, ◌∷◌, last_of, Option, None, reach_of, Op, op_standing}
 use Rattle.link_walks.proofs.Terms.{reach, op_after, requests_called, Loss}
-use Rattle.link_walks.proofs.Terms.{Verdict, PortView, comes_to, is_lost, first_from, done, different-false, Local}
+use Rattle.link_walks.proofs.Terms.{Verdict, PortView, lost_in, cut_at, carried_as, option_or, first_from}
+use Rattle.link_walks.proofs.Terms.{done, different-false, Local}
 use Rattle.link_walks.proofs.Terms.{go_requests, StreamView, asked_in, outcome_of, taken_stream, taken_calls}
 use Rattle.link_walks.proofs.Terms.{shown_at_end, ManagerWalk, answers, walk}
 use Rattle.link_walks.proofs.Terms.{continued, StreamEnds, walk_on, ends_after, Exchanged, unless_lost, Walked, goes_on}
 use Rattle.link_walks.proofs.Terms.{HasKeys, KeysKept, KeysKeptIn, exchange_of, WireKeys, is_last_receiver_go, Judged}
 use Rattle.link_walks.proofs.Terms.{Expected, Refused, Lost}
 use Rattle.tsm_host.specs.declared.operation.Outcome.{Outcome}
-use Rattle.tsm_host.proofs.Walks.{WorkFits}
+use Rattle.tsm_host.proofs.Walks.{WorkFits, ends_as}
 use Rattle.link_verdicts.specs.declared.verdict.Verdict.TheVariants as v
 use Rattle.tsm_host.specs.declared.operation.Outcome.TheVariants as outcome
 use Rattle.link_walks.proofs.Lanes.{first_program}
-use Rattle.link_walks.proofs.Walking.{asked_of, denies, Knows, IsNext, came_is, next_is}
+use Rattle.link_walks.proofs.Walking.{asked_of, denial, Knows, IsNext, came_is, next_is}
 
 -- ---- lists of calls
 
@@ -100,14 +101,13 @@ pub record Rest (plan : Plan) (w : Work) (id n : ℕ) (e : StreamEnds) (verdict 
 
 -- what holds of an exchange that is lost on either way, of one that is refused, and of any other
 by_fate : (P : Verdict → Judged → Exchanged → Type 0) (link id : ℕ) (w : Work) (loss : Option Loss) (n : ℕ)
-    (rest : Option ℕ) (r : Bool) (came : Exchanged)
+    (rest : Option Verdict) (r : Option ℕ) (came : Exchanged)
     (x : StreamState)
     → P (v.LostRequest n) Lost (record { judged = Lost; device = x })
     → P (v.LostReply n) Lost (record { judged = Lost; device = came.device })
-    → (r ≡ true → P (v.RefusedDevice n 3) (Refused 3) came) →
-    (r ≡ false → P (comes_to link id w loss rest) Expected came)
-    → P (comes_to link id w loss (if is_lost loss n || r then Some n else rest))
-    (if is_lost loss n then Lost else if r then Refused 3 else Expected)
+    → ((status : ℕ) → r ≡ Some status → P (v.RefusedDevice n status) (Refused status) came)
+    → (r ≡ None → P (ends_as link id w rest) Expected came)
+    → P (ends_as link id w (option_or (cut_at (lost_in loss n) r n) rest)) (carried_as (lost_in loss n) r)
     (unless_lost loss n came x)
 by_fate P link id w loss n rest r came x request reply refused onward = grind arith
 
@@ -148,18 +148,17 @@ module _ (plan : Plan) (ports : PortView) (w : Work) (link id requester : ℕ) (
   told n j k s =
       let a = asked_of w n in
       continued (outcome_of a j) (taken_stream a j s)
-      (walk k (answers loss (denies ports w link id)) (taken_stream a j s))
+      (walk k (answers loss (denial ports w link id)) (taken_stream a j s))
 
   abbrev walked : ℕ → Exchanged → ℕ → StreamEnds → Walked
   walked n x more e = let a = asked_of w n in goes_on (outcome_of a x.judged) (ends_after a x e)
       (walk_on more loss requester (ends_after a x e))
 
-  abbrev answered : ℕ → Bool → StreamEnds → Exchanged
-  answered n r e = record
-      { judged = if r then Refused 3 else Expected; device = all_called (exchange_call plan w n) e.device }
+  abbrev answered : ℕ → Option ℕ → StreamEnds → Exchanged
+  answered n r e = record { judged = carried_as None r; device = all_called (exchange_call plan w n) e.device }
 
   abbrev after : ℕ → StreamEnds → StreamEnds
-  after n e = ends_after (asked_of w n) (answered n false e) e
+  after n e = ends_after (asked_of w n) (answered n None e) e
 
   -- what is known behind an exchange tells what is known from it on
   back : (n : ℕ) (e : StreamEnds) → IsNext plan w id before n e → 1 ≤ n → n ≤ last_of w.operation
@@ -184,7 +183,7 @@ module _ (plan : Plan) (ports : PortView) (w : Work) (link id requester : ℕ) (
 
   -- behind the last exchange
   ends : (n more k : ℕ) (e : StreamEnds) → IsNext plan w id before n e → 1 ≤ n → n ≡ last_of w.operation
-      → Rest plan w id n e (done link id w) (told n Expected k e.keeper) (walked n (answered n false e) more e)
+      → Rest plan w id n e (done link id w) (told n Expected k e.keeper) (walked n (answered n None e) more e)
   ends n more k e at least same =
       let last : (n == last_of w.operation) ≡ true = grind (arith, nat_tests) in
       let next = after n e in
@@ -197,24 +196,24 @@ module _ (plan : Plan) (ports : PortView) (w : Work) (link id requester : ℕ) (
   -- behind another one the walk goes on
   further : (n more k : ℕ) (e : StreamEnds) → IsNext plan w id before n e → 1 ≤ n → n < last_of w.operation
       → (verdict : Verdict) → let next = after n e in
-      Rest plan w id (n + 1) next verdict (walk k (answers loss (denies ports w link id)) next.keeper)
+      Rest plan w id (n + 1) next verdict (walk k (answers loss (denial ports w link id)) next.keeper)
       (walk_on more loss requester next)
-      → Rest plan w id n e verdict (told n Expected k e.keeper) (walked n (answered n false e) more e)
+      → Rest plan w id n e verdict (told n Expected k e.keeper) (walked n (answered n None e) more e)
   further n more k e at least less verdict rest =
       let other = different-false n (last_of w.operation) less in rw other
       (rw other at (back n e at least (omega (arith, less)) _ _ _ rest))
 
   -- one exchange, where the rest is known
   steps : (n more k : ℕ) (e : StreamEnds) → IsNext plan w id before n e → 1 ≤ n → n ≤ last_of w.operation
-      → (rest : Option ℕ)
-      → (denies ports w link id n ≡ false → Rest plan w id n e (comes_to link id w loss rest)
+      → (rest : Option Verdict)
+      → (denial ports w link id n ≡ None → Rest plan w id n e (ends_as link id w rest)
       (told n Expected k e.keeper)
-      (walked n (answered n false e) more e))
-      → Rest plan w id n e (comes_to link id w loss
-      (if is_lost loss n || denies ports w link id n then Some n else rest))
-      (walk (suc k) (answers loss (denies ports w link id)) e.keeper) (walk_on (suc more) loss requester e)
+      (walked n (answered n None e) more e))
+      → Rest plan w id n e
+      (ends_as link id w (option_or (cut_at (lost_in loss n) (denial ports w link id n) n) rest))
+      (walk (suc k) (answers loss (denial ports w link id)) e.keeper) (walk_on (suc more) loss requester e)
   steps n more k e at least most rest onward =
-      let r = denies ports w link id n in
+      let r = denial ports w link id n in
       let came = all_called (exchange_call plan w n) e.device in
       let kept : KeysKept plan e.keeper = subst (λ (q : Op). KeysKeptIn plan q e.keeper.keys) (sym at.op_is)
       (kept_standing plan w n e.keeper.keys least most at.keys) in
@@ -224,23 +223,24 @@ module _ (plan : Plan) (ports : PortView) (w : Work) (link id requester : ℕ) (
       rest r (answered n r e) e.device
       (stays n e kept (v.LostRequest n) n refl (omega arith) (omega arith) e.device (none_carried plan w n e.device) _)
       (stays n e kept (v.LostReply n) (n + 1) refl (omega arith) (omega arith) came (one_carried plan w n e.device) _)
-      (λ denied. rw denied (stays n e kept (v.RefusedDevice n 3) (n + 1) refl (omega arith) (omega arith) came
+      (λ status denied. rw denied
+      (stays n e kept (v.RefusedDevice n status) (n + 1) refl (omega arith) (omega arith) came
       (one_carried plan w n e.device) _))
       (λ free. rw free (onward free)))
 
   pub rest_is : (k more n : ℕ) (e : StreamEnds) → n + k ≡ last_of w.operation → 1 ≤ n → k ≤ more
       → IsNext plan w id before n e
-      → Rest plan w id n e (comes_to link id w loss
-      (first_from (λ x. is_lost loss x || denies ports w link id x) n (suc k)))
-      (walk (suc k) (answers loss (denies ports w link id)) e.keeper) (walk_on (suc more) loss requester e)
+      → Rest plan w id n e
+      (ends_as link id w (first_from (λ x. cut_at (lost_in loss x) (denial ports w link id x) x) n (suc k)))
+      (walk (suc k) (answers loss (denial ports w link id)) e.keeper) (walk_on (suc more) loss requester e)
   rest_is zero more n e count least le at =
       let same : n ≡ last_of w.operation = omega (arith, count) in
       steps n more zero e at least (omega (arith, same)) None (λ free. ends n more zero e at least same)
   rest_is (suc k) zero n e count least le at = absurd (omega (arith, le))
   rest_is (suc k) (suc more) n e count least le at =
       let less : n < last_of w.operation = omega (arith, count) in
-      let rest = first_from (λ x. is_lost loss x || denies ports w link id x) (n + 1) (suc k) in
+      let rest = first_from (λ x. cut_at (lost_in loss x) (denial ports w link id x) x) (n + 1) (suc k) in
       steps n (suc more) (suc k) e at least (omega (arith, less)) rest
-      (λ free. further n (suc more) (suc k) e at least less (comes_to link id w loss rest)
+      (λ free. further n (suc more) (suc k) e at least less (ends_as link id w rest)
       (rest_is k more (n + 1) (after n e) (omega (arith, count)) (omega arith) (omega (arith, le))
       (next_is plan ports w link id requester before knows n e at least less free)))

@@ -4,7 +4,7 @@ use Rattle.link_walks.proofs.Terms.{◌∙◌, sym, Host, slot_pair, StreamState
 use Rattle.link_walks.proofs.Terms.{Npr, Cpl, Some, subst, ◌≢◌, port_at}
 use Rattle.link_walks.proofs.Terms.{slots_of, at_sub, Slot, Live, lane_out, lane_in, IsSound, ReadsStream, DrawsApart}
 use Rattle.link_walks.proofs.Terms.{◌||◌, History, moments, status_by, key_plan, slot_in, Armed, LinkState, find}
-use Rattle.link_walks.proofs.Terms.{ports_of, status_at, refuses_at}
+use Rattle.link_walks.proofs.Terms.{ports_of, status_at, refuses_at, refusal_if, Option}
 use Rattle.link_walks.proofs.Terms.{live_at, status_there, Side, live_set, is_set, Reads, status_named, has_some}
 use Rattle.link_walks.proofs.Terms.{has_all, tx_slots, rx_slots, PortsStand, kept_is, host_of, Keys, Shape, keys_of}
 use Rattle.link_walks.proofs.Terms.{key_cause}
@@ -128,7 +128,9 @@ is_sound plan st h stands side link stream x found =
 
 pub reads_stream : (plan : Plan) (st : LinkState) (side : Side) (link stream : ℕ) (x : StreamState)
     → find plan st (port_at side link) stream ≡ Some x → ReadsStream (ports_of plan st) side link stream x
-reads_stream plan st side link stream x found sends u k = ap (refuses_at sends u k) found
+reads_stream plan st side link stream x found sends u k = ap
+    (λ (y : Option StreamState). refusal_if (refuses_at sends u k y))
+    found
 
 same_status : (a b c : Bool) → status_named a b c ≡ status_by a b c
 same_status a b c = grind arith

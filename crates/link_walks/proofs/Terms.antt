@@ -9,7 +9,8 @@ pub use Rattle.call_moves.proofs.Terms.{Cpl, ◌<◌, Some, subst, ◌≢◌, �
 pub use Rattle.call_moves.proofs.Terms.{key_slot, at_sub, Slot, Live, lane_out, lane_in, key_of, IsSound, ReadsStream}
 pub use Rattle.call_moves.proofs.Terms.{CallsAreMoves, DrawsApart, ◌||◌}
 pub use Rattle.std.proofs.Common.{◌/◌, Option, ◌%◌, None, length, inl, inr, ◌*◌, option_map, Ok, Err}
-pub use Rattle.std.specs.Prelude.{nat_lt, is_some, All}
+pub use Rattle.std.specs.Prelude.{nat_lt, is_some, unwrap_or, All}
+pub use Rattle.std.specs.Option.{option_or}
 pub use Rattle.key_laws.specs.Operations.{reach_of, work_of, Op, op_standing, reach, op_after, Manager, operated}
 pub use Rattle.key_laws.specs.Operations.{manager_after}
 pub use Rattle.call_moves.specs.Calls.{sub_from, requests_called, call_of_exchange}
@@ -20,8 +21,9 @@ pub use Rattle.link_events.specs.declared.event.Loss.{Loss}
 pub use Rattle.link_verdicts.specs.declared.verdict.Verdict.{Verdict}
 pub use Rattle.key_laws.specs.Places.{KeyPlan, lane as lane_number}
 pub use Rattle.key_laws.specs.History.{History, draws, moments, status_of, op_of, status_by}
-pub use Rattle.key_laws.specs.Due.{PortView, is_refused, comes_to, ports_at, establish_on, refresh_on, stays_at}
-pub use Rattle.key_laws.specs.Due.{is_lost, first_from, done}
+pub use Rattle.key_laws.specs.Due.{PortView, refusal_at, ports_at, performed, stays}
+pub use Rattle.key_laws.specs.Due.{lost_in, cut_at, first_from, done}
+pub use Rattle.key_laws.specs.Keys.{refusal_if}
 pub use Rattle.link_history.specs.Plan.{key_plan, streams_by_link, streams_of, with_id}
 pub use Rattle.stream_rules.specs.Stream.{slot_in, Armed}
 pub use Rattle.link_ports.specs.Machine.{LinkState, find, find_op, ports_of, status_at, refuses_at, live_at}
@@ -37,7 +39,7 @@ pub use Rattle.tsm_host.specs.Streams.{StreamView, draws_now, refusal_of, begun_
 pub use Rattle.tsm_host.specs.Streams.{outcome_of, taken_stream, taken_calls, shown_at_end, is_set, request_asked}
 pub use Rattle.tsm_host.specs.Streams.{keys_after, acknowledged, HostView}
 pub use Rattle.tsm_host.specs.Walk.{Walked as ManagerWalk, answers, walk, walked_unless as manager_walked, verdict_of}
-pub use Rattle.tsm_host.specs.Walk.{op_by, continued, Reads, refusal_verdict, IsAsked}
+pub use Rattle.tsm_host.specs.Walk.{op_by, carried_as, continued, Reads, refusal_verdict, IsAsked}
 pub use Rattle.tsm_host.proofs.Walks.{Comes, walk_comes, WorkFits}
 pub use Rattle.stream_calls.specs.Calls.{sends_in, slots_at, pair_at, status_by as status_named, has_some, has_all}
 pub use Rattle.link_ports.specs.Stands.{StandsFor, tx_slots, rx_slots, PortsStand}

@@ -1,15 +1,15 @@
 -- One exchange after another: how the manager judges each, and what is left at both ends.
-use Rattle.link_walks.proofs.Terms.{◌≡◌, Bool, arith, true, ℕ, List, Work, Plan, if◌then◌else◌, false, nat_tests}
+use Rattle.link_walks.proofs.Terms.{◌≡◌, Bool, arith, true, ℕ, List, Work, Plan, false, nat_tests}
 use Rattle.link_walks.proofs.Terms.{Operation, ◌≤◌, ◌∙◌, makes_draw, lane_key, Device, is_only_live, StreamState, ◌+◌}
 use Rattle.link_walks.proofs.Terms.{ap, work}
 use Rattle.link_walks.proofs.Terms.{exchange_call, all_called, ◌<◌, Some, last_of, refuses_in, DrawsApart, ◌/◌, Option}
 use Rattle.link_walks.proofs.Terms.{op_standing, reach, op_after, call_of_exchange, get_or-set_other, IsKey, PortView}
-use Rattle.link_walks.proofs.Terms.{is_refused, slot_in, is_empty}
+use Rattle.link_walks.proofs.Terms.{refusal_at, refusal_if, carried_as, is_some, None, sym, slot_in, is_empty}
 use Rattle.link_walks.proofs.Terms.{pair_slot, different-false, request_asked, keys_after, acknowledged, WorkFits}
 use Rattle.link_walks.proofs.Terms.{sends_in, StreamEnds, came_to, ends_after, HasKeys, exchange_of, WireKeys, kept_key}
-use Rattle.link_walks.proofs.Terms.{request_of, Expected, Refused}
+use Rattle.link_walks.proofs.Terms.{request_of, Expected}
 use Rattle.tsm_host.specs.declared.stage.Asked.{Asked}
-use Rattle.call_moves.proofs.Slots.{only_live_is}
+use Rattle.call_moves.proofs.Slots.{only_live_is, is_refusal}
 use Rattle.link_walks.proofs.Lanes.{lane_place, lane_slots, slot_seen, IsFull, first_program, Turn, asks, puts, goes}
 use Rattle.link_walks.proofs.Lanes.{halts, turn, put_refused, go_refused}
 use Rattle.link_walks.proofs.Replies.{lane_pair, query_comes, program_comes, go_comes, halt_comes}
@@ -17,9 +17,9 @@ use Rattle.link_walks.proofs.Replies.{lane_pair, query_comes, program_comes, go_
 abbrev pub asked_of : Work → ℕ → Asked
 asked_of w n = record { operation = w.operation; set = w.set; draw = w.draw; exchange = n }
 
--- whether the device refuses exchange n
-abbrev pub denies : PortView → Work → ℕ → ℕ → ℕ → Bool
-denies ports w link id n = is_refused ports w.operation w.set link id n
+-- the status with which the device refuses exchange n
+abbrev pub denial : PortView → Work → ℕ → ℕ → ℕ → Option ℕ
+denial ports w link id n = refusal_at ports w.operation w.set link id n
 
 -- what an event of an operation finds: the stream at the device, the keys of its draw, what the ports refuse
 pub record Knows (plan : Plan) (ports : PortView) (w : Work) (link id requester : ℕ) (before : StreamState) : Type 0
@@ -28,8 +28,8 @@ pub record Knows (plan : Plan) (ports : PortView) (w : Work) (link id requester 
     pub small : id ≤ 255
     pub requester_most : requester ≤ 65535
     pub keys : makes_draw w.operation ≡ true → (lane : ℕ) → lane < 6 → IsKey (lane_key plan w.draw lane)
-    pub reads : (lane : ℕ) → lane < 6 → ports.refuses (lane_place link id lane) w.set
-        ≡ refuses_in (lane_slots lane before) w.set
+    pub reads : (lane : ℕ) → lane < 6 → ports.refusal (lane_place link id lane) w.set
+        ≡ refusal_if (refuses_in (lane_slots lane before) w.set)
     pub apart : (lane : ℕ) → lane < 6 → DrawsApart (lane_slots lane before)
 
 -- exchange n is next: lanes whose KEY_PROG comes are as before the event, and those whose GO comes have a key
@@ -76,7 +76,7 @@ module _ (plan : Plan) (ports : PortView) (w : Work) (link id requester : ℕ) (
   pair_refused : (n : ℕ) (e : StreamEnds) → IsNext plan w id before n e → makes_draw w.operation ≡ true → (lane : ℕ)
       → lane < 6
       → n ≡ first_program w.operation + lane
-      → is_only_live (lane_pair lane e.device) w.set ≡ denies ports w link id n
+      → refusal_if (is_only_live (lane_pair lane e.device) w.set) ≡ denial ports w link id n
   pair_refused n e at makes lane lt is_n =
       rw (
         at.fresh makes lane lt (omega (arith, is_n)),
@@ -84,13 +84,13 @@ module _ (plan : Plan) (ports : PortView) (w : Work) (link id requester : ℕ) (
         put_refused ports w.operation w.set link id makes lane lt,
         knows.reads lane lt,
       )
-      (only_live_is (sends_in Device (lane / 3)) (lane_slots lane before) w.set (knows.apart lane lt))
+      (ap refusal_if (only_live_is (sends_in Device (lane / 3)) (lane_slots lane before) w.set (knows.apart lane lt)))
 
   -- each request is answered as expected, but for a KEY_PROG that is refused
   pub came_is : (n : ℕ) (e : StreamEnds) → IsNext plan w id before n e → 1 ≤ n → n ≤ last_of w.operation
       → came_to requester (request_asked (asked_of w n) e.keeper) e.keeper.id w.draw e.device
       ≡ record {
-        judged = if denies ports w link id n then Refused 3 else Expected;
+        judged = carried_as None (denial ports w link id n);
         device = all_called
             (exchange_call plan w n) e.device;
       }
@@ -102,12 +102,12 @@ module _ (plan : Plan) (ports : PortView) (w : Work) (link id requester : ℕ) (
       by_turn : Turn w.operation w.set n → let x = exchange_of w.operation w.set n in
           came_to requester (request_of e.keeper.id e.keeper.keys x) e.keeper.id w.draw e.device
           ≡ record {
-            judged = if denies ports w link id n then Refused 3 else Expected;
+            judged = carried_as None (denial ports w link id n);
             device = all_called
                 (call_of_exchange plan w.draw x) e.device;
           }
       by_turn (asks is_o is_n is) =
-          let free : denies ports w link id n ≡ false = λ i. is_refused ports (is_o i) w.set link id (is_n i) in
+          let free : denial ports w link id n ≡ None = λ i. refusal_at ports (is_o i) w.set link id (is_n i) in
           rw (is, free) (query_comes requester w.draw e.keeper.id e.device knows.requester_most)
       by_turn (puts lane lt makes is_n is) =
           let key : kept_key e.keeper.keys lane ≡ Some (lane_key plan w.draw lane) = at.keys makes lane lt
@@ -116,14 +116,14 @@ module _ (plan : Plan) (ports : PortView) (w : Work) (link id requester : ℕ) (
           (program_comes requester w.draw e.keeper.id w.set lane
           (lane_key plan w.draw lane) e.device small lt (knows.keys makes lane lt))
       by_turn (goes lane lt makes is_n is) =
-          let free : denies ports w link id n ≡ false = rw is_n
+          let free : denial ports w link id n ≡ None = rw is_n
           (go_refused ports w.operation w.set link id makes lane lt) in
           let full : is_empty (pair_slot (lane_pair lane e.device) w.set) ≡ false =
           ap is_empty (slot_seen (sends_in Device (lane / 3)) (lane_slots lane e.device) w.set)
           ∙ at.ready makes lane lt (omega (arith, is_n, lt)) (omega (arith, is_n)) in
           rw (is, free) (go_comes requester w.draw e.keeper.id w.set lane e.device small lt full)
       by_turn (halts k lane lt is_o is) =
-          let free : denies ports w link id n ≡ false = λ i. is_refused ports (is_o i) w.set link id n in
+          let free : denial ports w link id n ≡ None = λ i. refusal_at ports (is_o i) w.set link id n in
           rw (is, free) (halt_comes requester w.draw e.keeper.id k lane e.device small lt)
 
   -- ---- the exchange was acknowledged
@@ -145,18 +145,19 @@ module _ (plan : Plan) (ports : PortView) (w : Work) (link id requester : ℕ) (
       fresh_after plan w.operation w.set w.draw n lane e.device makes least lt le ∙ at.fresh makes lane lt
       (omega (arith, le))
 
-  next_ready : (n : ℕ) (e : StreamEnds) → IsNext plan w id before n e → 1 ≤ n → denies ports w link id n ≡ false
+  next_ready : (n : ℕ) (e : StreamEnds) → IsNext plan w id before n e → 1 ≤ n → denial ports w link id n ≡ None
       → makes_draw w.operation ≡ true
       → (lane : ℕ) → lane < 6 → first_program w.operation + lane < n + 1
       → n + 1 ≤ first_program w.operation + (6 + lane)
       → IsFull (slot_in (lane_slots lane (all_called (exchange_call plan w n) e.device)) w.set)
   next_ready n e at least free makes lane lt past le =
       ready_after plan w.operation w.set w.draw n lane e.device makes least lt past le
-      (λ same. pair_refused n e at makes lane lt same ∙ free)
+      (λ same. sym (is_refusal (is_only_live (lane_pair lane e.device) w.set))
+      ∙ ap is_some (pair_refused n e at makes lane lt same ∙ free))
       (λ before. at.ready makes lane lt before (omega (arith, le)))
 
   pub next_is : (n : ℕ) (e : StreamEnds) → IsNext plan w id before n e → 1 ≤ n → n < last_of w.operation
-      → denies ports w link id n ≡ false
+      → denial ports w link id n ≡ None
       → IsNext plan w id before (n + 1)
       (ends_after (asked_of w n)
       (record { judged = Expected; device = all_called (exchange_call plan w n) e.device }) e)

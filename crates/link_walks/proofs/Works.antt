@@ -1,7 +1,7 @@
 -- Where an event of an operation begins, or goes on.
 use Rattle.link_walks.proofs.Terms.{◌≡◌, arith, true, ℕ, Work, Plan, Operation, ◌≤◌, makes_draw, lane_key, refl, Some}
 use Rattle.link_walks.proofs.Terms.{last_of, Option, None, nat_lt, reach_of, work_of, Op, op_standing, Loss, Pool}
-use Rattle.link_walks.proofs.Terms.{draws_in, six_keys, unspent, Refusal}
+use Rattle.link_walks.proofs.Terms.{draws_in, six_keys, unspent, Refusal, Verdict}
 use Rattle.link_walks.proofs.Terms.{StreamView, draws_now, refusal_of, begun_stream, asked_in, HostView}
 use Rattle.link_walks.proofs.Terms.{refusal_verdict, IsAsked, HasKeys, KeysKeptIn, WireKeys, kept_key}
 use Rattle.tsm_host.proofs.Walks.{WorkFits}
@@ -56,8 +56,9 @@ begun_keys plan o q next s kept makes lane lt le = grind
 
 -- at the beginning no exchange was asked, so its verdict says that nothing was reached
 pub refused_reach : (o : Operation) (q : Op) (host : HostView) (pool : Pool) (loss : Option Loss) (r : Refusal)
-    → refusal_of o q host pool ≡ Some r → reach_of o (refusal_verdict loss r) ≡ None
-refused_reach o q host pool loss r is = grind arith
+    (verdict : Verdict) → refusal_of o q host pool ≡ Some r → refusal_verdict loss r ≡ Some verdict
+    → reach_of o verdict ≡ None
+refused_reach o q host pool loss r verdict is due = grind arith
 
 -- where it is not refused, the pool has keys for its draw
 pub has_room : (o : Operation) (q : Op) (host : HostView) (pool : Pool) → refusal_of o q host pool ≡ None

@@ -72,8 +72,8 @@ pool_by w (Some r) pool = begun_pool w pool
 -- what an event comes to, by verdict, ports, operations, draws and keys
 pub record IsJoined (plan : Plan) (st : LinkState) (operation : Operation) (loss : Option Loss) (pool : Pool)
     (e : StreamEnds) (r : Walked) : Type 0 where
-  pub verdict_is : verdict_of operation e.keeper.link e.keeper.id loss r.outcome ≡ verdict_due plan st operation
-      e.keeper.op e.keeper.link e.keeper.id loss
+  pub verdict_is : verdict_of operation e.keeper.link e.keeper.id loss r.outcome
+      ≡ Some (verdict_due plan st operation e.keeper.op e.keeper.link e.keeper.id loss)
   pub op_is : let w = work_of operation e.keeper.op st.draws in
       r.ends.keeper.op ≡ op_by e.keeper.op w
       (reach_of operation (verdict_due plan st operation e.keeper.op e.keeper.link e.keeper.id loss))

@@ -4,6 +4,8 @@ use Rattle.sealing_laws.proofs.Terms.{[], ◌∷◌, ◌++◌, length, length-ap
 use Rattle.sealing_laws.proofs.Terms.{arith, if◌then◌else◌, AllByRecursion, nat_tests, Plan, History, base, Event, Send}
 use Rattle.sealing_laws.proofs.Terms.{Verdict, Sealed, SealedPacket, PortName, Packet, SealedList, ahead_in}
 use Rattle.sealing_laws.proofs.Terms.{with_sealed, open_unit, sent_in, sub_stream_of, eqb-refl}
+use Rattle.sealing_laws.proofs.Terms.{CauseLaw}
+use Rattle.link_history.proofs.Causes.{sealed_by_sealing}
 unfoldable use Rattle.sealing_laws.proofs.Terms.{sealed_packets, packet_of}
 use Rattle.interface_states.specs.Sites.{Site, sites_on, sites_from, site_at}
 unfoldable use Rattle.interface_states.specs.Sites.{sites}
@@ -111,14 +113,14 @@ sealing_later plan h x k d p at = record {
   new = at.new;
 }
 
-pub sealing_of : (plan : Plan) (h : History) (k : ℕ) (d : SealedPacket) (p : Packet)
+pub sealing_of : (plan : Plan) (h : History) → CauseLaw plan h → (k : ℕ) (d : SealedPacket) (p : Packet)
     → slice_get (sealed_packets plan h) k ≡ Some (d, p) → Sealing plan h k d p
 unfolding sealed_packets
-sealing_of plan [] k d p is = absurd cc
-sealing_of plan ((Send port bytes more trusted, Sealed ds) ∷ h) k d p is =
+sealing_of plan [] cause k d p is = absurd cc
+sealing_of plan ((Send port bytes more trusted, Sealed ds) ∷ h) cause k d p is =
     elim (with_at plan (ahead_in plan (sealed_packets plan h) (base h)) bytes ds (sealed_packets plan h) k (d, p) is) [
       | inl before ↦ sealing_later plan h (Send port bytes more trusted, Sealed ds) k d p
-          (sealing_of plan h k d p before)
+          (sealing_of plan h cause.1 k d p before)
       | inr new ↦ record {
         port = port;
         bytes = bytes;
@@ -133,7 +135,9 @@ sealing_of plan ((Send port bytes more trusted, Sealed ds) ∷ h) k d p is =
         new = new.1;
       }
     ]
-sealing_of plan ((e, w) ∷ h) k d p is = sealing_later plan h (e, w) k d p (sealing_of plan h k d p is)
+sealing_of plan ((e, Sealed ds) ∷ h) cause k d p is = absurd
+    (let sealing = sealed_by_sealing plan h e ds cause.0 in cc)
+sealing_of plan ((e, w) ∷ h) cause k d p is = sealing_later plan h (e, w) k d p (sealing_of plan h cause.1 k d p is)
 
 -- ---- what holds of a history holds at each pair that it came from
 

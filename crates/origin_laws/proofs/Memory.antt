@@ -3,7 +3,6 @@ use Rattle.sealing_laws.proofs.Terms.{◌≡◌, ℕ, ◌+◌, ◌<◌, ◌==◌
 use Rattle.sealing_laws.proofs.Terms.{length, map, take, drop, slice_get, is_some, Option, Some, None, Result, Ok, Err}
 use Rattle.sealing_laws.proofs.Terms.{refl, ap, sym, ◌∙◌, arith, if◌then◌else◌, Plan, History, Event, Verdict, Accepted}
 use Rattle.sealing_laws.proofs.Terms.{UnitName, Effect, Packet, PortName, is_sync_packet, CauseLaw, accepted_by}
-use Rattle.sealing_laws.proofs.Terms.{effect_of}
 unfoldable use Rattle.sealing_laws.proofs.Terms.{due}
 use Rattle.std.specs.Option.{option_map}
 use Rattle.tlp_layout.specs.declared.head.HeadView.{HeadView}
@@ -22,7 +21,7 @@ use Rattle.trusted_memory.specs.Admitted.{admitted_write}
 use Rattle.trusted_memory.specs.Memory.{bytes_from}
 use Rattle.trusted_memory.proofs.Admitted.{admitted_says}
 use Rattle.link_history.specs.Memory.{grant_of, host_effect, admitted_as, admitted, admitted_each, unit_ended, plain_of}
-use Rattle.link_history.specs.Memory.{writes, shown_if}
+use Rattle.link_history.specs.Memory.{writes, shown_if, effect_by, effects_of}
 use Rattle.interface_states.specs.Views.{grant_at}
 use Rattle.delivery_laws.proofs.Prefixes.{unit_that_ends}
 unfoldable use Rattle.interface_states.specs.Due.{due as interface_due}
@@ -50,7 +49,8 @@ head_says plan h port unit p payload (Ok head) = span_says plan.memory p.prefix.
 
 -- a packet's effect is applied exactly where its write is admitted
 effect_says : (plan : Plan) (h : History) (port : PortName) (unit : UnitName) (p : Packet) (payload : List ℕ)
-    → is_applied (effect_of plan h port unit p) ≡ is_some (admitted plan (grant_at plan h) port unit p payload)
+    → is_applied (effect_by plan (grant_at plan h) port unit p)
+    ≡ is_some (admitted plan (grant_at plan h) port unit p payload)
 effect_says plan h port unit p payload = by (is_sync_packet p) (sent_direction port.side == 0)
   where
     by : (s b : Bool) → is_applied
@@ -63,7 +63,7 @@ effect_says plan h port unit p payload = by (is_sync_packet p) (sent_direction p
     by false true = head_says plan h port unit p payload (read_head_of p.head)
 
 each_says : (plan : Plan) (h : History) (port : PortName) (unit : UnitName) (plain : List ℕ) (ps : List Packet)
-    → map is_applied (map (effect_of plan h port unit) ps) ≡ map is_some
+    → map is_applied (effects_of plan h port unit ps) ≡ map is_some
     (admitted_each plan (grant_at plan h) port unit plain ps)
 each_says plan h port unit plain [] = refl
 each_says plan h port unit plain (p ∷ ps) =
@@ -77,7 +77,7 @@ applies : (plan : Plan) (h : History) (e : Event) (port : PortName) (unit : Unit
 applies plan h e port unit effects is =
     let by = accepted_by plan h e port unit effects is in
     let same = unit_that_ends plan h e port unit by.packet by.came by.passed in
-    let effects_are = by.effects_are ∙ ap (λ (ps : List Packet). map (effect_of plan h port unit) ps) (sym same) in
+    let effects_are = by.effects_are ∙ ap (λ (ps : List Packet). effects_of plan h port unit ps) (sym same) in
     ap (λ (es : List Effect). map is_applied es) effects_are
     ∙ each_says plan h port unit (plain_of plan port unit (unit_ended plan h e port unit))
     (unit_ended plan h e port unit)
@@ -103,7 +103,8 @@ shows : (plan : Plan) (h : History) (at len : ℕ) (bytes : List ℕ) → v.Inte
     → ShowsWrites plan h (event.Interface (ie.Memory at len)) (v.Interface (iv.Memory bytes))
 unfolding due interface_due
 shows plan h at len bytes is =
-    let same = shown_is (in_one_region plan.memory at len) bytes (bytes_from (byte_after (writes plan h)) at len) is in (
+    let same = shown_is (in_one_region plan.memory at len) bytes (bytes_from (byte_after (writes plan h)) at len) is
+    in (
       ap length same ∙ length-bytes (byte_after (writes plan h)) at len,
       λ k less. ap (λ (bs : List ℕ). slice_get bs k) same ∙ bytes_at (byte_after (writes plan h)) at len k less,
     )

@@ -275,7 +275,7 @@ origin_at plan fits facts h e port unit effects cause forged n w p is stands =
     let among = place_among (sealed_packets plan h) s unit.draw m each.packet at in
     let names = in_parts s unit.draw among.sealed among.under in
     let d = among.sealed.0 in
-    let seal = sealing_of plan h among.place d among.sealed.1 among.stands in
+    let seal = sealing_of plan h cause.1 among.place d among.sealed.1 among.stands in
     let known = interface_cause plan h cause.1 in
     let fit = all_get (SealFits plan seal.older seal.port seal.bytes seal.trusted) seal.ds seal.new.index d
     (cause_before plan ((Send seal.port seal.bytes seal.more seal.trusted, Sealed seal.ds) ∷ seal.older) h seal.came

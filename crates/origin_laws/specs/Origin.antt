@@ -72,7 +72,7 @@ pub record IsFrom (plan : Plan) (h : History) (port : PortName) (unit : UnitName
   pub origin : HasOrigin plan h interface (received_in port unit) unit.draw m
   pub same : origin.stands.sealed.1 ≡ p
 
--- Packet n of an accepted unit is the one behind those got and those ahead of it in the unit.
+-- Packet n of an accepted unit is the one after those got and those before it in the unit.
 abbrev pub AreFrom : Plan → History → Event → Verdict → Type 0
 AreFrom plan h e (Accepted port unit effects) =
     (n : ℕ) (w : Write) (p : Packet) → slice_get (admitted_by plan h e port unit) n ≡ Some (Some w)

@@ -7,18 +7,22 @@ pub fn interfaces_have_causes()
     ensures { InterfacesHaveCauses }
 {}
 
-/// In RUN, and locked, an interface's listed registers are those that it reported.
+/// In every history in which each verdict is the one that is due: in RUN and CONFIG_LOCKED the listed registers of an
+/// interface are those at its lock; a report shows the registers at the lock; a listed change, a level reset and a
+/// firmware update that lock flag 0 forbids show state 3 (ERROR) in their own verdict.
 pub fn run_law()
     ensures { RunLawHolds }
 {}
 
-/// Exactly the admitted writes are applied, and what is shown of trusted memory is what they left.
+/// In every history in which each verdict is the one that is due, exactly the admitted writes are applied, and what is
+/// shown of trusted memory is what they left, else 0.
 pub fn memory_law()
     ensures { MemoryLawHolds }
 {}
 
-/// Provided no tag verified on a unit its partner had not sealed, each admitted write was sealed while its interface
-/// was in the very RUN, under the very lock, that it is admitted for.
+/// In every history in which each verdict is the one that is due: provided no tag verified on a unit that its partner
+/// had not sealed, each admitted write was sealed while its interface was in the very RUN, under the very lock, that it
+/// is admitted for.
 pub fn origin_law()
     ensures { OriginLawHolds }
 {}

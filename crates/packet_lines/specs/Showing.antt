@@ -78,6 +78,6 @@ abbrev pub shown_words : Text → List Text
 shown_words [] = plain_words (read_of [])
 shown_words (b ∷ bytes) = cut_words (b ∷ bytes) (cut_of (b ∷ bytes))
 
--- the line of some bytes behind the number of their line
+-- the line of some bytes after the number of their line
 abbrev pub shown : ℕ → Text → Text
 shown number bytes = decimal number ++ joined (shown_words bytes)

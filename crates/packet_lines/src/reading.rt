@@ -27,9 +27,9 @@ fn bytes_on(alloc: Global, line: &[u8]) -> Result<Option<Bytes>, LineError>
     bytes_in_words(alloc, words.as_slice())
 }
 
-/// The bytes that a line without its line feed spells: pairs of hex digits, or `-` for none, with spaces on
-/// either side. None on a line of spaces, or the first fault: more than 20,000 bytes, a byte outside 20h to
-/// 7Eh, or another text (this profile).
+/// The bytes that a line without its line feed spells: pairs of hex digits, or `-` for none, with spaces on either
+/// side. `None` on a line of spaces, or the first fault: more than 20,000 bytes, a byte outside 20h to 7Eh, or another
+/// text (this profile).
 pub fn parse_packet(alloc: Global, line: &[u8]) -> Result<Option<Bytes>, LineError>
     ensures { Gives (packet_meaning line.now) result }
 {

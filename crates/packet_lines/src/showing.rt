@@ -112,8 +112,8 @@ fn text_of(alloc: Global, number: u64, bytes: &[u8]) -> Result<String, AllocErro
     }
 }
 
-/// The line that shows a packet, or a plain TLP where byte 0 is not 92h, behind its number, with its line feed
-/// (this profile).
+/// The line that shows a packet, or a plain TLP if byte 0 is not 92h, after its number, with its line feed (this
+/// profile).
 pub fn show(alloc: Global, number: u64, bytes: &[u8]) -> Result<Bytes, Memory>
     ensures { IfOk result (λ text. text ≡ shown number bytes.now) }
 {

@@ -17,6 +17,8 @@ use Rattle.port_operations.proofs.Terms.{total_in, Touch, touches, units_since, 
 use Rattle.port_operations.proofs.Terms.{worked}
 use Rattle.link_verdicts.specs.declared.verdict.Operation.TheVariants as op
 use Rattle.ide_prefix.specs.Packet.{Packet}
+use Rattle.port_operations.proofs.Terms.{is_some, refuses}
+use Rattle.key_laws.specs.Keys.{refusal_if}
 use Rattle.key_laws.proofs.Whole.{fits, next_fits}
 use Rattle.key_states.proofs.Firsts.{first_keys, refresh_keyed, base_kept}
 use Rattle.link_history.proofs.KeyVerdicts.{establish_due_quiet, refresh_due_quiet, stop_due_quiet}
@@ -57,6 +59,10 @@ new_in plan h law port stream u j le =
     let packets = if_none (failed h port s.stream) (pending plan h s j) none in
     λ i. record { draw = j; key = key_of plan j s; units = units i; packets = packets i }
 
+is_refused : (b : Bool) → b ≡ is_some (refusal_if b)
+is_refused true = refl
+is_refused false = refl
+
 module _ (plan : Plan) (h : History) (e : Event) (x : Verdict) (link stream : ℕ) (w : Work) (r : Reach)
     (is : Works plan h e x link stream w r)
     (side : Side) where
@@ -83,12 +89,11 @@ module _ (plan : Plan) (h : History) (e : Event) (x : Verdict) (link stream : �
       let port = port_at side link in
       let s = lane_out port stream u in
       let here = sends_lane port stream u in
-      let run = out_run plan (sealed_packets plan h) s ((ports_at h).refuses p) (moments h p) (worked w (Some r) p)
-      (λ k. refl)
+      let run = out_run plan (sealed_packets plan h) s (λ k. is_some ((ports_at h).refusal p k)) (moments h p)
+      (worked w (Some r) p) (λ k. is_refused (refuses true (keys true (moments h p)) k))
       (record {
         busy = λ i j. busy_is plan h is.law.1 port s j here i;
-        unsent = λ j le. none_sent plan h port s j here
-            le;
+        unsent = λ j le. none_sent plan h is.law.1 port s j here le;
       })
       (come_there true u) (worked_first w r p) in (
         keys_out ((e, x) ∷ h) port stream u ∙ (ap (keys true) (moments_after true u)
@@ -105,7 +110,8 @@ module _ (plan : Plan) (h : History) (e : Event) (x : Verdict) (link stream : �
       let p = end_at link stream false side u in
       let port = port_at side link in
       let s = lane_in port stream u in
-      let run = in_run plan h port s ((ports_at h).refuses p) (moments h p) (worked w (Some r) p) (λ k. refl)
+      let run = in_run plan h port s (λ k. is_some ((ports_at h).refusal p k)) (moments h p) (worked w (Some r) p)
+      (λ k. is_refused (refuses false (keys false (moments h p)) k))
       (new_in plan h is.law.1 port stream u) (come_there false u) (worked_first w r p) in (
         keys_into ((e, x) ∷ h) port stream u ∙ (ap (keys false) (moments_after false u)
             ∙ (run.keys_are ∙ ap (keys_moved_in (ins h link stream w r side u)) (sym (keys_into h port stream u)))),
@@ -277,13 +283,13 @@ module _ (plan : Plan) (h : History) (o : Operation) (link stream : ℕ) (lose :
             (lives_in h side link stream ∙ before);
         none_out = λ before now u.
             let first = out before now Pr in
-            (λ i. posted_in (xs i) (lane_out port stream u) (first.base_of i)) ∙ none_posted plan h port stream u w.draw
-            first.used_below;
+            (λ i. posted_in (xs i) (lane_out port stream u) (first.base_of i))
+            ∙ none_posted plan h law.1 port stream u w.draw first.used_below;
         no_units_out = λ before now u.
             let first = out before now u in
             let s = lane_out port stream u in
-            (λ i. total_in (xs i) s (first.base_of i)) ∙ none_finished plan h port s w.draw (sends_lane port stream u)
-            first.used_below;
+            (λ i. total_in (xs i) s (first.base_of i))
+            ∙ none_finished plan h law.1 port s w.draw (sends_lane port stream u) first.used_below;
         none_into = λ before now u.
             let first = into before now u in
             let s = lane_in port stream u in

@@ -7,6 +7,7 @@ use Rattle.port_operations.proofs.Terms.{port_at, PortName, ports_at, ports_of, 
 use Rattle.port_operations.proofs.Terms.{refuses_in, rx_slots, rx_standing, RxSub, sealed_packets, SealedList, slot_in}
 use Rattle.port_operations.proofs.Terms.{slot_of, Slots, slots_of, standing, StreamState, SubStream, tx_slots}
 use Rattle.port_operations.proofs.Terms.{tx_standing, TxSub}
+use Rattle.key_laws.specs.Keys.{refusal_if}
 use Rattle.link_keys.proofs.Unplanned.{unplanned_keys}
 
 -- ---- slots
@@ -73,7 +74,7 @@ bare_live : (s k : Bool) → false ≡ is_live_there (slot_of s no_keys k)
 bare_live s k = grind arith
 
 refuses_is : (plan : Plan) (st : LinkState) (h : History) → PortsStand plan st h → (p : Place) (k : Bool)
-    → (ports_of plan st).refuses p k ≡ (ports_at h).refuses p k
+    → refuses_at p.sends p.sub k (find plan st (port_at p.side p.link) p.stream) ≡ refuses p.sends (keys_there h p) k
 refuses_is plan st h stands p k =
     reads plan st h stands p (refuses_at p.sends p.sub k) (λ ks. refuses p.sends ks k) (bare_refuses p.sends k)
     (known plan h stands.cause p p.sends (λ slots. refuses_in slots k) (λ s ks. refuses s ks k) (refuses_out plan k)
@@ -90,4 +91,4 @@ live_is plan st h stands p k =
 -- Operations read of the slots what the history says of the keys.
 pub ports_is : (plan : Plan) (st : LinkState) (h : History) → PortsStand plan st h → ports_of plan st ≡ ports_at h
 ports_is plan st h stands = λ i. record
-    { refuses = λ p k. refuses_is plan st h stands p k i; is_live = λ p k. live_is plan st h stands p k i }
+    { refusal = λ p k. refusal_if (refuses_is plan st h stands p k i); is_live = λ p k. live_is plan st h stands p k i }

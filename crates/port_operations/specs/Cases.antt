@@ -1,5 +1,5 @@
 -- Worked cases: operations among sends, by the definitions and by the machine.
-use Rattle.std.specs.Prelude.{◌≡◌, Some, None, ℕ, Bool, false, true, List, [], ◌∷◌, replicate}
+use Rattle.std.specs.Prelude.{◌≡◌, Some, None, ℕ, Bool, false, true, List, [], ◌∷◌, map, replicate}
 use Rattle.ide_types.specs.declared.sub.SubKind.TheVariants.{Pr}
 use Rattle.ide_types.specs.declared.port.Side.TheVariants.{Device}
 use Rattle.ide_types.specs.declared.port.PortName.{PortName}
@@ -21,6 +21,7 @@ use Rattle.link_ports.specs.Machine.{Beside, LinkState, step_of, first_state}
 -- link 0 has stream 5, the default one, with units of up to 4 packets; the pool has three draws
 abbrev pub plan : Plan
 plan = record {
+  version = 1;
   portion = 16;
   units_per_key = 4294967296;
   pool = replicate 18 (replicate 32 0);
@@ -62,7 +63,7 @@ packet number draw unit m k =
 abbrev pub alone : Beside
 alone = record {
   t = λ port head stream trusted. false;
-  effect = λ port unit p. effect.Delivered;
+  effects = λ port unit ps. map (λ p. effect.Delivered) ps;
   answer = λ e. v.Nothing;
 }
 

@@ -36,8 +36,8 @@ AllAllowedIn plan h port s (m ∷ ms) keys =
 abbrev pub busy_in : SealedList → SubStream → ℕ → Bool
 busy_in xs s j = nat_lt 0 (length (open_unit (sent_in xs s j)))
 
--- A KEY_PROG is taken where no other draw waits for the one in the set. A draw that gets GO is new, and greater than
--- the other one. One that waits for a halted one has sealed nothing.
+-- A KEY_PROG is taken if no other draw waits for the one in the set. A draw that gets GO is new, and greater than the
+-- other one. One that waits for a halted one has sealed nothing.
 abbrev pub AllowedOut : Plan → SealedList → SubStream → Move → Keys → Type 0
 AllowedOut plan xs s (Program k j) keys = (i : ℕ) → key_in keys (not k) ≡ On i → waits (not k) i (key_in keys k) ≡ false
 AllowedOut plan xs s (Go k) keys =
@@ -55,7 +55,8 @@ AllAllowedOut plan xs s (m ∷ ms) keys =
 -- ---- an operation
 
 -- What an operation's pair owes of its keys at a port and stream: they move, each move allowed; Base stays while a
--- direction has a Live key; and where one comes to have one, nothing from Base on was sealed or got there.
+-- direction has a Live key; and if a direction without a Live key gets one, nothing from Base on was sealed or got
+-- there.
 pub record Operated (plan : Plan) (h : History) (e : Event) (w : Verdict) (port : PortName) (stream : ℕ) (out into :
     SubKind → List Move) : Type 0 where
   pub quiet : is_quiet w ≡ true

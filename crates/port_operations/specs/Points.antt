@@ -24,7 +24,7 @@ lane_at side link stream sends u =
     if sends then lane_out (port_at side link) stream u else lane_in (port_at side link) stream u
 
 pub record StreamPoints (plan : Plan) (st : LinkState) (h : History) : Type 0 where
-  -- a slot holds the key of a draw exactly where the draw is kept there
+  -- a slot holds the key of a draw exactly if the draw is kept there
   pub kept : (side : Side) (link stream : ℕ) (x : StreamState) → find plan st (port_at side link) stream ≡ Some x
       → (sends : Bool) (u : SubKind) (k : Bool)
       → key_held (slot_in (slots_of sends u x) k)
@@ -34,15 +34,15 @@ pub record StreamPoints (plan : Plan) (st : LinkState) (h : History) : Type 0 wh
   pub idle : (link stream : ℕ) → find_op plan st link stream ≡ Some Idle → (side : Side) (x : StreamState)
       → find plan st (port_at side link) stream ≡ Some x → (sends : Bool) (u : SubKind) (k : Bool)
       → key_held (slot_in (slots_of sends u x) k) ≡ None
-  -- while an establish is unfinished its draw is On where its GO came, and no other is
+  -- while an establish is unfinished its draw is On at the places that its GO reached, and no other is kept
   pub establishing : (link stream j n : ℕ) → find_op plan st link stream ≡ Some (Establishing j n)
       → (side : Side) (sends : Bool) (u : SubKind) → let p = end_at link stream sends side u in
-      (go_at op.Establish p < n → on_draw h p false ≡ Some j) × ((k : Bool) (i : ℕ) → on_draw h p k ≡ Some i → i ≡ j)
-  -- while a refresh is unfinished its draw is On where its GO came
+      (go_at op.Establish p < n → on_draw h p false ≡ Some j) × ((k : Bool) (i : ℕ) → kept_draw h p k ≡ Some i → i ≡ j)
+  -- while a refresh is unfinished its draw is On at the places that its GO reached
   pub refreshing : (link stream : ℕ) (k : Bool) (j n : ℕ) → find_op plan st link stream ≡ Some (Refreshing k j n)
       → (side : Side) (sends : Bool) (u : SubKind) → let p = end_at link stream sends side u in
       go_at op.Refresh p < n → on_draw h p k ≡ Some j
 
--- It follows where the state stands for the history.
+-- It follows if the state stands for the history.
 abbrev pub PointsStand : Type 0
 PointsStand = (plan : Plan) (st : LinkState) (h : History) → StandsFor plan st h → StreamPoints plan st h

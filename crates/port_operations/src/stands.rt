@@ -10,31 +10,32 @@ pub fn first_stands()
     ensures { FirstStands }
 {}
 
-/// Where a state stands for a history, the machine answers each event with the verdict that is due, and the state
-/// after it stands for the history with that pair.
+/// If a state stands for a history, the machine answers each event with the verdict that is due, and the state after it
+/// stands for the history with that pair.
 pub fn step_stands()
     ensures { StepStands }
 {}
 
-/// Where a state stands for a history, a slot holds the key of a draw exactly where the draw is kept, a stream of which
-/// nothing was asked has no key in any slot, and an unfinished operation has made its draw On where its GO came.
+/// If a state stands for a history, a slot holds the key of a draw exactly if the draw is kept there, a stream of which
+/// nothing was asked has no key in any slot, and an unfinished operation has made its draw On at the places that its GO
+/// reached.
 pub fn points_stand()
     ensures { PointsStand }
 {}
 
-/// Where an operation's pair moves the keys of a stream at a port, and each move is allowed, the moves of the slots
-/// leave what stands for the history with that pair.
+/// If an operation's pair moves the keys of a stream at a port, and each move is allowed, the moves of the slots leave
+/// what stands for the history with that pair.
 pub fn operation_stands()
     ensures { OperationStands }
 {}
 
-/// Where a state stands for a history, the state after an operation on one stream stands for the history with its
-/// pair: slots move at both ports, and nothing else does.
+/// If a state stands for a history, the state after an operation on one stream stands for the history with its pair:
+/// slots move at both ports, and nothing else does.
 pub fn operation_steps()
     ensures { OperationSteps }
 {}
 
-/// Operations among sends, losses, refusals and a reset come to what was worked out by hand.
+/// Operations among sends, losses, refusals and a reset give the verdicts that were worked out by hand.
 pub fn worked_cases()
     ensures { WorkedCases }
 {}

@@ -2,17 +2,17 @@
 -- in a send packet by packet. The hard case is a posted packet within a unit, which is why a third bound goes along:
 -- the packets still to come in an open posted unit are counted beforehand, and where such a unit begins there is room
 -- for all of it, or the count is 0. Where keys or Base change, what is new is empty.
-use Rattle.sealing_laws.proofs.Terms.{◌≡◌, ℕ, ◌+◌, ◌<◌, ◌≤◌, ◌==◌, Bool, true, false, List, [], ◌∷◌, ◌++◌, length}
+use Rattle.sealing_laws.proofs.Terms.{◌≡◌, ℕ, ◌+◌, ◌<◌, ◌≤◌, ◌==◌, true, false, List, [], ◌∷◌, ◌++◌, length}
 use Rattle.sealing_laws.proofs.Terms.{Option, Some, inl, inr, ◌⊎◌, refl, ap, sym, ◌∙◌, arith, length-append}
-use Rattle.sealing_laws.proofs.Terms.{if◌then◌else◌, ◌&&◌, nat_le, is_some, after_last, and_parts, cases_Bool, eqb-true}
-use Rattle.sealing_laws.proofs.Terms.{leb-true, nat_tests}
-use Rattle.sealing_laws.proofs.Terms.{SubKind, Pr, PortName, Event, Send, Verdict, SealedPacket, Packet, Prefix, Plan}
-use Rattle.sealing_laws.proofs.Terms.{SubStream, lane_out, mode_of, stream_plan, is_same, is_same_port, open_unit}
-use Rattle.sealing_laws.proofs.Terms.{History, base, ahead_in, SealedList, KeyName, sealed_packets, with_sealed}
-use Rattle.sealing_laws.proofs.Terms.{packet_of, prefix_of, sent_in, posted_in, posted_of, is_in, sub_stream_of}
-use Rattle.sealing_laws.proofs.Terms.{is_posted, CauseLaw, DrawFacts, NoneFrom, is_same_sub, same_sub, same_stream}
-use Rattle.sealing_laws.proofs.Terms.{same_port, open_unit-snoc, sent_in-snoc, posted-own, posted-more, sent_elsewhere}
-use Rattle.sealing_laws.proofs.Terms.{posted_elsewhere, any_out, is_out, in_lane, sealing_is, StreamsFit, Sealed}
+use Rattle.sealing_laws.proofs.Terms.{if◌then◌else◌, ◌&&◌, nat_le, is_some, after_last, and_parts, cases_Bool}
+use Rattle.sealing_laws.proofs.Terms.{eqb-true, leb-true, nat_tests, SubKind, Pr, PortName, Event, Verdict}
+use Rattle.sealing_laws.proofs.Terms.{SealedPacket, Packet, Prefix, Plan, SubStream, lane_out, mode_of, stream_plan}
+use Rattle.sealing_laws.proofs.Terms.{is_same, is_same_port, open_unit, History, base, ahead_in, SealedList, KeyName}
+use Rattle.sealing_laws.proofs.Terms.{sealed_packets, with_sealed, packet_of, prefix_of, sent_in, posted_in}
+use Rattle.sealing_laws.proofs.Terms.{posted_of, is_in, sub_stream_of, is_posted, CauseLaw, DrawFacts, NoneFrom}
+use Rattle.sealing_laws.proofs.Terms.{is_same_sub, same_sub, same_stream, same_port, open_unit-snoc, sent_in-snoc}
+use Rattle.sealing_laws.proofs.Terms.{posted-own, posted-more, sent_elsewhere, posted_elsewhere, any_out, is_out}
+use Rattle.sealing_laws.proofs.Terms.{in_lane, sealing_is, StreamsFit, Sealed, sent_bytes, sending_port}
 use Rattle.sealing_laws.proofs.Sums.{at_dropped, none_filtered}
 use Rattle.sealing_laws.proofs.Sealings.{IsOf, AllOf, live_at, from_at, all_of_sealing}
 
@@ -233,17 +233,16 @@ keys_change plan fits facts h e w law port stream = moved plan fits port stream 
 -- ---- of every history
 
 sealing_bounded : (plan : Plan) → StreamsFit plan → DrawFacts plan → (h : History)
-    (p : PortName) (bytes : List ℕ) (more trusted : Bool) (ds : List SealedPacket)
-    → CauseLaw plan ((Send p bytes more trusted, Sealed ds) ∷ h)
+    (e : Event) (ds : List SealedPacket) → CauseLaw plan ((e, Sealed ds) ∷ h)
     → (port : PortName) (stream : ℕ)
     → Bounds plan port stream (live_at plan h port stream) (from_at plan h port stream) (sealed_packets plan h)
     → Bounds plan port stream (live_at plan h port stream) (from_at plan h port stream)
-    (sealed_packets plan ((Send p bytes more trusted, Sealed ds) ∷ h))
+    (sealed_packets plan ((e, Sealed ds) ∷ h))
 unfolding sealed_packets
-sealing_bounded plan fits facts h p bytes more trusted ds law port stream before =
-    let is = sealing_is plan h p bytes more trusted ds law.0 in
+sealing_bounded plan fits facts h e ds law port stream before =
+    let is = sealing_is plan h e ds law.0 in
     let s = is.sending in
-    let all = all_of_sealing plan facts h law.1 p bytes ds is in
+    let all = all_of_sealing plan facts h law.1 (sending_port e) (sent_bytes plan h e) ds is in
     let xs = sealed_packets plan h in
     let ahead = ahead_in plan xs (base h) in
     elim (cases_Bool (is_same_port s.port port && (s.stream == stream))) [
@@ -251,14 +250,15 @@ sealing_bounded plan fits facts h p bytes more trusted ds law port stream before
           let tests = and_parts (is_same_port s.port port) (s.stream == stream) here in
           let same = rw (same_port s.port port tests.0, eqb-true s.stream stream tests.1) at all in
           all_bounded plan fits port stream (live_at plan h port stream) (from_at plan h port stream) s.class ahead
-          bytes ds xs same before
+          (sent_bytes plan h e) ds xs same before
       | inr other ↦
           let out = all_out plan s.port port s.stream stream _ _ s.class xs ds all other in
           let front = λ (u : SubKind) (j : ℕ). ap (λ (ps : List Packet). length (open_unit ps))
-          (sent_elsewhere plan ahead bytes ds xs port stream u j out) in
-          moved plan fits port stream _ _ _ _ xs (with_sealed plan ahead bytes ds xs)
+          (sent_elsewhere plan ahead (sent_bytes plan h e) ds xs port stream u j out) in
+          moved plan fits port stream _ _ _ _ xs (with_sealed plan ahead (sent_bytes plan h e) ds xs)
           (λ u key is. inl (is, front u key.draw))
-          (λ u. inl (posted_elsewhere plan ahead bytes ds xs port stream u (from_at plan h port stream) out)) before
+          (λ u. inl (posted_elsewhere plan ahead (sent_bytes plan h e) ds xs port stream u (from_at plan h port stream)
+          out)) before
     ]
 
 pub bounded : (plan : Plan) → StreamsFit plan → DrawFacts plan → (h : History) → CauseLaw plan h
@@ -270,9 +270,8 @@ bounded plan fits facts [] law port stream = record {
   count = λ u other. omega arith;
   open_room = λ u other key is. inl refl;
 }
-bounded plan fits facts ((Send p bytes more trusted, Sealed ds) ∷ h) law port stream =
-    keys_change plan fits facts h (Send p bytes more trusted) (Sealed ds) law port stream
-    (sealing_bounded plan fits facts h p bytes more trusted ds law port stream
-    (bounded plan fits facts h law.1 port stream))
+bounded plan fits facts ((e, Sealed ds) ∷ h) law port stream =
+    keys_change plan fits facts h e (Sealed ds) law port stream
+    (sealing_bounded plan fits facts h e ds law port stream (bounded plan fits facts h law.1 port stream))
 bounded plan fits facts ((e, w) ∷ h) law port stream = keys_change plan fits facts h e w law port stream
     (bounded plan fits facts h law.1 port stream)

@@ -1,10 +1,11 @@
 -- Each packet that is not posted carries the number of posted packets behind the last one of its sub-stream.
 use Rattle.sealing_laws.proofs.Terms.{◌≡◌, ◌≢◌, ℕ, ◌≤◌, true, List, [], ◌∷◌, ◌++◌, Option, Some, slice_get, take, ap}
-use Rattle.sealing_laws.proofs.Terms.{sym, ◌∙◌, inl, inr, AllByRecursion, ne_eqb}
-use Rattle.sealing_laws.proofs.Terms.{sub_bits, SubKind, PortName, Event, Send, Verdict, Sealed, SealedPacket, Prefix}
-use Rattle.sealing_laws.proofs.Terms.{Packet, Plan, SubStream, is_same, lane_out, open_unit, History, base, ahead_in}
-use Rattle.sealing_laws.proofs.Terms.{SealedList, KeyName, sealed_packets, sent_in, with_sealed, packet_of}
-use Rattle.sealing_laws.proofs.Terms.{sub_stream_of, posted_in, CauseLaw, DrawFacts, BaseStays, same_stream, sealing_is}
+use Rattle.sealing_laws.proofs.Terms.{sym, ◌∙◌, inl, inr, AllByRecursion, ne_eqb, sub_bits, SubKind, PortName, Event}
+use Rattle.sealing_laws.proofs.Terms.{Verdict, Sealed, SealedPacket, Prefix, Packet, Plan, SubStream, is_same}
+use Rattle.sealing_laws.proofs.Terms.{lane_out, open_unit, History, base, ahead_in, SealedList, KeyName}
+use Rattle.sealing_laws.proofs.Terms.{sealed_packets, sent_in, with_sealed, packet_of, sub_stream_of, posted_in}
+use Rattle.sealing_laws.proofs.Terms.{CauseLaw, DrawFacts, BaseStays, same_stream, sealing_is, sent_bytes}
+use Rattle.sealing_laws.proofs.Terms.{sending_port}
 use Rattle.sealing_laws.proofs.Sealings.{AllOf, live_at, from_at, all_of_sealing}
 use Rattle.sealing_laws.proofs.Places.{last_place}
 use Rattle.sealing_laws.proofs.Bounds.{prefix_is}
@@ -59,12 +60,12 @@ pub counted : (plan : Plan) → DrawFacts plan → (h : History) → CauseLaw pl
     → sub_bits s.sub ≢ 0 → BaseStays plan s from h → IsCounted from s (sealed_packets plan h)
 unfolding sealed_packets
 counted plan facts [] cause s from other stays = λ i x is. absurd cc
-counted plan facts ((Send port bytes more trusted, Sealed ds) ∷ h) cause s from other stays =
-    let is = sealing_is plan h port bytes more trusted ds cause.0 in
+counted plan facts ((e, Sealed ds) ∷ h) cause s from other stays =
+    let is = sealing_is plan h e ds cause.0 in
     let t = is.sending in
     all_counted plan h t.port t.stream (live_at plan h t.port t.stream) t.class
-    (ahead_in plan (sealed_packets plan h) (base h)) bytes from s other ds (sealed_packets plan h)
-    (all_of_sealing plan facts h cause.1 port bytes ds is) stays.0
+    (ahead_in plan (sealed_packets plan h) (base h)) (sent_bytes plan h e) from s other ds (sealed_packets plan h)
+    (all_of_sealing plan facts h cause.1 (sending_port e) (sent_bytes plan h e) ds is) stays.0
     (counted plan facts h cause.1 s from other stays.1)
 counted plan facts ((e, w) ∷ h) cause s from other stays = counted plan facts h cause.1 s from other
     (later_stays plan s from e w h stays)

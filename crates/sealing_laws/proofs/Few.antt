@@ -1,10 +1,9 @@
 -- No total passes 8 bytes in a history that may be written.
 use Rattle.sealing_laws.proofs.Terms.{◌≡◌, ℕ, ◌+◌, ◌*◌, ◌≤◌, Bool, List, [], ◌∷◌, ◌++◌, length, filter, arith}
-use Rattle.sealing_laws.proofs.Terms.{length-append}
-use Rattle.sealing_laws.proofs.Terms.{PortName, Send, SealedPacket, Packet, Plan, open_unit, History, base, SealedList}
-use Rattle.sealing_laws.proofs.Terms.{sealed_packets, with_sealed, packet_of, sent_in, sub_stream_of, ahead_in}
-use Rattle.sealing_laws.proofs.Terms.{total_in, ends_in, lanes_at, CauseLaw, TotalsFit, listed, sealed_by_is, IsSealing}
-use Rattle.sealing_laws.proofs.Terms.{sealing_is, Sealed}
+use Rattle.sealing_laws.proofs.Terms.{length-append, PortName, SealedPacket, Packet, Plan, open_unit, History, base}
+use Rattle.sealing_laws.proofs.Terms.{SealedList, sealed_packets, with_sealed, packet_of, sent_in, sub_stream_of}
+use Rattle.sealing_laws.proofs.Terms.{ahead_in, total_in, ends_in, lanes_at, CauseLaw, TotalsFit, listed}
+use Rattle.sealing_laws.proofs.Terms.{sealed_by_is, IsSealing, sealing_is, Sealed, sent_bytes, sending_port}
 
 three_sealed : (plan : Plan) (h : History) (port : PortName) (bytes : List ℕ) (ds : List SealedPacket)
     → IsSealing plan h port bytes ds → length ds ≤ 3
@@ -24,10 +23,11 @@ sealed_length plan ahead bytes (d ∷ ds) xs =
 pub sealed_few : (plan : Plan) (h : History) → CauseLaw plan h → length (sealed_packets plan h) ≤ 3 * length h
 unfolding sealed_packets
 sealed_few plan [] law = omega arith
-sealed_few plan ((Send p bytes more trusted, Sealed ds) ∷ h) law =
+sealed_few plan ((e, Sealed ds) ∷ h) law =
     let rest = sealed_few plan h law.1 in
-    let three = three_sealed plan h p bytes ds (sealing_is plan h p bytes more trusted ds law.0) in
-    let all = sealed_length plan (ahead_in plan (sealed_packets plan h) (base h)) bytes ds (sealed_packets plan h) in
+    let three = three_sealed plan h (sending_port e) (sent_bytes plan h e) ds (sealing_is plan h e ds law.0) in
+    let all = sealed_length plan (ahead_in plan (sealed_packets plan h) (base h)) (sent_bytes plan h e) ds
+    (sealed_packets plan h) in
     omega (arith, rest, three, all)
 sealed_few plan ((e, w) ∷ h) law = let rest = sealed_few plan h law.1 in omega (arith, rest)
 

@@ -2,13 +2,14 @@
 -- By induction on the history: at the send that seals the first packet of the unit, the total is of what was sealed
 -- before, where no unit of this draw is finished and nothing is of a greater one; later events change no part of it
 -- (Fronts).
-use Rattle.sealing_laws.proofs.Terms.{◌≡◌, ℕ, zero, suc, ◌+◌, ◌<◌, ◌≤◌, Bool, true, false, List, [], ◌∷◌, length, take}
-use Rattle.sealing_laws.proofs.Terms.{slice_get, Some, refl, ap, sym, ◌∙◌, arith, inl, inr, AllByRecursion, list_any}
-use Rattle.sealing_laws.proofs.Terms.{both_ways, cases_Bool, or_cases, take_at, nat_tests}
-use Rattle.sealing_laws.proofs.Terms.{PortName, Send, Sealed, SealedPacket, Packet, Plan, SubStream, is_same, units}
-use Rattle.sealing_laws.proofs.Terms.{History, base, SealedList, sealed_packets, sent, sent_in, is_under, sub_stream_of}
-use Rattle.sealing_laws.proofs.Terms.{total_in, front_of, front_sent, is_of_unit, ahead_in, CauseLaw, DrawFacts}
-use Rattle.sealing_laws.proofs.Terms.{StreamsFit, same_stream, is_same-refl, IsLive, AllLive, sealing_is, all_live}
+use Rattle.sealing_laws.proofs.Terms.{◌≡◌, ℕ, zero, suc, ◌+◌, ◌<◌, ◌≤◌, Bool, true, false, List, [], ◌∷◌, length}
+use Rattle.sealing_laws.proofs.Terms.{take, slice_get, Some, refl, ap, sym, ◌∙◌, arith, inl, inr, AllByRecursion}
+use Rattle.sealing_laws.proofs.Terms.{list_any, both_ways, cases_Bool, or_cases, take_at, nat_tests, PortName, Sealed}
+use Rattle.sealing_laws.proofs.Terms.{SealedPacket, Packet, Plan, SubStream, is_same, units, History, base}
+use Rattle.sealing_laws.proofs.Terms.{SealedList, sealed_packets, sent, sent_in, is_under, sub_stream_of, total_in}
+use Rattle.sealing_laws.proofs.Terms.{front_of, front_sent, is_of_unit, ahead_in, CauseLaw, DrawFacts, StreamsFit}
+use Rattle.sealing_laws.proofs.Terms.{same_stream, is_same-refl, IsLive, AllLive, sealing_is, all_live, sent_bytes}
+use Rattle.sealing_laws.proofs.Terms.{sending_port}
 use Rattle.sealing_laws.proofs.Places.{placed, unit_is}
 use Rattle.sealing_laws.proofs.Totals.{total, total-same}
 use Rattle.sealing_laws.proofs.Sums.{all_at, in_parts, units_within, total_is}
@@ -69,19 +70,18 @@ pub front_is : (plan : Plan) → StreamsFit plan → DrawFacts plan → (h : His
     (sum_sent plan h s (base h s.link s.stream) j)
 unfolding sealed_packets front_sent units
 front_is plan fits facts [] law s j x up = let none = x.stands in absurd cc
-front_is plan fits facts ((Send p bytes more trusted, Sealed ds) ∷ h) law s j x up =
+front_is plan fits facts ((e, Sealed ds) ∷ h) law s j x up =
     let before = front_is plan fits facts h law.1 s j in
     elim (cases_Bool (list_any (is_of_unit s j 1) ds)) [
       | inl some ↦ rw some (ap (front_of plan s 1) (from_new some))
       | inr none ↦
           let older = first_is_old none in
           rw none (before older (omega (arith, up, base_is))
-          ∙ ap (front_of plan s 1)
-          (moved (λ i less. sent_kept plan facts h (Send p bytes more trusted) (Sealed ds) law s i j older less)))
+          ∙ ap (front_of plan s 1) (moved (λ i less. sent_kept plan facts h e (Sealed ds) law s i j older less)))
     ]
   where
     g : History
-    g = (Send p bytes more trusted, Sealed ds) ∷ h
+    g = (e, Sealed ds) ∷ h
 
     xs : SealedList
     xs = sealed_packets plan h
@@ -93,7 +93,7 @@ front_is plan fits facts ((Send p bytes more trusted, Sealed ds) ∷ h) law s j 
     from = base h s.link s.stream
 
     base_is : base g s.link s.stream ≡ base h s.link s.stream
-    base_is = base_kept plan facts h (Send p bytes more trusted) (Sealed ds) law s j x up
+    base_is = base_kept plan facts h e (Sealed ds) law s j x up
 
     moved : ((i : ℕ) → i < j → sent plan g s i ≡ sent plan h s i) → sum_sent plan h s (base h s.link s.stream) j
         ≡ sum_sent plan g s (base g s.link s.stream) j
@@ -113,11 +113,12 @@ front_is plan fits facts ((Send p bytes more trusted, Sealed ds) ∷ h) law s j 
         record {
           place = y.place;
           sealed = y.sealed;
-          stands = elim (old_or_new plan (ahead_in plan xs (base h)) bytes ds xs y.place y.sealed y.stands) [
-            | inl old ↦ old
-            | inr new ↦ absurd (both_ways _ none
-                (new.among (is_of_unit s j 1) (of_unit s j 1 y.sealed.0 here.2 here.1 one)))
-          ];
+          stands = elim (old_or_new plan (ahead_in plan xs (base h)) (sent_bytes plan h e) ds xs y.place y.sealed
+              y.stands) [
+                | inl old ↦ old
+                | inr new ↦ absurd (both_ways _ none
+                    (new.among (is_of_unit s j 1) (of_unit s j 1 y.sealed.0 here.2 here.1 one)))
+              ];
           under = y.under;
         }
 
@@ -125,15 +126,15 @@ front_is plan fits facts ((Send p bytes more trusted, Sealed ds) ∷ h) law s j 
     from_new : list_any (is_of_unit s j 1) ds ≡ true
         → total_in (sealed_packets plan h) s (base h s.link s.stream) ≡ sum_sent plan g s (base g s.link s.stream) j
     from_new some =
-        let is = sealing_is plan h p bytes more trusted ds law.0 in
-        let live = all_live plan h p bytes ds is in
+        let is = sealing_is plan h e ds law.0 in
+        let live = all_live plan h (sending_port e) (sent_bytes plan h e) ds is in
         let one = any_live plan h is.sending.port is.sending.stream (is_of_unit s j 1) ds live some in
         let names = unit_parts s j 1 one.0 one.2 in
         let each = rw names.1 at (draws_one plan h is.sending.port is.sending.stream one.0 s one.1 names.0 ds live) in
-        let new = any_new (is_of_unit s j 1) plan (ahead_in plan xs (base h)) bytes ds xs some in
+        let new = any_new (is_of_unit s j 1) plan (ahead_in plan xs (base h)) (sent_bytes plan h e) ds xs some in
         let z = new.1 in
         let of = unit_parts s j 1 z.0 new.3 in
-        let grown = packets_grow plan h (Send p bytes more trusted) (Sealed ds) in
+        let grown = packets_grow plan h e (Sealed ds) in
         let below = all_at (λ (y : SealedPacket × Packet). is_same (sub_stream_of y.0) s ≡ true → y.0.draw < suc j) xs
         (λ i y at here.
         let front = at_front xs grown.0 i y at in
@@ -149,7 +150,7 @@ front_is plan fits facts ((Send p bytes more trusted, Sealed ds) ∷ h) law s j 
         (arith, ap (λ (zs : SealedList). length (units (sent_in zs s j))) front, within, unit, of.2) in
         total_is xs s from (suc j) below
         ∙ (last_none from j (λ i. units_sent plan h s i) none ∙ moved
-        (λ i less. others_kept plan (ahead_in plan xs (base h)) bytes s i j less ds xs each))
+        (λ i less. others_kept plan (ahead_in plan xs (base h)) (sent_bytes plan h e) s i j less ds xs each))
 front_is plan fits facts ((e, w) ∷ h) law s j x up =
     let same = base_kept plan facts h e w law s j x up in
     front_is plan fits facts h law.1 s j

@@ -5,11 +5,11 @@
 use Rattle.sealing_laws.proofs.Terms.{◌≡◌, ℕ, zero, suc, ◌<◌, ◌≤◌, Bool, true, List, [], ◌∷◌, ◌++◌, length, take}
 use Rattle.sealing_laws.proofs.Terms.{slice_get, Some, refl, ap, sym, ◌∙◌, subst, arith, append_assoc, length-append}
 use Rattle.sealing_laws.proofs.Terms.{inl, inr, ◌⊎◌, AllByRecursion, list_any, or_cases, or_left, or_right, nat_tests}
-use Rattle.sealing_laws.proofs.Terms.{slice_get_cases, append-nil, take-append-le}
-use Rattle.sealing_laws.proofs.Terms.{PortName, Event, Send, Verdict, Sealed, SealedPacket, Packet, Plan, SubStream}
-use Rattle.sealing_laws.proofs.Terms.{is_same, lane_out, open_unit, History, base, live_key, SealedList, KeyName}
-use Rattle.sealing_laws.proofs.Terms.{sealed_packets, with_sealed, packet_of, sent, sent_in, is_under, sub_stream_of}
-use Rattle.sealing_laws.proofs.Terms.{ahead_in, CauseLaw, DrawFacts, IsLive, sent_in-snoc}
+use Rattle.sealing_laws.proofs.Terms.{slice_get_cases, append-nil, take-append-le, PortName, Event, Verdict, Sealed}
+use Rattle.sealing_laws.proofs.Terms.{SealedPacket, Packet, Plan, SubStream, is_same, lane_out, open_unit, History}
+use Rattle.sealing_laws.proofs.Terms.{base, live_key, SealedList, KeyName, sealed_packets, with_sealed, packet_of}
+use Rattle.sealing_laws.proofs.Terms.{sent, sent_in, is_under, sub_stream_of, ahead_in, CauseLaw, DrawFacts, IsLive}
+use Rattle.sealing_laws.proofs.Terms.{sent_in-snoc, sent_bytes}
 use Rattle.sealing_laws.proofs.Places.{last_place, place_among}
 use Rattle.sealing_laws.proofs.Sums.{in_parts, smaller_before, element_behind}
 
@@ -27,8 +27,8 @@ with_grows plan ahead bytes (d ∷ ds) xs =
 pub packets_grow : (plan : Plan) (h : History) (e : Event) (w : Verdict) → (rest : SealedList)
     × (sealed_packets plan h ++ rest ≡ sealed_packets plan ((e, w) ∷ h))
 unfolding sealed_packets
-packets_grow plan h (Send p bytes more trusted) (Sealed ds) = with_grows plan
-    (ahead_in plan (sealed_packets plan h) (base h)) bytes ds (sealed_packets plan h)
+packets_grow plan h e (Sealed ds) = with_grows plan (ahead_in plan (sealed_packets plan h) (base h))
+    (sent_bytes plan h e) ds (sealed_packets plan h)
 packets_grow plan h e w = ([], append-nil (sealed_packets plan h))
 
 pub at_front : {A : Type 0} (xs ys : List A) (i : ℕ) (x : A) → slice_get xs i ≡ Some x

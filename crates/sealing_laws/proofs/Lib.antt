@@ -11,3 +11,6 @@ pub mod Fronts
 pub mod FirstFronts
 pub mod Few
 pub mod OfPlans
+pub mod Drawn
+pub mod Worn
+pub mod Numbers

@@ -4,14 +4,14 @@
 -- of a sub-stream and draw is then found in the list of all.
 use Rattle.sealing_laws.proofs.Terms.{◌≡◌, ℕ, zero, suc, ◌+◌, ◌<◌, Bool, true, false, List, [], ◌∷◌, ◌++◌, length}
 use Rattle.sealing_laws.proofs.Terms.{Option, Some, Ok, take, refl, ap, sym, ◌∙◌, subst, arith, inl, inr, ◌⊎◌}
-use Rattle.sealing_laws.proofs.Terms.{if◌then◌else◌, slice_get, filter, map, All, AllByRecursion, cases_Bool, nat_tests}
-use Rattle.sealing_laws.proofs.Terms.{nil_from_length, All-nil}
-use Rattle.sealing_laws.proofs.Terms.{SubKind, PortName, Send, Sealed, SealedPacket, Tlp, class_of, header, body}
-use Rattle.sealing_laws.proofs.Terms.{read_of, Prefix, Packet, FitsPrefix, FitsPacket, length-masked, masked-bytes}
-use Rattle.sealing_laws.proofs.Terms.{length-tag_of, tag_of-bytes, Plan, SubStream, lane_out, mode_of, units, open_unit}
-use Rattle.sealing_laws.proofs.Terms.{History, base, ahead_in, SealedList, KeyName, sealed_packets, with_sealed, sent}
-use Rattle.sealing_laws.proofs.Terms.{sent_in, is_under, sub_stream_of, prefix_of, packet_of, untagged_packet, unit_tag}
-use Rattle.sealing_laws.proofs.Terms.{keys_at, is_posted, CauseLaw, DrawFacts, on_live, lane_is, sealing_is, StreamsFit}
+use Rattle.sealing_laws.proofs.Terms.{if◌then◌else◌, slice_get, filter, map, All, AllByRecursion, cases_Bool}
+use Rattle.sealing_laws.proofs.Terms.{nat_tests, nil_from_length, All-nil, SubKind, PortName, Sealed, SealedPacket}
+use Rattle.sealing_laws.proofs.Terms.{Tlp, class_of, header, body, read_of, Prefix, Packet, FitsPrefix, FitsPacket}
+use Rattle.sealing_laws.proofs.Terms.{length-masked, masked-bytes, length-tag_of, tag_of-bytes, Plan, SubStream}
+use Rattle.sealing_laws.proofs.Terms.{lane_out, mode_of, units, open_unit, History, base, ahead_in, SealedList}
+use Rattle.sealing_laws.proofs.Terms.{KeyName, sealed_packets, with_sealed, sent, sent_in, is_under, sub_stream_of}
+use Rattle.sealing_laws.proofs.Terms.{prefix_of, packet_of, untagged_packet, unit_tag, keys_at, is_posted, CauseLaw}
+use Rattle.sealing_laws.proofs.Terms.{DrawFacts, on_live, lane_is, sealing_is, StreamsFit, sent_bytes, sending_port}
 use Rattle.sealing_laws.proofs.Sums.{all_at, in_parts}
 use Rattle.sealing_laws.proofs.Below.{is_read}
 use Rattle.sealing_laws.proofs.Sealings.{IsOf, AllOf, IsSyncOf, live_at, from_at, all_of_sealing}
@@ -36,6 +36,7 @@ pub record PlaceAmong (xs : SealedList) (s : SubStream) (j m : ℕ) (p : Packet)
   pub stands : slice_get xs place ≡ Some sealed
   pub packet : sealed.1 ≡ p
   pub under : is_under s j sealed ≡ true
+  pub listed : slice_get (filter (is_under s j) xs) m ≡ Some sealed
   pub before : sent_in (take place xs) s j ≡ take m (sent_in xs s j)
 
 pub place_among : (xs : SealedList) (s : SubStream) (j m : ℕ) (p : Packet) → slice_get (sent_in xs s j) m ≡ Some p
@@ -50,13 +51,14 @@ place_among (x ∷ xs) s j m p is = by_test (is_under s j x) refl m is (place_am
         → ((m : ℕ) (p : Packet) → slice_get (sent_in xs s j) m ≡ Some p → PlaceAmong xs s j m p)
         → PlaceAmong (x ∷ xs) s j m p
     by_test true here zero is more = record
-        { sealed = x; place = 0; stands = refl; packet = cc; under = here; before = refl }
+        { sealed = x; place = 0; stands = refl; packet = cc; under = here; listed = rw here refl; before = refl }
     by_test true here (suc m) is more = let rest = more m p is in record {
       sealed = rest.sealed;
       place = suc rest.place;
       stands = rest.stands;
       packet = rest.packet;
       under = rest.under;
+      listed = rw here rest.listed;
       before = rw here (ap (λ ps. x.1 ∷ ps) rest.before);
     }
     by_test false here m is more = let rest = more m p is in record {
@@ -65,6 +67,7 @@ place_among (x ∷ xs) s j m p is = by_test (is_under s j x) refl m is (place_am
       stands = rest.stands;
       packet = rest.packet;
       under = rest.under;
+      listed = rw here rest.listed;
       before = rw here rest.before;
     }
 
@@ -181,13 +184,13 @@ pub placed : (plan : Plan) → StreamsFit plan → DrawFacts plan → (h : Histo
     → Placed plan (sealed_packets plan h)
 unfolding sealed_packets
 placed plan fits facts [] law i x is = absurd cc
-placed plan fits facts ((Send p bytes more trusted, Sealed ds) ∷ h) law i x at =
-    let is = sealing_is plan h p bytes more trusted ds law.0 in
+placed plan fits facts ((e, Sealed ds) ∷ h) law i x at =
+    let is = sealing_is plan h e ds law.0 in
     let s = is.sending in
-    let all = all_of_sealing plan facts h law.1 p bytes ds is in
+    let all = all_of_sealing plan facts h law.1 (sending_port e) (sent_bytes plan h e) ds is in
     let bounds = bounded plan fits facts h law.1 s.port s.stream in
     all_placed plan fits s.port s.stream (live_at plan h s.port s.stream) (from_at plan h s.port s.stream) s.class
-    (id s.port s.stream) bytes is.tlp
+    (id s.port s.stream) (sent_bytes plan h e) is.tlp
     is.reads is.class (ahead_in plan (sealed_packets plan h) (base h)) ds (sealed_packets plan h) all bounds
     (placed plan fits facts h law.1) i x at
   where

@@ -5,7 +5,8 @@ use Rattle.sealing_laws.proofs.Terms.{if◌then◌else◌, not, nat_lt, nat_le, 
 use Rattle.sealing_laws.proofs.Terms.{sub_bits, SubKind, Pr, Npr, Cpl, PortName, SealedPacket, Packet, Plan, SubStream}
 use Rattle.sealing_laws.proofs.Terms.{lane_out, mode_of, units, open_unit, History, base, SealedList, KeyName}
 use Rattle.sealing_laws.proofs.Terms.{sealed_packets, sent_in, posted_in, posted_count, live_key, Sending, Lanes}
-use Rattle.sealing_laws.proofs.Terms.{lanes_at, sent_under, described, needs_sync, is_keyless, is_posted, ends_unit}
+use Rattle.sealing_laws.proofs.Terms.{lanes_at, sent_under, described, needs_sync, is_worn, is_keyless, is_posted}
+use Rattle.sealing_laws.proofs.Terms.{ends_unit}
 use Rattle.sealing_laws.proofs.Terms.{begins_unit, sets_trusted, no_key, CauseLaw, DrawFacts, is_same_sub, eqb-refl}
 use Rattle.sealing_laws.proofs.Terms.{sent-same, posted-own, posted-same, in_lane, has_key, on_live, listed}
 use Rattle.sealing_laws.proofs.Terms.{sealed_by_is, and_false, needs_posted, IsSealing}
@@ -28,6 +29,9 @@ pub record IsOf (plan : Plan) (port : PortName) (stream : ℕ) (live : SubKind �
   pub posted : is_posted d.sub ≡ false → d.posted ≡ posted_in xs (lane_out port stream d.sub) from
   pub more : d.m ≡ false →
       (length (open_unit (sent_in xs (lane_out port stream d.sub) d.draw)) + 1 == mode_of plan port.link stream) ≡ false
+  -- where it begins a unit, its key is not worn
+  pub unworn : length (open_unit (sent_in xs (lane_out port stream d.sub) d.draw)) ≡ 0
+      → (length (units (sent_in xs (lane_out port stream d.sub) d.draw)) == plan.units_per_key) ≡ false
   pub sync : d.sync ≡ true → IsSyncOf d
   pub class_is : d.sync ≡ false → class ≡ d.sub
   -- where it begins a posted unit, no posted count gets too large within it
@@ -77,18 +81,22 @@ module _ (plan : Plan) (facts : DrawFacts plan) (h : History) (law : CauseLaw pl
       is_posted s.class ≡ true → begins_unit (x.lane s.class) ≡ true
       → posted_in xs (lane u) from + mode ≤ 255 ⊎ (posted_in xs (lane u) from ≡ 0)
 
+  -- it has a key, with which a unit may begin
+  abbrev MaySeal : SubKind → Type 0
+  MaySeal u = (is_keyless x u ≡ false) × (is_worn x u ≡ false)
+
   stays : (u : SubKind) (xs : SealedList) → Same s.port s.stream from u xs xs
   stays u xs = record { sent = λ j. refl; posted = refl }
 
-  describes : (xs : SealedList) (u : SubKind) (number : ℕ) (m t sync : Bool) → is_keyless x u ≡ false
+  describes : (xs : SealedList) (u : SubKind) (number : ℕ) (m t sync : Bool) → MaySeal u
       → Same s.port s.stream from u (sealed_packets plan h) xs
       → (m ≡ false → (length (x.lane u).front + 1 == mode) ≡ false)
       → (sync ≡ true → IsSyncOf (described x s u number m t sync)) → (sync ≡ false → s.class ≡ u)
       → (is_posted u ≡ true → (s.class ≡ u) × ((w : SubKind) → is_posted w ≡ false → Clear xs w))
       → IsOf plan s.port s.stream (live_at plan h s.port s.stream) from s.class xs (described x s u number m t sync)
-  describes xs u number m t sync keyed same more is_sync class clear =
+  describes xs u number m t sync may same more is_sync class clear =
       let place = lane u in
-      let held = has_key x u keyed in
+      let held = has_key x u may.0 in
       let key : unwrap_or (live_key h s.port place) no_key ≡ held.key = ap (λ (o : Option KeyName). unwrap_or o no_key)
       held.is in
       let live_is : live_key h s.port place ≡ Some (unwrap_or (live_key h s.port place) no_key) = held.is ∙ ap
@@ -105,6 +113,9 @@ module _ (plan : Plan) (facts : DrawFacts plan) (h : History) (law : CauseLaw pl
         none = λ posted. ap (λ (b : Bool). if b then 0 else posted_count plan h place) posted;
         posted = λ other. ap (λ (b : Bool). if b then 0 else posted_count plan h place) other ∙ sym same.posted;
         more = λ not_m. ap (λ (ps : List Packet). length (open_unit ps) + 1 == mode) under ∙ more not_m;
+        unworn = λ empty.
+            let begins = eq-eqb _ 0 (sym (ap (λ (ps : List Packet). length (open_unit ps)) under) ∙ empty) in
+            ap (λ (ps : List Packet). length (units ps) == plan.units_per_key) under ∙ and_false _ _ may.1 begins;
         sync = is_sync;
         class_is = class;
         clear = λ posted empty w other.
@@ -123,13 +134,13 @@ module _ (plan : Plan) (facts : DrawFacts plan) (h : History) (law : CauseLaw pl
   -- a sync packet of a sub-stream, where one is needed, and what comes behind it
   with_sync : (u : SubKind) (b : Bool) (number : ℕ) (ys : SealedList) (rest : List SealedPacket) → is_posted u ≡ false
       → needs_sync x s.class u ≡ b
-      → (b ≡ true → is_keyless x u ≡ false) → Same s.port s.stream from u (sealed_packets plan h) ys
+      → (b ≡ true → MaySeal u) → Same s.port s.stream from u (sealed_packets plan h) ys
       → ((zs : SealedList) → Clear zs u →
       ((w : SubKind) → (b ≡ true → is_same_sub u w ≡ false) → Same s.port s.stream from w ys zs) → All zs rest)
       → All ys ((if b then described x s u number true false true ∷ [] else []) ++ rest)
-  with_sync u true number ys rest other needed keyed same next =
+  with_sync u true number ys rest other needed may same next =
       let d = described x s u number true false true in
-      let one = describes ys u number true false true (keyed refl) same (λ is. absurd cc)
+      let one = describes ys u number true false true (may refl) same (λ is. absurd cc)
       (λ is. record { sub = not_pr u other; m = refl; t = refl })
       (λ is. absurd cc) (λ posted. absurd cc) in
       let here = in_lane s.port s.stream d u refl refl ∙ eqb-refl (sub_bits u) in
@@ -144,7 +155,7 @@ module _ (plan : Plan) (facts : DrawFacts plan) (h : History) (law : CauseLaw pl
                   (rw off refl) (rw off_posted refl);
             }),
       )
-  with_sync u false number ys rest other none keyed same next = next ys (λ posted begins. inl (room posted begins))
+  with_sync u false number ys rest other none may same next = next ys (λ posted begins. inl (room posted begins))
       (λ w behind. stays w ys)
     where
       room : is_posted s.class ≡ true → begins_unit (x.lane s.class) ≡ true → posted_in ys (lane u) from + mode ≤ 255
@@ -153,12 +164,10 @@ module _ (plan : Plan) (facts : DrawFacts plan) (h : History) (law : CauseLaw pl
           rw same.posted (ltb-false 255 _ test)
 
   all_of : (number : ℕ) (n c : Bool) → needs_sync x s.class Npr ≡ n → needs_sync x s.class Cpl ≡ c
-      → is_keyless x s.class ≡ false
-      → (n ≡ true → (s.class ≡ Pr) × (is_keyless x Npr ≡ false))
-      → (c ≡ true → (s.class ≡ Pr) × (is_keyless x Cpl ≡ false))
+      → MaySeal s.class → (n ≡ true → (s.class ≡ Pr) × MaySeal Npr) → (c ≡ true → (s.class ≡ Pr) × MaySeal Cpl)
       → All (sealed_packets plan h) (listed x s number n c)
   unfolding listed
-  all_of number n c n_is c_is keyed requests completions =
+  all_of number n c n_is c_is may requests completions =
       let first : List SealedPacket = if n then described x s Npr number true false true ∷ [] else [] in
       let second : List SealedPacket = if c then described x s Cpl (number + length first) true false true
       ∷ [] else [] in
@@ -174,7 +183,7 @@ module _ (plan : Plan) (facts : DrawFacts plan) (h : History) (law : CauseLaw pl
       let same : Same s.port s.stream from s.class (sealed_packets plan h) zs =
       record { sent = λ j. after.sent j ∙ before.sent j; posted = after.posted ∙ before.posted } in
       let clear = each zs (λ posted begins. rw (two Npr (λ is. refl)).posted (npr posted begins)) cpl in (
-        describes zs s.class _ (ends_unit x s) (sets_trusted s.port s.trusted) false keyed same
+        describes zs s.class _ (ends_unit x s) (sets_trusted s.port s.trusted) false may same
             (λ is. (or_parts (not s.more) _ is).1)
             (λ is. absurd cc) (λ is. refl)
             (λ posted. (refl, clear)),
@@ -195,8 +204,16 @@ pub all_of_sealing : (plan : Plan) → DrawFacts plan → (h : History) → Caus
 all_of_sealing plan facts h law port bytes ds is =
     let s = is.sending in
     let x = lanes_at plan h s.port s.stream in
+    let free = is.free in
     subst (AllOf plan s.port s.stream (live_at plan h s.port s.stream) (from_at plan h s.port s.stream) s.class
     (sealed_packets plan h)) (sym (is.list ∙ sealed_by_is x s is.number))
-    (all_of plan facts h law s is.number (needs_sync x s.class Npr) (needs_sync x s.class Cpl) refl refl is.free.1.0
-    (λ needs. (needs_posted x s.class Npr needs, and_false _ _ is.free.1.1.1.0 needs))
-    (λ needs. (needs_posted x s.class Cpl needs, and_false _ _ is.free.1.1.1.1.0 needs)))
+    (all_of plan facts h law s is.number (needs_sync x s.class Npr) (needs_sync x s.class Cpl) refl refl
+    (free.1.0, free.1.1.1.1.1.0)
+    (λ needs. (
+      needs_posted x s.class Npr needs,
+      (and_false _ _ free.1.1.1.0 needs, and_false _ _ free.1.1.1.1.1.1.0 needs),
+    ))
+    (λ needs. (
+      needs_posted x s.class Cpl needs,
+      (and_false _ _ free.1.1.1.1.0 needs, and_false _ _ free.1.1.1.1.1.1.1.0 needs),
+    )))

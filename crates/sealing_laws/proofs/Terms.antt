@@ -43,27 +43,14 @@ pub use Rattle.link_history.specs.History.{ahead_in, SealedList, KeyName, with_s
 pub use Rattle.link_history.specs.History.{sub_stream_of, ends_in, sent, is_under, is_of_unit, live_key}
 pub use Rattle.link_history.specs.History.{untagged_packet, unit_tag, keys_at, posted_count, received_in}
 pub use Rattle.link_history.specs.History.{arrived_packet, is_of, front_due, pending, Arrival, on_draw, failed}
-unfoldable pub use Rattle.link_history.specs.History.{
-  sealed_packets,
-  packet_of,
-  sent_in,
-  posted_in,
-  total_in,
-  front_of,
-  front_sent,
-  units_got,
-  draws_got,
-  units_since,
-  held,
-  got,
-  got_since,
-  arrived,
-  meets_counts,
-}
+unfoldable pub use Rattle.link_history.specs.History.{sealed_packets, packet_of, sent_in, posted_in, total_in}
+unfoldable pub use Rattle.link_history.specs.History.{front_of, front_sent, units_got, draws_got, units_since, held}
+unfoldable pub use Rattle.link_history.specs.History.{got, got_since, arrived, meets_counts}
 pub use Rattle.link_history.specs.Due.{is_posted, Sending, Lanes, lanes_at, needs_sync, sent_under, described}
-pub use Rattle.link_history.specs.Due.{is_keyless, ends_unit, begins_unit, sets_trusted, no_key, receiving, ended}
+pub use Rattle.link_history.specs.Due.{is_worn, is_keyless, ends_unit, begins_unit, sets_trusted, no_key, receiving}
+pub use Rattle.link_history.specs.Due.{ended}
 pub use Rattle.link_history.specs.Due.{unit_under, Ending, arrival_due, settled, under_keys, is_mixed, is_overfull}
-pub use Rattle.link_history.specs.Due.{effect_of}
+pub use Rattle.link_history.specs.Due.{effects_of}
 unfoldable pub use Rattle.link_history.specs.Due.{due, before_tag, is_verified}
 pub use Rattle.link_history.specs.Cause.{CauseLaw}
 pub use Rattle.link_history.specs.KeyFacts.{DrawFacts, NoneFrom, BaseStays}
@@ -91,7 +78,10 @@ pub use Rattle.link_history.proofs.Sealed.{sent_in-snoc, sent-same, posted-own, 
 pub use Rattle.link_history.proofs.Sealed.{posted_elsewhere, any_out, is_out, posted-same}
 pub use Rattle.link_history.proofs.Senders.{in_lane, sealed_by_is, on_live, lane_is, has_key, and_false, needs_posted}
 unfoldable pub use Rattle.link_history.proofs.Senders.{listed}
-pub use Rattle.link_history.proofs.SealingIs.{sealing_is, IsSealing, IsLive, AllLive, all_live, sealed_same}
+pub use Rattle.link_history.specs.History.{sent_bytes}
+pub use Rattle.link_history.proofs.SealingIs.{is_sealing, sealed_by_sealing, sealing_is, sending_port, IsSealing}
+pub use Rattle.link_history.proofs.SealingIs.{IsLive, AllLive}
+pub use Rattle.link_history.proofs.SealingIs.{all_live, sealed_same}
 pub use Rattle.sealing_laws.proofs.Fits.{StreamsFit}
 pub use Rattle.gcm_seal.proofs.Strings.{length-masked}
 pub use Rattle.gcm_seal.proofs.Sealing.{masked-bytes, length-tag_of, tag_of-bytes, length-open_of, masked-masked}

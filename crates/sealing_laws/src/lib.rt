@@ -3,4 +3,4 @@
 
 mod laws;
 
-pub use laws::totals_fit;
+pub use laws::{numbers_fresh, totals_fit};

@@ -32,7 +32,7 @@ slots_at false u st = (at_sub st.rx u).slots
 abbrev pub pair_at : Bool → SubKind → StreamState → SlotPair
 pair_at sends u st = slot_pair sends (slots_at sends u st)
 
--- a KEY_PROG of a Live slot is refused where the other is not a newer Live one
+-- a KEY_PROG of a Live slot is refused if the other slot holds no newer Live key
 abbrev pub slots_called_out : SlotCall → Slots → Slots
 slots_called_out (Program k key draw) s =
     if is_only_live (slot_pair true s) k then s else with_slot s k (Programmed draw key)

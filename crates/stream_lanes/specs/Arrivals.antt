@@ -35,7 +35,7 @@ abbrev pub new_receive_end : SubKind → ℕ → Bool → ReceiveEnd
 new_receive_end sub mode closed =
     record { sub = sub; mode = mode; closed = closed; kept = no_rx; delivered = []; takes = 0 }
 
--- the posted counts, with those of a unit, come to at most as many as there are posted packets
+-- the posted counts, with those of a unit, sum to at most the number of posted packets
 abbrev pub allows : ReceiveEnd → ℕ → List Packet → Bool
 allows e got unit = (sub_bits e.sub == 0) || nat_le (e.kept.sum + posted_sum unit) got
 
@@ -47,7 +47,7 @@ taken_at e got p (Some x) other =
     else if p.prefix.m then checked (is_tagged e.closed e.kept.total x p) (allows e got (x.packets ++ p ∷ [])) x p
     else Held x.draw (x.units + 1)
 
--- the answer to a packet of it, where so many posted packets were accepted
+-- the answer to a packet of it, after so many accepted posted packets
 abbrev pub taken_here : ReceiveEnd → ℕ → Packet → Taken
 taken_here e got p = taken_at e got p (live_in (slot_in e.kept.slots p.prefix.k))
     (live_in (slot_in e.kept.slots (not p.prefix.k)))
@@ -172,7 +172,7 @@ any_into rx = any_live rx.pr.slots || any_live rx.npr.slots || any_live rx.cpl.s
 abbrev pub all_into : Three RxSub → Bool
 all_into rx = any_live rx.pr.slots && any_live rx.npr.slots && any_live rx.cpl.slots
 
--- they count from 0 where none has a Live slot
+-- they count from 0 if none has a Live slot
 abbrev pub settled_into : Three RxSub → Three RxSub
 settled_into rx =
     let into = any_into rx in

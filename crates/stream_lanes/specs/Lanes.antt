@@ -55,7 +55,7 @@ said e m t sync =
       sync = sync;
     }
 
--- a TLP's packet, which goes on with its unit where that has room and `more` is said; and a sync packet
+-- a TLP's packet, which goes on with its unit if that has room and `more` is said; and a sync packet
 abbrev pub tlp_said : SendEnd → Bool → Bool → Described
 tlp_said e t more = said e (not more || (length (lane_in e).front + 1 == e.fixed.mode)) t false
 
@@ -161,7 +161,7 @@ any_out tx = any_live tx.pr.slots || any_live tx.npr.slots || any_live tx.cpl.sl
 abbrev pub all_out : Three TxSub → Bool
 all_out tx = any_live tx.pr.slots && any_live tx.npr.slots && any_live tx.cpl.slots
 
--- they count from 0 where none has a Live slot
+-- they count from 0 if none has a Live slot
 abbrev pub settled_out : Three TxSub → Three TxSub
 settled_out tx =
     let out = any_out tx in
@@ -178,7 +178,7 @@ called_ends x u call =
 
 -- ---- a send
 
--- a sync packet goes first in this sub-stream, where one is needed
+-- a sync packet goes first in this sub-stream, if one is needed
 abbrev pub synced : Bool → SubKind → SendEnds → SendEnds
 synced needed u x = if needed then sealed_ends x [] [] (sync_said (end_at x u)) else x
 

@@ -1,4 +1,4 @@
--- What a send comes to at the senders of a stream: its answer, and the packets' bytes.
+-- What becomes of a send at the senders of a stream: its answer, and the packets' bytes.
 use Rattle.std.specs.Prelude.{ℕ, ◌≡◌, ◌+◌, List, [], ◌∷◌, ◌++◌, length, map}
 use Rattle.ide_types.specs.declared.port.PortName.{PortName}
 use Rattle.link_verdicts.specs.declared.verdict.Verdict.{Verdict}

@@ -31,7 +31,7 @@ impl Sealed {
         }
     }
 
-    /// Puts a packet behind the others.
+    /// Appends a packet.
     pub fn push(&mut self, packet: SealedPacket)
         requires { length self.old < 3 }
         ensures { self.new ≡ self.old ++ packet ∷ [] }

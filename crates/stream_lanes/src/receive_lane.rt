@@ -56,7 +56,7 @@ impl Model for ReceiveLane {
     ghost invariant = { λ r. IsReceiveLane r.rx r.closed r.sum r.got r.total };
 }
 
-// The sum to which the posted counts of a unit may come, where so many posted packets were accepted; any in the posted
+// The most that the posted counts of a unit may sum to after so many accepted posted packets; any sum in the posted
 // sub-stream.
 fn allowed_sum(sub: SubKind, sum: u64, got: u64) -> u64
     requires { is_posted sub ≡ false → sum ≤ got }
@@ -69,7 +69,7 @@ fn allowed_sum(sub: SubKind, sum: u64, got: u64) -> u64
     }
 }
 
-// Counts an accepted unit, whose posted counts come to `posted`.
+// Counts an accepted unit, whose posted counts sum to `posted`.
 fn count(taken: &Taken, posted: u64, sum: &mut u64, got: &mut u64, total: &mut u64)
     requires posted { posted ≤ 2040 }
     requires sum { sum.old < 2 ^ 60 }
@@ -119,7 +119,7 @@ impl ReceiveLane {
         self.got
     }
 
-    /// Takes a packet of this sub-stream, where `got` posted packets were accepted, and answers what became of it.
+    /// Takes a packet of this sub-stream after `got` accepted posted packets, and answers what became of it.
     pub fn take(&mut self, packet: &PacketView, got: u64) -> Taken
         requires view { IsView packet.now }
         requires sub { packet.now.prefix.sub ≡ self.old.sub }
@@ -193,7 +193,8 @@ impl ReceiveLane {
         self.total = 0;
     }
 
-    /// Puts a key of this draw into the slot, as the receiver does.
+    /// Puts a key of this draw into the slot. Returns `OnlyLive` exactly if this slot is Live and the other holds no
+    /// newer Live key: then the key comes back.
     pub fn program(&mut self, set: u8, key: Key, draw: u32) -> Result<(), OnlyLive>
         requires { set < 2 }
         ensures answer { result ≡ program_answer (slot_pair false self.old.kept.slots) (is_one set) key }
@@ -203,7 +204,7 @@ impl ReceiveLane {
         self.rx.program(set, key, draw)
     }
 
-    /// GO.
+    /// GO: a Programmed key is Live. Returns `SlotEmpty` exactly if the slot is Empty.
     pub fn go(&mut self, set: u8) -> Result<(), SlotEmpty>
         requires { set < 2 }
         ensures answer { is_ok result ≡ not (is_empty (key_slot_in (slot_pair false self.old.kept.slots)
@@ -214,7 +215,7 @@ impl ReceiveLane {
         self.rx.go(set)
     }
 
-    /// STOP.
+    /// STOP: empties the slot, whose held packets go.
     pub fn halt(&mut self, set: u8)
         requires { set < 2 }
         ensures kept { self.new.kept ≡ called_into self.old (Halt (is_one set)) }

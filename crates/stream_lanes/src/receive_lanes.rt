@@ -111,7 +111,7 @@ pub fn failed(taken: &Taken) -> bool
     matches!(taken, Taken::Fail(_))
 }
 
-// Drops what is held, where a check failed.
+// Drops what is held, if a check failed.
 fn drop_failed(taken: &Taken, lane: &mut ReceiveLane)
     ensures kept { lane.new.kept ≡ (if is_fail taken.now then dropped_held lane.old.kept else lane.old.kept) }
     ensures delivered { is_fail taken.now ≡ false → lane.new.delivered ≡ lane.old.delivered }
@@ -183,7 +183,7 @@ impl ReceiveLanes {
         taken
     }
 
-    /// Lends nothing any more.
+    /// Ends the loan of what an accepted unit carried.
     pub fn unlend(&mut self)
         ensures { self.new ≡ record self.old { delivered = [] } }
     {
@@ -223,7 +223,7 @@ impl ReceiveLanes {
         }
     }
 
-    /// They count from 0 where none has a Live slot.
+    /// Lets them count from 0 again if none has a Live slot.
     pub fn settle(&mut self)
         ensures { self.new ≡ record self.old { rx = settled_into self.old.rx } }
     {
@@ -234,7 +234,8 @@ impl ReceiveLanes {
         }
     }
 
-    /// Puts a key of this draw into a slot, as a receiver does.
+    /// Puts a key of this draw into a slot of a sub-stream's receiver. Returns `OnlyLive` exactly if this slot is Live
+    /// and the other holds no newer Live key: then the key comes back.
     pub fn program(&mut self, sub: SubKind, set: u8, key: Key, draw: u32) -> Result<(), OnlyLive>
         requires { set < 2 }
         ensures answer { result ≡ program_answer (slot_pair false (at_sub self.old.rx sub).slots) (is_one set) key }
@@ -248,7 +249,7 @@ impl ReceiveLanes {
         }
     }
 
-    /// GO.
+    /// GO to a slot of a sub-stream's receiver. Returns `SlotEmpty` exactly if the slot is Empty.
     pub fn go(&mut self, sub: SubKind, set: u8) -> Result<(), SlotEmpty>
         requires { set < 2 }
         ensures answer { is_ok result ≡ not (is_empty (key_slot_in (slot_pair false (at_sub self.old.rx sub).slots)
@@ -263,7 +264,7 @@ impl ReceiveLanes {
         }
     }
 
-    /// STOP.
+    /// STOP: empties a slot of a sub-stream's receiver, whose held packets go.
     pub fn halt(&mut self, sub: SubKind, set: u8)
         requires { set < 2 }
         ensures { self.new ≡ called_receivers self.old sub (Halt (is_one set)) }

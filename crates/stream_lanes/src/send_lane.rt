@@ -123,7 +123,7 @@ impl SendLane {
     }
 
     /// Seals a TLP's header and payload under the Live key, and appends its packet to `out`. `t` says that the TLP is
-    /// trusted, `more` that the unit goes on where it has room.
+    /// trusted, `more` that the unit goes on if it has room.
     pub fn seal(
         &mut self,
         head: &[u8],
@@ -179,7 +179,7 @@ impl SendLane {
         packet
     }
 
-    /// A posted packet was sealed.
+    /// Counts a posted packet that was sealed.
     pub fn count_posted(&mut self)
         requires sub { is_posted self.old.sub ≡ false }
         requires few { self.old.kept.posted < 255 }
@@ -197,7 +197,8 @@ impl SendLane {
         self.total = 0;
     }
 
-    /// Puts a key of this draw into the slot, as the sender does.
+    /// Puts a key of this draw into the slot. Returns `OnlyLive` exactly if this slot is Live and the other holds no
+    /// newer Live key: then the key comes back.
     pub fn program(&mut self, set: u8, key: Key, draw: u32) -> Result<(), OnlyLive>
         requires { set < 2 }
         ensures answer { result ≡ program_answer (slot_pair true self.old.kept.slots) (is_one set) key }
@@ -207,7 +208,8 @@ impl SendLane {
         self.tx.program(set, key, draw)
     }
 
-    /// GO.
+    /// GO: a Programmed key is Live at once if no unit is open, else it waits, Armed, for the unit's end. Returns
+    /// `SlotEmpty` exactly if the slot is Empty.
     pub fn go(&mut self, set: u8) -> Result<(), SlotEmpty>
         requires { set < 2 }
         ensures answer { is_ok result ≡ not (is_empty (key_slot_in (slot_pair true self.old.kept.slots) (is_one set))) }
@@ -217,7 +219,7 @@ impl SendLane {
         self.tx.go(set)
     }
 
-    /// STOP.
+    /// STOP: empties the slot, and drops an open unit under its key; a key that waited for that unit's end is Live.
     pub fn halt(&mut self, set: u8)
         requires { set < 2 }
         ensures lane { self.new ≡ called_end self.old (Halt (is_one set)) }

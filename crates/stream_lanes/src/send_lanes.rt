@@ -119,7 +119,7 @@ impl SendLanes {
         self.lane(sub).live_set()
     }
 
-    // Whether a sync packet goes first in sub-stream `sub`, NPR or CPL, where a TLP of this class is sent.
+    // Whether a sync packet goes first in sub-stream `sub`, NPR or CPL, if a TLP of this class is sent.
     fn needs_sync(&self, class: SubKind, sub: SubKind) -> bool
         requires { is_posted sub ≡ false }
         ensures value { result ≡ needs_sync (lanes_at self.now) class sub }
@@ -169,7 +169,9 @@ impl SendLanes {
         self.needs_sync(class, sub) && self.worn(sub)
     }
 
-    /// Why a TLP of this sub-stream is not sealed, where it is not.
+    /// Why a TLP of this sub-stream is not sealed; `None` if it is. In this order: NoKey of the sub-stream, Unfinished,
+    /// NoKey of a sub-stream that needs a sync packet first, Worn of the sub-stream, Worn of one that needs a sync
+    /// packet first.
     pub fn refusal(&self, sub: SubKind) -> Option<SendRefusal>
         ensures { option_map refusal_verdict result ≡ first_that_holds (refusals (lanes_at self.now) sub) }
     {
@@ -197,7 +199,7 @@ impl SendLanes {
         None
     }
 
-    // Seals a sync packet in the non-posted sub-stream, where one is needed.
+    // Seals a sync packet in the non-posted sub-stream, if one is needed.
     fn sync_npr(&mut self, needed: bool, sealed: &mut Sealed, out: &mut Vec<u8>)
         requires live { needed ≡ true → any_live self.old.tx.npr.slots ≡ true }
         requires unworn { needed ≡ true → is_spent (end_at self.old Npr) ≡ false }
@@ -217,7 +219,7 @@ impl SendLanes {
         }
     }
 
-    // Seals a sync packet in the completion sub-stream, where one is needed.
+    // Seals a sync packet in the completion sub-stream, if one is needed.
     fn sync_cpl(&mut self, needed: bool, sealed: &mut Sealed, out: &mut Vec<u8>)
         requires live { needed ≡ true → any_live self.old.tx.cpl.slots ≡ true }
         requires unworn { needed ≡ true → is_spent (end_at self.old Cpl) ≡ false }
@@ -301,7 +303,8 @@ impl SendLanes {
         }
     }
 
-    /// Seals a TLP that is not refused, behind the sync packets that must go first.
+    /// Seals a TLP that `refusal` does not refuse, after the sync packets that must go first, and appends the packets
+    /// to `out`. `t` says that the TLP is trusted, `more` that its unit goes on if it has room.
     pub fn send(
         &mut self,
         sub: SubKind,
@@ -332,7 +335,7 @@ impl SendLanes {
         sealed
     }
 
-    /// They count from 0 where none has a Live slot.
+    /// Lets them count from 0 again if none has a Live slot.
     pub fn settle(&mut self)
         ensures { self.new ≡ record self.old { tx = settled_out self.old.tx } }
     {
@@ -343,7 +346,8 @@ impl SendLanes {
         }
     }
 
-    /// Puts a key of this draw into a slot, as a sender does.
+    /// Puts a key of this draw into a slot of a sub-stream's sender. Returns `OnlyLive` exactly if this slot is Live
+    /// and the other holds no newer Live key: then the key comes back.
     pub fn program(&mut self, sub: SubKind, set: u8, key: Key, draw: u32) -> Result<(), OnlyLive>
         requires { set < 2 }
         ensures answer { result ≡ program_answer (slot_pair true (at_sub self.old.tx sub).slots) (is_one set) key }
@@ -356,7 +360,7 @@ impl SendLanes {
         }
     }
 
-    /// GO.
+    /// GO to a slot of a sub-stream's sender. Returns `SlotEmpty` exactly if the slot is Empty.
     pub fn go(&mut self, sub: SubKind, set: u8) -> Result<(), SlotEmpty>
         requires { set < 2 }
         ensures answer { is_ok result ≡ not (is_empty (key_slot_in (slot_pair true (at_sub self.old.tx sub).slots)
@@ -370,7 +374,8 @@ impl SendLanes {
         }
     }
 
-    /// STOP.
+    /// STOP: empties a slot of a sub-stream's sender, and drops an open unit under its key; a key that waited for that
+    /// unit's end is Live.
     pub fn halt(&mut self, sub: SubKind, set: u8)
         requires { set < 2 }
         ensures { self.new ≡ called_ends self.old sub (Halt (is_one set)) }

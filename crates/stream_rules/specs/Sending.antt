@@ -1,4 +1,4 @@
--- What a send comes to: the refusals in their order, and the packets that are sealed.
+-- What becomes of a send: the refusals in their order, and the packets that are sealed.
 use Rattle.std.specs.Prelude.{ℕ, ◌+◌, Bool, true, false, not, ◌&&◌, ◌||◌, if◌then◌else◌, ◌==◌, nat_lt, Option, Some}
 use Rattle.std.specs.Prelude.{None, List, [], ◌∷◌, ◌++◌, length, is_none, unwrap_or}
 use Rattle.std.specs.Int.{w64, to_be_bytes}

@@ -1,4 +1,4 @@
--- A port's part of one stream: what is kept, what a send seals, and what an arrival comes to.
+-- A port's part of one stream: what is kept, what a send seals, and what becomes of an arrival.
 use Rattle.std.specs.Prelude.{ℕ, ◌+◌, ◌==◌, Bool, true, false, not, ◌&&◌, ◌||◌, nat_lt, nat_le, List, [], ◌∷◌, ◌++◌}
 use Rattle.std.specs.Prelude.{length, sum_by, Option, Some, None, if◌then◌else◌}
 use Rattle.ide_types.specs.Sub.{sub_bits, is_same_sub}
@@ -184,7 +184,7 @@ sealed_all closed head payload (d ∷ ds) tx =
 
 -- ---- arrivals
 
--- what an arrival comes to: of a held packet the draw and the unit, of an accepted one its packets too
+-- what becomes of an arrival: of a held packet the draw and the unit, of an accepted one its packets too
 pub data Taken : Type 0 where
   Insecure : Taken
   NotKeyed : Taken
@@ -199,7 +199,7 @@ holds_any (Some x) = nat_lt 0 (length x.packets)
 abbrev pub posted_sum : List Packet → ℕ
 posted_sum ps = sum_by (λ (p : Packet). p.prefix.posted) ps
 
--- the posted counts may come to as many as there are posted packets
+-- the posted counts may sum to the number of posted packets, and no more
 abbrev pub is_allowed : Three RxSub → SubKind → List Packet → Bool
 is_allowed rx u unit = (sub_bits u == 0) || nat_le ((at_sub rx u).sum + posted_sum unit) rx.pr.got
 

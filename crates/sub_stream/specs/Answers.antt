@@ -24,7 +24,7 @@ numbered port number p = record {
   sync = p.sync;
 }
 
--- what is answered to a packet; none where the stream is insecure
+-- what is answered to a packet; none if the stream is insecure
 abbrev pub answer_of : Answer → Option Taken
 answer_of Insecure = None
 answer_of Keyless = Some NotKeyed

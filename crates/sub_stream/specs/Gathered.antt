@@ -19,7 +19,7 @@ pub record Gathered : Type 0 where
 abbrev pub no_packets : ℕ → Gathered
 no_packets mode = record { mode = mode; front = []; packets = [] }
 
--- a unit that begins, behind these bytes
+-- a unit that begins, after these bytes
 abbrev pub begun_unit : ℕ → List ℕ → Gathered
 begun_unit mode front = record { mode = mode; front = front; packets = [] }
 
@@ -45,7 +45,7 @@ packets_in (x ∷ xs) (p ∷ ps) = record { prefix = p; head = drop 4 x.0; body 
 abbrev pub parts_of : Packet → List ℕ × List ℕ
 parts_of p = (clear_bytes p, p.body)
 
--- the buffer has the packets of these prefixes, whose posted counts come to this sum
+-- the buffer has the packets of these prefixes, whose posted counts have this sum
 pub record IsGathered (prefixes : List Prefix) (posted : ℕ) (buf : Collected) : Type 0 where
   pub places : length prefixes ≡ 8
   pub small_mode : buf.mode ≤ 8

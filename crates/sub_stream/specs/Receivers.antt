@@ -81,7 +81,7 @@ abbrev pub is_accepted : Answer → Bool
 is_accepted (answers.Accepted draw unit count) = true
 is_accepted answer = false
 
--- the other slot is emptied where it is Live under an older draw
+-- the other slot is emptied if it is Live under an older draw
 abbrev pub is_draw_below : ℕ → Option ℕ → Bool
 is_draw_below draw None = false
 is_draw_below draw (Some other) = nat_lt other draw
@@ -110,7 +110,7 @@ abbrev pub fits_held : Holds → ℕ → ℕ → Bool → Bool → Bool
 fits_held h n mode k m =
     not (holds_apart k h || (not m && nat_le mode ((if holds_some h then n else 0) + 1)))
 
--- what is held where a slot is emptied
+-- what is held if a slot is emptied
 abbrev pub left_without : Bool → Holds → Holds
 left_without k Zero = if k then Zero else Nothing
 left_without k One = if k then Nothing else One
@@ -182,7 +182,7 @@ BufferAfter begun x p (Accepted draw unit packets) new =
     new ≡ record begun { packets = opened x.key (iv_of p.prefix.sub (x.units + 1)) packets }
 BufferAfter begun x p answer new = Unit {0}
 
--- the answer to a packet of the sub-stream, whose unit's posted counts may come to this sum
+-- the answer to a packet of the sub-stream, whose unit's posted counts may sum to `allowed` at most
 abbrev pub taken_of : Receiver → ℕ → List ℕ → Packet → Taken
 taken_of rx allowed front p = taken_with rx allowed front p (key_for rx p.prefix.k) (key_for rx (not p.prefix.k))
 

@@ -8,7 +8,7 @@ use Rattle.key_slots.specs.declared.slot.Slot.{Slot as KeySlot}
 use Rattle.key_slots.specs.{SlotPair, DrawnKey, live_held, is_live, is_armed}
 use Rattle.key_slots.specs.declared.slot.Slot.TheVariants as key
 
--- a slot, with the units and the open unit's packets of its key where that is Live
+-- a slot, with the units and the open unit's packets of its key if that is Live
 abbrev pub seen : ℕ → List Packet → KeySlot → Slot
 seen units packets key.Empty = Empty
 seen units packets (key.Programmed held) = Programmed held.draw held.key

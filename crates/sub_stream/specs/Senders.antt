@@ -113,11 +113,11 @@ with_length d n = record {
   length = n;
 }
 
--- what stands ahead of unit n, where this is given for the first
+-- what stands ahead of unit n, if this is given for the first
 abbrev pub ahead_of : List ℕ → ℕ → List ℕ
 ahead_of front n = if n == 1 then front else []
 
--- a unit that begins where no packet is there; what stands ahead of it is set then
+-- a unit that begins if no packet is there; what stands ahead of it is set then
 abbrev pub begun_where_empty : Gathered → List ℕ → ℕ → Gathered
 begun_where_empty unit front n =
     record unit { front = if length unit.packets == 0 then ahead_of front n else unit.front }
@@ -154,7 +154,7 @@ abbrev pub sealing_under : Sender → List ℕ → Content → Bool → Result (
 sealing_under tx front c more (Err e) = Err e
 sealing_under tx front c more (Ok x) = Ok (sealing_as tx front x c (ends tx x.1 more))
 
--- what sealing comes to; `more` says that the unit goes on where it has room
+-- what becomes of sealing; `more` says that the unit goes on if it has room
 abbrev pub sealing_of : Sender → List ℕ → Content → Bool → Result Sealing TxRefusal
 sealing_of tx front c more = sealing_under tx front c more (ready_of tx)
 

@@ -10,11 +10,11 @@ pub struct SealedPacket {
     pub draw: u32,
     /// The unit's counter under its draw, from 1.
     pub unit: u64,
-    /// The unit's last packet, which carries the tag.
+    /// Whether it is its unit's last packet, which carries the tag.
     pub m: bool,
-    /// The key set.
+    /// The key set: 1 if true.
     pub k: bool,
-    /// Trusted.
+    /// Whether it is trusted.
     pub t: bool,
     pub posted: u8,
     pub sync: bool,

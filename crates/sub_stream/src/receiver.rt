@@ -118,7 +118,7 @@ impl Rx {
         }
     }
 
-    // The answer that comes before a look at the tag, where one does.
+    // The answer that needs no look at the tag, if there is one.
     fn early(&self, packet: &PacketView) -> Option<Taken>
         ensures { result ≡ early_of self.now (packet_of_view packet.now) }
     {
@@ -132,10 +132,10 @@ impl Rx {
         }
     }
 
-    /// Takes a packet of this sub-stream that `cut` gave, and answers what became of it. `allowed` is the sum to which
-    /// the posted counts of its unit may come; `front` is the total on a closed stream, which stands ahead of what is
-    /// authenticated of unit 1 under a key. Only an accepted unit moves a counter or empties a slot; what it carries is
-    /// lent until the next change. A failed check drops the held packets.
+    /// Takes a packet of this sub-stream that `cut` gave, and answers what became of it. `allowed` is the most that the
+    /// posted counts of its unit may sum to; `front` is the total on a closed stream (8 bytes), which is authenticated
+    /// before the packets of unit 1 under a key. Only an accepted unit moves a counter or empties a slot; what it
+    /// carries is lent until the next change. A failed check drops the held packets.
     pub fn take(&mut self, packet: &PacketView, allowed: u64, front: Option<&[u8; 8]>) -> Taken
         requires view { IsView packet.now }
         requires few { self.old.takes < 2 ^ 40 }
@@ -154,7 +154,7 @@ impl Rx {
         }
     }
 
-    // Takes a packet under its Live key, where it fits what is held.
+    // Takes a packet under its Live key, if it fits what is held.
     fn take_keyed(&mut self, packet: &PacketView, allowed: u64, front: Option<&[u8; 8]>) -> Taken
         requires view { IsView packet.now }
         requires few { self.old.takes < 2 ^ 40 }
@@ -184,7 +184,7 @@ impl Rx {
         self.holds = Holds::Nothing;
     }
 
-    /// How many packets the unit has that the last change accepted, 0 where it was another change.
+    /// How many packets the unit has that the last change accepted, 0 if it was another change.
     pub fn delivered(&self) -> usize
         ensures value { result ≡ length self.now.delivered }
         ensures most { result ≤ 8 }
@@ -212,7 +212,7 @@ impl Rx {
         self.unit.mark(i)
     }
 
-    /// The sum of the posted counts of the unit that the last change accepted, 0 where it was another change.
+    /// The sum of the posted counts of the unit that the last change accepted, 0 if it was another change.
     pub fn posted(&self) -> u64
         ensures value { result ≡ posted_sum self.now.delivered }
         ensures few { result ≤ 2040 }
@@ -223,8 +223,8 @@ impl Rx {
         }
     }
 
-    /// Puts a key of this draw into the slot, whose held packets go. `OnlyLive` comes exactly where the slot is Live
-    /// and the other is not a newer Live one: the key comes back, and nothing changes.
+    /// Puts a key of this draw into the slot, whose held packets go. Returns `OnlyLive` exactly if this slot is Live
+    /// and the other holds no newer Live key: then the key comes back, and nothing changes.
     pub fn program(&mut self, set: u8, key: Key, draw: u32) -> Result<(), OnlyLive>
         requires { set < 2 }
         ensures answer { result ≡ program_answer (slot_pair false self.old.slots) (is_one set) key }
@@ -239,7 +239,7 @@ impl Rx {
         }
     }
 
-    /// GO: a Programmed key is Live. `SlotEmpty` comes exactly of an Empty slot.
+    /// GO: a Programmed key is Live. Returns `SlotEmpty` exactly if the slot is Empty.
     pub fn go(&mut self, set: u8) -> Result<(), SlotEmpty>
         requires { set < 2 }
         ensures answer { is_ok result ≡ not (is_empty (key_slot (slot_in self.old.slots (is_one set)))) }

@@ -76,7 +76,7 @@ fn append_masked(out: &mut Vec<u8>, cipher: &Gcm, iv: &[u8; 12], from: u32, payl
     cipher.mask(iv, from, out.slice_mut(start..));
 }
 
-/// Appends a packet without its tag, which goes on the unit.
+/// Appends a packet without its tag, and adds it to the unit.
 pub fn append_packet(
     out: &mut Vec<u8>,
     cipher: &Gcm,
@@ -109,7 +109,7 @@ pub fn append_packet(
     unit.push(prefix, head, &out.as_slice()[start..]);
 }
 
-/// Appends the tag of a unit behind its last packet.
+/// Appends the tag of a unit after its last packet.
 pub fn append_tag(out: &mut Vec<u8>, cipher: &Gcm, iv: &[u8; 12], unit: &UnitPackets, last: bool)
     requires { vec_len out.old + TAG_BYTES ≤ vec_capacity out.old }
     ensures items { out.new.items ≡ out.old.items ++ (if last then tag_of cipher.now iv.now (clear_of unit.now)

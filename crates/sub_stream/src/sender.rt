@@ -70,7 +70,7 @@ fn live_of(slots: &Slots) -> Option<(bool, &Gcm, u32)>
     }
 }
 
-// The key that may seal a packet, which begins a unit where there is no other; or why there is none.
+// The key that may seal a packet, which begins a unit if no unit is open; or why there is none.
 fn sealing_key<'a>(
     slots: &'a Slots,
     units: u64,
@@ -93,7 +93,7 @@ fn is_armed(slots: &Slots) -> bool
     slots.slot(0).0 == SlotState::Armed || slots.slot(1).0 == SlotState::Armed
 }
 
-/// Begins unit `n` where no packet is there; the front stands ahead of the first.
+/// Begins unit `n` if no packet is there; the front stands ahead of the first unit.
 pub fn begin_where_empty(unit: &mut UnitPackets, front: Option<&[u8; 8]>, n: u64)
     ensures { unit.new ≡ begun_where_empty unit.old (lent_front front.entry) n }
 {
@@ -130,7 +130,7 @@ fn end_unit(slots: &mut Slots, units: &mut u64, unit: &mut UnitPackets, last: bo
     }
 }
 
-// The units under the Live key after a GO, which takes a Programmed key into use where no unit is open.
+// The units under the Live key after a GO, which takes a Programmed key into use if no unit is open.
 fn units_after_go(slots: &Slots, set: u8, unfinished: bool, units: u64) -> u64
     requires { set < 2 }
     ensures { result ≡ (if is_programmed (key_slot_in slots.now (is_one set)) && not unfinished then 0 else units) }
@@ -279,8 +279,8 @@ impl Tx {
 
     /// Seals a TLP's header and payload, and appends its packet to `out`, which has room for `PACKET_ROOM` bytes more.
     /// `posted` is the posted count, 0 in the posted sub-stream; `t` says that the TLP is trusted, and `more` that the
-    /// unit goes on where it has room. `front` is the total on a closed stream: it stands ahead of what is
-    /// authenticated of unit 1 under a key, and is the same for all packets of one unit.
+    /// unit goes on if it has room. `front` is the total on a closed stream (8 bytes): it is authenticated before the
+    /// packets of unit 1 under a key, and is the same for all packets of one unit.
     pub fn seal(
         &mut self,
         head: &[u8],
@@ -339,8 +339,8 @@ impl Tx {
         self.seal_carried(&carried, false, front, out)
     }
 
-    /// Puts a key of this draw into the slot. `OnlyLive` comes exactly where the slot is Live and the other is not a
-    /// newer Live one: the key comes back, and nothing changes.
+    /// Puts a key of this draw into the slot. Returns `OnlyLive` exactly if this slot is Live and the other holds no
+    /// newer Live key: then the key comes back, and nothing changes.
     pub fn program(&mut self, set: u8, key: Key, draw: u32) -> Result<(), OnlyLive>
         requires { set < 2 }
         ensures answer { result ≡ program_answer (slot_pair true self.old.slots) (is_one set) key }
@@ -349,8 +349,8 @@ impl Tx {
         self.slots.program(set, key, draw)
     }
 
-    /// GO: a Programmed key is Live at once where no unit is open, and the other slot is emptied; else it waits, Armed,
-    /// for the unit's end. `SlotEmpty` comes exactly of an Empty slot.
+    /// GO: a Programmed key is Live at once if no unit is open, and the other slot is emptied; else it waits, Armed,
+    /// for the unit's end. Returns `SlotEmpty` exactly if the slot is Empty.
     pub fn go(&mut self, set: u8) -> Result<(), SlotEmpty>
         requires { set < 2 }
         ensures answer { is_ok result ≡ not (is_empty (key_slot (slot_in self.old.slots (is_one set)))) }

@@ -171,7 +171,7 @@ pub fn take_under(
     }
 }
 
-// Empties the other slot where it is Live under an older draw.
+// Empties the other slot if it is Live under an older draw.
 fn retire_older(slots: &mut Slots, set: u8, draw: u32)
     requires set { set < 2 }
     requires live { is_live (slot_in slots.old (is_one set)) ≡ true }
@@ -184,7 +184,7 @@ fn retire_older(slots: &mut Slots, set: u8, draw: u32)
     }
 }
 
-/// Counts an accepted unit under this Live key, whose other slot is emptied where it is Live under an older draw.
+/// Counts an accepted unit under this Live key, whose other slot is emptied if it is Live under an older draw.
 pub fn count_accepted(taken: &Taken, k: bool, slots: &mut Slots, zero: &mut u64, one: &mut u64)
     requires live { is_live (slot_in slots.old k) ≡ true }
     requires zero { zero.old + 1 < 2 ^ 64 }

@@ -151,7 +151,7 @@ impl UnitPackets {
         self.buf.clear();
     }
 
-    /// Begins a unit behind this front.
+    /// Begins a unit that has this front.
     pub fn begin(&mut self, front: Option<&[u8; 8]>)
         ensures { self.new ≡ begun_unit self.old.mode (lent_front front.entry) }
     {

@@ -3,6 +3,7 @@
 use Rattle.std.specs.Prelude.{ℕ, ◌≡◌, ◌≤◌, ◌+◌, ◌/◌, ◌%◌, ◌^◌, ◌==◌, ◌&&◌, nat_lt, Bool, true, false, not, List, []}
 use Rattle.std.specs.Prelude.{◌∷◌, length, map, replicate, position, is_some, slice_get, slice_set, Option, Some, None}
 use Rattle.std.specs.Prelude.{Result, Ok, Err, if◌then◌else◌}
+use Rattle.std.specs.Option.{unwrap_or}
 use Rattle.ide_plan.specs.declared.interface.InterfacePlan.{InterfacePlan}
 use Rattle.tdisp_codec.specs.declared.fault.TdispFault.{TdispFault}
 use Rattle.tdisp_codec.specs.declared.fault.TdispFault.TheVariants as fault
@@ -11,7 +12,7 @@ use Rattle.tdisp_codec.specs.declared.request.RequestView.TheVariants.{GetVersio
 use Rattle.tdisp_codec.specs.declared.request.RequestView.TheVariants.{GetDeviceInterfaceReport}
 use Rattle.tdisp_codec.specs.declared.request.RequestView.TheVariants.{GetDeviceInterfaceState, StartInterface}
 use Rattle.tdisp_codec.specs.declared.request.RequestView.TheVariants.{StopInterface}
-use Rattle.tdisp_codec.specs.Messages.{function_in}
+use Rattle.tdisp_codec.specs.Messages.{function_of}
 use Rattle.tdisp_codec.specs.Requests.{request_function, request_reading}
 use Rattle.tdisp_codec.specs.Replies.{Reply, reply_spelling}
 use Rattle.tdisp_codec.specs.Replies as reply
@@ -71,7 +72,7 @@ named_in interfaces (Some place) = named_at place (slice_get interfaces place)
 abbrev pub named : DeviceTdis → ℕ → Option Named
 named d function = named_in d.interfaces (place_of d function)
 
--- ---- the call of an interface that a request comes to
+-- ---- the call of an interface that a request makes
 
 -- `secure` says that the stream of a LOCK_INTERFACE is known and Secure at the device; `drawn` is the next nonce
 abbrev pub call_of : RequestView → Bool → Option (List ℕ) → Option Call
@@ -176,7 +177,7 @@ code_by f = InvalidRequest
 
 -- a header that is cut off has no function ID
 abbrev pub function_or_none : List ℕ → ℕ
-function_or_none bytes = if nat_lt (length bytes) 17 then 0 else function_in bytes
+function_or_none bytes = unwrap_or (function_of bytes) 0
 
 -- the version is looked at ahead of the type, and the type ahead of the length; but a header that is cut off is refused
 -- whatever it holds
@@ -224,7 +225,7 @@ abbrev pub is_left : (ℕ → Bool) → Option ℕ → Bool
 is_left is_secure None = false
 is_left is_secure (Some stream) = not (is_secure stream)
 
--- in CONFIG_LOCKED and RUN an interface goes to ERROR where its stream is not Secure at the device's port
+-- in CONFIG_LOCKED and RUN an interface goes to ERROR if its stream is not Secure at the device's port
 abbrev pub settled_tdi : (ℕ → Bool) → Tdi → Tdi
 settled_tdi is_secure tdi = if is_left is_secure (bound_stream tdi.state) then tdi_after tdi StreamLeft else tdi
 

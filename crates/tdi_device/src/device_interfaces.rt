@@ -220,8 +220,8 @@ impl DeviceInterfaces {
     /// Answers a message of TDISP, whose first byte says so: makes at most one call of one interface, and appends the
     /// reply. `secure` says that the stream which a LOCK_INTERFACE names is known and Secure at the device's port
     /// (`stream_asked` says which it is). `reply` has room for `TDISP_REPLY_ROOM` bytes, so it takes no memory. Refused
-    /// in the order of `request_asked`, then INVALID_INTERFACE where no interface has the function ID, and then by the
-    /// request.
+    /// in the order of `request_asked`, then INVALID_INTERFACE if no interface has the function ID, and then as the
+    /// interface refuses the request.
     pub fn answer(&mut self, request: &[u8], secure: bool, reply: &mut Vec<u8>)
         requires { vec_len reply.old + TDISP_REPLY_ROOM ≤ vec_capacity reply.old }
         ensures device { self.new ≡ answered self.old request.now secure }
@@ -234,8 +234,8 @@ impl DeviceInterfaces {
         }
     }
 
-    /// Behind a call of the device's port: each interface that is bound to a stream which is not Secure there, in
-    /// CONFIG_LOCKED or RUN, goes to ERROR.
+    /// To be called after each call of the device's port: each interface in CONFIG_LOCKED or RUN goes to ERROR if its
+    /// bound stream is not Secure at that port.
     pub fn settle<P: StreamStates>(&mut self, streams: &P)
         ensures { self.new ≡ settled (P.is_secure streams.now) self.old }
     {
@@ -243,7 +243,7 @@ impl DeviceInterfaces {
     }
 
     /// Whether a TLP with this owner (the requester of a request, the completer of a completion) has T on this stream:
-    /// where the owner is an interface in RUN, and this is its bound stream.
+    /// it has if the owner is an interface in RUN and this is its bound stream.
     pub fn sets_t(&self, requester: u16, stream: u8) -> bool
         ensures { result ≡ sets_t self.now requester stream }
     {
@@ -293,7 +293,7 @@ impl DeviceInterfaces {
         interface.write_register(register, value);
     }
 
-    /// A function level reset of an interface.
+    /// Makes a function level reset of the interface at this place.
     pub fn flr(&mut self, place: usize)
         requires { place < length self.old.interfaces }
         ensures { IfSome (slice_get self.old.interfaces place) (λ tdi.
@@ -303,7 +303,7 @@ impl DeviceInterfaces {
         interface.flr();
     }
 
-    /// A firmware update, as it concerns an interface.
+    /// Makes a firmware update at the interface at this place.
     pub fn firmware(&mut self, place: usize)
         requires { place < length self.old.interfaces }
         ensures { IfSome (slice_get self.old.interfaces place) (λ tdi.
@@ -313,8 +313,8 @@ impl DeviceInterfaces {
         interface.firmware();
     }
 
-    /// A reset of the link: each interface is in CONFIG_UNLOCKED, with the topology's registers. Nonces that were given
-    /// stay so.
+    /// Resets all interfaces, as a reset of the link does: each is in CONFIG_UNLOCKED, with the topology's registers.
+    /// No nonce that was given is given again.
     pub fn reset(&mut self)
         ensures { self.new ≡ reset_tdis self.old }
     {

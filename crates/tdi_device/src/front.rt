@@ -3,9 +3,8 @@
 ghost use Rattle.std.specs.Prelude.{◌≡◌, length};
 ghost use Rattle.tdi_device.specs.Replies.{code_by, function_or_none, request_asked, lock_stream, stream_asked};
 
-use byteorder::{ByteOrder, LittleEndian};
 use tdi_state::ErrorCode;
-use tdisp_codec::{RequestView, TdispFault, request_read};
+use tdisp_codec::{RequestView, TdispFault, function_of, request_read};
 
 /// The length of a message without a body.
 const HEADER: usize = 17;
@@ -20,7 +19,7 @@ fn code(fault: TdispFault) -> ErrorCode
     }
 }
 
-/// The request that the bytes spell, all of them. Refused, in this order: INVALID_REQUEST where the header is cut off,
+/// The request that the bytes spell, all of them. Refused, in this order: INVALID_REQUEST if the header is cut off,
 /// VERSION_MISMATCH at another version than 1.0, UNSUPPORTED_REQUEST at a type that is none, INVALID_REQUEST at another
 /// length than the type's.
 pub fn request_asked(bytes: &[u8]) -> Result<RequestView, ErrorCode>
@@ -35,14 +34,11 @@ pub fn request_asked(bytes: &[u8]) -> Result<RequestView, ErrorCode>
     }
 }
 
-/// The function ID of a message, 0 where its header is cut off.
+/// The function ID of a message, 0 if its header is cut off.
 pub(crate) fn function(bytes: &[u8]) -> u32
     ensures { result ≡ function_or_none bytes.now }
 {
-    if bytes.len() < HEADER {
-        return 0;
-    }
-    LittleEndian::read_u32(&bytes[5..])
+    function_of(bytes).unwrap_or(0)
 }
 
 fn lock_stream(request: RequestView) -> Option<u8>
@@ -54,7 +50,7 @@ fn lock_stream(request: RequestView) -> Option<u8>
     }
 }
 
-/// The stream that a LOCK_INTERFACE names; `None` where the bytes spell another request, or none.
+/// The stream that a LOCK_INTERFACE names; `None` if the bytes spell another request, or none.
 pub fn stream_asked(bytes: &[u8]) -> Option<u8>
     ensures { result ≡ stream_asked bytes.now }
 {

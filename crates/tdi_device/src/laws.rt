@@ -2,7 +2,7 @@
 
 ghost use Rattle.tdi_device.specs.Laws.{ErrorsChangeNothing};
 
-/// Where a reply is an ERROR, no interface changed and no nonce was given.
+/// If a reply is an ERROR, no interface changed and no nonce was given.
 pub fn errors_change_nothing()
     ensures { ErrorsChangeNothing }
 {}

@@ -9,7 +9,8 @@ use Rattle.tdi_host.specs.declared.operation.Outcome.{Outcome}
 use Rattle.tdi_host.specs.Judging.{Judged, judged_reply}
 use Rattle.tdi_host.specs.Managers.{ManagerView, Current, current_exchange, request_asked, outcome_by, taken_by}
 use Rattle.tdi_device.specs.Replies.{DeviceTdis, answered, answer_bytes}
-use Rattle.tdi_walks.specs.Operations.{lost_in, carried, reached}
+use Rattle.key_laws.specs.Due.{lost_in}
+use Rattle.tdi_walks.specs.Operations.{carried, reached}
 use Rattle.tdi_ends.specs.Keepers.{Ended, IsExchanged}
 
 -- what holds of the exchange that is asked

@@ -1,4 +1,4 @@
--- The manager with all its interfaces, and the device, behind the exchanges of an operation.
+-- The manager with all its interfaces, and the device, after the exchanges of an operation.
 use Rattle.std.specs.Prelude.{ℕ, zero, suc, ◌≡◌, Bool, length, Option, Some, None, slice_set}
 use Rattle.ide_types.specs.declared.status.StreamStatus.{StreamStatus}
 use Rattle.link_events.specs.declared.event.Loss.{Loss}
@@ -13,9 +13,10 @@ use Rattle.tdi_host.specs.Views.{HostTdi, refusal_of}
 use Rattle.tdi_host.specs.Managers.{ManagerView, Current, current, current_exchange, begun, outcome_by, taken_by}
 use Rattle.tdi_device.specs.Replies.{DeviceTdis}
 use Rattle.tdi_walks.specs.Exchanges.{judged_as, device_as}
-use Rattle.tdi_walks.specs.Operations.{lost_in, carried, reached, Walking, Walked, walk}
+use Rattle.key_laws.specs.Due.{lost_in}
+use Rattle.tdi_walks.specs.Operations.{carried, reached, Walking, Walked, walk}
 
--- both ends, and what an operation came to
+-- both ends, and the outcome of an operation
 pub record Ended : Type 0 where
   pub outcome : Outcome
   pub manager : ManagerView
@@ -26,7 +27,7 @@ pub record Ended : Type 0 where
 abbrev pub lost_of : Option Loss → ManagerView → Current → Option Lost
 lost_of loss m c = lost_in loss (current_exchange m c)
 
--- what is carried comes to
+-- the judgement of what is carried
 abbrev pub judged_of : Bool → Option Loss → ManagerView → DeviceTdis → Current → Judged
 judged_of secure loss m d c =
     carried (lost_of loss m c) (judged_as c.asking.step m.portion (length m.read.bytes) c.interface d secure)
@@ -78,7 +79,7 @@ operated place op status draws secure loss m d i =
 
 -- ---- the law
 
--- the manager behind a walk of one of its interfaces
+-- the manager after a walk of one of its interfaces
 abbrev pub behind : ManagerView → ℕ → Option Asking → Walked → ManagerView
 behind m place asking w = record {
   interfaces = slice_set m.interfaces place w.interface;
@@ -90,7 +91,7 @@ behind m place asking w = record {
 abbrev pub walking_at : ManagerView → Current → DeviceTdis → Walking
 walking_at m c d = record { interface = c.interface; step = c.asking.step; read = m.read; device = d }
 
--- what a walk of all comes to, where it is over
+-- what a walk of all leaves, when it is over
 pub record IsWalked (m : ManagerView) (c : Current) (w : Walked) (e : Ended) : Type 0 where
   pub outcome_is : e.outcome ≡ w.outcome
   pub interfaces_are : e.manager.interfaces ≡ slice_set m.interfaces c.asking.place w.interface

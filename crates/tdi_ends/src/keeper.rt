@@ -6,7 +6,7 @@ ghost use Rattle.tdisp_codec.specs.Requests.{request_spelling};
 ghost use Rattle.tdi_host.specs.Managers.{new_manager, current, request_asked, begun};
 ghost use Rattle.tdi_host.specs.Views.{refusal_of};
 ghost use Rattle.tdi_device.specs.Replies.{answered, answer_bytes};
-ghost use Rattle.tdi_walks.specs.Operations.{lost_in};
+ghost use Rattle.key_laws.specs.Due.{lost_in};
 ghost use Rattle.tdi_ends.specs.Keepers.{IsExchanged, Ended, manager_walk, operated};
 
 use ide_plan::LinkPlan;
@@ -53,7 +53,7 @@ fn lost_at(loss: Option<Loss>, exchange: u32) -> Option<Lost>
     }
 }
 
-// The request of the exchange that is next comes to the device, and `reply` holds what it answers.
+// Gives the device the request of the exchange that is next; `reply` holds what it answers.
 fn deliver(
     manager: &Interfaces,
     device: &mut DeviceInterfaces,
@@ -106,28 +106,28 @@ impl InterfaceKeeper {
         &self.interfaces
     }
 
-    /// A stop of a stream began: views of its interfaces that are Locked, Running or Doubt are Broken.
+    /// Notes that a stop of a stream began: views of its interfaces that are Locked, Running or Doubt become Broken.
     pub fn stop_begun(&mut self, link: u8, stream: u8)
         ensures { self.new ≡ stop_begun link stream self.old }
     {
         self.interfaces.stop_begun(link, stream);
     }
 
-    /// An establish of a stream began with this draw, or a refresh came to its end with it.
+    /// Notes that an establish of a stream began with this draw, or that a refresh ended with it.
     pub fn stream_keyed(&mut self, link: u8, stream: u8, draw: u32)
         ensures { self.new ≡ stream_keyed link stream draw self.old }
     {
         self.interfaces.stream_keyed(link, stream, draw);
     }
 
-    /// A link was reset: views of its interfaces that are Locked, Running or Doubt are Broken.
+    /// Notes that a link was reset: views of its interfaces that are Locked, Running or Doubt become Broken.
     pub fn link_reset(&mut self, link: u8)
         ensures { self.new ≡ reset_manager link self.old }
     {
         self.interfaces.link_reset(link);
     }
 
-    // The exchange that is next, of which `loss` is lost where it is that one.
+    // Carries the exchange that is next, but for the message of it that `loss` loses, if any.
     fn exchange(
         &mut self,
         device: &mut DeviceInterfaces,
@@ -187,9 +187,9 @@ impl InterfaceKeeper {
         }
     }
 
-    /// An operation on an interface of the link with this device begins, and its exchanges are carried until it is
-    /// over, but for the one that is lost. `status` is that of its bound stream at the host's port, `secure` says that
-    /// the stream is Secure at the device's, and `draws` were made so far.
+    /// Begins an operation on an interface of the link with this device, and carries its exchanges until it is over, or
+    /// `loss` loses one. `status` is that of its bound stream at the host's port, `secure` says that the stream is
+    /// Secure at the device's, and `draws` were made so far.
     pub fn operate(
         &mut self,
         device: &mut DeviceInterfaces,

@@ -1,4 +1,4 @@
-//! What the exchanges of both ends come to.
+//! What the exchanges of both ends do.
 
 ghost use Rattle.tdi_ends.specs.Keepers.{KeepersWalk};
 

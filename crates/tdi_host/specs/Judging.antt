@@ -54,7 +54,7 @@ abbrev pub nonce_in : ℕ → Reply → Judged
 nonce_in function (LockInterface back nonce) = if_same function back (Nonce nonce)
 nonce_in function reply = refusal_in reply
 
--- a portion has 1 to the asked number of bytes; with what was read before and what comes behind it, at most 1,140
+-- a portion has 1 to the asked number of bytes; with what was read before and what follows it, at most 1,140
 abbrev pub is_portion : ℕ → ℕ → ℕ → ℕ → Bool
 is_portion asked read size remainder =
     (nat_le 1 size && nat_le size asked) && nat_le (read + size + remainder) 1140
@@ -79,7 +79,7 @@ abbrev pub state_in : ℕ → Reply → Judged
 state_in function (DeviceInterfaceState back state) = if_same function back (State state)
 state_in function reply = refusal_in reply
 
--- of an exchange with the interface of this function ID, where so many bytes of a portion are asked, and so many of the
+-- of an exchange with the interface of this function ID, if so many bytes of a portion are asked, and so many of the
 -- report were read before
 abbrev pub judged_as : Step → ℕ → ℕ → ℕ → Reply → Judged
 judged_as step.Version function asked read reply = version_in function reply

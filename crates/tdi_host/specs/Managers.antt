@@ -105,7 +105,7 @@ taken_by m c judged = record {
   read = read_after judged m.read;
 }
 
--- ---- what breaks views, and the draws of streams; no exchange is under way behind it
+-- ---- what breaks views, and the draws of streams; no exchange is under way after it
 
 abbrev pub all_interfaces : (HostTdi → HostTdi) → ManagerView → ManagerView
 all_interfaces f m = record m { interfaces = map f m.interfaces; asking = None }

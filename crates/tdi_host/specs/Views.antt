@@ -107,7 +107,7 @@ start_refusal s draw needs (IsLocked nonce is_reported) =
     if is_reported then unless_secure s (key_refusal draw needs) else Some NotReported
 start_refusal s draw needs v = Some (WrongState (view_of v))
 
--- where its stream has this status at the host's port
+-- if its stream has this status at the host's port
 abbrev pub refusal_of : InterfaceOp → StreamStatus → HostTdi → Option Refusal
 refusal_of op.Lock s i = lock_refusal s i.seen
 refusal_of op.Report s i = report_refusal i.seen
@@ -127,7 +127,7 @@ unless (Some refusal) old new = old
 -- ---- ask
 
 -- The request of an exchange: the function ID is the requester ID, of segment 0, not valid; the P2P mask is 0. Of a
--- report, `portion` bytes are asked behind the `read` that were read before.
+-- report, `portion` bytes are asked after the `read` that were read before.
 abbrev pub request_of : Step → ℕ → ℕ → HostTdi → RequestView
 request_of step.Version portion read i = request.GetVersion i.requester
 request_of step.Capabilities portion read i = request.GetCapabilities i.requester
@@ -193,13 +193,13 @@ seen_after step.State draw judged v = after_state judged v
 
 -- ---- take: the key that a start wants
 
--- whether START_INTERFACE was asked since LOCK_INTERFACE was, behind this exchange
+-- whether START_INTERFACE was asked since LOCK_INTERFACE was, after this exchange
 abbrev pub was_started_after : Step → Bool → Bool
 was_started_after step.Lock was_started = false
 was_started_after step.Start was_started = true
 was_started_after s was_started = was_started
 
--- a halt that comes to its end behind a start wants a key that was not drawn yet; `draws` were
+-- a halt that ends after a start wants a key that was not drawn yet; `draws` were
 abbrev pub needs_after : Step → ℕ → Judged → Bool → ℕ → ℕ
 needs_after step.Halt draws Passed was_started needs = if was_started then draws else needs
 needs_after s draws judged was_started needs = needs
@@ -211,7 +211,7 @@ taken_interface s draws judged i = record i {
   seen = seen_after s i.draw judged i.seen;
 }
 
--- ---- take: what it comes to
+-- ---- take: its outcome
 
 -- the operation is over; what is neither expected nor a refusal is a bad reply
 abbrev pub cut : ℕ → Judged → Outcome
@@ -244,7 +244,7 @@ abbrev pub state_outcome : ℕ → Judged → Outcome
 state_outcome exchange (State code) = outcome.Done (shown.State code)
 state_outcome exchange judged = cut exchange judged
 
--- `after` is the interface behind the exchange
+-- `after` is the interface after the exchange
 abbrev pub outcome_of : Step → ℕ → Judged → HostTdi → Outcome
 outcome_of step.Version exchange judged after = goes_on exchange judged
 outcome_of step.Capabilities exchange judged after = goes_on exchange judged

@@ -138,7 +138,7 @@ fn state_outcome(exchange: u32, answer: Answer) -> Outcome
     }
 }
 
-// Whether START_INTERFACE was asked since LOCK_INTERFACE was, behind this exchange.
+// Whether START_INTERFACE was asked since LOCK_INTERFACE was, after this exchange.
 fn was_started_after(step: Step, was_started: bool) -> bool
     ensures { result ≡ was_started_after step was_started }
 {
@@ -149,7 +149,7 @@ fn was_started_after(step: Step, was_started: bool) -> bool
     }
 }
 
-// The least draw that a start wants, behind this exchange.
+// The least draw that a start wants, after this exchange.
 fn needs_after(step: Step, draws: u32, answer: Answer, was_started: bool, needs: u32) -> u32
     ensures { result ≡ needs_after step draws (answer_shown answer.entry) was_started needs }
 {
@@ -264,7 +264,7 @@ impl HostInterface {
         }
     }
 
-    /// Why an operation does not begin, where the bound stream has this status at the host's port.
+    /// Why an operation does not begin, if the bound stream has this status at the host's port; `None` if it begins.
     pub(crate) fn refusal(&self, op: InterfaceOp, status: StreamStatus) -> Option<Refusal>
         ensures { result ≡ refusal_of op status self.now }
     {
@@ -276,7 +276,7 @@ impl HostInterface {
         }
     }
 
-    /// The outcome of an exchange with this number, behind it.
+    /// The outcome after an exchange with this number.
     pub(crate) fn outcome(&self, step: Step, exchange: u32, answer: Answer) -> Outcome
         ensures { result ≡ outcome_of step exchange (answer_shown answer.entry) self.now }
     {
@@ -357,7 +357,7 @@ impl HostInterface {
         }
     }
 
-    /// The request of an exchange: of a report, `asked` bytes behind the `read` that were read before.
+    /// The request of an exchange: of a report, `asked` bytes after the `read` bytes that were read before.
     pub(crate) fn request(&self, step: Step, asked: u16, read: u16) -> RequestView
         ensures { result ≡ request_of step asked read self.now }
     {

@@ -65,7 +65,7 @@ fn add_interfaces(
     Ok(())
 }
 
-// The exchange that is next, where the operation goes on.
+// The exchange that is next, if the operation goes on.
 fn still_asking(asking: Asking, outcome: Outcome) -> Option<Asking>
     ensures { result ≡ asking_after asking outcome }
 {
@@ -188,8 +188,8 @@ impl Interfaces {
             .position(|i| i.is_granted(link, requester))
     }
 
-    /// The bound stream and the floor of the interface of this link with this requester ID; `None` where it is not
-    /// running.
+    /// The bound stream of the interface of this link with this requester ID, and its floor, the least draw under which
+    /// its requests are admitted; `None` if the manager's view of it is not Running.
     pub fn grant(&self, link: u8, requester: u16) -> Option<(u8, u32)>
         ensures { result ≡ granted self.now link requester }
     {
@@ -211,9 +211,9 @@ impl Interfaces {
     }
 
     /// Begins an operation on an interface; `status` is that of its bound stream at the host's port of its link, Idle
-    /// where the port has no such stream, and `draws` were made so far.
-    /// Refused, in this order: of lock WrongState unless Unlocked, NotSecure; of report WrongState unless Locked or
-    /// Running; of start WrongState unless Locked, NotReported, NotSecure, RefreshFirst. A refusal changes nothing.
+    /// if the port has no such stream, and `draws` were made so far. Refused, in this order: of lock WrongState unless
+    /// Unlocked, NotSecure; of report WrongState unless Locked or Running; of start WrongState unless Locked,
+    /// NotReported, NotSecure, RefreshFirst. A refusal changes nothing.
     pub fn begin(
         &mut self,
         interface: usize,
@@ -302,7 +302,7 @@ impl Interfaces {
         outcome
     }
 
-    /// The report that the last operation read, where that was a report and came to its end.
+    /// The bytes of the report that the last operation read, if that was a report and ended.
     pub fn report(&self) -> &[u8]
         ensures value { result.now ≡ self.now.read.bytes }
         ensures short { length result.now ≤ 1140 }
@@ -310,7 +310,7 @@ impl Interfaces {
         self.read.as_slice()
     }
 
-    /// A stop of a stream began: views of its interfaces that are Locked, Running or Doubt are Broken.
+    /// Notes that a stop of a stream began: views of its interfaces that are Locked, Running or Doubt become Broken.
     pub fn stop_begun(&mut self, link: u8, stream: u8)
         ensures { self.new ≡ stop_begun link stream self.old }
     {
@@ -318,7 +318,7 @@ impl Interfaces {
         self.asking = None;
     }
 
-    /// An establish of a stream began with this draw, or a refresh came to its end with it.
+    /// Notes that an establish of a stream began with this draw, or that a refresh ended with it.
     pub fn stream_keyed(&mut self, link: u8, stream: u8, draw: u32)
         ensures { self.new ≡ stream_keyed link stream draw self.old }
     {
@@ -326,7 +326,7 @@ impl Interfaces {
         self.asking = None;
     }
 
-    /// A link was reset: views of its interfaces that are Locked, Running or Doubt are Broken.
+    /// Notes that a link was reset: views of its interfaces that are Locked, Running or Doubt become Broken.
     pub fn link_reset(&mut self, link: u8)
         ensures { self.new ≡ reset_manager link self.old }
     {

@@ -1,4 +1,4 @@
-//! What a reply comes to.
+//! How a reply is judged.
 
 ghost use Rattle.std.specs.Prelude.{◌≡◌, ◌+◌, ◌≤◌, length};
 ghost use Rattle.tdisp_codec.specs.Replies.{reply_shown, reply_answer, reply_reading};
@@ -73,8 +73,8 @@ fn nonce<'a>(function: u32, reply: ReplyView<'a>) -> Answer<'a>
     }
 }
 
-// Whether a portion has 1 to the asked number of bytes and comes with what was read before, and what is behind it, to
-// at most 1,140 bytes.
+// Whether a portion has 1 to the asked number of bytes and makes at most 1,140 bytes with what was read before and what
+// follows it.
 fn is_portion(asked: u16, read: usize, size: usize, remainder: u16) -> bool
     requires read { read ≤ 1140 }
     ensures { result ≡ is_portion asked read size remainder }
@@ -170,8 +170,8 @@ fn of_bytes<'a>(step: Step, function: u32, asked: u16, read: usize, bytes: &'a [
     }
 }
 
-/// What was carried in answer to a request of this exchange with the interface of this function ID comes to: `asked` is
-/// the number of bytes that a portion of a report is asked of, `read` how many were read before (this profile).
+/// Judges what was carried in answer to a request of this exchange with the interface of this function ID: `asked` is
+/// the number of bytes that were asked for of a report, `read` how many were read before (this profile).
 pub(crate) fn judge<'a>(
     step: Step,
     function: u32,

@@ -33,7 +33,7 @@ pub enum View {
     Broken,
 }
 
-/// What an exchange comes to: the operation's next one is to be asked; the operation is at its end; it is over.
+/// The outcome of an exchange: the operation's next one is to be asked; the operation is at its end; it is over.
 #[derive(Clone, Copy, Debug, PartialEq, Eq)]
 pub enum Outcome {
     Next,

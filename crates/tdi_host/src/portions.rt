@@ -79,7 +79,7 @@ impl Portions {
         self.count += 1;
     }
 
-    /// Takes a portion, where it is one; there is room for it. It takes no memory.
+    /// Takes a portion, if it is one; there is room for it. It takes no memory.
     pub(crate) fn take(&mut self, answer: Answer)
         requires { HasRoom (length self.old.bytes) (answer_shown answer) }
         ensures { self.new ≡ read_after (answer_shown answer.entry) self.old }

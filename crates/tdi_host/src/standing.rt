@@ -180,7 +180,7 @@ impl Standing {
         }
     }
 
-    /// The view behind an exchange; `draw` is that of the bound stream.
+    /// The view after an exchange; `draw` is that of the bound stream.
     pub(crate) fn after(self, step: Step, draw: u32, answer: Answer) -> Standing
         ensures { seen result ≡ seen_after step draw (answer_shown answer.entry) (seen self) }
     {

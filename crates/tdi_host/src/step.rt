@@ -34,7 +34,7 @@ pub(crate) fn first_step(op: InterfaceOp) -> Step
 impl Step {
     ghost use Rattle.tdi_host.specs.Steps.{next_step};
 
-    /// The exchange behind this one, where the operation goes on.
+    /// The exchange after this one, if the operation goes on.
     pub(crate) fn next(self) -> Step
         ensures { result ≡ next_step self }
     {

@@ -35,7 +35,7 @@ pub struct Doubt {}
 pub struct Broken {}
 
 impl Tdi<Unlocked> {
-    /// As the manager begins, and behind a halt.
+    /// The view as the manager begins, and after a halt.
     pub(crate) fn unlocked() -> Tdi<Unlocked> {
         Tdi { state: Unlocked {} }
     }
@@ -105,14 +105,14 @@ impl Tdi<Running> {
 }
 
 impl Tdi<Doubt> {
-    /// Behind a loss.
+    /// The view after a loss.
     pub(crate) fn doubted() -> Tdi<Doubt> {
         Tdi { state: Doubt {} }
     }
 }
 
 impl Tdi<Broken> {
-    /// Behind what ends a lock.
+    /// The view after what ends a lock.
     pub(crate) fn broken() -> Tdi<Broken> {
         Tdi { state: Broken {} }
     }

@@ -12,7 +12,7 @@ use tsm_host::Carried;
 
 const NONCE: [u8; 32] = [1; 32];
 
-// The least draw that a start wants is 1 where one was drawn.
+// The least draw that a start wants is 1 if one was drawn.
 const DRAWS: u32 = 1;
 
 // The interface 0x0100 of a link, bound to stream 5.

@@ -1,8 +1,7 @@
--- Registers keep their widths. A write changes one register, by a value that has room in it; a level reset and a reset of
--- the link give the topology's values; a lock keeps the registers as they stand.
+-- Registers keep their widths. A write changes one register, by a value that has room in it; a level reset and a reset
+-- of the link give the topology's values; a lock keeps the registers as they stand.
 use Rattle.std.proofs.Common.{◌≡◌, ◌<◌, ◌^◌, ℕ, Bool, true, false, List, length, refl, arith, Option, Some, None}
-use Rattle.std.proofs.Common.{Result}
-use Rattle.std.proofs.Common.{Ok, Err, ◌∙◌}
+use Rattle.std.proofs.Common.{Result, Ok, Err, ◌∙◌}
 use Rattle.std.specs.Prelude.{IfSome, slice_set}
 use Rattle.std.proofs.lemmas.List.{length-set}
 use Rattle.interface_words.specs.declared.register.Register.{Register}
@@ -22,18 +21,26 @@ use Rattle.tdi_state.specs.Laws.{FitsRegisters, FitsWidths, FitsCall, WidthsAreK
 
 written_fits : (registers : Registers) (register : Register) (value : ℕ) → value < 2 ^ width_of register
     → FitsRegisters registers → FitsRegisters (with_value registers register value)
-written_fits rs Command value less fits = record { bars = fits.bars; shown = record { msix = fits.shown.msix; lnr = fits.shown.lnr; tph = fits.shown.tph } }
-written_fits rs CacheLine value less fits = record { bars = fits.bars; shown = record { msix = fits.shown.msix; lnr = fits.shown.lnr; tph = fits.shown.tph } }
+written_fits rs Command value less fits = record
+    { bars = fits.bars; shown = record { msix = fits.shown.msix; lnr = fits.shown.lnr; tph = fits.shown.tph } }
+written_fits rs CacheLine value less fits = record
+    { bars = fits.bars; shown = record { msix = fits.shown.msix; lnr = fits.shown.lnr; tph = fits.shown.tph } }
 written_fits rs Msix value less fits =
     record { bars = fits.bars; shown = record { msix = less; lnr = fits.shown.lnr; tph = fits.shown.tph } }
 written_fits rs Lnr value less fits =
     record { bars = fits.bars; shown = record { msix = fits.shown.msix; lnr = less; tph = fits.shown.tph } }
 written_fits rs Tph value less fits =
     record { bars = fits.bars; shown = record { msix = fits.shown.msix; lnr = fits.shown.lnr; tph = less } }
-written_fits rs Pasid value less fits = record { bars = fits.bars; shown = record { msix = fits.shown.msix; lnr = fits.shown.lnr; tph = fits.shown.tph } }
-written_fits rs Ats value less fits = record { bars = fits.bars; shown = record { msix = fits.shown.msix; lnr = fits.shown.lnr; tph = fits.shown.tph } }
+written_fits rs Pasid value less fits = record
+    { bars = fits.bars; shown = record { msix = fits.shown.msix; lnr = fits.shown.lnr; tph = fits.shown.tph } }
+written_fits rs Ats value less fits = record
+    { bars = fits.bars; shown = record { msix = fits.shown.msix; lnr = fits.shown.lnr; tph = fits.shown.tph } }
 written_fits rs (Bar n) value less fits =
-    record { bars = length-set rs.bars n value ∙ fits.bars; shown = record { msix = fits.shown.msix; lnr = fits.shown.lnr; tph = fits.shown.tph } }
+    record {
+      bars = length-set rs.bars n value ∙ fits.bars;
+      shown = record
+          { msix = fits.shown.msix; lnr = fits.shown.lnr; tph = fits.shown.tph };
+    }
 
 -- the registers that the lock of a state kept
 abbrev LockFits : TdiState → Type 0

@@ -1,5 +1,5 @@
--- The base address registers of a device interface and the ranges behind them (PCI Express Base 6.0 section 7.5.1.2.1),
--- and the ranges that its report names (TDISP section 11.3, in this profile's layout).
+-- The base address registers of a device interface and the ranges that they map (PCI Express Base 6.0 section
+-- 7.5.1.2.1), and the ranges that its report names (TDISP section 11.3, in this profile's layout).
 use Rattle.std.specs.Prelude.{ℕ, ◌+◌, ◌*◌, ◌/◌, ◌%◌, ◌^◌, ◌==◌, ◌||◌, ◌<◌, nat_lt, max, min, Bool, false, List, [], ◌∷◌}
 use Rattle.std.specs.Prelude.{slice_get, slice_index, Option, Some, None, if◌then◌else◌}
 use Rattle.std.specs.List.{list_any, filter_map, enumerate_from}
@@ -8,7 +8,7 @@ use Rattle.ide_plan.specs.declared.interface.InterfacePlan.{InterfacePlan}
 use Rattle.tdisp_codec.specs.declared.report.ReportRange.{ReportRange}
 use Rattle.tdi_state.specs.declared.register_set.Registers.{Registers}
 
--- a BAR moved to this base; without pages where the interface has none
+-- a BAR moved to this base; without pages if the interface has none
 abbrev pub bar_moved : ℕ → Option BarPlan → BarPlan
 bar_moved base (Some bar) = record { base = base; pages = bar.pages; attributes = bar.attributes }
 bar_moved base None = record { base = base; pages = 0; attributes = 0 }
@@ -45,7 +45,7 @@ pub record FitsReported (bar : BarPlan) : Type 0 where
   pub pages : bar.pages < 2 ^ 32
   pub attributes : bar.attributes < 2 ^ 16
 
--- the range of a BAR with its number, where it has pages: its first page is moved by the MMIO reporting offset, modulo
+-- the range of a BAR with its number, if it has pages: its first page is moved by the MMIO reporting offset, modulo
 -- 2^64
 abbrev pub reported_range : ℕ → ℕ × BarPlan → Option ReportRange
 reported_range offset (number, bar) =

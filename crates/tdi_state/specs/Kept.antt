@@ -7,7 +7,7 @@ use Rattle.tdi_state.specs.declared.states.Lock.{Lock}
 use Rattle.tdi_state.specs.RegisterValues.{bit_at}
 use Rattle.tdi_state.specs.Bars.{bars_of, reported_ranges}
 
--- DMA without PASID, and firmware updates not permitted where lock flag 0 is set
+-- DMA without PASID, and firmware updates not permitted if lock flag 0 is set
 abbrev pub interface_info : ℕ → ℕ
 interface_info flags = 2 + bit_at 0 flags
 

@@ -17,14 +17,14 @@ use Rattle.tdi_state.specs.Machine.{StartInterface}
 use Rattle.tdi_state.specs.Machine.{WriteRegister, tdi_after}
 use Rattle.tdi_state.specs.Held.{FitsTdi, FitsShown}
 
--- a write changes the listed part exactly where it is a listed change
+-- a write changes the listed part exactly if it is a listed change
 abbrev pub ChangesAreListed : Type 0
 ChangesAreListed = (flags : ℕ) (registers : Registers) (register : Register) (value : ℕ)
     → length registers.bars ≡ 6 → IsAmongSix register
     → (changes_listed flags registers register value ≡ false)
     ↔ (listed flags (with_value registers register value) ≡ listed flags registers)
 
--- in CONFIG_LOCKED and RUN a write that changes the listed part leaves ERROR behind it
+-- in CONFIG_LOCKED and RUN a write that changes the listed part leads to ERROR
 abbrev pub ChangeIsError : Type 0
 ChangeIsError = (tdi : Tdi) (lock : Lock) (register : Register) (value : ℕ) → length tdi.registers.bars ≡ 6
     → IsAmongSix register

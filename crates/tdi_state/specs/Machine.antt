@@ -71,7 +71,7 @@ bound_stream state = option_map (λ lock. lock.stream) (lock_of state)
 abbrev pub lock_flags : TdiState → ℕ
 lock_flags state = option_map_or (λ lock. lock.flags) (lock_of state) 0
 
--- where a lock stands, the listed part of the registers is that of the registers that it kept
+-- while a lock stands, the listed part of the registers is that of the registers that it kept
 abbrev pub KeepsListed : Registers → TdiState → Type 0
 KeepsListed registers state = IfSome (lock_of state) (λ lock. listed lock.flags registers ≡ listed lock.flags
     lock.registers)
@@ -115,7 +115,7 @@ locked tdi flags stream offset secure drawn = locked_with tdi (new_lock tdi flag
 
 -- ---- GET_DEVICE_INTERFACE_REPORT
 
--- at most `size` bytes of the report from an offset on, and how many come behind them
+-- at most `size` bytes of the report from an offset on, and how many follow them
 abbrev pub portion_of : Option (List ℕ) → ℕ → ℕ → Result (List ℕ × ℕ) ℕ
 portion_of None offset size = Err (error_code InvalidInterfaceState)
 portion_of (Some report) offset size =

@@ -33,7 +33,7 @@ with_value registers Pasid value = record registers { pasid = value }
 with_value registers Ats value = record registers { ats = value }
 with_value registers (Bar n) value = record registers { bars = slice_set registers.bars n value }
 
--- what the topology gives BAR n, 0 where the interface has no such BAR
+-- what the topology gives BAR n, 0 if the interface has no such BAR
 abbrev pub planned_base : List BarPlan → ℕ → ℕ
 planned_base bars n = option_map_or (λ bar. bar.base) (slice_get bars n) 0
 
@@ -62,7 +62,7 @@ abbrev pub has_bit : ℕ → ℕ → Bool
 has_bit n value = bit_at n value == 1
 
 -- The listed part of the registers under the flags of a lock: memory space and bus master of the command register, the
--- BARs, TPH, LNR, PASID and ATS control; MSI-X control where lock flag 2 is set, the cache line size where flag 1 is.
+-- BARs, TPH, LNR, PASID and ATS control; MSI-X control if lock flag 2 is set, the cache line size if flag 1 is.
 pub record Listed : Type 0 where
   pub memory_space : ℕ
   pub bus_master : ℕ

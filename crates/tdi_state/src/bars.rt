@@ -1,4 +1,4 @@
-//! The base address registers of a device interface, and the ranges behind them.
+//! The base address registers of a device interface, and the ranges that they map.
 
 ghost use Rattle.std.specs.Prelude.{◌≡◌, ◌<◌, ◌+◌, ◌≤◌, ◌%◌, ◌++◌, All, length};
 ghost use Rattle.std.specs.List.{list_any, flat_map};
@@ -16,7 +16,7 @@ use tdisp_codec::{ReportRange, ranges_again};
 /// The bytes of six ranges in a report.
 pub(crate) const RANGE_BYTES: usize = 96;
 
-// The BAR of this number, of which there are six: its base by the registers, without pages where there is none.
+// The BAR of this number, of which there are six: its base by the registers, without pages if there is none.
 fn bar_at(bars: &[BarPlan], bases: &[u64; 6], n: usize) -> BarPlan
     requires { n < 6 }
     ensures { result ≡ bar_at bars.now bases.now n }
@@ -99,7 +99,7 @@ fn reported_range(offset: u64, number: u16, bar: &BarPlan) -> Option<ReportRange
     })
 }
 
-// Appends the bytes of a BAR's range, where it has one.
+// Appends the bytes of a BAR's range, if it has one.
 fn append_range(out: &mut ArrayVec<u8, RANGE_BYTES>, offset: u64, number: u16, bar: &BarPlan)
     requires { array_vec_len out.old + 16 ≤ RANGE_BYTES }
     ensures items { out.new.items ≡ out.old.items ++ flat_map range_bytes

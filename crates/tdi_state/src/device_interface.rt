@@ -117,7 +117,7 @@ fn write_report(buffer: &mut ReportBuffer, plan: &InterfacePlan, lock: &Lock)
     buffer.write(&view);
 }
 
-// At most `size` bytes of a report from an offset on, and how many come behind them.
+// At most `size` bytes of a report from an offset on, and how many bytes follow them.
 fn portion(report: &[u8], offset: u16, size: u16) -> Result<(&[u8], u16), u32>
     requires { IsShortReport report.now }
     ensures answer { portion_shown result ≡ portion_of (Some report.now) offset size }
@@ -217,12 +217,11 @@ impl Interface {
     }
 
     /// LOCK_INTERFACE with these flags, default stream and MMIO reporting offset in bytes: the answer is the lock's
-    /// nonce.
-    /// `secure` says that the stream is known and Secure at the device; `nonce` is the next of the device's list, none
-    /// where the list is used up. Refused, in this order: INVALID_INTERFACE_STATE unless in CONFIG_UNLOCKED;
+    /// nonce. `secure` says that the stream is known and Secure at the device; `nonce` is the next of the device's
+    /// list, none if the list is used up. Refused, in this order: INVALID_INTERFACE_STATE unless in CONFIG_UNLOCKED;
     /// INVALID_REQUEST at another flag than 0, 1, 2 and 4 or an offset that is no multiple of 4,096;
-    /// INVALID_DEVICE_CONFIGURATION where the stream is not Secure or the bytes of two BARs overlap;
-    /// INSUFFICIENT_ENTROPY without a nonce. A refusal changes nothing.
+    /// INVALID_DEVICE_CONFIGURATION if the stream is not Secure or the bytes of two BARs overlap; INSUFFICIENT_ENTROPY
+    /// without a nonce. A refusal changes nothing.
     pub fn lock(
         &mut self,
         flags: u16,
@@ -256,8 +255,8 @@ impl Interface {
     }
 
     /// GET_DEVICE_INTERFACE_REPORT: at most `length` bytes of the report that the lock kept, from `offset` on, and how
-    /// many bytes of it come behind them. Refused, in this order: INVALID_INTERFACE_STATE unless in CONFIG_LOCKED or
-    /// RUN; INVALID_REQUEST where the length is 0 or the offset at or past the report's end.
+    /// many bytes of it follow them. Refused, in this order: INVALID_INTERFACE_STATE unless in CONFIG_LOCKED or RUN;
+    /// INVALID_REQUEST if the length is 0 or the offset at or past the report's end.
     pub fn report(&self, offset: u16, length: u16) -> Result<(&[u8], u16), u32>
         ensures answer { portion_shown result ≡ portion_answer self.now offset length }
         ensures short { IfOk result (λ portion. IsShortReport portion.0.now) }
@@ -309,7 +308,7 @@ impl Interface {
         self.state = self.state.failed();
     }
 
-    /// A firmware update: CONFIG_LOCKED and RUN go to ERROR where lock flag 0 is set.
+    /// A firmware update: CONFIG_LOCKED and RUN go to ERROR if lock flag 0 is set.
     pub fn firmware(&mut self)
         ensures { self.new ≡ with_state self.old (firmware_updated self.old.state) }
     {
@@ -317,7 +316,7 @@ impl Interface {
         self.state = self.state.after_change(is_forbidden);
     }
 
-    /// The bound stream ceased to be Secure at the device: CONFIG_LOCKED and RUN go to ERROR.
+    /// Notes that the bound stream ceased to be Secure at the device: CONFIG_LOCKED and RUN go to ERROR.
     pub fn stream_left(&mut self)
         ensures { self.new ≡ with_state self.old (after_failure self.old.state) }
     {
@@ -335,7 +334,7 @@ impl Interface {
     /// The state's code: CONFIG_UNLOCKED 0, CONFIG_LOCKED 1, RUN 2, ERROR 3.
     pub fn state(&self) -> u8
         ensures code { result ≡ state_code self.now.state }
-        // Where a lock stands, the listed registers are those that it kept.
+        // While a lock stands, the listed registers are those that it kept.
         ensures listed { KeepsListed self.now.registers self.now.state }
     {
         self.state.code()
@@ -348,7 +347,7 @@ impl Interface {
         &self.state
     }
 
-    /// The stream that the interface is bound to, in CONFIG_LOCKED and RUN alone.
+    /// The ID of the stream that the interface is bound to; `None` unless in CONFIG_LOCKED or RUN.
     pub fn bound(&self) -> Option<u8>
         ensures { result ≡ bound_stream self.now.state }
     {
@@ -369,7 +368,7 @@ impl Interface {
         register.is_of(&self.plan)
     }
 
-    /// What a register that the interface has holds.
+    /// The value of a register that the interface has.
     pub fn register(&self, register: Register) -> u64
         requires { has_register self.now.plan register ≡ true }
         ensures { result ≡ value_in self.now.registers register }

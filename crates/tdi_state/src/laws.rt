@@ -31,7 +31,7 @@ pub fn states_are_entered()
     ensures run { RunIsEntered }
 {}
 
-/// BARs overlap where some byte is in two of them.
+/// BARs overlap if some byte is in two of them.
 pub fn overlaps_are_shared()
     ensures bytes { OverlapIsShared }
     ensures pairs { OverlapsArePairs }

@@ -19,11 +19,11 @@ pub struct Registers {
     pub tph: u32,
     pub pasid: u16,
     pub ats: u16,
-    /// The BARs by their number, 0 where the interface has none.
+    /// The base addresses of the BARs by their number, 0 if the interface has none.
     pub bars: [u64; 6],
 }
 
-// What the topology gives this BAR, 0 where the interface has none.
+// What the topology gives this BAR, 0 if the interface has none.
 fn planned_base(bars: &[BarPlan], n: usize) -> u64
     ensures { result ≡ planned_base bars.now n }
 {

@@ -79,7 +79,7 @@ fn two_bars(alloc: Global, base: u64) -> Result<InterfacePlan, AllocError>
     planned(alloc, 64, Items::new(bars))
 }
 
-// Six of one page each, one behind the other, and 1,024 bytes of information.
+// Six of one page each, one after the other, and 1,024 bytes of information.
 fn six_bars(alloc: Global) -> Result<InterfacePlan, AllocError>
     ensures { IfOk result FitsTdi }
 {
@@ -172,7 +172,7 @@ fn write(interface: &mut Interface, register: Register, value: u8) {
     }
 }
 
-// The value that stands is no change; another one ends the run where the lock keeps the register.
+// The value that stands is no change; another one ends the run if the lock keeps the register.
 #[test]
 fn registers_that_a_lock_keeps(rt: HostRuntime) -> Result<(), Fail> {
     let cases = [

@@ -15,7 +15,8 @@ use Rattle.tdi_host.specs.Judging.{Judged, Passed, Nonce, Portion, State, Refuse
 use Rattle.tdi_host.specs.Views.{HostTdi, start_outcome, halt_outcome, state_outcome, lock_outcome}
 use Rattle.tdi_device.specs.Replies.{DeviceTdis, Named, named, named_in, named_at, place_of, next_nonce}
 use Rattle.tdi_walks.specs.Exchanges.{device_as, judged_due, Meets, ExchangesAreDue}
-use Rattle.tdi_walks.specs.Operations.{lost_in, carried, reached, Walking, Walked, walked_by, walked_once, walking_on}
+use Rattle.key_laws.specs.Due.{lost_in}
+use Rattle.tdi_walks.specs.Operations.{carried, reached, Walking, Walked, walked_by, walked_once, walking_on}
 use Rattle.tdi_walks.specs.Operations.{continued, walk, begun_at, number_in, stated_once, at_step, lost_early}
 use Rattle.tdi_walks.specs.Operations.{unless_lost, stated_lock, OperationsAreStated}
 

@@ -18,7 +18,8 @@ use Rattle.tdi_host.specs.Judging.{Portion}
 use Rattle.tdi_host.specs.Views.{HostTdi, request_of, report_outcome}
 use Rattle.tdi_device.specs.Replies.{DeviceTdis, Named, asked_at}
 use Rattle.tdi_walks.specs.Exchanges.{portion_due, Meets, IsReport, ExchangesAreDue}
-use Rattle.tdi_walks.specs.Operations.{lost_in, carried, reached, Walking, Walked, walked_by, walking_on, continued}
+use Rattle.key_laws.specs.Due.{lost_in}
+use Rattle.tdi_walks.specs.Operations.{carried, reached, Walking, Walked, walked_by, walking_on, continued}
 use Rattle.tdi_walks.specs.Operations.{walk, begun_at, stated_once, at_step}
 use Rattle.tdi_walks.specs.Reports.{portion_count, lost_within, ReportIsRead, ReportsAreRead, ReportsAreRefused}
 use Rattle.tdi_walks.proofs.Operations.{same_set, once_stated, goes, IsOver, stops}

@@ -22,12 +22,12 @@ use Rattle.tdi_device.specs.Replies.{DeviceTdis, Named, named, next_nonce, asked
 abbrev pub asked_bytes : Step → ℕ → ℕ → HostTdi → List ℕ
 asked_bytes s portion read i = request_spelling (request_of s portion read i)
 
--- what the device's reply comes to at the manager
+-- the manager's judgement of the device's reply
 abbrev pub judged_as : Step → ℕ → ℕ → HostTdi → DeviceTdis → Bool → Judged
 judged_as s portion read i d secure =
     judged_reply s i.requester portion read (reply_reading (answer_bytes d (asked_bytes s portion read i) secure))
 
--- the device behind the request
+-- the device after the request
 abbrev pub device_as : Step → ℕ → ℕ → HostTdi → DeviceTdis → Bool → DeviceTdis
 device_as s portion read i d secure = answered d (asked_bytes s portion read i) secure
 
@@ -55,7 +55,7 @@ judged_due step.Start portion read i tdi secure drawn = start_due (start_answer 
 judged_due step.Halt portion read i tdi secure drawn = Passed
 judged_due step.State portion read i tdi secure drawn = State (state_code tdi.state)
 
--- the call of the interface that the exchange comes to
+-- the call of the interface that the exchange makes
 abbrev pub call_due : Step → HostTdi → Bool → Option (List ℕ) → Option Call
 call_due step.Lock i secure drawn = Some (LockInterface i.flags i.stream i.offset secure drawn)
 call_due step.Start i secure drawn = Some (StartInterface (nonce_of i.seen))
@@ -94,7 +94,7 @@ pub record Meets (portion : ℕ) (i : HostTdi) (d : DeviceTdis) (n : Named) : Ty
 
 pub record ExchangeIsDue (s : Step) (portion read : ℕ) (i : HostTdi) (d : DeviceTdis) (n : Named) (secure : Bool) : Type
     0 where
-  -- what the reply comes to
+  -- the judgement of the reply
   pub judged : judged_as s portion read i d secure ≡ judged_due s portion read i n.tdi secure (next_nonce d)
   -- what the request makes of the device
   pub device : device_as s portion read i d secure ≡ asked_at d n (request_of s portion read i) secure

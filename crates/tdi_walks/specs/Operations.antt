@@ -1,9 +1,10 @@
 -- An operation on an interface at one event: the manager begins it, and its exchanges are carried one after another,
 -- each of which the session may lose.
-use Rattle.std.specs.Prelude.{ℕ, zero, suc, ◌≡◌, ◌==◌, Bool, length, Option, Some, None, if◌then◌else◌}
+use Rattle.std.specs.Prelude.{ℕ, zero, suc, ◌≡◌, Bool, length, Option, Some, None}
 use Rattle.link_events.specs.declared.event.Loss.{Loss}
 use Rattle.link_events.specs.declared.event.Lost.{Lost}
 use Rattle.link_events.specs.declared.event.Lost.TheVariants.{Request}
+use Rattle.key_laws.specs.Due.{lost_in}
 use Rattle.tdi_host.specs.declared.operation.InterfaceOp.{InterfaceOp}
 use Rattle.tdi_host.specs.declared.operation.InterfaceOp.TheVariants as op
 use Rattle.tdi_host.specs.declared.operation.Outcome.{Outcome}
@@ -20,16 +21,11 @@ use Rattle.tdi_walks.specs.Exchanges.{judged_as, device_as, judged_due, Meets}
 
 -- ---- an exchange that may be lost
 
--- what is lost of the exchange of this number
-abbrev pub lost_in : Option Loss → ℕ → Option Lost
-lost_in None exchange = None
-lost_in (Some loss) exchange = if loss.exchange == exchange then Some loss.lost else None
-
 abbrev pub carried : Option Lost → Judged → Judged
 carried None judged = judged
 carried (Some lost) judged = NotCarried
 
--- a request that is lost does not come to the device
+-- a request that is lost does not reach the device
 abbrev pub reached : Option Lost → DeviceTdis → DeviceTdis → DeviceTdis
 reached (Some Request) before after = before
 reached lost before after = after
@@ -43,7 +39,7 @@ pub record Walking : Type 0 where
   pub read : Read
   pub device : DeviceTdis
 
--- what the event comes to, and both ends behind it
+-- the outcome of the event, and both ends after it
 pub record Walked : Type 0 where
   pub outcome : Outcome
   pub interface : HostTdi
@@ -61,7 +57,7 @@ abbrev pub device_in : ℕ → Bool → Option Loss → Walking → DeviceTdis
 device_in portion secure loss w = reached (lost_in loss (number_in w)) w.device
     (device_as w.step portion (length w.read.bytes) w.interface w.device secure)
 
--- both ends behind an exchange whose reply comes to this
+-- both ends after an exchange whose reply is judged so
 abbrev pub walked_by : ℕ → Walking → Judged → DeviceTdis → Walked
 walked_by draws w judged device =
     let after = taken_interface w.step draws judged w.interface in

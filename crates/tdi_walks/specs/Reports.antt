@@ -22,7 +22,7 @@ portion_count zero portion left = 0
 portion_count (suc more) portion left =
     if nat_le left portion then 1 else suc (portion_count more portion (left - portion))
 
--- the exchange that is lost, where it is one of `count` from this number on
+-- the exchange that is lost, if it is one of `count` from this number on
 abbrev pub lost_within : Option Loss → ℕ → ℕ → Option ℕ
 lost_within None from count = None
 lost_within (Some loss) from count =
@@ -36,7 +36,7 @@ abbrev pub read_interface : Option ℕ → HostTdi → HostTdi
 read_interface None i = record i { seen = reported i.seen }
 read_interface (Some exchange) i = i
 
--- Where one of its exchanges is lost, the view is as before; else the report is read, and it is the one that the lock
+-- If one of its exchanges is lost, the view is as before; else the report is read, and it is the one that the lock
 -- kept. The device is as before.
 pub record ReportIsRead (lost : Option ℕ) (report : List ℕ) (i : HostTdi) (d : DeviceTdis) (w : Walked) : Type 0 where
   pub outcome_is : w.outcome ≡ read_outcome lost

@@ -1,4 +1,4 @@
-//! What the exchanges of an operation come to.
+//! What the exchanges of an operation do.
 
 ghost use Rattle.tdi_walks.specs.Exchanges.{ExchangesAreDue, RepliesAreNeverBad, ReportsFit};
 ghost use Rattle.tdi_walks.specs.Operations.{OperationsAreStated};
@@ -7,7 +7,7 @@ ghost use Rattle.tdi_walks.specs.Reports.{ReportsAreRead, ReportsAreRefused};
 use tdisp_codec::{reply_read_again, request_read_again};
 
 /// Carried to the device that has the interface, a request of the manager makes the call of the interface that is due,
-/// and its reply comes to what is due: the expected one with its value, or a refusal with its code.
+/// and its reply is judged as is due: the expected one with its value, or a refusal with its code.
 pub fn exchanges_are_due()
     ensures { ExchangesAreDue }
 {
@@ -22,7 +22,7 @@ pub fn replies_are_never_bad()
     exchanges_are_due();
 }
 
-/// Lock, start, halt and state, carried exchange by exchange, each of which may be lost, come to one stated step.
+/// Lock, start, halt and state, carried exchange by exchange, each of which may be lost, make one stated step.
 pub fn operations_are_stated()
     ensures { OperationsAreStated }
 {

@@ -1,6 +1,6 @@
 //! An operation of the manager on an interface, carried exchange by exchange to the device that has the interface,
-//! comes to one stated step of both (TDISP, PCI Express Base 6.0 with the ECN's chapter 11, in this profile).
-//! Definitions and theorems alone.
+//! makes one stated step of both (TDISP, PCI Express Base 6.0 with the ECN's chapter 11, in this profile). Definitions
+//! and theorems alone.
 #![tactic(auto)]
 
 mod laws;

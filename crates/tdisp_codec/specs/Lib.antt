@@ -11,7 +11,7 @@ pub use Rattle.tdisp_codec.specs.declared.report.ReportRange.{ReportRange}
 pub use Rattle.tdisp_codec.specs.declared.report.ReportView.{ReportView}
 pub use Rattle.tdisp_codec.specs.Messages.{Ignored, message_bytes, message_spelling, SpellsMessage, IsSpelled, type_in}
 pub use Rattle.tdisp_codec.specs.Messages.{function_in, body_in, length_fault, message_fault, read_or, message_fault_at}
-pub use Rattle.tdisp_codec.specs.Messages.{IsFirstFault}
+pub use Rattle.tdisp_codec.specs.Messages.{IsFirstFault, function_of}
 pub use Rattle.tdisp_codec.specs.Requests.{request_type, request_function, request_body, request_spelling, FitsRequest}
 pub use Rattle.tdisp_codec.specs.Requests.{SpellsRequest, is_request, request_size, request_from, request_in}
 pub use Rattle.tdisp_codec.specs.Requests.{request_reading}

@@ -110,7 +110,7 @@ pub record SpellsReply (reply : Reply) (bytes : List ℕ) : Type 0 where
 abbrev pub is_reply : ℕ → Bool
 is_reply type = (nat_le 0x01 type && nat_le type 0x07) || (type == 0x7f)
 
--- how long the body is, by the type and its own first bytes, which count as 0 where they are missing
+-- how long the body is, by the type and its own first bytes, which count as 0 if they are missing
 abbrev pub reply_size : ℕ → List ℕ → ℕ
 reply_size type body =
     if type == 0x01 then 1 + slice_index body 0
@@ -121,7 +121,7 @@ reply_size type body =
     else if type == 0x7f then 8
     else 0
 
--- the fields of CAPABILITIES: those up to the requests, and those behind them
+-- the fields of CAPABILITIES: those up to the requests, and those after them
 abbrev pub capabilities_from : ℕ → List ℕ → List ℕ → Reply
 capabilities_from function body rest =
     Capabilities function (little_number 4 body) (take 16 (drop 4 body)) (little_number 2 rest) (slice_index rest 5)

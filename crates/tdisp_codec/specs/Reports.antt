@@ -34,8 +34,8 @@ abbrev pub report_answer : Result ReportView TdispFault → Result Report TdispF
 report_answer (Ok view) = Ok (report_shown view)
 report_answer (Err fault) = Err fault
 
--- interface info, two reserved bytes, MSI-X, LNR and TPH control, the ranges behind their count, and the device's own
--- information behind its length
+-- interface info, two reserved bytes, MSI-X, LNR and TPH control, the ranges after their count, and the device's own
+-- information after its length
 abbrev pub report_bytes : List ℕ → Report → List ℕ
 report_bytes reserved report =
     little_bytes 2 report.info

@@ -13,7 +13,7 @@ ghost use Rattle.tdisp_codec.specs.Reports.{Report, FitsReport, SpellsReport, re
 ghost use Rattle.tdisp_codec.specs.Reports.{report_fault_at};
 
 /// `request_reading` reads exactly the bytes that spell a request, as that request, whatever the reserved bytes hold,
-/// and refuses all others at the first byte with which no spelling goes on, or where they end too early.
+/// and refuses all others at the first byte with which no spelling goes on, or at their end if they end too early.
 pub fn request_is_grammar()
     ensures reads { (request : RequestView) (bytes : List ℕ) → All (λ b. b < 256) bytes
         → (SpellsRequest request bytes) ↔ (request_reading bytes ≡ Ok request) }
@@ -29,7 +29,7 @@ pub fn request_read_again()
 {}
 
 /// `reply_reading` reads exactly the bytes that spell a reply, as that reply, whatever the reserved bytes hold, and
-/// refuses all others at the first byte with which no spelling goes on, or where they end too early.
+/// refuses all others at the first byte with which no spelling goes on, or at their end if they end too early.
 pub fn reply_is_grammar()
     ensures reads { (reply : Reply) (bytes : List ℕ) → All (λ b. b < 256) bytes
         → (SpellsReply reply bytes) ↔ (reply_reading bytes ≡ Ok reply) }
@@ -44,7 +44,7 @@ pub fn reply_read_again()
 {}
 
 /// `report_reading` reads exactly the bytes that spell a report, as that report, whatever the reserved bytes hold, and
-/// refuses all others where they end too early, or at the first byte behind the report.
+/// refuses all others at their end if they end too early, or at the first byte after the report.
 pub fn report_is_grammar()
     ensures reads { (report : Report) (bytes : List ℕ) → All (λ b. b < 256) bytes
         → (SpellsReport report bytes) ↔ (report_reading bytes ≡ Ok report) }

@@ -19,7 +19,7 @@ pub use laws::{
     ranges_again, reply_is_grammar, reply_read_again, report_is_grammar, report_read_again,
     request_is_grammar, request_read_again,
 };
-pub use reading::{reply_read, request_read};
+pub use reading::{function_of, reply_read, request_read};
 pub use reply::ReplyView;
 pub use report::{Ranges, ReportRange, ReportView};
 pub use report_reading::report_read;

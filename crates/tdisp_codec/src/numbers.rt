@@ -5,14 +5,14 @@ ghost use Rattle.byteorder.specs.Endian.{little_bytes, little_number};
 
 use byteorder::{ByteOrder, LittleEndian};
 
-/// The byte at this place, 0 where the bytes end before it.
+/// The byte at this place, 0 if the bytes end before it.
 pub fn byte_at(bytes: &[u8], place: usize) -> u8
     ensures { result ≡ slice_index bytes.now place }
 {
     if place < bytes.len() { bytes[place] } else { 0 }
 }
 
-/// The bytes from this place on, none where they end before it.
+/// The bytes from this place on, none if they end before it.
 pub fn behind(bytes: &[u8], place: usize) -> &[u8]
     ensures { result.now ≡ drop place bytes.now }
 {

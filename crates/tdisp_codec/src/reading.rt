@@ -3,6 +3,7 @@
 ghost use Rattle.std.specs.Prelude.{◌≡◌, ◌+◌, ◌<◌, ◌≤◌, ◌^◌, true, length, slice_index, take, drop};
 ghost use Rattle.byteorder.specs.Endian.{little_number};
 ghost use Rattle.tdisp_codec.specs.Messages.{length_fault as length_fault_of, message_fault as message_fault_of};
+ghost use Rattle.tdisp_codec.specs.Messages.{function_of};
 ghost use Rattle.tdisp_codec.specs.Requests.{is_request as is_request_type, request_size as request_size_of};
 ghost use Rattle.tdisp_codec.specs.Requests.{request_from, request_reading};
 ghost use Rattle.tdisp_codec.specs.Replies.{is_reply as is_reply_type, reply_size as reply_size_of};
@@ -15,7 +16,21 @@ use crate::reply::ReplyView;
 use crate::request::RequestView;
 use byteorder::{ByteOrder, LittleEndian};
 
-/// Another length than this.
+/// The length of a message without a body, in bytes.
+const HEADER: usize = 17;
+
+/// The function ID of a message, bytes 5 to 8; `None` if its header is cut off.
+pub fn function_of(bytes: &[u8]) -> Option<u32>
+    ensures { result ≡ function_of bytes.now }
+{
+    if bytes.len() < HEADER {
+        None
+    } else {
+        Some(LittleEndian::read_u32(&bytes[5..]))
+    }
+}
+
+/// The fault of bytes that have another length than this, in bytes; `None` if they have it.
 pub fn length_fault(bytes: &[u8], size: usize) -> Option<TdispFault>
     ensures { result ≡ length_fault_of size bytes.now }
 {
@@ -112,7 +127,8 @@ fn request(kind: u8, function: u32, body: &[u8]) -> RequestView
     }
 }
 
-/// The request that the bytes spell, all of them, else the first fault; reserved bytes are ignored (this profile).
+/// The request that the bytes spell, all of them, else the first fault from the left: of the protocol byte, the
+/// version, the type, the length; reserved bytes are ignored (TDISP section 11.3, in this profile's layout).
 pub fn request_read(bytes: &[u8]) -> Result<RequestView, TdispFault>
     ensures { result ≡ request_reading bytes.now }
 {
@@ -205,7 +221,8 @@ fn reply<'a>(kind: u8, function: u32, body: &'a [u8]) -> ReplyView<'a>
     }
 }
 
-/// The reply that the bytes spell, all of them, else the first fault; reserved bytes are ignored (this profile).
+/// The reply that the bytes spell, all of them, else the first fault from the left: of the protocol byte, the version,
+/// the type, the length; reserved bytes are ignored (TDISP section 11.3, in this profile's layout).
 pub fn reply_read(bytes: &[u8]) -> Result<ReplyView<'_>, TdispFault>
     ensures { reply_answer result ≡ reply_reading bytes.now }
 {

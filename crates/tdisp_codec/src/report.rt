@@ -105,7 +105,7 @@ impl<'a> Ranges<'a> {
         self.bytes.len() / 16
     }
 
-    /// There are none.
+    /// Whether there are none.
     pub fn is_empty(&self) -> bool
         ensures { result ≡ (length (ranges_in self.now.bytes.now) == 0) }
     {

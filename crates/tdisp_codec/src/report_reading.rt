@@ -9,7 +9,7 @@ use crate::numbers::{behind, number16, number32};
 use crate::reading::length_fault;
 use crate::report::{Ranges, ReportView};
 
-/// Where the length of the device's own information stands.
+/// The place at which the length of the device's own information stands.
 fn device_place(bytes: &[u8]) -> usize
     ensures value { result ≡ device_place_of bytes.now }
     ensures small { result < 2 ^ 37 }

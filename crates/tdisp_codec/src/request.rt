@@ -1,8 +1,8 @@
 //! The requests of the host.
 
 /// A request (TDISP section 11.3, in this profile's layout). `function` is the function ID of the interface: the
-/// requester ID in bits 15:0, the segment in bits 23:16, bit 24 where that is valid, and reserved bits that are kept as
-/// they came.
+/// requester ID in bits 15:0, the segment in bits 23:16, bit 24 whether that is valid, and reserved bits that are kept
+/// as they came.
 #[derive(Clone, Copy, PartialEq, Eq)]
 pub enum RequestView {
     /// 0x81: which versions the device speaks.

@@ -109,7 +109,7 @@ fn append_abilities(out: &mut Vec<u8>, device: u32, requests: [u8; 16])
     append(out, &requests);
 }
 
-/// Appends a part of a report, behind its length and the remainder.
+/// Appends a part of a report, after its length and the remainder.
 fn append_portion(out: &mut Vec<u8>, remainder: u16, portion: &[u8])
     requires room { vec_len out.old + 4 + length portion.now ≤ vec_capacity out.old }
     requires counted { length portion.now < 2 ^ 16 }

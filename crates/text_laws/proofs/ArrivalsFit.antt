@@ -5,7 +5,7 @@
 use Rattle.std.proofs.Common.{◌≡◌, ℕ, zero, suc, ◌+◌, ◌-◌, ◌*◌, ◌<◌, ◌≤◌, ◌==◌, ◌^◌, Bool, true, false, List, [], ◌∷◌}
 use Rattle.std.proofs.Common.{◌++◌, length, take, Some, None, Option, Ok, Err, Result, slice_get, slice_index}
 use Rattle.std.proofs.Common.{slice_set, refl, subst, arith, length-append, length-set, length-take}
-use Rattle.std.specs.Prelude.{if◌then◌else◌, not, ◌||◌, nat_lt, nat_le, map, option_map, bit_xor, is_some}
+use Rattle.std.specs.Prelude.{if◌then◌else◌, not, ◌||◌, nat_lt, nat_le, option_map, bit_xor, is_some}
 use Rattle.std.specs.Option.{option_and_then}
 use Rattle.hex.specs.Hex.{IsBytes}
 use Rattle.ide_types.specs.declared.sub.FailCause.TheVariants as fail
@@ -30,9 +30,10 @@ use Rattle.key_laws.specs.History.{History, base}
 use Rattle.link_history.specs.Plan.{SubStream, has_port, has_stream, stream_plan}
 use Rattle.link_history.specs.History.{SealedList, Arrival, arrived, altered, brought, shortened, packet_at}
 use Rattle.link_history.specs.History.{sealed_packets, ahead_in, sub_stream_of, units_got, is_of, keys_at, on_draw}
-use Rattle.link_history.specs.History.{failed, meets_counts, received_in}
+use Rattle.link_history.specs.History.{failed, meets_counts, received_in, sent_bytes}
+use Rattle.link_history.proofs.Causes.{sending_port}
 use Rattle.link_history.specs.Due.{Ending, dump_due, arrival_due, settled, before_tag, before_tag_of, under_keys}
-use Rattle.link_history.specs.Due.{is_mixed, is_overfull, receiving, unit_under, is_verified, ended, effect_of}
+use Rattle.link_history.specs.Due.{is_mixed, is_overfull, receiving, unit_under, is_verified, ended, effects_of}
 use Rattle.link_history.specs.Cause.{CauseLaw}
 use Rattle.link_history.proofs.SealingIs.{IsLive, sealing_is, all_live}
 use Rattle.link_keys.proofs.Draws.{draws as draws_hold}
@@ -62,13 +63,14 @@ all_known : (plan : Plan) (h : History) → CauseLaw plan h → (i : ℕ) (x : S
     → slice_get (sealed_packets plan h) i ≡ Some x → IsKnown plan x.0
 unfolding sealed_packets
 all_known plan [] law i x is = absurd cc
-all_known plan ((Send p bytes more trusted, v.Sealed ds) ∷ h) law i x is =
-    let sealing = sealing_is plan h p bytes more trusted ds law.0 in
+all_known plan ((e, v.Sealed ds) ∷ h) law i x is =
+    let sealing = sealing_is plan h e ds law.0 in
     let port = sealing.sending.port in
     let stream = sealing.sending.stream in
-    each_more (IsKnown plan) plan (ahead_in plan (sealed_packets plan h) (base h)) bytes ds (sealed_packets plan h)
+    each_more (IsKnown plan) plan (ahead_in plan (sealed_packets plan h) (base h)) (sent_bytes plan h e) ds
+    (sealed_packets plan h)
     (live_all (IsKnown plan) plan h port stream ds (live_known plan h law.1 port stream)
-    (all_live plan h p bytes ds sealing)) (all_known plan h law.1) i x is
+    (all_live plan h (sending_port e) (sent_bytes plan h e) ds sealing)) (all_known plan h law.1) i x is
 all_known plan ((e, w) ∷ h) law i x is = all_known plan h law.1 i x is
 
 record Known (plan : Plan) (h : History) (n : ℕ) (x : SealedPacket × Packet) : Type 0 where
@@ -252,7 +254,7 @@ settled_fits plan h port (Ok x) step = by_tests (is_verified plan h port x)
   where
     by_tests : (verified counts : Bool) → Fits (if not verified then v.Fail port x.unit.stream x.unit.sub fail.Tag
         else if not counts then v.Fail port x.unit.stream x.unit.sub fail.Order
-        else v.Accepted port x.unit (map (effect_of plan h port x.unit) (ended plan h port x)))
+        else v.Accepted port x.unit (effects_of plan h port x.unit (ended plan h port x)))
     by_tests false counts = (step.0, step.1.0)
     by_tests true false = (step.0, step.1.0)
     by_tests true true = step

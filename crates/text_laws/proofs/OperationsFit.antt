@@ -1,7 +1,7 @@
 -- The verdicts of operations fit.
-use Rattle.std.proofs.Common.{◌≡◌, ℕ, zero, suc, ◌+◌, ◌-◌, ◌<◌, ◌≤◌, ◌^◌, Bool, true, false, List, [], length, Option}
-use Rattle.std.proofs.Common.{Some, None, refl, arith, inl, inr, ◌∷◌}
-use Rattle.std.specs.Prelude.{if◌then◌else◌, ◌==◌, ◌||◌, nat_lt, is_some}
+use Rattle.std.proofs.Common.{◌≡◌, ℕ, ◌<◌, ◌≤◌, ◌^◌, Bool, true, false, List, [], length, Option}
+use Rattle.std.proofs.Common.{Some, None, refl, sym, subst, arith, inl, inr, ◌∷◌}
+use Rattle.std.specs.Prelude.{if◌then◌else◌, nat_lt, is_some}
 use Rattle.std.proofs.lemmas.Bool.Decides.{nat_tests}
 use Rattle.std.proofs.lemmas.Bool.{cases_lt}
 use Rattle.std.proofs.lemmas.List.{get_or_past, length-map}
@@ -22,11 +22,13 @@ use Rattle.link_verdicts.specs.declared.verdict.Operation.TheVariants as op
 use Rattle.link_verdicts.specs.declared.verdict.Verdict.{Verdict}
 use Rattle.link_verdicts.specs.declared.verdict.Verdict.TheVariants as v
 use Rattle.link_verdicts.specs.Apart.{Fits}
+use Rattle.key_laws.specs.Keys.{refuses, refusal_if, refused_status}
 use Rattle.key_laws.specs.Places.{KeyPlan}
 use Rattle.key_laws.specs.Operations.{Op, Idle, Establishing, Up, Refreshing, Stopping, Work, work_of, last_of}
-use Rattle.key_laws.specs.History.{History, op_of, draws, status_of}
-use Rattle.key_laws.specs.Due.{PortView, ports_at, is_refused, is_lost, first_from, lost_at, cut_off, done, comes_to}
-use Rattle.key_laws.specs.Due.{stays_at, performed, is_live_sender, unless_open, if_secure, may_establish, may_refresh}
+use Rattle.key_laws.specs.History.{History, op_of, draws, keys_at, status_of}
+use Rattle.key_laws.specs.Due.{PortView, ports_at, refusal_at, lost_in, lost_at, cut_at, done, performed}
+use Rattle.key_laws.specs.Due.{is_live_sender, unless_open, if_secure, may_establish, may_refresh}
+use Rattle.key_laws.proofs.Performs.{performed_stays, refusal_of_place}
 use Rattle.key_laws.specs.Due.{due as key_due}
 use Rattle.link_history.specs.Plan.{key_plan, stream_plan, streams_by_link, streams_of, with_id, has_link}
 use Rattle.link_history.specs.Due.{due}
@@ -71,15 +73,8 @@ fits_if false x y one two = two
 same_number : (m n : ℕ) → Some m ≡ Some n → m ≡ n
 same_number m n is = cc
 
-first_below : (test : ℕ → Bool) (n more k : ℕ) → first_from test n more ≡ Some k → (0 < more) × (k < n + more)
-first_below test n zero k is = absurd cc
-first_below test n (suc more) k is = by_test (test n) is (first_below test (n + 1) more k)
-  where
-    by_test : (b : Bool) → (if b then Some n else first_from test (n + 1) more) ≡ Some k
-        → (first_from test (n + 1) more ≡ Some k → (0 < more) × (k < n + 1 + more)) → (0 < suc more)
-        × (k < n + suc more)
-    by_test true is later = let same = same_number n k is in (omega arith, omega (arith, same))
-    by_test false is later = let rest = later is in (omega arith, omega (arith, rest.1))
+same_verdict : (x y : Verdict) → Some x ≡ Some y → x ≡ y
+same_verdict x y is = cc
 
 last_few : (o : Operation) → last_of o ≤ 13
 last_few op.Establish = omega arith
@@ -90,10 +85,23 @@ pub lost_fits : (lost : Lost) (n : ℕ) → n < 2 ^ 64 → Fits (lost_at lost n)
 lost_fits Request n few = few
 lost_fits Reply n few = few
 
-cut_fits : (loss : Option Loss) (n : ℕ) → n < 2 ^ 64 → Fits (cut_off loss n)
-cut_fits None n few = (few, omega arith)
-cut_fits (Some loss) n few = fits_if (loss.exchange == n) (lost_at loss.lost n) (v.RefusedDevice n 3)
-    (lost_fits loss.lost n few) (few, omega arith)
+-- the status of a refusal has room
+refused_fits : (b : Bool) (status : ℕ) → refusal_if b ≡ Some status → status < 2 ^ 64
+refused_fits true status is = let same = same_number refused_status status is in omega (arith, same)
+refused_fits false status is = absurd cc
+
+refusal_fits : (h : History) (o : Operation) (set : Bool) (link stream n status : ℕ)
+    → refusal_at (ports_at h) o set link stream n ≡ Some status → status < 2 ^ 64
+refusal_fits h o set link stream n status is =
+    let at = refusal_of_place (ports_at h) o set link stream n status is in
+    refused_fits (refuses at.0.sends (keys_at h at.0) set) status at.1
+
+cut_fits : (lost : Option Lost) (refusal : Option ℕ) (n : ℕ) (x : Verdict) → n < 2 ^ 64
+    → ((status : ℕ) → refusal ≡ Some status → status < 2 ^ 64) → cut_at lost refusal n ≡ Some x → Fits x
+cut_fits (Some lost) refusal n x few room is = subst Fits (same_verdict (lost_at lost n) x is) (lost_fits lost n few)
+cut_fits None (Some status) n x few room is =
+    subst Fits (same_verdict (v.RefusedDevice n status) x is) (few, room status refl)
+cut_fits None None n x few room is = absurd cc
 
 done_fits : (link stream : ℕ) (w : Work) (o : Operation) → w.operation ≡ o → FitsStream link stream → w.draw < 2 ^ 64
     → Fits (done link stream w)
@@ -101,19 +109,16 @@ done_fits link stream w op.Establish is at draw = rw is (at.link_fits, at.stream
 done_fits link stream w op.Refresh is at draw = rw is (at.link_fits, at.stream_fits, draw)
 done_fits link stream w op.Stop is at draw = rw is (at.link_fits, at.stream_fits)
 
-comes_fits : (link stream : ℕ) (w : Work) (loss : Option Loss) (o : Option ℕ) → FitsStream link stream → w.draw < 2 ^ 64
-    → ((n : ℕ) → o ≡ Some n → n < 2 ^ 64) → Fits (comes_to link stream w loss o)
-comes_fits link stream w loss None at draw stays = done_fits link stream w w.operation refl at draw
-comes_fits link stream w loss (Some n) at draw stays = cut_fits loss n (stays n refl)
-
-performed_fits : (ports : PortView) (link stream : ℕ) (loss : Option Loss) (w : Work) → FitsStream link stream
-    → w.draw < 2 ^ 64 → Fits (performed ports link stream loss w)
-performed_fits ports link stream loss w at draw =
-    comes_fits link stream w loss (stays_at ports link stream loss w) at draw (λ n is.
-    let found = first_below (λ k. is_lost loss k || is_refused ports w.operation w.set link stream k) w.first
-    (last_of w.operation + 1 - w.first) n is in
-    let below : n < 14 = omega (arith, found.0, found.1, last_few w.operation) in
-    omega (arith, below))
+-- the verdict is that of its end, or of an exchange at which it stays
+performed_fits : (h : History) (link stream : ℕ) (loss : Option Loss) (w : Work) → FitsStream link stream
+    → w.draw < 2 ^ 64 → Fits (performed (ports_at h) link stream loss w)
+performed_fits h link stream loss w at draw = elim (performed_stays (ports_at h) link stream loss w) [
+  | inl ended ↦ subst Fits (sym ended) (done_fits link stream w w.operation refl at draw)
+  | inr stays ↦
+      let below : stays.exchange < 14 = omega (arith, stays.at_most, last_few w.operation) in
+      cut_fits (lost_in loss stays.exchange) (refusal_at (ports_at h) w.operation w.set link stream stays.exchange)
+      stays.exchange _ (omega (arith, below)) (refusal_fits h w.operation w.set link stream stays.exchange) stays.gives
+]
 
 -- ---- refusals at the beginning
 
@@ -175,7 +180,7 @@ pub establish_due_fits : (plan : Plan) → FitsPlan plan → (h : History) → l
 unfolding due key_due
 establish_due_fits plan fits h few link stream lose = where_known plan fits link stream _ (λ at.
     establish_fits (key_plan plan) (op_of h link stream) (draws h) _ (draws_fit h few)
-    (performed_fits (ports_at h) link stream lose (work_of op.Establish (op_of h link stream) (draws h)) at
+    (performed_fits h link stream lose (work_of op.Establish (op_of h link stream) (draws h)) at
     (work_fits h few op.Establish link stream)))
 
 pub refresh_due_fits : (plan : Plan) → FitsPlan plan → (h : History) → length h < 2 ^ 28
@@ -184,14 +189,14 @@ unfolding due key_due
 refresh_due_fits plan fits h few link stream lose = where_known plan fits link stream _ (λ at.
     refresh_fits (key_plan plan) (op_of h link stream) (draws h) (status_of h Host link stream) (ports_at h) link stream
     (work_of op.Refresh (op_of h link stream) (draws h)).set _ (draws_fit h few)
-    (performed_fits (ports_at h) link stream lose (work_of op.Refresh (op_of h link stream) (draws h)) at
+    (performed_fits h link stream lose (work_of op.Refresh (op_of h link stream) (draws h)) at
     (work_fits h few op.Refresh link stream)))
 
 pub stop_due_fits : (plan : Plan) → FitsPlan plan → (h : History) → length h < 2 ^ 28
     → (link stream : ℕ) (lose : Option Loss) → Fits (due plan h (event.Stop link stream lose))
 unfolding due key_due
 stop_due_fits plan fits h few link stream lose = where_known plan fits link stream _ (λ at.
-    performed_fits (ports_at h) link stream lose (work_of op.Stop (op_of h link stream) (draws h)) at
+    performed_fits h link stream lose (work_of op.Stop (op_of h link stream) (draws h)) at
     (work_fits h few op.Stop link stream))
 
 pub reset_due_fits : (plan : Plan) → FitsPlan plan → (h : History) (link : ℕ) → Fits (due plan h (event.Reset link))

@@ -13,6 +13,7 @@ use Rattle.ide_plan.specs.declared.plan.LinkPlan.{LinkPlan}
 use Rattle.ide_plan.specs.declared.interface.InterfacePlan.{InterfacePlan}
 use Rattle.ide_plan.specs.declared.stream.StreamPlan.{StreamPlan}
 use Rattle.ide_plan.specs.Fits.{AreBytes, IsKey, FitsInterface, FitsLink, FitsPlan}
+use Rattle.ide_plan.proofs.Limits.{few_interfaces}
 use Rattle.tdi_state.specs.Held.{FitsTdi}
 use Rattle.interface_states.specs.Sites.{Site, sites_on, sites_from, site_at, nonce_behind}
 unfoldable use Rattle.interface_states.specs.Sites.{sites}
@@ -27,7 +28,7 @@ pub record SiteFits (x : Site) : Type 0 where
 abbrev AllFit : List Site → Type 0
 AllFit xs = AllByRecursion SiteFits xs
 
-one_fits : (streams : List StreamPlan) (number link : ℕ) (p : InterfacePlan) → number ≤ 32 → FitsInterface streams p
+one_fits : (streams : List StreamPlan) (number link : ℕ) (p : InterfacePlan) → number ≤ 64 → FitsInterface streams p
     → SiteFits (record { number = number; link = link; plan = p })
 one_fits streams number link p few fits = record {
   number = omega (arith, few);
@@ -36,7 +37,7 @@ one_fits streams number link p few fits = record {
 }
 
 on_fits : (streams : List StreamPlan) (number link : ℕ) (ps : List InterfacePlan) (xs : List Site)
-    → number + length ps ≤ 32 → AllByRecursion (FitsInterface streams) ps → AllFit xs
+    → number + length ps ≤ 64 → AllByRecursion (FitsInterface streams) ps → AllFit xs
     → AllFit (sites_on number link ps ++ xs)
 on_fits streams number link [] xs few fits rest = rest
 on_fits streams number link (p ∷ ps) xs few fits rest = (
@@ -45,7 +46,7 @@ on_fits streams number link (p ∷ ps) xs few fits rest = (
       (omega (arith, few)) fits.1 rest,
 )
 
-from_fits : (number link : ℕ) (ls : List LinkPlan) → number + sum_by (λ l. length l.interfaces) ls ≤ 32
+from_fits : (number link : ℕ) (ls : List LinkPlan) → number + sum_by (λ l. length l.interfaces) ls ≤ 64
     → AllByRecursion FitsLink ls → AllFit (sites_from number link ls)
 from_fits number link [] few fits = tt
 from_fits number link (l ∷ ls) few fits =
@@ -56,7 +57,7 @@ from_fits number link (l ∷ ls) few fits =
 
 sites_fit : (plan : Plan) → FitsPlan plan → AllFit (sites plan)
 unfolding sites
-sites_fit plan fits = from_fits 0 0 plan.links (omega (arith, fits.interfaces_most))
+sites_fit plan fits = from_fits 0 0 plan.links (omega (arith, few_interfaces plan fits))
     (recursion_from_All FitsLink plan.links fits.each_link)
 
 found_fits : (test : Site → Bool) (xs : List Site) (x : Site) → AllFit xs → find test xs ≡ Some x → SiteFits x

@@ -17,8 +17,8 @@ DueFits =
     (plan : Plan) → FitsPlan plan → (h : History) → CauseLaw plan h → length h < 2 ^ 28 → (e : Event) → IsAllowed e
     → Fits (due plan h e)
 
--- Where the text of events begins with the lines of a history of the first of them, each verdict of that history is
--- the one that is due.
+-- If the text of events begins with the lines of a history of the first of them, each verdict of that history is the
+-- one that is due.
 abbrev pub LinesTell : Type 0
 LinesTell =
     (plan : Plan) → FitsPlan plan → (h : History) (later : List Event) (rest last : List ℕ)

@@ -6,7 +6,7 @@ ghost use Rattle.text_lines.specs.Pieces.{pieces};
 
 use memchr::memchr;
 
-/// The bytes ahead of the first line feed and those behind it; nothing where there is no line feed.
+/// The bytes before the first line feed and those after it; `None` if there is no line feed.
 #[tactic(auto, using(crate::proofs::Cuts::line_at, crate::proofs::Cuts::no_line, crate::proofs::Cuts::within))]
 pub fn split_line(bytes: &[u8]) -> Option<(&[u8], &[u8])>
     ensures pieces { MatchOption result (pieces bytes.now ≡ bytes.now ∷ []) (λ p. pieces bytes.now ≡ p.0.now

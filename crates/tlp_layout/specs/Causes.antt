@@ -29,7 +29,7 @@ layout_at b =
     else if not (is_wide b) && (b % 0x20 == 0x0a) then Some Completion
     else None
 
--- ---- the bytes behind it
+-- ---- the bytes after it
 
 -- the bits that are 0 in the byte at this place of a header of this length:
 -- bit 1 and TH of byte 1, TD and EP of byte 2, what is reserved, the two lowest bits of an address,
@@ -54,7 +54,7 @@ allowed layout size place b = (bit_and (reserved layout size place) b == 0) && h
 
 -- ---- why the byte at a place ends the reading, the first cause
 
--- behind byte 0 of a header: TD and EP come before Length
+-- after byte 0 of a header: TD and EP come before Length
 abbrev pub cause_at : ℕ → ℕ → TlpFault
 cause_at place b =
     if place == 2 then (if nat_lt b 0x40 then Length 2 else Bit 2)

@@ -37,7 +37,7 @@ lead_bytes l tag =
 abbrev pub address_bytes : Bool → ℕ → List ℕ
 address_bytes wide address = if wide then big_bytes 8 address else big_bytes 4 address
 
--- what stands behind the first double word
+-- what stands after the first double word
 abbrev pub field_bytes : Bool → Fields → List ℕ
 field_bytes wide (Memory f) =
     big_bytes 2 f.requester ++ (f.tag % 256) ∷ (0x10 * f.last_be + f.first_be) ∷ address_bytes wide f.address
@@ -66,7 +66,7 @@ pub record FitsLead (l : Lead) : Type 0 where
   pub at : l.at < 4
   pub length : l.length < 1024
 
--- the fields that have a spelling behind this lead
+-- the fields that have a spelling after this lead
 abbrev pub FitsFields : Lead → Fields → Type 0
 FitsFields l (Memory f) =
     (f.requester < 2 ^ 16) × (f.tag < 1024) × (f.last_be < 16) × (f.first_be < 16)

@@ -3,7 +3,7 @@ use Rattle.std.specs.Prelude.{◌≡◌, ℕ, ◌<◌, ◌≤◌, true, false, L
 use Rattle.tlp_layout.specs.Terms.{Layout, TlpFault}
 use Rattle.tlp_layout.specs.Causes.{head_size, layout_at, allowed, fault_at}
 
--- behind byte 0 the bytes below n are those of a header of this layout
+-- after byte 0 the bytes below n are those of a header of this layout
 abbrev pub Agrees : Layout → List ℕ → ℕ → Type 0
 Agrees layout s n =
     (i : ℕ) → 0 < i → i < n → allowed layout (head_size (slice_index s 0)) i (slice_index s i) ≡ true

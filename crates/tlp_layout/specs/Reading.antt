@@ -76,7 +76,7 @@ head_of layout s =
 abbrev pub head_read : List ℕ → HeadView
 head_read s = head_of (unwrap_or (layout_at (slice_index s 0)) layouts.Memory) s
 
--- and with it what stands behind that header
+-- and with it what stands after that header
 abbrev pub tlp_read : List ℕ → Tlp
 tlp_read s = with_payload (head_read s) (drop (head_size (slice_index s 0)) s)
 
@@ -86,7 +86,7 @@ abbrev pub layout_allows : Option Layout → ℕ → ℕ → ℕ → Bool
 layout_allows None size place b = false
 layout_allows (Some layout) size place b = allowed layout size place b
 
--- the byte may stand at this place, behind a front of that length: byte 0 names a layout, the header's others are those
+-- the byte may stand at this place, after a prefix of that length: byte 0 names a layout, the header's others are those
 -- of that layout, and a payload has any
 abbrev pub stands_at : ℕ → List ℕ → ℕ → Bool
 stands_at zero front b = is_some (layout_at b)
@@ -95,11 +95,11 @@ stands_at (suc n) front b =
     then layout_allows (layout_at (slice_index front 0)) (head_size (slice_index front 0)) (suc n) b
     else true
 
--- the byte may follow the front
+-- the byte may follow the prefix
 abbrev pub may_follow : List ℕ → ℕ → Bool
 may_follow front b = nat_lt b 256 && stands_at (length front) front b
 
--- the front of a header wants more; bytes that are not there yet count as 0
+-- the prefix of a header wants more; bytes that are not there yet count as 0
 abbrev pub wants_head : List ℕ → Bool
 wants_head front = nat_lt (length front) (head_size (slice_index front 0))
 

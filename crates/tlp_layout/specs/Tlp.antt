@@ -6,7 +6,7 @@ use Rattle.tlp_layout.specs.Head.{head_bytes, FitsHead}
 abbrev pub header : Tlp → HeadView
 header t = t.head
 
--- its payload, no bytes where the header has none
+-- its payload, no bytes if the header has none
 abbrev pub body : Tlp → List ℕ
 body t = t.payload
 

@@ -18,7 +18,7 @@ pub struct Lead {
     pub length: u16,
 }
 
-/// The header of a TLP, which a payload follows where `has_payload` says so.
+/// The header of a TLP, which a payload follows if `has_payload` says so.
 #[derive(Clone, Copy, Debug, PartialEq, Eq)]
 pub struct HeadView {
     /// The first double word.

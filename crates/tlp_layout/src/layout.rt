@@ -9,7 +9,7 @@ ghost use Rattle.tlp_layout.specs.Class.{kind_with, kind_at as kind_named};
 use crate::fault::TlpFault;
 use crate::head::TlpKind;
 
-/// Which fields stand behind the first double word of a header.
+/// Which fields stand after the first double word of a header.
 #[derive(Clone, Copy, Debug, PartialEq, Eq)]
 pub enum Layout {
     Memory,
@@ -34,7 +34,7 @@ impl Layout {
     }
 }
 
-/// The layout that byte 0 names by Fmt and Type; `None` where this profile has no such TLP.
+/// The layout that byte 0 names by Fmt and Type; `None` if this profile has no such TLP.
 pub(crate) fn layout_at(first: u8) -> Option<Layout>
     ensures { result ≡ layout_named first }
 {
@@ -55,7 +55,7 @@ pub(crate) fn layout_at(first: u8) -> Option<Layout>
     }
 }
 
-/// The kind of TLP whose header byte 0 begins; `None` where this profile has no such TLP.
+/// The kind of TLP whose header byte 0 begins; `None` if this profile has no such TLP.
 pub fn kind_at(first: u8) -> Option<TlpKind>
     ensures { result ≡ kind_named first }
 {
@@ -65,7 +65,7 @@ pub fn kind_at(first: u8) -> Option<TlpKind>
     }
 }
 
-/// The length in bytes, 12 or 16, of the header that byte 0 begins.
+/// The length in bytes, 12 or 16, of the header that byte 0 begins (Fmt, PCI Express Base 6.0 section 2.2).
 pub fn head_size(first: u8) -> usize
     ensures { result ≡ size_named first }
 {

@@ -38,8 +38,7 @@ const LEAD_ABOVE: Lead = Lead {
     length: 1,
 };
 
-// Bits of the byte at a place which are 0 in a header (1 in a Length of 1), and the fault where
-// one is not.
+// Bits of the byte at a place which are 0 in a header (1 in a Length of 1), and the fault if one is not.
 struct Rule(usize, u8, TlpFault);
 
 const LEAD: [Rule; 2] = [
@@ -96,8 +95,8 @@ fn flipped(alloc: Global, head: &[u8], place: usize, bit: u8) -> Result<Vec<u8>,
     Ok(bytes)
 }
 
-// The header reads as of this kind; each front of it is short, a byte more trails, and each bit
-// behind byte 0 may be the other way but for those of the rules.
+// The header reads as of this kind; each proper prefix of it is short, a byte more trails, and each bit after byte 0
+// may be the other way but for those of the rules.
 fn check_head(
     rt: &impl Abort,
     alloc: Global,
@@ -239,7 +238,7 @@ fn payloads(rt: HostRuntime) {
     assert_eq!(rt; TlpFault::Trailing(16).place(), 16);
 }
 
-// The header and the payload are written as these bytes, behind what stood there.
+// The header and the payload are written as these bytes, after what stood there.
 fn check_written(
     rt: &impl Abort,
     alloc: Global,

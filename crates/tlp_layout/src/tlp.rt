@@ -3,7 +3,7 @@
 use crate::head::{HeadView, TlpKind};
 use ide_types::{Bytes, SubKind};
 
-/// A TLP: its header and the bytes of its payload, none where the header has no payload.
+/// A TLP: its header and the bytes of its payload, none if the header has no payload.
 #[derive(Debug, Drop)]
 pub struct Tlp {
     /// The header.
@@ -33,7 +33,7 @@ impl Tlp {
         self.head
     }
 
-    /// The bytes behind the header, none where it has no payload.
+    /// The bytes after the header, none if it has no payload.
     pub fn payload(&self) -> &[u8]
         ensures { result.now ≡ body self.now }
     {

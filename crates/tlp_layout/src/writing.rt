@@ -147,7 +147,7 @@ fn put_completion(out: &mut Header, lead: &Lead, fields: &CompletionFields)
     put(out, &[(fields.tag & 0xff) as u8, fields.lower]);
 }
 
-/// Appends what stands behind the first double word.
+/// Appends what stands after the first double word.
 fn put_fields(out: &mut Header, lead: &Lead, fields: &Fields)
     requires room { array_vec_len out.old + 12 ≤ 16 }
     requires fits { FitsFields lead.now fields.now }

@@ -20,7 +20,7 @@ abbrev pub Gives : {X Y : Type 0} → (X → Y) → Result X PlanError → Resul
 Gives view (Ok x) due = due ≡ Ok (view x)
 Gives view (Err e) due = Fails e due
 
--- the value, or the fault where there is none
+-- the value, or the fault if there is none
 abbrev pub or_fault : {A : Type 0} → Option A → PlanFault → Result A PlanFault
 or_fault None f = Err f
 or_fault (Some x) f = Ok x

@@ -35,8 +35,8 @@ numbered c =
 abbrev pub is_printable : ℕ → Bool
 is_printable c = nat_le 32 c && nat_le c 126
 
--- a character of a basic string: an escape of its own, itself where it is printable ASCII, or by its number
--- (TOML 1.0, strings)
+-- a character of a basic string: an escape of its own, itself if it is printable ASCII, or by its number (TOML 1.0,
+-- strings)
 abbrev pub shown_char : ℕ → List ℕ
 shown_char c =
     if c == 34 then codes "\\\""

@@ -55,7 +55,7 @@ both first last path d e = do
   n ← number last (place path 1) e
   Ok (m, n)
 
--- a list of two numbers: more are Limit, fewer are Range, and so are two where none are allowed
+-- a list of two numbers: more are Limit, fewer are Range, and so are two if none are allowed
 abbrev pub two_in : Bool → Bounds → Bounds → Text → List Data → Result (ℕ × ℕ) PlanFault
 two_in allowed first last path [] = Err (Range path (pos 0))
 two_in allowed first last path (d ∷ []) = Err (Range path (pos 1))

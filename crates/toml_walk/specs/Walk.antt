@@ -39,7 +39,7 @@ is_known known key = list_any (λ name. bytes_eq name key) known
 abbrev pub Ascend : List Text → Type 0
 Ascend keys = IsStrictlySortedBy (slice_cmp nat_cmp) keys
 
--- the key is none of the known ones, and each other such key comes behind it in byte order
+-- the key is none of the known ones, and each other such key comes after it in byte order
 pub record IsLeastUnknown (known keys : List Text) (key : Text) : Type 0 where
   pub there : Contains keys key
   pub unknown : is_known known key ≡ false
@@ -68,7 +68,7 @@ abbrev pub found_or : {A : Type 0} → Text → A → Reader A → Option Data �
 found_or path default read None = Ok default
 found_or path default read (Some d) = read path d
 
--- the value of a key, or its default where it is not there
+-- the value of a key, or its default if it is not there
 abbrev pub optional : {A : Type 0} → Text → Members → Text → A → Reader A → Result A PlanFault
 optional table ms name default read = found_or (table ++ name) default read (get_member name ms)
 
@@ -90,7 +90,7 @@ abbrev pub is_past : Option ℕ → ℕ → Bool
 is_past None n = false
 is_past (Some most) n = nat_lt most n
 
--- a list may have so many elements: more are Limit; fewer are Range, and so is any at all where none are allowed
+-- a list may have so many elements: more are Limit; fewer are Range, and so is any at all if none are allowed
 abbrev pub within_span : Span → Text → List Data → Result (List Data) PlanFault
 within_span span path ds =
     if is_past span.most (length ds) then Err (Limit path)

@@ -15,7 +15,7 @@ use toml::Value;
 #[derive(Clone, Copy, Debug, PartialEq, Eq)]
 pub struct Span {
     pub least: usize,
-    /// No bound where there is none.
+    /// No bound if there is none.
     pub most: Option<usize>,
     /// Whether the list may have elements at all.
     pub allowed: bool,
@@ -65,7 +65,7 @@ fn items_in(value: &Value) -> Option<&[Value]>
     }
 }
 
-/// The elements of the list that a value is.
+/// The elements of the list that a value is, or the fault `Kind` of this path.
 pub fn items_of(path: Bytes, value: &Value) -> Result<&[Value], PlanError>
     ensures { Gives (λ vs. map view vs.now) result (values_of path (view value.now)) }
 {
@@ -106,7 +106,8 @@ fn each_of<R: Reader>(
     Ok(all)
 }
 
-/// A list of so many elements, by how an element is read.
+/// A list of so many elements, by how an element is read. Refused, in this order: `Kind` if it is no list, `Limit` if
+/// it has too many elements, `Range` with their number if it has too few, then by the first element that is refused.
 #[derive(Clone, Copy)]
 pub struct ListOf<R> {
     pub span: Span,

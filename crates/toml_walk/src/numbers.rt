@@ -13,7 +13,7 @@ use ide_types::Bytes;
 use std::alloc::Global;
 use toml::Value;
 
-/// The number that a value is.
+/// The number that a value is, or the fault `Kind` of this path.
 pub fn integer_of(alloc: Global, path: &[u8], value: &Value) -> Result<i64, PlanError>
     ensures { Gives (λ z. z) result (integer path.now (view value.now)) }
 {
@@ -34,7 +34,8 @@ fn bounded_of(alloc: Global, bounds: &Bounds, path: &[u8], z: i64) -> Result<u64
     }
 }
 
-/// The number within bounds that a value is.
+/// The number within bounds that a value is. Refused, in this order: `Kind` if it is no number, `Range` with the number
+/// if it is outside.
 pub fn number_of(
     alloc: Global,
     bounds: &Bounds,
@@ -207,7 +208,7 @@ fn both_of(
     Ok((m, n))
 }
 
-// Two numbers in a list, where the list may have any.
+// Two numbers in a list, if the list may have any.
 fn two_of(
     alloc: Global,
     allowed: bool,
@@ -230,7 +231,9 @@ fn two_of(
     Err(PlanError::Fault(PlanFault::Range(Bytes::copied(alloc, path)?, count as i64)))
 }
 
-/// The list of two numbers, each within its bounds, that a value is. Where none are `allowed`, any two are refused.
+/// The list of two numbers, each within its bounds, that a value is. Refused, in this order: `Kind` if it is no list,
+/// `Limit` if it has more than two elements, `Range` with their number if it has fewer or none are `allowed`, then by
+/// the first number that is refused.
 pub fn two_numbers(
     alloc: Global,
     allowed: bool,

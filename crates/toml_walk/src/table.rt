@@ -56,7 +56,7 @@ fn found<'a>(table: &'a Table, name: &str) -> Option<&'a Value>
 }
 
 impl Keys<'_> {
-    /// Refuses the least key of the table that is none of the known ones.
+    /// Refuses the least key of the table, in byte order, that is none of the known ones, with the fault `Unknown`.
     #[tactic(auto, using(crate::proofs::Lists::keys_of_view, crate::proofs::Unknown::table_ascends))]
     pub fn only(&self, known: &[&str]) -> Result<(), PlanError>
         ensures gives { Gives (λ u. u) result
@@ -73,7 +73,8 @@ impl Keys<'_> {
         }
     }
 
-    /// The value of a key that has to be there.
+    /// The value of a key that has to be there. Refused, in this order: `Missing` if it is not, then as its reader
+    /// refuses its value.
     pub fn required<R: Reader>(&self, name: &str, reader: &R) -> Result<R::Out, PlanError>
         ensures { Gives (λ x. x) result
             (required self.now.path (table_view self.now.table.now) name.now (R.reads reader.now)) }
@@ -85,7 +86,7 @@ impl Keys<'_> {
         }
     }
 
-    /// The value of a key, or its default where it is not there.
+    /// The value of a key, or its default if it is not there; refused as its reader refuses its value.
     pub fn optional<R: Reader>(
         &self,
         name: &str,
@@ -105,7 +106,7 @@ impl Keys<'_> {
     }
 }
 
-/// The table that a value is.
+/// The table that a value is, or the fault `Kind` of this path.
 pub fn table_of(path: Bytes, value: &Value) -> Result<&Table, PlanError>
     ensures { Gives (λ t. table_view t.now) result (or_fault (as_table (view value.now)) (Kind path)) }
 {

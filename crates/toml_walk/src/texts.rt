@@ -13,7 +13,7 @@ use ide_types::Bytes;
 use std::alloc::{AllocError, Global};
 use toml::Value;
 
-/// True or false.
+/// `true` or `false`; any other value is the fault `Kind`.
 #[derive(Clone, Copy)]
 pub struct Truth;
 
@@ -30,7 +30,7 @@ impl Reader for Truth {
     }
 }
 
-/// The text that a value is.
+/// The text that a value is, or the fault `Kind` of this path.
 pub fn text_of<'a>(alloc: Global, path: &[u8], value: &'a Value) -> Result<&'a str, PlanError>
     ensures { Gives (λ s. s.now) result (text path.now (view value.now)) }
 {
@@ -40,7 +40,7 @@ pub fn text_of<'a>(alloc: Global, path: &[u8], value: &'a Value) -> Result<&'a s
     }
 }
 
-/// What a text spells, or where it spells nothing the fault: its length in bytes.
+/// What a text spells; if it spells nothing, the fault `Range` with its length in bytes.
 pub fn or_length<T: Drop>(
     alloc: Global,
     path: &[u8],
@@ -58,7 +58,8 @@ pub fn or_length<T: Drop>(
     }
 }
 
-/// The 32 bytes of 64 hex digits.
+/// The 32 bytes of 64 hex digits. Refused, in this order: `Kind` if it is no text, `Range` with its length in bytes if
+/// it is another text.
 #[derive(Clone, Copy)]
 pub struct KeyBytes;
 
@@ -84,7 +85,8 @@ fn decoded(alloc: Global, text: &str) -> Result<Option<Bytes>, AllocError>
     }
 }
 
-/// The bytes of an even number of hex digits, up to so many bytes.
+/// The bytes of an even number of hex digits, up to `most` bytes. Refused, in this order: `Kind` if it is no text,
+/// `Range` with its length in bytes if it is another text or too long.
 #[derive(Clone, Copy)]
 pub struct HexBytes {
     pub most: u16,

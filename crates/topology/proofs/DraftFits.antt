@@ -61,10 +61,10 @@ bars_hold path d =
     (λ xs l. (ltb-false 6 (length xs) l.most, l.each))
 
 -- key by key, as the keys are read: each reader gives its bound, and the last step collects them
-pub interface_holds : (t : Text) (ms : Members) → Holds DraftFits (interface_keys t ms)
+pub interface_holds : (version : ℕ) (t : Text) (ms : Members) → Holds DraftFits (interface_keys version t ms)
 unfolding interface_keys DraftFits
-interface_holds t ms =
-    next (λ _. Unit {0}) DraftFits (only_known t interface_names ms) _ (anything _) (λ _ _.
+interface_holds version t ms =
+    next (λ _. Unit {0}) DraftFits (only_known t (interface_names version) ms) _ (anything _) (λ _ _.
     next (Upto 65535) DraftFits (required t ms (codes "rid") (number (within 0 65535))) _
     (required_holds _ t ms (codes "rid") _ (upto 65535)) (λ rid rid_fits.
     next (λ _. Unit {0}) DraftFits (required t ms (codes "stream") integer) _ (anything _) (λ z _.
@@ -86,6 +86,10 @@ interface_holds t ms =
     (optional_holds _ t ms (codes "cacheline") 0 _ (lit≤ tt) (upto 255)) (λ line line_fits.
     next (Upto 4294967295) DraftFits (optional t ms (codes "tph") 0 (number (within 0 4294967295))) _
     (optional_holds _ t ms (codes "tph") 0 _ (lit≤ tt) (upto 4294967295)) (λ tph tph_fits.
+    next (Upto 65535) DraftFits (optional t ms (codes "pasid") 0 (number (within 0 65535))) _
+    (optional_holds _ t ms (codes "pasid") 0 _ (lit≤ tt) (upto 65535)) (λ pasid pasid_fits.
+    next (Upto 65535) DraftFits (optional t ms (codes "ats") 0 (number (within 0 65535))) _
+    (optional_holds _ t ms (codes "ats") 0 _ (lit≤ tt) (upto 65535)) (λ ats ats_fits.
     next (λ bytes. (length bytes ≤ 1024) × AreBytes bytes) DraftFits (optional t ms (codes "info") [] (hex_bytes 1024))
     _
     (optional_holds _ t ms (codes "info") [] _ (lit≤ tt, All-nil (λ b. b < 256)) (hex_holds 1024)) (λ info info_fits.
@@ -104,13 +108,13 @@ interface_holds t ms =
       lnr = lnr_fits;
       cache_line = line_fits;
       tph = omega (arith, tph_fits);
-      pasid = lit≤ tt;
-      ats = lit≤ tt;
+      pasid = pasid_fits;
+      ats = ats_fits;
       info = info_fits.0;
       info_bytes = info_fits.1;
       bars = bars_fit.0;
       each_bar = bars_fit.1;
-    })))))))))))))
+    })))))))))))))))
 
 pub record LinkHolds (l : LinkDraft) : Type 0 where
   pub nonces : length l.nonces ≤ 1024
@@ -125,15 +129,17 @@ nonces_hold : (path : Text) (d : Data) → Holds (λ xs. (length xs ≤ 1024) ×
 nonces_hold path d = weaker (Listed (between 0 1024) IsKey) _ _ (list_holds _ IsKey key_bytes key_holds path d)
     (λ xs l. (ltb-false 1024 (length xs) l.most, l.each))
 
-interfaces_hold : (path : Text) (d : Data) → Holds (All DraftFits) (list any_number (table interface_keys) path d)
-interfaces_hold path d = weaker (Listed any_number DraftFits) _ _
-    (list_holds _ DraftFits (table interface_keys) (table_holds DraftFits interface_keys interface_holds) path d)
+interfaces_hold : (version : ℕ) (path : Text) (d : Data) → Holds (All DraftFits)
+    (list any_number (table (interface_keys version)) path d)
+interfaces_hold version path d = weaker (Listed any_number DraftFits) _ _
+    (list_holds _ DraftFits (table (interface_keys version))
+    (table_holds DraftFits (interface_keys version) (interface_holds version)) path d)
     (λ xs l. l.each)
 
 -- key by key, as the keys are read
-pub link_holds : (t : Text) (ms : Members) → Holds LinkHolds (link_keys t ms)
+pub link_holds : (version : ℕ) (t : Text) (ms : Members) → Holds LinkHolds (link_keys version t ms)
 unfolding link_keys
-link_holds t ms =
+link_holds version t ms =
     next (λ _. Unit {0}) LinkHolds (only_known t link_names ms) _ (anything _) (λ _ _.
     next (λ xs. (length xs ≤ 1024) × All IsKey xs) LinkHolds
     (optional t ms (codes "nonces") [] (list (between 0 1024) key_bytes)) _
@@ -143,8 +149,10 @@ link_holds t ms =
     (required_holds _ t ms (codes "stream") _
     (list_holds _ FitsStream (table stream_keys) (table_holds FitsStream stream_keys stream_holds)))
     (λ streams streams_fit.
-    next (All DraftFits) LinkHolds (optional t ms (codes "interface") [] (list any_number (table interface_keys))) _
-    (optional_holds _ t ms (codes "interface") [] _ (All-nil DraftFits) interfaces_hold) (λ interfaces interfaces_fit.
+    next (All DraftFits) LinkHolds
+    (optional t ms (codes "interface") [] (list any_number (table (interface_keys version)))) _
+    (optional_holds _ t ms (codes "interface") [] _ (All-nil DraftFits) (interfaces_hold version))
+    (λ interfaces interfaces_fit.
     gives LinkHolds _ (record {
       nonces = nonces_fit.0;
       each_nonce = nonces_fit.1;
@@ -155,6 +163,7 @@ link_holds t ms =
     })))))
 
 pub record TopHolds (d : PlanDraft) : Type 0 where
+  pub version : Admitted (within 1 2) d.version
   pub portion : Admitted (within 16 65535) d.portion
   pub units : Admitted (within 1 4294967296) d.units_per_key
   pub pool : Listed (between 6 6144) IsKey d.pool
@@ -166,7 +175,8 @@ pub top_holds : (t : Text) (ms : Members) → Holds TopHolds (top_keys t ms)
 unfolding top_keys
 top_holds t ms =
     next (λ _. Unit {0}) TopHolds (only_known t top_names ms) _ (anything _) (λ _ _.
-    next (λ _. Unit {0}) TopHolds (required t ms (codes "version") (number (within 1 1))) _ (anything _) (λ _ _.
+    next (Admitted (within 1 2)) TopHolds (required t ms (codes "version") (number (within 1 2))) _
+    (required_holds _ t ms (codes "version") _ (number_holds _)) (λ version version_fits.
     next (Admitted (within 16 65535)) TopHolds (optional t ms (codes "portion") 64 (number (within 16 65535))) _
     (optional_holds _ t ms (codes "portion") 64 _ (record { least = lit≤ tt; most = lit≤ tt; form = refl })
     (number_holds _)) (λ portion portion_fits.
@@ -176,16 +186,18 @@ top_holds t ms =
     (record { least = lit≤ tt; most = lit≤ tt; form = refl }) (number_holds _)) (λ units units_fit.
     next (Listed (between 6 6144) IsKey) TopHolds (required t ms (codes "pool") (list (between 6 6144) key_bytes)) _
     (required_holds _ t ms (codes "pool") _ (list_holds _ IsKey key_bytes key_holds)) (λ pool pool_fits.
-    next (Listed (between 1 8) LinkHolds) TopHolds (required t ms (codes "link") (list (between 1 8) (table link_keys)))
-    _
+    next (Listed (between 1 8) LinkHolds) TopHolds
+    (required t ms (codes "link") (list (between 1 8) (table (link_keys version)))) _
     (required_holds _ t ms (codes "link") _
-    (list_holds _ LinkHolds (table link_keys) (table_holds LinkHolds link_keys link_holds))) (λ links links_fit.
+    (list_holds _ LinkHolds (table (link_keys version))
+    (table_holds LinkHolds (link_keys version) (link_holds version)))) (λ links links_fit.
     next (Listed (between 0 16) FitsRegion) TopHolds
     (optional t ms (codes "memory") [] (list (between 0 16) (table region_keys))) _
     (optional_holds _ t ms (codes "memory") [] _ (record { least = lit≤ tt; most = refl; each = All-nil FitsRegion })
     (list_holds _ FitsRegion (table region_keys) (table_holds FitsRegion region_keys region_holds)))
     (λ memory memory_fits.
     gives TopHolds _ (record {
+      version = version_fits;
       portion = portion_fits;
       units = units_fit;
       pool = pool_fits;

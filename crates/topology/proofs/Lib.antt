@@ -4,3 +4,9 @@ pub mod TableFits
 pub mod DraftFits
 pub mod RuleFits
 pub mod PlanFits
+pub mod Carries
+pub mod Versions
+pub mod Migrated
+pub mod MigratedPlan
+pub mod Depths
+pub mod Inserted

@@ -64,6 +64,8 @@ plan_fits : (d : PlanDraft) → TopHolds d → Ruled d → FitsPlan (plan_from d
 plan_fits d h r =
     let links : length (map link_of d.links) ≡ length d.links = length-map d.links link_of in
     record {
+      version_least = h.version.least;
+      version_most = h.version.most;
       portion_least = h.portion.least;
       portion_most = h.portion.most;
       units_least = h.units.least;

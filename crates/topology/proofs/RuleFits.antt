@@ -8,7 +8,7 @@ use Rattle.std.proofs.lemmas.Bool.{leb-true, eqb-true}
 use Rattle.std.proofs.lemmas.List.Elements.{All-nil, All-cons}
 use Rattle.std.proofs.lemmas.List.Kept.{AllPairs-cons}
 use Rattle.ide_plan.specs.declared.stream.StreamPlan.{StreamPlan}
-use Rattle.ide_plan.specs.Plans.{same_id, both_default, share_class, overlap}
+use Rattle.ide_plan.specs.Plans.{interface_limit, same_id, both_default, share_class, overlap}
 use Rattle.toml_walk.specs.declared.fault.PlanFault.{PlanFault}
 use Rattle.toml_walk.specs.Fault.{◌>>=◌}
 use Rattle.toml_walk.specs.Walk.{Text, place}
@@ -121,7 +121,7 @@ pub record Ruled (d : PlanDraft) : Type 0 where
   pub pool_sixes : length d.pool % 6 ≡ 0
   pub pool : no_clash (codes "pool") bytes_eq d.pool ≡ Ok tt
   pub each_link : All LinkRuled d.links
-  pub interfaces : interface_count d.links ≤ 32
+  pub interfaces : interface_count d.links ≤ interface_limit d.version
   pub memory : sum_by (λ r. r.size) d.memory ≤ 16777216
   pub regions : no_clash (codes "memory") overlap d.memory ≡ Ok tt
 
@@ -132,13 +132,13 @@ ruled d e =
     let a = steps (in_sixes d.pool) _ tt e in
     let b = steps (no_clash (codes "pool") bytes_eq d.pool) _ tt a.1 in
     let c = steps (each_link 0 d.links) _ tt b.1 in
-    let f = steps (at_most 32 (codes "interface") (interface_count d.links)) _ tt c.1 in
+    let f = steps (at_most (interface_limit d.version) (codes "interface") (interface_count d.links)) _ tt c.1 in
     let g = steps (at_most 16777216 (codes "memory") (sum_by (λ r. r.size) d.memory)) _ tt f.1 in
     record {
       pool_sixes = sixes d.pool a.0;
       pool = b.0;
       each_link = links_ruled 0 d.links c.0;
-      interfaces = at_most_is 32 (codes "interface") _ f.0;
+      interfaces = at_most_is (interface_limit d.version) (codes "interface") _ f.0;
       memory = at_most_is 16777216 (codes "memory") _ g.0;
       regions = g.1;
     }

@@ -18,6 +18,7 @@ link_of l = record { nonces = l.nonces; streams = l.streams; interfaces = map (Î
 
 abbrev pub plan_from : PlanDraft â†’ Plan
 plan_from d = record {
+  version = d.version;
   portion = d.portion;
   units_per_key = d.units_per_key;
   pool = d.pool;

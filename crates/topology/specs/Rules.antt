@@ -4,7 +4,7 @@ use Rattle.std.specs.Prelude.{Option, Some, None, Result, Ok, Err, if◌then◌e
 use Rattle.std.specs.List.{list_any, position_from}
 use Rattle.std.specs.Str.{bytes_eq}
 use Rattle.ide_plan.specs.declared.stream.StreamPlan.{StreamPlan}
-use Rattle.ide_plan.specs.Plans.{same_id, both_default, share_class, is_selective, overlap}
+use Rattle.ide_plan.specs.Plans.{interface_limit, same_id, both_default, share_class, is_selective, overlap}
 use Rattle.toml_walk.specs.declared.fault.PlanFault.{PlanFault}
 use Rattle.toml_walk.specs.declared.fault.PlanFault.TheVariants.{Range, Repeated, Limit}
 use Rattle.toml_walk.specs.Fault.{◌>>=◌}
@@ -80,6 +80,6 @@ rules d = do
   _ ← in_sixes d.pool
   _ ← no_clash (codes "pool") bytes_eq d.pool
   _ ← each_link 0 d.links
-  _ ← at_most 32 (codes "interface") (interface_count d.links)
+  _ ← at_most (interface_limit d.version) (codes "interface") (interface_count d.links)
   _ ← at_most 16777216 (codes "memory") (sum_by (λ r. r.size) d.memory)
   no_clash (codes "memory") overlap d.memory

@@ -1,5 +1,6 @@
 -- The tables of a topology: for each its keys in their order, with kind, bounds and default.
-use Rattle.std.specs.Prelude.{◌+◌, ℕ, ℤ, pos, negsuc, nat_le, nat_lt, Bool, true, false, not, ◌&&◌, List, [], ◌∷◌, ◌++◌}
+use Rattle.std.specs.Prelude.{◌+◌, ℕ, ℤ, pos, negsuc, nat_le, nat_lt, Bool, true, false, not, ◌&&◌, ◌==◌, List, [], ◌∷◌}
+use Rattle.std.specs.Prelude.{◌++◌}
 use Rattle.std.specs.Prelude.{Option, Some, None, Result, Ok, Err, if◌then◌else◌, codes}
 use Rattle.std.specs.Str.{bytes_eq}
 use Rattle.toml.specs.Data.{Members}
@@ -115,16 +116,21 @@ abbrev pub stream_id_of : ℤ → ℕ
 stream_id_of (pos n) = if nat_le n 255 then n else 0
 stream_id_of (negsuc n) = 0
 
-abbrev pub interface_names : List Text
-interface_names =
+-- the keys of an interface in each version
+abbrev pub common_names : List Text
+common_names =
     codes "rid" ∷ codes "stream" ∷ codes "flags" ∷ codes "offset" ∷ codes "command" ∷ codes "msix" ∷ codes "lnr"
     ∷ codes "cacheline"
     ∷ codes "tph" ∷ codes "info" ∷ codes "bars" ∷ []
 
--- an interface, and the number at its key `stream`, whose bounds are a rule over several values
-unfoldable pub interface_keys : Text → Members → Result InterfaceDraft PlanFault
-interface_keys t ms = do
-  _ ← only_known t interface_names ms
+-- version 2 has two more
+abbrev pub interface_names : ℕ → List Text
+interface_names version = if version == 2 then codes "pasid" ∷ codes "ats" ∷ common_names else common_names
+
+-- an interface of a version, and the number at its key `stream`, whose bounds are a rule over several values
+unfoldable pub interface_keys : ℕ → Text → Members → Result InterfaceDraft PlanFault
+interface_keys version t ms = do
+  _ ← only_known t (interface_names version) ms
   rid ← required t ms (codes "rid") (number (within 0 65535))
   stream ← required t ms (codes "stream") integer
   flags ← optional t ms (codes "flags") 0 (number (formed 0 23 LockFlags))
@@ -134,6 +140,8 @@ interface_keys t ms = do
   lnr ← optional t ms (codes "lnr") 0 (number (within 0 65535))
   cacheline ← optional t ms (codes "cacheline") 0 (number (within 0 255))
   tph ← optional t ms (codes "tph") 0 (number (within 0 4294967295))
+  pasid ← optional t ms (codes "pasid") 0 (number (within 0 65535))
+  ats ← optional t ms (codes "ats") 0 (number (within 0 65535))
   info ← optional t ms (codes "info") [] (hex_bytes 1024)
   bars ← optional t ms (codes "bars") [] (list (between 0 6) (table bar_keys))
   Ok (record {
@@ -148,8 +156,8 @@ interface_keys t ms = do
       msix = msix;
       lnr = lnr;
       tph = tph;
-      pasid = 0;
-      ats = 0;
+      pasid = pasid;
+      ats = ats;
       info = info;
       bars = bars;
     };
@@ -158,13 +166,13 @@ interface_keys t ms = do
 abbrev pub link_names : List Text
 link_names = codes "nonces" ∷ codes "stream" ∷ codes "interface" ∷ []
 
--- a link
-unfoldable pub link_keys : Text → Members → Result LinkDraft PlanFault
-link_keys t ms = do
+-- a link of a topology of a version
+unfoldable pub link_keys : ℕ → Text → Members → Result LinkDraft PlanFault
+link_keys version t ms = do
   _ ← only_known t link_names ms
   nonces ← optional t ms (codes "nonces") [] (list (between 0 1024) key_bytes)
   streams ← required t ms (codes "stream") (list (between 1 16) (table stream_keys))
-  interfaces ← optional t ms (codes "interface") [] (list any_number (table interface_keys))
+  interfaces ← optional t ms (codes "interface") [] (list any_number (table (interface_keys version)))
   Ok (record { nonces = nonces; streams = streams; interfaces = interfaces })
 
 abbrev pub region_names : List Text
@@ -192,10 +200,17 @@ top_names = codes "version" ∷ codes "portion" ∷ codes "units_per_key" ∷ co
 unfoldable pub top_keys : Text → Members → Result PlanDraft PlanFault
 top_keys t ms = do
   _ ← only_known t top_names ms
-  _ ← required t ms (codes "version") (number (within 1 1))
+  version ← required t ms (codes "version") (number (within 1 2))
   portion ← optional t ms (codes "portion") 64 (number (within 16 65535))
   units ← optional t ms (codes "units_per_key") 4294967296 (number (within 1 4294967296))
   pool ← required t ms (codes "pool") (list (between 6 6144) key_bytes)
-  links ← required t ms (codes "link") (list (between 1 8) (table link_keys))
+  links ← required t ms (codes "link") (list (between 1 8) (table (link_keys version)))
   memory ← optional t ms (codes "memory") [] (list (between 0 16) (table region_keys))
-  Ok (record { portion = portion; units_per_key = units; pool = pool; links = links; memory = memory })
+  Ok (record {
+    version = version;
+    portion = portion;
+    units_per_key = units;
+    pool = pool;
+    links = links;
+    memory = memory;
+  })

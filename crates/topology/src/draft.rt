@@ -29,6 +29,7 @@ pub struct LinkDraft {
 /// A topology.
 #[derive(Drop)]
 pub struct PlanDraft {
+    pub version: u8,
     pub portion: u16,
     pub units_per_key: u64,
     pub pool: Items<[u8; 32]>,

@@ -1,12 +1,12 @@
 //! The tables of device interfaces.
 
-ghost use Rattle.std.specs.Prelude.{◌≡◌, codes};
+ghost use Rattle.std.specs.Prelude.{◌≡◌, codes, map};
 ghost use Rattle.toml.specs.View.{view, table_view};
 ghost use Rattle.toml_walk.specs.Bounds.{within, formed};
 ghost use Rattle.toml_walk.specs.Fault.{Gives};
 ghost use Rattle.toml_walk.specs.Values.{integer};
 ghost use Rattle.toml_walk.specs.Walk.{table};
-ghost use Rattle.topology.specs.Tables.{bar_keys, stream_id_of, interface_keys};
+ghost use Rattle.topology.specs.Tables.{bar_keys, stream_id_of, interface_names, interface_keys};
 
 use crate::draft::InterfaceDraft;
 use ide_plan::{BarPlan, InterfacePlan};
@@ -74,6 +74,7 @@ fn id_in(number: i64) -> u8
     }
 }
 
+// The keys of an interface in version 1.
 const NAMES: &[&str] = &[
     "rid",
     "stream",
@@ -88,12 +89,35 @@ const NAMES: &[&str] = &[
     "bars",
 ];
 
+// The keys of an interface in version 2.
+const NEWER_NAMES: &[&str] = &[
+    "pasid",
+    "ats",
+    "rid",
+    "stream",
+    "flags",
+    "offset",
+    "command",
+    "msix",
+    "lnr",
+    "cacheline",
+    "tph",
+    "info",
+    "bars",
+];
+
+fn names_of(version: u8) -> &'static [&'static str]
+    ensures { map (λ s. s.now) result.now ≡ interface_names version }
+{
+    if version == 2 { NEWER_NAMES } else { NAMES }
+}
+
 // The keys of an interface's table.
 #[tactic(auto, unfolding(crate::specs::Tables::interface_keys))]
-fn interface_of(keys: &Keys) -> Result<InterfaceDraft, PlanError>
-    ensures { Gives (λ x. x) result (interface_keys keys.now.path (table_view keys.now.table.now)) }
+fn interface_of(version: u8, keys: &Keys) -> Result<InterfaceDraft, PlanError>
+    ensures { Gives (λ x. x) result (interface_keys version keys.now.path (table_view keys.now.table.now)) }
 {
-    keys.only(NAMES)?;
+    keys.only(names_of(version))?;
     let requester = keys.required("rid", &Word::within(0, 65535))?;
     let stream = keys.required("stream", &Integer)?;
     let flags = keys.optional("flags", 0, &Word::formed(0, 23, Form::LockFlags))?;
@@ -103,6 +127,8 @@ fn interface_of(keys: &Keys) -> Result<InterfaceDraft, PlanError>
     let lnr = keys.optional("lnr", 0, &Word::within(0, 65535))?;
     let cache_line = keys.optional("cacheline", 0, &Byte::within(0, 255))?;
     let tph = keys.optional("tph", 0, &Long::within(0, 4294967295))?;
+    let pasid = keys.optional("pasid", 0, &Word::within(0, 65535))?;
+    let ats = keys.optional("ats", 0, &Word::within(0, 65535))?;
     let none = Bytes::new(Vec::new(keys.alloc));
     let info = keys.optional("info", none, &HexBytes { most: 1024 })?;
     let none = Items::new(Vec::new(keys.alloc));
@@ -119,26 +145,28 @@ fn interface_of(keys: &Keys) -> Result<InterfaceDraft, PlanError>
             msix,
             lnr,
             tph,
-            pasid: 0,
-            ats: 0,
+            pasid,
+            ats,
             info,
             bars,
         },
     })
 }
 
-/// The table of an interface.
+/// The table of an interface, of a topology of a version.
 #[derive(Clone, Copy)]
-pub(crate) struct Interfaces;
+pub(crate) struct Interfaces {
+    pub version: u8,
+}
 
 impl Reader for Interfaces {
     type Out = InterfaceDraft;
 
-    ghost reads = { λ _. table interface_keys };
+    ghost reads = { λ r. table (interface_keys r.version) };
 
     fn read(&self, alloc: Global, path: &[u8], value: &Value) -> Result<InterfaceDraft, PlanError> {
         let table = table_of(Bytes::copied(alloc, path)?, value)?;
         let path = key_path(alloc, path, ".")?;
-        interface_of(&Keys { alloc, path, table })
+        interface_of(self.version, &Keys { alloc, path, table })
     }
 }

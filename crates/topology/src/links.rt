@@ -22,8 +22,8 @@ use toml_walk::{
 
 // The keys of a link's table.
 #[tactic(auto, unfolding(crate::specs::Tables::link_keys))]
-fn link_of(keys: &Keys) -> Result<LinkDraft, PlanError>
-    ensures { Gives (λ x. x) result (link_keys keys.now.path (table_view keys.now.table.now)) }
+fn link_of(version: u8, keys: &Keys) -> Result<LinkDraft, PlanError>
+    ensures { Gives (λ x. x) result (link_keys version keys.now.path (table_view keys.now.table.now)) }
 {
     keys.only(&["nonces", "stream", "interface"])?;
     let none = Items::new(Vec::new(keys.alloc));
@@ -31,7 +31,7 @@ fn link_of(keys: &Keys) -> Result<LinkDraft, PlanError>
     let streams = keys.required("stream", &ListOf::between(1, 16, Streams))?;
     let list = ListOf {
         span: Span::any_number(),
-        element: Interfaces,
+        element: Interfaces { version },
     };
     let interfaces = keys.optional("interface", Items::new(Vec::new(keys.alloc)), &list)?;
     Ok(LinkDraft {
@@ -42,17 +42,19 @@ fn link_of(keys: &Keys) -> Result<LinkDraft, PlanError>
 }
 
 #[derive(Clone, Copy)]
-struct Links;
+struct Links {
+    version: u8,
+}
 
 impl Reader for Links {
     type Out = LinkDraft;
 
-    ghost reads = { λ _. table link_keys };
+    ghost reads = { λ r. table (link_keys r.version) };
 
     fn read(&self, alloc: Global, path: &[u8], value: &Value) -> Result<LinkDraft, PlanError> {
         let table = table_of(Bytes::copied(alloc, path)?, value)?;
         let path = key_path(alloc, path, ".")?;
-        link_of(&Keys { alloc, path, table })
+        link_of(self.version, &Keys { alloc, path, table })
     }
 }
 
@@ -103,11 +105,11 @@ fn units_in(keys: &Keys) -> Result<u64, PlanError>
     keys.optional("units_per_key", 4294967296, &Wide::within(1, 4294967296))
 }
 
-fn links_in(keys: &Keys) -> Result<Items<LinkDraft>, PlanError>
+fn links_in(version: u8, keys: &Keys) -> Result<Items<LinkDraft>, PlanError>
     ensures { Gives (λ xs. xs) result (required keys.now.path (table_view keys.now.table.now) (codes "link")
-        (list (between 1 8) (table link_keys))) }
+        (list (between 1 8) (table (link_keys version)))) }
 {
-    keys.required("link", &ListOf::between(1, 8, Links))
+    keys.required("link", &ListOf::between(1, 8, Links { version }))
 }
 
 fn memory_in(keys: &Keys) -> Result<Items<Region>, PlanError>
@@ -131,13 +133,14 @@ pub(crate) fn top_of(keys: &Keys) -> Result<PlanDraft, PlanError>
         "link",
         "memory",
     ])?;
-    keys.required("version", &Byte::within(1, 1))?;
+    let version = keys.required("version", &Byte::within(1, 2))?;
     let portion = keys.optional("portion", 64, &Word::within(16, 65535))?;
     let units_per_key = units_in(keys)?;
     let pool = keys.required("pool", &ListOf::between(6, 6144, KeyBytes))?;
-    let links = links_in(keys)?;
+    let links = links_in(version, keys)?;
     let memory = memory_in(keys)?;
     Ok(PlanDraft {
+        version,
         portion,
         units_per_key,
         pool,

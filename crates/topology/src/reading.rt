@@ -41,6 +41,7 @@ fn plan_of_draft(alloc: Global, draft: PlanDraft) -> Result<Plan, AllocError>
     ensures { IfOk result (λ p. p ≡ plan_from draft) }
 {
     let PlanDraft {
+        version,
         portion,
         units_per_key,
         pool,
@@ -52,6 +53,7 @@ fn plan_of_draft(alloc: Global, draft: PlanDraft) -> Result<Plan, AllocError>
         all.push(link_from(alloc, draft)?)?;
     }
     Ok(Plan {
+        version,
         portion,
         units_per_key,
         pool,
@@ -60,7 +62,8 @@ fn plan_of_draft(alloc: Global, draft: PlanDraft) -> Result<Plan, AllocError>
     })
 }
 
-fn plan_of_table(alloc: Global, table: &Table) -> Result<Plan, PlanError>
+/// The plan that a table means.
+pub(crate) fn plan_of_table(alloc: Global, table: &Table) -> Result<Plan, PlanError>
     ensures { Gives (λ p. p) result (plan_in (table_view table.now)) }
 {
     let path = Bytes::new(Vec::new(alloc));

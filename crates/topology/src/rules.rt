@@ -4,7 +4,7 @@ ghost use Rattle.std.specs.Prelude.{◌≡◌, ◌++◌, ◌&&◌, Ok, Err, if�
 ghost use Rattle.std.specs.Str.{bytes_eq};
 ghost use Rattle.toml_walk.specs.Fault.{Gives};
 ghost use Rattle.toml_walk.specs.declared.fault.PlanFault.TheVariants.{Limit};
-ghost use Rattle.ide_plan.specs.Plans.{is_selective};
+ghost use Rattle.ide_plan.specs.Plans.{interface_limit, is_selective};
 ghost use Rattle.topology.specs.Rules.{refused_pair, no_clash, in_sixes, is_id, is_bound, each_bound, link_rules};
 ghost use Rattle.topology.specs.Rules.{each_link, interface_count, rules};
 
@@ -118,11 +118,17 @@ fn check_links(alloc: Global, links: &[LinkDraft]) -> Result<(), PlanError>
     Ok(())
 }
 
-// Whether there are at most 32 interfaces.
-fn are_few(links: &[LinkDraft]) -> bool
-    ensures { result ≡ nat_le (interface_count links.now) 32 }
+fn limit_of(version: u8) -> usize
+    ensures { result ≡ interface_limit version }
 {
-    let mut room: usize = 32;
+    if version == 2 { 64 } else { 32 }
+}
+
+// Whether there are at most so many interfaces.
+fn are_few(links: &[LinkDraft], limit: usize) -> bool
+    ensures { result ≡ nat_le (interface_count links.now) limit }
+{
+    let mut room = limit;
     for link in links {
         let count = link.interfaces.as_slice().len();
         if count > room {
@@ -170,7 +176,8 @@ pub(crate) fn check(alloc: Global, draft: &PlanDraft) -> Result<(), PlanError>
     check_sixes(alloc, pool)?;
     check_keys(alloc, pool)?;
     check_links(alloc, links)?;
-    refuse_past(alloc, b"interface", are_few(links))?;
+    let few = are_few(links, limit_of(draft.version));
+    refuse_past(alloc, b"interface", few)?;
     refuse_past(alloc, b"memory", are_small(memory))?;
     refuse_clash(alloc, b"", "memory", &Overlap, memory)
 }

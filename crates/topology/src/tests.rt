@@ -1,5 +1,5 @@
 //! Topologies, and the lines of their faults.
-use crate::{PlanError, fault_line, read};
+use crate::{PlanError, fault_line, migrate, read};
 use std::alloc::Global;
 use std::test::Fail;
 
@@ -61,7 +61,44 @@ const KEYS: &[(&str, &str, &str)] = &[
     ("version = 1", "version = 1", "ok"),
     ("version = 1", "", "topology missing version"),
     ("version = 1", "version = \"1\"", "topology kind version"),
-    ("version = 1", "version = 2", "topology range version 2"),
+    ("version = 1", "version = 0", "topology range version 0"),
+    ("version = 1", "version = 2", "ok"),
+    ("version = 1", "version = 3", "topology range version 3"),
+    (
+        "cacheline = 16",
+        "cacheline = 16\npasid = 1",
+        "topology unknown link.0.interface.0.pasid",
+    ),
+    (
+        "cacheline = 16",
+        "cacheline = 16\nats = 1",
+        "topology unknown link.0.interface.0.ats",
+    ),
+    (
+        "version = 1",
+        "version = 1\n\"a\\nok\" = 1",
+        "topology unknown \"a\\nok\"",
+    ),
+    (
+        "version = 1",
+        "version = 1\n\"caf\\u00e9 \\\"x\\\"\" = 1",
+        "topology unknown \"caf\\u00E9 \\\"x\\\"\"",
+    ),
+    (
+        "version = 1",
+        "version = 1\n\"\\U0001F600\" = 1",
+        "topology unknown \"\\U0001F600\"",
+    ),
+    (
+        "version = 1",
+        "version = 1\n\"\" = 1",
+        "topology unknown \"\"",
+    ),
+    (
+        "version = 1",
+        "version = 1\na-b_9 = 1",
+        "topology unknown a-b_9",
+    ),
     (
         "version = 1",
         "tdx = 1\nversion = 1",
@@ -623,5 +660,31 @@ fn reads_interfaces(rt: HostRuntime) -> Result<(), Fail> {
         }
         Err(_) => panic!(rt; "refused"),
     }
+    Ok(())
+}
+
+#[test]
+fn migrates_topologies(rt: HostRuntime) -> Result<(), Fail> {
+    let alloc = rt.alloc();
+    let base = changed(alloc, BASE, "POOL", &pool(alloc, 24)?)?;
+    let text = match migrate(alloc, base.as_bytes()) {
+        Ok(text) => text,
+        Err(_) => panic!(rt; "no text"),
+    };
+    match read(alloc, text.as_slice()) {
+        Ok(plan) => {
+            assert_eq!(rt; plan.version, 2);
+            assert_eq!(rt; plan.pool.as_slice().len(), 24);
+        }
+        Err(_) => panic!(rt; "no plan"),
+    }
+    let again = match migrate(alloc, text.as_slice()) {
+        Ok(again) => again,
+        Err(_) => panic!(rt; "no text"),
+    };
+    assert_eq!(rt; again.as_slice(), text.as_slice());
+    let faulty = changed(alloc, &base, "id = 5", "id = 256")?;
+    let refused = matches!(migrate(alloc, faulty.as_bytes()), Err(PlanError::Fault(_)));
+    assert!(rt; refused, "a fault");
     Ok(())
 }

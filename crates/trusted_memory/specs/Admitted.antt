@@ -21,6 +21,6 @@ abbrev pub if_placed : List Region → Bool → Option Write → Option Write
 if_placed regions admitted None = None
 if_placed regions admitted (Some w) = if admitted && is_placed regions w.span then Some w else None
 
--- the write, where it is one and is admitted
+-- the write, if it is one and is admitted
 abbrev pub admitted_write : List Region → Bool → Grant → Option Write → Option Write
 admitted_write regions t grant o = if_placed regions (t && is_on_bound grant.stream grant.draw grant.bound) o

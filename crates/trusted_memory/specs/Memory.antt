@@ -33,7 +33,7 @@ abbrev pub byte_in : List Region → List (List ℕ) → ℕ → ℕ
 byte_in (r ∷ rs) (b ∷ bs) a = if is_inside r a then slice_index b (a - r.base) else byte_in rs bs a
 byte_in _ _ a = 0
 
--- the byte at an address, 0 where no region has it
+-- the byte at an address, 0 if no region has it
 abbrev pub byte_at : Contents → ℕ → ℕ
 byte_at m a = byte_in m.regions m.bytes a
 
@@ -48,7 +48,7 @@ bytes_from byte at (suc n) = byte at ∷ bytes_from byte (at + 1) n
 abbrev pub has_page : TrustedMemory → ℕ → Bool
 has_page m n = list_any (λ k. n == k) m.pages
 
--- a write takes a spare page where it is applied and its page is not there
+-- a write takes a spare page if it is applied and its page is not there
 abbrev pub takes_page : TrustedMemory → Span → Option BlockCause → Bool
 takes_page m s None = not (has_page m (s.address / 4096))
 takes_page m s (Some cause) = false
@@ -64,6 +64,6 @@ byte_by _ w old a = old a
 abbrev pub IsLeftBy : Contents → List Write → Type 0
 IsLeftBy m writes = (a : ℕ) → byte_at m a ≡ byte_after writes a
 
--- writes that come one behind another lead from the first contents to the second
+-- writes that come one after another lead from the first contents to the second
 abbrev pub Leads : Contents → List (Option Write) → Contents → Type 0
 Leads m os n = (older : List Write) → IsLeftBy m older → IsLeftBy n (newest_first os older)

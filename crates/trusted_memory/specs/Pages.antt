@@ -7,7 +7,7 @@ use Rattle.ide_plan.specs.Fits.{FitsRegion}
 use Rattle.trusted_memory.specs.Writes.{Write, written}
 use Rattle.trusted_memory.specs.Memory.{Contents, TrustedMemory, bytes_from}
 
--- the bytes of a page, none where it is not there
+-- the bytes of a page, none if it is not there
 abbrev pub page_bytes : List (ℕ × List ℕ) → ℕ → List ℕ
 page_bytes pages n = unwrap_or (lookup (nat_eq n) pages) []
 

@@ -14,7 +14,7 @@ pub record Write : Type 0 where
   pub span : Span
   pub payload : List ℕ
 
--- the payload's byte for the address; 0 behind the end of a payload that is shorter than the span
+-- the payload's byte for the address; 0 after the end of a payload that is shorter than the span
 abbrev pub payload_byte : Write → ℕ → ℕ
 payload_byte w a = slice_index w.payload (a - w.span.address)
 
@@ -41,7 +41,7 @@ abbrev pub written_in_turn : List Write → ℕ → ℕ
 written_in_turn [] a = 0
 written_in_turn (w ∷ older) a = written w (written_in_turn older) a
 
--- writes that come one behind another, ahead of older ones, the newest first
+-- writes that come one after another, before older ones in the list, the newest first
 abbrev pub newest_first : List (Option Write) → List Write → List Write
 newest_first [] older = older
 newest_first (None ∷ os) older = newest_first os older

@@ -18,7 +18,7 @@ fn add(alloc: Global, pages: &mut Vec<Page>) -> Result<(), Memory>
     Ok(())
 }
 
-/// Adds blank pages until there are `count`.
+/// Adds blank pages until there are `count` at least. For want of memory those that were added stay.
 pub fn fill(alloc: Global, pages: &mut Vec<Page>, count: usize) -> Result<(), Memory>
     requires { All IsBlank pages.old.items }
     ensures blank { All IsBlank pages.new.items }

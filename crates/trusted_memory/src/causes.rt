@@ -41,7 +41,7 @@ pub fn place_cause(regions: &[Region], span: Span) -> Option<BlockCause>
 }
 
 /// The first cause that blocks a request: it is not trusted; else why its grant does not admit it; else why its bytes
-/// have no place. `None` where nothing does.
+/// have no place. `None` if nothing blocks it.
 pub fn block_cause(
     regions: &[Region],
     span: Span,

@@ -16,15 +16,15 @@ pub fn writes_in_turn()
         (byte_after older) a }
 {}
 
-/// A write is admitted exactly where no cause blocks it.
+/// A write is admitted exactly if no cause blocks it.
 pub fn admitted_are_applied()
     ensures { (regions : List Region) (t : Bool) (grant : Grant) (w : Write)
         → is_applied (block_effect (block_cause regions w.span t grant))
         ≡ is_some (admitted_write regions t grant (Some w)) }
 {}
 
-/// Packets that come one behind another: with no packet the contents stay, and where some packets lead from the first
-/// contents to the second, and others from there to the third, all of them lead from the first to the third.
+/// Packets that come one after another: with no packet the contents stay, and if some packets lead from the first
+/// contents to the second, and others from there to the third, all of them in turn lead from the first to the third.
 pub fn packets_in_turn()
     ensures none { (m : Contents) → Leads m [] m }
     ensures joined { (m n k : Contents) (os ps : List (Option Write)) → Leads m os n → Leads n ps k → Leads m (os ++ ps)

@@ -30,7 +30,7 @@ impl Model for Page {
     ghost invariant = { λ p. length p.bytes.items ≡ 4096 };
 }
 
-// Writes byte `i` of the payload at its place behind `start`, if it is enabled.
+// Writes byte `i` of the payload at its place after `start`, if it is enabled.
 fn put(bytes: &mut [u8], start: usize, write: &MemWriteView<'_>, i: usize)
     requires { start + i < length bytes.old }
     ensures { bytes.new ≡ (if is_enabled write.now.span i

@@ -29,7 +29,7 @@ fn memory(alloc: Global) -> Result<Trusted, Memory> {
     Trusted::make(alloc, &[REGION])
 }
 
-// The effect of a write that is spelled by a header of 12 bytes and its payload; `None` where they spell none.
+// The effect of a write that is spelled by a header of 12 bytes and its payload; `None` if they spell none.
 fn apply(
     memory: &mut Trusted,
     tlp: &[u8],
@@ -46,7 +46,7 @@ fn apply(
     Ok(Some(memory.apply(&write, trusted, grant)))
 }
 
-// A header, and `count` bytes behind it.
+// A header, and `count` bytes after it.
 fn tlp(alloc: Global, head: &[u8], byte: u8, count: usize) -> Result<Vec<u8>, AllocError> {
     let mut tlp = Vec::from_slice(alloc, head)?;
     for _ in 0..count {
@@ -198,7 +198,7 @@ fn bytes_of_two_regions_are_outside(rt: HostRuntime) -> Result<(), Fail> {
     Ok(())
 }
 
-// The effect of a TLP; `None` where the bytes spell none.
+// The effect of a TLP; `None` if the bytes spell none.
 fn deliver(memory: &mut Trusted, tlp: &[u8]) -> Option<Effect>
     requires { 1 ≤ memory.old.spare }
     ensures { memory.old.spare ≤ memory.new.spare + 1 }

@@ -84,7 +84,7 @@ impl Trusted {
         ensures contents { self.new.contents ≡ self.old.contents }
         ensures pages { (n : ℕ) → has_page self.new n ≡ has_page self.old n }
         ensures ok { OnOk result (self.new.spare ≡ max self.old.spare pages) }
-        // Where as many are spare already it takes no memory.
+        // If as many are spare already it takes no memory.
         ensures enough { pages ≤ self.old.spare → IsOk result }
         ensures least { self.old.spare ≤ self.new.spare }
         ensures most { self.new.spare ≤ max self.old.spare pages }
@@ -130,7 +130,7 @@ impl Trusted {
         }
     }
 
-    /// The first cause for which a request over these bytes would be blocked; `None` where nothing blocks it.
+    /// The first cause for which a request over these bytes would be blocked; `None` if nothing blocks it.
     pub fn block_cause(&self, span: Span, trusted: bool, grant: Grant) -> Option<BlockCause>
         ensures { result ≡ block_cause self.now.contents.regions span trusted grant }
     {
@@ -141,7 +141,7 @@ impl Trusted {
     /// trusted (T is clear); its requester is no running interface; it came on another stream than the bound one; its
     /// draw is less than the floor; the bytes of its double words are not all in one region; they cross a 4 KiB
     /// boundary (this profile). The payload's enabled bytes are written to ascending addresses. It takes no memory, and
-    /// a spare page only where the write is applied and its page is not there.
+    /// a spare page only if the write is applied and its page is not there.
     pub fn apply(&mut self, write: &MemWriteView<'_>, trusted: bool, grant: Grant) -> Effect
         requires { 1 ≤ self.old.spare }
         ensures effect { result ≡ block_effect
@@ -170,7 +170,7 @@ impl Trusted {
         }
     }
 
-    /// What a TLP of a unit that was accepted at a host's port comes to: a memory write is applied or blocked, any
+    /// Gives a TLP of a unit that was accepted at a host's port its effect: a memory write is applied or blocked, any
     /// other TLP is delivered and changes nothing here. It takes no memory, and at most one spare page.
     pub fn deliver(&mut self, tlp: &TlpView<'_>, trusted: bool, grant: Grant) -> Effect
         requires { 1 ≤ self.old.spare }
@@ -208,8 +208,8 @@ impl Trusted {
         }
     }
 
-    /// Copies the bytes from an address on into `buf`. It is false exactly where one region does not have the address
-    /// and all the bytes, and `buf` is then as before.
+    /// Copies the bytes from an address on into `buf`. It is false exactly if no one region has the address and all the
+    /// bytes; `buf` is then as before.
     pub fn peek(&self, at: u64, buf: &mut [u8]) -> bool
         ensures answer { result ≡ in_one_region self.now.contents.regions at (length buf.old) }
         ensures bytes { OnTrue result (buf.new ≡ bytes_from (byte_at self.now.contents) at (length buf.old)) }

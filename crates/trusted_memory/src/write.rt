@@ -18,7 +18,7 @@ pub struct MemWriteView<'a> {
 }
 
 impl<'a> MemWriteView<'a> {
-    /// The memory write that the TLP is; `None` exactly where it is none.
+    /// The memory write that the TLP is; `None` exactly if it is none.
     pub fn of(tlp: &TlpView<'a>) -> Option<MemWriteView<'a>>
         ensures { option_map write_of result ≡ write_in (view_of tlp.now) }
     {
@@ -33,7 +33,7 @@ impl<'a> MemWriteView<'a> {
 }
 
 impl MemWriteView<'_> {
-    /// Byte `i` of the payload, 0 behind its end.
+    /// Byte `i` of the payload, 0 after its end.
     pub fn byte(&self, i: usize) -> u8
         ensures { result ≡ slice_index self.now.payload.now i }
     {

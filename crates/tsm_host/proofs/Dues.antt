@@ -13,7 +13,7 @@ use Rattle.key_slots.specs.{Pool, draws_in}
 use Rattle.key_laws.specs.Places.{KeyPlan}
 use Rattle.key_laws.specs.Operations.{Op, Idle, Establishing, Up, Refreshing, Stopping, Work, work, last_of, reach_of}
 use Rattle.key_laws.specs.Operations.{op_standing}
-use Rattle.key_laws.specs.Due.{PortView, is_refused, performed, is_live_sender}
+use Rattle.key_laws.specs.Due.{PortView, refusal_at, performed, is_live_sender}
 use Rattle.tsm_host.specs.declared.operation.Refusal.{Refusal}
 use Rattle.tsm_host.specs.declared.operation.Refusal.TheVariants.{PoolEmpty, UnitOpen}
 use Rattle.tsm_host.specs.Exchanges.{WireKeys}
@@ -25,7 +25,7 @@ use Rattle.tsm_host.proofs.Walks.{WorkFits, walk_comes}
 -- what an event comes to, with the verdict that is due
 record Both (o : Operation) (w : Work) (link id : ℕ) (loss : Option Loss) (before : Op) (x : Walked) (due : Verdict) :
     Type 0 where
-  verdict_is : verdict_of o link id loss x.outcome ≡ due
+  verdict_is : verdict_of o link id loss x.outcome ≡ Some due
   op_is : x.stream.op ≡ op_by before w (reach_of o due)
 
 -- an empty pool
@@ -58,7 +58,7 @@ performs : (o : Operation) (set : Bool) (draw f : ℕ) (b : Bool) → WorkFits o
     → (ports : PortView) (link id : ℕ) (loss : Option Loss) (before : Op) (s : StreamView) → f ≤ last_of o
     → s.op ≡ op_standing (work o set draw f b) f
     → Both o (work o set draw f b) link id loss before
-    (walk (last_of o + 1 - f) (answers loss (is_refused ports o set link id)) s)
+    (walk (last_of o + 1 - f) (answers loss (refusal_at ports o set link id)) s)
     (performed ports link id loss (work o set draw f b))
 performs o set draw f b fits ports link id loss before s le at =
     let comes = walk_comes o set draw f b fits ports link id loss before s le at in
@@ -75,7 +75,7 @@ establishes plan ports st host pool loss link id keys Idle asked reads =
     let both = performs op.Establish false pool.draws 1 true refl ports link id loss Idle (begun_stream w pool s)
     (omega arith) refl in
     let all = pooled op.Establish w link id loss s
-    (walk 13 (answers loss (is_refused ports op.Establish false link id)) (begun_stream w pool s))
+    (walk 13 (answers loss (refusal_at ports op.Establish false link id)) (begun_stream w pool s))
     (performed ports link id loss w) pool.draws both (nat_lt pool.draws (draws_in pool.keys)) in
     rw reads.pool_is (record { verdict_is = all.verdict_is; op_is = all.op_is })
 establishes plan ports st host pool loss link id keys (Establishing j n) asked reads =
@@ -132,7 +132,7 @@ refreshes plan ports status.Insecure host pool loss link id keys (Up k j) asked 
 refreshes plan ports status.Secure host pool loss link id keys (Up k j) asked reads =
     let w = work op.Refresh (not k) pool.draws 1 true in
     let s = at_op link id (Up k j) keys in
-    let x = walk 12 (answers loss (is_refused ports op.Refresh (not k) link id)) (begun_stream w pool s) in
+    let x = walk 12 (answers loss (refusal_at ports op.Refresh (not k) link id)) (begun_stream w pool s) in
     let t = nat_lt pool.draws (draws_in pool.keys) in
     let both = performs op.Refresh (not k) pool.draws 1 true tt ports link id loss (Up k j) (begun_stream w pool s)
     (omega arith) refl in

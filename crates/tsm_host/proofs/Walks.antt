@@ -1,7 +1,8 @@
 -- The walk through the exchanges of an operation comes to the verdict that is due.
 use Rattle.std.proofs.Common.{◌≡◌, ℕ, suc, zero, ◌+◌, ◌-◌, ◌<◌, ◌≤◌, ◌==◌, Bool, true, false, Option, Some, None, refl}
 use Rattle.std.proofs.Common.{ap, sym, ◌∙◌, subst, arith}
-use Rattle.std.specs.Prelude.{nat_lt, ◌||◌, if◌then◌else◌}
+use Rattle.std.specs.Prelude.{nat_lt, unwrap_or, option_map, IsSome, if◌then◌else◌}
+use Rattle.std.specs.Option.{option_or}
 use Rattle.link_events.specs.declared.event.Loss.{Loss}
 use Rattle.link_events.specs.declared.event.Lost.{Lost as LostPart}
 use Rattle.link_events.specs.declared.event.Lost.TheVariants.{Request, Reply}
@@ -9,15 +10,17 @@ use Rattle.link_verdicts.specs.declared.verdict.Operation.{Operation}
 use Rattle.link_verdicts.specs.declared.verdict.Operation.TheVariants as op
 use Rattle.link_verdicts.specs.declared.verdict.Verdict.{Verdict}
 use Rattle.link_verdicts.specs.declared.verdict.Verdict.TheVariants as v
-use Rattle.key_laws.specs.Operations.{Op, work, last_of, reach, reach_of, op_standing, op_ended}
-use Rattle.key_laws.specs.Due.{PortView, is_refused, is_lost, first_from, cut_off, lost_at, done, comes_to, stays_at}
+use Rattle.key_laws.specs.Operations.{Op, Work, work, last_of, reach, reach_of, op_standing, op_ended}
+use Rattle.key_laws.specs.Due.{PortView, refusal_at, lost_in, lost_at, cut_at, first_from, done, stays}
 use Rattle.key_laws.proofs.Tests.{lt-true, lt-false, same-true, different-false}
 use Rattle.tsm_host.specs.declared.judge.Judged.{Judged}
-use Rattle.tsm_host.specs.declared.judge.Judged.TheVariants.{Expected, Lost, Refused}
+use Rattle.tsm_host.specs.declared.judge.Judged.TheVariants.{Expected}
+use Rattle.tsm_host.specs.declared.operation.Outcome.{Outcome}
 use Rattle.tsm_host.specs.declared.operation.Outcome.TheVariants as outcome
 use Rattle.tsm_host.specs.declared.stage.Asked.{Asked}
 use Rattle.tsm_host.specs.Streams.{StreamView, asked_in, outcome_of, taken_stream, acknowledged, shown_at_end}
-use Rattle.tsm_host.specs.Walk.{answers, Walked, outcome_at, stream_at, continued, walk, verdict_of, op_by}
+use Rattle.tsm_host.specs.Walk.{answers, carried_as, Walked, outcome_at, stream_at, continued, walk, verdict_of, op_by}
+use Rattle.tsm_host.specs.Walk.{NoBadReply}
 
 -- an establish is in set 0; a stop has no set and no draw of its own
 unfoldable pub WorkFits : Operation → Bool → ℕ → Type 0
@@ -36,30 +39,27 @@ standing_asked op.Refresh set draw f b n fits = refl
 standing_asked op.Stop set draw f b n fits = ap (λ k. Some (asked_of op.Stop k 0 n)) (sym fits.0) ∙ ap
     (λ j. Some (asked_of op.Stop set j n)) (sym fits.1)
 
+-- the verdict at which the operation stays, or else that of its end
+abbrev pub ends_as : ℕ → ℕ → Work → Option Verdict → Verdict
+ends_as link id w rest = unwrap_or rest (done link id w)
+
 -- what the rest of a walk comes to
 pub record Comes (o : Operation) (set : Bool) (draw f : ℕ) (b : Bool) (link id : ℕ) (loss : Option Loss) (before : Op)
-    (rest : Option ℕ) (x : Walked) : Type 0 where
-  pub verdict_is : verdict_of o link id loss x.outcome ≡ comes_to link id (work o set draw f b) loss rest
-  pub op_is : x.stream.op ≡ op_by before (work o set draw f b)
-      (reach_of o (comes_to link id (work o set draw f b) loss rest))
+    (rest : Option Verdict) (x : Walked) : Type 0 where
+  pub verdict_is : verdict_of o link id loss x.outcome ≡ Some (ends_as link id (work o set draw f b) rest)
+  pub op_is : x.stream.op ≡ op_by before (work o set draw f b) (reach_of o (ends_as link id (work o set draw f b) rest))
 
 -- how an exchange is cut off
-record CutAt (o : Operation) (verdict : Verdict) (n : ℕ) : Type 0 where
+record CutShort (o : Operation) (verdict : Verdict) (n : ℕ) : Type 0 where
   carried : ℕ
   says : reach_of o verdict ≡ Some (reach carried n)
 
-cut_by : (o : Operation) (b : Bool) (l : LostPart) (n : ℕ) → CutAt o (if b then lost_at l n else v.RefusedDevice n 3) n
-cut_by o true Request n = record { carried = n; says = refl }
-cut_by o true Reply n = record { carried = n + 1; says = refl }
-cut_by o false l n = record { carried = n + 1; says = refl }
+cut_lost : (o : Operation) (l : LostPart) (n : ℕ) → CutShort o (lost_at l n) n
+cut_lost o Request n = record { carried = n; says = refl }
+cut_lost o Reply n = record { carried = n + 1; says = refl }
 
-cut_at : (o : Operation) (loss : Option Loss) (n : ℕ) → CutAt o (cut_off loss n) n
-cut_at o None n = record { carried = n + 1; says = refl }
-cut_at o (Some loss) n = cut_by o (loss.exchange == n) loss.lost n
-
-not_lost : (loss : Option Loss) (n : ℕ) → is_lost loss n ≡ false → cut_off loss n ≡ v.RefusedDevice n 3
-not_lost None n e = refl
-not_lost (Some loss) n e = rw e refl
+cut_refused : (o : Operation) (status n : ℕ) → CutShort o (v.RefusedDevice n status) n
+cut_refused o status n = record { carried = n + 1; says = refl }
 
 taken : {A : Type 0} (b : Bool) (x y : A) → b ≡ true → (if b then x else y) ≡ x
 taken true x y e = refl
@@ -70,10 +70,11 @@ not_taken true x y e = absurd cc
 not_taken false x y e = refl
 
 -- where it is cut off, the operation stays
-stays : (o : Operation) (set : Bool) (draw f : ℕ) (b : Bool) (loss : Option Loss) (before : Op) (n : ℕ) → n ≤ last_of o
-    → op_by before (work o set draw f b) (reach_of o (cut_off loss n)) ≡ op_standing (work o set draw f b) n
-stays o set draw f b loss before n le =
-    ap (op_by before (work o set draw f b)) (cut_at o loss n).says
+stays_there : (o : Operation) (set : Bool) (draw f : ℕ) (b : Bool) (verdict : Verdict) (before : Op) (n : ℕ)
+    → n ≤ last_of o → CutShort o verdict n
+    → op_by before (work o set draw f b) (reach_of o verdict) ≡ op_standing (work o set draw f b) n
+stays_there o set draw f b verdict before n le cut =
+    ap (op_by before (work o set draw f b)) cut.says
     ∙ not_taken (nat_lt (last_of o) n) (op_ended (work o set draw f b)) (op_standing (work o set draw f b) n)
     (lt-false (last_of o) n le)
 
@@ -91,7 +92,7 @@ standing_as op.Stop set draw n f b k = refl
 
 shows_done : (o : Operation) (set : Bool) (draw n f : ℕ) (b : Bool) (link id : ℕ) (loss : Option Loss)
     → verdict_of o link id loss (outcome.Done (shown_at_end (asked_of o set draw n)))
-    ≡ done link id (work o set draw f b)
+    ≡ Some (done link id (work o set draw f b))
 shows_done op.Establish set draw n f b link id loss = refl
 shows_done op.Refresh set draw n f b link id loss = refl
 shows_done op.Stop set draw n f b link id loss = refl
@@ -107,22 +108,23 @@ abbrev answered_by : Asked → Judged → (ℕ → Judged) → ℕ → StreamVie
 answered_by a j carried more s = continued (outcome_of a j) (taken_stream a j s)
     (walk more carried (taken_stream a j s))
 
-abbrev judged_by : Bool → Bool → Judged
-judged_by l r = if l then Lost else if r then Refused 3 else Expected
-
 -- an exchange that is lost or refused, or else what is given
 cuts : (o : Operation) (set : Bool) (draw f : ℕ) (b : Bool) (link id : ℕ) (loss : Option Loss) (before : Op)
-    (carried : ℕ → Judged) (more n : ℕ) (s : StreamView) (rest : Option ℕ)
+    (carried : ℕ → Judged) (more n : ℕ) (s : StreamView) (rest : Option Verdict)
     → n ≤ last_of o → s.op ≡ op_standing (work o set draw f b) n
     → Comes o set draw f b link id loss before rest (answered_by (asked_of o set draw n) Expected carried more s)
-    → (l r : Bool) → is_lost loss n ≡ l
-    → Comes o set draw f b link id loss before (if l || r then Some n else rest)
-    (answered_by (asked_of o set draw n) (judged_by l r) carried more s)
-cuts o set draw f b link id loss before carried more n s rest le at goes true r e =
-    record { verdict_is = refl; op_is = at ∙ sym (stays o set draw f b loss before n le) }
-cuts o set draw f b link id loss before carried more n s rest le at goes false true e =
-    record { verdict_is = sym (not_lost loss n e); op_is = at ∙ sym (stays o set draw f b loss before n le) }
-cuts o set draw f b link id loss before carried more n s rest le at goes false false e = goes
+    → (lost : Option LostPart) (status : Option ℕ) → lost_in loss n ≡ lost
+    → Comes o set draw f b link id loss before (option_or (cut_at lost status n) rest)
+    (answered_by (asked_of o set draw n) (carried_as lost status) carried more s)
+cuts o set draw f b link id loss before carried more n s rest le at goes (Some lost) status e = record {
+  verdict_is = ap (option_map (λ (l : LostPart). lost_at l n)) e;
+  op_is = at ∙ sym (stays_there o set draw f b (lost_at lost n) before n le (cut_lost o lost n));
+}
+cuts o set draw f b link id loss before carried more n s rest le at goes None (Some status) e = record {
+  verdict_is = refl;
+  op_is = at ∙ sym (stays_there o set draw f b (v.RefusedDevice n status) before n le (cut_refused o status n));
+}
+cuts o set draw f b link id loss before carried more n s rest le at goes None None e = goes
 
 -- behind the last exchange
 ends : (o : Operation) (set : Bool) (draw f : ℕ) (b : Bool) (link id : ℕ) (loss : Option Loss) (before : Op)
@@ -148,7 +150,7 @@ ends o set draw f b link id loss before carried n s same =
 
 -- behind another one the walk goes on
 goes_on : (o : Operation) (set : Bool) (draw f : ℕ) (b : Bool) (link id : ℕ) (loss : Option Loss) (before : Op)
-    (carried : ℕ → Judged) (more n : ℕ) (s : StreamView) (rest : Option ℕ) → n < last_of o
+    (carried : ℕ → Judged) (more n : ℕ) (s : StreamView) (rest : Option Verdict) → n < last_of o
     → Comes o set draw f b link id loss before rest (walk more carried (acknowledged (asked_of o set draw n) s))
     → Comes o set draw f b link id loss before rest (answered_by (asked_of o set draw n) Expected carried more s)
 goes_on o set draw f b link id loss before carried more n s rest lt comes =
@@ -168,47 +170,60 @@ next_standing o set draw f b n s lt =
 -- by how many exchanges are left: at each the walk ends in a loss or a refusal or goes on to the next, and the last
 -- ends it
 walk_is : (o : Operation) (set : Bool) (draw f : ℕ) (b : Bool) → WorkFits o set draw
-    → (link id : ℕ) (loss : Option Loss) (refused : ℕ → Bool) (before : Op) (more n : ℕ) (s : StreamView) → n + more
+    → (link id : ℕ) (loss : Option Loss) (refusal : ℕ → Option ℕ) (before : Op) (more n : ℕ) (s : StreamView) → n + more
     ≡ last_of o
     → s.op ≡ op_standing (work o set draw f b) n
-    → Comes o set draw f b link id loss before (first_from (λ x. is_lost loss x || refused x) n (suc more))
-    (walk (suc more) (answers loss refused) s)
-walk_is o set draw f b fits link id loss refused before zero n s count at =
+    → Comes o set draw f b link id loss before (first_from (λ x. cut_at (lost_in loss x) (refusal x) x) n (suc more))
+    (walk (suc more) (answers loss refusal) s)
+walk_is o set draw f b fits link id loss refusal before zero n s count at =
     let le : n ≤ last_of o = omega (arith, count) in
     let same : n ≡ last_of o = omega (arith, count) in
     subst (λ (q : Option Asked). Comes o set draw f b link id loss before
-    (first_from (λ x. is_lost loss x || refused x) n (suc zero))
-    (continued (outcome_at q (answers loss refused)) (stream_at q (answers loss refused) s)
-    (walk zero (answers loss refused) (stream_at q (answers loss refused) s))))
+    (first_from (λ x. cut_at (lost_in loss x) (refusal x) x) n (suc zero))
+    (continued (outcome_at q (answers loss refusal)) (stream_at q (answers loss refusal) s)
+    (walk zero (answers loss refusal) (stream_at q (answers loss refusal) s))))
     (sym (ap asked_in at ∙ standing_asked o set draw f b n fits))
-    (cuts o set draw f b link id loss before (answers loss refused) zero n s None le at
-    (ends o set draw f b link id loss before (answers loss refused) n s same) (is_lost loss n) (refused n) refl)
-walk_is o set draw f b fits link id loss refused before (suc more) n s count at =
+    (cuts o set draw f b link id loss before (answers loss refusal) zero n s None le at
+    (ends o set draw f b link id loss before (answers loss refusal) n s same) (lost_in loss n) (refusal n) refl)
+walk_is o set draw f b fits link id loss refusal before (suc more) n s count at =
     let lt : n < last_of o = omega (arith, count) in
     let le : n ≤ last_of o = omega (arith, count) in
     let on : (n + 1) + more ≡ last_of o = omega (arith, count) in
-    let rest = walk_is o set draw f b fits link id loss refused before more (n + 1)
+    let rest = walk_is o set draw f b fits link id loss refusal before more (n + 1)
     (acknowledged (asked_of o set draw n) s) on (next_standing o set draw f b n s lt) in
     subst (λ (q : Option Asked). Comes o set draw f b link id loss before
-    (first_from (λ x. is_lost loss x || refused x) n (suc (suc more)))
-    (continued (outcome_at q (answers loss refused)) (stream_at q (answers loss refused) s)
-    (walk (suc more) (answers loss refused) (stream_at q (answers loss refused) s))))
+    (first_from (λ x. cut_at (lost_in loss x) (refusal x) x) n (suc (suc more)))
+    (continued (outcome_at q (answers loss refusal)) (stream_at q (answers loss refusal) s)
+    (walk (suc more) (answers loss refusal) (stream_at q (answers loss refusal) s))))
     (sym (ap asked_in at ∙ standing_asked o set draw f b n fits))
-    (cuts o set draw f b link id loss before (answers loss refused) (suc more) n s
-    (first_from (λ x. is_lost loss x || refused x) (n + 1) (suc more)) le at
-    (goes_on o set draw f b link id loss before (answers loss refused) (suc more) n s
-    (first_from (λ x. is_lost loss x || refused x) (n + 1) (suc more)) lt rest) (is_lost loss n) (refused n) refl)
+    (cuts o set draw f b link id loss before (answers loss refusal) (suc more) n s
+    (first_from (λ x. cut_at (lost_in loss x) (refusal x) x) (n + 1) (suc more)) le at
+    (goes_on o set draw f b link id loss before (answers loss refusal) (suc more) n s
+    (first_from (λ x. cut_at (lost_in loss x) (refusal x) x) (n + 1) (suc more)) lt rest) (lost_in loss n) (refusal n)
+    refl)
 
 -- from the first exchange of an event on
 pub walk_comes : (o : Operation) (set : Bool) (draw f : ℕ) (b : Bool) → WorkFits o set draw
     → (ports : PortView) (link id : ℕ) (loss : Option Loss) (before : Op) (s : StreamView) → f ≤ last_of o → s.op
     ≡ op_standing (work o set draw f b) f
-    → Comes o set draw f b link id loss before (stays_at ports link id loss (work o set draw f b))
-    (walk (last_of o + 1 - f) (answers loss (is_refused ports o set link id)) s)
+    → Comes o set draw f b link id loss before (stays ports link id loss (work o set draw f b))
+    (walk (last_of o + 1 - f) (answers loss (refusal_at ports o set link id)) s)
 walk_comes o set draw f b fits ports link id loss before s le at =
     let count : f + (last_of o - f) ≡ last_of o = omega (arith, le) in
     let more : suc (last_of o - f) ≡ last_of o + 1 - f = omega (arith, le) in
     subst (λ (k : ℕ). Comes o set draw f b link id loss before
-    (first_from (λ x. is_lost loss x || is_refused ports o set link id x) f k)
-    (walk k (answers loss (is_refused ports o set link id)) s)) more
-    (walk_is o set draw f b fits link id loss (is_refused ports o set link id) before (last_of o - f) f s count at)
+    (first_from (λ x. cut_at (lost_in loss x) (refusal_at ports o set link id x) x) f k)
+    (walk k (answers loss (refusal_at ports o set link id)) s)) more
+    (walk_is o set draw f b fits link id loss (refusal_at ports o set link id) before (last_of o - f) f s count at)
+
+-- ---- an outcome with a verdict
+
+some_lost : (n : ℕ) (lost : Option LostPart) (verdict : Verdict)
+    → option_map (λ (l : LostPart). lost_at l n) lost ≡ Some verdict → IsSome lost
+some_lost n None verdict is = absurd cc
+some_lost n (Some lost) verdict is = refl
+
+-- where a reply was bad, or an exchange was lost but no message of it, there is no verdict
+pub no_bad_reply : (o : Operation) (link stream : ℕ) (loss : Option Loss) (x : Outcome) (verdict : Verdict)
+    → verdict_of o link stream loss x ≡ Some verdict → NoBadReply loss x
+no_bad_reply o link stream loss x verdict is = grind (arith, some_lost)

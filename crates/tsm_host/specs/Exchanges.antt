@@ -16,7 +16,7 @@ exchange_of op.Establish set n = if n == 1 then Query else if nat_lt n 8 then Pr
 exchange_of op.Refresh set n = if nat_lt n 7 then Program set (n - 1) else Go set (n - 7)
 exchange_of op.Stop set n = if nat_lt n 7 then Stop false (n - 1) else Stop true (n - 7)
 
--- 0 where the exchange speaks of no slot
+-- 0 if the exchange speaks of no slot
 abbrev pub exchange_lane : Exchange → ℕ
 exchange_lane Query = 0
 exchange_lane (Program set lane) = lane

@@ -21,14 +21,14 @@ is_ahead j (Programmed held) (Live older) = (held.draw == j) && nat_lt older.dra
 is_ahead j mine other = false
 
 -- Live under a draw, or at a sender Armed under it; the other set has no key, or a smaller draw is Live there, at a
--- sender exactly where this one is Armed
+-- sender exactly if this one is Armed
 abbrev pub is_in_use : Bool → ℕ → Slot → Slot → Bool
 is_in_use sender j (Live held) Empty = held.draw == j
 is_in_use false j (Live held) (Live older) = (held.draw == j) && nat_lt older.draw j
 is_in_use true j (Armed held) (Live older) = (held.draw == j) && nat_lt older.draw j
 is_in_use sender j mine other = false
 
--- the host's port goes on behind the third GO of the device's receivers, exchange 10 of an establish and 9 of a refresh
+-- the host's port goes on after the third GO of the device's receivers, exchange 10 of an establish and 9 of a refresh
 abbrev pub pair_fits : Op → SlotPair → Bool
 pair_fits Idle pair = are_empty pair.zero pair.one
 pair_fits (Establishing j n) pair = if nat_le n 10 then is_first j pair.zero pair.one else is_in_use pair.sender j
@@ -39,7 +39,7 @@ pair_fits (Refreshing k j n) pair = if nat_le n 9 then is_ahead j (slot_in pair 
 pair_fits (Stopping n) pair = are_empty pair.zero pair.one
 
 -- Each local call that the manager makes at a place is one that the port takes, and leaves slots that fit. A unit is
--- unfinished only where a key is Live, and a refresh begins only where the slot of its set at a sender is not.
+-- unfinished only if a key is Live, and a refresh begins only if the slot of its set at a sender is not.
 pub record PairFits (pair : SlotPair) (key : List ℕ) (j : ℕ) : Type 0 where
   pub establishes : pair_fits Idle pair ≡ true → (is_only_live pair false ≡ false)
       × (pair_fits (Establishing j 1) (programmed pair false (record { key = key; draw = j })) ≡ true)

@@ -95,7 +95,7 @@ begin_refusal operation host pool n = refusal_of operation n.stream.op host pool
 abbrev pub begin_work : Operation → Pool → Named → Work
 begin_work operation pool n = work_of operation n.stream.op pool.draws
 
--- the stream is asked where the operation begins or goes on; a refusal changes nothing
+-- the stream is asked if the operation begins or goes on; a refusal changes nothing
 abbrev pub begun : ManagerView → Operation → HostView → Pool → Named → ManagerView
 begun m operation host pool n =
     unless (begin_refusal operation host pool n) m

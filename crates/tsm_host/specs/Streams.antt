@@ -42,7 +42,7 @@ new_stream link id = record { link = link; id = id; op = Idle; keys = [] }
 abbrev pub is_named : ℕ → ℕ → StreamView → Bool
 is_named link id s = (s.link == link) && (s.id == id)
 
--- as it was made, where it is of this link
+-- as it was made, if it is of this link
 abbrev pub reset_stream : ℕ → StreamView → StreamView
 reset_stream link s = if s.link == link then new_stream s.link s.id else s
 
@@ -60,7 +60,7 @@ stage_keys (stage.Establishing draw next keys) = keys
 stage_keys (stage.Refreshing set draw next keys) = keys
 stage_keys s = []
 
--- the number of the exchange that is next, 0 where there is none
+-- the number of the exchange that is next, 0 if there is none
 abbrev pub next_in : Stage → ℕ
 next_in (stage.Establishing draw next keys) = next
 next_in (stage.Refreshing set draw next keys) = next
@@ -228,7 +228,7 @@ outcome_of a Lost = outcome.Refused (SessionLost a.exchange)
 outcome_of a (Refused code) = outcome.Refused (DeviceRefused a.exchange code)
 outcome_of a Bad = outcome.Refused (BadReply a.exchange)
 
--- a key goes where its KEY_PROG is acknowledged
+-- a key goes if its KEY_PROG is acknowledged
 abbrev pub keys_after : Exchange → WireKeys → WireKeys
 keys_after (exchange.Program set lane) keys = slice_set keys lane None
 keys_after e keys = keys
@@ -245,7 +245,7 @@ abbrev pub taken_stream : Asked → Judged → StreamView → StreamView
 taken_stream a Expected s = acknowledged a s
 taken_stream a judged s = s
 
--- the host's port goes on where the last of the device's receivers did
+-- the host's port goes on if the last of the device's receivers did
 abbrev pub taken_calls : Asked → Judged → ℕ → List Request
 taken_calls a Expected stream = if is_last_receiver_go (exchange_asked a) then goes stream a.set else []
 taken_calls a judged stream = []

@@ -1,8 +1,10 @@
 -- An operation at one event: it begins or goes on, and its exchanges are taken one after another.
-use Rattle.std.specs.Prelude.{ℕ, ◌≡◌, ◌+◌, ◌-◌, ◌≤◌, zero, suc, Bool, if◌then◌else◌, Option, Some, None}
+use Rattle.std.specs.Prelude.{ℕ, ◌≡◌, ◌+◌, ◌-◌, ◌≤◌, zero, suc, Bool, Option, Some, None, IsSome}
+use Rattle.std.specs.Option.{option_map}
 use Rattle.ide_types.specs.declared.sub.SubKind.{SubKind}
 use Rattle.ide_types.specs.declared.status.StreamStatus.{StreamStatus}
 use Rattle.link_events.specs.declared.event.Loss.{Loss}
+use Rattle.link_events.specs.declared.event.Lost.{Lost as Message}
 use Rattle.link_verdicts.specs.declared.verdict.Operation.{Operation}
 use Rattle.link_verdicts.specs.declared.verdict.Operation.TheVariants as op
 use Rattle.link_verdicts.specs.declared.verdict.Verdict.{Verdict}
@@ -10,7 +12,7 @@ use Rattle.link_verdicts.specs.declared.verdict.Verdict.TheVariants as v
 use Rattle.key_slots.specs.{Pool, draws_in}
 use Rattle.key_laws.specs.Places.{KeyPlan}
 use Rattle.key_laws.specs.Operations.{Op, Work, Reach, work_of, last_of, reach_of, op_after}
-use Rattle.key_laws.specs.Due.{PortView, is_refused, is_lost, cut_off, establish_on, refresh_on, stop_on}
+use Rattle.key_laws.specs.Due.{PortView, refusal_at, lost_in, lost_at, establish_on, refresh_on, stop_on}
 use Rattle.key_laws.specs.Due.{is_live_sender}
 use Rattle.tsm_host.specs.declared.judge.Judged.{Judged}
 use Rattle.tsm_host.specs.declared.judge.Judged.TheVariants.{Expected, Lost, Refused}
@@ -27,11 +29,17 @@ use Rattle.tsm_host.specs.Streams.{taken_stream}
 
 -- ---- the walk
 
--- what is carried at each exchange: the loss goes ahead of a refusal by the device
-abbrev pub answers : Option Loss → (ℕ → Bool) → ℕ → Judged
-answers loss refused n = if is_lost loss n then Lost else if refused n then Refused 3 else Expected
+-- what is carried at an exchange: a loss goes ahead of a refusal by the device
+abbrev pub carried_as : Option Message → Option ℕ → Judged
+carried_as (Some lost) status = Lost
+carried_as None (Some status) = Refused status
+carried_as None None = Expected
 
--- what an event comes to, and the stream after it
+-- at each exchange, of which the device refuses some with their status
+abbrev pub answers : Option Loss → (ℕ → Option ℕ) → ℕ → Judged
+answers loss refusal n = carried_as (lost_in loss n) (refusal n)
+
+-- the outcome of an event, and the stream after it
 pub record Walked : Type 0 where
   pub outcome : Outcome
   pub stream : StreamView
@@ -68,26 +76,35 @@ walked operation host pool carried s =
 
 -- ---- the verdict that it is
 
-abbrev pub shown_verdict : Operation → ℕ → ℕ → Shown → Verdict
-shown_verdict op.Establish link stream (shown.Draw j) = v.Established link stream j
-shown_verdict op.Refresh link stream (shown.Draw j) = v.Refreshed link stream j
-shown_verdict o link stream s = v.Stopped link stream
+abbrev pub shown_verdict : Operation → ℕ → ℕ → Shown → Option Verdict
+shown_verdict op.Establish link stream (shown.Draw j) = Some (v.Established link stream j)
+shown_verdict op.Refresh link stream (shown.Draw j) = Some (v.Refreshed link stream j)
+shown_verdict op.Stop link stream shown.Stopped = Some (v.Stopped link stream)
+shown_verdict o link stream s = None
 
--- a lost exchange is that of the loss; a bad reply has no verdict
-abbrev pub refusal_verdict : Option Loss → Refusal → Verdict
-refusal_verdict loss NotIdle = v.RefusedNotIdle
-refusal_verdict loss (NotSecure s) = v.RefusedNotSecure s
-refusal_verdict loss (PoolEmpty draws) = v.RefusedPoolEmpty draws
-refusal_verdict loss (SessionLost n) = cut_off loss n
-refusal_verdict loss (DeviceRefused n code) = v.RefusedDevice n code
-refusal_verdict loss (BadReply n) = v.Nothing
-refusal_verdict loss (Busy o) = v.RefusedBusy o
-refusal_verdict loss (UnitOpen u) = v.RefusedUnitOpen u
+-- A lost exchange has the verdict of the message that was lost there. If none was, it has no verdict, nor has a bad
+-- reply.
+abbrev pub refusal_verdict : Option Loss → Refusal → Option Verdict
+refusal_verdict loss NotIdle = Some v.RefusedNotIdle
+refusal_verdict loss (NotSecure s) = Some (v.RefusedNotSecure s)
+refusal_verdict loss (PoolEmpty draws) = Some (v.RefusedPoolEmpty draws)
+refusal_verdict loss (SessionLost n) = option_map (λ lost. lost_at lost n) (lost_in loss n)
+refusal_verdict loss (DeviceRefused n status) = Some (v.RefusedDevice n status)
+refusal_verdict loss (BadReply n) = None
+refusal_verdict loss (Busy o) = Some (v.RefusedBusy o)
+refusal_verdict loss (UnitOpen u) = Some (v.RefusedUnitOpen u)
 
-abbrev pub verdict_of : Operation → ℕ → ℕ → Option Loss → Outcome → Verdict
-verdict_of o link stream loss outcome.Next = v.Nothing
+-- nor has an operation that is not at its end
+abbrev pub verdict_of : Operation → ℕ → ℕ → Option Loss → Outcome → Option Verdict
+verdict_of o link stream loss outcome.Next = None
 verdict_of o link stream loss (outcome.Done s) = shown_verdict o link stream s
 verdict_of o link stream loss (outcome.Refused refusal) = refusal_verdict loss refusal
+
+-- No reply was bad, and no exchange was lost but one whose message is lost.
+abbrev pub NoBadReply : Option Loss → Outcome → Type 0
+NoBadReply loss (outcome.Refused (BadReply n)) = ⊥
+NoBadReply loss (outcome.Refused (SessionLost n)) = IsSome (lost_in loss n)
+NoBadReply loss o = Unit {0}
 
 -- ---- the law
 
@@ -113,16 +130,16 @@ abbrev pub op_by : Op → Work → Option Reach → Op
 op_by o w None = o
 op_by o w (Some reached) = op_after w reached
 
--- Where each exchange is lost or refused as the definitions say, an event comes to the verdict that is due, and leaves
--- the operations as the verdict says.
+-- If each exchange is lost or refused as the definitions say, an event gives the verdict that is due, and leaves the
+-- operations as the verdict says.
 pub record WalkIsDue (operation : Operation) (plan : KeyPlan) (ports : PortView) (status : StreamStatus)
     (host : HostView) (pool : Pool) (loss : Option Loss) (s : StreamView) : Type 0 where
   pub verdict_is : verdict_of operation s.link s.id loss
-      (walked operation host pool (answers loss (is_refused ports operation (work_of operation s.op pool.draws).set
+      (walked operation host pool (answers loss (refusal_at ports operation (work_of operation s.op pool.draws).set
       s.link s.id)) s).outcome
-      ≡ due_on operation plan s.op pool.draws ports status s.link s.id loss
+      ≡ Some (due_on operation plan s.op pool.draws ports status s.link s.id loss)
   pub op_is : (walked operation host pool
-      (answers loss (is_refused ports operation (work_of operation s.op pool.draws).set s.link s.id)) s).stream.op
+      (answers loss (refusal_at ports operation (work_of operation s.op pool.draws).set s.link s.id)) s).stream.op
       ≡ op_by s.op (work_of operation s.op pool.draws)
       (reach_of operation (due_on operation plan s.op pool.draws ports status s.link s.id loss))
 

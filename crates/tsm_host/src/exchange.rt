@@ -7,7 +7,7 @@ ghost use Rattle.tsm_host.specs.Exchanges.{set_number, selector_of, exchange_of,
 use link_verdicts::Operation;
 
 /// An exchange with the device. A lane is one of six: the device's receivers of posted requests, non-posted requests
-/// and completions are lanes 0 to 2, its senders lanes 3 to 5. The key set is set 1 where `set` is true.
+/// and completions are lanes 0 to 2, its senders lanes 3 to 5. The key set is set 1 if `set` is true.
 #[derive(Clone, Copy, Debug, PartialEq, Eq)]
 pub enum Exchange {
     Query,

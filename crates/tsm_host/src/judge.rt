@@ -1,4 +1,4 @@
-//! What a reply comes to.
+//! How a reply is judged.
 
 ghost use Rattle.std.specs.Prelude.{◌≡◌};
 ghost use Rattle.tsm_host.specs.Judging.{is_description, is_key_acknowledgement, is_acknowledgement, is_expected};
@@ -110,7 +110,7 @@ fn reply(request: KmView, bytes: &[u8]) -> Judged
     }
 }
 
-/// What was carried in answer to a request comes to (this profile).
+/// Judges what was carried in answer to a request (this profile).
 pub fn judge(request: KmView, carried: Carried) -> Judged
     ensures { result ≡ judged request carried.entry }
 {

@@ -106,10 +106,12 @@ impl Manager {
         stream.begins(op.operation())
     }
 
-    /// Begins an operation on a stream that its link has, or goes on with it where it is unfinished; `port` is the
-    /// host's port of the link. An establish or a refresh that begins draws from the pool and programs the six slots
-    /// of its key set at the port; a stop that begins empties all slots of the stream there, and drops what is
-    /// unfinished. One that goes on does none of this. A refusal changes nothing.
+    /// Begins an operation on a stream that its link has, or goes on with it if it is unfinished; `port` is the host's
+    /// port of the link. An establish or a refresh that begins draws from the pool and programs the six slots of its
+    /// key set at the port; a stop that begins empties all slots of the stream there, and drops what is unfinished. One
+    /// that goes on does none of this. Refused, in this order: of establish NotIdle if the stream has keys, Busy if
+    /// another operation is unfinished, PoolEmpty; of refresh Busy, NotSecure unless the stream has keys and is Secure
+    /// at the host's port, UnitOpen, PoolEmpty; a stop never. A refusal changes nothing.
     pub fn begin<P: HostPort>(
         &mut self,
         port: &mut P,
@@ -172,7 +174,7 @@ impl Manager {
     }
 
     /// Appends the request of the exchange that is next, for which `out` has 49 bytes of room, and answers the
-    /// operation's draw, 0 where it has none. It takes no memory.
+    /// operation's draw, 0 if it has none. It takes no memory.
     pub fn ask(&self, out: &mut Vec<u8>) -> u32
         requires asking { IsSome (current self.now) }
         requires room { vec_len out.old + 49 ≤ vec_capacity out.old }
@@ -193,8 +195,9 @@ impl Manager {
     }
 
     /// Takes what was carried in answer to the request of the exchange that is next; `port` is the host's port of the
-    /// link. Where the reply is the expected one, the operation goes on, and behind the last GO of the device's
-    /// receivers the port's six slots get theirs; anything else leaves the operation at that exchange.
+    /// link. If the reply is the expected one, the operation goes on, and after the last GO of the device's receivers
+    /// the port's six slots get theirs; anything else leaves the operation at that exchange, and is answered by its
+    /// refusal.
     pub fn take<P: HostPort>(&mut self, port: &mut P, carried: Carried) -> Outcome
         requires { IsSome (current self.old) }
         ensures outcome { IfSome (current self.old) (λ c. result ≡ outcome_now c carried.entry) }
@@ -214,7 +217,8 @@ impl Manager {
         outcome
     }
 
-    /// The streams of a link are without keys again, and their operations dropped; no exchange is under way.
+    /// Notes a reset of a link: its streams are without keys again, and their operations are dropped; no exchange is
+    /// under way.
     pub fn link_reset(&mut self, link: u8)
         ensures { self.new ≡ reset_manager link self.old }
     {
@@ -223,7 +227,7 @@ impl Manager {
     }
 }
 
-// The place of the stream that is asked, behind a `begin`.
+// The place of the stream that is asked, after a `begin`.
 fn asking_begun(asking: Option<usize>, place: usize, answer: Result<(), Refusal>) -> Option<usize>
     ensures { result ≡ asking_begun asking place answer }
 {

@@ -17,15 +17,15 @@ pub enum Op {
     Stop(u8, u8),
 }
 
-/// What became of a request: its reply, `None` where the device gave none, or the loss of either of them.
+/// What became of a request: its reply, `None` if the device gave none, or the loss of either of them.
 #[derive(Clone, Copy, Debug)]
 pub enum Carried<'a> {
     Reply(Option<&'a [u8]>),
     Lost,
 }
 
-/// What an exchange comes to: the operation's next one is to be asked; the operation is at its end; it stays where
-/// it is until it is begun again.
+/// The outcome of an exchange: the operation's next one is to be asked; the operation is at its end; it stays where it
+/// is until it is begun again.
 #[derive(Clone, Copy, Debug, PartialEq, Eq)]
 pub enum Outcome {
     Next,

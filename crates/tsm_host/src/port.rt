@@ -10,17 +10,17 @@ use ide_types::{StreamStatus, SubKind};
 /// The host's port of a link: its slots are called locally, which is no exchange (PCI Express Base 6.0 section 6.33,
 /// in this profile).
 pub trait HostPort: SlotPort {
-    /// The state of a stream, where the port has it.
+    /// The state of a stream, if the port has it.
     ghost status_of: { Self → ℕ → Option StreamStatus };
 
-    /// The key set of the Live slot of a stream's sender in a sub-stream, where one is Live.
+    /// The key set of the Live slot of a stream's sender in a sub-stream, if one is Live.
     ghost live_of: { Self → ℕ → SubKind → Option ℕ };
 
-    /// The state of a stream; `None` where the port has no such stream.
+    /// The state of a stream; `None` if the port has no such stream.
     fn status(&self, stream: u8) -> Option<StreamStatus>
         ensures { result ≡ status_of self.now stream };
 
-    /// The key set, 0 or 1, of the Live slot of a stream's sender in a sub-stream; `None` where none is Live.
+    /// The key set, 0 or 1, of the Live slot of a stream's sender in a sub-stream; `None` if none is Live.
     fn live_set(&self, stream: u8, sub: SubKind) -> Option<u8>
         ensures { result ≡ live_of self.now stream sub };
 }

@@ -40,8 +40,8 @@ pub enum Stage {
     },
 }
 
-/// The exchange that is next of an unfinished operation: its key set, its draw (0 where it has none), and the number
-/// of the exchange, from 1.
+/// The exchange that is next of an unfinished operation: its key set, its draw (0 if it has none), and the number of
+/// the exchange, from 1.
 #[derive(Clone, Copy, Debug, PartialEq, Eq)]
 pub struct Asked {
     pub operation: Operation,
@@ -201,7 +201,7 @@ impl Stage {
         }
     }
 
-    /// The exchange that is next, where an operation is unfinished.
+    /// The exchange that is next, if an operation is unfinished.
     pub fn asked(&self) -> Option<Asked>
         ensures { result ≡ asked_in (op_in self.now) }
     {
@@ -250,7 +250,7 @@ impl Stage {
         }
     }
 
-    /// The state where the exchange that is next was acknowledged and is not the last.
+    /// The state after the exchange that is next was acknowledged, which is not the last.
     pub fn advanced(self, exchange: Exchange) -> Stage
         requires lane { exchange_lane exchange < 6 }
         requires early { next_in self < 13 }

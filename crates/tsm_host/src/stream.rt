@@ -86,7 +86,7 @@ impl StreamKeys {
         }
     }
 
-    /// The exchange that is next, where an operation is unfinished.
+    /// The exchange that is next, if an operation is unfinished.
     pub fn asked(&self) -> Option<Asked>
         ensures { result ≡ asked_in self.now.op }
     {
@@ -100,7 +100,7 @@ impl StreamKeys {
         self.stage.begins(operation)
     }
 
-    /// Begins an operation, or goes on with it.
+    /// Begins an operation, or goes on with it if it is unfinished; refused as `Manager::begin` says.
     pub fn begin<P: HostPort>(
         &mut self,
         port: &mut P,
@@ -217,7 +217,7 @@ impl StreamKeys {
         }
     }
 
-    // Goes on behind an exchange that was acknowledged.
+    // Goes on after an exchange that was acknowledged.
     fn acknowledge<P: HostPort>(&mut self, port: &mut P, asked: Asked) -> Outcome
         requires { asked_in self.old.op ≡ Some asked }
         ensures outcome { result ≡ outcome_of asked Expected }
@@ -247,7 +247,7 @@ impl StreamKeys {
     }
 }
 
-/// Gives the host's port its GOs, where the last of the device's receivers acknowledged its own.
+/// Gives the host's port its GOs, if the last of the device's receivers acknowledged its own.
 fn go_on<P: HostPort>(port: &mut P, stream: u8, asked: Asked)
     requires first { 1 ≤ asked.exchange }
     requires last { asked.exchange ≤ last_of asked.operation }

@@ -1,4 +1,4 @@
--- How packets lie one behind the other, heads in one list of bytes and bodies in another.
+-- How packets lie one after the other, heads in one list of bytes and bodies in another.
 use Rattle.std.specs.Prelude.{◌≡◌, ℕ, ◌+◌, ◌*◌, ◌≤◌, List, [], ◌∷◌, length, slice_range}
 use Rattle.unit_aggregation.specs.declared.ends.PacketEnds.{PacketEnds}
 
@@ -13,7 +13,7 @@ abbrev pub Rises : ℕ → ℕ → List PacketEnds → ℕ → ℕ → Type 0
 Rises h b [] heads bodies = (h ≡ heads) × (b ≡ bodies)
 Rises h b (e ∷ es) heads bodies = (h ≤ e.head) × (b ≤ e.body) × Rises e.head e.body es heads bodies
 
--- the packets lie behind the front, and there is room for the rest: 8 bytes of front, 20 of each head and 4,096 of each
+-- the packets lie after the front, and there is room for the rest: 8 bytes of front, 20 of each head and 4,096 of each
 -- body
 pub record IsLaidOut (mode front : ℕ) (ends : List PacketEnds) (heads bodies : List ℕ) (heads_room bodies_room : ℕ)
     : Type 0 where

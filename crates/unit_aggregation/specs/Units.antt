@@ -31,7 +31,7 @@ body_of unit = bodies_of unit.packets
 abbrev pub has_room : Collected → Bool
 has_room unit = nat_lt (length unit.packets) unit.mode
 
--- with the packet at its end, where it fits
+-- with the packet at its end, if it fits
 abbrev pub with_packet : Collected → List ℕ → List ℕ → Collected
 with_packet unit head body =
     if has_room unit then record unit { packets = unit.packets ++ (head, body) ∷ [] } else unit

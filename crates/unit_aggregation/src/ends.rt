@@ -1,6 +1,6 @@
 //! Where packets end.
 
-/// Where a packet's head and body end in the bytes that are joined.
+/// The places, in bytes, at which a packet's head and body end in the bytes that are joined.
 #[derive(Clone, Copy, Debug, Default)]
 pub struct PacketEnds {
     pub head: usize,

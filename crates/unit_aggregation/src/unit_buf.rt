@@ -65,7 +65,7 @@ fn append(out: &mut Vec<u8>, bytes: &[u8])
     let _ = out.extend_from_slice(bytes);
 }
 
-// Where packet `i` starts: where the one before it ends, the first behind the front.
+// The place at which packet `i` starts: the end of the one before it; of the first, the end of the front.
 fn start_of(front: usize, ends: &[PacketEnds], i: usize) -> PacketEnds
     requires { i ≤ length ends.now }
     ensures { result ≡ slice_index_or (record { head = front; body = 0 } ∷ ends.now) i result }
@@ -127,8 +127,8 @@ impl UnitBuf {
         })
     }
 
-    /// Adds a packet: a head of at most 20 bytes, and a body of at most 4,096. `UnitFull` comes exactly where the unit
-    /// has `mode` packets, and changes nothing.
+    /// Adds a packet: a head of at most 20 bytes, and a body of at most 4,096. Returns `UnitFull` exactly if the unit
+    /// has `mode` packets, and then changes nothing.
     pub fn add(&mut self, head: &[u8], body: &[u8]) -> Result<(), UnitFull>
         requires head_short { length head.now ≤ HEAD_BYTES }
         requires body_short { length body.now ≤ BODY_BYTES }
@@ -155,7 +155,7 @@ impl UnitBuf {
         self.ends.len()
     }
 
-    /// What is authenticated in clear: the front, where one was set, and the heads, joined.
+    /// What is authenticated in clear: the front, if one was set, and the heads, joined.
     pub fn aad(&self) -> &[u8]
         ensures value { result.now ≡ aad_of self.now }
         ensures short { length result.now ≤ FRONT_BYTES + HEAD_BYTES * MAX_PACKETS }
@@ -200,7 +200,8 @@ impl UnitBuf {
         self.ends.clear();
     }
 
-    /// Sets 8 bytes ahead of the heads, in place of those set before. It has no packet yet.
+    /// Sets the 8 bytes that are authenticated before the heads, in place of those set before. The unit has no packet
+    /// yet.
     pub fn front(&mut self, bytes: &[u8; 8])
         requires { self.old.packets ≡ [] }
         ensures { self.new ≡ record self.old { front = bytes.now } }

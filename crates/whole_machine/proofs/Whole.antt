@@ -19,7 +19,7 @@ unfoldable use Rattle.interface_states.specs.Due.{due as interface_due}
 use Rattle.interface_machine.specs.Machine.{Faces, faces_after, answer_of, grant_of}
 use Rattle.interface_machine.specs.Stands.{StandsFor as FacesStandFor}
 use Rattle.interface_machine.proofs.Faces.{faces_stand}
-use Rattle.link_history.specs.Memory.{effect_by, admitted_in, shown_if, memory_due}
+use Rattle.link_history.specs.Memory.{effects_by, admitted_in, shown_if, memory_due}
 unfoldable use Rattle.link_history.specs.Memory.{writes}
 use Rattle.trusted_memory.specs.Writes.{Write, newest_first}
 unfoldable use Rattle.trusted_memory.specs.Writes.{byte_after}
@@ -66,7 +66,7 @@ grants_are plan fs h stands = λ i link requester. faces_stand.grant plan fs h l
 beside_is : (plan : Plan) (w : Whole) (h : History) → StandsFor plan w h → beside_of plan w ≡ beside_at plan h
 beside_is plan w h stands = λ i. record {
   t = λ port head stream trusted. t_says plan w.faces h stands.faces port port.side head stream trusted i;
-  effect = λ port unit p. effect_by plan (grants_are plan w.faces h stands.faces i) port unit p;
+  effects = λ port unit ps. effects_by plan (grants_are plan w.faces h stands.faces i) port unit ps;
   answer = λ e. answer_says plan w h stands e i;
 }
 

@@ -17,7 +17,7 @@ use Rattle.key_laws.specs.History.{begins_keyed}
 use Rattle.interface_states.specs.Devices.{is_secure}
 use Rattle.interface_states.specs.Cause.{owner_of}
 use Rattle.interface_machine.specs.Machine.{Faces, new_faces, Streams, faces_after, answer_of, t_of, grant_of}
-use Rattle.link_history.specs.Memory.{effect_by, admitted_in, shown_if}
+use Rattle.link_history.specs.Memory.{effects_by, admitted_in, shown_if}
 use Rattle.link_history.specs.History.{Arrival}
 use Rattle.link_history.specs.Plan.{has_port, mode_of, is_closed}
 use Rattle.trusted_memory.specs.Writes.{Write, newest_first}
@@ -106,7 +106,7 @@ unit_in plan st (Some a) = unit_cut plan st a.port (cut_of a.bytes)
 abbrev pub beside_of : Plan → Whole → Beside
 beside_of plan w = record {
   t = λ port head stream trusted. t_by plan w.faces port port.side head stream trusted;
-  effect = effect_by plan (grant_of plan w.faces);
+  effects = effects_by plan (grant_of plan w.faces);
   answer = λ e. answer_of plan (streams_of plan w) w.faces e (memory_shown plan w.written e);
 }
 

@@ -7,8 +7,8 @@ pub fn whole_begins()
     ensures { WholeBegins }
 {}
 
-/// Where a state stands for a history, the machine answers each event with the verdict that is due, and the state after
-/// it stands for the history with that pair.
+/// If a state stands for a history, the machine answers each event with the verdict that is due, and the state after it
+/// stands for the history with that pair.
 pub fn whole_steps()
     ensures { WholeSteps }
 {}

@@ -1,3 +1,5 @@
+mod Packets
+mod Ends
 mod Writes
 mod Counted
 mod Unit

@@ -1,62 +1,62 @@
 -- In the shortest good history no tag verified on a unit that its partner had not sealed.
-use Rattle.std.proofs.Common.{◌≡◌, [], ◌∷◌, true, false, Option, Some, None, Result, Ok, refl, subst}
-use Rattle.aes_block.specs.Aes.{key_words, temp, mixed, sbox, sub_bytes, shift_rows, mix_columns, add_round_key}
-use Rattle.aes_block.specs.Aes.{sub_word, expansion, rounds, cipher, aes}
-use Rattle.gcm_seal.specs.Polynomials.{bits}
-use Rattle.gcm_seal.specs.Gcm.{counter, key_stream, masked, hash_key, blocks, ghash, tag_of}
+use Rattle.std.proofs.Common.{◌≡◌, [], ◌∷◌, true, false, Option, Some, None, Result, Ok, refl, subst, ap}
 use Rattle.first_fault.specs.Walks.{walked_from, walk_length, reading}
 use Rattle.tlp_layout.specs.Reading.{read_of, read_head_of}
 use Rattle.ide_prefix.specs.Packet.{Packet, packet_bytes}
+use Rattle.ide_prefix.specs.Units.{authenticated, encrypted}
 use Rattle.ide_prefix.specs.Reading.{cut_of}
 use Rattle.ide_types.specs.declared.sub.SubKind.TheVariants.{Pr}
 use Rattle.key_laws.specs.Keys.{is_open, keys}
 use Rattle.key_laws.specs.History.{History, manager, moments, base, failed as failed_there}
 use Rattle.link_events.specs.declared.event.Event.TheVariants.{Pass}
 use Rattle.link_verdicts.specs.declared.verdict.Verdict.{Verdict}
-use Rattle.link_history.specs.Plan.{stream_plan, key_of}
+use Rattle.link_history.specs.Plan.{stream_plan}
 use Rattle.link_history.specs.Units.{units, open_unit}
 use Rattle.link_history.specs.History.{Arrival, packet_of, sent_in, sealed_packets, keys_at, front_of, front_sent}
 use Rattle.link_history.specs.History.{total_in, arrived, held, units_got, units_since}
 use Rattle.link_history.specs.Due.{Ending, before_tag}
-use Rattle.link_history.specs.Laws.{WasSealed, NotForged, NoForgery}
+use Rattle.link_history.specs.Laws.{WasSealed, NotForged, NoForgery, last_tag}
+use Rattle.worked_cases.proofs.Ends.{comes, ending as ending_of}
+use Rattle.worked_cases.proofs.Packets.{write_1, write_1_is}
 use Rattle.worked_cases.specs.Cases.{plan, write, host, packet, established, sealed, accepted}
 
 abbrev past : History
 past = sealed 1 0 1 ∷ established ∷ []
 
--- the packet that was sealed, as it arrives, and the unit that it ends
+-- the packet that was sealed, as it is described and as it arrives, and the unit that it ends
+abbrev sealed_packet : Packet
+sealed_packet = packet_of (plan 1 false) [] write (packet 1 Pr 0 1 true 0) []
+
 abbrev first_packet : Packet
-first_packet = packet_of (plan 1 false) [] write (packet 1 Pr 0 1 true 0) []
+first_packet = write_1
 
 abbrev arrival : Arrival
 arrival = record { port = host; bytes = packet_bytes first_packet }
 
 abbrev ending : Ending
-ending = record { packet = first_packet; unit = record { stream = 5; sub = Pr; draw = 0; unit = 1 } }
+ending = ending_of first_packet Pr 0 1
 
 arrives : arrived (plan 1 false) past (Pass 1) ≡ Some arrival
 unfolding arrived sealed_packets front_of stream_plan sent_in units open_unit total_in
-arrives = refl
+arrives = ap comes write_1_is
 
 passes : before_tag (plan 1 false) past arrival ≡ Ok ending
-unfolding before_tag is_open keys manager moments base failed_there keys_at stream_plan held units_got arrived
-    sealed_packets packet_of front_of sent_in units open_unit total_in key_of cut_of read_of read_head_of reading
-    walk_length walked_from tag_of ghash hash_key blocks counter key_stream masked bits aes cipher rounds
-    add_round_key mixed mix_columns shift_rows sub_bytes key_words temp expansion sub_word sbox
+unfolding before_tag is_open keys manager moments base failed_there keys_at stream_plan held units_got cut_of read_of
+    read_head_of reading walk_length walked_from
 passes = refl
 
 was : WasSealed (plan 1 false) past host ending
 unfolding arrived sealed_packets packet_of front_of front_sent stream_plan sent_in units open_unit total_in held
     units_got units_since base
 was = record {
-  unit = first_packet ∷ [];
+  unit = sealed_packet ∷ [];
   place = 0;
   numbered = refl;
   finished = refl;
-  same_authenticated = refl;
-  same_encrypted = refl;
+  same_authenticated = ap (λ (p : Packet). authenticated (p ∷ [])) write_1_is;
+  same_encrypted = ap (λ (p : Packet). encrypted (p ∷ [])) write_1_is;
   same_front = refl;
-  same_tag = refl;
+  same_tag = ap (λ (p : Packet). last_tag (p ∷ [])) write_1_is;
 }
 
 one_arrival : (o : Option Arrival) (a b : Arrival) → o ≡ Some a → o ≡ Some b → a ≡ b

@@ -1,9 +1,5 @@
 -- Two packets of a unit.
-use Rattle.std.proofs.Common.{◌≡◌, [], ◌∷◌, true, false, refl}
-use Rattle.aes_block.specs.Aes.{key_words, temp, mixed, sbox, sub_bytes, shift_rows, mix_columns, add_round_key}
-use Rattle.aes_block.specs.Aes.{sub_word, expansion, rounds, cipher, aes}
-use Rattle.gcm_seal.specs.Polynomials.{bits}
-use Rattle.gcm_seal.specs.Gcm.{counter, key_stream, masked, hash_key, blocks, ghash, tag_of, verifies}
+use Rattle.std.proofs.Common.{◌≡◌, [], ◌∷◌, true, false, refl, ap}
 use Rattle.first_fault.specs.Walks.{walked_from, walk_length, reading}
 use Rattle.tlp_layout.specs.Reading.{read_of, read_head_of}
 use Rattle.ide_prefix.specs.Reading.{cut_of}
@@ -18,6 +14,11 @@ use Rattle.link_history.specs.History.{packet_of, sent_in, sealed_packets, poste
 use Rattle.link_history.specs.History.{has_live_in, front_of, total_in, arrived, meets_counts, got_since}
 use Rattle.link_history.specs.History.{held as held_in, units_got, units_since}
 use Rattle.link_history.specs.Due.{choice, due, before_tag, is_verified}
+use Rattle.gcm_seal.specs.Gcm.{masked, verifies}
+use Rattle.ide_types.specs.declared.sub.SubKind.TheVariants.{Npr}
+use Rattle.std.specs.Prelude.{bytes_eq}
+use Rattle.worked_cases.proofs.Ends.{comes, ends, stops}
+use Rattle.worked_cases.proofs.Packets.{first_read, first_read_is, reads_tag, reads_tag_is, second_read, second_read_is}
 use Rattle.worked_cases.specs.Due.{AreDue}
 use Rattle.worked_cases.specs.Cases.{plan, established, sealed_on, held, both_accepted, unfinished_write, unfinished}
 use Rattle.worked_cases.specs.Cases.{two_in_a_unit}
@@ -41,9 +42,10 @@ unfolding due sites key_due manager moments keys is_open failed_there base read_
     choice
     choice_of keys_at has_live_out has_live_in stream_plan sent_in sealed_packets packet_of units open_unit posted_in
     front_of total_in arrived read_head_of cut_of key_of before_tag is_verified meets_counts got_since held_in
-    units_got units_since verifies tag_of ghash hash_key blocks counter key_stream masked bits aes cipher rounds
-    add_round_key mixed mix_columns shift_rows sub_bytes key_words temp expansion sub_word sbox
-two_4 = refl
+    units_got units_since verifies masked
+two_4 =
+    stops (plan 2 false) (sealed_on 2 true ∷ sealed_on 1 false ∷ established ∷ []) _ first_read _
+    (ap comes first_read_is) refl
 
 two_5 : due (plan 2 false) (held ∷ sealed_on 2 true ∷ sealed_on 1 false ∷ established ∷ []) both_accepted.0
     ≡ both_accepted.1
@@ -51,9 +53,10 @@ unfolding due sites key_due manager moments keys is_open failed_there base read_
     choice
     choice_of keys_at has_live_out has_live_in stream_plan sent_in sealed_packets packet_of units open_unit posted_in
     front_of total_in arrived read_head_of cut_of key_of before_tag is_verified meets_counts got_since held_in
-    units_got units_since verifies tag_of ghash hash_key blocks counter key_stream masked bits aes cipher rounds
-    add_round_key mixed mix_columns shift_rows sub_bytes key_words temp expansion sub_word sbox
-two_5 = refl
+    units_got units_since verifies masked
+two_5 =
+    ends (plan 2 false) (held ∷ sealed_on 2 true ∷ sealed_on 1 false ∷ established ∷ []) _ second_read Npr 0 1 true
+    (ap comes second_read_is) refl (ap (bytes_eq reads_tag) reads_tag_is)
 
 two_6 : due (plan 2 false) (both_accepted ∷ held ∷ sealed_on 2 true ∷ sealed_on 1 false ∷ established ∷ [])
     unfinished_write.0 ≡ unfinished_write.1

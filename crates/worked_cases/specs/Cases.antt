@@ -9,7 +9,7 @@ use Rattle.ide_plan.specs.declared.plan.Plan.{Plan}
 use Rattle.ide_plan.specs.declared.stream.Selector.TheVariants.{Selective}
 use Rattle.link_events.specs.declared.event.Lost.TheVariants.{Reply}
 use Rattle.link_events.specs.declared.event.Event.{Event}
-use Rattle.link_events.specs.declared.event.Event.TheVariants.{Establish, Refresh, Send, Pass, Alter}
+use Rattle.link_events.specs.declared.event.Event.TheVariants.{Establish, Refresh, Stop, Send, Pass, Alter}
 use Rattle.link_verdicts.specs.declared.verdict.Operation.TheVariants as op
 use Rattle.link_verdicts.specs.declared.verdict.Verdict.{Verdict}
 use Rattle.link_verdicts.specs.declared.verdict.Verdict.TheVariants as v
@@ -18,6 +18,7 @@ use Rattle.link_verdicts.specs.declared.verdict.UnitName.{UnitName}
 use Rattle.link_verdicts.specs.declared.verdict.Effect.TheVariants.{Delivered, Blocked}
 use Rattle.link_verdicts.specs.declared.verdict.BlockCause.TheVariants.{NotTrusted}
 use Rattle.key_laws.specs.History.{History}
+use Rattle.key_laws.specs.Places.{Place}
 
 -- ---- what there is
 
@@ -28,6 +29,7 @@ small_key n = replicate 31 0 ++ n ∷ []
 -- link 0 has stream 5, which takes every TLP; the pool has two draws
 abbrev pub plan : ℕ → Bool → Plan
 plan mode closed = record {
+  version = 1;
   portion = 16;
   units_per_key = 4294967296;
   pool =
@@ -56,6 +58,13 @@ host = record { side = Host; link = 0 }
 abbrev pub device : PortName
 device = record { side = Device; link = 0 }
 
+-- where the device's port seals posted TLPs, and where the host's receives them
+abbrev pub sender : Place
+sender = record { side = Device; link = 0; stream = 5; sends = true; sub = Pr }
+
+abbrev pub receiver : Place
+receiver = record { side = Host; link = 0; stream = 5; sends = false; sub = Pr }
+
 -- ---- pairs
 
 -- the device's packet of this number; draw 0 is in key set 0, draw 1 in key set 1
@@ -83,11 +92,17 @@ established = (Establish 0 5 None, v.Established 0 5 0)
 abbrev pub refreshed : Event × Verdict
 refreshed = (Refresh 0 5 None, v.Refreshed 0 5 1)
 
+abbrev pub stopped : Event × Verdict
+stopped = (Stop 0 5 None, v.Stopped 0 5)
+
+abbrev pub pool_is_empty : Event × Verdict
+pool_is_empty = (Establish 0 5 None, v.RefusedPoolEmpty 2)
+
 -- a write that is a unit of its own
 abbrev pub sealed : ℕ → ℕ → ℕ → Event × Verdict
 sealed number draw unit = (Send device write false false, v.Sealed (packet number Pr draw unit true 0 ∷ []))
 
--- a read whose unit goes on where it has room
+-- a read whose unit goes on if it has room
 abbrev pub sealed_on : ℕ → Bool → Event × Verdict
 sealed_on number m = (Send device read true false, v.Sealed (packet number Npr 0 1 m 0 ∷ []))
 
@@ -113,7 +128,7 @@ held = (Pass 1, v.Held host reads)
 abbrev pub both_accepted : Event × Verdict
 both_accepted = (Pass 2, v.Accepted host reads (Delivered ∷ Delivered ∷ []))
 
--- a write whose unit goes on, and a read behind it
+-- a write whose unit goes on, and a read after it
 abbrev pub unfinished_write : Event × Verdict
 unfinished_write = (Send device write true false, v.Sealed (packet 3 Pr 0 1 false 0 ∷ []))
 
@@ -126,7 +141,7 @@ fails_key e = (e, v.Fail host 5 Pr fail.Key)
 abbrev pub insecure : Event × Verdict
 insecure = (Pass 1, v.Insecure host 5)
 
--- the read, behind one write, and that it arrives ahead of it
+-- the read, after one write, and that it arrives before it
 abbrev pub sealed_read : Event × Verdict
 sealed_read = (Send device read false false, v.Sealed (packet 2 Npr 0 1 true 1 ∷ []))
 
@@ -183,6 +198,12 @@ reply_lost = established ∷ reply_9_lost ∷ busy ∷ refreshed ∷ []
 -- a unit under the older key is missing when the first one under the newer key arrives
 abbrev pub tail_missing : Event × Verdict → List (Event × Verdict)
 tail_missing arrival = established ∷ sealed 1 0 1 ∷ refreshed ∷ sealed 2 1 1 ∷ arrival ∷ []
+
+-- after each pair, whether draw 0 has gone from the sender, and whether from the receiver
+abbrev pub older_goes : List ((Event × Verdict) × Bool × Bool)
+older_goes =
+    (established, false, false) ∷ (sealed 1 0 1, false, false) ∷ (refreshed, true, false) ∷ (sealed 2 1 1, true, false)
+    ∷ (accepted 2 1 1, true, true) ∷ (stopped, true, true) ∷ (pool_is_empty, true, true) ∷ []
 
 -- so many writes of one unit each, the newest first
 abbrev pub writes : ℕ → History

@@ -6,7 +6,7 @@ use Rattle.link_verdicts.specs.declared.verdict.Verdict.{Verdict}
 use Rattle.key_laws.specs.History.{History}
 use Rattle.link_history.specs.Due.{due}
 
--- behind a history, each event of a list comes to the verdict beside it
+-- after a history, each event of a list gives the verdict beside it
 abbrev pub AreDue : Plan → History → List (Event × Verdict) → Type 0
 AreDue plan h [] = Unit {0}
 AreDue plan h ((event, verdict) ∷ later) = (due plan h event ≡ verdict) × AreDue plan ((event, verdict) ∷ h) later

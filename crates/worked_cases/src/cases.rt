@@ -1,14 +1,16 @@
 //! The cases.
 
-ghost use Rattle.std.specs.Prelude.{[], ◌∷◌, true, false};
+ghost use Rattle.std.specs.Prelude.{[], ◌∷◌, map, true, false};
 ghost use Rattle.link_events.specs.declared.event.Event.TheVariants.{Pass};
 ghost use Rattle.link_history.specs.Laws.{NoForgery};
 ghost use Rattle.worked_cases.specs.Due.{AreDue};
+ghost use Rattle.worked_cases.specs.Gone.{AreGone};
 ghost use Rattle.worked_cases.specs.Cases.{plan, writes, established, sealed, accepted, fails, accepted_once};
 ghost use Rattle.worked_cases.specs.Cases.{trusted_on_the_way, other_set_on_the_way, one_missing, read_ahead};
 ghost use Rattle.worked_cases.specs.Cases.{two_in_a_unit, late_packet, reply_lost, tail_missing, count_full};
+ghost use Rattle.worked_cases.specs.Cases.{older_goes, receiver, sender};
 
-/// A posted write is sealed and accepted. Where it arrives again it fails by its tag, which is that of the unit before;
+/// A posted write is sealed and accepted. If it arrives again it fails by its tag, which is that of the unit before;
 /// then the stream is insecure.
 pub fn write_is_accepted_once()
     ensures { AreDue (plan 1 false) [] accepted_once }
@@ -25,13 +27,13 @@ pub fn write_is_missing()
     ensures { AreDue (plan 1 false) [] one_missing }
 {}
 
-/// A read that was sealed behind a write arrives ahead of it, and fails by the order.
+/// A read that was sealed after a write arrives before it, and fails by the order.
 pub fn read_waits_for_its_write()
     ensures { AreDue (plan 1 false) [] read_ahead }
 {}
 
-/// Behind 255 posted writes a sync packet of each of the other two sub-streams goes ahead of the next, and of the one
-/// behind that none.
+/// After 255 posted writes a sync packet of each of the other two sub-streams goes before the next, and none before the
+/// one after that.
 pub fn sync_packets_go_first()
     ensures { AreDue (plan 1 false) (writes 255) count_full }
 {}
@@ -58,6 +60,13 @@ pub fn lost_reply_and_refresh_again()
 pub fn closed_stream()
     ensures open_is_accepted { AreDue (plan 1 false) [] (tail_missing (accepted 2 1 1)) }
     ensures closed_fails { AreDue (plan 1 true) [] (tail_missing (fails (Pass 2))) }
+{}
+
+/// A stream is refreshed: its older draw goes from the sender, and from the receiver once a unit under the newer key
+/// was accepted. It stays gone after a stop, and after an establish that finds the pool empty.
+pub fn older_draw_stays_gone()
+    ensures gone { AreGone sender receiver 0 [] older_goes }
+    ensures verdicts { AreDue (plan 1 false) [] (map (λ row. row.0) older_goes) }
 {}
 
 /// A stream is established, a write is sealed, and it is accepted: no tag verified on a unit that its partner had not

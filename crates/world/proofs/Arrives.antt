@@ -16,15 +16,16 @@ use Rattle.whole_machine.specs.Machine.{Whole, secure_in, streams_of, arrival_of
 use Rattle.link_ends.specs.declared.ends.LinkEnds.{LinkEnds}
 use Rattle.link_ends.specs.Hosts.{InterfacesView}
 use Rattle.all_links.specs.declared.links.Links.{Links}
-use Rattle.all_links.specs.AllEnds.{grants_in}
+use Rattle.all_ends.specs.AllEnds.{grants_in}
 use Rattle.all_links.specs.Links.{links_state}
-use Rattle.all_links.specs.Sides.{SidesArrive, AllFollow, arrival_at, writes_by}
-use Rattle.world.specs.Whole.{IsBeside}
-use Rattle.world.proofs.Statuses.{secure_is}
-use Rattle.world.proofs.Rests.{is_of_ports, is_of_packets, of_ports, next_of_ports, none_of_ports, managed_of_packets}
-use Rattle.world.proofs.Rests.{draw_of_packets}
-use Rattle.world.proofs.Follows.{IsLed, OnlyLeaves, led_follows, beside_led}
-use Rattle.world.proofs.Kept.{AreBoth, managed_kept, written_is}
+use Rattle.all_links.specs.Sides.{SidesArrive, AllFollow, arrival_at}
+use Rattle.all_ends.specs.Writes.{writes_by}
+use Rattle.world_states.specs.Whole.{IsBeside}
+use Rattle.world_states.proofs.Statuses.{secure_is}
+use Rattle.world_states.proofs.Rests.{is_of_ports, is_of_packets, of_ports, next_of_ports, none_of_ports, managed_of_packets}
+use Rattle.world_states.proofs.Rests.{draw_of_packets}
+use Rattle.world_states.proofs.Follows.{IsLed, OnlyLeaves, led_follows, beside_led}
+use Rattle.world_states.proofs.Kept.{AreBoth, managed_kept, written_is}
 
 -- an event on ports alone makes no more of an interface than that its stream leaves Secure
 pub only_leaves : (plan : Plan) (w : Whole) (e : Event) (verdict : Verdict) (new : LinkState) (x : Site) (f : Face)

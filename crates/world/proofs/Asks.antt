@@ -29,12 +29,12 @@ use Rattle.whole_machine.specs.Machine.{Whole, secure_in, streams_of, beside_of,
 use Rattle.all_links.specs.declared.links.Links.{Links}
 use Rattle.all_links.specs.Links.{links_state}
 use Rattle.all_links.specs.Sides.{SidesAsk}
-use Rattle.world.specs.Whole.{IsPlaced, IsBeside}
-use Rattle.world.proofs.Places.{get_there}
-use Rattle.world.proofs.Sites.{is_at, interface_there, interface_absent}
-use Rattle.world.proofs.Statuses.{host_status_is, secure_is}
+use Rattle.world_states.specs.Whole.{IsPlaced, IsBeside}
+use Rattle.world_states.proofs.Places.{get_there}
+use Rattle.world_states.proofs.Sites.{is_at, interface_there, interface_absent}
+use Rattle.world_states.proofs.Statuses.{host_status_is, secure_is}
 use Rattle.world.proofs.Calls.{IsOne, there_beside, nowhere_beside, interface_step, answer_there}
-use Rattle.world.proofs.Kept.{AreBoth}
+use Rattle.world_states.proofs.Kept.{AreBoth}
 
 op_number : (o : InterfaceOp) (i : ℕ) (loss : Option Loss) → number_in (op_event o i loss) ≡ Some i
 op_number op.Lock i loss = refl

@@ -50,14 +50,14 @@ use Rattle.link_ends.specs.Hosts.{InterfacesView}
 use Rattle.link_ends.proofs.Lists.{set_read}
 use Rattle.all_links.specs.declared.links.Links.{Links}
 use Rattle.all_links.specs.Links.{links_state}
-use Rattle.all_links.specs.Interfaces.{located}
+use Rattle.all_ends.specs.Places.{located}
 use Rattle.all_links.specs.Sides.{SidesKeep, SidesCall}
-use Rattle.world.specs.Whole.{IsPlaced, IsDevice, IsBeside}
-use Rattle.world.proofs.Places.{get_there}
-use Rattle.world.proofs.Sites.{site_numbered, face_found, located_apart, located_kept, interface_there}
-use Rattle.world.proofs.Sites.{interface_absent}
-use Rattle.world.proofs.Faces.{each_at, each_many, none_of}
-use Rattle.world.proofs.Kept.{AreBoth, elsewhere_beside, written_kept}
+use Rattle.world_states.specs.Whole.{IsPlaced, IsDevice, IsBeside}
+use Rattle.world_states.proofs.Places.{get_there}
+use Rattle.world_states.proofs.Sites.{site_numbered, face_found, located_apart, located_kept, interface_there}
+use Rattle.world_states.proofs.Sites.{interface_absent}
+use Rattle.world_states.proofs.Faces.{each_at, each_many, none_of}
+use Rattle.world_states.proofs.Kept.{AreBoth, elsewhere_beside, written_kept}
 
 -- ---- numbers
 

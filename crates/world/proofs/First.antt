@@ -2,10 +2,10 @@
 -- induction
 -- on the plan's links; interface number `i` stands at the place of the same link where the topology lists it, since the
 -- lists of sites, of the manager and of the devices are made link by link in one order.
-use Rattle.std.proofs.Common.{◌≡◌, ℕ, suc, zero, ◌+◌, ◌-◌, ◌<◌, ◌≤◌, Bool, true, false, List, [], ◌∷◌, ◌++◌, length}
+use Rattle.std.proofs.Common.{◌≡◌, ℕ, suc, zero, ◌+◌, ◌-◌, ◌<◌, ◌≤◌, List, [], ◌∷◌, ◌++◌, length}
 use Rattle.std.proofs.Common.{map}
-use Rattle.std.proofs.Common.{refl, ap, sym, ◌∙◌, subst, arith, inl, inr, Some, None, Option, length-append}
-use Rattle.std.specs.Prelude.{slice_get, nat_lt, All, replicate, if◌then◌else◌, ◌⊎◌}
+use Rattle.std.proofs.Common.{refl, ap, sym, ◌∙◌, subst, arith, inl, inr, Some, Option, length-append}
+use Rattle.std.specs.Prelude.{slice_get, nat_lt, All, replicate, if◌then◌else◌}
 use Rattle.std.specs.List.{slice_index_or}
 use Rattle.std.proofs.lemmas.List.{length-map, map-append}
 use Rattle.std.proofs.lemmas.List.Elements.{All-head, All-tail, All-nil, All-cons}
@@ -13,24 +13,23 @@ use Rattle.std.proofs.lemmas.Bool.{cases_lt}
 use Rattle.std.proofs.lemmas.Bool.Decides.{nat_tests}
 use Rattle.std.specs.Option.{option_map}
 use Rattle.whole_machine.specs.Stands.{WholeBegins}
-use Rattle.all_links.proofs.Finds.{links_same, bounded_same}
+use Rattle.all_ends.proofs.Finds.{links_same, bounded_same}
 use Rattle.std.proofs.lemmas.Option.{none-some, same_Some, slice_get-map}
-use Rattle.key_laws.proofs.Tests.{lt-true}
 use Rattle.ide_plan.specs.declared.plan.Plan.{Plan}
 use Rattle.ide_plan.specs.declared.plan.LinkPlan.{LinkPlan}
 use Rattle.ide_plan.specs.declared.stream.StreamPlan.{StreamPlan}
 use Rattle.ide_plan.specs.declared.interface.InterfacePlan.{InterfacePlan}
 use Rattle.ide_plan.specs.declared.plan.Region.{Region}
 use Rattle.ide_plan.specs.Fits.{FitsInterface, FitsLink, FitsPlan, IsKey}
-use Rattle.interface_states.specs.Sites.{Site, sites_on, sites_from, nonces_of}
+use Rattle.interface_states.specs.Sites.{Site, sites_on, sites_from}
 unfoldable use Rattle.interface_states.specs.Sites.{sites}
-use Rattle.interface_machine.specs.Machine.{Face, new_face}
-use Rattle.whole_machine.specs.Machine.{Whole, new_whole, secure_in}
+use Rattle.interface_machine.specs.Machine.{new_face}
+use Rattle.whole_machine.specs.Machine.{new_whole}
 use Rattle.tdi_state.specs.Machine.{Tdi, new_tdi}
-use Rattle.tdi_host.specs.Views.{HostTdi, new_interface}
+use Rattle.tdi_host.specs.Views.{new_interface}
 use Rattle.tdi_host.specs.Managers.{new_interfaces, interfaces_from, new_manager as new_host}
-use Rattle.interface_joins.specs.Faces.{IsFace, IsManaged, IsLaidOut}
-use Rattle.trusted_memory.specs.{IsLeftBy, new_memory, new_contents, byte_at, TrustedMemory}
+use Rattle.interface_joins.specs.Faces.{IsFace}
+use Rattle.trusted_memory.specs.{IsLeftBy, new_contents, byte_at, TrustedMemory}
 use Rattle.trusted_memory.proofs.Seen.{new_is_seen, byte_at-new}
 use Rattle.trusted_memory.proofs.Turns.{byte_after-none}
 use Rattle.stream_rules.specs.Stream.{StreamState}
@@ -40,20 +39,20 @@ use Rattle.tsm_host.specs.Streams.{StreamView, new_stream}
 use Rattle.tsm_host.specs.Managers.{new_manager, new_streams, streams_from}
 use Rattle.link_history.specs.Plan.{streams_of}
 use Rattle.link_walks.specs.Joined.{KeysKept}
-use Rattle.link_ports.specs.Machine.{LinkState, first_ports, first_state, empty_stream}
+use Rattle.link_ports.specs.Machine.{first_ports, first_state, empty_stream}
 use Rattle.link_ends.specs.declared.ends.LinkEnds.{LinkEnds}
 use Rattle.link_ends.specs.Ends.{new_ends}
 use Rattle.link_ends.specs.Keepers.{KeeperView}
 use Rattle.link_ends.specs.Hosts.{InterfacesView}
-use Rattle.all_links.specs.AllEnds.{ends_from}
-use Rattle.all_links.specs.Interfaces.{located}
+use Rattle.all_ends.specs.AllEnds.{ends_from}
+use Rattle.all_ends.specs.Places.{located}
 use Rattle.all_links.specs.Links.{IsFirst, links_state}
-use Rattle.all_links.specs.Requester.{requester_of}
-use Rattle.all_links.specs.States.{ports_in, ops_in, ops_of, behind, name_of, names_of, names_from, state_of, IsBounded}
-use Rattle.all_links.specs.States.{IsLink, AreLinks}
+use Rattle.all_ends.specs.Requester.{requester_of}
+use Rattle.all_ends.specs.States.{ports_in, ops_in, ops_of, behind, name_of, names_of, names_from, state_of, IsBounded}
+use Rattle.all_ends.specs.States.{IsLink, AreLinks}
 use Rattle.all_links.specs.declared.links.Links.{Links}
-use Rattle.world.specs.Whole.{IsPlaced, IsDevice, IsBeside}
-use Rattle.world.specs.Worlds.{WorldView, IsWhole, Stands, IsNew, world_of, IsWorld}
+use Rattle.world_states.specs.Whole.{IsPlaced, IsDevice, IsBeside}
+use Rattle.world_states.specs.Worlds.{Stands, IsNew, world_of, IsWorld}
 
 abbrev streams_in : List LinkPlan → List (List StreamPlan)
 streams_in ls = map (λ (l : LinkPlan). l.streams) ls

@@ -1,14 +1,4 @@
 pub mod First
-pub mod Places
-pub mod Sites
-pub mod Statuses
-pub mod Besides
-pub mod Faces
-pub mod Settled
-pub mod Secure
-pub mod Rests
-pub mod Follows
-pub mod Kept
 pub mod Arrives
 pub mod Calls
 pub mod Asks

@@ -18,7 +18,8 @@ use Rattle.link_verdicts.specs.declared.verdict.Verdict.{Verdict}
 use Rattle.link_verdicts.specs.declared.verdict.Verdict.TheVariants as v
 use Rattle.key_laws.specs.Operations.{Op, Idle, Work, Reach, work_of, reach_of}
 use Rattle.key_laws.specs.History.{begins_keyed}
-use Rattle.key_laws.specs.Due.{PortView, stop_on, comes_to, stays_at, cut_off}
+use Rattle.key_laws.specs.Due.{PortView, done, stop_on}
+use Rattle.key_laws.proofs.Performs.{is_cut, performed_is}
 use Rattle.interface_states.specs.Sites.{Site}
 use Rattle.interface_states.specs.Views.{Managed, managed_after, stop_begins, view_broken}
 use Rattle.interface_machine.specs.Machine.{around_of}
@@ -34,15 +35,15 @@ use Rattle.whole_machine.specs.Machine.{Whole, secure_in, streams_of, op_or_idle
 use Rattle.whole_machine.specs.Machine.{whole_after, arrival_of}
 use Rattle.link_ends.specs.Hosts.{InterfacesView, keyed_if, stopped_if}
 use Rattle.all_links.specs.declared.links.Links.{Links}
-use Rattle.all_links.specs.Events.{stream_named}
+use Rattle.all_ends.specs.Places.{stream_named}
 use Rattle.all_links.specs.Links.{links_state}
 use Rattle.all_links.specs.Sides.{SidesOperate, told_by}
-use Rattle.all_links.proofs.Resets.{op_is, unnamed}
-use Rattle.world.specs.Whole.{IsBeside}
-use Rattle.world.proofs.Statuses.{secure_is}
-use Rattle.world.proofs.Rests.{is_of_ports, next_of_ports, none_of_ports}
-use Rattle.world.proofs.Follows.{led_follows, beside_led}
-use Rattle.world.proofs.Kept.{AreBoth, written_kept}
+use Rattle.all_ends.proofs.Streams.{op_is, unnamed}
+use Rattle.world_states.specs.Whole.{IsBeside}
+use Rattle.world_states.proofs.Statuses.{secure_is}
+use Rattle.world_states.proofs.Rests.{is_of_ports, next_of_ports, none_of_ports}
+use Rattle.world_states.proofs.Follows.{led_follows, beside_led}
+use Rattle.world_states.proofs.Kept.{AreBoth, written_kept}
 use Rattle.world.proofs.Resets.{broken_managed, same_link}
 
 -- ---- what the manager is told
@@ -212,26 +213,27 @@ and_never false = refl
 and_always : (a b : Bool) → b ≡ true → (a && b) ≡ a
 and_always a b is = grind arith
 
-work_stop : (q : Op) (next : ℕ) → (work_of op.Stop q next).operation ≡ op.Stop
-work_stop q next = grind arith
-
 begins_stop : (q : Op) (a b : ℕ) → (work_of op.Stop q a).begins ≡ (work_of op.Stop q b).begins
 begins_stop q a b = grind arith
 
 -- a stop always tells how far it came
-cut_reaches : (loss : Option Loss) (n : ℕ) → is_some (reach_of op.Stop (cut_off loss n)) ≡ true
-cut_reaches loss n = grind arith
+cut_reaches : (x : Verdict) → is_cut x ≡ true → is_some (reach_of op.Stop x) ≡ true
+cut_reaches x cut = grind arith
 
-stop_comes : (link stream : ℕ) (w : Work) (loss : Option Loss) (o : Option ℕ) → w.operation ≡ op.Stop
-    → is_some (reach_of op.Stop (comes_to link stream w loss o)) ≡ true
-stop_comes link stream w loss None is = rw is refl
-stop_comes link stream w loss (Some n) is = cut_reaches loss n
+done_reaches : (link stream : ℕ) (w : Work) → is_some (reach_of op.Stop (done link stream w)) ≡ true
+done_reaches link stream w = grind arith
+
+stop_comes : (link stream : ℕ) (w : Work) (x : Verdict) → (x ≡ done link stream w) ⊎ (is_cut x ≡ true)
+    → is_some (reach_of op.Stop x) ≡ true
+stop_comes link stream w x (inl ended) = ap (λ (y : Verdict). is_some (reach_of op.Stop y)) ended
+    ∙ done_reaches link stream w
+stop_comes link stream w x (inr cut) = cut_reaches x cut
 
 stop_reaches : (q : Op) (next : ℕ) (ports : PortView) (link stream : ℕ) (loss : Option Loss)
     → is_some (reach_of op.Stop (stop_on q next ports link stream loss)) ≡ true
 stop_reaches q next ports link stream loss =
     let w = work_of op.Stop q next in
-    stop_comes link stream w loss (stays_at ports link stream loss w) (work_stop q next)
+    stop_comes link stream w _ (performed_is ports link stream loss w)
 
 module _ (plan : Plan) (old new : Links) (w : Whole) (verdict : Verdict) (both : AreBoth plan old new w)
     (o : Operation) (link stream : ℕ) (sides : SidesOperate o link stream verdict old new) where

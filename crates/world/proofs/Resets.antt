@@ -31,13 +31,13 @@ use Rattle.link_ends.specs.Hosts.{InterfacesView}
 use Rattle.whole_machine.specs.Machine.{Whole, secure_in, streams_of, beside_of, whole_after}
 use Rattle.all_links.specs.declared.links.Links.{Links}
 use Rattle.all_links.specs.Links.{links_state}
-use Rattle.all_links.specs.Interfaces.{located}
+use Rattle.all_ends.specs.Places.{located}
 use Rattle.all_links.specs.Sides.{SidesReset}
-use Rattle.world.specs.Whole.{IsPlaced, IsDevice, IsBeside}
-use Rattle.world.proofs.Places.{get_there}
-use Rattle.world.proofs.Statuses.{secure_is}
-use Rattle.world.proofs.Faces.{each_at, each_many, used_kept}
-use Rattle.world.proofs.Kept.{AreBoth, absent_beside}
+use Rattle.world_states.specs.Whole.{IsPlaced, IsDevice, IsBeside}
+use Rattle.world_states.proofs.Places.{get_there}
+use Rattle.world_states.proofs.Statuses.{secure_is}
+use Rattle.world_states.proofs.Faces.{each_at, each_many, used_kept}
+use Rattle.world_states.proofs.Kept.{AreBoth, absent_beside}
 use Rattle.world.proofs.Calls.{Binds, called_binds, called_plan, set_there, set_apart, set_item, located_set}
 use Rattle.world.proofs.Calls.{same_number}
 

@@ -16,9 +16,9 @@ use Rattle.tdi_host.specs.declared.operation.InterfaceOp.TheVariants as op
 use Rattle.all_links.specs.declared.links.Links.{Links}
 use Rattle.all_links.specs.Links.{links_state}
 use Rattle.all_links.specs.Sides.{Sides, SidesInterface}
-use Rattle.world.specs.Whole.{IsBeside}
-use Rattle.world.proofs.Besides.{grants_are}
-use Rattle.world.proofs.Kept.{AreBoth, send_beside, dump_beside, status_beside, view_beside, memory_beside}
+use Rattle.world_states.specs.Whole.{IsBeside}
+use Rattle.world_states.proofs.Besides.{grants_are}
+use Rattle.world_states.proofs.Kept.{AreBoth, send_beside, dump_beside, status_beside, view_beside, memory_beside}
 use Rattle.world.proofs.Arrives.{arrives_beside}
 use Rattle.world.proofs.Calls.{write_beside, flr_beside, firmware_beside}
 use Rattle.world.proofs.Asks.{asked_beside}

@@ -3,15 +3,14 @@
 -- is the machine's, and its verdict and its state those of the machine, which stands for the history with the event.
 -- For
 -- want of memory all is as before, and is carried over.
-use Rattle.std.proofs.Common.{◌≡◌, ◌+◌, ◌∷◌, refl, ap, sym, ◌∙◌, subst, Result, Ok, Err}
+use Rattle.std.proofs.Common.{◌≡◌, ◌∷◌, refl, ap, sym, ◌∙◌, subst, Result, Ok, Err}
 use Rattle.std.specs.Prelude.{IfOk, OnErr}
 use Rattle.ide_types.specs.declared.memory.Memory.{Memory}
 use Rattle.ide_plan.specs.declared.plan.Plan.{Plan}
 use Rattle.link_events.specs.declared.event.Event.{Event}
 use Rattle.link_verdicts.specs.declared.verdict.Verdict.{Verdict}
 use Rattle.key_laws.specs.History.{History}
-use Rattle.link_history.specs.Due.{due}
-use Rattle.link_ports.specs.Machine.{Beside, LinkState, Stepped, step_of}
+use Rattle.link_ports.specs.Machine.{LinkState, Stepped, step_of}
 use Rattle.link_ports.specs.Stands.{StandsFor as PortsStandFor}
 use Rattle.port_operations.specs.Points.{PointsStand}
 use Rattle.whole_machine.specs.Machine.{Whole, beside_of, whole_after, whole_step}
@@ -19,17 +18,26 @@ use Rattle.whole_machine.specs.Stands.{StandsFor, WholeSteps}
 use Rattle.interface_joins.specs.Joined.{InterfaceOperationsJoin}
 use Rattle.link_ends.specs.declared.host.HostKeeper.{HostKeeper}
 use Rattle.all_links.specs.declared.links.Links.{Links}
-use Rattle.all_links.specs.States.{AreLinks, IsBounded, state_of}
-use Rattle.all_links.specs.Links.{links_state, Ends, EndsWith, EndsOr, Stays}
+use Rattle.all_ends.specs.States.{AreLinks, state_of}
+use Rattle.all_links.specs.Links.{links_state, Standing, Ends, EndsWith, EndsOr, Stays}
 use Rattle.all_links.specs.Besides.{beside_in}
 use Rattle.all_links.specs.Sides.{Sides}
-use Rattle.all_links.proofs.Finds.{links_same, bounded_same}
-use Rattle.world.specs.Worlds.{WorldView, IsWhole, Stands, HasStood, IsStep, world_of, IsWorld}
-use Rattle.world.proofs.Besides.{beside_is}
+use Rattle.all_ends.proofs.Finds.{links_same, bounded_same}
+use Rattle.world_states.specs.Worlds.{WorldView, Stands, HasStood, IsStep, world_of, IsWorld}
+use Rattle.world_states.proofs.Besides.{beside_is}
 use Rattle.world.proofs.Turns.{Turn, beside_after}
 
 abbrev pub event_step : Links → Event → Plan → LinkState → Stepped
 event_step old e plan st = step_of plan (beside_in old) st e
+
+-- the links stand for the history that the world stands for
+pub standing : (plan : Plan) (s : Links) → IsWorld plan s → Standing s
+standing plan s is = record {
+  plan = plan;
+  history = is.history;
+  links = is.links;
+  stands = subst (λ (st : LinkState). PortsStandFor plan st is.history) is.stands.is.links is.stands.stands.links;
+}
 
 -- the three theorems that a step rests on
 pub record Given : Type 0 where

@@ -25,7 +25,7 @@ pub struct World {
 }
 
 impl Model for World {
-    ghost use Rattle.world.specs.Worlds.{WorldView, world_of, IsWorld};
+    ghost use Rattle.world_states.specs.Worlds.{WorldView, world_of, IsWorld};
 
     ghost Value = { WorldView };
 
@@ -35,9 +35,10 @@ impl Model for World {
 }
 
 impl World {
-    ghost use Rattle.world.specs.Worlds.{IsNew, IsStep};
+    ghost use Rattle.world_states.specs.Worlds.{IsNew, IsStep};
 
-    /// The world before the first event: no stream of the plan has keys, no interface is locked, and trusted memory is 0.
+    /// The world before the first event: no stream of the plan has keys, no interface is locked, and trusted memory is
+    /// 0.
     pub fn make(alloc: Global, plan: Plan) -> Result<World, Memory>
         requires { FitsPlan plan }
         ensures { IfOk result (λ w. IsNew plan w) }

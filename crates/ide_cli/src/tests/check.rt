@@ -32,9 +32,10 @@ const CASES: &[(u32, &str, &str, &str)] = &[
     (
         24,
         "version = 1",
-        "version = 2",
-        "topology range version 2\n",
+        "version = 3",
+        "topology range version 3\n",
     ),
+    (24, "version = 1", "version = 2", "ok\n"),
     (0, "", "", "topology missing pool\n"),
     (7, "", "", "topology range pool 7\n"),
     (24, "03\"", "01\"", "topology repeated pool 1 3\n"),

@@ -1,6 +1,10 @@
+use Rattle.std.proofs.Common.{refl}
 use Rattle.link_history.specs.Plan.{key_plan}
+use Rattle.line_runs.specs.declared.ends.End.TheVariants as end
+use Rattle.ide_cli.specs.declared.status.Status.TheVariants as status
 use Rattle.ide_cli.specs.Headline.{said}
-use Rattle.ide_cli.proofs.Written.{all_written, written_is_due}
+use Rattle.ide_cli.proofs.Requests.{ended}
+use Rattle.ide_cli.proofs.Written.{all_counted, all_written, history_is_due}
 use Rattle.ide_cli.proofs.top.run.Goals as goal
 
 pub returns-clause-all_written : goal.returns-clause-all_written
@@ -11,9 +15,31 @@ returns-clause-all_written g c =
     c.perform.result
     (rw c.as_slice-words.ensures.value at c.perform.ensures.answers))
 
+pub returns-clause-usage : goal.returns-clause-usage
+returns-clause-usage g c = λ same. ended end.Usage _ status.Usage c.perform.result _ refl c.status_of.ensures
+    (rw c.as_slice-words.ensures.value at c.perform.ensures.usage) same
+
+pub returns-clause-too_long : goal.returns-clause-too_long
+returns-clause-too_long g c = λ same. ended end.TooLong _ status.TooLong c.perform.result _ refl c.status_of.ensures
+    (rw c.as_slice-words.ensures.value at c.perform.ensures.too_long) same
+
+pub returns-clause-whole : goal.returns-clause-whole
+returns-clause-whole g c = λ same. ended end.Done _ status.Done c.perform.result _ refl c.status_of.ensures
+    (rw c.as_slice-words.ensures.value at c.perform.ensures.whole) same
+
+pub returns-clause-generated : goal.returns-clause-generated
+returns-clause-generated g c =
+    rw c.status_of.ensures (rw c.as_slice-words.ensures.value at c.perform.ensures.generated)
+
+pub returns-clause-all_counted : goal.returns-clause-all_counted
+returns-clause-all_counted g c =
+    rw c.status_of.ensures
+    (all_counted (said c.args.words.now) (g.O.Sink.seen c.args.out.now) (g.O.Sink.seen c.perform.new.out)
+    c.perform.result (rw c.as_slice-words.ensures.value at c.perform.ensures.generated))
+
 pub returns-clause-cause_law : goal.returns-clause-cause_law
 returns-clause-cause_law g c plan h w =
-    let is = written_is_due c.lines_tell.ensures.tell (said c.args.words.now) (g.S.Shelf.seen c.args.shelf.now)
+    let is = history_is_due c.lines_tell.ensures.tell (said c.args.words.now) (g.S.Shelf.seen c.args.shelf.now)
     (g.S.Shelf.seen c.perform.new.shelf) (g.O.Sink.seen c.args.out.now) (g.O.Sink.seen c.perform.new.out)
     c.perform.result
     (rw c.as_slice-words.ensures.value at c.perform.ensures.answers) plan
@@ -22,7 +48,7 @@ returns-clause-cause_law g c plan h w =
 
 pub returns-clause-draws_never_fall : goal.returns-clause-draws_never_fall
 returns-clause-draws_never_fall g c plan h w =
-    let is = written_is_due c.lines_tell.ensures.tell (said c.args.words.now) (g.S.Shelf.seen c.args.shelf.now)
+    let is = history_is_due c.lines_tell.ensures.tell (said c.args.words.now) (g.S.Shelf.seen c.args.shelf.now)
     (g.S.Shelf.seen c.perform.new.shelf) (g.O.Sink.seen c.args.out.now) (g.O.Sink.seen c.perform.new.out)
     c.perform.result
     (rw c.as_slice-words.ensures.value at c.perform.ensures.answers) plan
@@ -31,7 +57,7 @@ returns-clause-draws_never_fall g c plan h w =
 
 pub returns-clause-whole_law : goal.returns-clause-whole_law
 returns-clause-whole_law g c plan h w =
-    let is = written_is_due c.lines_tell.ensures.tell (said c.args.words.now) (g.S.Shelf.seen c.args.shelf.now)
+    let is = history_is_due c.lines_tell.ensures.tell (said c.args.words.now) (g.S.Shelf.seen c.args.shelf.now)
     (g.S.Shelf.seen c.perform.new.shelf) (g.O.Sink.seen c.args.out.now) (g.O.Sink.seen c.perform.new.out)
     c.perform.result
     (rw c.as_slice-words.ensures.value at c.perform.ensures.answers) plan
@@ -40,7 +66,7 @@ returns-clause-whole_law g c plan h w =
 
 pub returns-clause-order_is_no_forgery : goal.returns-clause-order_is_no_forgery
 returns-clause-order_is_no_forgery g c plan h w =
-    let is = written_is_due c.lines_tell.ensures.tell (said c.args.words.now) (g.S.Shelf.seen c.args.shelf.now)
+    let is = history_is_due c.lines_tell.ensures.tell (said c.args.words.now) (g.S.Shelf.seen c.args.shelf.now)
     (g.S.Shelf.seen c.perform.new.shelf) (g.O.Sink.seen c.args.out.now) (g.O.Sink.seen c.perform.new.out)
     c.perform.result
     (rw c.as_slice-words.ensures.value at c.perform.ensures.answers) plan
@@ -49,7 +75,7 @@ returns-clause-order_is_no_forgery g c plan h w =
 
 pub returns-clause-count_law : goal.returns-clause-count_law
 returns-clause-count_law g c plan h w =
-    let is = written_is_due c.lines_tell.ensures.tell (said c.args.words.now) (g.S.Shelf.seen c.args.shelf.now)
+    let is = history_is_due c.lines_tell.ensures.tell (said c.args.words.now) (g.S.Shelf.seen c.args.shelf.now)
     (g.S.Shelf.seen c.perform.new.shelf) (g.O.Sink.seen c.args.out.now) (g.O.Sink.seen c.perform.new.out)
     c.perform.result
     (rw c.as_slice-words.ensures.value at c.perform.ensures.answers) plan
@@ -58,7 +84,7 @@ returns-clause-count_law g c plan h w =
 
 pub returns-clause-settled : goal.returns-clause-settled
 returns-clause-settled g c plan h w =
-    let is = written_is_due c.lines_tell.ensures.tell (said c.args.words.now) (g.S.Shelf.seen c.args.shelf.now)
+    let is = history_is_due c.lines_tell.ensures.tell (said c.args.words.now) (g.S.Shelf.seen c.args.shelf.now)
     (g.S.Shelf.seen c.perform.new.shelf) (g.O.Sink.seen c.args.out.now) (g.O.Sink.seen c.perform.new.out)
     c.perform.result
     (rw c.as_slice-words.ensures.value at c.perform.ensures.answers) plan
@@ -67,7 +93,7 @@ returns-clause-settled g c plan h w =
 
 pub returns-clause-stays_secure : goal.returns-clause-stays_secure
 returns-clause-stays_secure g c plan h w =
-    let is = written_is_due c.lines_tell.ensures.tell (said c.args.words.now) (g.S.Shelf.seen c.args.shelf.now)
+    let is = history_is_due c.lines_tell.ensures.tell (said c.args.words.now) (g.S.Shelf.seen c.args.shelf.now)
     (g.S.Shelf.seen c.perform.new.shelf) (g.O.Sink.seen c.args.out.now) (g.O.Sink.seen c.perform.new.out)
     c.perform.result
     (rw c.as_slice-words.ensures.value at c.perform.ensures.answers) plan
@@ -76,16 +102,34 @@ returns-clause-stays_secure g c plan h w =
 
 pub returns-clause-stream_facts : goal.returns-clause-stream_facts
 returns-clause-stream_facts g c plan h w =
-    let is = written_is_due c.lines_tell.ensures.tell (said c.args.words.now) (g.S.Shelf.seen c.args.shelf.now)
+    let is = history_is_due c.lines_tell.ensures.tell (said c.args.words.now) (g.S.Shelf.seen c.args.shelf.now)
     (g.S.Shelf.seen c.perform.new.shelf) (g.O.Sink.seen c.args.out.now) (g.O.Sink.seen c.perform.new.out)
     c.perform.result
     (rw c.as_slice-words.ensures.value at c.perform.ensures.answers) plan
     h w in
     c.stream_facts.ensures (key_plan plan) h (c.keys_have_causes.ensures plan h is.cause)
 
+pub returns-clause-gos_find_keys : goal.returns-clause-gos_find_keys
+returns-clause-gos_find_keys g c plan h w =
+    let is = history_is_due c.lines_tell.ensures.tell (said c.args.words.now) (g.S.Shelf.seen c.args.shelf.now)
+    (g.S.Shelf.seen c.perform.new.shelf) (g.O.Sink.seen c.args.out.now) (g.O.Sink.seen c.perform.new.out)
+    c.perform.result
+    (rw c.as_slice-words.ensures.value at c.perform.ensures.answers) plan
+    h w in
+    c.gos_find_keys.ensures (key_plan plan) h (c.keys_have_causes.ensures plan h is.cause)
+
+pub returns-clause-numbers_fresh : goal.returns-clause-numbers_fresh
+returns-clause-numbers_fresh g c plan h w =
+    let is = history_is_due c.lines_tell.ensures.tell (said c.args.words.now) (g.S.Shelf.seen c.args.shelf.now)
+    (g.S.Shelf.seen c.perform.new.shelf) (g.O.Sink.seen c.args.out.now) (g.O.Sink.seen c.perform.new.out)
+    c.perform.result
+    (rw c.as_slice-words.ensures.value at c.perform.ensures.answers) plan
+    h w in
+    c.numbers_fresh.ensures plan is.fits h is.cause
+
 pub returns-clause-never_again : goal.returns-clause-never_again
 returns-clause-never_again g c plan h w =
-    let is = written_is_due c.lines_tell.ensures.tell (said c.args.words.now) (g.S.Shelf.seen c.args.shelf.now)
+    let is = history_is_due c.lines_tell.ensures.tell (said c.args.words.now) (g.S.Shelf.seen c.args.shelf.now)
     (g.S.Shelf.seen c.perform.new.shelf) (g.O.Sink.seen c.args.out.now) (g.O.Sink.seen c.perform.new.out)
     c.perform.result
     (rw c.as_slice-words.ensures.value at c.perform.ensures.answers) plan
@@ -94,7 +138,7 @@ returns-clause-never_again g c plan h w =
 
 pub returns-clause-prefix_law : goal.returns-clause-prefix_law
 returns-clause-prefix_law g c plan h w =
-    let is = written_is_due c.lines_tell.ensures.tell (said c.args.words.now) (g.S.Shelf.seen c.args.shelf.now)
+    let is = history_is_due c.lines_tell.ensures.tell (said c.args.words.now) (g.S.Shelf.seen c.args.shelf.now)
     (g.S.Shelf.seen c.perform.new.shelf) (g.O.Sink.seen c.args.out.now) (g.O.Sink.seen c.perform.new.out)
     c.perform.result
     (rw c.as_slice-words.ensures.value at c.perform.ensures.answers) plan
@@ -103,7 +147,7 @@ returns-clause-prefix_law g c plan h w =
 
 pub returns-clause-delivery_law : goal.returns-clause-delivery_law
 returns-clause-delivery_law g c plan h w =
-    let is = written_is_due c.lines_tell.ensures.tell (said c.args.words.now) (g.S.Shelf.seen c.args.shelf.now)
+    let is = history_is_due c.lines_tell.ensures.tell (said c.args.words.now) (g.S.Shelf.seen c.args.shelf.now)
     (g.S.Shelf.seen c.perform.new.shelf) (g.O.Sink.seen c.args.out.now) (g.O.Sink.seen c.perform.new.out)
     c.perform.result
     (rw c.as_slice-words.ensures.value at c.perform.ensures.answers) plan
@@ -112,7 +156,7 @@ returns-clause-delivery_law g c plan h w =
 
 pub returns-clause-order_law : goal.returns-clause-order_law
 returns-clause-order_law g c plan h w =
-    let is = written_is_due c.lines_tell.ensures.tell (said c.args.words.now) (g.S.Shelf.seen c.args.shelf.now)
+    let is = history_is_due c.lines_tell.ensures.tell (said c.args.words.now) (g.S.Shelf.seen c.args.shelf.now)
     (g.S.Shelf.seen c.perform.new.shelf) (g.O.Sink.seen c.args.out.now) (g.O.Sink.seen c.perform.new.out)
     c.perform.result
     (rw c.as_slice-words.ensures.value at c.perform.ensures.answers) plan
@@ -121,7 +165,7 @@ returns-clause-order_law g c plan h w =
 
 pub returns-clause-run_law : goal.returns-clause-run_law
 returns-clause-run_law g c plan h w =
-    let is = written_is_due c.lines_tell.ensures.tell (said c.args.words.now) (g.S.Shelf.seen c.args.shelf.now)
+    let is = history_is_due c.lines_tell.ensures.tell (said c.args.words.now) (g.S.Shelf.seen c.args.shelf.now)
     (g.S.Shelf.seen c.perform.new.shelf) (g.O.Sink.seen c.args.out.now) (g.O.Sink.seen c.perform.new.out)
     c.perform.result
     (rw c.as_slice-words.ensures.value at c.perform.ensures.answers) plan
@@ -130,7 +174,7 @@ returns-clause-run_law g c plan h w =
 
 pub returns-clause-view_facts : goal.returns-clause-view_facts
 returns-clause-view_facts g c plan h w =
-    let is = written_is_due c.lines_tell.ensures.tell (said c.args.words.now) (g.S.Shelf.seen c.args.shelf.now)
+    let is = history_is_due c.lines_tell.ensures.tell (said c.args.words.now) (g.S.Shelf.seen c.args.shelf.now)
     (g.S.Shelf.seen c.perform.new.shelf) (g.O.Sink.seen c.args.out.now) (g.O.Sink.seen c.perform.new.out)
     c.perform.result
     (rw c.as_slice-words.ensures.value at c.perform.ensures.answers) plan
@@ -140,7 +184,7 @@ returns-clause-view_facts g c plan h w =
 
 pub returns-clause-memory_law : goal.returns-clause-memory_law
 returns-clause-memory_law g c plan h w =
-    let is = written_is_due c.lines_tell.ensures.tell (said c.args.words.now) (g.S.Shelf.seen c.args.shelf.now)
+    let is = history_is_due c.lines_tell.ensures.tell (said c.args.words.now) (g.S.Shelf.seen c.args.shelf.now)
     (g.S.Shelf.seen c.perform.new.shelf) (g.O.Sink.seen c.args.out.now) (g.O.Sink.seen c.perform.new.out)
     c.perform.result
     (rw c.as_slice-words.ensures.value at c.perform.ensures.answers) plan
@@ -149,7 +193,7 @@ returns-clause-memory_law g c plan h w =
 
 pub returns-clause-origin_law : goal.returns-clause-origin_law
 returns-clause-origin_law g c plan h w =
-    let is = written_is_due c.lines_tell.ensures.tell (said c.args.words.now) (g.S.Shelf.seen c.args.shelf.now)
+    let is = history_is_due c.lines_tell.ensures.tell (said c.args.words.now) (g.S.Shelf.seen c.args.shelf.now)
     (g.S.Shelf.seen c.perform.new.shelf) (g.O.Sink.seen c.args.out.now) (g.O.Sink.seen c.perform.new.out)
     c.perform.result
     (rw c.as_slice-words.ensures.value at c.perform.ensures.answers) plan

@@ -4,4 +4,4 @@ use Rattle.topology.proofs.rules.are_few.Given as goal
 
 abbrev pub invariant-loop-link : goal.invariant-loop-link
 invariant-loop-link l =
-    nat_le (interface_count (drop l.link-index l.links)) l.room ≡ nat_le (interface_count l.links) 32
+    nat_le (interface_count (drop l.link-index l.links)) l.room ≡ nat_le (interface_count l.links) l.limit

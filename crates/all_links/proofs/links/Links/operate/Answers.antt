@@ -1,6 +1,6 @@
 use Rattle.all_links.proofs.Terms.{ℕ, length, subst, EndsWith, step_of, operation_event, beside_in, links_state}
 use Rattle.all_links.proofs.Finds.{nothing_changes}
-use Rattle.all_links.proofs.Resets.{name_is, unnamed}
+use Rattle.all_ends.proofs.Streams.{name_is, unnamed}
 use Rattle.all_links.proofs.Operations.{step_none}
 use Rattle.all_links.specs.Sides.{SidesOperate}
 use Rattle.all_links.proofs.Sides.{nothing_operates}

@@ -1,19 +1,53 @@
-use Rattle.all_links.proofs.Terms.{arith, beside_in}
+use Rattle.all_links.proofs.Terms.{◌+◌, ◌<◌, sym, subst, arith, length, IsSome, named, Links, EndsWith, step_of}
+use Rattle.all_links.proofs.Terms.{operation_event, beside_in, OperatesAt}
+use Rattle.tsm_host.specs.Operations.{OpName}
+use Rattle.tsm_host.specs.Walk.{verdict_of}
+use Rattle.all_links.specs.Sides.{SidesOperate}
 use Rattle.all_links.proofs.Operations.{operates_on}
 use Rattle.all_links.proofs.Sides.{operated_beside}
 use Rattle.all_links.proofs.links.Links.operate_on.Goals as goal
 
+pub carry_stream-outcome-requires-clause-here : goal.carry_stream-outcome-requires-clause-here
+carry_stream-outcome-requires-clause-here c =
+    subst (λ (a : OpName). a.link < length c.args.self.now.ends) (sym c.named_op-op.ensures) c.requires.here
+
+pub carry_stream-outcome-requires-clause-stream : goal.carry_stream-outcome-requires-clause-stream
+carry_stream-outcome-requires-clause-stream c =
+    subst (λ (a : OpName). IsSome (named c.args.self.now.keeper.keys.manager a.link a.stream))
+    (sym c.named_op-op.ensures) c.requires.stream
+
+pub operated_verdict-requires : goal.operated_verdict-requires
+operated_verdict-requires c = record {
+  carried = subst
+      (λ (a : OpName). IsSome (verdict_of a.operation a.link a.stream c.args.loss c.carry_stream-outcome.result))
+      c.named_op-op.ensures c.carry_stream-outcome.ensures.answered;
+}
+
 pub returns-clause-ends : goal.returns-clause-ends
 returns-clause-ends c =
-    operates_on c.operations_join.ensures (beside_in c.args.self.now) c.args.self.now c.operate-outcome.new.self
-    c.operate-outcome.new.keeper.interfaces c.operate-outcome.new.keeper.keys c.named_op-op.result c.args.operation
-    c.args.link c.args.stream c.args.loss c.operate-outcome.result c.operated_verdict.result
-    c.requires.bounded c.requires.here c.requires.stream c.named_op-op.ensures c.operate-outcome.ensures.operates
-    c.operated_verdict.ensures
+    let after : Links = c.carry_stream-outcome.new.self in
+    subst (λ (s : Links). EndsWith c.operated_verdict.result c.args.self.now (record s { steps = s.steps + 1 })
+    (λ plan st. step_of plan (beside_in c.args.self.now) st
+    (operation_event c.args.operation c.args.link c.args.stream c.args.loss)))
+    (sym c.carry_stream-outcome.ensures.links)
+    (operates_on c.operations_join.ensures (beside_in c.args.self.now) c.args.self.now after.ends
+    after.keeper.interfaces after.keeper.keys c.named_op-op.result c.args.operation
+    c.args.link c.args.stream c.args.loss c.carry_stream-outcome.result c.operated_verdict.result
+    c.requires.bounded c.requires.here c.requires.stream c.named_op-op.ensures
+    (subst (λ (a : OpName). OperatesAt c.args.self.now.ends a.link c.args.self.now.keeper.keys c.named_op-op.result
+    c.args.loss c.carry_stream-outcome.result after.ends after.keeper.keys) c.named_op-op.ensures
+    c.carry_stream-outcome.ensures.operates)
+    c.operated_verdict.ensures)
 
 pub returns-clause-sides : goal.returns-clause-sides
 returns-clause-sides c =
-    operated_beside c.args.self.now c.operate-outcome.new.self c.operate-outcome.new.keeper c.named_op-op.result
-    c.args.operation c.args.link c.args.stream c.args.loss c.operate-outcome.result c.operated_verdict.result
+    let after : Links = c.carry_stream-outcome.new.self in
+    subst (λ (s : Links). SidesOperate c.args.operation c.args.link c.args.stream c.operated_verdict.result
+    c.args.self.now (record s { steps = s.steps + 1 })) (sym c.carry_stream-outcome.ensures.links)
+    (operated_beside c.args.self.now after.ends after.keeper c.named_op-op.result
+    c.args.operation c.args.link c.args.stream c.args.loss c.carry_stream-outcome.result c.operated_verdict.result
     c.requires.here (omega (arith, c.ranges.stream)) c.requires.stream c.named_op-op.ensures
-    c.operate-outcome.ensures.operates c.operate-outcome.ensures.interfaces c.operated_verdict.ensures
+    (subst (λ (a : OpName). OperatesAt c.args.self.now.ends a.link c.args.self.now.keeper.keys c.named_op-op.result
+    c.args.loss c.carry_stream-outcome.result after.ends after.keeper.keys) c.named_op-op.ensures
+    c.carry_stream-outcome.ensures.operates)
+    c.carry_stream-outcome.ensures.interfaces c.operated_verdict.ensures)

@@ -1,7 +1,7 @@
 use Rattle.all_links.proofs.Terms.{ap, sym, ◌∙◌, ◌≡◌, ◌<◌, ◌+◌, ℕ, length, subst, List, ◌++◌, slice_get, map, Some}
 use Rattle.all_links.proofs.Terms.{length-set, append-nil, SealedPacket, Sent, lengths_sent, sent_verdict, LinkEnds}
 use Rattle.all_links.proofs.Terms.{Links, SendsAt, cut_packets, port_in}
-use Rattle.all_links.proofs.Finds.{there}
+use Rattle.all_ends.proofs.Finds.{there}
 use Rattle.all_links.proofs.Sends.{seals, not_sealed, sealed_length}
 use Rattle.all_links.proofs.links.Links.seal.Goals.{in-Sealed, in_default}
 use Rattle.all_links.proofs.Sides.{sent_keeps}

@@ -1,7 +1,8 @@
 use Rattle.all_links.proofs.Terms.{ap, sym, ◌∙◌, none-some, same_Some, StreamStatus, Links, links_state}
 use Rattle.link_verdicts.specs.declared.verdict.Verdict.TheVariants as v
 use Rattle.all_links.proofs.Finds.{nothing_changes}
-use Rattle.all_links.proofs.Resets.{name_is, status_read, status_nowhere, status_here}
+use Rattle.all_links.proofs.Resets.{status_read, status_nowhere, status_here}
+use Rattle.all_ends.proofs.Streams.{name_is}
 use Rattle.all_links.proofs.Sides.{keeps_all}
 use Rattle.all_links.proofs.links.Links.status.Goals as goal
 

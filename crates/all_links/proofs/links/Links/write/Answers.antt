@@ -7,7 +7,8 @@ use Rattle.tdi_state.specs.Machine.{Tdi, WriteRegister}
 use Rattle.link_verdicts.specs.declared.verdict.Verdict.TheVariants as v
 use Rattle.interface_words.specs.declared.verdict.InterfaceVerdict.TheVariants as iv
 use Rattle.link_events.specs.declared.event.InterfaceEvent.TheVariants as ie
-use Rattle.all_links.specs.Interfaces.{written_as, code_behind, tdi_at}
+use Rattle.all_links.specs.Interfaces.{written_as, tdi_at}
+use Rattle.all_ends.specs.Places.{code_behind}
 use Rattle.all_links.proofs.Finds.{as_answer, only_says}
 use Rattle.all_links.proofs.Asked.{if_some, is_found, is_there, called}
 use Rattle.all_links.proofs.Sides.{nothing_called, called_beside, not_called}

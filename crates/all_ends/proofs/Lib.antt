@@ -1,0 +1,9 @@
+pub mod Terms
+mod Effects
+mod Marks
+pub mod Managers
+pub mod Finds
+pub mod Streams
+pub mod Sends
+pub mod Arrivals
+pub mod Writes

@@ -1,0 +1,65 @@
+-- What the proofs of this crate name from other modules.
+pub use Rattle.ide_plan.specs.Fits.{FitsLink, FitsStream}
+pub use Rattle.ide_plan.specs.declared.plan.LinkPlan.{LinkPlan}
+pub use Rattle.ide_plan.specs.declared.plan.Plan.{Plan}
+pub use Rattle.ide_plan.specs.declared.stream.StreamPlan.{StreamPlan}
+pub use Rattle.ide_port.specs.{Found, PortEnd, SendStep, changed, found, reset_port, status_in, take_step}
+pub use Rattle.ide_prefix.specs.Packet.{Packet, packet_bytes}
+pub use Rattle.ide_stream.specs.{joined_packets, numbered_from, opened_after, packet_lengths, sending}
+pub use Rattle.ide_types.specs.declared.port.PortName.{PortName}
+pub use Rattle.ide_types.specs.declared.port.Side.{Side}
+pub use Rattle.ide_types.specs.declared.port.Side.TheVariants.{Device, Host}
+pub use Rattle.ide_types.specs.declared.status.StreamStatus.{StreamStatus}
+pub use Rattle.key_laws.proofs.Tests.{different-false}
+pub use Rattle.key_laws.specs.History.{History, status_by}
+pub use Rattle.key_laws.specs.Operations.{Idle, Op}
+pub use Rattle.key_laws.specs.Places.{sent_direction}
+pub use Rattle.all_ends.specs.AllEnds.{ends_from}
+pub use Rattle.all_ends.specs.Cuts.{cut_packets}
+pub use Rattle.all_ends.specs.Places.{stream_named}
+pub use Rattle.all_ends.specs.Packets.{IsWithin, marks_from, packet_at}
+pub use Rattle.all_ends.specs.States.{AreLinks, IsBounded, IsLink, behind, name_of, names_from, names_of, ops_in}
+pub use Rattle.all_ends.specs.States.{ops_of, ports_in, state_of}
+pub use Rattle.all_ends.specs.Verdicts.{arrival_verdict, marked_effect, marked_write, packet_effect, packet_write}
+pub use Rattle.all_ends.specs.Verdicts.{unit_writes}
+pub use Rattle.link_ends.proofs.Names.{first_named, op_named_first}
+pub use Rattle.link_ends.proofs.Streams.{changed_same, found_id, found_plan, machine_changed, machine_found}
+pub use Rattle.link_ends.specs.Ends.{port_in, reset_ends, taken_ends, with_port}
+pub use Rattle.link_ends.specs.Keepers.{KeeperView, HasCalls, Operates}
+pub use Rattle.link_ends.specs.declared.ends.LinkEnds.{LinkEnds}
+pub use Rattle.link_history.specs.Memory.{Grants}
+pub use Rattle.trusted_memory.specs.{Leads, Write}
+pub use Rattle.ide_plan.specs.declared.plan.Region.{Region}
+pub use Rattle.link_verdicts.specs.declared.verdict.UnitName.{UnitName}
+unfoldable pub use Rattle.link_history.specs.Due.{choice}
+pub use Rattle.link_history.specs.Plan.{has_stream, is_closed, mode_of, streams_by_link, streams_of, with_id}
+unfoldable pub use Rattle.link_history.specs.Plan.{stream_plan}
+pub use Rattle.link_ports.specs.Machine.{Beside, LinkPacket, LinkState, Stepped, answered, empty_stream, kept_at}
+pub use Rattle.link_ports.specs.Machine.{port_at, port_place, reset_state, sealed_in, status_at, unit_name}
+unfoldable pub use Rattle.link_ports.specs.Machine.{find, find_op, put}
+pub use Rattle.link_ports.specs.Stands.{StandsFor, op_at, standing}
+pub use Rattle.link_verdicts.specs.declared.verdict.Effect.{Effect}
+pub use Rattle.link_verdicts.specs.declared.verdict.Verdict.{Verdict}
+pub use Rattle.link_walks.specs.Joined.{KeysKept}
+pub use Rattle.std.proofs.Common.{Bool, List, [], add-one, ap, arith, drop, false, length, length-append, length-drop}
+pub use Rattle.std.proofs.Common.{refl, rules, subst, suc, sym, take, true, zero, ℕ, ⊎_elim, ◌*◌, ◌++◌, ◌+◌, ◌-◌, ◌<◌}
+pub use Rattle.std.proofs.Common.{◌==◌, ◌∙◌, ◌∷◌, ◌≡◌, ◌≤◌, ◌⊎◌}
+pub use Rattle.std.proofs.Math.Seq.{drop-append_seam, take-append_seam}
+pub use Rattle.std.proofs.lemmas.Bool.Decides.{nat_tests}
+pub use Rattle.std.proofs.lemmas.List.{append-nil, drop-append-le, drop-drop, get_or_past, length-map, length-set}
+pub use Rattle.std.proofs.lemmas.List.{map-append, set-get_or, take-append-le}
+pub use Rattle.std.proofs.lemmas.List.Elements.{All-append, All-cons, All-head, All-nil, All-tail, All-weaker}
+pub use Rattle.std.proofs.lemmas.List.Sums.{sum_by-cons}
+pub use Rattle.std.proofs.lemmas.Option.{none-some, same_Some, slice_get_read, slice_get_within, some_pair_parts}
+pub use Rattle.std.specs.List.{slice_index_or}
+pub use Rattle.std.specs.Option.{option_map_or}
+pub use Rattle.std.specs.Prelude.{All, Err, None, Ok, Option, Result, Some, if◌then◌else◌, is_some, map, nat_le, not}
+pub use Rattle.std.specs.Prelude.{option_map, slice_get, slice_range, slice_set, sum_by, vec_capacity, vec_len, ◌&&◌}
+pub use Rattle.std.specs.Prelude.{◌||◌}
+pub use Rattle.stream_rules.specs.Stream.{Failed, Held, Insecure, LiveKey, StreamState, Taken, Three, TxSub, at_sub}
+pub use Rattle.stream_rules.specs.Stream.{checked, holds_any, is_allowed, is_tagged, lanes_of, live_in, sealed_all}
+pub use Rattle.stream_rules.specs.Stream.{slot_in, taken_by, taken_under}
+pub use Rattle.sub_stream.specs.{lent_parts, mark_of, opened_from, opened_under}
+pub use Rattle.sub_stream.specs.declared.answer.SealedPacket.{SealedPacket}
+pub use Rattle.tsm_host.specs.Managers.{ManagerView, Named, named, op_named, reset_manager}
+pub use Rattle.tsm_host.specs.Streams.{StreamView, reset_stream}

@@ -1,0 +1,7 @@
+use Rattle.all_ends.proofs.Terms.{◌≡◌, drop}
+use Rattle.all_ends.specs.Places.{located}
+use Rattle.all_ends.proofs.all_ends.AllEnds.interface.Given as goal
+
+abbrev pub invariant-loop-ends : goal.invariant-loop-ends
+invariant-loop-ends l = (located 0 l.number l.self ≡ located l.link l.left (drop l.ends-index l.self))
+    × (l.link ≡ l.ends-index)

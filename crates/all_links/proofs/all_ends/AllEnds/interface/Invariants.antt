@@ -1,7 +1,0 @@
-use Rattle.all_links.proofs.Terms.{◌≡◌, drop}
-use Rattle.all_links.specs.Interfaces.{located}
-use Rattle.all_links.proofs.all_ends.AllEnds.interface.Given as goal
-
-abbrev pub invariant-loop-ends : goal.invariant-loop-ends
-invariant-loop-ends l = (located 0 l.number l.self ≡ located l.link l.left (drop l.ends-index l.self))
-    × (l.link ≡ l.ends-index)

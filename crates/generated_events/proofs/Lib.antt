@@ -1,0 +1,4 @@
+pub mod Rounds
+pub mod NumberedKeys
+pub mod PlanFits
+pub mod Allowed

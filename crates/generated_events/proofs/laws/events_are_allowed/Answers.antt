@@ -1,0 +1,5 @@
+use Rattle.generated_events.proofs.Allowed.{all_allowed, few_events}
+use Rattle.generated_events.proofs.laws.events_are_allowed.Goals as goal
+
+pub returns : goal.returns
+returns c = record { allowed = all_allowed; few = few_events }

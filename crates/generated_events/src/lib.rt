@@ -1,0 +1,17 @@
+//! Events made by a recurrence from a seed, one after another, and the topology that they are for (this profile).
+#![tactic(auto)]
+
+mod generator;
+mod keys;
+mod laws;
+mod numbers;
+mod plan;
+mod round;
+mod step;
+#[cfg(test)]
+mod tests;
+
+pub use generator::Generator;
+pub use ide_types::Memory;
+pub use laws::events_are_allowed;
+pub use plan::topology;

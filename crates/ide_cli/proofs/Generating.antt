@@ -1,0 +1,67 @@
+-- Generated events that are given to the world one after another: what is left of them is run on, until none is.
+use Rattle.std.proofs.Common.{◌≡◌, ◌∙◌, ◌≤◌, ◌+◌, ℕ, List, [], ◌∷◌, length, Option, Some, Ok, refl, sym, ap, subst}
+use Rattle.std.proofs.Common.{arith}
+use Rattle.std.specs.List.{AllByRecursion}
+use Rattle.generated_events.specs.Left.{Takes}
+use Rattle.generated_events.specs.Topology.{the_plan}
+use Rattle.key_laws.specs.History.{History}
+use Rattle.link_events.specs.declared.event.Event.{Event}
+use Rattle.link_events.specs.Spells.{IsAllowed}
+use Rattle.link_texts.specs.Runs.{history_on, history_with}
+use Rattle.ide_plan.specs.declared.plan.Plan.{Plan}
+use Rattle.world_states.specs.Worlds.{WorldView, IsNew}
+use Rattle.ide_cli.specs.Works.{Follows, RunningView, ScriptPast}
+use Rattle.ide_cli.proofs.Scripts.{follows_nothing}
+
+abbrev pub past_of : History → ScriptPast
+past_of h = record { plan = the_plan; history = h }
+
+-- What runs follows a history, from which the events that are left go on to the history of all.
+pub record RunsOn (all : List Event) (r : RunningView) (left : List Event) : Type 0 where
+  pub history : History
+  pub follows : Follows r (past_of history)
+  pub goes_on : history_on the_plan history left ≡ history_on the_plan [] all
+
+-- before the first event
+pub follows_first : (plan : Plan) (world : WorldView) (r : RunningView) → plan ≡ the_plan → IsNew plan world
+    → r ≡ record { world = world; totals = record { sealed = 0; accepted = 0; failed = 0; blocked = 0 } }
+    → Follows r (record { plan = the_plan; history = [] })
+follows_first plan world r plan_is new is =
+    subst (λ (p : Plan). Follows r (record { plan = p; history = [] })) plan_is
+    (subst (λ (x : RunningView). Follows x (record { plan = plan; history = [] })) (sym is)
+    (follows_nothing plan world new))
+
+pub runs_first : (all : List Event) (r : RunningView) → Follows r (past_of []) → RunsOn all r all
+runs_first all r follows = record { history = []; follows = follows; goes_on = refl }
+
+-- one event more
+pub runs_next : (all : List Event) (r now : RunningView) (before left : List Event) (e : Event) → RunsOn all r before
+    → before ≡ e ∷ left
+    → ((past : ScriptPast) → Follows r past → Follows now
+    (record past { history = history_with past.plan past.history e }))
+    → RunsOn all now left
+runs_next all r now before left e runs taken step = record {
+  history = history_with the_plan runs.history e;
+  follows = step (past_of runs.history) runs.follows;
+  goes_on = ap (history_on the_plan runs.history) (sym taken) ∙ runs.goes_on;
+}
+
+-- none is left
+pub runs_all : (all : List Event) (r : RunningView) (left : List Event) → RunsOn all r left → left ≡ []
+    → Follows r (past_of (history_on the_plan [] all))
+runs_all all r left runs none = subst (λ (h : History). Follows r (past_of h))
+    (ap (history_on the_plan runs.history) (sym none) ∙ runs.goes_on) runs.follows
+
+-- ---- one event that is taken
+
+pub next_taken : (before : List Event) (found : Option Event) (e : Event) (left : List Event)
+    → Takes before (Ok found) left → found ≡ Some e → before ≡ e ∷ left
+next_taken before found e left takes is = subst (λ (o : Option Event). Takes before (Ok o) left) is takes
+
+pub next_few : (number : ℕ) (before left : List Event) (e : Event) → before ≡ e ∷ left
+    → number + length before ≤ 1000001 → (number + 1) + length left ≤ 1000001
+next_few number before left e taken few = omega (arith, ap length taken, few)
+
+pub next_allowed : (before left : List Event) (e : Event) → before ≡ e ∷ left → AllByRecursion IsAllowed before
+    → AllByRecursion IsAllowed left
+next_allowed before left e taken each = (subst (AllByRecursion IsAllowed) taken each).1

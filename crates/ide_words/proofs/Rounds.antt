@@ -1,0 +1,65 @@
+-- Words that ask for generated events ask for 1 to 100,000 rounds.
+use Rattle.std.proofs.Common.{◌≡◌, ◌≤◌, ℕ, List, Bool, true, false, Option, Some, None, refl}
+use Rattle.std.proofs.Common.{codes, if◌then◌else◌, subst, lit≤}
+use Rattle.std.specs.Str.{bytes_eq}
+use Rattle.std.specs.Str.Parse.{digits_value, without_leading_plus}
+use Rattle.clap.specs.Words.{Row, Text, subcommand_of}
+use Rattle.clap.specs.ValueTests.{is_unsigned_in}
+use Rattle.clap.specs.declared.builder.value_parser.ValueParser.TheVariants as vp
+use Rattle.clap.proofs.ValueTestLemmas.{accepts-Accepts}
+use Rattle.ide_words.specs.Ide.{ide_app}
+use Rattle.ide_words.specs.Words.{Asked, asked, asked_by, asked_of, check, generate, is_refused, is_set}
+use Rattle.ide_words.specs.Words.{migrate, number_of, text_of}
+
+Few : ℕ → Type 0
+Few count = (1 ≤ count) × (count ≤ 100000)
+
+-- the number of rounds that is asked for, if any is, is 1 to 100,000
+FewIn : Asked → Type 0
+FewIn (generate seed count) = Few count
+FewIn _ = Unit {0}
+
+by_test : (text : Text) (b : Bool) → is_unsigned_in 1 100000 text ≡ b
+    → Few (if b then digits_value 10 (without_leading_plus text) else 1)
+unfolding Few
+by_test text true passes =
+    let h = accepts-Accepts false (vp.Unsigned 1 100000) text passes in (h.2, h.3)
+by_test text false passes = (lit≤ tt, lit≤ tt)
+
+few_number : (text : Text) → Few (number_of 1 100000 text)
+few_number text = by_test text (is_unsigned_in 1 100000 text) refl
+
+few_checked : (set : Bool) (topology : Text) → FewIn (if set then migrate topology else check topology)
+unfolding FewIn
+few_checked true topology = tt
+few_checked false topology = tt
+
+few_choice : (b : Bool) (x y : Asked) → FewIn x → FewIn y → FewIn (if b then x else y)
+few_choice true x y first second = first
+few_choice false x y first second = second
+
+few_by : (name : Text) (rows : List Row) → FewIn (asked_by name rows)
+unfolding FewIn
+few_by name rows =
+    few_choice (bytes_eq name (codes "run")) _ _ tt
+    (few_choice (bytes_eq name (codes "check")) _ _
+    (few_checked (is_set (codes "migrate") rows) (text_of (codes "TOPOLOGY") rows))
+    (few_choice (bytes_eq name (codes "generate")) _ _ (few_number (text_of (codes "COUNT") rows)) tt))
+
+few_of : (met : Option (Text × List Row)) → FewIn (asked_of met)
+unfolding FewIn
+few_of None = tt
+few_of (Some p) = few_by p.0 p.1
+
+few_asked : (refused : Bool) (words : List Text) (seed count : ℕ)
+    → (if refused then None else Some (asked_of (subcommand_of ide_app words))) ≡ Some (generate seed count) → Few count
+unfolding FewIn
+few_asked true words seed count asks = absurd cc
+few_asked false words seed count asks =
+    let same : asked_of (subcommand_of ide_app words) ≡ generate seed count = cc in
+    subst FewIn same (few_of (subcommand_of ide_app words))
+
+pub few_rounds : (words : List Text) (seed count : ℕ) → asked words ≡ Some (generate seed count)
+    → (1 ≤ count) × (count ≤ 100000)
+unfolding Few
+few_rounds words seed count asks = few_asked (is_refused words) words seed count asks

@@ -1,0 +1,214 @@
+-- What stands beside the ports after an event that makes no more of an interface than that its stream leaves Secure.
+-- The interfaces of a device are settled by its port, or no stream left Secure there: either way each is the machine's,
+-- which leaves its lock where its stream left Secure (`placed_led`).
+use Rattle.std.proofs.Common.{◌≡◌, ◌⊎◌, ⊎_elim, ℕ, ◌<◌, true, false, List}
+use Rattle.std.proofs.Common.{length, Some, option_map, inl, inr, ap, sym, ◌∙◌, arith}
+use Rattle.std.specs.Prelude.{slice_get}
+use Rattle.std.proofs.lemmas.List.{length-map}
+use Rattle.std.proofs.lemmas.Option.{slice_get-map, slice_get_within}
+use Rattle.ide_plan.specs.declared.plan.Plan.{Plan}
+use Rattle.link_events.specs.declared.event.Event.{Event}
+use Rattle.link_verdicts.specs.declared.verdict.Verdict.{Verdict}
+use Rattle.tdi_state.specs.Machine.{Tdi, StreamLeft}
+use Rattle.tdi_device.specs.Replies.{DeviceTdis, settled, settled_tdi}
+use Rattle.tdi_host.specs.Views.{HostTdi}
+use Rattle.device_side.specs.Ends.{secure_at}
+use Rattle.trusted_memory.specs.{Contents, IsLeftBy}
+use Rattle.interface_states.specs.Sites.{Site, sites}
+use Rattle.interface_states.specs.Devices.{called, accepts_lock}
+use Rattle.interface_states.specs.Views.{managed_after}
+use Rattle.interface_machine.specs.Machine.{Face, around_of, face_after}
+use Rattle.interface_joins.specs.Faces.{IsManaged}
+use Rattle.whole_machine.specs.Machine.{Whole, secure_in, streams_of, draw_after, written_after, whole_after}
+use Rattle.link_ports.specs.Machine.{LinkState}
+use Rattle.link_ends.specs.declared.ends.LinkEnds.{LinkEnds}
+use Rattle.link_ends.specs.Hosts.{InterfacesView}
+use Rattle.all_ends.specs.Places.{located}
+use Rattle.all_links.specs.Sides.{Follows}
+use Rattle.world_states.specs.Whole.{IsPlaced, IsDevice, IsBeside}
+use Rattle.world_states.proofs.Places.{get_there}
+use Rattle.world_states.proofs.Sites.{located_kept}
+use Rattle.world_states.proofs.Faces.{each_at, each_many, used_kept}
+use Rattle.world_states.proofs.Settled.{Keeps, leaves, settled_is, stays_is, keeps_after}
+
+-- ---- a device
+
+-- its interfaces are settled by what is Secure behind the event, or are as before, and no stream left Secure
+abbrev pub IsLed : Plan → LinkState → LinkState → ℕ → LinkEnds → LinkEnds → Type 0
+IsLed plan old new link l l' =
+    (l'.device.interfaces ≡ settled (secure_in plan new link) l.device.interfaces)
+    ⊎ ((l'.device.interfaces ≡ l.device.interfaces)
+    × ((stream : ℕ) → secure_in plan old link stream ≡ true → secure_in plan new link stream ≡ true))
+
+-- where they follow their port, and the machine's states of the port are its
+pub led_follows : (plan : Plan) (old new : LinkState) (link : ℕ) (l l' : LinkEnds)
+    → ((stream : ℕ) → secure_in plan old link stream ≡ secure_at l.device.port stream)
+    → ((stream : ℕ) → secure_in plan new link stream ≡ secure_at l'.device.port stream) → Follows l l'
+    → IsLed plan old new link l l'
+led_follows plan old new link l l' before after follows = ⊎_elim
+    (λ same. inl (same ∙ (λ i. settled (λ stream. sym (after stream) i) l.device.interfaces)))
+    (λ same. inr (
+      ap (λ d. d.interfaces) same,
+      λ stream is. after stream ∙ (λ i. secure_at (same i).port stream) ∙ sym (before stream) ∙ is,
+    )) follows
+
+-- it has as many interfaces, and gave no nonce
+pub record SameDevice (d d' : DeviceTdis) : Type 0 where
+  pub nonces : d'.nonces ≡ d.nonces
+  pub used : d'.used ≡ d.used
+  pub many : length d'.interfaces ≡ length d.interfaces
+
+pub led_same : (plan : Plan) (old new : LinkState) (link : ℕ) (l l' : LinkEnds) → IsLed plan old new link l l'
+    → SameDevice l.device.interfaces l'.device.interfaces
+led_same plan old new link l l' led = ⊎_elim
+    (λ same. record {
+      nonces = ap (λ (d : DeviceTdis). d.nonces) same;
+      used = ap (λ (d : DeviceTdis). d.used) same;
+      many = ap (λ (d : DeviceTdis). length d.interfaces) same
+          ∙ length-map l.device.interfaces.interfaces (settled_tdi (secure_in plan new link));
+    })
+    (λ kept. record {
+      nonces = ap (λ (d : DeviceTdis). d.nonces) kept.0;
+      used = ap (λ (d : DeviceTdis). d.used) kept.0;
+      many = ap (λ (d : DeviceTdis). length d.interfaces) kept.0;
+    }) led
+
+pub led_tdi : (plan : Plan) (old new : LinkState) (x : Site) (l l' : LinkEnds) (place : ℕ) (tdi : Tdi)
+    → IsLed plan old new x.link l l' → slice_get l.device.interfaces.interfaces place ≡ Some tdi
+    → Keeps (secure_in plan old x.link) x.plan tdi
+    → slice_get l'.device.interfaces.interfaces place
+    ≡ Some (called (leaves (secure_in plan old x.link) (secure_in plan new x.link) x.plan) StreamLeft tdi)
+led_tdi plan old new x l l' place tdi led is keeps = ⊎_elim
+    (λ same. ap (λ (d : DeviceTdis). slice_get d.interfaces place) same
+    ∙ slice_get-map (settled_tdi (secure_in plan new x.link)) l.device.interfaces.interfaces place
+    ∙ ap (option_map (settled_tdi (secure_in plan new x.link))) is
+    ∙ ap Some (settled_is (secure_in plan old x.link) (secure_in plan new x.link) x.plan tdi keeps))
+    (λ kept. ap (λ (d : DeviceTdis). slice_get d.interfaces place) kept.0 ∙ is
+    ∙ ap Some (stays_is (secure_in plan old x.link) (secure_in plan new x.link) x.plan tdi kept.1)) led
+
+-- ---- an interface
+
+-- the event makes no more of it than that its stream leaves Secure, and it accepts no lock
+pub record OnlyLeaves (plan : Plan) (w : Whole) (e : Event) (verdict : Verdict) (new : LinkState) (x : Site) (f : Face)
+    : Type 0 where
+  pub next : (face_after plan (streams_of plan w) (secure_in plan new) w.faces.used e verdict x f).tdi
+      ≡ called (leaves (secure_in plan w.links x.link) (secure_in plan new x.link) x.plan) StreamLeft f.tdi
+  pub none : accepts_lock (around_of plan (streams_of plan w) w.faces.used x f) x e verdict f.tdi ≡ false
+
+-- the manager keeps of it what the machine keeps of it behind the event
+pub record IsManagedAfter (plan : Plan) (w : Whole) (e : Event) (verdict : Verdict) (m : InterfacesView) (i : ℕ)
+    (x : Site) (f : Face) : Type 0 where
+  pub interface : HostTdi
+  pub interface_is : slice_get m.interfaces i ≡ Some interface
+  pub managed : IsManaged
+      (draw_after (streams_of plan w).op w.links.draws e verdict w.draw x.link x.plan.stream) x interface
+      (managed_after (streams_of plan w).op w.links.draws x e verdict f.managed)
+
+pub placed_keeps : (plan : Plan) (ends : List LinkEnds) (m : InterfacesView) (w : Whole) (i : ℕ) (x : Site)
+    → (p : IsPlaced plan ends m w i x) → Keeps (secure_in plan w.links x.link) x.plan p.tdi
+placed_keeps plan ends m w i x p =
+    record { layout = p.keeps.layout; bound = p.keeps.bound; secure = p.secure }
+
+pub placed_led : (plan : Plan) (w : Whole) (e : Event) (verdict : Verdict) (new : LinkState)
+    (ends ends' : List LinkEnds) (m m' : InterfacesView) (i : ℕ) (x : Site) (l' : LinkEnds)
+    → slice_get (sites plan) i ≡ Some x
+    → (p : IsPlaced plan ends m w i x) → slice_get ends' x.link ≡ Some l' → located 0 i ends' ≡ located 0 i ends
+    → IsLed plan w.links new x.link p.link_ends l' → OnlyLeaves plan w e verdict new x p.face
+    → IsManagedAfter plan w e verdict m' i x p.face → IsPlaced plan ends' m' (whole_after plan w e verdict new) i x
+placed_led plan w e verdict new ends ends' m m' i x l' at p is same led only managed =
+    let before = secure_in plan w.links x.link in
+    let after = secure_in plan new x.link in
+    let keeps = placed_keeps plan ends m w i x p in
+    let behind = keeps_after before after x.plan p.tdi keeps in
+    record {
+      link_ends = l';
+      ends_are = is;
+      place = p.place;
+      located_is = same ∙ p.located_is;
+      tdi = called (leaves before after x.plan) StreamLeft p.tdi;
+      tdi_is = led_tdi plan w.links new x p.link_ends l' p.place p.tdi led p.tdi_is keeps;
+      interface = managed.interface;
+      interface_is = managed.interface_is;
+      face = face_after plan (streams_of plan w) (secure_in plan new) w.faces.used e verdict x p.face;
+      face_is = each_at (face_after plan (streams_of plan w) (secure_in plan new) w.faces.used e verdict) (sites plan)
+          w.faces.list i x p.face at p.face_is;
+      keeps = record {
+        managed = managed.managed;
+        tdi_is = ap (called (leaves before after x.plan) StreamLeft) p.keeps.tdi_is ∙ sym only.next;
+        layout = behind.layout;
+        bound = behind.bound;
+      };
+      secure = behind.secure;
+    }
+
+-- in the words of the links: the device follows its port
+pub placed_follows : (plan : Plan) (w : Whole) (e : Event) (verdict : Verdict) (new : LinkState)
+    (ends ends' : List LinkEnds) (m m' : InterfacesView) (i : ℕ) (x : Site) (l' : LinkEnds)
+    → slice_get (sites plan) i ≡ Some x → (p : IsPlaced plan ends m w i x) → slice_get ends' x.link ≡ Some l'
+    → located 0 i ends' ≡ located 0 i ends
+    → ((stream : ℕ) → secure_in plan w.links x.link stream ≡ secure_at p.link_ends.device.port stream)
+    → ((stream : ℕ) → secure_in plan new x.link stream ≡ secure_at l'.device.port stream) → Follows p.link_ends l'
+    → OnlyLeaves plan w e verdict new x p.face → IsManagedAfter plan w e verdict m' i x p.face
+    → IsPlaced plan ends' m' (whole_after plan w e verdict new) i x
+placed_follows plan w e verdict new ends ends' m m' i x l' at p is same before after follows only managed =
+    placed_led plan w e verdict new ends ends' m m' i x l' at p is same
+    (led_follows plan w.links new x.link p.link_ends l' before after follows) only managed
+
+-- ---- all of them
+
+device_led : (plan : Plan) (w : Whole) (e : Event) (verdict : Verdict) (new : LinkState) (link : ℕ) (l l' : LinkEnds)
+    → (whole_after plan w e verdict new).faces.used link ≡ w.faces.used link → IsLed plan w.links new link l l'
+    → IsDevice plan w link l → IsDevice plan (whole_after plan w e verdict new) link l'
+device_led plan w e verdict new link l l' used led d =
+    let same = led_same plan w.links new link l l' led in
+    record {
+      nonces = same.nonces ∙ d.nonces;
+      used = same.used ∙ d.used ∙ sym used;
+      many = λ p at. same.many ∙ d.many p at;
+    }
+
+-- each device is led, each interface no more than leaves its stream, and the manager and memory are the machine's
+pub record LedBeside (plan : Plan) (w : Whole) (e : Event) (verdict : Verdict) (new : LinkState)
+    (ends ends' : List LinkEnds) (m m' : InterfacesView) (memory : Contents) : Type 0 where
+  pub many : length ends' ≡ length ends
+  pub led : (link : ℕ) (l l' : LinkEnds) → slice_get ends link ≡ Some l → slice_get ends' link ≡ Some l'
+      → IsLed plan w.links new link l l'
+  pub only : (i : ℕ) (x : Site) (f : Face) → slice_get (sites plan) i ≡ Some x → slice_get w.faces.list i ≡ Some f
+      → OnlyLeaves plan w e verdict new x f
+  pub portion : m'.portion ≡ m.portion
+  pub interfaces : length m'.interfaces ≡ length m.interfaces
+  pub managed : (i : ℕ) (x : Site) (interface : HostTdi) (f : Face) → slice_get (sites plan) i ≡ Some x
+      → slice_get m.interfaces i ≡ Some interface → slice_get w.faces.list i ≡ Some f
+      → IsManaged (w.draw x.link x.plan.stream) x interface f.managed → IsManagedAfter plan w e verdict m' i x f
+  pub regions : memory.regions ≡ plan.memory
+  pub written : IsLeftBy memory (written_after plan w e verdict)
+
+pub beside_led : (plan : Plan) (w : Whole) (e : Event) (verdict : Verdict) (new : LinkState)
+    (ends ends' : List LinkEnds) (m m' : InterfacesView) (memory memory' : Contents) → IsBeside plan ends m memory w
+    → LedBeside plan w e verdict new ends ends' m m' memory'
+    → IsBeside plan ends' m' memory' (whole_after plan w e verdict new)
+beside_led plan w e verdict new ends ends' m m' memory memory' b s =
+    let within : (link : ℕ) (l' : LinkEnds) → slice_get ends' link ≡ Some l' → link < length ends
+    = λ link l' at. omega (arith, s.many, slice_get_within ends' link l' at) in
+    let used = used_kept plan (streams_of plan w) (secure_in plan new) e verdict w.faces
+    (λ i x f at there. (s.only i x f at there).none) in
+    let places : (i : ℕ) → located 0 i ends' ≡ located 0 i ends = λ i. located_kept 0 i ends ends' s.many
+    (λ k l l' at at'. (led_same plan w.links new k l l' (s.led k l l' at at')).many) in
+    record {
+      portion = s.portion ∙ b.portion;
+      managed = s.interfaces ∙ b.managed;
+      faced = each_many (face_after plan (streams_of plan w) (secure_in plan new) w.faces.used e verdict) (sites plan)
+          w.faces.list (sym b.faced);
+      devices = λ link l' at.
+          let l = get_there ends link (within link l' at) in
+          device_led plan w e verdict new link l.0 l' (used link) (s.led link l.0 l' l.1 at) (b.devices link l.0 l.1);
+      placed = λ i x at.
+          let p = b.placed i x at in
+          let l' = get_there ends' x.link
+          (omega (arith, s.many, slice_get_within ends x.link p.link_ends p.ends_are)) in
+          placed_led plan w e verdict new ends ends' m m' i x l'.0 at p l'.1 (places i)
+          (s.led x.link p.link_ends l'.0 p.ends_are l'.1) (s.only i x p.face at p.face_is)
+          (s.managed i x p.interface p.face at p.interface_is p.face_is p.keeps.managed);
+      regions = s.regions;
+      written = s.written;
+    }

@@ -1,0 +1,269 @@
+-- Events that leave what stands beside the ports as it is. No stream leaves Secure at them, so the machine's interfaces
+-- rest, and so do the draws, and memory, to which no arrival brings a write.
+use Rattle.std.proofs.Common.{◌≡◌, ℕ, ◌≤◌, ◌&&◌, Bool, true, false, List, [], length, Option, Some, None, refl, ap, sym}
+use Rattle.std.proofs.Common.{◌∙◌, subst, arith, inr}
+use Rattle.std.specs.Prelude.{not, if◌then◌else◌, nat_lt, slice_get}
+use Rattle.ide_types.specs.declared.port.PortName.{PortName}
+use Rattle.ide_plan.specs.declared.plan.Plan.{Plan}
+use Rattle.link_events.specs.declared.event.Event.{Event}
+use Rattle.link_events.specs.declared.event.Event.TheVariants.{Send, Dump, Reset, Status, Interface}
+use Rattle.link_events.specs.declared.event.InterfaceEvent.{InterfaceEvent}
+use Rattle.link_events.specs.declared.event.InterfaceEvent.TheVariants as ie
+use Rattle.link_verdicts.specs.declared.verdict.Verdict.{Verdict}
+use Rattle.link_verdicts.specs.declared.verdict.Verdict.TheVariants as v
+use Rattle.key_laws.specs.Operations.{Op}
+use Rattle.tdi_host.specs.Views.{HostTdi}
+use Rattle.trusted_memory.specs.{Write, IsLeftBy, newest_first}
+use Rattle.interface_states.specs.Sites.{Site, sites}
+use Rattle.interface_states.specs.Devices.{next_tdi}
+use Rattle.interface_states.specs.Views.{managed_after, is_number, number_in}
+use Rattle.interface_machine.specs.Machine.{Face, around_of, grant_of}
+use Rattle.interface_joins.specs.Faces.{IsManaged}
+use Rattle.link_history.specs.History.{Arrival}
+use Rattle.link_history.specs.Memory.{Grants}
+use Rattle.link_ports.specs.Machine.{Beside, LinkState, Stepped, status_found}
+unfoldable use Rattle.link_ports.specs.Machine.{find_op, step_of}
+use Rattle.whole_machine.specs.Machine.{Whole, secure_in, streams_of, arrival_of, draw_after, written_after}
+use Rattle.whole_machine.specs.Machine.{whole_after}
+use Rattle.link_ends.specs.Hosts.{InterfacesView}
+use Rattle.all_links.specs.declared.links.Links.{Links}
+use Rattle.all_ends.specs.States.{AreLinks}
+use Rattle.all_links.specs.Links.{links_state}
+use Rattle.all_links.specs.Sides.{SidesKeep}
+use Rattle.all_ends.specs.Writes.{writes_by}
+use Rattle.world_states.specs.Whole.{IsBeside}
+use Rattle.world_states.specs.Worlds.{IsWhole, world_of}
+use Rattle.world_states.proofs.Settled.{leaves, stays_is}
+use Rattle.world_states.proofs.Secure.{secure_kept}
+use Rattle.world_states.proofs.Rests.{Rests, rests_of_packets, rests_at_view, rests_at_memory, rests_elsewhere}
+use Rattle.world_states.proofs.Rests.{draw_of_packets, is_of_packets}
+use Rattle.std.proofs.lemmas.Bool.Decides.{nat_tests}
+use Rattle.world_states.proofs.Follows.{OnlyLeaves, IsManagedAfter, beside_led}
+
+-- ---- an interface
+
+stays_false : (a b : Bool) → (a ≡ true → b ≡ true) → (a && not b) ≡ false
+stays_false false b stays = refl
+stays_false true true stays = refl
+stays_false true false stays = let no : false ≡ true = stays refl in absurd cc
+
+only_rests : (plan : Plan) (w : Whole) (e : Event) (verdict : Verdict) (new : LinkState) (x : Site) (f : Face)
+    → ((stream : ℕ) → secure_in plan w.links x.link stream ≡ true → secure_in plan new x.link stream ≡ true)
+    → Rests e verdict x → OnlyLeaves plan w e verdict new x f
+only_rests plan w e verdict new x f stays rests =
+    let a = around_of plan (streams_of plan w) w.faces.used x f in
+    record {
+      next =
+          ap (λ (b : Bool). next_tdi a b x e verdict f.tdi)
+          (stays_false (secure_in plan w.links x.link x.plan.stream) (secure_in plan new x.link x.plan.stream)
+          (stays x.plan.stream))
+          ∙ rests.next a f.tdi
+          ∙ stays_is (secure_in plan w.links x.link) (secure_in plan new x.link) x.plan f.tdi stays;
+      none = rests.none a f.tdi;
+    }
+
+-- the same manager keeps it where the machine keeps the same of it
+pub managed_kept : (plan : Plan) (w : Whole) (e : Event) (verdict : Verdict) (m m' : InterfacesView) (i : ℕ) (x : Site)
+    (interface : HostTdi) (f : Face) → m' ≡ m → slice_get m.interfaces i ≡ Some interface
+    → draw_after (streams_of plan w).op w.links.draws e verdict w.draw ≡ w.draw
+    → managed_after (streams_of plan w).op w.links.draws x e verdict f.managed ≡ f.managed
+    → IsManaged (w.draw x.link x.plan.stream) x interface f.managed → IsManagedAfter plan w e verdict m' i x f
+managed_kept plan w e verdict m m' i x interface f keeper is draw kept managed = record {
+  interface = interface;
+  interface_is = ap (λ (n : InterfacesView). slice_get n.interfaces i) keeper ∙ is;
+  managed = subst
+      (λ (d : ℕ → ℕ → ℕ). IsManaged (d x.link x.plan.stream) x interface
+      (managed_after (streams_of plan w).op w.links.draws x e verdict f.managed)) (sym draw)
+      (subst (λ n. IsManaged (w.draw x.link x.plan.stream) x interface n) (sym kept) managed);
+}
+
+-- ---- memory
+
+-- the writes are those that the arrival brings
+pub written_is : (plan : Plan) (w : Whole) (e : Event) (verdict : Verdict) → written_after plan w e verdict
+    ≡ newest_first (writes_by plan (grant_of plan w.faces) w.links (arrival_of plan w.links e) verdict) w.written
+written_is plan w e (v.Accepted port unit effects) = refl
+written_is plan w e verdict = refl
+
+none_brought : (plan : Plan) (grants : Grants) (st : LinkState) (verdict : Verdict)
+    → writes_by plan grants st None verdict ≡ []
+none_brought plan grants st (v.Accepted port unit effects) = refl
+none_brought plan grants st verdict = refl
+
+pub written_kept : (plan : Plan) (w : Whole) (e : Event) (verdict : Verdict) → arrival_of plan w.links e ≡ None
+    → written_after plan w e verdict ≡ w.written
+written_kept plan w e verdict none =
+    written_is plan w e verdict
+    ∙ ap (λ (o : Option Arrival). newest_first (writes_by plan (grant_of plan w.faces) w.links o verdict) w.written)
+    none
+    ∙ ap (λ (os : List (Option Write)). newest_first os w.written)
+    (none_brought plan (grant_of plan w.faces) w.links verdict)
+
+-- ---- all of them
+
+-- no stream left Secure, and the event rests at each interface, draw and byte
+pub record IsStill (plan : Plan) (w : Whole) (e : Event) (verdict : Verdict) (new : LinkState) : Type 0 where
+  pub stays : (link stream : ℕ) → secure_in plan w.links link stream ≡ true → secure_in plan new link stream ≡ true
+  pub rests : (i : ℕ) (x : Site) → slice_get (sites plan) i ≡ Some x → Rests e verdict x
+  pub draw : draw_after (streams_of plan w).op w.links.draws e verdict w.draw ≡ w.draw
+  pub written : written_after plan w e verdict ≡ w.written
+
+pub kept_beside : (plan : Plan) (w : Whole) (e : Event) (verdict : Verdict) (new : LinkState) (old after : Links)
+    → IsBeside plan old.ends old.keeper.interfaces old.trusted.contents w → length after.ends ≡ length old.ends
+    → SidesKeep old after → IsStill plan w e verdict new
+    → IsBeside plan after.ends after.keeper.interfaces after.trusted.contents (whole_after plan w e verdict new)
+kept_beside plan w e verdict new old after b many sides still =
+    beside_led plan w e verdict new old.ends after.ends old.keeper.interfaces after.keeper.interfaces
+    old.trusted.contents after.trusted.contents b (record {
+      many = many;
+      led = λ link l l' at at'. inr (sides.devices link l l' at at', still.stays link);
+      only = λ i x f at there. only_rests plan w e verdict new x f (still.stays x.link) (still.rests i x at);
+      portion = ap (λ (m : InterfacesView). m.portion) sides.keeper;
+      interfaces = ap (λ (m : InterfacesView). length m.interfaces) sides.keeper;
+      managed = λ i x interface f at is there managed.
+          managed_kept plan w e verdict old.keeper.interfaces after.keeper.interfaces i x interface f sides.keeper is
+          still.draw ((still.rests i x at).managed (streams_of plan w).op w.links.draws f.managed) managed;
+      regions = ap (λ m. m.regions) sides.contents ∙ b.regions;
+      written = subst (λ m. IsLeftBy m (written_after plan w e verdict)) (sym sides.contents)
+          (subst (IsLeftBy old.trusted.contents) (sym still.written) b.written);
+    })
+
+-- the links before and behind an event, and the state of the machine before it
+pub record AreBoth (plan : Plan) (old new : Links) (w : Whole) : Type 0 where
+  pub links : AreLinks plan old.ends old.keeper.keys
+  pub links_after : AreLinks plan new.ends new.keeper.keys
+  pub whole : IsWhole (world_of plan old) w
+
+-- ---- events that leave the ports as they are
+
+abbrev leaves_ports : Plan → Event → Bool
+leaves_ports plan (Dump n) = true
+leaves_ports plan (Status link stream) = true
+leaves_ports plan (Interface e) = true
+leaves_ports plan (Reset link) = not (nat_lt link (length plan.links))
+leaves_ports plan e = false
+
+status_kept : (plan : Plan) (st : LinkState) (link stream : ℕ) (o : Option Op)
+    → (status_found plan st link stream o).1 ≡ st
+status_kept plan st link stream None = refl
+status_kept plan st link stream (Some q) = refl
+
+past_kept : (b : Bool) (r : Stepped) (w : Verdict) (st : LinkState) → not b ≡ true → (if b then r else (w, st)).1 ≡ st
+past_kept true r w st is = absurd cc
+past_kept false r w st is = refl
+
+ports_kept : (plan : Plan) (beside : Beside) (st : LinkState) (e : Event) → leaves_ports plan e ≡ true
+    → (step_of plan beside st e).1 ≡ st
+unfolding step_of
+ports_kept plan beside st (Dump n) is = refl
+ports_kept plan beside st (Status link stream) is = status_kept plan st link stream (find_op plan st link stream)
+ports_kept plan beside st (Interface e) is = refl
+ports_kept plan beside st (Reset link) is = past_kept (nat_lt link (length plan.links)) _ _ st is
+ports_kept plan beside st e is = absurd cc
+
+stays_there : (plan : Plan) (beside : Beside) (st new : LinkState) (e : Event) (verdict : Verdict)
+    → leaves_ports plan e ≡ true → (verdict, new) ≡ step_of plan beside st e
+    → (link stream : ℕ) → secure_in plan st link stream ≡ true → secure_in plan new link stream ≡ true
+stays_there plan beside st new e verdict is step link stream secure =
+    ap (λ (s : LinkState). secure_in plan s link stream)
+    (ap (λ (r : Stepped). r.1) step ∙ ports_kept plan beside st e is) ∙ secure
+
+past_verdict : (b : Bool) (r : Stepped) (w : Verdict) (st : LinkState) → not b ≡ true → (if b then r else (w, st)).0 ≡ w
+past_verdict true r w st is = absurd cc
+past_verdict false r w st is = refl
+
+absent_verdict : (plan : Plan) (beside : Beside) (st : LinkState) (link : ℕ) → leaves_ports plan (Reset link) ≡ true
+    → (step_of plan beside st (Reset link)).0 ≡ v.Nothing
+unfolding step_of
+absent_verdict plan beside st link is = past_verdict (nat_lt link (length plan.links)) _ _ st is
+
+not_there : (link n : ℕ) → n ≤ link → not (nat_lt link n) ≡ true
+not_there link n le = grind (arith, nat_tests)
+
+module _ (plan : Plan) (old new : Links) (w : Whole) (verdict : Verdict) (beside : Beside)
+    (both : AreBoth plan old new w) (sides : SidesKeep old new) where
+  still_beside : (e : Event) → IsStill plan w e verdict (links_state plan new)
+      → IsBeside plan new.ends new.keeper.interfaces new.trusted.contents
+      (whole_after plan w e verdict (links_state plan new))
+  still_beside e still =
+      kept_beside plan w e verdict (links_state plan new) old new both.whole.beside
+      (both.links_after.many ∙ sym both.links.many) sides still
+
+  pub send_beside : (port : PortName) (bytes : List ℕ) (more trusted : Bool)
+      → (verdict, links_state plan new) ≡ step_of plan beside w.links (Send port bytes more trusted)
+      → IsBeside plan new.ends new.keeper.interfaces new.trusted.contents
+      (whole_after plan w (Send port bytes more trusted) verdict (links_state plan new))
+  send_beside port bytes more trusted step =
+      still_beside (Send port bytes more trusted) (record {
+        stays = λ link stream is.
+            ap (λ (r : Stepped). secure_in plan r.1 link stream) step
+            ∙ secure_kept plan beside w.links port bytes more trusted link stream is;
+        rests = λ i x at. rests_of_packets (Send port bytes more trusted) verdict x refl;
+        draw = refl;
+        written = written_kept plan w (Send port bytes more trusted) verdict refl;
+      })
+
+  -- an event that leaves the ports as they are
+  pub leaving_beside : (e : Event) → leaves_ports plan e ≡ true
+      → (verdict, links_state plan new) ≡ step_of plan beside w.links e
+      → ((i : ℕ) (x : Site) → slice_get (sites plan) i ≡ Some x → Rests e verdict x)
+      → draw_after (streams_of plan w).op w.links.draws e verdict w.draw ≡ w.draw
+      → arrival_of plan w.links e ≡ None
+      → IsBeside plan new.ends new.keeper.interfaces new.trusted.contents
+      (whole_after plan w e verdict (links_state plan new))
+  leaving_beside e leaves step rests draw none =
+      still_beside e (record {
+        stays = stays_there plan beside w.links (links_state plan new) e verdict leaves step;
+        rests = rests;
+        draw = draw;
+        written = written_kept plan w e verdict none;
+      })
+
+  pub dump_beside : (n : ℕ) → (verdict, links_state plan new) ≡ step_of plan beside w.links (Dump n)
+      → IsBeside plan new.ends new.keeper.interfaces new.trusted.contents
+      (whole_after plan w (Dump n) verdict (links_state plan new))
+  dump_beside n step =
+      leaving_beside (Dump n) refl step (λ i x at. rests_of_packets (Dump n) verdict x refl) refl refl
+
+  pub status_beside : (link stream : ℕ)
+      → (verdict, links_state plan new) ≡ step_of plan beside w.links (Status link stream)
+      → IsBeside plan new.ends new.keeper.interfaces new.trusted.contents
+      (whole_after plan w (Status link stream) verdict (links_state plan new))
+  status_beside link stream step =
+      leaving_beside (Status link stream) refl step (λ i x at. rests_of_packets (Status link stream) verdict x refl)
+      refl refl
+
+  pub view_beside : (i : ℕ) → (verdict, links_state plan new) ≡ step_of plan beside w.links (Interface (ie.View i))
+      → IsBeside plan new.ends new.keeper.interfaces new.trusted.contents
+      (whole_after plan w (Interface (ie.View i)) verdict (links_state plan new))
+  view_beside i step =
+      leaving_beside (Interface (ie.View i)) refl step (λ j x at. rests_at_view i verdict x) refl refl
+
+  pub memory_beside : (at len : ℕ)
+      → (verdict, links_state plan new) ≡ step_of plan beside w.links (Interface (ie.Memory at len))
+      → IsBeside plan new.ends new.keeper.interfaces new.trusted.contents
+      (whole_after plan w (Interface (ie.Memory at len)) verdict (links_state plan new))
+  memory_beside at len step =
+      leaving_beside (Interface (ie.Memory at len)) refl step (λ j x is. rests_at_memory at len verdict x) refl refl
+
+  -- an event on an interface that is not there
+  pub elsewhere_beside : (e : InterfaceEvent)
+      → (verdict, links_state plan new) ≡ step_of plan beside w.links (Interface e)
+      → ((i : ℕ) (x : Site) → slice_get (sites plan) i ≡ Some x → is_number (number_in e) x.number ≡ false)
+      → IsBeside plan new.ends new.keeper.interfaces new.trusted.contents
+      (whole_after plan w (Interface e) verdict (links_state plan new))
+  elsewhere_beside e step other =
+      leaving_beside (Interface e) refl step (λ i x at. rests_elsewhere e verdict x (other i x at)) refl refl
+
+  -- a reset of a link that is not there
+  pub absent_beside : (link : ℕ) → length old.ends ≤ link
+      → (verdict, links_state plan new) ≡ step_of plan beside w.links (Reset link)
+      → IsBeside plan new.ends new.keeper.interfaces new.trusted.contents
+      (whole_after plan w (Reset link) verdict (links_state plan new))
+  absent_beside link past step =
+      let absent = not_there link (length plan.links) (omega (arith, past, both.links.many)) in
+      let nothing : verdict ≡ v.Nothing =
+      ap (λ (r : Stepped). r.0) step ∙ absent_verdict plan beside w.links link absent in
+      let packets : is_of_packets (Reset link) verdict ≡ true = ap (is_of_packets (Reset link)) nothing in
+      leaving_beside (Reset link) absent step (λ i x at. rests_of_packets (Reset link) verdict x packets)
+      (draw_of_packets (streams_of plan w).op w.links.draws (Reset link) verdict w.draw packets) refl

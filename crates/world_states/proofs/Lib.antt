@@ -1,0 +1,10 @@
+pub mod Faces
+pub mod Places
+pub mod Sites
+pub mod Statuses
+pub mod Besides
+pub mod Settled
+pub mod Secure
+pub mod Rests
+pub mod Follows
+pub mod Kept

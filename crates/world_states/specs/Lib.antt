@@ -1,0 +1,3 @@
+pub mod Whole
+pub mod Worlds
+pub use Rattle.world_states.specs.Worlds.{WorldView, Stands, IsNew, IsStep, HasStood}

@@ -1,0 +1,50 @@
+-- What is kept of links, interfaces and memory is a state of the whole machine.
+use Rattle.std.specs.Prelude.{ℕ, ◌≡◌, true, List, length, slice_get, Some, IfSome}
+use Rattle.ide_plan.specs.declared.plan.Plan.{Plan}
+use Rattle.ide_plan.specs.declared.plan.LinkPlan.{LinkPlan}
+use Rattle.interface_states.specs.Sites.{Site, sites, nonces_of}
+use Rattle.interface_machine.specs.Machine.{Face}
+use Rattle.whole_machine.specs.Machine.{Whole, secure_in}
+use Rattle.tdi_state.specs.Machine.{Tdi, bound_stream}
+use Rattle.tdi_host.specs.Views.{HostTdi}
+use Rattle.interface_joins.specs.Faces.{IsFace}
+use Rattle.trusted_memory.specs.{Contents, IsLeftBy}
+use Rattle.link_ends.specs.declared.ends.LinkEnds.{LinkEnds}
+use Rattle.link_ends.specs.Hosts.{InterfacesView}
+use Rattle.all_ends.specs.Places.{located}
+
+-- Interface number `i` at the manager and at the device of its link: they keep of it what the machine keeps, and a lock
+-- stands only while its stream is Secure at the device's port.
+pub record IsPlaced (plan : Plan) (ends : List LinkEnds) (m : InterfacesView) (w : Whole) (i : ℕ) (x : Site) : Type 0
+  where
+    pub link_ends : LinkEnds
+    pub ends_are : slice_get ends x.link ≡ Some link_ends
+    pub place : ℕ
+    pub located_is : located 0 i ends ≡ Some (x.link, place)
+    pub tdi : Tdi
+    pub tdi_is : slice_get link_ends.device.interfaces.interfaces place ≡ Some tdi
+    pub interface : HostTdi
+    pub interface_is : slice_get m.interfaces i ≡ Some interface
+    pub face : Face
+    pub face_is : slice_get w.faces.list i ≡ Some face
+    pub keeps : IsFace (w.draw x.link x.plan.stream) x interface tdi face
+    pub secure : IfSome (bound_stream tdi.state) (λ stream. secure_in plan w.links x.link stream ≡ true)
+
+-- the device of a link gives the nonces of the topology in their order, and has the link's interfaces
+pub record IsDevice (plan : Plan) (w : Whole) (link : ℕ) (l : LinkEnds) : Type 0 where
+  pub nonces : l.device.interfaces.nonces ≡ nonces_of plan link
+  pub used : l.device.interfaces.used ≡ w.faces.used link
+  pub many : (p : LinkPlan) → slice_get plan.links link ≡ Some p
+      → length l.device.interfaces.interfaces ≡ length p.interfaces
+
+-- Each interface of the topology stands at its place, and there are no others; memory holds what the admitted writes
+-- left.
+pub record IsBeside (plan : Plan) (ends : List LinkEnds) (m : InterfacesView) (memory : Contents) (w : Whole) : Type 0
+  where
+    pub portion : m.portion ≡ plan.portion
+    pub managed : length m.interfaces ≡ length (sites plan)
+    pub faced : length w.faces.list ≡ length (sites plan)
+    pub devices : (link : ℕ) (l : LinkEnds) → slice_get ends link ≡ Some l → IsDevice plan w link l
+    pub placed : (i : ℕ) (x : Site) → slice_get (sites plan) i ≡ Some x → IsPlaced plan ends m w i x
+    pub regions : memory.regions ≡ plan.memory
+    pub written : IsLeftBy memory w.written

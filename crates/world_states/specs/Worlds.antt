@@ -1,0 +1,78 @@
+-- The world of a run, and one step of it.
+use Rattle.std.specs.Prelude.{ℕ, List, ◌≡◌, ◌+◌, ◌∷◌, []}
+use Rattle.ide_plan.specs.declared.plan.Plan.{Plan}
+use Rattle.link_events.specs.declared.event.Event.{Event}
+use Rattle.link_verdicts.specs.declared.verdict.Verdict.{Verdict}
+use Rattle.key_laws.specs.History.{History}
+use Rattle.link_history.specs.Due.{due}
+use Rattle.link_ports.specs.Machine.{LinkState}
+use Rattle.port_operations.specs.Points.{StreamPoints}
+use Rattle.whole_machine.specs.Machine.{Whole}
+use Rattle.whole_machine.specs.Stands.{StandsFor}
+use Rattle.link_ends.specs.declared.ends.LinkEnds.{LinkEnds}
+use Rattle.link_ends.specs.Hosts.{InterfacesView}
+use Rattle.trusted_memory.specs.{Contents}
+use Rattle.all_links.specs.declared.links.Links.{Links}
+use Rattle.all_ends.specs.States.{IsBounded, AreLinks}
+use Rattle.all_links.specs.Links.{links_state}
+use Rattle.world_states.specs.Whole.{IsBeside}
+
+-- the topology, what is kept of its ports and of the manager's streams, the ends of each link with its device's
+-- interfaces, the manager of interfaces, trusted memory, and how many events came
+pub record WorldView : Type 0 where
+  pub plan : Plan
+  pub state : LinkState
+  pub ends : List LinkEnds
+  pub interfaces : InterfacesView
+  pub memory : Contents
+  pub steps : ℕ
+
+-- The world is a state of the whole machine: of its ports that state itself; of interfaces and memory what the machine
+-- keeps of them.
+pub record IsWhole (s : WorldView) (w : Whole) : Type 0 where
+  pub links : w.links ≡ s.state
+  pub beside : IsBeside s.plan s.ends s.interfaces s.memory w
+
+-- It stands for a history: it is a state of the whole machine that does.
+pub record Stands (s : WorldView) (h : History) : Type 0 where
+  pub whole : Whole
+  pub is : IsWhole s whole
+  pub stands : StandsFor s.plan whole h
+
+-- before the first event
+pub record IsNew (plan : Plan) (s : WorldView) : Type 0 where
+  pub plan_is : s.plan ≡ plan
+  pub steps_are : s.steps ≡ 0
+  pub stands : Stands s []
+
+-- The verdict is the one that is due after the events before it, the world stands for the history with it, and a slot
+-- holds the key of a draw exactly where the draw is kept then.
+pub record HasStood (h : History) (event : Event) (verdict : Verdict) (old new : WorldView) : Type 0 where
+  pub due_is : verdict ≡ due old.plan h event
+  pub stands : Stands new ((event, verdict) ∷ h)
+  pub points : StreamPoints old.plan new.state ((event, verdict) ∷ h)
+
+-- after whatever history it stands for
+pub record IsStep (old : WorldView) (event : Event) (verdict : Verdict) (new : WorldView) : Type 0 where
+  pub plan_is : new.plan ≡ old.plan
+  pub steps_are : new.steps ≡ old.steps + 1
+  pub stood : (h : History) → Stands old h → HasStood h event verdict old new
+
+-- ---- as it is kept
+
+abbrev pub world_of : Plan → Links → WorldView
+world_of plan s = record {
+  plan = plan;
+  state = links_state plan s;
+  ends = s.ends;
+  interfaces = s.keeper.interfaces;
+  memory = s.trusted.contents;
+  steps = s.steps;
+}
+
+-- the links are those of the plan, and the world stands for some history
+pub record IsWorld (plan : Plan) (s : Links) : Type 0 where
+  pub links : AreLinks plan s.ends s.keeper.keys
+  pub bounded : IsBounded s.ends s.packets.packets s.steps
+  pub history : History
+  pub stands : Stands (world_of plan s) history
