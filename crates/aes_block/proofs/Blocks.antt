@@ -7,7 +7,7 @@ use Rattle.std.proofs.lemmas.Bool.{cases_lt}
 use Rattle.std.proofs.lemmas.Nat.{xor_lt, mod_below}
 use Rattle.std.proofs.lemmas.List.{get_or_past}
 use Rattle.std.proofs.lemmas.List.Elements.{All-cons, All-nil, All-get_or}
-use Rattle.aes_block.specs.Aes.{aes, cipher, add_round_key, shift_rows, sub_bytes, state_of, cell, word_byte, sbox}
+use Rattle.aes_block.specs.Aes.{aes, cipher, add_round_key, shift_rows, sub_bytes, block_state, cell, word_byte, sbox}
 use Rattle.aes_block.specs.Aes.{from_bits, affine_bit, round_key, round_words, rounds}
 use Rattle.aes_block.specs.Field.{inverse}
 
@@ -43,7 +43,7 @@ pub sbox-byte : (b : ℕ) → IsByte (sbox b)
 unfolding sbox
 sbox-byte b = from_bits-lt 8 (affine_bit (inverse b)) (λ i. mod_below _ 2 (lit< tt))
 
-pub state_of-bytes : (f : ℕ → ℕ → ℕ) → ((r c : ℕ) → IsByte (f r c)) → All IsByte (state_of f)
+pub state_of-bytes : (f : ℕ → ℕ → ℕ) → ((r c : ℕ) → IsByte (f r c)) → All IsByte (block_state f)
 state_of-bytes f h =
     let column : (c : ℕ) (rest : List ℕ) → All IsByte rest → All IsByte (f 0 c ∷ f 1 c ∷ f 2 c ∷ f 3 c ∷ rest) =
     λ c rest t.

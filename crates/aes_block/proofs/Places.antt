@@ -6,7 +6,8 @@ use Rattle.std.proofs.lemmas.List.{get_or-map, length-map, ext_get_or}
 use Rattle.std.proofs.lemmas.Simd.{zip2_splat, swz_l, SwzOk, SwzOk-from_Each1, length-swz_l, get_or-swz_l, map-map}
 use lib.Lanes.{zip2, Each1}
 use Rattle.aes_block.specs.Aes.{sbox, sub_bytes}
-use Rattle.aes_block.specs.Nibbles.{IsVector, entry_of, is_place, low, high, both, code, first_place, second_place}
+use Rattle.aes_block.specs.Nibbles.{IsVector, entry_of, is_lookup_place, low, high, nibble_sum, code, first_place}
+use Rattle.aes_block.specs.Nibbles.{second_place}
 use Rattle.aes_block.specs.Nibbles.{first_part, second_part, last_of}
 use Rattle.aes_block.proofs.Entries.{SBOX, all_below, all_below_at, SBOX-sbox}
 
@@ -20,14 +21,19 @@ holds true e = tt
 holds false e = absurd (true≢false (sym e))
 
 -- a test of all bytes holds of each lane of f
-pub placed : (f : ℕ → ℕ) (v js : List ℕ) → Each1 (Fits w8) v → js ≡ map f v → all_below (λ x. is_place (f x)) 256 ≡ true
-    → Each1 (λ j. T (is_place j)) js
+pub placed : (f : ℕ → ℕ) (v js : List ℕ) → Each1 (Fits w8) v → js ≡ map f v → all_below (λ x. is_lookup_place (f x)) 256
+    ≡ true
+    → Each1 (λ j. T (is_lookup_place j)) js
 placed f v js fits e test =
     rw e (go v fits)
   where
-    go : (v : List ℕ) → Each1 (Fits w8) v → Each1 (λ j. T (is_place j)) (map f v)
+    go : (v : List ℕ) → Each1 (Fits w8) v → Each1 (λ j. T (is_lookup_place j)) (map f v)
     go [] h = tt
-    go (x ∷ xs) h = (holds (is_place (f x)) (all_below_at (λ x. is_place (f x)) 256 x test h.0.fits), go xs h.1)
+    go (x ∷ xs) h = (
+      holds (is_lookup_place (f x)) (all_below_at (λ x. is_lookup_place (f x)) 256 x test h.0.fits),
+      go
+          xs h.1,
+    )
 
 -- what holds of each list of 16 elements
 pub of_16 : (P : List ℕ → Type 0) →
@@ -75,29 +81,29 @@ looked t at long =
     ∙ ap (λ q. cond (leb 128 j) 0 (get_or t q 0)) first
     ∙ sym (get_or-map (entry_of t) at i 0 0 within))
 
-pub may_look : (at : List ℕ) → length at ≡ 16 → Each1 (λ j. T (is_place j)) at → SwzOk w8 16 16 0 at
+pub may_look : (at : List ℕ) → length at ≡ 16 → Each1 (λ j. T (is_lookup_place j)) at → SwzOk w8 16 16 0 at
 may_look at long places = SwzOk-from_Each1 w8 16 1 16 0 at refl (omega arith) places
 
-pub low_place : all_below (λ x. is_place (low x)) 256 ≡ true
+pub low_place : all_below (λ x. is_lookup_place (low x)) 256 ≡ true
 low_place = refl
 
-pub high_place : all_below (λ x. is_place (high x)) 256 ≡ true
+pub high_place : all_below (λ x. is_lookup_place (high x)) 256 ≡ true
 high_place = refl
 
-pub both_place : all_below (λ x. is_place (both x)) 256 ≡ true
+pub both_place : all_below (λ x. is_lookup_place (nibble_sum x)) 256 ≡ true
 both_place = refl
 
-pub first_place_place : all_below (λ x. is_place (first_place x)) 256 ≡ true
+pub first_place_place : all_below (λ x. is_lookup_place (first_place x)) 256 ≡ true
 first_place_place = refl
 
-pub second_place_place : all_below (λ x. is_place (second_place x)) 256 ≡ true
+pub second_place_place : all_below (λ x. is_lookup_place (second_place x)) 256 ≡ true
 second_place_place = refl
 
-pub first_part_place : all_below (λ x. is_place (first_part x)) 256 ≡ true
+pub first_part_place : all_below (λ x. is_lookup_place (first_part x)) 256 ≡ true
 unfolding first_part
 first_part_place = refl
 
-pub second_part_place : all_below (λ x. is_place (second_part x)) 256 ≡ true
+pub second_part_place : all_below (λ x. is_lookup_place (second_part x)) 256 ≡ true
 unfolding second_part
 second_part_place = refl
 

@@ -46,8 +46,8 @@ abbrev pub entry_of : List ℕ → ℕ → ℕ
 entry_of table j = cond (leb 128 j) 0 (get_or table j 0)
 
 -- a place that a look-up may be given
-abbrev pub is_place : ℕ → Bool
-is_place j = leb 128 j || ltb j 16
+abbrev pub is_lookup_place : ℕ → Bool
+is_lookup_place j = leb 128 j || ltb j 16
 
 abbrev pub low : ℕ → ℕ
 low x = bit_and x 15
@@ -59,18 +59,18 @@ high x = x / 16
 unfoldable pub code : ℕ → ℕ
 code x = bit_xor (entry_of code_low (low x)) (entry_of code_high (high x))
 
-abbrev pub both : ℕ → ℕ
-both x = bit_xor (low x) (high x)
+abbrev pub nibble_sum : ℕ → ℕ
+nibble_sum x = bit_xor (low x) (high x)
 
 abbrev pub first_place : ℕ → ℕ
 first_place x = bit_xor (entry_of inverses (high x)) (entry_of scaled (low x))
 
 abbrev pub second_place : ℕ → ℕ
-second_place x = bit_xor (entry_of inverses (both x)) (entry_of scaled (low x))
+second_place x = bit_xor (entry_of inverses (nibble_sum x)) (entry_of scaled (low x))
 
 -- the two places at which the S-box of a code is looked up
 unfoldable pub first_part : ℕ → ℕ
-first_part x = bit_xor (entry_of inverses (first_place x)) (both x)
+first_part x = bit_xor (entry_of inverses (first_place x)) (nibble_sum x)
 
 unfoldable pub second_part : ℕ → ℕ
 second_part x = bit_xor (entry_of inverses (second_place x)) (high x)

@@ -5,7 +5,16 @@ ghost use Rattle.std.specs.Prelude.{◌≡◌, ℕ, T, List, map, bit_xor};
 ghost use lib.Lanes.{Each1};
 ghost use Rattle.aes_block.specs.Aes.{add_round_key, shift_rows, sub_bytes};
 ghost use Rattle.aes_block.specs.Inside.{after_round, spread};
-ghost use Rattle.aes_block.specs.Nibbles.{IsCoded, IsVector, code, entry_of, first_part, is_place, key_code, last_key};
+ghost use Rattle.aes_block.specs.Nibbles.{
+  IsCoded,
+  IsVector,
+  code,
+  entry_of,
+  first_part,
+  is_lookup_place,
+  key_code,
+  last_key,
+};
 ghost use Rattle.aes_block.specs.Nibbles.{last_of, once_of, second_part, twice_of};
 
 use std::simd::prelude::*;
@@ -53,7 +62,7 @@ const LAST_SECOND: [u8; 16] = [
 // Entries of a table of 16, at places below 16; 0 at places from 128 on.
 #[inline(always)]
 fn look(table: [u8; 16], at: u8x16) -> u8x16
-    requires { Each1 (λ j. T (is_place j)) at }
+    requires { Each1 (λ j. T (is_lookup_place j)) at }
     ensures { result ≡ map (entry_of table) at }
 {
     u8x16::from_array(table).swizzle_dyn(at)

@@ -189,9 +189,9 @@ pub find_at : (plan : Plan) (ends : List LinkEnds) (k : KeeperView) (packets : L
     (found (port_in port.side l).plans (port_in port.side l).states id)
 unfolding find
 find_at plan ends k packets port l id is at_port =
-    ap (λ (xs : List StreamState). machine.found (streams_of plan port.link) xs id)
+    ap (λ (xs : List StreamState). machine.found_by_id (streams_of plan port.link) xs id)
     (states_at ends port.side port.link l is)
-    ∙ ap (λ (ss : List StreamPlan). machine.found ss (port_in port.side l).states id) (sym at_port.plans)
+    ∙ ap (λ (ss : List StreamPlan). machine.found_by_id ss (port_in port.side l).states id) (sym at_port.plans)
     ∙ machine_found (port_in port.side l).plans (port_in port.side l).states id
 
 pub put_at : (plan : Plan) (ends : List LinkEnds) (k : KeeperView) (packets : List LinkPacket) (port : PortName)
@@ -202,11 +202,12 @@ pub put_at : (plan : Plan) (ends : List LinkEnds) (k : KeeperView) (packets : Li
     (slice_set ends port.link (with_port port.side e l)) k packets
 unfolding put
 put_at plan ends k packets port l id x e is at_port states =
-    let here : machine.changed (streams_of plan port.link) (slice_index_or (ports_in ends) (port_place port) []) id x
+    let here : machine.changed_by_id (streams_of plan port.link) (slice_index_or (ports_in ends) (port_place port) [])
+    id x
     ≡ e.states =
-    ap (λ (xs : List StreamState). machine.changed (streams_of plan port.link) xs id x)
+    ap (λ (xs : List StreamState). machine.changed_by_id (streams_of plan port.link) xs id x)
     (states_at ends port.side port.link l is)
-    ∙ ap (λ (ss : List StreamPlan). machine.changed ss (port_in port.side l).states id x) (sym at_port.plans)
+    ∙ ap (λ (ss : List StreamPlan). machine.changed_by_id ss (port_in port.side l).states id x) (sym at_port.plans)
     ∙ machine_changed (port_in port.side l).plans (port_in port.side l).states id x ∙ sym states in
     let all = ap (λ (xs : List StreamState). slice_set (ports_in ends) (port_place port) xs) here ∙ sym
     (states_set ends port.side port.link l e is) in

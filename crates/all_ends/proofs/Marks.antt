@@ -3,14 +3,15 @@ use Rattle.all_ends.proofs.Terms.{◌≡◌, ℕ, ◌+◌, ◌-◌, ◌≤◌, L
 use Rattle.all_ends.proofs.Terms.{arith, length-append, map, slice_range, sum_by, All, length-drop, drop-append_seam}
 use Rattle.all_ends.proofs.Terms.{drop-drop, drop-append-le, take-append-le, map-append, sum_by-cons, All-append}
 use Rattle.all_ends.proofs.Terms.{All-cons, All-nil, All-weaker, All-head, All-tail, PortName, LinkPacket}
-use Rattle.all_ends.proofs.Terms.{SealedPacket, cut_packets, packet_at, IsWithin, marks_from}
+use Rattle.all_ends.proofs.Terms.{SealedPacket, cut_packets, marked_packet, IsWithin, marks_from}
 use Rattle.all_ends.specs.declared.packets.Mark.{Mark}
 
 cut_at : (start n : ℕ) (all : List ℕ) → slice_range all start (start + n) ≡ take n (drop start all)
 cut_at start n all = let e : start + n - start ≡ n = omega arith in rw e refl
 
 -- the packets of joined marks are cut where they begin
-cuts_from : (port : PortName) (ns : List ℕ) (start : ℕ) (all : List ℕ) → map (packet_at all) (marks_from port start ns)
+cuts_from : (port : PortName) (ns : List ℕ) (start : ℕ) (all : List ℕ)
+    → map (marked_packet all) (marks_from port start ns)
     ≡ cut_packets port ns (drop start all)
 cuts_from port [] start all = refl
 cuts_from port (n ∷ ns) start all =
@@ -18,9 +19,10 @@ cuts_from port (n ∷ ns) start all =
     (sym (drop-drop n start all)) in
     (λ i. record { port = port; bytes = cut_at start n all i } ∷ rest i)
 
--- older marks do not see bytes that come behind
-kept_at_marks : (marks : List Mark) (old more : List ℕ) → All (IsWithin old) marks → map (packet_at (old ++ more)) marks
-    ≡ map (packet_at old) marks
+-- older marks do not see bytes that come later
+kept_at_marks : (marks : List Mark) (old more : List ℕ) → All (IsWithin old) marks
+    → map (marked_packet (old ++ more)) marks
+    ≡ map (marked_packet old) marks
 kept_at_marks [] old more within = refl
 kept_at_marks (m ∷ ms) old more within =
     let here : IsWithin old m = All-head (IsWithin old) m ms within in
@@ -32,14 +34,15 @@ kept_at_marks (m ∷ ms) old more within =
 
 pub kept_and_cut : (port : PortName) (marks : List Mark) (ps : List SealedPacket) (old more : List ℕ)
     → All (IsWithin old) marks
-    → map (packet_at (old ++ more)) (marks ++ marks_from port (length old) (map (λ (p : SealedPacket). p.length) ps))
-    ≡ map (packet_at old) marks ++ cut_packets port (map (λ (p : SealedPacket). p.length) ps) more
+    → map (marked_packet (old ++ more))
+    (marks ++ marks_from port (length old) (map (λ (p : SealedPacket). p.length) ps))
+    ≡ map (marked_packet old) marks ++ cut_packets port (map (λ (p : SealedPacket). p.length) ps) more
 kept_and_cut port marks ps old more within =
     let ns : List ℕ = map (λ (p : SealedPacket). p.length) ps in
-    map-append (packet_at (old ++ more)) marks (marks_from port (length old) ns)
-    ∙ ap (λ (xs : List LinkPacket). xs ++ map (packet_at (old ++ more)) (marks_from port (length old) ns))
+    map-append (marked_packet (old ++ more)) marks (marks_from port (length old) ns)
+    ∙ ap (λ (xs : List LinkPacket). xs ++ map (marked_packet (old ++ more)) (marks_from port (length old) ns))
     (kept_at_marks marks old more within)
-    ∙ ap (λ (xs : List LinkPacket). map (packet_at old) marks ++ xs)
+    ∙ ap (λ (xs : List LinkPacket). map (marked_packet old) marks ++ xs)
     (cuts_from port ns (length old) (old ++ more) ∙ ap (λ (b : List ℕ). cut_packets port ns b)
     (drop-append_seam old more))
 

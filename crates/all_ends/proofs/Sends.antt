@@ -8,7 +8,8 @@ use Rattle.all_ends.proofs.Terms.{option_map, slice_get, slice_set, map, sum_by,
 use Rattle.all_ends.proofs.Terms.{append-nil, take-append_seam, drop-append_seam, sum_by-cons, PortName, Plan}
 use Rattle.all_ends.proofs.Terms.{Packet, packet_bytes, Verdict, SealedPacket, StreamState, TxSub, Three, lanes_of}
 use Rattle.all_ends.proofs.Terms.{sealed_all, mode_of, is_closed, has_stream, choice, History, LinkPacket, LinkState}
-use Rattle.all_ends.proofs.Terms.{Stepped, kept_at, answered, sealed_in, find, StandsFor, standing, sending}
+use Rattle.all_ends.proofs.Terms.{Stepped, kept_at, stepped_answer, stepped_seal, find, PortsStandFor, standing}
+use Rattle.all_ends.proofs.Terms.{sending}
 use Rattle.all_ends.proofs.Terms.{packet_lengths, joined_packets, PortEnd, Found, found, changed, SendStep, LinkEnds}
 use Rattle.all_ends.proofs.Terms.{cut_packets, port_in, with_port, KeeperView, state_of, found_id, changed_same}
 use Rattle.all_ends.proofs.Terms.{Beside}
@@ -25,8 +26,8 @@ use Rattle.link_verdicts.specs.declared.verdict.SealedPacket.{SealedPacket as De
 use Rattle.stream_rules.specs.Sending.{Sending, Lanes, refusals, first_that_holds, sealed_by}
 use Rattle.link_history.proofs.Choices.{choice_known}
 use Rattle.link_ports.specs.Machine as machine
-use Rattle.ide_stream.specs.Sends.{ok_unless, unless}
-use Rattle.ide_port.specs.Sends.{unsealed, as_verdict, sent_on, send_found, send_chosen, send_read}
+use Rattle.ide_stream.specs.Sends.{ok_unless_verdict, unless_verdict}
+use Rattle.ide_port.specs.Sends.{unsealed, as_verdict, sent_on, send_found, send_chosen, send_step_read}
 use Rattle.ide_port.specs.{Trusting}
 use Rattle.all_ends.proofs.Finds.{IsPort, Keeps, find_at, put_at, state_kept, mode_at, closed_at}
 
@@ -53,11 +54,11 @@ lengths_join (p ∷ ps) (q ∷ qs) is =
 -- ---- one step
 
 pub send_keeps : (e : PortEnd) (sets : Trusting) (more : Bool) (n : ℕ) (r : Result Tlp TlpFault)
-    → Keeps e (send_read e sets more n r).port
+    → Keeps e (send_step_read e sets more n r).port
 send_keeps e sets more n r = grind arith
 
 pub send_joins : (e : PortEnd) (sets : Trusting) (more : Bool) (n : ℕ) (r : Result Tlp TlpFault)
-    → (send_read e sets more n r).port.sealed ≡ joined_packets (send_read e sets more n r).packets
+    → (send_step_read e sets more n r).port.sealed ≡ joined_packets (send_step_read e sets more n r).packets
 send_joins e sets more n r = grind arith
 
 -- what a step of the port makes of all links
@@ -85,18 +86,18 @@ unsealed_as plan ends k packets port l w is at_port =
     ap (λ (n : PortName). (w n, state_of plan ends k packets)) (sym at_port.name)
     ∙ ap (λ (st : LinkState). (w (port_in port.side l).name, st)) (state_same plan ends k packets port l _ is refl)
 
--- a TLP on a stream, where it is refused for this, or not
+-- a TLP on a stream, which is refused with this verdict, if there is one
 abbrev on_stream : PortEnd → Tlp → Found → Sending → ℕ → Option Verdict → SendStep
 on_stream e t f s n r =
     let ds = sealed_by (lanes_of f.plan.mode e.limit f.state) s n in
     let sealed = sealed_all f.plan.closed (head_bytes (header t)) (body t) ds f.state.tx in
     record {
-      verdict = as_verdict (ok_unless r ds);
-      packets = unless r [] sealed.0;
+      verdict = as_verdict (ok_unless_verdict r ds);
+      packets = unless_verdict r [] sealed.0;
       port =
           record e {
-            states = changed e.plans e.states f.plan.id (unless r f.state (record f.state { tx = sealed.1 }));
-            sealed = joined_packets (unless r [] sealed.0);
+            states = changed e.plans e.states f.plan.id (unless_verdict r f.state (record f.state { tx = sealed.1 }));
+            sealed = joined_packets (unless_verdict r [] sealed.0);
             calls = e.calls + 1;
           };
     }
@@ -111,7 +112,8 @@ answered_as : (plan : Plan) (ends : List LinkEnds) (k : KeeperView) (packets : L
     → IsPort plan port (port_in port.side l)
     → found (port_in port.side l).plans (port_in port.side l).states id ≡ Some f
     → let s = send_of port id t more trusted in let n = length packets + 1 in let e = port_in port.side l in
-    answered plan (state_of plan ends k packets) s t f.state r (sealed_by (lanes_of f.plan.mode e.limit f.state) s n)
+    stepped_answer plan (state_of plan ends k packets) s t f.state r
+    (sealed_by (lanes_of f.plan.mode e.limit f.state) s n)
     ≡ sent plan ends k packets port l (on_stream e t f s n r)
 answered_as plan ends k packets port l t more trusted id f (Some w) is at_port at =
     let e = port_in port.side l in
@@ -126,7 +128,7 @@ answered_as plan ends k packets port l t more trusted id f None is at_port at =
     let ds : List Described = sealed_by (lanes_of f.plan.mode e.limit f.state) s (length packets + 1) in
     let sealed : List Packet × Three TxSub = sealed_all f.plan.closed (head_bytes (header t)) (body t) ds f.state.tx in
     let closed : is_closed plan port.link id ≡ f.plan.closed = closed_at plan port e id f at_port at in
-    ap (λ (c : Bool). sealed_in plan (state_of plan ends k packets) s f.state ds
+    ap (λ (c : Bool). stepped_seal plan (state_of plan ends k packets) s f.state ds
     (sealed_all c (head_bytes (header t)) (body t) ds f.state.tx)) closed
     ∙ ap (λ (st : LinkState). (v.Sealed ds, record st { packets = packets ++ map (kept_at port) sealed.0 }))
     (put_at plan ends k packets port l id (record f.state { tx = sealed.1 }) _ is at_port
@@ -141,10 +143,10 @@ pub sends_as : (plan : Plan) (b : Beside) (ends : List LinkEnds) (k : KeeperView
     (port : PortName) (l : LinkEnds) (h : History) (r : Result Tlp TlpFault) (more trusted : Bool)
     → slice_get ends port.link ≡ Some l
     → IsPort plan port (port_in port.side l)
-    → StandsFor plan (state_of plan ends k packets) h
-    → machine.send_read plan b (state_of plan ends k packets) port r more trusted
+    → PortsStandFor plan (state_of plan ends k packets) h
+    → machine.stepped_send_read plan b (state_of plan ends k packets) port r more trusted
     ≡ sent plan ends k packets port l
-    (send_read (port_in port.side l) (λ head stream. b.t port head stream trusted) more (length packets + 1) r)
+    (send_step_read (port_in port.side l) (λ head stream. b.t port head stream trusted) more (length packets + 1) r)
 sends_as plan b ends k packets port l h (Err fault) more trusted is at_port stands = unsealed_as plan ends k packets
     port l (λ n. v.Malformed n (tlp_word fault) (place_in fault)) is at_port
 sends_as plan b ends k packets port l h (Ok t) more asked is at_port stands =
@@ -155,7 +157,7 @@ sends_as plan b ends k packets port l h (Ok t) more asked is at_port stands =
   where
     by_found : (id : ℕ) (o : Option Found) → let trusted = b.t port (header t) id asked in has_stream plan port id
         ≡ true → found (port_in port.side l).plans (port_in port.side l).states id ≡ o
-        → machine.send_found plan (state_of plan ends k packets) (send_of port id t more trusted) t
+        → machine.stepped_send_found plan (state_of plan ends k packets) (send_of port id t more trusted) t
         (option_map (λ (f : Found). f.state) o) ≡ sent plan ends k packets port l
         (send_found (port_in port.side l) t trusted more
         (length packets + 1) o)
@@ -177,19 +179,19 @@ sends_as plan b ends k packets port l h (Ok t) more asked is at_port stands =
         let name : f.plan.id ≡ id = found_id x.plans x.states id f at in
         let same : s ≡ sending x.name f.plan.id (class_of (header t)) more trusted =
         (λ i. send_of (sym at_port.name i) (sym name i) t more trusted) in
-        ap (λ (ls : Lanes). answered plan (state_of plan ends k packets) s t f.state
+        ap (λ (ls : Lanes). stepped_answer plan (state_of plan ends k packets) s t f.state
         (first_that_holds (refusals ls s.class)) (sealed_by ls s (length packets + 1))) lanes
         ∙ answered_as plan ends k packets port l t more trusted id f
         (first_that_holds (refusals (lanes_of f.plan.mode x.limit f.state) s.class)) is at_port at
         ∙ ap (λ (y : Sending). sent plan ends k packets port l (sent_on x t f y (length packets + 1))) same
 
     by_choice : (o : Option ℕ) → choice plan port (header t) ≡ o
-        → machine.send_on plan b (state_of plan ends k packets) port t more asked o
+        → machine.stepped_send_on plan b (state_of plan ends k packets) port t more asked o
         ≡ sent plan ends k packets port l (send_chosen (port_in port.side l) t
         (λ head stream. b.t port head stream asked) more (length packets + 1) o)
     by_choice None at = unsealed_as plan ends k packets port l (λ n. v.Plain n) is at_port
     by_choice (Some id) at =
-        ap (λ (o : Option StreamState). machine.send_found plan (state_of plan ends k packets)
+        ap (λ (o : Option StreamState). machine.stepped_send_found plan (state_of plan ends k packets)
         (send_of port id t more (b.t port (header t) id asked)) t o)
         (find_at plan ends k packets port l id is at_port)
         ∙ by_found id (found (port_in port.side l).plans (port_in port.side l).states id)

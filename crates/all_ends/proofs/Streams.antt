@@ -1,7 +1,7 @@
 -- Streams by the names that events say, and what a reset makes of them, as the machine has them. The manager's streams
 -- are one list in the plan's order, link by link, so a name is found in it as by the machine; a name that no stream has
--- is on a link past the last, above 255 or not in the list. A reset is an induction over that list, where the link's
--- streams become idle and all others stay, and at both ports of the link each stream is empty.
+-- is on a link past the last, above 255 or not in the list. A reset is an induction over that list: the link's streams
+-- become idle, all others stay, and at both ports of the link each stream is empty.
 use Rattle.all_ends.proofs.Terms.{◌≡◌, ℕ, suc, zero, ◌==◌, ◌<◌, ◌≤◌, Bool, true, false, List, [], ◌∷◌, ◌++◌}
 use Rattle.all_ends.proofs.Terms.{◌⊎◌, length, refl, ap, sym, ◌∙◌, subst, arith, ⊎_elim, Option, Some, None}
 use Rattle.all_ends.proofs.Terms.{option_map, is_some, slice_get, slice_set, map, if◌then◌else◌, All, slice_index_or}
@@ -9,12 +9,12 @@ use Rattle.all_ends.proofs.Terms.{nat_tests, none-some, same_Some, get_or_past, 
 use Rattle.all_ends.proofs.Terms.{Idle, History, status_by as key_status, Side, Host, Device, PortName, StreamStatus}
 use Rattle.all_ends.proofs.Terms.{Plan, LinkPlan, StreamPlan, FitsStream, FitsLink, StreamState, streams_of}
 use Rattle.all_ends.proofs.Terms.{streams_by_link, stream_plan, LinkPacket, find, find_op, port_at, port_place}
-use Rattle.all_ends.proofs.Terms.{status_at, reset_state, empty_stream, StandsFor, standing, op_at, KeysKept}
+use Rattle.all_ends.proofs.Terms.{status_at, reset_state, empty_stream, PortsStandFor, standing, op_at, KeysKept}
 use Rattle.all_ends.proofs.Terms.{StreamView, reset_stream, ManagerView, Named, named, op_named, reset_manager}
 use Rattle.all_ends.proofs.Terms.{PortEnd, Found, found, reset_port, status_in, LinkEnds, port_in, reset_ends}
-use Rattle.all_ends.proofs.Terms.{stream_named, KeeperView, ports_in, ops_in, ops_of, behind, name_of, names_of}
+use Rattle.all_ends.proofs.Terms.{stream_named, KeeperView, ports_in, ops_in, ops_of, views_after, name_of, names_of}
 use Rattle.all_ends.proofs.Terms.{state_of, IsLink, AreLinks, op_named_first}
-use Rattle.stream_calls.specs.Calls.{stream_status, no_stream, status_by as call_status}
+use Rattle.sub_stream.specs.Calls.{stream_status, no_stream, status_by as call_status}
 use Rattle.link_ports.specs.Machine as machine
 use Rattle.all_ends.proofs.Managers.{Apart, op_found, ops_changed}
 use Rattle.all_ends.proofs.Finds.{both_set, Keeps, KeepsEnds, port_is, find_at}
@@ -29,7 +29,7 @@ op_is plan ends k packets link stream links =
     sym (op_found (streams_by_link plan) 0 link link k.manager.streams stream (omega arith) links.names) ∙
     op_named_first k.manager link stream
 
--- what a name comes to
+-- what a name gives
 pub record IsName (m : ManagerView) (links link stream a b : ℕ) : Type 0 where
   pub within : link < links
   pub link_is : a ≡ link
@@ -43,7 +43,8 @@ name_is m links link stream a b is = grind (arith, nat_tests)
 no_op : (o : Option Named) → is_some o ≡ false → op_named o ≡ None
 no_op o is = grind arith
 
-found_beyond : (ss : List StreamPlan) (os : List Op) (id : ℕ) → All FitsStream ss → 255 < id → machine.found ss os id
+found_beyond : (ss : List StreamPlan) (os : List Op) (id : ℕ) → All FitsStream ss → 255 < id
+    → machine.found_by_id ss os id
     ≡ None
 found_beyond [] os id fit lt = refl
 found_beyond (s ∷ ss) [] id fit lt = refl
@@ -52,7 +53,7 @@ found_beyond (s ∷ ss) (o ∷ os) id fit lt =
     grind (arith, nat_tests, s_fits.id, found_beyond ss os id (All-tail FitsStream s ss fit) lt)
 
 links_beyond : (ls : List LinkPlan) (i : ℕ) (os : List Op) (id : ℕ) → All FitsLink ls → 255 < id
-    → machine.found (slice_index_or (map (λ (l : LinkPlan). l.streams) ls) i []) os id ≡ None
+    → machine.found_by_id (slice_index_or (map (λ (l : LinkPlan). l.streams) ls) i []) os id ≡ None
 links_beyond [] i os id fit lt = refl
 links_beyond (l ∷ ls) zero os id fit lt = let x = All-head FitsLink l ls fit in found_beyond l.streams os id
     x.each_stream lt
@@ -72,7 +73,7 @@ pub unnamed : (plan : Plan) (ends : List LinkEnds) (k : KeeperView) (packets : L
     → find_op plan (state_of plan ends k packets) link stream ≡ None
 unfolding find_op
 unnamed plan ends k packets link stream links is = ⊎_elim
-    (λ past. ap (λ (ss : List StreamPlan). machine.found ss
+    (λ past. ap (λ (ss : List StreamPlan). machine.found_by_id ss
     (slice_index_or (ops_in (streams_by_link plan) k.manager.streams) link []) stream)
     (past_links plan link (subst (λ (n : ℕ). n ≤ link) links.many past)))
     (λ late. ⊎_elim (λ lt. links_beyond plan.links link _ stream links.fits.each_link lt)
@@ -100,7 +101,7 @@ status_same a b c = grind arith
 -- a stream of the plan at a port
 pub port_found : (plan : Plan) (ends : List LinkEnds) (k : KeeperView) (packets : List LinkPacket) (h : History)
     (link stream : ℕ) (l : LinkEnds) (side : Side)
-    → AreLinks plan ends k → StandsFor plan (state_of plan ends k packets) h
+    → AreLinks plan ends k → PortsStandFor plan (state_of plan ends k packets) h
     → is_some (stream_plan plan link stream) ≡ true → slice_get ends link ≡ Some l
     → (f : Found) × (found (port_in side l).plans (port_in side l).states stream ≡ Some f)
     × (find plan (state_of plan ends k packets) (port_at side link) stream ≡ Some f.state)
@@ -118,13 +119,13 @@ port_found plan ends k packets h link stream l side links stands known is =
 
 pub at_side : (plan : Plan) (ends : List LinkEnds) (k : KeeperView) (packets : List LinkPacket) (h : History)
     (link stream : ℕ) (l : LinkEnds) (side : Side)
-    → AreLinks plan ends k → StandsFor plan (state_of plan ends k packets) h
+    → AreLinks plan ends k → PortsStandFor plan (state_of plan ends k packets) h
     → is_some (stream_plan plan link stream) ≡ true → slice_get ends link ≡ Some l
     → status_in (port_in side l) stream ≡ Some (status_at plan (state_of plan ends k packets) side link stream)
 at_side plan ends k packets h link stream l side links stands known is =
     let f = port_found plan ends k packets h link stream l side links stands known is in
     ap (λ (o : Option Found). option_map (λ (g : Found). stream_status g.state) o) f.1
-    ∙ sym (ap (λ (o : Option StreamState). Some (machine.stream_status o)) f.2
+    ∙ sym (ap (λ (o : Option StreamState). Some (machine.status_if_planned o)) f.2
     ∙ ap (λ (s : StreamStatus). Some s)
     (status_same f.0.state.failed (machine.some_live f.0.state) (machine.all_live f.0.state)))
 
@@ -153,7 +154,7 @@ apart_kept link (v ∷ vs) is = rw (is.0, apart_kept link vs is.1)
 reset_here : (link : ℕ) (ss : List StreamPlan) (vs : List StreamView) (rest : List (ℕ × ℕ)) → map name_of vs
     ≡ names_of link ss ++ rest → Apart link rest
     → (ops_of ss (map (reset_stream link) vs) ≡ map (λ (s : StreamPlan). Idle) ss)
-    × (behind ss (map (reset_stream link) vs) ≡ behind ss vs)
+    × (views_after ss (map (reset_stream link) vs) ≡ views_after ss vs)
 reset_here link [] vs rest names apart =
     (refl, apart_kept link vs (subst (λ (ns : List (ℕ × ℕ)). Apart link ns) (sym names) apart))
 reset_here link (s ∷ ss) [] rest names apart = absurd cc
@@ -166,7 +167,7 @@ reset_other : (link from : ℕ) (ss : List StreamPlan) (vs : List StreamView) (r
     ≡ false
     → map name_of vs ≡ names_of from ss ++ rest
     → (ops_of ss (map (reset_stream link) vs) ≡ ops_of ss vs)
-    × (behind ss (map (reset_stream link) vs) ≡ map (reset_stream link) (behind ss vs))
+    × (views_after ss (map (reset_stream link) vs) ≡ map (reset_stream link) (views_after ss vs))
 reset_other link from [] vs rest differs names = (refl, refl)
 reset_other link from (s ∷ ss) [] rest differs names = absurd cc
 reset_other link from (s ∷ ss) (v ∷ vs) rest differs names =

@@ -17,8 +17,8 @@ pub use Rattle.key_laws.specs.Places.{sent_direction}
 pub use Rattle.all_ends.specs.AllEnds.{ends_from}
 pub use Rattle.all_ends.specs.Cuts.{cut_packets}
 pub use Rattle.all_ends.specs.Places.{stream_named}
-pub use Rattle.all_ends.specs.Packets.{IsWithin, marks_from, packet_at}
-pub use Rattle.all_ends.specs.States.{AreLinks, IsBounded, IsLink, behind, name_of, names_from, names_of, ops_in}
+pub use Rattle.all_ends.specs.Packets.{IsWithin, marks_from, marked_packet}
+pub use Rattle.all_ends.specs.States.{AreLinks, IsBounded, IsLink, views_after, name_of, names_from, names_of, ops_in}
 pub use Rattle.all_ends.specs.States.{ops_of, ports_in, state_of}
 pub use Rattle.all_ends.specs.Verdicts.{arrival_verdict, marked_effect, marked_write, packet_effect, packet_write}
 pub use Rattle.all_ends.specs.Verdicts.{unit_writes}
@@ -34,10 +34,10 @@ pub use Rattle.link_verdicts.specs.declared.verdict.UnitName.{UnitName}
 unfoldable pub use Rattle.link_history.specs.Due.{choice}
 pub use Rattle.link_history.specs.Plan.{has_stream, is_closed, mode_of, streams_by_link, streams_of, with_id}
 unfoldable pub use Rattle.link_history.specs.Plan.{stream_plan}
-pub use Rattle.link_ports.specs.Machine.{Beside, LinkPacket, LinkState, Stepped, answered, empty_stream, kept_at}
-pub use Rattle.link_ports.specs.Machine.{port_at, port_place, reset_state, sealed_in, status_at, unit_name}
+pub use Rattle.link_ports.specs.Machine.{Beside, LinkPacket, LinkState, Stepped, stepped_answer, empty_stream, kept_at}
+pub use Rattle.link_ports.specs.Machine.{port_at, port_place, reset_state, stepped_seal, status_at, unit_name}
 unfoldable pub use Rattle.link_ports.specs.Machine.{find, find_op, put}
-pub use Rattle.link_ports.specs.Stands.{StandsFor, op_at, standing}
+pub use Rattle.link_ports.specs.Stands.{PortsStandFor, op_at, standing}
 pub use Rattle.link_verdicts.specs.declared.verdict.Effect.{Effect}
 pub use Rattle.link_verdicts.specs.declared.verdict.Verdict.{Verdict}
 pub use Rattle.link_walks.specs.Joined.{KeysKept}
@@ -58,7 +58,7 @@ pub use Rattle.std.specs.Prelude.{option_map, slice_get, slice_range, slice_set,
 pub use Rattle.std.specs.Prelude.{◌||◌}
 pub use Rattle.stream_rules.specs.Stream.{Failed, Held, Insecure, LiveKey, StreamState, Taken, Three, TxSub, at_sub}
 pub use Rattle.stream_rules.specs.Stream.{checked, holds_any, is_allowed, is_tagged, lanes_of, live_in, sealed_all}
-pub use Rattle.stream_rules.specs.Stream.{slot_in, taken_by, taken_under}
+pub use Rattle.stream_rules.specs.Stream.{slot_in_set, taken_by, taken_under}
 pub use Rattle.sub_stream.specs.{lent_parts, mark_of, opened_from, opened_under}
 pub use Rattle.sub_stream.specs.declared.answer.SealedPacket.{SealedPacket}
 pub use Rattle.tsm_host.specs.Managers.{ManagerView, Named, named, op_named, reset_manager}

@@ -7,10 +7,10 @@ use Rattle.all_ends.proofs.Terms.{ap, sym, ◌∙◌, subst, Option, Some, None,
 use Rattle.all_ends.proofs.Terms.{not, ◌||◌, ◌&&◌, nat_le, if◌then◌else◌, none-some, same_Some, take-append_seam}
 use Rattle.all_ends.proofs.Terms.{drop-append_seam, PortName, Plan, Packet, Effect, UnitName, sent_direction}
 use Rattle.all_ends.proofs.Terms.{StreamState, LiveKey, Taken, Insecure, Failed, Held, holds_any, is_tagged}
-use Rattle.all_ends.proofs.Terms.{is_allowed, checked, taken_under, taken_by, live_in, slot_in, at_sub, opened_from}
+use Rattle.all_ends.proofs.Terms.{is_allowed, checked, taken_under, taken_by, live_in, slot_in_set, at_sub, opened_from}
 use Rattle.all_ends.proofs.Terms.{opened_under, opened_after, LinkPacket, LinkState, unit_name, PortEnd, Found, found}
 use Rattle.all_ends.proofs.Terms.{take_step, LinkEnds, port_in, KeeperView, Grants, Write, packet_write, unit_writes}
-use Rattle.all_ends.proofs.Terms.{arrival_verdict, state_of, History, StandsFor, find, mode_of, is_closed}
+use Rattle.all_ends.proofs.Terms.{arrival_verdict, state_of, History, PortsStandFor, find, mode_of, is_closed}
 use Rattle.stream_rules.specs.Stream.{Accepted}
 use Rattle.ide_types.specs.declared.sub.SubKind.{SubKind}
 use Rattle.ide_types.specs.declared.sub.SubKind.TheVariants.{Pr, Npr, Cpl}
@@ -31,7 +31,7 @@ use Rattle.link_history.specs.Memory.{admitted_as, admitted, admitted_each, admi
 use Rattle.link_ports.specs.Stands.{rx_slot, rx_slots, receiving_key}
 unfoldable use Rattle.link_ports.specs.Stands.{standing}
 use Rattle.whole_machine.specs.Machine.{unit_taken, unit_found, unit_cut, unit_in}
-use Rattle.ide_port.specs.Arrivals.{TakeStep, arrival_of, take_found, take_read}
+use Rattle.ide_port.specs.Arrivals.{TakeStep, port_arrival, take_found, take_read}
 use Rattle.ide_port.specs.declared.answer.Arrival.{Arrival}
 use Rattle.ide_port.specs.declared.answer.Arrival.TheVariants as came
 use Rattle.all_ends.specs.Writes.{writes_by}
@@ -84,12 +84,12 @@ module _ (plan : Plan) (h : History) (port : PortName) where
       subst (λ (z : LiveKey). z.key ≡ key_of plan z.draw s) (same_Some (receiving_key plan h port s j) y is) refl
 
   slots_key : (s : SubStream) (keys : Keys) (k : Bool) (y : LiveKey)
-      → live_in (slot_in (rx_slots plan h port s keys) k) ≡ Some y → y.key ≡ key_of plan y.draw s
+      → live_in (slot_in_set (rx_slots plan h port s keys) k) ≡ Some y → y.key ≡ key_of plan y.draw s
   slots_key s keys true y is = slot_key s keys.second y is
   slots_key s keys false y is = slot_key s keys.first y is
 
   standing_key : (stream : ℕ) (u : SubKind) (k : Bool) (y : LiveKey)
-      → live_in (slot_in (at_sub (standing plan h port stream).rx u).slots k) ≡ Some y
+      → live_in (slot_in_set (at_sub (standing plan h port stream).rx u).slots k) ≡ Some y
       → y.key ≡ key_of plan y.draw (lane_in port stream u)
   unfolding standing
   standing_key stream Pr k y is =
@@ -103,7 +103,7 @@ module _ (plan : Plan) (h : History) (port : PortName) where
 
 -- the key in the slot that the packet names
 abbrev first_key : StreamState → Packet → Option LiveKey
-first_key x p = live_in (slot_in (at_sub x.rx p.prefix.sub).slots p.prefix.k)
+first_key x p = live_in (slot_in_set (at_sub x.rx p.prefix.sub).slots p.prefix.k)
 
 -- the key under which the packet ended a unit of this draw and number
 pub record IsUnder (x : StreamState) (p : Packet) (draw unit : ℕ) : Type 0 where
@@ -142,7 +142,7 @@ module _ (x : StreamState) (p : Packet) where
   taken_is mode closed =
       failed_taken x.failed _
       (under_taken mode closed (first_key x p)
-      (live_in (slot_in (at_sub x.rx p.prefix.sub).slots (not p.prefix.k))) refl)
+      (live_in (slot_in_set (at_sub x.rx p.prefix.sub).slots (not p.prefix.k))) refl)
 
 -- ---- an accepted unit
 
@@ -152,10 +152,10 @@ module _ (plan : Plan) (grants : Grants) (port : PortName) (p : Packet) where
   HasKeys x = (y : LiveKey) → first_key x p ≡ Some y
       → y.key ≡ key_of plan y.draw (lane_in port p.prefix.stream p.prefix.sub)
 
-  -- the machine's writes of an arrival that came to this, and the port's
+  -- the machine's writes of an arrival that gave this, and the port's
   taken_same : (x : StreamState) (t : Taken) → HasKeys x → IsTaken x p t
-      → unit_writes (arrival_of p t) (λ unit. admitted_in plan grants port unit (unit_taken t))
-      ≡ unit_writes (arrival_of p t) (λ unit. map (packet_write plan.memory grants port unit) (opened_after x p t))
+      → unit_writes (port_arrival p t) (λ unit. admitted_in plan grants port unit (unit_taken t))
+      ≡ unit_writes (port_arrival p t) (λ unit. map (packet_write plan.memory grants port unit) (opened_after x p t))
   unfolding open_of
   taken_same x (Accepted draw n ps) keys under =
       let unit : UnitName = unit_name p draw n in
@@ -179,7 +179,7 @@ where_it_stands true x y is = same_Some y x is
 where_it_stands false x y is = absurd (none-some x is)
 
 module _ (plan : Plan) (grants : Grants) (ends : List LinkEnds) (k : KeeperView) (packets : List LinkPacket)
-    (h : History) (port : PortName) (l : LinkEnds) (stands : StandsFor plan (state_of plan ends k packets) h)
+    (h : History) (port : PortName) (l : LinkEnds) (stands : PortsStandFor plan (state_of plan ends k packets) h)
     (is : slice_get ends port.link ≡ Some l) (at_port : IsPort plan port (port_in port.side l)) where
   abbrev now : LinkState
   now = state_of plan ends k packets
@@ -207,7 +207,7 @@ module _ (plan : Plan) (grants : Grants) (ends : List LinkEnds) (k : KeeperView)
       let t : Taken = taken_by f.plan.mode f.plan.closed f.state p in
       let mode : mode_of plan port.link id ≡ f.plan.mode = mode_at plan port here id f at_port at in
       let closed : is_closed plan port.link id ≡ f.plan.closed = closed_at plan port here id f at_port at in
-      (λ i. unit_writes (arrival_of p t)
+      (λ i. unit_writes (port_arrival p t)
       (λ unit. admitted_in plan grants port unit (unit_taken (taken_by (mode i) (closed i) f.state p))))
       ∙ taken_same plan grants port p f.state t
       (subst (λ (x : StreamState). HasKeys plan grants port p x) state

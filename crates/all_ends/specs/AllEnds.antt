@@ -8,13 +8,13 @@ use Rattle.link_events.specs.declared.event.Loss.{Loss}
 use Rattle.link_verdicts.specs.declared.verdict.Verdict.{Verdict}
 use Rattle.ide_plan.specs.declared.plan.Region.{Region}
 use Rattle.link_history.specs.Memory.{Grants}
-use Rattle.trusted_memory.specs.{Contents, Leads}
+use Rattle.trusted_memory.specs.{MemoryContents, Leads}
 use Rattle.tdi_host.specs.Managers.{granted}
 use Rattle.link_ends.specs.Hosts.{InterfacesView}
 use Rattle.tsm_host.specs.declared.operation.Op.{Op}
 use Rattle.tsm_host.specs.declared.operation.Outcome.{Outcome}
 use Rattle.ide_port.specs.declared.answer.Sent.{Sent}
-use Rattle.ide_port.specs.{IsSent, take_step, status_in}
+use Rattle.ide_port.specs.{IsSentAtPort, take_step, status_in}
 use Rattle.link_ends.specs.declared.ends.LinkEnds.{LinkEnds}
 use Rattle.link_ends.specs.Ends.{new_ends, port_in, with_port, taken_ends, trusting_at, reset_ends}
 use Rattle.all_ends.specs.Verdicts.{packet_effect, packet_write, unit_writes, arrival_verdict}
@@ -24,7 +24,7 @@ use Rattle.all_ends.specs.Places.{code_behind}
 use Rattle.link_ends.specs.declared.host.HostKeeper.{HostKeeper}
 use Rattle.link_ends.specs.Hosts.{operated_on}
 use Rattle.tdi_state.specs.Machine.{Tdi, Call}
-use Rattle.tdi_device.specs.Replies.{DeviceTdis, called_at, settled}
+use Rattle.tdi_device.specs.Replies.{DeviceTdis, called_at, settled_tdis}
 use Rattle.device_side.specs.Ends.{secure_at}
 use Rattle.tdi_host.specs.declared.operation.InterfaceOp.{InterfaceOp}
 use Rattle.tdi_host.specs.declared.operation.Outcome.{Outcome as Outcome'}
@@ -47,7 +47,7 @@ Changes old link new P = (l : LinkEnds) → slice_get old link ≡ Some l → (l
     × (new ≡ slice_set old link l') × P l l'
 
 pub record Sends (port : PortName) (tlp : List ℕ) (trusted more : Bool) (answer : Sent) (l l' : LinkEnds) : Type 0 where
-  pub sent : (number : ℕ) → IsSent (port_in port.side l) tlp (trusting_at port.side l trusted) more number answer
+  pub sent : (number : ℕ) → IsSentAtPort (port_in port.side l) tlp (trusting_at port.side l trusted) more number answer
       (port_in port.side l')
   pub other : l' ≡ with_port port.side (port_in port.side l') l
 
@@ -60,7 +60,7 @@ abbrev pub grants_in : InterfacesView → Grants
 grants_in m link requester = granted m link requester
 
 pub record Arrives (regions : List Region) (grants : Grants) (port : PortName) (bytes : List ℕ) (verdict : Verdict)
-    (m n : Contents) (l l' : LinkEnds) : Type 0 where
+    (m n : MemoryContents) (l l' : LinkEnds) : Type 0 where
   pub ends : l' ≡ taken_ends port.side (take_step (port_in port.side l) bytes).port l
   pub verdict_is : let step = take_step (port_in port.side l) bytes in
       verdict ≡ arrival_verdict port step.answer
@@ -68,14 +68,15 @@ pub record Arrives (regions : List Region) (grants : Grants) (port : PortName) (
   pub written : let step = take_step (port_in port.side l) bytes in
       Leads m (unit_writes step.answer (λ unit. map (packet_write regions grants port unit) step.port.delivered)) n
 
-abbrev pub ArrivesAt : List LinkEnds → List Region → Grants → PortName → List ℕ → Verdict → Contents → Contents
+abbrev pub ArrivesAt : List LinkEnds → List Region → Grants → PortName → List ℕ → Verdict → MemoryContents
+    → MemoryContents
     → List LinkEnds → Type 0
 ArrivesAt old regions grants port bytes verdict m n new =
     Changes old port.link new (λ l l'. Arrives regions grants port bytes verdict m n l l')
 
 -- the device's interfaces leave their lock if their stream is no longer Secure at its port
 abbrev pub Settles : LinkEnds → LinkEnds → Type 0
-Settles l l' = l'.device.interfaces ≡ settled (secure_at l'.device.port) l.device.interfaces
+Settles l l' = l'.device.interfaces ≡ settled_tdis (secure_at l'.device.port) l.device.interfaces
 
 abbrev pub OperatesAt : List LinkEnds → ℕ → KeeperView → Op → Option Loss → Outcome → List LinkEnds
     → KeeperView → Type 0
@@ -124,5 +125,5 @@ abbrev pub both_of : Option StreamStatus → Option StreamStatus → Option (Str
 both_of (Some host) (Some device) = Some (host, device)
 both_of host device = None
 
-abbrev pub status_of : LinkEnds → ℕ → Option (StreamStatus × StreamStatus)
-status_of l stream = both_of (status_in l.host stream) (status_in l.device.port stream)
+abbrev pub statuses_of : LinkEnds → ℕ → Option (StreamStatus × StreamStatus)
+statuses_of l stream = both_of (status_in l.host stream) (status_in l.device.port stream)

@@ -11,8 +11,8 @@ pub record KeptPackets : Type 0 where
   pub mark_room : ℕ
 
 -- the packet of a mark
-abbrev pub packet_at : List ℕ → Mark → LinkPacket
-packet_at bytes m = record { port = m.port; bytes = slice_range bytes m.start m.end }
+abbrev pub marked_packet : List ℕ → Mark → LinkPacket
+marked_packet bytes m = record { port = m.port; bytes = slice_range bytes m.start m.end }
 
 abbrev pub IsWithin : List ℕ → Mark → Type 0
 IsWithin bytes m = (m.start ≤ m.end) × (m.end ≤ length bytes)

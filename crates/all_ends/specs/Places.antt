@@ -1,11 +1,11 @@
--- Streams and interfaces by their numbers, and what a call of an interface comes to.
+-- Streams and interfaces by their numbers, and what a call of an interface gives.
 use Rattle.std.specs.Prelude.{ℕ, ◌+◌, ◌-◌, nat_lt, nat_le, if◌then◌else◌, List, [], ◌∷◌, length, Option, Some, None}
 use Rattle.std.specs.Prelude.{is_some}
 use Rattle.tsm_host.specs.Managers.{ManagerView, named}
 use Rattle.tdi_state.specs.Machine.{Tdi, Call, tdi_after, state_code}
 use Rattle.link_ends.specs.declared.ends.LinkEnds.{LinkEnds}
 
--- the link and the stream, where one of so many links has the stream
+-- the link and the stream, if one of so many links has the stream
 abbrev pub stream_named : ManagerView → ℕ → ℕ → ℕ → Option (ℕ × ℕ)
 stream_named m links link stream =
     if nat_lt link links

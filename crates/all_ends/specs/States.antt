@@ -26,15 +26,15 @@ ops_of [] vs = []
 ops_of (s ∷ ss) [] = []
 ops_of (s ∷ ss) (v ∷ vs) = v.op ∷ ops_of ss vs
 
-abbrev pub behind : List StreamPlan → List StreamView → List StreamView
-behind [] vs = vs
-behind (s ∷ ss) [] = []
-behind (s ∷ ss) (v ∷ vs) = behind ss vs
+abbrev pub views_after : List StreamPlan → List StreamView → List StreamView
+views_after [] vs = vs
+views_after (s ∷ ss) [] = []
+views_after (s ∷ ss) (v ∷ vs) = views_after ss vs
 
 -- of each link the operations on its streams
 abbrev pub ops_in : List (List StreamPlan) → List StreamView → List (List Op)
 ops_in [] vs = []
-ops_in (ss ∷ links) vs = ops_of ss vs ∷ ops_in links (behind ss vs)
+ops_in (ss ∷ links) vs = ops_of ss vs ∷ ops_in links (views_after ss vs)
 
 abbrev pub state_of : Plan → List LinkEnds → KeeperView → List LinkPacket → LinkState
 state_of plan ends k packets = record {

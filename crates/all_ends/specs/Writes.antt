@@ -9,7 +9,7 @@ use Rattle.link_ports.specs.Machine.{LinkState}
 use Rattle.trusted_memory.specs.{Write}
 use Rattle.whole_machine.specs.Machine.{unit_in}
 
--- the writes of the unit that the arrival ends, where it was accepted
+-- the writes of the unit that the arrival ends, if it was accepted
 abbrev pub writes_by : Plan → Grants → LinkState → Option Arrival → Verdict → List (Option Write)
 writes_by plan grants st arrival (v.Accepted port unit effects) =
     admitted_in plan grants port unit (unit_in plan st arrival)

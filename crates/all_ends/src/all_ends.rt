@@ -30,7 +30,7 @@ use tdi_host::InterfaceOp;
 use trusted_memory::Trusted;
 use tsm_host::{Op, Outcome};
 
-/// The ends of all links, by number.
+/// The ends of all links, by number (PCI Express Base 6.0 section 6.33 and chapter 11, in this profile).
 #[derive(Drop)]
 pub struct AllEnds {
     links: Vec<LinkEnds>,
@@ -67,10 +67,10 @@ impl AllEnds {
       CallsAt,
       IsThere,
       ResetsAt,
-      status_of,
+      statuses_of,
     };
 
-    /// The ends of the plan's links, without keys.
+    /// The ends of the plan's links, without keys. Returns `Memory` for want of memory.
     pub fn make(alloc: Global, plan: &Plan) -> Result<AllEnds, Memory>
         requires { FitsPlan plan.now }
         ensures { IfOk result (λ a. a ≡ ends_from plan.now.units_per_key 0 plan.now.links) }
@@ -140,13 +140,14 @@ impl AllEnds {
     {
         let ends = &mut self.links[port.link as usize];
         let arrival = ends.take(port.side, bytes);
-        taken_verdict(port, arrival, ends, keeper, memory)
+        let packets = ends.delivered(port.side);
+        taken_verdict(port, arrival, &packets, keeper, memory)
     }
 
     /// The states of a stream of a link at the host's port and at the device's; `None` if the link has no such stream.
     pub fn status(&self, link: u8, stream: u8) -> Option<(StreamStatus, StreamStatus)>
         requires { link < length self.now }
-        ensures { (l : LinkEnds) → slice_get self.now link ≡ Some l → result ≡ status_of l stream }
+        ensures { (l : LinkEnds) → slice_get self.now link ≡ Some l → result ≡ statuses_of l stream }
     {
         let ends = &self.links[link as usize];
         match ends.status(Side::Host, stream) {

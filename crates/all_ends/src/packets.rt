@@ -36,12 +36,12 @@ pub struct Packets {
 
 impl Model for Packets {
     ghost use Rattle.std.specs.Prelude.{◌-◌, All, map, vec_len, vec_capacity};
-    ghost use Rattle.all_ends.specs.Packets.{KeptPackets, packet_at, IsWithin};
+    ghost use Rattle.all_ends.specs.Packets.{KeptPackets, marked_packet, IsWithin};
 
     ghost Value = { KeptPackets };
 
     ghost view = { λ p. record {
-      packets = map (packet_at p.bytes.items) p.marks.items;
+      packets = map (marked_packet p.bytes.items) p.marks.items;
       byte_room = vec_capacity p.bytes - vec_len p.bytes;
       mark_room = vec_capacity p.marks - vec_len p.marks;
     } };

@@ -10,7 +10,6 @@ ghost use Rattle.trusted_memory.specs.{Leads};
 ghost use Rattle.sub_stream.specs.{numbered};
 ghost use Rattle.ide_stream.specs.{refusal_verdict as verdict_refused, numbered_from};
 ghost use Rattle.ide_port.specs.{sent_verdict};
-ghost use Rattle.link_ends.specs.Ends.{port_in};
 ghost use Rattle.all_ends.specs.AllEnds.{grants_in};
 ghost use Rattle.all_ends.specs.Verdicts.{head_effect, head_write, marked_effect, marked_write, packet_effect};
 ghost use Rattle.all_ends.specs.Verdicts.{packet_write, unit_writes, arrival_verdict};
@@ -20,9 +19,8 @@ use fault_words::{packet_word, tlp_word};
 use ide_port::{Arrival, Sent};
 use ide_stream::SendRefusal;
 use ide_types::{PortName, Side};
-use link_ends::LinkEnds;
 use link_verdicts::{Effect, Effects, SealedPacket, SealedPackets, UnitName, Verdict};
-use sub_stream::PacketMark;
+use sub_stream::{Delivered, PacketMark};
 use tdi_ends::InterfaceKeeper;
 use tlp_layout::{HeadView, TlpView, read_head};
 use trusted_memory::{Grant, Trusted, packets_in_turn};
@@ -88,7 +86,7 @@ fn refused(refusal: SendRefusal) -> Verdict
     }
 }
 
-/// The verdict of a send at a port, whose first sealed packet has this number over the run.
+/// The verdict of a send at a port, whose first sealed packet has this number over the run (this profile).
 pub fn send_verdict(port: PortName, number: u64, sent: &Sent) -> Verdict
     requires { number ≤ 2 ^ 63 }
     ensures { result ≡ sent_verdict port number sent.now }
@@ -178,49 +176,48 @@ fn effect(
     }
 }
 
-// The effect of each packet of the unit that a port accepted last.
+// The effect of each packet of the unit that a port accepted.
 fn effects(
     port: PortName,
     unit: UnitName,
-    ends: &LinkEnds,
+    packets: &Delivered,
     keeper: &InterfaceKeeper,
     memory: &mut Trusted,
 ) -> Effects
     requires { 8 ≤ memory.old.spare }
     ensures effects { let regions = memory.old.contents.regions in
-        result ≡ map (packet_effect regions (grants_in keeper.now) port unit) (port_in port.side ends.now).delivered }
+        result ≡ map (packet_effect regions (grants_in keeper.now) port unit) packets.now }
     ensures regions { memory.new.contents.regions ≡ memory.old.contents.regions }
     ensures leads { let regions = memory.old.contents.regions in
-        let delivered = (port_in port.side ends.now).delivered in
-        let writes = map (packet_write regions (grants_in keeper.now) port unit) delivered in
+        let writes = map (packet_write regions (grants_in keeper.now) port unit) packets.now in
         Leads memory.old.contents writes memory.new.contents }
 {
     packets_in_turn();
     let mut list = Effects::new();
-    for i in 0..ends.delivered(port.side) {
-        let mark = ends.mark(port.side, i);
-        let (header, payload) = ends.packet(port.side, i);
+    for i in 0..packets.count() {
+        let mark = packets.mark(i);
+        let (header, payload) = packets.packet(i);
         list.push(effect(port, unit, mark, header, payload, keeper, memory));
     }
     list
 }
 
-/// The verdict of an arrival at a port; `ends` lend what an accepted unit carries.
+/// The verdict of an arrival at a port; `packets` are those of the unit, if one was accepted (this profile).
 pub fn taken_verdict(
     port: PortName,
     arrival: Arrival,
-    ends: &LinkEnds,
+    packets: &Delivered,
     keeper: &InterfaceKeeper,
     memory: &mut Trusted,
 ) -> Verdict
     requires { 8 ≤ memory.old.spare }
     ensures verdict { let regions = memory.old.contents.regions in
         result ≡ arrival_verdict port arrival (λ unit. map (packet_effect regions (grants_in keeper.now) port unit)
-        (port_in port.side ends.now).delivered) }
+        packets.now) }
     ensures regions { memory.new.contents.regions ≡ memory.old.contents.regions }
     ensures leads { let regions = memory.old.contents.regions in
         Leads memory.old.contents (unit_writes arrival (λ unit. map (packet_write regions (grants_in keeper.now) port
-        unit) (port_in port.side ends.now).delivered)) memory.new.contents }
+        unit) packets.now)) memory.new.contents }
 {
     match arrival {
         Arrival::Malformed(fault) => Verdict::Malformed {
@@ -242,7 +239,7 @@ pub fn taken_verdict(
         Arrival::Accepted(unit, _) => Verdict::Accepted {
             port,
             unit,
-            effects: effects(port, unit, ends, keeper, memory),
+            effects: effects(port, unit, packets, keeper, memory),
         },
     }
 }

@@ -1,4 +1,4 @@
--- Events on interfaces. One is found by its number among the devices of all links; behind an event on it the ports and
+-- Events on interfaces. One is found by its number among the devices of all links; after an event on it the ports and
 -- the manager's streams are as before, since only the interfaces of its device change, and what the manager knows of
 -- it.
 use Rattle.all_links.proofs.Terms.{◌≡◌, ℕ, suc, zero, ◌+◌, ◌-◌, ◌<◌, Bool, true, false, List, [], ◌∷◌, length, refl, ap}
@@ -6,26 +6,27 @@ use Rattle.all_links.proofs.Terms.{sym, ◌∙◌, subst, arith, nat_tests, Opti
 use Rattle.all_links.proofs.Terms.{nat_lt, option_map, if◌then◌else◌, option_and_then, none-some, same_Some}
 use Rattle.all_links.proofs.Terms.{slice_get_within, Verdict}
 use Rattle.all_links.proofs.Terms.{StreamState, LinkEnds, Links, InterfacesView, KeeperView, ports_in, IsBounded}
-use Rattle.all_links.proofs.Terms.{links_state, EndsWith}
+use Rattle.all_links.proofs.Terms.{links_state, EndsWith, Stepped, Interface, answer_of_links}
 use Rattle.std.specs.Prelude.{IfSome}
-use Rattle.std.specs.Option.{unwrap_or}
 use Rattle.link_verdicts.specs.declared.verdict.Verdict.TheVariants as v
 use Rattle.tdi_state.specs.Machine.{Tdi, Call}
 use Rattle.tdi_device.specs.Replies.{DeviceTdis, called_at}
 use Rattle.tdi_host.specs.declared.operation.InterfaceOp.{InterfaceOp}
+use Rattle.tdi_host.specs.declared.operation.InterfaceOp.TheVariants as op
 use Rattle.tdi_host.specs.declared.operation.Outcome.{Outcome}
 use Rattle.tdi_host.specs.declared.operation.Outcome.TheVariants.{Next, Done, Refused}
 use Rattle.tdi_host.specs.Views.{HostTdi}
 use Rattle.tdi_ends.specs.Keepers.{Ended}
+use Rattle.link_events.specs.declared.event.InterfaceEvent.{InterfaceEvent}
 use Rattle.link_events.specs.declared.event.Loss.{Loss}
 use Rattle.link_ends.specs.Hosts.{operated_on}
 use Rattle.link_ends.specs.declared.host.HostKeeper.{HostKeeper}
 use Rattle.all_ends.specs.AllEnds.{IsThere, CallsAt, AsksAt}
-use Rattle.all_links.specs.Interfaces.{interface_named, tdi_named, tdi_at, ended_in, ended_at}
+use Rattle.all_links.specs.Interfaces.{interface_named, tdi_named, tdi_of_ends, ended_in, ended_at}
 use Rattle.all_ends.specs.Places.{located, code_behind}
-use Rattle.all_links.specs.Interfaces.{ended_on, asked_in, verdict_in, link_named}
-use Rattle.all_links.specs.Besides.{verdict_asked}
-use Rattle.interface_joins.specs.Verdicts.{asked_as, report_of}
+use Rattle.all_links.specs.Interfaces.{ended_on, verdict_in, link_named}
+use Rattle.interface_joins.specs.Verdicts.{asked_as, op_event, report_of}
+use Rattle.all_links.proofs.Finds.{answers, only_says}
 use Rattle.all_ends.proofs.Finds.{there, ports_same, as_before, KeepsEnds, links_kept, bounded_kept}
 
 pub if_some : {A : Type 0} (P : A → Type 0) (o : Option A) (x : A) → o ≡ Some x → IfSome o P → P x
@@ -108,12 +109,12 @@ is_found m ends n at named =
       link_there = link_there;
       tdi_there = t.1;
       kept_there = k.1;
-      named_is = ap (λ (o : Option (ℕ × ℕ)). option_and_then (tdi_at ends) o) (sym named) ∙ tdi_is at x.ends_at t.0
+      named_is = ap (λ (o : Option (ℕ × ℕ)). option_and_then (tdi_of_ends ends) o) (sym named) ∙ tdi_is at x.ends_at t.0
           link_there t.1;
     }
   where
     tdi_is : (at : ℕ × ℕ) (l : LinkEnds) (tdi : Tdi) → slice_get ends at.0 ≡ Some l
-        → slice_get l.device.interfaces.interfaces at.1 ≡ Some tdi → tdi_at ends at ≡ Some tdi
+        → slice_get l.device.interfaces.interfaces at.1 ≡ Some tdi → tdi_of_ends ends at ≡ Some tdi
     tdi_is at l tdi link_there tdi_there = rw link_there tdi_there
 
 pub is_there : (m : InterfacesView) (ends : List LinkEnds) (n : ℕ) (at : ℕ × ℕ) → Some at ≡ interface_named m ends n
@@ -143,52 +144,94 @@ keeps_interfaces : (l : LinkEnds) (d : DeviceTdis) → KeepsEnds l (with_interfa
 keeps_interfaces l d = record { host = as_before l.host; device = as_before l.device.port; requester = refl }
 
 pub interfaces_change : (old : Links) (link : ℕ) (l : LinkEnds) (d : DeviceTdis) (ends : List LinkEnds)
-    (m : InterfacesView) (verdict w : Verdict)
-    → verdict ≡ w → slice_get old.ends link ≡ Some l → ends ≡ slice_set old.ends link (with_interfaces l d)
+    (m : InterfacesView) (verdict : Verdict) (e : InterfaceEvent)
+    → Some verdict ≡ answer_of_links old e → slice_get old.ends link ≡ Some l
+    → ends ≡ slice_set old.ends link (with_interfaces l d)
     → IsBounded old.ends old.packets.packets old.steps
     → EndsWith verdict old
     (record old { ends = ends; keeper = record { keys = old.keeper.keys; interfaces = m }; steps = old.steps + 1 })
-    (λ plan st. (w, st))
-interfaces_change old link l d ends m verdict w says is ends_is bounded =
+    (Interface e)
+interfaces_change old link l d ends m verdict e due is ends_is bounded =
     let k : KeeperView = old.keeper.keys in
     let l2 : LinkEnds = with_interfaces l d in
     subst (λ (xs : List LinkEnds). EndsWith verdict old
-    (record old { ends = xs; keeper = record { keys = k; interfaces = m }; steps = old.steps + 1 })
-    (λ plan st. (w, st)))
+    (record old { ends = xs; keeper = record { keys = k; interfaces = m }; steps = old.steps + 1 }) (Interface e))
     (sym ends_is)
     (record {
       counted = refl;
       regions = refl;
       bounded = bounded_kept old.ends old.packets.packets old.packets.packets old.steps link l l2 bounded is
           (omega arith) (omega arith) bounded.sealed_here;
-      ends = λ plan h links stands.
+      ends = λ answer by plan h links stands.
+          let step = sym (answers old due answer by plan (links_state plan old)) in
           let ports : ports_in (slice_set old.ends link l2) ≡ ports_in old.ends =
           ports_same old.ends link l2 l refl refl ∙ ap ports_in (set_back old.ends link l is) in
           record {
-            verdict_is = says;
-            state_is = ap (λ (ps : List (List StreamState)). record (links_state plan old) { ports = ps }) ports;
+            verdict_is = ap (λ (x : Stepped). x.0) step;
+            state_is = ap (λ (ps : List (List StreamState)). record (links_state plan old) { ports = ps }) ports
+                ∙ ap (λ (x : Stepped). x.1) step;
             links = links_kept plan old.ends k k link l l2 links is (keeps_interfaces l d) refl links.kept refl;
           };
     })
 
 -- a call of the interface
 pub called : (old : Links) (n : ℕ) (at : ℕ × ℕ) (call : Call) (code : ℕ) (ends : List LinkEnds) (new : Links)
-    (verdict : Verdict) (w : ℕ → Verdict)
-    → Some at ≡ interface_named old.keeper.interfaces old.ends n → CallsAt old.ends at.0 at.1 call code ends → verdict
-    ≡ w code → new ≡ record old { ends = ends; steps = old.steps + 1 }
-    → IsBounded old.ends old.packets.packets old.steps
-    → (tdi : Tdi) × (tdi_named old.keeper.interfaces old.ends n ≡ Some tdi)
-    × EndsWith verdict old new (λ plan st. (w (code_behind tdi call), st))
-called old n at call code ends new verdict w named calls says new_is bounded =
+    (verdict : Verdict) (e : InterfaceEvent) (w : ℕ → Verdict)
+    → Some at ≡ interface_named old.keeper.interfaces old.ends n → CallsAt old.ends at.0 at.1 call code ends
+    → ((tdi : Tdi) → tdi_named old.keeper.interfaces old.ends n ≡ Some tdi
+    → Some (w (code_behind tdi call)) ≡ answer_of_links old e)
+    → verdict ≡ w code → new ≡ record old { ends = ends; steps = old.steps + 1 }
+    → IsBounded old.ends old.packets.packets old.steps → EndsWith verdict old new (Interface e)
+called old n at call code ends new verdict e w named calls due says new_is bounded =
     let x = is_found old.keeper.interfaces old.ends n at named in
-    let a = calls x.ends_at x.link_there in (
-      x.tdi,
-      x.named_is,
-      subst (λ (q : Links). EndsWith verdict old q (λ plan st. (w (code_behind x.tdi call), st))) (sym new_is)
-          (interfaces_change old at.0 x.ends_at (called_at x.ends_at.device.interfaces at.1 x.tdi call) ends
-          old.keeper.interfaces verdict (w (code_behind x.tdi call))
-          (says ∙ ap w (a.2.code_is x.tdi x.tdi_there)) x.link_there
-          (a.1 ∙ ap (λ (y : LinkEnds). slice_set old.ends at.0 y) (a.2.ends x.tdi x.tdi_there)) bounded),
+    let a = calls x.ends_at x.link_there in
+    subst (λ (q : Links). EndsWith verdict old q (Interface e)) (sym new_is)
+    (interfaces_change old at.0 x.ends_at (called_at x.ends_at.device.interfaces at.1 x.tdi call) ends
+    old.keeper.interfaces verdict e
+    (ap (λ (y : Verdict). Some y) (says ∙ ap w (a.2.code_is x.tdi x.tdi_there)) ∙ due x.tdi x.named_is) x.link_there
+    (a.1 ∙ ap (λ (y : LinkEnds). slice_set old.ends at.0 y) (a.2.ends x.tdi x.tdi_there)) bounded)
+
+-- ---- operations
+
+by_operation : (old : Links) (n : ℕ) (o : InterfaceOp) (loss : Option Loss)
+    → verdict_in n o loss (ended_in old.keeper.interfaces old.ends old.keeper.keys.pool.draws n o loss)
+    ≡ answer_of_links old (op_event o n loss)
+by_operation old n op.Lock loss = refl
+by_operation old n op.Report loss = refl
+by_operation old n op.Start loss = refl
+by_operation old n op.Halt loss = refl
+by_operation old n op.State loss = refl
+
+-- on no interface
+pub asked_nowhere : {verdict : Verdict} {old new : Links} (n : ℕ) (o : InterfaceOp) (loss : Option Loss)
+    → None ≡ interface_named old.keeper.interfaces old.ends n → verdict ≡ v.Nothing
+    → new ≡ record old { steps = old.steps + 1 } → IsBounded old.ends old.packets.packets old.steps
+    → EndsWith verdict old new (Interface (op_event o n loss))
+asked_nowhere {verdict} {old} {new} n o loss nowhere says is bounded =
+    only_says (op_event o n loss)
+    (ap (λ (p : Option (ℕ × ℕ)). verdict_in n o loss
+    (ended_at old.keeper.interfaces old.ends old.keeper.keys.pool.draws n o loss p)) nowhere
+    ∙ by_operation old n o loss) says is bounded
+
+-- what it came to at both ends has the verdict that it is due
+came_to : (old : Links) (n : ℕ) (at : ℕ × ℕ) (o : InterfaceOp) (loss : Option Loss) (outcome : Outcome)
+    (ends : List LinkEnds) (k : HostKeeper) → Some at ≡ interface_named old.keeper.interfaces old.ends n
+    → AsksAt old.ends at.0 old.keeper n o loss outcome ends k
+    → (e : Ended) × (k.interfaces ≡ e.manager)
+    × (asked_as n loss (report_of o e) outcome ≡ answer_of_links old (op_event o n loss))
+came_to old n at o loss outcome ends k named asks =
+    let m : InterfacesView = old.keeper.interfaces in
+    let draws : ℕ = old.keeper.keys.pool.draws in
+    let x = is_found m old.ends n at named in
+    let e : Ended = operated_on n o loss draws m x.ends_at x.kept in
+    let a = asks x.ends_at x.link_there in
+    let is = a.2.ended x.kept x.kept_there in (
+      e,
+      is.manager_is,
+      ap (λ (z : Outcome). asked_as n loss (report_of o e) z) is.outcome_is
+          ∙ sym (λ i. verdict_in n o loss (ended_on m draws n o loss (x.link_there i) (x.kept_there i)))
+          ∙ ap (λ (p : Option (ℕ × ℕ)). verdict_in n o loss (ended_at m old.ends draws n o loss p)) named
+          ∙ by_operation old n o loss,
     )
 
 -- a report does not say whether an operation has a verdict
@@ -205,24 +248,14 @@ link_of (Some at) link is = (at, refl, same_Some at.0 link is)
 
 pub answered : (old : Links) (n link : ℕ) (o : InterfaceOp) (loss : Option Loss) (outcome : Outcome)
     (ends : List LinkEnds) (k : HostKeeper) → link_named old.keeper.interfaces old.ends n ≡ Some link
-    → AsksAt old.ends link old.keeper n o loss outcome ends k → IsSome (verdict_asked old n o loss)
+    → AsksAt old.ends link old.keeper n o loss outcome ends k → IsSome (answer_of_links old (op_event o n loss))
     → (report : List ℕ) → IsSome (asked_as n loss report outcome)
 answered old n link o loss outcome ends k here asks some report =
-    let m : InterfacesView = old.keeper.interfaces in
-    let draws : ℕ = old.keeper.keys.pool.draws in
-    let at = link_of (interface_named m old.ends n) link here in
-    let x = is_found m old.ends n at.0 at.1 in
-    let a = asks x.ends_at (ap (λ (i : ℕ). slice_get old.ends i) (sym at.2) ∙ x.link_there) in
-    let e : Ended = operated_on n o loss draws m x.ends_at x.kept in
-    let came : ended_in m old.ends draws n o loss ≡ Some e =
-    ap (λ (p : Option (ℕ × ℕ)). ended_at m old.ends draws n o loss p) (sym at.1)
-    ∙ (λ i. ended_on m draws n o loss (x.link_there i) (x.kept_there i)) in
-    any_report n loss (report_of o e) report outcome
-    (subst (λ (z : Outcome). IsSome (asked_as n loss (report_of o e) z))
-    (sym (a.2.ended x.kept x.kept_there).outcome_is)
-    (subst (λ (y : Option Ended). IsSome (verdict_in n o loss y)) came some))
+    let at = link_of (interface_named old.keeper.interfaces old.ends n) link here in
+    let x = came_to old n at.0 o loss outcome ends k at.1
+    (subst (λ (i : ℕ). AsksAt old.ends i old.keeper n o loss outcome ends k) (sym at.2) asks) in
+    any_report n loss (report_of o x.0) report outcome (subst (λ (y : Option Verdict). IsSome y) (sym x.2) some)
 
--- an operation on it
 pub operated_as : (old : Links) (n : ℕ) (at : ℕ × ℕ) (o : InterfaceOp) (loss : Option Loss) (outcome : Outcome)
     (ends : List LinkEnds) (k : HostKeeper) (new : Links) (verdict : Verdict)
     (report : List ℕ)
@@ -231,26 +264,15 @@ pub operated_as : (old : Links) (n : ℕ) (at : ℕ × ℕ) (o : InterfaceOp) (l
     → asked_as n loss report outcome ≡ Some verdict → ((e : Ended) → k.interfaces ≡ e.manager → report ≡ report_of o e)
     → new ≡ record old { ends = ends; keeper = k; steps = old.steps + 1 }
     → IsBounded old.ends old.packets.packets old.steps
-    → EndsWith verdict old new
-    (λ plan st. (asked_in n o loss (ended_in old.keeper.interfaces old.ends old.keeper.keys.pool.draws n o loss), st))
+    → EndsWith verdict old new (Interface (op_event o n loss))
 operated_as old n at o loss outcome ends k new verdict report named asks says reads new_is bounded =
-    let m : InterfacesView = old.keeper.interfaces in
-    let draws : ℕ = old.keeper.keys.pool.draws in
-    let x = is_found m old.ends n at named in
+    let x = is_found old.keeper.interfaces old.ends n at named in
     let a = asks x.ends_at x.link_there in
-    let e : Ended = operated_on n o loss draws m x.ends_at x.kept in
-    let is = a.2.ended x.kept x.kept_there in
-    let came : ended_in m old.ends draws n o loss ≡ Some e =
-    ap (λ (p : Option (ℕ × ℕ)). ended_at m old.ends draws n o loss p) (sym named)
-    ∙ (λ i. ended_on m draws n o loss (x.link_there i) (x.kept_there i)) in
-    let due : verdict ≡ asked_in n o loss (ended_in m old.ends draws n o loss) =
-    sym (ap (λ (w : Option Verdict). unwrap_or w v.Nothing) (ap (λ (y : Option Ended). verdict_in n o loss y) came
-    ∙ sym (λ i. asked_as n loss (reads e is.manager_is i) (is.outcome_is i)) ∙ says)) in
-    subst (λ (q : Links). EndsWith verdict old q
-    (λ plan st. (asked_in n o loss (ended_in m old.ends draws n o loss), st))) (sym new_is)
+    let came = came_to old n at o loss outcome ends k named asks in
+    let due : Some verdict ≡ answer_of_links old (op_event o n loss) =
+    sym says ∙ ap (λ (r : List ℕ). asked_as n loss r outcome) (reads came.0 came.1) ∙ came.2 in
+    subst (λ (q : Links). EndsWith verdict old q (Interface (op_event o n loss))) (sym new_is)
     (subst (λ (q : HostKeeper). EndsWith verdict old (record old { ends = ends; keeper = q; steps = old.steps + 1 })
-    (λ plan st. (asked_in n o loss (ended_in m old.ends draws n o loss), st)))
-    (λ i. record { keys = sym a.2.keys i; interfaces = k.interfaces })
-    (interfaces_change old at.0 x.ends_at a.0.device.interfaces ends k.interfaces verdict
-    (asked_in n o loss (ended_in m old.ends draws n o loss)) due x.link_there
-    (a.1 ∙ ap (λ (y : LinkEnds). slice_set old.ends at.0 y) a.2.ends) bounded))
+    (Interface (op_event o n loss))) (λ i. record { keys = sym a.2.keys i; interfaces = k.interfaces })
+    (interfaces_change old at.0 x.ends_at a.0.device.interfaces ends k.interfaces verdict (op_event o n loss) due
+    x.link_there (a.1 ∙ ap (λ (y : LinkEnds). slice_set old.ends at.0 y) a.2.ends) bounded))

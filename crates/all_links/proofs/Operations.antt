@@ -1,22 +1,25 @@
--- An operation at both ends of a link, as the machine has it. That the walk at the ends of one stream comes to the
--- machine's verdict and moves is given (`OperationsJoin`); here it is set among all links: the host's port changes,
--- then the device's, and the operation in the manager's list, of which each link has a stretch of its own. The pool
--- draws as the machine says, since an operation that is not refused came to one of its exchanges.
+-- An operation at both ends of a link, as the machine has it. `OperationsJoin` says that the walk at the ends of one
+-- stream gives the machine's verdict and moves; here it is set among all links: the host's port changes, then the
+-- device's, and the operation in the manager's list, in which each link has a stretch of its own. The pool draws as the
+-- machine says, since an operation that is not refused reached one of its exchanges.
 use Rattle.all_links.proofs.Terms.{Beside, InterfacesView, ◌≡◌, ℕ, suc, zero, ◌+◌, ◌==◌, ◌<◌, Bool, true, false, List}
 use Rattle.all_links.proofs.Terms.{[], ◌∷◌, ◌++◌, length, refl, ap, sym, ◌∙◌, subst, arith, Option, Some, None}
 use Rattle.all_links.proofs.Terms.{option_map, is_some, IsSome, slice_get, slice_set, map, slice_index_or}
 use Rattle.all_links.proofs.Terms.{same_Some, slice_get_within, nat_tests, set-get_or, Side, Host, Device, PortName}
 use Rattle.all_links.proofs.Terms.{Plan, StreamPlan, Verdict, Pool, Op, Work, Reach, work_of}
 use Rattle.all_links.proofs.Terms.{reach_of, History, StreamState, streams_of, streams_by_link, stream_plan}
-use Rattle.all_links.proofs.Terms.{LinkState, LinkPacket, Stepped, find_op, put, put_op, port_at, end_at, ports_of}
-use Rattle.all_links.proofs.Terms.{moves_at, moved_found, moved_at, moved_state, work_done, operated}
-use Rattle.all_links.proofs.Terms.{step_of, StandsFor, StreamView, HostView, asked_in, outcome_of, refusal_of, unless}
+use Rattle.all_links.proofs.Terms.{LinkState, LinkPacket, Stepped, find_op, put, put_op, port_at, place_at_end}
+use Rattle.all_links.proofs.Terms.{ports_of}
+use Rattle.all_links.proofs.Terms.{moves_at, moved_found, moved_at, moved_state, work_done, stepped_operation}
+use Rattle.all_links.proofs.Terms.{step_of, PortsStandFor, StreamView, HostView, asked_in, outcome_of, refusal_of}
+use Rattle.all_links.proofs.Terms.{unless}
 use Rattle.all_links.proofs.Terms.{begun_pool, ManagerView, Named, named, op_named, pool_begun, host_of, KeysKept}
 use Rattle.all_links.proofs.Terms.{moved_by, draws_by, verdict_due, pool_by, IsJoined, OperationsJoin, PortEnd, Found}
 use Rattle.all_links.proofs.Terms.{found, changed, LinkEnds, Links, with_port, operation_event, KeeperView, HasStream}
-use Rattle.all_links.proofs.Terms.{IsOn, IsWalked, IsOperated, Operates, ends_found, OperatesAt, ops_in, ops_of, behind}
+use Rattle.all_links.proofs.Terms.{IsAtBothEnds, IsWalked, IsOperated, Operates, ends_found, OperatesAt, ops_in, ops_of}
+use Rattle.all_links.proofs.Terms.{views_after}
 use Rattle.all_links.proofs.Terms.{name_of, names_of, state_of, IsBounded, IsLink, AreLinks, links_state, Ends}
-use Rattle.all_links.proofs.Terms.{EndsWith, port_in, changed_same, IsNamed, named_stands, set_named}
+use Rattle.all_links.proofs.Terms.{EndsWith, beside_in, port_in, changed_same, IsNamed, named_stands, set_named}
 use Rattle.ide_types.specs.declared.sub.SubKind.{SubKind}
 use Rattle.link_events.specs.declared.event.Loss.{Loss}
 use Rattle.link_verdicts.specs.declared.verdict.Operation.{Operation}
@@ -33,18 +36,19 @@ use Rattle.tsm_host.specs.declared.stage.Asked.{Asked}
 use Rattle.tsm_host.specs.Operations.{OpName, op_name}
 use Rattle.tsm_host.specs.Exchanges.{WireKeys}
 use Rattle.tsm_host.specs.Walk.{verdict_of, op_by}
-use Rattle.link_walks.specs.Walks.{StreamEnds, exchanged, Walked, goes_on, outcome_next, walk_on, walked_unless}
+use Rattle.link_walks.specs.Walks.{StreamEnds, exchanged, WalkedEnds, goes_on, outcome_next, walk_on}
+use Rattle.link_walks.specs.Walks.{walked_ends_unless}
 use Rattle.link_walks.specs.Walks.{begun_ends, event_walk}
 use Rattle.link_walks.proofs.Works.{is_asked, refused_reach}
-use Rattle.all_links.specs.Links.{Standing}
+use Rattle.all_links.specs.Links.{StandsForSome}
 use Rattle.all_ends.proofs.Managers.{Apart, ops_changed}
 use Rattle.all_ends.proofs.Finds.{there, set_there, each_set, ends_both, IsPort, port_is, Keeps, KeepsEnds, links_kept}
 use Rattle.all_ends.proofs.Finds.{bounded_kept, find_at, put_at, state_kept}
 use Rattle.all_ends.proofs.Streams.{op_is, planned, port_found}
 
--- ---- what an event that is not refused at its beginning comes to
+-- ---- what an event gives that is not refused at its beginning
 
--- where there is a verdict, the operation came to one of its exchanges
+-- if there is a verdict, the operation reached one of its exchanges
 abbrev is_told : Operation → Option Verdict → Bool
 is_told o None = true
 is_told o (Some x) = is_some (reach_of o x)
@@ -58,7 +62,7 @@ module _ (o : Operation) (link id : ℕ) (loss : Option Loss) where
   next_told requester e None = refl
   next_told requester e (Some a) = outcome_told a (exchanged loss requester a e).judged
 
-  goes_told : (q : Outcome) (e : StreamEnds) (rest : Walked) → is_told o (verdict_of o link id loss q) ≡ true
+  goes_told : (q : Outcome) (e : StreamEnds) (rest : WalkedEnds) → is_told o (verdict_of o link id loss q) ≡ true
       → is_told o (verdict_of o link id loss rest.outcome) ≡ true
       → is_told o (verdict_of o link id loss (goes_on q e rest).outcome) ≡ true
   goes_told outcome.Next e rest told more = more
@@ -72,15 +76,15 @@ module _ (o : Operation) (link id : ℕ) (loss : Option Loss) where
 
 -- ---- the pool
 
--- an operation that began draws from the pool as the machine says, since its verdict came to an exchange
+-- an operation that began draws from the pool as the machine says, since its verdict tells that an exchange was reached
 pool_told : (w : Work) (r : Option Reach) (pool : Pool) → is_some r ≡ true → begun_pool w pool ≡ pool_by w r pool
 pool_told w r pool told = grind arith
 
-pool_same : (o : Operation) (e : StreamEnds) (host : HostView) (pool : Pool) (loss : Option Loss) (x : Walked)
+pool_same : (o : Operation) (e : StreamEnds) (host : HostView) (pool : Pool) (loss : Option Loss) (x : WalkedEnds)
     (verdict : Verdict) (w : Work)
     (r : Option Refusal) → refusal_of o e.keeper.op host pool ≡ r
     → is_told o (verdict_of o e.keeper.link e.keeper.id loss x.outcome) ≡ true
-    → verdict_of o e.keeper.link e.keeper.id loss (walked_unless r e x).outcome ≡ Some verdict
+    → verdict_of o e.keeper.link e.keeper.id loss (walked_ends_unless r e x).outcome ≡ Some verdict
     → unless r pool (begun_pool w pool) ≡ pool_by w (reach_of o verdict) pool
 pool_same o e host pool loss x verdict w (Some r) refused told is =
     let none : reach_of o verdict ≡ None = refused_reach o e.keeper.op host pool loss r verdict refused is in
@@ -101,8 +105,8 @@ apart_set link id w (x ∷ vs) apart = rw (apart.0, apart_set link id w vs apart
 set_here : (link id : ℕ) (w : StreamView) (ss : List StreamPlan) (vs : List StreamView) (rest : List (ℕ × ℕ))
     → map name_of vs ≡ names_of link ss ++ rest
     → Apart link rest
-    → (ops_of ss (set_named link id w vs) ≡ machine.changed ss (ops_of ss vs) id w.op)
-    × (behind ss (set_named link id w vs) ≡ behind ss vs)
+    → (ops_of ss (set_named link id w vs) ≡ machine.changed_by_id ss (ops_of ss vs) id w.op)
+    × (views_after ss (set_named link id w vs) ≡ views_after ss vs)
 set_here link id w [] vs rest names apart =
     (refl, apart_set link id w vs (subst (λ (ns : List (ℕ × ℕ)). Apart link ns) (sym names) apart))
 set_here link id w (s ∷ ss) [] rest names apart = absurd cc
@@ -115,7 +119,7 @@ set_other : (link id : ℕ) (w : StreamView) (from : ℕ) (ss : List StreamPlan)
     (rest : List (ℕ × ℕ)) → (from == link) ≡ false
     → map name_of vs ≡ names_of from ss ++ rest
     → (ops_of ss (set_named link id w vs) ≡ ops_of ss vs) ×
-    (behind ss (set_named link id w vs) ≡ set_named link id w (behind ss vs))
+    (views_after ss (set_named link id w vs) ≡ set_named link id w (views_after ss vs))
 set_other link id w from [] vs rest differs names = (refl, refl)
 set_other link id w from (s ∷ ss) [] rest differs names = absurd cc
 set_other link id w from (s ∷ ss) (x ∷ vs) rest differs names =
@@ -124,8 +128,8 @@ set_other link id w from (s ∷ ss) (x ∷ vs) rest differs names =
     (grind (arith, nat_tests, name, more.0), grind (arith, nat_tests, name, more.1))
 
 -- an operation put back
-put_back : (ss : List StreamPlan) (os : List Op) (id : ℕ) (q : Op) → machine.found ss os id ≡ Some q
-    → machine.changed ss os id q ≡ os
+put_back : (ss : List StreamPlan) (os : List Op) (id : ℕ) (q : Op) → machine.found_by_id ss os id ≡ Some q
+    → machine.changed_by_id ss os id q ≡ os
 put_back [] os id q is = refl
 put_back (s ∷ ss) [] id q is = refl
 put_back (s ∷ ss) (o ∷ os) id q is = grind (arith, nat_tests, put_back ss os id q)
@@ -146,7 +150,7 @@ state_ops : (plan : Plan) (ends : List LinkEnds) (k k' : KeeperView) (packets : 
     { draws = k'.pool.draws }
 unfolding put_op
 state_ops plan ends k k' packets n link id w links named streams es =
-    let all = ops_changed link (set_named link id w) (λ ss os. machine.changed ss os id w.op)
+    let all = ops_changed link (set_named link id w) (λ ss os. machine.changed_by_id ss os id w.op)
     (record { here = set_here link id w; other = set_other link id w })
     (streams_by_link plan) 0 link k.manager.streams (omega arith) links.names in
     ap (λ (vs : List StreamView). record (state_of plan es k' packets) { ops = ops_in (streams_by_link plan) vs })
@@ -245,8 +249,8 @@ state_by plan ends k k' packets link id l l' host device n x w None links is nam
 state_by plan ends k k' packets link id l l' host device n x w (Some r) links is named both streams here d =
     let st : LinkState = state_of plan ends k packets in
     let moved = both_moved plan k packets link id ends l l' host device x.host x.device is both
-    (λ side u. moves_at (ports_of plan st) w r (end_at link id true side u))
-    (λ side u. moves_at (ports_of plan st) w r (end_at link id false side u)) links d.host_is d.device_is in
+    (λ side u. moves_at (ports_of plan st) w r (place_at_end link id true side u))
+    (λ side u. moves_at (ports_of plan st) w r (place_at_end link id false side u)) links d.host_is d.device_is in
     state_ops plan ends k k' packets n link id x.keeper links named streams (slice_set ends link l')
     ∙ (λ i. record (put_op plan (sym moved i) link id (d.op_is i)) { draws = d.draws_is i })
 
@@ -283,7 +287,7 @@ ends_operated l l' id x y host device requester =
 step_is : (plan : Plan) (b : Beside) (st : LinkState) (operation : Operation) (link id : ℕ) (loss : Option Loss)
     (q : Op) → find_op plan st link id ≡ Some q
     → step_of plan b st (operation_event operation link id loss)
-    ≡ operated plan st operation link id q (verdict_due plan st operation q link id loss)
+    ≡ stepped_operation plan st operation link id q (verdict_due plan st operation q link id loss)
 unfolding step_of
 step_is plan b st op.Establish link id loss q is = ap
     (λ (o : Option Op). machine.establish_found plan st link id loss o) is
@@ -311,11 +315,11 @@ named_as m link id n is =
 
 -- the walk is any that joins the machine
 ends_by : (plan : Plan) (old : Links) (m : InterfacesView) (k' : KeeperView) (operation : Operation) (link id place : ℕ)
-    (q : Op) (keys : WireKeys) (loss : Option Loss) (l l' : LinkEnds) (host device : Found) (x : Walked)
+    (q : Op) (keys : WireKeys) (loss : Option Loss) (l l' : LinkEnds) (host device : Found) (x : WalkedEnds)
     (result : Outcome) (verdict : Verdict)
     → AreLinks plan old.ends old.keeper.keys → slice_get old.ends link ≡ Some l
     → IsNamed old.keeper.keys.manager link id (at_place link id place q keys)
-    → IsOn old.keeper.keys.manager l place id host device
+    → IsAtBothEnds old.keeper.keys.manager l place id host device
     → find_op plan (links_state plan old) link id ≡ Some q → IsWalked old.keeper.keys.manager l place id x result
     k'.manager l'
     → IsJoined plan (links_state plan old) operation loss old.keeper.keys.pool
@@ -326,7 +330,7 @@ ends_by : (plan : Plan) (old : Links) (m : InterfacesView) (k' : KeeperView) (op
     → verdict_of operation link id loss result ≡ Some verdict
     → Ends plan (record old
     { ends = slice_set old.ends link l'; keeper = record { keys = k'; interfaces = m }; steps = old.steps + 1 })
-    verdict (operated plan (links_state plan old) operation link id q
+    verdict (stepped_operation plan (links_state plan old) operation link id q
     (verdict_due plan (links_state plan old) operation q link id loss))
 ends_by plan old m k' operation link id place q keys loss l l' host device x result verdict links is named on here
     walked j pool says =
@@ -369,14 +373,14 @@ pub some_named : (o : Option Named) → IsSome o → (n : Named) × (o ≡ Some 
 some_named None is = absurd cc
 some_named (Some n) is = (n, refl)
 
--- what an operation on the stream comes to: both ends have it, and its walk joins the machine
+-- what an operation on the stream gives: both ends have it, and its walk joins the machine
 record Walk (plan : Plan) (old : Links) (k' : KeeperView) (operation : Operation) (link id : ℕ) (n : Named)
     (loss : Option Loss) (l l' : LinkEnds) (result : Outcome) : Type 0 where
   named_is : IsNamed old.keeper.keys.manager link id n
   here : find_op plan (links_state plan old) link id ≡ Some n.stream.op
   host : Found
   device : Found
-  on : IsOn old.keeper.keys.manager l n.place id host device
+  on : IsAtBothEnds old.keeper.keys.manager l n.place id host device
   walked : IsWalked old.keeper.keys.manager l n.place id
       (event_walk operation (host_of host.state) old.keeper.keys.pool loss l.device.requester
       (ends_found n host device)) result k'.manager l'
@@ -387,7 +391,7 @@ record Walk (plan : Plan) (old : Links) (k' : KeeperView) (operation : Operation
 
 walks_at : OperationsJoin → (plan : Plan) (h : History) (old : Links) (k' : KeeperView) (call : OpCall)
     (operation : Operation) (link id : ℕ) (loss : Option Loss) (l l' : LinkEnds) (result : Outcome) (n : Named)
-    → AreLinks plan old.ends old.keeper.keys → StandsFor plan (links_state plan old) h → slice_get old.ends link
+    → AreLinks plan old.ends old.keeper.keys → PortsStandFor plan (links_state plan old) h → slice_get old.ends link
     ≡ Some l → named old.keeper.keys.manager link id ≡ Some n
     → op_name call ≡ record { operation = operation; link = link; stream = id }
     → Operates old.keeper.keys l call loss result k' l'
@@ -410,7 +414,7 @@ walks_at joins plan h old k' call operation link id loss l l' result n0 links st
     let device : Found = df.0 in
     let e : StreamEnds = ends_found n host device in
     let x : IsLink plan link l = links.each_link link l is in
-    let on : IsOn k.manager l n.place id host device = record {
+    let on : IsAtBothEnds k.manager l n.place id host device = record {
       within = slice_get_within k.manager.streams n.place n.stream placed.read;
       host_side = ap (λ (p : PortName). p.side) x.host_name;
       device_side = ap (λ (p : PortName). p.side) x.device_name;
@@ -420,7 +424,8 @@ walks_at joins plan h old k' call operation link id loss l l' result n0 links st
     let kept : KeysKept plan n.stream = links.kept n.place n.stream placed.read in
     let o : IsOperated k l call loss n host device result k' l' =
     operates n host device (subst (λ (a : OpName). named k.manager a.link a.stream ≡ Some n) (sym name) is_named)
-    (subst (λ (a : OpName). IsOn k.manager l n.place a.stream host device) (sym name) on) (is_asked plan q keys kept) in
+    (subst (λ (a : OpName). IsAtBothEnds k.manager l n.place a.stream host device) (sym name) on)
+    (is_asked plan q keys kept) in
     let pool : k.pool ≡ record { keys = plan.pool; draws = st.draws } = (λ i. record k.pool { keys = links.keys i }) in
     record {
       named_is = placed;
@@ -439,7 +444,7 @@ walks_at joins plan h old k' call operation link id loss l l' result n0 links st
 ends_at : OperationsJoin → (plan : Plan) (b : Beside) (h : History) (old : Links) (m : InterfacesView) (k' : KeeperView)
     (call : OpCall) (operation : Operation) (link id : ℕ) (loss : Option Loss) (l l' : LinkEnds) (result : Outcome)
     (verdict : Verdict) (n : Named)
-    → AreLinks plan old.ends old.keeper.keys → StandsFor plan (links_state plan old) h → slice_get old.ends link
+    → AreLinks plan old.ends old.keeper.keys → PortsStandFor plan (links_state plan old) h → slice_get old.ends link
     ≡ Some l → named old.keeper.keys.manager link id ≡ Some n
     → op_name call ≡ record { operation = operation; link = link; stream = id }
     → Operates old.keeper.keys l call loss result k' l' → verdict_of operation link id loss result ≡ Some verdict
@@ -456,7 +461,7 @@ ends_at joins plan b h old m k' call operation link id loss l l' result verdict 
     let at = walks_at joins plan h old k' call operation link id loss l l' result n0 links stands is named_is name
     operates in
     let e : StreamEnds = ends_found n at.host at.device in
-    let walk : Walked = event_walk operation (host_of at.host.state) k.pool loss l.device.requester e in
+    let walk : WalkedEnds = event_walk operation (host_of at.host.state) k.pool loss l.device.requester e in
     let w : Work = work_of operation q k.pool.draws in
     let due : Verdict = verdict_due plan st operation q link id loss in
     let same : k'.pool ≡ pool_by w (reach_of operation due) k.pool =
@@ -473,9 +478,9 @@ ends_at joins plan b h old m k' call operation link id loss l l' result verdict 
     (ends_by plan old m k' operation link id n.place q keys loss l l' at.host at.device walk result verdict links is
     at.named_is at.on at.here at.walked at.joins same says)
 
--- where the links stand for a history, the outcome has a verdict
+-- if the links stand for a history, the outcome has a verdict
 pub operates_due : OperationsJoin → (old : Links) (ends : List LinkEnds) (k' : KeeperView) (call : OpCall)
-    (loss : Option Loss) (result : Outcome) → Standing old → (op_name call).link < length old.ends
+    (loss : Option Loss) (result : Outcome) → StandsForSome old → (op_name call).link < length old.ends
     → IsSome (named old.keeper.keys.manager (op_name call).link (op_name call).stream)
     → OperatesAt old.ends (op_name call).link old.keeper.keys call loss result ends k'
     → (verdict : Verdict)
@@ -491,7 +496,7 @@ operates_due joins old ends k' call loss result standing here there_is operates 
       ap (λ (o : Outcome). verdict_of a.operation a.link a.stream loss o) at.walked.outcome ∙ at.joins.verdict_is,
     )
 
-pub operates_on : OperationsJoin → (b : Beside) (old : Links) (ends : List LinkEnds) (m : InterfacesView)
+pub operates_on : OperationsJoin → (old : Links) (ends : List LinkEnds) (m : InterfacesView)
     (k' : KeeperView) (call : OpCall) (operation : Operation) (link id : ℕ) (loss : Option Loss) (result : Outcome)
     (verdict : Verdict)
     → IsBounded old.ends old.packets.packets old.steps → link < length old.ends
@@ -501,20 +506,21 @@ pub operates_on : OperationsJoin → (b : Beside) (old : Links) (ends : List Lin
     → verdict_of operation link id loss result ≡ Some verdict
     → EndsWith verdict old
     (record old { ends = ends; keeper = record { keys = k'; interfaces = m }; steps = old.steps + 1 })
-    (λ plan st. step_of plan b st (operation_event operation link id loss))
-operates_on joins b old ends m k' call operation link id loss result verdict bounded here there_is name operates says =
+    (operation_event operation link id loss)
+operates_on joins old ends m k' call operation link id loss result verdict bounded here there_is name operates says =
     let f = there old.ends link here in
     let a = operates f.0 f.1 in
     let n = some_named (named old.keeper.keys.manager link id) there_is in
     subst (λ (xs : List LinkEnds). EndsWith verdict old
     (record old { ends = xs; keeper = record { keys = k'; interfaces = m }; steps = old.steps + 1 })
-    (λ plan st. step_of plan b st (operation_event operation link id loss))) (sym a.1)
+    (operation_event operation link id loss)) (sym a.1)
     (record {
       counted = refl;
       regions = refl;
       bounded = bounded_kept old.ends old.packets.packets old.packets.packets old.steps link f.0 a.0 bounded f.1
           (omega (arith, a.2.1.host))
           (omega (arith, a.2.1.device)) bounded.sealed_here;
-      ends = λ plan h links stands. ends_at joins plan b h old m k' call operation link id loss f.0 a.0 result verdict
-          n.0 links stands f.1 n.1 name a.2.0 says;
+      ends = λ answer by plan h links stands.
+          ends_at joins plan (beside_in old answer) h old m k' call operation link id loss f.0 a.0 result verdict n.0
+          links stands f.1 n.1 name a.2.0 says;
     })

@@ -2,20 +2,20 @@
 use Rattle.all_links.proofs.Terms.{beside_in, InterfacesView, ◌≡◌, ℕ, ◌+◌, Bool, true, List, length, refl, ap, sym}
 use Rattle.all_links.proofs.Terms.{◌∙◌, subst, arith, Option, Some, None, is_some, slice_get, slice_set, nat_lt}
 use Rattle.all_links.proofs.Terms.{if◌then◌else◌, true-lt, Op, History, Host, Device, StreamStatus, Plan, Reset}
-use Rattle.all_links.proofs.Terms.{Status, Stepped, status_at, status_found, step_of, reset_state, StandsFor, named}
-use Rattle.all_links.proofs.Terms.{LinkEnds, Links, reset_ends, stream_named, KeeperView, ResetsAt, status_of}
-use Rattle.all_links.proofs.Terms.{both_of, IsBounded, AreLinks, links_state, EndsWith}
+use Rattle.all_links.proofs.Terms.{Status, Stepped, status_at, status_found, step_of, reset_state, PortsStandFor, named}
+use Rattle.all_links.proofs.Terms.{LinkEnds, Links, reset_ends, stream_named, KeeperView, ResetsAt, statuses_of}
+use Rattle.all_links.proofs.Terms.{both_of, IsBounded, AreLinks, links_state, EndsWith, Beside}
 use Rattle.link_verdicts.specs.declared.verdict.Verdict.TheVariants as v
 use Rattle.all_ends.proofs.Finds.{there, links_kept, bounded_kept}
 use Rattle.all_ends.proofs.Streams.{IsName, at_side, ends_reset, keeper_reset, op_is, planned, reset_kept}
 use Rattle.all_ends.proofs.Streams.{reset_names, some_op, state_reset, unnamed}
 
--- the states that were read, under the numbers that a name came to
+-- the states that were read, under the numbers that a name gives
 pub status_read : (old : Links) (plan : Plan) (h : History) (link stream a b : ℕ)
     (read : Option (StreamStatus × StreamStatus))
-    → AreLinks plan old.ends old.keeper.keys → StandsFor plan (links_state plan old) h
+    → AreLinks plan old.ends old.keeper.keys → PortsStandFor plan (links_state plan old) h
     → IsName old.keeper.keys.manager (length old.ends) link stream a b
-    → ((l : LinkEnds) → slice_get old.ends a ≡ Some l → read ≡ status_of l b)
+    → ((l : LinkEnds) → slice_get old.ends a ≡ Some l → read ≡ statuses_of l b)
     → read ≡ Some (
       status_at plan (links_state plan old) Host link stream,
       status_at plan (links_state plan old) Device
@@ -27,39 +27,40 @@ status_read old plan h link stream a b read links stands n reads =
     let known = planned plan h link stream q.0
     (sym (stands.ops_is link stream) ∙ op_is plan old.ends old.keeper.keys old.packets.packets link stream links ∙
     q.1) in
-    reads f.0 (ap (λ (i : ℕ). slice_get old.ends i) n.link_is ∙ f.1) ∙ ap (λ (s : ℕ). status_of f.0 s) n.stream_is
+    reads f.0 (ap (λ (i : ℕ). slice_get old.ends i) n.link_is ∙ f.1) ∙ ap (λ (s : ℕ). statuses_of f.0 s) n.stream_is
     ∙ (λ i. both_of (at_side plan old.ends old.keeper.keys old.packets.packets h link stream f.0 Host links stands known
     f.1 i)
     (at_side plan old.ends old.keeper.keys old.packets.packets h link stream f.0 Device links stands known f.1 i))
 
-pub status_nowhere : (old : Links) (plan : Plan) (link stream : ℕ) → AreLinks plan old.ends old.keeper.keys → None
-    ≡ stream_named old.keeper.keys.manager (length old.ends) link stream
-    → step_of plan (beside_in old) (links_state plan old) (Status link stream) ≡ (v.Nothing, links_state plan old)
+pub status_nowhere : (b : Beside) (old : Links) (plan : Plan) (link stream : ℕ)
+    → AreLinks plan old.ends old.keeper.keys
+    → None ≡ stream_named old.keeper.keys.manager (length old.ends) link stream
+    → step_of plan b (links_state plan old) (Status link stream) ≡ (v.Nothing, links_state plan old)
 unfolding step_of
-status_nowhere old plan link stream links is = ap
+status_nowhere b old plan link stream links is = ap
     (λ (o : Option Op). status_found plan (links_state plan old) link stream o)
     (unnamed plan old.ends old.keeper.keys old.packets.packets link stream links is)
 
-pub status_here : (old : Links) (plan : Plan) (link stream : ℕ) → AreLinks plan old.ends old.keeper.keys
+pub status_here : (b : Beside) (old : Links) (plan : Plan) (link stream : ℕ) → AreLinks plan old.ends old.keeper.keys
     → is_some (named old.keeper.keys.manager link stream) ≡ true
-    → step_of plan (beside_in old) (links_state plan old) (Status link stream)
+    → step_of plan b (links_state plan old) (Status link stream)
     ≡ (
       v.Status link stream (status_at plan (links_state plan old) Host link stream)
           (status_at plan (links_state plan old) Device link stream),
       links_state plan old,
     )
 unfolding step_of
-status_here old plan link stream links there =
+status_here b old plan link stream links there =
     ap (λ (o : Option Op). status_found plan (links_state plan old) link stream o)
     (op_is plan old.ends old.keeper.keys old.packets.packets link stream links ∙
     (some_op (named old.keeper.keys.manager link stream) there).1)
 
-pub reset_step : (old : Links) (plan : Plan) (link : ℕ) (b : Bool) → AreLinks plan old.ends old.keeper.keys → b
-    ≡ nat_lt link (length old.ends)
-    → step_of plan (beside_in old) (links_state plan old) (Reset link)
-    ≡ (if b then (v.Reset link, reset_state plan (links_state plan old) link) else (v.Nothing, links_state plan old))
+pub reset_step : (b : Beside) (old : Links) (plan : Plan) (link : ℕ) (here : Bool)
+    → AreLinks plan old.ends old.keeper.keys → here ≡ nat_lt link (length old.ends)
+    → step_of plan b (links_state plan old) (Reset link)
+    ≡ (if here then (v.Reset link, reset_state plan (links_state plan old) link) else (v.Nothing, links_state plan old))
 unfolding step_of
-reset_step old plan link b links is =
+reset_step b old plan link here links is =
     ap (λ (t : Bool). if t then (v.Reset link, reset_state plan (links_state plan old) link) else
     (v.Nothing, links_state plan old))
     (ap (λ (n : ℕ). nat_lt link n) (sym links.many) ∙ sym is)
@@ -69,7 +70,7 @@ pub resets : (old : Links) (link : ℕ) (ends : List LinkEnds) (m : InterfacesVi
     → ResetsAt old.ends link ends → k ≡ keeper_reset link old.keeper.keys
     → EndsWith (v.Reset link) old
     (record old { ends = ends; keeper = record { keys = k; interfaces = m }; steps = old.steps + 1 })
-    (λ plan st. step_of plan (beside_in old) st (Reset link))
+    (Reset link)
 resets old link ends m k bounded here ends_are keeper =
     let f = there old.ends link (true-lt link (length old.ends) here) in
     let a = ends_are f.0 f.1 in
@@ -77,19 +78,19 @@ resets old link ends m k bounded here ends_are keeper =
     (λ (y : LinkEnds). slice_set old.ends link y) a.2 in
     subst (λ (xs : List LinkEnds). EndsWith (v.Reset link) old
     (record old { ends = xs; keeper = record { keys = k; interfaces = m }; steps = old.steps + 1 })
-    (λ plan st. step_of plan (beside_in old) st (Reset link))) (sym ends_is)
+    (Reset link)) (sym ends_is)
     (subst (λ (j : KeeperView). EndsWith (v.Reset link) old
     (record old {
       ends = slice_set old.ends link (reset_ends f.0);
       keeper = record { keys = j; interfaces = m };
       steps = old.steps + 1;
-    }) (λ plan st. step_of plan (beside_in old) st (Reset link))) (sym keeper) (record {
+    }) (Reset link)) (sym keeper) (record {
       counted = refl;
       regions = refl;
       bounded = bounded_kept old.ends old.packets.packets old.packets.packets old.steps link f.0 _ bounded f.1
           (omega arith) (omega arith) bounded.sealed_here;
-      ends = λ plan h links stands.
-          let step = reset_step old plan link true links (sym here) in
+      ends = λ answer by plan h links stands.
+          let step = reset_step (beside_in old answer) old plan link true links (sym here) in
           record {
             verdict_is = ap (λ (x : Stepped). x.0) (sym step);
             state_is = state_reset plan old.ends old.keeper.keys old.packets.packets link f.0 links f.1 ∙ ap

@@ -3,32 +3,34 @@ use Rattle.all_links.proofs.Terms.{◌≡◌, ℕ, ◌+◌, ◌<◌, Bool, true,
 use Rattle.all_links.proofs.Terms.{Option, Some, slice_get, slice_set, map, sum_by, nat_lt, if◌then◌else◌, PortName}
 use Rattle.all_links.proofs.Terms.{Plan, Verdict, SealedPacket, LinkPacket, Stepped, kept_at, step_of}
 use Rattle.all_links.proofs.Terms.{joined_packets, Sent, PortEnd, SendStep, send_step, sent_verdict, lengths_sent}
-use Rattle.all_links.proofs.Terms.{IsSent, LinkEnds, Links, cut_packets, port_in, with_port, SendsAt, state_of}
+use Rattle.all_links.proofs.Terms.{IsSentAtPort, LinkEnds, Links, cut_packets, port_in, with_port, SendsAt, state_of}
 use Rattle.all_links.proofs.Terms.{IsBounded, AreLinks, links_state, EndsWith, lt-true, Send, Side, Host, Device}
 use Rattle.tlp_layout.specs.Reading.{read_of}
 use Rattle.link_verdicts.specs.declared.verdict.Verdict.TheVariants as v
 use Rattle.link_ports.specs.Machine as machine
 use Rattle.ide_port.specs.declared.answer.Sent.TheVariants.{Sealed}
-use Rattle.ide_port.specs.Sends.{send_read}
+use Rattle.ide_port.specs.Sends.{send_step_read}
 use Rattle.tlp_layout.specs.declared.head.HeadView.{HeadView}
 use Rattle.ide_port.specs.{Trusting}
 use Rattle.trusted_memory.specs.{TrustedMemory}
 use Rattle.link_ends.specs.Ends.{trusting_at}
 use Rattle.all_links.specs.Besides.{beside_in, t_in}
+use Rattle.link_ports.specs.Machine.{Beside}
 use Rattle.all_ends.proofs.Finds.{there, set_there, KeepsEnds, keeps_port, port_is, bounded_kept, links_kept}
 use Rattle.all_ends.proofs.Finds.{bounded_same, links_same}
 use Rattle.all_ends.proofs.Sends.{cut_joined, lengths_join, sealed_on, send_joins, send_keeps, sends_as, sent}
 
-pub given : (old : Links) (plan : Plan) (port : PortName) (bytes : List ℕ) (more trusted b : Bool)
+pub given : (b : Beside) (old : Links) (plan : Plan) (port : PortName) (bytes : List ℕ) (more trusted here : Bool)
     → AreLinks plan old.ends old.keeper.keys
-    → b ≡ nat_lt port.link (length old.ends)
-    → step_of plan (beside_in old) (links_state plan old) (Send port bytes more trusted)
-    ≡ (if b then machine.send_read plan (beside_in old) (links_state plan old) port (read_of bytes) more trusted else
+    → here ≡ nat_lt port.link (length old.ends)
+    → step_of plan b (links_state plan old) (Send port bytes more trusted)
+    ≡ (if here then machine.stepped_send_read plan b (links_state plan old) port (read_of bytes) more trusted else
     (v.Nothing, links_state plan old))
 unfolding step_of
-given old plan port bytes more trusted b links is =
-    ap (λ (t : Bool). if t then machine.send_read plan (beside_in old) (links_state plan old) port (read_of bytes) more
-    trusted else (v.Nothing, links_state plan old))
+given b old plan port bytes more trusted here links is =
+    ap (λ (t : Bool). if t then machine.stepped_send_read plan b (links_state plan old) port (read_of bytes) more
+    trusted else
+    (v.Nothing, links_state plan old))
     (ap (λ (n : ℕ). nat_lt port.link n) (sym links.many) ∙ sym is)
 
 asked_at : (side : Side) (l : LinkEnds) (trusted : Bool) →
@@ -36,7 +38,7 @@ asked_at : (side : Side) (l : LinkEnds) (trusted : Bool) →
 asked_at Host l trusted = refl
 asked_at Device l trusted = refl
 
--- a send at a port that there is, whose packets were cut from the port's bytes
+-- a send at a port that exists, whose packets were cut from the port's bytes
 pub seals : (old new : Links) (port : PortName) (bytes : List ℕ) (trusted more : Bool) (answer : Sent)
     (verdict : Verdict) → IsBounded old.ends old.packets.packets old.steps → port.link < length old.ends
     → SendsAt old.ends port bytes trusted more answer new.ends → verdict
@@ -44,8 +46,7 @@ pub seals : (old new : Links) (port : PortName) (bytes : List ℕ) (trusted more
     ≡ old.steps + 1
     → ((l : LinkEnds) → slice_get new.ends port.link ≡ Some l → new.packets.packets ≡ old.packets.packets
     ++ cut_packets port (lengths_sent answer) (port_in port.side l).sealed)
-    → new.trusted ≡ old.trusted → EndsWith verdict old new
-    (λ plan st. step_of plan (beside_in old) st (Send port bytes more trusted))
+    → new.trusted ≡ old.trusted → EndsWith verdict old new (Send port bytes more trusted)
 seals old new port bytes trusted more answer verdict bounded here sends says keeper steps kept memory =
     let found_link = there old.ends port.link here in
     let l : LinkEnds = found_link.0 in
@@ -54,7 +55,7 @@ seals old new port bytes trusted more answer verdict bounded here sends says kee
     let sets : Trusting = trusting_at port.side l trusted in
     let step : SendStep = send_step e bytes sets more n in
     let a = sends l found_link.1 in
-    let sent_is : IsSent e bytes sets more n answer (port_in port.side a.0) = a.2.sent n in
+    let sent_is : IsSentAtPort e bytes sets more n answer (port_in port.side a.0) = a.2.sent n in
     let ends_is : new.ends ≡ slice_set old.ends port.link (with_port port.side step.port l) =
     a.1 ∙ ap (λ (y : LinkEnds). slice_set old.ends port.link y)
     (a.2.other ∙ ap (λ (x : PortEnd). with_port port.side x l) sent_is.port) in
@@ -77,16 +78,17 @@ seals old new port bytes trusted more answer verdict bounded here sends says kee
       regions = ap (λ (t : TrustedMemory). t.contents.regions) memory;
       bounded = bounded_same _ new.ends _ new.packets.packets _ new.steps (sym ends_is) (sym packets_is) (sym steps)
           after;
-      ends = λ plan h links stands.
+      ends = λ of_interfaces by plan h links stands.
+          let b : Beside = beside_in old of_interfaces in
           let at_port = port_is plan old.ends old.keeper.keys port l links found_link.1 in
-          let as_machine = given old plan port bytes more trusted true links
+          let as_machine = given b old plan port bytes more trusted true links
           (sym (lt-true port.link (length old.ends) here))
-          ∙ sends_as plan (beside_in old) old.ends old.keeper.keys old.packets.packets port l h (read_of bytes) more
+          ∙ sends_as plan b old.ends old.keeper.keys old.packets.packets port l h (read_of bytes) more
           trusted found_link.1 at_port stands
           ∙ ap (λ (o : Option LinkEnds). sent plan old.ends old.keeper.keys old.packets.packets port l
-          (send_read e (λ head stream. t_in o port.side head stream trusted) more n (read_of bytes))) found_link.1
+          (send_step_read e (λ head stream. t_in o port.side head stream trusted) more n (read_of bytes))) found_link.1
           ∙ ap (λ (y : Trusting). sent plan old.ends old.keeper.keys old.packets.packets port l
-          (send_read e y more n (read_of bytes))) (asked_at port.side l trusted) in
+          (send_step_read e y more n (read_of bytes))) (asked_at port.side l trusted) in
           record {
             verdict_is = says ∙ ap (λ (p : PortName). sent_verdict p n answer) (sym at_port.name) ∙ sent_is.answered ∙
                 ap (λ (x : Stepped). x.0) (sym as_machine);
@@ -103,7 +105,7 @@ seals old new port bytes trusted more answer verdict bounded here sends says kee
 pub not_sealed : (answer : Sent) → ((ps : List SealedPacket) → answer ≡ Sealed ps → ⊥) → lengths_sent answer ≡ []
 not_sealed answer none = grind (arith, none)
 
--- the lengths of what was sealed come to what the port lends
+-- the lengths of what was sealed add up to the length of what the port lends
 pub sealed_length : (old : Links) (ends : List LinkEnds) (port : PortName) (bytes : List ℕ) (trusted more : Bool)
     (answer : Sent) (ps : List SealedPacket) (lent : List ℕ) → port.link < length old.ends
     → SendsAt old.ends port bytes trusted more answer ends → map (λ (p : SealedPacket). p.length) ps
@@ -117,7 +119,7 @@ sealed_length old ends port bytes trusted more answer ps lent here sends said le
     let sets : Trusting = trusting_at port.side l trusted in
     let step : SendStep = send_step e bytes sets more 0 in
     let a = sends l found_link.1 in
-    let sent_is : IsSent e bytes sets more 0 answer (port_in port.side a.0) = a.2.sent 0 in
+    let sent_is : IsSentAtPort e bytes sets more 0 answer (port_in port.side a.0) = a.2.sent 0 in
     let at : slice_get ends port.link ≡ Some a.0 = ap (λ (xs : List LinkEnds). slice_get xs port.link) a.1 ∙ set_there
     old.ends port.link l a.0 found_link.1 in
     let joined : (port_in port.side a.0).sealed ≡ joined_packets step.packets = ap (λ (x : PortEnd). x.sealed)

@@ -5,7 +5,7 @@ use Rattle.all_links.proofs.Terms.{◌≡◌, ℕ, ◌+◌, ◌==◌, ◌<◌, �
 use Rattle.all_links.proofs.Terms.{◌∙◌, subst, arith, nat_tests, Option, Some, None, slice_get, slice_set, map}
 use Rattle.all_links.proofs.Terms.{none-some, same_Some, true-lt, nat_lt, nat_le, is_some, IsSome, if◌then◌else◌, Side}
 use Rattle.all_links.proofs.Terms.{Host, Device, PortName, UnitName, Plan, Verdict, Op, LinkState, PortEnd, take_step}
-use Rattle.all_links.proofs.Terms.{LinkEnds, Links, InterfacesView, port_in, with_port, taken_ends, Contents}
+use Rattle.all_links.proofs.Terms.{LinkEnds, Links, InterfacesView, port_in, with_port, taken_ends, MemoryContents}
 use Rattle.all_links.proofs.Terms.{TrustedMemory, Leads, Write, IsBounded, AreLinks, links_state, packet_write}
 use Rattle.all_links.proofs.Terms.{unit_writes, ManagerView, Named, named, stream_named, ArrivesAt, OperatesAt}
 use Rattle.all_links.proofs.Terms.{ResetsAt, SendsAt, Sent, LinkPacket, packet_numbered, partner, work_of, passed}
@@ -26,14 +26,14 @@ use Rattle.tsm_host.specs.Walk.{verdict_of}
 use Rattle.tdi_state.specs.Machine.{Tdi, Call}
 use Rattle.tdi_host.specs.declared.operation.InterfaceOp.{InterfaceOp}
 use Rattle.tdi_host.specs.declared.operation.Outcome.{Outcome as Outcome'}
-use Rattle.tdi_host.specs.Managers.{reset_manager}
+use Rattle.tdi_host.specs.Managers.{reset_interface_manager}
 use Rattle.tdi_ends.specs.Keepers.{Ended}
 use Rattle.link_ends.specs.Hosts.{told, operated_on}
 use Rattle.link_ends.specs.declared.host.HostKeeper.{HostKeeper}
 use Rattle.whole_machine.specs.Machine.{arrival_of}
 use Rattle.all_ends.specs.AllEnds.{grants_in, AsksAt, CallsAt}
 use Rattle.all_links.specs.Interfaces.{interface_named}
-use Rattle.all_links.specs.Sides.{SidesKeep, Follows, AllFollow, SidesArrive, told_by, SidesOperate}
+use Rattle.all_links.specs.Sides.{SidesKeep, IsSettledOrSame, AllFollow, SidesArrive, told_by, SidesOperate}
 use Rattle.all_ends.specs.Writes.{writes_by}
 use Rattle.all_links.specs.Sides.{SidesReset, SidesAsk, called_if, SidesCall}
 use Rattle.all_links.proofs.Arrivals.{at_partner, altered_is, numbered_here}
@@ -103,9 +103,9 @@ sent_keeps old new port tlp trusted more answer here sends keeper memory =
 -- ---- what keys and packets make of a device's interfaces
 
 follow_changed : (old new : List LinkEnds) (link : ℕ) (l l' : LinkEnds) → slice_get old link ≡ Some l
-    → new ≡ slice_set old link l' → Follows l l' → AllFollow old new
+    → new ≡ slice_set old link l' → IsSettledOrSame l l' → AllFollow old new
 follow_changed old new link l l' is ends follows i x y at at' =
-    each_both Follows old link l l' is follows (λ z. inr refl) i x y at
+    each_both IsSettledOrSame old link l l' is follows (λ z. inr refl) i x y at
     (ap (λ (xs : List LinkEnds). slice_get xs i) (sym ends) ∙ at')
 
 follow_same : (old new : List LinkEnds) → new ≡ old → AllFollow old new
@@ -115,7 +115,7 @@ follow_same old new ends i x y at at' =
 
 -- ---- arrivals
 
-taken_follows : (s : Side) (e : PortEnd) (l : LinkEnds) → Follows l (taken_ends s e l)
+taken_follows : (s : Side) (e : PortEnd) (l : LinkEnds) → IsSettledOrSame l (taken_ends s e l)
 taken_follows Host e l = inr refl
 taken_follows Device e l = inl refl
 
@@ -128,7 +128,7 @@ nothing_arrives {verdict} {old} {new} arrival says is = record {
       let wrote = λ (w : Verdict). writes_by plan (grants_in old.keeper.interfaces) (links_state plan old)
       (arrival plan (links_state plan old)) w in
       subst (λ (w : Verdict). Leads old.trusted.contents (wrote w) new.trusted.contents) (sym says)
-      (subst (λ (c : Contents). Leads old.trusted.contents [] c) (sym (ap (λ (s : Links). s.trusted.contents) is))
+      (subst (λ (c : MemoryContents). Leads old.trusted.contents [] c) (sym (ap (λ (s : Links). s.trusted.contents) is))
       (λ older left. left));
 }
 
@@ -147,7 +147,7 @@ arrived_beside old port bytes verdict ends m here arrives =
     record {
       keeper = refl;
       devices = follow_changed old.ends ends port.link l a.0 f.1 a.1
-          (subst (λ (y : LinkEnds). Follows l y) (sym a.2.ends) (taken_follows port.side t.port l));
+          (subst (λ (y : LinkEnds). IsSettledOrSame l y) (sym a.2.ends) (taken_follows port.side t.port l));
       contents = λ plan h links stands regions.
           let arrival : Option Arrival = Some (record { port = port; bytes = bytes }) in
           let at_port = port_is plan old.ends old.keeper.keys port l links f.1 in
@@ -204,7 +204,7 @@ module _ (old : Links) (n : ℕ) (x : LinkPacket) (is : Some x ≡ packet_number
       ap (λ (o : Option LinkPacket). option_and_then (cut_short len) o) (sym is)
       ∙ ap (λ (b : Bool). if b then Some (at_partner x (take len x.bytes)) else None) test
 
--- the bytes of a packet that come to the other end, whole or in part
+-- the bytes of a packet that reach the other end, whole or in part
 pub packet_beside : (old : Links) (n : ℕ) (x : LinkPacket) (port : PortName) (bytes : List ℕ) (verdict : Verdict)
     (ends : List LinkEnds) (m : TrustedMemory) → IsBounded old.ends old.packets.packets old.steps
     → Some x ≡ packet_numbered old.packets.packets n → port ≡ partner x.port
@@ -231,9 +231,10 @@ arrives_roomed {verdict} {new} old mid arrival is same x = from
       keeper = y.keeper;
       devices = y.devices;
       contents = λ plan h links stands regions.
-          subst (λ (c : Contents). Leads c (writes_by plan (grants_in old.keeper.interfaces) (links_state plan old)
+          subst (λ (c : MemoryContents). Leads c
+          (writes_by plan (grants_in old.keeper.interfaces) (links_state plan old)
           (arrival plan (links_state plan old)) verdict) new.trusted.contents) same
-          (y.contents plan h links stands (ap (λ (c : Contents). c.regions) same ∙ regions));
+          (y.contents plan h links stands (ap (λ (c : MemoryContents). c.regions) same ∙ regions));
     }
 
 pub arrives_roomed_or : (r : Result Verdict Memory) (old mid new : Links)
@@ -256,7 +257,7 @@ nothing_resets {old} {new} link nowhere is = record {
 
 pub reset_beside : (old : Links) (link : ℕ) (ends : List LinkEnds) (k : HostKeeper)
     → nat_lt link (length old.ends) ≡ true → ResetsAt old.ends link ends
-    → k.interfaces ≡ reset_manager link old.keeper.interfaces
+    → k.interfaces ≡ reset_interface_manager link old.keeper.interfaces
     → SidesReset link old (record old { ends = ends; keeper = k; steps = old.steps + 1 })
 reset_beside old link ends k here resets keeper =
     let lt : link < length old.ends = true-lt link (length old.ends) here in

@@ -1,7 +1,8 @@
 -- What the proofs of this crate name from other modules.
 pub use Rattle.ide_plan.specs.declared.plan.Plan.{Plan}
 pub use Rattle.ide_plan.specs.declared.stream.StreamPlan.{StreamPlan}
-pub use Rattle.ide_port.specs.{Found, IsSent, PortEnd, SendStep, TakeStep, changed, found, lengths_sent, send_step}
+pub use Rattle.ide_port.specs.{Found, IsSentAtPort, PortEnd, SendStep, TakeStep, changed, found, lengths_sent}
+pub use Rattle.ide_port.specs.{send_step}
 pub use Rattle.ide_port.specs.{sent_verdict, take_step}
 pub use Rattle.ide_port.specs.declared.answer.Sent.{Sent}
 pub use Rattle.ide_prefix.specs.Packet.{Packet}
@@ -14,35 +15,38 @@ pub use Rattle.key_laws.proofs.Tests.{lt-true, true-lt}
 pub use Rattle.key_laws.specs.History.{History}
 pub use Rattle.key_laws.specs.Operations.{Op, Reach, Work, reach_of, work_of}
 pub use Rattle.key_slots.specs.{Pool}
-pub use Rattle.all_ends.specs.AllEnds.{ArrivesAt, OperatesAt, ResetsAt, SendsAt, both_of, status_of}
+pub use Rattle.all_ends.specs.AllEnds.{ArrivesAt, OperatesAt, ResetsAt, SendsAt, both_of, statuses_of}
 pub use Rattle.all_ends.specs.Cuts.{cut_packets}
 pub use Rattle.all_links.specs.Events.{altered_bytes, operation_event}
 pub use Rattle.all_ends.specs.Places.{stream_named}
 pub use Rattle.all_links.specs.Links.{Ends, EndsOr, EndsWith, links_state}
-pub use Rattle.all_ends.specs.States.{AreLinks, IsBounded, IsLink, behind, name_of, names_of, ops_in, ops_of}
+pub use Rattle.all_ends.specs.States.{AreLinks, IsBounded, IsLink, views_after, name_of, names_of, ops_in, ops_of}
 pub use Rattle.all_ends.specs.States.{ports_in, state_of}
-pub use Rattle.all_links.specs.Besides.{beside_in}
+pub use Rattle.all_links.specs.Besides.{IsAnsweredBy, answer_of_links, beside_in}
 pub use Rattle.all_ends.specs.Verdicts.{arrival_verdict, packet_effect, packet_write, unit_writes}
 pub use Rattle.all_links.specs.declared.links.Links.{Links}
 pub use Rattle.link_ends.proofs.Names.{IsNamed, named_stands, set_named}
 pub use Rattle.link_ends.proofs.Streams.{changed_same, found_id}
 pub use Rattle.link_ends.specs.Ends.{port_in, reset_ends, taken_ends, with_port}
-pub use Rattle.link_ends.specs.Keepers.{HasStream, IsOn, IsOperated, IsWalked, KeeperView, Operates, ends_found}
+pub use Rattle.link_ends.specs.Keepers.{HasStream, IsAtBothEnds, IsOperated, IsWalked, KeeperView, Operates, ends_found}
 pub use Rattle.link_ends.specs.declared.ends.LinkEnds.{LinkEnds}
 pub use Rattle.link_events.specs.declared.event.Event.TheVariants.{Interface, Alter, Arrive, Cut, Dump, Pass, Reset}
 pub use Rattle.link_events.specs.declared.event.Event.TheVariants.{Send, Status}
-pub use Rattle.trusted_memory.specs.{Contents, Leads, TrustedMemory, Write}
+pub use Rattle.trusted_memory.specs.{MemoryContents, Leads, TrustedMemory, Write}
 pub use Rattle.link_ends.specs.Hosts.{InterfacesView}
 pub use Rattle.ide_plan.specs.declared.plan.Region.{Region}
 pub use Rattle.link_verdicts.specs.declared.verdict.UnitName.{UnitName}
 pub use Rattle.link_history.specs.Plan.{is_closed, mode_of, partner, streams_by_link, streams_of}
 unfoldable pub use Rattle.link_history.specs.Plan.{stream_plan}
-pub use Rattle.link_ports.specs.Machine.{Beside, LinkPacket, LinkState, Stepped, altered_to, answered, arrive}
-pub use Rattle.link_ports.specs.Machine.{arrive_read, cut_short, end_at, kept_at, moved_at, moved_found, moved_state}
-pub use Rattle.link_ports.specs.Machine.{moves_at, operated, packet_numbered, passed, port_at, ports_of, reset_state}
-pub use Rattle.link_ports.specs.Machine.{shown, status_at, status_found, take_found, unit_name, verdict_of, work_done}
+pub use Rattle.link_ports.specs.Machine.{Beside, LinkPacket, LinkState, Stepped, altered_to, stepped_answer, arrive}
+pub use Rattle.link_ports.specs.Machine.{arrive_read, cut_short, place_at_end, kept_at, moved_at, moved_found}
+pub use Rattle.link_ports.specs.Machine.{moved_state}
+pub use Rattle.link_ports.specs.Machine.{moves_at, stepped_operation, packet_numbered, passed, port_at, ports_of}
+pub use Rattle.link_ports.specs.Machine.{reset_state}
+pub use Rattle.link_ports.specs.Machine.{shown_packet, status_at, status_found, stepped_take_found, unit_name}
+pub use Rattle.link_ports.specs.Machine.{verdict_of_taken, work_done}
 unfoldable pub use Rattle.link_ports.specs.Machine.{find_op, put, put_op, step_of}
-pub use Rattle.link_ports.specs.Stands.{StandsFor}
+pub use Rattle.link_ports.specs.Stands.{PortsStandFor}
 pub use Rattle.link_verdicts.specs.declared.verdict.Effect.{Effect}
 pub use Rattle.link_verdicts.specs.declared.verdict.Verdict.{Verdict}
 pub use Rattle.link_walks.specs.Joined.{IsJoined, KeysKept, OperationsJoin, draws_by, host_of, moved_by, pool_by}

@@ -1,7 +1,7 @@
--- What events on interfaces and on trusted memory come to, by what is kept.
+-- What events on interfaces and on trusted memory give, by what is kept.
 use Rattle.std.specs.Prelude.{ℕ, Bool, true, false, nat_lt, nat_le, if◌then◌else◌, List, length}
 use Rattle.std.specs.Prelude.{slice_get, Option, Some, None}
-use Rattle.std.specs.Option.{option_and_then, option_map, unwrap_or}
+use Rattle.std.specs.Option.{option_and_then, option_map}
 use Rattle.interface_words.specs.declared.register.Register.{Register}
 use Rattle.interface_words.specs.declared.verdict.InterfaceVerdict.TheVariants as iv
 use Rattle.interface_words.specs.RegisterNames.{has_register}
@@ -15,9 +15,9 @@ use Rattle.tdi_device.specs.Replies.{DeviceTdis}
 use Rattle.tdi_host.specs.declared.operation.InterfaceOp.{InterfaceOp}
 use Rattle.tdi_host.specs.declared.operation.InterfaceOp.TheVariants as op
 use Rattle.tdi_host.specs.Views.{HostTdi, view_of}
-use Rattle.tdi_host.specs.Managers.{ManagerView}
+use Rattle.tdi_host.specs.Managers.{InterfaceManagerView}
 use Rattle.tdi_ends.specs.Keepers.{Ended}
-use Rattle.trusted_memory.specs.{Contents, byte_at, bytes_from, in_one_region}
+use Rattle.trusted_memory.specs.{MemoryContents, byte_at, bytes_from, in_one_region}
 use Rattle.link_ends.specs.declared.ends.LinkEnds.{LinkEnds}
 use Rattle.link_ends.specs.Hosts.{operated_on}
 use Rattle.all_ends.specs.Places.{located, code_behind}
@@ -25,36 +25,34 @@ use Rattle.interface_joins.specs.Verdicts.{view_shown, ended_as}
 
 -- ---- interfaces by number
 
-abbrev pub interface_named : ManagerView → List LinkEnds → ℕ → Option (ℕ × ℕ)
+abbrev pub interface_named : InterfaceManagerView → List LinkEnds → ℕ → Option (ℕ × ℕ)
 interface_named m ends n =
     if nat_lt n (length m.interfaces) then (if nat_le n 255 then located 0 n ends else None) else None
 
 -- the link that it is on
-abbrev pub link_named : ManagerView → List LinkEnds → ℕ → Option ℕ
+abbrev pub link_named : InterfaceManagerView → List LinkEnds → ℕ → Option ℕ
 link_named m ends n = option_map (λ (at : ℕ × ℕ). at.0) (interface_named m ends n)
 
 -- ---- what the manager asks
 
-abbrev pub ended_on : ManagerView → ℕ → ℕ → InterfaceOp → Option Loss → Option LinkEnds → Option HostTdi → Option Ended
+abbrev pub ended_on : InterfaceManagerView → ℕ → ℕ → InterfaceOp → Option Loss → Option LinkEnds → Option HostTdi
+    → Option Ended
 ended_on m draws i o loss (Some l) (Some x) = Some (operated_on i o loss draws m l x)
 ended_on m draws i o loss l x = None
 
-abbrev pub ended_at : ManagerView → List LinkEnds → ℕ → ℕ → InterfaceOp → Option Loss → Option (ℕ × ℕ) → Option Ended
+abbrev pub ended_at : InterfaceManagerView → List LinkEnds → ℕ → ℕ → InterfaceOp → Option Loss → Option (ℕ × ℕ)
+    → Option Ended
 ended_at m ends draws i o loss None = None
 ended_at m ends draws i o loss (Some at) =
     ended_on m draws i o loss (slice_get ends at.0) (slice_get m.interfaces i)
 
-abbrev pub ended_in : ManagerView → List LinkEnds → ℕ → ℕ → InterfaceOp → Option Loss → Option Ended
+abbrev pub ended_in : InterfaceManagerView → List LinkEnds → ℕ → ℕ → InterfaceOp → Option Loss → Option Ended
 ended_in m ends draws i o loss = ended_at m ends draws i o loss (interface_named m ends i)
 
--- the verdict, if the operation has one; what is asked of no interface comes to nothing
+-- the verdict, if the operation has one; what is asked of no interface gives nothing
 abbrev pub verdict_in : ℕ → InterfaceOp → Option Loss → Option Ended → Option Verdict
 verdict_in i o loss None = Some v.Nothing
 verdict_in i o loss (Some e) = ended_as i o loss e
-
--- of an operation that has one
-abbrev pub asked_in : ℕ → InterfaceOp → Option Loss → Option Ended → Verdict
-asked_in i o loss e = unwrap_or (verdict_in i o loss e) v.Nothing
 
 -- ---- what is done to the device
 
@@ -62,11 +60,11 @@ abbrev pub device_interfaces : Option LinkEnds → Option DeviceTdis
 device_interfaces None = None
 device_interfaces (Some l) = Some l.device.interfaces
 
-abbrev pub tdi_at : List LinkEnds → ℕ × ℕ → Option Tdi
-tdi_at ends at = option_and_then (λ d. slice_get d.interfaces at.1) (device_interfaces (slice_get ends at.0))
+abbrev pub tdi_of_ends : List LinkEnds → ℕ × ℕ → Option Tdi
+tdi_of_ends ends at = option_and_then (λ d. slice_get d.interfaces at.1) (device_interfaces (slice_get ends at.0))
 
-abbrev pub tdi_named : ManagerView → List LinkEnds → ℕ → Option Tdi
-tdi_named m ends i = option_and_then (tdi_at ends) (interface_named m ends i)
+abbrev pub tdi_named : InterfaceManagerView → List LinkEnds → ℕ → Option Tdi
+tdi_named m ends i = option_and_then (tdi_of_ends ends) (interface_named m ends i)
 
 abbrev pub written_as : ℕ → Register → ℕ → Option Tdi → Verdict
 written_as i register value None = v.Nothing
@@ -88,7 +86,7 @@ abbrev pub viewed_as : ℕ → Option HostTdi → Verdict
 viewed_as i None = v.Nothing
 viewed_as i (Some x) = v.Interface (iv.View i (view_shown (view_of x.seen)))
 
-abbrev pub seen_at : ManagerView → ℕ → Option (ℕ × ℕ) → Option HostTdi
+abbrev pub seen_at : InterfaceManagerView → ℕ → Option (ℕ × ℕ) → Option HostTdi
 seen_at m i None = None
 seen_at m i (Some at) = slice_get m.interfaces i
 
@@ -98,15 +96,16 @@ read_as false bytes = v.Nothing
 
 -- ---- all of them
 
-abbrev pub answer_in : List LinkEnds → ManagerView → ℕ → Contents → InterfaceEvent → Verdict
-answer_in ends m draws memory (ie.Lock i loss) = asked_in i op.Lock loss (ended_in m ends draws i op.Lock loss)
-answer_in ends m draws memory (ie.Report i loss) = asked_in i op.Report loss (ended_in m ends draws i op.Report loss)
-answer_in ends m draws memory (ie.Start i loss) = asked_in i op.Start loss (ended_in m ends draws i op.Start loss)
-answer_in ends m draws memory (ie.Halt i loss) = asked_in i op.Halt loss (ended_in m ends draws i op.Halt loss)
-answer_in ends m draws memory (ie.State i loss) = asked_in i op.State loss (ended_in m ends draws i op.State loss)
-answer_in ends m draws memory (ie.View i) = viewed_as i (seen_at m i (interface_named m ends i))
-answer_in ends m draws memory (ie.Write i register value) = written_as i register value (tdi_named m ends i)
-answer_in ends m draws memory (ie.Flr i) = flr_as i (tdi_named m ends i)
-answer_in ends m draws memory (ie.Firmware i) = firmware_as i (tdi_named m ends i)
+-- each event has a verdict, but for an operation that has none
+abbrev pub answer_in : List LinkEnds → InterfaceManagerView → ℕ → MemoryContents → InterfaceEvent → Option Verdict
+answer_in ends m draws memory (ie.Lock i loss) = verdict_in i op.Lock loss (ended_in m ends draws i op.Lock loss)
+answer_in ends m draws memory (ie.Report i loss) = verdict_in i op.Report loss (ended_in m ends draws i op.Report loss)
+answer_in ends m draws memory (ie.Start i loss) = verdict_in i op.Start loss (ended_in m ends draws i op.Start loss)
+answer_in ends m draws memory (ie.Halt i loss) = verdict_in i op.Halt loss (ended_in m ends draws i op.Halt loss)
+answer_in ends m draws memory (ie.State i loss) = verdict_in i op.State loss (ended_in m ends draws i op.State loss)
+answer_in ends m draws memory (ie.View i) = Some (viewed_as i (seen_at m i (interface_named m ends i)))
+answer_in ends m draws memory (ie.Write i register value) = Some (written_as i register value (tdi_named m ends i))
+answer_in ends m draws memory (ie.Flr i) = Some (flr_as i (tdi_named m ends i))
+answer_in ends m draws memory (ie.Firmware i) = Some (firmware_as i (tdi_named m ends i))
 answer_in ends m draws memory (ie.Memory at len) =
-    read_as (in_one_region memory.regions at len) (bytes_from (byte_at memory) at len)
+    Some (read_as (in_one_region memory.regions at len) (bytes_from (byte_at memory) at len))

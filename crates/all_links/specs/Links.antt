@@ -2,16 +2,19 @@
 use Rattle.std.specs.Prelude.{◌≡◌, ◌+◌, [], Result, Ok, Err}
 use Rattle.ide_types.specs.declared.memory.Memory.{Memory}
 use Rattle.ide_plan.specs.declared.plan.Plan.{Plan}
+use Rattle.link_events.specs.declared.event.Event.{Event}
+use Rattle.link_events.specs.declared.event.InterfaceEvent.{InterfaceEvent}
 use Rattle.link_verdicts.specs.declared.verdict.Verdict.{Verdict}
 use Rattle.key_laws.specs.History.{History}
-use Rattle.link_ports.specs.Machine.{LinkState, Stepped}
-use Rattle.link_ports.specs.Stands.{StandsFor}
+use Rattle.link_ports.specs.Machine.{LinkState, Stepped, step_of}
+use Rattle.link_ports.specs.Stands.{PortsStandFor}
 use Rattle.key_slots.specs.{new_pool}
 use Rattle.tsm_host.specs.Managers.{new_manager}
-use Rattle.tdi_host.specs.Managers.{new_manager as new_interfaces}
+use Rattle.tdi_host.specs.Managers.{new_interface_manager as new_interfaces}
 use Rattle.trusted_memory.specs.{new_memory}
 use Rattle.all_links.specs.declared.links.Links.{Links}
 use Rattle.all_ends.specs.AllEnds.{ends_from}
+use Rattle.all_links.specs.Besides.{IsAnsweredBy, beside_in}
 use Rattle.all_ends.specs.States.{state_of, AreLinks, IsBounded}
 
 abbrev pub links_state : Plan → Links → LinkState
@@ -28,11 +31,11 @@ pub record IsFirst (plan : Plan) (s : Links) : Type 0 where
   pub steps : s.steps ≡ 0
 
 -- the links are those of a plan, and stand for some history
-pub record Standing (s : Links) : Type 0 where
+pub record StandsForSome (s : Links) : Type 0 where
   pub plan : Plan
   pub history : History
   pub links : AreLinks plan s.ends s.keeper.keys
-  pub stands : StandsFor plan (links_state plan s) history
+  pub stands : PortsStandFor plan (links_state plan s) history
 
 -- this verdict and the state after it
 pub record Ends (plan : Plan) (new : Links) (verdict : Verdict) (step : Stepped) : Type 0 where
@@ -41,14 +44,14 @@ pub record Ends (plan : Plan) (new : Links) (verdict : Verdict) (step : Stepped)
   pub links : AreLinks plan new.ends new.keeper.keys
 
 -- An event with this verdict: if the links are those of a plan, and stand for some history, they are then in the state
--- after it.
-pub record EndsWith (verdict : Verdict) (old new : Links) (step : Plan → LinkState → Stepped) : Type 0 where
+-- after it, whatever is said of other events on interfaces.
+pub record EndsWith (verdict : Verdict) (old new : Links) (event : Event) : Type 0 where
   pub counted : new.steps ≡ old.steps + 1
   pub bounded : IsBounded new.ends new.packets.packets new.steps
   pub regions : new.trusted.contents.regions ≡ old.trusted.contents.regions
-  pub ends : (plan : Plan) (h : History) → AreLinks plan old.ends old.keeper.keys
-      → StandsFor plan (links_state plan old) h
-      → Ends plan new verdict (step plan (links_state plan old))
+  pub ends : (answer : InterfaceEvent → Verdict) → IsAnsweredBy answer old event → (plan : Plan) (h : History)
+      → AreLinks plan old.ends old.keeper.keys → PortsStandFor plan (links_state plan old) h
+      → Ends plan new verdict (step_of plan (beside_in old answer) (links_state plan old) event)
 
 -- for want of memory all that is kept is as before
 pub record Stays (old new : Links) : Type 0 where
@@ -58,6 +61,6 @@ pub record Stays (old new : Links) : Type 0 where
   pub packets : new.packets.packets ≡ old.packets.packets
   pub steps : new.steps ≡ old.steps
 
-abbrev pub EndsOr : Result Verdict Memory → Links → Links → (Plan → LinkState → Stepped) → Type 0
-EndsOr (Ok verdict) old new step = EndsWith verdict old new step
-EndsOr (Err e) old new step = Stays old new
+abbrev pub EndsOr : Result Verdict Memory → Links → Links → Event → Type 0
+EndsOr (Ok verdict) old new event = EndsWith verdict old new event
+EndsOr (Err e) old new event = Stays old new

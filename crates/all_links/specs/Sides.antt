@@ -16,14 +16,14 @@ use Rattle.key_laws.specs.History.{History}
 use Rattle.key_laws.specs.Operations.{Op, work_of}
 use Rattle.link_history.specs.History.{Arrival}
 use Rattle.link_ports.specs.Machine.{LinkState}
-use Rattle.link_ports.specs.Stands.{StandsFor}
+use Rattle.link_ports.specs.Stands.{PortsStandFor}
 use Rattle.tsm_host.specs.Managers.{Named, named}
 use Rattle.tdi_state.specs.Machine.{Tdi, Call, WriteRegister, LevelReset, FirmwareUpdate}
-use Rattle.tdi_device.specs.Replies.{settled, called_at}
+use Rattle.tdi_device.specs.Replies.{settled_tdis, called_at}
 use Rattle.tdi_host.specs.declared.operation.InterfaceOp.{InterfaceOp}
 use Rattle.tdi_host.specs.declared.operation.InterfaceOp.TheVariants as op
 use Rattle.tdi_host.specs.Views.{HostTdi}
-use Rattle.tdi_host.specs.Managers.{stream_keyed, reset_manager}
+use Rattle.tdi_host.specs.Managers.{stream_keyed, reset_interface_manager}
 use Rattle.trusted_memory.specs.{Leads}
 use Rattle.device_side.specs.Ends.{secure_at}
 use Rattle.link_ends.specs.declared.ends.LinkEnds.{LinkEnds}
@@ -49,11 +49,13 @@ pub record SidesKeep (old new : Links) : Type 0 where
 -- ---- what keys and packets make of a device's interfaces
 
 -- they are settled by the device's port as it is afterwards, or the device is as before
-abbrev pub Follows : LinkEnds → LinkEnds → Type 0
-Follows l l' = (l'.device.interfaces ≡ settled (secure_at l'.device.port) l.device.interfaces) ⊎ (l'.device ≡ l.device)
+abbrev pub IsSettledOrSame : LinkEnds → LinkEnds → Type 0
+IsSettledOrSame l l' = (l'.device.interfaces ≡ settled_tdis (secure_at l'.device.port) l.device.interfaces)
+    ⊎ (l'.device ≡ l.device)
 
 abbrev pub AllFollow : List LinkEnds → List LinkEnds → Type 0
-AllFollow old new = (i : ℕ) (l l' : LinkEnds) → slice_get old i ≡ Some l → slice_get new i ≡ Some l' → Follows l l'
+AllFollow old new = (i : ℕ) (l l' : LinkEnds) → slice_get old i ≡ Some l → slice_get new i ≡ Some l'
+    → IsSettledOrSame l l'
 
 -- ---- arrivals
 
@@ -62,7 +64,7 @@ pub record SidesArrive (arrival : Plan → LinkState → Option Arrival) (verdic
   pub keeper : new.keeper.interfaces ≡ old.keeper.interfaces
   pub devices : AllFollow old.ends new.ends
   pub contents : (plan : Plan) (h : History) → AreLinks plan old.ends old.keeper.keys
-      → StandsFor plan (links_state plan old) h → old.trusted.contents.regions ≡ plan.memory
+      → PortsStandFor plan (links_state plan old) h → old.trusted.contents.regions ≡ plan.memory
       → Leads old.trusted.contents (writes_by plan (grants_in old.keeper.interfaces) (links_state plan old)
       (arrival plan (links_state plan old)) verdict) new.trusted.contents
 
@@ -93,7 +95,7 @@ pub record SidesOperate (o : Operation) (link stream : ℕ) (verdict : Verdict) 
 pub record SidesReset (link : ℕ) (old new : Links) : Type 0 where
   pub contents : new.trusted.contents ≡ old.trusted.contents
   pub ends : link < length old.ends → ResetsAt old.ends link new.ends
-  pub keeper : link < length old.ends → new.keeper.interfaces ≡ reset_manager link old.keeper.interfaces
+  pub keeper : link < length old.ends → new.keeper.interfaces ≡ reset_interface_manager link old.keeper.interfaces
   pub absent : length old.ends ≤ link → SidesKeep old new
 
 -- ---- events on interfaces

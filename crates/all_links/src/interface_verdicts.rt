@@ -1,4 +1,4 @@
-//! What operations on interfaces come to, as verdicts.
+//! The verdicts of operations on interfaces.
 
 ghost use Rattle.std.specs.Prelude.{◌≡◌, Some, IsSome};
 ghost use Rattle.interface_joins.specs.Verdicts.{view_shown, shown_as, refused_as, asked_as};

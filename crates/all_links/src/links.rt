@@ -7,7 +7,6 @@ ghost use Rattle.ide_plan.specs.Fits.{FitsPlan};
 ghost use Rattle.link_events.specs.Spells.{IsAllowed};
 ghost use Rattle.link_events.specs.Interfaces.{IsAllowedInterface};
 ghost use Rattle.interface_words.specs.RegisterNames.{width_of};
-ghost use Rattle.link_ports.specs.Machine.{step_of, arrive as arrive_step};
 ghost use Rattle.std.specs.Prelude.{not, ◌==◌, IfSome};
 ghost use Rattle.key_laws.specs.Operations.{work_of};
 ghost use Rattle.tsm_host.specs.Managers.{named};
@@ -32,7 +31,8 @@ use tdi_host::InterfaceOp;
 use trusted_memory::Trusted;
 use tsm_host::{Op, Outcome};
 
-/// The ends of all links, the manager, the packets that were sealed, trusted memory, and how many events came.
+/// The ends of all links, the manager, the packets that were sealed, trusted memory, and how many events came (PCI
+/// Express Base 6.0 section 6.33 and chapter 11, in this profile).
 #[derive(Drop)]
 pub struct Links {
     pub ends: AllEnds,
@@ -50,7 +50,7 @@ const MOST_REPORT: usize = 1_140;
 
 // ---- packets
 
-// A copy of the bytes, with the one at `at` combined with `mask`; `None` where they end before it.
+// A copy of the bytes, with the one at `at` combined with `mask`; `None` if they end before it.
 fn altered(alloc: Global, bytes: &[u8], at: u64, mask: u8) -> Result<Option<Vec<u8>>, Memory>
     ensures { IfOk result (λ o. option_map (λ (v : Vec ℕ Global). v.items) o ≡ altered_bytes at mask bytes.now) }
 {
@@ -66,15 +66,16 @@ fn altered(alloc: Global, bytes: &[u8], at: u64, mask: u8) -> Result<Option<Vec<
 impl Links {
     ghost use Rattle.all_ends.specs.States.{IsBounded};
     ghost use Rattle.all_ends.specs.AllEnds.{OperatesAt};
-    ghost use Rattle.all_links.specs.Links.{IsFirst, Standing, EndsWith, EndsOr};
+    ghost use Rattle.all_links.specs.Links.{IsFirst, StandsForSome, EndsWith, EndsOr};
     ghost use Rattle.all_links.specs.Sides.{SidesKeep, SidesArrive, SidesOperate, SidesReset, SidesAsk, SidesCall};
     ghost use Rattle.all_links.specs.Sides.{SidesInterface, Sides, arrival_at};
     ghost use Rattle.all_ends.specs.AllEnds.{AsksAt};
-    ghost use Rattle.all_links.specs.Besides.{beside_in, verdict_asked, AskIsAnswered, IsAnswered};
-    ghost use Rattle.all_links.specs.Interfaces.{interface_named, link_named, asked_in, ended_in};
-    ghost use Rattle.interface_joins.specs.Verdicts.{report_of, op_event, asked_as, NoBadReply};
+    ghost use Rattle.all_links.specs.Besides.{answer_of_links, IsAnswered};
+    ghost use Rattle.all_links.specs.Interfaces.{interface_named, link_named};
+    ghost use Rattle.interface_joins.specs.Verdicts.{report_of, op_event, asked_as, NoBadInterfaceReply};
 
     /// The links of the plan before the first event: no stream has keys, no interface is locked, and memory is 0.
+    /// Returns `Memory` for want of memory.
     pub fn make(alloc: Global, plan: &Plan) -> Result<Links, Memory>
         requires { FitsPlan plan.now }
         ensures { IfOk result (λ s. IsFirst plan.now s) }
@@ -129,8 +130,7 @@ impl Links {
     ) -> Result<Verdict, Memory>
         requires steps { self.old.steps < 2 ^ 28 }
         requires bounded { IsBounded self.old.ends self.old.packets.packets self.old.steps }
-        ensures ends { EndsOr result self.old self.new
-            (λ plan st. step_of plan (beside_in self.old) st (Event.Send port bytes.now more trusted)) }
+        ensures ends { EndsOr result self.old self.new (Event.Send port bytes.now more trusted) }
         ensures sides { IfOk result (λ v. SidesKeep self.old self.new) }
     {
         if !self.has_link(port.link as u64) {
@@ -140,15 +140,14 @@ impl Links {
         Ok(self.seal(port, bytes, trusted, more))
     }
 
-    // A send at a port that there is; there is room for what it seals.
+    // A send at a port that exists; there is room for what it seals.
     fn seal(&mut self, port: PortName, bytes: &[u8], trusted: bool, more: bool) -> Verdict
         requires steps { self.old.steps < 2 ^ 28 }
         requires bounded { IsBounded self.old.ends self.old.packets.packets self.old.steps }
         requires here { port.link < length self.old.ends }
         requires marks { 3 ≤ self.old.packets.mark_room }
         requires bytes_room { 4184 ≤ self.old.packets.byte_room }
-        ensures ends { EndsWith result self.old self.new
-            (λ plan st. step_of plan (beside_in self.old) st (Event.Send port bytes.now more trusted)) }
+        ensures ends { EndsWith result self.old self.new (Event.Send port bytes.now more trusted) }
         ensures sides { SidesKeep self.old self.new }
     {
         let number = self.packets.count() as u64 + 1;
@@ -163,14 +162,13 @@ impl Links {
 
     // ---- arrivals
 
-    // Bytes that come to a port that there is.
+    // Bytes that arrive at a port that exists.
     fn arrive_at(&mut self, port: PortName, bytes: &[u8]) -> Verdict
         requires room { 8 ≤ self.old.trusted.spare }
         requires steps { self.old.steps < 2 ^ 28 }
         requires bounded { IsBounded self.old.ends self.old.packets.packets self.old.steps }
         requires here { port.link < length self.old.ends }
-        ensures ends { EndsWith result self.old self.new
-            (λ plan st. arrive_step plan (beside_in self.old) st (Some (record { port = port; bytes = bytes.now }))) }
+        ensures ends { EndsWith result self.old self.new (Event.Arrive port bytes.now) }
         ensures sides { SidesArrive (λ plan st. Some (record { port = port; bytes = bytes.now })) result self.old
             self.new }
     {
@@ -184,8 +182,7 @@ impl Links {
         requires room { 8 ≤ self.old.trusted.spare }
         requires steps { self.old.steps < 2 ^ 28 }
         requires bounded { IsBounded self.old.ends self.old.packets.packets self.old.steps }
-        ensures ends { EndsWith result self.old self.new
-            (λ plan st. step_of plan (beside_in self.old) st (Event.Arrive port bytes.now)) }
+        ensures ends { EndsWith result self.old self.new (Event.Arrive port bytes.now) }
         ensures sides { SidesArrive (arrival_at (Event.Arrive port bytes.now)) result self.old self.new }
     {
         if !self.has_link(port.link as u64) {
@@ -198,8 +195,7 @@ impl Links {
         requires room { 8 ≤ self.old.trusted.spare }
         requires steps { self.old.steps < 2 ^ 28 }
         requires bounded { IsBounded self.old.ends self.old.packets.packets self.old.steps }
-        ensures ends { EndsWith result self.old self.new
-            (λ plan st. step_of plan (beside_in self.old) st (Event.Pass packet)) }
+        ensures ends { EndsWith result self.old self.new (Event.Pass packet) }
         ensures sides { SidesArrive (arrival_at (Event.Pass packet)) result self.old self.new }
     {
         match self.packets.get(packet) {
@@ -218,8 +214,7 @@ impl Links {
         requires room { 8 ≤ self.old.trusted.spare }
         requires steps { self.old.steps < 2 ^ 28 }
         requires bounded { IsBounded self.old.ends self.old.packets.packets self.old.steps }
-        ensures ends { EndsOr result self.old self.new
-            (λ plan st. step_of plan (beside_in self.old) st (Event.Alter packet at mask)) }
+        ensures ends { EndsOr result self.old self.new (Event.Alter packet at mask) }
         ensures sides { IfOk result (λ v. SidesArrive (arrival_at (Event.Alter packet at mask)) v self.old self.new) }
     {
         match self.packets.get(packet) {
@@ -235,8 +230,7 @@ impl Links {
         requires room { 8 ≤ self.old.trusted.spare }
         requires steps { self.old.steps < 2 ^ 28 }
         requires bounded { IsBounded self.old.ends self.old.packets.packets self.old.steps }
-        ensures ends { EndsWith result self.old self.new
-            (λ plan st. step_of plan (beside_in self.old) st (Event.Cut packet length)) }
+        ensures ends { EndsWith result self.old self.new (Event.Cut packet length) }
         ensures sides { SidesArrive (arrival_at (Event.Cut packet length)) result self.old self.new }
     {
         match self.packets.get(packet) {
@@ -259,8 +253,7 @@ impl Links {
     fn dump(&mut self, alloc: Global, packet: u64) -> Result<Verdict, Memory>
         requires steps { self.old.steps < 2 ^ 28 }
         requires bounded { IsBounded self.old.ends self.old.packets.packets self.old.steps }
-        ensures ends { EndsOr result self.old self.new
-            (λ plan st. step_of plan (beside_in self.old) st (Event.Dump packet)) }
+        ensures ends { EndsOr result self.old self.new (Event.Dump packet) }
         ensures sides { IfOk result (λ v. SidesKeep self.old self.new) }
     {
         match self.packets.get(packet) {
@@ -286,8 +279,7 @@ impl Links {
     fn arrive_event(&mut self, port: PortName, bytes: &[u8]) -> Result<Verdict, Memory>
         requires steps { self.old.steps < 2 ^ 28 }
         requires bounded { IsBounded self.old.ends self.old.packets.packets self.old.steps }
-        ensures ends { EndsOr result self.old self.new
-            (λ plan st. step_of plan (beside_in self.old) st (Event.Arrive port bytes.now)) }
+        ensures ends { EndsOr result self.old self.new (Event.Arrive port bytes.now) }
         ensures sides { IfOk result (λ v. SidesArrive (arrival_at (Event.Arrive port bytes.now)) v self.old self.new) }
     {
         self.reserve_pages()?;
@@ -297,8 +289,7 @@ impl Links {
     fn pass_event(&mut self, packet: u64) -> Result<Verdict, Memory>
         requires steps { self.old.steps < 2 ^ 28 }
         requires bounded { IsBounded self.old.ends self.old.packets.packets self.old.steps }
-        ensures ends { EndsOr result self.old self.new
-            (λ plan st. step_of plan (beside_in self.old) st (Event.Pass packet)) }
+        ensures ends { EndsOr result self.old self.new (Event.Pass packet) }
         ensures sides { IfOk result (λ v. SidesArrive (arrival_at (Event.Pass packet)) v self.old self.new) }
     {
         self.reserve_pages()?;
@@ -314,8 +305,7 @@ impl Links {
     ) -> Result<Verdict, Memory>
         requires steps { self.old.steps < 2 ^ 28 }
         requires bounded { IsBounded self.old.ends self.old.packets.packets self.old.steps }
-        ensures ends { EndsOr result self.old self.new
-            (λ plan st. step_of plan (beside_in self.old) st (Event.Alter packet at mask)) }
+        ensures ends { EndsOr result self.old self.new (Event.Alter packet at mask) }
         ensures sides { IfOk result (λ v. SidesArrive (arrival_at (Event.Alter packet at mask)) v self.old self.new) }
     {
         self.reserve_pages()?;
@@ -325,8 +315,7 @@ impl Links {
     fn cut_event(&mut self, packet: u64, length: u64) -> Result<Verdict, Memory>
         requires steps { self.old.steps < 2 ^ 28 }
         requires bounded { IsBounded self.old.ends self.old.packets.packets self.old.steps }
-        ensures ends { EndsOr result self.old self.new
-            (λ plan st. step_of plan (beside_in self.old) st (Event.Cut packet length)) }
+        ensures ends { EndsOr result self.old self.new (Event.Cut packet length) }
         ensures sides { IfOk result (λ v. SidesArrive (arrival_at (Event.Cut packet length)) v self.old self.new) }
     {
         self.reserve_pages()?;
@@ -335,7 +324,7 @@ impl Links {
 
     // ---- operations, resets and states
 
-    // The link and the stream by their numbers, where there is such a stream.
+    // The link and the stream by their numbers, if there is such a stream.
     fn named(&self, link: u64, stream: u64) -> Option<(u8, u8)>
         requires { length self.now.ends ≤ 8 }
         ensures { result ≡ stream_named self.now.keeper.keys.manager (length self.now.ends) link stream }
@@ -361,9 +350,8 @@ impl Links {
     ) -> Verdict
         requires steps { self.old.steps < 2 ^ 28 }
         requires bounded { IsBounded self.old.ends self.old.packets.packets self.old.steps }
-        requires stands { Standing self.old }
-        ensures ends { EndsWith result self.old self.new
-            (λ plan st. step_of plan (beside_in self.old) st (operation_event operation link stream loss)) }
+        requires stands { StandsForSome self.old }
+        ensures ends { EndsWith result self.old self.new (operation_event operation link stream loss) }
         ensures sides { SidesOperate operation link stream result self.old self.new }
     {
         match self.named(link, stream) {
@@ -372,9 +360,9 @@ impl Links {
         }
     }
 
-    // Carries an operation on a stream that there is.
+    // Carries an operation on a stream that exists.
     fn carry_stream(&mut self, op: Op, loss: Option<Loss>) -> Outcome
-        requires stands { Standing self.old }
+        requires stands { StandsForSome self.old }
         requires here { (op_name op).link < length self.old.ends }
         requires stream { IsSome (named self.old.keeper.keys.manager (op_name op).link (op_name op).stream) }
         ensures links { self.new ≡ record self.old { ends = self.new.ends; keeper = self.new.keeper } }
@@ -393,7 +381,7 @@ impl Links {
         self.ends.operate(op.link(), &mut self.keeper, op, loss)
     }
 
-    // An operation on a stream that there is.
+    // An operation on a stream that exists.
     fn operate_on(
         &mut self,
         operation: Operation,
@@ -403,11 +391,10 @@ impl Links {
     ) -> Verdict
         requires steps { self.old.steps < 2 ^ 28 }
         requires bounded { IsBounded self.old.ends self.old.packets.packets self.old.steps }
-        requires stands { Standing self.old }
+        requires stands { StandsForSome self.old }
         requires here { link < length self.old.ends }
         requires stream { IsSome (named self.old.keeper.keys.manager link stream) }
-        ensures ends { EndsWith result self.old self.new
-            (λ plan st. step_of plan (beside_in self.old) st (operation_event operation link stream loss)) }
+        ensures ends { EndsWith result self.old self.new (operation_event operation link stream loss) }
         ensures sides { SidesOperate operation link stream result self.old self.new }
     {
         link_walks::operations_join();
@@ -420,8 +407,7 @@ impl Links {
     fn reset(&mut self, link: u64) -> Verdict
         requires steps { self.old.steps < 2 ^ 28 }
         requires bounded { IsBounded self.old.ends self.old.packets.packets self.old.steps }
-        ensures ends { EndsWith result self.old self.new
-            (λ plan st. step_of plan (beside_in self.old) st (Event.Reset link)) }
+        ensures ends { EndsWith result self.old self.new (Event.Reset link) }
         ensures sides { SidesReset link self.old self.new }
     {
         if !self.has_link(link) {
@@ -437,8 +423,7 @@ impl Links {
     fn status(&mut self, link: u64, stream: u64) -> Verdict
         requires steps { self.old.steps < 2 ^ 28 }
         requires bounded { IsBounded self.old.ends self.old.packets.packets self.old.steps }
-        ensures ends { EndsWith result self.old self.new
-            (λ plan st. step_of plan (beside_in self.old) st (Event.Status link stream)) }
+        ensures ends { EndsWith result self.old self.new (Event.Status link stream) }
         ensures sides { SidesKeep self.old self.new }
     {
         match self.named(link, stream) {
@@ -465,7 +450,7 @@ impl Links {
         self.only(Verdict::Interface { verdict })
     }
 
-    // The link and the place on it of the interface of a number, where there is one.
+    // The link and the place on it of the interface of a number, if there is one.
     fn interface(&self, number: u64) -> Option<(u8, usize)>
         requires { length self.now.ends ≤ 8 }
         ensures { result ≡ interface_named self.now.keeper.interfaces self.now.ends number }
@@ -488,11 +473,11 @@ impl Links {
         loss: Option<Loss>,
     ) -> tdi_host::Outcome
         requires here { link_named self.old.keeper.interfaces self.old.ends number ≡ Some link }
-        requires carried { IsSome (verdict_asked self.old number op loss) }
+        requires carried { IsSome (answer_of_links self.old (op_event op number loss)) }
         ensures links { self.new ≡ record self.old { ends = self.new.ends; keeper = self.new.keeper } }
         ensures asks { AsksAt self.old.ends link self.old.keeper number op loss result self.new.ends self.new.keeper }
         ensures answered { (report : List ℕ) → IsSome (asked_as number loss report result) }
-        ensures no_bad_reply { NoBadReply loss result }
+        ensures no_bad_reply { NoBadInterfaceReply loss result }
     {
         let interface = number as usize;
         self.ends
@@ -510,10 +495,8 @@ impl Links {
         requires steps { self.old.steps < 2 ^ 28 }
         requires bounded { IsBounded self.old.ends self.old.packets.packets self.old.steps }
         requires short { report_of op ≡ (λ e. []) }
-        requires carried { IsSome (verdict_asked self.old number op loss) }
-        ensures ends { let answer = asked_in number op loss (ended_in self.old.keeper.interfaces self.old.ends
-            self.old.keeper.keys.pool.draws number op loss) in
-            EndsWith result self.old self.new (λ plan st. (answer, st)) }
+        requires carried { IsSome (answer_of_links self.old (op_event op number loss)) }
+        ensures ends { EndsWith result self.old self.new (Event.Interface (op_event op number loss)) }
         ensures sides { SidesAsk number op loss self.old self.new }
     {
         match self.interface(number) {
@@ -530,10 +513,8 @@ impl Links {
     fn report(&mut self, alloc: Global, number: u64, loss: Option<Loss>) -> Result<Verdict, Memory>
         requires steps { self.old.steps < 2 ^ 28 }
         requires bounded { IsBounded self.old.ends self.old.packets.packets self.old.steps }
-        requires carried { IsSome (verdict_asked self.old number InterfaceOp.Report loss) }
-        ensures ends { let op = InterfaceOp.Report in let answer = asked_in number op loss (ended_in
-            self.old.keeper.interfaces self.old.ends self.old.keeper.keys.pool.draws number op loss) in
-            EndsOr result self.old self.new (λ plan st. (answer, st)) }
+        requires carried { IsSome (answer_of_links self.old (InterfaceEvent.Report number loss)) }
+        ensures ends { EndsOr result self.old self.new (Event.Interface (InterfaceEvent.Report number loss)) }
         ensures sides { IfOk result (λ v. SidesAsk number InterfaceOp.Report loss self.old self.new) }
     {
         match self.interface(number) {
@@ -553,8 +534,7 @@ impl Links {
     fn view(&mut self, number: u64) -> Verdict
         requires steps { self.old.steps < 2 ^ 28 }
         requires bounded { IsBounded self.old.ends self.old.packets.packets self.old.steps }
-        ensures ends { EndsWith result self.old self.new
-            (λ plan st. step_of plan (beside_in self.old) st (Event.Interface (InterfaceEvent.View number))) }
+        ensures ends { EndsWith result self.old self.new (Event.Interface (InterfaceEvent.View number)) }
         ensures sides { SidesKeep self.old self.new }
     {
         match self.interface(number) {
@@ -571,8 +551,8 @@ impl Links {
         requires steps { self.old.steps < 2 ^ 28 }
         requires bounded { IsBounded self.old.ends self.old.packets.packets self.old.steps }
         requires width { value < 2 ^ width_of register }
-        ensures ends { EndsWith result self.old self.new (λ plan st.
-            step_of plan (beside_in self.old) st (Event.Interface (InterfaceEvent.Write number register value))) }
+        ensures ends { EndsWith result self.old self.new
+            (Event.Interface (InterfaceEvent.Write number register value)) }
         ensures sides { SidesInterface (InterfaceEvent.Write number register value) self.old self.new }
     {
         match self.interface(number) {
@@ -592,8 +572,7 @@ impl Links {
     fn flr(&mut self, number: u64) -> Verdict
         requires steps { self.old.steps < 2 ^ 28 }
         requires bounded { IsBounded self.old.ends self.old.packets.packets self.old.steps }
-        ensures ends { EndsWith result self.old self.new
-            (λ plan st. step_of plan (beside_in self.old) st (Event.Interface (InterfaceEvent.Flr number))) }
+        ensures ends { EndsWith result self.old self.new (Event.Interface (InterfaceEvent.Flr number)) }
         ensures sides { SidesInterface (InterfaceEvent.Flr number) self.old self.new }
     {
         match self.interface(number) {
@@ -609,8 +588,7 @@ impl Links {
     fn firmware(&mut self, number: u64) -> Verdict
         requires steps { self.old.steps < 2 ^ 28 }
         requires bounded { IsBounded self.old.ends self.old.packets.packets self.old.steps }
-        ensures ends { EndsWith result self.old self.new
-            (λ plan st. step_of plan (beside_in self.old) st (Event.Interface (InterfaceEvent.Firmware number))) }
+        ensures ends { EndsWith result self.old self.new (Event.Interface (InterfaceEvent.Firmware number)) }
         ensures sides { SidesInterface (InterfaceEvent.Firmware number) self.old self.new }
     {
         match self.interface(number) {
@@ -623,12 +601,11 @@ impl Links {
         }
     }
 
-    // Bytes of trusted memory, where one region has them all.
+    // Bytes of trusted memory, if one region has them all.
     fn memory(&mut self, alloc: Global, address: u64, length: u64) -> Result<Verdict, Memory>
         requires steps { self.old.steps < 2 ^ 28 }
         requires bounded { IsBounded self.old.ends self.old.packets.packets self.old.steps }
-        ensures ends { EndsOr result self.old self.new (λ plan st.
-            step_of plan (beside_in self.old) st (Event.Interface (InterfaceEvent.Memory address length))) }
+        ensures ends { EndsOr result self.old self.new (Event.Interface (InterfaceEvent.Memory address length)) }
         ensures sides { IfOk result (λ v. SidesKeep self.old self.new) }
     {
         let mut bytes = vec![in alloc; 0; length as usize]?;
@@ -644,9 +621,8 @@ impl Links {
         requires steps { self.old.steps < 2 ^ 28 }
         requires bounded { IsBounded self.old.ends self.old.packets.packets self.old.steps }
         requires allowed { IsAllowedInterface event.now }
-        requires carried { AskIsAnswered self.old event.now }
-        ensures ends { EndsOr result self.old self.new
-            (λ plan st. step_of plan (beside_in self.old) st (Event.Interface event.now)) }
+        requires carried { IsSome (answer_of_links self.old event.now) }
+        ensures ends { EndsOr result self.old self.new (Event.Interface event.now) }
         ensures sides { IfOk result (λ v. SidesInterface event.now self.old self.new) }
     {
         match event {
@@ -675,14 +651,18 @@ impl Links {
         }
     }
 
-    /// The verdict of an event, and what it makes of the links. For want of memory nothing changes.
+    /// The verdict of an event, and what it makes of the links (this profile). For want of memory nothing changes.
+    ///
+    /// An operation on an interface has no verdict if a reply is bad, or if an exchange is lost none of whose messages
+    /// is lost, and none is made up for it. `carried` says that the event is no such operation: `World` proves it from
+    /// its invariant.
     pub fn answer(&mut self, alloc: Global, event: &Event) -> Result<Verdict, Memory>
-        requires stands { Standing self.old }
+        requires stands { StandsForSome self.old }
         requires steps { self.old.steps < 2 ^ 28 }
         requires bounded { IsBounded self.old.ends self.old.packets.packets self.old.steps }
         requires allowed { IsAllowed event.now }
         requires carried { IsAnswered self.old event.now }
-        ensures ends { EndsOr result self.old self.new (λ plan st. step_of plan (beside_in self.old) st event.now) }
+        ensures ends { EndsOr result self.old self.new event.now }
         ensures sides { IfOk result (λ v. Sides event.now v self.old self.new) }
     {
         match event {

@@ -1,9 +1,13 @@
-//! What operations on streams come to, as verdicts.
+//! The verdicts of operations on streams.
 
 ghost use Rattle.std.specs.Prelude.{◌≡◌};
 ghost use Rattle.key_laws.specs.Due.{lost_at as verdict_lost};
 ghost use Rattle.tsm_host.specs.Operations.{op_name};
-ghost use Rattle.tsm_host.specs.Walk.{shown_verdict as verdict_shown, refusal_verdict as verdict_refused, verdict_of};
+ghost use Rattle.tsm_host.specs.Walk.{
+  shown_verdict as verdict_shown,
+  key_refusal_verdict as verdict_refused,
+  verdict_of,
+};
 ghost use Rattle.std.specs.Prelude.{Some, IsSome};
 
 use link_ends::lost_at;
@@ -43,7 +47,7 @@ fn shown_verdict(operation: Operation, link: u8, stream: u8, shown: Shown) -> Ve
     }
 }
 
-/// The verdict of an exchange of which this message was lost.
+/// The verdict of an exchange that lost this message.
 pub fn lost_verdict(lost: Lost, exchange: u32) -> Verdict
     ensures { result ≡ verdict_lost lost exchange }
 {
@@ -72,8 +76,8 @@ fn refusal_verdict(loss: Option<Loss>, refusal: Refusal) -> Verdict
     }
 }
 
-/// The verdict of an operation's event on a stream of a link. The operation is at its end, or stays at an exchange: no
-/// reply was bad, and no exchange was lost but one of which a message is lost.
+/// The verdict of an operation's event on a stream of a link (this profile). The operation is at its end, or stays at
+/// an exchange: no reply was bad, and no exchange was lost but by the loss of a message.
 pub fn operated_verdict(
     operation: Operation,
     link: u8,

@@ -3,8 +3,6 @@
 
 mod choice;
 mod choosing;
-#[cfg(test)]
-mod tests;
 
 pub use choice::Choice;
 pub use choosing::{Table, choose, owner};

@@ -1,7 +1,7 @@
 -- On a closed stream, nothing of a newer key is accepted before all of the older ones. By induction on the history; the
 -- hard case is the first unit that is accepted under its draw, whose tag covers the total of units. There the sender's
 -- total of all smaller draws from Base on is the receiver's, and since under each draw no more units were got than were
--- sealed, each count is equal; no unit of a smaller draw is open, so all of its packets were got.
+-- sealed, each count is equal. No unit of a smaller draw is open, so all of its packets were got.
 use Rattle.sealing_laws.proofs.Terms.{◌≡◌, ℕ, suc, ◌<◌, ◌≤◌, ◌==◌, ◌&&◌, Bool, true, List, [], ◌∷◌, ◌++◌, length, take}
 use Rattle.sealing_laws.proofs.Terms.{slice_get, Some, refl, ap, sym, ◌∙◌, subst, arith, length-append, inl, inr, ◌⊎◌}
 use Rattle.sealing_laws.proofs.Terms.{if◌then◌else◌, AllByRecursion, and_parts, both_ways, cases_Bool, eqb-true}

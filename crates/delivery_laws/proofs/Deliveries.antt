@@ -1,23 +1,24 @@
--- What is delivered is a beginning of what was sent. What was sealed, opened unit by unit, is what was sent, by
--- induction on the history: a packet joins the open unit, and its payload comes back since it was masked at its place
--- in the unit's plaintext, and masking twice changes nothing. What was got, opened, is what was delivered; and what was
--- got is finished units that begin what was sealed.
+-- What is delivered is a prefix of what was sent. What was sealed, opened unit by unit, is what was sent, by induction
+-- on the history: a packet joins the open unit, and its payload comes back since it was masked at its place in the
+-- unit's plaintext, and masking twice changes nothing. What was got, opened, is what was delivered; and what was got is
+-- finished units that begin what was sealed.
 use Rattle.sealing_laws.proofs.Terms.{◌≡◌, ◌≤◌, ℕ, suc, ◌+◌, true, false, List, [], ◌∷◌, ◌++◌, length, drop, Ok}
 use Rattle.sealing_laws.proofs.Terms.{Option, refl, ap, sym, ◌∙◌, subst, arith, append_assoc, length-append}
 use Rattle.sealing_laws.proofs.Terms.{length-drop, inl, inr, if◌then◌else◌, ◌==◌, map, filter, slice_index, and_parts}
 use Rattle.sealing_laws.proofs.Terms.{cases_Bool, eqb-true, append-nil, drop-append-le, take-append-le, take_all}
 use Rattle.sealing_laws.proofs.Terms.{flat_map-append, SubKind, PortName, Plan, SubStream, is_same, key_of, units}
-use Rattle.sealing_laws.proofs.Terms.{units_after, open_unit, History, base, is_under, ahead_in, SealedList, KeyName}
+use Rattle.sealing_laws.proofs.Terms.{units_after, open_unit, History, base, is_under, front_of_packet, SealedList}
+use Rattle.sealing_laws.proofs.Terms.{KeyName}
 use Rattle.sealing_laws.proofs.Terms.{with_sealed, sealed_packets, sent, sent_in, sub_stream_of, packet_of}
 use Rattle.sealing_laws.proofs.Terms.{arrived_packet, received_in, is_of, held, got, units_got, CauseLaw, NoForgery}
-use Rattle.sealing_laws.proofs.Terms.{Begins, units-append, units-end, units-more, open_unit-end, open_unit-more}
+use Rattle.sealing_laws.proofs.Terms.{IsPrefixOf, units-append, units-end, units-more, open_unit-end, open_unit-more}
 use Rattle.sealing_laws.proofs.Terms.{accepted_by, packet_that_came, numbered, DrawFacts, same_stream, sent_in-snoc}
 use Rattle.sealing_laws.proofs.Terms.{sealing_is, StreamsFit, Sealed, Accepted, SealedPacket, Tlp, header, body}
 use Rattle.sealing_laws.proofs.Terms.{read_of, read_spells_tlp, Packet, is_sync_packet, begins_sync, iv_of, encrypted}
 use Rattle.sealing_laws.proofs.Terms.{masked, open_of, length-masked, length-open_of, masked-masked, masked-append}
 use Rattle.sealing_laws.proofs.Terms.{SpellsHead, head_bytes, class_of, layout_of, not_sync, lane_is, sent_bytes}
 use Rattle.sealing_laws.proofs.Terms.{sending_port}
-use Rattle.link_history.specs.Delivered.{carries, tlps_sent, tlps_got, opened, with_payloads, DeliveryLaw}
+use Rattle.link_history.specs.Delivered.{carries_tlp_of, tlps_sent, tlps_got, opened_tlps, with_payloads, DeliveryLaw}
 use Rattle.delivery_laws.proofs.Received.{held_front}
 use Rattle.tlp_layout.specs.declared.head.HeadView.{HeadView}
 use Rattle.tlp_layout.proofs.Heads.{IsRight, kept}
@@ -33,7 +34,7 @@ use Rattle.delivery_laws.proofs.GotUnits.{got_units, one_unit}
 -- the TLPs of units, numbered on
 abbrev opened_units : Plan → SubStream → ℕ → ℕ → List (List Packet) → List (List ℕ)
 opened_units plan s j n [] = []
-opened_units plan s j n (u ∷ us) = opened plan s j n u ++ opened_units plan s j (n + 1) us
+opened_units plan s j n (u ∷ us) = opened_tlps plan s j n u ++ opened_units plan s j (n + 1) us
 
 opened_units-append : (plan : Plan) (s : SubStream) (j n : ℕ) (us vs : List (List Packet))
     → opened_units plan s j n (us ++ vs) ≡ opened_units plan s j n us ++ opened_units plan s j (n + length us) vs
@@ -43,19 +44,20 @@ opened_units-append plan s j n (u ∷ us) vs =
     rw (opened_units-append plan s j (n + 1) us vs, number, append_assoc) refl
 
 opened_units-snoc : (plan : Plan) (s : SubStream) (j : ℕ) (us : List (List Packet)) (u : List Packet)
-    → opened_units plan s j 1 (us ++ u ∷ []) ≡ opened_units plan s j 1 us ++ opened plan s j (length us + 1) u
+    → opened_units plan s j 1 (us ++ u ∷ []) ≡ opened_units plan s j 1 us ++ opened_tlps plan s j (length us + 1) u
 opened_units-snoc plan s j us u =
     let number : 1 + length us ≡ length us + 1 = omega arith in
-    rw (opened_units-append plan s j 1 us (u ∷ []), append-nil (opened plan s j (1 + length us) u), number) refl
+    rw (opened_units-append plan s j 1 us (u ∷ []), append-nil (opened_tlps plan s j (1 + length us) u), number) refl
 
 -- the TLPs of all packets of a sub-stream under a draw, those of an open unit too
 abbrev opened_all : Plan → SubStream → ℕ → List Packet → List (List ℕ)
-opened_all plan s j ps = opened_units plan s j 1 (units ps) ++ opened plan s j (length (units ps) + 1) (open_unit ps)
+opened_all plan s j ps = opened_units plan s j 1 (units ps) ++ opened_tlps plan s j (length (units ps) + 1)
+    (open_unit ps)
 
 -- one more packet joins the open unit
 opened_all-snoc : (plan : Plan) (s : SubStream) (j : ℕ) (ps : List Packet) (p : Packet)
     → opened_all plan s j (ps ++ p ∷ []) ≡ opened_units plan s j 1 (units ps)
-    ++ opened plan s j (length (units ps) + 1) (open_unit ps ++ p ∷ [])
+    ++ opened_tlps plan s j (length (units ps) + 1) (open_unit ps ++ p ∷ [])
 opened_all-snoc plan s j ps p = elim (cases_Bool p.prefix.m) [
   | inl ends ↦ rw (units-end ps p ends, open_unit-end ps p ends)
       (append-nil _ ∙ opened_units-snoc plan s j (units ps) (open_unit ps ++ p ∷ []))
@@ -91,7 +93,7 @@ plain-snoc key iv front p payload sealed =
 
 opened-snoc : (plan : Plan) (s : SubStream) (j n : ℕ) (front : List Packet) (p : Packet) (payload : List ℕ)
     → p.body ≡ masked (key_of plan j s) (iv_of s.sub n) (length (encrypted front)) payload
-    → opened plan s j n (front ++ p ∷ []) ≡ opened plan s j n front ++ tlp_with p payload
+    → opened_tlps plan s j n (front ++ p ∷ []) ≡ opened_tlps plan s j n front ++ tlp_with p payload
 opened-snoc plan s j n front p payload sealed =
     let key = key_of plan j s in
     let iv = iv_of s.sub n in
@@ -99,7 +101,8 @@ opened-snoc plan s j n front p payload sealed =
     let size = ap length sealed ∙ length-masked key iv (length (encrypted front)) payload in
     ap (λ (bs : List ℕ). with_payloads bs (front ++ p ∷ [])) (plain-snoc key iv front p payload sealed)
     ∙ (with_payloads-append plain payload front (p ∷ []) (length-open_of key iv (encrypted front))
-    ∙ ap (λ later. opened plan s j n front ++ later) (rw (take_all (length p.body) payload (omega (arith, size))) refl))
+    ∙ ap (λ later. opened_tlps plan s j n front ++ later)
+    (rw (take_all (length p.body) payload (omega (arith, size))) refl))
 
 -- ---- what was sealed, opened, is what was sent
 
@@ -138,7 +141,7 @@ opened_more : (plan : Plan) (xs : SealedList) (s : SubStream) (j : ℕ) (d : Sea
     → opened_all plan s j (sent_in xs s j) ≡ before
     → opened_all plan s j
     (sent_in (xs ++ (d, packet_of plan ahead bytes d (open_unit (sent_in xs (sub_stream_of d) d.draw))) ∷ []) s j)
-    ≡ before ++ map (λ (d : SealedPacket). bytes) (filter (carries s j) (d ∷ []))
+    ≡ before ++ map (λ (d : SealedPacket). bytes) (filter (carries_tlp_of s j) (d ∷ []))
 opened_more plan xs s j d ahead bytes t reads class is_sync unit before same =
     ap (opened_all plan s j) (sent_in-snoc xs (d, p) s j) ∙ elim (cases_Bool (is_under s j (d, p))) [
       | inl here ↦ let names = in_parts s j (d, p) here in rw here
@@ -172,9 +175,9 @@ opened_more plan xs s j d ahead bytes t reads class is_sync unit before same =
 
 -- those of one send
 carried-cons : (s : SubStream) (j : ℕ) (bytes : List ℕ) (d : SealedPacket) (ds : List SealedPacket)
-    → map (λ (d : SealedPacket). bytes) (filter (carries s j) (d ∷ []))
-    ++ map (λ (d : SealedPacket). bytes) (filter (carries s j) ds)
-    ≡ map (λ (d : SealedPacket). bytes) (filter (carries s j) (d ∷ ds))
+    → map (λ (d : SealedPacket). bytes) (filter (carries_tlp_of s j) (d ∷ []))
+    ++ map (λ (d : SealedPacket). bytes) (filter (carries_tlp_of s j) ds)
+    ≡ map (λ (d : SealedPacket). bytes) (filter (carries_tlp_of s j) (d ∷ ds))
 carried-cons s j bytes d ds = grind arith
 
 opened_by : (plan : Plan) (port : PortName) (stream : ℕ) (live : SubKind → Option KeyName) (from : ℕ) (class : SubKind)
@@ -182,7 +185,7 @@ opened_by : (plan : Plan) (port : PortName) (stream : ℕ) (live : SubKind → O
     → (s : SubStream) (j : ℕ) (ds : List SealedPacket) (xs : SealedList) → AllOf plan port stream live from class xs ds
     → (before : List (List ℕ)) → opened_all plan s j (sent_in xs s j) ≡ before
     → opened_all plan s j (sent_in (with_sealed plan ahead bytes ds xs) s j) ≡ before
-    ++ map (λ (d : SealedPacket). bytes) (filter (carries s j) ds)
+    ++ map (λ (d : SealedPacket). bytes) (filter (carries_tlp_of s j) ds)
 opened_by plan port stream live from class ahead bytes t reads is_class s j [] xs all before same = same ∙ sym
     (append-nil before)
 opened_by plan port stream live from class ahead bytes t reads is_class s j (d ∷ ds) xs all before same =
@@ -191,12 +194,12 @@ opened_by plan port stream live from class ahead bytes t reads is_class s j (d �
     let p = packet_of plan (ahead d) bytes d front in
     let unit : d.unit ≡ length (units (sent_in xs (sub_stream_of d) d.draw)) + 1 = rw
     (lane_is port stream d of.port_is of.stream_is) of.unit in
-    let first = map (λ (d : SealedPacket). bytes) (filter (carries s j) (d ∷ [])) in
+    let first = map (λ (d : SealedPacket). bytes) (filter (carries_tlp_of s j) (d ∷ [])) in
     let one = opened_more plan xs s j d (ahead d) bytes t reads (λ no_sync. sym is_class ∙ of.class_is no_sync) of.sync
     unit before same in
     opened_by plan port stream live from class ahead bytes t reads is_class s j ds (xs ++ (d, p) ∷ []) (all.1 p)
     (before ++ first) one
-    ∙ (append_assoc before first (map (λ (d : SealedPacket). bytes) (filter (carries s j) ds)) ∙ ap
+    ∙ (append_assoc before first (map (λ (d : SealedPacket). bytes) (filter (carries_tlp_of s j) ds)) ∙ ap
     (λ later. before ++ later) (carried-cons s j bytes d ds))
 
 all_opened : (plan : Plan) → DrawFacts plan → (h : History) → CauseLaw plan h → (s : SubStream) (j : ℕ)
@@ -207,7 +210,8 @@ all_opened plan facts ((e, Sealed ds) ∷ h) cause s j =
     let is = sealing_is plan h e ds cause.0 in
     let from = is.sending in
     opened_by plan from.port from.stream (live_at plan h from.port from.stream) (from_at plan h from.port from.stream)
-    from.class (ahead_in plan (sealed_packets plan h) (base h)) (sent_bytes plan h e) is.tlp is.reads is.class s j
+    from.class (front_of_packet plan (sealed_packets plan h) (base h)) (sent_bytes plan h e) is.tlp is.reads is.class s
+    j
     ds (sealed_packets plan h)
     (all_of_sealing plan facts h cause.1 (sending_port e) (sent_bytes plan h e) ds is) (tlps_sent plan h s j)
     (all_opened plan facts h cause.1 s j)
@@ -234,19 +238,19 @@ got_opened plan ((e, Accepted port unit effects) ∷ h) cause s j =
           let one = one_unit (got plan h s j) (held plan h s j unit.unit) (arrived_packet plan h e) are.none
           (held_front plan h cause.1 s j unit.unit) m in
           let u = held plan h s j unit.unit ++ arrived_packet plan h e ∷ [] in
-          rw (is, one, opened_units-snoc, ← n) (ap (λ front. front ++ opened plan s j unit.unit u) same)
+          rw (is, one, opened_units-snoc, ← n) (ap (λ front. front ++ opened_tlps plan s j unit.unit u) same)
       | inr other ↦ rw other same
     ]
 got_opened plan (_ ∷ h) cause s j = got_opened plan h cause.1 s j
 
 -- ---- the law
 
-delivered : (plan : Plan) (s : SubStream) (j : ℕ) (ps qs : List Packet) → open_unit ps ≡ [] → Begins ps qs
-    → Begins (opened_units plan s j 1 (units ps)) (opened_all plan s j qs)
+delivered : (plan : Plan) (s : SubStream) (j : ℕ) (ps qs : List Packet) → open_unit ps ≡ [] → IsPrefixOf ps qs
+    → IsPrefixOf (opened_units plan s j 1 (units ps)) (opened_all plan s j qs)
 delivered plan s j ps qs none begins =
     let us = units ps in
     let vs = units_after [] begins.0 in
-    let last = opened plan s j (length (units qs) + 1) (open_unit qs) in
+    let last = opened_tlps plan s j (length (units qs) + 1) (open_unit qs) in
     let all : units qs ≡ us ++ vs = ap units (sym begins.1) ∙
     (units-append ps begins.0 ∙ ap (λ front. us ++ units_after front begins.0) none) in
     let front = opened_units plan s j 1 us in
@@ -261,6 +265,6 @@ pub delivery_law : (plan : Plan) → StreamsFit plan → DrawFacts plan → (h :
 delivery_law plan fits facts h cause forged s j =
     let begins = delivered plan s j (got plan h s j) (sent plan h s j) (got_units plan h cause s j).none
     (got_begins plan fits facts h cause forged s j) in
-    subst (λ all. Begins (tlps_got plan h s j) all) (all_opened plan facts h cause s j)
-    (subst (λ front. Begins front (opened_all plan s j (sent plan h s j))) (sym (got_opened plan h cause s j))
+    subst (λ all. IsPrefixOf (tlps_got plan h s j) all) (all_opened plan facts h cause s j)
+    (subst (λ front. IsPrefixOf front (opened_all plan s j (sent plan h s j))) (sym (got_opened plan h cause s j))
     begins)

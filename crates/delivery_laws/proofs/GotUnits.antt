@@ -13,12 +13,12 @@ units-front_append ps [] front = ap units (append-nil ps)
 units-front_append ps (q ∷ qs) front = ap units (sym (append_assoc ps (q ∷ []) qs)) ∙
     (units-front_append (ps ++ q ∷ []) qs front.1 ∙ units-more ps q front.0)
 
--- so many units, and nothing behind them
+-- so many units, and nothing after them
 pub record AreUnits (ps : List Packet) (n : ℕ) : Type 0 where
   pub count : length (units ps) ≡ n
   pub none : open_unit ps ≡ []
 
--- a unit behind finished ones
+-- a unit after finished ones
 pub one_unit : (ps front : List Packet) (p : Packet) → open_unit ps ≡ [] → IsFront front → p.prefix.m ≡ true
     → units (ps ++ (front ++ p ∷ [])) ≡ units ps ++ (front ++ p ∷ []) ∷ []
 one_unit ps front p none is m =

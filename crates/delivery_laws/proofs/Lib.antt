@@ -8,3 +8,6 @@ pub mod Wholes
 pub mod Unforged
 pub mod Deliveries
 pub mod AllLaws
+pub mod Ordering
+pub mod OrderLaws
+pub mod Counts

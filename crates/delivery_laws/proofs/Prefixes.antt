@@ -1,11 +1,11 @@
--- What was got is a beginning of what was sealed.
+-- What was got is a prefix of what was sealed.
 use Rattle.sealing_laws.proofs.Terms.{◌≡◌, ℕ, ◌+◌, ◌≤◌, Bool, true, false, List, [], ◌∷◌, ◌++◌, length, Some, slice_get}
 use Rattle.sealing_laws.proofs.Terms.{take, drop, map, refl, ap, sym, ◌∙◌, arith, append_assoc, length-append, add-one}
 use Rattle.sealing_laws.proofs.Terms.{inl, inr, if◌then◌else◌, ◌==◌, AllByRecursion, and_parts, cases_Bool, eqb-true}
 use Rattle.sealing_laws.proofs.Terms.{take-append-le, nil_from_length}
 use Rattle.sealing_laws.proofs.Terms.{Plan, SubStream, is_same, units, units_after, open_unit, History, SealedList}
 use Rattle.sealing_laws.proofs.Terms.{sealed_packets, sent, sent_in, arrived_packet, received_in, is_of, held, pending}
-use Rattle.sealing_laws.proofs.Terms.{got, units_got, due, ended, CauseLaw, NoForgery, NotForged, WasSealed, Begins}
+use Rattle.sealing_laws.proofs.Terms.{got, units_got, due, ended, CauseLaw, NoForgery, NotForged, WasSealed, IsPrefixOf}
 use Rattle.sealing_laws.proofs.Terms.{last_tag, same_stream, joined, units-append, joined_units, EndsInM, EndsInM-snoc}
 use Rattle.sealing_laws.proofs.Terms.{All-snoc, units_all, units_end, unit_at, take_next, below, joined_take}
 use Rattle.sealing_laws.proofs.Terms.{joined-snoc, Came, Passed, accepted_by, ending, packet_that_came, numbered}
@@ -20,7 +20,7 @@ use Rattle.sealing_laws.proofs.Fronts.{packets_grow}
 -- ---- what was sealed only grows at its end
 
 pub sent_grows : (plan : Plan) (h : History) (e : Event) (w : Verdict) (s : SubStream) (j : ℕ)
-    → Begins (sent plan h s j) (sent plan ((e, w) ∷ h) s j)
+    → IsPrefixOf (sent plan h s j) (sent plan ((e, w) ∷ h) s j)
 sent_grows plan h e w s j =
     let grown = packets_grow plan h e w in (
       sent_in grown.0 s j,
@@ -35,7 +35,8 @@ pub record AreFirst (ps : List Packet) (us : List (List Packet)) (n : ℕ) : Typ
   pub first : ps ≡ joined (take n us)
 
 -- finished units stay
-AreFirst-grown : (ps qs rs : List Packet) (n : ℕ) → AreFirst ps (units qs) n → Begins qs rs → AreFirst ps (units rs) n
+AreFirst-grown : (ps qs rs : List Packet) (n : ℕ) → AreFirst ps (units qs) n → IsPrefixOf qs rs
+    → AreFirst ps (units rs) n
 AreFirst-grown ps qs rs n are begins =
     let us = units qs in
     let more = units_after (open_unit qs) begins.0 in
@@ -153,7 +154,7 @@ all_first plan fits facts ((e, w) ∷ h) cause forged s j =
     (all_first plan fits facts h cause.1 forged.1 s j) (sent_grows plan h e w s j)
 
 pub got_begins : (plan : Plan) → StreamsFit plan → DrawFacts plan → (h : History) → CauseLaw plan h → NoForgery plan h
-    → (s : SubStream) (j : ℕ) → Begins (got plan h s j) (sent plan h s j)
+    → (s : SubStream) (j : ℕ) → IsPrefixOf (got plan h s j) (sent plan h s j)
 got_begins plan fits facts h cause forged s j =
     let n = units_got h s j in
     let us = units (sent plan h s j) in

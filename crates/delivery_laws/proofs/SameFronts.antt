@@ -1,4 +1,4 @@
--- What stood ahead of a packet that ends its unit, and what stands ahead of it where it arrives in order.
+-- What came before a packet that ends its unit when it was sealed, and what comes before it when it arrives in order.
 use Rattle.sealing_laws.proofs.Terms.{◌≡◌, ℕ, suc, ◌+◌, ◌<◌, ◌≤◌, ◌==◌, ◌&&◌, true, false, List, [], ◌∷◌, ◌++◌}
 use Rattle.sealing_laws.proofs.Terms.{length, take, slice_get, Some, refl, ap, sym, ◌∙◌, arith, length-append, inl}
 use Rattle.sealing_laws.proofs.Terms.{inr, AllByRecursion, list_any, eqb-true, leb-true, and_parts, cases_Bool}
@@ -6,7 +6,8 @@ use Rattle.sealing_laws.proofs.Terms.{false_from_ne_true, nat_tests, take-append
 use Rattle.sealing_laws.proofs.Terms.{Packet, Plan, SubStream, is_same, is_closed, lane_in, units, open_unit, History}
 use Rattle.sealing_laws.proofs.Terms.{base, On, key_in, keys_at, SealedList, sealed_packets, packet_of, sent_in}
 use Rattle.sealing_laws.proofs.Terms.{is_under, sub_stream_of, units_got, draws_got, front_of, front_sent, front_due}
-use Rattle.sealing_laws.proofs.Terms.{is_of_unit, ahead_in, CauseLaw, DrawFacts, StreamsFit, is_same-refl, units-end}
+use Rattle.sealing_laws.proofs.Terms.{is_of_unit, front_of_packet, CauseLaw, DrawFacts, StreamsFit, is_same-refl}
+use Rattle.sealing_laws.proofs.Terms.{units-end}
 use Rattle.sealing_laws.proofs.Terms.{sent_in-snoc, received_direction, IsOn, Prefix, sent_bytes}
 use Rattle.delivery_laws.proofs.Orders.{is_drawn, below_next}
 use Rattle.sealing_laws.proofs.Places.{Placed, placed, unit_is}
@@ -26,7 +27,7 @@ pub record IsFronted (plan : Plan) (h : History) (xs : SealedList) (place : ℕ)
     pub packet : x.1 ≡ packet_of plan (front_sent plan h (sub_stream_of x.0) x.0.draw x.0.unit) bytes x.0
         (open_unit (sent_in (take place xs) (sub_stream_of x.0) x.0.draw))
 
--- behind a packet that ends its unit, packets of its sub-stream and draw are of later units
+-- after a packet that ends its unit, packets of its sub-stream and draw are of later units
 later_unit : (plan : Plan) (ys : SealedList) → Placed plan ys → (i k : ℕ) (x z : SealedPacket × Packet) → slice_get ys i
     ≡ Some x → slice_get ys k ≡ Some z → i < k → x.0.m ≡ true → (s : SubStream) (j : ℕ)
     → sub_stream_of x.0 ≡ s → x.0.draw ≡ j → sub_stream_of z.0 ≡ s → z.0.draw ≡ j → x.0.unit < z.0.unit
@@ -72,7 +73,7 @@ fronted plan fits facts ((e, Sealed ds) ∷ h) law place x at m =
     g = (e, Sealed ds) ∷ h
 
     ahead : SealedPacket → List ℕ
-    ahead = ahead_in plan (sealed_packets plan h) (base h)
+    ahead = front_of_packet plan (sealed_packets plan h) (base h)
 
     s : SubStream
     s = sub_stream_of x.0
@@ -89,7 +90,7 @@ fronted plan fits facts ((e, Sealed ds) ∷ h) law place x at m =
     within : slice_get (sealed_packets plan h) place ≡ Some x → place < length (sealed_packets plan h)
     within old = (at_front (sealed_packets plan h) grown.0 place x old).1
 
-    -- the packets that come behind it are of later units
+    -- the packets that follow it are of later units
     none_of_unit : slice_get (sealed_packets plan h) place ≡ Some x
         → list_any (is_of_unit (sub_stream_of x.0) x.0.draw x.0.unit) ds ≡ false
     none_of_unit old =
@@ -117,7 +118,7 @@ due_off : (plan : Plan) (h : History) (s : SubStream) (n : ℕ) → (is_closed p
 unfolding front_of
 due_off plan h s n off = rw off refl
 
--- what the receiver puts ahead is what the sender put ahead
+-- what the receiver puts before it is what the sender put before it
 pub same_fronts : (plan : Plan) → StreamsFit plan → DrawFacts plan → (h : History) → CauseLaw plan h
     → (port : PortName) (s : SubStream) (j : ℕ) → (port.link ≡ s.link) × (received_direction port.side ≡ s.direction)
     → IsOn plan h port s j

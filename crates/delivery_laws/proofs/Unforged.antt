@@ -10,7 +10,7 @@ use Rattle.delivery_laws.proofs.Prefixes.{last_tag-snoc}
 use Rattle.delivery_laws.proofs.Wholes.{after, there, before, fronts_agree}
 use Rattle.delivery_laws.proofs.GotUnits.{StandsAfter}
 
--- a packet with M ends the unit behind those that the packets before it finish
+-- a packet with M ends the unit after those that the packets before it finish
 ends_next : (ps : List Packet) (m : ℕ) (p : Packet) → slice_get ps m ≡ Some p → p.prefix.m ≡ true
     → slice_get (units ps) (length (units (take m ps))) ≡ Some (open_unit (take m ps) ++ p ∷ [])
 ends_next ps m p is ends =

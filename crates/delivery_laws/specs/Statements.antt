@@ -5,6 +5,7 @@ use Rattle.key_laws.specs.History.{History}
 use Rattle.link_history.specs.Cause.{CauseLaw}
 use Rattle.link_history.specs.Laws.{NoForgery, TotalsFit, PrefixLaw, DrawsNeverFall, WholeLaw, OrderIsNoForgery}
 use Rattle.link_history.specs.Delivered.{DeliveryLaw}
+use Rattle.link_history.specs.Ordered.{OrderLaw}
 
 abbrev pub PrefixLawHolds : Type 0
 PrefixLawHolds =
@@ -23,3 +24,8 @@ OrderIsNoForgeryHolds = (plan : Plan) → FitsPlan plan → (h : History) → Ca
 
 abbrev pub DrawsNeverFallHolds : Type 0
 DrawsNeverFallHolds = (plan : Plan) → (h : History) → CauseLaw plan h → DrawsNeverFall h
+
+abbrev pub OrderLawHolds : Type 0
+OrderLawHolds =
+    (plan : Plan) → FitsPlan plan → (h : History) → CauseLaw plan h → NoForgery plan h → TotalsFit plan h
+    → OrderLaw plan h

@@ -1,7 +1,8 @@
-//! Laws of what is delivered.
+//! Laws of what is delivered, of the order between sub-streams, and of posted counts.
 
+ghost use Rattle.delivery_laws.specs.PostedCounts.{CountLawHolds};
 ghost use Rattle.delivery_laws.specs.Statements.{DeliveryLawHolds, DrawsNeverFallHolds, OrderIsNoForgeryHolds};
-ghost use Rattle.delivery_laws.specs.Statements.{PrefixLawHolds, WholeLawHolds};
+ghost use Rattle.delivery_laws.specs.Statements.{OrderLawHolds, PrefixLawHolds, WholeLawHolds};
 
 /// In every history in which each verdict is the one that is due and the totals fit in 8 bytes: provided no tag
 /// verified on a unit that its partner had not sealed with that front, each sub-stream got, key by key, a prefix of
@@ -34,4 +35,18 @@ pub fn order_is_no_forgery()
 /// sub-stream never fall.
 pub fn draws_never_fall()
     ensures { DrawsNeverFallHolds }
+{}
+
+/// In every history in which each verdict is the one that is due and the totals fit in 8 bytes, and in which no tag
+/// verified on a unit that its partner had not sealed: non-posted packets and completions are accepted after the posted
+/// packets that were sealed before them: on a closed stream always, on an open one if nothing of an overtaken key is
+/// missing.
+pub fn order_law()
+    ensures { OrderLawHolds }
+{}
+
+/// The sums of posted counts never pass the posted packets that were got, in every history in which each verdict is the
+/// one that is due.
+pub fn count_law()
+    ensures { CountLawHolds }
 {}

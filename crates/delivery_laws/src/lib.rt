@@ -1,6 +1,9 @@
-//! The laws of what is delivered.
+//! The laws of what is delivered: by sub-streams, between them, and of posted counts.
 #![tactic(auto)]
 
 mod laws;
 
-pub use laws::{delivery_law, draws_never_fall, order_is_no_forgery, prefix_law, whole_law};
+pub use laws::{
+    count_law, delivery_law, draws_never_fall, order_is_no_forgery, order_law, prefix_law,
+    whole_law,
+};

@@ -1,7 +1,6 @@
 -- The device's end of a link: its port, what its responder of keys answers, and its interfaces (PCI Express Base 6.0
 -- section 6.33 and chapter 11, in this profile).
 use Rattle.std.specs.Prelude.{ℕ, ◌==◌, Bool, true, false, List, [], ◌∷◌, Option, Some, None, if◌then◌else◌}
-use Rattle.std.specs.Option.{option_map_or}
 use Rattle.ide_types.specs.declared.port.Side.TheVariants as side
 use Rattle.ide_types.specs.declared.port.PortName.{PortName}
 use Rattle.ide_types.specs.declared.status.StreamStatus.{StreamStatus}
@@ -11,7 +10,8 @@ use Rattle.ide_plan.specs.declared.stream.StreamPlan.{StreamPlan}
 use Rattle.tlp_layout.specs.declared.head.HeadView.{HeadView}
 use Rattle.association.specs.Choice.{id_of}
 use Rattle.ide_km.specs.{PortCall, call_of, reply_of}
-use Rattle.tdi_device.specs.Replies.{DeviceTdis, new_tdis, settled, sets_t, answered, answer_bytes, stream_asked}
+use Rattle.tdi_device.specs.Replies.{DeviceTdis, new_tdis, settled_tdis, tdis_set_t, answered, answer_bytes}
+use Rattle.tdi_device.specs.Replies.{stream_asked}
 use Rattle.tdi_device.specs.Replies.{reset_tdis}
 use Rattle.ide_port.specs.{PortEnd, new_port, reset_port, shown, called_port, status_in}
 use Rattle.device_side.specs.declared.device.Device.{Device}
@@ -42,11 +42,11 @@ secure_at port stream = says_secure (status_in port stream)
 
 -- interfaces whose stream is not Secure at the port leave their lock
 abbrev pub settled_device : DeviceEnd → DeviceEnd
-settled_device e = record e { interfaces = settled (secure_at e.port) e.interfaces }
+settled_device e = record e { interfaces = settled_tdis (secure_at e.port) e.interfaces }
 
 -- with another port, they do so by that one
-abbrev pub with_port : DeviceEnd → PortEnd → DeviceEnd
-with_port e port = settled_device (record e { port = port })
+abbrev pub device_with_port : DeviceEnd → PortEnd → DeviceEnd
+device_with_port e port = settled_device (record e { port = port })
 
 -- ---- keys
 
@@ -66,7 +66,7 @@ asked_device e request draw = record e { port = after_call e.port (call_asked e 
 
 -- ---- interfaces
 
--- whether a stream that is asked to be locked to is Secure
+-- whether the stream that a LOCK_INTERFACE names is Secure
 abbrev pub is_lockable : PortEnd → Option ℕ → Bool
 is_lockable port None = false
 is_lockable port (Some stream) = secure_at port stream
@@ -98,7 +98,7 @@ device_reply e request draw =
 
 abbrev pub owner_sets : DeviceTdis → ℕ → Option ℕ → Bool
 owner_sets d stream None = false
-owner_sets d stream (Some requester) = sets_t d requester stream
+owner_sets d stream (Some requester) = tdis_set_t d requester stream
 
 -- of a TLP with this header on a stream
 abbrev pub device_trusting : DeviceTdis → HeadView → ℕ → Bool

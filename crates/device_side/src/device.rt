@@ -1,14 +1,13 @@
 //! A device.
 
-ghost use Rattle.std.specs.Prelude.{◌≡◌, ◌+◌, ◌<◌, ◌≤◌, ◌^◌, ◌++◌, ℕ, Some, true, IfOk, IfSome, All, length, map};
+ghost use Rattle.std.specs.Prelude.{◌≡◌, ◌+◌, ◌<◌, ◌≤◌, ◌^◌, ◌++◌, ℕ, Some, true, IfOk, IfSome, All, length};
 ghost use Rattle.std.specs.Prelude.{slice_get, vec_len, vec_capacity};
 ghost use Rattle.ide_plan.specs.Fits.{FitsStream};
 ghost use Rattle.tdi_state.specs.Held.{FitsTdi};
 ghost use Rattle.interface_words.specs.RegisterNames.{has_register, width_of};
 ghost use Rattle.tdi_state.specs.Machine.{state_code, LevelReset, FirmwareUpdate, WriteRegister};
 ghost use Rattle.tdi_device.specs.Replies.{called_at};
-ghost use Rattle.ide_port.specs.{IsSent, take_step, status_in};
-ghost use Rattle.sub_stream.specs.{lent_parts, mark_of};
+ghost use Rattle.ide_port.specs.{IsSentAtPort, take_step, status_in};
 ghost use Rattle.device_side.specs.Ends.{is_to_interfaces, is_lockable, secure_at};
 
 use crate::wiring::{Owners, SecureStreams, is_secure_at};
@@ -17,14 +16,15 @@ use ide_plan::{InterfacePlan, StreamPlan};
 use ide_port::{Arrival, Port, Sent};
 use ide_types::{Items, Memory, PortName, Side, StreamStatus};
 use std::alloc::Global;
-use sub_stream::PacketMark;
+use sub_stream::Delivered;
 use tdi_device::{DeviceInterfaces, TDISP_REPLY_ROOM, stream_asked};
 use tdi_state::Register;
 
 /// The room that a reply needs, in bytes.
 pub const REPLY_ROOM: usize = TDISP_REPLY_ROOM;
 
-/// The device of a link: its port with the link's streams, whose keys its responder moves, and its interfaces.
+/// The device of a link: its port with the link's streams, whose keys its responder moves, and its interfaces (PCI
+/// Express Base 6.0 section 6.33 and chapter 11, in this profile).
 #[derive(Drop)]
 pub struct Device {
     /// The port, whose keys are moved by `answer` alone.
@@ -45,7 +45,7 @@ fn is_to_interfaces(message: &[u8]) -> bool
     }
 }
 
-// Whether a stream that is asked to be locked to is Secure at the port.
+// Whether the stream that a LOCK_INTERFACE names is Secure at the port.
 fn is_lockable(port: &Port, stream: Option<u8>) -> bool
     ensures { result ≡ is_lockable port.now stream }
 {
@@ -59,7 +59,7 @@ impl Device {
     ghost use Rattle.device_side.specs.Ends.{
       new_device,
       settled_device,
-      with_port,
+      device_with_port,
       asked_device,
       reply_given,
       asked_interfaces,
@@ -166,7 +166,8 @@ impl Device {
     /// stream that the interface is bound to.
     pub fn send(&mut self, tlp: &[u8], more: bool) -> Sent
         requires { self.old.port.calls < 2 ^ 40 }
-        ensures sent { (number : ℕ) → IsSent self.old.port tlp.now (device_trusting self.old.interfaces) more number
+        ensures sent { (number : ℕ) → IsSentAtPort self.old.port tlp.now (device_trusting self.old.interfaces) more
+            number
             result self.new.port }
         ensures others { self.new ≡ record self.old { port = self.new.port } }
     {
@@ -189,36 +190,18 @@ impl Device {
     pub fn take(&mut self, bytes: &[u8]) -> Arrival
         requires { self.old.port.calls < 2 ^ 40 }
         ensures answer { result ≡ (take_step self.old.port bytes.now).answer }
-        ensures device { self.new ≡ with_port self.old (take_step self.old.port bytes.now).port }
+        ensures device { self.new ≡ device_with_port self.old (take_step self.old.port bytes.now).port }
     {
         let arrival = self.port.take(bytes);
         self.settle();
         arrival
     }
 
-    /// How many packets of an accepted unit are lent, at most 8.
-    pub fn delivered(&self) -> usize
-        ensures value { result ≡ length self.now.port.delivered }
-        ensures most { result ≤ 8 }
+    /// The packets of an accepted unit that are lent.
+    pub fn delivered(&self) -> Delivered<'_>
+        ensures { result ≡ self.now.port.delivered }
     {
         self.port.delivered()
-    }
-
-    /// The header and the decrypted payload of packet `i` of the unit that was accepted last, counted from 0.
-    pub fn packet(&self, i: usize) -> (&[u8], &[u8])
-        requires { i < length self.now.port.delivered }
-        ensures { slice_get (map lent_parts self.now.port.delivered) i ≡ Some (result.0.now, result.1.now) }
-    {
-        self.port.packet(i)
-    }
-
-    /// Whether packet `i` of the unit that was accepted last, counted from 0, is trusted, and whether it is a sync
-    /// packet.
-    pub fn mark(&self, i: usize) -> PacketMark
-        requires { i < length self.now.port.delivered }
-        ensures { slice_get (map mark_of self.now.port.delivered) i ≡ Some result }
-    {
-        self.port.mark(i)
     }
 
     /// The status of a stream; `None` if the link has no such stream.

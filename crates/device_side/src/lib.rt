@@ -3,8 +3,6 @@
 #![tactic(auto)]
 
 mod device;
-#[cfg(test)]
-mod tests;
 mod wiring;
 
 pub use device::{Device, REPLY_ROOM};

@@ -11,7 +11,7 @@ use Rattle.first_fault.specs.Walks.{walked_from, walk_length, reading}
 use Rattle.first_fault.proofs.Fronts.{IsGrammar, EndsAt, Walks, fitting_like, size_like, walks_push, place_of}
 use Rattle.first_fault.proofs.Fronts.{same_place}
 
--- a front wants more where it is shorter than it says
+-- a prefix wants more if it is shorter than it says
 abbrev pub wants : (List ℕ → ℕ) → List ℕ → Bool
 wants size s = ltb (length s) (size s)
 

@@ -13,7 +13,7 @@ use Rattle.std.proofs.lemmas.Simd.{swz_l, SwzOk, zip2_splat, zip2_of_maps, lengt
 use lib.Bits.{xor_assoc, xor_self, xor_shifted, xor_zero_l}
 use lib.Dec.{ltb}
 use lib.Lanes.{Each1, zip2}
-use Rattle.aes_block.specs.Nibbles.{IsVector, entry_of, is_place, low, high}
+use Rattle.aes_block.specs.Nibbles.{IsVector, entry_of, is_lookup_place, low, high}
 use Rattle.aes_block.proofs.Entries.{all_below, all_below_at}
 use Rattle.std.proofs.lemmas.List.{get_or-map}
 use Rattle.aes_block.proofs.Places.{holds, looked, may_look, placed, after, low_map, high_map, low_place, high_place}
@@ -95,7 +95,7 @@ products h j row v fits is =
 
 -- ---- tables
 
--- entry j where `unset` is 0, and 0 where it is 128
+-- entry j if `unset` is 0, and 0 if it is 128
 abbrev pub picked : List ℕ → ℕ → ℕ → ℕ
 picked v j s = entry_of v (bit_xor s j)
 
@@ -124,7 +124,7 @@ may_pick unset j long lt each =
     may_look _ (length-zip2 bit_xor unset (replicate 16 j) long ∙ long)
     (rw (zip2_splat bit_xor unset 16 j long) (go unset each))
   where
-    place : (s : ℕ) → T (s == 0 || s == 128) → T (is_place (bit_xor s j))
+    place : (s : ℕ) → T (s == 0 || s == 128) → T (is_lookup_place (bit_xor s j))
     place s t = elim (either (s == 0) (s == 128) t) [
       | inl none ↦
           let e : s ≡ 0 = eqb-true s 0 none in
@@ -136,7 +136,8 @@ may_pick unset j long lt each =
           (holds _ (or_left (leb 128 n) (ltb n 16) (le-leb 128 n (omega arith))))
     ]
 
-    go : (l : List ℕ) → Each1 (λ s. T (s == 0 || s == 128)) l → Each1 (λ j. T (is_place j)) (map (λ s. bit_xor s j) l)
+    go : (l : List ℕ) → Each1 (λ s. T (s == 0 || s == 128)) l
+        → Each1 (λ j. T (is_lookup_place j)) (map (λ s. bit_xor s j) l)
     go [] h = tt
     go (s ∷ l) h = (place s h.0, go l h.1)
 
@@ -184,7 +185,7 @@ one = 128 ∷ 0 ∷ 128 ∷ 0 ∷ 128 ∷ 0 ∷ 128 ∷ 0 ∷ 128 ∷ 0 ∷ 128 
 abbrev has : ℕ → ℕ → Bool
 has k n = n / 2 ^ k % 2 == 1
 
--- a lane of the lists above is 0 where the bit is set, and else 128
+-- a lane of the lists above is 0 if the bit is set, and else 128
 abbrev tells : List ℕ → ℕ → ℕ → Bool
 tells unset k n = slice_index unset n == cond (has k n) 0 128
 

@@ -1,7 +1,6 @@
 -- Products byte by byte. A product with a block is the sum of its products with the bytes of the block, each moved up
--- to
--- the byte's place. The code adds byte j of all of these at once, from the last byte to the first, and moves the sum up
--- by one byte before each.
+-- to the byte's place. The code adds byte j of all of these at once, from the last byte to the first, and moves the sum
+-- up by one byte before each.
 use Rattle.std.proofs.Common.{◌≡◌, ℕ, zero, suc, ◌+◌, ◌-◌, ◌*◌, ◌/◌, ◌%◌, ◌^◌, ◌<◌, ◌≤◌, ◌==◌, Bool, List, [], ◌∷◌}
 use Rattle.std.proofs.Common.{◌++◌}
 use Rattle.std.proofs.Common.{length, map, take, replicate, bit_xor, slice_index, refl, sym, ap, ◌∙◌, arith, lit<, inl}
@@ -19,7 +18,7 @@ use Rattle.aes_block.specs.Nibbles.{IsVector}
 use Rattle.aes_block.proofs.Blocks.{byte_at-byte}
 use Rattle.aes_block.proofs.Places.{of_16}
 use Rattle.gcm_seal.specs.Polynomials.{bits}
-use Rattle.gcm_seal.specs.Inside.{step_x, act, raised, joined, byte_of, byte_product, block_product}
+use Rattle.gcm_seal.specs.Inside.{step_x, act, raised, joined_bytes, byte_of, byte_product, block_product}
 use Rattle.gcm_seal.proofs.Places.{act-append, bits-append}
 use Rattle.gcm_seal.proofs.Reduction.{raised-xor, raised-zero, raised-add, raised-shifted}
 use Rattle.gcm_seal.proofs.Ring.{xor_four, act-lt, length-bits}
@@ -35,13 +34,13 @@ xor-up k a b =
     sym ((λ i. bit_xor (sym ea i) (sym eb i)) ∙ xor_block k a b 0 0 pos pos ∙ ec)
 
 pub joined-sum : (xs ys zs : List ℕ) → length xs ≡ length ys
-    → joined (zip2 bit_xor xs ys ++ zs) ≡ bit_xor (joined (xs ++ zs)) (joined ys)
-joined-sum [] [] zs e = sym (xor_zero_r (joined zs))
+    → joined_bytes (zip2 bit_xor xs ys ++ zs) ≡ bit_xor (joined_bytes (xs ++ zs)) (joined_bytes ys)
+joined-sum [] [] zs e = sym (xor_zero_r (joined_bytes zs))
 joined-sum [] (y ∷ ys) zs e = absurd (omega (arith, e))
 joined-sum (x ∷ xs) [] zs e = absurd (omega (arith, e))
 joined-sum (x ∷ xs) (y ∷ ys) zs e =
-    let a : ℕ = joined (xs ++ zs) in
-    let b : ℕ = joined ys in
+    let a : ℕ = joined_bytes (xs ++ zs) in
+    let b : ℕ = joined_bytes ys in
     (λ i. bit_xor (xor-up 120 x y i) ((ap (raised 8) (joined-sum xs ys zs (omega (arith, e))) ∙ raised-xor 8 a b) i))
     ∙ xor_four (x * 2 ^ 120) (y * 2 ^ 120) (raised 8 a) (raised 8 b)
 
@@ -49,22 +48,24 @@ raised-none : (b : ℕ) → raised 0 b ≡ b
 unfolding raised
 raised-none b = refl
 
-pub joined-append : (xs ys : List ℕ) → joined (xs ++ ys) ≡ bit_xor (joined xs) (raised (8 * length xs) (joined ys))
-joined-append [] ys = sym (ap (bit_xor 0) (raised-none (joined ys)) ∙ xor_zero_l (joined ys))
+pub joined-append : (xs ys : List ℕ) → joined_bytes (xs ++ ys)
+    ≡ bit_xor (joined_bytes xs) (raised (8 * length xs) (joined_bytes ys))
+joined-append [] ys = sym (ap (bit_xor 0) (raised-none (joined_bytes ys)) ∙ xor_zero_l (joined_bytes ys))
 joined-append (x ∷ xs) ys =
     let n : ℕ = 8 * length xs in
     let whole : 8 + n ≡ 8 * suc (length xs) = omega arith in
     ap (bit_xor (x * 2 ^ 120))
     (ap (raised 8) (joined-append xs ys)
-    ∙ raised-xor 8 (joined xs) (raised n (joined ys))
-    ∙ ap (bit_xor (raised 8 (joined xs))) (raised-add 8 n (joined ys) ∙ ap (λ (k : ℕ). raised k (joined ys)) whole))
-    ∙ sym (xor_assoc (x * 2 ^ 120) (raised 8 (joined xs)) (raised (8 * suc (length xs)) (joined ys)))
+    ∙ raised-xor 8 (joined_bytes xs) (raised n (joined_bytes ys))
+    ∙ ap (bit_xor (raised 8 (joined_bytes xs)))
+    (raised-add 8 n (joined_bytes ys) ∙ ap (λ (k : ℕ). raised k (joined_bytes ys)) whole))
+    ∙ sym (xor_assoc (x * 2 ^ 120) (raised 8 (joined_bytes xs)) (raised (8 * suc (length xs)) (joined_bytes ys)))
 
-joined-ended : (xs : List ℕ) → joined (xs ++ 0 ∷ []) ≡ joined xs
+joined-ended : (xs : List ℕ) → joined_bytes (xs ++ 0 ∷ []) ≡ joined_bytes xs
 joined-ended xs =
     joined-append xs (0 ∷ [])
-    ∙ ap (bit_xor (joined xs)) (ap (raised (8 * length xs)) (raised-zero 8) ∙ raised-zero (8 * length xs))
-    ∙ xor_zero_r (joined xs)
+    ∙ ap (bit_xor (joined_bytes xs)) (ap (raised (8 * length xs)) (raised-zero 8) ∙ raised-zero (8 * length xs))
+    ∙ xor_zero_r (joined_bytes xs)
 
 -- ---- bytes as a number
 
@@ -82,7 +83,7 @@ spelled-lt (x ∷ xs) fits =
     rw whole at (digits_lt {q = x} {m = 2 ^ 8} {r = spelled xs} {c = 2 ^ n} (fits.0.fits) (spelled-lt xs fits.1))
 
 joined-spelled : (xs : List ℕ) → Each1 (Fits w8) xs → (r : ℕ) → 8 * length xs + r ≡ 128
-    → joined xs ≡ spelled xs * 2 ^ r
+    → joined_bytes xs ≡ spelled xs * 2 ^ r
 joined-spelled [] fits r e = omega arith
 joined-spelled (x ∷ xs) fits r e =
     let n : ℕ = 8 * length xs in
@@ -100,7 +101,7 @@ from_be_bytes-spelled : (v : List ℕ) → length v ≡ 16 → from_be_bytes w12
 from_be_bytes-spelled =
     of_16 (λ v. from_be_bytes w128 v ≡ spelled v) (λ a b c d e f g h i j k l m n o p. omega arith)
 
-pub joined-number : (v : List ℕ) → IsVector v → joined v ≡ from_be_bytes w128 v
+pub joined-number : (v : List ℕ) → IsVector v → joined_bytes v ≡ from_be_bytes w128 v
 joined-number v fits =
     joined-spelled v fits.1 0 (omega (arith, fits.0))
     ∙ omega arith
@@ -112,11 +113,11 @@ number-lt v fits =
     rw (ap (λ (n : ℕ). 2 ^ n) whole, sym (from_be_bytes-spelled v fits.0)) at (spelled-lt v fits.1)
 
 pub two-joined : (p q : List ℕ) → IsVector p → IsVector q
-    → bit_xor (from_be_bytes w128 p) (raised 128 (from_be_bytes w128 q)) ≡ joined (p ++ q)
+    → bit_xor (from_be_bytes w128 p) (raised 128 (from_be_bytes w128 q)) ≡ joined_bytes (p ++ q)
 two-joined p q fp fq =
     let whole : 8 * length p ≡ 128 = omega (arith, fp.0) in
     (λ i. bit_xor (sym (joined-number p fp) i) (raised 128 (sym (joined-number q fq) i)))
-    ∙ sym (joined-append p q ∙ ap (λ (n : ℕ). bit_xor (joined p) (raised n (joined q))) whole)
+    ∙ sym (joined-append p q ∙ ap (λ (n : ℕ). bit_xor (joined_bytes p) (raised n (joined_bytes q))) whole)
 
 -- ---- moves by a byte
 
@@ -153,18 +154,19 @@ high-is =
 
 -- the sum of 32 bytes p and q after a move, with `next` added
 pub moved-joined : (p q next : List ℕ) → length p ≡ 16 → length q ≡ 16 → length next ≡ 16 → slice_index q 15 ≡ 0
-    → joined (zip2 bit_xor (pick_l 0 (replicate 16 0 ++ p) up) next ++ pick_l 0 (p ++ q) up)
-    ≡ bit_xor (joined next) (raised 8 (joined (p ++ q)))
+    → joined_bytes (zip2 bit_xor (pick_l 0 (replicate 16 0 ++ p) up) next ++ pick_l 0 (p ++ q) up)
+    ≡ bit_xor (joined_bytes next) (raised 8 (joined_bytes (p ++ q)))
 moved-joined p q next lp lq ln none =
     let a : List ℕ = pick_l 0 (replicate 16 0 ++ p) up in
     let b : List ℕ = pick_l 0 (p ++ q) up in
     let t : List ℕ = take 31 (p ++ q) in
-    let rest : joined t ≡ joined (p ++ q) =
-    sym (joined-ended t) ∙ ap (λ (x : ℕ). joined (t ++ x ∷ [])) (sym none) ∙ ap joined (ended-is p lp q lq) in
+    let rest : joined_bytes t ≡ joined_bytes (p ++ q) =
+    sym (joined-ended t) ∙ ap (λ (x : ℕ). joined_bytes (t ++ x ∷ [])) (sym none) ∙ ap joined_bytes
+    (ended-is p lp q lq) in
     joined-sum a next b (sym ln)
-    ∙ xor_comm (joined (a ++ b)) (joined next)
-    ∙ ap (bit_xor (joined next))
-    (ap joined (moved-is p lp q lq) ∙ xor_zero_l (raised 8 (joined t)) ∙ ap (raised 8) rest)
+    ∙ xor_comm (joined_bytes (a ++ b)) (joined_bytes next)
+    ∙ ap (bit_xor (joined_bytes next))
+    (ap joined_bytes (moved-is p lp q lq) ∙ xor_zero_l (raised 8 (joined_bytes t)) ∙ ap (raised 8) rest)
 
 -- only zeros from place n on
 abbrev pub IsNoneFrom : ℕ → List ℕ → Type 0
@@ -182,7 +184,7 @@ none-moved n x q none (suc k) le = elim (cases_lt k 15) [
 -- the bytes 15, 14 and so on, t of them, of f at each byte of v: each sum of them moved up by a byte before the next
 abbrev pub moved_sum : (ℕ → ℕ → ℕ) → List ℕ → ℕ → ℕ
 moved_sum f v zero = 0
-moved_sum f v (suc t) = bit_xor (joined (map (f (15 - t)) v)) (raised 8 (moved_sum f v t))
+moved_sum f v (suc t) = bit_xor (joined_bytes (map (f (15 - t)) v)) (raised 8 (moved_sum f v t))
 
 -- the same of one byte's
 abbrev tails : (ℕ → ℕ) → ℕ → ℕ
@@ -199,7 +201,7 @@ sum-first : (f : ℕ → ℕ → ℕ) (x : ℕ) (v : List ℕ) (t : ℕ)
 sum-first f x v zero = sym (xor_zero_l _ ∙ raised-zero 8)
 sum-first f x v (suc t) =
     let a : ℕ = f (15 - t) x * 2 ^ 120 in
-    let j : ℕ = joined (map (f (15 - t)) v) in
+    let j : ℕ = joined_bytes (map (f (15 - t)) v) in
     let b : ℕ = tails (λ j. f j x) t in
     let m : ℕ = raised 8 (moved_sum f v t) in
     ap (bit_xor (bit_xor a (raised 8 j))) (ap (raised 8) (sum-first f x v t) ∙ raised-xor 8 b m)
@@ -292,33 +294,33 @@ none-zeros k le = elim (cases_lt k 16) [
   | inr past ↦ get_or_past (replicate {A = ℕ} 16 0) k 0 past
 ]
 
-pub joined-none : joined (replicate 16 0 ++ replicate 16 0) ≡ 0
+pub joined-none : joined_bytes (replicate 16 0 ++ replicate 16 0) ≡ 0
 unfolding raised step_x
 joined-none = refl
 
 pub sum-next : (f : ℕ → ℕ → ℕ) (v : List ℕ) (t : ℕ)
-    → bit_xor (joined (map (f (15 - t)) v)) (raised 8 (moved_sum f v t)) ≡ moved_sum f v (t + 1)
+    → bit_xor (joined_bytes (map (f (15 - t)) v)) (raised 8 (moved_sum f v t)) ≡ moved_sum f v (t + 1)
 sum-next f v t =
     let next : suc t ≡ t + 1 = omega arith in
     ap (moved_sum f v) next
 
 joined-two : (xs ys : List ℕ) → length xs ≡ length ys
-    → joined (zip2 bit_xor xs ys) ≡ bit_xor (joined xs) (joined ys)
+    → joined_bytes (zip2 bit_xor xs ys) ≡ bit_xor (joined_bytes xs) (joined_bytes ys)
 joined-two xs ys e =
-    ap joined (sym (append-nil (zip2 bit_xor xs ys)))
+    ap joined_bytes (sym (append-nil (zip2 bit_xor xs ys)))
     ∙ joined-sum xs ys [] e
-    ∙ ap (λ (l : List ℕ). bit_xor (joined l) (joined ys)) (append-nil xs)
+    ∙ ap (λ (l : List ℕ). bit_xor (joined_bytes l) (joined_bytes ys)) (append-nil xs)
 
 -- the sum of two such sums: p and q are the next bytes, s the sum so far
 pub sums-next : (f g : ℕ → ℕ → ℕ) (a b p q : List ℕ) (s t : ℕ) → length a ≡ 16 → length b ≡ 16
     → p ≡ map (f (15 - t)) a → q ≡ map (g (15 - t)) b
     → s ≡ bit_xor (moved_sum f a t) (moved_sum g b t)
-    → bit_xor (joined (zip2 bit_xor p q)) (raised 8 s) ≡ bit_xor (moved_sum f a (t + 1)) (moved_sum g b (t + 1))
+    → bit_xor (joined_bytes (zip2 bit_xor p q)) (raised 8 s) ≡ bit_xor (moved_sum f a (t + 1)) (moved_sum g b (t + 1))
 sums-next f g a b p q s t la lb ep eq es =
     let m : List ℕ = map (f (15 - t)) a in
     let n : List ℕ = map (g (15 - t)) b in
     let long : length m ≡ length n = length-map a (f (15 - t)) ∙ la ∙ sym (length-map b (g (15 - t)) ∙ lb) in
-    (λ i. bit_xor (joined (zip2 bit_xor (ep i) (eq i))) (raised 8 (es i)))
+    (λ i. bit_xor (joined_bytes (zip2 bit_xor (ep i) (eq i))) (raised 8 (es i)))
     ∙ (λ i. bit_xor (joined-two m n long i) (raised-xor 8 (moved_sum f a t) (moved_sum g b t) i))
-    ∙ xor_four (joined m) (joined n) (raised 8 (moved_sum f a t)) (raised 8 (moved_sum g b t))
+    ∙ xor_four (joined_bytes m) (joined_bytes n) (raised 8 (moved_sum f a t)) (raised 8 (moved_sum g b t))
     ∙ (λ i. bit_xor (sum-next f a t i) (sum-next g b t i))

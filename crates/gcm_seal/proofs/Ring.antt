@@ -13,7 +13,8 @@ use Rattle.std.proofs.lemmas.Nat.{shl_below, shr-shr}
 use Rattle.std.proofs.lemmas.Nat.Bits.{bit_at-lt, bit_at_xor}
 use Rattle.std.proofs.lemmas.List.{length-take-le}
 use lib.Bits.{xor_assoc, xor_zero_r, xor_self, xor_shifted}
-use Rattle.gcm_seal.specs.Polynomials.{differ, plus, product, power, bits, number, polynomial, remainder, times_x}
+use Rattle.gcm_seal.specs.Polynomials.{differ, plus, product, power, bits, number_of_bits, polynomial, remainder}
+use Rattle.gcm_seal.specs.Polynomials.{times_x}
 use Rattle.gcm_seal.specs.Gcm.{sum_of_products, ghash, blocks, hash_input}
 use Rattle.gcm_seal.proofs.Strings.{hashed_blocks}
 use Rattle.std.specs.Int.{div_ceil}
@@ -40,7 +41,7 @@ by_bits P a b c d (suc (suc p)) q hp hq = absurd (omega arith)
 
 -- ---- one step
 
--- what stands for x¹²⁸ where the lowest bit is d
+-- what stands for x¹²⁸ if the lowest bit is d
 abbrev carry : ℕ → ℕ
 carry d = if d == 1 then 0xe1 * 2 ^ 120 else 0
 
@@ -299,7 +300,7 @@ remainder-bits (a ∷ p) =
     rw (remainder-bits p, ← bits-step k kl, bits-xor 128 (term a one) (step_x k))
     (sym (bits-first a (bits 128 (step_x k)) (length-bits 128 (step_x k))))
 
-number-bits : (n b : ℕ) → number (bits n b) ≡ b % 2 ^ n
+number-bits : (n b : ℕ) → number_of_bits (bits n b) ≡ b % 2 ^ n
 unfolding bits
 number-bits zero b = omega arith
 number-bits (suc n) b =
@@ -308,10 +309,10 @@ number-bits (suc n) b =
     in
     rw (length-bits n b, number-bits n b, digit-term d (2 ^ n) (bit_at-lt b n), split) refl
 
-remainder-act : (p : List Bool) → number (remainder p) ≡ act p one
+remainder-act : (p : List Bool) → number_of_bits (remainder p) ≡ act p one
 remainder-act p =
     let small : act p one % 2 ^ 128 ≡ act p one = omega (arith, act-lt p one (lit< tt)) in
-    ap number (remainder-bits p) ∙ number-bits 128 (act p one) ∙ small
+    ap number_of_bits (remainder-bits p) ∙ number-bits 128 (act p one) ∙ small
 
 -- ---- GHASH
 

@@ -1,7 +1,7 @@
 -- Blocks, counters and masks as lists of bytes: a masked string is combined byte by byte with the key stream, and the
 -- blocks that are hashed are those that the code reads. The key stream goes by induction on its blocks, so that byte k
--- is byte k % 16 of one encrypted counter block; a block is fixed by its 16 bytes, so neither zeros behind a string nor
--- what stands ahead of it in whole blocks changes one.
+-- is byte k % 16 of one encrypted counter block; a block is fixed by its 16 bytes, so neither zeros after a string nor
+-- whole blocks before it change one.
 use Rattle.std.proofs.Common.{replicate, append_assoc, append-nil, slice_range, ◌≡◌, ℕ, zero, suc, ◌+◌, ◌-◌, ◌*◌, ◌/◌}
 use Rattle.std.proofs.Common.{◌%◌, ◌^◌, ◌<◌, ◌≤◌, List, [], ◌∷◌, ◌++◌, length, take, drop, bit_xor, slice_index, refl}
 use Rattle.std.proofs.Common.{sym, ap, ◌∙◌, arith, inl, inr, lit<}
@@ -152,7 +152,7 @@ masked-none key iv n xs none = masked_from key iv n xs xs refl (λ i lt. absurd 
 
 -- ---- blocks
 
--- zeros behind a string change no byte that is read
+-- zeros after a string change no byte that is read
 at-padded : (s : List ℕ) (n j : ℕ) → slice_index (s ++ replicate n 0) j ≡ slice_index s j
 at-padded s n j = elim (cases_lt j (length s)) [
   | inl within ↦ get_or_append_left s (replicate n 0) 0 j within

@@ -4,7 +4,7 @@ use Rattle.std.specs.Prelude.{ℕ, zero, suc, ◌+◌, ◌-◌, ◌*◌, ◌/◌
 use Rattle.std.specs.Prelude.{replicate, bit_xor, slice_range, bytes_eq}
 use Rattle.std.specs.Int.{w32, w64, w128, from_be_bytes, to_be_bytes, div_ceil}
 use Rattle.aes_block.specs.Aes.{Key, Block, aes}
-use Rattle.gcm_seal.specs.Polynomials.{Polynomial, plus, product, power, polynomial, number, remainder}
+use Rattle.gcm_seal.specs.Polynomials.{Polynomial, plus, product, power, polynomial, number_of_bits, remainder}
 
 -- additional data, a plaintext or a ciphertext
 abbrev pub Bytes : Type 0
@@ -88,7 +88,7 @@ sum_of_products h (x ∷ xs) =
 
 -- the sum, reduced: GHASH of the blocks under H (6.4)
 unfoldable pub ghash : BlockNumber → List BlockNumber → BlockNumber
-ghash h xs = number (remainder (sum_of_products h xs))
+ghash h xs = number_of_bits (remainder (sum_of_products h xs))
 
 -- the tag of additional data and a ciphertext: the first 12 bytes of GCTR from J₀ on of their hash,
 -- which is one block, combined with the cipher's output at J₀ (7.1, steps 5 and 6)
@@ -106,7 +106,7 @@ ciphertext_of key iv p = gctr key iv p
 unfoldable pub seal_of : Key → Iv → Bytes → Bytes → Bytes × Tag
 seal_of key iv a p = (ciphertext_of key iv p, tag_of key iv a (ciphertext_of key iv p))
 
--- the plaintext of a ciphertext (7.2, step 4), which is answered only where the tag verifies (step 8)
+-- the plaintext of a ciphertext (7.2, step 4), which is answered only if the tag verifies (step 8)
 unfoldable pub open_of : Key → Iv → Bytes → Bytes
 open_of key iv c = gctr key iv c
 

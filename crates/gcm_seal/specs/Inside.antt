@@ -49,9 +49,9 @@ abbrev pub byte_product : BlockNumber → ℕ → ℕ → ℕ
 byte_product h j x = byte_of j (act (bits 8 x) h)
 
 -- the sum of bytes, each moved up to its place: byte i times x⁸ⁱ
-abbrev pub joined : List ℕ → BlockNumber
-joined [] = 0
-joined (b ∷ bs) = bit_xor (b * 2 ^ 120) (raised 8 (joined bs))
+abbrev pub joined_bytes : List ℕ → BlockNumber
+joined_bytes [] = 0
+joined_bytes (b ∷ bs) = bit_xor (b * 2 ^ 120) (raised 8 (joined_bytes bs))
 
 -- b, x • b, x² • b and x³ • b, as bytes
 abbrev pub AreSteps : BlockNumber → Steps → Type 0

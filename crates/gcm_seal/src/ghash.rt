@@ -7,7 +7,7 @@ ghost use Rattle.std.specs.Int.{div_ceil, from_be_bytes, to_be_bytes, w128};
 ghost use lib.Lanes.{Each1};
 ghost use Rattle.aes_block.specs.Nibbles.{IsVector, entry_of};
 ghost use Rattle.gcm_seal.specs.Inside.{AreMultiples, AreRows, AreSteps, IsRow, IsTable, absorbed, block_product};
-ghost use Rattle.gcm_seal.specs.Inside.{byte_product, joined, padded_block, padded_blocks, raised, step_x};
+ghost use Rattle.gcm_seal.specs.Inside.{byte_product, joined_bytes, padded_block, padded_blocks, raised, step_x};
 
 use crate::MAX_BYTES;
 use std::simd::prelude::*;
@@ -173,7 +173,7 @@ const UP: [usize; 16] = [
 #[inline(always)]
 fn moved(low: u8x16, high: u8x16, next: u8x16) -> (u8x16, u8x16)
     ensures sum { slice_index high 15 ≡ 0
-        → joined (result.0 ++ result.1) ≡ bit_xor (joined next) (raised 8 (joined (low ++ high))) }
+        → joined_bytes (result.0 ++ result.1) ≡ bit_xor (joined_bytes next) (raised 8 (joined_bytes (low ++ high))) }
     ensures high { result.1 ≡ slice_index low 15 ∷ take 15 high }
 {
     let none = u8x16::splat(0);
@@ -191,7 +191,7 @@ fn reduced(z: u128, w: u128) -> u128
 // A sum of 32 bytes, reduced.
 #[inline(always)]
 fn reduced_sum(low: u8x16, high: u8x16) -> u128
-    ensures { result ≡ joined (low ++ high) }
+    ensures { result ≡ joined_bytes (low ++ high) }
 {
     reduced(number_of(low), number_of(high))
 }

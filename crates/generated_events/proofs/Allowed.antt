@@ -9,8 +9,8 @@ use Rattle.generated_events.specs.declared.numbers.Numbers.{Numbers}
 use Rattle.generated_events.specs.declared.step.Step.{Step}
 use Rattle.generated_events.specs.declared.step.Step.TheVariants as step
 use Rattle.generated_events.specs.declared.round.Round.{Round}
-use Rattle.generated_events.specs.Events.{arrival, events_from, following, value_of, events_of, first_numbers}
-use Rattle.generated_events.specs.Events.{generated, round_by, round_of, rounds, setting_up}
+use Rattle.generated_events.specs.Events.{arrival, events_from, following, value_of, round_events, first_numbers}
+use Rattle.generated_events.specs.Events.{generated, round_by, round_of, event_rounds, setting_up}
 
 -- ---- each is allowed
 
@@ -44,16 +44,16 @@ both_allowed : (xs ys : List Event) → AllByRecursion IsAllowed xs → AllByRec
 both_allowed [] ys first second = second
 both_allowed (x ∷ xs) ys first second = (first.0, both_allowed xs ys first.1 second)
 
-rounds_allowed : (count : ℕ) (s : Numbers) → AllByRecursion IsAllowed (rounds count s)
+rounds_allowed : (count : ℕ) (s : Numbers) → AllByRecursion IsAllowed (event_rounds count s)
 rounds_allowed zero s = tt
 rounds_allowed (suc n) s =
     let r = round_of s in
-    both_allowed (events_of r) (rounds n r.numbers)
+    both_allowed (round_events r) (event_rounds n r.numbers)
     (round_allowed (value_of (following s.x) % 16) (record s { x = following s.x }), from_allowed r.ahead)
     (rounds_allowed n r.numbers)
 
 pub all_allowed : (seed count : ℕ) → AllByRecursion IsAllowed (generated seed count)
-all_allowed seed count = both_allowed (events_from (Some step.Establish)) (rounds count (first_numbers seed))
+all_allowed seed count = both_allowed (events_from (Some step.Establish)) (event_rounds count (first_numbers seed))
     (from_allowed (Some step.Establish)) (rounds_allowed count (first_numbers seed))
 
 -- ---- and they are few
@@ -67,17 +67,17 @@ few_from (Some step.Establish) = lit≤ tt
 few_from (Some step.Halt) = lit≤ tt
 few_from (Some step.Stop) = lit≤ tt
 
-few_rounds : (count : ℕ) (s : Numbers) → length (rounds count s) ≤ 7 * count
+few_rounds : (count : ℕ) (s : Numbers) → length (event_rounds count s) ≤ 7 * count
 few_rounds zero s = lit≤ tt
 few_rounds (suc n) s =
     let r = round_of s in
-    let both = length-append (events_of r) (rounds n r.numbers) in
+    let both = length-append (round_events r) (event_rounds n r.numbers) in
     let few = few_from r.ahead in
     let later = few_rounds n r.numbers in
     omega (arith, both, few, later)
 
 pub few_events : (seed count : ℕ) → length (generated seed count) ≤ 4 + 7 * count
 few_events seed count =
-    let both = length-append (events_from (Some step.Establish)) (rounds count (first_numbers seed)) in
+    let both = length-append (events_from (Some step.Establish)) (event_rounds count (first_numbers seed)) in
     let later = few_rounds count (first_numbers seed) in
     omega (arith, both, later)

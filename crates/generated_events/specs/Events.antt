@@ -24,8 +24,8 @@ abbrev pub first_numbers : ℕ → Numbers
 first_numbers seed = record { x = seed; packets = 0; arriving = 1; posted = 0 }
 
 -- a posted packet more; after 255 of them two sync packets go before it
-abbrev pub with_packet : Numbers → Numbers
-with_packet s =
+abbrev pub numbers_with_packet : Numbers → Numbers
+numbers_with_packet s =
     if s.posted == 255 then record s { packets = s.packets + 3; posted = 1 }
     else record s { packets = s.packets + 1; posted = s.posted + 1 }
 
@@ -36,16 +36,17 @@ without_packets s = record s { arriving = s.packets + 1; posted = 0 }
 -- ---- events, of stream 5 of link 0, of interface 0 and of the memory at 10000000h
 
 -- the byte of this weight
-abbrev pub byte_of : ℕ → ℕ → ℕ
-byte_of n weight = n / weight % 256
+abbrev pub byte_with_weight : ℕ → ℕ → ℕ
+byte_with_weight n weight = n / weight % 256
 
 -- a memory write of requester 0100h with a header of 3 double words and all 4 bytes of one double word enabled, which
 -- hold a value twice, at a place of 4,096 (PCI Express Base 6.0 section 2.2.7)
 abbrev pub write_at : ℕ → ℕ → List ℕ
 write_at address value =
-    64 ∷ 0 ∷ 0 ∷ 1 ∷ 1 ∷ 0 ∷ 0 ∷ 15 ∷ byte_of address 16777216 ∷ byte_of address 65536 ∷ byte_of address 256
-    ∷ byte_of address 1
-    ∷ byte_of value 256 ∷ byte_of value 1 ∷ byte_of value 256 ∷ byte_of value 1 ∷ []
+    64 ∷ 0 ∷ 0 ∷ 1 ∷ 1 ∷ 0 ∷ 0 ∷ 15 ∷ byte_with_weight address 16777216 ∷ byte_with_weight address 65536
+    ∷ byte_with_weight address 256
+    ∷ byte_with_weight address 1
+    ∷ byte_with_weight value 256 ∷ byte_with_weight value 1 ∷ byte_with_weight value 256 ∷ byte_with_weight value 1 ∷ []
 
 abbrev pub write_bytes : ℕ → ℕ → List ℕ
 write_bytes place value = write_at (268435456 + 4 * (place % 4096)) value
@@ -107,12 +108,12 @@ abbrev pub alone : Event → Numbers → Round
 alone e s = record { event = e; ahead = None; numbers = s }
 
 -- a memory write goes out at the device's port, at the place and with the value of the next two numbers
-abbrev pub sending : Numbers → Round
-sending s =
+abbrev pub sending_round : Numbers → Round
+sending_round s =
     let place = following s.x in
     let value = following place in
     alone (event.Send device (write_bytes (value_of place) (value_of value)) false false)
-    (record (with_packet s) { x = value })
+    (record (numbers_with_packet s) { x = value })
 
 -- a packet arrives; after an altered one all is set up again
 abbrev pub arrival : ℕ → Numbers → Round
@@ -124,7 +125,7 @@ arrival turn s =
 -- by the turn, of 16
 abbrev pub round_by : ℕ → Numbers → Round
 round_by turn s =
-    if nat_lt turn 8 then sending s
+    if nat_lt turn 8 then sending_round s
     else if turn == 13 then alone refresh s
     else if nat_lt s.packets s.arriving then alone shown_memory s
     else arrival turn s
@@ -132,16 +133,16 @@ round_by turn s =
 abbrev pub round_of : Numbers → Round
 round_of s = round_by (value_of (following s.x) % 16) (record s { x = following s.x })
 
-abbrev pub events_of : Round → List Event
-events_of r = r.event ∷ events_from r.ahead
+abbrev pub round_events : Round → List Event
+round_events r = r.event ∷ events_from r.ahead
 
-abbrev pub rounds : ℕ → Numbers → List Event
-rounds zero s = []
-rounds (suc n) s = events_of (round_of s) ++ rounds n (round_of s).numbers
+abbrev pub event_rounds : ℕ → Numbers → List Event
+event_rounds zero s = []
+event_rounds (suc n) s = round_events (round_of s) ++ event_rounds n (round_of s).numbers
 
 -- all events
 abbrev pub generated : (seed count : ℕ) → List Event
-generated seed count = setting_up ++ rounds count (first_numbers seed)
+generated seed count = setting_up ++ event_rounds count (first_numbers seed)
 
 -- a round seals three packets at the most, and what arrives next was sealed or is sealed next
 pub record RoundFits (s : Numbers) (r : Round) : Type 0 where

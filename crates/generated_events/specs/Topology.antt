@@ -7,15 +7,16 @@ use Rattle.ide_plan.specs.declared.stream.Selector.TheVariants.{Selective}
 use Rattle.ide_plan.specs.declared.stream.StreamPlan.{StreamPlan}
 
 -- the byte of this weight
-abbrev pub byte_at : ℕ → ℕ → ℕ
-byte_at n weight = n / weight % 256
+abbrev pub byte_of_weight : ℕ → ℕ → ℕ
+byte_of_weight n weight = n / weight % 256
 
 -- 24 zero bytes, and the number in 8 bytes, most significant first
 abbrev pub key_numbered : ℕ → List ℕ
 key_numbered n =
     replicate 24 0
-    ++ byte_at n 72057594037927936 ∷ byte_at n 281474976710656 ∷ byte_at n 1099511627776 ∷ byte_at n 4294967296
-    ∷ byte_at n 16777216 ∷ byte_at n 65536 ∷ byte_at n 256 ∷ byte_at n 1
+    ++ byte_of_weight n 72057594037927936 ∷ byte_of_weight n 281474976710656 ∷ byte_of_weight n 1099511627776
+    ∷ byte_of_weight n 4294967296
+    ∷ byte_of_weight n 16777216 ∷ byte_of_weight n 65536 ∷ byte_of_weight n 256 ∷ byte_of_weight n 1
     ∷ []
 
 -- the keys of the numbers from 0 on, so many of them

@@ -11,7 +11,8 @@ use link_events::Event;
 use std::alloc::Global;
 use std::marker::Model;
 
-/// The events that a seed and a number of rounds give, made one after another. Contracts see the events that are left.
+/// The events that a seed and a number of rounds give, made one after another (this profile). Contracts see the events
+/// that are left.
 #[derive(Debug, Drop)]
 pub struct Generator {
     numbers: Numbers,

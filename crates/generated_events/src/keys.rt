@@ -1,7 +1,7 @@
 //! Keys that are numbers.
 
 ghost use Rattle.std.specs.Prelude.{◌≡◌, ◌≤◌, IfOk};
-ghost use Rattle.generated_events.specs.Topology.{byte_at, key_numbered, keys_below};
+ghost use Rattle.generated_events.specs.Topology.{byte_of_weight, key_numbered, keys_below};
 
 use ide_types::{Items, Memory};
 use std::alloc::Global;
@@ -9,7 +9,7 @@ use std::alloc::Global;
 // A byte of a number, by its weight.
 fn byte_at(n: u64, weight: u64) -> u8
     requires { 1 ≤ weight }
-    ensures { result ≡ byte_at n weight }
+    ensures { result ≡ byte_of_weight n weight }
 {
     (n / weight % 256) as u8
 }

@@ -8,8 +8,6 @@ mod numbers;
 mod plan;
 mod round;
 mod step;
-#[cfg(test)]
-mod tests;
 
 pub use generator::Generator;
 pub use ide_types::Memory;

@@ -1,7 +1,7 @@
 //! The numbers that events are made of.
 
 ghost use Rattle.std.specs.Prelude.{◌≡◌, ◌<◌, ◌≤◌, ◌+◌, ◌^◌};
-ghost use Rattle.generated_events.specs.Events.{following, value_of, with_packet, without_packets};
+ghost use Rattle.generated_events.specs.Events.{following, value_of, numbers_with_packet, without_packets};
 
 /// What is kept between events.
 #[derive(Clone, Copy, Debug, PartialEq, Eq)]
@@ -35,7 +35,7 @@ impl Numbers {
     /// With one packet more, and the sync packets that it takes.
     pub(crate) fn with_packet(self) -> Numbers
         requires { self.packets < 2 ^ 62 }
-        ensures { result ≡ with_packet self }
+        ensures { result ≡ numbers_with_packet self }
     {
         if self.posted == 255 {
             let packets = self.packets + 3;

@@ -1,7 +1,7 @@
 //! One round: an event, and the steps after it.
 
 ghost use Rattle.std.specs.Prelude.{◌≡◌, ◌<◌, ◌≤◌, ◌+◌, ◌/◌, ◌%◌, ◌^◌, None, IfOk};
-ghost use Rattle.generated_events.specs.Events.{RoundFits, alter, arrival, cut, pass, refresh, round_of, sending};
+ghost use Rattle.generated_events.specs.Events.{RoundFits, alter, arrival, cut, pass, refresh, round_of, sending_round};
 ghost use Rattle.generated_events.specs.Events.{shown_memory, write_bytes};
 
 use crate::numbers::{Numbers, following, value_of};
@@ -69,7 +69,7 @@ fn plain(event: Event, numbers: Numbers) -> Round
 // The device of link 0 sends a memory write.
 fn sending(alloc: Global, numbers: Numbers) -> Result<Round, Memory>
     requires { numbers.packets < 2 ^ 62 }
-    ensures { IfOk result (λ r. r ≡ sending numbers) }
+    ensures { IfOk result (λ r. r ≡ sending_round numbers) }
 {
     let place = following(numbers.x);
     let x = following(place);

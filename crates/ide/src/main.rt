@@ -1,6 +1,9 @@
 //! `ide`: the program over real files and standard output.
 #![tactic(auto)]
 
+#[cfg(test)]
+mod tests;
+
 use ide_base::{FileShelf, OutSink};
 use ide_cli::Status;
 use std::alloc::Global;

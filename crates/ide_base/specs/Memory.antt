@@ -19,8 +19,8 @@ abbrev pub fails_now : Calls → Bool
 fails_now c = list_any (λ n. nat_eq n c.made) c.failing.items
 
 -- after one more call, which is counted as a fault if it fails
-abbrev pub called : Calls → Calls
-called c = record c { made = counted c.made 1; faults = if fails_now c then counted c.faults 1 else c.faults }
+abbrev pub calls_after : Calls → Calls
+calls_after c = record c { made = counted c.made 1; faults = if fails_now c then counted c.faults 1 else c.faults }
 
 -- no call was made yet, and the listed ones will fail
 pub record IsNew (calls : Calls) (listed : List ℕ) : Type 0 where

@@ -1,6 +1,6 @@
 //! Which calls fail.
 ghost use Rattle.std.specs.Prelude.{◌≡◌, ◌≤◌};
-ghost use Rattle.ide_base.specs.Memory.{IsNew, called, fails_now};
+ghost use Rattle.ide_base.specs.Memory.{IsNew, calls_after, fails_now};
 
 /// The number of calls so far, the numbers of those that fail, from 0, and how many failed.
 #[derive(Drop)]
@@ -24,7 +24,7 @@ impl Calls {
     // Counts a call, and says whether it fails.
     pub(crate) fn next_fails(&mut self) -> bool
         ensures answer { result ≡ fails_now self.old }
-        ensures counted { self.new ≡ called self.old }
+        ensures counted { self.new ≡ calls_after self.old }
         ensures grows { self.old.faults ≤ self.new.faults }
     {
         let fails = self.failing.contains(&self.made);

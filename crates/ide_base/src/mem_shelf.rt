@@ -1,6 +1,6 @@
-//! Files in memory, of which chosen reads fail, or none.
+//! Files in memory: chosen reads fail, or none.
 ghost use Rattle.std.specs.Prelude.{◌≡◌, ◌≤◌, ◌||◌, Some, is_err, is_none, option_map, length, max, IfOk};
-ghost use Rattle.ide_base.specs.Memory.{IsNew, called, contents_of, fails_now, held_under, reads_of};
+ghost use Rattle.ide_base.specs.Memory.{IsNew, calls_after, contents_of, fails_now, held_under, reads_of};
 ghost use Rattle.ide_base.specs.Outside.{Given, ReadAt, ReadFrom, ReadOf, ShelfCause, given_by};
 
 use crate::calls::Calls;
@@ -117,7 +117,7 @@ impl Shelf for MemShelf {
         ensures cause { ShelfCause (⟦<MemShelf as Shelf>⟧.seen self.old).faults
             (⟦<MemShelf as Shelf>⟧.seen self.new).faults
             (⟦<MemShelf as Shelf>⟧.seen self.old).contents name.now result }
-        ensures calls { reads_of self.new ≡ called (reads_of self.old) }
+        ensures calls { reads_of self.new ≡ calls_after (reads_of self.old) }
         ensures fails { is_err result ≡ fails_now (reads_of self.old) || is_none (contents_of self.old name.now) }
     {
         self.longest = self.longest.max(buf.len());
@@ -136,7 +136,7 @@ impl Shelf for MemShelf {
     }
 }
 
-/// Files in memory, which it tells, and of which no read fails but at a name that has no file.
+/// Files in memory, which it tells. No read fails but one of a name that has no file.
 #[derive(Drop)]
 pub struct TrueShelf {
     files: Vec<NamedFile>,

@@ -1,6 +1,6 @@
-//! Sinks in memory, of which chosen calls fail, or none.
+//! Sinks in memory: chosen calls fail, or none.
 ghost use Rattle.std.specs.Prelude.{◌≡◌, ◌↔◌, [], Some, IsTrue, IfErr};
-ghost use Rattle.ide_base.specs.Memory.{IsNew, called, fails_now, puts_of};
+ghost use Rattle.ide_base.specs.Memory.{IsNew, calls_after, fails_now, puts_of};
 ghost use Rattle.ide_base.specs.Outside.{PutInto, SinkCause, TakesSome};
 
 use crate::calls::Calls;
@@ -56,7 +56,7 @@ impl Sink for MemSink {
             bytes.now result }
         ensures cause { SinkCause (⟦<MemSink as Sink>⟧.seen self.old).faults (⟦<MemSink as Sink>⟧.seen self.new).faults
             result }
-        ensures calls { puts_of self.new ≡ called (puts_of self.old) }
+        ensures calls { puts_of self.new ≡ calls_after (puts_of self.old) }
         ensures fails { (result ≡ Err SinkFault.Failed) ↔ IsTrue (fails_now (puts_of self.old)) }
     {
         if self.calls.next_fails() {

@@ -15,7 +15,7 @@ pub struct OutSink<W> {
 }
 
 impl<W: Write> OutSink<W> {
-    /// Over a writer, as standard output.
+    /// A sink over a writer, such as standard output.
     pub fn new(writer: W) -> OutSink<W>
         ensures { (⟦<OutSink<W> as Sink>⟧.seen result).faults ≡ 0 }
     {

@@ -1,77 +1,8 @@
-//! Each shelf and each sink once, with a read or a write that fails in the middle.
+//! Files of the system, a pipe, and a writer, which no clause tells of.
 use crate::file_shelf::{OpenFile, read_at};
-use crate::{
-    FileShelf, MemShelf, MemSink, NamedFile, OutSink, Shelf, ShelfFault, Sink, SinkFault,
-    TrueShelf, TrueSink,
-};
-use std::alloc::Global;
+use crate::{FileShelf, OutSink, Shelf, ShelfFault, Sink, SinkFault};
 use std::test::Fail;
 use std::{fs, io};
-
-// The digits, in a file `digits`.
-fn digits(alloc: Global) -> Result<Vec<NamedFile>, Fail> {
-    let name = String::from_str(alloc, "digits")?;
-    let bytes = Vec::from_slice(alloc, b"0123456789")?;
-    let mut files = Vec::new(alloc);
-    files.push(NamedFile { name, bytes })?;
-    Ok(files)
-}
-
-#[test]
-fn files_in_memory(rt: HostRuntime) -> Result<(), Fail> {
-    let mut buf = [0u8; 4];
-    let mut shelf = MemShelf::new(digits(rt.alloc())?, Vec::from_slice(rt.alloc(), &[1])?);
-    assert_eq!(rt; shelf.read("digits", 7, &mut buf), Ok(3));
-    assert_eq!(rt; buf, [b'7', b'8', b'9', 0]);
-    assert_eq!(rt;
-        shelf.read("digits", 0, &mut buf),
-        Err(ShelfFault),
-        "call 1 is listed"
-    );
-    assert_eq!(rt; shelf.read("letters", 0, &mut buf), Err(ShelfFault));
-    assert_eq!(rt; shelf.read("digits", 10, &mut buf), Ok(0));
-    let mut shelf = TrueShelf::new(digits(rt.alloc())?);
-    assert_eq!(rt; shelf.read("digits", 1, &mut buf), Ok(4));
-    assert_eq!(rt; buf, *b"1234");
-    assert_eq!(rt; shelf.read("letters", 0, &mut buf), Err(ShelfFault));
-    Ok(())
-}
-
-#[test]
-fn sinks_in_memory(rt: HostRuntime) -> Result<(), Fail> {
-    let mut sink = MemSink::new(rt.alloc(), Vec::from_slice(rt.alloc(), &[1])?);
-    assert_eq!(rt; sink.put(b"ab"), Ok(2));
-    assert_eq!(rt; sink.put(b"cd"), Err(SinkFault::Failed), "call 1 is listed");
-    assert_eq!(rt; sink.put(b"ef"), Ok(2));
-    assert_eq!(rt; sink.bytes(), b"abef".as_slice());
-    let mut sink = TrueSink::new(rt.alloc());
-    assert_eq!(rt; sink.put(b"ab"), Ok(2));
-    assert_eq!(rt; sink.bytes(), b"ab".as_slice());
-    Ok(())
-}
-
-// The file that was read last can still be read after its name is gone, and no other.
-#[test]
-fn files_of_the_system(rt: HostRuntime) -> Result<(), Fail> {
-    let mut buf = [0u8; 4];
-    fs::write(&rt, "digits", b"0123456789".as_slice())?;
-    fs::write(&rt, "letters", b"abc".as_slice())?;
-    let mut shelf = FileShelf::new(rt.alloc(), &rt);
-    assert_eq!(rt; shelf.read("digits", 8, &mut buf), Ok(2));
-    assert_eq!(rt; buf, [b'8', b'9', 0, 0]);
-    fs::remove_file(&rt, "digits")?;
-    assert_eq!(rt; shelf.read("digits", 0, &mut buf), Ok(4), "it stays open");
-    assert_eq!(rt; buf, *b"0123");
-    assert_eq!(rt; shelf.read("digits", 10, &mut buf), Ok(0));
-    assert_eq!(rt; shelf.read("letters", 0, &mut buf), Ok(3));
-    assert_eq!(rt;
-        shelf.read("digits", 0, &mut buf),
-        Err(ShelfFault),
-        "it was closed"
-    );
-    assert_eq!(rt; shelf.read("letters", 1, &mut buf), Ok(2));
-    Ok(())
-}
 
 // A file that cannot be sought.
 #[derive(Drop)]
@@ -92,10 +23,27 @@ impl io::Seek for Pipe<'_> {
     }
 }
 
-// A pipe is read from its beginning to its end, and no read goes back.
+// The file that was read last can still be read after its name is gone, and no other. A pipe is read from its beginning
+// to its end, and no read goes back.
 #[test]
-fn pipe_is_not_sought(rt: HostRuntime) -> Result<(), Fail> {
+fn files_of_the_system(rt: HostRuntime) -> Result<(), Fail> {
     let mut buf = [0u8; 4];
+    fs::write(&rt, "digits", b"0123456789".as_slice())?;
+    fs::write(&rt, "letters", b"abc".as_slice())?;
+    let mut shelf = FileShelf::new(rt.alloc(), &rt);
+    assert_eq!(rt; shelf.read("digits", 8, &mut buf), Ok(2));
+    assert_eq!(rt; buf, [b'8', b'9', 0, 0]);
+    fs::remove_file(&rt, "digits")?;
+    assert_eq!(rt; shelf.read("digits", 0, &mut buf), Ok(4), "it stays open");
+    assert_eq!(rt; buf, *b"0123");
+    assert_eq!(rt; shelf.read("digits", 10, &mut buf), Ok(0));
+    assert_eq!(rt; shelf.read("letters", 0, &mut buf), Ok(3));
+    assert_eq!(rt;
+        shelf.read("digits", 0, &mut buf),
+        Err(ShelfFault),
+        "it was closed"
+    );
+    assert_eq!(rt; shelf.read("letters", 1, &mut buf), Ok(2));
     let mut open = OpenFile {
         name: String::new(rt.alloc()),
         file: Pipe(b"012345"),

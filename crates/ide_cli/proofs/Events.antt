@@ -5,17 +5,17 @@ use Rattle.std.specs.Prelude.{if◌then◌else◌, IfOk}
 use Rattle.std.specs.List.{AllByRecursion, slice_index_or}
 use Rattle.std.proofs.lemmas.List.Sums.{count_by-le-length}
 use Rattle.std.proofs.lemmas.List.Splits.{length-slice_split}
-use Rattle.text_lines.specs.Pieces.{pieces}
+use Rattle.line_runs.specs.Pieces.{pieces}
 use Rattle.link_events.specs.declared.event.Event.{Event}
 use Rattle.link_events.specs.declared.fault.LineFault.{LineFault}
 use Rattle.link_events.specs.declared.fault.LineError.{LineError}
-use Rattle.link_events.specs.Parse.{line_meaning, Gives}
+use Rattle.link_events.specs.Parse.{line_meaning, IsLineAnswer}
 use Rattle.link_events.specs.Spells.{IsAllowed}
 use Rattle.link_events.proofs.Meanings.{meaning_is_spelling}
 use Rattle.link_events.proofs.Sizes.{spelled_are_allowed}
-use Rattle.link_texts.specs.Telling.{AreAllowed}
+use Rattle.text_laws.specs.Telling.{AreAllowed}
 use Rattle.line_runs.specs.Gain.{Text}
-use Rattle.line_runs.specs.Lines.{cut_at, cut_text, file_limit, is_over}
+use Rattle.line_runs.specs.Lines.{bytes_for_lines, cut_text, file_limit, is_over}
 use Rattle.ide_cli.specs.Works.{MayAsk}
 use Rattle.ide_cli.specs.Script.{Script, AtEnd, stops, with_line, unended_line, script_in, script_of}
 
@@ -49,7 +49,7 @@ script_small over n (piece ∷ []) = last over (length piece == 0)
 script_small over n (piece ∷ next ∷ rest) = with_line_small n (length (next ∷ rest)) (line_meaning piece)
     (script_in over (n + 1) (next ∷ rest)) (line_allowed piece) (script_small over (n + 1) (next ∷ rest))
 
-cut_small : (limit : ℕ) (file : Text) → length (cut_at limit file) ≤ limit + 1
+cut_small : (limit : ℕ) (file : Text) → length (bytes_for_lines limit file) ≤ limit + 1
 cut_small limit file = by_test (slice_index_or file limit 10 == 10)
   where
     by_test : (b : Bool) → length (if b then take limit file else take (limit + 1) file) ≤ limit + 1
@@ -66,7 +66,8 @@ events_allowed file =
     record { few = omega (arith, small.few, few_pieces (cut_text file), size); each = small.each }
 
 -- of a line that was read
-pub allowed_of : (line : Text) (r : Result (Option Event) LineError) → Gives (line_meaning line) r → IfOk r MayAsk
+pub allowed_of : (line : Text) (r : Result (Option Event) LineError) → IsLineAnswer (line_meaning line) r
+    → IfOk r MayAsk
 allowed_of line (Ok None) gives = tt
 allowed_of line (Ok (Some e)) gives = line_allowed line e gives
 allowed_of line (Err e) gives = tt

@@ -1,11 +1,11 @@
--- How far is read where a run comes to an end, by the words. Behind a sound topology, which was wholly read, the bytes
--- that were given are its own and then the script's, so what holds of the script holds of both; behind any other
--- nothing more was given than it has.
-use Rattle.std.proofs.Common.{◌≡◌, ◌≤◌, ◌+◌, ◌-◌, ℕ, length, Option, Some, None, Result, Ok, Err, refl, sym, subst}
+-- How far is read if a run ends by itself, by the words. After a sound topology, which was wholly read, the bytes that
+-- were given are its own and then the script's, so what holds of the script holds of both; after any other topology no
+-- more bytes were given than it has.
+use Rattle.std.proofs.Common.{◌≡◌, ◌≤◌, ◌+◌, ◌-◌, ℕ, length, Option, Some, None, Result, Ok, Err, ap, sym, subst}
 use Rattle.std.proofs.Common.{arith}
 use Rattle.std.specs.Prelude.{IfOk}
 use Rattle.ide_base.specs.Outside.{Contents, ShelfSeen}
-use Rattle.ide_words.specs.Words.{Asked, generate}
+use Rattle.ide_words.specs.Words.{Asked, asked}
 use Rattle.ide_plan.specs.declared.plan.Plan.{Plan}
 use Rattle.line_runs.specs.declared.ends.End.{End}
 use Rattle.line_runs.specs.declared.ends.Fault.{Fault}
@@ -15,7 +15,8 @@ use Rattle.line_runs.specs.Gathering.{NoFurther, ReadAsFar, ReadAsFarOf}
 use Rattle.ide_cli.specs.declared.topologies.Loaded.{Loaded}
 use Rattle.ide_cli.specs.declared.topologies.Loaded.TheVariants.{Sound, Faulty, Long}
 use Rattle.ide_cli.specs.Loading.{GaveAllOf, LoadedIn, LoadedOf}
-use Rattle.ide_cli.specs.Reads.{AskedNoFurther, LoadedNoFurther, RunNoFurther, ScriptGoesOn}
+use Rattle.ide_cli.specs.Reads.{AskedNoFurther, LoadedNoFurther, ReadNoFurther, RunNoFurther, ScriptGoesOn}
+use Rattle.ide_cli.specs.Seen.{CallSeen}
 use Rattle.ide_cli.specs.Topologies.{loaded}
 use Rattle.ide_cli.proofs.Loads.{joined}
 
@@ -31,7 +32,7 @@ far_same f g name s0 s1 (Ok e) same far = by_told s0.contents far
     by_told None far = tt
     by_told (Some contents) (n, gave, far) = (n, gave, (far.0, same _ far.1))
 
--- ---- behind a sound topology
+-- ---- after a sound topology
 
 behind_in : (topology script : Option Text) (plan : Plan) (given latest : ℕ) → LoadedIn loaded topology (Sound plan)
     → NoFurther (ScriptGoesOn plan) (bytes_of script) given (given - latest)
@@ -68,7 +69,7 @@ far_behind topology script plan s0 s1 s2 (Ok e) same is all far =
       behind_in (contents topology) (contents script) plan n s2.latest is far,
     )
 
--- ---- behind any other
+-- ---- after any other
 
 abbrev pub IsNoPlan : Loaded → Type 0
 IsNoPlan (Sound plan) = ⊥
@@ -105,33 +106,28 @@ within_file told name s0 s1 (Err e) gave = tt
 within_file None name s0 s1 (Ok e) gave = tt
 within_file (Some contents) name s0 s1 (Ok e) (n, le, gave) = (n, gave, le)
 
-pub asked_far : (a : Option Asked) (b : Asked) (s0 s1 : ShelfSeen) (r : Result End Fault) → a ≡ Some b
-    → IfOk r (λ e. ReadAsFar (AskedNoFurther (Some b)) s0 s1) → IfOk r (λ e. ReadAsFar (AskedNoFurther a) s0 s1)
-asked_far a b s0 s1 r is far = subst (λ (o : Option Asked). IfOk r (λ e. ReadAsFar (AskedNoFurther o) s0 s1)) (sym is)
-    far
+pub asked_far : (call : CallSeen) (a : Asked) → asked call.words ≡ Some a
+    → IfOk call.outcome (λ e. ReadAsFar (AskedNoFurther (Some a)) call.shelf_before call.shelf_after)
+    → ReadNoFurther call
+asked_far call a is far = subst
+    (λ (o : Option Asked). IfOk call.outcome (λ e. ReadAsFar (AskedNoFurther o) call.shelf_before call.shelf_after))
+    (sym is) far
 
-pub nothing_read : (a : Option Asked) (s : ShelfSeen) (r : Result End Fault) → a ≡ None
-    → IfOk r (λ e. ReadAsFar (AskedNoFurther a) s s)
-nothing_read a s r is = subst (λ (o : Option Asked). IfOk r (λ e. ReadAsFar (AskedNoFurther o) s s)) (sym is) (none r)
+-- nothing is read if nothing is asked for, or if generated events are
+pub nothing_read : (call : CallSeen) (a : Option Asked) → asked call.words ≡ a → call.shelf_after ≡ call.shelf_before
+    → ((contents : Contents) (ahead : ℕ) → AskedNoFurther a contents 0 ahead) → ReadNoFurther call
+nothing_read call a is same none = subst
+    (λ (o : Option Asked). IfOk call.outcome (λ e. ReadAsFar (AskedNoFurther o) call.shelf_before call.shelf_after))
+    (sym is) (by_outcome call.outcome)
   where
-    by_told : (told : Option Contents) → ReadAsFarOf (AskedNoFurther None) told s s
+    given : call.shelf_after.given ≡ call.shelf_before.given
+    given = ap (λ (s : ShelfSeen). s.given) same
+
+    by_told : (told : Option Contents) → ReadAsFarOf (AskedNoFurther a) told call.shelf_before call.shelf_after
     by_told None = tt
-    by_told (Some contents) = (0, (omega arith, omega arith), refl)
+    by_told (Some contents) = (0, (omega (arith, given), omega (arith, given)), none contents _)
 
-    none : (r : Result End Fault) → IfOk r (λ e. ReadAsFar (AskedNoFurther None) s s)
-    none (Ok e) = by_told s.contents
-    none (Err e) = tt
-
--- nor is anything read of generated events
-pub none_is_read : (a : Option Asked) (seed count : ℕ) (s : ShelfSeen) (r : Result End Fault)
-    → a ≡ Some (generate seed count) → IfOk r (λ e. ReadAsFar (AskedNoFurther a) s s)
-none_is_read a seed count s r is = subst (λ (o : Option Asked). IfOk r (λ e. ReadAsFar (AskedNoFurther o) s s))
-    (sym is) (none r)
-  where
-    by_told : (told : Option Contents) → ReadAsFarOf (AskedNoFurther (Some (generate seed count))) told s s
-    by_told None = tt
-    by_told (Some contents) = (0, (omega arith, omega arith), refl)
-
-    none : (r : Result End Fault) → IfOk r (λ e. ReadAsFar (AskedNoFurther (Some (generate seed count))) s s)
-    none (Ok e) = by_told s.contents
-    none (Err e) = tt
+    by_outcome : (r : Result End Fault)
+        → IfOk r (λ e. ReadAsFar (AskedNoFurther a) call.shelf_before call.shelf_after)
+    by_outcome (Ok e) = by_told call.shelf_before.contents
+    by_outcome (Err e) = tt

@@ -7,23 +7,23 @@ use Rattle.generated_events.specs.Topology.{the_plan}
 use Rattle.key_laws.specs.History.{History}
 use Rattle.link_events.specs.declared.event.Event.{Event}
 use Rattle.link_events.specs.Spells.{IsAllowed}
-use Rattle.link_texts.specs.Runs.{history_on, history_with}
+use Rattle.text_laws.specs.Runs.{history_on, history_with}
 use Rattle.ide_plan.specs.declared.plan.Plan.{Plan}
-use Rattle.world_states.specs.Worlds.{WorldView, IsNew}
+use Rattle.world_states.specs.Worlds.{WorldView, IsNewWorld}
 use Rattle.ide_cli.specs.Works.{Follows, RunningView, ScriptPast}
 use Rattle.ide_cli.proofs.Scripts.{follows_nothing}
 
 abbrev pub past_of : History → ScriptPast
 past_of h = record { plan = the_plan; history = h }
 
--- What runs follows a history, from which the events that are left go on to the history of all.
+-- What runs follows a history; the events that are left lead from it to the history of all.
 pub record RunsOn (all : List Event) (r : RunningView) (left : List Event) : Type 0 where
   pub history : History
   pub follows : Follows r (past_of history)
   pub goes_on : history_on the_plan history left ≡ history_on the_plan [] all
 
 -- before the first event
-pub follows_first : (plan : Plan) (world : WorldView) (r : RunningView) → plan ≡ the_plan → IsNew plan world
+pub follows_first : (plan : Plan) (world : WorldView) (r : RunningView) → plan ≡ the_plan → IsNewWorld plan world
     → r ≡ record { world = world; totals = record { sealed = 0; accepted = 0; failed = 0; blocked = 0 } }
     → Follows r (record { plan = the_plan; history = [] })
 follows_first plan world r plan_is new is =

@@ -1,7 +1,7 @@
--- A topology that was read, and what runs after it: what was loaded is what the whole file comes to, and what is due
--- then is the script's. One byte more is read than counts: where it comes the file is too long, and else what was read
--- is the whole file. Given bytes add up: within the topology's length no line is due, and those behind it are the
--- script's, so that a fault there leaves what it leaves of the script alone.
+-- A topology that was read, and what runs after it: what was loaded is what the whole file gives, and what is due then
+-- is the script's. One byte more is read than counts: if it comes, the file is too long; else what was read is the
+-- whole file. Given bytes add up: within the topology's length no line is due, and the bytes after it are the script's,
+-- so a fault there leaves what it leaves of the script alone.
 use Rattle.std.proofs.Common.{◌≡◌, ◌≢◌, ◌≤◌, ◌<◌, ◌+◌, ◌-◌, ℕ, [], length, length-take, take, true, false, Bool, Option}
 use Rattle.std.proofs.Common.{Some, None, Result, Ok, Err, refl, sym, ap, inr, subst, ◌∙◌, arith, option_map}
 use Rattle.std.specs.Prelude.{IfErr, IfOk, nat_lt}
@@ -22,35 +22,35 @@ use Rattle.line_runs.proofs.WholeFiles.{IsDue, SameDue, gained_nothing, stopped}
 use Rattle.ide_cli.specs.declared.topologies.Loaded.{Loaded}
 use Rattle.ide_cli.specs.SoFar.{WroteBy, WroteByIn, WroteByOf, loaded_so_far, run_so_far, script_given, script_so_far}
 use Rattle.ide_cli.specs.declared.topologies.Loaded.TheVariants.{Sound, Faulty, Long}
-use Rattle.ide_cli.specs.Loading.{GaveAllOf, Loads, LoadedIn, LoadedOf, LoadCut, topology_limit, within}
+use Rattle.ide_cli.specs.Loading.{GaveAllOf, Loads, LoadedIn, LoadedOf, LoadCut, topology_limit, loaded_within}
 use Rattle.ide_cli.specs.Topologies.{loaded}
 use Rattle.ide_cli.specs.Meaning.{run_due}
 use Rattle.ide_cli.specs.Reads.{GaveAtMost, RanPast}
 use Rattle.ide_cli.specs.Script.{script_due}
 
--- one byte more than those that count tells what the whole file comes to
+-- one byte more than those that count tells what the whole file gives
 same_loaded : {L : Type 0} (long : L) (by : Text → L) (whole : Text) (b : Bool) → nat_lt topology_limit (length whole)
-    ≡ b → within long by (take 1048577 whole) ≡ within long by whole
+    ≡ b → loaded_within long by (take 1048577 whole) ≡ loaded_within long by whole
 same_loaded long by whole true over =
     let longer : nat_lt topology_limit (length (take 1048577 whole))
     ≡ true = let n = length-take-le 1048577 whole (grind (arith, nat_tests)) in grind (arith, nat_tests) in
     rw (over, longer) refl
-same_loaded long by whole false over = ap (within long by) (take_all 1048577 whole (grind (arith, nat_tests)))
+same_loaded long by whole false over = ap (loaded_within long by) (take_all 1048577 whole (grind (arith, nat_tests)))
 
 front_in : {L : Type 0} (long : L) (by : Text → L) (file : Option Text) (read : Text) (l : L)
-    → FrontIn 1048577 file read → l ≡ within long by read → LoadedIn (within long by) file l
+    → FrontIn 1048577 file read → l ≡ loaded_within long by read → LoadedIn (loaded_within long by) file l
 front_in long by None read l is e = absurd is
-front_in long by (Some whole) read l is e = e ∙ ap (within long by) is ∙ same_loaded long by whole
+front_in long by (Some whole) read l is e = e ∙ ap (loaded_within long by) is ∙ same_loaded long by whole
     (nat_lt topology_limit (length whole)) refl
 
 front_of : {L : Type 0} (long : L) (by : Text → L) (told : Option Contents) (name read : Text) (l : L)
-    → FrontOf told name 1048577 read → l ≡ within long by read → LoadedOf (within long by) told name l
+    → FrontOf told name 1048577 read → l ≡ loaded_within long by read → LoadedOf (loaded_within long by) told name l
 front_of long by None name read l is e = tt
 front_of long by (Some contents) name read l is e = front_in long by (contents name) read l is e
 
 pub loads_front : {L : Type 0} (long : L) (by : Text → L) (told : Option Contents) (name read : Text)
-    (r : Result L Fault) → FrontOf told name 1048577 read → IfOk r (λ l. l ≡ within long by read)
-    → Loads (within long by) told name r
+    (r : Result L Fault) → FrontOf told name 1048577 read → IfOk r (λ l. l ≡ loaded_within long by read)
+    → Loads (loaded_within long by) told name r
 loads_front long by told name read (Ok l) is e = front_of long by told name read l is e
 loads_front long by told name read (Err f) is e = tt
 
@@ -93,7 +93,7 @@ checked_whole long l (Ok e) before now few short = λ is. most_given before 1048
     (few (short (done_is_short e is)))
 checked_whole long l (Err f) before now few short = short
 
--- nor has a script that is run to its end, behind such a topology
+-- nor has a script that is run to its end, after such a topology
 pub ran_whole : (r : Result End Fault) (a b c : ℕ) → GaveAtMost a 1048576 b → IfOk r (λ e. e ≡ Done → c ≤ b + 16777216)
     → IfOk r (λ e. e ≡ Done → c ≤ a + 17825792)
 ran_whole (Ok e) a b c few more = λ is. let behind : c ≤ b + 16777216 = more is in omega
@@ -146,7 +146,7 @@ pub run_after : (told : Option Contents) (topology script : Text) (plan : Plan)
 run_after None topology script plan is = tt
 run_after (Some contents) topology script plan is = run_in (contents topology) (contents script) plan is
 
--- what runs once a shelf was read that kept its contents and its count of faults
+-- what runs after a shelf was read, which kept its contents and its count of faults
 pub later : (told now : Option Contents) (due : Contents → Option Due) (before after end o0 o1 : ℕ)
     (gained : Text → Type 0) (r : Result End Fault) → now ≡ told → after ≡ before
     → EndsOn now due (Rose after end) (Rose o0 o1) (Quiet after end o0 o1) gained r
@@ -157,7 +157,7 @@ later told now due before after end o0 o1 gained r same quiet ran =
     let Q : ℕ → Type 0 = λ n. EndsOn now due (Rose n end) (Rose o0 o1) (Quiet n end o0 o1) gained r in
     subst P same (subst Q quiet ran)
 
--- ---- where a read fails
+-- ---- if a read fails
 
 gave_all_in : (file : Option Text) (read : Text) (before now : ℕ) → FrontIn 1048577 file read → length read ≤ 1048576
     → Gave before (length read) now → Gave before (length (bytes_of file)) now
@@ -199,7 +199,7 @@ gained_none fault.Memory h = ([], gained_nothing h)
 some_gained : (h0 h1 : Option Text) (last : Text) → SomeFront (Gained h0 h1) last → GainedMore h0 h1 []
 some_gained h0 h1 last (front, is, gained) = (front, gained)
 
--- bytes were given of which no line is due
+-- bytes were given for which no line is due
 abbrev NoLineIn : (text lines : ℕ → Text) → ℕ → ℕ → Type 0
 NoLineIn text lines before now = (n : ℕ) × (text n ≡ []) × (lines n ≡ []) × Gave before n now
 
@@ -215,7 +215,7 @@ no_line_in_file text lines None name before now none gave = tt
 no_line_in_file text lines (Some contents) name before now none (n, le, gave) =
     (n, (none contents n le).0, (none contents n le).1, gave)
 
--- ahead of the first byte
+-- before the first byte
 pub no_line_at_first : (text lines : Contents → ℕ → Text) (told : Option Contents) (given : ℕ)
     → ((contents : Contents) → (text contents 0 ≡ []) × (lines contents 0 ≡ [])) → NoLineOf text lines told given given
 no_line_at_first text lines None given none = tt
@@ -336,7 +336,7 @@ ended_by text name s0 s1 o0 o1 (Err e) wrote = by_told s0.contents wrote
       gained = wrote.gained;
     }
 
--- of the script behind a topology that was wholly read
+-- of the script after a topology that was wholly read
 run_ended_in : (e : Fault) (topology script : Option Text) (plan : Plan) (s0 s1 s2 : ShelfSeen) (o0 o1 : SinkSeen)
     → LoadedIn loaded topology (Sound plan) → Gave s0.given (length (bytes_of topology)) s1.given
     → WroteEndedIn e (script_so_far plan) (bytes_of script) s1 s2 o0 o1

@@ -1,4 +1,4 @@
--- A topology that is migrated: what its front comes to is what the whole file comes to.
+-- A topology that is migrated: its first bytes give what the whole file gives.
 use Rattle.std.proofs.Common.{◌≡◌, ◌≢◌, ◌≤◌, ◌+◌, ◌⊎◌, ℕ, [], length, take, true, false, Bool, Option, Some, None}
 use Rattle.std.proofs.Common.{Result, Ok, Err, refl, ap, inr, subst, ◌∙◌, arith, option_map}
 use Rattle.std.specs.Prelude.{IfOk, nat_lt, if◌then◌else◌}
@@ -35,7 +35,7 @@ writes_nothing front o = record {
 
 -- ---- the whole file
 
--- a file that is sound is no longer than counts, so that its front is the whole
+-- a sound file is no longer than counts, so its first bytes are the whole
 whole_sound : (bytes : Text) (plan : Plan) (b : Bool) → nat_lt topology_limit (length bytes) ≡ b
     → (if b then Long else by_plan (plan_of bytes)) ≡ Sound plan → take 1048577 bytes ≡ bytes
 whole_sound bytes plan true over is = absurd (sound_long plan is)

@@ -1,7 +1,6 @@
 -- Running the lines of a script from a past on gives the end and the text that are due: line by line, both take the
--- same
--- verdict, the one that is due, and write the same line. The world follows that past, since each of its steps comes to
--- the verdict that is due.
+-- same verdict, the one that is due, and write the same line. The world follows that past, since each of its steps
+-- gives the verdict that is due.
 use Rattle.std.proofs.Common.{◌≡◌, ℕ, ◌+◌, ◌==◌, Bool, true, false, List, [], ◌∷◌, length, Option, Some, None, Result}
 use Rattle.std.proofs.Common.{Ok, Err, refl, sym, ap, ◌∙◌, subst, arith, append_assoc}
 use Rattle.std.specs.Prelude.{nat_lt, sum_by}
@@ -15,14 +14,15 @@ use Rattle.link_events.specs.Parse.{line_meaning}
 use Rattle.link_verdicts.specs.Lines.{line_of}
 use Rattle.key_laws.specs.History.{History}
 use Rattle.link_history.specs.Due.{due}
-use Rattle.link_texts.specs.Runs.{history_with, history_on, text_on, totals_of, sealed_in, accepted_in, failed_in}
-use Rattle.link_texts.specs.Runs.{blocked_in}
-use Rattle.world_states.specs.Worlds.{WorldView, Stands, IsNew, IsStep}
+use Rattle.text_laws.specs.Runs.{history_with, history_on, text_on, totals_of, sealed_count, accepted_in, failed_in}
+use Rattle.text_laws.specs.Runs.{blocked_in}
+use Rattle.world_states.specs.Worlds.{WorldView, Stands, IsNewWorld, IsStep}
 use Rattle.line_runs.specs.Gain.{Text}
 use Rattle.line_runs.specs.Outcome.{Due}
-use Rattle.text_lines.specs.Pieces.{pieces}
+use Rattle.line_runs.specs.Pieces.{pieces}
 use Rattle.line_runs.specs.Lines.{after, cut_text, file_due, go_on, is_over, process, unended}
-use Rattle.ide_cli.specs.Script.{Script, AtEnd, stops, with_line, unended_line, script_in, end_at, last_line, due_after}
+use Rattle.ide_cli.specs.Script.{Script, AtEnd, stops, with_line, unended_line, script_in, end_of_stop, last_line}
+use Rattle.ide_cli.specs.Script.{due_after}
 use Rattle.ide_cli.specs.Script.{script_due}
 use Rattle.line_runs.specs.Gathering.{GoesOn, ended_text}
 use Rattle.ide_cli.specs.Reads.{ScriptGoesOn}
@@ -49,13 +49,13 @@ totals_more : (t : Totals) (h : History) (e : Event) (v : Verdict) → t ≡ tot
 unfolding totals
 totals_more t h e v is =
     ap (λ (u : Totals). totals_with u v) is
-    ∙ same_totals _ _ _ _ _ _ _ _ (one_more (λ x. sealed_in x.1) (e, v) h) (one_more (λ x. accepted_in x.1) (e, v) h)
+    ∙ same_totals _ _ _ _ _ _ _ _ (one_more (λ x. sealed_count x.1) (e, v) h) (one_more (λ x. accepted_in x.1) (e, v) h)
     (one_more (λ x. failed_in x.1) (e, v) h) (one_more (λ x. blocked_in x.1) (e, v) h)
 
 running : WorldView → Totals → RunningView
 running world totals = record { world = world; totals = totals }
 
--- a step that comes to the due verdict
+-- a step that gives the due verdict
 event_due : (past : ScriptPast) (t : Totals) (e : Event) (old new : WorldView) (v : Verdict)
     → Follows (running old t) past → IsStep old e v new → v ≡ due past.plan past.history e
     → VerdictCame past e (running new (totals_with t v)) v
@@ -93,7 +93,7 @@ event_comes past e r v n text came same line =
     }
 
 -- the first world follows no events
-pub follows_nothing : (plan : Plan) (world : WorldView) → IsNew plan world
+pub follows_nothing : (plan : Plan) (world : WorldView) → IsNewWorld plan world
     → Follows (record { world = world; totals = record { sealed = 0; accepted = 0; failed = 0; blocked = 0 } })
     (record { plan = plan; history = [] })
 follows_nothing plan world new = record {
@@ -108,7 +108,7 @@ follows_nothing plan world new = record {
 past_of : Plan → History → ScriptPast
 past_of plan h = record { plan = plan; history = h }
 
--- a line ahead of what comes later
+-- a line before what comes later
 one_line : (plan : Plan) (n : ℕ) (h : History) (m : Result (Option Event) LineFault)
     (later : ScriptPast → Due) (script : Script)
     → ((g : History) → later (past_of plan g) ≡ due_after plan g script)
@@ -119,7 +119,7 @@ one_line plan n h (Ok None) later script rest = rest h
 one_line plan n h (Ok (Some e)) later script rest =
     let g = history_with plan h e in
     let text = line_of (length h + 1) (due plan h e) in
-    ap (after text) (rest g) ∙ ap (λ (t : Text). (end_at script.stop, t))
+    ap (after text) (rest g) ∙ ap (λ (t : Text). (end_of_stop script.stop, t))
     (sym (append_assoc text (text_on plan g script.events)
     (last_line script.stop (history_on plan g script.events))))
 
@@ -136,7 +136,7 @@ unfolding past_of
 last_piece plan true n h piece b is = unended_is plan n piece h (nat_lt 20000 (length piece)) refl
 last_piece plan false n h piece true is = rw is refl
 last_piece plan false n h piece false is =
-    rw is (one_line plan n h (line_meaning piece) (λ t. (end_at AtEnd, closing_line t)) (stops AtEnd) (λ g. refl))
+    rw is (one_line plan n h (line_meaning piece) (λ t. (end_of_stop AtEnd, closing_line t)) (stops AtEnd) (λ g. refl))
 
 script_runs : (plan : Plan) (over : Bool) (n : ℕ) (h : History) (pieces : List Text)
     → process ran_line closing_line over n (past_of plan h) pieces ≡ due_after plan h (script_in over n pieces)
@@ -159,7 +159,7 @@ pub ended_runs : (plan : Plan) (bytes : Text)
 unfolding past_of
 ended_runs plan bytes = ap (λ (d : Due). d.1) (script_runs plan true 1 [] (pieces bytes))
 
--- where no line ends the run of those bytes, none ends the script
+-- if no line ends the run of those bytes, none ends the script
 pub script_goes_on : (plan : Plan) (bytes : Text)
     → GoesOn ran_line closing_line (record { plan = plan; history = [] }) bytes → ScriptGoesOn plan bytes
 unfolding past_of

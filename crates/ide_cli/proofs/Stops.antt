@@ -1,21 +1,22 @@
--- What was written where a fault ends a run, by the words.
-use Rattle.std.proofs.Common.{◌≡◌, [], Option, Some, None, Result, refl, sym, subst, arith}
+-- What was written if a fault ends a run, by the words.
+use Rattle.std.proofs.Common.{◌≡◌, [], Option, Some, None, refl, sym, subst, arith}
 use Rattle.std.specs.Prelude.{IfErr}
-use Rattle.ide_base.specs.Outside.{Contents, ShelfSeen, SinkSeen}
-use Rattle.ide_words.specs.Words.{Asked, run, check, migrate, show, generate}
-use Rattle.line_runs.specs.declared.ends.End.{End}
-use Rattle.line_runs.specs.declared.ends.Fault.{Fault}
-use Rattle.ide_cli.specs.SoFar.{WroteBy, asked_so_far, lines_given}
-use Rattle.ide_cli.proofs.Loads.{none_so_far}
+use Rattle.ide_base.specs.Outside.{Contents, ShelfSeen}
+use Rattle.ide_words.specs.Words.{Asked, run, check, migrate, show, generate, asked}
+use Rattle.line_runs.specs.Outcome.{Due, Ran}
+use Rattle.ide_cli.specs.Seen.{CallSeen}
+use Rattle.ide_cli.specs.SoFar.{WroteBy, WroteSoFar, asked_so_far, lines_given}
+use Rattle.ide_cli.proofs.Loads.{NoLineOf, no_line_at_first, no_line_wrote, none_so_far}
 
-pub asked_wrote : (a : Option Asked) (b : Asked) (s0 s1 : ShelfSeen) (o0 o1 : SinkSeen) (r : Result End Fault) → a
-    ≡ Some b → IfErr r (λ e. WroteBy e (asked_so_far (Some b)) (lines_given (Some b)) s0 s1 o0 o1)
-    → IfErr r (λ e. WroteBy e (asked_so_far a) (lines_given a) s0 s1 o0 o1)
-asked_wrote a b s0 s1 o0 o1 r is wrote = subst
-    (λ (o : Option Asked). IfErr r (λ e. WroteBy e (asked_so_far o) (lines_given o) s0 s1 o0 o1)) (sym is) wrote
+pub asked_wrote : (call : CallSeen) (a : Asked) → asked call.words ≡ Some a
+    → IfErr call.outcome (λ e. WroteBy e (asked_so_far (Some a)) (lines_given (Some a)) call.shelf_before
+    call.shelf_after call.sink_before call.sink_after) → WroteSoFar call
+asked_wrote call a is wrote = subst
+    (λ (o : Option Asked). IfErr call.outcome (λ e. WroteBy e (asked_so_far o) (lines_given o) call.shelf_before
+    call.shelf_after call.sink_before call.sink_after)) (sym is) wrote
 
--- ahead of the first byte no line is due
-pub none_at_first : (a : Option Asked) (contents : Contents) → (asked_so_far a contents 0 ≡ [])
+-- before the first byte no line is due
+none_at_first : (a : Option Asked) (contents : Contents) → (asked_so_far a contents 0 ≡ [])
     × (lines_given a contents 0 ≡ [])
 none_at_first None contents = (refl, refl)
 none_at_first (Some (run topology script)) contents = none_so_far (contents topology) (contents script) 0 (omega arith)
@@ -23,3 +24,16 @@ none_at_first (Some (check topology)) contents = (refl, refl)
 none_at_first (Some (migrate topology)) contents = (refl, refl)
 none_at_first (Some (show packets)) contents = (refl, refl)
 none_at_first (Some (generate seed count)) contents = (refl, refl)
+
+-- nothing was read, and the text of no line was written
+pub wrote_no_line : (call : CallSeen) (last : Due) → call.shelf_after ≡ call.shelf_before
+    → Ran last call.sink_before call.sink_after call.outcome → WroteSoFar call
+wrote_no_line call last same ran =
+    let a = asked call.words in
+    let P : ShelfSeen → Type 0 = λ s. NoLineOf (asked_so_far a) (lines_given a) call.shelf_before.contents
+    call.shelf_before.given s.given in
+    no_line_wrote (asked_so_far a) (lines_given a) last call.shelf_before call.shelf_after call.sink_before
+    call.sink_after call.outcome
+    (subst P (sym same)
+    (no_line_at_first (asked_so_far a) (lines_given a) call.shelf_before.contents call.shelf_before.given
+    (none_at_first a))) ran

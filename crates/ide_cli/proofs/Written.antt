@@ -1,9 +1,9 @@
 -- Each verdict of a history that is written, or of generated events, is the one that is due.
 use Rattle.std.proofs.Common.{◌≡◌, ◌≤◌, List, [], ◌++◌, length, length-append, Option, Some, Result, Ok, Err}
-use Rattle.std.proofs.Common.{option_map, refl, sym, ap, subst, ◌∙◌, ◌⊎◌, ℕ, ◌+◌, ◌∷◌, inl, inr, arith, append_assoc}
+use Rattle.std.proofs.Common.{option_map, refl, sym, ap, subst, ◌∙◌, ℕ, ◌+◌, ◌∷◌, inl, inr, arith, append_assoc}
 use Rattle.std.specs.Prelude.{IfOk}
 use Rattle.std.proofs.lemmas.List.{append-nil, append_cancel_left}
-use Rattle.ide_base.specs.Outside.{Contents, ShelfSeen, SinkSeen}
+use Rattle.ide_base.specs.Outside.{Contents}
 use Rattle.ide_plan.specs.declared.plan.Plan.{Plan}
 use Rattle.ide_plan.specs.Fits.{FitsPlan}
 use Rattle.ide_words.specs.Words.{asked}
@@ -15,8 +15,8 @@ use Rattle.generated_events.proofs.PlanFits.{the_plan_fits}
 use Rattle.link_events.specs.declared.event.Event.{Event}
 use Rattle.key_laws.specs.History.{History}
 use Rattle.link_history.specs.Cause.{CauseLaw}
-use Rattle.link_texts.specs.Runs.{history_on, history_with, text_on}
-use Rattle.link_texts.specs.Telling.{events_told, lines_told, AreAllowed}
+use Rattle.text_laws.specs.Runs.{history_on, history_with, text_on}
+use Rattle.text_laws.specs.Telling.{events_told, lines_told, AreAllowed}
 use Rattle.text_laws.specs.Statements.{LinesTell, AreTold}
 use Rattle.text_laws.proofs.Reading.{length-events}
 use Rattle.line_runs.specs.Gain.{Text, IsFront, Gained}
@@ -25,13 +25,14 @@ use Rattle.line_runs.specs.declared.ends.End.{End}
 use Rattle.line_runs.specs.declared.ends.Fault.{Fault}
 use Rattle.line_runs.specs.declared.ends.Fault.TheVariants as fault
 use Rattle.ide_cli.specs.Script.{Script, last_line, due_after}
-use Rattle.ide_cli.specs.Generated.{WentOver, generated_history, generated_line}
-use Rattle.ide_cli.specs.Meaning.{Answered, RanGenerated, asked_due}
-use Rattle.ide_cli.specs.Headline.{AllCounted, AllWritten, AsksFor, Written}
+use Rattle.ide_cli.specs.Generated.{WentOver, generated_due, generated_history, generated_line}
+use Rattle.ide_cli.specs.Meaning.{Answered, RanGenerated, command_due}
+use Rattle.ide_cli.specs.Headline.{AllCounted, AllWritten, AsksFor, InEvery, Written}
+use Rattle.ide_cli.specs.Seen.{CallSeen}
 use Rattle.ide_cli.proofs.Events.{events_allowed}
 use Rattle.ide_cli.proofs.Plans.{loaded_fits}
 
--- ---- what was gained is a front of the text that is due
+-- ---- what was gained is a prefix of the text that is due
 
 front_of_front : (a b c : Text) → IsFront a b → IsFront b c → IsFront a c
 front_of_front a b c one two =
@@ -66,29 +67,27 @@ gained_front due read write quiet before now held gained (Err fault.Memory) one 
 
 -- ---- the run that the words ask for
 
-due_is : (migrated : Text) (told : Option Contents) (words : List Text) (plan : Plan) (script : Script)
-    (a : AsksFor told words plan script) → asked_due migrated (asked words) a.contents ≡ Some (due_after plan [] script)
-due_is migrated told words plan script a = rw (a.asks, a.topology_is, a.plan_is, a.script_is, a.read) refl
+due_is : (migrated : Text) (call : CallSeen) (plan : Plan) (script : Script) (a : AsksFor call plan script)
+    → command_due migrated (asked call.words) a.contents ≡ Some (due_after plan [] script)
+due_is migrated call plan script a = rw (a.asks, a.topology_is, a.plan_is, a.script_is, a.read) refl
 
-ran_script : (migrated : Text) (told : Option Contents) (words : List Text) (read write quiet : Type 0)
-    (gained : Text → Type 0) (r : Result End Fault)
-    → EndsOn told (asked_due migrated (asked words)) read write quiet gained r → (plan : Plan) (script : Script)
-    → AsksFor told words plan script
+ran_script : (migrated : Text) (call : CallSeen) (read write quiet : Type 0) (gained : Text → Type 0)
+    (r : Result End Fault)
+    → EndsOn call.shelf_before.contents (command_due migrated (asked call.words)) read write quiet gained r
+    → (plan : Plan) (script : Script) → AsksFor call plan script
     → EndsBy (due_after plan [] script) read write quiet gained r
-ran_script migrated told words read write quiet gained r ran plan script a =
-    let due = asked_due migrated (asked words) in
+ran_script migrated call read write quiet gained r ran plan script a =
+    let due = command_due migrated (asked call.words) in
     let ran_there : EndsDue (due a.contents) read write quiet gained r = subst
     (λ (t : Option Contents). EndsOn t due read write quiet gained r) a.are_told ran in
-    subst (λ (d : Option Due). EndsDue d read write quiet gained r) (due_is migrated told words plan script a) ran_there
+    subst (λ (d : Option Due). EndsDue d read write quiet gained r) (due_is migrated call plan script a) ran_there
 
-plan_fits : (told : Option Contents) (words : List Text) (plan : Plan) (script : Script)
-    → AsksFor told words plan script → FitsPlan plan
-plan_fits told words plan script a = loaded_fits a.topology plan a.plan_is
+plan_fits : (call : CallSeen) (plan : Plan) (script : Script) → AsksFor call plan script → FitsPlan plan
+plan_fits call plan script a = loaded_fits a.topology plan a.plan_is
 
-script_allowed : (told : Option Contents) (words : List Text) (plan : Plan) (script : Script)
-    → AsksFor told words plan script → AreAllowed script.events
-script_allowed told words plan script a = subst (λ (t : Script). AreAllowed t.events) (sym a.read)
-    (events_allowed a.bytes)
+script_allowed : (call : CallSeen) (plan : Plan) (script : Script) → AsksFor call plan script
+    → AreAllowed script.events
+script_allowed call plan script a = subst (λ (t : Script). AreAllowed t.events) (sym a.read) (events_allowed a.bytes)
 
 -- ---- the verdicts
 
@@ -103,18 +102,18 @@ few_written : (h : History) (later : List Event) (script : Script) → events_to
 few_written h later script same allowed = omega
     (arith, length-events h, length-append (events_told h) later, ap length same, allowed.few)
 
-written_is_due : LinesTell → (words : List Text) (shelf shelf_now : ShelfSeen) (sink sink_now : SinkSeen)
-    (r : Result End Fault) → Answered words shelf shelf_now sink sink_now r
-    → (plan : Plan) (h : History) → Written shelf words sink sink_now plan h → IsDue plan h
-written_is_due tell words shelf shelf_now sink sink_now r answered plan h w =
+written_is_due : LinesTell → (call : CallSeen) → Answered call → (plan : Plan) (h : History) → Written call plan h
+    → IsDue plan h
+written_is_due tell call answered plan h w =
     let script = w.script in
     let due = due_after plan [] script in
     let last = last_line script.stop (history_on plan [] script.events) in
-    let allowed = script_allowed shelf.contents words plan script w.asks_for in
-    let fits = plan_fits shelf.contents words plan script w.asks_for in
-    let gained = gained_front due _ _ _ sink.held sink_now.held w.held w.gained r w.held_before w.holds_now
-    (ran_script answered.migrated shelf.contents words _ _ _ (Gained sink.held sink_now.held) r answered.ran plan script
-    w.asks_for) in
+    let allowed = script_allowed call plan script w.asks_for in
+    let fits = plan_fits call plan script w.asks_for in
+    let gained = gained_front due _ _ _ call.sink_before.held call.sink_after.held w.held w.gained call.outcome
+    w.held_before w.holds_now
+    (ran_script answered.migrated call _ _ _ (Gained call.sink_before.held call.sink_after.held) call.outcome
+    answered.ran plan script w.asks_for) in
     let front = front_of_front (lines_told h) w.gained due.1 w.lines gained in
     let text : lines_told h ++ front.0 ≡ text_on plan [] (events_told h ++ w.later)
     ++ last = front.1 ∙ ap (λ (es : List Event). text_on plan [] es ++ last) (sym w.events_are) in
@@ -146,35 +145,35 @@ generated_is_due seed count few = record {
   few = few_generated seed count few;
 }
 
-went_is_due : (words : List Text) (sink sink_now : SinkSeen) (plan : Plan) (h : History)
-    → WentOver words sink sink_now plan h → IsDue plan h
-went_is_due words sink sink_now plan h w =
-    let is = generated_is_due w.seed w.count (few_rounds words w.seed w.count w.asks).1 in
+went_is_due : (call : CallSeen) (plan : Plan) (h : History) → WentOver call plan h → IsDue plan h
+went_is_due call plan h w =
+    let is = generated_is_due w.seed w.count (few_rounds call.words w.seed w.count w.asks).1 in
     subst (λ (p : Plan). IsDue p h) (sym w.plan_is) (subst (IsDue the_plan) (sym w.history_is) is)
 
 -- ---- either
 
-pub history_is_due : LinesTell → (words : List Text) (shelf shelf_now : ShelfSeen) (sink sink_now : SinkSeen)
-    (r : Result End Fault) → Answered words shelf shelf_now sink sink_now r
-    → (plan : Plan) (h : History) → Written shelf words sink sink_now plan h ⊎ WentOver words sink sink_now plan h
-    → IsDue plan h
-history_is_due tell words shelf shelf_now sink sink_now r answered plan h (inl w) = written_is_due tell words shelf
-    shelf_now sink sink_now r answered plan h w
-history_is_due tell words shelf shelf_now sink sink_now r answered plan h (inr w) = went_is_due words sink sink_now plan
-    h w
+pub history_is_due : LinesTell → (call : CallSeen) → Answered call → InEvery IsDue call
+history_is_due tell call answered plan h (inl w) = written_is_due tell call answered plan h w
+history_is_due tell call answered plan h (inr w) = went_is_due call plan h w
 
--- ---- a run that comes to an end of its own
+-- ---- a run that ends by itself
 
-pub all_written : AreTold → (words : List Text) (shelf shelf_now : ShelfSeen) (sink sink_now : SinkSeen)
-    (r : Result End Fault) → Answered words shelf shelf_now sink sink_now r
-    → IfOk r (λ e. AllWritten shelf words sink sink_now)
-all_written are_told words shelf shelf_now sink sink_now (Err f) answered = tt
-all_written are_told words shelf shelf_now sink sink_now (Ok e) answered = λ plan script held asks held_before.
-    let is = are_told plan (plan_fits shelf.contents words plan script asks) script.events
-    (script_allowed shelf.contents words plan script asks) in
+at_end : {P : Type 0} (r : Result End Fault) → ((e : End) → r ≡ Ok e → P) → IfOk r (λ e. P)
+at_end (Ok e) holds = holds e refl
+at_end (Err f) holds = tt
+
+whole_gain : (due : Due) (read write quiet : Type 0) (gained : Text → Type 0) (r : Result End Fault) (e : End)
+    → r ≡ Ok e → EndsBy due read write quiet gained r → gained due.1
+whole_gain due read write quiet gained r e is ran =
+    (subst (λ (x : Result End Fault). EndsBy due read write quiet gained x) is ran).1
+
+pub all_written : AreTold → (call : CallSeen) → Answered call → AllWritten call
+all_written are_told call answered = at_end call.outcome (λ e ended plan script held asks held_before.
+    let is = are_told plan (plan_fits call plan script asks) script.events (script_allowed call plan script asks) in
     let due = due_after plan [] script in
-    let whole = (ran_script answered.migrated shelf.contents words _ _ _ (Gained sink.held sink_now.held) (Ok e)
-    answered.ran plan script asks).1 in
+    let whole = whole_gain due _ _ _ (Gained call.sink_before.held call.sink_after.held) call.outcome e ended
+    (ran_script answered.migrated call _ _ _ (Gained call.sink_before.held call.sink_after.held) call.outcome
+    answered.ran plan script asks) in
     let h = history_on plan [] script.events in
     let last = last_line script.stop h in
     record {
@@ -188,14 +187,13 @@ all_written are_told words shelf shelf_now sink sink_now (Ok e) answered = λ pl
       gained = due.1;
       holds_now = whole ∙ ap (option_map (λ (t : Text). t ++ due.1)) held_before;
       lines = (last, ap (λ (t : Text). t ++ last) is.lines_are);
-    }
+    })
 
-pub all_counted : (words : List Text) (sink sink_now : SinkSeen) (r : Result End Fault)
-    → RanGenerated words sink sink_now r → IfOk r (λ e. AllCounted words sink sink_now)
-all_counted words sink sink_now (Err f) ran = tt
-all_counted words sink sink_now (Ok e) ran = λ seed count held asks held_before.
+pub all_counted : (call : CallSeen) → RanGenerated call → AllCounted call
+all_counted call ran = at_end call.outcome (λ e ended seed count held asks held_before.
     let line = generated_line (generated_history seed count) in
-    let whole = (ran seed count asks).1 in
+    let whole = whole_gain (generated_due seed count) _ _ _ (Gained call.sink_before.held call.sink_after.held)
+    call.outcome e ended (ran seed count asks) in
     record {
       seed = seed;
       count = count;
@@ -205,4 +203,4 @@ all_counted words sink sink_now (Ok e) ran = λ seed count held asks held_before
       held = held;
       held_before = held_before;
       holds_now = whole ∙ ap (option_map (λ (t : Text). t ++ line)) held_before;
-    }
+    })

@@ -1,4 +1,5 @@
 pub mod Codes
+pub mod Seen
 pub mod Loading
 pub mod Topologies
 pub mod Script

@@ -1,4 +1,4 @@
--- Lines that are too long come to nothing, and what is written for a line is whole lines.
+-- Lines that are too long give nothing, and what is written for a line is whole lines.
 use Rattle.std.specs.Prelude.{ℕ, ◌≡◌, nat_lt, true, List, [], ◌∷◌, ◌++◌, length, Option, Some, None, Result, Ok, Err}
 use Rattle.std.specs.Prelude.{IfOk, refl}
 use Rattle.std.proofs.Common.{inl, inr, ap, ◌∙◌, sym, append_assoc}

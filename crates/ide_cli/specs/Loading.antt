@@ -10,11 +10,11 @@ use Rattle.line_runs.specs.Gain.{Text}
 abbrev pub topology_limit : ℕ
 topology_limit = 1048576
 
--- what the bytes come to, where they are no more than count
-abbrev pub within : {L : Type 0} → L → (Text → L) → Text → L
-within long by bytes = if nat_lt topology_limit (length bytes) then long else by bytes
+-- what the bytes give, if they are no more than count
+abbrev pub loaded_within : {L : Type 0} → L → (Text → L) → Text → L
+loaded_within long by bytes = if nat_lt topology_limit (length bytes) then long else by bytes
 
--- where the contents are told, what was loaded is what the file comes to
+-- if the contents are told, what was loaded is what the file gives
 abbrev pub LoadedIn : {L : Type 0} → (Text → L) → Option Text → L → Type 0
 LoadedIn by None l = ⊥
 LoadedIn by (Some bytes) l = l ≡ by bytes
@@ -37,7 +37,7 @@ abbrev pub LoadCause : {L : Type 0} → ℕ → ℕ → Option Contents → Text
 LoadCause before now told name (Ok l) = now ≡ before
 LoadCause before now told name (Err e) = LoadCut before now told name e
 
--- where the contents are told, as many bytes were given as the file has
+-- if the contents are told, as many bytes were given as the file has
 abbrev pub GaveAllOf : Option Contents → Text → ℕ → ℕ → Type 0
 GaveAllOf None name before now = Unit {0}
 GaveAllOf (Some contents) name before now = Gave before (length (bytes_of (contents name))) now

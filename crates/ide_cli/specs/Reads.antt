@@ -1,18 +1,19 @@
 -- How much of the files is read.
-use Rattle.std.specs.Prelude.{ℕ, ◌+◌, ◌-◌, ◌≤◌, ◌≡◌, ◌⊎◌, true, [], length, Option, Some, None}
+use Rattle.std.specs.Prelude.{ℕ, ◌+◌, ◌-◌, ◌≤◌, ◌≡◌, ◌⊎◌, true, [], length, Option, Some, None, IfOk}
 use Rattle.ide_base.specs.Outside.{Contents}
-use Rattle.ide_words.specs.Words.{Asked, run, check, migrate, show, generate}
+use Rattle.ide_words.specs.Words.{Asked, run, check, migrate, show, generate, asked}
 use Rattle.ide_plan.specs.declared.plan.Plan.{Plan}
-use Rattle.text_lines.specs.Pieces.{pieces}
+use Rattle.line_runs.specs.Pieces.{pieces}
 use Rattle.line_runs.specs.declared.ends.End.TheVariants as end
 use Rattle.line_runs.specs.Front.{Gave, bytes_of}
 use Rattle.line_runs.specs.Gain.{Text}
-use Rattle.line_runs.specs.Gathering.{GoesOn, NoFurther}
+use Rattle.line_runs.specs.Gathering.{GoesOn, NoFurther, ReadAsFar}
 use Rattle.line_runs.specs.Lines.{file_limit}
 use Rattle.ide_cli.specs.declared.topologies.Loaded.{Loaded}
 use Rattle.ide_cli.specs.declared.topologies.Loaded.TheVariants.{Sound, Faulty, Long}
 use Rattle.ide_cli.specs.Loading.{topology_limit}
 use Rattle.ide_cli.specs.Script.{due_after, script_in}
+use Rattle.ide_cli.specs.Seen.{CallSeen}
 use Rattle.ide_cli.specs.Topologies.{loaded}
 use Rattle.ide_cli.specs.Works.{no_text, shown_line}
 
@@ -52,13 +53,13 @@ ReadPast (Some (migrate topology)) before now = Gave before (topology_limit + 1)
 ReadPast (Some (show packets)) before now = Gave before (file_limit + 1) now
 ReadPast (Some (generate seed count)) before now = ⊥
 
--- ---- how far is read where the run comes to an end: of the bytes that were given, and those ahead of the last read
+-- ---- how far is read if the run ends by itself: of the bytes that were given, and those before the last read
 
--- no line ends the run in these bytes of a script that goes on behind them
+-- no line ends the run in these bytes of a script that goes on after them
 abbrev pub ScriptGoesOn : Plan → Text → Type 0
 ScriptGoesOn plan bytes = (due_after plan [] (script_in true 1 (pieces bytes))).0 ≡ end.TooLong
 
--- bytes past a sound topology are those of the script; of any other topology no more bytes are given than it has
+-- bytes after a sound topology are those of the script; of any other topology no more bytes are given than it has
 abbrev pub LoadedNoFurther : Loaded → (topology script : Text) → (given ahead : ℕ) → Type 0
 LoadedNoFurther (Sound plan) topology script given ahead =
     NoFurther (ScriptGoesOn plan) script (given - length topology) (ahead - length topology)
@@ -80,3 +81,8 @@ AskedNoFurther (Some (migrate topology)) contents given ahead = given ≤ length
 AskedNoFurther (Some (show packets)) contents given ahead =
     NoFurther (GoesOn shown_line no_text tt) (bytes_of (contents packets)) given ahead
 AskedNoFurther (Some (generate seed count)) contents given ahead = given ≡ 0
+
+-- if the call comes to an end of its own, no more was read than what is asked for needs
+abbrev pub ReadNoFurther : CallSeen → Type 0
+ReadNoFurther call =
+    IfOk call.outcome (λ e. ReadAsFar (AskedNoFurther (asked call.words)) call.shelf_before call.shelf_after)

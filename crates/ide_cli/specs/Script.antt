@@ -1,7 +1,7 @@
 -- A script: the events of its lines, and how its reading ends.
 use Rattle.std.specs.Prelude.{ℕ, ◌+◌, ◌==◌, nat_lt, Bool, List, [], ◌∷◌, ◌++◌, length, Option, Some, None, Result, Ok}
 use Rattle.std.specs.Prelude.{Err, if◌then◌else◌}
-use Rattle.text_lines.specs.Pieces.{pieces}
+use Rattle.line_runs.specs.Pieces.{pieces}
 use Rattle.ide_plan.specs.declared.plan.Plan.{Plan}
 use Rattle.link_events.specs.declared.event.Event.{Event}
 use Rattle.link_events.specs.declared.fault.LineFault.{LineFault}
@@ -10,7 +10,7 @@ use Rattle.link_events.specs.Words.{fault_line_of, line_limit}
 use Rattle.link_events.specs.Parse.{line_meaning}
 use Rattle.link_verdicts.specs.Lines.{totals_line_of}
 use Rattle.key_laws.specs.History.{History}
-use Rattle.link_texts.specs.Runs.{history_on, text_on, totals_of}
+use Rattle.text_laws.specs.Runs.{history_on, text_on, totals_of}
 use Rattle.line_runs.specs.declared.ends.End.{End}
 use Rattle.line_runs.specs.declared.ends.End.TheVariants as end
 use Rattle.line_runs.specs.Gain.{Text}
@@ -30,17 +30,17 @@ pub record Script : Type 0 where
 abbrev pub stops : Stop → Script
 stops stop = record { events = []; stop = stop }
 
--- a line of this number ahead of the others: no event, one, or the first that is not spelled
+-- a line of this number, before the others: no event, one, or the first that is not spelled
 abbrev pub with_line : ℕ → Result (Option Event) LineFault → Script → Script
 with_line n (Err fault) later = stops (Refused n fault)
 with_line n (Ok None) later = later
 with_line n (Ok (Some event)) later = record later { events = event ∷ later.events }
 
--- a line that does not end ahead of the limit counts only where it is too long already
+-- a line that does not end before the limit counts only if it is too long already
 abbrev pub unended_line : ℕ → Text → Script
 unended_line n piece = stops (if nat_lt line_limit (length piece) then Refused n line.TooLong else AtLimit)
 
--- what stands between line feeds, numbered from n; the last piece is a line where it has bytes
+-- what stands between line feeds, numbered from n; the last piece is a line if it has bytes
 abbrev pub script_in : Bool → ℕ → List Text → Script
 script_in over n [] = stops AtEnd
 script_in over n (piece ∷ []) =
@@ -53,10 +53,10 @@ script_in over n (piece ∷ next ∷ rest) = with_line n (line_meaning piece) (s
 abbrev pub script_of : Text → Script
 script_of file = script_in (is_over file) 1 (pieces (cut_text file))
 
-abbrev pub end_at : Stop → End
-end_at AtEnd = end.Done
-end_at (Refused n fault) = end.Script
-end_at AtLimit = end.TooLong
+abbrev pub end_of_stop : Stop → End
+end_of_stop AtEnd = end.Done
+end_of_stop (Refused n fault) = end.Script
+end_of_stop AtLimit = end.TooLong
 
 -- the last line: the totals of the history, or the line that was refused
 abbrev pub last_line : Stop → History → Text
@@ -68,7 +68,7 @@ last_line AtLimit h = []
 -- and the last line
 abbrev pub due_after : Plan → History → Script → Due
 due_after plan h script = (
-  end_at script.stop,
+  end_of_stop script.stop,
   text_on plan h script.events ++ last_line script.stop
       (history_on plan h script.events),
 )

@@ -1,4 +1,4 @@
--- What a topology's bytes come to, and what is written for them.
+-- What a topology's bytes give, and what is written for them.
 use Rattle.std.specs.Prelude.{[], ◌++◌, Result, Ok, Err, codes}
 use Rattle.ide_plan.specs.declared.plan.Plan.{Plan}
 use Rattle.ide_plan.specs.Fits.{FitsPlan}
@@ -10,7 +10,7 @@ use Rattle.line_runs.specs.Gain.{Text}
 use Rattle.line_runs.specs.Outcome.{Due}
 use Rattle.ide_cli.specs.declared.topologies.Loaded.{Loaded}
 use Rattle.ide_cli.specs.declared.topologies.Loaded.TheVariants.{Sound, Faulty, Long}
-use Rattle.ide_cli.specs.Loading.{within}
+use Rattle.ide_cli.specs.Loading.{loaded_within}
 
 abbrev pub by_plan : Result Plan PlanFault → Loaded
 by_plan (Ok plan) = Sound plan
@@ -18,25 +18,25 @@ by_plan (Err fault) = Faulty fault
 
 -- a plan, the first fault of the bytes, or too many of them
 abbrev pub loaded : Text → Loaded
-loaded bytes = within Long (λ b. by_plan (plan_of b)) bytes
+loaded bytes = loaded_within Long (λ b. by_plan (plan_of b)) bytes
 
 -- the line of a fault
-abbrev pub refusal : PlanFault → Text
-refusal fault = fault_line fault ++ codes "\n"
+abbrev pub plan_refusal : PlanFault → Text
+plan_refusal fault = fault_line fault ++ codes "\n"
 
 abbrev pub report : Loaded → Due
 report (Sound plan) = (end.Done, codes "ok\n")
-report (Faulty fault) = (end.Topology, refusal fault)
+report (Faulty fault) = (end.Topology, plan_refusal fault)
 report Long = (end.TooLong, [])
 
 -- the end and the text of a topology that is checked
 abbrev pub check_due : Text → Due
 check_due file = report (loaded file)
 
--- the end and the text of a topology that is migrated, where this is the text in version 2
+-- the end and the text of a topology that is migrated, if this is the text in version 2
 abbrev pub migrated_as : Text → Loaded → Due
 migrated_as text (Sound plan) = (end.Done, text)
-migrated_as text (Faulty fault) = (end.Topology, refusal fault)
+migrated_as text (Faulty fault) = (end.Topology, plan_refusal fault)
 migrated_as text Long = (end.TooLong, [])
 
 abbrev pub migrate_due : Text → Text → Due

@@ -1,4 +1,4 @@
--- What a line of a script, and of a packet file, comes to by what is kept.
+-- What a line of a script, and of a packet file, gives by what is kept.
 use Rattle.std.specs.Prelude.{ℕ, ◌≡◌, ◌+◌, ◌*◌, ◌<◌, ◌≤◌, [], length, Option, Some, None, Result, Ok, Err}
 use Rattle.ide_plan.specs.declared.plan.Plan.{Plan}
 use Rattle.link_events.specs.declared.event.Event.{Event}
@@ -11,10 +11,10 @@ use Rattle.link_verdicts.specs.Lines.{line_of}
 use Rattle.link_verdicts.specs.Lines.{totals_line_of}
 use Rattle.key_laws.specs.History.{History}
 use Rattle.link_history.specs.Due.{due}
-use Rattle.link_texts.specs.Runs.{history_with, totals_of, sealed_in, accepted_in, failed_in, blocked_in}
+use Rattle.text_laws.specs.Runs.{history_with, totals_of, sealed_count, accepted_in, failed_in, blocked_in}
 use Rattle.world_states.specs.Worlds.{WorldView, Stands}
 use Rattle.packet_lines.specs.Reading.{packet_meaning}
-use Rattle.packet_lines.specs.Showing.{shown}
+use Rattle.packet_lines.specs.Showing.{line_shown}
 use Rattle.line_runs.specs.Gain.{Text}
 
 -- the world and the totals so far
@@ -25,7 +25,7 @@ pub record RunningView : Type 0 where
 -- the totals with one more verdict
 abbrev pub totals_with : Totals → Verdict → Totals
 totals_with t v = record {
-  sealed = t.sealed + sealed_in v;
+  sealed = t.sealed + sealed_count v;
   accepted = t.accepted + accepted_in v;
   failed = t.failed + failed_in v;
   blocked = t.blocked + blocked_in v;
@@ -58,11 +58,11 @@ by_meaning past (Err fault) = Err fault
 by_meaning past (Ok None) = Ok (past, [])
 by_meaning past (Ok (Some e)) = Ok (ran_event past e)
 
--- what a line comes to
+-- what a line gives
 abbrev pub ran_line : ScriptPast → ℕ → Text → Result (ScriptPast × Text) LineFault
 ran_line past n line = by_meaning past (line_meaning line)
 
--- the text behind the last line
+-- the text after the last line
 abbrev pub closing_line : ScriptPast → Text
 closing_line past = totals_line_of (totals_of past.history)
 
@@ -92,9 +92,9 @@ pub record IsEarly (r : RunningView) (n : ℕ) : Type 0 where
 abbrev pub showing : ℕ → Result (Option Text) LineFault → Result (Unit {0} × Text) LineFault
 showing n (Err fault) = Err fault
 showing n (Ok None) = Ok (tt, [])
-showing n (Ok (Some bytes)) = Ok (tt, shown n bytes)
+showing n (Ok (Some bytes)) = Ok (tt, line_shown n bytes)
 
--- what a line of a packet file comes to
+-- what a line of a packet file gives
 abbrev pub shown_line : Unit {0} → ℕ → Text → Result (Unit {0} × Text) LineFault
 shown_line u n line = showing n (packet_meaning line)
 

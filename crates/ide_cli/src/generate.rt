@@ -7,7 +7,7 @@ ghost use Rattle.generated_events.specs.Events.{generated};
 ghost use Rattle.generated_events.specs.Topology.{the_plan};
 ghost use Rattle.line_runs.specs.Outcome.{Ran};
 ghost use Rattle.link_events.specs.Spells.{IsAllowed};
-ghost use Rattle.link_texts.specs.Runs.{history_on};
+ghost use Rattle.text_laws.specs.Runs.{history_on};
 ghost use Rattle.link_verdicts.specs.Lines.{totals_line_of};
 ghost use Rattle.ide_cli.specs.Generated.{generated_due, generated_history, generated_line};
 ghost use Rattle.ide_cli.specs.Works.{Follows, IsEarly};

@@ -12,6 +12,3 @@ mod topologies;
 
 pub use status::Status;
 pub use top::run;
-
-#[cfg(test)]
-mod tests;

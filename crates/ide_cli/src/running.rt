@@ -2,7 +2,7 @@
 
 ghost use Rattle.std.specs.Prelude.{◌≡◌, ◌<◌, ◌≤◌, ◌+◌, ◌^◌, length, count_by, IfOk, OnOk};
 ghost use Rattle.link_events.specs.Spells.{IsAllowed};
-ghost use Rattle.link_texts.specs.Runs.{is_blocked, sealed_in, accepted_in, failed_in, blocked_in};
+ghost use Rattle.text_laws.specs.Runs.{is_blocked, sealed_count, accepted_in, failed_in, blocked_in};
 ghost use Rattle.ide_cli.specs.Works.{Follows, IsEarly, ScriptPast, VerdictCame, totals_with};
 
 use ide_types::Memory;
@@ -42,7 +42,7 @@ fn with_verdict(totals: Totals, verdict: &Verdict) -> Totals
     requires failed { totals.failed < 2 ^ 32 }
     requires blocked { totals.blocked < 2 ^ 32 }
     ensures totals { result ≡ totals_with totals verdict.now }
-    ensures sealed { sealed_in verdict.now ≤ 8 }
+    ensures sealed { sealed_count verdict.now ≤ 8 }
     ensures accepted { accepted_in verdict.now ≤ 8 }
     ensures failed { failed_in verdict.now ≤ 8 }
     ensures blocked { blocked_in verdict.now ≤ 8 }
@@ -89,7 +89,7 @@ impl Running {
         }
     }
 
-    /// How many events came to a verdict.
+    /// How many events got a verdict.
     pub(crate) fn events(&self) -> u64
         ensures { result ≡ self.now.world.steps }
     {

@@ -1,7 +1,7 @@
 //! The lines of a script, run on the world of a topology.
 
 ghost use Rattle.std.specs.Prelude.{◌≡◌, ◌<◌, ◌+◌, ◌^◌, IfErr, IfOk, OnOk};
-ghost use Rattle.link_events.specs.Parse.{line_meaning, Gives};
+ghost use Rattle.link_events.specs.Parse.{line_meaning, IsLineAnswer};
 ghost use Rattle.link_events.specs.Spells.{IsAllowed};
 ghost use Rattle.ide_cli.specs.LineLaws.{long_event, whole_event};
 ghost use Rattle.ide_cli.specs.Works.{EventCame, Follows, IsEarly, MayAsk, ScriptPast, closing_line, ran_event};
@@ -33,7 +33,7 @@ impl Model for ScriptWork {
 
 // The event that a line asks for.
 fn asked(alloc: Global, line: &[u8]) -> Result<Option<Event>, LineError>
-    ensures gives { Gives (line_meaning line.now) result }
+    ensures gives { IsLineAnswer (line_meaning line.now) result }
     ensures allowed { IfOk result MayAsk }
 {
     lines_spell();
@@ -59,7 +59,7 @@ impl ScriptWork {
         }
     }
 
-    // What an event comes to, as a line.
+    // The line of an event's verdict.
     fn run_event(&mut self, event: &Event, number: u64) -> Result<Bytes, LineError>
         requires number { number < 2 ^ 26 }
         requires early { IsEarly self.old number }

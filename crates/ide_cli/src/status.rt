@@ -3,7 +3,7 @@
 ghost use Rattle.std.specs.Prelude.{◌≡◌};
 ghost use Rattle.ide_cli.specs.Codes.{code_of};
 
-/// The exit status: 0 where the input was read to its end and every line was written, else why not.
+/// The exit status: 0 if the input was read to its end and every line was written, else why not (this profile).
 #[derive(Clone, Copy, Debug, PartialEq, Eq)]
 pub enum Status {
     /// The input was read to its end, and every line was written.
@@ -20,7 +20,7 @@ pub enum Status {
     WriteFault = 6,
     /// There was no memory.
     Memory = 7,
-    /// A file goes on behind its limit.
+    /// A file goes on past its limit.
     TooLong = 8,
 }
 

@@ -9,7 +9,13 @@ ghost use Rattle.ide_cli.specs.Loading.{GaveAllOf, LoadCause, Loads, topology_li
 ghost use Rattle.ide_cli.specs.Meaning.{AnsweredFor, WritesMigrated};
 ghost use Rattle.ide_cli.specs.Reads.{GaveAtMost};
 ghost use Rattle.ide_cli.specs.SoFar.{WroteBy};
-ghost use Rattle.ide_cli.specs.Topologies.{check_due, loaded, refusal as refusal_of, report as report_of, HasFitting};
+ghost use Rattle.ide_cli.specs.Topologies.{
+  check_due,
+  loaded,
+  plan_refusal as refusal_of,
+  report as report_of,
+  HasFitting,
+};
 
 use ide_base::{Shelf, Sink};
 use ide_plan::Plan;
@@ -21,7 +27,7 @@ use topology::{PlanError, PlanFault};
 /// How many bytes of a topology count (this profile).
 const TOPOLOGY_LIMIT: usize = 1_048_576;
 
-/// What a topology's bytes come to: its plan, its first fault, or too many of them.
+/// What a topology's bytes give: its plan, its first fault, or too many of them.
 #[derive(Drop)]
 pub(crate) enum Loaded {
     Sound(Plan),
@@ -29,7 +35,7 @@ pub(crate) enum Loaded {
     Long,
 }
 
-// What the front of a topology comes to, of which one byte more than those that count was read.
+// What the first bytes of a topology give; one byte more than those that count was read.
 fn judge(alloc: Global, front: &[u8]) -> Result<Loaded, Fault>
     ensures loaded { IfOk result (λ l. l ≡ loaded front.now) }
     ensures memory { IfErr result (λ e. e ≡ Fault.Memory) }
@@ -91,7 +97,7 @@ pub(crate) fn refuse<O: Sink>(alloc: Global, fault: &PlanFault, out: &mut O) -> 
     }
 }
 
-// Writes what a topology comes to.
+// Writes what a topology gives.
 fn report<O: Sink>(alloc: Global, loaded: &Loaded, out: &mut O) -> Result<End, Fault>
     ensures end { IfOk result (λ e. e ≢ End.Usage) }
     ensures long { IfOk result (λ e. e ≡ End.TooLong → loaded.now ≡ Loaded.Long) }
@@ -132,7 +138,7 @@ pub(crate) fn check_topology<S: Shelf, O: Sink>(
     }
 }
 
-// Writes the front of a topology in version 2, of which one byte more than those that count was read.
+// Writes the first bytes of a topology in version 2; one byte more than those that count was read.
 fn write_migrated<O: Sink>(alloc: Global, front: &[u8], out: &mut O) -> Result<End, Fault>
     ensures end { IfOk result (λ e. e ≢ End.Usage) }
     ensures long { IfOk result (λ e. e ≡ End.TooLong → topology_limit < length front.now) }

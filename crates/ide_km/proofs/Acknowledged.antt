@@ -3,13 +3,14 @@ use Rattle.std.proofs.Common.{◌≡◌, ◌≢◌, ℕ, Bool, true, false, cond
 use Rattle.std.proofs.Common.{refl, ◌∙◌, inl, inr, arith, slice_index}
 use Rattle.std.proofs.lemmas.Bool.{cases_Bool, and_from, eqb-true, eq-eqb}
 use Rattle.key_slots.specs.declared.slot.Slot.{Slot}
-use Rattle.key_slots.specs.Slots.{SlotPair, slot_in, is_one, with_both, is_only_live, programmed}
+use Rattle.key_slots.specs.Slots.{SlotPair, slot_in, with_both, is_only_live, programmed}
 use Rattle.ide_km.specs.declared.object.KmView.{KmView}
 use Rattle.ide_km.specs.declared.object.KmView.TheVariants.{Query, QueryResp, KeyProg, KpAck, SetGo, SetStop, GoStopAck}
 use Rattle.ide_km.specs.declared.object.KmFault.{KmFault}
-use Rattle.ide_km.specs.Objects.{reading}
-use Rattle.ide_km.specs.Calls.{Place, Program, Shown, shown_at, program_at, is_same_place, SlotsAfter}
-use Rattle.ide_km.specs.Replies.{set_of, place_of, key_call, call_from, call_of, Kept, status_code, status_after}
+use Rattle.ide_km.specs.Objects.{object_reading}
+use Rattle.ide_km.specs.declared.place.Place.{Place}
+use Rattle.ide_km.specs.Calls.{Program, Shown, shown_at, program_answer_at, is_same_place, SlotsAfter}
+use Rattle.ide_km.specs.Replies.{set_of, selected_place, key_call, call_from, call_of, Kept, status_code, status_after}
 use Rattle.ide_km.specs.Replies.{key_status_of, reply_from, reply_object, HoldsKey, Acknowledged}
 
 -- ---- replies that are no success
@@ -39,21 +40,21 @@ here place = and_from _ _
     (and_from _ _ (eq-eqb place.stream place.stream refl) (eq-eqb place.direction place.direction refl))
     (eq-eqb place.sub place.sub refl)
 
-key_at : (shown after : Shown) (unfinished : Place → Bool) (place : Place) (set : ℕ) (key : List ℕ) (draw : ℕ)
+key_at : (shown after : Shown) (unfinished : Place → Bool) (place : Place) (set : Bool) (key : List ℕ) (draw : ℕ)
     (o : Option SlotPair) → shown_at shown place ≡ o
-    → SlotsAfter shown unfinished (Program place set key draw (program_at o set key)) after
-    → status_code (status_after (Some (Program place set key draw (program_at o set key)))) ≡ 0
+    → SlotsAfter shown unfinished (Program place set key draw (program_answer_at o set key)) after
+    → status_code (status_after (Some (Program place set key draw (program_answer_at o set key)))) ≡ 0
     → HoldsKey (after place) set key draw
 key_at shown after unfinished place set key draw None is h e = absurd (omega (arith, e))
 key_at shown after unfinished place set key draw (Some slots) is h e = elim
-    (cases_Bool (is_only_live slots (is_one set))) [
+    (cases_Bool (is_only_live slots set)) [
       | inl r ↦ let wrong : ◌≡◌ {A = ℕ} 3 0 = rw r at e in absurd (omega (arith, wrong))
       | inr r ↦
           let t = some_there (ltb place.sub 3) (shown place) slots is in
-          let moved : after place ≡ Some (programmed slots (is_one set) (record { key = key; draw = draw })) = h place ∙
+          let moved : after place ≡ Some (programmed slots set (record { key = key; draw = draw })) = h place ∙
           rw
           (here place, t.0, t.1) refl in
-          rw moved (rw r (slot_with slots.sender (is_one set) _ _))
+          rw moved (rw r (slot_with slots.sender set _ _))
     ]
 
 -- ---- the request
@@ -61,7 +62,7 @@ key_at shown after unfinished place set key draw (Some slots) is h e = elim
 record Stands (r : Result KmView KmFault) (stream selector draw : ℕ) (after : Shown) : Type 0 where
   key : List ℕ
   asked : r ≡ Ok (KeyProg stream selector 0 key 1)
-  holds : HoldsKey (after (place_of stream selector)) (set_of selector) key draw
+  holds : HoldsKey (after (selected_place stream selector)) (set_of selector) key draw
 
 key_stands : (shown after : Shown) (unfinished : Place → Bool) (draw stream selector index : ℕ) (key : List ℕ)
     (counter : ℕ)
@@ -78,7 +79,7 @@ key_stands shown after unfinished draw stream selector index key counter h e = e
         record {
           key = key;
           asked = rw (i, n) refl;
-          holds = key_at shown after unfinished (place_of stream selector)
+          holds = key_at shown after unfinished (selected_place stream selector)
               (set_of selector) key draw _ refl (rw (zero', one') at h) (rw (zero', one') at e);
         }
   ]
@@ -115,5 +116,5 @@ pub acknowledged : (shown after : Shown) (unfinished : Place → Bool) (rid draw
     → reply_object rid request (call_of shown request draw) ≡ Some (KpAck stream 0 selector index)
     → Acknowledged request stream selector draw after
 acknowledged shown after unfinished rid draw stream selector index request h e =
-    let s = stands shown after unfinished rid draw stream selector index request (reading request) h e in
+    let s = stands shown after unfinished rid draw stream selector index request (object_reading request) h e in
     record { key = s.key; asked = s.asked; holds = s.holds }

@@ -2,24 +2,19 @@
 use Rattle.std.specs.Prelude.{ℕ, ◌≡◌, Bool, true, false, not, ◌&&◌, ◌==◌, nat_lt, List, Option, Some, None, Result, Ok}
 use Rattle.std.specs.Prelude.{Err, if◌then◌else◌}
 use Rattle.std.specs.Option.{option_map}
-use Rattle.key_slots.specs.{SlotPair, slot_in, is_one, is_empty, is_only_live, programmed, armed, halted}
+use Rattle.key_slots.specs.{SlotPair, slot_in, is_empty, is_only_live, programmed, armed, halted}
+use Rattle.ide_km.specs.declared.place.Place.{Place}
 use Rattle.ide_km.specs.declared.port.ProgramFault.{ProgramFault}
 use Rattle.ide_km.specs.declared.port.ProgramFault.TheVariants.{NoPlace, OnlyLive}
-
--- one sub-stream of a stream, in one direction
-pub record Place : Type 0 where
-  pub stream : ℕ
-  pub direction : ℕ
-  pub sub : ℕ
 
 abbrev pub place_at : ℕ → ℕ → ℕ → Place
 place_at stream direction sub = record { stream = stream; direction = direction; sub = sub }
 
--- a call with its arguments and its answer
+-- a call with its arguments and its answer; a key set is said by whether it is set 1
 pub data PortCall : Type 0 where
-  Program : Place → ℕ → List ℕ → ℕ → Result (Unit {0}) ProgramFault → PortCall
-  Go : Place → ℕ → Bool → PortCall
-  Halt : Place → ℕ → Bool → PortCall
+  Program : Place → Bool → List ℕ → ℕ → Result (Unit {0}) ProgramFault → PortCall
+  Go : Place → Bool → Bool → PortCall
+  Halt : Place → Bool → Bool → PortCall
 
 -- ---- answers
 
@@ -31,19 +26,19 @@ Shown = Place → Option SlotPair
 abbrev pub shown_at : Shown → Place → Option SlotPair
 shown_at shown place = if nat_lt place.sub 3 then shown place else None
 
-abbrev pub program_at : Option SlotPair → ℕ → List ℕ → Result (Unit {0}) ProgramFault
-program_at None set key = Err (NoPlace key)
-program_at (Some slots) set key = if is_only_live slots (is_one set) then Err (OnlyLive key) else Ok tt
+abbrev pub program_answer_at : Option SlotPair → Bool → List ℕ → Result (Unit {0}) ProgramFault
+program_answer_at None set key = Err (NoPlace key)
+program_answer_at (Some slots) set key = if is_only_live slots set then Err (OnlyLive key) else Ok tt
 
-abbrev pub program_answer : Shown → Place → ℕ → List ℕ → Result (Unit {0}) ProgramFault
-program_answer shown place set key = program_at (shown_at shown place) set key
+abbrev pub shown_program_answer : Shown → Place → Bool → List ℕ → Result (Unit {0}) ProgramFault
+shown_program_answer shown place set key = program_answer_at (shown_at shown place) set key
 
-abbrev pub go_at : Option SlotPair → ℕ → Bool
-go_at None set = false
-go_at (Some slots) set = not (is_empty (slot_in slots (is_one set)))
+abbrev pub go_answer_at : Option SlotPair → Bool → Bool
+go_answer_at None set = false
+go_answer_at (Some slots) set = not (is_empty (slot_in slots set))
 
-abbrev pub go_answer : Shown → Place → ℕ → Bool
-go_answer shown place set = go_at (shown_at shown place) set
+abbrev pub go_answer : Shown → Place → Bool → Bool
+go_answer shown place set = go_answer_at (shown_at shown place) set
 
 abbrev pub is_there : Option SlotPair → Bool
 is_there None = false
@@ -62,9 +57,9 @@ called_place (Halt place set answer) = place
 -- the two slots of the place that is called
 abbrev pub slots_by : PortCall → Bool → SlotPair → SlotPair
 slots_by (Program place set key draw answer) unfinished slots =
-    programmed slots (is_one set) (record { key = key; draw = draw })
-slots_by (Go place set answer) unfinished slots = armed slots (is_one set) unfinished
-slots_by (Halt place set answer) unfinished slots = halted slots (is_one set)
+    programmed slots set (record { key = key; draw = draw })
+slots_by (Go place set answer) unfinished slots = armed slots set unfinished
+slots_by (Halt place set answer) unfinished slots = halted slots set
 
 abbrev pub is_same_place : Place → Place → Bool
 is_same_place p q = ((p.stream == q.stream) && (p.direction == q.direction)) && (p.sub == q.sub)

@@ -31,20 +31,20 @@ is_reserved (KpAck stream status selector port) i = (i == 2) || (i == 3)
 is_reserved object i = ((i == 2) || (i == 3)) || (i == 5)
 
 -- the fields have their widths
-abbrev pub Fits : KmView → Type 0
-Fits (Query port) = port < 256
-Fits (QueryResp port device_function bus segment highest) =
+abbrev pub FitsObject : KmView → Type 0
+FitsObject (Query port) = port < 256
+FitsObject (QueryResp port device_function bus segment highest) =
     (port < 256) × (device_function < 256) × (bus < 256) × (segment < 256) × (highest < 256)
-Fits (KeyProg stream selector port key counter) =
+FitsObject (KeyProg stream selector port key counter) =
     (stream < 256) × (selector < 256) × (port < 256) × (length key ≡ 32) × All (λ b. b < 256) key × (counter < 2 ^ 64)
-Fits (KpAck stream status selector port) = (stream < 256) × (status < 256) × (selector < 256) × (port < 256)
-Fits (SetGo stream selector port) = (stream < 256) × (selector < 256) × (port < 256)
-Fits (SetStop stream selector port) = (stream < 256) × (selector < 256) × (port < 256)
-Fits (GoStopAck stream selector port) = (stream < 256) × (selector < 256) × (port < 256)
+FitsObject (KpAck stream status selector port) = (stream < 256) × (status < 256) × (selector < 256) × (port < 256)
+FitsObject (SetGo stream selector port) = (stream < 256) × (selector < 256) × (port < 256)
+FitsObject (SetStop stream selector port) = (stream < 256) × (selector < 256) × (port < 256)
+FitsObject (GoStopAck stream selector port) = (stream < 256) × (selector < 256) × (port < 256)
 
 -- the bytes are the object's, but for the reserved ones, which may hold anything
 pub record Spells (object : KmView) (bytes : List ℕ) : Type 0 where
-  pub fits : Fits object
+  pub fits : FitsObject object
   pub octets : All (λ b. b < 256) bytes
   pub long : length bytes ≡ length (spelling object)
   pub same : (i : ℕ) → is_reserved object i ≡ false → slice_index bytes i ≡ slice_index (spelling object) i
@@ -83,5 +83,5 @@ object_or object None = Ok object
 object_or object (Some fault) = Err fault
 
 -- the object, or why there is none
-abbrev pub reading : List ℕ → Result KmView KmFault
-reading bytes = object_or (object_of bytes) (fault_of bytes)
+abbrev pub object_reading : List ℕ → Result KmView KmFault
+object_reading bytes = object_or (object_of bytes) (fault_of bytes)

@@ -52,7 +52,7 @@ pub enum KmView {
     },
 }
 
-/// Why bytes are no object.
+/// Why bytes are no object (this profile).
 #[derive(Clone, Copy, Debug, PartialEq, Eq)]
 pub enum KmFault {
     /// Too few bytes to know the object, or not as many as it has.

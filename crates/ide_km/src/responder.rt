@@ -2,15 +2,26 @@
 
 ghost use Rattle.std.specs.Prelude.{◌≡◌, ◌+◌, ◌<◌, ◌≤◌, ◌++◌, Some, None, length, slice_index, if◌then◌else◌, vec_len};
 ghost use Rattle.std.specs.Prelude.{vec_capacity};
+ghost use Rattle.key_slots.specs.{is_one};
 ghost use Rattle.ide_km.specs.Objects.{spelling};
-ghost use Rattle.ide_km.specs.Replies.{set_of, direction_of, sub_of, key_call, call_for, call_of, Moved, Kept};
-ghost use Rattle.ide_km.specs.Replies.{key_status_of, is_done, description, reply_for, fault_reply, reply_of, bytes_of};
+ghost use Rattle.ide_km.specs.Replies.{set_of, selected_place, key_call, call_for, call_of, Moved, Kept};
+ghost use Rattle.ide_km.specs.Replies.{
+  key_status_of,
+  is_done,
+  description,
+  reply_for,
+  fault_reply,
+  reply_of,
+  object_bytes,
+};
 
 use crate::object::KmView;
+use crate::place::Place;
 use crate::port::SlotPort;
 use crate::reading::km_read;
 use crate::status::KeyStatus;
 use crate::writing::km_write;
+use ide_types::KeySet;
 use key_slots::Key;
 
 /// The responder of a device's port: it answers requests of key management (PCI Express Base 6.0 section 6.33, in
@@ -20,22 +31,21 @@ pub struct Responder {
     rid: u16,
 }
 
-fn set(selector: u8) -> u8
-    ensures { result ≡ set_of selector }
+// The key set that a selector names, and the place.
+fn selected_set(selector: u8) -> KeySet
+    ensures { is_one result ≡ set_of selector }
 {
-    selector % 2
+    KeySet::of_bit(selector % 2 == 1)
 }
 
-fn direction(selector: u8) -> u8
-    ensures { result ≡ direction_of selector }
+fn selected_place(stream: u8, selector: u8) -> Place
+    ensures { result ≡ selected_place stream selector }
 {
-    selector / 2 % 2
-}
-
-fn sub(selector: u8) -> u8
-    ensures { result ≡ sub_of selector }
-{
-    selector / 16
+    Place {
+        stream,
+        direction: selector / 2 % 2,
+        sub: selector / 16,
+    }
 }
 
 /// Programs a key, if the port index is 0 and the initial counter is 1.
@@ -61,10 +71,8 @@ fn program<P: SlotPort>(
         return KeyStatus::Refused;
     }
     match port.program(
-        stream,
-        set(selector),
-        direction(selector),
-        sub(selector),
+        selected_place(stream, selector),
+        selected_set(selector),
         Key::of(key),
         draw,
     ) {
@@ -81,7 +89,7 @@ fn go<P: SlotPort>(port: &mut P, stream: u8, selector: u8, index: u8, draw: u32)
         Kept (P.slots port.old) (P.unfinished port.old) call (P.slots port.new) }
     ensures done { result ≡ is_done (call_for (P.slots port.old) draw (KmView.SetGo stream selector index)) }
 {
-    index == 0 && port.go(stream, set(selector), direction(selector), sub(selector))
+    index == 0 && port.go(selected_place(stream, selector), selected_set(selector))
 }
 
 fn halt<P: SlotPort>(port: &mut P, stream: u8, selector: u8, index: u8, draw: u32) -> bool
@@ -91,7 +99,7 @@ fn halt<P: SlotPort>(port: &mut P, stream: u8, selector: u8, index: u8, draw: u3
         Kept (P.slots port.old) (P.unfinished port.old) call (P.slots port.new) }
     ensures done { result ≡ is_done (call_for (P.slots port.old) draw (KmView.SetStop stream selector index)) }
 {
-    index == 0 && port.halt(stream, set(selector), direction(selector), sub(selector))
+    index == 0 && port.halt(selected_place(stream, selector), selected_set(selector))
 }
 
 /// Acknowledges what was done.
@@ -132,8 +140,8 @@ fn refusal(request: &[u8]) -> Option<KmView>
 
 /// Appends the reply, if there is one.
 fn append(object: Option<KmView>, reply: &mut Vec<u8>)
-    requires { vec_len reply.old + length (bytes_of object) ≤ vec_capacity reply.old }
-    ensures items { reply.new.items ≡ reply.old.items ++ bytes_of object }
+    requires { vec_len reply.old + length (object_bytes object) ≤ vec_capacity reply.old }
+    ensures items { reply.new.items ≡ reply.old.items ++ object_bytes object }
     ensures capacity { vec_capacity reply.old ≤ vec_capacity reply.new }
 {
     if let Some(object) = object {
@@ -169,7 +177,7 @@ impl Responder {
         ensures slots { let call = call_for (P.slots port.old) draw object in
             Kept (P.slots port.old) (P.unfinished port.old) call (P.slots port.new) }
         ensures reply { result ≡ reply_for self.now.rid object (call_for (P.slots port.old) draw object) }
-        ensures short { length (bytes_of result) ≤ 8 }
+        ensures short { length (object_bytes result) ≤ 8 }
     {
         match object {
             KmView::Query { port: 0 } => Some(self.describe()),

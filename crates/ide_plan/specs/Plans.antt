@@ -1,4 +1,4 @@
--- What is told of the parts of a plan.
+-- What is said of the parts of a plan.
 use Rattle.std.specs.Prelude.{ℕ, ◌+◌, ◌==◌, ◌&&◌, nat_lt, Bool, true, false, List, [], if◌then◌else◌}
 use Rattle.std.specs.List.{list_any}
 use Rattle.ide_plan.specs.declared.stream.Selector.{Selector}

@@ -33,7 +33,7 @@ pub struct InterfacePlan {
     pub bars: Items<BarPlan>,
 }
 
-/// A base address register and the range behind it.
+/// A base address register and its range of addresses (PCI Express Base 6.0 chapter 11, and this profile).
 #[derive(Clone, Copy, Debug, PartialEq, Eq)]
 pub struct BarPlan {
     /// The byte address that it begins with.

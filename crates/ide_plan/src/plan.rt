@@ -3,7 +3,7 @@
 use crate::{InterfacePlan, StreamPlan};
 use ide_types::Items;
 
-/// What there is before the first event of a run.
+/// What there is before the first event of a run (this profile).
 #[derive(Debug, Drop)]
 pub struct Plan {
     /// The version of the topology, 1 or 2.
@@ -21,18 +21,18 @@ pub struct Plan {
     pub memory: Items<Region>,
 }
 
-/// A link: a host's port and a device's.
+/// A link: a host's port and a device's (PCI Express Base 6.0 section 6.33 and chapter 11, in this profile).
 #[derive(Debug, Drop)]
 pub struct LinkPlan {
     /// What the device gives in answer to lock requests, in order; up to 1,024 of them.
     pub nonces: Items<[u8; 32]>,
-    /// The streams of the link, of which no two have the same ID; 1 to 16 of them.
+    /// The streams of the link, 1 to 16; no two have the same ID.
     pub streams: Items<StreamPlan>,
-    /// The device's interfaces, of which no two have the same requester ID.
+    /// The device's interfaces; no two have the same requester ID.
     pub interfaces: Items<InterfacePlan>,
 }
 
-/// A region of trusted memory, in bytes; both are multiples of 4,096.
+/// A region of trusted memory, in bytes; both are multiples of 4,096 (this profile).
 #[derive(Clone, Copy, Debug, PartialEq, Eq)]
 pub struct Region {
     /// The address of its first byte.

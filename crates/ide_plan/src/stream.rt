@@ -9,7 +9,7 @@ pub struct StreamPlan {
     pub id: u8,
     /// How many packets a unit has at the most: 1, 2, 4 or 8.
     pub mode: u8,
-    /// Whether nothing of a newer key is accepted ahead of all of the older ones (this profile).
+    /// Whether nothing of a newer key is accepted before all of the older ones (this profile).
     pub closed: bool,
     /// Which TLPs it takes.
     pub selector: Selector,
@@ -34,7 +34,7 @@ pub enum Selector {
     },
 }
 
-/// IDs from `base` to `limit`, both among them.
+/// IDs from `base` to `limit`, both among them (PCI Express Base 6.0 section 6.33).
 #[derive(Clone, Copy, Debug, PartialEq, Eq)]
 pub struct IdRange {
     pub base: u16,
@@ -42,7 +42,7 @@ pub struct IdRange {
     pub limit: u16,
 }
 
-/// Byte addresses from `base` to `limit`, both among them.
+/// Byte addresses from `base` to `limit`, both among them (PCI Express Base 6.0 section 6.33).
 #[derive(Clone, Copy, Debug, PartialEq, Eq)]
 pub struct AddressRange {
     /// A multiple of 2^20.

@@ -4,12 +4,12 @@ use Rattle.ide_port.proofs.Terms.{None, Result, refl, ap, ◌∙◌, arith, slic
 use Rattle.ide_port.proofs.Terms.{Side, SubKind, StreamPlan, Packet}
 use Rattle.ide_port.proofs.Terms.{StreamState, Sending, SlotCall, StreamEnd, joined_packets, packets_sent, taken_in}
 use Rattle.ide_port.proofs.Terms.{end_taken, called_end, SendRefusal, Inside, PortEnd, Found, found, NoneWaits}
-use Rattle.ide_port.proofs.Terms.{AreStreamsOf, IsKept, lent_by}
+use Rattle.ide_port.proofs.Terms.{AreStreamsOf, IsKept, packets_lent}
 use Rattle.ide_port.proofs.Terms.{delivered_at}
 use Rattle.std.proofs.lemmas.List.{length-set}
 use Rattle.sub_stream.specs.declared.answer.SealedPacket.{SealedPacket}
 use Rattle.ide_stream.specs.{IsSent}
-use Rattle.ide_port.specs.Kept.{place_of}
+use Rattle.ide_port.specs.Kept.{plan_place}
 use Rattle.ide_port.proofs.Waiting.{none-unless, none-taken, none-called}
 use Rattle.ide_port.proofs.Streams.{state_of, later, IsPlaced, placed, within}
 use Rattle.ide_port.proofs.Lengths.{sent-length}
@@ -35,7 +35,7 @@ now p = seen p p.streams.items p.sealed.items p.lent p.calls
 abbrev pub Keeps : Inside → Type 0
 Keeps p = IsKept p.name.side p.limit p.calls p.plans p.streams.items p.lent p.sealed.items (vec_capacity p.sealed)
 
-pub inside : (p : Inside) (id place : ℕ) → Keeps p → place_of p.plans id ≡ Some place → place < length p.streams.items
+pub inside : (p : Inside) (id place : ℕ) → Keeps p → plan_place p.plans id ≡ Some place → place < length p.streams.items
 inside p id place kept at = within _ _ _ _ _ id _ kept.each at
 
 pub lends-none : (n p : ℕ) → (let o : Option ℕ = None in o) ≡ Some p → p < n
@@ -43,7 +43,7 @@ lends-none n p e = absurd cc
 
 -- ---- calls of a stream
 
-module _ (p : Inside) (kept : Keeps p) (id place : ℕ) (x : StreamEnd) (at : place_of p.plans id ≡ Some place)
+module _ (p : Inside) (kept : Keeps p) (id place : ℕ) (x : StreamEnd) (at : plan_place p.plans id ≡ Some place)
     (is : x ≡ get_or p.streams.items place x) where
   pub there : IsPlaced p.name.side p.limit p.calls p.plans p.streams.items id place x
   there = placed _ _ _ _ _ id place x kept.each at is
@@ -106,7 +106,7 @@ lends-there (x ∷ xs) (suc i) y lt = lends-there xs i y (omega arith)
 
 same-lent : (xs : List StreamEnd) (i k : ℕ) (x y : StreamEnd) → i < length xs → x ≡ get_or xs i x → y.delivered
     ≡ x.delivered
-    → lent_by (slice_get (slice_set xs i y) k) ≡ lent_by (slice_get xs k)
+    → packets_lent (slice_get (slice_set xs i y) k) ≡ packets_lent (slice_get xs k)
 same-lent [] i k x y lt is same = absurd (omega arith)
 same-lent (z ∷ xs) zero zero x y lt is same = same ∙ ap (λ (w : StreamEnd). w.delivered) is
 same-lent (z ∷ xs) zero (suc k) x y lt is same = refl

@@ -5,7 +5,7 @@ use Rattle.ide_port.proofs.Terms.{Sending, Lanes, described}
 use Rattle.ide_port.proofs.Terms.{needs_sync, sync_before, ends_unit, sets_trusted, front_with, sealed_by, LiveKey}
 use Rattle.ide_port.proofs.Terms.{Three, TxSub, at_sub, live_sender, untagged_under, tagged_under, packet_under}
 use Rattle.ide_port.proofs.Terms.{sealed_one, sealed_all, StreamEnd}
-use Rattle.ide_port.proofs.Terms.{joined_packets, packets_sent, lanes_in, unless, sealing, refused}
+use Rattle.ide_port.proofs.Terms.{joined_packets, packets_sent, lanes_in, unless_verdict, sealing, refused}
 use Rattle.std.proofs.Common.{Bool}
 use Rattle.gcm_seal.specs.Gcm.{masked, tag_of}
 use Rattle.gcm_seal.proofs.Sealing.{length-masked, length-tag_of}
@@ -97,7 +97,7 @@ sealed_room x s number =
     )
 
 unless_length : (o : Option Verdict) (ps : List Packet) (n : ℕ) → length (joined_packets ps) ≤ n
-    → length (joined_packets (unless o [] ps)) ≤ n
+    → length (joined_packets (unless_verdict o [] ps)) ≤ n
 unless_length o ps n le = grind arith
 
 pub sent-length : (e : StreamEnd) (head payload : List ℕ) (s : Sending) (number : ℕ) → length head ≤ 16

@@ -2,12 +2,12 @@
 use Rattle.ide_port.proofs.Terms.{◌≡◌, true, false, ◌&&◌, ◌||◌, arith, nat_tests, SubKind, Slots, Three, TxSub, RxSub}
 use Rattle.ide_port.proofs.Terms.{StreamState, at_sub, set_sub, settled_stream, slot_pair, SlotCall, slots_at, pair_at}
 use Rattle.ide_port.proofs.Terms.{called, slots_called_out}
-use Rattle.ide_port.proofs.Terms.{slots_called_into, PortCall, slots_by, is_unfinished, slot_call, is_waiting}
+use Rattle.ide_port.proofs.Terms.{slots_called_into, PortCall, slots_by, has_open_unit, slot_call, is_waiting}
 use Rattle.ide_port.proofs.Terms.{NoneWaits}
 use Rattle.std.proofs.Common.{Bool}
 
 slots_out : (c : PortCall) (s : Slots) → slot_pair true (slots_called_out (slot_call c) s)
-    ≡ slots_by c (is_unfinished s) (slot_pair true s)
+    ≡ slots_by c (has_open_unit s) (slot_pair true s)
 slots_out c s = grind (arith, nat_tests)
 
 slots_into : (c : PortCall) (u : Bool) (s : Slots) → (is_waiting s.first || is_waiting s.second) ≡ false
@@ -31,7 +31,7 @@ set_other : {A : Type 0} (t : Three A) (u w : SubKind) (x : A) → (w ≡ u → 
 set_other t u w x ne = grind arith
 
 pub moved-pair : (sends : Bool) (u : SubKind) (c : PortCall) (st : StreamState) → NoneWaits st
-    → pair_at sends u (called sends u (slot_call c) st) ≡ slots_by c (sends && is_unfinished (at_sub st.tx u).slots)
+    → pair_at sends u (called sends u (slot_call c) st) ≡ slots_by c (sends && has_open_unit (at_sub st.tx u).slots)
     (pair_at sends u st)
 moved-pair true u c st h = simp (settled_out, set_same, slots_out)
 moved-pair false u c st h = simp (settled_in, set_same) (slots_into c false (at_sub st.rx u).slots (h u))

@@ -1,17 +1,13 @@
 -- A call moves the slots of a port at its place, and nowhere else.
-use Rattle.ide_port.proofs.Terms.{◌≡◌, ℕ, ◌<◌, true, false, ◌&&◌, [], Option, Some, None, refl, ap, ◌∙◌, subst, arith}
+use Rattle.ide_port.proofs.Terms.{◌≡◌, ℕ, ◌<◌, true, false, ◌&&◌, [], Option, Some, None, refl, ap, ◌∙◌, arith}
 use Rattle.ide_port.proofs.Terms.{nat_lt, if◌then◌else◌, option_map, nat_tests, Side, SlotPair, Place, PortCall}
 use Rattle.ide_port.proofs.Terms.{called_place, slots_by, SlotsAfter}
 use Rattle.ide_port.proofs.Terms.{StreamState, sends_in, pair_at, called, PortEnd, Found, found, changed, sub_from}
 use Rattle.ide_port.proofs.Terms.{is_place, stream_at, shown, unfinished_at, slot_call, called_states, called_port}
 use Rattle.ide_port.proofs.Terms.{NoneWaits}
 use Rattle.ide_km.specs.Calls as km
-use Rattle.ide_port.specs.Calls.{place_of}
 use Rattle.ide_port.proofs.Streams.{found-id, found-changed, found-other}
 use Rattle.ide_port.proofs.Moves.{moved-pair, other-pair}
-
-place_is : (c : PortCall) → place_of c ≡ called_place c
-place_is c = grind arith
 
 -- ---- numbers of directions and sub-streams
 
@@ -32,7 +28,7 @@ apart : (side : Side) (p q : Place) → is_place p ≡ true → is_place q ≡ t
 apart side p q hp hq s differ d u = grind
     (arith, nat_tests, same_sends side p.direction q.direction, same_sub p.sub q.sub)
 
--- ---- what is shown behind a call
+-- ---- what is shown after a call
 
 abbrev shown_by : Side → Place → Option Found → Option SlotPair
 shown_by side p o = option_map (λ (f : Found). pair_at (sends_in side p.direction) (sub_from p.sub) f.state) o
@@ -81,10 +77,10 @@ ShownAfter e c p q =
     (if km.is_same_place p q && nat_lt p.sub 3 then option_map (slots_by c (unfinished_at e p)) (shown e p) else
     shown e p)
 
-shown_there : (e : PortEnd) (c : PortCall) (f : Found) (p : Place) → Waitless e → stream_at e (place_of c) ≡ Some f
-    → ShownAfter e c p (place_of c)
+shown_there : (e : PortEnd) (c : PortCall) (f : Found) (p : Place) → Waitless e → stream_at e (called_place c) ≡ Some f
+    → ShownAfter e c p (called_place c)
 shown_there e c f p h at =
-    let q = place_of c in
+    let q = called_place c in
     let t = there e q f at in
     let moves : called_port c e ≡ with_stream e q.stream (after e c q f) =
     ap (λ o. record e { states = called_states e c o; delivered = [] }) at
@@ -99,9 +95,9 @@ shown_nowhere e c p q at = grind (arith, nat_tests, same_place p q, at)
 
 pub slots-after : (e : PortEnd) (c : PortCall) → Waitless e → SlotsAfter (shown e) (unfinished_at e) c
     (shown (called_port c e))
-slots-after e c h p = subst (ShownAfter e c p) (place_is c) (by (stream_at e (place_of c)) refl)
+slots-after e c h p = by (stream_at e (called_place c)) refl
   where
-    by : (o : Option Found) → stream_at e (place_of c) ≡ o → ShownAfter e c p (place_of c)
+    by : (o : Option Found) → stream_at e (called_place c) ≡ o → ShownAfter e c p (called_place c)
     by None at = ap (λ o. shown (record e { states = called_states e c o; delivered = [] }) p) at ∙ shown_nowhere e c p
-        (place_of c) at
+        (called_place c) at
     by (Some f) at = shown_there e c f p h at

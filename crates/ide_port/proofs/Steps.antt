@@ -1,16 +1,18 @@
 -- What a stream's call makes of its port: a send, a packet that comes and a call of key management are steps of the
 -- specs. Streams stand beside their plans one to one, so the stream at the place of an ID is the one that the specs
--- find, and set back there it alone changes; what its own call came to is given, and is read with the fields of its
--- plan. Where no plan has the ID the specs find nothing, and no stream changes.
+-- find, and set back there it alone changes. What its own call gave is supposed, and is read with the fields of its
+-- plan. If no plan has the ID the specs find nothing, and no stream changes.
 use Rattle.ide_port.proofs.Terms.{◌≡◌, ℕ, ◌+◌, ◌<◌, true, List, [], length, map, get_or, Option, Some, None, Result}
 use Rattle.ide_port.proofs.Terms.{Err, refl, sym, ap, ◌∙◌, subst, arith, slice_set, nat_lt, if◌then◌else◌, option_map}
+use Rattle.std.proofs.Common.{Bool}
 use Rattle.ide_port.proofs.Terms.{nat_tests, SubKind, StreamPlan}
-use Rattle.ide_port.proofs.Terms.{Packet, Tlp, class_of, head_bytes, header, body, SlotPair, is_one, program_answer}
-use Rattle.ide_port.proofs.Terms.{PortCall, SlotsAfter, shown_at, program_at, answer_of, StreamEnd, sending, answer_as}
+use Rattle.ide_port.proofs.Terms.{Packet, Tlp, class_of, head_bytes, header, body, SlotPair, program_answer}
+use Rattle.ide_port.proofs.Terms.{PortCall, SlotsAfter, shown_at, program_answer_at, answer_of, StreamEnd, sending}
+use Rattle.ide_port.proofs.Terms.{answer_as}
 use Rattle.ide_port.proofs.Terms.{taken_in, end_taken, called_end}
 use Rattle.ide_port.proofs.Terms.{pair_in, lengths_said, Inside, SendRefusal, PortEnd, Found, found, changed, sub_from}
 use Rattle.ide_port.proofs.Terms.{stream_at, shown, unfinished_at, slot_call, called_states, called_port, stream_of}
-use Rattle.ide_port.proofs.Terms.{IsStep, lane_of, arrival_said}
+use Rattle.ide_port.proofs.Terms.{IsSendStep, place_and_sub, arrival_said}
 use Rattle.std.proofs.Common.{Bool, Ok}
 use Rattle.ide_types.specs.declared.port.PortName.{PortName}
 use Rattle.key_slots.specs.declared.slots.OnlyLive.{OnlyLive}
@@ -25,9 +27,9 @@ use Rattle.ide_port.specs.declared.answer.Sent.TheVariants.{Plain, Refused, Seal
 use Rattle.ide_port.specs.declared.answer.Arrival.{Arrival}
 use Rattle.ide_port.specs.declared.answer.Arrival.TheVariants.{Unknown}
 use Rattle.ide_port.specs.Sends.{as_verdict, sent_verdict, lengths_sent, send_found}
-use Rattle.ide_port.specs.Arrivals.{TakeStep, arrival_of, take_found}
-use Rattle.ide_port.specs.Calls.{place_of as called_at}
-use Rattle.ide_port.specs.Kept.{place_of}
+use Rattle.ide_port.specs.Arrivals.{TakeStep, port_arrival, take_found}
+use Rattle.ide_km.specs.{called_place}
+use Rattle.ide_port.specs.Kept.{plan_place}
 use Rattle.ide_port.proofs.Streams.{state_of, absent}
 use Rattle.ide_port.proofs.Keeping.{Keeps, seen, now, inside, there, lends-there, lends-still, none-found}
 use Rattle.ide_port.proofs.Shown.{slots-after}
@@ -43,7 +45,7 @@ verdict_of name number answer = grind arith
 lengths_of : (answer : Result (List SealedPacket) SendRefusal) → lengths_sent (sent_as answer) ≡ lengths_said answer
 lengths_of answer = grind arith
 
-said_of : (p : Packet) (t : Answer) → arrival_said p.prefix.stream p.prefix.sub (answer_of t) ≡ arrival_of p t
+said_of : (p : Packet) (t : Answer) → arrival_said p.prefix.stream p.prefix.sub (answer_of t) ≡ port_arrival p t
 said_of p t = grind arith
 
 pub record IsTaken (r : Arrival) (new : PortEnd) (step : TakeStep) : Type 0 where
@@ -52,19 +54,19 @@ pub record IsTaken (r : Arrival) (new : PortEnd) (step : TakeStep) : Type 0 wher
 
 -- ---- the port has no such stream
 
-module _ (p : Inside) (e : PortEnd) (view : now p ≡ e) (id : ℕ) (at : place_of p.plans id ≡ None) where
+module _ (p : Inside) (e : PortEnd) (view : now p ≡ e) (id : ℕ) (at : plan_place p.plans id ≡ None) where
   pub gone : found e.plans e.states id ≡ None
   gone = rw (← view) (absent p.plans _ id at)
 
   pub plain-step : (new : PortEnd) (t : Tlp) (trusted more : Bool) (number : ℕ) → new
       ≡ record e { sealed = []; calls = e.calls + 1 }
-      → IsStep e.name number Plain new (send_found e t trusted more number (found e.plans e.states id))
+      → IsSendStep e.name number Plain new (send_found e t trusted more number (found e.plans e.states id))
   plain-step new t trusted more number is = rw gone (record { answered = refl; lengths = refl; port = is })
 
 -- ---- a call of a stream
 
 module _ (p : Inside) (e : PortEnd) (view : now p ≡ e) (kept : Keeps p) (id place : ℕ) (x : StreamEnd)
-    (at : place_of p.plans id ≡ Some place)
+    (at : plan_place p.plans id ≡ Some place)
     (is : x ≡ get_or p.streams.items place x) where
   -- what is read of it
   pub reads : {A : Type 0} (read : Option Found → A)
@@ -77,7 +79,7 @@ module _ (p : Inside) (e : PortEnd) (view : now p ≡ e) (kept : Keeps p) (id pl
       (before out : List ℕ) → before ≡ []
       → IsSent x (head_bytes (header t)) (body t) (sending p.name x.id (class_of (header t)) more trusted) number answer
       before out y → r ≡ sent_as answer
-      → IsStep e.name number r (seen p (slice_set p.streams.items place y) out p.lent (p.calls + 1))
+      → IsSendStep e.name number r (seen p (slice_set p.streams.items place y) out p.lent (p.calls + 1))
       (send_found e t trusted more number (found e.plans e.states id))
   sent-step y t trusted more number answer r before out none sent said =
       let k = there p kept id place x at is in
@@ -105,7 +107,7 @@ module _ (p : Inside) (e : PortEnd) (view : now p ≡ e) (kept : Keeps p) (id pl
 
 module _ (p : Inside) (e : PortEnd) (view : now p ≡ e) (packet : Packet) where
   pub taken-step : (kept : Keeps p) (place : ℕ) (x y : StreamEnd) (taken : Option Taken) (r : Arrival)
-      → place_of p.plans packet.prefix.stream ≡ Some place
+      → plan_place p.plans packet.prefix.stream ≡ Some place
       → x ≡ get_or p.streams.items place x → taken ≡ answer_of (taken_in x packet) → y ≡ end_taken x packet
       → r ≡ arrival_said packet.prefix.stream packet.prefix.sub taken
       → IsTaken r (seen p (slice_set p.streams.items place y) p.sealed.items (Some place) (p.calls + 1))
@@ -127,7 +129,7 @@ module _ (p : Inside) (e : PortEnd) (view : now p ≡ e) (packet : Packet) where
         });
       })
 
-  pub unknown-step : (new : PortEnd) → place_of p.plans packet.prefix.stream ≡ None → new
+  pub unknown-step : (new : PortEnd) → plan_place p.plans packet.prefix.stream ≡ None → new
       ≡ record e { delivered = []; calls = e.calls + 1 }
       → IsTaken (Unknown packet.prefix.stream) new (take_found e packet (found e.plans e.states packet.prefix.stream))
   unknown-step new at is = rw (gone p e view packet.prefix.stream at) (record { answer = refl; port = is })
@@ -135,7 +137,7 @@ module _ (p : Inside) (e : PortEnd) (view : now p ≡ e) (packet : Packet) where
 -- ---- a call of key management
 
 pub record IsLane (plans : List StreamPlan) (id sub place : ℕ) (u : SubKind) : Type 0 where
-  pub place_is : place_of plans id ≡ Some place
+  pub place_is : plan_place plans id ≡ Some place
   pub sub_is : u ≡ sub_from sub
   pub three : nat_lt sub 3 ≡ true
 
@@ -149,19 +151,21 @@ lane_in three o s place u e = grind arith
 none_in : (three : Bool) (o : Option ℕ) (s : SubKind) → lane_by three o s ≡ None → three ≡ true → o ≡ None
 none_in three o s e t = grind arith
 
-pub lane-some : (plans : List StreamPlan) (id sub place : ℕ) (u : SubKind) → lane_of plans id sub ≡ Some (place, u)
+pub lane-some : (plans : List StreamPlan) (id sub place : ℕ) (u : SubKind) → place_and_sub plans id sub
+    ≡ Some (place, u)
     → IsLane plans id sub place u
 lane-some plans id sub place u e =
-    let l = lane_in (nat_lt sub 3) (place_of plans id) (sub_from sub) place u e in record
+    let l = lane_in (nat_lt sub 3) (plan_place plans id) (sub_from sub) place u e in record
     { place_is = l.0; sub_is = l.1; three = l.2 }
 
-pub lane-inside : (p : Inside) (id sub place : ℕ) (u : SubKind) → Keeps p → lane_of p.plans id sub ≡ Some (place, u)
+pub lane-inside : (p : Inside) (id sub place : ℕ) (u : SubKind) → Keeps p → place_and_sub p.plans id sub
+    ≡ Some (place, u)
     → place < length p.streams.items
 lane-inside p id sub place u kept at = inside p id place kept (lane-some p.plans id sub place u at).place_is
 
 -- the slots that key management sees of the place, and what the call makes of the port
 pub record IsCalled (e new : PortEnd) (c : PortCall) (o : Option SlotPair) : Type 0 where
-  pub shows : shown_at (shown e) (called_at c) ≡ o
+  pub shows : shown_at (shown e) (called_place c) ≡ o
   pub moves : new ≡ called_port c e
   pub slots : SlotsAfter (shown e) (unfinished_at e) c (shown new)
 
@@ -171,25 +175,25 @@ module _ (p : Inside) (e : PortEnd) (view : now p ≡ e) (kept : Keeps p) (c : P
       (slots-after e c (rw (← view)
       (record { none = none-found p.name.side p.limit p.calls p.plans p.streams.items kept.each })))
 
-  pub nowhere-step : lane_of p.plans (called_at c).stream (called_at c).sub ≡ None
+  pub nowhere-step : place_and_sub p.plans (called_place c).stream (called_place c).sub ≡ None
       → IsCalled e (seen p p.streams.items p.sealed.items None p.calls) c None
   nowhere-step at =
-      let q = called_at c in
+      let q = called_place c in
       let none : nat_lt q.sub 3 ≡ true → found e.plans e.states q.stream ≡ None =
-      λ t. gone p e view q.stream (none_in (nat_lt q.sub 3) (place_of p.plans q.stream) (sub_from q.sub) at t) in
+      λ t. gone p e view q.stream (none_in (nat_lt q.sub 3) (plan_place p.plans q.stream) (sub_from q.sub) at t) in
       let out : stream_at e q ≡ None = grind (arith, nat_tests, none) in
       let moves : seen p p.streams.items p.sealed.items None p.calls ≡ called_port c e =
       ap (λ (e : PortEnd). record e { delivered = [] }) view ∙ ap
       (λ o. record e { states = called_states e c o; delivered = [] }) (sym out) in
       record { shows = grind (arith, nat_tests, out); moves = moves; slots = slots-step _ moves }
 
-  pub called-step : (place : ℕ) (u : SubKind) (x y : StreamEnd) → (called_at c).direction < 2
-      → IsLane p.plans (called_at c).stream (called_at c).sub place u
-      → x ≡ get_or p.streams.items place x → y ≡ called_end x (called_at c).direction u (slot_call c)
+  pub called-step : (place : ℕ) (u : SubKind) (x y : StreamEnd) → (called_place c).direction < 2
+      → IsLane p.plans (called_place c).stream (called_place c).sub place u
+      → x ≡ get_or p.streams.items place x → y ≡ called_end x (called_place c).direction u (slot_call c)
       → IsCalled e (seen p (slice_set p.streams.items place y) p.sealed.items None p.calls) c
-      (Some (pair_in x (called_at c).direction u))
+      (Some (pair_in x (called_place c).direction u))
   called-step place u x y dir lane is after =
-      let q = called_at c in
+      let q = called_place c in
       let k = there p kept q.stream place x lane.place_is is in
       let two : nat_lt q.direction 2 ≡ true = grind (arith, nat_tests) in
       let at : stream_at (now p) q ≡ Some (record { plan = k.plan; state = x.state }) = rw (two, lane.three) k.is_found
@@ -218,6 +222,6 @@ abbrev pub key_back : Result (Unit {0}) OnlyLive → Result (Unit {0}) ProgramFa
 key_back (Ok done) = Ok tt
 key_back (Err fault) = Err (km.OnlyLive fault.key)
 
-pub key-back : (pair : SlotPair) (set : ℕ) (key : List ℕ) → key_back (program_answer pair (is_one set) key)
-    ≡ program_at (Some pair) set key
+pub key-back : (pair : SlotPair) (set : Bool) (key : List ℕ) → key_back (program_answer pair set key)
+    ≡ program_answer_at (Some pair) set key
 key-back pair set key = grind arith

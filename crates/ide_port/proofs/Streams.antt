@@ -2,10 +2,11 @@
 use Rattle.ide_port.proofs.Terms.{◌≡◌, ◌≢◌, ℕ, suc, zero, ◌<◌, ◌≤◌, true, false, ◌==◌, List, [], ◌∷◌, length, map}
 use Rattle.ide_port.proofs.Terms.{get_or, Some, None, refl, sym, ap, subst, arith, slice_set, nat_tests, Side}
 use Rattle.ide_port.proofs.Terms.{StreamPlan, StreamState, no_stream}
-use Rattle.ide_port.proofs.Terms.{StreamEnd, reset_end, Found, found, changed, IsStreamOf, AreStreamsOf, new_streams}
+use Rattle.ide_port.proofs.Terms.{StreamEnd, reset_end, Found, found, changed, IsStreamOf, AreStreamsOf}
+use Rattle.ide_port.proofs.Terms.{new_stream_ends}
 use Rattle.std.specs.List.{position_or_len}
 use Rattle.std.proofs.lemmas.List.Quantifiers.{position-Some}
-use Rattle.ide_port.specs.Kept.{place_of}
+use Rattle.ide_port.specs.Kept.{plan_place}
 use Rattle.ide_port.proofs.Waiting.{none-new}
 
 abbrev pub state_of : StreamEnd → StreamState
@@ -41,11 +42,11 @@ absent_from [] xs id le = refl
 absent_from (s ∷ ss) [] id le = refl
 absent_from (s ∷ ss) (x ∷ xs) id le = grind (arith, nat_tests, absent_from ss xs id)
 
-none_within : (ss : List StreamPlan) (id : ℕ) → place_of ss id ≡ None
+none_within : (ss : List StreamPlan) (id : ℕ) → plan_place ss id ≡ None
     → length ss ≤ position_or_len (λ (s : StreamPlan). s.id == id) ss
 none_within ss id e = grind arith
 
-pub absent : (ss : List StreamPlan) (xs : List StreamState) (id : ℕ) → place_of ss id ≡ None → found ss xs id ≡ None
+pub absent : (ss : List StreamPlan) (xs : List StreamState) (id : ℕ) → plan_place ss id ≡ None → found ss xs id ≡ None
 absent ss xs id e = absent_from ss xs id (none_within ss id e)
 
 -- ---- all streams
@@ -66,12 +67,12 @@ later side limit calls more (s ∷ ss) (x ∷ xs) le h =
     (of-plan-later side limit calls more s x le h.0, later side limit calls more ss xs le h.1)
 
 pub streams-new : (side : Side) (limit : ℕ) (ss : List StreamPlan)
-    → AreStreamsOf side limit 0 ss (new_streams side limit ss)
+    → AreStreamsOf side limit 0 ss (new_stream_ends side limit ss)
 streams-new side limit [] = tt
 streams-new side limit (s ∷ ss) =
     (record { plan = refl; few = omega arith; receivers = none-new }, streams-new side limit ss)
 
-pub states-new : (side : Side) (limit : ℕ) (ss : List StreamPlan) → map state_of (new_streams side limit ss)
+pub states-new : (side : Side) (limit : ℕ) (ss : List StreamPlan) → map state_of (new_stream_ends side limit ss)
     ≡ map (λ (s : StreamPlan). no_stream) ss
 states-new side limit [] = refl
 states-new side limit (s ∷ ss) = ap (λ xs. no_stream ∷ xs) (states-new side limit ss)
@@ -137,7 +138,7 @@ placed_at side limit calls (s ∷ ss) (z ∷ xs) id (suc place) x d h lt at befo
 
 pub within : (side : Side) (limit calls : ℕ) (ss : List StreamPlan) (xs : List StreamEnd) (id place : ℕ)
     → AreStreamsOf side limit calls ss xs
-    → place_of ss id ≡ Some place → place < length xs
+    → plan_place ss id ≡ Some place → place < length xs
 within side limit calls [] xs id place h e = absurd cc
 within side limit calls (s ∷ ss) xs id place h e =
     let lt = (position-Some (λ (s : StreamPlan). s.id == id) (s ∷ ss) place s e).0 in
@@ -145,7 +146,7 @@ within side limit calls (s ∷ ss) xs id place h e =
 
 pub placed : (side : Side) (limit calls : ℕ) (ss : List StreamPlan) (xs : List StreamEnd) (id place : ℕ) (x : StreamEnd)
     → AreStreamsOf side limit calls ss xs
-    → place_of ss id ≡ Some place → x ≡ get_or xs place x → IsPlaced side limit calls ss xs id place x
+    → plan_place ss id ≡ Some place → x ≡ get_or xs place x → IsPlaced side limit calls ss xs id place x
 placed side limit calls [] xs id place x h e is = absurd cc
 placed side limit calls (s ∷ ss) xs id place x h e is =
     let p = position-Some (λ (s : StreamPlan). s.id == id) (s ∷ ss) place s e in

@@ -1,17 +1,18 @@
 -- Words that several proofs take.
-pub use Rattle.ide_km.specs.{Go, Halt, Place, PortCall, Program, SlotsAfter, called_place, place_at, shown_at, slots_by}
-pub use Rattle.ide_km.specs.Calls.{go_at, is_there, program_at}
+pub use Rattle.ide_km.specs.declared.place.Place.{Place}
+pub use Rattle.ide_km.specs.{Go, Halt, PortCall, Program, SlotsAfter, called_place, place_at, shown_at, slots_by}
+pub use Rattle.ide_km.specs.Calls.{go_answer_at, is_there, program_answer_at}
 pub use Rattle.ide_plan.specs.declared.stream.StreamPlan.{StreamPlan}
-pub use Rattle.ide_port.specs.Calls.{called_port, called_states, is_place, is_unfinished, shown, slot_call, stream_at}
+pub use Rattle.ide_port.specs.Calls.{called_port, called_states, is_place, has_open_unit, shown, slot_call, stream_at}
 pub use Rattle.ide_port.specs.Calls.{sub_from, unfinished_at}
 pub use Rattle.ide_port.specs.Ends.{Found, PortEnd, changed, found, reset_port}
-pub use Rattle.ide_port.specs.Kept.{AreStreamsOf, IsKept, IsStep, IsStreamOf, NoneWaits, arrival_said, delivered_at}
-pub use Rattle.ide_port.specs.Kept.{is_waiting, lane_of, lent_by, new_streams, stream_of}
+pub use Rattle.ide_port.specs.Kept.{AreStreamsOf, IsKept, IsSendStep, IsStreamOf, NoneWaits, arrival_said, delivered_at}
+pub use Rattle.ide_port.specs.Kept.{is_waiting, place_and_sub, packets_lent, new_stream_ends, stream_of}
 pub use Rattle.ide_port.specs.declared.port.Port.TheInside.{Inside}
 pub use Rattle.ide_prefix.specs.Packet.{Packet, packet_bytes, sync_head}
 pub use Rattle.ide_stream.specs.{StreamEnd, answer_as, called_end, end_taken, joined_packets, lanes_in, packets_sent}
 pub use Rattle.ide_stream.specs.{pair_in, reset_end, sending, taken_in}
-pub use Rattle.ide_stream.specs.Sends.{lengths_said, refused, sealing, unless}
+pub use Rattle.ide_stream.specs.Sends.{lengths_said, refused, sealing, unless_verdict}
 pub use Rattle.ide_types.specs.declared.port.Side.{Side}
 pub use Rattle.ide_types.specs.declared.sub.SubKind.{SubKind}
 pub use Rattle.key_slots.specs.{SlotPair, is_one, live_set, program_answer}
@@ -22,8 +23,8 @@ pub use Rattle.std.proofs.Common.{◌==◌, ◌||◌, ◌∙◌, ◌∷◌, ◌�
 pub use Rattle.std.proofs.lemmas.Bool.Decides.{nat_tests}
 pub use Rattle.std.specs.Option.{option_and_then, option_map}
 pub use Rattle.std.specs.Prelude.{if◌then◌else◌, nat_lt, slice_get, slice_set, vec_capacity}
-pub use Rattle.stream_calls.specs.Calls.{SlotCall, called, no_stream, pair_at, sends_in, slots_at, slots_called_into}
-pub use Rattle.stream_calls.specs.Calls.{slots_called_out, stream_status}
+pub use Rattle.sub_stream.specs.Calls.{SlotCall, called, no_stream, pair_at, sends_in, slots_at, slots_called_into}
+pub use Rattle.sub_stream.specs.Calls.{slots_called_out, stream_status}
 pub use Rattle.stream_lanes.specs.declared.refusal.SendRefusal.{SendRefusal}
 pub use Rattle.stream_rules.specs.Sending.{Lanes, Sending, described, ends_unit, front_with, needs_sync, sealed_by}
 pub use Rattle.stream_rules.specs.Sending.{sets_trusted, sync_before}
@@ -35,5 +36,5 @@ pub use Rattle.stream_rules.specs.Stream.{tagged_under, untagged_under}
 pub use Rattle.sub_stream.specs.{answer_of, slot_pair}
 pub use Rattle.tlp_layout.specs.Class.{class_of}
 pub use Rattle.tlp_layout.specs.Head.{head_bytes, head_length}
-pub use Rattle.tlp_layout.specs.Tlp.{body, header, view_of}
+pub use Rattle.tlp_layout.specs.Tlp.{body, header, viewed_tlp}
 pub use Rattle.tlp_layout.specs.declared.tlp.Tlp.{Tlp}

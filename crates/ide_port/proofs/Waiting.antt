@@ -3,7 +3,7 @@ use Rattle.ide_port.proofs.Terms.{◌≡◌, ℕ, true, false, ◌||◌, List, O
 use Rattle.ide_port.proofs.Terms.{Slots, Three, TxSub, RxSub, StreamState, at_sub, set_sub, dropped_held, held_sub}
 use Rattle.ide_port.proofs.Terms.{accepted_sub, Insecure, NotKeyed}
 use Rattle.ide_port.proofs.Terms.{Failed, Held, Accepted, state_after, settled_stream, SlotCall, called}
-use Rattle.ide_port.proofs.Terms.{slots_called_out, slots_called_into, no_stream, unless, is_waiting, NoneWaits}
+use Rattle.ide_port.proofs.Terms.{slots_called_out, slots_called_into, no_stream, unless_verdict, is_waiting, NoneWaits}
 use Rattle.std.proofs.Common.{Bool}
 use Rattle.stream_rules.specs.Stream.{Taken}
 
@@ -15,7 +15,7 @@ pub none-new : NoneWaits no_stream
 none-new u = grind arith
 
 pub none-unless : (o : Option Verdict) (st : StreamState) (tx : Three TxSub) → NoneWaits st
-    → NoneWaits (unless o st (record st { tx = tx }))
+    → NoneWaits (unless_verdict o st (record st { tx = tx }))
 none-unless o st tx h u = grind (arith, h u)
 
 -- ---- receivers

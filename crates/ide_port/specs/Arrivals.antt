@@ -25,18 +25,18 @@ abbrev pub unit_name : Packet → ℕ → ℕ → UnitName
 unit_name p draw unit = record { stream = p.prefix.stream; sub = p.prefix.sub; draw = draw; unit = unit }
 
 -- of an accepted unit, how many packets it has
-abbrev pub arrival_of : Packet → Taken → Arrival
-arrival_of p IsInsecure = Insecure p.prefix.stream
-arrival_of p IsKeyless = NotKeyed p.prefix.stream p.prefix.sub
-arrival_of p (Failed cause) = Fail p.prefix.stream p.prefix.sub cause
-arrival_of p (IsHeld draw unit) = Held (unit_name p draw unit)
-arrival_of p (IsAccepted draw unit packets) = Accepted (unit_name p draw unit) (length packets)
+abbrev pub port_arrival : Packet → Taken → Arrival
+port_arrival p IsInsecure = Insecure p.prefix.stream
+port_arrival p IsKeyless = NotKeyed p.prefix.stream p.prefix.sub
+port_arrival p (Failed cause) = Fail p.prefix.stream p.prefix.sub cause
+port_arrival p (IsHeld draw unit) = Held (unit_name p draw unit)
+port_arrival p (IsAccepted draw unit packets) = Accepted (unit_name p draw unit) (length packets)
 
 abbrev pub taken_on : PortEnd → Packet → Found → TakeStep
 taken_on e p f =
     let taken = taken_by f.plan.mode f.plan.closed f.state p in
     record {
-      answer = arrival_of p taken;
+      answer = port_arrival p taken;
       port =
           record e {
             states = changed e.plans e.states f.plan.id (state_after f.state p taken);

@@ -5,12 +5,13 @@ use Rattle.std.specs.Option.{option_map, option_and_then}
 use Rattle.ide_types.specs.declared.sub.SubKind.{SubKind}
 use Rattle.ide_types.specs.declared.sub.SubKind.TheVariants.{Pr, Npr, Cpl}
 use Rattle.ide_types.specs.declared.status.StreamStatus.{StreamStatus}
-use Rattle.key_slots.specs.{SlotPair, is_one, live_set}
-use Rattle.ide_km.specs.{Place, PortCall, Program, Go, Halt}
+use Rattle.key_slots.specs.{KeySet, SlotPair, live_set}
+use Rattle.ide_km.specs.declared.place.Place.{Place}
+use Rattle.ide_km.specs.{PortCall, Program, Go, Halt, called_place}
 use Rattle.stream_rules.specs.Stream.{Slots, StreamState, at_sub}
 use Rattle.stream_rules.specs.Slots.{is_busy}
-use Rattle.stream_calls.specs.Calls as stream
-use Rattle.stream_calls.specs.Calls.{SlotCall, sends_in, pair_at, slots_at, called, stream_status}
+use Rattle.sub_stream.specs.Calls as stream
+use Rattle.sub_stream.specs.Calls.{SlotCall, sends_in, pair_at, slots_at, called, stream_status}
 use Rattle.ide_port.specs.Ends.{PortEnd, Found, found, changed}
 
 -- the sub-stream of a number below 3
@@ -32,13 +33,13 @@ shown e place = option_map (λ (f : Found). pair_at (sends_in e.name.side place.
     (stream_at e place)
 
 -- a sender has begun a unit and not ended it
-abbrev pub is_unfinished : Slots → Bool
-is_unfinished s = is_busy s.first || is_busy s.second
+abbrev pub has_open_unit : Slots → Bool
+has_open_unit s = is_busy s.first || is_busy s.second
 
 abbrev pub is_open_at : PortEnd → Place → Option Found → Bool
 is_open_at e place None = false
 is_open_at e place (Some f) =
-    sends_in e.name.side place.direction && is_unfinished (at_sub f.state.tx (sub_from place.sub)).slots
+    sends_in e.name.side place.direction && has_open_unit (at_sub f.state.tx (sub_from place.sub)).slots
 
 abbrev pub unfinished_at : PortEnd → Place → Bool
 unfinished_at e place = is_open_at e place (stream_at e place)
@@ -48,28 +49,23 @@ abbrev pub status_in : PortEnd → ℕ → Option StreamStatus
 status_in e id = option_map (λ (f : Found). stream_status f.state) (found e.plans e.states id)
 
 -- the key set of the Live slot of a stream's sender
-abbrev pub live_in_port : PortEnd → ℕ → SubKind → Option ℕ
+abbrev pub live_in_port : PortEnd → ℕ → SubKind → Option KeySet
 live_in_port e id u = option_and_then (λ (f : Found). live_set (pair_at true u f.state)) (found e.plans e.states id)
 
 -- ---- what a call makes of it
 
 abbrev pub slot_call : PortCall → SlotCall
-slot_call (Program place set key draw answer) = stream.Program (is_one set) key draw
-slot_call (Go place set answer) = stream.Go (is_one set)
-slot_call (Halt place set answer) = stream.Halt (is_one set)
-
-abbrev pub place_of : PortCall → Place
-place_of (Program place set key draw answer) = place
-place_of (Go place set answer) = place
-place_of (Halt place set answer) = place
+slot_call (Program place set key draw answer) = stream.Program set key draw
+slot_call (Go place set answer) = stream.Go set
+slot_call (Halt place set answer) = stream.Halt set
 
 abbrev pub called_states : PortEnd → PortCall → Option Found → List StreamState
 called_states e call None = e.states
 called_states e call (Some f) =
-    let place = place_of call in
+    let place = called_place call in
     changed e.plans e.states f.plan.id (called (sends_in e.name.side place.direction) (sub_from place.sub)
     (slot_call call) f.state)
 
 -- the stream of the place is called, and no other changes; nothing is lent any more
 abbrev pub called_port : PortCall → PortEnd → PortEnd
-called_port call e = record e { states = called_states e call (stream_at e (place_of call)); delivered = [] }
+called_port call e = record e { states = called_states e call (stream_at e (called_place call)); delivered = [] }

@@ -4,7 +4,7 @@ use Rattle.ide_types.specs.declared.port.PortName.{PortName}
 use Rattle.ide_plan.specs.declared.stream.StreamPlan.{StreamPlan}
 use Rattle.ide_prefix.specs.Packet.{Packet}
 use Rattle.stream_rules.specs.Stream.{StreamState}
-use Rattle.stream_calls.specs.Calls.{no_stream}
+use Rattle.sub_stream.specs.Calls.{no_stream}
 use Rattle.ide_stream.specs.{StreamEnd}
 
 -- The streams are those of its link, in order, with their states; a key seals at most `limit` units. `sealed` are the
@@ -47,8 +47,8 @@ changed (s ∷ ss) (x ∷ xs) id y = if s.id == id then y ∷ xs else x ∷ chan
 changed ss xs id y = xs
 
 -- as a stream at a port
-abbrev pub end_at : PortEnd → Found → StreamEnd
-end_at e f = record {
+abbrev pub stream_end_at : PortEnd → Found → StreamEnd
+stream_end_at e f = record {
   side = e.name.side;
   id = f.plan.id;
   mode = f.plan.mode;

@@ -1,5 +1,5 @@
 -- The streams of a port as the code keeps them, beside their plans.
-use Rattle.std.specs.Prelude.{◌≡◌, ℕ, ◌==◌, ◌<◌, ◌≤◌, nat_lt, Bool, true, false, ◌&&◌, ◌||◌, List, [], ◌∷◌, map, length}
+use Rattle.std.specs.Prelude.{◌≡◌, ℕ, ◌==◌, ◌<◌, ◌≤◌, nat_lt, Bool, true, false, ◌||◌, List, [], ◌∷◌, map, length}
 use Rattle.std.specs.Prelude.{slice_get, position, Option, Some, None, if◌then◌else◌}
 use Rattle.std.specs.Option.{option_map}
 use Rattle.ide_types.specs.declared.port.Side.{Side}
@@ -54,19 +54,19 @@ AreStreamsOf side limit calls [] [] = Unit {0}
 AreStreamsOf side limit calls (s ∷ ss) (x ∷ xs) = IsStreamOf side limit calls s x × AreStreamsOf side limit calls ss xs
 AreStreamsOf side limit calls ss xs = ⊥
 
-abbrev pub new_streams : Side → ℕ → List StreamPlan → List StreamEnd
-new_streams side limit plans = map (λ (s : StreamPlan). new_end side s.id s.mode s.closed limit) plans
+abbrev pub new_stream_ends : Side → ℕ → List StreamPlan → List StreamEnd
+new_stream_ends side limit plans = map (λ (s : StreamPlan). new_end side s.id s.mode s.closed limit) plans
 
 -- ---- what is lent
 
-abbrev pub lent_by : Option StreamEnd → List Packet
-lent_by None = []
-lent_by (Some x) = x.delivered
+abbrev pub packets_lent : Option StreamEnd → List Packet
+packets_lent None = []
+packets_lent (Some x) = x.delivered
 
 -- by the stream at this place
 abbrev pub delivered_at : List StreamEnd → Option ℕ → List Packet
 delivered_at xs None = []
-delivered_at xs (Some place) = lent_by (slice_get xs place)
+delivered_at xs (Some place) = packets_lent (slice_get xs place)
 
 -- the streams are those of the plans, one of them lends, and what was sealed has room
 pub record IsKept (side : Side) (limit calls : ℕ) (plans : List StreamPlan) (streams : List StreamEnd) (lent : Option ℕ)
@@ -79,17 +79,18 @@ pub record IsKept (side : Side) (limit calls : ℕ) (plans : List StreamPlan) (s
 -- ---- one stream
 
 -- the place of the first stream of an ID
-abbrev pub place_of : List StreamPlan → ℕ → Option ℕ
-place_of plans id = position (λ (s : StreamPlan). s.id == id) plans
+abbrev pub plan_place : List StreamPlan → ℕ → Option ℕ
+plan_place plans id = position (λ (s : StreamPlan). s.id == id) plans
 
 -- and the sub-stream of a number, if there is such a one
-abbrev pub lane_of : List StreamPlan → ℕ → ℕ → Option (ℕ × SubKind)
-lane_of plans id sub = if nat_lt sub 3 then option_map (λ place. (place, sub_from sub)) (place_of plans id) else None
+abbrev pub place_and_sub : List StreamPlan → ℕ → ℕ → Option (ℕ × SubKind)
+place_and_sub plans id sub = if nat_lt sub 3 then option_map (λ place. (place, sub_from sub)) (plan_place plans id)
+    else None
 
 -- ---- answers
 
 -- an answer, and the port after it, as a step says
-pub record IsStep (name : PortName) (number : ℕ) (answer : Sent) (new : PortEnd) (step : SendStep) : Type 0 where
+pub record IsSendStep (name : PortName) (number : ℕ) (answer : Sent) (new : PortEnd) (step : SendStep) : Type 0 where
   pub answered : sent_verdict name number answer ≡ step.verdict
   pub lengths : lengths_sent answer ≡ packet_lengths step.packets
   pub port : new ≡ step.port

@@ -21,7 +21,7 @@ use Rattle.ide_stream.specs.{refusal_verdict, numbered_from, sending, sent_descr
 use Rattle.ide_stream.specs.{joined_packets, packet_lengths}
 use Rattle.ide_port.specs.declared.answer.Sent.{Sent}
 use Rattle.ide_port.specs.declared.answer.Sent.TheVariants.{Malformed, Plain, Refused, Sealed}
-use Rattle.ide_port.specs.Ends.{PortEnd, Found, found, changed, end_at}
+use Rattle.ide_port.specs.Ends.{PortEnd, Found, found, changed, stream_end_at}
 
 -- T of a TLP with this header on a stream
 abbrev pub Trusting : Type 0
@@ -44,7 +44,7 @@ as_verdict (Err verdict) = verdict
 -- a TLP on a stream of the port
 abbrev pub sent_on : PortEnd → Tlp → Found → Sending → ℕ → SendStep
 sent_on e t f s number =
-    let x = end_at e f in
+    let x = stream_end_at e f in
     let packets = packets_sent x (head_bytes (header t)) (body t) s number in
     record {
       verdict = as_verdict (sent_descriptions x s number);
@@ -68,14 +68,14 @@ send_chosen e t sets more number None = unsealed e (v.Plain e.name)
 send_chosen e t sets more number (Some id) =
     send_found e t (sets (header t) id) more number (found e.plans e.states id)
 
-abbrev pub send_read : PortEnd → Trusting → Bool → ℕ → Result Tlp TlpFault → SendStep
-send_read e sets more number (Err fault) = unsealed e (v.Malformed e.name (tlp_word fault) (place_in fault))
-send_read e sets more number (Ok t) = send_chosen e t sets more number
+abbrev pub send_step_read : PortEnd → Trusting → Bool → ℕ → Result Tlp TlpFault → SendStep
+send_step_read e sets more number (Err fault) = unsealed e (v.Malformed e.name (tlp_word fault) (place_in fault))
+send_step_read e sets more number (Ok t) = send_chosen e t sets more number
     (chosen (choice_of e.plans e.name.side (header t)))
 
 -- a send of bytes, whose first sealed packet has this number over the run
 abbrev pub send_step : PortEnd → List ℕ → Trusting → Bool → ℕ → SendStep
-send_step e bytes sets more number = send_read e sets more number (read_of bytes)
+send_step e bytes sets more number = send_step_read e sets more number (read_of bytes)
 
 -- ---- the answer
 
@@ -91,7 +91,7 @@ abbrev pub lengths_sent : Sent → List ℕ
 lengths_sent (Sealed packets) = map (λ (p : SealedPacket). p.length) packets
 lengths_sent answer = []
 
-pub record IsSent (old : PortEnd) (bytes : List ℕ) (sets : Trusting) (more : Bool) (number : ℕ) (answer : Sent)
+pub record IsSentAtPort (old : PortEnd) (bytes : List ℕ) (sets : Trusting) (more : Bool) (number : ℕ) (answer : Sent)
     (new : PortEnd) : Type 0 where
   pub answered : sent_verdict old.name number answer ≡ (send_step old bytes sets more number).verdict
   pub lengths : lengths_sent answer ≡ packet_lengths (send_step old bytes sets more number).packets

@@ -6,7 +6,7 @@ use ide_types::{FailCause, SubKind};
 use link_verdicts::UnitName;
 use tlp_layout::TlpFault;
 
-/// What becomes of a send.
+/// What becomes of a send (this profile).
 #[derive(Debug, Drop)]
 pub enum Sent {
     /// The bytes are no TLP.
@@ -19,7 +19,7 @@ pub enum Sent {
     Sealed(Sealed),
 }
 
-/// What becomes of arriving bytes.
+/// What becomes of arriving bytes (this profile).
 #[derive(Clone, Copy, Debug, PartialEq, Eq)]
 pub enum Arrival {
     /// They are no packet.

@@ -6,8 +6,6 @@
 mod answer;
 mod plans;
 mod port;
-#[cfg(test)]
-mod tests;
 mod trusting;
 
 pub use answer::{Arrival, Sent};

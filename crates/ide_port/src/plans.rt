@@ -3,7 +3,7 @@
 ghost use Rattle.std.specs.Prelude.{◌≡◌, IfOk, map, All};
 ghost use Rattle.ide_plan.specs.Fits.{FitsStream};
 ghost use Rattle.ide_port.specs.Calls.{sub_from};
-ghost use Rattle.ide_port.specs.Kept.{place_of, lane_of, new_streams};
+ghost use Rattle.ide_port.specs.Kept.{plan_place, place_and_sub, new_stream_ends};
 
 use ide_plan::{Selector, StreamPlan};
 use ide_stream::Stream;
@@ -60,7 +60,7 @@ pub fn planned(
     limit: u64,
 ) -> Result<Vec<Stream>, Memory>
     requires { All FitsStream plans.now }
-    ensures { IfOk result (λ v. v.items ≡ new_streams side limit plans.now) }
+    ensures { IfOk result (λ v. v.items ≡ new_stream_ends side limit plans.now) }
 {
     let mut streams = Vec::new(alloc);
     for plan in plans {
@@ -71,7 +71,7 @@ pub fn planned(
 
 /// The place of the stream of an ID.
 pub fn place(plans: &[StreamPlan], id: u8) -> Option<usize>
-    ensures { result ≡ place_of plans.now id }
+    ensures { result ≡ plan_place plans.now id }
 {
     plans.iter().position(|plan| plan.id == id)
 }
@@ -88,7 +88,7 @@ fn sub_stream(number: u8) -> SubKind
 
 /// The place of the stream of an ID, and the sub-stream of a number below 3.
 pub fn lane(plans: &[StreamPlan], id: u8, sub: u8) -> Option<(usize, SubKind)>
-    ensures { result ≡ lane_of plans.now id sub }
+    ensures { result ≡ place_and_sub plans.now id sub }
 {
     if sub >= 3 {
         return None;

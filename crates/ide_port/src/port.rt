@@ -1,13 +1,12 @@
 //! A port.
 
-ghost use Rattle.std.specs.Prelude.{◌≡◌, ◌+◌, ◌<◌, ◌≤◌, ◌^◌, ℕ, [], Ok, Some, IfOk, All, length, map, slice_get};
+ghost use Rattle.std.specs.Prelude.{◌≡◌, ◌+◌, ◌<◌, ◌≤◌, ◌^◌, ℕ, [], Ok, Some, IfOk, All, length, map};
 ghost use Rattle.tlp_layout.specs.Head.{head_bytes};
-ghost use Rattle.tlp_layout.specs.Tlp.{header, body, view_of};
+ghost use Rattle.tlp_layout.specs.Tlp.{header, body, viewed_tlp};
 ghost use Rattle.tlp_layout.specs.Reading.{read_of};
 ghost use Rattle.association.specs.Choice.{chosen};
 ghost use Rattle.ide_plan.specs.Fits.{FitsStream};
 ghost use Rattle.ide_prefix.specs.Cut.{packet_of_view, IsView};
-ghost use Rattle.sub_stream.specs.{lent_parts, mark_of};
 ghost use Rattle.ide_stream.specs.{reset_end};
 ghost use Rattle.ide_port.specs.Kept.{arrival_said};
 
@@ -15,20 +14,20 @@ use crate::answer::{Arrival, Sent};
 use crate::plans::{copied, lane, place, planned};
 use crate::trusting::Trusting;
 use association::{Choice, choose};
-use ide_km::{ProgramFault, SlotPort};
+use ide_km::{Place, ProgramFault, SlotPort};
 use ide_plan::StreamPlan;
 use ide_prefix::{Cut, PacketView, cut};
 use ide_stream::{SEND_ROOM, Stream};
-use ide_types::{Items, Memory, PortName, Side, StreamStatus, SubKind};
+use ide_types::{Items, KeySet, Memory, PortName, Side, StreamStatus, SubKind};
 use key_slots::{Key, OnlyLive};
 use link_verdicts::UnitName;
 use std::alloc::Global;
 use std::marker::Model;
-use sub_stream::{PacketMark, Taken};
+use sub_stream::{Delivered, Taken};
 use tlp_layout::{TlpView, read};
 use tsm_host::HostPort;
 
-/// A port of a link with the link's streams.
+/// A port of a link with the link's streams (PCI Express Base 6.0 section 6.33, in this profile).
 #[derive(Drop)]
 pub struct Port {
     name: PortName,
@@ -78,9 +77,9 @@ fn named(choice: Choice) -> Option<u8>
 // The header and the payload of a TLP's bytes.
 #[tactic(auto, using(crate::proofs::Parts::parts_of))]
 fn parts<'a>(bytes: &'a [u8], tlp: &TlpView) -> (&'a [u8], &'a [u8])
-    requires { read_of bytes.now ≡ Ok (view_of tlp.now) }
-    ensures head { result.0.now ≡ head_bytes (header (view_of tlp.now)) }
-    ensures payload { result.1.now ≡ body (view_of tlp.now) }
+    requires { read_of bytes.now ≡ Ok (viewed_tlp tlp.now) }
+    ensures head { result.0.now ≡ head_bytes (header (viewed_tlp tlp.now)) }
+    ensures payload { result.1.now ≡ body (viewed_tlp tlp.now) }
     ensures head_short { length result.0.now ≤ 16 }
     ensures payload_short { length result.1.now ≤ 4096 }
 {
@@ -123,10 +122,10 @@ fn reset_streams(streams: &mut Vec<Stream>)
 
 impl Port {
     ghost use Rattle.ide_port.specs.Ends.{new_port, found, reset_port};
-    ghost use Rattle.ide_port.specs.Sends.{IsSent, unsealed, send_chosen, send_found, sent_verdict};
+    ghost use Rattle.ide_port.specs.Sends.{IsSentAtPort, unsealed, send_chosen, send_found, sent_verdict};
     ghost use Rattle.ide_port.specs.Arrivals.{take_step, take_found};
     ghost use Rattle.ide_port.specs.Calls.{status_in, live_in_port};
-    ghost use Rattle.ide_port.specs.Kept.{IsStep};
+    ghost use Rattle.ide_port.specs.Kept.{IsSendStep};
 
     /// The port of this name with these streams of its link, without keys; a key seals at most `limit` units.
     pub fn make(
@@ -174,7 +173,7 @@ impl Port {
     pub fn send<T: Trusting>(&mut self, tlp: &[u8], trusting: &T, more: bool) -> Sent
         requires { self.old.calls < 2 ^ 40 }
         // Whatever the number of the next sealed packet is over the run.
-        ensures { (number : ℕ) → IsSent self.old tlp.now (T.trusting trusting.now) more number result self.new }
+        ensures { (number : ℕ) → IsSentAtPort self.old tlp.now (T.trusting trusting.now) more number result self.new }
     {
         match read(tlp) {
             Err(fault) => {
@@ -198,9 +197,10 @@ impl Port {
         more: bool,
     ) -> Sent
         requires few { self.old.calls < 2 ^ 40 }
-        requires read { read_of bytes.now ≡ Ok (view_of tlp.now) }
-        ensures { (number : ℕ) → let step = send_chosen self.old (view_of tlp.now) (T.trusting trusting.now) more number id in
-            IsStep self.old.name number result self.new step }
+        requires read { read_of bytes.now ≡ Ok (viewed_tlp tlp.now) }
+        ensures { (number : ℕ) → let step = send_chosen self.old (viewed_tlp tlp.now) (T.trusting trusting.now) more
+            number id in
+            IsSendStep self.old.name number result self.new step }
     {
         match id {
             None => {
@@ -217,9 +217,10 @@ impl Port {
     // Sends a TLP on a stream.
     fn send_on(&mut self, id: u8, bytes: &[u8], tlp: &TlpView, trusted: bool, more: bool) -> Sent
         requires few { self.old.calls < 2 ^ 40 }
-        requires read { read_of bytes.now ≡ Ok (view_of tlp.now) }
+        requires read { read_of bytes.now ≡ Ok (viewed_tlp tlp.now) }
         ensures { (number : ℕ) → let f = found self.old.plans self.old.states id in
-            IsStep self.old.name number result self.new (send_found self.old (view_of tlp.now) trusted more number f) }
+            IsSendStep self.old.name number result self.new
+            (send_found self.old (viewed_tlp tlp.now) trusted more number f) }
     {
         let Some(place) = place(self.plans.as_slice(), id) else {
             self.unsealed();
@@ -292,38 +293,14 @@ impl Port {
         arrival(id, packet.prefix.sub, stream.take(packet))
     }
 
-    /// How many packets of an accepted unit are lent, at most 8.
-    pub fn delivered(&self) -> usize
-        ensures value { result ≡ length self.now.delivered }
-        ensures most { result ≤ 8 }
+    /// The packets of an accepted unit that are lent.
+    pub fn delivered(&self) -> Delivered<'_>
+        ensures { result ≡ self.now.delivered }
     {
         match self.lent {
-            None => 0,
+            None => Delivered::none(),
             Some(place) => self.streams[place].delivered(),
         }
-    }
-
-    /// The header and the decrypted payload of packet `i` of the unit that was accepted last, counted from 0.
-    pub fn packet(&self, i: usize) -> (&[u8], &[u8])
-        requires { i < length self.now.delivered }
-        ensures { slice_get (map lent_parts self.now.delivered) i ≡ Some (result.0.now, result.1.now) }
-    {
-        let Some(place) = self.lent else {
-            unreachable!()
-        };
-        self.streams[place].packet(i)
-    }
-
-    /// Whether packet `i` of the unit that was accepted last, counted from 0, is trusted, and whether it is a sync
-    /// packet.
-    pub fn mark(&self, i: usize) -> PacketMark
-        requires { i < length self.now.delivered }
-        ensures { slice_get (map mark_of self.now.delivered) i ≡ Some result }
-    {
-        let Some(place) = self.lent else {
-            unreachable!()
-        };
-        self.streams[place].mark(i)
     }
 
     /// The status of a stream; `None` if the port has no such stream.
@@ -336,8 +313,8 @@ impl Port {
         }
     }
 
-    /// The key set, 0 or 1, of the Live slot of a stream's sender in a sub-stream; `None` if none is Live.
-    pub fn live_set(&self, stream: u8, sub: SubKind) -> Option<u8>
+    /// The key set of the Live slot of a stream's sender in a sub-stream; `None` if none is Live.
+    pub fn live_set(&self, stream: u8, sub: SubKind) -> Option<KeySet>
         ensures { result ≡ live_in_port self.now stream sub }
     {
         match place(self.plans.as_slice(), stream) {
@@ -367,19 +344,17 @@ impl SlotPort for Port {
 
     fn program(
         &mut self,
-        stream: u8,
-        set: u8,
-        dir: u8,
-        sub: u8,
+        place: Place,
+        set: KeySet,
         key: Key,
         draw: u32,
     ) -> Result<(), ProgramFault> {
         self.lent = None;
-        match lane(self.plans.as_slice(), stream, sub) {
+        match lane(self.plans.as_slice(), place.stream, place.sub) {
             None => Err(ProgramFault::NoPlace(key)),
-            Some((place, sub)) => {
-                let stream = &mut self.streams[place];
-                match stream.program(set, dir, sub, key, draw) {
+            Some((index, sub)) => {
+                let stream = &mut self.streams[index];
+                match stream.program(set, place.direction, sub, key, draw) {
                     Ok(()) => Ok(()),
                     Err(OnlyLive { key }) => Err(ProgramFault::OnlyLive(key)),
                 }
@@ -387,24 +362,24 @@ impl SlotPort for Port {
         }
     }
 
-    fn go(&mut self, stream: u8, set: u8, dir: u8, sub: u8) -> bool {
+    fn go(&mut self, place: Place, set: KeySet) -> bool {
         self.lent = None;
-        match lane(self.plans.as_slice(), stream, sub) {
+        match lane(self.plans.as_slice(), place.stream, place.sub) {
             None => false,
-            Some((place, sub)) => {
-                let stream = &mut self.streams[place];
-                stream.go(set, dir, sub).is_ok()
+            Some((index, sub)) => {
+                let stream = &mut self.streams[index];
+                stream.go(set, place.direction, sub).is_ok()
             }
         }
     }
 
-    fn halt(&mut self, stream: u8, set: u8, dir: u8, sub: u8) -> bool {
+    fn halt(&mut self, place: Place, set: KeySet) -> bool {
         self.lent = None;
-        match lane(self.plans.as_slice(), stream, sub) {
+        match lane(self.plans.as_slice(), place.stream, place.sub) {
             None => false,
-            Some((place, sub)) => {
-                let stream = &mut self.streams[place];
-                stream.halt(set, dir, sub);
+            Some((index, sub)) => {
+                let stream = &mut self.streams[index];
+                stream.halt(set, place.direction, sub);
                 true
             }
         }
@@ -422,7 +397,7 @@ impl HostPort for Port {
         Port::status(self, stream)
     }
 
-    fn live_set(&self, stream: u8, sub: SubKind) -> Option<u8> {
+    fn live_set(&self, stream: u8, sub: SubKind) -> Option<KeySet> {
         Port::live_set(self, stream, sub)
     }
 }

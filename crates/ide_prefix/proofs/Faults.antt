@@ -1,5 +1,5 @@
--- Where a packet goes wrong: each byte ahead of the place was judged good by its place, and the one there is not; a
--- fault of the header is the same fault four bytes on.
+-- Where a packet goes wrong: each byte before the place was judged good by its place, and the one there is not; a fault
+-- of the header is the same fault four bytes on.
 use Rattle.std.proofs.Common.{◌≡◌, ℕ, ◌+◌, ◌-◌, ◌<◌, ◌≤◌, Bool, true, false, cond, IsTrue, List, [], length, get_or}
 use Rattle.std.proofs.Common.{take, drop, Option, Some, None, is_some, refl, sym, ap, subst, ◌∙◌, inl, inr, arith}
 use Rattle.std.proofs.Common.{length-take, length-drop, get_or-take, get_or-drop, take-append-drop, take-take}
@@ -61,9 +61,9 @@ sync_fault s f place fit early y h =
       h.cause,
     )
 
--- ---- a header behind the prefix
+-- ---- a header after the prefix
 
--- the walk of a header's front, as the packet's
+-- the walk of a header's first bytes, as the packet's
 head_walked : (s : List ℕ) (place : ℕ) → IsBytes s → 5 ≤ length s
     → ((i : ℕ) → i < 5 → fits_early i s (get_or s i 0) ≡ true) → sync_at s ≡ false
     → place ≤ length (head_slice s) → Fitting may_follow (head_slice s) place → IsWalkedPacket s (4 + place)
@@ -83,7 +83,7 @@ head_walked s place fit long early plain le w = record {
       at t;
 }
 
--- a header's front is not off at its first byte, where the packet's byte 4 is right
+-- a header's first bytes are not off at the first one, if the packet's byte 4 is right
 some_kind : (sub : SubKind) (p : Bool) (o : Option Layout) → belongs sub (kind_among o p) ≡ true → is_some o ≡ true
 some_kind sub p None e = absurd cc
 some_kind sub p (Some k) e = refl
@@ -310,7 +310,7 @@ pub tag_long : (s : List ℕ) (size wanted : ℕ) → length s ≡ 4 + size + wa
 tag_long s size wanted e = omega
     (arith, e, length-drop wanted (drop size (drop 4 s)), length-drop size (drop 4 s), length-drop 4 s)
 
--- what `as_array` gives of the bytes behind the payload: the tag where M is set
+-- what `as_array` gives of the bytes after the payload: the tag if M is set
 tag_is : (o : Option (Bor (List ℕ))) (t : List ℕ) (m : Bool) → length t ≡ cond m 12 0
     → MatchOption o (length t ≡ 12 → ⊥) (λ y. IsWholeChunk t y.now 12) → (lent_tag o ≡ t) × (is_some o ≡ m)
 tag_is None t true e h = absurd (h e)

@@ -1,6 +1,5 @@
--- Packets are a grammar, byte by byte: what is spelled walks; what walks and wants no more is spelled by its parts, a
--- prefix that its flags give back, a header that is right, the payload that it wants, and the tag; and else a byte more
--- may follow.
+-- Packets are a grammar, byte by byte. What is spelled walks. What walks and wants no more is spelled by its parts: a
+-- prefix that its flags give back, a right header, the payload that it wants, and the tag. Else a byte more may follow.
 use Rattle.std.proofs.Common.{◌≡◌, ℕ, zero, suc, ◌+◌, ◌-◌, ◌*◌, ◌/◌, ◌%◌, ◌<◌, ◌≤◌, Bool, true, false, cond, eqb, ltb}
 use Rattle.std.proofs.Common.{IsTrue, ◌&&◌, not, List, [], ◌∷◌, ◌++◌, length, get_or, take, drop, replicate, Option}
 use Rattle.std.proofs.Common.{Some, None, refl, sym, ap, subst, ◌∙◌, inl, inr, arith, length-append, length-take}
@@ -33,7 +32,7 @@ pub record IsWalkedPacket (s : List ℕ) (n : ℕ) : Type 0 where
   pub zeros : sync_at s ≡ true → (i : ℕ) → 5 ≤ i → i < n → i < 16 → get_or s i 0 ≡ 0
   pub late : sync_at s ≡ false → (i : ℕ) → 5 ≤ i → i < n → may_follow (take (i - 4) (drop 4 s)) (get_or s i 0) ≡ true
 
--- ---- what a front says
+-- ---- what the first bytes say
 
 prefix_front : (n : ℕ) (s : List ℕ) → 4 ≤ n → prefix_read (take n s) ≡ prefix_read s
 prefix_front n s le =
@@ -197,7 +196,7 @@ fits_prefix s le w = record {
       eqb-true _ _ (rw (eq-eqb _ _ z) at t);
 }
 
--- behind the prefix a TLP's header walks
+-- after the prefix a TLP's header walks
 pub tail_walked : (s : List ℕ) → 5 ≤ length s → IsWalkedPacket s (length s) → sync_at s ≡ false → (k : Layout)
     × IsWalked k (drop 4 s) (length (drop 4 s)) ×
     (kind_class (kind_with k (has_data (get_or s 4 0))) ≡ (prefix_read s).sub)
@@ -382,7 +381,7 @@ at_tail a b c d x i le =
     let e : i ≡ 4 + (i - 4) = omega arith in
     ap (λ (j : ℕ). get_or s j 0) e ∙ sym (get_or-drop 4 s (i - 4) 0)
 
--- a prefix, and bytes behind it
+-- a prefix, and bytes after it
 early_good : (p : Prefix) (x : List ℕ) → FitsPrefix p → fits_first p (get_or x 0 0) ≡ true → (i : ℕ) → i < 5
     → fits_early i (prefix_bytes p ++ x) (get_or (prefix_bytes p ++ x) i 0) ≡ true
 early_good p x f first zero lt = refl

@@ -1,5 +1,5 @@
 -- What a unit's tag covers fixes its packets, but for their tags: a prefix has four bytes, the first header byte tells
--- how long the header is, and the header how long the payload, so packet after packet comes off the front.
+-- how long the header is, and the header how long the payload, so packet after packet is cut off.
 use Rattle.std.proofs.Common.{◌≡◌, ℕ, suc, ◌+◌, ◌*◌, ◌/◌, ◌%◌, ◌<◌, Bool, true, false, eqb, List, [], ◌∷◌, ◌++◌, length}
 use Rattle.std.proofs.Common.{map, get_or, Some, refl, sym, ap, subst, ◌∙◌, inl, inr, arith, append-nil}
 use Rattle.std.specs.List.{AllByRecursion}

@@ -1,4 +1,4 @@
--- What the tag of a unit, a run of packets of which the last has M, covers.
+-- What the tag of a unit covers. A unit is a run of packets, and the last of them has M.
 use Rattle.std.specs.List.{flat_map}
 use Rattle.std.specs.Prelude.{ℕ, List, [], ◌++◌}
 use Rattle.ide_prefix.specs.Packet.{Packet, prefix_bytes}

@@ -14,6 +14,3 @@ pub use fault::PacketFault;
 pub use iv::unit_iv;
 pub use laws::{carried_head, cutting_is_grammar, one_packet, one_unit};
 pub use packet::{Cut, PACKET_FIRST, PacketView, Prefix, SYNC_FIRST, write_prefix};
-
-#[cfg(test)]
-mod tests;

@@ -42,7 +42,7 @@ pub fn write_prefix(prefix: &Prefix) -> [u8; 4]
     ]
 }
 
-/// A packet's parts, lent.
+/// A packet's parts, lent (PCI Express Base 6.0 section 6.33; the layout is this profile's).
 #[derive(Clone, Copy, Debug)]
 pub struct PacketView<'a> {
     /// The prefix, bytes 0 to 3.
@@ -72,7 +72,7 @@ impl PacketView<'_> {
     }
 }
 
-/// What bytes are: a plain TLP's, or a packet.
+/// What bytes are: a plain TLP's, or a packet (this profile).
 #[derive(Clone, Copy, Debug)]
 pub enum Cut<'a> {
     /// Byte 0 is not 0x92.

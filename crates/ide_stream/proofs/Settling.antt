@@ -6,19 +6,20 @@ use Rattle.ide_types.specs.declared.sub.SubKind.TheVariants.{Pr, Npr, Cpl}
 use Rattle.ide_types.specs.declared.port.Side.{Side}
 use Rattle.ide_prefix.specs.Packet.{Packet}
 use Rattle.stream_rules.specs.Sending.{Sending, sealed_by}
-use Rattle.stream_rules.specs.Stream.{Slots, TxSub, RxSub, Three, StreamState, at_sub, set_sub, slot_in, live_in, Taken}
+use Rattle.stream_rules.specs.Stream.{Slots, TxSub, RxSub, Three, StreamState, at_sub, set_sub, slot_in_set, live_in}
+use Rattle.stream_rules.specs.Stream.{Taken}
 use Rattle.stream_rules.specs.Stream.{Insecure, NotKeyed, Failed, Held, Accepted, dropped_held, taken_under}
 use Rattle.stream_rules.specs.Stream.{state_after}
 use Rattle.sub_stream.specs.{answer_of}
 use Rattle.sub_stream.specs.declared.answer.SealedPacket.{SealedPacket}
 use Rattle.sub_stream.specs.declared.answer.Taken.{Taken as Answer}
 use Rattle.sub_stream.specs.declared.answer.Taken.TheVariants as answers
-use Rattle.stream_calls.specs.Calls.{SlotCall}
+use Rattle.sub_stream.specs.Calls.{SlotCall}
 use Rattle.ide_stream.specs.declared.directions.Directions.{Directions}
 use Rattle.ide_stream.specs.Ends.{StreamEnd, lanes_in, taken_in, end_taken}
-use Rattle.ide_stream.specs.Sends.{ok_unless, refused, unless, IsSent, sealing}
+use Rattle.ide_stream.specs.Sends.{ok_unless_verdict, refused, unless_verdict, IsSent, sealing}
 use Rattle.stream_lanes.specs.{SendEnds, any_out, settled_out, IsSealed, packet_lengths, joined_packets, ReceiveEnds}
-use Rattle.stream_lanes.specs.{receiving, taken_among, opened_after, ends_after, is_fail}
+use Rattle.stream_lanes.specs.{receiving_state, taken_among, opened_after, ends_after, is_fail}
 use Rattle.ide_stream.specs.Both.{called_directions, settled_directions, end_of, AtMost, IsStream}
 
 -- ---- calls of key management
@@ -80,12 +81,12 @@ sent-so side d calls head payload s number sealed before after new clear is =
     let e : StreamEnd = end_of side d calls in
     let all = sealing e head payload s number in
     record {
-      answered = ap Ok is.answered ∙ ap (λ o. ok_unless o (sealed_by (lanes_in e) s number)) (sym clear);
-      lengths = is.lengths ∙ ap (λ o. packet_lengths (unless o [] all.0)) (sym clear);
-      bytes = is.bytes ∙ ap (λ o. before ++ joined_packets (unless o [] all.0)) (sym clear);
+      answered = ap Ok is.answered ∙ ap (λ o. ok_unless_verdict o (sealed_by (lanes_in e) s number)) (sym clear);
+      lengths = is.lengths ∙ ap (λ o. packet_lengths (unless_verdict o [] all.0)) (sym clear);
+      bytes = is.bytes ∙ ap (λ o. before ++ joined_packets (unless_verdict o [] all.0)) (sym clear);
       stream =
           ap (λ (x : SendEnds). end_of side (record d { tx = x }) (calls + 1)) is.senders
-          ∙ ap (λ o. record e { state = unless o e.state (record e.state { tx = all.1 }); calls = calls + 1 })
+          ∙ ap (λ o. record e { state = unless_verdict o e.state (record e.state { tx = all.1 }); calls = calls + 1 })
           (sym clear);
     }
 
@@ -112,10 +113,10 @@ pub taken-among : (side : Side) (d : Directions) (calls : ℕ) (p : Packet) → 
     → taken_among d.rx p ≡ taken_in (end_of side d calls) p
 taken-among side d calls p inv clear =
     let slots = (at_sub d.rx.rx p.prefix.sub).slots in
-    (λ i. taken_under (inv.same_mode i) (inv.same_closed i) d.rx.rx p (live_in (slot_in slots p.prefix.k))
-    (live_in (slot_in slots (not p.prefix.k))))
+    (λ i. taken_under (inv.same_mode i) (inv.same_closed i) d.rx.rx p (live_in (slot_in_set slots p.prefix.k))
+    (live_in (slot_in_set slots (not p.prefix.k))))
     ∙ ap (λ (b : Bool). if b then Insecure else taken_under d.tx.fixed.mode d.tx.fixed.closed d.rx.rx p
-    (live_in (slot_in slots p.prefix.k)) (live_in (slot_in slots (not p.prefix.k)))) (sym clear)
+    (live_in (slot_in_set slots p.prefix.k)) (live_in (slot_in_set slots (not p.prefix.k)))) (sym clear)
 
 state_is : (tx : Three TxSub) (rx : Three RxSub) (failed : Bool) (p : Packet) (t : Taken) (a : Answer) → failed ≡ false
     → Some a ≡ answer_of t
@@ -147,7 +148,7 @@ state_is tx rx failed p (Accepted j n unit) a clear e =
     }
 
 rx_alone : (x : ReceiveEnds) (tx : Three TxSub) (failed : Bool) (p : Packet) (t : Taken)
-    → (state_after (receiving x) p t).rx ≡ (state_after (record { tx = tx; rx = x.rx; failed = failed }) p t).rx
+    → (state_after (receiving_state x) p t).rx ≡ (state_after (record { tx = tx; rx = x.rx; failed = failed }) p t).rx
 rx_alone x tx failed p Insecure = refl
 rx_alone x tx failed p NotKeyed = refl
 rx_alone x tx failed p (Failed cause) = refl
@@ -155,7 +156,7 @@ rx_alone x tx failed p (Held j n) = refl
 rx_alone x tx failed p (Accepted j n unit) = refl
 
 lent_alone : (x : ReceiveEnds) (tx : Three TxSub) (failed : Bool) (p : Packet) (t : Taken)
-    → opened_after (receiving x) p t ≡ opened_after (record { tx = tx; rx = x.rx; failed = failed }) p t
+    → opened_after (receiving_state x) p t ≡ opened_after (record { tx = tx; rx = x.rx; failed = failed }) p t
 lent_alone x tx failed p Insecure = refl
 lent_alone x tx failed p NotKeyed = refl
 lent_alone x tx failed p (Failed cause) = refl

@@ -5,7 +5,7 @@ use Rattle.ide_types.specs.declared.port.Side.{Side}
 use Rattle.key_slots.specs.{SlotPair}
 use Rattle.stream_rules.specs.Stream.{TxSub, Three, at_sub}
 use Rattle.sub_stream.specs.{slot_pair}
-use Rattle.stream_calls.specs.Calls.{SlotCall}
+use Rattle.sub_stream.specs.Calls.{SlotCall}
 use Rattle.ide_stream.specs.declared.directions.Directions.{Directions}
 use Rattle.ide_stream.specs.Ends.{StreamEnd}
 use Rattle.stream_lanes.specs.{any_out, settled_out, called_ends, any_into, settled_into, called_receivers}

@@ -8,7 +8,7 @@ use Rattle.key_slots.specs.{SlotPair}
 use Rattle.stream_rules.specs.Sending.{Lanes}
 use Rattle.stream_rules.specs.Stream.{StreamState, Taken, lanes_of, taken_by, state_after}
 use Rattle.stream_lanes.specs.{opened_after}
-use Rattle.stream_calls.specs.Calls.{SlotCall, sends_in, pair_at, called, no_stream}
+use Rattle.sub_stream.specs.Calls.{SlotCall, sends_in, pair_at, called, no_stream}
 
 -- Units of at most `mode` packets, and at most `limit` under one key; `delivered` are the packets of the last accepted
 -- unit, decrypted, until the next packet or call of key management; `calls` counts sends and packets that came.

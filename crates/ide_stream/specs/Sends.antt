@@ -25,15 +25,15 @@ sending port stream u more trusted =
     record { port = port; stream = stream; class = u; more = more; trusted = trusted }
 
 -- the refusal that comes first, or what is sealed
-abbrev pub ok_unless : {A : Type 0} → Option Verdict → A → Result A Verdict
-ok_unless None a = Ok a
-ok_unless (Some verdict) a = Err verdict
+abbrev pub ok_unless_verdict : {A : Type 0} → Option Verdict → A → Result A Verdict
+ok_unless_verdict None a = Ok a
+ok_unless_verdict (Some verdict) a = Err verdict
 
 abbrev pub refused : StreamEnd → Sending → Option Verdict
 refused e s = first_that_holds (refusals (lanes_in e) s.class)
 
 abbrev pub sent_descriptions : StreamEnd → Sending → ℕ → Result (List Described) Verdict
-sent_descriptions e s number = ok_unless (refused e s) (sealed_by (lanes_in e) s number)
+sent_descriptions e s number = ok_unless_verdict (refused e s) (sealed_by (lanes_in e) s number)
 
 -- ---- packets, and the stream after them
 
@@ -41,17 +41,17 @@ sent_descriptions e s number = ok_unless (refused e s) (sealed_by (lanes_in e) s
 abbrev pub sealing : StreamEnd → List ℕ → List ℕ → Sending → ℕ → List Packet × Three TxSub
 sealing e head payload s number = sealed_all e.closed head payload (sealed_by (lanes_in e) s number) e.state.tx
 
-abbrev pub unless : {A : Type 0} → Option Verdict → A → A → A
-unless None none a = a
-unless (Some verdict) none a = none
+abbrev pub unless_verdict : {A : Type 0} → Option Verdict → A → A → A
+unless_verdict None none a = a
+unless_verdict (Some verdict) none a = none
 
 abbrev pub packets_sent : StreamEnd → List ℕ → List ℕ → Sending → ℕ → List Packet
-packets_sent e head payload s number = unless (refused e s) [] (sealing e head payload s number).0
+packets_sent e head payload s number = unless_verdict (refused e s) [] (sealing e head payload s number).0
 
 abbrev pub end_sent : StreamEnd → List ℕ → List ℕ → Sending → ℕ → StreamEnd
 end_sent e head payload s number =
     record e {
-      state = unless (refused e s) e.state (record e.state { tx = (sealing e head payload s number).1 });
+      state = unless_verdict (refused e s) e.state (record e.state { tx = (sealing e head payload s number).1 });
       calls = e.calls + 1;
     }
 

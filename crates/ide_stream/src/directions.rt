@@ -1,15 +1,15 @@
 //! Both directions of a stream.
 
-ghost use Rattle.std.specs.Prelude.{◌≡◌, ◌<◌, not, is_ok, if◌then◌else◌};
+ghost use Rattle.std.specs.Prelude.{◌≡◌, not, is_ok, if◌then◌else◌};
 ghost use Rattle.key_slots.specs.{is_one, is_empty, program_answer, slot_in};
-ghost use Rattle.stream_calls.specs.Calls.{Program, Go, Halt};
+ghost use Rattle.sub_stream.specs.Calls.{Program, Go, Halt};
 
-use ide_types::SubKind;
+use ide_types::{KeySet, SubKind};
 use key_slots::{Key, OnlyLive, SlotEmpty};
 use stream_lanes::{ReceiveLanes, SendLanes};
 
 /// The senders and the receivers of a stream, and whether a check failed. In each call `sends` says that the senders
-/// are meant, and `set` is 0 or 1.
+/// are meant.
 #[derive(Drop)]
 pub struct Directions {
     pub tx: SendLanes,
@@ -26,11 +26,10 @@ impl Directions {
         &mut self,
         sends: bool,
         sub: SubKind,
-        set: u8,
+        set: KeySet,
         key: Key,
         draw: u32,
     ) -> Result<(), OnlyLive>
-        requires { set < 2 }
         ensures answer { result ≡ program_answer (pair_of sends sub self.old) (is_one set) key }
         ensures directions { self.new ≡ called_directions sends sub (Program (is_one set) key draw) self.old }
     {
@@ -42,8 +41,7 @@ impl Directions {
     }
 
     /// GO: takes a Programmed key into use. Returns `SlotEmpty` exactly if the slot is Empty.
-    pub fn go(&mut self, sends: bool, sub: SubKind, set: u8) -> Result<(), SlotEmpty>
-        requires { set < 2 }
+    pub fn go(&mut self, sends: bool, sub: SubKind, set: KeySet) -> Result<(), SlotEmpty>
         ensures answer { is_ok result ≡ not (is_empty (slot_in (pair_of sends sub self.old) (is_one set))) }
         ensures directions { self.new ≡ called_directions sends sub (Go (is_one set)) self.old }
     {
@@ -55,8 +53,7 @@ impl Directions {
     }
 
     /// STOP: empties a slot, with the open unit or the held packets under its key.
-    pub fn halt(&mut self, sends: bool, sub: SubKind, set: u8)
-        requires { set < 2 }
+    pub fn halt(&mut self, sends: bool, sub: SubKind, set: KeySet)
         ensures { self.new ≡ called_directions sends sub (Halt (is_one set)) self.old }
     {
         if sends {

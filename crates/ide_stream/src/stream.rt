@@ -1,30 +1,31 @@
 //! A stream at a port.
 
 ghost use Rattle.std.specs.Prelude.{◌≡◌, ◌==◌, ◌&&◌, ◌||◌, ◌+◌, ◌<◌, ◌≤◌, ◌^◌, ℕ, Bool, Some, IfOk, true, false, not};
-ghost use Rattle.std.specs.Prelude.{length, is_ok, slice_get, map, vec_len, vec_capacity};
+ghost use Rattle.std.specs.Prelude.{length, is_ok, vec_len, vec_capacity};
 ghost use Rattle.std.specs.Option.{option_map};
 ghost use Rattle.ide_plan.specs.Fits.{is_mode};
 ghost use Rattle.ide_types.specs.declared.port.PortName.{PortName};
 ghost use Rattle.ide_prefix.specs.Cut.{packet_of_view, IsView};
 ghost use Rattle.key_slots.specs.{slot_in, is_one, is_empty, program_answer, live_set};
 ghost use Rattle.stream_rules.specs.Sending.{sets_trusted, refusals, first_that_holds};
-ghost use Rattle.stream_calls.specs.Calls.{SlotCall, Program, Go, Halt, pair_at, sends_in, status_by, stream_status};
-ghost use Rattle.sub_stream.specs.{answer_of, lent_parts, mark_of};
+ghost use Rattle.sub_stream.specs.Calls.{SlotCall, Program, Go, Halt, pair_at, sends_in, status_by, stream_status};
+ghost use Rattle.sub_stream.specs.{answer_of};
 
 use crate::directions::Directions;
 use ide_prefix::PacketView;
-use ide_types::{Memory, Side, StreamStatus, SubKind};
+use ide_types::{KeySet, Memory, Side, StreamStatus, SubKind};
 use key_slots::{Key, OnlyLive, SlotEmpty};
 use std::alloc::Global;
 use std::marker::Model;
 use stream_lanes::{Fixed, ReceiveLanes, Sealed, SendLanes, SendRefusal, failed};
-use sub_stream::{PACKET_ROOM, PacketMark, SYNC_ROOM, Taken};
+use sub_stream::{Delivered, PACKET_ROOM, SYNC_ROOM, Taken};
 
 /// The most bytes that one send seals: a sync packet in each of two sub-streams, and the TLP's packet.
 pub const SEND_ROOM: usize = PACKET_ROOM + 2 * SYNC_ROOM;
 
-/// A stream at a port: its senders in the direction that the port sends, its receivers in the other. Directions are 0
-/// from the host to the device and 1 from the device to the host; in each call `set` and `dir` are 0 or 1.
+/// A stream at a port: its senders in the direction that the port sends, its receivers in the other (PCI Express Base
+/// 6.0 section 6.33, in this profile). Directions are 0 from the host to the device and 1 from the device to the host;
+/// in each call `dir` is 0 or 1.
 #[derive(Drop)]
 pub struct Stream {
     side: Side,
@@ -53,7 +54,7 @@ fn sends(side: Side, dir: u8) -> bool
     }
 }
 
-// The status of a stream that failed, of which some sub-stream has a Live key, of which all have.
+// The status of a stream, by whether it failed, and whether some or all of its sub-streams have a Live key.
 fn status_of(failed: bool, some: bool, all: bool) -> StreamStatus
     ensures { result ≡ status_by failed some all }
 {
@@ -71,9 +72,9 @@ impl Stream {
     ghost use Rattle.ide_stream.specs.Sends.{IsSent, sending};
     ghost use Rattle.stream_lanes.specs.{refusal_verdict};
 
-    /// The stream `id` of a port of this side, without keys: its units have at most `mode` packets, 1, 2, 4 or 8, a key
-    /// seals at most `limit` units, and of a closed one the total of units finished before stands ahead of what is
-    /// authenticated of a key's first unit.
+    /// The stream `id` of a port of this side, without keys: its units have at most `mode` packets, 1, 2, 4 or 8, and a
+    /// key seals at most `limit` units. If it is closed, the total of units finished before is authenticated before the
+    /// packets of a key's first unit.
     pub fn make(
         alloc: Global,
         side: Side,
@@ -179,43 +180,24 @@ impl Stream {
         Some(taken)
     }
 
-    /// How many packets of an accepted unit are lent, at most 8.
-    pub fn delivered(&self) -> usize
-        ensures value { result ≡ length self.now.delivered }
-        ensures most { result ≤ 8 }
+    /// The packets of an accepted unit that are lent.
+    pub fn delivered(&self) -> Delivered<'_>
+        ensures { result ≡ self.now.delivered }
     {
         self.directions.rx.delivered()
-    }
-
-    /// The header and the decrypted payload of packet `i` of the unit that was accepted last, counted from 0.
-    pub fn packet(&self, i: usize) -> (&[u8], &[u8])
-        requires { i < length self.now.delivered }
-        ensures { slice_get (map lent_parts self.now.delivered) i ≡ Some (result.0.now, result.1.now) }
-    {
-        self.directions.rx.packet(i)
-    }
-
-    /// Whether packet `i` of the unit that was accepted last, counted from 0, is trusted, and whether it is a sync
-    /// packet.
-    pub fn mark(&self, i: usize) -> PacketMark
-        requires { i < length self.now.delivered }
-        ensures { slice_get (map mark_of self.now.delivered) i ≡ Some result }
-    {
-        self.directions.rx.mark(i)
     }
 
     /// Puts a key of this draw into a slot. Returns `OnlyLive` exactly if this slot is Live and the other holds no
     /// newer Live key: then the key comes back, and no slot changes.
     pub fn program(
         &mut self,
-        set: u8,
+        set: KeySet,
         dir: u8,
         sub: SubKind,
         key: Key,
         draw: u32,
     ) -> Result<(), OnlyLive>
-        requires set { set < 2 }
-        requires dir { dir < 2 }
+        requires { dir < 2 }
         ensures answer { result ≡ program_answer (pair_in self.old dir sub) (is_one set) key }
         ensures stream { self.new ≡ called_end self.old dir sub (Program (is_one set) key draw) }
     {
@@ -228,9 +210,8 @@ impl Stream {
 
     /// GO: a Programmed key is Live, at a sender from the next unit on. Returns `SlotEmpty` exactly if the slot is
     /// Empty.
-    pub fn go(&mut self, set: u8, dir: u8, sub: SubKind) -> Result<(), SlotEmpty>
-        requires set { set < 2 }
-        requires dir { dir < 2 }
+    pub fn go(&mut self, set: KeySet, dir: u8, sub: SubKind) -> Result<(), SlotEmpty>
+        requires { dir < 2 }
         ensures answer { is_ok result ≡ not (is_empty (slot_in (pair_in self.old dir sub) (is_one set))) }
         ensures stream { self.new ≡ called_end self.old dir sub (Go (is_one set)) }
     {
@@ -240,9 +221,8 @@ impl Stream {
     }
 
     /// STOP: empties a slot, with the open unit or the held packets under its key.
-    pub fn halt(&mut self, set: u8, dir: u8, sub: SubKind)
-        requires set { set < 2 }
-        requires dir { dir < 2 }
+    pub fn halt(&mut self, set: KeySet, dir: u8, sub: SubKind)
+        requires { dir < 2 }
         ensures { self.new ≡ called_end self.old dir sub (Halt (is_one set)) }
     {
         self.directions.halt(sends(self.side, dir), sub, set);
@@ -259,8 +239,8 @@ impl Stream {
         status_of(self.directions.failed, some, all)
     }
 
-    /// The key set, 0 or 1, of the Live slot of a sender; `None` if none is Live.
-    pub fn live_set(&self, sub: SubKind) -> Option<u8>
+    /// The key set of the Live slot of a sender; `None` if none is Live.
+    pub fn live_set(&self, sub: SubKind) -> Option<KeySet>
         ensures { result ≡ live_set (pair_at true sub self.now.state) }
     {
         self.directions.tx.live_set(sub)

@@ -5,7 +5,7 @@ ghost use Rattle.ide_types.specs.Names.{side_word, port_word};
 
 use std::fmt;
 
-/// The end of a link: its host's port or its device's.
+/// The end of a link: its host's port or its device's (this profile).
 #[derive(Clone, Copy, Debug, Default, PartialEq, Eq)]
 pub enum Side {
     #[default]
@@ -13,7 +13,7 @@ pub enum Side {
     Device,
 }
 
-/// A port: the end of a link, and the link's number.
+/// A port: the end of a link, and the link's number, from 0 (this profile).
 #[derive(Clone, Copy, Debug, Default, PartialEq, Eq)]
 pub struct PortName {
     pub side: Side,

@@ -8,7 +8,7 @@ use Rattle.clap.specs.ValueTests.{is_unsigned_in}
 use Rattle.clap.specs.declared.builder.value_parser.ValueParser.TheVariants as vp
 use Rattle.clap.proofs.ValueTestLemmas.{accepts-Accepts}
 use Rattle.ide_words.specs.Ide.{ide_app}
-use Rattle.ide_words.specs.Words.{Asked, asked, asked_by, asked_of, check, generate, is_refused, is_set}
+use Rattle.ide_words.specs.Words.{Asked, asked, asked_by, asked_of, check, generate, is_refused, is_flag_given}
 use Rattle.ide_words.specs.Words.{migrate, number_of, text_of}
 
 Few : ℕ → Type 0
@@ -43,7 +43,7 @@ unfolding FewIn
 few_by name rows =
     few_choice (bytes_eq name (codes "run")) _ _ tt
     (few_choice (bytes_eq name (codes "check")) _ _
-    (few_checked (is_set (codes "migrate") rows) (text_of (codes "TOPOLOGY") rows))
+    (few_checked (is_flag_given (codes "migrate") rows) (text_of (codes "TOPOLOGY") rows))
     (few_choice (bytes_eq name (codes "generate")) _ _ (few_number (text_of (codes "COUNT") rows)) tt))
 
 few_of : (met : Option (Text × List Row)) → FewIn (asked_of met)

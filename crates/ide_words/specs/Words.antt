@@ -25,13 +25,13 @@ abbrev pub text_of : Text → List Row → Text
 text_of id rows = unwrap_or (first_of id rows) []
 
 -- the flag is given
-abbrev pub is_set : Text → List Row → Bool
-is_set id rows = bytes_eq (text_of id rows) (codes "true")
+abbrev pub is_flag_given : Text → List Row → Bool
+is_flag_given id rows = bytes_eq (text_of id rows) (codes "true")
 
 -- a topology is checked, or migrated if the flag is given
-abbrev pub checked : List Row → Asked
-checked rows =
-    if is_set (codes "migrate") rows then migrate (text_of (codes "TOPOLOGY") rows)
+abbrev pub check_asked : List Row → Asked
+check_asked rows =
+    if is_flag_given (codes "migrate") rows then migrate (text_of (codes "TOPOLOGY") rows)
     else check (text_of (codes "TOPOLOGY") rows)
 
 -- The number that a text writes in decimal digits. `clap` lets no text through whose number is not between these, and
@@ -40,15 +40,15 @@ abbrev pub number_of : (least most : ℕ) → Text → ℕ
 number_of least most text =
     if is_unsigned_in least most text then digits_value 10 (without_leading_plus text) else least
 
-abbrev pub generated : List Row → Asked
-generated rows = generate (number_of 0 4294967295 (text_of (codes "SEED") rows))
+abbrev pub generation_asked : List Row → Asked
+generation_asked rows = generate (number_of 0 4294967295 (text_of (codes "SEED") rows))
     (number_of 1 100000 (text_of (codes "COUNT") rows))
 
 abbrev pub asked_by : Text → List Row → Asked
 asked_by name rows =
     if bytes_eq name (codes "run") then run (text_of (codes "TOPOLOGY") rows) (text_of (codes "SCRIPT") rows)
-    else if bytes_eq name (codes "check") then checked rows
-    else if bytes_eq name (codes "generate") then generated rows
+    else if bytes_eq name (codes "check") then check_asked rows
+    else if bytes_eq name (codes "generate") then generation_asked rows
     else show (text_of (codes "PACKETS") rows)
 
 -- what a subcommand and its arguments ask for; `clap` gives one, since it is required
@@ -60,7 +60,7 @@ asked_of (Some p) = asked_by p.0 p.1
 abbrev pub is_refused : List Text → Bool
 is_refused words = if is_empty (fault_of ide_app words) then false else true
 
--- what the words ask for, of which the first is the program's name; nothing if `clap` refuses them
+-- what the words ask for, the first being the program's name; nothing if `clap` refuses them
 abbrev pub asked : List Text → Option Asked
 asked words = if is_refused words then None else Some (asked_of (subcommand_of ide_app words))
 

@@ -9,15 +9,25 @@ ghost use Rattle.clap.specs.Words.{with_subcommand};
 ghost use Rattle.clap.specs.declared.builder.command.Command.TheViews.{out-Command};
 ghost use Rattle.ide_words.specs.Ide.{check_app, flag_rule, generate_app, ide_app, name_rule, number_rule, run_app};
 ghost use Rattle.ide_words.specs.Ide.{show_app, top_app, topologies_app};
-ghost use Rattle.ide_words.specs.Words.{HasFewRounds, IsName, Refuses, asked, asked_by, asked_of, check, checked};
-ghost use Rattle.ide_words.specs.Words.{generate, generated, is_set, migrate, number_of, run, show, text_of, view};
+ghost use Rattle.ide_words.specs.Words.{HasFewRounds, IsName, Refuses, asked, asked_by, asked_of, check, check_asked};
+ghost use Rattle.ide_words.specs.Words.{
+  generate,
+  generation_asked,
+  is_flag_given,
+  migrate,
+  number_of,
+  run,
+  show,
+  text_of,
+  view,
+};
 
 use clap::builder::ValueParser;
 use clap::error::ErrorKind;
 use clap::{Arg, ArgAction, ArgMatches, Command};
 use std::alloc::{AllocError, Global};
 
-/// What the words ask for, by the names of its files or by its numbers.
+/// What the words ask for, by the names of its files or by its numbers (this profile).
 #[derive(Clone, Copy, Debug)]
 pub enum Request<'a> {
     /// To run a script on a topology.
@@ -146,14 +156,14 @@ fn text_in<'a>(matches: &ArgMatches<'a>, id: &str) -> &'a str
 
 // Whether a flag is given.
 fn is_set(matches: &ArgMatches, id: &str) -> bool
-    ensures { result ≡ is_set id.now (rows_of (found_of matches.now)) }
+    ensures { result ≡ is_flag_given id.now (rows_of (found_of matches.now)) }
 {
     text_in(matches, id) == "true"
 }
 
 // What `check` asks for.
 fn checked<'a>(matches: &ArgMatches<'a>) -> Request<'a>
-    ensures { view result ≡ checked (rows_of (found_of matches.now)) }
+    ensures { view result ≡ check_asked (rows_of (found_of matches.now)) }
 {
     let topology = text_in(matches, "TOPOLOGY");
     if is_set(matches, "migrate") {
@@ -184,7 +194,7 @@ fn number_of(least: u32, most: u32, text: &str) -> u32
 
 // What `generate` asks for.
 fn generated<'a>(matches: &ArgMatches<'a>) -> Request<'a>
-    ensures asks { view result ≡ generated (rows_of (found_of matches.now)) }
+    ensures asks { view result ≡ generation_asked (rows_of (found_of matches.now)) }
     ensures rounds { HasFewRounds result }
 {
     let seed = number_of(0, 4294967295, text_in(matches, "SEED"));
@@ -215,9 +225,9 @@ fn request_in<'a>(matches: &ArgMatches<'a>) -> Request<'a>
     }
 }
 
-/// What the words ask for, of which the first is the program's name: `run TOPOLOGY SCRIPT`, `check TOPOLOGY
-/// [--migrate]`, `show PACKETS` or `generate SEED COUNT`. Returns `Usage` exactly if `clap` refuses the words for
-/// another cause than memory.
+/// What the words ask for (this profile). The first word is the program's name; then come `run TOPOLOGY SCRIPT`,
+/// `check TOPOLOGY [--migrate]`, `show PACKETS` or `generate SEED COUNT`. Returns `Usage` exactly if `clap` refuses the
+/// words for another cause than memory.
 #[tactic(auto, using(crate::proofs::App::ide_is_simple))]
 pub fn read_words<'a>(alloc: Global, words: &'a [String]) -> Result<Request<'a>, WordsError>
     ensures ok { IfOk result (λ r. asked (map string_bytes words.now) ≡ Some (view r)) }
@@ -263,6 +273,3 @@ pub fn few_rounds()
 pub fn no_words_are_refused()
     ensures { asked [] ≡ None }
 {}
-
-#[cfg(test)]
-mod tests;

@@ -4,12 +4,12 @@ use Rattle.first_fault.specs.Walks.{walked_from, walk_length, reading}
 use Rattle.tlp_layout.specs.Reading.{read_of}
 use Rattle.association.specs.Choice.{choice_of}
 use Rattle.key_laws.specs.Keys.{is_open, keys}
-use Rattle.key_laws.specs.History.{manager, moments, base, failed as failed_there}
-use Rattle.key_laws.specs.Due.{due as key_due}
+use Rattle.key_laws.specs.History.{manager, moments, base, failed_there}
+use Rattle.key_laws.specs.Due.{key_due}
 use Rattle.interface_states.specs.Sites.{sites}
 use Rattle.interface_states.specs.Views.{managed, stream_draw}
 use Rattle.interface_states.specs.Devices.{devices}
-use Rattle.interface_states.specs.Due.{due as interface_due}
+use Rattle.interface_states.specs.Due.{interface_verdict_due as interface_due}
 use Rattle.trusted_memory.specs.Writes.{byte_after}
 use Rattle.link_history.specs.Plan.{stream_plan}
 use Rattle.link_history.specs.Units.{units, open_unit}
@@ -18,7 +18,8 @@ use Rattle.link_history.specs.History.{has_live_in}
 use Rattle.link_history.specs.Memory.{writes}
 use Rattle.link_history.specs.Due.{choice, due}
 use Rattle.interface_cases.specs.Cases.{verdicts_on, InterfaceCases, in_doubt, in_doubt_verdicts, again, again_verdicts}
-use Rattle.interface_cases.specs.Cases.{written, written_verdicts, half_keyed, half_keyed_verdicts, stopped}
+use Rattle.interface_cases.specs.Cases.{written_in_run, written_verdicts, half_keyed, half_keyed_verdicts}
+use Rattle.interface_cases.specs.Cases.{stopped_events}
 use Rattle.interface_cases.specs.Cases.{stopped_verdicts, reset, reset_verdicts, lost_between, lost_between_verdicts}
 
 in_doubt_due : verdicts_on [] in_doubt ≡ in_doubt_verdicts
@@ -33,7 +34,7 @@ unfolding due key_due manager moments keys is_open failed_there base interface_d
     sealed_packets packet_of units open_unit posted_in writes byte_after
 again_due = refl
 
-written_due : verdicts_on [] written ≡ written_verdicts
+written_due : verdicts_on [] written_in_run ≡ written_verdicts
 unfolding due key_due manager moments keys is_open failed_there base interface_due devices managed stream_draw sites
     read_of reading walk_length walked_from choice choice_of keys_at has_live_out has_live_in stream_plan sent_in
     sealed_packets packet_of units open_unit posted_in writes byte_after
@@ -45,7 +46,7 @@ unfolding due key_due manager moments keys is_open failed_there base interface_d
     sealed_packets packet_of units open_unit posted_in writes byte_after
 half_keyed_due = refl
 
-stopped_due : verdicts_on [] stopped ≡ stopped_verdicts
+stopped_due : verdicts_on [] stopped_events ≡ stopped_verdicts
 unfolding due key_due manager moments keys is_open failed_there base interface_due devices managed stream_draw sites
     read_of reading walk_length walked_from choice choice_of keys_at has_live_out has_live_in stream_plan sent_in
     sealed_packets packet_of units open_unit posted_in writes byte_after

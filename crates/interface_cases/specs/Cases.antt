@@ -26,8 +26,8 @@ abbrev pub small_key : ℕ → List ℕ
 small_key n = replicate 31 0 ++ n ∷ []
 
 -- link 0 has stream 5 in mode 1 and interface 0, which is bound to it; the pool has four draws, the device three nonces
-abbrev pub plan : Plan
-plan = record {
+abbrev pub interface_plan : Plan
+interface_plan = record {
   version = 1;
   portion = 64;
   units_per_key = 4294967296;
@@ -62,8 +62,8 @@ plan = record {
   memory = record { base = 0x10000000; size = 0x10000 } ∷ [];
 }
 
-abbrev pub report : List ℕ
-report =
+abbrev pub device_report : List ℕ
+device_report =
     2 ∷ 0 ∷ 0 ∷ 0 ∷ 0 ∷ 0 ∷ 0 ∷ 0 ∷ 0 ∷ 0 ∷ 0 ∷ 0 ∷ 1 ∷ 0 ∷ 0 ∷ 0
     ∷ 0 ∷ 0 ∷ 4 ∷ 0 ∷ 0 ∷ 0 ∷ 0 ∷ 0 ∷ 16 ∷ 0 ∷ 0 ∷ 0 ∷ 0 ∷ 0 ∷ 0 ∷ 0
     ∷ 64 ∷ 0 ∷ 0 ∷ 0 ∷ replicate 64 0
@@ -77,8 +77,8 @@ abbrev pub device : PortName
 device = record { side = Device; link = 0 }
 
 -- the first packet of the device
-abbrev pub packet : Bool → List SealedPacket
-packet t =
+abbrev pub device_packet : Bool → List SealedPacket
+device_packet t =
     record {
       number = 1;
       port = device;
@@ -95,7 +95,7 @@ packet t =
 
 abbrev pub verdicts_on : History → List Event → List Verdict
 verdicts_on h [] = []
-verdicts_on h (e ∷ es) = let verdict = due plan h e in verdict ∷ verdicts_on ((e, verdict) ∷ h) es
+verdicts_on h (e ∷ es) = let verdict = due interface_plan h e in verdict ∷ verdicts_on ((e, verdict) ∷ h) es
 
 abbrev pub says : InterfaceVerdict → Verdict
 says w = v.Interface w
@@ -106,7 +106,8 @@ run = Establish 0 5 None ∷ Interface (ie.Lock 0 None) ∷ Interface (ie.Report
 
 abbrev pub run_verdicts : List Verdict
 run_verdicts =
-    v.Established 0 5 0 ∷ says (iv.Locked 0 (replicate 32 1)) ∷ says (iv.Reported 0 report) ∷ says (iv.Started 0 0) ∷ []
+    v.Established 0 5 0 ∷ says (iv.Locked 0 (replicate 32 1)) ∷ says (iv.Reported 0 device_report)
+    ∷ says (iv.Started 0 0) ∷ []
 
 -- ---- cases
 
@@ -119,9 +120,9 @@ in_doubt =
 
 abbrev pub in_doubt_verdicts : List Verdict
 in_doubt_verdicts =
-    v.Established 0 5 0 ∷ says (iv.Locked 0 (replicate 32 1)) ∷ says (iv.Reported 0 report)
+    v.Established 0 5 0 ∷ says (iv.Locked 0 (replicate 32 1)) ∷ says (iv.Reported 0 device_report)
     ∷ v.LostReply 1 ∷ says (iv.View 0 Doubt)
-    ∷ v.Sealed (packet true) ∷ says (iv.RefusedWrongState Doubt) ∷ says (iv.Halted 0 1) ∷ []
+    ∷ v.Sealed (device_packet true) ∷ says (iv.RefusedWrongState Doubt) ∷ says (iv.Halted 0 1) ∷ []
 
 -- an interface runs again, once under a key of its own
 abbrev pub again : List Event
@@ -132,13 +133,13 @@ again =
 
 abbrev pub again_verdicts : List Verdict
 again_verdicts =
-    run_verdicts ++ v.Sealed (packet true) ∷ says (iv.Halted 0 1) ∷ says (iv.Locked 0 (replicate 32 2))
-    ∷ says (iv.Reported 0 report) ∷ says (iv.RefusedRefreshFirst 0 1) ∷ v.Refreshed 0 5 1 ∷ says (iv.Started 0 1)
+    run_verdicts ++ v.Sealed (device_packet true) ∷ says (iv.Halted 0 1) ∷ says (iv.Locked 0 (replicate 32 2))
+    ∷ says (iv.Reported 0 device_report) ∷ says (iv.RefusedRefreshFirst 0 1) ∷ v.Refreshed 0 5 1 ∷ says (iv.Started 0 1)
     ∷ []
 
 -- a register is written in RUN
-abbrev pub written : List Event
-written =
+abbrev pub written_in_run : List Event
+written_in_run =
     run ++ Interface (ie.Write 0 (Bar 0) 0x40000000) ∷ Interface (ie.Write 0 (Bar 0) 0x40100000)
     ∷ Interface (ie.State 0 None) ∷ Interface (ie.View 0) ∷ Send device write false false
     ∷ Interface (ie.Write 0 (Bar 1) 0) ∷ Interface (ie.Memory 0x10000000 4) ∷ Interface (ie.Memory 0x1000ffff 2) ∷ []
@@ -146,7 +147,7 @@ written =
 abbrev pub written_verdicts : List Verdict
 written_verdicts =
     run_verdicts ++ says (iv.Written 0 2) ∷ says (iv.Written 0 3) ∷ says (iv.State 0 3) ∷ says (iv.View 0 Broken)
-    ∷ v.Sealed (packet false) ∷ v.Nothing ∷ says (iv.Memory (replicate 4 0)) ∷ v.Nothing ∷ []
+    ∷ v.Sealed (device_packet false) ∷ v.Nothing ∷ says (iv.Memory (replicate 4 0)) ∷ v.Nothing ∷ []
 
 -- a lock while the stream is not Secure at the host's port, and at the device's
 abbrev pub half_keyed : List Event
@@ -161,8 +162,8 @@ half_keyed_verdicts =
     ∷ []
 
 -- its stream is stopped, and its link reset
-abbrev pub stopped : List Event
-stopped =
+abbrev pub stopped_events : List Event
+stopped_events =
     run ++ Stop 0 5 None ∷ Interface (ie.View 0) ∷ Interface (ie.State 0 None) ∷ Interface (ie.Halt 0 None)
     ∷ Status 0 5 ∷ Interface (ie.View 1) ∷ []
 
@@ -195,11 +196,11 @@ abbrev pub lost_between_verdicts : List Verdict
 lost_between_verdicts =
     v.Established 0 5 0 ∷ v.LostReply 2 ∷ says (iv.View 0 Unlocked) ∷ v.LostReply 3 ∷ says (iv.View 0 Doubt)
     ∷ says (iv.State 0 1) ∷ says (iv.Halted 0 0) ∷ says (iv.Locked 0 (replicate 32 2)) ∷ v.LostRequest 2
-    ∷ says iv.RefusedNotReported ∷ says (iv.Reported 0 report) ∷ says (iv.Started 0 0) ∷ []
+    ∷ says iv.RefusedNotReported ∷ says (iv.Reported 0 device_report) ∷ says (iv.Started 0 0) ∷ []
 
 abbrev pub InterfaceCases : Type 0
 InterfaceCases =
     (verdicts_on [] in_doubt ≡ in_doubt_verdicts) × (verdicts_on [] again ≡ again_verdicts)
-    × (verdicts_on [] written ≡ written_verdicts) × (verdicts_on [] half_keyed ≡ half_keyed_verdicts)
-    × (verdicts_on [] stopped ≡ stopped_verdicts) × (verdicts_on [] reset ≡ reset_verdicts)
+    × (verdicts_on [] written_in_run ≡ written_verdicts) × (verdicts_on [] half_keyed ≡ half_keyed_verdicts)
+    × (verdicts_on [] stopped_events ≡ stopped_verdicts) × (verdicts_on [] reset ≡ reset_verdicts)
     × (verdicts_on [] lost_between ≡ lost_between_verdicts)

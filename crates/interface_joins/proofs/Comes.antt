@@ -1,5 +1,5 @@
--- What a walk of an operation has to come to so that it is a step of the machine: the verdict that is due, the device
--- behind it and the manager's interface. Where nothing changes, both ends stay.
+-- What a walk of an operation has to give so that it is a step of the machine: the verdict that is due, the device
+-- after it and the manager's interface. If nothing changes, both ends stay.
 use Rattle.std.proofs.Common.{◌≡◌, ℕ, ◌+◌, ◌<◌, Bool, false, List, [], Option, Some}
 use Rattle.std.proofs.Common.{None, refl, ap, sym, subst, ◌∙◌, arith, replicate}
 use Rattle.std.proofs.lemmas.List.Elements.{All-replicate}
@@ -14,7 +14,7 @@ use Rattle.link_events.specs.declared.event.InterfaceEvent.TheVariants as ie
 use Rattle.link_verdicts.specs.declared.verdict.Verdict.{Verdict}
 use Rattle.interface_states.specs.Sites.{Site}
 use Rattle.interface_states.specs.Views.{Managed, on_operation}
-use Rattle.interface_states.specs.Devices.{asked, accepts_lock, one_if}
+use Rattle.interface_states.specs.Devices.{tdi_asked, accepts_lock, one_if}
 use Rattle.interface_states.specs.Exchanges.{carries}
 use Rattle.interface_states.specs.Due.{Standing}
 use Rattle.tdi_state.specs.Machine.{Tdi}
@@ -26,7 +26,7 @@ use Rattle.tdi_host.specs.declared.operation.Refusal.{Refusal}
 use Rattle.tdi_host.specs.Steps.{Read}
 use Rattle.tdi_host.specs.Views.{HostTdi, Seen, IsUnlocked, IsLocked, IsRunning, IsDoubt, IsBroken, nonce_of}
 use Rattle.tdi_device.specs.Replies.{DeviceTdis}
-use Rattle.tdi_walks.specs.Operations.{Walked}
+use Rattle.tdi_walks.specs.Operations.{WalkedInterface}
 use Rattle.interface_joins.specs.Verdicts.{asked_as, op_event}
 use Rattle.interface_joins.specs.Faces.{SeenAs, IsManaged}
 
@@ -54,7 +54,7 @@ told (IsRunning floor) m = record m { view = Running; floor = floor }
 told IsDoubt m = record m { view = Doubt }
 told IsBroken m = record m { view = Broken }
 
--- the manager's interface of this view, where the machine keeps the rest so
+-- the manager's interface of this view, if the machine keeps the rest so
 abbrev pub host_of : Site → ℕ → Seen → Managed → HostTdi
 host_of x draw seen m = laid x draw (told seen m).needs (told seen m).started seen
 
@@ -107,7 +107,7 @@ read_in op.Report r = r.bytes
 read_in o r = []
 
 abbrev pub tdi_behind : Site → Standing → InterfaceOp → Option Loss → Verdict → Tdi
-tdi_behind x st o loss due = asked st.around x (op_event o x.number loss) due st.tdi
+tdi_behind x st o loss due = tdi_asked st.around x (op_event o x.number loss) due st.tdi
 
 abbrev pub device_with : DeviceTdis → ℕ → Tdi → ℕ → DeviceTdis
 device_with d place tdi used = record { interfaces = slice_set d.interfaces place tdi; nonces = d.nonces; used = used }
@@ -117,17 +117,17 @@ device_behind x st place o loss d due = device_with d place (tdi_behind x st o l
     (d.used + one_if (accepts_lock st.around x (event.Interface (op_event o x.number loss)) due st.tdi))
 
 pub record Comes (x : Site) (st : Standing) (place : ℕ) (o : InterfaceOp) (loss : Option Loss) (d : DeviceTdis)
-    (due : Verdict) (w : Walked) : Type 0 where
+    (due : Verdict) (w : WalkedInterface) : Type 0 where
   pub verdict : asked_as x.number loss (read_in o w.read) w.outcome ≡ Some due
   pub device : w.device ≡ device_behind x st place o loss d due
   pub managed : IsManaged st.draw x w.interface
       (on_operation st.drawn (op_event o x.number loss) due st.managed)
 
--- what an operation comes to that is refused ahead of its first exchange
-abbrev pub refused_walk : Refusal → HostTdi → Read → DeviceTdis → Walked
+-- what an operation gives that is refused before its first exchange
+abbrev pub refused_walk : Refusal → HostTdi → Read → DeviceTdis → WalkedInterface
 refused_walk r i read d = record { outcome = outcome.Refused r; interface = i; read = read; device = d }
 
-abbrev pub begun_walk : Option Refusal → HostTdi → Read → DeviceTdis → Walked → Walked
+abbrev pub begun_walk : Option Refusal → HostTdi → Read → DeviceTdis → WalkedInterface → WalkedInterface
 begun_walk None i read d w = w
 begun_walk (Some r) i read d w = refused_walk r i read d
 
@@ -164,7 +164,7 @@ quiet x st place o loss d due out i read same still none kept managed is = recor
   managed = subst (λ m. IsManaged st.draw x i m) (sym kept) managed;
 }
 
--- a lock that does not come to its third exchange
+-- a lock that does not reach its third exchange
 pub no_lock : (x : Site) (st : Standing) (loss : Option Loss) (due : Verdict) → carries due 3 ≡ false
     → accepts_lock st.around x (event.Interface (ie.Lock x.number loss)) due st.tdi ≡ false
 no_lock x st loss due none = rw (same-true x.number, none) refl

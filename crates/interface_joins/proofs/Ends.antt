@@ -9,11 +9,11 @@ use Rattle.tdi_host.specs.declared.operation.Outcome.{Outcome}
 use Rattle.tdi_host.specs.declared.operation.Outcome.TheVariants as outcome
 use Rattle.tdi_host.specs.declared.operation.Refusal.{Refusal}
 use Rattle.tdi_host.specs.Steps.{first_step}
-use Rattle.tdi_host.specs.Views.{HostTdi, unless}
-use Rattle.tdi_host.specs.Managers.{ManagerView, Current, current, current_by, nothing_read}
+use Rattle.tdi_host.specs.Views.{HostTdi, interface_unless}
+use Rattle.tdi_host.specs.Managers.{InterfaceManagerView, CurrentInterface, current_interface, current_by, nothing_read}
 use Rattle.tdi_device.specs.Replies.{DeviceTdis}
-use Rattle.tdi_walks.specs.Operations.{Walked, walk, begun_at}
-use Rattle.tdi_ends.specs.Keepers.{Ended, exchanged, goes_on, by_current, unless_refused, KeepersWalk}
+use Rattle.tdi_walks.specs.Operations.{WalkedInterface, interface_walk, begun_at}
+use Rattle.tdi_ends.specs.Keepers.{Ended, interface_exchanged, ended_if_over, by_current, unless_refused, KeepersWalk}
 unfoldable use Rattle.tdi_ends.specs.Keepers.{manager_walk}
 use Rattle.interface_joins.proofs.Comes.{begun_walk}
 use Rattle.interface_joins.proofs.Meeting.{set_same}
@@ -21,47 +21,52 @@ use Rattle.interface_joins.proofs.Meeting.{set_same}
 -- ---- portions
 
 goes_portion : (o : Outcome) (now rest : Ended) (p : ℕ) → now.manager.portion ≡ p → rest.manager.portion ≡ p
-    → (goes_on o now rest).manager.portion ≡ p
+    → (ended_if_over o now rest).manager.portion ≡ p
 goes_portion outcome.Next now rest p here later = later
 goes_portion (outcome.Done shown) now rest p here later = here
 goes_portion (outcome.Refused refusal) now rest p here later = here
 
-by_portion : (c : Option Current) (asked : Current → Ended) (rest : Ended) (p : ℕ)
-    → ((k : Current) → (asked k).manager.portion ≡ p) → rest.manager.portion ≡ p
+by_portion : (c : Option CurrentInterface) (asked : CurrentInterface → Ended) (rest : Ended) (p : ℕ)
+    → ((k : CurrentInterface) → (asked k).manager.portion ≡ p) → rest.manager.portion ≡ p
     → (by_current c asked rest).manager.portion ≡ p
 by_portion None asked rest p here later = later
 by_portion (Some c) asked rest p here later = here c
 
-pub portion_kept : (more : ℕ) (secure : Bool) (loss : Option Loss) (m : ManagerView) (d : DeviceTdis)
+pub portion_kept : (more : ℕ) (secure : Bool) (loss : Option Loss) (m : InterfaceManagerView) (d : DeviceTdis)
     → (manager_walk more secure loss m d).manager.portion ≡ m.portion
 unfolding manager_walk
 portion_kept zero secure loss m d = refl
 portion_kept (suc more) secure loss m d =
-    by_portion (current m)
-    (λ c. goes_on (exchanged secure loss m d c).outcome (exchanged secure loss m d c)
-    (manager_walk more secure loss (exchanged secure loss m d c).manager (exchanged secure loss m d c).device))
+    by_portion (current_interface m)
+    (λ c. ended_if_over (interface_exchanged secure loss m d c).outcome (interface_exchanged secure loss m d c)
+    (manager_walk more secure loss (interface_exchanged secure loss m d c).manager
+    (interface_exchanged secure loss m d c).device))
     (record { outcome = outcome.Next; manager = m; device = d }) m.portion
-    (λ c. goes_portion (exchanged secure loss m d c).outcome (exchanged secure loss m d c) _ m.portion refl
-    (portion_kept more secure loss (exchanged secure loss m d c).manager (exchanged secure loss m d c).device))
+    (λ c. goes_portion (interface_exchanged secure loss m d c).outcome (interface_exchanged secure loss m d c) _
+    m.portion refl
+    (portion_kept more secure loss (interface_exchanged secure loss m d c).manager
+    (interface_exchanged secure loss m d c).device))
     refl
 
 -- ---- the walk of one interface
 
-pub record IsOver (m : ManagerView) (number : ℕ) (o : InterfaceOp) (w : Walked) (e : Ended) : Type 0 where
-  pub outcome_is : e.outcome ≡ w.outcome
-  pub interfaces_are : e.manager.interfaces ≡ slice_set m.interfaces number w.interface
-  pub portion_is : e.manager.portion ≡ m.portion
-  pub read_is : e.manager.read ≡ w.read
-  pub device_is : e.device ≡ w.device
+pub record IsOver (m : InterfaceManagerView) (number : ℕ) (o : InterfaceOp) (w : WalkedInterface) (e : Ended) : Type 0
+  where
+    pub outcome_is : e.outcome ≡ w.outcome
+    pub interfaces_are : e.manager.interfaces ≡ slice_set m.interfaces number w.interface
+    pub portion_is : e.manager.portion ≡ m.portion
+    pub read_is : e.manager.read ≡ w.read
+    pub device_is : e.device ≡ w.device
 
--- the manager where an operation begins that is not refused
-abbrev pub asking_at : ManagerView → ℕ → InterfaceOp → ℕ → ManagerView
+-- the manager when an operation begins that is not refused
+abbrev pub asking_at : InterfaceManagerView → ℕ → InterfaceOp → ℕ → InterfaceManagerView
 asking_at m number o draws =
     record m { asking = Some (record { place = number; step = first_step o; draws = draws }); read = nothing_read }
 
 begun_is_over : KeepersWalk → (more : ℕ) (number : ℕ) (o : InterfaceOp) (draws : ℕ) (secure : Bool)
-    (loss : Option Loss) (m : ManagerView) (d : DeviceTdis) (i : HostTdi) → slice_get m.interfaces number ≡ Some i
-    → IsOver m number o (walk more m.portion draws secure loss (begun_at o i d))
+    (loss : Option Loss) (m : InterfaceManagerView) (d : DeviceTdis) (i : HostTdi) → slice_get m.interfaces number
+    ≡ Some i
+    → IsOver m number o (interface_walk more m.portion draws secure loss (begun_at o i d))
     (manager_walk more secure loss (asking_at m number o draws) d)
 begun_is_over keepers more number o draws secure loss m d i there =
     let asking : Asking = record { place = number; step = first_step o; draws = draws } in
@@ -76,10 +81,10 @@ begun_is_over keepers more number o draws secure loss m d i there =
     }
 
 pub is_over : KeepersWalk → (more : ℕ) (number : ℕ) (o : InterfaceOp) (draws : ℕ) (secure : Bool)
-    (loss : Option Loss) (m : ManagerView) (d : DeviceTdis) (i : HostTdi) (r : Option Refusal)
+    (loss : Option Loss) (m : InterfaceManagerView) (d : DeviceTdis) (i : HostTdi) (r : Option Refusal)
     → slice_get m.interfaces number ≡ Some i
-    → IsOver m number o (begun_walk r i m.read d (walk more m.portion draws secure loss (begun_at o i d)))
-    (unless_refused r m d (manager_walk more secure loss (unless r m (asking_at m number o draws)) d))
+    → IsOver m number o (begun_walk r i m.read d (interface_walk more m.portion draws secure loss (begun_at o i d)))
+    (unless_refused r m d (manager_walk more secure loss (interface_unless r m (asking_at m number o draws)) d))
 is_over keepers more number o draws secure loss m d i None there =
     begun_is_over keepers more number o draws secure loss m d i there
 is_over keepers more number o draws secure loss m d i (Some r) there = record {

@@ -17,7 +17,7 @@ use Rattle.tdi_state.specs.Machine.{Tdi, Call, StartInterface, StopInterface, bo
 use Rattle.tdi_state.specs.Machine.{locked_with, new_lock}
 use Rattle.interface_states.specs.Sites.{Site}
 use Rattle.interface_states.specs.Views.{is_number, number_in, on_operation}
-use Rattle.interface_states.specs.Devices.{Around, asked, called, lock_call}
+use Rattle.interface_states.specs.Devices.{Around, tdi_asked, tdi_if_called, lock_call}
 use Rattle.interface_states.specs.Exchanges.{carries}
 use Rattle.interface_states.specs.Due.{lock_answer_at}
 use Rattle.interface_machine.specs.Machine.{Face, Streams, around_of, face_after}
@@ -37,12 +37,12 @@ number_is op.State loss n = same-true n
 pub face_behind : (plan : Plan) (s : Streams) (used : ℕ → ℕ) (x : Site) (f : Face) (o : InterfaceOp)
     (loss : Option Loss) (due : Verdict)
     → (let k : Face = record {
-      tdi = asked (around_of plan s used x f) x (op_event o x.number loss) due f.tdi;
+      tdi = tdi_asked (around_of plan s used x f) x (op_event o x.number loss) due f.tdi;
       managed = on_operation s.drawn (op_event o x.number loss) due f.managed;
     } in k) ≡ face_after plan s s.secure used (event.Interface (op_event o x.number loss)) due x f
 face_behind plan s used x f o loss due = ap
     (λ (b : Bool). let k : Face = record {
-      tdi = if b then asked (around_of plan s used x f) x (op_event o x.number loss) due f.tdi else f.tdi;
+      tdi = if b then tdi_asked (around_of plan s used x f) x (op_event o x.number loss) due f.tdi else f.tdi;
       managed = if b then on_operation s.drawn (op_event o x.number loss) due f.managed else f.managed;
     } in k)
     (sym (number_is o loss x.number))
@@ -54,7 +54,7 @@ pub record IsBound (p : InterfacePlan) (tdi : Tdi) : Type 0 where
   pub bound : IfSome (bound_stream tdi.state) (λ stream. stream ≡ p.stream)
 
 called_bound : (p : InterfacePlan) (b : Bool) (call : Call) (tdi : Tdi) → IsBound p tdi
-    → IsBound p (tdi_after tdi call) → IsBound p (called b call tdi)
+    → IsBound p (tdi_after tdi call) → IsBound p (tdi_if_called b call tdi)
 called_bound p true call tdi before behind = behind
 called_bound p false call tdi before behind = before
 
@@ -78,7 +78,7 @@ start_bound p (Run lock) nonce is = is
 start_bound p Error nonce is = is
 
 pub asked_bound : (a : Around) (x : Site) (o : InterfaceOp) (loss : Option Loss) (w : Verdict) (tdi : Tdi)
-    → IsBound x.plan tdi → IsBound x.plan (asked a x (op_event o x.number loss) w tdi)
+    → IsBound x.plan tdi → IsBound x.plan (tdi_asked a x (op_event o x.number loss) w tdi)
 asked_bound a x op.Lock loss w tdi is =
     called_bound x.plan (carries w 3) (lock_call a x) tdi is
     (lock_bound x.plan x.plan.flags x.plan.offset tdi (lock_answer_at a x tdi) is)

@@ -10,7 +10,7 @@ use Rattle.link_verdicts.specs.declared.verdict.Verdict.{Verdict}
 use Rattle.link_verdicts.specs.declared.verdict.Verdict.TheVariants as v
 use Rattle.interface_states.specs.Sites.{Site}
 use Rattle.interface_states.specs.Views.{Managed, needs_then, on_halt}
-use Rattle.interface_states.specs.Devices.{called}
+use Rattle.interface_states.specs.Devices.{tdi_if_called}
 use Rattle.interface_states.specs.Exchanges.{carries}
 use Rattle.interface_states.specs.Due.{Standing, halt_due}
 use Rattle.tdi_state.specs.Machine.{Tdi, StopInterface, tdi_after}
@@ -18,7 +18,7 @@ use Rattle.tdi_host.specs.declared.operation.InterfaceOp.TheVariants as op
 use Rattle.tdi_host.specs.declared.step.Step.TheVariants as step
 use Rattle.tdi_host.specs.Judging.{Passed}
 use Rattle.tdi_host.specs.Views.{Seen, IsUnlocked, IsDoubt, halt_outcome, needs_after, taken_interface}
-use Rattle.tdi_device.specs.Replies.{DeviceTdis, Named, next_nonce}
+use Rattle.tdi_device.specs.Replies.{DeviceTdis, NamedTdi, next_nonce}
 use Rattle.key_laws.specs.Due.{lost_in}
 use Rattle.tdi_walks.specs.Operations.{carried, reached, stated_once, stated_alone, at_step}
 use Rattle.interface_joins.specs.Verdicts.{asked_as}
@@ -27,7 +27,7 @@ use Rattle.interface_joins.proofs.Losses.{by_loss, once_lost, cut}
 use Rattle.interface_joins.proofs.Comes.{host_of, told, managed_of, no_key, stands, device_with, Comes, same_device}
 use Rattle.interface_joins.proofs.Comes.{left_device, no_more}
 
--- the verdict where nothing is lost
+-- the verdict if nothing is lost
 abbrev halted : Site → ℕ → Managed → Verdict
 halted x draws m = v.Interface (iv.Halted x.number (needs_then m draws))
 
@@ -41,7 +41,7 @@ halt_verdict x draws m loss (Some k) is = cut loss 1 k is
 halt_device : (x : Site) (draws : ℕ) (m : Managed) (d : DeviceTdis) (place : ℕ) (tdi : Tdi) (l : Option Lost)
     → slice_set d.interfaces place tdi ≡ d.interfaces
     → reached l d (device_with d place (tdi_after tdi StopInterface) d.used)
-    ≡ device_with d place (called (carries (by_loss l 1 (halted x draws m)) 1) StopInterface tdi) (d.used + 0)
+    ≡ device_with d place (tdi_if_called (carries (by_loss l 1 (halted x draws m)) 1) StopInterface tdi) (d.used + 0)
 halt_device x draws m d place tdi None same = same_device d place _ _ _ _ refl (no_more d.used)
 halt_device x draws m d place tdi (Some Request) same = left_device d place tdi _ false same refl refl
 halt_device x draws m d place tdi (Some Reply) same = same_device d place _ _ _ _ refl (no_more d.used)
@@ -58,7 +58,7 @@ module _ (x : Site) (draw drawn portion place : ℕ) (secure : Bool) (loss : Opt
   abbrev standing : Standing
   standing = stands x secure (next_nonce d) tdi (told seen m) host draw drawn
 
-  abbrev there : Named
+  abbrev there : NamedTdi
   there = record { place = place; tdi = tdi }
 
   asked : (l : Option Lost) → lost_in loss 1 ≡ l → slice_set d.interfaces place tdi ≡ d.interfaces

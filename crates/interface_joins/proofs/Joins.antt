@@ -1,5 +1,5 @@
 -- An operation on an interface is a step of the machine: the manager's walk is that of the one interface, its exchanges
--- come to the stated step, and this is case by case what the machine makes of both ends.
+-- give the stated step, and this is case by case what the machine makes of both ends.
 use Rattle.std.proofs.Common.{◌≡◌, ℕ, suc, ◌-◌, ◌≤◌, Bool, length, Option, Some, None, refl, ap, sym, subst, ◌∙◌}
 use Rattle.std.proofs.Common.{arith}
 use Rattle.std.specs.Prelude.{IfSome}
@@ -17,18 +17,18 @@ use Rattle.interface_machine.specs.Machine.{Face, Streams}
 use Rattle.tdi_host.specs.declared.operation.InterfaceOp.{InterfaceOp}
 use Rattle.tdi_host.specs.declared.operation.InterfaceOp.TheVariants as op
 use Rattle.tdi_host.specs.Steps.{Read}
-use Rattle.tdi_host.specs.Views.{HostTdi, Seen, refusal_of, unless}
-use Rattle.tdi_host.specs.Managers.{ManagerView}
-use Rattle.tdi_device.specs.Replies.{DeviceTdis, Named, next_nonce}
+use Rattle.tdi_host.specs.Views.{HostTdi, Seen, interface_refusal_of, interface_unless}
+use Rattle.tdi_host.specs.Managers.{InterfaceManagerView}
+use Rattle.tdi_device.specs.Replies.{DeviceTdis, NamedTdi, next_nonce}
 use Rattle.tdi_walks.proofs.Operations.{same_set}
 use Rattle.tdi_walks.specs.Exchanges.{IsReport, Meets, ReportsFit}
-use Rattle.tdi_walks.specs.Operations.{walk, begun_at, stated, IsShortOp, OperationsAreStated}
+use Rattle.tdi_walks.specs.Operations.{interface_walk, begun_at, stated, IsShortOp, OperationsAreStated}
 use Rattle.tdi_walks.specs.Reports.{portion_count, lost_within, ReportIsRead, ReportsAreRead, ReportsAreRefused}
-use Rattle.tdi_ends.specs.Keepers.{Ended, operated, unless_refused, KeepersWalk}
+use Rattle.tdi_ends.specs.Keepers.{Ended, interface_operated, unless_refused, KeepersWalk}
 unfoldable use Rattle.tdi_ends.specs.Keepers.{manager_walk}
 use Rattle.interface_joins.specs.Verdicts.{asked_as, report_of, op_event}
 use Rattle.interface_joins.specs.Faces.{IsFace}
-use Rattle.interface_joins.specs.Joined.{IsAt, IsJoined, InterfaceOperationsJoin}
+use Rattle.interface_joins.specs.Joined.{IsAt, IsInterfaceJoined, InterfaceOperationsJoin}
 use Rattle.interface_joins.proofs.Comes.{host_of, told, told_is, stands, read_in, tdi_behind, Comes, begun_walk}
 use Rattle.interface_joins.proofs.Locks.{lock_comes}
 use Rattle.interface_joins.proofs.Starts.{start_comes}
@@ -51,11 +51,12 @@ pub record Laws : Type 0 where
 -- ---- the walk
 
 stated_walk : Laws → (o : InterfaceOp) (fuel portion draws : ℕ) (secure : Bool) (loss : Option Loss) (i : HostTdi)
-    (d : DeviceTdis) (n : Named) → IsShortOp o → Meets portion i d n → 3 ≤ fuel
-    → stated o portion draws secure loss i d n ≡ walk fuel portion draws secure loss (begun_at o i d)
+    (d : DeviceTdis) (n : NamedTdi) → IsShortOp o → Meets portion i d n → 3 ≤ fuel
+    → stated o portion draws secure loss i d n ≡ interface_walk fuel portion draws secure loss (begun_at o i d)
 stated_walk laws o fuel portion draws secure loss i d n short m enough =
     let more : suc (suc (suc (fuel - 3))) ≡ fuel = omega arith in
-    subst (λ k. stated o portion draws secure loss i d n ≡ walk k portion draws secure loss (begun_at o i d)) more
+    subst (λ k. stated o portion draws secure loss i d n ≡ interface_walk k portion draws secure loss (begun_at o i d))
+    more
     (sym (laws.stated_is o (fuel - 3) portion draws secure loss i d n short m))
 
 module _ (laws : Laws) (fuel : ℕ) (x : Site) (plan : Plan) (draw drawn portion place : ℕ) (secure : Bool)
@@ -64,18 +65,18 @@ module _ (laws : Laws) (fuel : ℕ) (x : Site) (plan : Plan) (draw drawn portion
     abbrev standing : Standing
     standing = stands x secure (next_nonce d) tdi (told seen m) host draw drawn
 
-    abbrev there : Named
+    abbrev there : NamedTdi
     there = record { place = place; tdi = tdi }
 
     report_walk : (lock : Option Lock) → lock_of tdi.state ≡ lock → Meets portion (host_of x draw seen m) d there
         → portion ≡ plan.portion → IfSome lock (λ l. IsReport (kept_report tdi.plan l)) → 1140 ≤ fuel
         → IsWalk x plan draw drawn portion place secure loss d tdi m read seen
         (option_map (kept_report tdi.plan) lock)
-        (walk fuel portion drawn secure loss (begun_at op.Report (host_of x draw seen m) d))
+        (interface_walk fuel portion drawn secure loss (begun_at op.Report (host_of x draw seen m) d))
     report_walk None is meet same report enough =
         let more : suc (fuel - 1) ≡ fuel = omega arith in
         subst (λ k. IsWalk x plan draw drawn portion place secure loss d tdi m read seen None
-        (walk k portion drawn secure loss (begun_at op.Report (host_of x draw seen m) d))) more
+        (interface_walk k portion drawn secure loss (begun_at op.Report (host_of x draw seen m) d))) more
         (laws.refused_is (fuel - 1) portion drawn secure loss (host_of x draw seen m) d there meet is)
     report_walk (Some lock) is meet same report enough =
         let short = report.short in
@@ -87,18 +88,18 @@ module _ (laws : Laws) (fuel : ℕ) (x : Site) (plan : Plan) (draw drawn portion
         = counted fuel portion (length (kept_report tdi.plan lock)) least some whole
         ∙ ap (λ k. portions k (length (kept_report tdi.plan lock))) same in
         subst (λ k. ReportIsRead (lost_within loss 1 k) (kept_report tdi.plan lock) (host_of x draw seen m) d
-        (walk fuel portion drawn secure loss (begun_at op.Report (host_of x draw seen m) d))) count
+        (interface_walk fuel portion drawn secure loss (begun_at op.Report (host_of x draw seen m) d))) count
         (laws.read_is fuel portion drawn secure loss (host_of x draw seen m) d there lock meet is whole)
 
     comes : (o : InterfaceOp) → Meets portion (host_of x draw seen m) d there → portion ≡ plan.portion
         → tdi.plan ≡ x.plan → 1140 ≤ fuel
         → Comes x standing place o loss d (asked_due plan x standing (op_event o x.number loss))
-        (begun_walk (refusal_of o host (host_of x draw seen m)) (host_of x draw seen m) read d
-        (walk fuel portion drawn secure loss (begun_at o (host_of x draw seen m) d)))
+        (begun_walk (interface_refusal_of o host (host_of x draw seen m)) (host_of x draw seen m) read d
+        (interface_walk fuel portion drawn secure loss (begun_at o (host_of x draw seen m) d)))
     comes op.Lock meet same layout enough =
         let i = host_of x draw seen m in
         subst (λ w. Comes x standing place op.Lock loss d (asked_due plan x standing (op_event op.Lock x.number loss))
-        (begun_walk (refusal_of op.Lock host i) i read d w))
+        (begun_walk (interface_refusal_of op.Lock host i) i read d w))
         (stated_walk laws op.Lock fuel portion drawn secure loss i d there tt meet (omega arith))
         (lock_comes x draw drawn portion place secure loss d tdi m read seen host
         (same_set d x.plan.requester there meet.named_is) meet.drawn meet.nonce)
@@ -109,21 +110,21 @@ module _ (laws : Laws) (fuel : ℕ) (x : Site) (plan : Plan) (draw drawn portion
     comes op.Start meet same layout enough =
         let i = host_of x draw seen m in
         subst (λ w. Comes x standing place op.Start loss d (asked_due plan x standing (op_event op.Start x.number loss))
-        (begun_walk (refusal_of op.Start host i) i read d w))
+        (begun_walk (interface_refusal_of op.Start host i) i read d w))
         (stated_walk laws op.Start fuel portion drawn secure loss i d there tt meet (omega arith))
         (start_comes x draw drawn portion place secure loss d tdi m read seen host
         (same_set d x.plan.requester there meet.named_is) meet.nonce)
     comes op.Halt meet same layout enough =
         let i = host_of x draw seen m in
         subst (λ w. Comes x standing place op.Halt loss d (asked_due plan x standing (op_event op.Halt x.number loss))
-        (begun_walk (refusal_of op.Halt host i) i read d w))
+        (begun_walk (interface_refusal_of op.Halt host i) i read d w))
         (stated_walk laws op.Halt fuel portion drawn secure loss i d there tt meet (omega arith))
         (halt_comes x draw drawn portion place secure loss d tdi m seen host
         (same_set d x.plan.requester there meet.named_is))
     comes op.State meet same layout enough =
         let i = host_of x draw seen m in
         subst (λ w. Comes x standing place op.State loss d (asked_due plan x standing (op_event op.State x.number loss))
-        (begun_walk (refusal_of op.State host i) i read d w))
+        (begun_walk (interface_refusal_of op.State host i) i read d w))
         (stated_walk laws op.State fuel portion drawn secure loss i d there tt meet (omega arith))
         (state_comes x draw drawn portion place secure loss d tdi m seen host
         (same_set d x.plan.requester there meet.named_is) meet.nonce)
@@ -141,17 +142,19 @@ bytes_in op.State e = refl
 abbrev face_of : Tdi → Seen → Managed → Face
 face_of tdi seen m = record { tdi = tdi; managed = told seen m }
 
-abbrev ended_at : ℕ → ℕ → InterfaceOp → StreamStatus → ℕ → Bool → Option Loss → ManagerView → DeviceTdis → HostTdi
+abbrev ended_at : ℕ → ℕ → InterfaceOp → StreamStatus → ℕ → Bool → Option Loss → InterfaceManagerView → DeviceTdis
+    → HostTdi
     → Ended
 ended_at fuel number o host draws secure loss m d i =
-    unless_refused (refusal_of o host i) m d
-    (manager_walk fuel secure loss (unless (refusal_of o host i) m (asking_at m number o draws)) d)
+    unless_refused (interface_refusal_of o host i) m d
+    (manager_walk fuel secure loss (interface_unless (interface_refusal_of o host i) m (asking_at m number o draws)) d)
 
 joined_by : Laws → (fuel : ℕ) (plan : Plan) (s : Streams) (used : ℕ → ℕ) (x : Site) (place : ℕ) (o : InterfaceOp)
-    (loss : Option Loss) (m : ManagerView) (d : DeviceTdis) (tdi : Tdi) (seen : Seen) (kept : Managed) → 1140 ≤ fuel
+    (loss : Option Loss) (m : InterfaceManagerView) (d : DeviceTdis) (tdi : Tdi) (seen : Seen) (kept : Managed)
+    → 1140 ≤ fuel
     → IsAt plan s used x (face_of tdi seen kept) x.number place m d
     (host_of x (s.draw x.link x.plan.stream) seen kept) tdi
-    → IsJoined plan s used x (face_of tdi seen kept) x.number place o loss m d
+    → IsInterfaceJoined plan s used x (face_of tdi seen kept) x.number place o loss m d
     (ended_at fuel x.number o (s.host x.link x.plan.stream) s.drawn (s.secure x.link x.plan.stream) loss m d
     (host_of x (s.draw x.link x.plan.stream) seen kept))
 joined_by laws fuel plan s used x place o loss m d tdi seen kept enough a =
@@ -161,9 +164,10 @@ joined_by laws fuel plan s used x place o loss m d tdi seen kept enough a =
     let secure = s.secure x.link x.plan.stream in
     let i = host_of x draw seen kept in
     let meet = meets laws.fit plan s used x f x.number place m d i tdi a in
-    let over = is_over laws.keepers fuel x.number o s.drawn secure loss m d i (refusal_of o host i) a.at_manager in
-    let w = begun_walk (refusal_of o host i) i m.read d
-    (walk fuel m.portion s.drawn secure loss (begun_at o i d)) in
+    let over = is_over laws.keepers fuel x.number o s.drawn secure loss m d i (interface_refusal_of o host i)
+    a.at_manager in
+    let w = begun_walk (interface_refusal_of o host i) i m.read d
+    (interface_walk fuel m.portion s.drawn secure loss (begun_at o i d)) in
     let st = stands x secure (nonce_behind plan x.link (used x.link)) tdi (told seen kept) host draw s.drawn in
     let due = asked_due plan x st (op_event o x.number loss) in
     let step : Comes x st place o loss d due w = subst
@@ -192,10 +196,10 @@ joined_by laws fuel plan s used x place o loss m d tdi seen kept enough a =
     }
 
 joined_at : Laws → (plan : Plan) (s : Streams) (used : ℕ → ℕ) (x : Site) (f : Face) (place : ℕ) (o : InterfaceOp)
-    (loss : Option Loss) (m : ManagerView) (d : DeviceTdis) (i : HostTdi) (tdi : Tdi)
+    (loss : Option Loss) (m : InterfaceManagerView) (d : DeviceTdis) (i : HostTdi) (tdi : Tdi)
     → IsAt plan s used x f x.number place m d i tdi
-    → IsJoined plan s used x f x.number place o loss m d
-    (operated x.number o (s.host x.link x.plan.stream) s.drawn (s.secure x.link x.plan.stream) loss m d i)
+    → IsInterfaceJoined plan s used x f x.number place o loss m d
+    (interface_operated x.number o (s.host x.link x.plan.stream) s.drawn (s.secure x.link x.plan.stream) loss m d i)
 joined_at laws plan s used x f place o loss m d i tdi a =
     let b = a.face.managed in
     let l = b.laid_out in
@@ -213,12 +217,12 @@ joined_at laws plan s used x f place o loss m d i tdi a =
     } in
     let f_is : face_of tdi i.seen f.managed ≡ f = λ k. record { tdi = a.face.tdi_is k; managed = kept k } in
     subst (λ j. IsAt plan s used x f x.number place m d j tdi
-    → IsJoined plan s used x f x.number place o loss m d
-    (operated x.number o (s.host x.link x.plan.stream) s.drawn (s.secure x.link x.plan.stream) loss m d j))
+    → IsInterfaceJoined plan s used x f x.number place o loss m d
+    (interface_operated x.number o (s.host x.link x.plan.stream) s.drawn (s.secure x.link x.plan.stream) loss m d j))
     i_is
     (subst (λ g. IsAt plan s used x g x.number place m d (host_of x (s.draw x.link x.plan.stream) i.seen f.managed) tdi
-    → IsJoined plan s used x g x.number place o loss m d
-    (operated x.number o (s.host x.link x.plan.stream) s.drawn (s.secure x.link x.plan.stream) loss m d
+    → IsInterfaceJoined plan s used x g x.number place o loss m d
+    (interface_operated x.number o (s.host x.link x.plan.stream) s.drawn (s.secure x.link x.plan.stream) loss m d
     (host_of x (s.draw x.link x.plan.stream) i.seen f.managed)))
     f_is
     (joined_by laws 1140 plan s used x place o loss m d tdi i.seen f.managed (omega arith)))
@@ -227,8 +231,8 @@ joined_at laws plan s used x f place o loss m d i tdi a =
 pub operations_join : Laws → InterfaceOperationsJoin
 operations_join laws plan s used x f number place o loss m d i tdi a =
     subst (λ n. IsAt plan s used x f n place m d i tdi
-    → IsJoined plan s used x f n place o loss m d
-    (operated n o (s.host x.link x.plan.stream) s.drawn (s.secure x.link x.plan.stream) loss m d i))
+    → IsInterfaceJoined plan s used x f n place o loss m d
+    (interface_operated n o (s.host x.link x.plan.stream) s.drawn (s.secure x.link x.plan.stream) loss m d i))
     a.number_is
     (joined_at laws plan s used x f place o loss m d i tdi)
     a

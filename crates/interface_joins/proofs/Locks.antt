@@ -1,5 +1,5 @@
--- A lock: what is lost or refused ahead of LOCK_INTERFACE changes nothing; the third exchange makes of both ends what
--- the machine makes of them, case by case of the loss and of the device's answer.
+-- A lock: what is lost or refused before LOCK_INTERFACE changes nothing; the third exchange makes of both ends what the
+-- machine makes of them, case by case of the loss and of the device's answer.
 use Rattle.std.proofs.Common.{◌≡◌, ℕ, ◌+◌, ◌<◌, ◌==◌, ◌&&◌, Bool, true, false, List, [], Option, Some, None}
 use Rattle.std.proofs.Common.{Result, Ok, Err}
 use Rattle.std.proofs.Common.{refl, ap, sym, subst, arith}
@@ -15,7 +15,7 @@ use Rattle.link_verdicts.specs.declared.verdict.Verdict.{Verdict}
 use Rattle.key_laws.specs.Due.{lost_in, lost_at}
 use Rattle.interface_states.specs.Sites.{Site}
 use Rattle.interface_states.specs.Views.{Managed, on_lock}
-use Rattle.interface_states.specs.Devices.{called, one_if, is_given, lock_call}
+use Rattle.interface_states.specs.Devices.{tdi_if_called, one_if, is_given, lock_call}
 use Rattle.interface_states.specs.Exchanges.{carries}
 use Rattle.interface_states.specs.Due.{Standing, locked_as, lock_due}
 use Rattle.tdi_state.specs.declared.states.Lock.{Lock}
@@ -31,9 +31,9 @@ use Rattle.tdi_host.specs.declared.step.Step.TheVariants as step
 use Rattle.tdi_host.specs.Steps.{Read}
 use Rattle.tdi_host.specs.Views.{Seen, IsUnlocked, IsLocked, IsRunning, IsDoubt, IsBroken, nonce_of}
 use Rattle.tdi_host.specs.Views.{lock_outcome, lock_refusal, taken_interface}
-use Rattle.tdi_device.specs.Replies.{DeviceTdis, Named, next_nonce, used_after, is_given as gives}
+use Rattle.tdi_device.specs.Replies.{DeviceTdis, NamedTdi, next_nonce, used_after, is_given as gives}
 use Rattle.tdi_walks.specs.Exchanges.{nonce_due}
-use Rattle.tdi_walks.specs.Operations.{carried, reached, unless_lost, lost_early, stated_once, at_step}
+use Rattle.tdi_walks.specs.Operations.{carried, reached, walked_unless_lost, lost_early, stated_once, at_step}
 use Rattle.tdi_walks.specs.Operations.{stated_lock}
 use Rattle.interface_joins.specs.Verdicts.{asked_as}
 use Rattle.interface_joins.specs.Faces.{IsManaged}
@@ -61,7 +61,7 @@ lock_device : (x : Site) (d : DeviceTdis) (place : ℕ) (tdi : Tdi) (lock : Lock
     (r : Result (List ℕ) ℕ) → slice_set d.interfaces place tdi ≡ d.interfaces
     → tdi_after tdi call ≡ locked_with tdi lock r
     → reached l d (device_with d place (locked_with tdi lock r) (used_after (gives r) d.used))
-    ≡ device_with d place (called (carries (by_loss l 3 (locked_as x r)) 3) call tdi)
+    ≡ device_with d place (tdi_if_called (carries (by_loss l 3 (locked_as x r)) 3) call tdi)
     (d.used + one_if ((x.number == x.number) && carries (by_loss l 3 (locked_as x r)) 3 && is_given r))
 lock_device x d place tdi lock call None (Ok nonce) same after =
     same_device d place _ _ _ _ (sym after) (given d.used x.number true)
@@ -115,7 +115,7 @@ module _ (x : Site) (draw drawn portion place : ℕ) (secure : Bool) (loss : Opt
   abbrev standing : Seen → StreamStatus → Standing
   standing seen host = stands x secure (next_nonce d) tdi (told seen m) host draw drawn
 
-  abbrev there : Named
+  abbrev there : NamedTdi
   there = record { place = place; tdi = tdi }
 
   third : (l : Option Lost) → lost_in loss 3 ≡ l → slice_set d.interfaces place tdi ≡ d.interfaces
@@ -140,18 +140,18 @@ module _ (x : Site) (draw drawn portion place : ℕ) (secure : Bool) (loss : Opt
   early k n lt is same =
       let none = early_carries k n lt in
       quiet x (standing IsUnlocked status.Secure) place op.Lock loss d (lost_at k n) _ _ _ same
-      (ap (λ b. called b (lock_call (standing IsUnlocked status.Secure).around x) tdi) none)
+      (ap (λ b. tdi_if_called b (lock_call (standing IsUnlocked status.Secure).around x) tdi) none)
       (no_lock x (standing IsUnlocked status.Secure) loss (lost_at k n) none)
       (early_kept k n (told IsUnlocked m) lt) (managed_of x draw IsUnlocked _ refl no_key) (cut loss n k is)
 
-  -- none is refused ahead of them
+  -- none is refused before them
   begun : (a b : Option Lost) → lost_in loss 1 ≡ a → lost_in loss 2 ≡ b
       → slice_set d.interfaces place tdi ≡ d.interfaces → IfSome (next_nonce d) IsKey
       → Comes x (standing IsUnlocked status.Secure) place op.Lock loss d
       (by_loss a 1 (by_loss b 2 (by_loss (lost_in loss 3) 3
       (locked_as x (lock_answer tdi x.plan.flags x.plan.offset secure (next_nonce d))))))
-      (unless_lost a (lost_early 1 (host_of x draw IsUnlocked m) d)
-      (unless_lost b (lost_early 2 (host_of x draw IsUnlocked m) d)
+      (walked_unless_lost a (lost_early 1 (host_of x draw IsUnlocked m) d)
+      (walked_unless_lost b (lost_early 2 (host_of x draw IsUnlocked m) d)
       (stated_once portion drawn secure (lost_in loss 3) there (at_step step.Lock (host_of x draw IsUnlocked m) d))))
   begun (Some k) b first second same key = early k 1 (omega arith) first same
   begun None (Some k) first second same key = early k 2 (omega arith) second same
@@ -166,7 +166,7 @@ module _ (x : Site) (draw drawn portion place : ℕ) (secure : Bool) (loss : Opt
       (refused_walk r (host_of x draw seen m) read d)
   refused seen host due r same key none kept is =
       quiet x (standing seen host) place op.Lock loss d due _ _ _ same
-      (ap (λ b. called b (lock_call (standing seen host).around x) tdi) none)
+      (ap (λ b. tdi_if_called b (lock_call (standing seen host).around x) tdi) none)
       (no_lock x (standing seen host) loss due none) kept (managed_of x draw seen _ (told_seen seen m) key) is
 
   pub lock_comes : (seen : Seen) (host : StreamStatus) → slice_set d.interfaces place tdi ≡ d.interfaces

@@ -16,7 +16,7 @@ use Rattle.interface_states.specs.Exchanges.{carries}
 use Rattle.interface_states.specs.Views.{Managed, on_lock}
 use Rattle.tdi_walks.specs.Reports.{lost_within}
 
--- what an exchange of this number comes to, of which this is lost
+-- what an exchange of this number gives, if this is lost of it
 abbrev pub by_loss : Option Lost → ℕ → Verdict → Verdict
 by_loss None n w = w
 by_loss (Some l) n w = lost_at l n
@@ -58,14 +58,14 @@ pub thrice_lost : (loss : Option Loss) (w : Verdict) → unless_lost loss 3 w
 thrice_lost None w = refl
 thrice_lost (Some l) w = thrice_by l.exchange l.lost w _ _ _ refl refl refl
 
--- what an exchange comes to at which a message is lost
+-- what an exchange gives at which a message is lost
 abbrev pub lost_verdict : Option Loss → ℕ → Option Verdict
 lost_verdict loss n = option_map (λ k. lost_at k n) (lost_in loss n)
 
 pub cut : (loss : Option Loss) (n : ℕ) (k : Lost) → lost_in loss n ≡ Some k → lost_verdict loss n ≡ Some (lost_at k n)
 cut loss n k is = ap (option_map (λ k. lost_at k n)) is
 
--- ---- a lock that is lost ahead of its third exchange
+-- ---- a lock that is lost before its third exchange
 
 pub early_carries : (k : Lost) (n : ℕ) → n < 3 → carries (lost_at k n) 3 ≡ false
 early_carries Request n lt = lt-false 3 n (omega arith)
@@ -80,7 +80,7 @@ early_kept Reply n m lt = rw (different-false n 3 lt) refl
 within : (e c : ℕ) → (nat_le 1 e && nat_le e c) ≡ (nat_le 1 e && nat_lt e (1 + c))
 within e c = grind (arith, nat_tests)
 
--- what several exchanges come to, of which this one is lost
+-- what several exchanges give, if this one is lost
 abbrev pub by_number : Option Loss → Option ℕ → Verdict → Option Verdict
 by_number loss None w = Some w
 by_number loss (Some n) w = lost_verdict loss n

@@ -1,5 +1,5 @@
--- Where an interface stands at both ends and its plan is within its bounds, each message of an operation has the widths
--- of its fields, and the report has room: so the exchanges are the stated ones.
+-- If an interface stands at both ends and its plan is within its bounds, each message of an operation has the widths of
+-- its fields, and the report has room: so the exchanges are the stated ones.
 use Rattle.std.proofs.Common.{◌≡◌, ℕ, suc, zero, ◌<◌, ◌≤◌, ◌^◌, ◌==◌, ◌&&◌, ◌||◌, Bool, true, false, List, []}
 use Rattle.std.proofs.Common.{◌∷◌, Option, Some, None, refl, ap, sym, subst, arith}
 use Rattle.std.specs.Prelude.{IfSome, All, slice_get, slice_set}
@@ -18,7 +18,7 @@ use Rattle.tdi_state.specs.Machine.{Tdi, lock_of}
 use Rattle.interface_states.specs.Sites.{Site}
 use Rattle.interface_machine.specs.Machine.{Face, Streams}
 use Rattle.tdi_host.specs.Views.{HostTdi}
-use Rattle.tdi_host.specs.Managers.{ManagerView}
+use Rattle.tdi_host.specs.Managers.{InterfaceManagerView}
 use Rattle.tdi_device.specs.Replies.{DeviceTdis, next_nonce}
 use Rattle.tdi_walks.specs.Exchanges.{ReportsFit, IsReport, Meets}
 use Rattle.interface_joins.specs.Joined.{IsAt}
@@ -65,7 +65,7 @@ report_of fit streams plan None fits = tt
 report_of fit streams plan (Some lock) fits = fit plan lock (fits_tdi streams plan fits) fits.info_bytes
 
 pub meets : ReportsFit → (plan : Plan) (s : Streams) (used : ℕ → ℕ) (x : Site) (f : Face) (number place : ℕ)
-    (m : ManagerView) (d : DeviceTdis) (i : HostTdi) (tdi : Tdi) → IsAt plan s used x f number place m d i tdi
+    (m : InterfaceManagerView) (d : DeviceTdis) (i : HostTdi) (tdi : Tdi) → IsAt plan s used x f number place m d i tdi
     → Meets m.portion i d (record { place = place; tdi = tdi })
 meets fit plan s used x f number place m d i tdi a =
     let l = a.face.managed.laid_out in

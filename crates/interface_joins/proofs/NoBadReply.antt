@@ -11,14 +11,14 @@ use Rattle.tdi_host.specs.declared.operation.Outcome.{Outcome}
 use Rattle.tdi_host.specs.declared.operation.Outcome.TheVariants as outcome
 use Rattle.tdi_host.specs.declared.operation.Refusal.{Refusal}
 use Rattle.tdi_host.specs.declared.operation.Refusal.TheVariants as refusal
-use Rattle.interface_joins.specs.Verdicts.{asked_as, refused_as, NoBadReply}
+use Rattle.interface_joins.specs.Verdicts.{asked_as, refused_as, NoBadInterfaceReply}
 
 loses : (l : Option Lost) (n : ℕ) (w : Verdict) → option_map (λ k. lost_at k n) l ≡ Some w → IsSome l
 loses None n w is = absurd (none-some w is)
 loses (Some k) n w is = refl
 
 refused_no_bad_reply : (loss : Option Loss) (r : Refusal) (w : Verdict) → refused_as loss r ≡ Some w
-    → NoBadReply loss (outcome.Refused r)
+    → NoBadInterfaceReply loss (outcome.Refused r)
 refused_no_bad_reply loss (refusal.WrongState view) w is = tt
 refused_no_bad_reply loss refusal.NotReported w is = tt
 refused_no_bad_reply loss (refusal.NotSecure status) w is = tt
@@ -28,15 +28,15 @@ refused_no_bad_reply loss (refusal.DeviceRefused n code) w is = tt
 refused_no_bad_reply loss (refusal.BadReply n) w is = absurd (none-some w is)
 
 pub no_bad_reply : (i : ℕ) (loss : Option Loss) (report : List ℕ) (o : Outcome) (w : Verdict)
-    → asked_as i loss report o ≡ Some w → NoBadReply loss o
+    → asked_as i loss report o ≡ Some w → NoBadInterfaceReply loss o
 no_bad_reply i loss report outcome.Next w is = tt
 no_bad_reply i loss report (outcome.Done shown) w is = tt
 no_bad_reply i loss report (outcome.Refused r) w is = refused_no_bad_reply loss r w is
 
 pub answered_no_bad_reply : (i : ℕ) (loss : Option Loss) (report : List ℕ) (o : Outcome)
-    → IsSome (asked_as i loss report o) → NoBadReply loss o
+    → IsSome (asked_as i loss report o) → NoBadInterfaceReply loss o
 answered_no_bad_reply i loss report o some = by (asked_as i loss report o) refl some
   where
-    by : (due : Option Verdict) → asked_as i loss report o ≡ due → IsSome due → NoBadReply loss o
+    by : (due : Option Verdict) → asked_as i loss report o ≡ due → IsSome due → NoBadInterfaceReply loss o
     by None is some = absurd cc
     by (Some w) is some = no_bad_reply i loss report o w is

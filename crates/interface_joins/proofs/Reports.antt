@@ -1,5 +1,5 @@
--- A report: what is refused ahead of its first portion, by the device, or is lost, changes nothing; a report that is
--- read whole is the one that the lock kept.
+-- A report: what is refused before its first portion, by the device, or is lost, changes nothing; a report that is read
+-- whole is the one that the lock kept.
 use Rattle.std.proofs.Common.{◌≡◌, ℕ, ◌+◌, Bool, true, false, List, length, Option, Some, None}
 use Rattle.std.proofs.Common.{refl, ap, sym, subst, ◌∙◌}
 use Rattle.std.specs.Prelude.{slice_set}
@@ -29,9 +29,9 @@ use Rattle.tdi_host.specs.Steps.{Read}
 use Rattle.tdi_host.specs.Managers.{nothing_read, read_after}
 use Rattle.tdi_host.specs.Views.{Seen, IsUnlocked, IsLocked, IsRunning, IsDoubt, IsBroken, nonce_of, reported}
 use Rattle.tdi_host.specs.Views.{report_outcome, report_refusal, taken_interface}
-use Rattle.tdi_device.specs.Replies.{DeviceTdis, Named, next_nonce}
+use Rattle.tdi_device.specs.Replies.{DeviceTdis, NamedTdi, next_nonce}
 use Rattle.tdi_walks.specs.Exchanges.{portion_due}
-use Rattle.tdi_walks.specs.Operations.{Walked, carried, reached, stated_alone}
+use Rattle.tdi_walks.specs.Operations.{WalkedInterface, carried, reached, stated_alone}
 use Rattle.tdi_walks.specs.Reports.{lost_within, read_outcome, read_interface, ReportIsRead}
 use Rattle.interface_joins.specs.Verdicts.{asked_as}
 use Rattle.interface_joins.specs.Faces.{SeenAs, IsManaged}
@@ -110,11 +110,11 @@ module _ (x : Site) (plan : Plan) (draw drawn portion place : ℕ) (secure : Boo
   abbrev standing : Seen → StreamStatus → Standing
   standing seen host = stands x secure (next_nonce d) tdi (told seen m) host draw drawn
 
-  abbrev there : Named
+  abbrev there : NamedTdi
   there = record { place = place; tdi = tdi }
 
-  -- what the exchanges come to, by the report that the lock kept
-  abbrev pub IsWalk : Seen → Option (List ℕ) → Walked → Type 0
+  -- what the exchanges give, by the report that the lock kept
+  abbrev pub IsWalk : Seen → Option (List ℕ) → WalkedInterface → Type 0
   IsWalk seen None w = w ≡ stated_alone step.Report portion drawn secure loss (host_of x draw seen m) d there
   IsWalk seen (Some report) w =
       ReportIsRead (lost_within loss 1 (portions plan.portion (length report))) report (host_of x draw seen m) d w
@@ -138,7 +138,7 @@ module _ (x : Site) (plan : Plan) (draw drawn portion place : ℕ) (secure : Boo
             (none_managed x draw drawn seen m l key);
       }
 
-  walked : (seen : Seen) (host : StreamStatus) (o : Option (List ℕ)) (w : Walked)
+  walked : (seen : Seen) (host : StreamStatus) (o : Option (List ℕ)) (w : WalkedInterface)
       → slice_set d.interfaces place tdi ≡ d.interfaces → IsKey (nonce_of seen)
       → option_map (kept_report tdi.plan) (lock_of tdi.state) ≡ o → IsWalk seen o w
       → Comes x (standing seen host) place op.Report loss d (reported_as plan x loss o) w
@@ -169,7 +169,8 @@ module _ (x : Site) (plan : Plan) (draw drawn portion place : ℕ) (secure : Boo
       quiet x (standing seen host) place op.Report loss d due _ _ _ same refl refl kept
       (managed_of x draw seen _ (told_seen seen m) key) is
 
-  pub report_comes : (seen : Seen) (host : StreamStatus) (w : Walked) → slice_set d.interfaces place tdi ≡ d.interfaces
+  pub report_comes : (seen : Seen) (host : StreamStatus) (w : WalkedInterface) → slice_set d.interfaces place tdi
+      ≡ d.interfaces
       → IsKey (nonce_of seen) → tdi.plan ≡ x.plan
       → IsWalk seen (option_map (kept_report tdi.plan) (lock_of tdi.state)) w
       → Comes x (standing seen host) place op.Report loss d (report_due plan x (standing seen host) loss)

@@ -1,4 +1,4 @@
--- A start: what is refused ahead of START_INTERFACE changes nothing; the exchange makes of both ends what the machine
+-- A start: what is refused before START_INTERFACE changes nothing; the exchange makes of both ends what the machine
 -- makes of them, case by case of the loss and of the device's answer.
 use Rattle.std.proofs.Common.{◌≡◌, ℕ, ◌+◌, Bool, true, false, List, [], Option, Some, None, Result, Ok, Err}
 use Rattle.std.proofs.Common.{refl, ap, sym, subst}
@@ -14,7 +14,7 @@ use Rattle.link_verdicts.specs.declared.verdict.Verdict.{Verdict}
 use Rattle.link_verdicts.specs.declared.verdict.Verdict.TheVariants as v
 use Rattle.interface_states.specs.Sites.{Site}
 use Rattle.interface_states.specs.Views.{Managed, on_start}
-use Rattle.interface_states.specs.Devices.{called}
+use Rattle.interface_states.specs.Devices.{tdi_if_called}
 use Rattle.interface_states.specs.Exchanges.{carries}
 use Rattle.interface_states.specs.Due.{Standing, started_as, start_due, unless_lost as due_unless_lost}
 use Rattle.tdi_state.specs.Machine.{Tdi, Call, StartInterface, tdi_after, start_answer}
@@ -26,8 +26,8 @@ use Rattle.tdi_host.specs.declared.step.Step.TheVariants as step
 use Rattle.tdi_host.specs.Steps.{Read}
 use Rattle.tdi_host.specs.Views.{Seen, IsUnlocked, IsLocked, IsRunning, IsDoubt, IsBroken, nonce_of}
 use Rattle.tdi_host.specs.Views.{start_outcome, start_refusal, taken_interface}
-use Rattle.tdi_device.specs.Replies.{DeviceTdis, Named, next_nonce}
-use Rattle.tdi_walks.specs.Exchanges.{start_due as start_judged}
+use Rattle.tdi_device.specs.Replies.{DeviceTdis, NamedTdi, next_nonce}
+use Rattle.tdi_walks.specs.Exchanges.{start_judged}
 use Rattle.key_laws.specs.Due.{lost_in}
 use Rattle.tdi_walks.specs.Operations.{carried, reached, stated_once, stated_alone, at_step}
 use Rattle.interface_joins.specs.Verdicts.{asked_as}
@@ -49,7 +49,7 @@ start_verdict x draw loss (Some k) r is = cut loss 1 k is
 start_device : (x : Site) (draw : ℕ) (d : DeviceTdis) (place : ℕ) (tdi : Tdi) (call : Call) (l : Option Lost)
     (r : Result (Unit {0}) ℕ) → slice_set d.interfaces place tdi ≡ d.interfaces
     → reached l d (device_with d place (tdi_after tdi call) d.used)
-    ≡ device_with d place (called (carries (by_loss l 1 (started_as x draw r)) 1) call tdi) (d.used + 0)
+    ≡ device_with d place (tdi_if_called (carries (by_loss l 1 (started_as x draw r)) 1) call tdi) (d.used + 0)
 start_device x draw d place tdi call None (Ok done) same = same_device d place _ _ _ _ refl (no_more d.used)
 start_device x draw d place tdi call None (Err code) same = same_device d place _ _ _ _ refl (no_more d.used)
 start_device x draw d place tdi call (Some Request) r same = left_device d place tdi _ false same refl refl
@@ -71,7 +71,7 @@ module _ (x : Site) (draw drawn portion place : ℕ) (secure : Bool) (loss : Opt
   abbrev standing : Seen → StreamStatus → Standing
   standing seen host = stands x secure (next_nonce d) tdi (told seen m) host draw drawn
 
-  abbrev there : Named
+  abbrev there : NamedTdi
   there = record { place = place; tdi = tdi }
 
   asked : (nonce : List ℕ) (l : Option Lost) → lost_in loss 1 ≡ l → slice_set d.interfaces place tdi ≡ d.interfaces
@@ -94,10 +94,10 @@ module _ (x : Site) (draw drawn portion place : ℕ) (secure : Bool) (loss : Opt
       (refused_walk r (host_of x draw seen m) read d)
   refused seen host due r same key none kept is =
       quiet x (standing seen host) place op.Start loss d due _ _ _ same
-      (ap (λ b. called b (StartInterface (told seen m).nonce) tdi) none) refl kept
+      (ap (λ b. tdi_if_called b (StartInterface (told seen m).nonce) tdi) none) refl kept
       (managed_of x draw seen _ (told_seen seen m) key) is
 
-  -- where its stream was keyed since
+  -- if its stream was keyed since
   fresh : (nonce : List ℕ) (stale : Bool) → slice_set d.interfaces place tdi ≡ d.interfaces → IsKey nonce
       → Comes x (standing (IsLocked nonce true) status.Secure) place op.Start loss d
       (if stale then v.Interface (iv.RefusedRefreshFirst draw m.needs)

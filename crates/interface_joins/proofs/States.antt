@@ -19,7 +19,7 @@ use Rattle.tdi_host.specs.declared.step.Step.TheVariants as step
 use Rattle.tdi_host.specs.Judging.{State}
 use Rattle.tdi_host.specs.Views.{Seen, IsUnlocked, IsLocked, IsRunning, IsDoubt, IsBroken, nonce_of, state_outcome}
 use Rattle.tdi_host.specs.Views.{taken_interface}
-use Rattle.tdi_device.specs.Replies.{DeviceTdis, Named, next_nonce}
+use Rattle.tdi_device.specs.Replies.{DeviceTdis, NamedTdi, next_nonce}
 use Rattle.key_laws.specs.Due.{lost_in}
 use Rattle.tdi_walks.specs.Operations.{carried, reached, stated_once, stated_alone, at_step}
 use Rattle.interface_joins.specs.Verdicts.{asked_as}
@@ -28,7 +28,7 @@ use Rattle.interface_joins.proofs.Losses.{by_loss, once_lost, cut}
 use Rattle.interface_joins.proofs.Comes.{host_of, laid, told, told_seen, managed_of, no_key, stands, device_with, Comes}
 use Rattle.interface_joins.proofs.Comes.{same_device, left_device, no_more}
 
--- the verdict where nothing is lost
+-- the verdict if nothing is lost
 abbrev told_state : Site → ℕ → Verdict
 told_state x code = v.Interface (iv.State x.number code)
 
@@ -73,7 +73,7 @@ module _ (x : Site) (draw drawn portion place : ℕ) (secure : Bool) (loss : Opt
   abbrev standing : Standing
   standing = stands x secure (next_nonce d) tdi (told seen m) host draw drawn
 
-  abbrev there : Named
+  abbrev there : NamedTdi
   there = record { place = place; tdi = tdi }
 
   asked : (l : Option Lost) → lost_in loss 1 ≡ l → slice_set d.interfaces place tdi ≡ d.interfaces

@@ -17,7 +17,7 @@ SeenAs IsDoubt m = m.view ≡ Doubt
 SeenAs IsBroken m = m.view ≡ Broken
 
 -- what the topology says of it
-pub record IsLaidOut (x : Site) (i : HostTdi) : Type 0 where
+pub record IsSiteLaidOut (x : Site) (i : HostTdi) : Type 0 where
   pub link : i.link ≡ x.link
   pub requester : i.requester ≡ x.plan.requester
   pub stream : i.stream ≡ x.plan.stream
@@ -26,7 +26,7 @@ pub record IsLaidOut (x : Site) (i : HostTdi) : Type 0 where
 
 -- what the manager keeps of it
 pub record IsManaged (draw : ℕ) (x : Site) (i : HostTdi) (m : Managed) : Type 0 where
-  pub laid_out : IsLaidOut x i
+  pub laid_out : IsSiteLaidOut x i
   pub draw_is : i.draw ≡ draw
   pub needs : i.needs ≡ m.needs
   pub started : i.was_started ≡ m.started

@@ -13,15 +13,16 @@ use Rattle.interface_machine.specs.Machine.{Face, Streams, around_of, standing_o
 use Rattle.tdi_state.specs.Machine.{Tdi}
 use Rattle.tdi_host.specs.declared.operation.InterfaceOp.{InterfaceOp}
 use Rattle.tdi_host.specs.Views.{HostTdi}
-use Rattle.tdi_host.specs.Managers.{ManagerView}
-use Rattle.tdi_device.specs.Replies.{DeviceTdis, named, next_nonce}
-use Rattle.tdi_ends.specs.Keepers.{Ended, operated}
+use Rattle.tdi_host.specs.Managers.{InterfaceManagerView}
+use Rattle.tdi_device.specs.Replies.{DeviceTdis, named_tdi, next_nonce}
+use Rattle.tdi_ends.specs.Keepers.{Ended, interface_operated}
 use Rattle.interface_joins.specs.Verdicts.{ended_as, op_event}
 use Rattle.interface_joins.specs.Faces.{IsFace}
 
 -- An interface at the manager and at its device: it is at this place of each, its plan is within its bounds, and the
 -- device gives the topology's nonces in their order.
-pub record IsAt (plan : Plan) (s : Streams) (used : ℕ → ℕ) (x : Site) (f : Face) (number place : ℕ) (m : ManagerView)
+pub record IsAt (plan : Plan) (s : Streams) (used : ℕ → ℕ) (x : Site) (f : Face) (number place : ℕ)
+    (m : InterfaceManagerView)
     (d : DeviceTdis) (i : HostTdi) (tdi : Tdi) : Type 0 where
   pub streams : List StreamPlan
   pub each_stream : All FitsStream streams
@@ -31,15 +32,15 @@ pub record IsAt (plan : Plan) (s : Streams) (used : ℕ → ℕ) (x : Site) (f :
   pub portion_is : m.portion ≡ plan.portion
   pub number_is : x.number ≡ number
   pub at_manager : slice_get m.interfaces number ≡ Some i
-  pub at_device : named d i.requester ≡ Some (record { place = place; tdi = tdi })
+  pub at_device : named_tdi d i.requester ≡ Some (record { place = place; tdi = tdi })
   pub each_nonce : All IsKey d.nonces
   pub next_is : next_nonce d ≡ nonce_behind plan x.link (used x.link)
   pub face : IsFace (s.draw x.link x.plan.stream) x i tdi f
 
 -- It ended with the machine's verdict. The manager has another interface at its place, the device another at its, and
 -- they keep what the machine keeps after the event; a lock that was accepted took a nonce.
-pub record IsJoined (plan : Plan) (s : Streams) (used : ℕ → ℕ) (x : Site) (f : Face) (number place : ℕ)
-    (o : InterfaceOp) (loss : Option Loss) (m : ManagerView) (d : DeviceTdis) (e : Ended) : Type 0 where
+pub record IsInterfaceJoined (plan : Plan) (s : Streams) (used : ℕ → ℕ) (x : Site) (f : Face) (number place : ℕ)
+    (o : InterfaceOp) (loss : Option Loss) (m : InterfaceManagerView) (d : DeviceTdis) (e : Ended) : Type 0 where
   pub verdict : Verdict
   pub verdict_is : verdict ≡ asked_due plan x (standing_of plan s used x f) (op_event o number loss)
   pub ended_is : ended_as number o loss e ≡ Some verdict
@@ -59,7 +60,7 @@ pub record IsJoined (plan : Plan) (s : Streams) (used : ℕ → ℕ) (x : Site) 
 abbrev pub InterfaceOperationsJoin : Type 0
 InterfaceOperationsJoin =
     (plan : Plan) (s : Streams) (used : ℕ → ℕ) (x : Site) (f : Face) (number place : ℕ)
-    (o : InterfaceOp) (loss : Option Loss) (m : ManagerView) (d : DeviceTdis) (i : HostTdi) (tdi : Tdi)
+    (o : InterfaceOp) (loss : Option Loss) (m : InterfaceManagerView) (d : DeviceTdis) (i : HostTdi) (tdi : Tdi)
     → IsAt plan s used x f number place m d i tdi
-    → IsJoined plan s used x f number place o loss m d
-    (operated number o (s.host x.link x.plan.stream) s.drawn (s.secure x.link x.plan.stream) loss m d i)
+    → IsInterfaceJoined plan s used x f number place o loss m d
+    (interface_operated number o (s.host x.link x.plan.stream) s.drawn (s.secure x.link x.plan.stream) loss m d i)

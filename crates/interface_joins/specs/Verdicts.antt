@@ -1,4 +1,4 @@
--- What operations on interfaces come to, as verdicts.
+-- The verdicts of operations on interfaces.
 use Rattle.std.specs.Prelude.{ℕ, List, [], Option, Some, None, IsSome}
 use Rattle.std.specs.Option.{option_map}
 use Rattle.interface_words.specs.declared.view.View.{View}
@@ -47,17 +47,17 @@ refused_as loss (refusal.SessionLost exchange) = option_map (λ lost. lost_at lo
 refused_as loss (refusal.DeviceRefused exchange code) = Some (v.RefusedDevice exchange code)
 refused_as loss (refusal.BadReply exchange) = None
 
--- of the interface of this number; a report that was read is this one; an operation that is not at its end has none
+-- the verdict on the interface of this number; a report that was read is this one; an unfinished operation has none
 abbrev pub asked_as : ℕ → Option Loss → List ℕ → Outcome → Option Verdict
 asked_as i loss report outcome.Next = None
 asked_as i loss report (outcome.Done s) = Some (shown_as i report s)
 asked_as i loss report (outcome.Refused r) = refused_as loss r
 
 -- No reply was bad, and no exchange was lost but one whose message is lost.
-abbrev pub NoBadReply : Option Loss → Outcome → Type 0
-NoBadReply loss (outcome.Refused (refusal.BadReply n)) = ⊥
-NoBadReply loss (outcome.Refused (refusal.SessionLost n)) = IsSome (lost_in loss n)
-NoBadReply loss o = Unit {0}
+abbrev pub NoBadInterfaceReply : Option Loss → Outcome → Type 0
+NoBadInterfaceReply loss (outcome.Refused (refusal.BadReply n)) = ⊥
+NoBadInterfaceReply loss (outcome.Refused (refusal.SessionLost n)) = IsSome (lost_in loss n)
+NoBadInterfaceReply loss o = Unit {0}
 
 -- the bytes that a report is shown by
 abbrev pub report_of : InterfaceOp → Ended → List ℕ

@@ -1,4 +1,4 @@
-//! An operation of the manager on an interface, carried exchange by exchange to the device that has it, comes to the
+//! An operation of the manager on an interface, carried exchange by exchange to the device that has it, gives the
 //! verdict that is due, and leaves manager and device as the machine of interfaces does (TDISP, PCI Express Base 6.0
 //! chapter 11, in this profile). Definitions and one theorem.
 #![tactic(auto)]

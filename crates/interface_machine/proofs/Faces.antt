@@ -5,13 +5,14 @@ use Rattle.std.specs.Prelude.{find}
 use Rattle.interface_states.specs.Terms.{list_any, option_and_then, option_map, option_map_or, Plan, Event}
 use Rattle.interface_states.specs.Terms.{InterfaceEvent, Verdict, History}
 use Rattle.interface_states.specs.Sites.{Site, sites, site_at, site_with}
-use Rattle.interface_states.specs.Views.{managed, number_in, bound_if, granted, grant_at}
+use Rattle.interface_states.specs.Views.{managed, number_in, bound_if, granted_to, grant_at}
 use Rattle.interface_states.specs.Devices.{devices, one_if, is_run, sets_t, used_at}
-use Rattle.interface_states.specs.Due.{due, interface_due, on_site, with_number}
+use Rattle.interface_states.specs.Due.{interface_verdict_due, interface_due, on_site, with_number}
 use Rattle.interface_machine.specs.Machine.{Face, Faces, new_faces, find_face, with_each, face_after, gives_nonce}
-use Rattle.interface_machine.specs.Machine.{is_true, faces_after, asked_of, answer_to, answer_of, with_requester, t_of}
+use Rattle.interface_machine.specs.Machine.{is_true, faces_after, asked_due_of, answer_to, interface_answer}
+use Rattle.interface_machine.specs.Machine.{with_requester, t_of}
 use Rattle.interface_machine.specs.Machine.{grant_of}
-use Rattle.interface_machine.specs.Stands.{secure_of, streams_at, face_at, StandsFor, FacesStand}
+use Rattle.interface_machine.specs.Stands.{secure_of, streams_at, face_at, FacesStandFor, FacesStand}
 
 -- ---- lists
 
@@ -37,7 +38,7 @@ found_is test f (x ∷ xs) = by (test x) (found_is test f xs)
 
 -- ---- one step
 
-first_stands : (plan : Plan) → StandsFor plan (new_faces plan) []
+first_stands : (plan : Plan) → FacesStandFor plan (new_faces plan) []
 unfolding devices managed
 first_stands plan = record { faces = refl; used = refl }
 
@@ -61,8 +62,8 @@ used_after plan h e w link =
     (ap one_if (ap (list_any is_true) given ∙ any_is
     (λ x. gives_nonce plan (streams_at h) (used_at plan h) e w link x (face_at plan h x)) (sites plan)))
 
-step_stands : (plan : Plan) (fs : Faces) (h : History) (e : Event) (w : Verdict) → StandsFor plan fs h
-    → StandsFor plan (faces_after plan (streams_at h) (secure_of ((e, w) ∷ h)) e w fs) ((e, w) ∷ h)
+step_stands : (plan : Plan) (fs : Faces) (h : History) (e : Event) (w : Verdict) → FacesStandFor plan fs h
+    → FacesStandFor plan (faces_after plan (streams_at h) (secure_of ((e, w) ∷ h)) e w fs) ((e, w) ∷ h)
 step_stands plan fs h e w stands = record {
   faces = (λ i. with_each (face_after plan (streams_at h) (secure_of ((e, w) ∷ h)) (stands.used i) e w) (sites plan)
       (stands.faces i)) ∙ list_after plan h e w;
@@ -74,7 +75,7 @@ step_stands plan fs h e w stands = record {
 -- ---- what is read
 
 asked_is : (plan : Plan) (h : History) (e : InterfaceEvent) (o : Option Site)
-    → asked_of plan (streams_at h) (used_at plan h) e (option_map (λ x. (x, face_at plan h x)) o)
+    → asked_due_of plan (streams_at h) (used_at plan h) e (option_map (λ x. (x, face_at plan h x)) o)
     ≡ on_site (λ x. interface_due plan h x e) o
 asked_is plan h e None = refl
 asked_is plan h e (Some x) = refl
@@ -84,13 +85,13 @@ number_is : (plan : Plan) (h : History) (e : InterfaceEvent) (o : Option ℕ) (g
     → answer_to plan (streams_at h) (record { list = list; used = used }) e o given ≡ with_number plan h e o given
 number_is plan h e None given list used faces same = refl
 number_is plan h e (Some i) given list used faces same =
-    (λ j. asked_of plan (streams_at h) (same j) e (find_face (λ x. x.number == i) (sites plan) (faces j)))
-    ∙ (ap (asked_of plan (streams_at h) (used_at plan h) e)
+    (λ j. asked_due_of plan (streams_at h) (same j) e (find_face (λ x. x.number == i) (sites plan) (faces j)))
+    ∙ (ap (asked_due_of plan (streams_at h) (used_at plan h) e)
     (found_is (λ x. x.number == i) (face_at plan h) (sites plan)) ∙ asked_is plan h e (site_at plan i))
 
-answer_is : (plan : Plan) (fs : Faces) (h : History) (e : InterfaceEvent) (given : Verdict) → StandsFor plan fs h
-    → answer_of plan (streams_at h) fs e given ≡ due plan h e given
-unfolding due
+answer_is : (plan : Plan) (fs : Faces) (h : History) (e : InterfaceEvent) (given : Verdict) → FacesStandFor plan fs h
+    → interface_answer plan (streams_at h) fs e given ≡ interface_verdict_due plan h e given
+unfolding interface_verdict_due
 answer_is plan fs h e given stands = number_is plan h e (number_in e) given fs.list fs.used stands.faces stands.used
 
 requester_is : (plan : Plan) (h : History) (link requester : ℕ) (fs : Faces) → fs.list
@@ -106,7 +107,7 @@ t_says : (plan : Plan) (h : History) (link stream : ℕ) (o : Option Site)
 t_says plan h link stream None = refl
 t_says plan h link stream (Some x) = refl
 
-t_is : (plan : Plan) (fs : Faces) (h : History) (link stream : ℕ) (owner : Option ℕ) → StandsFor plan fs h
+t_is : (plan : Plan) (fs : Faces) (h : History) (link stream : ℕ) (owner : Option ℕ) → FacesStandFor plan fs h
     → t_of plan fs link stream owner ≡ sets_t plan h link stream (option_and_then (site_with plan link) owner)
 t_is plan fs h link stream None stands = refl
 t_is plan fs h link stream (Some rid) stands =
@@ -117,11 +118,11 @@ t_is plan fs h link stream (Some rid) stands =
 
 grant_says : (plan : Plan) (h : History) (o : Option Site)
     → option_and_then (λ (y : Site × Face). bound_if y.1.managed.view y.0.plan.stream y.1.managed.floor)
-    (option_map (λ x. (x, face_at plan h x)) o) ≡ granted h o
+    (option_map (λ x. (x, face_at plan h x)) o) ≡ granted_to h o
 grant_says plan h None = refl
 grant_says plan h (Some x) = refl
 
-grant_is : (plan : Plan) (fs : Faces) (h : History) (link requester : ℕ) → StandsFor plan fs h
+grant_is : (plan : Plan) (fs : Faces) (h : History) (link requester : ℕ) → FacesStandFor plan fs h
     → grant_of plan fs link requester ≡ grant_at plan h link requester
 grant_is plan fs h link requester stands =
     ap (option_and_then (λ (y : Site × Face). bound_if y.1.managed.view y.0.plan.stream y.1.managed.floor))

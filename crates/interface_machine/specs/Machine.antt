@@ -91,18 +91,18 @@ standing_of plan s used x f = record {
   drawn = s.drawn;
 }
 
-abbrev pub asked_of : Plan → Streams → (ℕ → ℕ) → InterfaceEvent → Option (Site × Face) → Verdict
-asked_of plan s used e None = v.Nothing
-asked_of plan s used e (Some y) = asked_due plan y.0 (standing_of plan s used y.0 y.1) e
+abbrev pub asked_due_of : Plan → Streams → (ℕ → ℕ) → InterfaceEvent → Option (Site × Face) → Verdict
+asked_due_of plan s used e None = v.Nothing
+asked_due_of plan s used e (Some y) = asked_due plan y.0 (standing_of plan s used y.0 y.1) e
 
 abbrev pub answer_to : Plan → Streams → Faces → InterfaceEvent → Option ℕ → Verdict → Verdict
 answer_to plan s fs e None given = given
 answer_to plan s fs e (Some i) given =
-    asked_of plan s fs.used e (find_face (λ x. x.number == i) (sites plan) fs.list)
+    asked_due_of plan s fs.used e (find_face (λ x. x.number == i) (sites plan) fs.list)
 
 -- the verdict of an event on an interface; of one on memory it is given
-abbrev pub answer_of : Plan → Streams → Faces → InterfaceEvent → Verdict → Verdict
-answer_of plan s fs e given = answer_to plan s fs e (number_in e) given
+abbrev pub interface_answer : Plan → Streams → Faces → InterfaceEvent → Verdict → Verdict
+interface_answer plan s fs e given = answer_to plan s fs e (number_in e) given
 
 abbrev pub with_requester : Plan → Faces → ℕ → ℕ → Option (Site × Face)
 with_requester plan fs link requester =

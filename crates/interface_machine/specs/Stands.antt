@@ -5,8 +5,9 @@ use Rattle.interface_states.specs.Terms.{op_of, draws, status_of}
 use Rattle.interface_states.specs.Sites.{Site, sites, site_with}
 use Rattle.interface_states.specs.Views.{managed, stream_draw, grant_at}
 use Rattle.interface_states.specs.Devices.{tdi_at, used_at, is_secure, sets_t}
-use Rattle.interface_states.specs.Due.{due}
-use Rattle.interface_machine.specs.Machine.{Face, Faces, new_faces, Streams, faces_after, answer_of, t_of, grant_of}
+use Rattle.interface_states.specs.Due.{interface_verdict_due}
+use Rattle.interface_machine.specs.Machine.{Face, Faces, new_faces, Streams, faces_after, interface_answer, t_of}
+use Rattle.interface_machine.specs.Machine.{grant_of}
 
 -- what a history says of streams
 abbrev pub secure_of : History → ℕ → ℕ → Bool
@@ -26,18 +27,18 @@ abbrev pub face_at : Plan → History → Site → Face
 face_at plan h x = record { tdi = tdi_at plan h x; managed = managed h x }
 
 -- each kept part is what the history gives
-pub record StandsFor (plan : Plan) (fs : Faces) (h : History) : Type 0 where
+pub record FacesStandFor (plan : Plan) (fs : Faces) (h : History) : Type 0 where
   pub faces : fs.list ≡ map (face_at plan h) (sites plan)
   pub used : fs.used ≡ used_at plan h
 
 -- the first state stands for the empty history, and each step for one more pair, whatever its verdict
 pub record FacesStand : Type 0 where
-  pub first : (plan : Plan) → StandsFor plan (new_faces plan) []
-  pub step : (plan : Plan) (fs : Faces) (h : History) (e : Event) (w : Verdict) → StandsFor plan fs h
-      → StandsFor plan (faces_after plan (streams_at h) (secure_of ((e, w) ∷ h)) e w fs) ((e, w) ∷ h)
-  pub answer : (plan : Plan) (fs : Faces) (h : History) (e : InterfaceEvent) (given : Verdict) → StandsFor plan fs h
-      → answer_of plan (streams_at h) fs e given ≡ due plan h e given
-  pub t : (plan : Plan) (fs : Faces) (h : History) (link stream : ℕ) (owner : Option ℕ) → StandsFor plan fs h
+  pub first : (plan : Plan) → FacesStandFor plan (new_faces plan) []
+  pub step : (plan : Plan) (fs : Faces) (h : History) (e : Event) (w : Verdict) → FacesStandFor plan fs h
+      → FacesStandFor plan (faces_after plan (streams_at h) (secure_of ((e, w) ∷ h)) e w fs) ((e, w) ∷ h)
+  pub answer : (plan : Plan) (fs : Faces) (h : History) (e : InterfaceEvent) (given : Verdict) → FacesStandFor plan fs h
+      → interface_answer plan (streams_at h) fs e given ≡ interface_verdict_due plan h e given
+  pub t : (plan : Plan) (fs : Faces) (h : History) (link stream : ℕ) (owner : Option ℕ) → FacesStandFor plan fs h
       → t_of plan fs link stream owner ≡ sets_t plan h link stream (option_and_then (site_with plan link) owner)
-  pub grant : (plan : Plan) (fs : Faces) (h : History) (link requester : ℕ) → StandsFor plan fs h
+  pub grant : (plan : Plan) (fs : Faces) (h : History) (link requester : ℕ) → FacesStandFor plan fs h
       → grant_of plan fs link requester ≡ grant_at plan h link requester

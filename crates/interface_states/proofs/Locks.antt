@@ -8,9 +8,9 @@ use Rattle.interface_states.specs.Terms.{LevelReset, FirmwareUpdate, StreamLeft,
 use Rattle.tdi_state.specs.Machine.{new_lock, locked_with, KeepsListed}
 use Rattle.tdi_state.proofs.ListedParts.{listed_is_kept}
 use Rattle.interface_states.specs.Sites.{Site}
-use Rattle.interface_states.specs.Exchanges.{carries, is_applied}
+use Rattle.interface_states.specs.Exchanges.{carries, changes_device}
 use Rattle.interface_states.specs.Views.{is_number, number_in}
-use Rattle.interface_states.specs.Devices.{Around, around_at, called, lock_call, asked, next_tdi, is_given}
+use Rattle.interface_states.specs.Devices.{Around, around_at, tdi_if_called, lock_call, tdi_asked, next_tdi, is_given}
 use Rattle.interface_states.specs.Devices.{accepts_lock, leaves, devices, tdi_at, registers_locked, locks_in}
 use Rattle.link_events.specs.declared.event.Event.TheVariants as event
 use Rattle.link_events.specs.declared.event.InterfaceEvent.TheVariants as ie
@@ -41,51 +41,52 @@ after_layout tdi FirmwareUpdate = refl
 after_layout tdi StreamLeft = refl
 after_layout tdi LinkReset = refl
 
-called_stood : (b : Bool) (c : Call) (tdi : Tdi) (l : Lock) → is_lock c ≡ false → lock_of (called b c tdi).state
+called_stood : (b : Bool) (c : Call) (tdi : Tdi) (l : Lock) → is_lock c ≡ false → lock_of (tdi_if_called b c tdi).state
     ≡ Some l → lock_of tdi.state ≡ Some l
 called_stood true c tdi l other is = after_stood tdi c l other is
 called_stood false c tdi l other is = is
 
-called_layout : (b : Bool) (c : Call) (tdi : Tdi) → (called b c tdi).plan ≡ tdi.plan
+called_layout : (b : Bool) (c : Call) (tdi : Tdi) → (tdi_if_called b c tdi).plan ≡ tdi.plan
 called_layout true c tdi = after_layout tdi c
 called_layout false c tdi = refl
 
 called_listed : (b : Bool) (c : Call) (tdi : Tdi) → KeepsListed tdi.registers tdi.state
-    → KeepsListed (called b c tdi).registers (called b c tdi).state
+    → KeepsListed (tdi_if_called b c tdi).registers (tdi_if_called b c tdi).state
 called_listed true c tdi keeps = listed_is_kept tdi c keeps
 called_listed false c tdi keeps = keeps
 
 -- ---- what a pair leaves
 
--- P of what the pair leaves, where each call keeps it
+-- P of what the pair leaves, if each call keeps it
 abbrev Keeps : (Tdi → Type 0) → Type 0
-Keeps P = (b : Bool) (c : Call) (tdi : Tdi) → P tdi → P (called b c tdi)
+Keeps P = (b : Bool) (c : Call) (tdi : Tdi) → P tdi → P (tdi_if_called b c tdi)
 
 if_keeps : (P : Tdi → Type 0) (b : Bool) (s t : Tdi) → P s → P t → P (if b then s else t)
 if_keeps P true s t one two = one
 if_keeps P false s t one two = two
 
 asked_keeps : (P : Tdi → Type 0) → Keeps P → (a : Around) (x : Site) (e : InterfaceEvent) (w : Verdict) (tdi : Tdi)
-    → P tdi → P (asked a x e w tdi)
+    → P tdi → P (tdi_asked a x e w tdi)
 asked_keeps P keeps a x (ie.Lock i loss) w tdi p = keeps (carries w 3) (lock_call a x) tdi p
 asked_keeps P keeps a x (ie.Start i loss) w tdi p = keeps (carries w 1) (StartInterface a.nonce) tdi p
 asked_keeps P keeps a x (ie.Halt i loss) w tdi p = keeps (carries w 1) StopInterface tdi p
-asked_keeps P keeps a x (ie.Write i register value) w tdi p = keeps (is_applied w) (WriteRegister register value) tdi p
-asked_keeps P keeps a x (ie.Flr i) w tdi p = keeps (is_applied w) LevelReset tdi p
-asked_keeps P keeps a x (ie.Firmware i) w tdi p = keeps (is_applied w) FirmwareUpdate tdi p
+asked_keeps P keeps a x (ie.Write i register value) w tdi p = keeps (changes_device w) (WriteRegister register value)
+    tdi p
+asked_keeps P keeps a x (ie.Flr i) w tdi p = keeps (changes_device w) LevelReset tdi p
+asked_keeps P keeps a x (ie.Firmware i) w tdi p = keeps (changes_device w) FirmwareUpdate tdi p
 asked_keeps P keeps a x e w tdi p = p
 
 pub next_keeps : (P : Tdi → Type 0) → Keeps P
     → (a : Around) (left : Bool) (x : Site) (e : Event) (w : Verdict) (tdi : Tdi) → P tdi
     → P (next_tdi a left x e w tdi)
 next_keeps P keeps a left x (event.Interface e) w tdi p =
-    if_keeps P (is_number (number_in e) x.number) (asked a x e w tdi) tdi (asked_keeps P keeps a x e w tdi p) p
+    if_keeps P (is_number (number_in e) x.number) (tdi_asked a x e w tdi) tdi (asked_keeps P keeps a x e w tdi p) p
 next_keeps P keeps a left x (event.Reset link) (v.Reset l) tdi p = keeps (link == x.link) LinkReset tdi p
 next_keeps P keeps a left x e w tdi p = keeps left StreamLeft tdi p
 
 -- ---- locks
 
--- the lock that stands behind a pair stood before it, or was made by it
+-- the lock that stands after a pair stood before it, or was made by it
 abbrev pub Made : Around → Site → Event → Verdict → Tdi → Lock → Type 0
 Made a x e w tdi l = ((lock_of tdi.state ≡ Some l) × (accepts_lock a x e w tdi ≡ false))
     ⊎ ((accepts_lock a x e w tdi ≡ true) × (l ≡ new_lock tdi x.plan.flags x.plan.stream x.plan.offset))
@@ -97,7 +98,7 @@ given_made tdi new l (Ok nonce) is = inr (refl, grind arith)
 given_made tdi new l (Err code) is = inl (is, refl)
 
 lock_made : (a : Around) (x : Site) (b c : Bool) (tdi : Tdi) (l : Lock)
-    → lock_of (if b then called c (lock_call a x) tdi else tdi).state ≡ Some l
+    → lock_of (if b then tdi_if_called c (lock_call a x) tdi else tdi).state ≡ Some l
     → let accepts = b && c && is_given (lock_answer tdi x.plan.flags x.plan.offset a.secure a.drawn) in
     ((lock_of tdi.state ≡ Some l) × (accepts ≡ false)) ⊎
     ((accepts ≡ true) × (l ≡ new_lock tdi x.plan.flags x.plan.stream x.plan.offset))
@@ -121,13 +122,13 @@ next_made a left x (event.Interface (ie.Halt i loss)) w tdi l is =
     inl (if_stood (i == x.number) _ tdi l (called_stood (carries w 1) StopInterface tdi l refl) is, refl)
 next_made a left x (event.Interface (ie.Write i register value)) w tdi l is =
     inl (
-      if_stood (i == x.number) _ tdi l (called_stood (is_applied w) (WriteRegister register value) tdi l refl) is,
+      if_stood (i == x.number) _ tdi l (called_stood (changes_device w) (WriteRegister register value) tdi l refl) is,
       refl,
     )
 next_made a left x (event.Interface (ie.Flr i)) w tdi l is =
-    inl (if_stood (i == x.number) _ tdi l (called_stood (is_applied w) LevelReset tdi l refl) is, refl)
+    inl (if_stood (i == x.number) _ tdi l (called_stood (changes_device w) LevelReset tdi l refl) is, refl)
 next_made a left x (event.Interface (ie.Firmware i)) w tdi l is =
-    inl (if_stood (i == x.number) _ tdi l (called_stood (is_applied w) FirmwareUpdate tdi l refl) is, refl)
+    inl (if_stood (i == x.number) _ tdi l (called_stood (changes_device w) FirmwareUpdate tdi l refl) is, refl)
 next_made a left x (event.Interface e) w tdi l is = inl
     (if_stood (is_number (number_in e) x.number) tdi tdi l (λ h. h) is, refl)
 next_made a left x (event.Reset link) (v.Reset l2) tdi l is = inl

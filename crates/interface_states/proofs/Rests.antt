@@ -7,9 +7,9 @@ use Rattle.interface_states.specs.Terms.{StartInterface, StopInterface, WriteReg
 use Rattle.interface_states.specs.Terms.{StreamLeft, LinkReset, tdi_after}
 use Rattle.tdi_state.specs.Machine.{new_lock, locked_with}
 use Rattle.interface_states.specs.Sites.{Site}
-use Rattle.interface_states.specs.Exchanges.{carries, is_applied}
+use Rattle.interface_states.specs.Exchanges.{carries, changes_device}
 use Rattle.interface_states.specs.Views.{is_number, number_in}
-use Rattle.interface_states.specs.Devices.{Around, around_at, called, lock_call, next_tdi, accepts_lock, is_run}
+use Rattle.interface_states.specs.Devices.{Around, around_at, tdi_if_called, lock_call, next_tdi, accepts_lock, is_run}
 use Rattle.interface_states.specs.Devices.{runs_at, leaves, devices, tdi_at, locks_at}
 use Rattle.link_events.specs.declared.event.Event.TheVariants as event
 use Rattle.link_events.specs.declared.event.InterfaceEvent.TheVariants as ie
@@ -33,7 +33,7 @@ after_rests tdi (LockInterface flags stream offset secure drawn) other rests =
 after_rests tdi c other rests = grind (arith, nat_tests)
 
 called_rests : (b : Bool) (c : Call) (tdi : Tdi) → is_start c ≡ false → is_run tdi.state ≡ false
-    → is_run (called b c tdi).state ≡ false
+    → is_run (tdi_if_called b c tdi).state ≡ false
 called_rests true c tdi other rests = after_rests tdi c other rests
 called_rests false c tdi other rests = rests
 
@@ -48,7 +48,7 @@ if_rests true s t one two = one
 if_rests false s t one two = two
 
 start_rests : (b c : Bool) (call : Call) (tdi : Tdi) → (b && c) ≡ false → is_run tdi.state ≡ false
-    → is_run (if b then called c call tdi else tdi).state ≡ false
+    → is_run (if b then tdi_if_called c call tdi else tdi).state ≡ false
 start_rests false c call tdi none rests = rests
 start_rests true false call tdi none rests = rests
 start_rests true true call tdi none rests = absurd cc
@@ -62,11 +62,11 @@ next_rests a left x (event.Interface (ie.Start i loss)) w tdi none rests = start
 next_rests a left x (event.Interface (ie.Halt i loss)) w tdi none rests = if_rests (i == x.number) _ tdi
     (called_rests (carries w 1) StopInterface tdi refl rests) rests
 next_rests a left x (event.Interface (ie.Write i register value)) w tdi none rests =
-    if_rests (i == x.number) _ tdi (called_rests (is_applied w) (WriteRegister register value) tdi refl rests) rests
+    if_rests (i == x.number) _ tdi (called_rests (changes_device w) (WriteRegister register value) tdi refl rests) rests
 next_rests a left x (event.Interface (ie.Flr i)) w tdi none rests = if_rests (i == x.number) _ tdi
-    (called_rests (is_applied w) LevelReset tdi refl rests) rests
+    (called_rests (changes_device w) LevelReset tdi refl rests) rests
 next_rests a left x (event.Interface (ie.Firmware i)) w tdi none rests = if_rests (i == x.number) _ tdi
-    (called_rests (is_applied w) FirmwareUpdate tdi refl rests) rests
+    (called_rests (changes_device w) FirmwareUpdate tdi refl rests) rests
 next_rests a left x (event.Interface e) w tdi none rests = if_rests (is_number (number_in e) x.number) tdi tdi rests
     rests
 next_rests a left x (event.Reset link) (v.Reset l) tdi none rests = called_rests (link == x.link) LinkReset tdi refl

@@ -10,9 +10,10 @@ use Rattle.tdi_state.specs.Machine.{KeepsListed, after_change, after_failure, lo
 use Rattle.interface_states.specs.Sites.{Site, site_at}
 use Rattle.interface_states.specs.Views.{managed}
 use Rattle.interface_states.specs.Devices.{tdi_at}
-use Rattle.interface_states.specs.Due.{due, interface_due, on_site, if_locked_or_running, reported_as, code_after}
+use Rattle.interface_states.specs.Due.{interface_verdict_due, interface_due, on_site, if_locked_or_running, reported_as}
+use Rattle.interface_states.specs.Due.{code_after}
 use Rattle.interface_states.specs.Cause.{PairFits}
-use Rattle.interface_states.specs.Laws.{IsLocked, KeepsReported, ShowsReport, ShowsError, ShownAt, RunLawHolds}
+use Rattle.interface_states.specs.Laws.{IsLocked, KeepsReported, ShowsReport, ShowsError, ShownAt, InterfaceRunLawHolds}
 use Rattle.interface_states.proofs.Locks.{listed_at, lock_stands}
 use Rattle.link_events.specs.declared.event.Event.TheVariants as event
 use Rattle.link_events.specs.declared.event.InterfaceEvent.TheVariants as ie
@@ -53,8 +54,9 @@ due_is : (plan : Plan) (h : History) (x : Site) (i : ℕ) (e : InterfaceEvent) �
 due_is plan h x i e at = rw at refl
 
 shows_report : (plan : Plan) (h : History) (x : Site) (i : ℕ) (loss : Option Loss) (w : Verdict) → w
-    ≡ due plan h (ie.Report i loss) w → site_at plan i ≡ Some x → ShowsReport plan h x (ie.Report i loss) w
-unfolding due
+    ≡ interface_verdict_due plan h (ie.Report i loss) w → site_at plan i ≡ Some x
+    → ShowsReport plan h x (ie.Report i loss) w
+unfolding interface_verdict_due
 shows_report plan h x i loss (v.Interface (iv.Reported n report)) cause at =
     let of = reported_of plan x (managed h x).view loss (kept_report x.plan) (lock_of (tdi_at plan h x).state) n report
     (cause ∙ due_is plan h x i (ie.Report i loss) at) in
@@ -106,26 +108,28 @@ firmware_of : (n m state s : ℕ) → v.Interface (iv.Firmware n state) ≡ v.In
 firmware_of n m state s e = grind arith
 
 write_shows : (plan : Plan) (h : History) (x : Site) (i : ℕ) (register : Register) (value : ℕ) (w : Verdict) → w
-    ≡ due plan h (ie.Write i register value) w → site_at plan i ≡ Some x
+    ≡ interface_verdict_due plan h (ie.Write i register value) w → site_at plan i ≡ Some x
     → ShowsError plan h x (ie.Write i register value) w
-unfolding due
+unfolding interface_verdict_due
 write_shows plan h x i register value (v.Interface (iv.Written n state)) cause at = λ is changes.
     written_of (has_register x.plan register) n x.number state _
     (cause ∙ due_is plan h x i (ie.Write i register value) at) ∙ write_error plan h x register value is changes
 write_shows plan h x i register value (v.Interface w) cause at = tt
 write_shows plan h x i register value w cause at = tt
 
-flr_shows : (plan : Plan) (h : History) (x : Site) (i : ℕ) (w : Verdict) → w ≡ due plan h (ie.Flr i) w → site_at plan i
+flr_shows : (plan : Plan) (h : History) (x : Site) (i : ℕ) (w : Verdict) → w ≡ interface_verdict_due plan h (ie.Flr i) w
+    → site_at plan i
     ≡ Some x → ShowsError plan h x (ie.Flr i) w
-unfolding due
+unfolding interface_verdict_due
 flr_shows plan h x i (v.Interface (iv.Flr n state)) cause at = λ is.
     flr_of n x.number state _ (cause ∙ due_is plan h x i (ie.Flr i) at) ∙ reset_error plan h x is
 flr_shows plan h x i (v.Interface w) cause at = tt
 flr_shows plan h x i w cause at = tt
 
-firmware_shows : (plan : Plan) (h : History) (x : Site) (i : ℕ) (w : Verdict) → w ≡ due plan h (ie.Firmware i) w
+firmware_shows : (plan : Plan) (h : History) (x : Site) (i : ℕ) (w : Verdict) → w
+    ≡ interface_verdict_due plan h (ie.Firmware i) w
     → site_at plan i ≡ Some x → ShowsError plan h x (ie.Firmware i) w
-unfolding due
+unfolding interface_verdict_due
 firmware_shows plan h x i (v.Interface (iv.Firmware n state)) cause at = λ is bit.
     firmware_of n x.number state _ (cause ∙ due_is plan h x i (ie.Firmware i) at) ∙ firmware_error plan h x is bit
 firmware_shows plan h x i (v.Interface w) cause at = tt
@@ -142,7 +146,7 @@ shown_at plan h (event.Interface (ie.Firmware i)) w cause = λ x at. firmware_sh
 shown_at plan h (event.Interface e) w cause = tt
 shown_at plan h e w cause = tt
 
-pub run_law : RunLawHolds
+pub run_law : InterfaceRunLawHolds
 run_law plan [] cause = tt
 run_law plan ((e, w) ∷ h) cause = (
   λ i x at. keeps_reported plan ((e, w) ∷ h) x,

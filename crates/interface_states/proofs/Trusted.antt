@@ -8,11 +8,11 @@ use Rattle.interface_states.specs.Devices.{runs_at}
 use Rattle.interface_states.specs.Cause.{InterfaceCause, PairFits, SealFits, t_due, owner_read}
 use Rattle.interface_states.specs.Laws.{IsTrusted, OfTrusted}
 use Rattle.tlp_layout.specs.Reading.{read_of}
-use Rattle.key_laws.specs.Laws.{CauseLaw as KeyCauseLaw}
-use Rattle.key_laws.specs.Places.{KeyPlan, Place}
+use Rattle.key_laws.specs.Laws.{KeyCauseLaw}
+use Rattle.key_laws.specs.Places.{KeyPlan, KeyPlace}
 use Rattle.key_laws.specs.Keys.{Touch, Seal}
 use Rattle.key_laws.specs.Operations.{Manager, Reach, operated, manager_after, work_of, reach_of}
-use Rattle.key_laws.specs.History.{manager, moments, behind, is_sender, sealed_here, when}
+use Rattle.key_laws.specs.History.{manager, moments, touches_after, is_sender, sealed_here, when}
 use Rattle.key_laws.specs.Terms.{Operation}
 use Rattle.key_laws.proofs.Shapes.{used}
 use Rattle.key_laws.proofs.Whole.{fits, more_begun}
@@ -44,20 +44,22 @@ used_more : (ts : List Touch) (t : Touch) → used ts ≤ used (t ∷ ts)
 unfolding used
 used_more ts t = grind arith
 
-used_behind : (ts more : List Touch) → used ts ≤ used (behind ts more)
+used_behind : (ts more : List Touch) → used ts ≤ used (touches_after ts more)
 used_behind ts [] = omega arith
 used_behind ts (t ∷ more) = let a = used_more ts t in let b = used_behind (t ∷ ts) more in omega arith
 
-sealed_used : (ts more : List Touch) (j : ℕ) (m : Bool) → j < used (behind (Seal j m ∷ ts) more)
+sealed_used : (ts more : List Touch) (j : ℕ) (m : Bool) → j < used (touches_after (Seal j m ∷ ts) more)
 unfolding used
 sealed_used ts more j m = let a = used_behind (Seal j m ∷ ts) more in grind arith
 
-used_when : (ts more : List Touch) (b m : Bool) (j : ℕ) → b ≡ true → j < used (behind ts (when b (Seal j m) ++ more))
+used_when : (ts more : List Touch) (b m : Bool) (j : ℕ) → b ≡ true
+    → j < used (touches_after ts (when b (Seal j m) ++ more))
 used_when ts more true m j is = sealed_used ts more j m
 used_when ts more false m j is = absurd cc
 
 -- the draws of the packets that a place seals are used there
-all_used : (p : Place) (ts : List Touch) (ds : List SealedPacket) (top : ℕ) → used (behind ts (sealed_here p ds)) ≤ top
+all_used : (p : KeyPlace) (ts : List Touch) (ds : List SealedPacket) (top : ℕ)
+    → used (touches_after ts (sealed_here p ds)) ≤ top
     → AllByRecursion (λ d. is_sender p d ≡ true → d.draw < top) ds
 all_used p ts [] top le = tt
 all_used p ts (d ∷ ds) top le = (
@@ -65,22 +67,24 @@ all_used p ts (d ∷ ds) top le = (
   by_test (all_used p ts ds top) (all_used p (Seal d.draw d.m ∷ ts) ds top) (is_sender p d) le,
 )
   where
-    by_test : (used (behind ts (sealed_here p ds)) ≤ top → AllByRecursion (λ y. is_sender p y ≡ true → y.draw < top) ds)
-        → (used (behind (Seal d.draw d.m ∷ ts) (sealed_here p ds)) ≤ top
+    by_test : (used (touches_after ts (sealed_here p ds)) ≤ top
         → AllByRecursion (λ y. is_sender p y ≡ true → y.draw < top) ds)
-        → (b : Bool) → used (behind ts (when b (Seal d.draw d.m) ++ sealed_here p ds)) ≤ top
+        → (used (touches_after (Seal d.draw d.m ∷ ts) (sealed_here p ds)) ≤ top
+        → AllByRecursion (λ y. is_sender p y ≡ true → y.draw < top) ds)
+        → (b : Bool) → used (touches_after ts (when b (Seal d.draw d.m) ++ sealed_here p ds)) ≤ top
         → AllByRecursion (λ y. is_sender p y ≡ true → y.draw < top) ds
     by_test without with_it true le = with_it le
     by_test without with_it false le = without le
 
-abbrev place_of : SealedPacket → Place
+abbrev place_of : SealedPacket → KeyPlace
 place_of d = record { side = d.port.side; link = d.port.link; stream = d.stream; sends = true; sub = d.sub }
 
 is_own : (d : SealedPacket) → is_sender (place_of d) d ≡ true
 is_own d = grind (arith, nat_tests)
 
 at_own : (ds : List SealedPacket) (top : ℕ) →
-    ((p : Place) → AllByRecursion (λ d. is_sender p d ≡ true → d.draw < top) ds) → AllByRecursion (λ d. d.draw < top) ds
+    ((p : KeyPlace) → AllByRecursion (λ d. is_sender p d ≡ true → d.draw < top) ds)
+    → AllByRecursion (λ d. d.draw < top) ds
 at_own [] top all = tt
 at_own (d ∷ ds) top all = ((all (place_of d)).0 (is_own d), at_own ds top (λ p. (all p).1))
 
@@ -143,7 +147,7 @@ trusted_lead plan x P Q ((event.Send port bytes more trusted, v.Sealed ds) ∷ h
     (all_lead (IsTrusted plan x port bytes) (P h) (Q h) ds (leads h) all.0, trusted_lead plan x P Q h leads all.1)
 trusted_lead plan x P Q ((e, w) ∷ h) leads all = trusted_lead plan x P Q h leads all
 
--- behind one more pair
+-- after one more pair
 pub trusted_on : (plan : Plan) (kp : KeyPlan) (h : History) (e : Event) (w : Verdict) (x : Site)
     (P : History → SealedPacket → Type 0)
     → KeyCauseLaw kp ((e, w) ∷ h) → PairFits plan h e w → ((d : SealedPacket) → Fresh plan h x d → P h d)

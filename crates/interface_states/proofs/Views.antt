@@ -12,8 +12,9 @@ use Rattle.interface_states.specs.Exchanges.{carries}
 use Rattle.interface_states.specs.Views.{Managed, on_lock, on_report, on_start, on_halt, on_state, needs_then}
 use Rattle.interface_states.specs.Views.{view_told, view_broken, on_operation, number_in, is_number, stop_begins}
 use Rattle.interface_states.specs.Views.{managed_after, managed, view_at, floor_at, needs_at, stream_draw}
-use Rattle.interface_states.specs.Devices.{called, is_run, runs_at, tdi_at, locks_at, devices}
-use Rattle.interface_states.specs.Due.{due, interface_due, unless_lost, host_status, if_unlocked, if_locked}
+use Rattle.interface_states.specs.Devices.{tdi_if_called, is_run, runs_at, tdi_at, locks_at, devices}
+use Rattle.interface_states.specs.Due.{interface_verdict_due, interface_due, unless_lost, host_status, if_unlocked}
+use Rattle.interface_states.specs.Due.{if_locked}
 use Rattle.interface_states.specs.Due.{if_reported, if_fresh, started_as}
 use Rattle.interface_states.specs.Cause.{InterfaceCause, PairFits}
 use Rattle.interface_states.specs.Laws.{OfTrusted, IsAtRest, InRun, IsRunning, ViewHolds, ViewsHold}
@@ -21,7 +22,7 @@ use Rattle.interface_states.proofs.Rests.{starts, rests_on, locks_it, locks_stay
 use Rattle.interface_states.proofs.Trusted.{trusted_lead, trusted_on, all_made}
 use Rattle.link_events.specs.declared.event.Lost.{Lost}
 use Rattle.link_events.specs.declared.event.Lost.TheVariants.{Request, Reply}
-use Rattle.key_laws.specs.Laws.{CauseLaw as KeyCauseLaw}
+use Rattle.key_laws.specs.Laws.{KeyCauseLaw}
 use Rattle.key_laws.specs.Places.{KeyPlan}
 use Rattle.link_events.specs.declared.event.Event.TheVariants as event
 use Rattle.link_events.specs.declared.event.InterfaceEvent.TheVariants as ie
@@ -117,7 +118,7 @@ leaves_same m n same = record {
   needs = ap (λ (k : Managed). k.needs) same;
 }
 
--- ---- what the manager keeps behind a pair
+-- ---- what the manager keeps after a pair
 
 managed_step : (h : History) (e : Event) (w : Verdict) (x : Site) → managed ((e, w) ∷ h) x
     ≡ managed_after (op_of h) (draws h) x e w (managed h x)
@@ -147,8 +148,8 @@ same_number i n is = grind (arith, nat_tests)
 
 due_own : (plan : Plan) (h : History) (x : Site) (e : InterfaceEvent) (i : ℕ) (w : Verdict) → site_at plan x.number
     ≡ Some x → number_in e ≡ Some i → (i == x.number) ≡ true
-    → w ≡ due plan h e w → w ≡ interface_due plan h x e
-unfolding due
+    → w ≡ interface_verdict_due plan h e w → w ≡ interface_due plan h x e
+unfolding interface_verdict_due
 due_own plan h x e i w at named is cause =
     let found : site_at plan i ≡ Some x = subst (λ (n : ℕ). site_at plan n ≡ Some x) (sym (same_number i x.number is))
     at in
@@ -354,7 +355,7 @@ halt_of m drawn n k None = inl (record { carried = refl; view = refl; needs = re
 halt_of m drawn n k (Some loss) = some_halts m drawn n k loss (nat_le 1 loss.exchange && nat_le loss.exchange 1) refl
 
 stopped_tdi : (b c : Bool) (tdi : Tdi) → b ≡ true → c ≡ true → is_run
-    (if b then called c StopInterface tdi else tdi).state ≡ false
+    (if b then tdi_if_called c StopInterface tdi else tdi).state ≡ false
 stopped_tdi b c tdi own carried = rw (own, carried) refl
 
 stopped_rests : (plan : Plan) (h : History) (i : ℕ) (loss : Option Loss) (w : Verdict) (x : Site) → (i == x.number)

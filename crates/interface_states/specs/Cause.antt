@@ -4,7 +4,7 @@ use Rattle.interface_states.specs.Terms.{AllByRecursion, option_and_then, Side, 
 use Rattle.interface_states.specs.Terms.{Verdict, SealedPacket, History}
 use Rattle.interface_states.specs.Sites.{Site, site_with}
 use Rattle.interface_states.specs.Devices.{sets_t}
-use Rattle.interface_states.specs.Due.{due}
+use Rattle.interface_states.specs.Due.{interface_verdict_due}
 use Rattle.association.specs.Choice.{id_of}
 use Rattle.tlp_layout.specs.declared.head.HeadView.{HeadView}
 use Rattle.tlp_layout.specs.declared.tlp.Tlp.{Tlp}
@@ -46,7 +46,7 @@ pub record SealFits (plan : Plan) (h : History) (port : PortName) (bytes : List 
 
 -- of an event on memory, a send and an arrival the verdict itself is supposed
 abbrev pub PairFits : Plan → History → Event → Verdict → Type 0
-PairFits plan h (event.Interface e) w = w ≡ due plan h e w
+PairFits plan h (event.Interface e) w = w ≡ interface_verdict_due plan h e w
 PairFits plan h (event.Send port bytes more trusted) (v.Sealed ds) =
     AllByRecursion (SealFits plan h port bytes trusted) ds
 PairFits plan h e w = Unit {0}

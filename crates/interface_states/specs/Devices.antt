@@ -6,7 +6,7 @@ use Rattle.interface_states.specs.Terms.{status_of, Registers, TdiState, Run, pl
 use Rattle.interface_states.specs.Terms.{LockInterface, StartInterface, StopInterface, WriteRegister, LevelReset}
 use Rattle.interface_states.specs.Terms.{FirmwareUpdate, StreamLeft, LinkReset, tdi_after}
 use Rattle.interface_states.specs.Sites.{Site, sites, nonce_behind}
-use Rattle.interface_states.specs.Exchanges.{carries, is_applied}
+use Rattle.interface_states.specs.Exchanges.{carries, changes_device}
 use Rattle.interface_states.specs.Views.{managed, is_number, number_in}
 use Rattle.ide_types.specs.declared.status.StreamStatus.TheVariants as status
 use Rattle.link_events.specs.declared.event.Event.TheVariants as event
@@ -27,40 +27,40 @@ abbrev pub is_secure : StreamStatus → Bool
 is_secure status.Secure = true
 is_secure _ = false
 
-abbrev pub secure_at : History → Site → Bool
-secure_at h x = is_secure (status_of h Device x.link x.plan.stream)
+abbrev pub has_secure_stream : History → Site → Bool
+has_secure_stream h x = is_secure (status_of h Device x.link x.plan.stream)
 
 abbrev pub around : Plan → History → (ℕ → ℕ) → Site → Around
 around plan h used x = record {
-  secure = secure_at h x;
+  secure = has_secure_stream h x;
   drawn = nonce_behind plan x.link (used x.link);
   nonce = (managed h x).nonce;
 }
 
 -- ---- what reaches it
 
-abbrev pub called : Bool → Call → Tdi → Tdi
-called true call tdi = tdi_after tdi call
-called false call tdi = tdi
+abbrev pub tdi_if_called : Bool → Call → Tdi → Tdi
+tdi_if_called true call tdi = tdi_after tdi call
+tdi_if_called false call tdi = tdi
 
 abbrev pub lock_call : Around → Site → Call
 lock_call a x = LockInterface x.plan.flags x.plan.stream x.plan.offset a.secure a.drawn
 
 -- by what it is asked, or written to
-abbrev pub asked : Around → Site → InterfaceEvent → Verdict → Tdi → Tdi
-asked a x (ie.Lock i loss) w tdi = called (carries w 3) (lock_call a x) tdi
-asked a x (ie.Start i loss) w tdi = called (carries w 1) (StartInterface a.nonce) tdi
-asked a x (ie.Halt i loss) w tdi = called (carries w 1) StopInterface tdi
-asked a x (ie.Write i register value) w tdi = called (is_applied w) (WriteRegister register value) tdi
-asked a x (ie.Flr i) w tdi = called (is_applied w) LevelReset tdi
-asked a x (ie.Firmware i) w tdi = called (is_applied w) FirmwareUpdate tdi
-asked a x e w tdi = tdi
+abbrev pub tdi_asked : Around → Site → InterfaceEvent → Verdict → Tdi → Tdi
+tdi_asked a x (ie.Lock i loss) w tdi = tdi_if_called (carries w 3) (lock_call a x) tdi
+tdi_asked a x (ie.Start i loss) w tdi = tdi_if_called (carries w 1) (StartInterface a.nonce) tdi
+tdi_asked a x (ie.Halt i loss) w tdi = tdi_if_called (carries w 1) StopInterface tdi
+tdi_asked a x (ie.Write i register value) w tdi = tdi_if_called (changes_device w) (WriteRegister register value) tdi
+tdi_asked a x (ie.Flr i) w tdi = tdi_if_called (changes_device w) LevelReset tdi
+tdi_asked a x (ie.Firmware i) w tdi = tdi_if_called (changes_device w) FirmwareUpdate tdi
+tdi_asked a x e w tdi = tdi
 
 -- `left` says that its stream was Secure at the device's port before the pair, and is not after it
 abbrev pub next_tdi : Around → Bool → Site → Event → Verdict → Tdi → Tdi
-next_tdi a left x (event.Interface e) w tdi = if is_number (number_in e) x.number then asked a x e w tdi else tdi
-next_tdi a left x (event.Reset link) (v.Reset l) tdi = called (link == x.link) LinkReset tdi
-next_tdi a left x e w tdi = called left StreamLeft tdi
+next_tdi a left x (event.Interface e) w tdi = if is_number (number_in e) x.number then tdi_asked a x e w tdi else tdi
+next_tdi a left x (event.Reset link) (v.Reset l) tdi = tdi_if_called (link == x.link) LinkReset tdi
+next_tdi a left x e w tdi = tdi_if_called left StreamLeft tdi
 
 abbrev pub is_given : Result (List ℕ) ℕ → Bool
 is_given (Ok nonce) = true
@@ -81,7 +81,7 @@ pub record Devices : Type 0 where
   pub used : ℕ → ℕ
 
 abbrev pub leaves : History → Event → Verdict → Site → Bool
-leaves h e w x = secure_at h x && not (secure_at ((e, w) ∷ h) x)
+leaves h e w x = has_secure_stream h x && not (has_secure_stream ((e, w) ∷ h) x)
 
 abbrev pub one_if : Bool → ℕ
 one_if true = 1

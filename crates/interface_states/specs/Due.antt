@@ -151,5 +151,5 @@ with_number plan h e None given = given
 with_number plan h e (Some i) given = on_site (λ x. interface_due plan h x e) (site_at plan i)
 
 -- the verdict that is due; if the event names no interface it is given
-unfoldable pub due : Plan → History → InterfaceEvent → Verdict → Verdict
-due plan h e given = with_number plan h e (number_in e) given
+unfoldable pub interface_verdict_due : Plan → History → InterfaceEvent → Verdict → Verdict
+interface_verdict_due plan h e given = with_number plan h e (number_in e) given

@@ -6,20 +6,20 @@ use Rattle.link_verdicts.specs.declared.verdict.Verdict.TheVariants as v
 use Rattle.interface_words.specs.declared.verdict.InterfaceVerdict.TheVariants as iv
 
 -- it ended
-abbrev pub is_done : InterfaceVerdict → Bool
-is_done (iv.Locked i nonce) = true
-is_done (iv.Reported i report) = true
-is_done (iv.Started i draw) = true
-is_done (iv.Halted i needs) = true
-is_done (iv.State i state) = true
-is_done _ = false
+abbrev pub is_interface_done : InterfaceVerdict → Bool
+is_interface_done (iv.Locked i nonce) = true
+is_interface_done (iv.Reported i report) = true
+is_interface_done (iv.Started i draw) = true
+is_interface_done (iv.Halted i needs) = true
+is_interface_done (iv.State i state) = true
+is_interface_done _ = false
 
 -- the request of the exchange reached the device
 abbrev pub carries : Verdict → ℕ → Bool
 carries (v.LostRequest m) n = nat_lt n m
 carries (v.LostReply m) n = nat_le n m
 carries (v.RefusedDevice m code) n = nat_le n m
-carries (v.Interface w) n = is_done w
+carries (v.Interface w) n = is_interface_done w
 carries _ n = false
 
 -- its request or its reply was lost in the exchange
@@ -34,8 +34,8 @@ is_refused_at (v.RefusedDevice m code) n = m == n
 is_refused_at _ n = false
 
 -- the device was written to, reset or updated
-abbrev pub is_applied : Verdict → Bool
-is_applied (v.Interface (iv.Written i state)) = true
-is_applied (v.Interface (iv.Flr i state)) = true
-is_applied (v.Interface (iv.Firmware i state)) = true
-is_applied _ = false
+abbrev pub changes_device : Verdict → Bool
+changes_device (v.Interface (iv.Written i state)) = true
+changes_device (v.Interface (iv.Flr i state)) = true
+changes_device (v.Interface (iv.Firmware i state)) = true
+changes_device _ = false

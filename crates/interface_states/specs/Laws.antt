@@ -7,7 +7,7 @@ use Rattle.interface_states.specs.Sites.{Site, site_at}
 use Rattle.interface_states.specs.Views.{managed, view_at, floor_at, needs_at}
 use Rattle.interface_states.specs.Devices.{tdi_at, locks_at, runs_at, registers_locked}
 use Rattle.interface_states.specs.Cause.{InterfaceCause, owner_read}
-use Rattle.key_laws.specs.Laws.{CauseLaw as KeyCauseLaw}
+use Rattle.key_laws.specs.Laws.{KeyCauseLaw}
 use Rattle.key_laws.specs.Places.{KeyPlan}
 use Rattle.tlp_layout.specs.Reading.{read_of}
 use Rattle.link_events.specs.declared.event.Event.TheVariants as event
@@ -98,8 +98,8 @@ pub record ViewHolds (plan : Plan) (h : History) (x : Site) : Type 0 where
   pub unstarted : (managed h x).started ≡ false → IsAtRest plan h x
   pub running : view_at h x ≡ Running → IsRunning plan h x
 
-abbrev pub RunLawHolds : Type 0
-RunLawHolds = (plan : Plan) (h : History) → InterfaceCause plan h → RunLaw plan h
+abbrev pub InterfaceRunLawHolds : Type 0
+InterfaceRunLawHolds = (plan : Plan) (h : History) → InterfaceCause plan h → RunLaw plan h
 
 abbrev pub ViewsHold : Type 0
 ViewsHold = (plan : Plan) (kp : KeyPlan) (h : History) → KeyCauseLaw kp h → InterfaceCause plan h

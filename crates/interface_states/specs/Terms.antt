@@ -1,4 +1,4 @@
--- What is said of elsewhere, and spoken of in the definitions here.
+-- What is declared elsewhere, and used in the definitions here.
 pub use Rattle.std.specs.List.{AllByRecursion, list_any, slice_index_or}
 pub use Rattle.std.specs.Option.{option_and_then, option_map, option_map_or}
 pub use Rattle.ide_types.specs.declared.port.Side.{Side}

@@ -148,10 +148,10 @@ abbrev pub bound_if : View → ℕ → ℕ → Option (ℕ × ℕ)
 bound_if Running stream floor = Some (stream, floor)
 bound_if _ stream floor = None
 
-abbrev pub granted : History → Option Site → Option (ℕ × ℕ)
-granted h None = None
-granted h (Some x) = bound_if (view_at h x) x.plan.stream (floor_at h x)
+abbrev pub granted_to : History → Option Site → Option (ℕ × ℕ)
+granted_to h None = None
+granted_to h (Some x) = bound_if (view_at h x) x.plan.stream (floor_at h x)
 
 -- the bound stream and the floor of the interface of a link with this requester ID, if its view is Running
 abbrev pub grant_at : Plan → History → ℕ → ℕ → Option (ℕ × ℕ)
-grant_at plan h link requester = granted h (site_with plan link requester)
+grant_at plan h link requester = granted_to h (site_with plan link requester)

@@ -1,12 +1,12 @@
 //! Laws of interfaces.
 
-ghost use Rattle.interface_states.specs.Laws.{RunLawHolds, ViewsHold};
+ghost use Rattle.interface_states.specs.Laws.{InterfaceRunLawHolds, ViewsHold};
 
-/// In RUN and CONFIG_LOCKED the listed registers of an interface are those at its lock; a report shows the registers at
-/// the lock; a listed change, a level reset and a firmware update that lock flag 0 forbids show state 3 (ERROR) in
+/// In RUN and CONFIG_LOCKED the listed registers of an interface are those at its lock. A report shows the registers at
+/// the lock. A listed change, a level reset and a firmware update that lock flag 0 forbids show state 3 (ERROR) in
 /// their own verdict.
 pub fn run_law()
-    ensures { RunLawHolds }
+    ensures { InterfaceRunLawHolds }
 {}
 
 /// While the manager's view of an interface is Unlocked or Locked, or no START_INTERFACE was asked since LOCK_INTERFACE

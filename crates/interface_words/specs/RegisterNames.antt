@@ -16,7 +16,7 @@ width_of Pasid = 16
 width_of Ats = 16
 width_of (Bar n) = 64
 
--- there are six BARs at the most
+-- there are at most six BARs
 abbrev pub IsAmongSix : Register → Type 0
 IsAmongSix (Bar n) = n < 6
 IsAmongSix register = Unit {0}

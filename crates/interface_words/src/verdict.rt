@@ -4,7 +4,7 @@ use crate::View;
 use ide_types::Bytes;
 
 /// The verdict of an event on a device interface or on trusted memory, but for the verdicts that operations on streams
-/// have as well. Interfaces are numbered from 0 over all links.
+/// have as well (this profile). Interfaces are numbered from 0 over all links.
 #[derive(Debug, Drop)]
 pub enum InterfaceVerdict {
     /// The device locked the interface and gave this nonce.

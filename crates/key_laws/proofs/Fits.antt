@@ -3,10 +3,11 @@
 -- acknowledged, and the end is split by whether the last one was. The hard case is a lost reply: the device may be one
 -- exchange ahead of the manager, so a state leaves both open, and the exchange may come again.
 use Rattle.key_laws.proofs.Terms.{◌≡◌, ℕ, ◌+◌, ◌<◌, ◌≤◌, Bool, true, false, List, [], ◌∷◌, ◌++◌, refl, subst, arith}
-use Rattle.key_laws.proofs.Terms.{nat_lt, not, if◌then◌else◌, SubKind, Side, Host, Device, Operation, Place, lane}
+use Rattle.key_laws.proofs.Terms.{nat_lt, not, if◌then◌else◌, SubKind, Side, Host, Device, Operation, KeyPlace, lane}
 use Rattle.key_laws.proofs.Terms.{Touch, Stop, Clear, Off, key_in}
 use Rattle.key_laws.proofs.Terms.{refuses, is_open, keys, Op, Idle, Establishing, Up, Refreshing, Stopping, Work, Reach}
-use Rattle.key_laws.proofs.Terms.{work, last_of, op_after, op_ended, op_standing, is_within, when, behind, program_at}
+use Rattle.key_laws.proofs.Terms.{work, last_exchange_of, op_after, op_ended, op_standing, is_within, when}
+use Rattle.key_laws.proofs.Terms.{touches_after, program_at}
 use Rattle.key_laws.proofs.Terms.{go_at, from_at, below_at, keyed}
 use Rattle.key_laws.proofs.Terms.{stopped, uses, NeverFalls, not-not, nat_tests}
 use Rattle.link_verdicts.specs.declared.verdict.Operation.TheVariants as op
@@ -22,7 +23,7 @@ abbrev pub Halting : Side → ℕ → ℕ → Shape → Type 0
 Halting Host l n sh = sh ≡ Bare
 Halting Device l n sh = (1 + l < n → key_in (keys_of sh) false ≡ Off) × (7 + l < n → key_in (keys_of sh) true ≡ Off)
 
-abbrev pub Fits : Op → ℕ → Marks → Place → Shape → Type 0
+abbrev pub Fits : Op → ℕ → Marks → KeyPlace → Shape → Type 0
 Fits Idle top u p sh = sh ≡ Bare
 Fits (Establishing j n) top u p sh = (j < top) × (n ≤ 13) × Rising false false j (program_at op.Establish p)
     (go_at op.Establish p) n u sh
@@ -41,34 +42,34 @@ pub below_more : (ts : List Touch) (top more : ℕ) → top ≤ more → Below t
 below_more ts top more le below = grind arith
 
 -- `top` is the number of draws so far
-pub record FitsAt (o : Op) (top : ℕ) (p : Place) (ts : List Touch) : Type 0 where
+pub record FitsAt (o : Op) (top : ℕ) (p : KeyPlace) (ts : List Touch) : Type 0 where
   pub shape : Shape
   pub is : IsAt p.sends ts shape
   pub fits : Fits o top (marks ts) p shape
   pub below : Below ts top
 
--- touches, in order, that come where they may, and what they lead to
-pub record Turned (o : Op) (top : ℕ) (p : Place) (ts more : List Touch) : Type 0 where
-  pub now : FitsAt o top p (behind ts more)
+-- touches, in order, that come when they may, and what they lead to
+pub record Turned (o : Op) (top : ℕ) (p : KeyPlace) (ts more : List Touch) : Type 0 where
+  pub now : FitsAt o top p (touches_after ts more)
   pub come : AllCome p.sends ts more
 
 -- ---- numbers of exchanges
 
-pub lane_below : (p : Place) → lane p ≤ 5
+pub lane_below : (p : KeyPlace) → lane p ≤ 5
 lane_below p = grind arith
 
-pub record Exchanges (o : Operation) (p : Place) : Type 0 where
+pub record Exchanges (o : Operation) (p : KeyPlace) : Type 0 where
   pub in_order : program_at o p < go_at o p
-  pub in_reach : go_at o p ≤ last_of o
+  pub in_reach : go_at o p ≤ last_exchange_of o
   pub begins : from_at (work o false 0 1 true) p ≤ program_at o p
 
-abbrev pub place : Side → ℕ → ℕ → Bool → SubKind → Place
+abbrev pub place : Side → ℕ → ℕ → Bool → SubKind → KeyPlace
 place side link stream sends u = record { side = side; link = link; stream = stream; sends = sends; sub = u }
 
-pub exchanges_establish : (p : Place) → Exchanges op.Establish p
+pub exchanges_establish : (p : KeyPlace) → Exchanges op.Establish p
 exchanges_establish p = grind arith
 
-pub exchanges_refresh : (p : Place) → Exchanges op.Refresh p
+pub exchanges_refresh : (p : KeyPlace) → Exchanges op.Refresh p
 exchanges_refresh p = grind arith
 
 -- how far an event came from its first exchange on
@@ -78,19 +79,19 @@ pub record Reached (first last : ℕ) (r : Reach) : Type 0 where
   pub within_one : r.carried ≤ r.acknowledged + 1
   pub at_most : r.acknowledged ≤ last + 1
 
-comes_to : (p : Place) (w : Work) (r : Reach) (last : ℕ) → Reached w.first last r
+comes_to : (p : KeyPlace) (w : Work) (r : Reach) (last : ℕ) → Reached w.first last r
     → Spans (from_at w p) r.acknowledged (below_at r p)
 comes_to p w r last reached = grind arith
 
 -- ---- an event of an establish or a refresh
 
 -- no KEY_PROG was acknowledged that the place refuses
-abbrev pub TakesKey : Work → Reach → Place → List Touch → Type 0
+abbrev pub TakesKey : Work → Reach → KeyPlace → List Touch → Type 0
 TakesKey w r p ts = from_at w p ≤ program_at w.operation p → program_at w.operation p < r.acknowledged
     → refuses p.sends (keys p.sends ts) w.set ≡ false
 
-below_keyed : (w : Work) (r : Reach) (p : Place) (ts : List Touch) (top : ℕ) → w.draw < top → Below ts top
-    → Below (behind ts (keyed w r p)) top
+below_keyed : (w : Work) (r : Reach) (p : KeyPlace) (ts : List Touch) (top : ℕ) → w.draw < top → Below ts top
+    → Below (touches_after ts (keyed w r p)) top
 unfolding used started
 below_keyed w r p ts top lt below = grind arith
 
@@ -102,17 +103,18 @@ pub full_more : (r k : Bool) (j : ℕ) (sh : Shape) → Full k j r sh → Full k
 full_more r k j sh f = grind (arith, alone, both)
 
 -- where an operation ended or stands
-turned_by_end : (w : Work) (r : Reach) (top : ℕ) (p : Place) (ts more : List Touch) (P : Shape → Type 0)
-    → Lands p.sends ts more P → Below (behind ts more) top
-    → ((sh : Shape) → last_of w.operation < r.acknowledged → P sh → Fits (op_ended w) top (marks (behind ts more)) p sh)
-    → ((sh : Shape) → r.acknowledged ≤ last_of w.operation → P sh
-    → Fits (op_standing w r.acknowledged) top (marks (behind ts more)) p sh)
+turned_by_end : (w : Work) (r : Reach) (top : ℕ) (p : KeyPlace) (ts more : List Touch) (P : Shape → Type 0)
+    → Lands p.sends ts more P → Below (touches_after ts more) top
+    → ((sh : Shape) → last_exchange_of w.operation < r.acknowledged → P sh
+    → Fits (op_ended w) top (marks (touches_after ts more)) p sh)
+    → ((sh : Shape) → r.acknowledged ≤ last_exchange_of w.operation → P sh
+    → Fits (op_standing w r.acknowledged) top (marks (touches_after ts more)) p sh)
     → Turned (op_after w r) top p ts more
 turned_by_end w r top p ts more P lands below ended standing = record
-    { now = by_test (nat_lt (last_of w.operation) r.acknowledged) refl; come = lands.come }
+    { now = by_test (nat_lt (last_exchange_of w.operation) r.acknowledged) refl; come = lands.come }
   where
-    by_test : (b : Bool) → nat_lt (last_of w.operation) r.acknowledged ≡ b
-        → FitsAt (if b then op_ended w else op_standing w r.acknowledged) top p (behind ts more)
+    by_test : (b : Bool) → nat_lt (last_exchange_of w.operation) r.acknowledged ≡ b
+        → FitsAt (if b then op_ended w else op_standing w r.acknowledged) top p (touches_after ts more)
     by_test true e = record {
       shape = lands.at.shape;
       is = lands.at.is;
@@ -128,16 +130,17 @@ turned_by_end w r top p ts more P lands below ended standing = record
           = below;
     }
 
--- a place that an establish or a refresh comes to
-abbrev pub RisesFrom : Bool → Work → Place → List Touch → Type 0
+-- a place that an establish or a refresh reaches
+abbrev pub RisesFrom : Bool → Work → KeyPlace → List Touch → Type 0
 RisesFrom r w p ts = At p.sends ts
     (Rising r w.set w.draw (program_at w.operation p) (go_at w.operation p) (from_at w p) (marks ts))
 
-lands : (r : Bool) (w : Work) (p : Place) (ts : List Touch) (c : Reach) → program_at w.operation p < go_at w.operation p
-    → Reached w.first (last_of w.operation) c → TakesKey w c p ts → RisesFrom r w p ts
+lands : (r : Bool) (w : Work) (p : KeyPlace) (ts : List Touch) (c : Reach)
+    → program_at w.operation p < go_at w.operation p
+    → Reached w.first (last_exchange_of w.operation) c → TakesKey w c p ts → RisesFrom r w p ts
     → Lands p.sends ts (keyed w c p)
     (Rising r w.set w.draw (program_at w.operation p) (go_at w.operation p) c.acknowledged
-    (marks (behind ts (keyed w c p))))
+    (marks (touches_after ts (keyed w c p))))
 lands r w p ts c lt reached takes at = rises p.sends r w.set w.draw _ _ (from_at w p) c.acknowledged (below_at c p) ts
     lt (comes_to p w c _ reached) takes at
 
@@ -145,11 +148,11 @@ full_alone : (j : ℕ) (sh : Shape) → Full false j false sh → sh ≡ Alone f
 full_alone j sh f = grind arith
 
 -- the end of an establish: its key is the only one
-pub establish_ends : (p : Place) (ts : List Touch) (j first : ℕ) (begins : Bool) (c : Reach) → 13 < c.acknowledged
+pub establish_ends : (p : KeyPlace) (ts : List Touch) (j first : ℕ) (begins : Bool) (c : Reach) → 13 < c.acknowledged
     → Reached first 13 c
     → TakesKey (work op.Establish false j first begins) c p ts
     → RisesFrom false (work op.Establish false j first begins) p ts
-    → IsAt p.sends (behind ts (keyed (work op.Establish false j first begins) c p)) (Alone false j)
+    → IsAt p.sends (touches_after ts (keyed (work op.Establish false j first begins) c p)) (Alone false j)
 establish_ends p ts j first begins c past reached takes from =
     let numbers = exchanges_establish p in
     let risen = lands false (work op.Establish false j first begins) p ts c numbers.in_order reached takes from in
@@ -157,7 +160,7 @@ establish_ends p ts j first begins c past reached takes from =
     (rising_done _ _ _ _ _ _ _ _ numbers.in_order (omega (arith, past, numbers.in_reach)) risen.at.fits)) at
     risen.at.is
 
-pub establishes : (p : Place) (ts : List Touch) (j first : ℕ) (begins : Bool) (c : Reach) (top : ℕ) → j < top
+pub establishes : (p : KeyPlace) (ts : List Touch) (j first : ℕ) (begins : Bool) (c : Reach) (top : ℕ) → j < top
     → Below ts top
     → Reached first 13 c → TakesKey (work op.Establish false j first begins) c p ts
     → RisesFrom false (work op.Establish false j first begins) p ts
@@ -175,7 +178,8 @@ establishes p ts j first begins c top lt below reached takes from =
     ))
     (λ sh le rising. (lt, le, rising))
 
-pub refreshes : (p : Place) (ts : List Touch) (k : Bool) (j first : ℕ) (begins : Bool) (c : Reach) (top : ℕ) → j < top
+pub refreshes : (p : KeyPlace) (ts : List Touch) (k : Bool) (j first : ℕ) (begins : Bool) (c : Reach) (top : ℕ)
+    → j < top
     → Below ts top → 1 ≤ first
     → Reached first 12 c → TakesKey (work op.Refresh k j first begins) c p ts
     → RisesFrom true (work op.Refresh k j first begins) p ts
@@ -194,10 +198,10 @@ refreshes p ts k j first begins c top lt below least reached takes from =
 
 -- ---- where they begin and where they go on
 
-from_again : (p : Place) (o : Operation) (k : Bool) (j n : ℕ) → from_at (work o k j n false) p ≡ n
+from_again : (p : KeyPlace) (o : Operation) (k : Bool) (j n : ℕ) → from_at (work o k j n false) p ≡ n
 from_again p o k j n = grind arith
 
-pub establish_begins : (p : Place) (ts : List Touch) (top : ℕ) → FitsAt Idle top p ts
+pub establish_begins : (p : KeyPlace) (ts : List Touch) (top : ℕ) → FitsAt Idle top p ts
     → RisesFrom false (work op.Establish false top 1 true) p ts
 establish_begins p ts top at =
     record {
@@ -207,7 +211,7 @@ establish_begins p ts top at =
           at.below.fresh (unkeyed at.below.within);
     }
 
-pub establish_goes_on : (p : Place) (ts : List Touch) (top j n : ℕ) → FitsAt (Establishing j n) top p ts
+pub establish_goes_on : (p : KeyPlace) (ts : List Touch) (top j n : ℕ) → FitsAt (Establishing j n) top p ts
     → RisesFrom false (work op.Establish false j n false) p ts
 establish_goes_on p ts top j n at = record
     { shape = at.shape; is = at.is; fits = rw (from_again p op.Establish false j n) at.fits.2 }
@@ -218,7 +222,7 @@ rest_of k j top u _ lt (alone r) = subst (λ (l : Bool). Rest (not k) top u true
 rest_of k j top u _ lt (both i) = subst (λ (l : Bool). Rest (not k) top u true (Both l i j)) (not-not k)
     (old_both i j lt)
 
-pub refresh_begins : (p : Place) (ts : List Touch) (top : ℕ) (k : Bool) (j : ℕ) → FitsAt (Up k j) top p ts
+pub refresh_begins : (p : KeyPlace) (ts : List Touch) (top : ℕ) (k : Bool) (j : ℕ) → FitsAt (Up k j) top p ts
     → RisesFrom true (work op.Refresh (not k) top 1 true) p ts
 refresh_begins p ts top k j at =
     record {
@@ -228,19 +232,20 @@ refresh_begins p ts top k j at =
           (rest_of k j top (marks ts) at.shape at.fits.0 at.fits.1);
     }
 
-pub refresh_goes_on : (p : Place) (ts : List Touch) (top : ℕ) (k : Bool) (j n : ℕ) → FitsAt (Refreshing k j n) top p ts
+pub refresh_goes_on : (p : KeyPlace) (ts : List Touch) (top : ℕ) (k : Bool) (j n : ℕ)
+    → FitsAt (Refreshing k j n) top p ts
     → RisesFrom true (work op.Refresh k j n false) p ts
 refresh_goes_on p ts top k j n at = record
     { shape = at.shape; is = at.is; fits = rw (from_again p op.Refresh k j n) at.fits.3 }
 
 -- ---- an event of a stop
 
--- what a stop finds: anything where it begins, else what it left
+-- what a stop finds: anything at the host's port if it begins, else what it left
 abbrev pub FindsHalted : (side : Side) (l first : ℕ) (begins : Bool) → Shape → Type 0
 FindsHalted Host l first true sh = Unit {0}
 FindsHalted side l first begins sh = Halting side l first sh
 
--- the shape behind the touches of a stop
+-- the shape after the touches of a stop
 abbrev halted_shape : Bool → Bool → Shape → Shape
 halted_shape false false sh = sh
 halted_shape true false sh = without false sh
@@ -248,7 +253,7 @@ halted_shape false true sh = without true sh
 halted_shape true true sh = without true (without false sh)
 
 halts : (s : Bool) (ts : List Touch) (f g : Bool) (sh : Shape) → IsAt s ts sh
-    → IsAt s (behind ts (when f (Stop false) ++ when g (Stop true))) (halted_shape f g sh)
+    → IsAt s (touches_after ts (when f (Stop false) ++ when g (Stop true))) (halted_shape f g sh)
 unfolding keys used started is_open
 halts s ts f g sh is = grind (arith, stops)
 
@@ -291,15 +296,15 @@ stops_by Device link stream sends u ts first begins r reached at =
       come = halts_come sends ts (is_within first (1 + l) r.carried) (is_within first (7 + l) r.carried) at.shape at.is;
     }
 
-halted_all : (p : Place) (n : ℕ) (sh : Shape) → 12 < n → Halting p.side (lane p) n sh → sh ≡ Bare
+halted_all : (p : KeyPlace) (n : ℕ) (sh : Shape) → 12 < n → Halting p.side (lane p) n sh → sh ≡ Bare
 halted_all p n sh past halting = grind (arith, lane_below)
 
-below_stop : (w : Work) (r : Reach) (p : Place) (ts : List Touch) (top : ℕ) → Below ts top
-    → Below (behind ts (stopped w r p)) top
+below_stop : (w : Work) (r : Reach) (p : KeyPlace) (ts : List Touch) (top : ℕ) → Below ts top
+    → Below (touches_after ts (stopped w r p)) top
 unfolding used started
 below_stop w r p ts top below = grind arith
 
-pub stops_fit : (p : Place) (ts : List Touch) (first : ℕ) (begins : Bool) (r : Reach) (top : ℕ) → Below ts top
+pub stops_fit : (p : KeyPlace) (ts : List Touch) (first : ℕ) (begins : Bool) (r : Reach) (top : ℕ) → Below ts top
     → Reached first 12 r
     → At p.sends ts (FindsHalted p.side (lane p) first begins)
     → Turned (op_after (work op.Stop false 0 first begins) r) top p ts (stopped (work op.Stop false 0 first begins) r p)
@@ -309,7 +314,7 @@ stops_fit p ts first begins r top below reached at =
     (stops_by p.side p.link p.stream p.sends p.sub ts first begins r reached at) (below_stop w r p ts top below)
     (λ sh past halted. halted_all p r.acknowledged sh past halted) (λ sh le halted. (le, halted))
 
-pub resets_fit : (o : Op) (p : Place) (ts : List Touch) (top : ℕ) → FitsAt o top p ts
+pub resets_fit : (o : Op) (p : KeyPlace) (ts : List Touch) (top : ℕ) → FitsAt o top p ts
     → Turned Idle top p ts (Clear ∷ [])
 unfolding used started
 resets_fit o p ts top at = record {
@@ -324,7 +329,7 @@ establish_shape_takes : (s : Bool) (j a b n : ℕ) (u : Marks) (sh : Shape) → 
 establish_shape_takes s j a b n u sh le rising = grind arith
 
 -- no place refuses a key in an establish
-pub establish_takes : (p : Place) (ts : List Touch) (j first : ℕ) (begins : Bool) (c : Reach)
+pub establish_takes : (p : KeyPlace) (ts : List Touch) (j first : ℕ) (begins : Bool) (c : Reach)
     → RisesFrom false (work op.Establish false j first begins) p ts
     → TakesKey (work op.Establish false j first begins) c p ts
 establish_takes p ts j first begins c at le lt = rw at.is.are

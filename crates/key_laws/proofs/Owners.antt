@@ -1,12 +1,13 @@
 -- A draw belongs to one stream and one key set: those of the operation that began with it.
 use Rattle.key_laws.proofs.Terms.{◌≡◌, ℕ, ◌<◌, ◌==◌, Bool, true, false, Option, Some, None, List, [], ◌∷◌, length, refl}
-use Rattle.key_laws.proofs.Terms.{subst, arith, ◌&&◌, if◌then◌else◌, Event, Operation, SealedPacket, Verdict, Place}
+use Rattle.key_laws.proofs.Terms.{subst, arith, ◌&&◌, if◌then◌else◌, Event, Operation, SealedPacket, Verdict, KeyPlace}
 use Rattle.key_laws.proofs.Terms.{is_on_stream, Touch, Program, Go}
 use Rattle.key_laws.proofs.Terms.{Clear, Keyed, Off, Loaded, On, Keys, key_in, kept_in, on_in, touched, is_open}
-use Rattle.key_laws.proofs.Terms.{settled, keys, Op, Idle, Establishing, Up, Refreshing, Stopping, Work, Reach, Manager}
+use Rattle.key_laws.proofs.Terms.{keys_settled, keys, Op, Idle, Establishing, Up, Refreshing, Stopping, Work, Reach}
+use Rattle.key_laws.proofs.Terms.{Manager}
 use Rattle.key_laws.proofs.Terms.{Begun, work_of, reach_of, op_after}
-use Rattle.key_laws.proofs.Terms.{makes_draw, begun_after, operated, manager_after, History, manager, begun_at, when}
-use Rattle.key_laws.proofs.Terms.{worked, on_it, sealed_here, came, touches, behind, moments, nat_tests}
+use Rattle.key_laws.proofs.Terms.{makes_draw, begun_after, operated, manager_after, History, manager, begun_under, when}
+use Rattle.key_laws.proofs.Terms.{worked, on_it, sealed_here, came, touches, touches_after, moments, nat_tests}
 use Rattle.link_events.specs.declared.event.Event.TheVariants as event
 use Rattle.link_verdicts.specs.declared.verdict.Operation.TheVariants as op
 use Rattle.link_verdicts.specs.declared.verdict.Verdict.TheVariants as v
@@ -30,7 +31,7 @@ TouchOwned O _ = Unit {0}
 
 touched_owned : (O : Bool → ℕ → Type 0) (s : Bool) (f : ℕ → Bool) (ks : Keys) (t : Touch) → OwnedKeys O ks
     → TouchOwned O t
-    → OwnedKeys O (settled s f (touched s ks t))
+    → OwnedKeys O (keys_settled s f (touched s ks t))
 touched_owned O s f ks t owned mine = grind arith
 
 -- each touch that programs or starts a key is of a draw of its set
@@ -39,7 +40,7 @@ AllOwned O [] = Unit {0}
 AllOwned O (t ∷ ts) = TouchOwned O t × AllOwned O ts
 
 pub behind_owned : (O : Bool → ℕ → Type 0) (s : Bool) (ts more : List Touch) → OwnedKeys O (keys s ts) → AllOwned O more
-    → OwnedKeys O (keys s (behind ts more))
+    → OwnedKeys O (keys s (touches_after ts more))
 unfolding keys
 behind_owned O s ts [] owned all = owned
 behind_owned O s ts (t ∷ more) owned all = behind_owned O s (t ∷ ts) more
@@ -51,14 +52,15 @@ more_owned O P ks leads owned = grind arith
 
 -- ---- the operations that began
 
-pub begun_below : (bs : List Begun) (j : ℕ) (x : Begun) → begun_at bs j ≡ Some x → j < length bs
+pub begun_below : (bs : List Begun) (j : ℕ) (x : Begun) → begun_under bs j ≡ Some x → j < length bs
 begun_below [] j x e = absurd cc
 begun_below (b ∷ bs) j x e = let less = begun_below bs j x in grind (arith, nat_tests)
 
-begun_more : (b : Begun) (bs : List Begun) (j : ℕ) (x : Begun) → begun_at bs j ≡ Some x → begun_at (b ∷ bs) j ≡ Some x
+begun_more : (b : Begun) (bs : List Begun) (j : ℕ) (x : Begun) → begun_under bs j ≡ Some x → begun_under (b ∷ bs) j
+    ≡ Some x
 begun_more b bs j x e = grind (arith, nat_tests, begun_below)
 
-begun_now : (b : Begun) (bs : List Begun) → begun_at (b ∷ bs) (length bs) ≡ Some b
+begun_now : (b : Begun) (bs : List Begun) → begun_under (b ∷ bs) (length bs) ≡ Some b
 begun_now b bs = grind (arith, nat_tests)
 
 abbrev pub owner : ℕ → ℕ → Bool → Begun
@@ -66,7 +68,7 @@ owner link stream set = record { link = link; stream = stream; set = set }
 
 -- the draw's operation was on the stream, with the set
 abbrev pub Owner : List Begun → ℕ → ℕ → Bool → ℕ → Type 0
-Owner bs link stream set j = begun_at bs j ≡ Some (owner link stream set)
+Owner bs link stream set j = begun_under bs j ≡ Some (owner link stream set)
 
 abbrev pub OpOwned : List Begun → ℕ → ℕ → Op → Type 0
 OpOwned bs link stream Idle = Unit {0}
@@ -77,7 +79,7 @@ OpOwned bs link stream (Stopping n) = Unit {0}
 
 -- what began stays
 abbrev Longer : List Begun → List Begun → Type 0
-Longer bs cs = (j : ℕ) (x : Begun) → begun_at bs j ≡ Some x → begun_at cs j ≡ Some x
+Longer bs cs = (j : ℕ) (x : Begun) → begun_under bs j ≡ Some x → begun_under cs j ≡ Some x
 
 op_longer : (bs cs : List Begun) → Longer bs cs → (link stream : ℕ) (o : Op) → OpOwned bs link stream o
     → OpOwned cs link stream o
@@ -140,30 +142,31 @@ after_longer m e verdict j x is = grind (arith, begun_more)
 pub cleared_owned : (O : Bool → ℕ → Type 0) (f : Bool) → AllOwned O (when f Clear)
 cleared_owned O f = grind arith
 
-pub worked_owned : (O : Bool → ℕ → Type 0) (w : Work) (r : Option Reach) (p : Place) (o : Operation) → w.operation ≡ o
+pub worked_owned : (O : Bool → ℕ → Type 0) (w : Work) (r : Option Reach) (p : KeyPlace) (o : Operation) → w.operation
+    ≡ o
     → (makes_draw o ≡ true → O w.set w.draw) → AllOwned O (worked w r p)
 worked_owned O w r p o is mine = grind arith
 
-sealed_owned : (O : Bool → ℕ → Type 0) (p : Place) (ds : List SealedPacket) → AllOwned O (sealed_here p ds)
+sealed_owned : (O : Bool → ℕ → Type 0) (p : KeyPlace) (ds : List SealedPacket) → AllOwned O (sealed_here p ds)
 sealed_owned O p [] = tt
 sealed_owned O p (d ∷ ds) = let more = sealed_owned O p ds in grind arith
 
-pub came_owned : (O : Bool → ℕ → Type 0) (p : Place) (verdict : Verdict) → AllOwned O (came p verdict)
+pub came_owned : (O : Bool → ℕ → Type 0) (p : KeyPlace) (verdict : Verdict) → AllOwned O (came p verdict)
 came_owned O p (v.Sealed packets) = sealed_owned O p packets
 came_owned O p (v.Accepted port unit effects) = grind arith
 came_owned O p _ = tt
 
 -- the owner of a place's keys, after an event
-abbrev pub OwnerAt : Manager → Place → Bool → ℕ → Type 0
+abbrev pub OwnerAt : Manager → KeyPlace → Bool → ℕ → Type 0
 OwnerAt m p set j = Owner m.begun p.link p.stream set j
 
-operation_owned : (m : Manager) (o : Operation) (link stream : ℕ) (r : Option Reach) (p : Place)
+operation_owned : (m : Manager) (o : Operation) (link stream : ℕ) (r : Option Reach) (p : KeyPlace)
     → OpOwned m.begun p.link p.stream (m.ops p.link p.stream)
     → AllOwned (OwnerAt (operated m o link stream r) p)
     (on_it (is_on_stream p link stream) (worked (work_of o (m.ops link stream) (length m.begun)) r p))
 operation_owned m o link stream r p owned = grind (arith, nat_tests)
 
-touches_owned : (m : Manager) (e : Event) (verdict : Verdict) (p : Place) → OpsOwned m
+touches_owned : (m : Manager) (e : Event) (verdict : Verdict) (p : KeyPlace) → OpsOwned m
     → AllOwned (OwnerAt (manager_after m e verdict) p) (touches m.ops (length m.begun) e verdict p)
 touches_owned m (event.Establish link stream loss) verdict p owned =
     operation_owned m op.Establish link stream (reach_of op.Establish verdict) p (owned p.link p.stream)
@@ -175,7 +178,7 @@ touches_owned m (event.Reset link) (v.Reset l) p owned = cleared_owned _ (p.link
 touches_owned m (event.Reset link) _ p owned = tt
 touches_owned m _ verdict p owned = came_owned _ p verdict
 
-pub keys_owned : (h : History) (p : Place) → OwnedKeys (OwnerAt (manager h) p) (keys p.sends (moments h p))
+pub keys_owned : (h : History) (p : KeyPlace) → OwnedKeys (OwnerAt (manager h) p) (keys p.sends (moments h p))
 unfolding manager moments keys
 keys_owned [] p = record { first_is = tt; second_is = tt }
 keys_owned ((e, verdict) ∷ h) p =
@@ -194,10 +197,11 @@ pub owned_on : (O : Bool → ℕ → Type 0) (ks : Keys) (set : Bool) (j : ℕ) 
     ≡ Some j → O set j
 owned_on O ks set j owned e = grind arith
 
-pub kept_owned : (h : History) (p : Place) (set : Bool) (j : ℕ) → kept_in (key_in (keys p.sends (moments h p)) set)
+pub kept_owned : (h : History) (p : KeyPlace) (set : Bool) (j : ℕ) → kept_in (key_in (keys p.sends (moments h p)) set)
     ≡ Some j → OwnerAt (manager h) p set j
 kept_owned h p set j e = owned_kept (OwnerAt (manager h) p) (keys p.sends (moments h p)) set j (keys_owned h p) e
 
-pub on_owned : (h : History) (p : Place) (set : Bool) (j : ℕ) → on_in (key_in (keys p.sends (moments h p)) set) ≡ Some j
+pub on_owned : (h : History) (p : KeyPlace) (set : Bool) (j : ℕ) → on_in (key_in (keys p.sends (moments h p)) set)
+    ≡ Some j
     → OwnerAt (manager h) p set j
 on_owned h p set j e = owned_on (OwnerAt (manager h) p) (keys p.sends (moments h p)) set j (keys_owned h p) e

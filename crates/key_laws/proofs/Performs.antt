@@ -1,8 +1,8 @@
 -- How far an operation comes, by the verdict that is due.
 use Rattle.key_laws.proofs.Terms.{◌≡◌, ℕ, suc, zero, ◌+◌, ◌-◌, ◌<◌, ◌≤◌, Bool, true, false, Option, Some, None, arith}
 use Rattle.key_laws.proofs.Terms.{◌⊎◌, inl, inr, SubKind, Pr, Npr, Cpl, Device, Loss, Lost, Operation, Verdict, Work}
-use Rattle.key_laws.proofs.Terms.{Reach, reach, last_of, reach_of, program_at, option_or, unwrap_or, refl}
-use Rattle.key_laws.proofs.Terms.{List, [], ◌∷◌, ◌==◌, ◌∙◌, Place, places_of, if◌then◌else◌, first_status}
+use Rattle.key_laws.proofs.Terms.{Reach, reach, last_exchange_of, reach_of, program_at, option_or, unwrap_or, refl}
+use Rattle.key_laws.proofs.Terms.{List, [], ◌∷◌, ◌==◌, ◌∙◌, KeyPlace, places_of, if◌then◌else◌, first_status}
 use Rattle.key_laws.proofs.Terms.{PortView, cut_at, done, first_from, lost_in, performed, refusal_at, stays}
 use Rattle.link_verdicts.specs.declared.verdict.Operation.TheVariants as op
 use Rattle.link_verdicts.specs.declared.verdict.Verdict.TheVariants as v
@@ -35,7 +35,7 @@ first_is cut n (suc c) = by_cut (cut n) refl (first_is cut (n + 1) c)
 pub record Performs (ports : PortView) (link stream : ℕ) (w : Work) (verdict : Verdict) : Type 0 where
   pub reached_to : Reach
   pub says : reach_of w.operation verdict ≡ Some reached_to
-  pub reached : Reached w.first (last_of w.operation) reached_to
+  pub reached : Reached w.first (last_exchange_of w.operation) reached_to
   pub taken : (n : ℕ) → w.first ≤ n → n < reached_to.acknowledged → refusal_at ports w.operation w.set link stream n
       ≡ None
 
@@ -43,7 +43,7 @@ not_refused : (lost : Option Lost) (status : Option ℕ) (n : ℕ) → cut_at lo
 not_refused lost status n none = grind arith
 
 done_says : (link stream : ℕ) (w : Work) → reach_of w.operation (done link stream w)
-    ≡ Some (reach (last_of w.operation + 1) (last_of w.operation + 1))
+    ≡ Some (reach (last_exchange_of w.operation + 1) (last_exchange_of w.operation + 1))
 done_says link stream w = grind arith
 
 -- how far the verdict came
@@ -57,18 +57,19 @@ cut_says : (o : Operation) (lost : Option Lost) (status : Option ℕ) (n : ℕ) 
     × (n ≤ (came_to (reach_of o verdict)).carried) × ((came_to (reach_of o verdict)).carried ≤ n + 1)
 cut_says o lost status n verdict is = grind arith
 
-pub performs : (ports : PortView) (link stream : ℕ) (loss : Option Loss) (w : Work) → w.first ≤ last_of w.operation + 1
+pub performs : (ports : PortView) (link stream : ℕ) (loss : Option Loss) (w : Work)
+    → w.first ≤ last_exchange_of w.operation + 1
     → Performs ports link stream w (performed ports link stream loss w)
 performs ports link stream loss w within = by_stay (stays ports link stream loss w)
-    (first_is cut w.first (last_of w.operation + 1 - w.first))
+    (first_is cut w.first (last_exchange_of w.operation + 1 - w.first))
   where
     cut : ℕ → Option Verdict
     cut n = cut_at (lost_in loss n) (refusal_at ports w.operation w.set link stream n) n
 
-    by_stay : (o : Option Verdict) → First cut w.first (last_of w.operation + 1 - w.first) o
+    by_stay : (o : Option Verdict) → First cut w.first (last_exchange_of w.operation + 1 - w.first) o
         → Performs ports link stream w (unwrap_or o (done link stream w))
     by_stay None none = record {
-      reached_to = reach (last_of w.operation + 1) (last_of w.operation + 1);
+      reached_to = reach (last_exchange_of w.operation + 1) (last_exchange_of w.operation + 1);
       says = done_says link stream w;
       reached = record
           { forward = within; carried = omega arith; within_one = omega arith; at_most = omega arith };
@@ -96,7 +97,7 @@ pub record StaysAt (ports : PortView) (link stream : ℕ) (loss : Option Loss) (
     (verdict : Verdict) : Type 0 where
   pub exchange : ℕ
   pub at_least : w.first ≤ exchange
-  pub at_most : exchange ≤ last_of w.operation
+  pub at_most : exchange ≤ last_exchange_of w.operation
   pub gives : cut_at (lost_in loss exchange) (refusal_at ports w.operation w.set link stream exchange) exchange
       ≡ Some verdict
 
@@ -105,11 +106,11 @@ pub performed_stays : (ports : PortView) (link stream : ℕ) (loss : Option Loss
     → (performed ports link stream loss w ≡ done link stream w)
     ⊎ StaysAt ports link stream loss w (performed ports link stream loss w)
 performed_stays ports link stream loss w = by_stay (stays ports link stream loss w)
-    (first_is _ w.first (last_of w.operation + 1 - w.first))
+    (first_is _ w.first (last_exchange_of w.operation + 1 - w.first))
   where
     by_stay : (o : Option Verdict)
         → First (λ n. cut_at (lost_in loss n) (refusal_at ports w.operation w.set link stream n) n) w.first
-        (last_of w.operation + 1 - w.first) o
+        (last_exchange_of w.operation + 1 - w.first) o
         → (unwrap_or o (done link stream w) ≡ done link stream w)
         ⊎ StaysAt ports link stream loss w (unwrap_or o (done link stream w))
     by_stay None none = inl refl
@@ -138,14 +139,14 @@ performed_is ports link stream loss w = by_end _ (performed_stays ports link str
 
 -- ---- the places of the device
 
-first_of_place : (status : Place → Option ℕ) (ps : List Place) (given : ℕ) → first_status status ps ≡ Some given
-    → (p : Place) × (status p ≡ Some given)
+first_of_place : (status : KeyPlace → Option ℕ) (ps : List KeyPlace) (given : ℕ) → first_status status ps ≡ Some given
+    → (p : KeyPlace) × (status p ≡ Some given)
 first_of_place status [] given is = absurd cc
 first_of_place status (p ∷ ps) given is = by_first (status p) refl is (first_of_place status ps given)
   where
     by_first : (o : Option ℕ) → status p ≡ o → option_or o (first_status status ps) ≡ Some given
-        → (first_status status ps ≡ Some given → (q : Place) × (status q ≡ Some given))
-        → (q : Place) × (status q ≡ Some given)
+        → (first_status status ps ≡ Some given → (q : KeyPlace) × (status q ≡ Some given))
+        → (q : KeyPlace) × (status q ≡ Some given)
     by_first None e is later = later is
     by_first (Some i) e is later = (p, e ∙ is)
 
@@ -154,7 +155,7 @@ asked_refusal b o given is = grind arith
 
 -- the status with which an exchange is refused is that of a place
 pub refusal_of_place : (ports : PortView) (o : Operation) (set : Bool) (link stream n given : ℕ)
-    → refusal_at ports o set link stream n ≡ Some given → (p : Place) × (ports.refusal p set ≡ Some given)
+    → refusal_at ports o set link stream n ≡ Some given → (p : KeyPlace) × (ports.refusal p set ≡ Some given)
 refusal_of_place ports op.Stop set link stream n given is = absurd cc
 refusal_of_place ports op.Establish set link stream n given is =
     let found = first_of_place (λ p. if program_at op.Establish p == n then ports.refusal p set else None)

@@ -1,9 +1,9 @@
 -- Which places take the key of an operation, here of a refresh. The device's places do since no KEY_PROG that was
--- acknowledged was refused, the host's senders since a refresh begins only where no Live key of theirs is in the set,
--- and the host's receivers since the set holds no key that is On, or the older of two. Where a refresh goes on, the
--- host's port has its keys, and only the device's places are left.
+-- acknowledged was refused, the host's senders since a refresh begins only if no Live key of theirs is in the set, and
+-- the host's receivers since the set holds no key that is On, or the older of two. If a refresh goes on, the host's
+-- port has its keys, and only the device's places are left.
 use Rattle.key_laws.proofs.Terms.{◌≡◌, ℕ, ◌<◌, ◌≤◌, Bool, true, false, List, sym, ◌∙◌, arith, SubKind, Side, Host}
-use Rattle.key_laws.proofs.Terms.{Device, Touch, Keys, refuses, keys, slot_of, is_live, Reach, work, PortView}
+use Rattle.key_laws.proofs.Terms.{Device, Touch, Keys, refuses, keys, slot_of, is_live_draw, Reach, work, PortView}
 use Rattle.key_laws.proofs.Terms.{None, refusal_if, refusal_at, is_live_sender, nat_tests}
 use Rattle.link_verdicts.specs.declared.verdict.Operation.TheVariants as op
 use Rattle.key_laws.proofs.Shapes.{Marks, marks, Shape, keys_of, Sound}
@@ -15,7 +15,7 @@ not_refused : (b : Bool) → refusal_if b ≡ None → b ≡ false
 not_refused b none = grind arith
 
 -- a sender takes a key in a set that is not Live
-sender_takes : (ks : Keys) (set : Bool) → is_live (slot_of true ks set) ≡ false → refuses true ks set ≡ false
+sender_takes : (ks : Keys) (set : Bool) → is_live_draw (slot_of true ks set) ≡ false → refuses true ks set ≡ false
 sender_takes ks set dead = grind (arith, nat_tests)
 
 -- a receiver takes the key of a newer draw
@@ -24,13 +24,13 @@ receiver_takes : (k : Bool) (j a b n : ℕ) (u : Marks) (sh : Shape) (ts : List 
     → refuses false (keys_of sh) k ≡ false
 receiver_takes k j a b n u sh ts le sound rising = grind (arith, nat_tests)
 
--- Where a refresh begins: the device refused none of the exchanges that were acknowledged, and no Live key of the
--- host's senders is in the set.
+-- If a refresh begins: the device refused none of the exchanges that were acknowledged, and no Live key of the host's
+-- senders is in the set.
 pub refresh_first_takes : (side : Side) (link stream : ℕ) (sends : Bool) (u : SubKind) (ports : PortView)
     (ts : List Touch) (k : Bool) (j : ℕ) (r : Reach)
     → ((x : Bool) → ports.refusal (place side link stream sends u) x
     ≡ refusal_if (refuses sends (keys sends ts) x))
-    → ((x : Bool) → ports.is_live (place side link stream sends u) x ≡ is_live (slot_of sends (keys sends ts) x))
+    → ((x : Bool) → ports.is_live (place side link stream sends u) x ≡ is_live_draw (slot_of sends (keys sends ts) x))
     → is_live_sender ports link stream k u ≡ false
     → ((n : ℕ) → 1 ≤ n → n < r.acknowledged → refusal_at ports op.Refresh k link stream n ≡ None)
     → RisesFrom true (work op.Refresh k j 1 true) (place side link stream sends u) ts
@@ -42,7 +42,7 @@ refresh_first_takes Host link stream false u ports ts k j r same live dead free 
 refresh_first_takes Device link stream sends u ports ts k j r same live dead free at le lt =
     not_refused _ (sym (same k) ∙ device_takes ports k link stream sends u (free _ le lt))
 
--- where it goes on the host's port has its key
+-- if it goes on, the host's port has its key
 pub refresh_again_takes : (side : Side) (link stream : ℕ) (sends : Bool) (u : SubKind) (ports : PortView)
     (ts : List Touch) (k : Bool) (j n : ℕ) (r : Reach) → 1 ≤ n
     → ((x : Bool) → ports.refusal (place side link stream sends u) x

@@ -1,8 +1,9 @@
 -- What is sealed and what is accepted leaves a place fit for the state of its stream.
 use Rattle.key_laws.proofs.Terms.{◌≡◌, ℕ, ◌+◌, ◌<◌, ◌≤◌, Bool, true, false, Option, Some, None, List, ◌∷◌, refl, ◌∙◌}
-use Rattle.key_laws.proofs.Terms.{arith, max, Place, Touch, Seal, Accept, Keyed, Keys, key_in, on_in, keys, slot_from}
-use Rattle.key_laws.proofs.Terms.{slot_of, live_in, option_or}
-use Rattle.key_laws.proofs.Terms.{live_draw, uses, Op}
+use Rattle.key_laws.proofs.Terms.{arith, max, KeyPlace, Touch, Seal, Accept, Keyed, Keys, key_in, on_in, keys}
+use Rattle.key_laws.proofs.Terms.{slot_from}
+use Rattle.key_laws.proofs.Terms.{slot_of, live_draw_in, option_or}
+use Rattle.key_laws.proofs.Terms.{sealing_draw, uses, Op}
 use Rattle.key_laws.proofs.Shapes.{Marks, marks, started, Shape, Bare, used, IsAt, sealed_shape, is_newer, seals}
 use Rattle.key_laws.proofs.Shapes.{accepts, used_bound, none_above_used, never_more}
 use Rattle.key_laws.proofs.Touches.{TouchFits}
@@ -11,7 +12,7 @@ use Rattle.key_laws.proofs.Fits.{Fits, FitsAt, Turned, Below, below_more}
 
 -- ---- a use leaves the stage of a place: it changes nothing, or ends the older of two keys
 
-fits_uses : (m : Bool) (o : Op) (top : ℕ) (u v : Marks) (p : Place) (sh : Shape) → v.started_below ≡ u.started_below
+fits_uses : (m : Bool) (o : Op) (top : ℕ) (u v : Marks) (p : KeyPlace) (sh : Shape) → v.started_below ≡ u.started_below
     → (sh ≡ Bare → ⊥) → Fits o top u p sh
     → Fits o top v p (sealed_shape m sh)
 fits_uses m o top u v p sh same not_bare fits = grind
@@ -27,20 +28,21 @@ below_use s ts us sh k j top is on lt below more same here =
     let falls = never_more j (uses ts) (none_above_used ts j (used_bound s ts sh k j is on)) below.falls in
     record { within = grind arith; fresh = grind arith; falls = rw here falls }
 
-slot_on_live : (mine other : Keyed) (j : ℕ) → live_in (slot_from true mine other) ≡ Some j → on_in mine ≡ Some j
+slot_on_live : (mine other : Keyed) (j : ℕ) → live_draw_in (slot_from true mine other) ≡ Some j → on_in mine ≡ Some j
 slot_on_live mine other j e = grind arith
 
 -- a Live draw is On
-pub live_is_on : (ks : Keys) (j : ℕ) → live_draw ks ≡ Some j → (set : Bool) × (on_in (key_in ks set) ≡ Some j)
-live_is_on ks j live = by_first (live_in (slot_of true ks false)) refl live
+pub live_is_on : (ks : Keys) (j : ℕ) → sealing_draw ks ≡ Some j → (set : Bool) × (on_in (key_in ks set) ≡ Some j)
+live_is_on ks j live = by_first (live_draw_in (slot_of true ks false)) refl live
   where
-    by_first : (o : Option ℕ) → live_in (slot_of true ks false) ≡ o → option_or o (live_in (slot_of true ks true))
+    by_first : (o : Option ℕ) → live_draw_in (slot_of true ks false) ≡ o
+        → option_or o (live_draw_in (slot_of true ks true))
         ≡ Some j → (set : Bool) × (on_in (key_in ks set) ≡ Some j)
     by_first None e live = (true, slot_on_live ks.second ks.first j live)
     by_first (Some i) e live = (false, slot_on_live ks.first ks.second j (e ∙ live))
 
--- a use behind which others come
-pub use_first : (o : Op) (top : ℕ) (p : Place) (ts : List Touch) (t : Touch) (more : List Touch)
+-- a use after which others come
+pub use_first : (o : Op) (top : ℕ) (p : KeyPlace) (ts : List Touch) (t : Touch) (more : List Touch)
     → (at : FitsAt o top p ts) → TouchFits p.sends ts at.shape t → Turned o top p (t ∷ ts) more
     → Turned o top p ts (t ∷ more)
 use_first o top p ts t more at may turned = record
@@ -50,8 +52,8 @@ not_bare_on : (s : Bool) (ts : List Touch) (sh : Shape) (k : Bool) (j : ℕ) →
     ≡ Some j → sh ≡ Bare → ⊥
 not_bare_on s ts sh k j is on bare = grind arith
 
-pub seals_fit : (o : Op) (top : ℕ) (p : Place) (ts : List Touch) (j : ℕ) (m : Bool) → p.sends ≡ true
-    → live_draw (keys p.sends ts) ≡ Some j → j < top
+pub seals_fit : (o : Op) (top : ℕ) (p : KeyPlace) (ts : List Touch) (j : ℕ) (m : Bool) → p.sends ≡ true
+    → sealing_draw (keys p.sends ts) ≡ Some j → j < top
     → FitsAt o top p ts → FitsAt o top p (Seal j m ∷ ts)
 unfolding used started
 seals_fit o top p ts j m sends live lt at =
@@ -64,7 +66,7 @@ seals_fit o top p ts j m sends live lt at =
       below = below_use p.sends ts (Seal j m ∷ ts) at.shape on.0 j top at.is on.1 lt at.below refl refl refl;
     }
 
-pub accepts_fit : (o : Op) (top : ℕ) (p : Place) (ts : List Touch) (set : Bool) (j : ℕ) → p.sends ≡ false
+pub accepts_fit : (o : Op) (top : ℕ) (p : KeyPlace) (ts : List Touch) (set : Bool) (j : ℕ) → p.sends ≡ false
     → on_in (key_in (keys p.sends ts) set) ≡ Some j → j < top
     → FitsAt o top p ts → FitsAt o top p (Accept j ∷ ts)
 unfolding used started
@@ -78,11 +80,12 @@ accepts_fit o top p ts set j sends on lt at = record {
 
 -- ---- more draws were made
 
-raised : (o : Op) (top more : ℕ) (u : Marks) (p : Place) (sh : Shape) → top ≤ more → Fits o top u p sh
+raised : (o : Op) (top more : ℕ) (u : Marks) (p : KeyPlace) (sh : Shape) → top ≤ more → Fits o top u p sh
     → Fits o more u p sh
 raised o top more u p sh le fits = grind arith
 
-pub raise : (o : Op) (top more : ℕ) (p : Place) (ts : List Touch) → top ≤ more → FitsAt o top p ts → FitsAt o more p ts
+pub raise : (o : Op) (top more : ℕ) (p : KeyPlace) (ts : List Touch) → top ≤ more → FitsAt o top p ts
+    → FitsAt o more p ts
 raise o top more p ts le at = record {
   shape = at.shape;
   is = at.is;

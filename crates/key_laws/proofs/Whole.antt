@@ -1,18 +1,19 @@
 -- After each pair of a history each place fits the state of its stream. By induction on the history, and for each kind
 -- of event by the operation's state and how far it comes; on other streams nothing changes but the number of draws. The
--- hard case is a refresh, where each place has to take the key (Takes); sends and arrivals use only keys that are Live
--- or On, as is supposed of them, and those are of draws that were made.
+-- hard case is a refresh, in which each place has to take the key (Takes); sends and arrivals use only keys that are
+-- Live or On, as is supposed of them, and those are of draws that were made.
 use Rattle.key_laws.proofs.Terms.{and-false, ◌≡◌, ℕ, suc, ◌≤◌, ◌==◌, ◌⊎◌, inl, inr, Bool, true, false, Option, Some}
 use Rattle.key_laws.proofs.Terms.{None, List, [], ◌∷◌, ◌++◌, length, refl, subst, arith, nat_lt, not, ◌&&◌}
 use Rattle.key_laws.proofs.Terms.{if◌then◌else◌, SubKind, Pr, Npr, Cpl, Host}
-use Rattle.key_laws.proofs.Terms.{Event, Loss, Operation, SealedPacket, Verdict, KeyPlan, Place, lane, is_same_side}
-use Rattle.key_laws.proofs.Terms.{is_same_sub, is_on_stream, Touch, Seal, Accept, Clear, keys, refuses, is_live}
+use Rattle.key_laws.proofs.Terms.{Event, Loss, Operation, SealedPacket, Verdict, KeyPlan, KeyPlace, lane, is_same_side}
+use Rattle.key_laws.proofs.Terms.{is_same_sub, is_on_stream, Touch, Seal, Accept, Clear, keys, refuses, is_live_draw}
 use Rattle.key_laws.proofs.Terms.{refusal_if, slot_of, Op, Idle, Establishing, Up}
 use Rattle.key_laws.proofs.Terms.{Refreshing, Work, Reach, Manager, Begun, work, work_of, reach_of, op_after}
 use Rattle.key_laws.proofs.Terms.{begun_after, operated, History, manager, op_of, draws, worked, on_it, when, is_sender}
 use Rattle.key_laws.proofs.Terms.{sealed_here, came, touches, moments}
 use Rattle.key_laws.proofs.Terms.{status_of, PortView, ports_at, performed, begun_with_draw, is_live_sender}
-use Rattle.key_laws.proofs.Terms.{unless_open, if_secure, establish_on, refresh_on, stop_on, due, UsesFit, CauseLaw}
+use Rattle.key_laws.proofs.Terms.{unless_open, if_secure, establish_on, refresh_on, stop_on, key_due, UsesFit}
+use Rattle.key_laws.proofs.Terms.{KeyCauseLaw}
 use Rattle.link_events.specs.declared.event.Event.TheVariants as event
 use Rattle.link_verdicts.specs.declared.verdict.Operation.TheVariants as op
 use Rattle.ide_types.specs.declared.status.StreamStatus.{StreamStatus}
@@ -28,7 +29,7 @@ use Rattle.key_laws.proofs.Performs.{performs}
 use Rattle.key_laws.proofs.Takes.{refresh_first_takes, refresh_again_takes}
 
 -- what an operation makes of a place of its stream, by how far it came
-abbrev pub Turns : Operation → Op → List Begun → ℕ → ℕ → Place → List Touch → Option Reach → Type 0
+abbrev pub Turns : Operation → Op → List Begun → ℕ → ℕ → KeyPlace → List Touch → Option Reach → Type 0
 Turns o q bs link stream p ts None = FitsAt q (length bs) p ts
 Turns o q bs link stream p ts (Some r) =
     Turned (op_after (work_of o q (length bs)) r) (length (begun_after bs link stream (work_of o q (length bs)))) p ts
@@ -36,7 +37,7 @@ Turns o q bs link stream p ts (Some r) =
 
 -- ---- an establish
 
-establish_turns : (plan : KeyPlan) (q : Op) (bs : List Begun) (ports : PortView) (p : Place) (ts : List Touch)
+establish_turns : (plan : KeyPlan) (q : Op) (bs : List Begun) (ports : PortView) (p : KeyPlace) (ts : List Touch)
     (loss : Option Loss)
     → FitsAt q (length bs) p ts → Turns op.Establish q bs p.link p.stream p ts
     (reach_of op.Establish (establish_on plan q (length bs) ports p.link p.stream loss))
@@ -63,7 +64,7 @@ establish_turns plan q bs ports p ts loss at = at
 
 -- ---- a refresh
 
--- a refresh of a stream that is up comes nowhere, or no Live key of the host's sender is in the set
+-- a refresh of a stream that is up gets nowhere, or no Live key of the host's sender is in the set
 refresh_or : (plan : KeyPlan) (host : StreamStatus) (ports : PortView) (link stream next : ℕ) (set : Bool) (u : SubKind)
     (x : Verdict)
     → (reach_of op.Refresh (if_secure host (unless_open ports link stream set (begun_with_draw plan next x))) ≡ None)
@@ -73,10 +74,10 @@ refresh_or plan host ports link stream next set Pr x = grind arith
 refresh_or plan host ports link stream next set Npr x = grind arith
 refresh_or plan host ports link stream next set Cpl x = grind arith
 
-refresh_turns : (plan : KeyPlan) (q : Op) (bs : List Begun) (ports : PortView) (host : StreamStatus) (p : Place)
+refresh_turns : (plan : KeyPlan) (q : Op) (bs : List Begun) (ports : PortView) (host : StreamStatus) (p : KeyPlace)
     (ts : List Touch) (loss : Option Loss)
     → ((x : Bool) → ports.refusal p x ≡ refusal_if (refuses p.sends (keys p.sends ts) x))
-    → ((x : Bool) → ports.is_live p x ≡ is_live (slot_of p.sends (keys p.sends ts) x))
+    → ((x : Bool) → ports.is_live p x ≡ is_live_draw (slot_of p.sends (keys p.sends ts) x))
     → FitsAt q (length bs) p ts → Turns op.Refresh q bs p.link p.stream p ts
     (reach_of op.Refresh (refresh_on plan q (length bs) ports host p.link p.stream loss))
 refresh_turns plan (Up set j) bs ports host p ts loss same live at = by_case _
@@ -109,12 +110,12 @@ stop_is : (q : Op) (next : ℕ) → work_of op.Stop q next ≡ work op.Stop fals
     (work_of op.Stop q next).begins
 stop_is q next = grind arith
 
-stop_finds : (q : Op) (top : ℕ) (u : Marks) (p : Place) (sh : Shape) → Fits q top u p sh
+stop_finds : (q : Op) (top : ℕ) (u : Marks) (p : KeyPlace) (sh : Shape) → Fits q top u p sh
     → ((work_of op.Stop q top).first ≤ 13) × FindsHalted p.side (lane p) (work_of op.Stop q top).first
     (work_of op.Stop q top).begins sh
 stop_finds q top u p sh fits = grind arith
 
-stop_ends : (q : Op) (bs : List Begun) (p : Place) (ts : List Touch) (r : Reach)
+stop_ends : (q : Op) (bs : List Begun) (p : KeyPlace) (ts : List Touch) (r : Reach)
     → Reached (work_of op.Stop q (length bs)).first 12 r
     → FitsAt q (length bs) p ts → Turns op.Stop q bs p.link p.stream p ts (Some r)
 stop_ends q bs p ts r reached at =
@@ -122,7 +123,7 @@ stop_ends q bs p ts r reached at =
     (stops_fit p ts _ _ r (length bs) at.below reached
     (record { shape = at.shape; is = at.is; fits = (stop_finds q (length bs) (marks ts) p at.shape at.fits).1 }))
 
-stop_turns : (q : Op) (bs : List Begun) (ports : PortView) (p : Place) (ts : List Touch) (loss : Option Loss)
+stop_turns : (q : Op) (bs : List Begun) (ports : PortView) (p : KeyPlace) (ts : List Touch) (loss : Option Loss)
     → FitsAt q (length bs) p ts → Turns op.Stop q bs p.link p.stream p ts
     (reach_of op.Stop (stop_on q (length bs) ports p.link p.stream loss))
 stop_turns q bs ports p ts loss at =
@@ -137,7 +138,7 @@ pub more_begun : (bs : List Begun) (link stream : ℕ) (w : Work) → length bs 
 more_begun bs link stream w = grind arith
 
 -- on its stream it does what it does, elsewhere nothing
-operated_fits : (m : Manager) (o : Operation) (link stream : ℕ) (r : Option Reach) (p : Place) (ts : List Touch)
+operated_fits : (m : Manager) (o : Operation) (link stream : ℕ) (r : Option Reach) (p : KeyPlace) (ts : List Touch)
     → ((p.link ≡ link) × (p.stream ≡ stream) → Turns o (m.ops link stream) m.begun link stream p ts r)
     → FitsAt (m.ops p.link p.stream) (length m.begun) p ts
     → Turned ((operated m o link stream r).ops p.link p.stream) (length (operated m o link stream r).begun) p ts
@@ -161,16 +162,16 @@ operated_fits m o link stream (Some r) p ts turns at = by_test (is_on_stream p l
 
 -- ---- sends and arrivals
 
-sends_there : (p : Place) (d : SealedPacket) → is_sender p d ≡ true → p.sends ≡ true
+sends_there : (p : KeyPlace) (d : SealedPacket) → is_sender p d ≡ true → p.sends ≡ true
 sends_there p d e = grind arith
 
 -- uses that fit, at a place whose keys are of its stream, leave it fit for the same state
-abbrev UsesLeave : Op → List Begun → Place → List Touch → List Touch → Type 0
+abbrev UsesLeave : Op → List Begun → KeyPlace → List Touch → List Touch → Type 0
 UsesLeave o bs p ts more =
     UsesFit p.sends ts more → OwnedKeys (Owner bs p.link p.stream) (keys p.sends ts) → FitsAt o (length bs) p ts
     → Turned o (length bs) p ts more
 
-sealed_fits : (o : Op) (bs : List Begun) (p : Place) (ts : List Touch) (ds : List SealedPacket)
+sealed_fits : (o : Op) (bs : List Begun) (p : KeyPlace) (ts : List Touch) (ds : List SealedPacket)
     → UsesLeave o bs p ts (sealed_here p ds)
 sealed_fits o bs p ts [] uses owned at = record { now = at; come = tt }
 sealed_fits o bs p ts (d ∷ ds) uses owned at = by_test (sealed_fits o bs p ts ds)
@@ -191,7 +192,7 @@ sealed_fits o bs p ts (d ∷ ds) uses owned at = by_test (sealed_fits o bs p ts 
 receives_there : (sends a b c : Bool) → (not sends && a && b && c) ≡ true → sends ≡ false
 receives_there sends a b c e = grind arith
 
-accepted_fits : (o : Op) (bs : List Begun) (p : Place) (ts : List Touch) (j : ℕ) (a b c : Bool)
+accepted_fits : (o : Op) (bs : List Begun) (p : KeyPlace) (ts : List Touch) (j : ℕ) (a b c : Bool)
     → UsesLeave o bs p ts (when (not p.sends && a && b && c) (Accept j))
 accepted_fits o bs p ts j a b c uses owned at = by_test (not p.sends && a && b && c) refl uses
   where
@@ -209,7 +210,7 @@ accepted_fits o bs p ts j a b c uses owned at = by_test (not p.sends && a && b &
               tt;
         })
 
-came_fits : (o : Op) (bs : List Begun) (p : Place) (ts : List Touch) (verdict : Verdict)
+came_fits : (o : Op) (bs : List Begun) (p : KeyPlace) (ts : List Touch) (verdict : Verdict)
     → UsesLeave o bs p ts (came p verdict)
 came_fits o bs p ts (v.Sealed packets) uses owned at = sealed_fits o bs p ts packets uses owned at
 came_fits o bs p ts (v.Accepted port unit effects) uses owned at = accepted_fits o bs p ts unit.draw
@@ -218,7 +219,7 @@ came_fits o bs p ts _ uses owned at = record { now = at; come = tt }
 
 -- ---- a reset
 
-reset_fits : (m : Manager) (link : ℕ) (p : Place) (ts : List Touch)
+reset_fits : (m : Manager) (link : ℕ) (p : KeyPlace) (ts : List Touch)
     → FitsAt (m.ops p.link p.stream) (length m.begun) p ts
     → Turned (if p.link == link then Idle else m.ops p.link p.stream) (length m.begun) p ts
     (when (p.link == link) Clear)
@@ -230,16 +231,16 @@ reset_fits m link p ts at = by_test (p.link == link)
 
 -- ---- all pairs
 
-abbrev pub Fit : History → Place → Type 0
+abbrev pub Fit : History → KeyPlace → Type 0
 Fit h p = FitsAt (op_of h p.link p.stream) (draws h) p (moments h p)
 
 -- what is true at a place's own link and stream is true at those that it is on
-pub elsewhere : (p : Place) (link stream : ℕ) (P : ℕ → ℕ → Type 0) → (p.link ≡ link) × (p.stream ≡ stream)
+pub elsewhere : (p : KeyPlace) (link stream : ℕ) (P : ℕ → ℕ → Type 0) → (p.link ≡ link) × (p.stream ≡ stream)
     → P p.link p.stream → P link stream
 elsewhere p link stream P same here = subst (λ (y : ℕ). P link y) same.1 (subst (λ (x : ℕ). P x p.stream) same.0 here)
 
 -- the operation on a stream that may not exist
-due_fits : (h : History) (o : Operation) (p : Place) (has : ℕ → ℕ → Bool) (its : ℕ → ℕ → Verdict) (link stream : ℕ)
+due_fits : (h : History) (o : Operation) (p : KeyPlace) (has : ℕ → ℕ → Bool) (its : ℕ → ℕ → Verdict) (link stream : ℕ)
     (x : Verdict)
     → x ≡ (if has link stream then its link stream else v.Nothing) → Fit h p
     → Turns o (op_of h p.link p.stream) (manager h).begun p.link p.stream p (moments h p)
@@ -258,12 +259,13 @@ due_fits h o p has its link stream x is at turns =
     by_has false = at
     by_has true = turns
 
--- each touch of the next pair comes where it may, and leads to the next state
-pub next_fits : (plan : KeyPlan) (h : History) (e : Event) (x : Verdict) → CauseLaw plan ((e, x) ∷ h) → (p : Place)
+-- each touch of the next pair comes when it may, and leads to the next state
+pub next_fits : (plan : KeyPlan) (h : History) (e : Event) (x : Verdict) → KeyCauseLaw plan ((e, x) ∷ h)
+    → (p : KeyPlace)
     → Fit h p
     → Turned (op_of ((e, x) ∷ h) p.link p.stream) (draws ((e, x) ∷ h)) p (moments h p)
     (touches (manager h).ops (draws h) e x p)
-unfolding manager due
+unfolding manager key_due
 next_fits plan h (event.Establish link stream loss) x cause p at =
     due_fits h op.Establish p plan.has_stream (λ a b. establish_on plan (op_of h a b) (draws h) (ports_at h) a b loss)
     link stream x cause.0 at
@@ -284,7 +286,7 @@ next_fits plan h (event.Reset link) _ cause p at = record { now = at; come = tt 
 next_fits plan h _ x cause p at = came_fits (op_of h p.link p.stream) (manager h).begun p (moments h p) x (cause.1 p)
     (keys_owned h p) at
 
-pub fits : (plan : KeyPlan) (h : History) → CauseLaw plan h → (p : Place) → Fit h p
+pub fits : (plan : KeyPlan) (h : History) → KeyCauseLaw plan h → (p : KeyPlace) → Fit h p
 unfolding manager moments used started
 fits plan [] cause p = record {
   shape = Bare;

@@ -9,21 +9,21 @@ use Rattle.link_events.specs.declared.event.Event.TheVariants as event
 use Rattle.link_verdicts.specs.declared.verdict.Operation.TheVariants as op
 use Rattle.ide_types.specs.declared.status.StreamStatus.TheVariants as status
 use Rattle.link_verdicts.specs.declared.verdict.Verdict.TheVariants as v
-use Rattle.key_laws.specs.Places.{KeyPlan, Place, place_at, places_of}
-use Rattle.key_laws.specs.Keys.{refuses, refusal_if, is_live}
-use Rattle.key_laws.specs.Operations.{Op, Idle, Establishing, Up, Refreshing, Stopping, Work, work_of, last_of}
-use Rattle.key_laws.specs.History.{History, op_of, draws, program_at, keys_at, slot_at, status_of}
+use Rattle.key_laws.specs.Places.{KeyPlan, KeyPlace, key_place_at, places_of}
+use Rattle.key_laws.specs.Keys.{refuses, refusal_if, is_live_draw}
+use Rattle.key_laws.specs.Operations.{Op, Idle, Establishing, Up, Refreshing, Stopping, Work, work_of, last_exchange_of}
+use Rattle.key_laws.specs.History.{History, op_of, draws, program_at, keys_there, slot_at, status_of}
 
 -- what an operation reads of the ports: the status with which a place refuses a KEY_PROG of a set, and in which sets it
 -- is Live
 pub record PortView : Type 0 where
-  pub refusal : Place → Bool → Option ℕ
-  pub is_live : Place → Bool → Bool
+  pub refusal : KeyPlace → Bool → Option ℕ
+  pub is_live : KeyPlace → Bool → Bool
 
 abbrev pub ports_at : History → PortView
 ports_at h = record {
-  refusal = λ p set. refusal_if (refuses p.sends (keys_at h p) set);
-  is_live = λ p set. is_live (slot_at h p set);
+  refusal = λ p set. refusal_if (refuses p.sends (keys_there h p) set);
+  is_live = λ p set. is_live_draw (slot_at h p set);
 }
 
 -- ---- the exchanges
@@ -33,7 +33,7 @@ abbrev pub lost_in : Option Loss → ℕ → Option Lost
 lost_in None n = None
 lost_in (Some loss) n = if loss.exchange == n then Some loss.lost else None
 
-abbrev pub first_status : (Place → Option ℕ) → List Place → Option ℕ
+abbrev pub first_status : (KeyPlace → Option ℕ) → List KeyPlace → Option ℕ
 first_status status [] = None
 first_status status (p ∷ ps) = option_or (status p) (first_status status ps)
 
@@ -47,8 +47,8 @@ abbrev pub lost_at : Lost → ℕ → Verdict
 lost_at Request n = v.LostRequest n
 lost_at Reply n = v.LostReply n
 
--- the verdict of an operation that stays at the exchange, if its message is lost or the device refuses it; a loss goes
--- ahead of a refusal
+-- the verdict of an operation that stays at the exchange, if its message is lost or the device refuses it; a loss comes
+-- before a refusal
 abbrev pub cut_at : Option Lost → Option ℕ → ℕ → Option Verdict
 cut_at (Some lost) status n = Some (lost_at lost n)
 cut_at None (Some status) n = Some (v.RefusedDevice n status)
@@ -71,7 +71,7 @@ done link stream w = by_operation w.operation
 abbrev pub stays : PortView → ℕ → ℕ → Option Loss → Work → Option Verdict
 stays ports link stream loss w =
     first_from (λ n. cut_at (lost_in loss n) (refusal_at ports w.operation w.set link stream n) n) w.first
-    (last_of w.operation + 1 - w.first)
+    (last_exchange_of w.operation + 1 - w.first)
 
 abbrev pub performed : PortView → ℕ → ℕ → Option Loss → Work → Verdict
 performed ports link stream loss w = unwrap_or (stays ports link stream loss w) (done link stream w)
@@ -83,7 +83,7 @@ begun_with_draw plan next verdict = if nat_lt next plan.pool then verdict else v
 
 -- the sub-stream, PR first, whose Live key at the host's sender is in the set that is to be programmed
 abbrev pub is_live_sender : PortView → ℕ → ℕ → Bool → SubKind → Bool
-is_live_sender ports link stream set u = ports.is_live (place_at Host link stream false u) set
+is_live_sender ports link stream set u = ports.is_live (key_place_at Host link stream false u) set
 
 abbrev pub unless_open : PortView → ℕ → ℕ → Bool → Verdict → Verdict
 unless_open ports link stream set verdict =
@@ -126,15 +126,15 @@ abbrev pub stop_on : Op → ℕ → PortView → ℕ → ℕ → Option Loss →
 stop_on o next ports link stream loss = performed ports link stream loss (work_of op.Stop o next)
 
 -- the verdict that is due; of any other event it is given
-unfoldable pub due : KeyPlan → History → Event → Verdict → Verdict
-due plan h (event.Establish link stream loss) given =
+unfoldable pub key_due : KeyPlan → History → Event → Verdict → Verdict
+key_due plan h (event.Establish link stream loss) given =
     if plan.has_stream link stream then establish_on plan (op_of h link stream) (draws h) (ports_at h) link stream loss
     else v.Nothing
-due plan h (event.Refresh link stream loss) given =
+key_due plan h (event.Refresh link stream loss) given =
     if plan.has_stream link stream then refresh_on plan (op_of h link stream) (draws h) (ports_at h)
     (status_of h Host link stream) link stream loss else v.Nothing
-due plan h (event.Stop link stream loss) given =
+key_due plan h (event.Stop link stream loss) given =
     if plan.has_stream link stream then stop_on (op_of h link stream) (draws h) (ports_at h) link stream loss
     else v.Nothing
-due plan h (event.Reset link) given = if plan.has_link link then v.Reset link else v.Nothing
-due plan h _ given = given
+key_due plan h (event.Reset link) given = if plan.has_link link then v.Reset link else v.Nothing
+key_due plan h _ given = given

@@ -7,9 +7,9 @@ use Rattle.link_events.specs.declared.event.Event.TheVariants as event
 use Rattle.link_verdicts.specs.declared.verdict.Operation.TheVariants as op
 use Rattle.ide_types.specs.declared.status.StreamStatus.TheVariants as status
 use Rattle.link_verdicts.specs.declared.verdict.Verdict.TheVariants as v
-use Rattle.key_laws.specs.Places.{Place, is_host, is_same_side, is_same_sub, is_on_stream, lane, places_of}
+use Rattle.key_laws.specs.Places.{KeyPlace, is_host, is_same_side, is_same_sub, is_on_stream, lane, places_of}
 use Rattle.key_laws.specs.Keys.{Touch, Program, Go, Stop, Clear, Seal, Accept, Keys, keys, key_in, kept_in, on_in}
-use Rattle.key_laws.specs.Keys.{is_on, Slot, slot_of}
+use Rattle.key_laws.specs.Keys.{is_on, DrawSlot, slot_of}
 use Rattle.key_laws.specs.Operations.{Op, Idle, Work, Reach, Manager, Begun, work_of, reach_of, manager_after}
 
 abbrev pub History : Type 0
@@ -29,13 +29,13 @@ op_of h link stream = (manager h).ops link stream
 abbrev pub draws : History → ℕ
 draws h = length (manager h).begun
 
-abbrev pub begun_at : List Begun → ℕ → Option Begun
-begun_at [] j = None
-begun_at (b ∷ bs) j = if length bs == j then Some b else begun_at bs j
+abbrev pub begun_under : List Begun → ℕ → Option Begun
+begun_under [] j = None
+begun_under (b ∷ bs) j = if length bs == j then Some b else begun_under bs j
 
 -- the operation that began with a draw
 abbrev pub operation_of : History → ℕ → Option Begun
-operation_of h j = begun_at (manager h).begun j
+operation_of h j = begun_under (manager h).begun j
 
 -- whether an establish of the stream began
 abbrev pub begins_keyed : Op → ℕ → Verdict → Bool
@@ -50,21 +50,21 @@ base (_ ∷ h) link stream = base h link stream
 
 -- ---- touches
 
--- the exchange that programs the place, and the one that makes its key On; the host's port is programmed ahead of all
--- exchanges, and gets its GO where the device's third receiver acknowledged its own
-abbrev pub program_at : Operation → Place → ℕ
+-- the exchange that programs the place, and the one that makes its key On; the host's port is programmed before all
+-- exchanges, and gets its GO when the device's third receiver has acknowledged its own
+abbrev pub program_at : Operation → KeyPlace → ℕ
 program_at op.Establish p = if is_host p.side then 0 else 2 + lane p
 program_at _ p = if is_host p.side then 0 else 1 + lane p
 
-abbrev pub go_at : Operation → Place → ℕ
+abbrev pub go_at : Operation → KeyPlace → ℕ
 go_at op.Establish p = if is_host p.side then 10 else 8 + lane p
 go_at _ p = if is_host p.side then 9 else 7 + lane p
 
 -- from which exchange on, and below which, an event touches the place
-abbrev pub from_at : Work → Place → ℕ
+abbrev pub from_at : Work → KeyPlace → ℕ
 from_at w p = if is_host p.side && w.begins then 0 else w.first
 
-abbrev pub below_at : Reach → Place → ℕ
+abbrev pub below_at : Reach → KeyPlace → ℕ
 below_at r p = if is_host p.side then r.acknowledged else r.carried
 
 abbrev pub is_within : ℕ → ℕ → ℕ → Bool
@@ -75,19 +75,19 @@ when true t = t ∷ []
 when false t = []
 
 -- of an establish and of a refresh
-abbrev pub keyed : Work → Reach → Place → List Touch
+abbrev pub keyed : Work → Reach → KeyPlace → List Touch
 keyed w r p =
     when (is_within (from_at w p) (program_at w.operation p) (below_at r p)) (Program w.set w.draw)
     ++ when (is_within (from_at w p) (go_at w.operation p) (below_at r p)) (Go w.set w.draw)
 
 -- of a stop: all keys of the host's port go at its beginning, the device's set by set
-abbrev pub stopped : Work → Reach → Place → List Touch
+abbrev pub stopped : Work → Reach → KeyPlace → List Touch
 stopped w r p =
     if is_host p.side then when w.begins Clear
     else when (is_within w.first (1 + lane p) r.carried) (Stop false)
     ++ when (is_within w.first (7 + lane p) r.carried) (Stop true)
 
-abbrev pub worked : Work → Option Reach → Place → List Touch
+abbrev pub worked : Work → Option Reach → KeyPlace → List Touch
 worked w None p = []
 worked w (Some r) p = by_operation w.operation
   where
@@ -100,26 +100,26 @@ on_it true ts = ts
 on_it false ts = []
 
 -- whether a packet was sealed here
-abbrev pub is_sender : Place → SealedPacket → Bool
+abbrev pub is_sender : KeyPlace → SealedPacket → Bool
 is_sender p d = p.sends && is_same_side p.side d.port.side && is_on_stream p d.port.link d.stream
     && is_same_sub p.sub d.sub
 
-abbrev pub sealed_here : Place → List SealedPacket → List Touch
+abbrev pub sealed_here : KeyPlace → List SealedPacket → List Touch
 sealed_here p [] = []
 sealed_here p (d ∷ ds) = when (is_sender p d) (Seal d.draw d.m) ++ sealed_here p ds
 
-abbrev pub came : Place → Verdict → List Touch
+abbrev pub came : KeyPlace → Verdict → List Touch
 came p (v.Sealed packets) = sealed_here p packets
 came p (v.Accepted port unit effects) = when (not p.sends && is_same_side p.side port.side && is_on_stream p port.link
     unit.stream && is_same_sub p.sub unit.sub) (Accept unit.draw)
 came p _ = []
 
-abbrev pub operation_touches : Op → ℕ → Operation → ℕ → ℕ → Verdict → Place → List Touch
+abbrev pub operation_touches : Op → ℕ → Operation → ℕ → ℕ → Verdict → KeyPlace → List Touch
 operation_touches q next o link stream verdict p = on_it (is_on_stream p link stream)
     (worked (work_of o q next) (reach_of o verdict) p)
 
--- what an event does to a place, in order, where the streams' states and the number of draws are these
-abbrev pub touches : (ℕ → ℕ → Op) → ℕ → Event → Verdict → Place → List Touch
+-- what an event does to a place, in order, if the streams' states and the number of draws are these
+abbrev pub touches : (ℕ → ℕ → Op) → ℕ → Event → Verdict → KeyPlace → List Touch
 touches ops next (event.Establish link stream loss) verdict p = operation_touches (ops link stream) next op.Establish
     link stream verdict p
 touches ops next (event.Refresh link stream loss) verdict p = operation_touches (ops link stream) next op.Refresh link
@@ -130,53 +130,53 @@ touches ops next (event.Reset link) (v.Reset l) p = when (p.link == link) Clear
 touches ops next (event.Reset link) _ p = []
 touches ops next _ verdict p = came p verdict
 
--- these touches, in order, behind those before
-abbrev pub behind : List Touch → List Touch → List Touch
-behind ts [] = ts
-behind ts (t ∷ more) = behind (t ∷ ts) more
+-- these touches, in order, after those before
+abbrev pub touches_after : List Touch → List Touch → List Touch
+touches_after ts [] = ts
+touches_after ts (t ∷ more) = touches_after (t ∷ ts) more
 
 -- all that ever touched a place, the newest first
-unfoldable pub moments : History → Place → List Touch
+unfoldable pub moments : History → KeyPlace → List Touch
 moments [] p = []
-moments ((e, verdict) ∷ h) p = behind (moments h p) (touches (manager h).ops (draws h) e verdict p)
+moments ((e, verdict) ∷ h) p = touches_after (moments h p) (touches (manager h).ops (draws h) e verdict p)
 
 -- ---- keys
 
-abbrev pub keys_at : History → Place → Keys
-keys_at h p = keys p.sends (moments h p)
+abbrev pub keys_there : History → KeyPlace → Keys
+keys_there h p = keys p.sends (moments h p)
 
 -- the draw that is kept in a key set, and the draw that is On there
-abbrev pub kept_draw : History → Place → Bool → Option ℕ
-kept_draw h p set = kept_in (key_in (keys_at h p) set)
+abbrev pub kept_draw : History → KeyPlace → Bool → Option ℕ
+kept_draw h p set = kept_in (key_in (keys_there h p) set)
 
-abbrev pub on_draw : History → Place → Bool → Option ℕ
-on_draw h p set = on_in (key_in (keys_at h p) set)
+abbrev pub draw_on_at : History → KeyPlace → Bool → Option ℕ
+draw_on_at h p set = on_in (key_in (keys_there h p) set)
 
-abbrev pub slot_at : History → Place → Bool → Slot
-slot_at h p set = slot_of p.sends (keys_at h p) set
+abbrev pub slot_at : History → KeyPlace → Bool → DrawSlot
+slot_at h p set = slot_of p.sends (keys_there h p) set
 
 -- ---- the stream at a port
 
 -- whether a place has a Live key
-abbrev pub is_keyed : Keys → Bool
-is_keyed ks = is_on ks.first || is_on ks.second
+abbrev pub keeps_live : Keys → Bool
+keeps_live ks = is_on ks.first || is_on ks.second
 
-abbrev pub has_key : (Place → Keys) → Side → ℕ → ℕ → Bool
-has_key ks side link stream = list_any (λ p. is_keyed (ks p)) (places_of side link stream)
+abbrev pub has_key : (KeyPlace → Keys) → Side → ℕ → ℕ → Bool
+has_key ks side link stream = list_any (λ p. keeps_live (ks p)) (places_of side link stream)
 
-abbrev pub has_all : (Place → Keys) → Side → ℕ → ℕ → Bool
-has_all ks side link stream = list_all (λ p. is_keyed (ks p)) (places_of side link stream)
+abbrev pub has_all : (KeyPlace → Keys) → Side → ℕ → ℕ → Bool
+has_all ks side link stream = list_all (λ p. keeps_live (ks p)) (places_of side link stream)
 
-abbrev pub fails_at : Side → ℕ → ℕ → Verdict → Bool
-fails_at side link stream (v.Fail port s sub cause) = is_same_side port.side side && (port.link == link)
+abbrev pub fails_there : Side → ℕ → ℕ → Verdict → Bool
+fails_there side link stream (v.Fail port s sub cause) = is_same_side port.side side && (port.link == link)
     && (s == stream)
-fails_at side link stream _ = false
+fails_there side link stream _ = false
 
 -- whether an arrival failed at the port, and since then the port always had a Live key on the stream
-unfoldable pub failed : History → Side → ℕ → ℕ → Bool
-failed [] side link stream = false
-failed ((e, verdict) ∷ h) side link stream =
-    (fails_at side link stream verdict || failed h side link stream) && has_key (keys_at ((e, verdict) ∷ h))
+unfoldable pub failed_there : History → Side → ℕ → ℕ → Bool
+failed_there [] side link stream = false
+failed_there ((e, verdict) ∷ h) side link stream =
+    (fails_there side link stream verdict || failed_there h side link stream) && has_key (keys_there ((e, verdict) ∷ h))
     side link stream
 
 abbrev pub status_by : Bool → Bool → Bool → StreamStatus
@@ -186,5 +186,5 @@ status_by false true false = status.Partial
 status_by false false false = status.Idle
 
 abbrev pub status_of : History → Side → ℕ → ℕ → StreamStatus
-status_of h side link stream = status_by (failed h side link stream) (has_key (keys_at h) side link stream)
-    (has_all (keys_at h) side link stream)
+status_of h side link stream = status_by (failed_there h side link stream) (has_key (keys_there h) side link stream)
+    (has_all (keys_there h) side link stream)

@@ -6,18 +6,19 @@ use Rattle.link_events.specs.declared.event.Event.TheVariants as event
 use Rattle.link_verdicts.specs.declared.verdict.Operation.TheVariants as op
 use Rattle.ide_types.specs.declared.status.StreamStatus.TheVariants as status
 use Rattle.link_verdicts.specs.declared.verdict.Verdict.TheVariants as v
-use Rattle.key_laws.specs.Places.{KeyPlan, Place}
-use Rattle.key_laws.specs.Keys.{Touch, Go, Seal, Accept, Keys, keys, key_in, kept_in, on_in, live_draw}
+use Rattle.key_laws.specs.Places.{KeyPlan, KeyPlace}
+use Rattle.key_laws.specs.Keys.{Touch, Go, Seal, Accept, Keys, keys, key_in, kept_in, on_in, sealing_draw}
 use Rattle.key_laws.specs.Operations.{Idle, Establishing, Up, Refreshing, work_of}
-use Rattle.key_laws.specs.History.{History, op_of, draws, moments, came, kept_draw, on_draw, status_of, go_at, manager}
+use Rattle.key_laws.specs.History.{History, op_of, draws, moments, came, kept_draw, draw_on_at, status_of, go_at}
+use Rattle.key_laws.specs.History.{manager}
 use Rattle.key_laws.specs.History.{touches}
-use Rattle.key_laws.specs.Due.{due}
+use Rattle.key_laws.specs.Due.{key_due}
 
 -- ---- the cause of each verdict
 
 -- A packet is sealed under the Live key of its sender, a unit accepted under a key that is On at its receiver.
 abbrev pub UseFits : Bool → List Touch → Touch → Type 0
-UseFits sends ts (Seal j m) = live_draw (keys sends ts) ≡ Some j
+UseFits sends ts (Seal j m) = sealing_draw (keys sends ts) ≡ Some j
 UseFits sends ts (Accept j) = (set : Bool) × (on_in (key_in (keys sends ts) set) ≡ Some j)
 UseFits sends ts _ = Unit {0}
 
@@ -31,12 +32,12 @@ GivenFits h (event.Establish link stream loss) verdict = Unit {0}
 GivenFits h (event.Refresh link stream loss) verdict = Unit {0}
 GivenFits h (event.Stop link stream loss) verdict = Unit {0}
 GivenFits h (event.Reset link) verdict = Unit {0}
-GivenFits h _ verdict = (p : Place) → UsesFit p.sends (moments h p) (came p verdict)
+GivenFits h _ verdict = (p : KeyPlace) → UsesFit p.sends (moments h p) (came p verdict)
 
 -- Each verdict is the one that is due after the pairs before it.
-abbrev pub CauseLaw : KeyPlan → History → Type 0
-CauseLaw plan [] = Unit {0}
-CauseLaw plan ((e, verdict) ∷ h) = (verdict ≡ due plan h e verdict) × GivenFits h e verdict × CauseLaw plan h
+abbrev pub KeyCauseLaw : KeyPlan → History → Type 0
+KeyCauseLaw plan [] = Unit {0}
+KeyCauseLaw plan ((e, verdict) ∷ h) = (verdict ≡ key_due plan h e verdict) × GivenFits h e verdict × KeyCauseLaw plan h
 
 -- ---- draws
 
@@ -47,7 +48,7 @@ uses (Seal j m ∷ ts) = j ∷ uses ts
 uses (Accept j ∷ ts) = j ∷ uses ts
 uses (_ ∷ ts) = uses ts
 
-abbrev pub uses_at : History → Place → List ℕ
+abbrev pub uses_at : History → KeyPlace → List ℕ
 uses_at h p = uses (moments h p)
 
 abbrev pub NoneAbove : ℕ → List ℕ → Type 0
@@ -60,34 +61,34 @@ NeverFalls [] = Unit {0}
 NeverFalls (j ∷ []) = Unit {0}
 NeverFalls (j ∷ i ∷ js) = (i ≤ j) × NeverFalls (i ∷ js)
 
-pub record KeyFacts (h : History) : Type 0 where
+pub record KeyPlaceFacts (h : History) : Type 0 where
   -- wherever a draw is On it is in one set, and on one stream
-  pub one_set : (p q : Place) (k l : Bool) (j : ℕ) → on_draw h p k ≡ Some j → on_draw h q l ≡ Some j → k ≡ l
-  pub one_stream : (p q : Place) (k l : Bool) (j : ℕ) → on_draw h p k ≡ Some j → on_draw h q l ≡ Some j
+  pub one_set : (p q : KeyPlace) (k l : Bool) (j : ℕ) → draw_on_at h p k ≡ Some j → draw_on_at h q l ≡ Some j → k ≡ l
+  pub one_stream : (p q : KeyPlace) (k l : Bool) (j : ℕ) → draw_on_at h p k ≡ Some j → draw_on_at h q l ≡ Some j
       → (p.link ≡ q.link) × (p.stream ≡ q.stream)
   -- a draw that is On is at least each draw that was used there
-  pub none_above : (p : Place) (k : Bool) (j : ℕ) → on_draw h p k ≡ Some j → NoneAbove j (uses_at h p)
+  pub none_above : (p : KeyPlace) (k : Bool) (j : ℕ) → draw_on_at h p k ≡ Some j → NoneAbove j (uses_at h p)
   -- draws of sealed packets and of accepted units never fall
-  pub never_fall : (p : Place) → NeverFalls (uses_at h p)
+  pub never_fall : (p : KeyPlace) → NeverFalls (uses_at h p)
 
 -- ---- the state of a stream
 
--- what the manager's state of a stream says of its places; a GO is carried at a device's place, and acknowledged where
--- it makes the host's port go on
+-- what the manager's state of a stream says of its places; a GO counts at a device's place once it is carried, and at
+-- the host's port once the one that makes the port go on is acknowledged
 pub record StreamFacts (h : History) : Type 0 where
-  pub idle : (p : Place) → op_of h p.link p.stream ≡ Idle → (set : Bool) → kept_draw h p set ≡ None
-  pub establishing : (p : Place) (j n : ℕ) → op_of h p.link p.stream ≡ Establishing j n
-      → (go_at op.Establish p < n → on_draw h p false ≡ Some j) × ((set : Bool) (i : ℕ)
+  pub idle : (p : KeyPlace) → op_of h p.link p.stream ≡ Idle → (set : Bool) → kept_draw h p set ≡ None
+  pub establishing : (p : KeyPlace) (j n : ℕ) → op_of h p.link p.stream ≡ Establishing j n
+      → (go_at op.Establish p < n → draw_on_at h p false ≡ Some j) × ((set : Bool) (i : ℕ)
       → kept_draw h p set ≡ Some i → i ≡ j)
-  pub up : (p : Place) (set : Bool) (j : ℕ) → op_of h p.link p.stream ≡ Up set j
-      → (on_draw h p set ≡ Some j) × ((other : Bool) (i : ℕ) → on_draw h p other ≡ Some i → i ≢ j → i < j)
-  pub refreshing : (p : Place) (set : Bool) (j n : ℕ) → op_of h p.link p.stream ≡ Refreshing set j n
-      → go_at op.Refresh p < n → on_draw h p set ≡ Some j
+  pub up : (p : KeyPlace) (set : Bool) (j : ℕ) → op_of h p.link p.stream ≡ Up set j
+      → (draw_on_at h p set ≡ Some j) × ((other : Bool) (i : ℕ) → draw_on_at h p other ≡ Some i → i ≢ j → i < j)
+  pub refreshing : (p : KeyPlace) (set : Bool) (j n : ℕ) → op_of h p.link p.stream ≡ Refreshing set j n
+      → go_at op.Refresh p < n → draw_on_at h p set ≡ Some j
   -- a draw is kept in one slot of a place at most, and on one stream
-  pub one_slot : (p q : Place) (k l : Bool) (j : ℕ) → kept_draw h p k ≡ Some j → kept_draw h q l ≡ Some j → (k ≡ l)
+  pub one_slot : (p q : KeyPlace) (k l : Bool) (j : ℕ) → kept_draw h p k ≡ Some j → kept_draw h q l ≡ Some j → (k ≡ l)
       × (p.link ≡ q.link) × (p.stream ≡ q.stream)
 
--- Before each GO that comes to a place its draw is kept there.
+-- Before each GO that reaches a place its draw is kept there.
 abbrev pub GoesKept : Bool → List Touch → List Touch → Type 0
 GoesKept sends ts [] = Unit {0}
 GoesKept sends ts (Go set j ∷ more) = (kept_in (key_in (keys sends ts) set) ≡ Some j)
@@ -97,7 +98,7 @@ GoesKept sends ts (t ∷ more) = GoesKept sends (t ∷ ts) more
 abbrev pub GosFindKeys : History → Type 0
 GosFindKeys [] = Unit {0}
 GosFindKeys ((e, verdict) ∷ h) =
-    ((p : Place) → GoesKept p.sends (moments h p) (touches (manager h).ops (draws h) e verdict p)) × GosFindKeys h
+    ((p : KeyPlace) → GoesKept p.sends (moments h p) (touches (manager h).ops (draws h) e verdict p)) × GosFindKeys h
 
 -- whether the GO of a draw ever came
 abbrev pub went : List Touch → ℕ → Bool
@@ -137,10 +138,10 @@ StaysGone sends (t ∷ ts) =
 -- A key never comes back.
 pub record NeverAgain (h : History) : Type 0 where
   -- a draw that was On at a place, and then kept in neither of its sets, is kept in neither at any later moment
-  pub gone : (p : Place) → StaysGone p.sends (moments h p)
+  pub gone : (p : KeyPlace) → StaysGone p.sends (moments h p)
   -- once its GO came, a draw is kept at a place only while it is On there
-  pub on : (p : Place) (set : Bool) (j : ℕ) → kept_draw h p set ≡ Some j → went (moments h p) j ≡ true
-      → on_draw h p set ≡ Some j
+  pub on : (p : KeyPlace) (set : Bool) (j : ℕ) → kept_draw h p set ≡ Some j → went (moments h p) j ≡ true
+      → draw_on_at h p set ≡ Some j
 
 -- ---- ends of operations
 
@@ -149,19 +150,19 @@ pub record NeverAgain (h : History) : Type 0 where
 abbrev pub SettledAt : History → Event → Verdict → Type 0
 SettledAt h (event.Establish link stream loss) (v.Established l t j) =
     (j ≡ (work_of op.Establish (op_of h link stream) (draws h)).draw)
-    × ((p : Place) → p.link ≡ link → p.stream ≡ stream
-    → (on_draw ((event.Establish link stream loss, v.Established l t j) ∷ h) p false ≡ Some j)
+    × ((p : KeyPlace) → p.link ≡ link → p.stream ≡ stream
+    → (draw_on_at ((event.Establish link stream loss, v.Established l t j) ∷ h) p false ≡ Some j)
     × ((set : Bool) (i : ℕ) → kept_draw ((event.Establish link stream loss, v.Established l t j) ∷ h) p set ≡ Some i
     → i ≡ j))
 SettledAt h (event.Refresh link stream loss) (v.Refreshed l t j) =
     (j ≡ (work_of op.Refresh (op_of h link stream) (draws h)).draw)
-    × ((p : Place) → p.link ≡ link → p.stream ≡ stream
-    → (on_draw ((event.Refresh link stream loss, v.Refreshed l t j) ∷ h) p (work_of op.Refresh (op_of h link stream)
+    × ((p : KeyPlace) → p.link ≡ link → p.stream ≡ stream
+    → (draw_on_at ((event.Refresh link stream loss, v.Refreshed l t j) ∷ h) p (work_of op.Refresh (op_of h link stream)
     (draws h)).set ≡ Some j)
-    × ((set : Bool) (i : ℕ) → on_draw ((event.Refresh link stream loss, v.Refreshed l t j) ∷ h) p set ≡ Some i
+    × ((set : Bool) (i : ℕ) → draw_on_at ((event.Refresh link stream loss, v.Refreshed l t j) ∷ h) p set ≡ Some i
     → i ≢ j → i < j))
 SettledAt h (event.Stop link stream loss) (v.Stopped l t) =
-    (p : Place) → p.link ≡ link → p.stream ≡ stream → (set : Bool)
+    (p : KeyPlace) → p.link ≡ link → p.stream ≡ stream → (set : Bool)
     → kept_draw ((event.Stop link stream loss, v.Stopped l t) ∷ h) p set ≡ None
 SettledAt h e verdict = Unit {0}
 

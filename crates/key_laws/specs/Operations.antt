@@ -15,7 +15,7 @@ pub data Op : Type 0 where
   Refreshing : (set : Bool) (draw next : ℕ) → Op
   Stopping : (next : ℕ) → Op
 
--- an operation at an event: its key set, its draw, the first exchange that the event comes to, and whether it begins
+-- an operation at an event: its key set, its draw, the first exchange that the event reaches, and whether it begins
 pub record Work : Type 0 where
   pub operation : Operation
   pub set : Bool
@@ -37,10 +37,10 @@ work_of op.Stop (Stopping n) next = work op.Stop false 0 n false
 work_of op.Stop _ next = work op.Stop false 0 1 true
 
 -- the number of its last exchange
-abbrev pub last_of : Operation → ℕ
-last_of op.Establish = 13
-last_of op.Refresh = 12
-last_of op.Stop = 12
+abbrev pub last_exchange_of : Operation → ℕ
+last_exchange_of op.Establish = 13
+last_exchange_of op.Refresh = 12
+last_exchange_of op.Stop = 12
 
 -- how far an event came: each exchange below the one was carried to the device, each below the other acknowledged
 pub record Reach : Type 0 where
@@ -50,11 +50,11 @@ pub record Reach : Type 0 where
 abbrev pub reach : ℕ → ℕ → Reach
 reach carried acknowledged = record { carried = carried; acknowledged = acknowledged }
 
--- by the verdict; nothing where the operation was refused
+-- by the verdict; nothing if the operation was refused
 abbrev pub reach_of : Operation → Verdict → Option Reach
-reach_of o (v.Established l s j) = Some (reach (last_of o + 1) (last_of o + 1))
-reach_of o (v.Refreshed l s j) = Some (reach (last_of o + 1) (last_of o + 1))
-reach_of o (v.Stopped l s) = Some (reach (last_of o + 1) (last_of o + 1))
+reach_of o (v.Established l s j) = Some (reach (last_exchange_of o + 1) (last_exchange_of o + 1))
+reach_of o (v.Refreshed l s j) = Some (reach (last_exchange_of o + 1) (last_exchange_of o + 1))
+reach_of o (v.Stopped l s) = Some (reach (last_exchange_of o + 1) (last_exchange_of o + 1))
 reach_of o (v.LostRequest n) = Some (reach n n)
 reach_of o (v.LostReply n) = Some (reach (n + 1) n)
 reach_of o (v.RefusedDevice n code) = Some (reach (n + 1) n)
@@ -77,7 +77,7 @@ op_standing w n = standing w.operation
     standing op.Stop = Stopping n
 
 abbrev pub op_after : Work → Reach → Op
-op_after w r = if nat_lt (last_of w.operation) r.acknowledged then op_ended w else op_standing w r.acknowledged
+op_after w r = if nat_lt (last_exchange_of w.operation) r.acknowledged then op_ended w else op_standing w r.acknowledged
 
 -- an operation that began with a draw
 pub record Begun : Type 0 where

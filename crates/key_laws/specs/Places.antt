@@ -10,7 +10,7 @@ pub record KeyPlan : Type 0 where
   pub has_link : ℕ → Bool
   pub has_stream : ℕ → ℕ → Bool
 
-pub record Place : Type 0 where
+pub record KeyPlace : Type 0 where
   pub side : Side
   pub link : ℕ
   pub stream : ℕ
@@ -24,19 +24,19 @@ is_host Device = false
 abbrev pub is_same_side : Side → Side → Bool
 is_same_side a b = sent_direction a == sent_direction b
 
-abbrev pub is_on_stream : Place → ℕ → ℕ → Bool
+abbrev pub is_on_stream : KeyPlace → ℕ → ℕ → Bool
 is_on_stream p link stream = (p.link == link) && (p.stream == stream)
 
 -- whether its packets go from the device to the host
-abbrev pub is_upward : Place → Bool
+abbrev pub is_upward : KeyPlace → Bool
 is_upward p = if is_host p.side then not p.sends else p.sends
 
 -- its number among the six of its stream: the device's receivers PR, NPR, CPL, then its senders
-abbrev pub lane : Place → ℕ
+abbrev pub lane : KeyPlace → ℕ
 lane p = (if is_upward p then 3 else 0) + sub_bits p.sub
 
-abbrev pub place_at : Side → ℕ → ℕ → Bool → SubKind → Place
-place_at side link stream upward u = record {
+abbrev pub key_place_at : Side → ℕ → ℕ → Bool → SubKind → KeyPlace
+key_place_at side link stream upward u = record {
   side = side;
   link = link;
   stream = stream;
@@ -45,7 +45,9 @@ place_at side link stream upward u = record {
 }
 
 -- the six places of a stream at a port, in order
-abbrev pub places_of : Side → ℕ → ℕ → List Place
+abbrev pub places_of : Side → ℕ → ℕ → List KeyPlace
 places_of side link stream =
-    place_at side link stream false Pr ∷ place_at side link stream false Npr ∷ place_at side link stream false Cpl
-    ∷ place_at side link stream true Pr ∷ place_at side link stream true Npr ∷ place_at side link stream true Cpl ∷ []
+    key_place_at side link stream false Pr ∷ key_place_at side link stream false Npr
+    ∷ key_place_at side link stream false Cpl
+    ∷ key_place_at side link stream true Pr ∷ key_place_at side link stream true Npr
+    ∷ key_place_at side link stream true Cpl ∷ []

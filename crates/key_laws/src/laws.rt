@@ -2,10 +2,10 @@
 
 ghost use Rattle.key_laws.specs.Places.{KeyPlan};
 ghost use Rattle.key_laws.specs.History.{History};
-ghost use Rattle.key_laws.specs.Laws.{CauseLaw, KeyFacts};
+ghost use Rattle.key_laws.specs.Laws.{KeyCauseLaw, KeyPlaceFacts};
 
 /// A draw that is On is so in one key set and on one stream, and is at least each draw that was used there;
 /// the draws of sealed packets and of accepted units never fall.
 pub fn key_facts()
-    ensures { (plan : KeyPlan) (h : History) → CauseLaw plan h → KeyFacts h }
+    ensures { (plan : KeyPlan) (h : History) → KeyCauseLaw plan h → KeyPlaceFacts h }
 {}

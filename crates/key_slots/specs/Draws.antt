@@ -9,8 +9,8 @@ pub record Pool : Type 0 where
   pub draws : ℕ
 
 -- the place of a direction (0 from host to device, 1 from device to host) and a sub-stream among the six of a draw
-abbrev pub key_place : ℕ → ℕ → ℕ
-key_place direction sub = 3 * direction + sub
+abbrev pub place_among_six : ℕ → ℕ → ℕ
+place_among_six direction sub = 3 * direction + sub
 
 -- the key of a draw at a place: number 6 * draw + place of the pool
 abbrev pub pool_key : List (List ℕ) → ℕ → ℕ → List ℕ
@@ -26,7 +26,7 @@ six_keys keys draw =
 abbrev pub draws_in : List (List ℕ) → ℕ
 draws_in keys = length keys / 6
 
--- a pool of which nothing was drawn
+-- a pool from which nothing was drawn
 abbrev pub new_pool : List (List ℕ) → Pool
 new_pool keys = record { keys = keys; draws = 0 }
 

@@ -2,14 +2,17 @@ pub mod Drawn
 pub mod Draws
 pub mod Slots
 -- what clauses and crates above cite
+pub use Rattle.ide_types.specs.declared.key_set.KeySet.{KeySet}
+pub use Rattle.ide_types.specs.{is_one, key_set, set_number}
 pub use Rattle.key_slots.specs.declared.pool.PoolEmpty.{PoolEmpty}
 pub use Rattle.key_slots.specs.declared.slot.Slot.{Slot}
 pub use Rattle.key_slots.specs.declared.slot.SlotState.{SlotState}
 pub use Rattle.key_slots.specs.declared.slots.OnlyLive.{OnlyLive}
 pub use Rattle.key_slots.specs.Drawn.{DrawnKey}
-pub use Rattle.key_slots.specs.Draws.{Pool, DrawnSix, key_place, pool_key, six_keys, draws_in, new_pool, draw_answer}
+pub use Rattle.key_slots.specs.Draws.{Pool, DrawnSix, place_among_six, pool_key, six_keys, draws_in, new_pool}
+pub use Rattle.key_slots.specs.Draws.{draw_answer}
 pub use Rattle.key_slots.specs.Draws.{pool_after, unspent}
-pub use Rattle.key_slots.specs.Slots.{SlotPair, is_one, slot_in, with_both, empty_pair, state_of, held_key, live_held}
+pub use Rattle.key_slots.specs.Slots.{SlotPair, slot_in, with_both, empty_pair, slot_state, held_key, live_held}
 pub use Rattle.key_slots.specs.Slots.{is_empty, live_draw, shown_key, is_newer_than, live_of, live_set, is_last_live}
 pub use Rattle.key_slots.specs.Slots.{is_only_live, program_answer, programmed, after_go, armed, woken, halted}
-pub use Rattle.key_slots.specs.Slots.{after_end, ended, is_older, accepted, is_live, is_armed, may_stand, is_sound}
+pub use Rattle.key_slots.specs.Slots.{after_end, ended_pair, is_older, accepted, is_live, is_armed, may_stand, is_sound}

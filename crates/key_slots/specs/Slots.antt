@@ -4,6 +4,8 @@ use Rattle.std.specs.Prelude.{ℕ, ◌==◌, nat_lt, Bool, true, false, not, ◌
 use Rattle.std.specs.Prelude.{None, Result, Ok, Err}
 use Rattle.std.specs.Option.{option_map}
 use Rattle.std.specs.Borrow.{Bor}
+use Rattle.ide_types.specs.declared.key_set.KeySet.{KeySet}
+use Rattle.ide_types.specs.{key_set}
 use Rattle.key_slots.specs.Drawn.{DrawnKey}
 use Rattle.key_slots.specs.declared.slot.Slot.{Slot}
 use Rattle.key_slots.specs.declared.slot.Slot.TheVariants.{Empty, Programmed, Armed, Live}
@@ -16,10 +18,6 @@ pub record SlotPair : Type 0 where
   pub sender : Bool
   pub zero : Slot
   pub one : Slot
-
--- key set 1
-abbrev pub is_one : ℕ → Bool
-is_one set = set == 1
 
 abbrev pub slot_in : SlotPair → Bool → Slot
 slot_in pair false = pair.zero
@@ -35,11 +33,11 @@ empty_pair sender = record { sender = sender; zero = Empty; one = Empty }
 
 -- ---- one slot
 
-abbrev pub state_of : Slot → SlotState
-state_of Empty = state.Empty
-state_of (Programmed held) = state.Programmed
-state_of (Armed held) = state.Armed
-state_of (Live held) = state.Live
+abbrev pub slot_state : Slot → SlotState
+slot_state Empty = state.Empty
+slot_state (Programmed held) = state.Programmed
+slot_state (Armed held) = state.Armed
+slot_state (Live held) = state.Live
 
 -- its key, with the draw
 abbrev pub held_key : Slot → Option DrawnKey
@@ -75,13 +73,12 @@ is_newer_than set draw None = false
 is_newer_than set draw (Some other) = nat_lt draw other || ((draw == other) && not set)
 
 -- the Live set, of two the newer
-abbrev pub live_of : Option ℕ → Option ℕ → Option ℕ
+abbrev pub live_of : Option ℕ → Option ℕ → Option KeySet
 live_of None None = None
-live_of None (Some b) = Some 1
-live_of (Some a) None = Some 0
-live_of (Some a) (Some b) = if is_newer_than false a (Some b) then Some 1 else Some 0
+live_of None (Some b) = Some (key_set true)
+live_of (Some a) other = Some (key_set (is_newer_than false a other))
 
-abbrev pub live_set : SlotPair → Option ℕ
+abbrev pub live_set : SlotPair → Option KeySet
 live_set pair = live_of (live_draw pair.zero) (live_draw pair.one)
 
 -- ---- KEY_PROG
@@ -137,8 +134,8 @@ after_end zero (Armed held) = (Empty, Live held)
 after_end (Armed held) one = (Live held, Empty)
 after_end zero one = (zero, one)
 
-abbrev pub ended : SlotPair → SlotPair
-ended pair = with_both pair.sender false (after_end pair.zero pair.one)
+abbrev pub ended_pair : SlotPair → SlotPair
+ended_pair pair = with_both pair.sender false (after_end pair.zero pair.one)
 
 -- ---- a unit was accepted under a Live slot of a receiver
 

@@ -9,8 +9,6 @@ mod key;
 mod pool;
 mod slot;
 mod slots;
-#[cfg(test)]
-mod tests;
 
 pub use key::Key;
 pub use pool::{HostSix, KeyPool, KeySix, MAX_KEYS, PoolEmpty, WireSix};

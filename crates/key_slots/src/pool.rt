@@ -13,7 +13,7 @@ use std::marker::Model;
 /// The most keys of a pool: six for each of 1,024 draws (this profile).
 pub const MAX_KEYS: usize = 6_144;
 
-/// All draws were made; how many they are.
+/// All draws were made; `draws` is how many they are (this profile).
 #[derive(Clone, Copy, Debug, PartialEq, Eq)]
 pub struct PoolEmpty {
     pub draws: u32,
@@ -38,7 +38,7 @@ impl Model for KeyPool {
     ghost invariant = { λ p. (length p.keys.items ≤ 6144) × (p.draws ≤ draws_in p.keys.items) };
 }
 
-/// The six keys of one draw. It is neither `Copy` nor `Clone`: `split` consumes it, so it serves one operation.
+/// The six keys of one draw, for one operation (this profile). It is neither `Copy` nor `Clone`: `split` consumes it.
 #[derive(Drop)]
 pub struct KeySix {
     draw: u32,
@@ -53,7 +53,7 @@ impl Model for KeySix {
     ghost view = { λ s. record { draw = s.draw; keys = s.keys } };
 }
 
-/// The six keys of a draw for the host's own port.
+/// The six keys of a draw for the host's own port (this profile).
 #[derive(Drop)]
 pub struct HostSix {
     keys: [Key; 6],
@@ -67,7 +67,7 @@ impl Model for HostSix {
     ghost view = { λ s. s.keys };
 }
 
-/// The six keys of a draw on their way to the device, each kept until it is spent.
+/// The six keys of a draw on their way to the device, each kept until it is spent (this profile).
 #[derive(Drop)]
 pub struct WireSix {
     keys: [Option<Key>; 6],
@@ -82,7 +82,7 @@ impl Model for WireSix {
 }
 
 impl KeyPool {
-    /// A pool of these keys, of which none was drawn.
+    /// A pool of these keys, none of them drawn.
     pub fn make(alloc: Global, keys: &[[u8; 32]]) -> Result<KeyPool, Memory>
         requires { length keys.now ≤ MAX_KEYS }
         ensures { IfOk result (λ pool. pool ≡ new_pool keys.now) }

@@ -2,7 +2,7 @@
 
 ghost use Rattle.std.specs.Prelude.{◌≡◌};
 ghost use Rattle.std.specs.Option.{option_copied};
-ghost use Rattle.key_slots.specs.Slots.{state_of, held_key, live_draw, woken, is_empty};
+ghost use Rattle.key_slots.specs.Slots.{slot_state, held_key, live_draw, woken, is_empty};
 
 use crate::Key;
 use gcm_seal::Gcm;
@@ -91,7 +91,7 @@ impl Slot {
 
     /// Its state.
     pub fn state(&self) -> SlotState
-        ensures { result ≡ state_of self.now }
+        ensures { result ≡ slot_state self.now }
     {
         match self {
             Slot::Empty => SlotState::Empty,

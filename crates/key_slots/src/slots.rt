@@ -1,27 +1,29 @@
 //! The two slots of one sub-stream in one direction.
 
-ghost use Rattle.std.specs.Prelude.{◌≡◌, ◌<◌, true, false, not, is_ok, if◌then◌else◌};
+ghost use Rattle.std.specs.Prelude.{◌≡◌, true, false, not, is_ok, if◌then◌else◌};
 ghost use Rattle.std.specs.Option.{option_copied, option_map};
-ghost use Rattle.key_slots.specs.Slots.{is_one, is_newer_than, is_older, live_draw, after_go, after_end};
+ghost use Rattle.ide_types.specs.KeySets.{is_one};
+ghost use Rattle.key_slots.specs.Slots.{is_newer_than, is_older, live_draw, after_go, after_end};
 
 use crate::Key;
 use crate::slot::{HeldKey, Slot, SlotState};
 use gcm_seal::Gcm;
+use ide_types::KeySet;
 use std::marker::Model;
 use std::mem;
 
-/// Why a slot is not programmed: it is Live, and the other holds no newer Live key. The key comes back.
+/// Why a slot is not programmed: it is Live, and the other holds no newer Live key (this profile). The key comes back.
 #[derive(Debug, Drop)]
 pub struct OnlyLive {
     pub key: Key,
 }
 
-/// The slot has no key.
+/// The slot has no key (this profile).
 #[derive(Clone, Copy, Debug, PartialEq, Eq)]
 pub struct SlotEmpty;
 
 /// The slots of key set 0 and of key set 1, of a sender or of a receiver (PCI Express Base 6.0 section 6.33, in
-/// this profile). In each call `set` is 0 or 1.
+/// this profile).
 #[derive(Drop)]
 pub struct Slots {
     sender: bool,
@@ -54,10 +56,10 @@ impl Slots {
       is_empty,
       armed,
       halted,
-      ended,
+      ended_pair,
       accepted,
       live_set,
-      state_of,
+      slot_state,
       held_key,
       live_held,
       shown_key,
@@ -74,16 +76,17 @@ impl Slots {
         }
     }
 
-    fn slot_ref(&self, set: u8) -> &Slot
-        requires { set < 2 }
+    fn slot_ref(&self, set: KeySet) -> &Slot
         ensures { result.now ≡ slot_in self.now (is_one set) }
     {
-        if set == 1 { &self.one } else { &self.zero }
+        match set {
+            KeySet::Zero => &self.zero,
+            KeySet::One => &self.one,
+        }
     }
 
     // The slot of this set and the other, which are left empty.
-    fn take(&mut self, set: u8) -> (Slot, Slot)
-        requires { set < 2 }
+    fn take(&mut self, set: KeySet) -> (Slot, Slot)
         ensures mine { result.0 ≡ slot_in self.old (is_one set) }
         ensures other { result.1 ≡ slot_in self.old (not (is_one set)) }
         ensures may_stand { may_stand self.old.sender result.0 result.1 ≡ true }
@@ -91,37 +94,37 @@ impl Slots {
     {
         let zero = mem::replace(&mut self.zero, Slot::Empty);
         let one = mem::replace(&mut self.one, Slot::Empty);
-        ordered(set, zero, one)
+        ordered(set.is_one(), zero, one)
     }
 
-    fn put(&mut self, set: u8, mine: Slot, other: Slot)
-        requires set { set < 2 }
-        requires may_stand { may_stand self.old.sender mine other ≡ true }
+    fn put(&mut self, set: KeySet, mine: Slot, other: Slot)
+        requires { may_stand self.old.sender mine other ≡ true }
         ensures { self.new ≡ with_both self.old.sender (is_one set) (mine, other) }
     {
-        if set == 1 {
-            self.zero = other;
-            self.one = mine;
-        } else {
-            self.zero = mine;
-            self.one = other;
+        match set {
+            KeySet::Zero => {
+                self.zero = mine;
+                self.one = other;
+            }
+            KeySet::One => {
+                self.zero = other;
+                self.one = mine;
+            }
         }
     }
 
-    fn is_only_live(&self, set: u8) -> bool
-        requires { set < 2 }
+    fn is_only_live(&self, set: KeySet) -> bool
         ensures { result ≡ is_only_live self.now (is_one set) }
     {
         match self.slot_ref(set).live_draw() {
             None => false,
-            Some(draw) => !is_newer_than(set, draw, self.slot_ref(1 - set).live_draw()),
+            Some(draw) => !is_newer_than(set, draw, self.slot_ref(set.other()).live_draw()),
         }
     }
 
     /// Programs the slot with a key of this draw. Returns `OnlyLive` exactly if this slot is Live and the other holds
     /// no newer Live key: then the key comes back, and the slots are as before.
-    pub fn program(&mut self, set: u8, key: Key, draw: u32) -> Result<(), OnlyLive>
-        requires { set < 2 }
+    pub fn program(&mut self, set: KeySet, key: Key, draw: u32) -> Result<(), OnlyLive>
         ensures answer { result ≡ program_answer self.old (is_one set) key }
         ensures slots { self.new ≡ programmed self.old (is_one set) (record { key = key; draw = draw }) }
     {
@@ -136,8 +139,7 @@ impl Slots {
     /// GO: takes a Programmed key into use. A receiver's is Live at once; a sender's at once if no unit is
     /// `unfinished`, and the other slot is emptied, else it is Armed until that unit ends. A Live or Armed slot stays
     /// as it is. Returns `SlotEmpty` exactly if the slot is Empty.
-    pub fn arm(&mut self, set: u8, unfinished: bool) -> Result<(), SlotEmpty>
-        requires { set < 2 }
+    pub fn arm(&mut self, set: KeySet, unfinished: bool) -> Result<(), SlotEmpty>
         ensures answer { is_ok result ≡ not (is_empty (slot_in self.old (is_one set))) }
         ensures slots { self.new ≡ armed self.old (is_one set) unfinished }
     {
@@ -152,8 +154,7 @@ impl Slots {
     }
 
     /// STOP: empties the slot; an Armed other one becomes Live.
-    pub fn halt(&mut self, set: u8)
-        requires { set < 2 }
+    pub fn halt(&mut self, set: KeySet)
         ensures { self.new ≡ halted self.old (is_one set) }
     {
         let (_, other) = self.take(set);
@@ -162,16 +163,15 @@ impl Slots {
 
     /// Notes that a sender's unit ended: an Armed slot becomes Live, and the other is emptied.
     pub fn ended(&mut self)
-        ensures { self.new ≡ ended self.old }
+        ensures { self.new ≡ ended_pair self.old }
     {
-        let (zero, one) = self.take(0);
+        let (zero, one) = self.take(KeySet::Zero);
         let (zero, one) = after_end(zero, one);
-        self.put(0, zero, one);
+        self.put(KeySet::Zero, zero, one);
     }
 
     /// Notes that a unit was accepted under this Live slot of a receiver: an older Live one is emptied.
-    pub fn accepted(&mut self, set: u8)
-        requires { set < 2 }
+    pub fn accepted(&mut self, set: KeySet)
         ensures { self.new ≡ accepted self.old (is_one set) }
     {
         if self.is_other_older(set) {
@@ -180,37 +180,34 @@ impl Slots {
         }
     }
 
-    fn is_other_older(&self, set: u8) -> bool
-        requires { set < 2 }
+    fn is_other_older(&self, set: KeySet) -> bool
         ensures { let mine = slot_in self.now (is_one set) in
             let other = slot_in self.now (not (is_one set)) in
             result ≡ is_older (not (is_one set)) (live_draw other) (live_draw mine) }
     {
-        match self.slot_ref(1 - set).live_draw() {
+        match self.slot_ref(set.other()).live_draw() {
             None => false,
-            Some(draw) => is_newer_than(1 - set, draw, self.slot_ref(set).live_draw()),
+            Some(draw) => is_newer_than(set.other(), draw, self.slot_ref(set).live_draw()),
         }
     }
 
-    /// The key set, 0 or 1, whose slot is Live; of two Live slots of a receiver the one of the greater draw, between
-    /// equal draws set 1; `None` if none is Live.
-    pub fn live(&self) -> Option<u8>
+    /// The key set whose slot is Live; of two Live slots of a receiver the one of the greater draw, between equal draws
+    /// set 1; `None` if none is Live.
+    pub fn live(&self) -> Option<KeySet>
         ensures live { result ≡ live_set self.now }
         // A sender has at most one Live slot, and a receiver no Armed one.
         ensures sound { is_sound self.now ≡ true }
     {
         match (self.zero.live_draw(), self.one.live_draw()) {
             (None, None) => None,
-            (None, Some(_)) => Some(1),
-            (Some(_), None) => Some(0),
-            (Some(zero), one) => Some(is_newer_than(0, zero, one) as u8),
+            (None, Some(_)) => Some(KeySet::One),
+            (Some(zero), one) => Some(KeySet::of_bit(is_newer_than(KeySet::Zero, zero, one))),
         }
     }
 
     /// The state of a slot, and its key, lent, with its draw, if it has one.
-    pub fn slot(&self, set: u8) -> (SlotState, Option<(&Key, u32)>)
-        requires { set < 2 }
-        ensures state { result.0 ≡ state_of (slot_in self.now (is_one set)) }
+    pub fn slot(&self, set: KeySet) -> (SlotState, Option<(&Key, u32)>)
+        ensures state { result.0 ≡ slot_state (slot_in self.now (is_one set)) }
         ensures key { shown_key result.1 ≡ held_key (slot_in self.now (is_one set)) }
     {
         let slot = self.slot_ref(set);
@@ -221,8 +218,7 @@ impl Slots {
     }
 
     /// The prepared form of a Live slot's key, lent, with its draw; `None` of any other slot.
-    pub fn live_key(&self, set: u8) -> Option<(&Gcm, u32)>
-        requires { set < 2 }
+    pub fn live_key(&self, set: KeySet) -> Option<(&Gcm, u32)>
         ensures { shown_key result ≡ live_held (slot_in self.now (is_one set)) }
     {
         match self.slot_ref(set) {
@@ -232,8 +228,7 @@ impl Slots {
     }
 
     /// The prepared form of a slot's key, lent, if it has one.
-    pub fn cipher(&self, set: u8) -> Option<&Gcm>
-        requires { set < 2 }
+    pub fn cipher(&self, set: KeySet) -> Option<&Gcm>
         ensures { option_copied result ≡ option_map (λ held. held.key) (held_key (slot_in self.now (is_one set))) }
     {
         match self.slot_ref(set).held() {
@@ -243,23 +238,21 @@ impl Slots {
     }
 }
 
-// The slot of a set first.
-fn ordered(set: u8, zero: Slot, one: Slot) -> (Slot, Slot)
-    requires { set < 2 }
-    ensures mine { result.0 ≡ (if is_one set then one else zero) }
-    ensures other { result.1 ≡ (if is_one set then zero else one) }
+// The slot of set 1 first, or else that of set 0.
+fn ordered(one_first: bool, zero: Slot, one: Slot) -> (Slot, Slot)
+    ensures mine { result.0 ≡ (if one_first then one else zero) }
+    ensures other { result.1 ≡ (if one_first then zero else one) }
 {
-    if set == 1 { (one, zero) } else { (zero, one) }
+    if one_first { (one, zero) } else { (zero, one) }
 }
 
 // Whether the other slot, Live under `other`, is newer than a draw in this set.
-fn is_newer_than(set: u8, draw: u32, other: Option<u32>) -> bool
-    requires { set < 2 }
+fn is_newer_than(set: KeySet, draw: u32, other: Option<u32>) -> bool
     ensures { result ≡ is_newer_than (is_one set) draw other }
 {
     match other {
         None => false,
-        Some(other) => draw < other || draw == other && set == 0,
+        Some(other) => draw < other || draw == other && !set.is_one(),
     }
 }
 

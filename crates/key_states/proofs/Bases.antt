@@ -1,11 +1,11 @@
 -- Draws that are kept on a stream are from its base on.
 use Rattle.std.proofs.lemmas.Bool.Decides.{nat_tests}
 use Rattle.key_states.proofs.Terms.{◌≡◌, ℕ, ◌≤◌, ◌==◌, Bool, true, false, Option, Some, List, [], ◌∷◌, length, refl, ap}
-use Rattle.key_states.proofs.Terms.{sym, ◌∙◌, arith, ◌&&◌, Event, Loss, Operation, Verdict, KeyPlan, Place}
+use Rattle.key_states.proofs.Terms.{sym, ◌∙◌, arith, ◌&&◌, Event, Loss, Operation, Verdict, KeyPlan, KeyPlace}
 use Rattle.key_states.proofs.Terms.{is_on_stream, Touch, no_keys, keys, Op, Idle}
 use Rattle.key_states.proofs.Terms.{Establishing, Up, Refreshing, Reach, Manager, work_of, reach_of, operated}
 use Rattle.key_states.proofs.Terms.{manager_after, History, manager, op_of, draws, worked, on_it, touches, moments}
-use Rattle.key_states.proofs.Terms.{base, begins_keyed, on_draw, due, CauseLaw}
+use Rattle.key_states.proofs.Terms.{base, begins_keyed, draw_on_at, key_due, KeyCauseLaw}
 use Rattle.key_states.proofs.Terms.{both-true, keys_of, OwnedKeys, AllOwned, behind_owned, came_owned, cleared_owned}
 use Rattle.key_states.proofs.Terms.{owned_on, same_place}
 use Rattle.link_events.specs.declared.event.Event.TheVariants as event
@@ -23,18 +23,18 @@ OpFrom b (Refreshing set j n) = b ≤ j
 OpFrom b _ = Unit {0}
 
 -- the state of a stream after an event, and what the event touches at a place
-pub record Leads (b : ℕ) (p : Place) (m : Manager) (more : List Touch) : Type 0 where
+pub record Leads (b : ℕ) (p : KeyPlace) (m : Manager) (more : List Touch) : Type 0 where
   low : b ≤ length m.begun
   op_from : OpFrom b (m.ops p.link p.stream)
   from : AllOwned (From b) more
 
--- the draw of an operation is not below the base, nor is that of the state behind it
-operated_leads : (m : Manager) (o : Operation) (l s : ℕ) (r : Option Reach) (p : Place) (b : ℕ) → b ≤ length m.begun
+-- the draw of an operation is not below the base, nor is that of the state after it
+operated_leads : (m : Manager) (o : Operation) (l s : ℕ) (r : Option Reach) (p : KeyPlace) (b : ℕ) → b ≤ length m.begun
     → OpFrom b (m.ops p.link p.stream)
     → Leads b p (operated m o l s r) (on_it (is_on_stream p l s) (worked (work_of o (m.ops l s) (length m.begun)) r p))
 operated_leads m o l s r p b low from = grind (arith, nat_tests)
 
-leads : (m : Manager) (e : Event) (w : Verdict) (p : Place) (b : ℕ) → b ≤ length m.begun
+leads : (m : Manager) (e : Event) (w : Verdict) (p : KeyPlace) (b : ℕ) → b ≤ length m.begun
     → OpFrom b (m.ops p.link p.stream)
     → Leads b p (manager_after m e w) (touches m.ops (length m.begun) e w p)
 leads m (event.Establish l s loss) w p b low from = operated_leads m op.Establish l s (reach_of op.Establish w) p b low
@@ -49,19 +49,19 @@ leads m e w p b low from = record { low = low; op_from = from; from = came_owned
 -- ---- only an idle stream begins to be keyed
 
 pub establish_idle : (plan : KeyPlan) (h : History) (l s : ℕ) (loss : Option Loss) (w : Verdict) → w
-    ≡ due plan h (event.Establish l s loss) w → begins_keyed (op_of h l s) (draws h) w ≡ true → op_of h l s ≡ Idle
-unfolding due
+    ≡ key_due plan h (event.Establish l s loss) w → begins_keyed (op_of h l s) (draws h) w ≡ true → op_of h l s ≡ Idle
+unfolding key_due
 establish_idle plan h l s loss w is begins = grind arith
 
 -- ---- all pairs
 
-pub record Based (h : History) (p : Place) : Type 0 where
+pub record Based (h : History) (p : KeyPlace) : Type 0 where
   pub low : base h p.link p.stream ≤ draws h
   pub op_from : OpFrom (base h p.link p.stream) (op_of h p.link p.stream)
   pub keys_from : OwnedKeys (From (base h p.link p.stream)) (keys p.sends (moments h p))
 
 -- by the base that stands after the pair
-next_based : (h : History) (e : Event) (w : Verdict) (p : Place) (b : ℕ) → base ((e, w) ∷ h) p.link p.stream ≡ b
+next_based : (h : History) (e : Event) (w : Verdict) (p : KeyPlace) (b : ℕ) → base ((e, w) ∷ h) p.link p.stream ≡ b
     → b ≤ draws h
     → OpFrom b (op_of h p.link p.stream) → OwnedKeys (From b) (keys p.sends (moments h p))
     → Based ((e, w) ∷ h) p
@@ -72,8 +72,8 @@ next_based h e w p b is low from owned =
     leads_to.from in
     record { low = rw is leads_to.low; op_from = rw is leads_to.op_from; keys_from = rw is keys_from }
 
-establish_based : (plan : KeyPlan) (h : History) (l s : ℕ) (loss : Option Loss) (w : Verdict) (p : Place)
-    → CauseLaw plan ((event.Establish l s loss, w) ∷ h) → Based h p → Based ((event.Establish l s loss, w) ∷ h) p
+establish_based : (plan : KeyPlan) (h : History) (l s : ℕ) (loss : Option Loss) (w : Verdict) (p : KeyPlace)
+    → KeyCauseLaw plan ((event.Establish l s loss, w) ∷ h) → Based h p → Based ((event.Establish l s loss, w) ∷ h) p
 unfolding base
 establish_based plan h l s loss w p cause before = by_test
     ((l == p.link) && (s == p.stream) && begins_keyed (op_of h l s) (draws h) w) refl
@@ -93,7 +93,7 @@ establish_based plan h l s loss w p cause before = by_test
         (rw none (record { first_is = tt; second_is = tt }))
 
 -- event by event: an establish that begins finds no key and makes its draw the base, and all later draws are greater
-pub based : (plan : KeyPlan) (h : History) → CauseLaw plan h → (p : Place) → Based h p
+pub based : (plan : KeyPlan) (h : History) → KeyCauseLaw plan h → (p : KeyPlace) → Based h p
 unfolding base manager moments keys
 based plan [] cause p = record { low = omega arith; op_from = tt; keys_from = record { first_is = tt; second_is = tt } }
 based plan ((event.Establish l s loss, w) ∷ h) cause p = establish_based plan h l s loss w p cause
@@ -103,7 +103,8 @@ based plan ((e, w) ∷ h) cause p =
     next_based h e w p (base h p.link p.stream) refl before.low before.op_from before.keys_from
 
 -- a draw that is On
-pub on_from : (plan : KeyPlan) (h : History) → CauseLaw plan h → (p : Place) (set : Bool) (j : ℕ) → on_draw h p set
+pub on_from : (plan : KeyPlan) (h : History) → KeyCauseLaw plan h → (p : KeyPlace) (set : Bool) (j : ℕ)
+    → draw_on_at h p set
     ≡ Some j → base h p.link p.stream ≤ j
 on_from plan h cause p set j on = owned_on (From (base h p.link p.stream)) (keys p.sends (moments h p)) set j
     (based plan h cause p).keys_from on

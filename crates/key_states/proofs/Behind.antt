@@ -1,8 +1,10 @@
--- What touches behind others leave: marks only grow, a draw that is On got its GO, an operation opens and ends no unit.
+-- What touches after others leave: marks only grow, a draw that is On got its GO, an operation opens and ends no unit.
 use Rattle.key_states.proofs.Terms.{◌≡◌, ℕ, ◌<◌, ◌≤◌, Bool, true, false, Option, Some, List, [], ◌∷◌, refl, ◌∙◌, arith}
-use Rattle.key_states.proofs.Terms.{Touch, Seal, Keyed, On, Keys, key_in, on_in, touched, settled, is_open, keys, Event}
-use Rattle.key_states.proofs.Terms.{Verdict, Place, is_on_stream, Op}
-use Rattle.key_states.proofs.Terms.{Work, Reach, work_of, reach_of, behind, worked, on_it, came, touches, used, started}
+use Rattle.key_states.proofs.Terms.{Touch, Seal, Keyed, On, Keys, key_in, on_in, touched, keys_settled, is_open, keys}
+use Rattle.key_states.proofs.Terms.{Event}
+use Rattle.key_states.proofs.Terms.{Verdict, KeyPlace, is_on_stream, Op}
+use Rattle.key_states.proofs.Terms.{Work, Reach, work_of, reach_of, touches_after, worked, on_it, came, touches, used}
+use Rattle.key_states.proofs.Terms.{started}
 use Rattle.link_events.specs.declared.event.Event.TheVariants as event
 use Rattle.link_verdicts.specs.declared.verdict.Operation.TheVariants as op
 use Rattle.link_verdicts.specs.declared.verdict.Verdict.TheVariants as v
@@ -11,14 +13,15 @@ marks_touch : (t : Touch) (ts : List Touch) → (used ts ≤ used (t ∷ ts)) ×
 unfolding used started
 marks_touch t ts = grind arith
 
-marks_behind : (ts more : List Touch) → (used ts ≤ used (behind ts more)) × (started ts ≤ started (behind ts more))
+marks_behind : (ts more : List Touch) → (used ts ≤ used (touches_after ts more))
+    × (started ts ≤ started (touches_after ts more))
 marks_behind ts [] = omega arith
 marks_behind ts (t ∷ more) = omega (arith, marks_touch t ts, marks_behind (t ∷ ts) more)
 
-pub used_behind : (ts more : List Touch) → used ts ≤ used (behind ts more)
+pub used_behind : (ts more : List Touch) → used ts ≤ used (touches_after ts more)
 used_behind ts more = (marks_behind ts more).0
 
-pub started_behind : (ts more : List Touch) → started ts ≤ started (behind ts more)
+pub started_behind : (ts more : List Touch) → started ts ≤ started (touches_after ts more)
 started_behind ts more = (marks_behind ts more).1
 
 -- ---- a draw that is On got its GO
@@ -32,7 +35,7 @@ record AllBelow (n : ℕ) (ks : Keys) : Type 0 where
   second_is : OnBelow n ks.second
 
 one_below : (s : Bool) (f : ℕ → Bool) (ts : List Touch) (ks : Keys) (t : Touch) → AllBelow (started ts) ks
-    → AllBelow (started (t ∷ ts)) (settled s f (touched s ks t))
+    → AllBelow (started (t ∷ ts)) (keys_settled s f (touched s ks t))
 unfolding started
 one_below s f ts ks t below = grind arith
 
@@ -57,7 +60,7 @@ one_open : (t : Touch) (ts more : List Touch) (j : ℕ) → NoSeal (t ∷ more) 
 unfolding is_open
 one_open t ts more j none = grind arith
 
-pub open_behind : (ts more : List Touch) (j : ℕ) → NoSeal more → is_open (behind ts more) j ≡ is_open ts j
+pub open_behind : (ts more : List Touch) (j : ℕ) → NoSeal more → is_open (touches_after ts more) j ≡ is_open ts j
 open_behind ts [] j none = refl
 open_behind ts (t ∷ more) j none = let one = one_open t ts more j none in open_behind (t ∷ ts) more j one.1 ∙ one.0
 
@@ -65,13 +68,13 @@ abbrev pub is_sealed : Verdict → Bool
 is_sealed (v.Sealed ds) = true
 is_sealed _ = false
 
-operated_no_seal : (f : Bool) (w : Work) (r : Option Reach) (p : Place) → NoSeal (on_it f (worked w r p))
+operated_no_seal : (f : Bool) (w : Work) (r : Option Reach) (p : KeyPlace) → NoSeal (on_it f (worked w r p))
 operated_no_seal f w r p = grind arith
 
-came_no_seal : (p : Place) (x : Verdict) → is_sealed x ≡ false → NoSeal (came p x)
+came_no_seal : (p : KeyPlace) (x : Verdict) → is_sealed x ≡ false → NoSeal (came p x)
 came_no_seal p x none = grind arith
 
-pub touches_no_seal : (ops : ℕ → ℕ → Op) (next : ℕ) (e : Event) (x : Verdict) (p : Place) → is_sealed x ≡ false
+pub touches_no_seal : (ops : ℕ → ℕ → Op) (next : ℕ) (e : Event) (x : Verdict) (p : KeyPlace) → is_sealed x ≡ false
     → NoSeal (touches ops next e x p)
 touches_no_seal ops next (event.Establish l s lose) x p none =
     operated_no_seal (is_on_stream p l s) (work_of op.Establish (ops l s) next) (reach_of op.Establish x) p

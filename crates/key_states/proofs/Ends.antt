@@ -1,12 +1,13 @@
 -- What stands at the end of an operation.
 use Rattle.key_states.proofs.Terms.{◌≡◌, ℕ, Bool, true, false, Option, Some, List, [], ◌∷◌, refl, ap, sym, ◌∙◌}
-use Rattle.key_states.proofs.Terms.{arith, if◌then◌else◌, Host, Event, Loss, StreamStatus, Verdict, KeyPlan, Place}
+use Rattle.key_states.proofs.Terms.{arith, if◌then◌else◌, Host, Event, Loss, StreamStatus, Verdict, KeyPlan, KeyPlace}
 use Rattle.key_states.proofs.Terms.{is_on_stream, Touch, Keys, keys, key_in, kept_in, on_in, Op}
 use Rattle.key_states.proofs.Terms.{Idle, Establishing, Up, Refreshing, Stopping, reach, work_of, op_after, History}
-use Rattle.key_states.proofs.Terms.{manager, op_of, draws, worked, behind, moments, kept_draw, on_draw, status_of}
-use Rattle.key_states.proofs.Terms.{PortView, ports_at, establish_on, refresh_on, due, done, is_cut, performed_is}
+use Rattle.key_states.proofs.Terms.{manager, op_of, draws, worked, touches_after, moments, kept_draw, draw_on_at}
+use Rattle.key_states.proofs.Terms.{status_of}
+use Rattle.key_states.proofs.Terms.{PortView, ports_at, establish_on, refresh_on, key_due, done, is_cut, performed_is}
 use Rattle.key_states.proofs.Terms.{may_establish, may_refresh, unless_open, ◌⊎◌}
-use Rattle.key_states.proofs.Terms.{CauseLaw, Settled, SettledAt, same-true, Alone, IsAt, FitsAt, establish_ends}
+use Rattle.key_states.proofs.Terms.{KeyCauseLaw, Settled, SettledAt, same-true, Alone, IsAt, FitsAt, establish_ends}
 use Rattle.key_states.proofs.Terms.{establish_takes, establish_begins, establish_goes_on, fits, elsewhere}
 use Rattle.link_events.specs.declared.event.Event.TheVariants as event
 use Rattle.link_verdicts.specs.declared.verdict.Operation.TheVariants as op
@@ -15,17 +16,18 @@ use Rattle.key_states.proofs.States.{stream_facts}
 
 -- ---- the operation that ended
 
-on_its_stream : (p : Place) → is_on_stream p p.link p.stream ≡ true
+on_its_stream : (p : KeyPlace) → is_on_stream p p.link p.stream ≡ true
 on_its_stream p = rw (same-true p.link, same-true p.stream) refl
 
-pub on_same : (p : Place) (link stream : ℕ) → (p.link ≡ link) × (p.stream ≡ stream) → is_on_stream p link stream ≡ true
+pub on_same : (p : KeyPlace) (link stream : ℕ) → (p.link ≡ link) × (p.stream ≡ stream) → is_on_stream p link stream
+    ≡ true
 on_same p link stream same = elsewhere p link stream (λ (x y : ℕ). is_on_stream p x y ≡ true) same (on_its_stream p)
 
 stopped_op : (q : Op) (next : ℕ) → op_after (work_of op.Stop q next) (reach 13 13) ≡ Idle
 stopped_op q next = grind arith
 
 stop_settles : (plan : KeyPlan) (h : History) (link stream : ℕ) (loss : Option Loss) (l t : ℕ)
-    → CauseLaw plan ((event.Stop link stream loss, v.Stopped l t) ∷ h)
+    → KeyCauseLaw plan ((event.Stop link stream loss, v.Stopped l t) ∷ h)
     → SettledAt h (event.Stop link stream loss) (v.Stopped l t)
 unfolding manager
 stop_settles plan h link stream loss l t cause p on_link on_id set =
@@ -54,9 +56,9 @@ refreshed_draw has plan q next ports host link stream loss l t j is = refreshed_
     stream _ l t j (performed_is ports link stream loss (work_of op.Refresh q next)) is
 
 refresh_settles : (plan : KeyPlan) (h : History) (link stream : ℕ) (loss : Option Loss) (l t j : ℕ)
-    → CauseLaw plan ((event.Refresh link stream loss, v.Refreshed l t j) ∷ h)
+    → KeyCauseLaw plan ((event.Refresh link stream loss, v.Refreshed l t j) ∷ h)
     → SettledAt h (event.Refresh link stream loss) (v.Refreshed l t j)
-unfolding manager due
+unfolding manager key_due
 refresh_settles plan h link stream loss l t j cause =
     let draw = refreshed_draw _ plan (op_of h link stream) (draws h) (ports_at h) (status_of h Host link stream) link
     stream loss l t j cause.0 in
@@ -75,10 +77,10 @@ established_as : (plan : KeyPlan) (q : Op) (next link stream : ℕ) (x : Verdict
 established_as plan q next link stream x l t j performs is = grind arith
 
 established_draw : (plan : KeyPlan) (h : History) (link stream : ℕ) (loss : Option Loss) (l t j : ℕ)
-    → v.Established l t j ≡ due plan h (event.Establish link stream loss) (v.Established l t j)
+    → v.Established l t j ≡ key_due plan h (event.Establish link stream loss) (v.Established l t j)
     → (j ≡ (work_of op.Establish (op_of h link stream) (draws h)).draw)
     × (v.Established l t j ≡ establish_on plan (op_of h link stream) (draws h) (ports_at h) link stream loss)
-unfolding due
+unfolding key_due
 established_draw plan h link stream loss l t j is = by_has (plan.has_stream link stream) is
   where
     by_has : (has : Bool) → v.Established l t j
@@ -93,10 +95,10 @@ established_draw plan h link stream loss l t j is = by_has (plan.has_stream link
     by_has false is = absurd cc
 
 -- an establish that ended left its key alone
-established_alone : (plan : KeyPlan) (q : Op) (next : ℕ) (p : Place) (ts : List Touch) (ports : PortView)
+established_alone : (plan : KeyPlan) (q : Op) (next : ℕ) (p : KeyPlace) (ts : List Touch) (ports : PortView)
     (loss : Option Loss) (l t j : ℕ) → FitsAt q next p ts → v.Established l t j
     ≡ establish_on plan q next ports p.link p.stream loss
-    → IsAt p.sends (behind ts (worked (work_of op.Establish q next) (Some (reach 14 14)) p))
+    → IsAt p.sends (touches_after ts (worked (work_of op.Establish q next) (Some (reach 14 14)) p))
     (Alone false (work_of op.Establish q next).draw)
 established_alone plan Idle next p ts ports loss l t j at is =
     let from = establish_begins p ts next at in
@@ -110,8 +112,8 @@ established_alone plan (Up set i) next p ts ports loss l t j at is = absurd cc
 established_alone plan (Refreshing set i n) next p ts ports loss l t j at is = absurd cc
 established_alone plan (Stopping n) next p ts ports loss l t j at is = absurd cc
 
-alone_there : (plan : KeyPlan) (h : History) (p : Place) (loss : Option Loss) (l t j : ℕ)
-    → CauseLaw plan ((event.Establish p.link p.stream loss, v.Established l t j) ∷ h)
+alone_there : (plan : KeyPlan) (h : History) (p : KeyPlace) (loss : Option Loss) (l t j : ℕ)
+    → KeyCauseLaw plan ((event.Establish p.link p.stream loss, v.Established l t j) ∷ h)
     → IsAt p.sends (moments ((event.Establish p.link p.stream loss, v.Established l t j) ∷ h) p) (Alone false j)
 unfolding moments
 alone_there plan h p loss l t j cause =
@@ -125,26 +127,26 @@ alone_kept : (s : Bool) (ts : List Touch) (j : ℕ) (set : Bool) (i : ℕ) → I
 alone_kept s ts j set i is kept = grind arith
 
 establish_settles : (plan : KeyPlan) (h : History) (link stream : ℕ) (loss : Option Loss) (l t j : ℕ)
-    → CauseLaw plan ((event.Establish link stream loss, v.Established l t j) ∷ h)
+    → KeyCauseLaw plan ((event.Establish link stream loss, v.Established l t j) ∷ h)
     → SettledAt h (event.Establish link stream loss)
     (v.Established l t j)
 establish_settles plan h link stream loss l t j cause =
     ((established_draw plan h link stream loss l t j cause.0).0, places)
   where
-    places : (p : Place) → p.link ≡ link → p.stream ≡ stream
-        → (on_draw ((event.Establish link stream loss, v.Established l t j) ∷ h) p false ≡ Some j)
+    places : (p : KeyPlace) → p.link ≡ link → p.stream ≡ stream
+        → (draw_on_at ((event.Establish link stream loss, v.Established l t j) ∷ h) p false ≡ Some j)
         × ((set : Bool) (i : ℕ) → kept_draw ((event.Establish link stream loss, v.Established l t j) ∷ h) p set ≡ Some i
         → i ≡ j)
     places p on_link on_id =
         let is = elsewhere p link stream
-        (λ (x y : ℕ). CauseLaw plan ((event.Establish x y loss, v.Established l t j) ∷ h)
+        (λ (x y : ℕ). KeyCauseLaw plan ((event.Establish x y loss, v.Established l t j) ∷ h)
         → IsAt p.sends (moments ((event.Establish x y loss, v.Established l t j) ∷ h) p) (Alone false j))
         (on_link, on_id) (alone_there plan h p loss l t j) cause in
         (ap (λ (ks : Keys). on_in ks.first) is.are, λ set i kept. alone_kept p.sends _ j set i is kept)
 
 -- ---- all pairs
 
-settled_at : (plan : KeyPlan) (h : History) (e : Event) (x : Verdict) → CauseLaw plan ((e, x) ∷ h) → SettledAt h e x
+settled_at : (plan : KeyPlan) (h : History) (e : Event) (x : Verdict) → KeyCauseLaw plan ((e, x) ∷ h) → SettledAt h e x
 settled_at plan h (event.Establish link stream loss) (v.Established l t j) cause = establish_settles plan h link stream
     loss l t j cause
 settled_at plan h (event.Refresh link stream loss) (v.Refreshed l t j) cause = refresh_settles plan h link stream loss l
@@ -152,6 +154,6 @@ settled_at plan h (event.Refresh link stream loss) (v.Refreshed l t j) cause = r
 settled_at plan h (event.Stop link stream loss) (v.Stopped l t) cause = stop_settles plan h link stream loss l t cause
 settled_at plan h _ _ cause = tt
 
-pub settles : (plan : KeyPlan) (h : History) → CauseLaw plan h → Settled h
+pub settles : (plan : KeyPlan) (h : History) → KeyCauseLaw plan h → Settled h
 settles plan [] cause = tt
 settles plan ((e, x) ∷ h) cause = (settled_at plan h e x cause, settles plan h cause.2)

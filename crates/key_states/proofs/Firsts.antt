@@ -1,11 +1,11 @@
--- Where a place comes to have its first key that is On: in an establish, under the base of the stream.
+-- A place gets its first key that is On in an establish, under the base of the stream.
 use Rattle.key_states.proofs.Terms.{◌≡◌, ℕ, ◌≤◌, ◌==◌, Bool, true, false, Option, Some, List, [], ◌∷◌, length, refl, ap}
 use Rattle.key_states.proofs.Terms.{sym, ◌∙◌, arith, ◌&&◌, if◌then◌else◌, is_some, nat_tests, Host, Loss, Verdict}
-use Rattle.key_states.proofs.Terms.{KeyPlan, Place, Touch, keys, Op, Idle}
+use Rattle.key_states.proofs.Terms.{KeyPlan, KeyPlace, Touch, keys, Op, Idle}
 use Rattle.key_states.proofs.Terms.{Establishing, Reach, Manager, work_of, reach_of, operated, History, manager, op_of}
-use Rattle.key_states.proofs.Terms.{draws, moments, keys_at, base, begins_keyed, is_keyed, status_of, PortView}
-use Rattle.key_states.proofs.Terms.{ports_at, establish_on, refresh_on, due}
-use Rattle.key_states.proofs.Terms.{CauseLaw, marks, Shape, keys_of, used, started, IsAt, Rising, FitsAt, fits}
+use Rattle.key_states.proofs.Terms.{draws, moments, keys_there, base, begins_keyed, keeps_live, status_of, PortView}
+use Rattle.key_states.proofs.Terms.{ports_at, establish_on, refresh_on, key_due}
+use Rattle.key_states.proofs.Terms.{KeyCauseLaw, marks, Shape, keys_of, used, started, IsAt, Rising, FitsAt, fits}
 use Rattle.key_states.proofs.Terms.{Operation, StreamStatus}
 use Rattle.std.proofs.Math.Bool.{and-false}
 use Rattle.link_events.specs.declared.event.Event.TheVariants as event
@@ -53,35 +53,35 @@ base_is ((e, x) ∷ h) link stream = base_is h link stream
 -- ---- an establish at a place with no key On
 
 -- all that was used or started there is below the operation's draw
-pub record Fresh (h : History) (p : Place) (j : ℕ) : Type 0 where
+pub record Fresh (h : History) (p : KeyPlace) (j : ℕ) : Type 0 where
   pub used_below : used (moments h p) ≤ j
   pub started_below : started (moments h p) ≤ j
 
--- what an establish that came anywhere finds
-pub record First (h : History) (p : Place) (x : Verdict) (lose : Option Loss) : Type 0 where
+-- what an establish finds that reached an exchange
+pub record First (h : History) (p : KeyPlace) (x : Verdict) (lose : Option Loss) : Type 0 where
   pub fresh : Fresh h p (work_of op.Establish (op_of h p.link p.stream) (draws h)).draw
   pub base_of : base ((event.Establish p.link p.stream lose, x) ∷ h) p.link p.stream
       ≡ (work_of op.Establish (op_of h p.link p.stream) (draws h)).draw
 
 pub state_of : (plan : KeyPlan) (h : History) (l s : ℕ) (lose : Option Loss) (x : Verdict) (r : Reach) → x
-    ≡ due plan h (event.Establish l s lose) x → reach_of op.Establish x ≡ Some r
+    ≡ key_due plan h (event.Establish l s lose) x → reach_of op.Establish x ≡ Some r
     → is_some (reach_of op.Establish (establish_on plan (op_of h l s) (draws h) (ports_at h) l s lose)) ≡ true
-unfolding due
+unfolding key_due
 state_of plan h l s lose x r is reached = grind arith
 
 -- without a key that is On no GO has come past the draw
 fresh_rising : (ts : List Touch) (s : Bool) (j a b n : ℕ) (sh : Shape) → IsAt s ts sh
-    → Rising false false j a b n (marks ts) sh → is_keyed (keys_of sh) ≡ false → (used ts ≤ j) × (started ts ≤ j)
+    → Rising false false j a b n (marks ts) sh → keeps_live (keys_of sh) ≡ false → (used ts ≤ j) × (started ts ≤ j)
 fresh_rising ts s j a b n sh is rising none = grind arith
 
-fresh_at : (plan : KeyPlan) (q : Op) (next : ℕ) (ports : PortView) (p : Place) (ts : List Touch) (lose : Option Loss)
+fresh_at : (plan : KeyPlan) (q : Op) (next : ℕ) (ports : PortView) (p : KeyPlace) (ts : List Touch) (lose : Option Loss)
     → FitsAt q next p ts
-    → is_keyed (keys p.sends ts) ≡ false
+    → keeps_live (keys p.sends ts) ≡ false
     → is_some (reach_of op.Establish (establish_on plan q next ports p.link p.stream lose)) ≡ true
     → (used ts ≤ (work_of op.Establish q next).draw) × (started ts ≤ (work_of op.Establish q next).draw)
 fresh_at plan Idle next ports p ts lose at none goes = (at.below.within, at.below.fresh)
 fresh_at plan (Establishing j n) next ports p ts lose at none goes =
-    fresh_rising ts p.sends j _ _ n at.shape at.is at.fits.2 (ap is_keyed (sym at.is.are) ∙ none)
+    fresh_rising ts p.sends j _ _ n at.shape at.is at.fits.2 (ap keeps_live (sym at.is.are) ∙ none)
 fresh_at plan q next ports p ts lose at none goes = absurd cc
 
 first_base : (plan : KeyPlan) (q : Op) (next : ℕ) (ports : PortView) (l s b : ℕ) (lose : Option Loss) (r : Option Reach)
@@ -91,9 +91,9 @@ first_base : (plan : KeyPlan) (q : Op) (next : ℕ) (ports : PortView) (l s b : 
     ≡ (work_of op.Establish q next).draw
 first_base plan q next ports l s b lose r is some goes = grind (arith, nat_tests)
 
-pub first_keys : (plan : KeyPlan) (h : History) (p : Place) (lose : Option Loss) (x : Verdict) (r : Reach)
-    → CauseLaw plan ((event.Establish p.link p.stream lose, x) ∷ h) → reach_of op.Establish x ≡ Some r
-    → is_keyed (keys_at h p) ≡ false → First h p x lose
+pub first_keys : (plan : KeyPlan) (h : History) (p : KeyPlace) (lose : Option Loss) (x : Verdict) (r : Reach)
+    → KeyCauseLaw plan ((event.Establish p.link p.stream lose, x) ∷ h) → reach_of op.Establish x ≡ Some r
+    → keeps_live (keys_there h p) ≡ false → First h p x lose
 unfolding base
 first_keys plan h p lose x r cause reached none =
     let goes = state_of plan h p.link p.stream lose x r cause.0 reached in
@@ -109,27 +109,27 @@ first_keys plan h p lose x r cause reached none =
 -- ---- in a refresh each place has a key
 
 pub refresh_state : (plan : KeyPlan) (h : History) (l s : ℕ) (lose : Option Loss) (x : Verdict) (r : Reach) → x
-    ≡ due plan h (event.Refresh l s lose) x → reach_of op.Refresh x ≡ Some r
+    ≡ key_due plan h (event.Refresh l s lose) x → reach_of op.Refresh x ≡ Some r
     → is_some (reach_of op.Refresh
     (refresh_on plan (op_of h l s) (draws h) (ports_at h) (status_of h Host l s) l s lose)) ≡ true
-unfolding due
+unfolding key_due
 refresh_state plan h l s lose x r is reached = grind arith
 
 up_of : (plan : KeyPlan) (q : Op) (next : ℕ) (ports : PortView) (host : StreamStatus) (l s : ℕ) (lose : Option Loss)
     → is_some (reach_of op.Refresh (refresh_on plan q next ports host l s lose)) ≡ true → is_up q ≡ true
 up_of plan q next ports host l s lose goes = grind arith
 
-pub refresh_keyed : (plan : KeyPlan) (h : History) (p : Place) (lose : Option Loss) (x : Verdict) (r : Reach)
-    → CauseLaw plan ((event.Refresh p.link p.stream lose, x) ∷ h) → reach_of op.Refresh x ≡ Some r
-    → is_keyed (keys_at h p) ≡ true
+pub refresh_keyed : (plan : KeyPlan) (h : History) (p : KeyPlace) (lose : Option Loss) (x : Verdict) (r : Reach)
+    → KeyCauseLaw plan ((event.Refresh p.link p.stream lose, x) ∷ h) → reach_of op.Refresh x ≡ Some r
+    → keeps_live (keys_there h p) ≡ true
 refresh_keyed plan h p lose x r cause reached =
     keyed_up plan h cause.2 p (up_of plan (op_of h p.link p.stream) (draws h) (ports_at h) _ p.link p.stream lose
     (refresh_state plan h p.link p.stream lose x r cause.0 reached))
 
--- ---- where a key is On no establish begins
+-- ---- if a key is On no establish begins
 
-pub base_kept : (plan : KeyPlan) (h : History) (p : Place) (lose : Option Loss) (x : Verdict)
-    → CauseLaw plan ((event.Establish p.link p.stream lose, x) ∷ h) → is_keyed (keys_at h p) ≡ true
+pub base_kept : (plan : KeyPlan) (h : History) (p : KeyPlace) (lose : Option Loss) (x : Verdict)
+    → KeyCauseLaw plan ((event.Establish p.link p.stream lose, x) ∷ h) → keeps_live (keys_there h p) ≡ true
     → base ((event.Establish p.link p.stream lose, x) ∷ h) p.link p.stream ≡ base h p.link p.stream
 unfolding base
 base_kept plan h p lose x cause keyed = by_test ((p.link == p.link) && (p.stream == p.stream))
@@ -140,5 +140,5 @@ base_kept plan h p lose x cause keyed = by_test ((p.link == p.link) && (p.stream
     by_test a false e = rw (and-false a) refl
     by_test a true e =
         let at = in_state plan h cause.2 p Idle (establish_idle plan h p.link p.stream lose x cause.0 e) in
-        let none : is_keyed (keys_at h p) ≡ false = ap is_keyed (at.is.are ∙ ap keys_of at.fits) in
+        let none : keeps_live (keys_there h p) ≡ false = ap keeps_live (at.is.are ∙ ap keys_of at.fits) in
         absurd cc

@@ -1,16 +1,16 @@
 -- A draw that was On at a place and then kept in neither of its sets is never kept there again: a key that waits for
 -- its GO is of a draw that had none, and a GO finds its draw kept.
 use Rattle.key_states.proofs.Terms.{◌≡◌, ℕ, ◌<◌, ◌&&◌, ◌||◌, Bool, true, false, Some, List, [], ◌∷◌, refl, arith}
-use Rattle.key_states.proofs.Terms.{not, nat_tests, KeyPlan, Touch, Go, Keys, key_in, kept_in, settled, touched}
-use Rattle.key_states.proofs.Terms.{keys, is_on_there, is_kept_there, was_on, has_gone, StaysGone, History, CauseLaw}
-use Rattle.key_states.proofs.Terms.{behind, moments, manager, draws, touches, Place, Shape, IsAt, started}
+use Rattle.key_states.proofs.Terms.{not, nat_tests, KeyPlan, Touch, Go, Keys, key_in, kept_in, keys_settled, touched}
+use Rattle.key_states.proofs.Terms.{keys, is_on_there, is_kept_there, was_on, has_gone, StaysGone, History, KeyCauseLaw}
+use Rattle.key_states.proofs.Terms.{touches_after, moments, manager, draws, touches, KeyPlace, Shape, IsAt, started}
 use Rattle.key_states.proofs.Terms.{is_open, fits, next_fits}
 use Rattle.key_laws.proofs.Touches.{Comes, AllCome}
 use Rattle.key_states.proofs.Behind.{on_started, started_behind}
 
 -- ---- one touch
 
-settled_on : (s : Bool) (f : ℕ → Bool) (ks : Keys) (j : ℕ) → is_on_there (settled s f ks) j ≡ true
+settled_on : (s : Bool) (f : ℕ → Bool) (ks : Keys) (j : ℕ) → is_on_there (keys_settled s f ks) j ≡ true
     → is_on_there ks j ≡ true
 settled_on s f ks j on = grind arith
 
@@ -94,19 +94,19 @@ record Shaped (s : Bool) (ts : List Touch) : Type 0 where
   shape : Shape
   is : IsAt s ts shape
 
-first_shaped : (s : Bool) (ts more : List Touch) → AllCome s ts more → Shaped s (behind ts more) → Shaped s ts
+first_shaped : (s : Bool) (ts more : List Touch) → AllCome s ts more → Shaped s (touches_after ts more) → Shaped s ts
 first_shaped s ts [] all last = last
 first_shaped s ts (t ∷ more) all last = record { shape = all.0.shape; is = all.0.is }
 
-behind_stays : (s : Bool) (ts more : List Touch) → AllCome s ts more → Shaped s (behind ts more) → StaysGone s ts
-    → StaysGone s (behind ts more)
+behind_stays : (s : Bool) (ts more : List Touch) → AllCome s ts more → Shaped s (touches_after ts more) → StaysGone s ts
+    → StaysGone s (touches_after ts more)
 behind_stays s ts [] all last stays = stays
 behind_stays s ts (t ∷ more) all last stays =
     let at = first_shaped s (t ∷ ts) more all.1 last in
     behind_stays s (t ∷ ts) more all.1 last (one_stays s ts t at.shape all.0 at.is (newest s ts stays), stays)
 
 -- event by event, and touch by touch
-pub stays_gone : (plan : KeyPlan) (h : History) → CauseLaw plan h → (p : Place) → StaysGone p.sends (moments h p)
+pub stays_gone : (plan : KeyPlan) (h : History) → KeyCauseLaw plan h → (p : KeyPlace) → StaysGone p.sends (moments h p)
 unfolding moments
 stays_gone plan [] cause p = tt
 stays_gone plan ((e, x) ∷ h) cause p =

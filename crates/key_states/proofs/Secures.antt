@@ -1,11 +1,12 @@
 -- No move of a refresh takes a port out of Secure.
 use Rattle.key_states.proofs.Terms.{◌≡◌, ℕ, Bool, true, false, Option, Some, None, [], ◌∷◌, refl, ap, ◌∙◌, arith, ◌&&◌}
-use Rattle.key_states.proofs.Terms.{◌||◌, if◌then◌else◌, Host, Event, Loss, StreamStatus, Verdict, KeyPlan, Place}
-use Rattle.key_states.proofs.Terms.{place_at, places_of, is_on_stream}
+use Rattle.key_states.proofs.Terms.{◌||◌, if◌then◌else◌, Host, Event, Loss, StreamStatus, Verdict, KeyPlan, KeyPlace}
+use Rattle.key_states.proofs.Terms.{key_place_at, places_of, is_on_stream}
 use Rattle.key_states.proofs.Terms.{keys, Op, Reach, work_of, reach_of, op_after, operated, History, manager, op_of}
-use Rattle.key_states.proofs.Terms.{draws, worked, on_it, behind, moments, keys_at, is_keyed, has_key, has_all}
-use Rattle.key_states.proofs.Terms.{fails_at, failed, status_by, status_of}
-use Rattle.key_states.proofs.Terms.{PortView, ports_at, refresh_on, due, CauseLaw, StaysSecure, StaysSecureAt}
+use Rattle.key_states.proofs.Terms.{draws, worked, on_it, touches_after, moments, keys_there, keeps_live, has_key}
+use Rattle.key_states.proofs.Terms.{has_all}
+use Rattle.key_states.proofs.Terms.{fails_there, failed_there, status_by, status_of}
+use Rattle.key_states.proofs.Terms.{PortView, ports_at, refresh_on, key_due, KeyCauseLaw, StaysSecure, StaysSecureAt}
 use Rattle.key_states.proofs.Terms.{done, is_cut, performed_is, may_refresh, unless_open, ◌⊎◌}
 use Rattle.std.specs.List.{list_all}
 use Rattle.key_laws.proofs.Terms.{Side, SubKind}
@@ -22,18 +23,18 @@ refreshed_up : (q : Op) (next : ℕ) (r : Reach) → is_up (op_after (work_of op
 refreshed_up q next r = grind arith
 
 place_keyed : (plan : KeyPlan) (h : History) (link stream : ℕ) (loss : Option Loss) (x : Verdict)
-    → CauseLaw plan ((event.Refresh link stream loss, x) ∷ h)
-    → (p : Place) → (p.link ≡ link) × (p.stream ≡ stream) → is_keyed (keys_at h p) ≡ true
-    → is_keyed (keys_at ((event.Refresh link stream loss, x) ∷ h) p) ≡ true
+    → KeyCauseLaw plan ((event.Refresh link stream loss, x) ∷ h)
+    → (p : KeyPlace) → (p.link ≡ link) × (p.stream ≡ stream) → keeps_live (keys_there h p) ≡ true
+    → keeps_live (keys_there ((event.Refresh link stream loss, x) ∷ h) p) ≡ true
 unfolding manager moments
 place_keyed plan h link stream loss x cause p same keyed = by_reach (reach_of op.Refresh x)
     (keyed_up plan ((event.Refresh link stream loss, x) ∷ h) cause p)
   where
     by_reach : (r : Option Reach) → (is_up ((operated (manager h) op.Refresh link stream r).ops p.link p.stream) ≡ true
-        → is_keyed (keys p.sends (behind (moments h p)
+        → keeps_live (keys p.sends (touches_after (moments h p)
         (on_it (is_on_stream p link stream) (worked (work_of op.Refresh (op_of h link stream) (draws h)) r p)))) ≡ true)
-        → is_keyed (keys p.sends
-        (behind (moments h p)
+        → keeps_live (keys p.sends
+        (touches_after (moments h p)
         (on_it (is_on_stream p link stream) (worked (work_of op.Refresh (op_of h link stream) (draws h)) r p))))
         ≡ true
     by_reach None up = rw (on_same p link stream same) keyed
@@ -43,22 +44,23 @@ place_keyed plan h link stream loss x cause p same keyed = by_reach (reach_of op
 
 refresh_free_as : (has : Bool) (plan : KeyPlan) (q : Op) (next : ℕ) (ports : PortView) (host : StreamStatus)
     (link stream : ℕ) (x : Verdict) (side : Side)
-    → (x ≡ done link stream (work_of op.Refresh q next)) ⊎ (is_cut x ≡ true) → fails_at side link stream
+    → (x ≡ done link stream (work_of op.Refresh q next)) ⊎ (is_cut x ≡ true) → fails_there side link stream
     (if has then may_refresh plan next q host (unless_open ports link stream (work_of op.Refresh q next).set) x
     else v.Nothing) ≡ false
 refresh_free_as has plan q next ports host link stream x side performs = grind arith
 
 refresh_free : (has : Bool) (plan : KeyPlan) (q : Op) (next : ℕ) (ports : PortView) (host : StreamStatus)
     (link stream : ℕ) (loss : Option Loss) (side : Side)
-    → fails_at side link stream (if has then refresh_on plan q next ports host link stream loss else v.Nothing) ≡ false
+    → fails_there side link stream (if has then refresh_on plan q next ports host link stream loss else v.Nothing)
+    ≡ false
 refresh_free has plan q next ports host link stream loss side = refresh_free_as has plan q next ports host link stream _
     side (performed_is ports link stream loss (work_of op.Refresh q next))
 
 -- ---- all six places
 
-six_keyed : (test other : Place → Bool) (side : Side) (link stream : ℕ)
-    → ((upward : Bool) (u : SubKind) → test (place_at side link stream upward u) ≡ true
-    → other (place_at side link stream upward u) ≡ true)
+six_keyed : (test other : KeyPlace → Bool) (side : Side) (link stream : ℕ)
+    → ((upward : Bool) (u : SubKind) → test (key_place_at side link stream upward u) ≡ true
+    → other (key_place_at side link stream upward u) ≡ true)
     → list_all test (places_of side link stream) ≡ true → list_all other (places_of side link stream) ≡ true
 six_keyed test other side link stream leads all = grind arith
 
@@ -71,25 +73,25 @@ secure_is : (a b has some all : Bool) → a ≡ false → b ≡ false → all �
 secure_is a b has some all e f g = grind arith
 
 refresh_stays : (plan : KeyPlan) (h : History) (link stream : ℕ) (loss : Option Loss) (x : Verdict)
-    → CauseLaw plan ((event.Refresh link stream loss, x) ∷ h) → StaysSecureAt h (event.Refresh link stream loss) x
-unfolding failed due
+    → KeyCauseLaw plan ((event.Refresh link stream loss, x) ∷ h) → StaysSecureAt h (event.Refresh link stream loss) x
+unfolding failed_there key_due
 refresh_stays plan h link stream loss x cause side secure =
-    let says = secure_says (failed h side link stream) (has_key (keys_at h) side link stream)
-    (has_all (keys_at h) side link stream) secure in
-    let all = six_keyed (λ p. is_keyed (keys_at h p))
-    (λ p. is_keyed (keys_at ((event.Refresh link stream loss, x) ∷ h) p)) side link stream
-    (λ upward u keyed. place_keyed plan h link stream loss x cause (place_at side link stream upward u) (refl, refl)
+    let says = secure_says (failed_there h side link stream) (has_key (keys_there h) side link stream)
+    (has_all (keys_there h) side link stream) secure in
+    let all = six_keyed (λ p. keeps_live (keys_there h p))
+    (λ p. keeps_live (keys_there ((event.Refresh link stream loss, x) ∷ h) p)) side link stream
+    (λ upward u keyed. place_keyed plan h link stream loss x cause (key_place_at side link stream upward u) (refl, refl)
     keyed) says.1 in
     let free = refresh_free (plan.has_stream link stream) plan (op_of h link stream) (draws h) (ports_at h)
     (status_of h Host link stream) link stream loss side in
-    secure_is (fails_at side link stream x) (failed h side link stream) _ _ _
-    (ap (fails_at side link stream) cause.0 ∙ free) says.0 all
+    secure_is (fails_there side link stream x) (failed_there h side link stream) _ _ _
+    (ap (fails_there side link stream) cause.0 ∙ free) says.0 all
 
-stays_at_pair : (plan : KeyPlan) (h : History) (e : Event) (x : Verdict) → CauseLaw plan ((e, x) ∷ h)
+stays_at_pair : (plan : KeyPlan) (h : History) (e : Event) (x : Verdict) → KeyCauseLaw plan ((e, x) ∷ h)
     → StaysSecureAt h e x
 stays_at_pair plan h (event.Refresh link stream loss) x cause = refresh_stays plan h link stream loss x cause
 stays_at_pair plan h _ x cause = tt
 
-pub stays_secure : (plan : KeyPlan) (h : History) → CauseLaw plan h → StaysSecure h
+pub stays_secure : (plan : KeyPlan) (h : History) → KeyCauseLaw plan h → StaysSecure h
 stays_secure plan [] cause = tt
 stays_secure plan ((e, x) ∷ h) cause = (stays_at_pair plan h e x cause, stays_secure plan h cause.2)

@@ -3,17 +3,17 @@ use Rattle.std.proofs.Common.{◌≡◌, ◌∙◌, ℕ, ◌+◌, ◌<◌, ◌�
 use Rattle.std.proofs.Common.{nat_lt, length-take, get_or-take, take-take, take_all}
 use Rattle.std.proofs.lemmas.List.{get_or_past}
 use Rattle.std.proofs.lemmas.Bool.{lt-ltb, le-ltb, cases_lt}
-use Rattle.text_lines.specs.Pieces.{pieces}
+use Rattle.line_runs.specs.Pieces.{pieces}
 use Rattle.link_events.specs.declared.fault.LineFault.{LineFault}
 use Rattle.line_runs.specs.Outcome.{Due}
 use Rattle.line_runs.specs.Gain.{Text}
-use Rattle.line_runs.specs.Lines.{cut_at, file_due, file_limit, process}
+use Rattle.line_runs.specs.Lines.{bytes_for_lines, file_due, file_limit, process}
 
-pub cut_short : (limit : ℕ) (bytes : Text) → length bytes ≤ limit → bytes ≡ cut_at limit bytes
+pub cut_short : (limit : ℕ) (bytes : Text) → length bytes ≤ limit → bytes ≡ bytes_for_lines limit bytes
 cut_short limit bytes le = sym (rw (get_or_past bytes limit 10 le) (take_all limit bytes le))
 
--- the front of a file is cut where the file is
-front_cut_at : (limit : ℕ) (file : Text) → cut_at limit (take (limit + 1) file) ≡ cut_at limit file
+-- the first bytes of a file are cut where the file is
+front_cut_at : (limit : ℕ) (file : Text) → bytes_for_lines limit (take (limit + 1) file) ≡ bytes_for_lines limit file
 front_cut_at limit file =
     let one : limit < limit + 1 = omega arith in
     let two : limit ≤ limit + 1 = omega arith in
@@ -36,7 +36,7 @@ over_at limit file = elim (cases_lt limit (length file)) [
 -- what is due for a file of which so many bytes count
 abbrev limit_due : {S : Type 0} → ℕ → (S → ℕ → Text → Result (S × Text) LineFault) → (S → Text) → S → Text → Due
 limit_due limit advance closing s file = process advance closing (nat_lt limit (length file)) 1 s
-    (pieces (cut_at limit file))
+    (pieces (bytes_for_lines limit file))
 
 limit_front : {S : Type 0} (limit : ℕ) (advance : S → ℕ → Text → Result (S × Text) LineFault) (closing : S → Text)
     (s : S) (file : Text) → limit_due limit advance closing s (take (limit + 1) file)
@@ -45,7 +45,7 @@ limit_front limit advance closing s file =
     let f : Bool → Text → Due = λ over text. process advance closing over 1 s (pieces text) in
     ap₂ f (over_at limit file) (front_cut_at limit file)
 
--- the same is due for the front of a file with one byte more than those that count
+-- the same is due for the first bytes of a file, one more than those that count
 pub front_due : {S : Type 0} (advance : S → ℕ → Text → Result (S × Text) LineFault) (closing : S → Text) (s : S)
     (file : Text) → file_due advance closing s (take (file_limit + 1) file) ≡ file_due advance closing s file
 front_due advance closing s file = limit_front file_limit advance closing s file

@@ -1,7 +1,7 @@
--- A file of which a front was run: the run ends as is due of the whole file. By `FileSoFar` what is due of it, whatever
--- is left, is the text of the lines that ended and then what is due from the open line on. Each end puts its own rest
--- in: any at a line that ends the run, none at the end of the file, one byte at the limit (hard: a line feed there ends
--- nothing). At a fault nothing is due of the open line, which has at most 20,000 bytes.
+-- A file of which a prefix was run: the run ends as is due of the whole file. By `FileSoFar` what is due of it,
+-- whatever is left, is the text of the lines that ended and then what is due from the open line on. Each end puts its
+-- own rest in: any at a line that ends the run, none at the end of the file, one byte at the limit (hard: a line feed
+-- there ends nothing). At a fault nothing is due of the open line, which has at most 20,000 bytes.
 use Rattle.std.proofs.Common.{◌≡◌, ◌==◌, ◌∙◌, ℕ, zero, suc, ◌+◌, ◌-◌, ◌<◌, ◌≤◌, List, [], ◌∷◌, ◌++◌, length, Bool, true}
 use Rattle.std.proofs.Common.{false, Option, Some, None, Result, Ok, Err, refl, sym, ap, ap₂, inl, inr, ◌⊎◌, subst}
 use Rattle.std.proofs.Common.{arith, append_assoc, length-append, nat_lt, take, option_map}
@@ -12,7 +12,7 @@ use Rattle.std.proofs.lemmas.List.{append-nil}
 use Rattle.std.proofs.lemmas.Bool.{lt-ltb, le-ltb, ltb-false}
 use Rattle.ide_base.specs.Outside.{Contents, Rose, ShelfCause, ShelfSeen, SinkSeen}
 use Rattle.ide_base.specs.declared.shelf.ShelfFault.{ShelfFault}
-use Rattle.text_lines.specs.Pieces.{pieces}
+use Rattle.line_runs.specs.Pieces.{pieces}
 use Rattle.link_events.specs.declared.fault.LineFault.{LineFault}
 use Rattle.link_events.specs.declared.fault.LineFault.TheVariants as line
 use Rattle.line_runs.specs.declared.ends.End.{End}
@@ -22,10 +22,13 @@ use Rattle.line_runs.specs.declared.ends.Fault.TheVariants as fault
 use Rattle.line_runs.specs.Front.{Gave, bytes_of, IsReadIn, IsReadOf, IsWholeIn, IsWholeOf, ReadsOn}
 use Rattle.line_runs.specs.Gain.{Text, Gained, GainedMore, IsFront}
 use Rattle.line_runs.specs.Outcome.{Due, EndsDue, EndsOn, Quiet, IsWholeLines, Ran, RanOn, SomeFront}
-use Rattle.line_runs.specs.Lines.{after, cut_at, cut_text, file_due, file_limit, go_on, is_over, process, refusal}
+use Rattle.line_runs.specs.Lines.{after, bytes_for_lines, cut_text, file_due, file_limit, go_on, is_over, process}
+use Rattle.line_runs.specs.Lines.{refusal}
 use Rattle.line_runs.specs.Lines.{unended}
-use Rattle.line_runs.specs.Gathering.{GainedAt, Gathered, GoesOn, NoFurther, ReadAsFar, ReadAsFarOf, SoFar, WroteEnded}
-use Rattle.line_runs.specs.Gathering.{WroteEndedIn, WroteEndedOf, behind, due_behind, ended_text, last_piece, limit_due}
+use Rattle.line_runs.specs.Gathering.{GainedAt, IsPartGathered, GoesOn, NoFurther, ReadAsFar, ReadAsFarOf, SoFar}
+use Rattle.line_runs.specs.Gathering.{WroteEnded}
+use Rattle.line_runs.specs.Gathering.{WroteEndedIn, WroteEndedOf, pieces_after, due_behind, ended_text, last_piece}
+use Rattle.line_runs.specs.Gathering.{limit_due}
 use Rattle.line_runs.specs.Gathering.{open_line, waiting_at}
 use Rattle.line_runs.proofs.Cuttings.{cut_short}
 use Rattle.line_runs.proofs.Fronts.{start}
@@ -51,7 +54,7 @@ pub record FileSoFarBy {S : Type 0} (follows : S → Type 0) (advance : S → �
   pub followed : follows past
   pub so_far : FileSoFar advance closing first told name at n past before o0 o1
 
--- ahead of the first byte
+-- before the first byte
 pub file_begins : {S : Type 0} (advance : S → ℕ → Text → Result (S × Text) LineFault) (closing : S → Text) (first : S)
     (told : Option Contents) (name : Text) (n : ℕ) (before : Text) (sink : SinkSeen) → n ≡ 1 → before ≡ []
     → FileSoFar advance closing first told name 0 n first before sink sink
@@ -102,7 +105,7 @@ file_goes_on advance closing first told name at n m k s t before now piece o0 o1
           (piece_ahead advance closing first told name at n s before piece o0 o1 f) more.goes_on more.whole more.gained;
     }
 
--- ---- what is due of a file, by a front of it
+-- ---- what is due of a file, by a prefix of it
 
 take_front : (limit : ℕ) (front rest : Text) → length front ≤ limit → take limit (front ++ rest) ≡ front
     ++ take (limit - length front) rest
@@ -110,9 +113,9 @@ take_front limit front rest le =
     let sum : limit ≡ length front + (limit - length front) = omega arith in
     ap (λ (k : ℕ). take k (front ++ rest)) sum ∙ take-append-add front rest (limit - length front)
 
--- the bytes that lines are cut from begin with each front that counts
+-- the bytes that lines are cut from begin with each prefix that counts
 front_of_cut : (limit : ℕ) (front file : Text) → IsFront front file → length front ≤ limit
-    → IsFront front (cut_at limit file)
+    → IsFront front (bytes_for_lines limit file)
 front_of_cut limit front file (rest, e) le = by_feed (slice_index_or file limit 10 == 10)
   where
     by_feed : (b : Bool) → IsFront front (if b then take limit file else take (limit + 1) file)
@@ -123,7 +126,7 @@ front_of_cut limit front file (rest, e) le = by_feed (slice_index_or file limit 
           (take (limit + 1)) e,
     )
 
--- the run of a file ends at some end of the run behind a front of it
+-- the run of a file ends at some end of the run after a prefix of it
 in_file : {S : Type 0} (advance : S → ℕ → Text → Result (S × Text) LineFault) (closing : S → Text) (first : S)
     (file : Option Text) (front : Text) (s0 s1 : ℕ) (o0 o1 : SinkSeen) (r : Result End Fault) → IsReadIn file front
     → 0 < length
@@ -225,7 +228,7 @@ end_of_file advance closing first name at n s before s0 s1 o0 o1 o2 r f whole le
 -- ---- the first byte that counts no more
 
 cut_seam : (limit : ℕ) (front rest : Text) (byte : ℕ) → length front ≡ limit
-    → cut_at limit ((front ++ byte ∷ []) ++ rest) ≡ (if byte == 10 then front else front ++ byte ∷ [])
+    → bytes_for_lines limit ((front ++ byte ∷ []) ++ rest) ≡ (if byte == 10 then front else front ++ byte ∷ [])
 cut_seam limit front rest byte size =
     let file = front ++ byte ∷ rest in
     let joined : (front ++ byte ∷ []) ++ rest ≡ file = append_assoc front (byte ∷ []) rest in
@@ -235,10 +238,10 @@ cut_seam limit front rest byte size =
     in
     let long : take (limit + 1) file ≡ front ++ byte ∷ [] = ap (λ (k : ℕ). take (k + 1) file) (sym size) ∙
     take-append-add front (byte ∷ rest) 1 in
-    ap (cut_at limit) joined ∙ by_feed file there short long
+    ap (bytes_for_lines limit) joined ∙ by_feed file there short long
   where
     by_feed : (file : Text) → slice_index_or file limit 10 ≡ byte → take limit file ≡ front → take (limit + 1) file
-        ≡ front ++ byte ∷ [] → cut_at limit file ≡ (if byte == 10 then front else front ++ byte ∷ [])
+        ≡ front ++ byte ∷ [] → bytes_for_lines limit file ≡ (if byte == 10 then front else front ++ byte ∷ [])
     by_feed file there short long = rw (there, short, long) refl
 
 unended_at : {S : Type 0} (advance : S → ℕ → Text → Result (S × Text) LineFault) (closing : S → Text) (n : ℕ) (s : S)
@@ -250,7 +253,7 @@ unended_by : {S : Type 0} (advance : S → ℕ → Text → Result (S × Text) L
     → due_behind advance closing true n s before (byte ∷ []) ≡ unended n (before ++ byte ∷ [])
 unended_by advance closing n s before byte is =
     let one : pieces (byte ∷ []) ≡ (byte ∷ []) ∷ [] = rw is refl in
-    ap (λ (ps : List Text). process advance closing true n s (behind before ps)) one
+    ap (λ (ps : List Text). process advance closing true n s (pieces_after before ps)) one
 
 limit_ran : {S : Type 0} (advance : S → ℕ → Text → Result (S × Text) LineFault) (closing : S → Text) (first : S)
     (told : Option Contents) (name : Text) (at n : ℕ) (s : S) (before : Text) (byte : ℕ) (o0 o1 o2 : SinkSeen)
@@ -319,7 +322,7 @@ end_at_limit advance closing first name at n s before byte s0 s1 o0 o1 o2 r f is
 abbrev unended_short : Due
 unended_short = (end.TooLong, [])
 
--- the lines that ended in the front have their text, and the one that has begun is not too long
+-- the lines that ended in the prefix have their text, and the one that has begun is not too long
 ended_there : {S : Type 0} (advance : S → ℕ → Text → Result (S × Text) LineFault) (closing : S → Text) (first : S)
     (told : Option Contents) (name : Text) (at n : ℕ) (s : S) (before : Text) (o0 o1 : SinkSeen)
     → (f : FileSoFar advance closing first told name at n s before o0 o1) → length before ≤ 20000
@@ -367,7 +370,7 @@ open_line_short advance closing first told name at n s before o0 o1 f short =
     last_short advance closing 1 first (pieces f.front)
     (ap (λ (d : Due). d.0) (ended_there advance closing first told name at n s before o0 o1 f short))
 
-all_gained : (o0 o1 : SinkSeen) (text : Text) → Gathered text [] o0 o1 → Gained o0.held o1.held text
+all_gained : (o0 o1 : SinkSeen) (text : Text) → IsPartGathered text [] o0 o1 → Gained o0.held o1.held text
 all_gained o0 o1 text g = let P : Text → Type 0 = λ t. Gained o0.held o1.held t in subst P (sym (append-nil g.0) ∙ g.1)
     g.2
 
@@ -487,7 +490,7 @@ more_gained : (h0 h1 h2 : Option Text) (text later : Text) → Gained h0 h1 text
     → GainedMore h0 h2 text
 more_gained h0 h1 h2 text later was (front, is, gained) = (front, gained_more h0 h1 h2 text front was gained)
 
--- what runs behind the lines that ended is cut off
+-- what runs after the lines that ended is cut off
 pub cut_wrote : {S : Type 0} (advance : S → ℕ → Text → Result (S × Text) LineFault) (closing : S → Text) (first : S)
     (name : Text) (at n : ℕ) (s : S) (before piece : Text) (s0 s1 : ShelfSeen) (o0 o1 o2 : SinkSeen) (last : Due)
     (r : Result End Fault)
@@ -507,7 +510,7 @@ cut_wrote advance closing first name at n s before piece s0 s1 o0 o1 o2 last (Er
     fault_wrote advance closing first fault.Memory name at n s before piece s0 s1 o0 o1 o2 f read short few gave
     (λ text was. more_gained o0.held o1.held o2.held text last.1 was ran)
 
--- memory is wanting ahead of the first read
+-- memory is wanting before the first read
 pub nothing_wrote : {S : Type 0} (advance : S → ℕ → Text → Result (S × Text) LineFault) (closing : S → Text) (first : S)
     (name : Text) (shelf : ShelfSeen) (sink : SinkSeen)
     → WroteEnded fault.Memory (ended_text advance closing first) name shelf shelf sink sink

@@ -1,4 +1,4 @@
--- A file that is read from its front.
+-- A file that is read from its beginning.
 use Rattle.std.proofs.Common.{◌≡◌, ◌<◌, ◌≤◌, ◌+◌, ℕ, [], ◌∷◌, ◌++◌, Option, Some, None, Result, Ok, Err, subst, refl}
 use Rattle.std.proofs.Common.{sym, ap, ◌∙◌, append_assoc, take, drop, length, arith, length-append}
 use Rattle.std.proofs.Math.Seq.{drop-append_seam, take-append_seam}
@@ -41,7 +41,7 @@ pub reads_on : (told : Option Contents) (name read buf : Text) (n : ℕ) → 0 <
 reads_on None name read buf n room h front = (tt, λ z. tt)
 reads_on (Some contents) name read buf n room h front = more_in (contents name) read buf n room h front
 
--- a piece at the front of a buffer
+-- a piece at the beginning of a buffer
 pub piece_read : (told : Option Contents) (name : Text) (r : Result ℕ ShelfFault) (at : ℕ) (part rest : Text)
     → 0 < length part → IfOk r (λ n. n ≤ length part) → ReadFrom told name at r part
     → IfOk r (λ n. (front : Text) → length front ≡ at → IsReadOf told name front
@@ -71,7 +71,7 @@ pub whole : (told : Option Contents) (name read : Text) (most : ℕ) → IsWhole
 whole None name read most h le = tt
 whole (Some contents) name read most h le = whole_in (contents name) read most h le
 
--- where the file is not there, nothing was read: but then there was no read
+-- if the file is not there, nothing was read: but then there was no read
 full_in : (file : Option Text) (read : Text) (most : ℕ) → IsReadIn file read → 0 < length read → length read ≡ most
     → FrontIn most file read
 full_in None read most e some long = absurd (omega (arith, ap length e))
@@ -95,7 +95,7 @@ pub gave_of : (told : Option Contents) (name read : Text) (before now : ℕ) →
 gave_of None name read before now is gave = tt
 gave_of (Some contents) name read before now is gave = gave_in (contents name) read before now is gave
 
--- at a place, and then behind it
+-- at a place, and then after it
 pub gave_on : (told : Option Contents) (name : Text) (at a b c : ℕ) → Gave a at b → GaveBehind told name at b c
     → GaveOf told name a c
 gave_on None name at a b c gave more = tt

@@ -1,3 +1,4 @@
+pub mod Cuts
 pub mod Gains
 pub mod Fronts
 pub mod Runs

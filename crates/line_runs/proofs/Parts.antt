@@ -1,4 +1,4 @@
--- A file that is run in pieces comes to what is due of the whole. By induction on the bytes of a front, its lines are
+-- A file that is run in pieces gives what is due of the whole. By induction on the bytes of a prefix, its lines are
 -- those of the whole, but for the last, which goes on in what comes later. So each line that ends in a piece, and each
 -- rest that is kept, takes what is due one step on, whatever is left; and `SoFar` joins such steps, with the text that
 -- they wrote or gathered. A rest that is too long ends the run, as its line can only be longer.
@@ -10,8 +10,8 @@ use Rattle.std.specs.List.{onto_first}
 use Rattle.std.proofs.lemmas.List.{append-nil}
 use Rattle.std.proofs.lemmas.Bool.Decides.{nat_tests}
 use Rattle.ide_base.specs.Outside.{SinkSeen}
-use Rattle.text_lines.specs.Pieces.{pieces}
-use Rattle.text_lines.proofs.Cuts.{HasFirst, ends_line, some}
+use Rattle.line_runs.specs.Pieces.{pieces}
+use Rattle.line_runs.proofs.Cuts.{HasFirst, ends_line, some}
 use Rattle.link_events.specs.declared.fault.LineFault.{LineFault}
 use Rattle.link_events.specs.declared.fault.LineFault.TheVariants.{TooLong}
 use Rattle.line_runs.specs.declared.ends.End.{End}
@@ -19,15 +19,15 @@ use Rattle.line_runs.specs.declared.ends.Fault.{Fault}
 use Rattle.line_runs.specs.Gain.{Text, Gained}
 use Rattle.line_runs.specs.Outcome.{Due, IsWholeLines, Ran}
 use Rattle.line_runs.specs.Lines.{after, process, refusal}
-use Rattle.line_runs.specs.Gathering.{CutIn, EndsIn, Gathered, PieceRan, SoFar, behind, due_behind}
+use Rattle.line_runs.specs.Gathering.{CutIn, EndsIn, IsPartGathered, PieceRan, SoFar, pieces_after, due_behind}
 use Rattle.line_runs.proofs.Gains.{gained_more}
 use Rattle.line_runs.proofs.Runs.{cut_later, process_line, ran_later}
 
--- ---- the pieces of two texts, one behind the other
+-- ---- the pieces of two texts, one after the other
 
 joined : List Text → List Text → List Text
 joined [] later = later
-joined (piece ∷ []) later = behind piece later
+joined (piece ∷ []) later = pieces_after piece later
 joined (piece ∷ next ∷ rest) later = piece ∷ joined (next ∷ rest) later
 
 joined_cons : (piece : Text) (rest later : List Text) → HasFirst rest → joined (piece ∷ rest) later ≡ piece
@@ -35,7 +35,8 @@ joined_cons : (piece : Text) (rest later : List Text) → HasFirst rest → join
 unfolding joined
 joined_cons piece rest later h = rw h.is refl
 
-onto_behind : (x : ℕ) (piece : Text) (later : List Text) → onto_first x (behind piece later) ≡ behind (x ∷ piece) later
+onto_behind : (x : ℕ) (piece : Text) (later : List Text) → onto_first x (pieces_after piece later)
+    ≡ pieces_after (x ∷ piece) later
 onto_behind x piece [] = refl
 onto_behind x piece (next ∷ rest) = refl
 
@@ -50,7 +51,7 @@ joined_step : (x : ℕ) (ends : Bool) (front later all : List Text) → HasFirst
 joined_step x true front later all h e = ap (λ (ps : List Text). [] ∷ ps) e ∙ sym (joined_cons [] front later h)
 joined_step x false front later all h e = ap (onto_first x) e ∙ rw h.is (onto_joined x h.first h.rest later)
 
-pub behind_none : (text : Text) → behind [] (pieces text) ≡ pieces text
+pub behind_none : (text : Text) → pieces_after [] (pieces text) ≡ pieces text
 behind_none text = let h = some text in rw h.is refl
 
 pieces_joined : (front later : Text) → pieces (front ++ later) ≡ joined (pieces front) (pieces later)
@@ -61,30 +62,30 @@ pieces_joined (x ∷ front) later = joined_step x (ends_line x) (pieces front) (
 
 -- the first line that ends in a piece
 line_behind : (before rest line later left : Text) → pieces rest ≡ line ∷ pieces later
-    → behind before (pieces (rest ++ left)) ≡ (before ++ line) ∷ pieces (later ++ left)
+    → pieces_after before (pieces (rest ++ left)) ≡ (before ++ line) ∷ pieces (later ++ left)
 line_behind before rest line later left e =
     let cut : pieces (rest ++ left) ≡ line ∷ pieces (later ++ left) =
     pieces_joined rest left ∙ ap (λ (ps : List Text). joined ps (pieces left)) e ∙ joined_cons line (pieces later)
     (pieces left) (some later)
     ∙ ap (λ (ps : List Text). line ∷ ps) (sym (pieces_joined later left)) in
-    ap (behind before) cut
+    ap (pieces_after before) cut
 
 -- no line ends in the rest of a piece
-rest_behind : (before rest left : Text) → pieces rest ≡ rest ∷ [] → behind before (pieces (rest ++ left))
-    ≡ behind (before ++ rest) (pieces left)
+rest_behind : (before rest left : Text) → pieces rest ≡ rest ∷ [] → pieces_after before (pieces (rest ++ left))
+    ≡ pieces_after (before ++ rest) (pieces left)
 unfolding joined
 rest_behind before rest left e =
-    let cut : pieces (rest ++ left) ≡ behind rest (pieces left) = pieces_joined rest left ∙ ap
+    let cut : pieces (rest ++ left) ≡ pieces_after rest (pieces left) = pieces_joined rest left ∙ ap
     (λ (ps : List Text). joined ps (pieces left)) e in
-    ap (behind before) cut ∙ two (pieces left)
+    ap (pieces_after before) cut ∙ two (pieces left)
   where
-    two : (parts : List Text) → behind before (behind rest parts) ≡ behind (before ++ rest) parts
+    two : (parts : List Text) → pieces_after before (pieces_after rest parts) ≡ pieces_after (before ++ rest) parts
     two [] = refl
     two (part ∷ parts) = ap (λ (t : Text). t ∷ parts) (sym (append_assoc before rest part))
 
 -- ---- what is due
 
--- a line came to a text
+-- a line gave a text
 pub line_came : {S : Type 0} (advance : S → ℕ → Text → Result (S × Text) LineFault) (closing : S → Text) (over : Bool)
     (n : ℕ) (s t : S) (before rest line later left w : Text) → pieces rest ≡ line ∷ pieces later
     → advance s n (before ++ line) ≡ Ok (t, w) → due_behind advance closing over n s before (rest ++ left)
@@ -150,7 +151,8 @@ long_rest advance closing over n s before rest left law long e =
     let piece = (before ++ rest) ++ h.first in
     let longer : nat_lt 20000 (length piece) ≡ true = simp length-append (grind (arith, nat_tests)) in
     let go : List Text → Due = λ ps. process advance closing over n s ps in
-    rest_kept advance closing over n s before rest left e ∙ ap (λ (ps : List Text). go (behind (before ++ rest) ps))
+    rest_kept advance closing over n s before rest left e ∙ ap
+    (λ (ps : List Text). go (pieces_after (before ++ rest) ps))
     h.is ∙ long_first advance closing over n s piece h.rest longer (law s n piece longer)
 
 -- ---- what was written and gathered
@@ -179,7 +181,7 @@ begins due later sink is = record {
 pub comes : (due mid later : Bool → Text → Due) (gathered now w : Text) (o0 o1 o2 : SinkSeen)
     → SoFar due mid gathered o0 o1 → ((over : Bool) (left : Text) → mid over left ≡ after w (later over left))
     → IsWholeLines w
-    → Gathered (gathered ++ w) now o1 o2 → SoFar due later now o0 o2
+    → IsPartGathered (gathered ++ w) now o1 o2 → SoFar due later now o0 o2
 comes due mid later gathered now w o0 o1 o2 so_far goes whole more =
     let was = so_far.gained in
     let spelled : (was.0 ++ more.0) ++ now ≡ so_far.text ++ w =
@@ -199,7 +201,7 @@ comes due mid later gathered now w o0 o1 o2 so_far goes whole more =
       );
     }
 
--- what is due later comes to its end
+-- what is due later reaches its end
 pub ends : (due mid : Bool → Text → Due) (gathered : Text) (last : Due) (o0 o1 o2 : SinkSeen) (r : Result End Fault)
     (over : Bool) (left : Text) → SoFar due mid gathered o0 o1 → mid over left ≡ last
     → Ran (after gathered last) o1 o2 r → Ran (due over left) o0 o2 r
@@ -230,7 +232,7 @@ cut_gathered due mid gathered o0 o1 o2 e over left so_far cut = cut_off due mid 
 
 -- all that was gathered is written
 pub put : (gathered : Text) (o1 o2 : SinkSeen) → Gained o1.held o2.held gathered → o2.faults ≡ o1.faults
-    → Gathered (gathered ++ []) [] o1 o2
+    → IsPartGathered (gathered ++ []) [] o1 o2
 put gathered o1 o2 gained same = (gathered, refl, gained, same)
 
 -- the run ends at a piece

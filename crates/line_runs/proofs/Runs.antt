@@ -3,8 +3,8 @@ use Rattle.std.proofs.Common.{◌≡◌, ◌==◌, ℕ, ◌+◌, List, [], ◌�
 use Rattle.std.proofs.Common.{refl, sym, ap, ◌∙◌, append_assoc}
 use Rattle.std.proofs.lemmas.List.{append-nil}
 use Rattle.ide_base.specs.Outside.{Rose}
-use Rattle.text_lines.specs.Pieces.{pieces}
-use Rattle.text_lines.proofs.Cuts.{some}
+use Rattle.line_runs.specs.Pieces.{pieces}
+use Rattle.line_runs.proofs.Cuts.{some}
 use Rattle.link_events.specs.declared.fault.LineFault.{LineFault}
 use Rattle.line_runs.specs.declared.ends.End.{End}
 use Rattle.line_runs.specs.declared.ends.End.TheVariants.{Done}
@@ -15,7 +15,7 @@ use Rattle.line_runs.specs.Outcome.{Due, CutOff, EndsBy, SomeFront}
 use Rattle.line_runs.specs.Lines.{after, go_on, process, refusal}
 use Rattle.line_runs.proofs.Gains.{gained_more}
 
--- a line, and the pieces behind it
+-- a line, and the pieces after it
 pub process_line : {S : Type 0} (advance : S → ℕ → Text → Result (S × Text) LineFault) (closing : S → Text)
     (over : Bool) (n : ℕ) (s : S) (line rest : Text)
     → process advance closing over n s (line ∷ pieces rest) ≡ go_on n (advance s n line)
@@ -65,7 +65,7 @@ cut_later fault.Write whole h0 h1 h2 f0 f1 f2 w part rest e gain same h =
 cut_later fault.Memory whole h0 h1 h2 f0 f1 f2 w part rest e gain same h = front_later h0 h1 h2 w part rest whole e gain
     h
 
--- a later part came to its end, or was cut off
+-- a later part reached its end, or was cut off
 pub ran_later : (r : Result End Fault) (due last : Due) (h0 h1 h2 : Option Text) (f0 f1 f2 : ℕ) (w : Text) → due
     ≡ after w last → Gained h0 h1 w → f1 ≡ f0
     → EndsBy last ⊥ (Rose f1 f2) (f2 ≡ f1) (Gained h1 h2) r → EndsBy due ⊥ (Rose f0 f2) (f2 ≡ f0) (Gained h0 h2) r

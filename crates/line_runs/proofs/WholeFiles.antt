@@ -12,7 +12,7 @@ use Rattle.line_runs.specs.Front.{FrontIn, StopCause}
 use Rattle.line_runs.specs.Gain.{Text, Gained}
 use Rattle.line_runs.specs.Outcome.{Due, Quiet, EndsBy, EndsBlind, EndsDue, EndsOn}
 
--- what is due where contents are told
+-- what is due if contents are told
 abbrev pub IsDue : Option Contents → (Contents → Option Due) → Due → Type 0
 IsDue None due last = Unit {0}
 IsDue (Some contents) due last = due contents ≡ Some last
@@ -94,7 +94,7 @@ pub out_of_memory : (told : Option Contents) (due : Contents → Option Due) (re
 out_of_memory None due read write quiet h = tt
 out_of_memory (Some contents) due read write quiet h = memory_told (due contents) read write quiet h
 
--- ---- the front of a file
+-- ---- the first bytes of a file
 
 due_in : (file : Option Text) (read : Text) (most : ℕ) (due : Text → Due) → FrontIn most file read
     → ((whole : Text) → read ≡ take most whole → due read ≡ due whole) → option_map due file ≡ Some (due read)

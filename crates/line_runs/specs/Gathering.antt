@@ -2,7 +2,7 @@
 use Rattle.std.specs.Prelude.{ℕ, ◌+◌, ◌-◌, ◌≡◌, ◌==◌, ◌≤◌, Bool, true, List, [], ◌∷◌, ◌++◌, length, take, Option, Some}
 use Rattle.std.specs.Prelude.{None, Result, Ok, Err, if◌then◌else◌}
 use Rattle.ide_base.specs.Outside.{Contents, Rose, ShelfSeen, SinkSeen}
-use Rattle.text_lines.specs.Pieces.{pieces}
+use Rattle.line_runs.specs.Pieces.{pieces}
 use Rattle.link_events.specs.declared.fault.LineFault.{LineFault}
 use Rattle.link_events.specs.Words.{line_limit}
 use Rattle.line_runs.specs.declared.ends.End.{End}
@@ -17,8 +17,8 @@ use Rattle.line_runs.specs.Outcome.{CutOff, Due, IsWholeLines, Ran}
 -- ---- what is gathered
 
 -- a prefix of a text was written, and the rest of it is gathered
-abbrev pub Gathered : (text gathered : Text) → (before now : SinkSeen) → Type 0
-Gathered text gathered before now = (written : Text) × (written ++ gathered ≡ text)
+abbrev pub IsPartGathered : (text gathered : Text) → (before now : SinkSeen) → Type 0
+IsPartGathered text gathered before now = (written : Text) × (written ++ gathered ≡ text)
     × Gained before.held now.held written × (now.faults ≡ before.faults)
 
 -- the writing of a text was cut off
@@ -27,20 +27,20 @@ CutIn text before now e = CutOff text ⊥ (Rose before.faults now.faults) (Gaine
 
 -- a text was gathered after an earlier one
 abbrev pub Gathers : (earlier text gathered : Text) → SinkSeen → SinkSeen → Result (Unit {0}) Fault → Type 0
-Gathers earlier text gathered before now (Ok u) = Gathered (earlier ++ text) gathered before now
+Gathers earlier text gathered before now (Ok u) = IsPartGathered (earlier ++ text) gathered before now
 Gathers earlier text gathered before now (Err e) = CutIn (earlier ++ text) before now e
 
 -- ---- piece by piece
 
--- pieces between line feeds, the first of which goes on from bytes that came before
-abbrev pub behind : Text → List Text → List Text
-behind before [] = before ∷ []
-behind before (piece ∷ rest) = (before ++ piece) ∷ rest
+-- pieces between line feeds; the first goes on from bytes that came before
+abbrev pub pieces_after : Text → List Text → List Text
+pieces_after before [] = before ∷ []
+pieces_after before (piece ∷ rest) = (before ++ piece) ∷ rest
 
 -- what is due of the bytes that are left, from line n on, of which some bytes came before
 abbrev pub due_behind : {S : Type 0} → (S → ℕ → Text → Result (S × Text) LineFault) → (S → Text) → Bool → ℕ → S
     → Text → Text → Due
-due_behind advance closing over n s before left = process advance closing over n s (behind before (pieces left))
+due_behind advance closing over n s before left = process advance closing over n s (pieces_after before (pieces left))
 
 -- What is due is a text and what is due later, for whatever is left of the file; that text is whole lines, and was
 -- written but for what is gathered.
@@ -48,7 +48,7 @@ pub record SoFar (due later : Bool → Text → Due) (gathered : Text) (before n
   pub text : Text
   pub goes_on : (over : Bool) (left : Text) → due over left ≡ after text (later over left)
   pub whole : IsWholeLines text
-  pub gained : Gathered text gathered before now
+  pub gained : IsPartGathered text gathered before now
 
 -- so it is of what is due later by some past that what is kept now follows
 pub record SoFarBy {S : Type 0} (follows : S → Type 0) (due : Bool → Text → Due) (later : S → Bool → Text → Due)
@@ -104,8 +104,8 @@ GainedAt fault.Read before now text = Gained before now text
 GainedAt fault.Write before now text = GainedMore before now text
 GainedAt fault.Memory before now text = GainedMore before now text
 
--- So many bytes of the file were given, all of which but those that may wait were run: the line that has begun in these
--- is within its limit, and the sink gained the text that is due of them. A file that is not there has no bytes.
+-- So many bytes of the file were given, and all but those that may wait were run: the line that has begun in these is
+-- within its limit, and the sink gained the text that is due of them. A file that is not there has no bytes.
 pub record WroteEndedIn (e : Fault) (text : Text → Text) (file : Text) (shelf shelf_now : ShelfSeen)
     (sink sink_now : SinkSeen) : Type 0 where
   pub given : ℕ
@@ -134,8 +134,8 @@ WroteEnded e text name shelf shelf_now sink sink_now = WroteEndedOf e text shelf
 abbrev pub GoesOn : {S : Type 0} → (S → ℕ → Text → Result (S × Text) LineFault) → (S → Text) → S → Text → Type 0
 GoesOn advance closing s bytes = (process advance closing true 1 s (pieces bytes)).0 ≡ end.TooLong
 
--- no more bytes of the file were given than it has, and in those that were given ahead of the last read no line ends
--- the run
+-- no more bytes of the file were given than it has, and in those that were given before the last read no line ends the
+-- run
 abbrev pub NoFurther : (Text → Type 0) → Text → (given ahead : ℕ) → Type 0
 NoFurther goes_on file given ahead = (given ≤ length file) × goes_on (take ahead file)
 

@@ -1,3 +1,4 @@
+pub mod Pieces
 pub mod Gain
 pub mod Front
 pub mod Outcome

@@ -2,7 +2,7 @@
 use Rattle.std.specs.Prelude.{ℕ, ◌+◌, ◌≡◌, ◌==◌, nat_lt, Bool, List, [], ◌∷◌, ◌++◌, length, take, Result, Ok, Err}
 use Rattle.std.specs.Prelude.{if◌then◌else◌}
 use Rattle.std.specs.List.{slice_index_or}
-use Rattle.text_lines.specs.Pieces.{pieces}
+use Rattle.line_runs.specs.Pieces.{pieces}
 use Rattle.link_events.specs.declared.fault.LineFault.{LineFault}
 use Rattle.link_events.specs.declared.fault.LineFault.TheVariants as line
 use Rattle.link_events.specs.declared.fault.LineError.{LineError}
@@ -22,17 +22,17 @@ is_over file = nat_lt file_limit (length file)
 
 -- The bytes that lines are cut from, of a file of which so many count: those, and the one after them, which may be one
 -- too many for the last line; but a line feed there ends nothing.
-abbrev pub cut_at : ℕ → Text → Text
-cut_at limit file = if slice_index_or file limit 10 == 10 then take limit file else take (limit + 1) file
+abbrev pub bytes_for_lines : ℕ → Text → Text
+bytes_for_lines limit file = if slice_index_or file limit 10 == 10 then take limit file else take (limit + 1) file
 
 abbrev pub cut_text : Text → Text
-cut_text file = cut_at file_limit file
+cut_text file = bytes_for_lines file_limit file
 
 -- a line that is not spelled
 abbrev pub refusal : ℕ → LineFault → Due
 refusal n fault = (Script, fault_line_of n fault)
 
--- a text ahead of what comes later
+-- a text before what comes later
 abbrev pub after : Text → Due → Due
 after text later = (later.0, text ++ later.1)
 

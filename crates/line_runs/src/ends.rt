@@ -1,6 +1,6 @@
 //! How a part of the program ends.
 
-/// How the program ends if nothing cuts it off.
+/// How the program ends if nothing cuts it off (this profile).
 #[derive(Clone, Copy, Debug, PartialEq, Eq)]
 pub enum End {
     /// All input was read, and all lines were written.
@@ -15,7 +15,7 @@ pub enum End {
     TooLong,
 }
 
-/// What cuts the program off.
+/// What cuts the program off (this profile).
 #[derive(Clone, Copy, Debug, PartialEq, Eq)]
 pub enum Fault {
     /// A file could not be read.

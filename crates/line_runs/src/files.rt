@@ -54,10 +54,10 @@ fn run_limit<O: Sink>(alloc: Global, lines: &Lines, byte: u8, out: &mut O) -> Re
     Ok(End::TooLong)
 }
 
-/// Reads the file of this name and writes the text of its lines, line by line. The file is read in pieces of at most
-/// 4,096 bytes, and no byte after byte 16,777,217 of it is asked for; what is due to the lines that end in a piece is
-/// written before the next one is read. A line is refused at its 20,001st byte. Returns a `Fault` if a read or a write
-/// failed or there was no memory.
+/// Reads the file of this name and writes the text of its lines, line by line (this profile). The file is read in
+/// pieces of at most 4,096 bytes, and no byte after byte 16,777,217 of it is asked for; what is due to the lines that
+/// end in a piece is written before the next one is read. A line is refused at its 20,001st byte. Returns a `Fault` if
+/// a read or a write failed or there was no memory.
 pub fn run_file<S: Shelf, O: Sink, W: LineWork>(
     alloc: Global,
     work: &mut W,

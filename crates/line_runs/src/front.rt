@@ -53,6 +53,7 @@ fn read_on<S: Shelf>(
 }
 
 /// Reads the first bytes of a file, at most `most` of them, and all if it has no more. No byte after them is asked for.
+/// Returns a `Stop` if a read failed or there was no memory.
 pub fn read_front<S: Shelf>(
     alloc: Global,
     shelf: &mut S,

@@ -7,6 +7,7 @@ mod front;
 mod gather;
 mod lines;
 mod pieces;
+mod split;
 mod writing;
 
 pub use ends::{End, Fault};

@@ -18,7 +18,7 @@ use std::alloc::Global;
 /// How many bytes of a file count (this profile).
 pub const FILE_LIMIT: usize = 16_777_216;
 
-/// What is written for the lines of a file, line by line.
+/// What is written for the lines of a file, line by line (this profile).
 pub trait LineWork {
     /// What is known of the lines so far.
     ghost Past: { Type 0 };
@@ -36,7 +36,7 @@ pub trait LineWork {
     /// The text that is written after the last line.
     ghost closing: { Self.Past → List ℕ };
 
-    /// The text of a line, without its line feed, of which the number counts from 1.
+    /// The text of a line without its line feed; lines are numbered from 1.
     fn line(&mut self, number: u64, line: &[u8]) -> Result<Bytes, LineError>
         requires number { number < 2 ^ 26 }
         requires fits { fits self.old number }

@@ -7,15 +7,15 @@ ghost use Rattle.line_runs.specs.Gathering.{PieceRan, due_behind};
 
 use crate::gather::{end_for_memory, flush, gather};
 use crate::lines::refuse_in;
+use crate::split::split_line;
 use crate::{End, Fault, LineWork};
 use ide_base::Sink;
 use ide_types::{Bytes, Memory};
 use link_events::{LINE_LIMIT, LineError, LineFault};
 use std::alloc::Global;
-use text_lines::split_line;
 
 /// The lines of a file that is read in pieces: the number of the next one, and the bytes of it that came in earlier
-/// pieces, of which there are at most 20,000. Room for them is reserved once.
+/// pieces, at most 20,000. Room for them is reserved once.
 #[derive(Drop)]
 pub(crate) struct Lines {
     pub(crate) number: u64,

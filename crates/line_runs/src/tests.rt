@@ -2,7 +2,7 @@
 ghost use Rattle.std.specs.Prelude.{◌≡◌, ◌∷◌, [], ◌++◌, codes, IfOk};
 ghost use Rattle.line_runs.specs.Copies.{copied as copied_of, long_copy, whole_copy};
 
-use crate::{End, FILE_LIMIT, Fault, LineWork, Stop, read_front, run_file, write};
+use crate::{End, Fault, LineWork, run_file};
 use ide_base::{MemShelf, MemSink, NamedFile};
 use ide_types::{Bytes, Memory};
 use link_events::{LINE_LIMIT, LineError, LineFault};
@@ -49,7 +49,7 @@ fn copied(alloc: Global, line: &[u8]) -> Result<Bytes, Memory>
 }
 
 // The end of a run over a file of these bytes, if the reads and the puts of these numbers fail.
-fn ran_failing(
+fn ran(
     alloc: Global,
     bytes: &[u8],
     reads: &[u64],
@@ -64,139 +64,43 @@ fn ran_failing(
     Ok((end, out))
 }
 
-// If the reads of these numbers fail.
-fn ran(alloc: Global, bytes: &[u8], reads: &[u64]) -> Result<(Result<End, Fault>, MemSink), Fail> {
-    ran_failing(alloc, bytes, reads, &[])
-}
-
+// Each read and each put of a file fails. What is due to the lines that ended before is written, and put before the next
+// read, which would fail in the rows of puts.
 #[test]
-fn reads_the_front(rt: HostRuntime) -> Result<(), Fail> {
+fn each_read_and_each_put_fails(rt: HostRuntime) -> Result<(), Fail> {
     let alloc = rt.alloc();
-    let name = String::from_str(alloc, "a")?;
-    let bytes = vec![in alloc; 7; 5000]?;
-    let files = vec![in alloc; NamedFile { name, bytes }]?;
-    let mut shelf = MemShelf::new(files, Vec::from_slice(alloc, &[4])?);
-    assert_eq!(rt;
-        read_front(alloc, &mut shelf, "a", 4500).map(|v| v.len()),
-        Ok(4500)
-    );
-    assert_eq!(rt;
-        read_front(alloc, &mut shelf, "a", 1).map(|v| v.len()),
-        Ok(1)
-    );
-    assert_eq!(rt;
-        read_front(alloc, &mut shelf, "a", 6000).map(|v| v.len()),
-        Err(Stop::Fault)
-    );
-    assert_eq!(rt;
-        read_front(alloc, &mut shelf, "a", 6000).map(|v| v.len()),
-        Ok(5000)
-    );
-    assert_eq!(rt;
-        read_front(alloc, &mut shelf, "b", 1).map(|v| v.len()),
-        Err(Stop::Fault)
-    );
-    Ok(())
-}
-
-#[test]
-fn runs_lines(rt: HostRuntime) -> Result<(), Fail> {
-    let alloc = rt.alloc();
-    let (end, out) = ran(alloc, b"ab\n\nc", &[])?;
-    assert_eq!(rt; end, Ok(End::Done));
-    assert_eq!(rt; out.bytes(), b"ab\n\nc\nend".as_slice());
-    let (end, out) = ran(alloc, b"", &[])?;
-    assert_eq!(rt; end, Ok(End::Done));
-    assert_eq!(rt; out.bytes(), b"end".as_slice());
-    let mut out = MemSink::new(alloc, Vec::from_slice(alloc, &[1])?);
-    assert_eq!(rt; write(&mut out, b"f"), Ok(()));
-    assert_eq!(rt; write(&mut out, b"g"), Err(Fault::Write));
-    Ok(())
-}
-
-// Two lines in the first piece, a third in the next two: at a fault, the lines that have ended are written.
-#[test]
-fn writes_piece_by_piece(rt: HostRuntime) -> Result<(), Fail> {
-    let alloc = rt.alloc();
-    let mut bytes = Vec::from_slice(alloc, b"a\nb\n")?;
-    bytes.resize(9000, b'c')?;
-    bytes.extend_from_slice(b"\nd")?;
-    let fronts: [usize; 4] = [0, 4, 4, 9001];
-    for (n, front) in fronts.iter().enumerate() {
-        let (end, out) = ran(alloc, &bytes, &[n as u64])?;
-        assert_eq!(rt; end, Err(Fault::Read), "at read {n}");
-        assert!(rt;
-            out.bytes() == bytes.as_slice().get(..*front).unwrap_or(&[]),
-            "at read {n}"
-        );
-    }
-    let (end, out) = ran(alloc, &bytes, &[4])?;
-    assert_eq!(rt; end, Ok(End::Done));
-    assert!(rt; out.bytes().starts_with(&bytes));
-    assert!(rt; out.bytes().ends_with(b"\nd\nend"));
-    Ok(())
-}
-
-// 4,096 lines in the first piece, one in the second, and the text after the last: each is put at once, before the next
-// read, which would fail.
-#[test]
-fn puts_once_a_piece(rt: HostRuntime) -> Result<(), Fail> {
-    let alloc = rt.alloc();
-    let mut bytes = vec![in alloc; b'\n'; 4096]?;
-    bytes.extend_from_slice(b"a\n")?;
-    for (n, front) in [0, 4096, 4098].iter().enumerate() {
-        let n = n as u64;
-        let (end, out) = ran_failing(alloc, &bytes, &[n + 1], &[n])?;
-        assert_eq!(rt; end, Err(Fault::Write), "at put {n}");
-        assert!(rt;
-            out.bytes() == bytes.as_slice().get(..*front).unwrap_or(&[]),
-            "at put {n}"
-        );
-    }
-    let (end, _) = ran_failing(alloc, &bytes, &[3], &[3])?;
-    assert_eq!(rt; end, Ok(End::Done));
-    Ok(())
-}
-
-// A line of 20,000 bytes, and one whose 20,001st byte is the last that is read.
-#[test]
-fn refuses_long_lines(rt: HostRuntime) -> Result<(), Fail> {
-    let alloc = rt.alloc();
-    let mut bytes = Vec::from_slice(alloc, b"a\n")?;
-    bytes.resize(20_002, b' ')?;
-    let (end, _) = ran(alloc, &bytes, &[])?;
-    assert_eq!(rt; end, Ok(End::Done));
-    bytes.push(b'\n')?;
-    let (end, _) = ran(alloc, &bytes, &[])?;
-    assert_eq!(rt; end, Ok(End::Done));
-    bytes.resize(20_002, b' ')?;
-    bytes.resize(40_000, b' ')?;
-    let (end, out) = ran(alloc, &bytes, &[5])?;
-    assert_eq!(rt; end, Ok(End::Script));
-    assert_eq!(rt; out.bytes(), b"a\nrefused 2 toolong\n".as_slice());
-    Ok(())
-}
-
-// At byte 16,777,217 a line feed ends nothing, and the 20,001st byte of a line is too long even there.
-#[test]
-fn ends_at_the_limit(rt: HostRuntime) -> Result<(), Fail> {
-    let alloc = rt.alloc();
-    let mut bytes = vec![in alloc; b' '; FILE_LIMIT]?;
-    for (i, b) in bytes.iter_mut().enumerate() {
-        if i % 8192 == 0 && i < FILE_LIMIT - 20_001 || i == FILE_LIMIT - 20_001 {
-            *b = b'\n';
+    // Two lines in the first piece, a third in the next two, and a last one that no line feed ends.
+    let mut long = Vec::from_slice(alloc, b"a\nb\n")?;
+    long.resize(9000, b'c')?;
+    long.extend_from_slice(b"\nd")?;
+    // 4,096 lines in the first piece, one in the second.
+    let mut many = vec![in alloc; b'\n'; 4096]?;
+    many.extend_from_slice(b"a\n")?;
+    // A line that is too long by the fifth piece: no further one is read.
+    let mut wide = Vec::from_slice(alloc, b"a\n")?;
+    wide.resize(40_000, b' ')?;
+    let table: [(&[u8], &[u64], &[u64], Result<End, Fault>, usize); 11] = [
+        (long.as_slice(), &[0], &[], Err(Fault::Read), 0),
+        (long.as_slice(), &[1], &[], Err(Fault::Read), 4),
+        (long.as_slice(), &[2], &[], Err(Fault::Read), 4),
+        (long.as_slice(), &[3], &[], Err(Fault::Read), 9001),
+        (long.as_slice(), &[4], &[], Ok(End::Done), 9002),
+        (many.as_slice(), &[1], &[0], Err(Fault::Write), 0),
+        (many.as_slice(), &[2], &[1], Err(Fault::Write), 4096),
+        (many.as_slice(), &[3], &[2], Err(Fault::Write), 4098),
+        (many.as_slice(), &[3], &[3], Ok(End::Done), 4098),
+        (wide.as_slice(), &[4], &[], Err(Fault::Read), 2),
+        (wide.as_slice(), &[5], &[], Ok(End::Script), 2),
+    ];
+    for (bytes, reads, puts, end, written) in table {
+        let (got, out) = ran(alloc, bytes, reads, puts)?;
+        assert_eq!(rt; got, end, "at {written}");
+        let due = bytes.get(..written).unwrap_or(&[]);
+        if end.is_ok() {
+            assert!(rt; out.bytes().starts_with(due), "at {written}");
+        } else {
+            assert!(rt; out.bytes() == due, "at {written}");
         }
     }
-    let (end, _) = ran(alloc, &bytes, &[])?;
-    assert_eq!(rt; end, Ok(End::Done));
-    bytes.push(b'\n')?;
-    let (end, out) = ran(alloc, &bytes, &[])?;
-    assert_eq!(rt; end, Ok(End::TooLong));
-    assert_eq!(rt; out.bytes().len(), FILE_LIMIT - 20_000);
-    bytes.pop();
-    bytes.push(b' ')?;
-    let (end, out) = ran(alloc, &bytes, &[])?;
-    assert_eq!(rt; end, Ok(End::Script));
-    assert!(rt; out.bytes().ends_with(b" \nrefused 2048 toolong\n"));
     Ok(())
 }

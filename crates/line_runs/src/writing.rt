@@ -30,7 +30,7 @@ pub fn write<O: Sink>(out: &mut O, text: &[u8]) -> Result<(), Fault>
     }
 }
 
-/// Writes the last text, and answers this end.
+/// Writes the last text, and answers this end. Fails as `write` does.
 pub fn finish<O: Sink>(out: &mut O, end: End, text: &[u8]) -> Result<End, Fault>
     ensures end { IfOk result (λ e. e ≡ end) }
     ensures ran { Ran (end, text.now) (O.seen out.old) (O.seen out.new) result }

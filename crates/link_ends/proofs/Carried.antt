@@ -1,4 +1,4 @@
--- What an exchange makes of the manager and of both ends, where its request comes to the device or is lost.
+-- What an exchange makes of the manager and of both ends, whether its request reaches the device or is lost.
 use Rattle.link_ends.proofs.Terms.{◌≡◌, ℕ, Bool, true, false, List, [], sym, ◌∙◌, arith, Option, Some, None}
 use Rattle.link_ends.proofs.Terms.{if◌then◌else◌, slice_get, slice_set, Side, nat_tests, call_of, reply_of, spelling}
 use Rattle.link_ends.proofs.Terms.{Loss, Judged, Expected, Refused, Bad}
@@ -6,10 +6,13 @@ use Rattle.link_ends.proofs.Terms.{Outcome, Asked, is_last_receiver_go, StreamVi
 use Rattle.link_ends.proofs.Terms.{request_asked, outcome_of, taken_stream, taken_calls, ManagerView, current}
 use Rattle.link_ends.proofs.Terms.{current_in, current_at, current_asked}
 use Rattle.link_ends.proofs.Terms.{asking_after, IsAsked, StreamState, requests_called, StreamEnds, Exchanged}
-use Rattle.link_ends.proofs.Terms.{exchanged, unless_lost, lost_as, came_to, ends_after, shown_stream, port_called}
+use Rattle.link_ends.proofs.Terms.{exchanged, exchanged_unless_lost, lost_as, came_to, ends_after_exchange}
+use Rattle.link_ends.proofs.Terms.{shown_stream, port_called}
 use Rattle.link_ends.proofs.Terms.{judged_bytes, Found, DeviceEnd}
-use Rattle.link_ends.proofs.Terms.{asked_device, reply_given, LinkEnds, lost_in, Pool, KeeperView, HasStream, IsOn}
-use Rattle.link_ends.proofs.Terms.{Stands, IsExchanged, ap, subst}
+use Rattle.link_ends.proofs.Terms.{asked_device, reply_given, LinkEnds, lost_in, Pool, KeeperView, HasStream}
+use Rattle.link_ends.proofs.Terms.{IsAtBothEnds}
+use Rattle.link_ends.proofs.Terms.{DiffersInStream, IsExchanged, ap, subst}
+use Rattle.key_slots.specs.{is_one}
 use Rattle.link_events.specs.declared.event.Lost.{Lost}
 use Rattle.tsm_host.specs.declared.judge.Judged.TheVariants.{Lost as NotCarried}
 use Rattle.tsm_host.specs.Local.{goes}
@@ -20,8 +23,8 @@ use Rattle.link_ends.proofs.Exchanges.{DeviceGoes, device_goes}
 -- ---- the stream that is asked
 
 pub keeper_read : (m0 m : ManagerView) (l0 l : LinkEnds) (place id : ℕ) (host device : Found) (e : StreamEnds)
-    → IsOn m0 l0 place id host device
-    → Stands m0 l0 place id e m l
+    → IsAtBothEnds m0 l0 place id host device
+    → DiffersInStream m0 l0 place id e m l
     → slice_get m.streams place ≡ Some e.keeper
 keeper_read m0 m l0 l place id host device e on st = ap (λ (vs : List StreamView). slice_get vs place) st.streams ∙
     read_set m0.streams place e.keeper on.within
@@ -34,16 +37,17 @@ current_is m place keeper asking read = ap (λ (o : Option ℕ). current_in m.st
 
 -- what a manager asks, seen as the keeper shows it
 pub record IsAsking (m0 m : ManagerView) (l0 l : LinkEnds) (place id : ℕ) (e : StreamEnds) (a : Asked) : Type 0 where
-  pub stands : Stands m0 l0 place id e m l
+  pub stands : DiffersInStream m0 l0 place id e m l
   pub current_is : current m ≡ Some (record { place = place; stream = e.keeper; asked = a })
 
 pub is_asking : (m0 m : ManagerView) (pool : Pool) (k : KeeperView) (l0 l : LinkEnds) (place id : ℕ)
     (host device : Found) (e : StreamEnds) (a : Asked)
-    → (let v : KeeperView = record { manager = m; pool = pool } in v) ≡ k → IsOn m0 l0 place id host device
-    → Stands m0 l0 place id e k.manager l
+    → (let v : KeeperView = record { manager = m; pool = pool } in v) ≡ k → IsAtBothEnds m0 l0 place id host device
+    → DiffersInStream m0 l0 place id e k.manager l
     → k.manager.asking ≡ Some place → asked_in e.keeper.op ≡ Some a → IsAsking m0 m l0 l place id e a
 is_asking m0 m pool k l0 l place id host device e a view on st asking asked =
-    let st' : Stands m0 l0 place id e m l = subst (λ (k : KeeperView). Stands m0 l0 place id e k.manager l) (sym view)
+    let st' : DiffersInStream m0 l0 place id e m l = subst
+    (λ (k : KeeperView). DiffersInStream m0 l0 place id e k.manager l) (sym view)
     st in
     let read = keeper_read m0 m l0 l place id host device e on st' in
     record {
@@ -55,14 +59,14 @@ is_asking m0 m pool k l0 l place id host device e a view on st asking asked =
 -- ---- what is lost
 
 pub not_lost : (loss : Option Loss) (n : ℕ) (came : Exchanged) (x : StreamState) → lost_in loss n ≡ None
-    → unless_lost loss n came x ≡ came
+    → exchanged_unless_lost loss n came x ≡ came
 not_lost loss n came x is = grind (arith, nat_tests)
 
 pub is_lost : (loss : Option Loss) (n : ℕ) (came : Exchanged) (x : StreamState) (k : Lost) → lost_in loss n ≡ Some k
-    → unless_lost loss n came x ≡ lost_as k came x
+    → exchanged_unless_lost loss n came x ≡ lost_as k came x
 is_lost loss n came x k is = grind (arith, nat_tests)
 
--- ---- the request came to the device
+-- ---- the request reached the device
 
 pub record IsDelivered (l0 : LinkEnds) (id : ℕ) (a : Asked) (e : StreamEnds) (device : DeviceEnd) (reply : List ℕ) :
     Type 0 where
@@ -74,7 +78,7 @@ pub record IsDelivered (l0 : LinkEnds) (id : ℕ) (a : Asked) (e : StreamEnds) (
 
 pub is_delivered : (m0 m : ManagerView) (l0 l : LinkEnds) (place id : ℕ) (host device : Found) (e : StreamEnds)
     (a : Asked) (after : DeviceEnd) (reply : List ℕ)
-    → IsOn m0 l0 place id host device → Stands m0 l0 place id e m l → IsAsked (Some a)
+    → IsAtBothEnds m0 l0 place id host device → DiffersInStream m0 l0 place id e m l → IsAsked (Some a)
     → after ≡ asked_device l.device (spelling (request_asked a e.keeper)) a.draw → reply
     ≡ reply_given l.device (spelling (request_asked a e.keeper)) a.draw
     → IsDelivered l0 id a e after reply
@@ -107,7 +111,7 @@ go_at_all id set true = goes_at id set
 go_at_all id set false = tt
 
 taken_at : (id : ℕ) (a : Asked) (j : Judged) → AllAt id (taken_calls a j id)
-taken_at id a Expected = go_at_all id a.set (is_last_receiver_go (exchange_asked a))
+taken_at id a Expected = go_at_all id (is_one a.set) (is_last_receiver_go (exchange_asked a))
 taken_at id a NotCarried = tt
 taken_at id a (Refused code) = tt
 taken_at id a Bad = tt
@@ -115,7 +119,7 @@ taken_at id a Bad = tt
 pub exchange_ends : (m0 m m' : ManagerView) (l0 l l' : LinkEnds) (place id : ℕ) (host device : Found) (e : StreamEnds)
     (a : Asked) (loss : Option Loss)
     (result : Outcome) (j : Judged) (y : StreamState)
-    → IsOn m0 l0 place id host device → Stands m0 l0 place id e m l
+    → IsAtBothEnds m0 l0 place id host device → DiffersInStream m0 l0 place id e m l
     → exchanged loss l0.device.requester a e ≡ record { judged = j; device = y }
     → result ≡ outcome_of a j
     → m' ≡ record {
@@ -130,7 +134,8 @@ exchange_ends m0 m m' l0 l l' place id host device e a loss result j y on st is 
     let called : HasStream l0.host id (requests_called l0.host.name.side (taken_calls a j e.keeper.id) e.host) l'.host =
     requests_there l0.host l.host l'.host id host e.host (taken_calls a j e.keeper.id) on.host_found st.host
     (rw st.id_is (taken_at id a j)) moves in
-    let stands : Stands m0 l0 place id (ends_after a (record { judged = j; device = y }) e) m' l' = record {
+    let stands : DiffersInStream m0 l0 place id (ends_after_exchange a (record { judged = j; device = y }) e) m' l'
+    = record {
       id_is = taken_id a j e.keeper ∙ st.id_is;
       streams = ap (λ (k : ManagerView). k.streams) after ∙ ap
           (λ (vs : List StreamView). slice_set vs place (taken_stream a j e.keeper)) st.streams
@@ -142,6 +147,7 @@ exchange_ends m0 m m' l0 l l' place id host device e a loss result j y on st is 
     } in
     record {
       outcome = result_is ∙ sym (ap (λ (x : Exchanged). outcome_of a x.judged) is);
-      stands = subst (λ (x : Exchanged). Stands m0 l0 place id (ends_after a x e) m' l') (sym is) stands;
+      stands = subst (λ (x : Exchanged). DiffersInStream m0 l0 place id (ends_after_exchange a x e) m' l') (sym is)
+          stands;
       asking = ap (λ (k : ManagerView). k.asking) after ∙ ap (λ (o : Outcome). asking_after place o) (sym result_is);
     }

@@ -1,4 +1,4 @@
--- One exchange: the request comes to the device or is lost, and the manager takes what is carried back.
+-- One exchange: the request reaches the device or is lost, and the manager takes what is carried back.
 use Rattle.link_ends.proofs.Terms.{◌≡◌, ℕ, ◌==◌, ◌<◌, Bool, true, false, List, refl, ◌∙◌, Option, Some, None, nat_lt}
 use Rattle.link_ends.proofs.Terms.{◌&&◌, if◌then◌else◌, slice_range, Side, SlotPair, Place, PortCall, Shown, call_of}
 use Rattle.link_ends.proofs.Terms.{call_from, spelling, direction_of}
@@ -7,38 +7,39 @@ use Rattle.link_ends.proofs.Terms.{StreamView, request_asked, IsAsked, Asked, St
 use Rattle.link_ends.proofs.Terms.{PortEnd, Found, found, shown}
 use Rattle.link_ends.proofs.Terms.{called_port, after_call, HasStream, ap, subst}
 use Rattle.std.specs.Int.{w64, from_le_bytes}
+use Rattle.key_slots.specs.{KeySet}
+use Rattle.ide_types.specs.declared.key_set.KeySet.TheVariants.{Zero, One}
 use Rattle.ide_types.specs.declared.port.Side.TheVariants.{Device}
 use Rattle.ide_km.specs.declared.object.KmFault.{KmFault}
 use Rattle.ide_km.specs.declared.object.KmView.TheVariants.{KeyProg}
 use Rattle.ide_km.specs.Objects as objects
-use Rattle.ide_km.specs.{place_of}
+use Rattle.ide_km.specs.{selected_place, called_place}
 use Rattle.tsm_host.specs.declared.exchange.Exchange.TheVariants as exchange
 use Rattle.link_walks.proofs.Lanes.{by_lane, Turn, asks, puts, goes, halts, turn}
-use Rattle.ide_port.specs.Calls as port
 use Rattle.link_ends.proofs.Ports.{IsAt, moved, called_there, found_there}
 
 -- ---- the place of a lane
 
-there : (set : Bool) (lane : ℕ) → lane < 6 →
+there : (set : KeySet) (lane : ℕ) → lane < 6 →
     (nat_lt (direction_of (selector_of set lane)) 2 && nat_lt (sub_of (selector_of set lane)) 3) ≡ true
-there true =
-    by_lane (λ lane. (nat_lt (direction_of (selector_of true lane)) 2 && nat_lt (sub_of (selector_of true lane)) 3)
+there One =
+    by_lane (λ lane. (nat_lt (direction_of (selector_of One lane)) 2 && nat_lt (sub_of (selector_of One lane)) 3)
     ≡ true) refl refl refl refl refl refl
-there false =
-    by_lane (λ lane. (nat_lt (direction_of (selector_of false lane)) 2 && nat_lt (sub_of (selector_of false lane)) 3)
+there Zero =
+    by_lane (λ lane. (nat_lt (direction_of (selector_of Zero lane)) 2 && nat_lt (sub_of (selector_of Zero lane)) 3)
     ≡ true) refl refl refl refl refl refl
 
-lane_at : (id : ℕ) (set : Bool) (lane : ℕ) → lane < 6 → IsAt id (place_of id (selector_of set lane))
+lane_at : (id : ℕ) (set : KeySet) (lane : ℕ) → lane < 6 → IsAt id (selected_place id (selector_of set lane))
 lane_at id set lane lt = record { stream_is = refl; is_there = there set lane lt }
 
--- ---- ports that show the same of a stream come to the same call
+-- ---- ports that show the same of a stream get the same call
 
 abbrev pub SameShown : ℕ → Shown → Shown → Type 0
 SameShown id a b = (place : Place) → IsAt id place → a place ≡ b place
 
 abbrev pub CallAt : ℕ → Option PortCall → Type 0
 CallAt id None = Unit {0}
-CallAt id (Some call) = IsAt id (port.place_of call)
+CallAt id (Some call) = IsAt id (called_place call)
 
 record SameCall (id : ℕ) (a b : Shown) (request : List ℕ) (draw : ℕ) : Type 0 where
   same : call_of a request draw ≡ call_of b request draw
@@ -47,22 +48,23 @@ record SameCall (id : ℕ) (a b : Shown) (request : List ℕ) (draw : ℕ) : Typ
 abbrev seen : Place → Option SlotPair → Option SlotPair
 seen place shows = if nat_lt place.sub 3 then shows else None
 
-program_at_all : (id sel draw : ℕ) (key : List ℕ) (a : Shown) (counter : ℕ) → IsAt id (place_of id sel) → (b : Bool)
+program_at_all : (id sel draw : ℕ) (key : List ℕ) (a : Shown) (counter : ℕ) → IsAt id (selected_place id sel)
+    → (b : Bool)
     → (counter == 1) ≡ b
     → CallAt id (call_from a draw (objects.object_or (KeyProg id sel 0 key counter) None))
 program_at_all id sel draw key a counter at true e = rw e at
 program_at_all id sel draw key a counter at false e = rw e tt
 
 program_same : (id sel draw : ℕ) (key : List ℕ) (counter : ℕ) (a b : Shown) → SameShown id a b
-    → IsAt id (place_of id sel) → (fault : Option KmFault)
+    → IsAt id (selected_place id sel) → (fault : Option KmFault)
     → (call_from a draw (objects.object_or (KeyProg id sel 0 key counter) fault)
     ≡ call_from b draw (objects.object_or (KeyProg id sel 0 key counter) fault))
     × CallAt id (call_from b draw (objects.object_or (KeyProg id sel 0 key counter) fault))
 program_same id sel draw key counter a b same at None =
-    (rw (same (place_of id sel) at) refl, program_at_all id sel draw key b counter at (counter == 1) refl)
+    (rw (same (selected_place id sel) at) refl, program_at_all id sel draw key b counter at (counter == 1) refl)
 program_same id sel draw key counter a b same at (Some fault) = (refl, tt)
 
-turn_same : (a b : Shown) (id draw : ℕ) (keys : WireKeys) (o : Operation) (set : Bool) (n : ℕ) → SameShown id a b
+turn_same : (a b : Shown) (id draw : ℕ) (keys : WireKeys) (o : Operation) (set : KeySet) (n : ℕ) → SameShown id a b
     → Turn o set n
     → SameCall id a b (spelling (request_of id keys (exchange_of o set n))) draw
 turn_same a b id draw keys o set n same (asks is first e) = rw e (record { same = refl; at = tt })
@@ -75,10 +77,10 @@ turn_same a b id draw keys o set n same (puts lane lt makes is e) =
     rw e (record { same = both.0; at = both.1 })
 turn_same a b id draw keys o set n same (goes lane lt makes is e) =
     let at = lane_at id set lane lt in
-    rw e (record { same = rw (same (place_of id (selector_of set lane)) at) refl; at = at })
+    rw e (record { same = rw (same (selected_place id (selector_of set lane)) at) refl; at = at })
 turn_same a b id draw keys o set n same (halts k lane lt is e) =
     let at = lane_at id k lane lt in
-    rw e (record { same = rw (same (place_of id (selector_of k lane)) at) refl; at = at })
+    rw e (record { same = rw (same (selected_place id (selector_of k lane)) at) refl; at = at })
 
 -- ---- the device's port shows the stream
 

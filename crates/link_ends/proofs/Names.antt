@@ -7,7 +7,7 @@ use Rattle.link_ends.proofs.Terms.{named_in, op_named, ap, subst}
 use Rattle.std.specs.List.{position_from}
 use Rattle.std.proofs.lemmas.Iterator.Adapters.{position_from-zero}
 use Rattle.std.proofs.lemmas.List.Quantifiers.{position-Some}
-use Rattle.tsm_host.specs.Managers.{place_of}
+use Rattle.tsm_host.specs.Managers.{stream_place}
 
 -- the first stream of this name, and the list with another in its place
 abbrev pub first_named : ℕ → ℕ → List StreamView → Option StreamView
@@ -62,7 +62,8 @@ pub record IsNamed (m : ManagerView) (link id : ℕ) (n : Named) : Type 0 where
   pub id_is : n.stream.id ≡ id
   pub sets : (w : StreamView) → slice_set m.streams n.place w ≡ set_named link id w m.streams
 
-by_place : (m : ManagerView) (link id : ℕ) (n : Named) (o : Option ℕ) → place_of m link id ≡ o → named_in m.streams o
+by_place : (m : ManagerView) (link id : ℕ) (n : Named) (o : Option ℕ) → stream_place m link id ≡ o
+    → named_in m.streams o
     ≡ Some n → IsNamed m link id n
 by_place m link id n None at is = absurd cc
 by_place m link id n (Some place) at is =
@@ -79,9 +80,9 @@ by_place m link id n (Some place) at is =
     })
 
 pub named_stands : (m : ManagerView) (link id : ℕ) (n : Named) → named m link id ≡ Some n → IsNamed m link id n
-named_stands m link id n is = by_place m link id n (place_of m link id) refl is
+named_stands m link id n is = by_place m link id n (stream_place m link id) refl is
 
-op_by_place : (m : ManagerView) (link id : ℕ) (o : Option ℕ) → place_of m link id ≡ o
+op_by_place : (m : ManagerView) (link id : ℕ) (o : Option ℕ) → stream_place m link id ≡ o
     → option_map (λ (v : StreamView). v.op) (first_named link id m.streams) ≡ op_named (named_in m.streams o)
 op_by_place m link id None at = rw
     (unplaced link id m.streams 0 (sym (position_from-zero (is_named link id) m.streams) ∙ at)) refl
@@ -91,4 +92,4 @@ op_by_place m link id (Some place) at =
 
 pub op_named_first : (m : ManagerView) (link id : ℕ) → option_map (λ (v : StreamView). v.op)
     (first_named link id m.streams) ≡ op_named (named m link id)
-op_named_first m link id = op_by_place m link id (place_of m link id) refl
+op_named_first m link id = op_by_place m link id (stream_place m link id) refl

@@ -5,10 +5,13 @@ use Rattle.link_ends.proofs.Terms.{six_keys, Loss, Operation, Work, work}
 use Rattle.link_ends.proofs.Terms.{work_of, op_standing, makes_draw, Outcome, op_name, programs, StreamView, HostView}
 use Rattle.link_ends.proofs.Terms.{host_view, asked_in, refusal_of, ok_unless, begun_stream, begun_calls, ManagerView}
 use Rattle.link_ends.proofs.Terms.{Named, named, begin_refusal}
-use Rattle.link_ends.proofs.Terms.{begun, pool_begun, calls_begun, IsAsked, pair_at, stream_status, requests_called}
-use Rattle.link_ends.proofs.Terms.{Walked, walk_on, walked_unless, begun_ends, event_walk, PortEnd, Found, found}
+use Rattle.link_ends.proofs.Terms.{begun_manager, pool_begun, calls_begun, IsAsked, pair_at, stream_status}
+use Rattle.link_ends.proofs.Terms.{requests_called}
+use Rattle.link_ends.proofs.Terms.{WalkedEnds, walk_on, walked_ends_unless, begun_ends, event_walk, PortEnd, Found}
+use Rattle.link_ends.proofs.Terms.{found}
 use Rattle.link_ends.proofs.Terms.{status_in, live_in_port, LinkEnds}
-use Rattle.link_ends.proofs.Terms.{KeeperView, HasStream, IsOn, Stands, IsWalked, Walks, IsOperated, ends_found, ap}
+use Rattle.link_ends.proofs.Terms.{KeeperView, HasStream, IsAtBothEnds, DiffersInStream, IsWalked, Walks, IsOperated}
+use Rattle.link_ends.proofs.Terms.{ends_found, ap}
 use Rattle.link_ends.proofs.Terms.{subst}
 use Rattle.ide_types.specs.declared.sub.SubKind.{SubKind}
 use Rattle.tsm_host.specs.declared.operation.Op.{Op}
@@ -40,7 +43,7 @@ refused_by o r is = grind arith
 not_refused : (o : Option Refusal) → Ok tt ≡ ok_unless o → o ≡ None
 not_refused o is = grind arith
 
--- ---- what it asks where it begins, or goes on
+-- ---- what it asks when it begins, or goes on
 
 standing_first : (o : Operation) (set : Bool) (draw f : ℕ) (b : Bool)
     → IsAsked (asked_in (op_standing (work o set draw f b) 1))
@@ -64,8 +67,8 @@ begun_at id w pool = by_tests w.begins (makes_draw w.operation)
 module _ (k : KeeperView) (m1 : ManagerView) (pool1 : Pool) (l : LinkEnds) (host1 : PortEnd) (op : Op)
     (loss : Option Loss) (n : Named) (host device : Found)
     (is : named k.manager (op_name op).link (op_name op).stream ≡ Some n)
-    (on : IsOn k.manager l n.place (op_name op).stream host device)
-    (manager_is : m1 ≡ begun k.manager (op_name op).operation (seen l.host n.stream.id) k.pool n)
+    (on : IsAtBothEnds k.manager l n.place (op_name op).stream host device)
+    (manager_is : m1 ≡ begun_manager k.manager (op_name op).operation (seen l.host n.stream.id) k.pool n)
     (pool_is : pool1 ≡ pool_begun (op_name op).operation (seen l.host n.stream.id) k.pool n)
     (moves : PortMoves l.host (calls_begun (op_name op).operation (seen l.host n.stream.id) k.pool n) host1) where
   at_name : IsNamed k.manager (op_name op).link (op_name op).stream n
@@ -83,10 +86,10 @@ module _ (k : KeeperView) (m1 : ManagerView) (pool1 : Pool) (l : LinkEnds) (host
 
   walk_by : (o : Option Refusal) → begin_refusal (op_name op).operation (seen l.host n.stream.id) k.pool n ≡ o
       → event_walk (op_name op).operation (host_of host.state) k.pool loss l.device.requester (ends_found n host device)
-      ≡ walked_unless o (ends_found n host device)
+      ≡ walked_ends_unless o (ends_found n host device)
       (walk_on 13 loss l.device.requester (begun_ends begun_work k.pool (ends_found n host device)))
   walk_by o refusal =
-      ap (λ (q : Option Refusal). walked_unless q (ends_found n host device)
+      ap (λ (q : Option Refusal). walked_ends_unless q (ends_found n host device)
       (walk_on 13 loss l.device.requester (begun_ends begun_work k.pool (ends_found n host device))))
       (ap (λ (v : HostView). refusal_of (op_name op).operation n.stream.op v k.pool) (sym view) ∙ refusal)
 
@@ -99,7 +102,7 @@ module _ (k : KeeperView) (m1 : ManagerView) (pool1 : Pool) (l : LinkEnds) (host
       refused_by (begin_refusal (op_name op).operation (seen l.host n.stream.id) k.pool n) r answer in
       let same_manager : m1 ≡ k.manager = rw refusal at manager_is in
       let same_host : host1 ≡ l.host = rw refusal at moves in
-      let st : Stands k.manager l n.place (op_name op).stream (ends_found n host device) m1
+      let st : DiffersInStream k.manager l n.place (op_name op).stream (ends_found n host device) m1
       (record { host = host1; device = l.device }) =
       rw (same_manager, same_host) (record {
         id_is = at_name.id_is;
@@ -109,7 +112,7 @@ module _ (k : KeeperView) (m1 : ManagerView) (pool1 : Pool) (l : LinkEnds) (host
         requester = refl;
       }) in
       record {
-        walked = subst (λ (v : Walked). IsWalked k.manager l n.place (op_name op).stream v (outcome.Refused r) m1
+        walked = subst (λ (v : WalkedEnds). IsWalked k.manager l n.place (op_name op).stream v (outcome.Refused r) m1
             (record { host = host1; device = l.device }))
             (sym (walk_by (Some r) refusal)) (record { outcome = refl; stands = st });
         pool = pool_after;
@@ -136,7 +139,7 @@ module _ (k : KeeperView) (m1 : ManagerView) (pool1 : Pool) (l : LinkEnds) (host
       requests_there l.host l.host host1 id host host.state (begun_calls begun_work k.pool n.stream.id) on.host_found
       (stream_stands l.host id host on.host_found)
       (rw at_name.id_is (begun_at id begun_work k.pool)) called in
-      let st : Stands k.manager l n.place id (begun_ends begun_work k.pool (ends_found n host device)) m1
+      let st : DiffersInStream k.manager l n.place id (begun_ends begun_work k.pool (ends_found n host device)) m1
       (record { host = host1; device = l.device }) =
       record {
         id_is = begun_id begun_work k.pool n.stream ∙ at_name.id_is;
@@ -147,7 +150,7 @@ module _ (k : KeeperView) (m1 : ManagerView) (pool1 : Pool) (l : LinkEnds) (host
         requester = refl;
       } in
       record {
-        walked = subst (λ (v : Walked). IsWalked k.manager l n.place id v result m2 l2) (sym (walk_by None refusal))
+        walked = subst (λ (v : WalkedEnds). IsWalked k.manager l n.place id v result m2 l2) (sym (walk_by None refusal))
             (walks k.manager l n.place id host device _ on st (ap (λ (m : ManagerView). m.asking) after)
             (begun_asked begun_work k.pool n.stream asked));
         pool = pool_same ∙ pool_after;

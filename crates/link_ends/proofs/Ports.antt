@@ -1,11 +1,12 @@
 -- Calls of key management at a port, on one of its streams.
 use Rattle.link_ends.proofs.Terms.{◌≡◌, ℕ, Bool, true, List, [], ◌∷◌, refl, sym, ◌∙◌, arith, rules, Option, Some}
 use Rattle.link_ends.proofs.Terms.{nat_lt, Side, SlotPair, Place, PortCall, place_at, AskProgram, AskGo, AskHalt}
-use Rattle.link_ends.proofs.Terms.{answered, programs, StreamState, sends_in}
+use Rattle.link_ends.proofs.Terms.{answered_call, programs, StreamState, sends_in}
 use Rattle.link_ends.proofs.Terms.{called, requests_called, request_call, PortEnd, Found, found, changed, shown}
 use Rattle.link_ends.proofs.Terms.{unfinished_at, called_port, HasStream, found-id, found-changed, ap, subst}
 use Rattle.tsm_host.specs.Local.{Request, CallsMove, goes, halts}
-use Rattle.ide_port.specs.Calls.{sub_from, slot_call, place_of, is_place, stream_at, called_states}
+use Rattle.ide_km.specs.{called_place}
+use Rattle.ide_port.specs.Calls.{sub_from, slot_call, is_place, stream_at, called_states}
 use Rattle.link_ends.proofs.Streams.{changed_same, changed_again}
 
 pub stream_stands : (e : PortEnd) (id : ℕ) (f : Found) → found e.plans e.states id ≡ Some f → HasStream e id f.state e
@@ -24,16 +25,17 @@ pub record IsAt (id : ℕ) (place : Place) : Type 0 where
   pub is_there : is_place place ≡ true
 
 abbrev pub moved : PortCall → Side → StreamState → StreamState
-moved call side x = called (sends_in side (place_of call).direction) (sub_from (place_of call).sub) (slot_call call) x
+moved call side x = called (sends_in side (called_place call).direction) (sub_from (called_place call).sub)
+    (slot_call call) x
 
 pub called_there : (e e' : PortEnd) (id : ℕ) (f : Found) (x : StreamState) (call : PortCall) → found e.plans e.states id
     ≡ Some f → HasStream e id x e'
-    → IsAt id (place_of call)
+    → IsAt id (called_place call)
     → HasStream e id (moved call e.name.side x) (called_port call e')
 called_there e e' id f x call is has at =
-    let there : stream_at e' (place_of call) ≡ Some (record f { state = x }) = rw (at.is_there, at.stream_is)
+    let there : stream_at e' (called_place call) ≡ Some (record f { state = x }) = rw (at.is_there, at.stream_is)
     (found_there e e' id f x is has) in
-    let all : called_states e' call (stream_at e' (place_of call))
+    let all : called_states e' call (stream_at e' (called_place call))
     ≡ changed e.plans e.states id (moved call e.name.side x) =
     ap (λ (o : Option Found). called_states e' call o) there
     ∙ (λ i. changed (has i).plans (has i).states (found-id e.plans e.states id f is i) (moved call (has i).name.side x))
@@ -52,11 +54,11 @@ AllAt id [] = Unit {0}
 AllAt id (r ∷ rs) = IsAt id (asked_at r) × AllAt id rs
 
 call_asked : (side : Side) (r : Request) (shows : Place → Option SlotPair) (x : StreamState)
-    → moved (answered shows r) side x ≡ called (request_call side r).sends (request_call side r).sub
+    → moved (answered_call shows r) side x ≡ called (request_call side r).sends (request_call side r).sub
     (request_call side r).call x
 call_asked side r shows x = grind arith
 
-same_place : (shows : Place → Option SlotPair) (r : Request) → place_of (answered shows r) ≡ asked_at r
+same_place : (shows : Place → Option SlotPair) (r : Request) → called_place (answered_call shows r) ≡ asked_at r
 same_place shows r = grind arith
 
 abbrev pub PortMoves : PortEnd → List Request → PortEnd → Type 0
@@ -71,7 +73,7 @@ pub requests_there : (e e' e2 : PortEnd) (id : ℕ) (f : Found) (x : StreamState
     → PortMoves e' rs e2 → HasStream e id (requests_called e.name.side rs x) e2
 requests_there e e' e2 id f x [] is has at moves = subst (λ (p : PortEnd). HasStream e id x p) (sym moves) has
 requests_there e e' e2 id f x (r ∷ rs) is has at moves =
-    let call : PortCall = answered (λ place. shown e' place) r in
+    let call : PortCall = answered_call (λ place. shown e' place) r in
     let step : HasStream e id (moved call e.name.side x) moves.0 =
     rw moves.1.moved (called_there e e' id f x call is has (rw (same_place (λ place. shown e' place) r) at.0)) in
     requests_there e moves.0 e2 id f _ rs is (rw (call_asked e.name.side r (λ place. shown e' place) x) at step) at.1

@@ -1,24 +1,29 @@
 -- One exchange after another.
 use Rattle.link_ends.proofs.Terms.{◌≡◌, ℕ, suc, zero, ◌+◌, ◌≤◌, Bool, true, false, refl, sym, ◌∙◌, arith, Option, Some}
-use Rattle.link_ends.proofs.Terms.{None, is_some, Loss, Operation, op_standing, work, last_of, nat_tests, Judged}
+use Rattle.link_ends.proofs.Terms.{None, is_some, Loss, Operation, op_standing, work, last_exchange_of, nat_tests}
+use Rattle.link_ends.proofs.Terms.{Judged}
 use Rattle.link_ends.proofs.Terms.{Expected, Refused, Bad, Outcome}
 use Rattle.link_ends.proofs.Terms.{Asked, StreamView, asked_in, outcome_of, taken_stream, ManagerView, current}
-use Rattle.link_ends.proofs.Terms.{current_asked, asking_after, IsAsked, StreamEnds, Exchanged, exchanged, ends_after}
-use Rattle.link_ends.proofs.Terms.{Walked, walk_on, goes_on, Found}
-use Rattle.link_ends.proofs.Terms.{LinkEnds, IsOn, Stands, IsExchanged, Exchanges, IsWalked, Walks, ap, subst}
+use Rattle.link_ends.proofs.Terms.{current_asked, asking_after, IsAsked, StreamEnds, Exchanged, exchanged}
+use Rattle.link_ends.proofs.Terms.{ends_after_exchange}
+use Rattle.link_ends.proofs.Terms.{WalkedEnds, walk_on, goes_on, Found}
+use Rattle.link_ends.proofs.Terms.{LinkEnds, IsAtBothEnds, DiffersInStream, IsExchanged, Exchanges, IsWalked, Walks, ap}
+use Rattle.link_ends.proofs.Terms.{subst}
+use Rattle.key_slots.specs.{is_one}
 use Rattle.tsm_host.specs.declared.judge.Judged.TheVariants.{Lost as NotCarried}
 use Rattle.tsm_host.specs.declared.operation.Outcome.TheVariants as outcome
 use Rattle.link_ends.proofs.Carried.{keeper_read, current_is}
 
--- ---- the exchange behind one that was acknowledged
+-- ---- the exchange after one that was acknowledged
 
-next_asked : (o : Operation) (set : Bool) (draw n k : ℕ) → 1 ≤ k → k ≤ last_of o
+next_asked : (o : Operation) (set : Bool) (draw n k : ℕ) → 1 ≤ k → k ≤ last_exchange_of o
     → IsAsked (asked_in (op_standing (work o set draw n false) k))
 next_asked o set draw n k least most = grind arith
 
 goes_next : (a : Asked) (s : StreamView) → IsAsked (Some a) → outcome_of a Expected ≡ outcome.Next
     → IsAsked (asked_in (taken_stream a Expected s).op)
-goes_next a s asked is = grind (arith, nat_tests, next_asked a.operation a.set a.draw a.exchange (a.exchange + 1))
+goes_next a s asked is =
+    grind (arith, nat_tests, next_asked a.operation (is_one a.set) a.draw a.exchange (a.exchange + 1))
 
 pub still_asked : (a : Asked) (j : Judged) (s : StreamView) → IsAsked (Some a) → outcome_of a j ≡ outcome.Next
     → IsAsked (asked_in (taken_stream a j s).op)
@@ -44,16 +49,17 @@ idle_walks more loss m l idle m0 l0 place id host device e on st asking within =
     let cur = current_is m place e.keeper asking (keeper_read m0 m l0 l place id host device e on st) in
     let none : asked_in e.keeper.op ≡ None = none_asked place e.keeper (asked_in e.keeper.op)
     (ap is_some (sym cur) ∙ idle) in
-    subst (λ (v : Walked). IsWalked m0 l0 place id v outcome.Next m l)
+    subst (λ (v : WalkedEnds). IsWalked m0 l0 place id v outcome.Next m l)
     (sym (stays_on more loss l0.device.requester e none))
     (record { outcome = refl; stands = st })
 
--- the walk where an exchange is asked
+-- the walk if an exchange is asked
 walk_asked : (more : ℕ) (loss : Option Loss) (requester : ℕ) (e : StreamEnds) (a : Asked) → asked_in e.keeper.op
     ≡ Some a
     → walk_on (suc more) loss requester e
-    ≡ goes_on (outcome_of a (exchanged loss requester a e).judged) (ends_after a (exchanged loss requester a e) e)
-    (walk_on more loss requester (ends_after a (exchanged loss requester a e) e))
+    ≡ goes_on (outcome_of a (exchanged loss requester a e).judged)
+    (ends_after_exchange a (exchanged loss requester a e) e)
+    (walk_on more loss requester (ends_after_exchange a (exchanged loss requester a e) e))
 walk_asked more loss requester e a asked = rw asked refl
 
 some_asked : (place : ℕ) (s : StreamView) (o : Option Asked) → is_some (current_asked place s o) ≡ true → (a : Asked)
@@ -70,12 +76,13 @@ module _ (more : ℕ) (loss : Option Loss) (m m1 : ManagerView) (l l1 : LinkEnds
     within : IsAsked (Some asked)
     exchange : IsExchanged m0 l0 place id loss asked e r m1 l1
     walk : walk_on (suc more) loss l0.device.requester e
-        ≡ goes_on r (ends_after asked (exchanged loss l0.device.requester asked e) e)
-        (walk_on more loss l0.device.requester (ends_after asked (exchanged loss l0.device.requester asked e) e))
+        ≡ goes_on r (ends_after_exchange asked (exchanged loss l0.device.requester asked e) e)
+        (walk_on more loss l0.device.requester
+        (ends_after_exchange asked (exchanged loss l0.device.requester asked e) e))
 
   one : (m0 : ManagerView) (l0 : LinkEnds) (place id : ℕ) (host device : Found) (e : StreamEnds)
-      → IsOn m0 l0 place id host device
-      → Stands m0 l0 place id e m l → m.asking ≡ Some place
+      → IsAtBothEnds m0 l0 place id host device
+      → DiffersInStream m0 l0 place id e m l → m.asking ≡ Some place
       → IsAsked (asked_in e.keeper.op) → One m0 l0 place id e
   one m0 l0 place id host device e on st asking within =
       let some = some_asked place e.keeper (asked_in e.keeper.op)
@@ -91,8 +98,8 @@ module _ (more : ℕ) (loss : Option Loss) (m m1 : ManagerView) (l l1 : LinkEnds
         within = inside;
         exchange = x;
         walk = walk_asked more loss l0.device.requester e a some.1
-            ∙ ap (λ (o : Outcome). goes_on o (ends_after a (exchanged loss l0.device.requester a e) e)
-            (walk_on more loss l0.device.requester (ends_after a (exchanged loss l0.device.requester a e) e)))
+            ∙ ap (λ (o : Outcome). goes_on o (ends_after_exchange a (exchanged loss l0.device.requester a e) e)
+            (walk_on more loss l0.device.requester (ends_after_exchange a (exchanged loss l0.device.requester a e) e)))
             (sym x.outcome);
       }
 
@@ -104,13 +111,13 @@ module _ (more : ℕ) (loss : Option Loss) (m m1 : ManagerView) (l l1 : LinkEnds
       let x : Exchanged = exchanged loss l0.device.requester o.asked e in
       let later = still_asked o.asked x.judged e.keeper o.within (sym o.exchange.outcome ∙ is) in
       let walk = o.walk ∙ ap
-      (λ (q : Outcome). goes_on q (ends_after o.asked x e)
-      (walk_on more loss l0.device.requester (ends_after o.asked x e))) is in
-      subst (λ (v : Walked). IsWalked m0 l0 place id v r2 m2 l2) (sym walk)
-      (rest m0 l0 place id host device (ends_after o.asked x e) on o.exchange.stands
+      (λ (q : Outcome). goes_on q (ends_after_exchange o.asked x e)
+      (walk_on more loss l0.device.requester (ends_after_exchange o.asked x e))) is in
+      subst (λ (v : WalkedEnds). IsWalked m0 l0 place id v r2 m2 l2) (sym walk)
+      (rest m0 l0 place id host device (ends_after_exchange o.asked x e) on o.exchange.stands
       (o.exchange.asking ∙ ap (λ (q : Outcome). asking_after place q) is) later)
 
-  ends_there : (q : Outcome) (e : StreamEnds) (rest : Walked) → (q ≡ outcome.Next → ⊥) → goes_on q e rest
+  ends_there : (q : Outcome) (e : StreamEnds) (rest : WalkedEnds) → (q ≡ outcome.Next → ⊥) → goes_on q e rest
       ≡ record { outcome = q; ends = e }
   ends_there q e rest other = grind arith
 
@@ -119,7 +126,8 @@ module _ (more : ℕ) (loss : Option Loss) (m m1 : ManagerView) (l l1 : LinkEnds
   walks_out other m0 l0 place id host device e on st asking within =
       let o = one m0 l0 place id host device e on st asking within in
       let walk = o.walk ∙ ends_there r _
-      (walk_on more loss l0.device.requester (ends_after o.asked (exchanged loss l0.device.requester o.asked e) e))
+      (walk_on more loss l0.device.requester
+      (ends_after_exchange o.asked (exchanged loss l0.device.requester o.asked e) e))
       other in
-      subst (λ (v : Walked). IsWalked m0 l0 place id v r m1 l1) (sym walk)
+      subst (λ (v : WalkedEnds). IsWalked m0 l0 place id v r m1 l1) (sym walk)
       (record { outcome = refl; stands = o.exchange.stands })

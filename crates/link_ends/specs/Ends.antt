@@ -5,7 +5,8 @@ use Rattle.ide_types.specs.declared.port.Side.TheVariants.{Host, Device}
 use Rattle.ide_plan.specs.declared.stream.StreamPlan.{StreamPlan}
 use Rattle.ide_plan.specs.declared.interface.InterfacePlan.{InterfacePlan}
 use Rattle.ide_port.specs.{PortEnd, Trusting, new_port, reset_port}
-use Rattle.device_side.specs.Ends.{new_device, with_port as device_with, settled_device, device_trusting, reset_device}
+use Rattle.device_side.specs.Ends.{new_device, device_with_port as device_with, settled_device, device_trusting}
+use Rattle.device_side.specs.Ends.{reset_device}
 use Rattle.link_ports.specs.Machine.{port_at}
 use Rattle.link_ends.specs.declared.ends.LinkEnds.{LinkEnds}
 

@@ -13,7 +13,7 @@ use Rattle.tsm_host.specs.Streams.{asked_in, outcome_of}
 use Rattle.tsm_host.specs.Managers.{ManagerView, Named, named, asking_after, pool_begun}
 use Rattle.tsm_host.specs.Walk.{IsAsked}
 use Rattle.ide_port.specs.{PortEnd, Found, found, changed}
-use Rattle.link_walks.specs.Walks.{StreamEnds, exchanged, ends_after, Walked, walk_on, event_walk}
+use Rattle.link_walks.specs.Walks.{StreamEnds, exchanged, ends_after_exchange, WalkedEnds, walk_on, event_walk}
 use Rattle.link_walks.specs.Joined.{host_of}
 use Rattle.link_ends.specs.declared.ends.LinkEnds.{LinkEnds}
 
@@ -29,7 +29,7 @@ abbrev pub HasStream : PortEnd → ℕ → StreamState → PortEnd → Type 0
 HasStream old id x new = new ≡ record old { states = changed old.plans old.states id x; delivered = new.delivered }
 
 -- the stream of this ID is at this place of the manager, and at both ends of its link
-pub record IsOn (m : ManagerView) (l : LinkEnds) (place id : ℕ) (host device : Found) : Type 0 where
+pub record IsAtBothEnds (m : ManagerView) (l : LinkEnds) (place id : ℕ) (host device : Found) : Type 0 where
   pub within : place < length m.streams
   pub host_side : l.host.name.side ≡ Host
   pub device_side : l.device.port.name.side ≡ Device
@@ -37,7 +37,7 @@ pub record IsOn (m : ManagerView) (l : LinkEnds) (place id : ℕ) (host device :
   pub device_found : found l.device.port.plans l.device.port.states id ≡ Some device
 
 -- the manager and the ends with other parts of one stream
-pub record Stands (m : ManagerView) (l : LinkEnds) (place id : ℕ) (e : StreamEnds) (m' : ManagerView)
+pub record DiffersInStream (m : ManagerView) (l : LinkEnds) (place id : ℕ) (e : StreamEnds) (m' : ManagerView)
     (l' : LinkEnds) : Type 0 where
   pub id_is : e.keeper.id ≡ id
   pub streams : m'.streams ≡ slice_set m.streams place e.keeper
@@ -50,29 +50,29 @@ pub record Stands (m : ManagerView) (l : LinkEnds) (place id : ℕ) (e : StreamE
 pub record IsExchanged (m0 : ManagerView) (l0 : LinkEnds) (place id : ℕ) (loss : Option Loss) (a : Asked)
     (e : StreamEnds) (result : Outcome) (m : ManagerView) (l : LinkEnds) : Type 0 where
   pub outcome : result ≡ outcome_of a (exchanged loss l0.device.requester a e).judged
-  pub stands : Stands m0 l0 place id (ends_after a (exchanged loss l0.device.requester a e) e) m l
+  pub stands : DiffersInStream m0 l0 place id (ends_after_exchange a (exchanged loss l0.device.requester a e) e) m l
   pub asking : m.asking ≡ asking_after place result
 
 -- Whatever stream is asked.
 abbrev pub Exchanges : Option Loss → ManagerView → LinkEnds → Outcome → ManagerView → LinkEnds → Type 0
 Exchanges loss m l result m' l' =
     (m0 : ManagerView) (l0 : LinkEnds) (place id : ℕ) (host device : Found) (e : StreamEnds) (a : Asked)
-    → IsOn m0 l0 place id host device
-    → Stands m0 l0 place id e m l → m.asking ≡ Some place → asked_in e.keeper.op ≡ Some a → IsAsked (Some a)
+    → IsAtBothEnds m0 l0 place id host device
+    → DiffersInStream m0 l0 place id e m l → m.asking ≡ Some place → asked_in e.keeper.op ≡ Some a → IsAsked (Some a)
     → IsExchanged m0 l0 place id loss a e result m' l'
 
 -- ---- one exchange after another
 
-pub record IsWalked (m0 : ManagerView) (l0 : LinkEnds) (place id : ℕ) (walked : Walked) (result : Outcome)
+pub record IsWalked (m0 : ManagerView) (l0 : LinkEnds) (place id : ℕ) (walked : WalkedEnds) (result : Outcome)
     (m : ManagerView) (l : LinkEnds) : Type 0 where
   pub outcome : result ≡ walked.outcome
-  pub stands : Stands m0 l0 place id walked.ends m l
+  pub stands : DiffersInStream m0 l0 place id walked.ends m l
 
 abbrev pub Walks : ℕ → Option Loss → ManagerView → LinkEnds → Outcome → ManagerView → LinkEnds → Type 0
 Walks more loss m l result m' l' =
     (m0 : ManagerView) (l0 : LinkEnds) (place id : ℕ) (host device : Found) (e : StreamEnds)
-    → IsOn m0 l0 place id host device
-    → Stands m0 l0 place id e m l → m.asking ≡ Some place → IsAsked (asked_in e.keeper.op)
+    → IsAtBothEnds m0 l0 place id host device
+    → DiffersInStream m0 l0 place id e m l → m.asking ≡ Some place → IsAsked (asked_in e.keeper.op)
     → IsWalked m0 l0 place id (walk_on more loss l0.device.requester e) result m' l'
 
 -- ---- an operation
@@ -89,7 +89,7 @@ pub record IsOperated (k : KeeperView) (l : LinkEnds) (op : Op) (loss : Option L
 abbrev pub Operates : KeeperView → LinkEnds → Op → Option Loss → Outcome → KeeperView → LinkEnds → Type 0
 Operates k l op loss result k' l' =
     (n : Named) (host device : Found) → named k.manager (op_name op).link (op_name op).stream ≡ Some n
-    → IsOn k.manager l n.place (op_name op).stream host device → IsAsked (asked_in n.stream.op)
+    → IsAtBothEnds k.manager l n.place (op_name op).stream host device → IsAsked (asked_in n.stream.op)
     → IsOperated k l op loss n host device result k' l'
 
 -- ---- calls

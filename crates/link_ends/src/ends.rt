@@ -1,19 +1,18 @@
 //! The two ends of a link.
 
-ghost use Rattle.std.specs.Prelude.{◌≡◌, ◌+◌, ◌<◌, ◌≤◌, ◌^◌, ℕ, Some, IfOk, All, length, map, slice_get};
+ghost use Rattle.std.specs.Prelude.{◌≡◌, ◌+◌, ◌<◌, ◌≤◌, ◌^◌, ℕ, IfOk, All, length};
 ghost use Rattle.ide_plan.specs.Fits.{FitsStream};
 ghost use Rattle.tdi_state.specs.Held.{FitsTdi};
-ghost use Rattle.sub_stream.specs.{lent_parts, mark_of};
-ghost use Rattle.ide_port.specs.{IsSent, take_step, status_in};
+ghost use Rattle.ide_port.specs.{IsSentAtPort, take_step, status_in};
 
 use device_side::Device;
 use ide_plan::{InterfacePlan, StreamPlan};
 use ide_port::{Arrival, Asked, Port, Sent};
 use ide_types::{Items, Memory, PortName, Side, StreamStatus};
 use std::alloc::Global;
-use sub_stream::PacketMark;
+use sub_stream::Delivered;
 
-/// A link: its host's port, and its device.
+/// A link: its host's port, and its device (PCI Express Base 6.0 section 6.33 and chapter 11, in this profile).
 #[derive(Drop)]
 pub struct LinkEnds {
     pub host: Port,
@@ -25,7 +24,7 @@ impl LinkEnds {
 
     /// The ends of a link with these streams, without keys; a key seals at most `limit` units. `requester` is the
     /// requester ID that the device gives in its answer to QUERY, 0 if it has no interface; it has these interfaces,
-    /// whose locks get these nonces.
+    /// whose locks get these nonces. Returns `Memory` for want of memory.
     pub fn make(
         alloc: Global,
         link: u8,
@@ -52,7 +51,8 @@ impl LinkEnds {
     /// TLP's owner is an interface in RUN and the TLP takes the stream that the interface is bound to.
     pub fn send(&mut self, side: Side, tlp: &[u8], trusted: bool, more: bool) -> Sent
         requires few { (port_in side self.old).calls < 2 ^ 40 }
-        ensures sent { (number : ℕ) → IsSent (port_in side self.old) tlp.now (trusting_at side self.old trusted) more
+        ensures sent { (number : ℕ) → IsSentAtPort (port_in side self.old) tlp.now (trusting_at side self.old trusted)
+            more
             number result (port_in side self.new) }
         ensures ends { self.new ≡ with_port side (port_in side self.new) self.old }
     {
@@ -87,37 +87,13 @@ impl LinkEnds {
         }
     }
 
-    /// How many packets of an accepted unit the port of this side lends, at most 8.
-    pub fn delivered(&self, side: Side) -> usize
-        ensures value { result ≡ length (port_in side self.now).delivered }
-        ensures most { result ≤ 8 }
+    /// The packets of an accepted unit that the port of this side lends.
+    pub fn delivered(&self, side: Side) -> Delivered<'_>
+        ensures { result ≡ (port_in side self.now).delivered }
     {
         match side {
             Side::Host => self.host.delivered(),
             Side::Device => self.device.delivered(),
-        }
-    }
-
-    /// The header of packet `i` of the unit that the port of this side accepted last, counted from 0, and its payload.
-    pub fn packet(&self, side: Side, i: usize) -> (&[u8], &[u8])
-        requires { i < length (port_in side self.now).delivered }
-        ensures { slice_get (map lent_parts (port_in side self.now).delivered) i ≡ Some (result.0.now, result.1.now) }
-    {
-        match side {
-            Side::Host => self.host.packet(i),
-            Side::Device => self.device.packet(i),
-        }
-    }
-
-    /// Whether packet `i` of the unit that the port of this side accepted last, counted from 0, is trusted, and whether
-    /// it is a sync packet.
-    pub fn mark(&self, side: Side, i: usize) -> PacketMark
-        requires { i < length (port_in side self.now).delivered }
-        ensures { slice_get (map mark_of (port_in side self.now).delivered) i ≡ Some result }
-    {
-        match side {
-            Side::Host => self.host.mark(i),
-            Side::Device => self.device.mark(i),
         }
     }
 

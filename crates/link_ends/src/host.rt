@@ -6,8 +6,11 @@ ghost use Rattle.key_laws.specs.Operations.{work_of};
 ghost use Rattle.tsm_host.specs.Operations.{op_name};
 ghost use Rattle.tsm_host.specs.Managers.{named, new_manager, reset_manager};
 ghost use Rattle.tsm_host.specs.Streams.{status_or_idle};
-ghost use Rattle.tdi_host.specs.Managers.{new_manager as new_interfaces, reset_manager as reset_interfaces};
-ghost use Rattle.tdi_device.specs.Replies.{settled};
+ghost use Rattle.tdi_host.specs.Managers.{
+  new_interface_manager as new_interfaces,
+  reset_interface_manager as reset_interfaces,
+};
+ghost use Rattle.tdi_device.specs.Replies.{settled_tdis};
 ghost use Rattle.tdi_ends.specs.Keepers.{Ended};
 ghost use Rattle.device_side.specs.Ends.{secure_at};
 ghost use Rattle.link_ends.specs.Hosts.{told, keyed_if, keyed_at_end, stopped_if};
@@ -22,7 +25,8 @@ use tdi_ends::InterfaceKeeper;
 use tdi_host::InterfaceOp;
 use tsm_host::{Op, Outcome, Shown};
 
-/// The host's manager of all links: of keys, and of device interfaces.
+/// The host's manager of all links: of keys, and of device interfaces (PCI Express Base 6.0 section 6.33 and chapter
+/// 11, in this profile).
 #[derive(Drop)]
 pub struct HostKeeper {
     pub keys: Keeper,
@@ -38,7 +42,7 @@ fn status_or_idle(status: Option<StreamStatus>) -> StreamStatus
     }
 }
 
-// A stream has the keys of this draw, if it was made.
+// Tells the manager of interfaces that a stream has the keys of this draw, if it was made.
 fn keyed_if(interfaces: &mut InterfaceKeeper, drew: bool, link: u8, stream: u8, draw: u32)
     ensures { interfaces.new ≡ keyed_if drew link stream draw interfaces.old }
 {
@@ -47,7 +51,7 @@ fn keyed_if(interfaces: &mut InterfaceKeeper, drew: bool, link: u8, stream: u8, 
     }
 }
 
-// Whether a refresh ended.
+// Tells it the draw of a refresh that ended.
 fn keyed_at_end(interfaces: &mut InterfaceKeeper, outcome: Outcome, link: u8, stream: u8)
     ensures { interfaces.new ≡ keyed_at_end outcome link stream interfaces.old }
 {
@@ -86,7 +90,8 @@ impl HostKeeper {
     ghost use Rattle.link_ends.specs.Keepers.{Operates, HasCalls};
     ghost use Rattle.link_ends.specs.Hosts.{operated_on};
 
-    /// A manager of the plan's links, and the plan's keys, none of them drawn; no interface is locked.
+    /// A manager of the plan's links, and the plan's keys, none of them drawn; no interface is locked. Returns `Memory`
+    /// for want of memory.
     pub fn make(alloc: Global, plan: &Plan) -> Result<HostKeeper, Memory>
         requires links { length plan.now.links ≤ 8 }
         requires pool { length plan.now.pool ≤ 6144 }
@@ -108,7 +113,7 @@ impl HostKeeper {
         requires { IsSome (named self.old.keys.manager (op_name op).link (op_name op).stream) }
         ensures operates { Operates self.old.keys ends.old op loss result self.new.keys ends.new }
         ensures calls { HasCalls ends.old ends.new }
-        ensures settles { ends.new.device.interfaces ≡ settled (secure_at ends.new.device.port)
+        ensures settles { ends.new.device.interfaces ≡ settled_tdis (secure_at ends.new.device.port)
             ends.old.device.interfaces }
         ensures interfaces { IfSome (named self.old.keys.manager (op_name op).link (op_name op).stream) (λ n.
             let begins = (work_of (op_name op).operation n.stream.op 0).begins in

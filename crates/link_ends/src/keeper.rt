@@ -33,7 +33,8 @@ const REPLY_ROOM: usize = 8;
 /// The most exchanges of an operation.
 const MOST_EXCHANGES: u8 = 13;
 
-/// The manager of all links with the keys that it draws, and room for one exchange.
+/// The manager of all links with the keys that it draws, and room for one exchange (PCI Express Base 6.0 section 6.33,
+/// in this profile).
 #[derive(Drop)]
 pub struct Keeper {
     manager: Manager,
@@ -95,7 +96,7 @@ fn deliver(manager: &Manager, device: &mut Device, request: &mut Vec<u8>, reply:
 impl Keeper {
     ghost use Rattle.link_ends.specs.Keepers.{Exchanges, Walks, Operates, SameCalls};
 
-    /// A manager of the plan's links, and the plan's keys, none of them drawn.
+    /// A manager of the plan's links, and the plan's keys, none of them drawn. Returns `Memory` for want of memory.
     pub fn make(alloc: Global, plan: &Plan) -> Result<Keeper, Memory>
         requires links { length plan.now.links ≤ 8 }
         requires pool { length plan.now.pool ≤ 6144 }

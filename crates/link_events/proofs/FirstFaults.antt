@@ -14,7 +14,7 @@ use Rattle.ide_types.specs.Names.{Text}
 use Rattle.link_events.specs.Terms.{Event, Establish, Refresh, Stop, Send, Pass, Alter, Cut, Arrive, Dump, Reset}
 use Rattle.link_events.specs.Terms.{Status, LineFault}
 use Rattle.link_events.specs.Terms.fault
-use Rattle.link_events.specs.Words.{is_printable, words_in, number_in, mask_in, bytes_in, port_in}
+use Rattle.link_events.specs.Words.{is_printable, words_in, number_of_word, mask_in, bytes_in, port_of_word}
 use Rattle.link_events.specs.Parse.{◌>>=◌, lost_exchange_in, loss_in, operation_in, marks_in, send_in, one_number_in}
 use Rattle.link_events.specs.Parse.{two_numbers_in, alter_in, arrive_in, bytes_event_in, event_by, event_in, is_comment}
 use Rattle.link_events.specs.Faults.{WordTest, event_table, is_at_host, is_trusted_at, number_test, mask_test}
@@ -34,10 +34,10 @@ alter [] = miscounted []
 alter (n ∷ []) = miscounted (n ∷ [])
 alter (n ∷ a ∷ []) = miscounted (n ∷ a ∷ [])
 alter (n ∷ a ∷ h ∷ []) =
-    step_reads number_test (number_in n) n (number_test ∷ mask_test ∷ []) (a ∷ h ∷ [])
-    (λ x. ok_or (number_in a) fault.Number >>= λ y. ok_or (mask_in h) fault.Hex >>= λ z. Ok (Alter x y z)) refl
+    step_reads number_test (number_of_word n) n (number_test ∷ mask_test ∷ []) (a ∷ h ∷ [])
+    (λ x. ok_or (number_of_word a) fault.Number >>= λ y. ok_or (mask_in h) fault.Hex >>= λ z. Ok (Alter x y z)) refl
     (λ x is.
-    step_reads number_test (number_in a) a (mask_test ∷ []) (h ∷ [])
+    step_reads number_test (number_of_word a) a (mask_test ∷ []) (h ∷ [])
     (λ y. ok_or (mask_in h) fault.Hex >>= λ z. Ok (Alter x y z)) refl (λ y too.
     step_reads mask_test (mask_in h) h [] [] (λ z. Ok (Alter x y z)) refl (λ z last. end_reads (Alter x y z))))
 alter (n ∷ a ∷ h ∷ x ∷ ws) = miscounted (n ∷ a ∷ h ∷ x ∷ ws)
@@ -46,7 +46,7 @@ arrive : (ws : List Text) → RowReads (arrive_tests ws) ws (arrive_in ws)
 arrive [] = miscounted []
 arrive (p ∷ []) = miscounted (p ∷ [])
 arrive (p ∷ w ∷ []) =
-    step_reads port_test (port_in p) p (bytes_test ∷ []) (w ∷ [])
+    step_reads port_test (port_of_word p) p (bytes_test ∷ []) (w ∷ [])
     (λ x. ok_or (bytes_in w) fault.Hex >>= λ y. Ok (Arrive x y)) refl (λ x is.
     step_reads bytes_test (bytes_in w) w [] [] (λ y. Ok (Arrive x y)) refl (λ y too. end_reads (Arrive x y)))
 arrive (p ∷ w ∷ x ∷ ws) = miscounted (p ∷ w ∷ x ∷ ws)
@@ -57,16 +57,17 @@ operation : (ws : List Text) → RowReads (operation_tests ws) ws (operation_in 
 operation [] = miscounted []
 operation (l ∷ []) = miscounted (l ∷ [])
 operation (l ∷ s ∷ []) =
-    step_reads number_test (number_in l) l (number_test ∷ []) (s ∷ [])
-    (λ x. ok_or (number_in s) fault.Number >>= λ y. Ok (x, y, None)) refl (λ x is.
-    step_reads number_test (number_in s) s [] [] (λ y. Ok (x, y, None)) refl (λ y too. end_reads (x, y, None)))
+    step_reads number_test (number_of_word l) l (number_test ∷ []) (s ∷ [])
+    (λ x. ok_or (number_of_word s) fault.Number >>= λ y. Ok (x, y, None)) refl (λ x is.
+    step_reads number_test (number_of_word s) s [] [] (λ y. Ok (x, y, None)) refl (λ y too. end_reads (x, y, None)))
 operation (l ∷ s ∷ a ∷ []) = miscounted (l ∷ s ∷ a ∷ [])
 operation (l ∷ s ∷ a ∷ n ∷ []) = miscounted (l ∷ s ∷ a ∷ n ∷ [])
 operation (l ∷ s ∷ a ∷ n ∷ w ∷ []) =
-    step_reads number_test (number_in l) l (number_test ∷ word_test (codes "lose") ∷ number_test ∷ lost_test ∷ [])
+    step_reads number_test (number_of_word l) l (number_test ∷ word_test (codes "lose") ∷ number_test ∷ lost_test ∷ [])
     (s ∷ a ∷ n ∷ w ∷ [])
-    (λ x. ok_or (number_in s) fault.Number >>= λ y. loss_in (a ∷ n ∷ w ∷ []) >>= λ z. Ok (x, y, z)) refl (λ x is.
-    step_reads number_test (number_in s) s (word_test (codes "lose") ∷ number_test ∷ lost_test ∷ []) (a ∷ n ∷ w ∷ [])
+    (λ x. ok_or (number_of_word s) fault.Number >>= λ y. loss_in (a ∷ n ∷ w ∷ []) >>= λ z. Ok (x, y, z)) refl (λ x is.
+    step_reads number_test (number_of_word s) s (word_test (codes "lose") ∷ number_test ∷ lost_test ∷ [])
+    (a ∷ n ∷ w ∷ [])
     (λ y. loss_in (a ∷ n ∷ w ∷ []) >>= λ z. Ok (x, y, z)) refl (λ y too.
     word_reads (codes "lose") a (number_test ∷ lost_test ∷ []) (n ∷ w ∷ []) (lost_exchange_in n w) (λ z. Ok (x, y, z))
     (lost n w (λ z. (x, y, z)))))
@@ -90,7 +91,7 @@ one_mark Device m = by_tests (bytes_eq m (codes "more")) (bytes_eq m (codes "tru
     by_tests false true = refl
     by_tests false false = refl
 
-trusted_by : (p t : Text) (x : PortName) → port_in p ≡ Some x → is_trusted_at p t
+trusted_by : (p t : Text) (x : PortName) → port_of_word p ≡ Some x → is_trusted_at p t
     ≡ (bytes_eq t (codes "trusted") && is_at_host x.side)
 trusted_by p t x is = rw is refl
 
@@ -126,13 +127,13 @@ marks_reads p m t Device k trusted = by_test (bytes_eq m (codes "more")) (bytes_
 
 -- a port, bytes and marks
 sent : (p w : Text) (marks : List Text) (places : List WordTest)
-    → ((x : PortName) (bytes : List ℕ) → port_in p ≡ Some x → Reads places marks
+    → ((x : PortName) (bytes : List ℕ) → port_of_word p ≡ Some x → Reads places marks
     (ok_or (marks_in x.side marks) fault.Word >>= λ m. Ok (Send x bytes m.0 m.1)))
     → Reads (port_test ∷ bytes_test ∷ places) (p ∷ w ∷ marks)
-    (ok_or (port_in p) fault.Word >>= λ x. ok_or (bytes_in w) fault.Hex >>= λ y. ok_or (marks_in x.side marks)
+    (ok_or (port_of_word p) fault.Word >>= λ x. ok_or (bytes_in w) fault.Hex >>= λ y. ok_or (marks_in x.side marks)
     fault.Word >>= λ m. Ok (Send x y m.0 m.1))
 sent p w marks places later =
-    step_reads port_test (port_in p) p (bytes_test ∷ places) (w ∷ marks)
+    step_reads port_test (port_of_word p) p (bytes_test ∷ places) (w ∷ marks)
     (λ x. ok_or (bytes_in w) fault.Hex >>= λ y. ok_or (marks_in x.side marks) fault.Word >>= λ m. Ok
     (Send x y m.0 m.1)) refl (λ x is.
     step_reads bytes_test (bytes_in w) w places marks

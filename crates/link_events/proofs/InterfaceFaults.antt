@@ -5,39 +5,43 @@ use Rattle.ide_types.specs.Names.{Text}
 use Rattle.link_events.specs.Terms.{Event, Interface, InterfaceEvent, Loss, LineFault}
 use Rattle.link_events.specs.Terms.fault
 use Rattle.link_events.specs.Terms.ie
-use Rattle.link_events.specs.Words.{number_in}
+use Rattle.link_events.specs.Words.{number_of_word}
 use Rattle.link_events.specs.Parts.{◌>>=◌, lost_exchange_in, loss_in, one_number_in, Row, number_test, word_test}
 use Rattle.link_events.specs.Parts.{lost_test, number_tests}
-use Rattle.link_events.specs.Interfaces.{register_in, value_in, length_in, asked_in, write_in, memory_in}
+use Rattle.link_events.specs.Interfaces.{register_in, register_value_in, length_in, interface_and_loss, write_event_in}
+use Rattle.link_events.specs.Interfaces.{memory_in}
 use Rattle.link_events.specs.Interfaces.{interface_event_of, register_test, value_test, length_test, asked_tests}
 use Rattle.link_events.specs.Interfaces.{write_tests, memory_tests, interface_rows}
 use Rattle.link_events.specs.Parse.{made_interface}
 use Rattle.link_events.proofs.Readings.{RowReads, TableReads, end_reads, step_reads, miscounted, made_reads, one_number}
 use Rattle.link_events.proofs.Readings.{word_reads, lost, family_row}
 
-asked : (ws : List Text) → RowReads (asked_tests ws) ws (asked_in ws)
+asked : (ws : List Text) → RowReads (asked_tests ws) ws (interface_and_loss ws)
 asked [] = miscounted []
-asked (i ∷ []) = step_reads number_test (number_in i) i [] [] (λ x. Ok (x, None)) refl (λ x is. end_reads (x, None))
+asked (i ∷ []) = step_reads number_test (number_of_word i) i [] [] (λ x. Ok (x, None)) refl
+    (λ x is. end_reads (x, None))
 asked (i ∷ a ∷ []) = miscounted (i ∷ a ∷ [])
 asked (i ∷ a ∷ n ∷ []) = miscounted (i ∷ a ∷ n ∷ [])
 asked (i ∷ a ∷ n ∷ w ∷ []) =
-    step_reads number_test (number_in i) i (word_test (codes "lose") ∷ number_test ∷ lost_test ∷ []) (a ∷ n ∷ w ∷ [])
+    step_reads number_test (number_of_word i) i (word_test (codes "lose") ∷ number_test ∷ lost_test ∷ [])
+    (a ∷ n ∷ w ∷ [])
     (λ x. loss_in (a ∷ n ∷ w ∷ []) >>= λ z. Ok (x, z)) refl (λ x is.
     word_reads (codes "lose") a (number_test ∷ lost_test ∷ []) (n ∷ w ∷ []) (lost_exchange_in n w) (λ z. Ok (x, z))
     (lost n w (λ z. (x, z))))
 asked (i ∷ a ∷ n ∷ w ∷ v ∷ ws) = miscounted (i ∷ a ∷ n ∷ w ∷ v ∷ ws)
 
-write : (ws : List Text) → RowReads (write_tests ws) ws (write_in ws)
+write : (ws : List Text) → RowReads (write_tests ws) ws (write_event_in ws)
 write [] = miscounted []
 write (i ∷ []) = miscounted (i ∷ [])
 write (i ∷ r ∷ []) = miscounted (i ∷ r ∷ [])
 write (i ∷ r ∷ w ∷ []) =
-    step_reads number_test (number_in i) i (register_test ∷ value_test r ∷ []) (r ∷ w ∷ [])
-    (λ x. ok_or (register_in r) fault.Word >>= λ y. ok_or (value_in y w) fault.Number >>= λ z. Ok (ie.Write x y z))
+    step_reads number_test (number_of_word i) i (register_test ∷ value_test r ∷ []) (r ∷ w ∷ [])
+    (λ x. ok_or (register_in r) fault.Word >>= λ y. ok_or (register_value_in y w) fault.Number >>= λ z. Ok
+    (ie.Write x y z))
     refl (λ x is.
     step_reads register_test (register_in r) r (value_test r ∷ []) (w ∷ [])
-    (λ y. ok_or (value_in y w) fault.Number >>= λ z. Ok (ie.Write x y z)) refl (λ y too.
-    step_reads (value_test r) (value_in y w) w [] [] (λ z. Ok (ie.Write x y z)) (rw too refl)
+    (λ y. ok_or (register_value_in y w) fault.Number >>= λ z. Ok (ie.Write x y z)) refl (λ y too.
+    step_reads (value_test r) (register_value_in y w) w [] [] (λ z. Ok (ie.Write x y z)) (rw too refl)
     (λ z last. end_reads (ie.Write x y z))))
 write (i ∷ r ∷ w ∷ x ∷ ws) = miscounted (i ∷ r ∷ w ∷ x ∷ ws)
 
@@ -45,7 +49,7 @@ memory : (ws : List Text) → RowReads (memory_tests ws) ws (memory_in ws)
 memory [] = miscounted []
 memory (a ∷ []) = miscounted (a ∷ [])
 memory (a ∷ l ∷ []) =
-    step_reads number_test (number_in a) a (length_test ∷ []) (l ∷ [])
+    step_reads number_test (number_of_word a) a (length_test ∷ []) (l ∷ [])
     (λ x. ok_or (length_in l) fault.Number >>= λ y. Ok (ie.Memory x y)) refl (λ x is.
     step_reads length_test (length_in l) l [] [] (λ y. Ok (ie.Memory x y)) refl (λ y too. end_reads (ie.Memory x y)))
 memory (a ∷ l ∷ x ∷ ws) = miscounted (a ∷ l ∷ x ∷ ws)
@@ -53,9 +57,9 @@ memory (a ∷ l ∷ x ∷ ws) = miscounted (a ∷ l ∷ x ∷ ws)
 -- ---- the rows
 
 asked_row : (rest : List Text) (event : ℕ → Option Loss → InterfaceEvent)
-    → RowReads (asked_tests rest) rest (made_interface (asked_in rest >>= λ a. Ok (event a.0 a.1)))
+    → RowReads (asked_tests rest) rest (made_interface (interface_and_loss rest >>= λ a. Ok (event a.0 a.1)))
 asked_row rest event = made_reads (asked_tests rest) rest _ Interface
-    (made_reads (asked_tests rest) rest (asked_in rest) (λ a. event a.0 a.1) (asked rest))
+    (made_reads (asked_tests rest) rest (interface_and_loss rest) (λ a. event a.0 a.1) (asked rest))
 
 number_row : (rest : List Text) (event : ℕ → InterfaceEvent) → RowReads (number_tests rest) rest
     (made_interface (one_number_in rest >>= λ n. Ok (event n)))
@@ -70,7 +74,7 @@ interface_reads first rest later z others =
     family_row made_interface (codes "view") number_tests (drop 1 (interface_rows later)) rest first _ _ z
     (number_row rest ie.View)
     (family_row made_interface (codes "write") write_tests (drop 2 (interface_rows later)) rest first _ _ z
-    (made_reads (write_tests rest) rest (write_in rest) Interface (write rest))
+    (made_reads (write_tests rest) rest (write_event_in rest) Interface (write rest))
     (family_row made_interface (codes "flr") number_tests (drop 3 (interface_rows later)) rest first _ _ z
     (number_row rest ie.Flr)
     (family_row made_interface (codes "firmware") number_tests (drop 4 (interface_rows later)) rest first _ _ z

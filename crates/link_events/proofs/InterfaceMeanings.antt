@@ -1,4 +1,4 @@
--- A line of an interface or of memory means an event exactly where it spells it, and what it spells is allowed.
+-- A line of an interface or of memory means an event exactly if it spells it, and what it spells is allowed.
 use Rattle.std.proofs.Common.{zero, suc, true, false, not, nat_lt, nat_le, ◌&&◌, ◌==◌, ◌≡◌, ◌<◌, ◌≤◌, ◌+◌, ◌-◌, ◌^◌, ℕ}
 use Rattle.std.proofs.Common.{List, [], ◌∷◌, Bool, Option, Some, None, Result, Ok, Err, refl, sym, ap, subst, arith}
 use Rattle.std.proofs.Common.{codes}
@@ -14,10 +14,12 @@ use Rattle.interface_words.specs.RegisterNames.{width_of, IsAmongSix}
 use Rattle.link_events.specs.Terms.{Event, Interface, InterfaceEvent, Loss, LineFault}
 use Rattle.link_events.specs.Terms.fault
 use Rattle.link_events.specs.Terms.ie
-use Rattle.link_events.specs.Words.{number_in}
+use Rattle.link_events.specs.Words.{number_of_word}
 use Rattle.link_events.specs.Parts.{◌>>=◌, loss_in, is_loss_long, one_number_in, LossSpelledBy}
-use Rattle.link_events.specs.Interfaces.{register_word, bar_number, bar_in, register_in, value_in, length_in, asked_in}
-use Rattle.link_events.specs.Interfaces.{write_in, memory_in, interface_event_of, AskedSpelledBy, InterfaceSpelledBy}
+use Rattle.link_events.specs.Interfaces.{register_word, bar_number, bar_in, register_in, register_value_in, length_in}
+use Rattle.link_events.specs.Interfaces.{interface_and_loss}
+use Rattle.link_events.specs.Interfaces.{write_event_in, memory_in, interface_event_of, AskedSpelledBy}
+use Rattle.link_events.specs.Interfaces.{InterfaceSpelledBy}
 use Rattle.link_events.specs.Interfaces.{IsAllowedInterface}
 use Rattle.link_events.specs.Parse.{made_interface, event_in}
 use Rattle.link_events.specs.Spells.{SpelledBy}
@@ -27,7 +29,7 @@ use Rattle.link_events.proofs.Spelled.{loss_spelled, loss_meant, one_spelled, Sp
 
 -- ---- registers
 
--- the word of the register, which is one that there may be
+-- the word of the register, which is one that an interface may have
 abbrev Names : Text → Register → Type 0
 Names w r = (w ≡ register_word r) × IsAmongSix r
 
@@ -64,7 +66,7 @@ bar_named (b ∷ a ∷ c ∷ []) r e = absurd (none_some r e)
 bar_named (b ∷ a ∷ c ∷ d ∷ []) r e = letters_named b a c d r (b == 98) (a == 97) (c == 114) refl refl refl e
 bar_named (b ∷ a ∷ c ∷ d ∷ x ∷ w) r e = absurd (none_some r e)
 
--- a word that is tested to be this register's, or what it names else
+-- a word that is tested to be this register's, or what else it names
 named_or : (w : Text) (x : Register) (o : Option Register) (r : Register) → IsAmongSix x → (o ≡ Some r → Names w r)
     → (if bytes_eq w (register_word x) then Some x else o) ≡ Some r → Names w r
 named_or w x o r among others e = by_test (bytes_eq w (register_word x)) refl e
@@ -108,9 +110,9 @@ bounded : (n limit v : ℕ) (b : Bool) → nat_lt n limit ≡ b → (if b then S
 bounded n limit v true is e = let same = some_some n v e in (same, omega (arith, ltb-true n limit is, same))
 bounded n limit v false is e = absurd (none_some v e)
 
-value_bounded : (r : Register) (w : Text) (v : ℕ) → value_in r w ≡ Some v → (number_in w ≡ Some v)
+value_bounded : (r : Register) (w : Text) (v : ℕ) → register_value_in r w ≡ Some v → (number_of_word w ≡ Some v)
     × (v < 2 ^ width_of r)
-value_bounded r w v is = by_number (number_in w) is
+value_bounded r w v is = by_number (number_of_word w) is
   where
     by_number : (o : Option ℕ) → option_and_then (λ n. if nat_lt n (2 ^ width_of r) then Some n else None) o ≡ Some v
         → (o ≡ Some v) × (v < 2 ^ width_of r)
@@ -118,7 +120,8 @@ value_bounded r w v is = by_number (number_in w) is
     by_number (Some n) e = let room = bounded n (2 ^ width_of r) v (nat_lt n (2 ^ width_of r)) refl e in
         (ap Some room.0, room.1)
 
-value_back : (r : Register) (w : Text) (v : ℕ) → number_in w ≡ Some v → v < 2 ^ width_of r → value_in r w ≡ Some v
+value_back : (r : Register) (w : Text) (v : ℕ) → number_of_word w ≡ Some v → v < 2 ^ width_of r → register_value_in r w
+    ≡ Some v
 value_back r w v is room = rw is (rw (lt-ltb v (2 ^ width_of r) room) refl)
 
 between : (n v : ℕ) (low high : Bool) → nat_le 1 n ≡ low → nat_le n 256 ≡ high → (if low && high then Some n else None)
@@ -128,8 +131,8 @@ between n v true true x y e = let same = some_some n v e in
 between n v true false x y e = absurd (none_some v e)
 between n v false high x y e = absurd (none_some v e)
 
-length_bounded : (w : Text) (v : ℕ) → length_in w ≡ Some v → (number_in w ≡ Some v) × (1 ≤ v) × (v ≤ 256)
-length_bounded w v is = by_number (number_in w) is
+length_bounded : (w : Text) (v : ℕ) → length_in w ≡ Some v → (number_of_word w ≡ Some v) × (1 ≤ v) × (v ≤ 256)
+length_bounded w v is = by_number (number_of_word w) is
   where
     by_number : (o : Option ℕ) → option_and_then (λ n. if nat_le 1 n && nat_le n 256 then Some n else None) o ≡ Some v
         → (o ≡ Some v) × (1 ≤ v) × (v ≤ 256)
@@ -137,38 +140,42 @@ length_bounded w v is = by_number (number_in w) is
     by_number (Some n) e = let few = between n v (nat_le 1 n) (nat_le n 256) refl refl e in
         (ap Some few.0, few.1, few.2)
 
-length_back : (w : Text) (v : ℕ) → number_in w ≡ Some v → 1 ≤ v → v ≤ 256 → length_in w ≡ Some v
+length_back : (w : Text) (v : ℕ) → number_of_word w ≡ Some v → 1 ≤ v → v ≤ 256 → length_in w ≡ Some v
 length_back w v is least most = rw is (rw (le-leb 1 v least, le-leb v 256 most) refl)
 
 -- ---- what was read is spelled
 
 asked_step : (first i : Text) (rest : List Text) (a : ℕ × Option Loss) (b : Bool)
-    → (if not b then Err fault.Count else ok_or (number_in i) fault.Number >>= λ x. loss_in rest >>= λ z. Ok (x, z))
+    → (if not b then Err fault.Count else ok_or (number_of_word i) fault.Number >>= λ x. loss_in rest >>= λ z. Ok
+    (x, z))
     ≡ Ok a
     → AskedSpelledBy first a.0 a.1 (first ∷ i ∷ rest)
 asked_step first i rest a false h = absurd (err_ok fault.Count a h)
 asked_step first i rest a true h =
-    let x = next_of (number_in i) fault.Number (λ x. loss_in rest >>= λ z. Ok (x, z)) a h in
+    let x = next_of (number_of_word i) fault.Number (λ x. loss_in rest >>= λ z. Ok (x, z)) a h in
     let y = next_result (loss_in rest) (λ z. Ok (x.0, z)) a x.2 in
     subst (λ (q : ℕ × Option Loss). AskedSpelledBy first q.0 q.1 (first ∷ i ∷ rest)) (ok_ok (x.0, y.0) a y.2)
     ((i, x.1), rest, loss_spelled rest y.0 y.1, refl)
 
-asked_spelled : (first : Text) (ws : List Text) (a : ℕ × Option Loss) → asked_in ws ≡ Ok a
+asked_spelled : (first : Text) (ws : List Text) (a : ℕ × Option Loss) → interface_and_loss ws ≡ Ok a
     → AskedSpelledBy first a.0 a.1 (first ∷ ws)
 asked_spelled first [] a h = absurd (err_ok fault.Count a h)
 asked_spelled first (i ∷ rest) a h = asked_step first i rest a (is_loss_long rest) h
 
-write_spelled : (ws : List Text) (e : InterfaceEvent) → write_in ws ≡ Ok e → InterfaceSpelledBy e (codes "write" ∷ ws)
+write_spelled : (ws : List Text) (e : InterfaceEvent) → write_event_in ws ≡ Ok e
+    → InterfaceSpelledBy e (codes "write" ∷ ws)
 write_spelled [] e h = absurd (err_ok fault.Count e h)
 write_spelled (i ∷ []) e h = absurd (err_ok fault.Count e h)
 write_spelled (i ∷ r ∷ []) e h = absurd (err_ok fault.Count e h)
 write_spelled (i ∷ r ∷ w ∷ []) e h =
-    let a = next_of (number_in i) fault.Number
-    (λ x. ok_or (register_in r) fault.Word >>= λ y. ok_or (value_in y w) fault.Number >>= λ z. Ok (ie.Write x y z))
+    let a = next_of (number_of_word i) fault.Number
+    (λ x. ok_or (register_in r) fault.Word >>= λ y. ok_or (register_value_in y w) fault.Number >>= λ z. Ok
+    (ie.Write x y z))
     e h in
-    let b = next_of (register_in r) fault.Word (λ y. ok_or (value_in y w) fault.Number >>= λ z. Ok (ie.Write a.0 y z)) e
+    let b = next_of (register_in r) fault.Word
+    (λ y. ok_or (register_value_in y w) fault.Number >>= λ z. Ok (ie.Write a.0 y z)) e
     a.2 in
-    let c = next_of (value_in b.0 w) fault.Number (λ z. Ok (ie.Write a.0 b.0 z)) e b.2 in
+    let c = next_of (register_value_in b.0 w) fault.Number (λ z. Ok (ie.Write a.0 b.0 z)) e b.2 in
     let named = register_named r b.0 b.1 in
     let room = value_bounded b.0 w c.0 c.1 in
     subst (λ (x : InterfaceEvent). InterfaceSpelledBy x (codes "write" ∷ i ∷ r ∷ w ∷ []))
@@ -181,7 +188,8 @@ memory_spelled : (ws : List Text) (e : InterfaceEvent) → memory_in ws ≡ Ok e
 memory_spelled [] e h = absurd (err_ok fault.Count e h)
 memory_spelled (a ∷ []) e h = absurd (err_ok fault.Count e h)
 memory_spelled (a ∷ l ∷ []) e h =
-    let x = next_of (number_in a) fault.Number (λ x. ok_or (length_in l) fault.Number >>= λ y. Ok (ie.Memory x y)) e h
+    let x = next_of (number_of_word a) fault.Number (λ x. ok_or (length_in l) fault.Number >>= λ y. Ok (ie.Memory x y))
+    e h
     in
     let y = next_of (length_in l) fault.Number (λ y. Ok (ie.Memory x.0 y)) e x.2 in
     let few = length_bounded l y.0 y.1 in
@@ -192,13 +200,13 @@ memory_spelled (a ∷ l ∷ x ∷ ws) e h = absurd (err_ok fault.Count e h)
 asked_as : (rest : List Text) (word : Text) (event : ℕ → Option Loss → InterfaceEvent)
     → ((a : ℕ × Option Loss) → AskedSpelledBy word a.0 a.1 (word ∷ rest)
     → InterfaceSpelledBy (event a.0 a.1) (word ∷ rest))
-    → SpelledAs SpelledBy rest word (made_interface (asked_in rest >>= λ a. Ok (event a.0 a.1)))
+    → SpelledAs SpelledBy rest word (made_interface (interface_and_loss rest >>= λ a. Ok (event a.0 a.1)))
 asked_as rest word event each =
     made SpelledBy rest word _ Interface
-    (made InterfaceSpelledBy rest word (asked_in rest) (λ a. event a.0 a.1)
+    (made InterfaceSpelledBy rest word (interface_and_loss rest) (λ a. event a.0 a.1)
     (λ a h. each a (asked_spelled word rest a h)))
 
--- ahead of what else the first word may be
+-- before what else the first word may be
 pub interface_spelled : (first : Text) (rest : List Text) (z : Result Event LineFault)
     → SpelledAs SpelledBy rest first z
     → SpelledAs SpelledBy rest first (unwrap_or (option_map made_interface (interface_event_of first rest)) z)
@@ -207,7 +215,7 @@ interface_spelled first rest z others =
     (made SpelledBy rest _ _ Interface
     (made InterfaceSpelledBy rest _ (one_number_in rest) ie.View (one_spelled _ rest)))
     (tested_family (SpelledAs SpelledBy rest) made_interface first (codes "write") _ _ z
-    (made SpelledBy rest _ (write_in rest) Interface (write_spelled rest))
+    (made SpelledBy rest _ (write_event_in rest) Interface (write_spelled rest))
     (tested_family (SpelledAs SpelledBy rest) made_interface first (codes "flr") _ _ z
     (made SpelledBy rest _ _ Interface
     (made InterfaceSpelledBy rest _ (one_number_in rest) ie.Flr (one_spelled _ rest)))
@@ -231,8 +239,8 @@ interface_spelled first rest z others =
 
 asked_meant : (event : ℕ → Option Loss → InterfaceEvent) (interface : ℕ) (lose : Option Loss) (rest : List Text)
     (i : Text)
-    → number_in i ≡ Some interface → LossSpelledBy lose rest
-    → (made_interface (asked_in (i ∷ rest) >>= λ a. Ok (event a.0 a.1)) >>= λ e. Ok (Some e))
+    → number_of_word i ≡ Some interface → LossSpelledBy lose rest
+    → (made_interface (interface_and_loss (i ∷ rest) >>= λ a. Ok (event a.0 a.1)) >>= λ e. Ok (Some e))
     ≡ Ok (Some (Interface (event interface lose)))
 asked_meant event interface lose rest i a c =
     let loss = loss_meant rest lose c in

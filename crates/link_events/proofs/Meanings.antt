@@ -1,6 +1,6 @@
--- A line means an event exactly where it spells it. It goes by the first word and then word by word: a reading that
--- came to an event passed each of its steps, and the word of each step spells the value that the step gave; the other
--- way round, with words that spell an event each step gives its value. The marks of a send are tried for each side and
+-- A line means an event exactly if it spells it. It goes by the first word and then word by word: a reading that gave
+-- an event passed each of its steps, and the word of each step spells the value that the step gave; the other way
+-- round, with words that spell an event each step gives its value. The marks of a send are tried for each side and
 -- number of words.
 use Rattle.std.proofs.Common.{true, false, nat_lt, not, ◌&&◌, ◌≡◌, ◌≤◌, ℕ, List, [], ◌∷◌, Bool, Option, Some, None}
 use Rattle.std.proofs.Common.{Result, Ok, Err, length, refl, ap, ap₂, subst, arith, codes, inl, inr}
@@ -15,7 +15,7 @@ use Rattle.ide_types.specs.Names.{Text}
 use Rattle.link_events.specs.Terms.{Event, Establish, Refresh, Stop, Send, Pass, Alter, Cut, Arrive, Dump, Reset}
 use Rattle.link_events.specs.Terms.{Status, Interface, Loss, LineFault}
 use Rattle.link_events.specs.Terms.fault
-use Rattle.link_events.specs.Words.{is_printable, words_in, number_in, mask_in, bytes_in, port_in}
+use Rattle.link_events.specs.Words.{is_printable, words_in, number_of_word, mask_in, bytes_in, port_of_word}
 use Rattle.link_events.specs.Parse.{◌>>=◌, loss_in, is_loss_long, operation_in, marks_in, send_in, one_number_in}
 use Rattle.link_events.specs.Parse.{two_numbers_in, alter_in, arrive_in, bytes_event_in, event_by, event_in, is_comment}
 use Rattle.link_events.specs.Parse.{line_meaning}
@@ -29,14 +29,15 @@ use Rattle.link_events.proofs.InterfaceMeanings.{interface_spelled, interface_me
 -- ---- operations
 
 operation_step : (first l s : Text) (rest : List Text) (o : ℕ × ℕ × Option Loss) (b : Bool)
-    → (if not b then Err fault.Count else ok_or (number_in l) fault.Number >>= λ x. ok_or (number_in s) fault.Number >>=
+    → (if not b then Err fault.Count else ok_or (number_of_word l) fault.Number >>= λ x. ok_or (number_of_word s)
+    fault.Number >>=
     λ y. loss_in rest >>= λ z. Ok (x, y, z)) ≡ Ok o
     → OperationSpelledBy first o.0 o.1 o.2 (first ∷ l ∷ s ∷ rest)
 operation_step first l s rest o false h = absurd (err_ok fault.Count o h)
 operation_step first l s rest o true h =
-    let a = next_of (number_in l) fault.Number
-    (λ x. ok_or (number_in s) fault.Number >>= λ y. loss_in rest >>= λ z. Ok (x, y, z)) o h in
-    let b = next_of (number_in s) fault.Number (λ y. loss_in rest >>= λ z. Ok (a.0, y, z)) o a.2 in
+    let a = next_of (number_of_word l) fault.Number
+    (λ x. ok_or (number_of_word s) fault.Number >>= λ y. loss_in rest >>= λ z. Ok (x, y, z)) o h in
+    let b = next_of (number_of_word s) fault.Number (λ y. loss_in rest >>= λ z. Ok (a.0, y, z)) o a.2 in
     let c = next_result (loss_in rest) (λ z. Ok (a.0, b.0, z)) o b.2 in
     subst (λ (x : ℕ × ℕ × Option Loss). OperationSpelledBy first x.0 x.1 x.2 (first ∷ l ∷ s ∷ rest))
     (ok_ok (a.0, b.0, c.0) o c.2)
@@ -114,7 +115,7 @@ arrive_spelled : (ws : List Text) (e : Event) → arrive_in ws ≡ Ok e → Spel
 arrive_spelled [] e h = absurd (err_ok fault.Count e h)
 arrive_spelled (p ∷ []) e h = absurd (err_ok fault.Count e h)
 arrive_spelled (p ∷ w ∷ []) e h =
-    let a = next_of (port_in p) fault.Word (λ x. ok_or (bytes_in w) fault.Hex >>= λ y. Ok (Arrive x y)) e h in
+    let a = next_of (port_of_word p) fault.Word (λ x. ok_or (bytes_in w) fault.Hex >>= λ y. Ok (Arrive x y)) e h in
     let b = next_of (bytes_in w) fault.Hex (λ y. Ok (Arrive a.0 y)) e a.2 in
     subst (λ (x : Event). SpelledBy x (codes "arrive" ∷ p ∷ w ∷ [])) (ok_ok (Arrive a.0 b.0) e b.2)
     ((p, a.1), (w, b.1), refl)
@@ -125,21 +126,23 @@ alter_spelled [] e h = absurd (err_ok fault.Count e h)
 alter_spelled (n ∷ []) e h = absurd (err_ok fault.Count e h)
 alter_spelled (n ∷ t ∷ []) e h = absurd (err_ok fault.Count e h)
 alter_spelled (n ∷ t ∷ m ∷ []) e h =
-    let a = next_of (number_in n) fault.Number
-    (λ x. ok_or (number_in t) fault.Number >>= λ y. ok_or (mask_in m) fault.Hex >>= λ z. Ok (Alter x y z)) e h in
-    let b = next_of (number_in t) fault.Number (λ y. ok_or (mask_in m) fault.Hex >>= λ z. Ok (Alter a.0 y z)) e a.2 in
+    let a = next_of (number_of_word n) fault.Number
+    (λ x. ok_or (number_of_word t) fault.Number >>= λ y. ok_or (mask_in m) fault.Hex >>= λ z. Ok (Alter x y z)) e h in
+    let b = next_of (number_of_word t) fault.Number (λ y. ok_or (mask_in m) fault.Hex >>= λ z. Ok (Alter a.0 y z)) e
+    a.2 in
     let c = next_of (mask_in m) fault.Hex (λ z. Ok (Alter a.0 b.0 z)) e b.2 in
     subst (λ (x : Event). SpelledBy x (codes "alter" ∷ n ∷ t ∷ m ∷ [])) (ok_ok (Alter a.0 b.0 c.0) e c.2)
     ((n, a.1), (t, b.1), (m, c.1), refl)
 alter_spelled (n ∷ t ∷ m ∷ x ∷ ws) e h = absurd (err_ok fault.Count e h)
 
 send_step : (p w : Text) (marks : List Text) (e : Event) (b : Bool)
-    → (if b then Err fault.Count else ok_or (port_in p) fault.Word >>= λ x. ok_or (bytes_in w) fault.Hex >>= λ y. ok_or
+    → (if b then Err fault.Count else ok_or (port_of_word p) fault.Word >>= λ x. ok_or (bytes_in w) fault.Hex >>= λ y.
+    ok_or
     (marks_in x.side marks) fault.Word >>= λ m. Ok (Send x y m.0 m.1)) ≡ Ok e
     → SpelledBy e (codes "send" ∷ p ∷ w ∷ marks)
 send_step p w marks e true h = absurd (err_ok fault.Count e h)
 send_step p w marks e false h =
-    let a = next_of (port_in p) fault.Word
+    let a = next_of (port_of_word p) fault.Word
     (λ x. ok_or (bytes_in w) fault.Hex >>= λ y. ok_or (marks_in x.side marks) fault.Word >>= λ m. Ok
     (Send x y m.0 m.1)) e h in
     let b = next_of (bytes_in w) fault.Hex
@@ -190,7 +193,7 @@ words_spelled (first ∷ rest) e h = event_spelled first rest e (some_event (eve
 
 operation_meant : (event : ℕ → ℕ → Option Loss → Event) (link stream : ℕ) (lose : Option Loss) (rest : List Text)
     (l s : Text)
-    → number_in l ≡ Some link → number_in s ≡ Some stream → LossSpelledBy lose rest
+    → number_of_word l ≡ Some link → number_of_word s ≡ Some stream → LossSpelledBy lose rest
     → ((operation_in (l ∷ s ∷ rest) >>= λ o. Ok (event o.0 o.1 o.2)) >>= λ e. Ok (Some e))
     ≡ Ok (Some (event link stream lose))
 operation_meant event link stream lose rest l s a b c =

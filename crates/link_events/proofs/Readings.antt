@@ -8,7 +8,7 @@ use Rattle.std.specs.Str.{bytes_eq}
 use Rattle.ide_types.specs.Names.{Text}
 use Rattle.link_events.specs.Terms.{Event, Loss, LineFault}
 use Rattle.link_events.specs.Terms.fault
-use Rattle.link_events.specs.Words.{number_in, lost_in}
+use Rattle.link_events.specs.Words.{number_of_word, lost_of_word}
 use Rattle.link_events.specs.Parts.{◌>>=◌, lost_exchange_in, one_number_in, two_numbers_in, WordTest, Row, number_test}
 use Rattle.link_events.specs.Parts.{lost_test, word_test, number_tests, two_number_tests}
 use Rattle.link_events.specs.Faults.{FirstOff, RowFault, TableFault}
@@ -16,7 +16,7 @@ use Rattle.link_events.proofs.Steps.{ok_err, err_err, false_true}
 
 -- ---- one way: a reading that ends in a fault ends in the first
 
--- the reading of these words ends in a fault exactly where that is the first off these tests
+-- the reading of these words ends in a fault exactly if that is the first off these tests
 abbrev pub Reads : {A : Type 0} → List WordTest → List Text → Result A LineFault → Type 0
 Reads places words answer = (f : LineFault) → (answer ≡ Err f) ↔ FirstOff places words f
 
@@ -47,7 +47,7 @@ on_reads p w ps ws answer is later f = (
   ],
 )
 
--- a word that is read where it meets its test, and what follows
+-- a word that is read if it meets its test, and what follows
 pub step_reads : {A B : Type 0} (p : WordTest) (o : Option A) (w : Text) (ps : List WordTest) (ws : List Text)
     (k : A → Result B LineFault)
     → p.is_spelled w ≡ is_some o → ((x : A) → o ≡ Some x → Reads ps ws (k x))
@@ -61,9 +61,9 @@ pub last_reads : {A : Type 0} (p : WordTest) (o : Option A) (w : Text) → p.is_
 last_reads p None w is = off_reads p w [] [] is
 last_reads p (Some x) w is = on_reads p w [] [] (Ok x) is (end_reads x)
 
--- ---- the words behind the first
+-- ---- the words after the first
 
--- the reading of the words ends in a fault exactly where that is the first off the event's tests
+-- the reading of the words ends in a fault exactly if that is the first off the event's tests
 abbrev pub RowReads : {A : Type 0} → Option (List WordTest) → List Text → Result A LineFault → Type 0
 RowReads places words answer = (f : LineFault) → (answer ≡ Err f) ↔ RowFault places words f
 
@@ -81,16 +81,16 @@ made_reads places words (Err g) event each f =
 
 pub one_number : (ws : List Text) → RowReads (number_tests ws) ws (one_number_in ws)
 one_number [] = miscounted []
-one_number (n ∷ []) = last_reads number_test (number_in n) n refl
+one_number (n ∷ []) = last_reads number_test (number_of_word n) n refl
 one_number (n ∷ x ∷ ws) = miscounted (n ∷ x ∷ ws)
 
 pub two_numbers : (ws : List Text) → RowReads (two_number_tests ws) ws (two_numbers_in ws)
 two_numbers [] = miscounted []
 two_numbers (m ∷ []) = miscounted (m ∷ [])
 two_numbers (m ∷ n ∷ []) =
-    step_reads number_test (number_in m) m (number_test ∷ []) (n ∷ [])
-    (λ x. ok_or (number_in n) fault.Number >>= λ y. Ok (x, y)) refl (λ x is.
-    step_reads number_test (number_in n) n [] [] (λ y. Ok (x, y)) refl (λ y too. end_reads (x, y)))
+    step_reads number_test (number_of_word m) m (number_test ∷ []) (n ∷ [])
+    (λ x. ok_or (number_of_word n) fault.Number >>= λ y. Ok (x, y)) refl (λ x is.
+    step_reads number_test (number_of_word n) n [] [] (λ y. Ok (x, y)) refl (λ y too. end_reads (x, y)))
 two_numbers (m ∷ n ∷ x ∷ ws) = miscounted (m ∷ n ∷ x ∷ ws)
 
 -- a word that is to be this one, and what follows
@@ -118,14 +118,14 @@ reads_same ps ws x y same reads = subst (λ z. Reads ps ws z) (sym same) reads
 pub lost : {A : Type 0} (n w : Text) (k : Option Loss → A) → Reads (number_test ∷ lost_test ∷ []) (n ∷ w ∷ [])
     (lost_exchange_in n w >>= λ z. Ok (k z))
 lost n w k =
-    let made : ℕ → Result (Option Loss) LineFault = λ i. ok_or (lost_in w) fault.Word >>= λ o. Ok
+    let made : ℕ → Result (Option Loss) LineFault = λ i. ok_or (lost_of_word w) fault.Word >>= λ o. Ok
     (Some (record { exchange = i; lost = o })) in
     reads_same (number_test ∷ lost_test ∷ []) (n ∷ w ∷ []) _ _
-    (associated (number_in n) fault.Number made (λ z. Ok (k z)))
-    (step_reads number_test (number_in n) n (lost_test ∷ []) (w ∷ []) (λ i. made i >>= λ z. Ok (k z)) refl (λ i is.
+    (associated (number_of_word n) fault.Number made (λ z. Ok (k z)))
+    (step_reads number_test (number_of_word n) n (lost_test ∷ []) (w ∷ []) (λ i. made i >>= λ z. Ok (k z)) refl (λ i is.
     reads_same (lost_test ∷ []) (w ∷ []) _ _
-    (associated (lost_in w) fault.Word (λ o. Ok (Some (record { exchange = i; lost = o }))) (λ z. Ok (k z)))
-    (step_reads lost_test (lost_in w) w [] [] (λ o. Ok (k (Some (record { exchange = i; lost = o })))) refl
+    (associated (lost_of_word w) fault.Word (λ o. Ok (Some (record { exchange = i; lost = o }))) (λ z. Ok (k z)))
+    (step_reads lost_test (lost_of_word w) w [] [] (λ o. Ok (k (Some (record { exchange = i; lost = o })))) refl
     (λ o too. end_reads (k (Some (record { exchange = i; lost = o })))))))
 
 -- ---- the table

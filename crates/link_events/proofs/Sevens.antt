@@ -1,9 +1,9 @@
--- No event has more than six words, so that seven tell what all do.
+-- No event has more than six words, so the first seven tell what all do.
 use Rattle.std.proofs.Common.{◌≡◌, List, [], ◌∷◌, Some, Result, Ok, Err, length, take, refl, arith}
 use Rattle.std.proofs.lemmas.Bool.{lt-ltb}
 use Rattle.ide_types.specs.Names.{Text}
 use Rattle.link_events.specs.Terms.{Event, LineFault, LineError}
-use Rattle.link_events.specs.Parse.{◌>>=◌, event_in, begins_bytes, answer_of}
+use Rattle.link_events.specs.Parse.{◌>>=◌, event_in, begins_bytes, line_answer}
 
 pub seven_words : (ws : List Text) → event_in (take 7 ws) ≡ event_in ws
 seven_words [] = refl
@@ -20,7 +20,7 @@ seven_bytes [] = refl
 seven_bytes (a ∷ ws) = refl
 
 -- an error of the event is the line's
-pub same_error : (r : Result Event LineFault) (e : LineError) → ◌≡◌ {A = Result Event LineError} (Err e) (answer_of r)
-    → ◌≡◌ (Err e) (answer_of (r >>= λ x. Ok (Some x)))
+pub same_error : (r : Result Event LineFault) (e : LineError) → ◌≡◌ {A = Result Event LineError} (Err e) (line_answer r)
+    → ◌≡◌ (Err e) (line_answer (r >>= λ x. Ok (Some x)))
 same_error (Ok x) e h = absurd (let never : ⊥ = cc in never)
 same_error (Err f) e h = let same : e ≡ _ = cc in rw same refl

@@ -13,7 +13,7 @@ use Rattle.ide_types.specs.declared.port.PortName.{PortName}
 use Rattle.ide_types.specs.Names.{Text}
 use Rattle.link_events.specs.Terms.{Event, Establish, Refresh, Stop, Send, Pass, Alter, Cut, Arrive, Dump, Reset}
 use Rattle.link_events.specs.Terms.{Status, Interface}
-use Rattle.link_events.specs.Words.{words_in, bytes_in, port_in}
+use Rattle.link_events.specs.Words.{words_in, bytes_in, port_of_word}
 use Rattle.link_events.specs.Spells.{SpelledBy, IsAllowed, SpelledAreAllowed}
 use Rattle.link_events.proofs.Steps.{some_some, none_some}
 use Rattle.link_events.proofs.InterfaceMeanings.{interface_allowed}
@@ -89,8 +89,8 @@ link_step d p true true false false x e = absurd (none_some p e)
 link_step d p true false host device x e = absurd (none_some p e)
 link_step d p false high host device x e = absurd (none_some p e)
 
-port_link : (w : Text) (p : PortName) → port_in w ≡ Some p → p.link < 8
-unfolding port_in
+port_link : (w : Text) (p : PortName) → port_of_word w ≡ Some p → p.link < 8
+unfolding port_of_word
 port_link [] p e = absurd (none_some p e)
 port_link (s ∷ []) p e = absurd (none_some p e)
 port_link (s ∷ d ∷ []) p e = link_step d p _ _ _ _ refl e

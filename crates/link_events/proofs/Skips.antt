@@ -1,4 +1,4 @@
--- A line means no event exactly where it is a comment, or of spaces only.
+-- A line means no event exactly if it is a comment, or of spaces only.
 use Rattle.std.proofs.Common.{true, false, nat_lt, not, ◌==◌, ◌≡◌, ℕ, suc, List, [], ◌∷◌, Bool, Some, None, Result, Ok}
 use Rattle.std.proofs.Common.{Err, length, refl, sym, arith, inl, inr}
 use Rattle.std.specs.Prelude.{filter, if◌then◌else◌}

@@ -8,7 +8,7 @@ use Rattle.std.specs.Str.{bytes_eq}
 use Rattle.ide_types.specs.Names.{Text}
 use Rattle.link_events.specs.Terms.{Loss, LineFault}
 use Rattle.link_events.specs.Terms.fault
-use Rattle.link_events.specs.Words.{number_in, lost_in}
+use Rattle.link_events.specs.Words.{number_of_word, lost_of_word}
 use Rattle.link_events.specs.Parts.{◌>>=◌, lost_exchange_in, loss_in, is_loss_long, one_number_in, two_numbers_in}
 use Rattle.link_events.specs.Parts.{LossSpelledBy, OneSpelledBy, TwoSpelledBy}
 use Rattle.link_events.proofs.Steps.{err_ok, ok_ok, same_text, next_of, next_result}
@@ -20,9 +20,9 @@ pub lost_spelled : (l n w : Text) (lose : Option Loss) (b : Bool) → bytes_eq l
     → LossSpelledBy lose (l ∷ n ∷ w ∷ [])
 lost_spelled l n w lose false t h = absurd (err_ok fault.Word lose h)
 lost_spelled l n w lose true t h =
-    let a = next_of (number_in n) fault.Number
-    (λ x. ok_or (lost_in w) fault.Word >>= λ y. Ok (Some (record { exchange = x; lost = y }))) lose h in
-    let b = next_of (lost_in w) fault.Word (λ y. Ok (Some (record { exchange = a.0; lost = y }))) lose a.2 in
+    let a = next_of (number_of_word n) fault.Number
+    (λ x. ok_or (lost_of_word w) fault.Word >>= λ y. Ok (Some (record { exchange = x; lost = y }))) lose h in
+    let b = next_of (lost_of_word w) fault.Word (λ y. Ok (Some (record { exchange = a.0; lost = y }))) lose a.2 in
     subst (λ (x : Option Loss). LossSpelledBy x (l ∷ n ∷ w ∷ []))
     (ok_ok (Some (record { exchange = a.0; lost = b.0 })) lose b.2)
     ((n, a.1), (w, b.1), ap (λ (x : Text). x ∷ n ∷ w ∷ []) (same_text l (codes "lose") t))
@@ -43,7 +43,8 @@ loss_meant ws (Some loss) h = (rw h.2 refl, rw h.2 (rw h.0.1 (rw h.1.1 refl)))
 
 pub one_spelled : (first : Text) (ws : List Text) (n : ℕ) → one_number_in ws ≡ Ok n → OneSpelledBy first n (first ∷ ws)
 one_spelled first [] n h = absurd (err_ok fault.Count n h)
-one_spelled first (w ∷ []) n h = let a = next_of (number_in w) fault.Number (λ x. Ok x) n (by_reading (number_in w) h)
+one_spelled first (w ∷ []) n h = let a = next_of (number_of_word w) fault.Number (λ x. Ok x) n
+    (by_reading (number_of_word w) h)
     in ((w, a.1 ∙ ap Some (ok_ok a.0 n a.2)), refl)
   where
     by_reading : (x : Option ℕ) → ok_or x fault.Number ≡ Ok n → (ok_or x fault.Number >>= λ x. Ok x) ≡ Ok n
@@ -56,8 +57,9 @@ pub two_spelled : (first : Text) (ws : List Text) (n : ℕ × ℕ) → two_numbe
 two_spelled first [] n h = absurd (err_ok fault.Count n h)
 two_spelled first (v ∷ []) n h = absurd (err_ok fault.Count n h)
 two_spelled first (v ∷ w ∷ []) n h =
-    let a = next_of (number_in v) fault.Number (λ x. ok_or (number_in w) fault.Number >>= λ y. Ok (x, y)) n h in
-    let b = next_of (number_in w) fault.Number (λ y. Ok (a.0, y)) n a.2 in
+    let a = next_of (number_of_word v) fault.Number (λ x. ok_or (number_of_word w) fault.Number >>= λ y. Ok (x, y)) n
+    h in
+    let b = next_of (number_of_word w) fault.Number (λ y. Ok (a.0, y)) n a.2 in
     subst (λ (x : ℕ × ℕ). TwoSpelledBy first x.0 x.1 (first ∷ v ∷ w ∷ [])) (ok_ok (a.0, b.0) n b.2)
     ((v, a.1), (w, b.1), refl)
 two_spelled first (v ∷ w ∷ x ∷ ws) n h = absurd (err_ok fault.Count n h)

@@ -43,7 +43,7 @@ pub next_result : {A B : Type 0} (x : Result A LineFault) (g : A → Result B Li
 next_result (Err f) g b e = absurd (err_ok f b e)
 next_result (Ok a) g b e = (a, refl, e)
 
--- what is said of an answer holds after one test of the first word, where it does in both cases
+-- what is said of an answer holds after one test of the first word, if it does in both cases
 pub tested : {A : Type 0} (P : Text → A → Type 0) (first word : Text) (x : A) (y : Option A) (z : A)
     → P word x → P first (unwrap_or y z) → P first (unwrap_or (if bytes_eq first word then Some x else y) z)
 tested P first word x y z this others = by_test (bytes_eq first word) refl

@@ -9,7 +9,7 @@ use Rattle.ide_types.specs.declared.port.Side.TheVariants.{Host, Device}
 use Rattle.ide_types.specs.declared.port.PortName.{PortName}
 use Rattle.ide_types.specs.Names.{Text}
 use Rattle.link_events.specs.Terms.{LineFault, Word, Count, Hex, TooLong, NotAscii}
-use Rattle.link_events.specs.Words.{line_limit, is_printable, words_in, mask_in, bytes_in, port_in}
+use Rattle.link_events.specs.Words.{line_limit, is_printable, words_in, mask_in, bytes_in, port_of_word}
 pub use Rattle.link_events.specs.Parts.{WordTest, number_test, lost_test, word_test, Row, number_tests}
 pub use Rattle.link_events.specs.Parts.{two_number_tests}
 use Rattle.link_events.specs.Interfaces.{interface_rows}
@@ -24,7 +24,7 @@ abbrev pub bytes_test : WordTest
 bytes_test = record { is_spelled = λ w. is_some (bytes_in w); fault = Hex }
 
 abbrev pub port_test : WordTest
-port_test = record { is_spelled = λ w. is_some (port_in w); fault = Word }
+port_test = record { is_spelled = λ w. is_some (port_of_word w); fault = Word }
 
 abbrev pub is_at_host : Side → Bool
 is_at_host Host = true
@@ -33,7 +33,7 @@ is_at_host Device = false
 -- trusted, after a host's port
 abbrev pub is_trusted_at : Text → Text → Bool
 is_trusted_at port w = bytes_eq w (codes "trusted") && option_map_or (λ (p : PortName). is_at_host p.side)
-    (port_in port) false
+    (port_of_word port) false
 
 abbrev pub trusted_test : Text → WordTest
 trusted_test port = record { is_spelled = is_trusted_at port; fault = Word }

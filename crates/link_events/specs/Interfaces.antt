@@ -11,7 +11,7 @@ use Rattle.interface_words.specs.declared.register.Register.TheVariants.{Bar}
 use Rattle.interface_words.specs.RegisterNames.{width_of, IsAmongSix}
 use Rattle.link_events.specs.Terms.{InterfaceEvent, Loss, LineFault, Word, Count, Number}
 use Rattle.link_events.specs.Terms.ie
-use Rattle.link_events.specs.Words.{number_in}
+use Rattle.link_events.specs.Words.{number_of_word}
 use Rattle.link_events.specs.Parts.{◌>>=◌, loss_in, is_loss_long, one_number_in, WordOf, LossSpelledBy, OneSpelledBy}
 use Rattle.link_events.specs.Parts.{WordTest, Row, number_test, word_test, lost_test, number_tests}
 
@@ -50,37 +50,37 @@ register_in w =
     else bar_in w
 
 -- a number that the register has room for
-abbrev pub value_in : Register → Text → Option ℕ
-value_in register w =
-    option_and_then (λ n. if nat_lt n (2 ^ width_of register) then Some n else None) (number_in w)
+abbrev pub register_value_in : Register → Text → Option ℕ
+register_value_in register w =
+    option_and_then (λ n. if nat_lt n (2 ^ width_of register) then Some n else None) (number_of_word w)
 
 -- how many bytes of memory are shown: 1 to 256
 abbrev pub length_in : Text → Option ℕ
-length_in w = option_and_then (λ n. if nat_le 1 n && nat_le n 256 then Some n else None) (number_in w)
+length_in w = option_and_then (λ n. if nat_le 1 n && nat_le n 256 then Some n else None) (number_of_word w)
 
 -- ---- as they are read
 
 -- an interface, and what is lost
-abbrev pub asked_in : List Text → Result (ℕ × Option Loss) LineFault
-asked_in (i ∷ rest) =
+abbrev pub interface_and_loss : List Text → Result (ℕ × Option Loss) LineFault
+interface_and_loss (i ∷ rest) =
     if not (is_loss_long rest) then Err Count
     else do
-      interface ← ok_or (number_in i) Number
+      interface ← ok_or (number_of_word i) Number
       lose ← loss_in rest
       Ok (interface, lose)
-asked_in _ = Err Count
+interface_and_loss _ = Err Count
 
-abbrev pub write_in : List Text → Result InterfaceEvent LineFault
-write_in (i ∷ r ∷ w ∷ []) = do
-  interface ← ok_or (number_in i) Number
+abbrev pub write_event_in : List Text → Result InterfaceEvent LineFault
+write_event_in (i ∷ r ∷ w ∷ []) = do
+  interface ← ok_or (number_of_word i) Number
   register ← ok_or (register_in r) Word
-  value ← ok_or (value_in register w) Number
+  value ← ok_or (register_value_in register w) Number
   Ok (ie.Write interface register value)
-write_in _ = Err Count
+write_event_in _ = Err Count
 
 abbrev pub memory_in : List Text → Result InterfaceEvent LineFault
 memory_in (a ∷ l ∷ []) = do
-  address ← ok_or (number_in a) Number
+  address ← ok_or (number_of_word a) Number
   len ← ok_or (length_in l) Number
   Ok (ie.Memory address len)
 memory_in _ = Err Count
@@ -88,18 +88,18 @@ memory_in _ = Err Count
 -- what the manager does to an interface; nothing if the first word is none of these events
 abbrev pub asking_event_of : Text → List Text → Option (Result InterfaceEvent LineFault)
 asking_event_of first rest =
-    if bytes_eq first (codes "lock") then Some (asked_in rest >>= λ a. Ok (ie.Lock a.0 a.1))
-    else if bytes_eq first (codes "report") then Some (asked_in rest >>= λ a. Ok (ie.Report a.0 a.1))
-    else if bytes_eq first (codes "start") then Some (asked_in rest >>= λ a. Ok (ie.Start a.0 a.1))
-    else if bytes_eq first (codes "halt") then Some (asked_in rest >>= λ a. Ok (ie.Halt a.0 a.1))
-    else if bytes_eq first (codes "state") then Some (asked_in rest >>= λ a. Ok (ie.State a.0 a.1))
+    if bytes_eq first (codes "lock") then Some (interface_and_loss rest >>= λ a. Ok (ie.Lock a.0 a.1))
+    else if bytes_eq first (codes "report") then Some (interface_and_loss rest >>= λ a. Ok (ie.Report a.0 a.1))
+    else if bytes_eq first (codes "start") then Some (interface_and_loss rest >>= λ a. Ok (ie.Start a.0 a.1))
+    else if bytes_eq first (codes "halt") then Some (interface_and_loss rest >>= λ a. Ok (ie.Halt a.0 a.1))
+    else if bytes_eq first (codes "state") then Some (interface_and_loss rest >>= λ a. Ok (ie.State a.0 a.1))
     else None
 
 -- an event on an interface or on memory; nothing if the first word is none of these events
 abbrev pub interface_event_of : Text → List Text → Option (Result InterfaceEvent LineFault)
 interface_event_of first rest =
     if bytes_eq first (codes "view") then Some (one_number_in rest >>= λ n. Ok (ie.View n))
-    else if bytes_eq first (codes "write") then Some (write_in rest)
+    else if bytes_eq first (codes "write") then Some (write_event_in rest)
     else if bytes_eq first (codes "flr") then Some (one_number_in rest >>= λ n. Ok (ie.Flr n))
     else if bytes_eq first (codes "firmware") then Some (one_number_in rest >>= λ n. Ok (ie.Firmware n))
     else if bytes_eq first (codes "memory") then Some (memory_in rest)
@@ -109,7 +109,7 @@ interface_event_of first rest =
 
 abbrev pub AskedSpelledBy : Text → ℕ → Option Loss → List Text → Type 0
 AskedSpelledBy first interface lose words =
-    (i : WordOf number_in interface) × (rest : List Text) × LossSpelledBy lose rest × (words ≡ first ∷ i.0 ∷ rest)
+    (i : WordOf number_of_word interface) × (rest : List Text) × LossSpelledBy lose rest × (words ≡ first ∷ i.0 ∷ rest)
 
 -- the words spell the event: a value has room in its register, and 1 to 256 bytes are shown
 abbrev pub InterfaceSpelledBy : InterfaceEvent → List Text → Type 0
@@ -120,12 +120,12 @@ InterfaceSpelledBy (ie.Halt interface lose) words = AskedSpelledBy (codes "halt"
 InterfaceSpelledBy (ie.State interface lose) words = AskedSpelledBy (codes "state") interface lose words
 InterfaceSpelledBy (ie.View interface) words = OneSpelledBy (codes "view") interface words
 InterfaceSpelledBy (ie.Write interface register value) words =
-    (i : WordOf number_in interface) × (w : WordOf number_in value) × IsAmongSix register
+    (i : WordOf number_of_word interface) × (w : WordOf number_of_word value) × IsAmongSix register
     × (value < 2 ^ width_of register) × (words ≡ codes "write" ∷ i.0 ∷ register_word register ∷ w.0 ∷ [])
 InterfaceSpelledBy (ie.Flr interface) words = OneSpelledBy (codes "flr") interface words
 InterfaceSpelledBy (ie.Firmware interface) words = OneSpelledBy (codes "firmware") interface words
 InterfaceSpelledBy (ie.Memory address len) words =
-    (a : WordOf number_in address) × (l : WordOf number_in len) × (1 ≤ len) × (len ≤ 256)
+    (a : WordOf number_of_word address) × (l : WordOf number_of_word len) × (1 ≤ len) × (len ≤ 256)
     × (words ≡ codes "memory" ∷ a.0 ∷ l.0 ∷ [])
 
 -- A value that is written has room in its register, which is one that an interface may have, and 1 to 256 bytes of
@@ -144,7 +144,7 @@ register_test = record { is_spelled = λ w. is_some (register_in w); fault = Wor
 abbrev pub value_test : Text → WordTest
 value_test register =
     record {
-      is_spelled = λ w. is_some (option_and_then (λ r. value_in r w) (register_in register));
+      is_spelled = λ w. is_some (option_and_then (λ r. register_value_in r w) (register_in register));
       fault = Number;
     }
 
@@ -164,7 +164,7 @@ abbrev pub memory_tests : List Text → Option (List WordTest)
 memory_tests (a ∷ l ∷ []) = Some (number_test ∷ length_test ∷ [])
 memory_tests _ = None
 
--- ahead of the rows of other events
+-- before the rows of other events
 abbrev pub interface_rows : List Row → List Row
 interface_rows others =
     (codes "view", number_tests) ∷ (codes "write", write_tests) ∷ (codes "flr", number_tests)

@@ -11,7 +11,7 @@ use Rattle.link_events.specs.Terms.{Event, Establish, Refresh, Stop, Send, Pass,
 use Rattle.link_events.specs.Terms.{Status, Interface, InterfaceEvent, Loss, LineFault, Word, Count, Number, Hex}
 use Rattle.link_events.specs.Terms.{TooLong, NotAscii, LineError}
 use Rattle.link_events.specs.Terms.error
-use Rattle.link_events.specs.Words.{line_limit, is_printable, words_in, number_in, mask_in, bytes_in, port_in}
+use Rattle.link_events.specs.Words.{line_limit, is_printable, words_in, number_of_word, mask_in, bytes_in, port_of_word}
 pub use Rattle.link_events.specs.Parts.{◌>>=◌, lost_exchange_in, loss_in, is_loss_long, one_number_in, two_numbers_in}
 use Rattle.link_events.specs.Interfaces.{interface_event_of}
 
@@ -22,8 +22,8 @@ abbrev pub operation_in : List Text → Result (ℕ × ℕ × Option Loss) LineF
 operation_in (l ∷ s ∷ rest) =
     if not (is_loss_long rest) then Err Count
     else do
-      link ← ok_or (number_in l) Number
-      stream ← ok_or (number_in s) Number
+      link ← ok_or (number_of_word l) Number
+      stream ← ok_or (number_of_word s) Number
       lose ← loss_in rest
       Ok (link, stream, lose)
 operation_in _ = Err Count
@@ -46,7 +46,7 @@ abbrev pub send_in : List Text → Result Event LineFault
 send_in (p ∷ w ∷ marks) =
     if nat_lt 2 (length marks) then Err Count
     else do
-      port ← ok_or (port_in p) Word
+      port ← ok_or (port_of_word p) Word
       bytes ← ok_or (bytes_in w) Hex
       m ← ok_or (marks_in port.side marks) Word
       Ok (Send port bytes m.0 m.1)
@@ -54,15 +54,15 @@ send_in _ = Err Count
 
 abbrev pub alter_in : List Text → Result Event LineFault
 alter_in (n ∷ a ∷ h ∷ []) = do
-  packet ← ok_or (number_in n) Number
-  at ← ok_or (number_in a) Number
+  packet ← ok_or (number_of_word n) Number
+  at ← ok_or (number_of_word a) Number
   mask ← ok_or (mask_in h) Hex
   Ok (Alter packet at mask)
 alter_in _ = Err Count
 
 abbrev pub arrive_in : List Text → Result Event LineFault
 arrive_in (p ∷ w ∷ []) = do
-  port ← ok_or (port_in p) Word
+  port ← ok_or (port_of_word p) Word
   bytes ← ok_or (bytes_in w) Hex
   Ok (Arrive port bytes)
 arrive_in _ = Err Count
@@ -134,14 +134,14 @@ IsErrorOf due error.Memory = Unit {0}
 IsErrorOf due (error.Fault f) = due ≡ Err f
 
 -- the answer is the one that is due, but for want of memory
-abbrev pub Gives : {A : Type 0} → Result A LineFault → Result A LineError → Type 0
-Gives due (Ok x) = due ≡ Ok x
-Gives due (Err e) = IsErrorOf due e
+abbrev pub IsLineAnswer : {A : Type 0} → Result A LineFault → Result A LineError → Type 0
+IsLineAnswer due (Ok x) = due ≡ Ok x
+IsLineAnswer due (Err e) = IsErrorOf due e
 
 -- the answer is the one that is due
-abbrev pub answer_of : {A : Type 0} → Result A LineFault → Result A LineError
-answer_of (Ok x) = Ok x
-answer_of (Err f) = Err (error.Fault f)
+abbrev pub line_answer : {A : Type 0} → Result A LineFault → Result A LineError
+line_answer (Ok x) = Ok x
+line_answer (Err f) = Err (error.Fault f)
 
 -- the line begins with the word of an event that holds bytes
 abbrev pub begins_bytes : List Text → Bool

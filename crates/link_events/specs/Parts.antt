@@ -6,7 +6,7 @@ use Rattle.std.specs.Option.{ok_or}
 use Rattle.std.specs.Str.{bytes_eq}
 use Rattle.ide_types.specs.Names.{Text}
 use Rattle.link_events.specs.Terms.{Loss, LineFault, Word, Count, Number}
-use Rattle.link_events.specs.Words.{number_in, lost_in}
+use Rattle.link_events.specs.Words.{number_of_word, lost_of_word}
 
 -- ---- as they are read
 
@@ -18,8 +18,8 @@ abbrev pub ◌>>=◌ : {A B : Type 0} → Result A LineFault → (A → Result B
 
 abbrev pub lost_exchange_in : Text → Text → Result (Option Loss) LineFault
 lost_exchange_in n w = do
-  exchange ← ok_or (number_in n) Number
-  lost ← ok_or (lost_in w) Word
+  exchange ← ok_or (number_of_word n) Number
+  lost ← ok_or (lost_of_word w) Word
   Ok (Some (record { exchange = exchange; lost = lost }))
 
 -- nothing, or lose, the number of an exchange, and what is lost of it
@@ -35,13 +35,13 @@ is_loss_long (l ∷ n ∷ w ∷ []) = true
 is_loss_long _ = false
 
 abbrev pub one_number_in : List Text → Result ℕ LineFault
-one_number_in (n ∷ []) = ok_or (number_in n) Number
+one_number_in (n ∷ []) = ok_or (number_of_word n) Number
 one_number_in _ = Err Count
 
 abbrev pub two_numbers_in : List Text → Result (ℕ × ℕ) LineFault
 two_numbers_in (m ∷ n ∷ []) = do
-  first ← ok_or (number_in m) Number
-  second ← ok_or (number_in n) Number
+  first ← ok_or (number_of_word m) Number
+  second ← ok_or (number_of_word n) Number
   Ok (first, second)
 two_numbers_in _ = Err Count
 
@@ -55,13 +55,14 @@ WordOf reading value = (w : Text) × (reading w ≡ Some value)
 abbrev pub LossSpelledBy : Option Loss → List Text → Type 0
 LossSpelledBy None words = words ≡ []
 LossSpelledBy (Some loss) words =
-    (n : WordOf number_in loss.exchange) × (w : WordOf lost_in loss.lost) × (words ≡ codes "lose" ∷ n.0 ∷ w.0 ∷ [])
+    (n : WordOf number_of_word loss.exchange) × (w : WordOf lost_of_word loss.lost)
+    × (words ≡ codes "lose" ∷ n.0 ∷ w.0 ∷ [])
 
 abbrev pub OneSpelledBy : Text → ℕ → List Text → Type 0
-OneSpelledBy first number words = (n : WordOf number_in number) × (words ≡ first ∷ n.0 ∷ [])
+OneSpelledBy first number words = (n : WordOf number_of_word number) × (words ≡ first ∷ n.0 ∷ [])
 
 abbrev pub TwoSpelledBy : Text → ℕ → ℕ → List Text → Type 0
-TwoSpelledBy first one two words = (m : WordOf number_in one) × (n : WordOf number_in two)
+TwoSpelledBy first one two words = (m : WordOf number_of_word one) × (n : WordOf number_of_word two)
     × (words ≡ first ∷ m.0 ∷ n.0 ∷ [])
 
 -- ---- as the table tests them
@@ -72,10 +73,10 @@ pub record WordTest : Type 0 where
   pub fault : LineFault
 
 abbrev pub number_test : WordTest
-number_test = record { is_spelled = λ w. is_some (number_in w); fault = Number }
+number_test = record { is_spelled = λ w. is_some (number_of_word w); fault = Number }
 
 abbrev pub lost_test : WordTest
-lost_test = record { is_spelled = λ w. is_some (lost_in w); fault = Word }
+lost_test = record { is_spelled = λ w. is_some (lost_of_word w); fault = Word }
 
 -- this very word
 abbrev pub word_test : Text → WordTest

@@ -6,14 +6,14 @@ use Rattle.ide_types.specs.declared.port.Side.TheVariants.{Host}
 use Rattle.ide_types.specs.Names.{Text}
 use Rattle.link_events.specs.Terms.{Event, Establish, Refresh, Stop, Send, Pass, Alter, Cut, Arrive, Dump, Reset}
 use Rattle.link_events.specs.Terms.{Status, Interface, Loss}
-use Rattle.link_events.specs.Words.{line_limit, is_printable, words_in, number_in, mask_in, bytes_in, port_in}
+use Rattle.link_events.specs.Words.{line_limit, is_printable, words_in, number_of_word, mask_in, bytes_in, port_of_word}
 pub use Rattle.link_events.specs.Parts.{WordOf, LossSpelledBy, OneSpelledBy, TwoSpelledBy}
 use Rattle.link_events.specs.Interfaces.{InterfaceSpelledBy, IsAllowedInterface}
 use Rattle.link_events.specs.Parse.{is_comment, line_meaning}
 
 abbrev pub OperationSpelledBy : Text → ℕ → ℕ → Option Loss → List Text → Type 0
 OperationSpelledBy first link stream lose words =
-    (l : WordOf number_in link) × (s : WordOf number_in stream) × (rest : List Text) × LossSpelledBy lose rest
+    (l : WordOf number_of_word link) × (s : WordOf number_of_word stream) × (rest : List Text) × LossSpelledBy lose rest
     × (words ≡ first ∷ l.0 ∷ s.0 ∷ rest)
 
 abbrev pub mark_words : Bool → Bool → List Text
@@ -28,14 +28,14 @@ SpelledBy (Establish link stream lose) words = OperationSpelledBy (codes "establ
 SpelledBy (Refresh link stream lose) words = OperationSpelledBy (codes "refresh") link stream lose words
 SpelledBy (Stop link stream lose) words = OperationSpelledBy (codes "stop") link stream lose words
 SpelledBy (Send port bytes more trusted) words =
-    (p : WordOf port_in port) × (b : WordOf bytes_in bytes) × (words ≡ codes "send" ∷ p.0 ∷ b.0
+    (p : WordOf port_of_word port) × (b : WordOf bytes_in bytes) × (words ≡ codes "send" ∷ p.0 ∷ b.0
     ∷ mark_words more trusted) × (trusted ≡ true → port.side ≡ Host)
 SpelledBy (Pass packet) words = OneSpelledBy (codes "pass") packet words
 SpelledBy (Alter packet at mask) words =
-    (n : WordOf number_in packet) × (a : WordOf number_in at) × (h : WordOf mask_in mask)
+    (n : WordOf number_of_word packet) × (a : WordOf number_of_word at) × (h : WordOf mask_in mask)
     × (words ≡ codes "alter" ∷ n.0 ∷ a.0 ∷ h.0 ∷ [])
 SpelledBy (Cut packet len) words = TwoSpelledBy (codes "cut") packet len words
-SpelledBy (Arrive port bytes) words = (p : WordOf port_in port) × (b : WordOf bytes_in bytes)
+SpelledBy (Arrive port bytes) words = (p : WordOf port_of_word port) × (b : WordOf bytes_in bytes)
     × (words ≡ codes "arrive" ∷ p.0 ∷ b.0 ∷ [])
 SpelledBy (Dump packet) words = OneSpelledBy (codes "dump") packet words
 SpelledBy (Reset link) words = OneSpelledBy (codes "reset") link words

@@ -44,8 +44,8 @@ abbrev pub digits_in : ℕ → ℕ → Text → Option ℕ
 digits_in radix most ds = if nat_le (length ds) most then some_digits_value radix ds else None
 
 -- 0x and 1 to 16 hexadecimal digits, or 1 to 20 decimal digits
-unfoldable pub number_in : Text → Option ℕ
-number_in w = if starts_with nat_eq w (codes "0x") then digits_in 16 16 (drop 2 w) else digits_in 10 20 w
+unfoldable pub number_of_word : Text → Option ℕ
+number_of_word w = if starts_with nat_eq w (codes "0x") then digits_in 16 16 (drop 2 w) else digits_in 10 20 w
 
 abbrev pub only_byte : List ℕ → Option ℕ
 only_byte (b ∷ []) = Some b
@@ -64,18 +64,18 @@ bytes_in w = if bytes_eq w (codes "-") then Some [] else result_ok (decode_of w)
 -- ---- ports
 
 -- h or d, and a link of 0 to 7
-unfoldable pub port_in : Text → Option PortName
-port_in (s ∷ d ∷ []) =
+unfoldable pub port_of_word : Text → Option PortName
+port_of_word (s ∷ d ∷ []) =
     if not (nat_le 48 d && nat_le d 55) then None
     else if s == 104 then Some (record { side = Host; link = d - 48 })
     else if s == 100 then Some (record { side = Device; link = d - 48 })
     else None
-port_in _ = None
+port_of_word _ = None
 
 -- ---- what is lost of an exchange
 
-abbrev pub lost_in : Text → Option Lost
-lost_in w =
+abbrev pub lost_of_word : Text → Option Lost
+lost_of_word w =
     if bytes_eq w (codes "request") then Some Request
     else if bytes_eq w (codes "reply") then Some Reply
     else None

@@ -3,21 +3,21 @@
 use ide_types::{Bytes, PortName};
 use interface_words::Register;
 
-/// What is lost of an exchange: its request, or its reply.
+/// What is lost of an exchange: its request, or its reply (this profile).
 #[derive(Clone, Copy, Debug, PartialEq, Eq)]
 pub enum Lost {
     Request,
     Reply,
 }
 
-/// The exchange that is lost if the event gets that far, by its number from 1, and which message of it.
+/// The exchange that is lost if the event gets that far, by its number from 1, and which message of it (this profile).
 #[derive(Clone, Copy, Debug, PartialEq, Eq)]
 pub struct Loss {
     pub exchange: u64,
     pub lost: Lost,
 }
 
-/// What is asked of a device interface, by its number over all links, or of trusted memory.
+/// What is asked of a device interface, by its number over all links, or of trusted memory (this profile).
 #[derive(Debug, Drop)]
 pub enum InterfaceEvent {
     /// The manager locks the interface.
@@ -70,8 +70,8 @@ pub enum InterfaceEvent {
     },
 }
 
-/// What a line of a script asks for. Links, streams and packets need not exist: a packet is named by the number
-/// that it was sealed under, from 1.
+/// What a line of a script asks for (this profile). Links, streams and packets need not exist: a packet is named by the
+/// number that it was sealed under, from 1.
 #[derive(Debug, Drop)]
 pub enum Event {
     /// `establish LINK STREAM`: the manager gives the stream its first keys.

@@ -4,7 +4,15 @@ ghost use Rattle.std.specs.Prelude.{◌≡◌, ◌^◌, map, nat_lt};
 ghost use Rattle.std.specs.Option.{ok_or};
 ghost use Rattle.interface_words.specs.RegisterNames.{width_of};
 ghost use Rattle.link_events.specs.declared.fault.LineFault.TheVariants as fault;
-ghost use Rattle.link_events.specs.Interfaces.{bar_in, register_in, value_in, length_in, asked_in, write_in, memory_in};
+ghost use Rattle.link_events.specs.Interfaces.{
+  bar_in,
+  register_in,
+  register_value_in,
+  length_in,
+  interface_and_loss,
+  write_event_in,
+  memory_in,
+};
 ghost use Rattle.link_events.specs.Interfaces.{asking_event_of, interface_event_of};
 
 use crate::parts::{loss, one_number};
@@ -69,7 +77,7 @@ fn has_room(register: Register, number: u64) -> bool
 }
 
 fn value(register: Register, word: &[u8]) -> Option<u64>
-    ensures { result ≡ value_in register word.now }
+    ensures { result ≡ register_value_in register word.now }
 {
     match number(word) {
         Some(number) if has_room(register, number) => Some(number),
@@ -89,7 +97,7 @@ fn length(word: &[u8]) -> Option<u64>
 
 // The interface of an operation, and what is lost.
 fn asked(words: &[&[u8]]) -> Result<(u64, Option<Loss>), LineFault>
-    ensures { result ≡ asked_in (map (λ w. w.now) words.now) }
+    ensures { result ≡ interface_and_loss (map (λ w. w.now) words.now) }
 {
     let [interface, rest @ ..] = words else {
         return Err(LineFault::Count);
@@ -103,7 +111,7 @@ fn asked(words: &[&[u8]]) -> Result<(u64, Option<Loss>), LineFault>
 }
 
 fn write(words: &[&[u8]]) -> Result<InterfaceEvent, LineFault>
-    ensures { result ≡ write_in (map (λ w. w.now) words.now) }
+    ensures { result ≡ write_event_in (map (λ w. w.now) words.now) }
 {
     let [interface, register, value_word] = words else {
         return Err(LineFault::Count);

@@ -3,13 +3,9 @@
 
 mod event;
 mod fault;
-#[cfg(test)]
-mod interface_tests;
 mod interfaces;
 mod parse;
 mod parts;
-#[cfg(test)]
-mod tests;
 mod words;
 
 pub use event::{Event, InterfaceEvent, Loss, Lost};

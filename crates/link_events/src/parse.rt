@@ -6,7 +6,7 @@ ghost use Rattle.link_events.specs.declared.fault.LineFault.TheVariants as fault
 ghost use Rattle.link_events.specs.Words.{words_in};
 ghost use Rattle.link_events.specs.Parse.{operation_in, marks_in, send_in, alter_in, arrive_in, bytes_event_in};
 ghost use Rattle.link_events.specs.Parse.{packet_event_of, naming_event_of, other_event_in, event_by, event_in};
-ghost use Rattle.link_events.specs.Parse.{line_meaning, begins_bytes, answer_of, Gives};
+ghost use Rattle.link_events.specs.Parse.{line_meaning, begins_bytes, line_answer, IsLineAnswer};
 ghost use Rattle.link_events.specs.Spells.{MeaningIsSpelling, NothingIsSkipped, SpelledAreAllowed};
 ghost use Rattle.link_events.specs.Faults.{FirstFault, FaultsAreFirst};
 ghost use Rattle.link_events.specs.Terms.{LineFault};
@@ -62,7 +62,7 @@ fn marks_at(side: Side, marks: &[&[u8]]) -> Result<(bool, bool), LineFault>
 }
 
 fn send(alloc: Global, words: &[&[u8]]) -> Result<Event, LineError>
-    ensures { Gives (send_in (map (λ w. w.now) words.now)) result }
+    ensures { IsLineAnswer (send_in (map (λ w. w.now) words.now)) result }
 {
     let [port, bytes, marks @ ..] = words else {
         return Err(LineError::Fault(LineFault::Count));
@@ -82,7 +82,7 @@ fn send(alloc: Global, words: &[&[u8]]) -> Result<Event, LineError>
 }
 
 fn arrive(alloc: Global, words: &[&[u8]]) -> Result<Event, LineError>
-    ensures { Gives (arrive_in (map (λ w. w.now) words.now)) result }
+    ensures { IsLineAnswer (arrive_in (map (λ w. w.now) words.now)) result }
 {
     let [port, bytes] = words else {
         return Err(LineError::Fault(LineFault::Count));
@@ -93,7 +93,7 @@ fn arrive(alloc: Global, words: &[&[u8]]) -> Result<Event, LineError>
 }
 
 fn bytes_event(alloc: Global, first: &[u8], rest: &[&[u8]]) -> Result<Event, LineError>
-    ensures gives { Gives (bytes_event_in first.now (map (λ w. w.now) rest.now)) result }
+    ensures gives { IsLineAnswer (bytes_event_in first.now (map (λ w. w.now) rest.now)) result }
     ensures none { begins_bytes (first.now ∷ []) ≡ false → result ≡ Err (LineError.Fault LineFault.Word) }
 {
     if first == b"send".as_slice() {
@@ -156,9 +156,9 @@ fn naming_event(first: &[u8], rest: &[&[u8]]) -> Option<Result<Event, LineFault>
 
 // An event on an interface or on memory, or one that holds bytes.
 fn other_event(alloc: Global, first: &[u8], rest: &[&[u8]]) -> Result<Event, LineError>
-    ensures gives { Gives (other_event_in first.now (map (λ w. w.now) rest.now)) result }
+    ensures gives { IsLineAnswer (other_event_in first.now (map (λ w. w.now) rest.now)) result }
     ensures exact { begins_bytes (first.now ∷ []) ≡ false
-        → result ≡ answer_of (other_event_in first.now (map (λ w. w.now) rest.now)) }
+        → result ≡ line_answer (other_event_in first.now (map (λ w. w.now) rest.now)) }
 {
     match interface_event(first, rest) {
         Some(Ok(event)) => Ok(Event::Interface { event }),
@@ -168,9 +168,9 @@ fn other_event(alloc: Global, first: &[u8], rest: &[&[u8]]) -> Result<Event, Lin
 }
 
 fn event(alloc: Global, first: &[u8], rest: &[&[u8]]) -> Result<Event, LineError>
-    ensures gives { Gives (event_by first.now (map (λ w. w.now) rest.now)) result }
+    ensures gives { IsLineAnswer (event_by first.now (map (λ w. w.now) rest.now)) result }
     ensures exact { begins_bytes (first.now ∷ []) ≡ false
-        → result ≡ answer_of (event_by first.now (map (λ w. w.now) rest.now)) }
+        → result ≡ line_answer (event_by first.now (map (λ w. w.now) rest.now)) }
 {
     match naming_event(first, rest) {
         Some(Ok(event)) => Ok(event),
@@ -180,9 +180,9 @@ fn event(alloc: Global, first: &[u8], rest: &[&[u8]]) -> Result<Event, LineError
 }
 
 fn some_event(alloc: Global, first: &[u8], rest: &[&[u8]]) -> Result<Option<Event>, LineError>
-    ensures gives { Gives (event_in (first.now ∷ map (λ w. w.now) rest.now)) result }
+    ensures gives { IsLineAnswer (event_in (first.now ∷ map (λ w. w.now) rest.now)) result }
     ensures exact { begins_bytes (first.now ∷ []) ≡ false
-        → result ≡ answer_of (event_in (first.now ∷ map (λ w. w.now) rest.now)) }
+        → result ≡ line_answer (event_in (first.now ∷ map (λ w. w.now) rest.now)) }
 {
     match event(alloc, first, rest) {
         Ok(event) => Ok(Some(event)),
@@ -191,9 +191,9 @@ fn some_event(alloc: Global, first: &[u8], rest: &[&[u8]]) -> Result<Option<Even
 }
 
 fn event_of(alloc: Global, words: &[&[u8]]) -> Result<Option<Event>, LineError>
-    ensures gives { Gives (event_in (map (λ w. w.now) words.now)) result }
+    ensures gives { IsLineAnswer (event_in (map (λ w. w.now) words.now)) result }
     ensures exact { begins_bytes (map (λ w. w.now) words.now) ≡ false
-        → result ≡ answer_of (event_in (map (λ w. w.now) words.now)) }
+        → result ≡ line_answer (event_in (map (λ w. w.now) words.now)) }
 {
     match words {
         [] => Ok(None),
@@ -203,8 +203,8 @@ fn event_of(alloc: Global, words: &[&[u8]]) -> Result<Option<Event>, LineError>
 
 // The event that the words of a line spell.
 fn event_on(alloc: Global, line: &[u8]) -> Result<Option<Event>, LineError>
-    ensures gives { Gives (event_in (words_in line.now)) result }
-    ensures exact { begins_bytes (words_in line.now) ≡ false → result ≡ answer_of (event_in (words_in line.now)) }
+    ensures gives { IsLineAnswer (event_in (words_in line.now)) result }
+    ensures exact { begins_bytes (words_in line.now) ≡ false → result ≡ line_answer (event_in (words_in line.now)) }
 {
     let words = words_of(line);
     event_of(alloc, words.as_slice())
@@ -212,8 +212,8 @@ fn event_on(alloc: Global, line: &[u8]) -> Result<Option<Event>, LineError>
 
 // The event that a line spells, or its fault.
 fn event_in_line(alloc: Global, line: &[u8]) -> Result<Option<Event>, LineError>
-    ensures gives { Gives (line_meaning line.now) result }
-    ensures exact { begins_bytes (words_in line.now) ≡ false → result ≡ answer_of (line_meaning line.now) }
+    ensures gives { IsLineAnswer (line_meaning line.now) result }
+    ensures exact { begins_bytes (words_in line.now) ≡ false → result ≡ line_answer (line_meaning line.now) }
 {
     if line.len() > LINE_LIMIT {
         return Err(LineError::Fault(LineFault::TooLong));
@@ -230,8 +230,8 @@ fn event_in_line(alloc: Global, line: &[u8]) -> Result<Option<Event>, LineError>
 /// The event that a line without its line feed spells, `None` on a line of spaces and on one that begins with `#`, or
 /// the first fault of any other line (this profile). Only the events `send` and `arrive` take memory.
 pub fn parse_line(alloc: Global, line: &[u8]) -> Result<Option<Event>, LineError>
-    ensures gives { Gives (line_meaning line.now) result }
-    ensures exact { begins_bytes (words_in line.now) ≡ false → result ≡ answer_of (line_meaning line.now) }
+    ensures gives { IsLineAnswer (line_meaning line.now) result }
+    ensures exact { begins_bytes (words_in line.now) ≡ false → result ≡ line_answer (line_meaning line.now) }
     ensures first { (f : LineFault) → result ≡ Err (LineError.Fault f) → FirstFault line.now f }
 {
     faults_are_first();

@@ -5,9 +5,16 @@ ghost use Rattle.std.specs.List.{list_all};
 ghost use Rattle.std.specs.Option.{ok_or};
 ghost use Rattle.link_events.specs.declared.event.Lost.{Lost};
 ghost use Rattle.link_events.specs.declared.fault.LineFault.TheVariants as fault;
-ghost use Rattle.link_events.specs.Words.{words_in, is_printable, some_digits_value, digits_in, number_in, mask_in};
-ghost use Rattle.link_events.specs.Words.{bytes_in, port_in, lost_in};
-ghost use Rattle.link_events.specs.Parse.{Gives};
+ghost use Rattle.link_events.specs.Words.{
+  words_in,
+  is_printable,
+  some_digits_value,
+  digits_in,
+  number_of_word,
+  mask_in,
+};
+ghost use Rattle.link_events.specs.Words.{bytes_in, port_of_word, lost_of_word};
+ghost use Rattle.link_events.specs.Parse.{IsLineAnswer};
 
 use crate::{LineError, LineFault, Lost};
 use arrayvec::ArrayVec;
@@ -70,9 +77,9 @@ fn digits(word: &[u8], radix: u32, most: usize) -> Option<u64>
     value(word, radix)
 }
 
-#[tactic(auto, unfolding(crate::specs::Words::number_in))]
+#[tactic(auto, unfolding(crate::specs::Words::number_of_word))]
 pub(crate) fn number(word: &[u8]) -> Option<u64>
-    ensures { result ≡ number_in word.now }
+    ensures { result ≡ number_of_word word.now }
 {
     match word.strip_prefix(b"0x".as_slice()) {
         Some(hexadecimal) => digits(hexadecimal, 16, 16),
@@ -81,7 +88,7 @@ pub(crate) fn number(word: &[u8]) -> Option<u64>
 }
 
 pub(crate) fn number_at(word: &[u8]) -> Result<u64, LineFault>
-    ensures { result ≡ ok_or (number_in word.now) fault.Number }
+    ensures { result ≡ ok_or (number_of_word word.now) fault.Number }
 {
     number(word).ok_or(LineFault::Number)
 }
@@ -106,7 +113,7 @@ pub(crate) fn mask_at(word: &[u8]) -> Result<u8, LineFault>
 /// The bytes that a word spells in hexadecimal, `-` for none.
 #[tactic(auto, unfolding(crate::specs::Words::bytes_in))]
 pub fn bytes_at(alloc: Global, word: &[u8]) -> Result<Bytes, LineError>
-    ensures { Gives (ok_or (bytes_in word.now) fault.Hex) result }
+    ensures { IsLineAnswer (ok_or (bytes_in word.now) fault.Hex) result }
 {
     if word == b"-".as_slice() {
         return Ok(Bytes::new(Vec::new(alloc)));
@@ -118,9 +125,9 @@ pub fn bytes_at(alloc: Global, word: &[u8]) -> Result<Bytes, LineError>
     }
 }
 
-#[tactic(auto, unfolding(crate::specs::Words::port_in))]
+#[tactic(auto, unfolding(crate::specs::Words::port_of_word))]
 fn port(word: &[u8]) -> Option<PortName>
-    ensures { result ≡ port_in word.now }
+    ensures { result ≡ port_of_word word.now }
 {
     let [side, link] = word else {
         return None;
@@ -143,13 +150,13 @@ fn port(word: &[u8]) -> Option<PortName>
 }
 
 pub(crate) fn port_at(word: &[u8]) -> Result<PortName, LineFault>
-    ensures { result ≡ ok_or (port_in word.now) fault.Word }
+    ensures { result ≡ ok_or (port_of_word word.now) fault.Word }
 {
     port(word).ok_or(LineFault::Word)
 }
 
 pub(crate) fn lost_at(word: &[u8]) -> Result<Lost, LineFault>
-    ensures { result ≡ ok_or (lost_in word.now) fault.Word }
+    ensures { result ≡ ok_or (lost_of_word word.now) fault.Word }
 {
     if word == b"request".as_slice() {
         return Ok(Lost::Request);

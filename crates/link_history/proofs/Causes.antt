@@ -1,4 +1,4 @@
--- What an accepted, a held and a sealed verdict tell, where they were due. `tells` goes down the rule for each kind of
+-- What an accepted, a held and a sealed verdict tell, if they were due. `tells` goes down the rule for each kind of
 -- event to the send, or to the packet that the event brought; no other way leads to one of the three. From there each
 -- test that gives another verdict must have gone the other way, and these tests are what the records list.
 use Rattle.link_history.proofs.Terms.{Bool, Err, List, None, Ok, Option, Result, Some, [], ap, arith, false, length}

@@ -4,20 +4,21 @@ use Rattle.std.specs.Prelude.{drop, Option, None}
 use Rattle.std.proofs.Common.{refl, ap, ◌∙◌}
 use Rattle.std.proofs.lemmas.Bool.{true≢false}
 use Rattle.link_history.specs.Terms.{PortName, Plan, Event, Effect, UnitName, Verdict, Accepted, read_head_of, Packet}
-use Rattle.link_history.specs.Terms.{is_sync_packet, History, Device, sent_direction, Write, newest_first, Contents}
+use Rattle.link_history.specs.Terms.{is_sync_packet, History, Device, sent_direction, Write, newest_first}
+use Rattle.link_history.specs.Terms.{MemoryContents}
 use Rattle.link_history.specs.Terms.{IsLeftBy, Leads, grant_at}
 use Rattle.ide_types.specs.declared.port.Side.{Side}
 use Rattle.link_history.specs.Memory.{Grants, admitted_as, admitted, admitted_each, unit_ended, plain_of, admitted_by}
-use Rattle.link_history.specs.Memory.{ends_unit, ContentsFollow}
+use Rattle.link_history.specs.Memory.{accepts_unit, ContentsFollow}
 unfoldable use Rattle.link_history.specs.Memory.{writes}
 
 accepted_follows : (plan : Plan) (h : History) (e : Event) (port : PortName) (unit : UnitName) (effects : List Effect)
-    (m n : Contents) → IsLeftBy m (writes plan h)
+    (m n : MemoryContents) → IsLeftBy m (writes plan h)
     → Leads m (admitted_by plan h e port unit) n → IsLeftBy n (writes plan ((e, Accepted port unit effects) ∷ h))
 unfolding writes
 accepted_follows plan h e port unit effects m n left leads = leads (writes plan h) left
 
-others_stay : (plan : Plan) (h : History) (e : Event) (w : Verdict) → ends_unit w ≡ false → writes plan ((e, w) ∷ h)
+others_stay : (plan : Plan) (h : History) (e : Event) (w : Verdict) → accepts_unit w ≡ false → writes plan ((e, w) ∷ h)
     ≡ writes plan h
 unfolding writes
 others_stay plan h e (Accepted port unit effects) none = absurd (true≢false none)

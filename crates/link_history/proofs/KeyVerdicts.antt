@@ -21,7 +21,7 @@ use Rattle.interface_states.specs.Devices.{around_at, tdi_at}
 use Rattle.interface_states.specs.Due.{unless_lost, host_status, if_unlocked, locked_as, lock_answer_at, lock_due}
 use Rattle.interface_states.specs.Due.{standing_at, if_locked_or_running, portions, reported_as, if_locked, if_reported}
 use Rattle.interface_states.specs.Due.{if_fresh, started_as, interface_due, on_site, with_number}
-unfoldable use Rattle.interface_states.specs.Due.{due as due_of}
+unfoldable use Rattle.interface_states.specs.Due.{interface_verdict_due as due_of}
 use Rattle.link_events.specs.declared.event.InterfaceEvent.TheVariants as ie
 use Rattle.interface_words.specs.declared.verdict.InterfaceVerdict.TheVariants as iv
 use Rattle.link_verdicts.specs.declared.verdict.Operation.TheVariants as op

@@ -39,7 +39,7 @@ pub posted-own : (xs : SealedList) (x : SealedPacket × Packet) (s : SubStream) 
 unfolding posted_in
 posted-own xs x s from here = rw (after_last-hit (is_in s from) xs x here) refl
 
--- one of another counts where it is a posted one
+-- one of another counts if it is a posted one
 pub posted-more : (xs : SealedList) (x : SealedPacket × Packet) (s : SubStream) (from : ℕ) → is_in s from x ≡ false
     → posted_in (xs ++ x ∷ []) s from ≡ posted_in xs s from + (if is_in (posted_of s) from x then 1 else 0)
 unfolding posted_in

@@ -1,4 +1,4 @@
--- What a sealed verdict tells, where it was due.
+-- What a sealed verdict tells, if it was due.
 use Rattle.link_history.proofs.Terms.{Bool, List, Option, Some, [], ap, arith, false, refl, subst, sym, true, ℕ, ◌∙◌}
 use Rattle.link_history.proofs.Terms.{◌∷◌, ◌≡◌, unwrap_or, Cpl, Npr, Pr, is_same_sub, Lanes, Sending, described}
 use Rattle.link_history.proofs.Terms.{is_keyless, lanes_at, needs_sync, no_key}
@@ -6,7 +6,7 @@ use Rattle.link_history.proofs.Terms.{KeyName, live_key, sealed_packets, is_quie
 use Rattle.link_history.proofs.Terms.{PortName, Sealed, SealedPacket, Send, SubKind, Verdict}
 use Rattle.link_history.proofs.Senders.{has_key, listed, sealed_by_is, and_false, AreOther, needs_posted}
 pub use Rattle.link_history.proofs.Causes.{IsSealing, is_sealing, sealed_by_sealing, sealing_is, sending_port}
-use Rattle.link_history.proofs.Terms.{Place, Op, touches, sealed_here}
+use Rattle.link_history.proofs.Terms.{KeyPlace, Op, touches, sealed_here}
 unfoldable use Rattle.link_history.proofs.Terms.{base, manager}
 
 -- ---- each packet under the live key of its sub-stream
@@ -103,7 +103,7 @@ sealed_same plan h _ _ none = refl
 
 -- ---- an event that may seal is no operation and no reset
 
-pub sealing_touches : (ops : ℕ → ℕ → Op) (n : ℕ) (e : Event) (ds : List SealedPacket) (p : Place)
+pub sealing_touches : (ops : ℕ → ℕ → Op) (n : ℕ) (e : Event) (ds : List SealedPacket) (p : KeyPlace)
     → is_sealing e ≡ true → touches ops n e (Sealed ds) p ≡ sealed_here p ds
 sealing_touches ops n (Send q bytes more trusted) ds p seals = refl
 sealing_touches ops n e ds p seals = absurd cc

@@ -18,14 +18,15 @@ pub use Rattle.link_events.specs.declared.event.Loss.{Loss}
 pub use Rattle.link_verdicts.specs.declared.verdict.Operation.{Operation}
 pub use Rattle.key_laws.specs.Due.{PortView, done, establish_on, may_establish, may_refresh, performed, ports_at}
 pub use Rattle.key_laws.specs.Due.{refresh_on, unless_open}
-unfoldable pub use Rattle.key_laws.specs.Due.{due as key_due}
-pub use Rattle.key_laws.specs.History.{begins_keyed, behind, came, draws, has_key, is_sender, on_it, op_of, sealed_here}
+unfoldable pub use Rattle.key_laws.specs.Due.{key_due}
+pub use Rattle.key_laws.specs.History.{begins_keyed, touches_after, came, draws, has_key, is_sender, on_it, op_of}
+pub use Rattle.key_laws.specs.History.{sealed_here}
 pub use Rattle.key_laws.specs.History.{touches, when, worked}
-unfoldable pub use Rattle.key_laws.specs.History.{base, failed as failed_there, manager, moments}
+unfoldable pub use Rattle.key_laws.specs.History.{base, failed_there, manager, moments}
 pub use Rattle.key_laws.specs.Keys.{Accept, Clear as ClearTouch, Go as GoTouch, Loaded, Program as ProgramTouch, Seal}
-pub use Rattle.key_laws.specs.Keys.{Touch, is_on, kept_in, live_draw, settled, touched}
+pub use Rattle.key_laws.specs.Keys.{Touch, is_on, kept_in, sealing_draw, keys_settled, touched}
 unfoldable pub use Rattle.key_laws.specs.Keys.{is_open, keys}
-pub use Rattle.key_laws.specs.Laws.{CauseLaw as KeyCauseLaw, GivenFits, UsesFit}
+pub use Rattle.key_laws.specs.Laws.{KeyCauseLaw, GivenFits, UsesFit}
 pub use Rattle.key_laws.specs.Operations.{Begun, Idle, Manager, Op, Reach, Stopping, Work, op_after, operated, reach_of}
 pub use Rattle.key_laws.specs.Operations.{work_of}
 pub use Rattle.key_laws.specs.Places.{is_on_stream, is_same_side, is_same_sub, lane, places_of}
@@ -37,11 +38,12 @@ pub use Rattle.link_history.specs.Due.{is_verified, lanes_at}
 pub use Rattle.link_history.specs.Due.{needs_sync, no_key, receiving, refusals, sealed_by, send_on, send_read}
 pub use Rattle.link_history.specs.Due.{sets_trusted, unit_under}
 unfoldable pub use Rattle.link_history.specs.Due.{before_tag, choice, due}
-pub use Rattle.link_history.specs.History.{Arrival, KeyName, SealedList, accepted_keys, after_ends, ahead_in}
+pub use Rattle.link_history.specs.History.{Arrival, KeyName, SealedList, accepted_keys, after_ends, front_of_packet}
 pub use Rattle.link_history.specs.History.{arrived_packet, cut_packet, ended_keys, ends_at, ends_in, failed, fails_at}
-pub use Rattle.link_history.specs.History.{has_live, is_in, is_keyed, is_under}
+pub use Rattle.link_history.specs.History.{has_live_key, is_in, is_keyed, is_under}
 pub use Rattle.link_history.specs.History.{keys_by, lesser, live_key, meets_counts, on_draw, packet_at, packet_in}
-pub use Rattle.link_history.specs.History.{place, posted_of, received_in, receives_it, sends_it, sent, sent_bytes}
+pub use Rattle.link_history.specs.History.{place_in_sub_stream, posted_of, received_in, receives_it, sends_it, sent}
+pub use Rattle.link_history.specs.History.{sent_bytes}
 pub use Rattle.link_history.specs.History.{sub_stream_of, waits, with_sealed}
 unfoldable pub use Rattle.link_history.specs.History.{arrived, draws_got, got_since, has_live_in, has_live_out, held}
 unfoldable pub use Rattle.link_history.specs.History.{keys_at, packet_of, posted_in, sealed_packets, sent_in, total_in}
@@ -53,7 +55,7 @@ pub use Rattle.link_history.specs.Plan.{lane_in, lane_out, partner, streams_of, 
 unfoldable pub use Rattle.link_history.specs.Plan.{stream_plan}
 pub use Rattle.link_history.specs.Terms.{Accepted, AllByRecursion, Alter, Arrive, Cut, Device, Dump, Effect, Establish}
 pub use Rattle.link_history.specs.Terms.{Event, Held}
-pub use Rattle.link_history.specs.Terms.{History, Host, KeyPlan, Keyed, Keys, Off, On, Packet, Place, Plan, PortName}
+pub use Rattle.link_history.specs.Terms.{History, Host, KeyPlan, Keyed, Keys, Off, On, Packet, KeyPlace, Plan, PortName}
 pub use Rattle.link_history.specs.Terms.{Pass, Refresh, Reset, Sealed, SealedPacket}
 pub use Rattle.link_history.specs.Terms.{Send, Status, Stop, SubKind, UnitName, Verdict, after_last, keeps_live, key_in}
 pub use Rattle.link_history.specs.Terms.{keys_there, list_any, no_keys, on_in}

@@ -1,4 +1,4 @@
--- Units of a list that gains packets, and fronts of a list of units.
+-- Units of a list that gains packets, and prefixes of a list of units.
 use Rattle.link_history.proofs.Terms.{Bool, List, Some, [], ap, append_assoc, arith, drop, false, length, refl}
 use Rattle.link_history.proofs.Terms.{slice_get, subst, suc, sym, take, true, zero, ℕ, ◌++◌, ◌∙◌, ◌∷◌, ◌≡◌, ◌≤◌}
 use Rattle.link_history.proofs.Terms.{append-nil, take-append-drop}
@@ -98,7 +98,7 @@ open_after_front f (p ∷ ps) front =
 pub open_unit-front : (ps qs : List Packet) → IsFront qs → open_unit (ps ++ qs) ≡ open_unit ps ++ qs
 open_unit-front ps qs front = open_unit-append ps qs ∙ open_after_front (open_unit ps) qs front
 
--- what packets in front and each packet keep holds of each unit
+-- what the packets before and each packet keep holds of each unit
 each_unit : (F : List Packet → Type 0) (R : Packet → Type 0) (P : List Packet → Type 0) → F []
     → ((f : List Packet) (p : Packet) → F f → R p → p.prefix.m ≡ true → P (f ++ p ∷ []))
     → ((f : List Packet) (p : Packet) → F f → R p → p.prefix.m ≡ false → F (f ++ p ∷ []))
@@ -135,7 +135,7 @@ unit_at P [] k x all is = absurd cc
 unit_at P (y ∷ us) zero x all is = let same : y ≡ x = cc in subst P same all.0
 unit_at P (y ∷ us) (suc k) x all is = unit_at P us k x all.1 is
 
--- ---- fronts of the units
+-- ---- prefixes of the units
 
 pub take_next : (us : List (List Packet)) (k : ℕ) (x : List Packet) → slice_get us k ≡ Some x → take (suc k) us
     ≡ take k us ++ x ∷ []
@@ -147,6 +147,6 @@ below us k x is = slice_get_within us k x is
 pub joined-snoc : (us : List (List Packet)) (x : List Packet) → joined (us ++ x ∷ []) ≡ joined us ++ x
 joined-snoc us x = flat_map-append (λ u. u) us (x ∷ []) ∙ ap (λ z. joined us ++ z) (append-nil x)
 
--- units at the front are a beginning
+-- the first units and the others, joined, are all
 pub joined_take : (us : List (List Packet)) (k : ℕ) → joined (take k us) ++ joined (drop k us) ≡ joined us
 joined_take us k = sym (flat_map-append (λ u. u) (take k us) (drop k us)) ∙ ap joined (take-append-drop k us)

@@ -5,20 +5,20 @@ use Rattle.std.specs.Prelude.{take, ℕ}
 use Rattle.link_history.specs.Terms.{Plan, SealedPacket, Accepted, Sealed, iv_of, Packet, is_sync_packet}
 use Rattle.link_history.specs.Terms.{encrypted, open_of, History}
 use Rattle.link_history.specs.Plan.{SubStream, is_same, key_of}
-use Rattle.link_history.specs.Laws.{Begins}
+use Rattle.link_history.specs.Laws.{IsPrefixOf}
 use Rattle.link_history.specs.History.{sub_stream_of, sent_bytes, arrived_packet, is_of, held}
 
 -- ---- sent
 
 -- the sealed packet carries a TLP of this sub-stream under this draw
-abbrev pub carries : SubStream → ℕ → SealedPacket → Bool
-carries s j d = not d.sync && is_same (sub_stream_of d) s && (d.draw == j)
+abbrev pub carries_tlp_of : SubStream → ℕ → SealedPacket → Bool
+carries_tlp_of s j d = not d.sync && is_same (sub_stream_of d) s && (d.draw == j)
 
 -- the bytes that were sent and sealed in a sub-stream under a draw, in order
 unfoldable pub tlps_sent : Plan → History → SubStream → ℕ → List (List ℕ)
 tlps_sent plan [] s j = []
 tlps_sent plan ((e, Sealed ds) ∷ h) s j =
-    tlps_sent plan h s j ++ map (λ d. sent_bytes plan h e) (filter (carries s j) ds)
+    tlps_sent plan h s j ++ map (λ d. sent_bytes plan h e) (filter (carries_tlp_of s j) ds)
 tlps_sent plan (_ ∷ h) s j = tlps_sent plan h s j
 
 -- ---- delivered
@@ -31,18 +31,18 @@ with_payloads plain (p ∷ ps) =
     if is_sync_packet p then later else (p.head ++ take (length p.body) plain) ∷ later
 
 -- the TLPs of a unit of this number: its plaintext is GCM's, under the key of the draw
-abbrev pub opened : Plan → SubStream → ℕ → ℕ → List Packet → List (List ℕ)
-opened plan s j n unit = with_payloads (open_of (key_of plan j s) (iv_of s.sub n) (encrypted unit)) unit
+abbrev pub opened_tlps : Plan → SubStream → ℕ → ℕ → List Packet → List (List ℕ)
+opened_tlps plan s j n unit = with_payloads (open_of (key_of plan j s) (iv_of s.sub n) (encrypted unit)) unit
 
 -- the TLPs of the units that were accepted in a sub-stream under a draw, in order
 unfoldable pub tlps_got : Plan → History → SubStream → ℕ → List (List ℕ)
 tlps_got plan [] s j = []
 tlps_got plan ((e, Accepted port unit effects) ∷ h) s j =
-    if is_of s j port unit then tlps_got plan h s j ++ opened plan s j unit.unit (held plan h s j unit.unit
+    if is_of s j port unit then tlps_got plan h s j ++ opened_tlps plan s j unit.unit (held plan h s j unit.unit
     ++ arrived_packet plan h e ∷ [])
     else tlps_got plan h s j
 tlps_got plan (_ ∷ h) s j = tlps_got plan h s j
 
 -- Key by key, each sub-stream delivered a prefix of the TLPs that were sent in it.
 abbrev pub DeliveryLaw : Plan → History → Type 0
-DeliveryLaw plan h = (s : SubStream) (j : ℕ) → Begins (tlps_got plan h s j) (tlps_sent plan h s j)
+DeliveryLaw plan h = (s : SubStream) (j : ℕ) → IsPrefixOf (tlps_got plan h s j) (tlps_sent plan h s j)

@@ -8,8 +8,8 @@ use Rattle.link_history.specs.Terms.{owner_at, SealedPacket, UnitName, Verdict, 
 use Rattle.link_history.specs.Terms.{Packet, packet_bytes}
 use Rattle.link_history.specs.Terms.{CutValue, IdePacket, PlainTlp, cut_of, authenticated, encrypted, PacketFault}
 use Rattle.link_history.specs.Terms.{verifies, History, status_of, received_direction}
-use Rattle.key_laws.specs.Due.{due as key_due}
-use Rattle.interface_states.specs.Due.{due as interface_due}
+use Rattle.key_laws.specs.Due.{key_due}
+use Rattle.interface_states.specs.Due.{interface_verdict_due as interface_due}
 use Rattle.association.specs.Choice.{choice_of, chosen}
 use Rattle.tlp_layout.specs.declared.head.HeadView.{HeadView}
 use Rattle.tlp_layout.specs.Class.{class_of}

@@ -9,7 +9,7 @@ use Rattle.link_history.specs.Terms.{read_of, body, header, TlpFault, Tlp, iv_of
 use Rattle.link_history.specs.Terms.{CutValue, IdePacket, cut_of, authenticated, encrypted, PacketFault, masked, tag_of}
 use Rattle.link_history.specs.Terms.{History, base, failed_there}
 use Rattle.link_history.specs.Terms.{fails_there, keeps_live, keys_there, Keyed, Keys, Off, On, key_in, no_keys, on_in}
-use Rattle.link_history.specs.Terms.{unless_below, Place, received_direction, sent_direction}
+use Rattle.link_history.specs.Terms.{unless_below, KeyPlace, received_direction, sent_direction}
 use Rattle.ide_types.specs.declared.sub.SubKind.TheVariants.{Pr, Npr, Cpl}
 use Rattle.tlp_layout.specs.Head.{head_bytes}
 use Rattle.link_history.specs.Plan.{SubStream, is_same, is_same_port, partner, lane_out, lane_in, has_port, key_of}
@@ -88,8 +88,9 @@ ends_in s from x = is_in s from x && x.1.prefix.m
 unfoldable pub total_in : SealedList → SubStream → ℕ → ℕ
 total_in xs s from = length (filter (ends_in s from) xs)
 
-abbrev pub ahead_in : Plan → SealedList → (ℕ → ℕ → ℕ) → SealedPacket → List ℕ
-ahead_in plan xs from d = let s = sub_stream_of d in front_of plan s d.unit (total_in xs s (from s.link s.stream))
+abbrev pub front_of_packet : Plan → SealedList → (ℕ → ℕ → ℕ) → SealedPacket → List ℕ
+front_of_packet plan xs from d = let s = sub_stream_of d in front_of plan s d.unit
+    (total_in xs s (from s.link s.stream))
 
 -- the bytes that an event gives a port to seal, after a history
 abbrev pub sent_bytes : Plan → History → Event → List ℕ
@@ -100,17 +101,18 @@ sent_bytes plan h e = []
 unfoldable pub sealed_packets : Plan → History → SealedList
 sealed_packets plan [] = []
 sealed_packets plan ((e, Sealed ds) ∷ h) =
-    with_sealed plan (ahead_in plan (sealed_packets plan h) (base h)) (sent_bytes plan h e) ds (sealed_packets plan h)
+    with_sealed plan (front_of_packet plan (sealed_packets plan h) (base h)) (sent_bytes plan h e) ds
+    (sealed_packets plan h)
 sealed_packets plan (_ ∷ h) = sealed_packets plan h
 
 -- the packets that were sealed in a sub-stream under a draw, in order
 abbrev pub sent : Plan → History → SubStream → ℕ → List Packet
 sent plan h s j = sent_in (sealed_packets plan h) s j
 
--- what stood ahead of the unit of this number
 abbrev pub is_of_unit : SubStream → ℕ → ℕ → SealedPacket → Bool
 is_of_unit s j n d = is_same (sub_stream_of d) s && (d.draw == j) && (d.unit == n)
 
+-- what came before the unit of this number
 unfoldable pub front_sent : Plan → History → SubStream → ℕ → ℕ → List ℕ
 front_sent plan [] s j n = []
 front_sent plan ((e, Sealed ds) ∷ h) s j n =
@@ -242,8 +244,9 @@ abbrev pub accepted_keys : ℕ → Keys → Keys
 accepted_keys j keys = record { first = unless_below j keys.first; second = unless_below j keys.second }
 
 -- a port's place in a sub-stream, of which it is the sender or the receiver
-abbrev pub place : PortName → SubStream → Bool → Place
-place port s sends = record { side = port.side; link = s.link; stream = s.stream; sends = sends; sub = s.sub }
+abbrev pub place_in_sub_stream : PortName → SubStream → Bool → KeyPlace
+place_in_sub_stream port s sends
+    = record { side = port.side; link = s.link; stream = s.stream; sends = sends; sub = s.sub }
 
 abbrev pub sends_it : PortName → SubStream → Bool
 sends_it port s = (port.link == s.link) && (sent_direction port.side == s.direction)
@@ -252,8 +255,8 @@ abbrev pub receives_it : PortName → SubStream → Bool
 receives_it port s = (port.link == s.link) && (received_direction port.side == s.direction)
 
 abbrev pub keys_by : History → PortName → SubStream → Bool → Bool → Keys
-keys_by h port s true receives = keys_there h (place port s true)
-keys_by h port s false true = keys_there h (place port s false)
+keys_by h port s true receives = keys_there h (place_in_sub_stream port s true)
+keys_by h port s false true = keys_there h (place_in_sub_stream port s false)
 keys_by h port s false false = no_keys
 
 -- The keys of a port in a sub-stream. A port that neither sends nor receives it has none.
@@ -288,8 +291,8 @@ has_live_in h port stream =
     is_keyed h port (lane_in port stream Pr) || is_keyed h port (lane_in port stream Npr)
     || is_keyed h port (lane_in port stream Cpl)
 
-abbrev pub has_live : History → PortName → ℕ → Bool
-has_live h port stream = has_live_out h port stream || has_live_in h port stream
+abbrev pub has_live_key : History → PortName → ℕ → Bool
+has_live_key h port stream = has_live_out h port stream || has_live_in h port stream
 
 -- whether the verdict says that an arrival failed on the stream at the port
 abbrev pub fails_at : PortName → ℕ → Verdict → Bool
@@ -337,6 +340,6 @@ units_since ((e, Accepted port unit effects) ∷ h) s from =
     else units_since h s from
 units_since (_ ∷ h) s from = units_since h s from
 
--- what has to stand ahead of a unit that ends now
+-- what has to come before a unit that ends now
 abbrev pub front_due : Plan → History → SubStream → ℕ → List ℕ
 front_due plan h s n = front_of plan s n (units_since h s (base h s.link s.stream))

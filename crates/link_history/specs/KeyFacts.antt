@@ -108,7 +108,7 @@ pub record DrawFacts (plan : Plan) : Type 0 where
   pub own_set : (h : History) → CauseLaw plan h → (i : ℕ) (x : SealedPacket × Packet)
       → slice_get (sealed_packets plan h) i ≡ Some x
       → (port : PortName) (k : Bool) → key_in (keys_at h port (sub_stream_of x.0)) k ≡ On x.0.draw → k ≡ x.0.k
-  -- a draw that is On at a receiver is at least every one of which a unit was accepted there
+  -- a draw that is On at a receiver is at least every draw that had a unit accepted there
   pub above_got : (h : History) → CauseLaw plan h → (port : PortName) (stream : ℕ) (u : SubKind) (k : Bool) (j : ℕ)
       → let s = lane_in port stream u in
       key_in (keys_at h port s) k ≡ On j → AllByRecursion (λ (i : ℕ). i ≤ j) (draws_got h s)

@@ -40,8 +40,8 @@ abbrev pub NoForgery : Plan → History → Type 0
 NoForgery plan [] = Unit {0}
 NoForgery plan ((event, verdict) ∷ h) = NotForged plan h event × NoForgery plan h
 
-abbrev pub Begins : {A : Type 0} → List A → List A → Type 0
-Begins {A} xs ys = (rest : List A) × (xs ++ rest ≡ ys)
+abbrev pub IsPrefixOf : {A : Type 0} → List A → List A → Type 0
+IsPrefixOf {A} xs ys = (rest : List A) × (xs ++ rest ≡ ys)
 
 -- no draw is smaller than an earlier one
 abbrev pub NeverFalls : List ℕ → Type 0
@@ -66,7 +66,7 @@ ClosedLaw plan ((event, verdict) ∷ h) = OlderFirst plan h verdict × ClosedLaw
 
 -- Key by key, each sub-stream got a prefix of what was sealed, and the draws of its accepted units never fall.
 pub record PrefixLaw (plan : Plan) (h : History) : Type 0 where
-  pub prefix : (s : SubStream) (j : ℕ) → Begins (got plan h s j) (sent plan h s j)
+  pub prefix : (s : SubStream) (j : ℕ) → IsPrefixOf (got plan h s j) (sent plan h s j)
   pub draws : DrawsNeverFall h
   pub older : ClosedLaw plan h
 

@@ -5,7 +5,8 @@ use Rattle.link_history.specs.Terms.{option_and_then, PortName, Plan, Event, Int
 use Rattle.link_history.specs.Terms.{Accepted, read_head_of, TlpFault, iv_of, Packet, is_sync_packet, encrypted}
 use Rattle.link_history.specs.Terms.{open_of, History, Device, Host, sent_direction}
 use Rattle.link_history.specs.Terms.{Write, Grant, write_span, memory_write, newest_first, byte_after, bytes_from}
-use Rattle.link_history.specs.Terms.{write_effect, in_one_region, is_on_bound, if_placed, admitted_write, Contents}
+use Rattle.link_history.specs.Terms.{write_effect, in_one_region, is_on_bound, if_placed, admitted_write}
+use Rattle.link_history.specs.Terms.{MemoryContents}
 use Rattle.link_history.specs.Terms.{IsLeftBy, Leads, grant_at, owner_of}
 use Rattle.tlp_layout.specs.declared.head.HeadView.{HeadView}
 use Rattle.link_history.specs.Plan.{key_of}
@@ -25,15 +26,15 @@ Grants = ℕ → ℕ → Option (ℕ × ℕ)
 abbrev pub bound_of : Grants → PortName → HeadView → Option (ℕ × ℕ)
 bound_of grants port head = option_and_then (grants port.link) (owner_of head)
 
-abbrev pub grant_of : Grants → PortName → UnitName → HeadView → Grant
-grant_of grants port unit head =
+abbrev pub unit_grant : Grants → PortName → UnitName → HeadView → Grant
+unit_grant grants port unit head =
     record { bound = bound_of grants port head; stream = unit.stream; draw = unit.draw }
 
--- at a host's port: where a write's bytes go its header says
+-- at a host's port: the header of a write says where its bytes go
 abbrev pub host_effect : Plan → Grants → PortName → UnitName → Packet → Result HeadView TlpFault → Effect
 host_effect plan grants port unit p (Err f) = effect.Delivered
 host_effect plan grants port unit p (Ok head) =
-    write_effect plan.memory p.prefix.t (grant_of grants port unit head) (write_span head)
+    write_effect plan.memory p.prefix.t (unit_grant grants port unit head) (write_span head)
 
 abbrev pub effect_by : Plan → Grants → PortName → UnitName → Packet → Effect
 effect_by plan grants port unit p =
@@ -109,9 +110,9 @@ memory_due plan h e = v.Nothing
 
 -- ---- contents that stand for the history
 
-abbrev pub ends_unit : Verdict → Bool
-ends_unit (Accepted port unit effects) = true
-ends_unit w = false
+abbrev pub accepts_unit : Verdict → Bool
+accepts_unit (Accepted port unit effects) = true
+accepts_unit w = false
 
 -- If contents are what the writes of a history left: the contents that an accepted unit's packets lead to are so once
 -- its verdict is there, and at any other verdict the same contents are. At a device's port no packet leads elsewhere,
@@ -119,15 +120,15 @@ ends_unit w = false
 -- admitted.
 pub record ContentsFollow : Type 0 where
   pub accepted : (plan : Plan) (h : History) (e : Event) (port : PortName) (unit : UnitName) (effects : List Effect)
-      (m n : Contents) → IsLeftBy m (writes plan h) → Leads m (admitted_by plan h e port unit) n
+      (m n : MemoryContents) → IsLeftBy m (writes plan h) → Leads m (admitted_by plan h e port unit) n
       → IsLeftBy n (writes plan ((e, Accepted port unit effects) ∷ h))
-  pub others : (plan : Plan) (h : History) (e : Event) (w : Verdict) (m : Contents) → ends_unit w ≡ false
+  pub others : (plan : Plan) (h : History) (e : Event) (w : Verdict) (m : MemoryContents) → accepts_unit w ≡ false
       → IsLeftBy m (writes plan h) → IsLeftBy m (writes plan ((e, w) ∷ h))
-  pub at_device : (plan : Plan) (h : History) (e : Event) (port : PortName) (unit : UnitName) (m : Contents)
+  pub at_device : (plan : Plan) (h : History) (e : Event) (port : PortName) (unit : UnitName) (m : MemoryContents)
       → port.side ≡ Device → Leads m (admitted_by plan h e port unit) m
   pub sync : (plan : Plan) (h : History) (port : PortName) (unit : UnitName) (p : Packet) (payload : List ℕ)
       → is_sync_packet p ≡ true → admitted plan (grant_at plan h) port unit p payload ≡ None
   pub packet : (plan : Plan) (h : History) (port : PortName) (unit : UnitName) (p : Packet) (payload : List ℕ)
       (head : HeadView) → is_sync_packet p ≡ false → port.side ≡ Host → read_head_of p.head ≡ Ok head
       → admitted plan (grant_at plan h) port unit p payload
-      ≡ admitted_write plan.memory p.prefix.t (grant_of (grant_at plan h) port unit head) (memory_write head payload)
+      ≡ admitted_write plan.memory p.prefix.t (unit_grant (grant_at plan h) port unit head) (memory_write head payload)

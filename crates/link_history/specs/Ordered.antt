@@ -14,15 +14,15 @@ pub record StandsAt (xs : SealedList) (s : SubStream) (j m place : ℕ) : Type 0
   pub number : m ≡ length (sent_in (take place xs) s j)
 
 -- From Base on nothing of an overtaken key is missing: in the sub-stream below this draw, and in the posted one below
--- each draw of which a unit was accepted.
+-- each draw that had a unit accepted.
 pub record NoneMissing (plan : Plan) (h : History) (s : SubStream) (j : ℕ) : Type 0 where
   pub own : (i : ℕ) → base h s.link s.stream ≤ i → i < j → got plan h s i ≡ sent plan h s i
   pub posted : AllByRecursion (λ (k : ℕ). (i : ℕ) → base h s.link s.stream ≤ i → i < k
       → got plan h (posted_of s) i ≡ sent plan h (posted_of s) i) (draws_got h (posted_of s))
 
 -- If a unit of a non-posted or completion sub-stream is accepted, and on an open stream nothing of an overtaken key is
--- missing, each posted packet, of a draw from Base on, that was sealed before a packet of the unit, or of one before it
--- under its draw, had been accepted.
+-- missing, this holds: each posted packet, of a draw from Base on, that was sealed before a packet of the unit, or of
+-- one before it under its draw, had been accepted.
 abbrev pub BehindPosted : Plan → History → Event → Verdict → Type 0
 BehindPosted plan h e (Accepted port unit effects) =
     (m place : ℕ) → sub_bits unit.sub ≢ 0

@@ -72,11 +72,11 @@ abbrev pub is_closed : Plan → ℕ → ℕ → Bool
 is_closed plan link stream = option_map_or (λ (s : StreamPlan). s.closed) (stream_plan plan link stream) false
 
 -- the place in the pool of the key of a draw: key 6j + 3d + u
-abbrev pub key_place : ℕ → SubStream → ℕ
-key_place draw s = 6 * draw + 3 * s.direction + sub_bits s.sub
+abbrev pub place_in_pool : ℕ → SubStream → ℕ
+place_in_pool draw s = 6 * draw + 3 * s.direction + sub_bits s.sub
 
 unfoldable pub key_of : Plan → ℕ → SubStream → List ℕ
-key_of plan draw s = slice_index_or plan.pool (key_place draw s) []
+key_of plan draw s = slice_index_or plan.pool (place_in_pool draw s) []
 
 -- what the rules of keys look at: a draw takes six keys of the pool
 abbrev pub key_plan : Plan → KeyPlan

@@ -1,4 +1,4 @@
--- What is said of elsewhere, and spoken of in the definitions here.
+-- What is declared elsewhere, and used in the definitions here.
 pub use Rattle.std.specs.List.{AllByRecursion, after_last, list_any, slice_index_or}
 pub use Rattle.std.specs.Option.{option_and_then, option_map_or}
 pub use Rattle.ide_types.specs.Sub.{sub_bits}
@@ -25,10 +25,10 @@ pub use Rattle.ide_prefix.specs.Reading.{CutValue, IdePacket, PlainTlp, cut_of}
 pub use Rattle.ide_prefix.specs.Units.{authenticated, encrypted}
 pub use Rattle.ide_prefix.specs.declared.fault.PacketFault.{PacketFault}
 pub use Rattle.gcm_seal.specs.Gcm.{masked, open_of, tag_of, verifies}
-pub use Rattle.key_laws.specs.History.{History, base, failed as failed_there, fails_at as fails_there}
-pub use Rattle.key_laws.specs.History.{is_keyed as keeps_live, keys_at as keys_there, status_of}
+pub use Rattle.key_laws.specs.History.{History, base, failed_there, fails_there}
+pub use Rattle.key_laws.specs.History.{keeps_live, keys_there, status_of}
 pub use Rattle.key_laws.specs.Keys.{Keyed, Keys, Off, On, key_in, no_keys, on_in, unless_below}
-pub use Rattle.key_laws.specs.Places.{KeyPlan, Place, received_direction, sent_direction}
+pub use Rattle.key_laws.specs.Places.{KeyPlan, KeyPlace, received_direction, sent_direction}
 pub use Rattle.interface_states.specs.Views.{grant_at}
 pub use Rattle.interface_states.specs.Cause.{owner_of, owner_at, t_due}
 pub use Rattle.trusted_memory.specs.declared.grant.Grant.{Grant}
@@ -38,4 +38,4 @@ unfoldable pub use Rattle.trusted_memory.specs.Writes.{byte_after}
 pub use Rattle.trusted_memory.specs.Regions.{in_one_region}
 pub use Rattle.trusted_memory.specs.Causes.{write_effect}
 pub use Rattle.trusted_memory.specs.Admitted.{is_on_bound, if_placed, admitted_write}
-pub use Rattle.trusted_memory.specs.Memory.{Contents, IsLeftBy, Leads, bytes_from}
+pub use Rattle.trusted_memory.specs.Memory.{MemoryContents, IsLeftBy, Leads, bytes_from}

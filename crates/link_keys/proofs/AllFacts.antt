@@ -1,6 +1,7 @@
 -- All that is used of keys holds.
 use Rattle.link_history.proofs.Terms.{Bool, [], ap, arith, false, refl, sym, true, ℕ, ◌<◌, ◌==◌, ◌∙◌, ◌≡◌, ◌≤◌}
-use Rattle.link_history.proofs.Terms.{nat_tests, base, CauseLaw, keys_at, place, sent, waits, KeyFacts, SubStream}
+use Rattle.link_history.proofs.Terms.{nat_tests, base, CauseLaw, keys_at, place_in_sub_stream, sent, waits, KeyFacts}
+use Rattle.link_history.proofs.Terms.{SubStream}
 use Rattle.link_history.proofs.Terms.{key_plan, lane_out, History, Keyed, Keys, On}
 use Rattle.link_history.proofs.Terms.{Plan, PortName, SubKind, key_in, nat_le, not, on_in}
 use Rattle.key_laws.proofs.Tests.{le-true}
@@ -38,7 +39,7 @@ unused plan h law port stream u k j on waiting =
     let s = lane_out port stream u in
     let other = other_of k j (key_in (keys_at h port s) (not k)) waiting in
     let there = ap (λ (x : Keys). key_in x (not k)) (sym (keys_out h port stream u)) ∙ other.on in
-    let most = used_most plan h law (place port s true) (not k) other.draw there in
+    let most = used_most plan h law (place_in_sub_stream port s true) (not k) other.draw there in
     let less = differ (keys_at h port s) k other.draw j (apart plan h law port s) on other.on other.least in
     none_sent plan h law port s j (sends_lane port stream u) (omega (arith, most, less))
 
@@ -47,7 +48,7 @@ pub from_base : (plan : Plan) (h : History) → CauseLaw plan h → (port : Port
 from_base plan h law port s k j on =
     let at = on_at h port s k j on in
     le-true (base h s.link s.stream) j
-    (on_from (key_plan plan) h (key_cause plan h law) (place port s at.sends) k j (ap on_in at.on))
+    (on_from (key_plan plan) h (key_cause plan h law) (place_in_sub_stream port s at.sends) k j (ap on_in at.on))
 
 pub facts : (plan : Plan) → KeyFacts plan
 facts plan = record {

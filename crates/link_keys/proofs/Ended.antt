@@ -1,20 +1,23 @@
--- No unit is open of a draw that was overtaken, where the newer one is On at the receiver. By induction on the history,
--- a unit of a draw from Base on is open only while the draw is Live at its sender or, the hard case, after a stop or a
--- reset, until an establish raises Base. A Live draw is none below what was sealed. After a stop the host's port has no
--- key: it has sealed nothing newer where it is the sender, and no draw is On there where it is the receiver.
+-- No unit is open of a draw that was overtaken, if the newer one is On at the receiver. By induction on the history, a
+-- unit of a draw from Base on is open only while the draw is Live at its sender or, the hard case, after a stop or a
+-- reset, until an establish raises Base. No Live draw is below what was sealed. After a stop the host's port has no
+-- key: it has sealed nothing newer if it is the sender, and no draw is On there if it is the receiver.
 use Rattle.link_history.proofs.Terms.{Bool, List, None, Option, Some, [], ap, arith, false, inl, inr, length, refl}
 use Rattle.link_history.proofs.Terms.{slice_get, subst, subst₂, suc, sym, true, ℕ, ◌++◌, ◌<◌, ◌==◌, ◌∙◌, ◌∷◌, ◌≡◌, ◌≤◌}
 use Rattle.link_history.proofs.Terms.{◌⊎◌, nat_tests, Side, StreamStatus}
-use Rattle.link_history.proofs.Terms.{Loss, Operation, PortView, establish_on, ports_at, refresh_on, base, behind, came}
+use Rattle.link_history.proofs.Terms.{Loss, Operation, PortView, establish_on, ports_at, refresh_on, base}
+use Rattle.link_history.proofs.Terms.{touches_after, came}
 use Rattle.link_history.proofs.Terms.{draws, manager, moments, on_it, op_of, touches, when, worked, ClearTouch, GoTouch}
 use Rattle.link_history.proofs.Terms.{Loaded, ProgramTouch, Touch}
-use Rattle.link_history.proofs.Terms.{is_open, kept_in, keys, live_draw, settled, touched, Idle, Op, Reach, Stopping}
+use Rattle.link_history.proofs.Terms.{is_open, kept_in, keys, sealing_draw, keys_settled, touched, Idle, Op, Reach}
+use Rattle.link_history.proofs.Terms.{Stopping}
 use Rattle.link_history.proofs.Terms.{Work, op_after, reach_of, work_of, is_on_stream, is_same_sub, lane, CauseLaw}
-use Rattle.link_history.proofs.Terms.{SealedList, after_ends, ahead_in}
-use Rattle.link_history.proofs.Terms.{ended_keys, ends_at, is_under, keys_at, packet_of, place, sealed_packets, sent}
+use Rattle.link_history.proofs.Terms.{SealedList, after_ends, front_of_packet}
+use Rattle.link_history.proofs.Terms.{ended_keys, ends_at, is_under, keys_at, packet_of, place_in_sub_stream}
+use Rattle.link_history.proofs.Terms.{sealed_packets, sent}
 use Rattle.link_history.proofs.Terms.{sent_in, sub_stream_of, with_sealed, SubStream, is_same, key_plan, lane_in}
 use Rattle.link_history.proofs.Terms.{lane_out, partner, AllByRecursion, Device}
-use Rattle.link_history.proofs.Terms.{Establish, Event, History, Host, KeyPlan, Keys, Off, On, Packet, Place, Plan}
+use Rattle.link_history.proofs.Terms.{Establish, Event, History, Host, KeyPlan, Keys, Off, On, Packet, KeyPlace, Plan}
 use Rattle.link_history.proofs.Terms.{PortName, Refresh, Reset, SealedPacket, Stop, SubKind, Verdict}
 use Rattle.link_history.proofs.Terms.{if◌then◌else◌, is_some, key_in, keys_there}
 use Rattle.link_history.proofs.Terms.{nat_lt, no_keys, status_of, ◌&&◌, open_unit}
@@ -59,7 +62,7 @@ halted_bare Host is l n sh halted = halted
 halted_bare Device is l n sh halted = absurd cc
 
 -- then the host's port has no key
-bare_host : (plan : Plan) (h : History) → CauseLaw plan h → (p : Place) → p.side ≡ Host
+bare_host : (plan : Plan) (h : History) → CauseLaw plan h → (p : KeyPlace) → p.side ≡ Host
     → stops (op_of h p.link p.stream) ≡ true → keys_there h p ≡ no_keys
 bare_host plan h law p host is = by_op (op_of h p.link p.stream) refl is
   where
@@ -80,19 +83,20 @@ OnlyKeys (ProgramTouch k j ∷ ts) = OnlyKeys ts
 OnlyKeys (GoTouch k j ∷ ts) = OnlyKeys ts
 OnlyKeys (_ ∷ ts) = ⊥
 
--- the Live draw of an open unit stays Live where a key is programmed, and where one that is kept gets its GO and is no
+-- the Live draw of an open unit stays Live when a key is programmed, and when one that is kept gets its GO and is no
 -- smaller
-program_keeps : (f : ℕ → Bool) (ks : Keys) (k : Bool) (j i : ℕ) → live_draw ks ≡ Some i → f i ≡ true
-    → live_draw (settled true f (touched true ks (ProgramTouch k j))) ≡ Some i
+program_keeps : (f : ℕ → Bool) (ks : Keys) (k : Bool) (j i : ℕ) → sealing_draw ks ≡ Some i → f i ≡ true
+    → sealing_draw (keys_settled true f (touched true ks (ProgramTouch k j))) ≡ Some i
 program_keeps f ks k j i live opens = grind (arith, nat_tests)
 
-go_keeps : (f : ℕ → Bool) (ks : Keys) (k : Bool) (j i : ℕ) → live_draw ks ≡ Some i → f i ≡ true → kept_in (key_in ks k)
+go_keeps : (f : ℕ → Bool) (ks : Keys) (k : Bool) (j i : ℕ) → sealing_draw ks ≡ Some i → f i ≡ true
+    → kept_in (key_in ks k)
     ≡ Some j → i ≤ j
-    → live_draw (settled true f (touched true ks (GoTouch k j))) ≡ Some i
+    → sealing_draw (keys_settled true f (touched true ks (GoTouch k j))) ≡ Some i
 go_keeps f ks k j i live opens kept le = grind (arith, nat_tests)
 
 abbrev Given : Keys → Bool → ℕ → Type 0
-Given ks k j = (kept_in (key_in ks k) ≡ Some j) × ((i : ℕ) → live_draw ks ≡ Some i → i ≤ j)
+Given ks k j = (kept_in (key_in ks k) ≡ Some j) × ((i : ℕ) → sealing_draw ks ≡ Some i → i ≤ j)
 
 given : (ts : List Touch) (k : Bool) (j : ℕ) (sh : Shape) → Sound true ts sh → Goes k j sh → Given (keys_of sh) k j
 given ts k j _ sound waiting_goes = (ap kept_in (own_key k (Loaded j) Off), λ i live. absurd (live_waiting k j i live))
@@ -103,9 +107,10 @@ given ts k j _ sound (following_goes a) =
 given ts k j _ sound (both_goes a) =
     (ap kept_in (own_key k (On j) (On a)), λ i live. let same = live_both k a j i sound.0 live in omega arith)
 
-live_stays : (ts more : List Touch) → AllCome true ts more → OnlyKeys more → (i : ℕ) → live_draw (keys true ts) ≡ Some i
+live_stays : (ts more : List Touch) → AllCome true ts more → OnlyKeys more → (i : ℕ) → sealing_draw (keys true ts)
+    ≡ Some i
     → is_open ts i ≡ true
-    → live_draw (keys true (behind ts more)) ≡ Some i
+    → sealing_draw (keys true (touches_after ts more)) ≡ Some i
 unfolding is_open keys
 live_stays ts [] come only i live opens = live
 live_stays ts (ProgramTouch k j ∷ more) come only i live opens =
@@ -127,7 +132,7 @@ when_only true false k l i j = tt
 when_only false true k l i j = tt
 when_only false false k l i j = tt
 
-worked_only : (w : Work) (r : Option Reach) (p : Place) (o : Operation) → w.operation ≡ o → (o ≡ op.Stop → ⊥)
+worked_only : (w : Work) (r : Option Reach) (p : KeyPlace) (o : Operation) → w.operation ≡ o → (o ≡ op.Stop → ⊥)
     → OnlyKeys (worked w r p)
 worked_only w None p o is other = tt
 worked_only w (Some r) p op.Establish is other = rw is (when_only _ _ _ _ _ _)
@@ -141,7 +146,7 @@ if_only false ts only = tt
 stop_after : (q : Op) (next : ℕ) (r : Reach) → stops (op_after (work_of op.Stop q next) r) ≡ true
 stop_after q next r = grind arith
 
-came_out : (p : Place) (w : Verdict) → p.sends ≡ true → seals_none w ≡ true → came p w ≡ []
+came_out : (p : KeyPlace) (w : Verdict) → p.sends ≡ true → seals_none w ≡ true → came p w ≡ []
 came_out p (v.Sealed ds) sends none = absurd cc
 came_out p (v.Accepted port unit effects) sends none = rw sends refl
 came_out p _ sends none = refl
@@ -150,7 +155,7 @@ none_only : (ts : List Touch) → ts ≡ [] → OnlyKeys ts
 none_only ts is = subst OnlyKeys (sym is) tt
 
 -- a pair that seals nothing leaves the stream stopping or without operation, or programs and starts keys alone
-moved : (h : History) (e : Event) (w : Verdict) → seals_none w ≡ true → (p : Place) → p.sends ≡ true
+moved : (h : History) (e : Event) (w : Verdict) → seals_none w ≡ true → (p : KeyPlace) → p.sends ≡ true
     → (stops (op_of ((e, w) ∷ h) p.link p.stream) ≡ true) ⊎ OnlyKeys (touches (manager h).ops (draws h) e w p)
 unfolding manager
 moved h (Establish l s loss) w none p sends =
@@ -189,7 +194,7 @@ if_stops : (b : Bool) (q : Op) → stops q ≡ true → stops (if b then Idle el
 if_stops b q is = grind arith
 
 -- it stays so, or an establish begins
-still_stops : (plan : Plan) (h : History) (e : Event) (w : Verdict) → CauseLaw plan ((e, w) ∷ h) → (p : Place)
+still_stops : (plan : Plan) (h : History) (e : Event) (w : Verdict) → CauseLaw plan ((e, w) ∷ h) → (p : KeyPlace)
     → stops (op_of h p.link p.stream) ≡ true
     → (stops (op_of ((e, w) ∷ h) p.link p.stream) ≡ true) ⊎ (base ((e, w) ∷ h) p.link p.stream ≡ draws h)
 unfolding manager base
@@ -226,7 +231,7 @@ still_stops plan h e w law p is = inl is
 -- ---- a unit is open of the Live draw alone, or else this holds
 
 abbrev OpenIs : Type 0 → ℕ → SealedList → SubStream → Keys → Type 0
-OpenIs X i xs s keys = (open_unit (sent_in xs s i) ≡ []) ⊎ ((live_draw keys ≡ Some i) ⊎ X)
+OpenIs X i xs s keys = (open_unit (sent_in xs s i) ≡ []) ⊎ ((sealing_draw keys ≡ Some i) ⊎ X)
 
 -- packets of other sub-streams leave it
 abbrev AllOff : SubStream → List SealedPacket → Type 0
@@ -248,13 +253,13 @@ others_leave : (X : Type 0) (i : ℕ) (plan : Plan) (ahead : SealedPacket → Li
 others_leave X i plan ahead bytes port s ds xs ks off opens =
     let sent_is = left_alone (λ ys. sent_in ys s i) _ (λ ys d p other. sent-same ys (d, p) s i other) plan ahead bytes
     ds xs off in
-    subst₂ (λ (ps : List Packet) (new : Keys). (open_unit ps ≡ []) ⊎ ((live_draw new ≡ Some i) ⊎ X)) (sym sent_is)
+    subst₂ (λ (ps : List Packet) (new : Keys). (open_unit ps ≡ []) ⊎ ((sealing_draw new ≡ Some i) ⊎ X)) (sym sent_is)
     (sym (all_end port s ds ks off)) opens
 
 -- one of the sub-stream is under the Live draw, and ends its unit or leaves the key
 one_open : (X : Type 0) (i : ℕ) (port : PortName) (s : SubStream) (d : SealedPacket) (p : Packet) (xs : SealedList)
     (ks : Keys)
-    → is_same (sub_stream_of d) s ≡ true → ends_at port s d ≡ d.m → p.prefix.m ≡ d.m → live_draw ks ≡ Some d.draw
+    → is_same (sub_stream_of d) s ≡ true → ends_at port s d ≡ d.m → p.prefix.m ≡ d.m → sealing_draw ks ≡ Some d.draw
     → OpenIs X i xs s ks → OpenIs X i (xs ++ (d, p) ∷ []) s
     (if ends_at port s d then ended_keys ks.first ks.second else ks)
 one_open X i port s d p xs ks here ends m live opens = by_draw (d.draw == i) d.m refl refl
@@ -264,7 +269,7 @@ one_open X i port s d p xs ks here ends m live opens = by_draw (d.draw == i) d.m
     by_draw true true same last = inl
         (ap open_unit (sent_in-snoc xs (d, p) s i ∙ rw (here, same) refl) ∙ open_unit-end (sent_in xs s i) p (m ∙ last))
     by_draw true false same more =
-        let kept = ap (λ (b : Bool). live_draw (if b then ended_keys ks.first ks.second else ks)) (ends ∙ more) in
+        let kept = ap (λ (b : Bool). sealing_draw (if b then ended_keys ks.first ks.second else ks)) (ends ∙ more) in
         inr (inl (kept ∙ (live ∙ ap (λ (n : ℕ). Some n) (true-same d.draw i same))))
     by_draw false c other any = elim opens [
       | inl none ↦ inl (ap open_unit (sent_in-snoc xs (d, p) s i ∙ rw (here, other) refl) ∙ none)
@@ -312,7 +317,7 @@ all_open X i plan h q t ahead bytes port stream u (d ∷ ds) xs live each opens 
         → OpenIs X i (with_sealed plan ahead bytes (d ∷ ds) xs) s (after_ends port s (d ∷ ds) ks)
     by_test true here more =
         let key = live_here plan h q t d live.0 port stream u here in
-        let is_live : live_draw ks ≡ Some d.draw = live_of ks.first ks.second live.0.key key ∙ ap (λ (n : ℕ). Some n)
+        let is_live : sealing_draw ks ≡ Some d.draw = live_of ks.first ks.second live.0.key key ∙ ap (λ (n : ℕ). Some n)
         (sym live.0.draw) in
         others_leave X i plan ahead bytes port s ds (xs ++ (d, p) ∷ []) _ (others_off s d ds here each.0)
         (one_open X i port s d p xs ks here (ends_own port stream u d here) (sealed_m plan (ahead d) bytes d _) is_live
@@ -321,7 +326,7 @@ all_open X i plan h q t ahead bytes port stream u (d ∷ ds) xs live each opens 
         subst (λ (b : Bool). OpenIs X i (with_sealed plan ahead bytes (d ∷ ds) xs) s
         (after_ends port s ds (if b then ended_keys ks.first ks.second else ks)))
         (sym (none_ends port s d off)) (more (xs ++ (d, p) ∷ [])
-        (subst (λ (ps : List Packet). (open_unit ps ≡ []) ⊎ ((live_draw ks ≡ Some i) ⊎ X))
+        (subst (λ (ps : List Packet). (open_unit ps ≡ []) ⊎ ((sealing_draw ks ≡ Some i) ⊎ X))
         (sym (sent-same xs (d, p) s i off)) opens))
 
 -- ---- in every history
@@ -344,7 +349,7 @@ none_seals : (plan : Plan) (h : History) → CauseLaw plan h → (port : PortNam
 none_seals plan h law port stream u host is q t d live here =
     let ks = keys_at h port (lane_out port stream u) in
     let on = on_live ks.first ks.second live.key (live_here plan h q t d live port stream u here) in
-    let bare = bare_host plan h law (place port (lane_out port stream u) true) host is in
+    let bare = bare_host plan h law (place_in_sub_stream port (lane_out port stream u) true) host is in
     never_on live.key.k live.key.draw
     (ap (λ (ks : Keys). key_in ks live.key.k) (sym bare ∙ sym (keys_out h port stream u)) ∙ on)
 
@@ -356,7 +361,7 @@ unfolding sealed_packets
 still_above plan h e ds law port stream u i host is none place x at =
     let sealing = sealing_is plan h e ds law.0 in
     each_more (λ (d : SealedPacket). is_same (sub_stream_of d) (lane_out port stream u) ≡ true → d.draw ≤ i) plan
-    (ahead_in plan (sealed_packets plan h) (base h)) (sent_bytes plan h e) ds (sealed_packets plan h)
+    (front_of_packet plan (sealed_packets plan h) (base h)) (sent_bytes plan h e) ds (sealed_packets plan h)
     (live_all (λ (d : SealedPacket). is_same (sub_stream_of d) (lane_out port stream u) ≡ true → d.draw ≤ i) plan h
     sealing.sending.port sealing.sending.stream ds
     (λ d live here. absurd
@@ -389,7 +394,7 @@ lower : (b : Bool) (m n i : ℕ) → n ≤ m → (if b then m else n) ≤ i → 
 lower b m n i le up = grind arith
 
 -- Base never falls
-base_up : (plan : Plan) (h : History) (e : Event) (w : Verdict) → CauseLaw plan ((e, w) ∷ h) → (p : Place) (i : ℕ)
+base_up : (plan : Plan) (h : History) (e : Event) (w : Verdict) → CauseLaw plan ((e, w) ∷ h) → (p : KeyPlace) (i : ℕ)
     → base ((e, w) ∷ h) p.link p.stream ≤ i
     → base h p.link p.stream ≤ i
 unfolding base
@@ -397,9 +402,9 @@ base_up plan h (Establish l s loss) w law p i le = lower _ (draws h) (base h p.l
     (based (key_plan plan) h (key_cause plan h law.1) p).low le
 base_up plan h e w law p i le = le
 
--- what is Live is none below what was sealed
+-- no Live draw is below what was sealed
 live_above : (plan : Plan) (h : History) → CauseLaw plan h → (port : PortName) (stream : ℕ) (u : SubKind) (i : ℕ)
-    → live_draw (keys_at h port (lane_out port stream u)) ≡ Some i → NoneAbove plan h (lane_out port stream u) i
+    → sealing_draw (keys_at h port (lane_out port stream u)) ≡ Some i → NoneAbove plan h (lane_out port stream u) i
 live_above plan h law port stream u i live place x at here =
     let on = live_is_on (keys_at h port (lane_out port stream u)) i live in
     on_above plan h law port stream u on.0 i (on_key _ i on.1) place x at here
@@ -416,13 +421,13 @@ opens_sent plan h e ds law port stream u i opens =
     let s = lane_out port stream u in
     let is = sealing_is plan h e ds law.0 in
     let done = all_open (Excuse plan h port stream u i) i plan h is.sending.port is.sending.stream
-    (ahead_in plan (sealed_packets plan h) (base h)) (sent_bytes plan h e)
+    (front_of_packet plan (sealed_packets plan h) (base h)) (sent_bytes plan h e)
     port stream u ds (sealed_packets plan h) (all_live plan h (sending_port e) (sent_bytes plan h e) ds is)
     (all_apart plan h (sending_port e) (sent_bytes plan h e) ds is) opens in
     let keys = sealed plan h e ds law port s in
     elim done [
       | inl none ↦ inl none
-      | inr (inl live) ↦ inr (inl (ap live_draw keys ∙ live))
+      | inr (inl live) ↦ inr (inl (ap sealing_draw keys ∙ live))
       | inr (inr x) ↦ inr (inr (excuse_sent plan h e ds law port stream u i x))
     ]
 
@@ -433,16 +438,18 @@ none_open = refl
 
 live_moved : (plan : Plan) (h : History) (e : Event) (w : Verdict) → CauseLaw plan ((e, w) ∷ h)
     → (port : PortName) (stream : ℕ) (u : SubKind) (i : ℕ) → let s = lane_out port stream u in
-    OnlyKeys (touches (manager h).ops (draws h) e w (place port s true)) → live_draw (keys_at h port s) ≡ Some i
-    → is_open (moments h (place port s true)) i ≡ true → live_draw (keys_at ((e, w) ∷ h) port s) ≡ Some i
+    OnlyKeys (touches (manager h).ops (draws h) e w (place_in_sub_stream port s true)) → sealing_draw (keys_at h port s)
+    ≡ Some i
+    → is_open (moments h (place_in_sub_stream port s true)) i ≡ true → sealing_draw (keys_at ((e, w) ∷ h) port s)
+    ≡ Some i
 unfolding moments
 live_moved plan h e w law port stream u i only live busy =
     let s = lane_out port stream u in
-    let p = place port s true in
+    let p = place_in_sub_stream port s true in
     let cause = key_cause plan ((e, w) ∷ h) law in
     let come = (next_fits (key_plan plan) h e w cause p (fits (key_plan plan) h cause.2 p)).come in
-    ap live_draw (keys_out ((e, w) ∷ h) port stream u) ∙ live_stays (moments h p)
-    (touches (manager h).ops (draws h) e w p) come only i (ap live_draw (sym (keys_out h port stream u)) ∙ live)
+    ap sealing_draw (keys_out ((e, w) ∷ h) port stream u) ∙ live_stays (moments h p)
+    (touches (manager h).ops (draws h) e w p) come only i (ap sealing_draw (sym (keys_out h port stream u)) ∙ live)
     busy
 
 opens_moved : (plan : Plan) (h : History) (e : Event) (w : Verdict) → seals_none w ≡ true → CauseLaw plan ((e, w) ∷ h)
@@ -451,14 +458,15 @@ opens_moved : (plan : Plan) (h : History) (e : Event) (w : Verdict) → seals_no
 opens_moved plan h e w none law port stream u i up opens = elim opens [
   | inl closed ↦ inl (ap open_unit sent_is ∙ closed)
   | inr (inl live) ↦ by_open (open_unit (sent_in (sealed_packets plan h) s i)) refl live
-  | inr (inr x) ↦ by_stop x (still_stops plan h e w law (place port (lane_out port stream u) true) x.stopping)
+  | inr (inr x) ↦ by_stop x
+      (still_stops plan h e w law (place_in_sub_stream port (lane_out port stream u) true) x.stopping)
 ]
   where
     s : SubStream
     s = lane_out port stream u
 
-    p : Place
-    p = place port (lane_out port stream u) true
+    p : KeyPlace
+    p = place_in_sub_stream port (lane_out port stream u) true
 
     xs : sealed_packets plan ((e, w) ∷ h) ≡ sealed_packets plan h
     xs = sealed_same plan h e w none
@@ -471,7 +479,7 @@ opens_moved plan h e w none law port stream u i up opens = elim opens [
     above_still above place x at here = above place x (ap (λ (ys : SealedList). slice_get ys place) (sym xs) ∙ at) here
 
     by_open : (ps : List Packet) → open_unit (sent_in (sealed_packets plan h) (lane_out port stream u) i) ≡ ps
-        → live_draw (keys_at h port (lane_out port stream u)) ≡ Some i → Opens plan ((e, w) ∷ h) port stream u i
+        → sealing_draw (keys_at h port (lane_out port stream u)) ≡ Some i → Opens plan ((e, w) ∷ h) port stream u i
     by_open [] is live = inl (ap open_unit sent_is ∙ is)
     by_open (q ∷ ps) is live =
         let busy : is_open (moments h p) i ≡ true = sym
@@ -500,12 +508,13 @@ opens_at plan [] law port stream u i up = inl refl
 opens_at plan ((e, v.Sealed ds) ∷ h) law port stream u i up =
     opens_sent plan h e ds law port stream u i
     (opens_at plan h law.1 port stream u i
-    (base_up plan h e (v.Sealed ds) law (place port (lane_out port stream u) true) i up))
+    (base_up plan h e (v.Sealed ds) law (place_in_sub_stream port (lane_out port stream u) true) i up))
 opens_at plan ((e, w) ∷ h) law port stream u i up =
     opens_moved plan h e w refl law port stream u i up
-    (opens_at plan h law.1 port stream u i (base_up plan h e w law (place port (lane_out port stream u) true) i up))
+    (opens_at plan h law.1 port stream u i
+    (base_up plan h e w law (place_in_sub_stream port (lane_out port stream u) true) i up))
 
--- ---- where the newer draw is On at the receiver
+-- ---- if the newer draw is On at the receiver
 
 lane_of_partner : (q : PortName) (stream : ℕ) (u : SubKind) → lane_in q stream u ≡ lane_out (partner q) stream u
 lane_of_partner q stream u = grind arith
@@ -541,5 +550,6 @@ ended plan h law q stream u k j i at x on stands under up less =
         → open_unit (sent plan h (lane_out (partner q) stream u) i) ≡ []
     by_side Host host e = absurd (let most = e.left host at x stands here in omega (arith, most, draw, less))
     by_side Device device e =
-        let bare = bare_host plan h law (place q (lane_in q stream u) false) (host_end q device) e.stopping in
+        let bare = bare_host plan h law (place_in_sub_stream q (lane_in q stream u) false) (host_end q device)
+        e.stopping in
         absurd (never_on k j (ap (λ (ks : Keys). key_in ks k) (sym bare ∙ sym (keys_into h q stream u)) ∙ on))

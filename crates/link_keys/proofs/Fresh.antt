@@ -1,9 +1,11 @@
--- A key that comes to be Live at a sender has sealed nothing.
+-- A key that becomes Live at a sender has sealed nothing.
 use Rattle.link_history.proofs.Terms.{Bool, List, Some, [], ap, arith, false, inl, inr, refl, subst, sym, true, ℕ}
-use Rattle.link_history.proofs.Terms.{◌<◌, ◌==◌, ◌∙◌, ◌∷◌, ◌≡◌, ◌≤◌, ◌⊎◌, nat_tests, base, behind, draws, manager}
-use Rattle.link_history.proofs.Terms.{moments, touches, GoTouch as Go, Touch, is_open, keys, settled, touched}
-use Rattle.link_history.proofs.Terms.{CauseLaw, KeyName, SealedList, after_ends, ahead_in, ended_keys, keys_at}
-use Rattle.link_history.proofs.Terms.{lesser, live_key, place, sealed_packets, sent, sent_in, sub_stream_of, waits}
+use Rattle.link_history.proofs.Terms.{◌<◌, ◌==◌, ◌∙◌, ◌∷◌, ◌≡◌, ◌≤◌, ◌⊎◌, nat_tests, base, touches_after, draws}
+use Rattle.link_history.proofs.Terms.{manager}
+use Rattle.link_history.proofs.Terms.{moments, touches, GoTouch as Go, Touch, is_open, keys, keys_settled, touched}
+use Rattle.link_history.proofs.Terms.{CauseLaw, KeyName, SealedList, after_ends, front_of_packet, ended_keys, keys_at}
+use Rattle.link_history.proofs.Terms.{lesser, live_key, place_in_sub_stream, sealed_packets, sent, sent_in}
+use Rattle.link_history.proofs.Terms.{sub_stream_of, waits}
 use Rattle.link_history.proofs.Terms.{SubStream, is_same, key_plan, lane_out, Event, History, Keyed, Keys, Off, On}
 use Rattle.link_history.proofs.Terms.{Plan, PortName, Sealed, SealedPacket, SubKind, Verdict, key_in}
 use Rattle.link_history.proofs.Terms.{keys_there, not, on_in, ◌&&◌, sent_bytes}
@@ -23,7 +25,7 @@ use Rattle.link_keys.proofs.Moments.{none_sent, sends_lane}
 
 -- ---- what a touch makes On
 
-settled_on : (s : Bool) (f : ℕ → Bool) (ks : Keys) (k : Bool) (j : ℕ) → on_in (key_in (settled s f ks) k) ≡ Some j
+settled_on : (s : Bool) (f : ℕ → Bool) (ks : Keys) (k : Bool) (j : ℕ) → on_in (key_in (keys_settled s f ks) k) ≡ Some j
     → on_in (key_in ks k) ≡ Some j
 settled_on s f ks k j on = grind arith
 
@@ -52,7 +54,8 @@ next_on s ts t comes k j on = elim
     ]
 
 all_on : (s : Bool) (ts more : List Touch) → AllCome s ts more → (k : Bool) (j : ℕ)
-    → on_in (key_in (keys s (behind ts more)) k) ≡ Some j → (on_in (key_in (keys s ts) k) ≡ Some j) ⊎ (used ts ≤ j)
+    → on_in (key_in (keys s (touches_after ts more)) k) ≡ Some j → (on_in (key_in (keys s ts) k) ≡ Some j)
+    ⊎ (used ts ≤ j)
 all_on s ts [] come k j on = inl on
 all_on s ts (t ∷ more) come k j on = elim (all_on s (t ∷ ts) more come.1 k j on) [
   | inl now ↦ next_on s ts t come.0 k j now
@@ -63,11 +66,11 @@ all_on s ts (t ∷ more) come k j on = elim (all_on s (t ∷ ts) more come.1 k j
 newly_on : (plan : Plan) (h : History) (e : Event) (w : Verdict) → CauseLaw plan ((e, w) ∷ h)
     → (port : PortName) (stream : ℕ) (u : SubKind) (k : Bool) (j : ℕ) → let s = lane_out port stream u in
     key_in (keys_at ((e, w) ∷ h) port s) k ≡ On j → (key_in (keys_at h port s) k ≡ On j)
-    ⊎ (used (moments h (place port s true)) ≤ j)
+    ⊎ (used (moments h (place_in_sub_stream port s true)) ≤ j)
 unfolding moments
 newly_on plan h e w law port stream u k j on =
     let s = lane_out port stream u in
-    let p = place port s true in
+    let p = place_in_sub_stream port s true in
     let cause = key_cause plan ((e, w) ∷ h) law in
     let come = (next_fits (key_plan plan) h e w cause p (fits (key_plan plan) h cause.2 p)).come in
     let now : on_in (key_in (keys_there ((e, w) ∷ h) p) k) ≡ Some j = ap (λ (ks : Keys). on_in (key_in ks k))
@@ -78,7 +81,7 @@ newly_on plan h e w law port stream u k j on =
       | inr none ↦ inr none
     ]
 
--- ---- keys only go where units end
+-- ---- keys go only when units end
 
 ended_on : (ks : Keys) (k : Bool) (j : ℕ) → key_in (ended_keys ks.first ks.second) k ≡ On j → key_in ks k ≡ On j
 ended_on ks k j on = grind (arith, nat_tests)
@@ -118,7 +121,7 @@ none_under plan h law port stream u k j on waiting p t d live = by_test
         let key = live_here plan h p t d live port stream u here in
         ap (λ (n : ℕ). n == j) live.draw ∙ lesser_other ks.first ks.second k other.draw j live.key on other.on less key
 
--- ---- a key that comes to be Live
+-- ---- a key that becomes Live
 
 is_lesser : (a b : Keyed) (k : Bool) (j : ℕ) → key_in (record { first = a; second = b }) k ≡ On j
     → waits k j (key_in (record { first = a; second = b }) (not k)) ≡ false → lesser a b
@@ -136,7 +139,7 @@ sent_before plan h e (Sealed ds) law port stream u k j on waiting =
     let xs = sealed_packets plan h in
     left_alone (λ xs. sent_in xs s j) (λ d. (is_same (sub_stream_of d) s && (d.draw == j)) ≡ false)
     (λ xs d q off. sent_in-snoc xs (d, q) s j ∙ rw off refl)
-    plan (ahead_in plan xs (base h)) (sent_bytes plan h e) ds xs
+    plan (front_of_packet plan xs (base h)) (sent_bytes plan h e) ds xs
     (live_all _ plan h is.sending.port is.sending.stream ds
     (none_under plan h law.1 port stream u k j on waiting is.sending.port is.sending.stream)
     (all_live plan h (sending_port e) (sent_bytes plan h e) ds is))
@@ -145,7 +148,7 @@ sent_before plan h e w law port stream u k j on waiting = refl
 abbrev IsFresh : Plan → History → Event → Verdict → SubStream → PortName → KeyName → Type 0
 IsFresh plan h e w s port key = (live_key h port s ≡ Some key) ⊎ (sent plan ((e, w) ∷ h) s key.draw ≡ [])
 
--- where the draw was On before
+-- if the draw was On before
 on_fresh : (plan : Plan) (h : History) (e : Event) (w : Verdict) → CauseLaw plan ((e, w) ∷ h)
     → (port : PortName) (stream : ℕ) (u : SubKind) (key : KeyName) → let s = lane_out port stream u in
     key_in (keys_at h port s) key.k ≡ On key.draw → IsFresh plan h e w s port key

@@ -1,10 +1,11 @@
 -- What is sealed and what is accepted is under keys that are Live or On: the rules of keys may suppose it.
 use Rattle.link_history.proofs.Terms.{Bool, List, Some, [], ap, arith, false, refl, subst, sym, true, ℕ, ◌++◌, ◌==◌}
 use Rattle.link_history.proofs.Terms.{◌∙◌, ◌∷◌, ◌≡◌, key_due, came, is_sender, moments, sealed_here, when, Accept}
-use Rattle.link_history.proofs.Terms.{Seal, keys, live_draw, GivenFits, KeyCauseLaw, UsesFit, is_on_stream}
+use Rattle.link_history.proofs.Terms.{Seal, keys, sealing_draw, GivenFits, KeyCauseLaw, UsesFit, is_on_stream}
 use Rattle.link_history.proofs.Terms.{is_same_side, is_same_sub, CauseLaw, due, keys_at, lesser, live_key, on_draw}
-use Rattle.link_history.proofs.Terms.{place, received_in, SubStream, key_plan, lane_out, Accepted, Effect, Establish}
-use Rattle.link_history.proofs.Terms.{Event, Held, History, Keys, Packet, Place, Plan, PortName, Refresh, Reset}
+use Rattle.link_history.proofs.Terms.{place_in_sub_stream, received_in, SubStream, key_plan, lane_out, Accepted, Effect}
+use Rattle.link_history.proofs.Terms.{Establish}
+use Rattle.link_history.proofs.Terms.{Event, Held, History, Keys, Packet, KeyPlace, Plan, PortName, Refresh, Reset}
 use Rattle.link_history.proofs.Terms.{Sealed, SealedPacket, Stop, UnitName, Verdict, key_in, keys_there, not}
 use Rattle.link_history.proofs.Terms.{on_in, sub_bits, ◌&&◌, sent_bytes}
 use Rattle.link_history.proofs.Causes.{Passed, held_by, accepted_by, received_there}
@@ -15,29 +16,29 @@ use Rattle.link_keys.proofs.Seats.{keys_out, keys_into, sender_is, receiver_is, 
 -- ---- what is sealed
 
 -- a place that sealed the packet has its key Live
-live_there : (plan : Plan) (h : History) (port : PortName) (stream : ℕ) (d : SealedPacket) (p : Place)
-    → IsLive plan h port stream d → is_sender p d ≡ true → live_draw (keys p.sends (moments h p)) ≡ Some d.draw
+live_there : (plan : Plan) (h : History) (port : PortName) (stream : ℕ) (d : SealedPacket) (p : KeyPlace)
+    → IsLive plan h port stream d → is_sender p d ≡ true → sealing_draw (keys p.sends (moments h p)) ≡ Some d.draw
 live_there plan h port stream d p live here =
     let key_there : live_key h d.port (lane_out d.port d.stream d.sub)
     ≡ Some live.key = (λ i. live_key h (live.port_is i) (lane_out (live.port_is i) (live.stream_is i) d.sub)) ∙
     live.live in
-    let ks : Keys = keys_there h (place d.port (lane_out d.port d.stream d.sub) true) in
+    let ks : Keys = keys_there h (place_in_sub_stream d.port (lane_out d.port d.stream d.sub) true) in
     let least : lesser ks.first ks.second ≡ Some live.key = sym
     (ap (λ (x : Keys). lesser x.first x.second) (keys_out h d.port d.stream d.sub)) ∙ key_there in
-    let at : live_draw ks ≡ Some d.draw = live_of ks.first ks.second live.key least ∙ ap (λ (n : ℕ). Some n)
+    let at : sealing_draw ks ≡ Some d.draw = live_of ks.first ks.second live.key least ∙ ap (λ (n : ℕ). Some n)
     (sym live.draw) in
-    subst (λ (q : Place). live_draw (keys q.sends (moments h q)) ≡ Some d.draw) (sender_is p d here) at
+    subst (λ (q : KeyPlace). sealing_draw (keys q.sends (moments h q)) ≡ Some d.draw) (sender_is p d here) at
 
-other_sub : (p : Place) (d e : SealedPacket) → (sub_bits d.sub == sub_bits e.sub) ≡ false → is_sender p d ≡ true
+other_sub : (p : KeyPlace) (d e : SealedPacket) → (sub_bits d.sub == sub_bits e.sub) ≡ false → is_sender p d ≡ true
     → is_sender p e ≡ false
-other_sub p d e differ here = let sub : d.sub ≡ p.sub = ap (λ (q : Place). q.sub) (sender_is p d here) in grind arith
+other_sub p d e differ here = let sub : d.sub ≡ p.sub = ap (λ (q : KeyPlace). q.sub) (sender_is p d here) in grind arith
 
-abbrev Uses : History → Place → List SealedPacket → Type 0
+abbrev Uses : History → KeyPlace → List SealedPacket → Type 0
 Uses h p ds = UsesFit p.sends (moments h p) (sealed_here p ds)
 
--- a packet, and none behind it from the same place
-one_use : (h : History) (p : Place) (d : SealedPacket) (ds : List SealedPacket)
-    → (is_sender p d ≡ true → live_draw (keys p.sends (moments h p)) ≡ Some d.draw)
+-- a packet, and none after it from the same place
+one_use : (h : History) (p : KeyPlace) (d : SealedPacket) (ds : List SealedPacket)
+    → (is_sender p d ≡ true → sealing_draw (keys p.sends (moments h p)) ≡ Some d.draw)
     → (is_sender p d ≡ true → sealed_here p ds ≡ []) → Uses h p ds → Uses h p (d ∷ ds)
 one_use h p d ds live none more = by_test (is_sender p d) refl
   where
@@ -46,19 +47,19 @@ one_use h p d ds live none more = by_test (is_sender p d) refl
     by_test true here = rw (none here) (live here, tt)
     by_test false other = more
 
-none_behind : (p : Place) (d : SealedPacket) (ds : List SealedPacket) → is_sender p d ≡ true → AreOther d.sub ds
+none_behind : (p : KeyPlace) (d : SealedPacket) (ds : List SealedPacket) → is_sender p d ≡ true → AreOther d.sub ds
     → sealed_here p ds ≡ []
 none_behind p d [] here none = refl
 none_behind p d (e ∷ es) here none = rw (other_sub p d e none.0 here) (none_behind p d es here none.1)
 
-all_uses : (plan : Plan) (h : History) (p : Place) (port : PortName) (stream : ℕ) (ds : List SealedPacket)
+all_uses : (plan : Plan) (h : History) (p : KeyPlace) (port : PortName) (stream : ℕ) (ds : List SealedPacket)
     → AllLive plan h port stream ds → AllApart ds → Uses h p ds
 all_uses plan h p port stream [] live differ = tt
 all_uses plan h p port stream (d ∷ ds) live differ =
     one_use h p d ds (live_there plan h port stream d p live.0) (λ here. none_behind p d ds here differ.0)
     (all_uses plan h p port stream ds live.1 differ.1)
 
-pub sealed_given : (plan : Plan) (h : History) (e : Event) (ds : List SealedPacket) (p : Place) → Sealed ds
+pub sealed_given : (plan : Plan) (h : History) (e : Event) (ds : List SealedPacket) (p : KeyPlace) → Sealed ds
     ≡ due plan h e → Uses h p ds
 sealed_given plan h e ds p due_is =
     let is = sealing_is plan h e ds due_is in
@@ -88,7 +89,7 @@ pub held_on : (plan : Plan) (h : History) (e : Event) (port : PortName) (unit : 
 held_on plan h e port unit is = let by = held_by plan h e port unit is in passed_on plan h port by.packet unit by.passed
 
 accepted_given : (plan : Plan) (h : History) (e : Event) (port : PortName) (unit : UnitName) (effects : List Effect)
-    (p : Place) → Accepted port unit effects ≡ due plan h e
+    (p : KeyPlace) → Accepted port unit effects ≡ due plan h e
     → UsesFit p.sends (moments h p) (came p (Accepted port unit effects))
 accepted_given plan h e port unit effects p is = by_test
     (not p.sends && is_same_side p.side port.side && is_on_stream p port.link unit.stream && is_same_sub p.sub unit.sub)
@@ -103,7 +104,7 @@ accepted_given plan h e port unit effects p is = by_test
         let there = sym (ap (λ (x : Keys). on_in (key_in x on.0)) (keys_into h port unit.stream unit.sub)) ∙ on.1 in (
           (
             on.0,
-            subst (λ (q : Place). on_in (key_in (keys q.sends (moments h q)) on.0) ≡ Some unit.draw)
+            subst (λ (q : KeyPlace). on_in (key_in (keys q.sends (moments h q)) on.0) ≡ Some unit.draw)
                 (receiver_is p port unit here) there,
           ),
           tt,
@@ -111,7 +112,7 @@ accepted_given plan h e port unit effects p is = by_test
 
 -- ---- all verdicts
 
-came_given : (plan : Plan) (h : History) (e : Event) (w : Verdict) → w ≡ due plan h e → (p : Place)
+came_given : (plan : Plan) (h : History) (e : Event) (w : Verdict) → w ≡ due plan h e → (p : KeyPlace)
     → UsesFit p.sends (moments h p) (came p w)
 came_given plan h e (Sealed ds) is p = sealed_given plan h e ds p is
 came_given plan h e (Accepted port unit effects) is p = accepted_given plan h e port unit effects p is

@@ -3,14 +3,16 @@
 -- there, or one for an accepted unit. The hard case is a send: packet by packet, the shape of the keys says that the
 -- lesser of two draws that are On is the one that the last packet of a unit ends.
 use Rattle.link_history.proofs.Terms.{Bool, List, Some, [], ap, arith, false, refl, sym, true, ℕ, ◌++◌, ◌+◌, ◌<◌, ◌==◌}
-use Rattle.link_history.proofs.Terms.{◌∙◌, ◌∷◌, ◌≡◌, ◌≤◌, nat_tests, base, behind, came, draws as draws_made, is_sender}
+use Rattle.link_history.proofs.Terms.{◌∙◌, ◌∷◌, ◌≡◌, ◌≤◌, nat_tests, base, touches_after, came, draws as draws_made}
+use Rattle.link_history.proofs.Terms.{is_sender}
 use Rattle.link_history.proofs.Terms.{manager, moments, sealed_here}
-use Rattle.link_history.proofs.Terms.{touches, when, Accept, Seal, Touch, is_on, keys, live_draw, Op, is_on_stream}
+use Rattle.link_history.proofs.Terms.{touches, when, Accept, Seal, Touch, is_on, keys, sealing_draw, Op, is_on_stream}
 use Rattle.link_history.proofs.Terms.{is_same_side, is_same_sub, CauseLaw, due, accepted_keys, after_ends, arrived}
 use Rattle.link_history.proofs.Terms.{ended_keys, ends_at, is_keyed, keys_at}
-use Rattle.link_history.proofs.Terms.{keys_by, place, received_in, receives_it, sends_it, sub_stream_of, is_steady}
+use Rattle.link_history.proofs.Terms.{keys_by, place_in_sub_stream, received_in, receives_it, sends_it, sub_stream_of}
+use Rattle.link_history.proofs.Terms.{is_steady}
 use Rattle.link_history.proofs.Terms.{operates, SubStream, is_same, is_same_port, key_plan, Effect, Establish, Event}
-use Rattle.link_history.proofs.Terms.{History, Keyed, Keys, On, Place, Plan}
+use Rattle.link_history.proofs.Terms.{History, Keyed, Keys, On, KeyPlace, Plan}
 use Rattle.link_history.proofs.Terms.{PortName, Refresh, Reset, SealedPacket, Stop, UnitName, Verdict}
 use Rattle.link_history.proofs.Terms.{if◌then◌else◌, keeps_live, key_in, keys_there, no_keys, not, on_in, ◌&&◌, ◌||◌}
 use Rattle.key_laws.proofs.Shapes.{used, used_bound, Shape, Both, keys_of, Sound, IsAt, sealed_shape, seals}
@@ -27,15 +29,15 @@ use Rattle.link_verdicts.specs.declared.verdict.Verdict.TheVariants as v
 
 -- ---- pairs that touch nothing
 
-steady_came : (w : Verdict) → is_steady w ≡ true → (p : Place) → came p w ≡ []
+steady_came : (w : Verdict) → is_steady w ≡ true → (p : KeyPlace) → came p w ≡ []
 steady_came (v.Sealed ds) none p = absurd cc
 steady_came (v.Accepted port unit effects) none p = absurd cc
 steady_came _ none p = refl
 
-elsewhere_false : (p : Place) (l s : ℕ) → ((l == p.link) && (s == p.stream)) ≡ false → is_on_stream p l s ≡ false
+elsewhere_false : (p : KeyPlace) (l s : ℕ) → ((l == p.link) && (s == p.stream)) ≡ false → is_on_stream p l s ≡ false
 elsewhere_false p l s still = (λ i. eqb-sym p.link l i && eqb-sym p.stream s i) ∙ still
 
-pub steady_touches : (ops : ℕ → ℕ → Op) (next : ℕ) (e : Event) (w : Verdict) (p : Place) → is_steady w ≡ true
+pub steady_touches : (ops : ℕ → ℕ → Op) (next : ℕ) (e : Event) (w : Verdict) (p : KeyPlace) → is_steady w ≡ true
     → operates e p.link p.stream ≡ false → touches ops next e w p ≡ []
 unfolding operates
 steady_touches ops next (Establish l s lose) w p none still = rw (elsewhere_false p l s still) refl
@@ -45,14 +47,15 @@ steady_touches ops next (Reset l) (v.Reset m) p none still = rw (eqb-sym p.link 
 steady_touches ops next (Reset l) _ p none still = refl
 steady_touches ops next _ w p none still = steady_came w none p
 
-pub steady_moments : (h : History) (e : Event) (w : Verdict) (p : Place) → is_steady w ≡ true
+pub steady_moments : (h : History) (e : Event) (w : Verdict) (p : KeyPlace) → is_steady w ≡ true
     → operates e p.link p.stream ≡ false → moments ((e, w) ∷ h) p ≡ moments h p
 unfolding moments
-steady_moments h e w p none still = ap (behind (moments h p))
+steady_moments h e w p none still = ap (touches_after (moments h p))
     (steady_touches (manager h).ops (draws_made h) e w p none still)
 
 pub seat_same : (plan : Plan) (g h : History) (port : PortName) (s : SubStream)
-    → ((sends : Bool) → moments g (place port s sends) ≡ moments h (place port s sends)) → keys_at g port s
+    → ((sends : Bool) → moments g (place_in_sub_stream port s sends) ≡ moments h (place_in_sub_stream port s sends))
+    → keys_at g port s
     ≡ keys_at h port s
 unfolding keys_at
 seat_same plan g h port s same = by_seat (sends_it port s) (receives_it port s)
@@ -66,7 +69,7 @@ pub steady : (plan : Plan) (h : History) (e : Event) (w : Verdict) → is_steady
     → (port : PortName) (s : SubStream) → operates e s.link s.stream ≡ false → keys_at ((e, w) ∷ h) port s
     ≡ keys_at h port s
 steady plan h e w none port s still = seat_same plan ((e, w) ∷ h) h port s
-    (λ sends. steady_moments h e w (place port s sends) none still)
+    (λ sends. steady_moments h e w (place_in_sub_stream port s sends) none still)
 
 -- ---- sealed packets
 
@@ -84,39 +87,42 @@ end_of ks = ended_keys ks.first ks.second
 ended_both : (sh : Shape) → InOrder sh → end_of (keys_of sh) ≡ keys_of (sealed_shape true sh)
 ended_both sh lt = grind (arith, nat_tests)
 
-one_end : (ts : List Touch) (sh : Shape) (j : ℕ) (m : Bool) → IsAt true ts sh → live_draw (keys true ts) ≡ Some j
+one_end : (ts : List Touch) (sh : Shape) (j : ℕ) (m : Bool) → IsAt true ts sh → sealing_draw (keys true ts) ≡ Some j
     → (keys true (Seal j m ∷ ts)) ≡ (if m then end_of (keys true ts) else (keys true ts))
 one_end ts sh j true is live = (seals ts sh j true is live).are ∙
     (sym (ended_both sh (in_order true ts sh is.sound)) ∙ ap end_of (sym is.are))
 one_end ts sh j false is live = (seals ts sh j false is live).are ∙ sym is.are
 
 pub seal_here : (port : PortName) (s : SubStream) (d : SealedPacket) → sends_it port s ≡ true
-    → is_sender (place port s true) d ≡ (is_same_port d.port port && is_same (sub_stream_of d) s)
+    → is_sender (place_in_sub_stream port s true) d ≡ (is_same_port d.port port && is_same (sub_stream_of d) s)
 seal_here port s d here = grind (arith, nat_tests)
 
 sealing : (port : PortName) (s : SubStream) → sends_it port s ≡ true → (ts : List Touch) (ds : List SealedPacket)
-    → AllCome true ts (sealed_here (place port s true) ds)
-    → (keys true (behind ts (sealed_here (place port s true) ds))) ≡ after_ends port s ds (keys true ts)
+    → AllCome true ts (sealed_here (place_in_sub_stream port s true) ds)
+    → (keys true (touches_after ts (sealed_here (place_in_sub_stream port s true) ds)))
+    ≡ after_ends port s ds (keys true ts)
 sealing port s here ts [] come = refl
 sealing port s here ts (d ∷ ds) come =
     by_test (sealing port s here ts ds) (sealing port s here (Seal d.draw d.m ∷ ts) ds)
-    (is_sender (place port s true) d) come
+    (is_sender (place_in_sub_stream port s true) d) come
     ∙ ap (λ (b : Bool). after_ends port s ds (if b && d.m then end_of (keys true ts) else (keys true ts)))
     (seal_here port s d here)
   where
-    by_test : (AllCome true ts (sealed_here (place port s true) ds)
-        → (keys true (behind ts (sealed_here (place port s true) ds))) ≡ after_ends port s ds (keys true ts))
-        → (AllCome true (Seal d.draw d.m ∷ ts) (sealed_here (place port s true) ds)
-        → (keys true (behind (Seal d.draw d.m ∷ ts) (sealed_here (place port s true) ds)))
+    by_test : (AllCome true ts (sealed_here (place_in_sub_stream port s true) ds)
+        → (keys true (touches_after ts (sealed_here (place_in_sub_stream port s true) ds)))
+        ≡ after_ends port s ds (keys true ts))
+        → (AllCome true (Seal d.draw d.m ∷ ts) (sealed_here (place_in_sub_stream port s true) ds)
+        → (keys true (touches_after (Seal d.draw d.m ∷ ts) (sealed_here (place_in_sub_stream port s true) ds)))
         ≡ after_ends port s ds ((keys true (Seal d.draw d.m ∷ ts))))
-        → (b : Bool) → AllCome true ts (when b (Seal d.draw d.m) ++ sealed_here (place port s true) ds)
-        → (keys true (behind ts (when b (Seal d.draw d.m) ++ sealed_here (place port s true) ds)))
+        → (b : Bool) → AllCome true ts (when b (Seal d.draw d.m) ++ sealed_here (place_in_sub_stream port s true) ds)
+        → (keys true (touches_after ts (when b (Seal d.draw d.m) ++ sealed_here (place_in_sub_stream port s true) ds)))
         ≡ after_ends port s ds (if b && d.m then end_of (keys true ts) else (keys true ts))
     by_test without with_it false come = without come
     by_test without with_it true come = with_it come.1 ∙ ap (after_ends port s ds)
         (one_end ts come.0.shape d.draw d.m come.0.is come.0.may.1)
 
-none_sealed : (port : PortName) (s : SubStream) (ds : List SealedPacket) → sealed_here (place port s false) ds ≡ []
+none_sealed : (port : PortName) (s : SubStream) (ds : List SealedPacket)
+    → sealed_here (place_in_sub_stream port s false) ds ≡ []
 none_sealed port s [] = refl
 none_sealed port s (d ∷ ds) = none_sealed port s ds
 
@@ -148,30 +154,32 @@ pub sealed : (plan : Plan) (h : History) (e : Event) (ds : List SealedPacket) �
 unfolding keys_at moments
 sealed plan h e ds law port s = by_seat (sends_it port s) (receives_it port s) refl refl
   where
-    touched : (p : Place) → touches (manager h).ops (draws_made h) e (v.Sealed ds) p ≡ sealed_here p ds
+    touched : (p : KeyPlace) → touches (manager h).ops (draws_made h) e (v.Sealed ds) p ≡ sealed_here p ds
     touched p = sealing_touches (manager h).ops (draws_made h) e ds p (sealed_by_sealing plan h e ds law.0)
 
-    come : AllCome true (moments h (place port s true)) (sealed_here (place port s true) ds)
+    come : AllCome true (moments h (place_in_sub_stream port s true)) (sealed_here (place_in_sub_stream port s true) ds)
     come = let cause = key_cause plan ((e, v.Sealed ds) ∷ h) law in
-        subst (AllCome true (moments h (place port s true))) (touched (place port s true))
-        (next_fits (key_plan plan) h e (v.Sealed ds) cause (place port s true)
-        (fits (key_plan plan) h cause.2 (place port s true))).come
+        subst (AllCome true (moments h (place_in_sub_stream port s true))) (touched (place_in_sub_stream port s true))
+        (next_fits (key_plan plan) h e (v.Sealed ds) cause (place_in_sub_stream port s true)
+        (fits (key_plan plan) h cause.2 (place_in_sub_stream port s true))).come
 
     by_seat : (a b : Bool) → sends_it port s ≡ a → receives_it port s ≡ b → keys_by ((e, v.Sealed ds) ∷ h) port s a b
         ≡ after_ends port s ds (keys_by h port s a b)
     by_seat true b here there =
-        ap (λ (ts : List Touch). keys true (behind (moments h (place port s true)) ts)) (touched (place port s true))
-        ∙ sealing port s here (moments h (place port s true)) ds come
+        ap (λ (ts : List Touch). keys true (touches_after (moments h (place_in_sub_stream port s true)) ts))
+        (touched (place_in_sub_stream port s true))
+        ∙ sealing port s here (moments h (place_in_sub_stream port s true)) ds come
     by_seat false true here there =
-        ap (λ (ts : List Touch). (keys false (behind (moments h (place port s false)) ts)))
-        (touched (place port s false) ∙ none_sealed port s ds)
-        ∙ sym (never_ends port s ds ((keys false (moments h (place port s false)))) (λ d. not_ending port s d there))
+        ap (λ (ts : List Touch). (keys false (touches_after (moments h (place_in_sub_stream port s false)) ts)))
+        (touched (place_in_sub_stream port s false) ∙ none_sealed port s ds)
+        ∙ sym (never_ends port s ds ((keys false (moments h (place_in_sub_stream port s false))))
+        (λ d. not_ending port s d there))
     by_seat false false here there = sym (ends_bare port s ds)
 
 -- ---- accepted units
 
 -- an event that brings something is no operation
-brings : (plan : Plan) (h : History) (e : Event) (w : Verdict) (p : Place) (port : PortName) (bytes : List ℕ)
+brings : (plan : Plan) (h : History) (e : Event) (w : Verdict) (p : KeyPlace) (port : PortName) (bytes : List ℕ)
     → arrived plan h e ≡ Some (record { port = port; bytes = bytes }) → touches (manager h).ops (draws_made h) e w p
     ≡ came p w
 unfolding arrived
@@ -183,19 +191,19 @@ brings plan h _ w p port bytes is = refl
 
 pub accepted_touches : (plan : Plan) (h : History) (e : Event) (port : PortName) (unit : UnitName)
     (effects : List Effect) → v.Accepted port unit effects ≡ due plan h e
-    → (p : Place) → touches (manager h).ops (draws_made h) e (v.Accepted port unit effects) p
+    → (p : KeyPlace) → touches (manager h).ops (draws_made h) e (v.Accepted port unit effects) p
     ≡ came p (v.Accepted port unit effects)
 accepted_touches plan h e port unit effects is p = let by = accepted_by plan h e port unit effects is in brings plan h e
     (v.Accepted port unit effects) p port by.came.bytes by.came.arrival
 
-accept_when : (ts : List Touch) (j : ℕ) (b : Bool) → keys false (behind ts (when b (Accept j)))
+accept_when : (ts : List Touch) (j : ℕ) (b : Bool) → keys false (touches_after ts (when b (Accept j)))
     ≡ (if b then accepted_keys j (keys false ts) else keys false ts)
 unfolding keys
 accept_when ts j true = refl
 accept_when ts j false = refl
 
 pub accept_here : (q : PortName) (s : SubStream) (port : PortName) (unit : UnitName) → receives_it q s ≡ true
-    → (not false && is_same_side q.side port.side && is_on_stream (place q s false) port.link unit.stream
+    → (not false && is_same_side q.side port.side && is_on_stream (place_in_sub_stream q s false) port.link unit.stream
     && is_same_sub s.sub unit.sub) ≡ (is_same_port port q && is_same (received_in port unit) s)
 accept_here q s port unit here = let sides = same_in port.side q.side in grind (arith, nat_tests)
 
@@ -213,7 +221,7 @@ pub accepted : (plan : Plan) (h : History) (e : Event) (port : PortName) (unit :
 unfolding keys_at moments
 accepted plan h e port unit effects law q s = by_seat (sends_it q s) (receives_it q s) refl refl
   where
-    there : (p : Place) → touches (manager h).ops (draws_made h) e (v.Accepted port unit effects) p
+    there : (p : KeyPlace) → touches (manager h).ops (draws_made h) e (v.Accepted port unit effects) p
         ≡ came p (v.Accepted port unit effects)
     there p = accepted_touches plan h e port unit effects law.0 p
 
@@ -222,13 +230,16 @@ accepted plan h e port unit effects law q s = by_seat (sends_it q s) (receives_i
         ≡ (if is_same_port port q && is_same (received_in port unit) s then accepted_keys unit.draw (keys_by h q s a b)
         else keys_by h q s a b)
     by_seat true b here other =
-        ap (λ (ts : List Touch). (keys true (behind (moments h (place q s true)) ts))) (there (place q s true))
+        ap (λ (ts : List Touch). (keys true (touches_after (moments h (place_in_sub_stream q s true)) ts)))
+        (there (place_in_sub_stream q s true))
         ∙ rw (accept_not q s port unit here) refl
     by_seat false true here other =
-        ap (λ (ts : List Touch). (keys false (behind (moments h (place q s false)) ts))) (there (place q s false))
-        ∙ (accept_when (moments h (place q s false)) unit.draw _
-        ∙ ap (λ (b : Bool). if b then accepted_keys unit.draw (keys false (moments h (place q s false))) else
-        (keys false (moments h (place q s false)))) (accept_here q s port unit other))
+        ap (λ (ts : List Touch). (keys false (touches_after (moments h (place_in_sub_stream q s false)) ts)))
+        (there (place_in_sub_stream q s false))
+        ∙ (accept_when (moments h (place_in_sub_stream q s false)) unit.draw _
+        ∙ ap (λ (b : Bool). if b then accepted_keys unit.draw (keys false (moments h (place_in_sub_stream q s false)))
+        else
+        (keys false (moments h (place_in_sub_stream q s false)))) (accept_here q s port unit other))
     by_seat false false here other = grind arith
 
 -- ---- a place stays keyed
@@ -278,14 +289,15 @@ apart plan h law port s i j first second = different i j one_set
     one_set same =
         let one = on_at h port s false i first in
         let two = on_at h port s true j second in
-        let sets : false ≡ true = (key_facts (key_plan plan) h (key_cause plan h law)).one_set (place port s one.sends)
-        (place port s two.sends) false true i
+        let sets : false ≡ true = (key_facts (key_plan plan) h (key_cause plan h law)).one_set
+        (place_in_sub_stream port s one.sends)
+        (place_in_sub_stream port s two.sends) false true i
         (ap on_in one.on) (ap on_in two.on ∙ ap (λ (n : ℕ). Some n) (sym same)) in
         cc
 
 -- ---- a draw that is On
 
-pub used_most : (plan : Plan) (h : History) → CauseLaw plan h → (p : Place) (k : Bool) (j : ℕ)
+pub used_most : (plan : Plan) (h : History) → CauseLaw plan h → (p : KeyPlace) (k : Bool) (j : ℕ)
     → key_in (keys_there h p) k ≡ On j → used (moments h p) ≤ j + 1
 used_most plan h law p k j on = let at = fits (key_plan plan) h (key_cause plan h law) p in used_bound p.sends
     (moments h p) at.shape k j at.is (ap on_in on)

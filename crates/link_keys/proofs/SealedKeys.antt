@@ -1,7 +1,8 @@
 -- The draws of sealed packets: whose they are, and that they never fall.
 use Rattle.link_history.proofs.Terms.{Bool, List, Option, Some, [], ap, false, inl, inr, refl, slice_get, subst, sym}
 use Rattle.link_history.proofs.Terms.{true, ℕ, ◌++◌, ◌<◌, ◌==◌, ◌∙◌, ◌∷◌, ◌≡◌, ◌⊎◌, Loss, base, begins_keyed, draws}
-use Rattle.link_history.proofs.Terms.{manager, Begun, CauseLaw, SealedList, ahead_in, keys_at, packet_of, place}
+use Rattle.link_history.proofs.Terms.{manager, Begun, CauseLaw, SealedList, front_of_packet, keys_at, packet_of}
+use Rattle.link_history.proofs.Terms.{place_in_sub_stream}
 use Rattle.link_history.proofs.Terms.{sealed_packets, sent_in, sub_stream_of, with_sealed, NoneFrom, SubStream}
 use Rattle.link_history.proofs.Terms.{lane_out, AllByRecursion, Establish, Event, History, On, Packet, Plan, PortName}
 use Rattle.link_history.proofs.Terms.{Sealed, SealedPacket, Verdict, if◌then◌else◌, key_in, on_in, ◌&&◌, open_unit}
@@ -52,7 +53,8 @@ IsOwned h d = Owner (manager h).begun d.port.link d.stream d.k d.draw
 
 pub on_is_owned : (h : History) (port : PortName) (s : SubStream) (k : Bool) (j : ℕ) → key_in (keys_at h port s) k
     ≡ On j → Owner (manager h).begun s.link s.stream k j
-on_is_owned h port s k j on = let at = on_at h port s k j on in on_owned h (place port s at.sends) k j (ap on_in at.on)
+on_is_owned h port s k j on = let at = on_at h port s k j on in on_owned h (place_in_sub_stream port s at.sends) k j
+    (ap on_in at.on)
 
 live_owned : (plan : Plan) (h : History) (port : PortName) (stream : ℕ) (d : SealedPacket) → IsLive plan h port stream d
     → IsOwned h d
@@ -72,7 +74,7 @@ all_owned plan ((e, Sealed ds) ∷ h) law i x is =
     let port = sealing.sending.port in
     let stream = sealing.sending.stream in
     owned_later h e (Sealed ds) x.0
-    (each_more (IsOwned h) plan (ahead_in plan (sealed_packets plan h) (base h)) (sent_bytes plan h e) ds
+    (each_more (IsOwned h) plan (front_of_packet plan (sealed_packets plan h) (base h)) (sent_bytes plan h e) ds
     (sealed_packets plan h)
     (live_all (IsOwned h) plan h port stream ds (live_owned plan h port stream)
     (all_live plan h (sending_port e) (sent_bytes plan h e) ds sealing))

@@ -1,15 +1,17 @@
--- Draws that are On against those of sealed packets and accepted units: they never fall. A draw that is On is none
--- below those that were used at its place, and a packet is sealed under the least that is On, so by induction on the
--- history, and in a send packet by packet, draws rise. That packets of draws from Base on were sealed since it is Base
--- holds because Base changes only to a draw that was not made yet, of which nothing was sealed.
+-- Draws that are On against those of sealed packets and accepted units: they never fall. No draw that is On is below
+-- those that were used at its place, and a packet is sealed under the least that is On. So draws rise, by induction on
+-- the history, and in a send packet by packet. Packets of draws from Base on were sealed since it is Base, because Base
+-- changes only to a draw that was not made yet, of which nothing was sealed.
 use Rattle.link_history.proofs.Terms.{Bool, List, None, Option, Some, [], ap, arith, false, filter, inl, inr, length}
 use Rattle.link_history.proofs.Terms.{refl, slice_get, subst, suc, sym, true, zero, ℕ, ◌++◌, ◌+◌, ◌<◌, ◌==◌, ◌∙◌, ◌∷◌}
 use Rattle.link_history.proofs.Terms.{◌≡◌, ◌≤◌, nat_tests, slice_get_within}
-use Rattle.link_history.proofs.Terms.{max, Loss, Operation, base, begins_keyed, behind, draws, manager, moments}
+use Rattle.link_history.proofs.Terms.{max, Loss, Operation, base, begins_keyed, touches_after, draws, manager, moments}
 use Rattle.link_history.proofs.Terms.{touches, when, Accept, Touch, Manager, Reach, operated, reach_of, work_of}
 use Rattle.link_history.proofs.Terms.{is_on_stream, is_same_side, is_same_sub, CauseLaw}
-use Rattle.link_history.proofs.Terms.{due, KeyName, SealedList, ahead_in, draws_got, is_in, keys_at, lesser, packet_of}
-use Rattle.link_history.proofs.Terms.{place, received_in, sealed_packets, sent_in, sub_stream_of, with_sealed}
+use Rattle.link_history.proofs.Terms.{due, KeyName, SealedList, front_of_packet, draws_got, is_in, keys_at, lesser}
+use Rattle.link_history.proofs.Terms.{packet_of}
+use Rattle.link_history.proofs.Terms.{place_in_sub_stream, received_in, sealed_packets, sent_in, sub_stream_of}
+use Rattle.link_history.proofs.Terms.{with_sealed}
 use Rattle.link_history.proofs.Terms.{BaseStays, is_quiet, SubStream, is_same}
 use Rattle.link_history.proofs.Terms.{lane_in, lane_out, AllByRecursion, Effect, Establish, Event, History, Keyed, Keys}
 use Rattle.link_history.proofs.Terms.{On, Packet, Plan, PortName, Refresh, Reset, SealedPacket, Stop, SubKind}
@@ -32,7 +34,7 @@ use Rattle.link_keys.proofs.SealedKeys.{live_all, live_below}
 use Rattle.link_verdicts.specs.declared.verdict.Operation.TheVariants as op
 use Rattle.link_verdicts.specs.declared.verdict.Verdict.TheVariants as v
 
--- ---- what is On at a sender is none below what was sealed there
+-- ---- no draw that is On at a sender is below what was sealed there
 
 none_at : {A : Type 0} (p : A → Bool) (xs : List A) (i : ℕ) (x : A) → filter p xs ≡ [] → slice_get xs i ≡ Some x → p x
     ≡ false
@@ -46,13 +48,13 @@ pub on_above : (plan : Plan) (h : History) → CauseLaw plan h → (port : PortN
     → is_same (sub_stream_of x.0) (lane_out port stream u) ≡ true → x.0.draw ≤ j
 on_above plan h law port stream u k j on i x at same =
     let s = lane_out port stream u in
-    let most = used_most plan h law (place port s true) k j
+    let most = used_most plan h law (place_in_sub_stream port s true) k j
     (ap (λ (ks : Keys). key_in ks k) (sym (keys_out h port stream u)) ∙ on) in
     let none = none_at (is_in s (j + 1)) (sealed_packets plan h) i x
     (none_in plan h law port s (j + 1) (sends_lane port stream u) most) at in
     grind (arith, nat_tests)
 
--- what is On where a sub-stream is sealed is none below what was sealed there
+-- no draw that is On where a sub-stream is sealed is below what was sealed there
 abbrev pub Above : History → SealedPacket → Type 0
 Above h d = (k : Bool) (j : ℕ) → key_in (keys_at h d.port (sub_stream_of d)) k ≡ On j → d.draw ≤ j
 
@@ -134,44 +136,45 @@ unfolding sealed_packets
 rises plan [] law = λ s i k x y le at_x at_y in_x in_y. absurd cc
 rises plan ((e, v.Sealed ds) ∷ h) law =
     let is = sealing_is plan h e ds law.0 in
-    with_rises plan h is.sending.port is.sending.stream (ahead_in plan (sealed_packets plan h) (base h))
+    with_rises plan h is.sending.port is.sending.stream (front_of_packet plan (sealed_packets plan h) (base h))
     (sent_bytes plan h e) ds (sealed_packets plan h) (all_live plan h (sending_port e) (sent_bytes plan h e) ds is)
     (all_above plan h law.1) (rises plan h law.1)
 rises plan ((e, w) ∷ h) law = rises plan h law.1
 
--- ---- what is On at a receiver is none below what was accepted there
+-- ---- no draw that is On at a receiver is below what was accepted there
 
 accept_lane : (q : PortName) (stream : ℕ) (u : SubKind) (port : PortName) (unit : UnitName)
     → let s = lane_in q stream u in
     is_same (received_in port unit) s ≡ true
-    → (not false && is_same_side q.side port.side && is_on_stream (place q s false) port.link unit.stream
+    → (not false && is_same_side q.side port.side && is_on_stream (place_in_sub_stream q s false) port.link unit.stream
     && is_same_sub u unit.sub) ≡ true
 accept_lane q stream u port unit here = let sides = same_in port.side q.side in grind (arith, nat_tests)
 
 accepted_used : (plan : Plan) (h : History) (e : Event) (port : PortName) (unit : UnitName) (effects : List Effect)
     → v.Accepted port unit effects ≡ due plan h e → (q : PortName) (stream : ℕ) (u : SubKind) (n : ℕ)
     → is_same (received_in port unit) (lane_in q stream u) ≡ true
-    → used (moments ((e, v.Accepted port unit effects) ∷ h) (place q (lane_in q stream u) false)) ≤ n
+    → used (moments ((e, v.Accepted port unit effects) ∷ h) (place_in_sub_stream q (lane_in q stream u) false)) ≤ n
     → unit.draw < n
 unfolding moments used
 accepted_used plan h e port unit effects is q stream u n here le =
     let s = lane_in q stream u in
-    let p = place q s false in
+    let p = place_in_sub_stream q s false in
     let test = accept_lane q stream u port unit here in
     let touched : touches (manager h).ops (draws h) e (v.Accepted port unit effects) p ≡ Accept unit.draw
     ∷ [] = accepted_touches plan h e port unit effects is p ∙ ap (λ (b : Bool). when b (Accept unit.draw)) test in
     let most : max (unit.draw + 1) (used (moments h p)) ≤ n = subst
-    (λ (ts : List Touch). used (behind (moments h p) ts) ≤ n) touched le in
+    (λ (ts : List Touch). used (touches_after (moments h p) ts) ≤ n) touched le in
     omega (arith, most)
 
 got_below : (plan : Plan) (h : History) → CauseLaw plan h → (q : PortName) (stream : ℕ) (u : SubKind) (j : ℕ)
-    → used (moments h (place q (lane_in q stream u) false)) ≤ j + 1
+    → used (moments h (place_in_sub_stream q (lane_in q stream u) false)) ≤ j + 1
     → AllByRecursion (λ (i : ℕ). i ≤ j) (draws_got h (lane_in q stream u))
 unfolding draws_got
 got_below plan [] law q stream u j le = tt
 got_below plan ((e, v.Accepted port unit effects) ∷ h) law q stream u j le =
     by_test (is_same (received_in port unit) s) refl
-    (got_below plan h law.1 q stream u j (earlier_used h e (v.Accepted port unit effects) (place q s false) (j + 1) le))
+    (got_below plan h law.1 q stream u j
+    (earlier_used h e (v.Accepted port unit effects) (place_in_sub_stream q s false) (j + 1) le))
   where
     s : SubStream
     s = lane_in q stream u
@@ -184,13 +187,13 @@ got_below plan ((e, v.Accepted port unit effects) ∷ h) law q stream u j le =
     )
     by_test false here before = before
 got_below plan ((e, w) ∷ h) law q stream u j le = got_below plan h law.1 q stream u j
-    (earlier_used h e w (place q (lane_in q stream u) false) (j + 1) le)
+    (earlier_used h e w (place_in_sub_stream q (lane_in q stream u) false) (j + 1) le)
 
 pub above_got : (plan : Plan) (h : History) → CauseLaw plan h
     → (port : PortName) (stream : ℕ) (u : SubKind) (k : Bool) (j : ℕ) → let s = lane_in port stream u in
     key_in (keys_at h port s) k ≡ On j → AllByRecursion (λ (i : ℕ). i ≤ j) (draws_got h s)
 above_got plan h law port stream u k j on =
-    let most = used_most plan h law (place port (lane_in port stream u) false) k j
+    let most = used_most plan h law (place_in_sub_stream port (lane_in port stream u) false) k j
     (ap (λ (ks : Keys). key_in ks k) (sym (keys_into h port stream u)) ∙ on) in
     got_below plan h law port stream u j most
 

@@ -1,8 +1,9 @@
 -- A port's place in a sub-stream, and the keys there.
 use Rattle.link_history.proofs.Terms.{Bool, Some, ap, arith, false, refl, sym, true, ℕ, ◌∙◌, ◌≡◌, nat_tests, is_sender}
-use Rattle.link_history.proofs.Terms.{live_draw, is_on_stream, is_same_side, is_same_sub, KeyName, keys_at, lesser}
-use Rattle.link_history.proofs.Terms.{live_key, place, received_in}
-use Rattle.link_history.proofs.Terms.{sub_stream_of, SubStream, is_same, lane_in, lane_out, History, Keyed, On, Place}
+use Rattle.link_history.proofs.Terms.{sealing_draw, is_on_stream, is_same_side, is_same_sub, KeyName, keys_at, lesser}
+use Rattle.link_history.proofs.Terms.{live_key, place_in_sub_stream, received_in}
+use Rattle.link_history.proofs.Terms.{sub_stream_of, SubStream, is_same, lane_in, lane_out, History, Keyed, On}
+use Rattle.link_history.proofs.Terms.{KeyPlace}
 use Rattle.link_history.proofs.Terms.{Plan, PortName, SealedPacket, SubKind, UnitName, key_in, keys_there, not, on_in}
 use Rattle.link_history.proofs.Terms.{received_direction, sent_direction}
 use Rattle.link_history.proofs.Terms.{◌&&◌}
@@ -12,17 +13,17 @@ use Rattle.link_history.proofs.Senders.{lane_is}
 use Rattle.link_history.proofs.Tests.{same_stream, same_sender, same_sub, same_side, eqb-refl, in_not_out}
 
 pub keys_out : (h : History) (port : PortName) (stream : ℕ) (u : SubKind) → keys_at h port (lane_out port stream u)
-    ≡ keys_there h (place port (lane_out port stream u) true)
+    ≡ keys_there h (place_in_sub_stream port (lane_out port stream u) true)
 unfolding keys_at
 keys_out h port stream u = rw (eqb-refl port.link, eqb-refl (sent_direction port.side)) refl
 
 pub keys_into : (h : History) (port : PortName) (stream : ℕ) (u : SubKind) → keys_at h port (lane_in port stream u)
-    ≡ keys_there h (place port (lane_in port stream u) false)
+    ≡ keys_there h (place_in_sub_stream port (lane_in port stream u) false)
 unfolding keys_at
 keys_into h port stream u = rw (eqb-refl port.link, in_not_out port.side, eqb-refl (received_direction port.side)) refl
 
 -- two places that pass the tests of an end, a stream and a sub-stream are one
-same_place : (p q : Place) (b : Bool) →
+same_place : (p q : KeyPlace) (b : Bool) →
     (b && is_same_side p.side q.side && is_on_stream p q.link q.stream && is_same_sub p.sub q.sub) ≡ true
     → (b ≡ true → q.sends ≡ p.sends) → q ≡ p
 same_place p q b is ends =
@@ -34,21 +35,22 @@ same_place p q b is ends =
     λ i. record { side = sym side i; link = sym link i; stream = sym stream i; sends = sends i; sub = sym sub i }
 
 -- the place that sealed a packet
-pub sender_is : (p : Place) (d : SealedPacket) → is_sender p d ≡ true → place d.port (sub_stream_of d) true ≡ p
-sender_is p d is = same_place p (place d.port (sub_stream_of d) true) p.sends is sym
+pub sender_is : (p : KeyPlace) (d : SealedPacket) → is_sender p d ≡ true
+    → place_in_sub_stream d.port (sub_stream_of d) true ≡ p
+sender_is p d is = same_place p (place_in_sub_stream d.port (sub_stream_of d) true) p.sends is sym
 
 -- the place that got a unit
-pub receiver_is : (p : Place) (port : PortName) (unit : UnitName)
+pub receiver_is : (p : KeyPlace) (port : PortName) (unit : UnitName)
     → (not p.sends && is_same_side p.side port.side && is_on_stream p port.link unit.stream
     && is_same_sub p.sub unit.sub) ≡ true
-    → place port (received_in port unit) false ≡ p
-receiver_is p port unit is = same_place p (place port (received_in port unit) false) (not p.sends) is
+    → place_in_sub_stream port (received_in port unit) false ≡ p
+receiver_is p port unit is = same_place p (place_in_sub_stream port (received_in port unit) false) (not p.sends) is
     (λ sends. grind arith)
 
 -- ---- one key
 
 -- the lesser of two that are On is the Live one
-pub live_of : (a b : Keyed) (key : KeyName) → lesser a b ≡ Some key → live_draw (record { first = a; second = b })
+pub live_of : (a b : Keyed) (key : KeyName) → lesser a b ≡ Some key → sealing_draw (record { first = a; second = b })
     ≡ Some key.draw
 live_of a b key is = grind (arith, nat_tests)
 

@@ -3,8 +3,9 @@ use Rattle.link_history.proofs.Terms.{Bool, None, Option, Some, [], ap, arith, f
 use Rattle.link_history.proofs.Terms.{ℕ, ◌==◌, ◌∙◌, ◌∷◌, ◌≡◌, ◌⊎◌, Operation, key_due, manager, on_it, op_of, worked}
 use Rattle.link_history.proofs.Terms.{KeyCauseLaw, Idle, Manager, Op}
 use Rattle.link_history.proofs.Terms.{Reach, Work, op_after, operated, reach_of, work_of, is_on_stream, CauseLaw}
-use Rattle.link_history.proofs.Terms.{keys_at, keys_by, place, receives_it, sends_it, SubStream, key_plan, stream_plan}
-use Rattle.link_history.proofs.Terms.{History, KeyPlan, Keys, On, Place, Plan}
+use Rattle.link_history.proofs.Terms.{keys_at, keys_by, place_in_sub_stream, receives_it, sends_it, SubStream, key_plan}
+use Rattle.link_history.proofs.Terms.{stream_plan}
+use Rattle.link_history.proofs.Terms.{History, KeyPlan, Keys, On, KeyPlace, Plan}
 use Rattle.link_history.proofs.Terms.{PortName, Verdict, if◌then◌else◌, is_some, key_in, keys_there, no_keys}
 use Rattle.key_laws.proofs.Shapes.{keys_of}
 use Rattle.key_laws.proofs.Owners.{same_place}
@@ -16,14 +17,14 @@ use Rattle.link_verdicts.specs.declared.verdict.Verdict.TheVariants as v
 
 -- ---- what an operation does to the stream of a place
 
--- it comes somewhere there
-pub record Acts (m : Manager) (o : Operation) (l s : ℕ) (r : Option Reach) (p : Place) : Type 0 where
+-- it reaches an exchange there
+pub record Acts (m : Manager) (o : Operation) (l s : ℕ) (r : Option Reach) (p : KeyPlace) : Type 0 where
   pub reached : Reach
   pub is : r ≡ Some reached
   pub here : is_on_stream p l s ≡ true
   pub ops : (operated m o l s r).ops p.link p.stream ≡ op_after (work_of o (m.ops l s) (length m.begun)) reached
 
-pub acts : (m : Manager) (o : Operation) (l s : ℕ) (r : Option Reach) (p : Place)
+pub acts : (m : Manager) (o : Operation) (l s : ℕ) (r : Option Reach) (p : KeyPlace)
     → (((operated m o l s r).ops p.link p.stream ≡ m.ops p.link p.stream)
     × (on_it (is_on_stream p l s) (worked (work_of o (m.ops l s) (length m.begun)) r p) ≡ []))
     ⊎ Acts m o l s r p
@@ -40,9 +41,9 @@ acts m o l s (Some r) p = by_test (is_on_stream p l s) refl
     by_test false other = inl (rw other refl, rw other refl)
     by_test true here = inr (record { reached = r; is = refl; here = here; ops = rw here refl })
 
--- ---- a stream that the plan has not
+-- ---- a stream that the plan does not have
 
-still_idle : (m : Manager) (o : Operation) (a b : ℕ) (r : Option Reach) (p : Place)
+still_idle : (m : Manager) (o : Operation) (a b : ℕ) (r : Option Reach) (p : KeyPlace)
     → (is_on_stream p a b ≡ true → r ≡ None) → m.ops p.link p.stream ≡ Idle
     → (operated m o a b r).ops p.link p.stream ≡ Idle
 still_idle m o a b r p none is = elim (acts m o a b r p) [
@@ -50,8 +51,8 @@ still_idle m o a b r p none is = elim (acts m o a b r p) [
   | inr act ↦ absurd (let e = none act.here in let some = act.is in cc)
 ]
 
--- an operation on a stream that the plan has not comes nowhere
-comes_nowhere : (kp : KeyPlan) (o : Operation) (a b : ℕ) (p : Place) (x y : Verdict) → x
+-- an operation on a stream that the plan does not have reaches no exchange
+comes_nowhere : (kp : KeyPlan) (o : Operation) (a b : ℕ) (p : KeyPlace) (x y : Verdict) → x
     ≡ (if kp.has_stream a b then y else v.Nothing)
     → kp.has_stream p.link p.stream ≡ false → is_on_stream p a b ≡ true → reach_of o x ≡ None
 comes_nowhere kp o a b p x y is none here =
@@ -62,7 +63,7 @@ comes_nowhere kp o a b p x y is none here =
 if_idle : (f : Bool) (o : Op) → o ≡ Idle → (if f then Idle else o) ≡ Idle
 if_idle f o is = grind arith
 
-pub unplanned_idle : (kp : KeyPlan) (h : History) → KeyCauseLaw kp h → (p : Place) → kp.has_stream p.link p.stream
+pub unplanned_idle : (kp : KeyPlan) (h : History) → KeyCauseLaw kp h → (p : KeyPlace) → kp.has_stream p.link p.stream
     ≡ false → op_of h p.link p.stream ≡ Idle
 unfolding manager key_due
 unplanned_idle kp [] cause p none = refl
@@ -79,7 +80,7 @@ unplanned_idle kp ((event.Reset a, v.Reset m) ∷ h) cause p none = if_idle (p.l
     (unplanned_idle kp h cause.2 p none)
 unplanned_idle kp ((e, x) ∷ h) cause p none = unplanned_idle kp h cause.2 p none
 
-pub unplanned_keys : (plan : Plan) (h : History) → CauseLaw plan h → (p : Place)
+pub unplanned_keys : (plan : Plan) (h : History) → CauseLaw plan h → (p : KeyPlace)
     → is_some (stream_plan plan p.link p.stream) ≡ false → keys_there h p ≡ no_keys
 unplanned_keys plan h law p none =
     let cause = key_cause plan h law in
@@ -94,7 +95,7 @@ never_on k j on = grind arith
 -- the place of a port where a draw is On
 pub record OnAt (h : History) (port : PortName) (s : SubStream) (k : Bool) (j : ℕ) : Type 0 where
   pub sends : Bool
-  pub on : key_in (keys_there h (place port s sends)) k ≡ On j
+  pub on : key_in (keys_there h (place_in_sub_stream port s sends)) k ≡ On j
 
 pub on_at : (h : History) (port : PortName) (s : SubStream) (k : Bool) (j : ℕ) → key_in (keys_at h port s) k ≡ On j
     → OnAt h port s k j
@@ -114,4 +115,5 @@ pub known : (plan : Plan) (h : History) → CauseLaw plan h → (port : PortName
 known plan h law port s k j on =
     let at = on_at h port s k j on in
     not_false _ (λ none. never_on k j
-    (ap (λ (ks : Keys). key_in ks k) (sym (unplanned_keys plan h law (place port s at.sends) none)) ∙ at.on))
+    (ap (λ (ks : Keys). key_in ks k) (sym (unplanned_keys plan h law (place_in_sub_stream port s at.sends) none)) ∙
+    at.on))

@@ -1,7 +1,7 @@
 -- What is shown of the keys of links.
 use Rattle.ide_plan.specs.declared.plan.Plan.{Plan}
 use Rattle.key_laws.specs.History.{History}
-use Rattle.key_laws.specs.Laws.{CauseLaw as KeyCauseLaw}
+use Rattle.key_laws.specs.Laws.{KeyCauseLaw}
 use Rattle.link_history.specs.Plan.{key_plan}
 use Rattle.link_history.specs.Cause.{CauseLaw}
 use Rattle.link_history.specs.KeyFacts.{KeyFacts, DrawFacts}

@@ -1,7 +1,7 @@
 -- The answer of the machine to a packet is the one that is due. On a stream that has not failed, the receivers that
--- stand for the history have a Live slot exactly where the set's draw is On, with the units got and the packets held
--- under it, so that each check in turn sees what the history says. Their counts are the history's only while the stream
--- has a Live key, which a draw that is On provides.
+-- stand for the history have a Live slot exactly if the set's draw is On, with the units got and the packets held under
+-- it, so that each check in turn sees what the history says. Their counts are the history's only while the stream has a
+-- Live key, which a draw that is On provides.
 use Rattle.link_ports.specs.Stands.{beside_at}
 use Rattle.link_ports.proofs.Terms.{◌≡◌, ℕ, ◌+◌, Bool, true, false, List, [], ◌∷◌, ◌++◌, Option, Some, None, Ok}
 use Rattle.link_ports.proofs.Terms.{Err, option_map, refl, ap, sym, ◌∙◌, subst, arith, if◌then◌else◌, not, ◌||◌}
@@ -11,9 +11,9 @@ use Rattle.link_ports.proofs.Terms.{got_in, has_live_in, Held, History, holds_an
 use Rattle.link_ports.proofs.Terms.{is_keyed, is_mixed, is_on, is_overfull, is_tagged, is_verified, key_in, key_of}
 use Rattle.link_ports.proofs.Terms.{Keys, keys_at, lane_in, live_in, LiveKey, meets_counts, mode_of, NotKeyed, Npr}
 use Rattle.link_ports.proofs.Terms.{on_draw, on_in, Packet, pending, Plan, PortName, Pr, receiving, rx_slots}
-use Rattle.link_ports.proofs.Terms.{rx_standing, RxSub, settled, slot_in, Slots, standing, SubKind, SubStream}
+use Rattle.link_ports.proofs.Terms.{rx_standing, RxSub, settled, slot_in_set, Slots, standing, SubKind, SubStream}
 use Rattle.link_ports.proofs.Terms.{sum_by-append, Taken, taken_by, taken_under, Three, under_keys, unit_under}
-use Rattle.link_ports.proofs.Terms.{units_got, units_since, Verdict, verdict_of}
+use Rattle.link_ports.proofs.Terms.{units_got, units_since, Verdict, verdict_of_taken}
 use Rattle.ide_types.specs.declared.sub.FailCause.TheVariants as fail
 use Rattle.link_verdicts.specs.declared.verdict.Verdict.TheVariants as v
 
@@ -48,11 +48,11 @@ key_for plan h s j = record { draw = j; key = key_of plan j s; units = units_got
 
 live_of : (plan : Plan) (h : History) (port : PortName) (s : SubStream) (ks : Keys) (k : Bool) → failed h port s.stream
     ≡ false
-    → live_in (slot_in (rx_slots plan h port s ks) k) ≡ option_map (key_for plan h s) (on_in (key_in ks k))
+    → live_in (slot_in_set (rx_slots plan h port s ks) k) ≡ option_map (key_for plan h s) (on_in (key_in ks k))
 live_of plan h port s ks k secure = grind arith
 
 pub live_is : (plan : Plan) (h : History) (port : PortName) (s : SubStream) (k : Bool) → failed h port s.stream ≡ false
-    → live_in (slot_in (rx_slots plan h port s (keys_at h port s)) k)
+    → live_in (slot_in_set (rx_slots plan h port s (keys_at h port s)) k)
     ≡ option_map (key_for plan h s) (on_draw h port s k)
 live_is plan h port s k secure = live_of plan h port s (keys_at h port s) k secure
 
@@ -87,7 +87,7 @@ total_is plan h port stream u live = rw
 
 taken_is : (plan : Plan) (h : History) (port : PortName) (p : Packet) (o other : Option ℕ)
     → ((j : ℕ) → o ≡ Some j → has_live_in h port p.prefix.stream ≡ true)
-    → verdict_of (beside_at plan h) port p (taken_from plan h port p o other)
+    → verdict_of_taken (beside_at plan h) port p (taken_from plan h port p o other)
     ≡ settled plan h port (under_keys plan h port p o other)
 unfolding is_verified front_of
 taken_is plan h port p None None live = refl
@@ -109,7 +109,7 @@ taken_is plan h port p (Some j) other live =
     holds None = refl
     holds (Some i) = refl
 
-    by_checks : (verified counts : Bool) → verdict_of (beside_at plan h) port p
+    by_checks : (verified counts : Bool) → verdict_of_taken (beside_at plan h) port p
         (checked verified counts (key_for plan h s j) p)
         ≡ (if not verified then v.Fail port p.prefix.stream p.prefix.sub fail.Tag else if not counts then v.Fail port
         p.prefix.stream p.prefix.sub fail.Order
@@ -117,7 +117,7 @@ taken_is plan h port p (Some j) other live =
         (effects_of plan h port (unit_under h s j) (pending plan h s j ++ p ∷ [])))
     by_checks verified counts = grind arith
 
-    by_room : (full m : Bool) → verdict_of (beside_at plan h) port p (if full then Failed fail.Unit
+    by_room : (full m : Bool) → verdict_of_taken (beside_at plan h) port p (if full then Failed fail.Unit
         else if m then checked
         (is_tagged (is_closed plan port.link p.prefix.stream) (units_since h s (base h port.link p.prefix.stream))
         (key_for plan h s j) p)
@@ -159,7 +159,7 @@ taken_by_is plan h port p = by_failure (failed h port p.prefix.stream) refl
     under : Slots → Taken
     under slots =
         taken_under (mode_of plan port.link p.prefix.stream) (is_closed plan port.link p.prefix.stream) (each_sub rx) p
-        (live_in (slot_in slots p.prefix.k)) (live_in (slot_in slots (not p.prefix.k)))
+        (live_in (slot_in_set slots p.prefix.k)) (live_in (slot_in_set slots (not p.prefix.k)))
 
     by_failure : (b : Bool) → failed h port p.prefix.stream ≡ b
         → (if b then Insecure else under (at_sub (each_sub rx) p.prefix.sub).slots)
@@ -173,14 +173,15 @@ taken_by_is plan h port p = by_failure (failed h port p.prefix.stream) refl
         (live_is plan h port (receiving port p) (not p.prefix.k) secure i))
 
 pub answer_is : (plan : Plan) (h : History) (port : PortName) (p : Packet)
-    → verdict_of (beside_at plan h) port p (taken_at plan h port p) ≡ packet_due plan h port p
-answer_is plan h port p = ap (verdict_of (beside_at plan h) port p) (taken_by_is plan h port p) ∙ by_failure
+    → verdict_of_taken (beside_at plan h) port p (taken_at plan h port p) ≡ packet_due plan h port p
+answer_is plan h port p = ap (verdict_of_taken (beside_at plan h) port p) (taken_by_is plan h port p) ∙ by_failure
     (failed h port p.prefix.stream)
   where
     draw : Bool → Option ℕ
     draw k = on_draw h port (receiving port p) k
 
-    by_failure : (b : Bool) → verdict_of (beside_at plan h) port p (if b then Insecure else found_keys plan h port p)
+    by_failure : (b : Bool) → verdict_of_taken (beside_at plan h) port p
+        (if b then Insecure else found_keys plan h port p)
         ≡ settled plan h port
         (if b then Err (v.Insecure port p.prefix.stream) else under_keys plan h port p (draw p.prefix.k)
         (draw (not p.prefix.k)))

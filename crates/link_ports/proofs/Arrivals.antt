@@ -7,7 +7,7 @@ use Rattle.link_ports.proofs.Terms.{arrived, before_tag, before_tag_of, Came, du
 use Rattle.link_ports.proofs.Terms.{has_stream, Held, History, Insecure, IsNoOperation, KeyFacts, LinkState, NotKeyed}
 use Rattle.link_ports.proofs.Terms.{Packet, packet_that_came, packet_word, pending, Plan, PortName, PortsStand, put}
 use Rattle.link_ports.proofs.Terms.{receiving, sealed_same, seals_none, settled, standing, state_after, StreamState}
-use Rattle.link_ports.proofs.Terms.{take_as, take_found, Taken, verdict_of}
+use Rattle.link_ports.proofs.Terms.{take_as, stepped_take_found, Taken, verdict_of_taken}
 use Rattle.link_verdicts.specs.declared.verdict.Verdict.TheVariants as v
 use Rattle.ide_prefix.specs.declared.fault.PacketFault.{PacketFault}
 use Rattle.ide_prefix.specs.Faults.{packet_place}
@@ -19,19 +19,20 @@ use Rattle.link_ports.proofs.Answers.{answer_is, packet_due, taken_at, Says, say
 use Rattle.link_ports.proofs.Takes.{after_failure, after_held, after_accepted}
 
 only_there : (beside : Beside) (port : PortName) (p : Packet) (t : Taken)
-    → IsOnlyAt port p.prefix.stream (verdict_of beside port p t)
+    → IsOnlyAt port p.prefix.stream (verdict_of_taken beside port p t)
 only_there beside port p t q s other = grind arith
 
-seals_nothing : (beside : Beside) (port : PortName) (p : Packet) (t : Taken) → seals_none (verdict_of beside port p t)
+seals_nothing : (beside : Beside) (port : PortName) (p : Packet) (t : Taken)
+    → seals_none (verdict_of_taken beside port p t)
     ≡ true
 seals_nothing beside port p t = grind arith
 
 module _ (plan : Plan) (facts : KeyFacts plan) (st : LinkState) (h : History) (e : Event) (still : IsNoOperation e)
     (stands : PortsStand plan st h) where
   after : (port : PortName) (p : Packet) → Came plan h e port p → (t : Taken) → Says plan h port p t
-      → verdict_of (beside_at plan h) port p t ≡ due plan h e
+      → verdict_of_taken (beside_at plan h) port p t ≡ due plan h e
       → state_after (standing plan h port p.prefix.stream) p t
-      ≡ standing plan ((e, verdict_of (beside_at plan h) port p t) ∷ h) port p.prefix.stream
+      ≡ standing plan ((e, verdict_of_taken (beside_at plan h) port p t) ∷ h) port p.prefix.stream
   after port p came Insecure said is =
       sym (frame plan facts h e (v.Insecure port p.prefix.stream) (is, stands.cause) port p.prefix.stream
       (still port.link p.prefix.stream) refl refl)
@@ -50,9 +51,9 @@ module _ (plan : Plan) (facts : KeyFacts plan) (st : LinkState) (h : History) (e
         came = packet_that_came plan h e port p came;
       })
   after port p came (Accepted j n unit) said is =
-      subst (λ (ps : List Packet). verdict_of (beside_at plan h) port p (Accepted j n ps) ≡ due plan h e
+      subst (λ (ps : List Packet). verdict_of_taken (beside_at plan h) port p (Accepted j n ps) ≡ due plan h e
       → state_after (standing plan h port p.prefix.stream) p (Accepted j n ps)
-      ≡ standing plan ((e, verdict_of (beside_at plan h) port p (Accepted j n ps)) ∷ h) port p.prefix.stream)
+      ≡ standing plan ((e, verdict_of_taken (beside_at plan h) port p (Accepted j n ps)) ∷ h) port p.prefix.stream)
       (sym said.3)
       (λ due_is. after_accepted plan facts h e port p j n
       (effects_of plan h port (unit_name p j n)
@@ -73,7 +74,7 @@ module _ (plan : Plan) (facts : KeyFacts plan) (st : LinkState) (h : History) (e
   standing_takes port p came is known found =
       let stream = p.prefix.stream in
       let t = taken_at plan h port p in
-      let w = verdict_of (beside_at plan h) port p t in
+      let w = verdict_of_taken (beside_at plan h) port p t in
       let due_is : w ≡ due plan h e = answer_is plan h port p ∙ is in
       let new = state_after (standing plan h port stream) p t in
       changes plan facts st (put plan st port stream new) h e w port stream new stands due_is still known
@@ -86,7 +87,7 @@ module _ (plan : Plan) (facts : KeyFacts plan) (st : LinkState) (h : History) (e
   by_found : (port : PortName) (p : Packet) → Came plan h e port p
       → settled plan h port (before_tag_of plan h port (Ok (IdePacket p))) ≡ due plan h e
       → (o : Option StreamState) → find plan st port p.prefix.stream ≡ o
-      → Steps plan h e (take_found plan (beside_at plan h) st port p o)
+      → Steps plan h e (stepped_take_found plan (beside_at plan h) st port p o)
   by_found port p came is None found =
       quiet plan facts st h e (v.Unknown port p.prefix.stream) stands refl
       (rw (not_kept plan st h port p.prefix.stream stands found) at is) still

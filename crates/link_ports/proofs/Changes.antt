@@ -4,7 +4,7 @@ use Rattle.link_ports.proofs.Terms.{subst, arith, if◌then◌else◌, ◌&&◌,
 use Rattle.link_ports.proofs.Terms.{is_of_packets, is_quiet, is_same_port, IsNoOperation, kept_at, KeyFacts, LinkPacket}
 use Rattle.link_ports.proofs.Terms.{LinkState, nat_tests, operates, Packet, Plan, PortName, PortsStand, put}
 use Rattle.link_ports.proofs.Terms.{quiet_seals_none, same_port, sealed_packets, sealed_same, SealedList, SealedPacket}
-use Rattle.link_ports.proofs.Terms.{standing, standing_at, Stepped, StreamState, Verdict}
+use Rattle.link_ports.proofs.Terms.{standing, standing_if_planned, Stepped, StreamState, Verdict}
 use Rattle.link_ports.proofs.Frames.{seals_at, takes_at, frame}
 
 -- the verdict is the one that is due, and the state after it stands for the history with it
@@ -42,17 +42,17 @@ not_kept plan st h port stream stands found =
     stands.streams port stream in
     grind arith
 
--- a stream of which a pair tells nothing stands for the history with it
+-- a stream of which a pair tells nothing stands for the history with the pair
 pub stays : (plan : Plan) → KeyFacts plan → (st : LinkState) (h : History) (e : Event) (w : Verdict)
     → PortsStand plan st h → w ≡ due plan h e
     → (q : PortName) (t : ℕ)
     → operates e q.link t ≡ false → seals_at q t w ≡ false → takes_at q t w ≡ false → find plan st q t
-    ≡ standing_at plan ((e, w) ∷ h) q t
+    ≡ standing_if_planned plan ((e, w) ∷ h) q t
 stays plan facts st h e w stands is q t still seals takes =
     stands.streams q t ∙ ap (λ (y : StreamState). if has_stream plan q t then Some y else None)
     (sym (frame plan facts h e w (is, stands.cause) q t still seals takes))
 
--- what holds at a place holds where it is the same
+-- what holds at a place holds at the same place
 pub at_place : (port q : PortName) (stream t : ℕ) (P : PortName → ℕ → Type 0) → (is_same_port port q && (stream == t))
     ≡ true → P port stream → P q t
 at_place port q stream t P same here =
@@ -77,12 +77,13 @@ changes plan facts st new h e w port stream x stands is still known only here ot
   },
 )
   where
-    at : find plan new port stream ≡ standing_at plan ((e, w) ∷ h) port stream
+    at : find plan new port stream ≡ standing_if_planned plan ((e, w) ∷ h) port stream
     at = here ∙ rw known (ap (λ (y : StreamState). Some y) same)
 
     by_place : (q : PortName) (t : ℕ) (b : Bool) → (is_same_port port q && (stream == t)) ≡ b → find plan new q t
-        ≡ standing_at plan ((e, w) ∷ h) q t
-    by_place q t true place = at_place port q stream t (λ r n. find plan new r n ≡ standing_at plan ((e, w) ∷ h) r n)
+        ≡ standing_if_planned plan ((e, w) ∷ h) q t
+    by_place q t true place = at_place port q stream t
+        (λ r n. find plan new r n ≡ standing_if_planned plan ((e, w) ∷ h) r n)
         place at
     by_place q t false place = let none = only q t place in others q t place ∙ stays plan facts st h e w stands is q t
         (still q.link t) none.0 none.1

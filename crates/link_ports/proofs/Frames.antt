@@ -1,11 +1,13 @@
--- What a pair leaves as it was at a port and stream: all of it, where the event is no operation on the stream and the
+-- What a pair leaves as it was at a port and stream: all of it, if the event is no operation on the stream and the
 -- verdict tells of no packet that the port sealed, held, accepted or failed there. It goes part by part: keys and Base
--- stay by `KeyFacts`, what was sealed, got and held by the verdict, and a failure as the stream still has a Live key;
--- senders and receivers are put together from these parts.
+-- stay by `KeyFacts`; what was sealed, got and held stays by the verdict; a failure stays since the stream still has a
+-- Live key. Senders and receivers are put together from these parts.
 use Rattle.link_ports.proofs.Terms.{◌≡◌, ℕ, ◌==◌, Bool, true, false, List, [], ◌∷◌, length, refl, ap, sym, ◌∙◌, subst}
-use Rattle.link_ports.proofs.Terms.{arith, if◌then◌else◌, ◌&&◌, ◌||◌, after_ends, ahead_in, any_out, base, CauseLaw}
+use Rattle.link_ports.proofs.Terms.{arith, if◌then◌else◌, ◌&&◌, ◌||◌, after_ends, front_of_packet, any_out, base}
+use Rattle.link_ports.proofs.Terms.{CauseLaw}
 use Rattle.link_ports.proofs.Terms.{Cpl, each_sub, ends_at, Event, failed, failed_there, fails_at, got_in, got_since}
-use Rattle.link_ports.proofs.Terms.{has_live, has_live_in, has_live_out, held, History, is_out, is_same, is_same_port}
+use Rattle.link_ports.proofs.Terms.{has_live_key, has_live_in, has_live_out, held, History, is_out, is_same}
+use Rattle.link_ports.proofs.Terms.{is_same_port}
 use Rattle.link_ports.proofs.Terms.{Keyed, KeyFacts, Keys, keys_at, lane_in, lane_out, Loaded, nat_tests, not_here, Npr}
 use Rattle.link_ports.proofs.Terms.{Off, On, operates, Plan, PortName, posted_elsewhere, posted_in, posted_sum, Pr}
 use Rattle.link_ports.proofs.Terms.{received_in, rx_slot, rx_slots, rx_standing, RxSub, same_in, sealed_packets}
@@ -38,7 +40,7 @@ abbrev pub holds_in : SubStream → Verdict → Bool
 holds_in s (v.Held p unit) = is_same (received_in p unit) s
 holds_in s _ = false
 
--- ---- records of which each part is the same
+-- ---- records whose parts are all the same
 
 pub each_same : {A : Type 0} → (f g : SubKind → A) → ((u : SubKind) → f u ≡ g u) → each_sub f ≡ each_sub g
 each_same f g same = λ i. record { pr = same Pr i; npr = same Npr i; cpl = same Cpl i }
@@ -122,7 +124,7 @@ sealed_elsewhere : {A : Type 0} (plan : Plan) (h : History) (e : Event) (w : Ver
     (f : SealedList → A)
     → seals_at port stream w ≡ false
     → ((bytes : List ℕ) (ds : List SealedPacket) → any_out port stream ds ≡ false
-    → f (with_sealed plan (ahead_in plan (sealed_packets plan h) (base h)) bytes ds (sealed_packets plan h))
+    → f (with_sealed plan (front_of_packet plan (sealed_packets plan h) (base h)) bytes ds (sealed_packets plan h))
     ≡ f (sealed_packets plan h))
     → f (sealed_packets plan ((e, w) ∷ h)) ≡ f (sealed_packets plan h)
 unfolding sealed_packets
@@ -162,7 +164,7 @@ pub since_same : (h : History) (e : Event) (w : Verdict) (s : SubStream) (from :
 unfolding units_since
 since_same h e w s from none = grind arith
 
--- a slot stays as it is where what is read of its draw does
+-- a slot stays as it is if what is read of its draw does
 pub rx_slot_same : (plan : Plan) (g h : History) (port : PortName) (s : SubStream) (a : Keyed)
     → ((j : ℕ) → a ≡ On j → (failed g port s.stream ≡ failed h port s.stream) × (units_got g s j ≡ units_got h s j)
     × ((n : ℕ) → held plan g s j n ≡ held plan h s j n))
@@ -185,14 +187,14 @@ rx_slots_same plan g h port s keys bad units held =
 and_again : (a b : Bool) → (a && b && b) ≡ (a && b)
 and_again a b = grind arith
 
--- where a stream failed, it has a Live key
+-- if a stream failed, it has a Live key
 pub failed_live : (plan : Plan) (h : History) (port : PortName) (stream : ℕ)
-    → (failed h port stream && has_live h port stream) ≡ failed h port stream
+    → (failed h port stream && has_live_key h port stream) ≡ failed h port stream
 unfolding failed_there
 failed_live plan [] port stream = refl
 failed_live plan ((e, w) ∷ h) port stream =
-    subst (λ (b : Bool). (b && has_live ((e, w) ∷ h) port stream) ≡ b) (sym (failed_next h e w port stream))
-    (and_again (fails_at port stream w || failed h port stream) (has_live ((e, w) ∷ h) port stream))
+    subst (λ (b : Bool). (b && has_live_key ((e, w) ∷ h) port stream) ≡ b) (sym (failed_next h e w port stream))
+    (and_again (fails_at port stream w || failed h port stream) (has_live_key ((e, w) ∷ h) port stream))
 
 -- ---- what a pair leaves at a port and stream on which it is no operation
 
@@ -213,7 +215,7 @@ module _ (plan : Plan) (facts : KeyFacts plan) (h : History) (e : Event) (w : Ve
   based = facts.base_same h e w cause port.link stream still
 
   pub failed_more : failed ((e, w) ∷ h) port stream ≡
-      ((fails_at port stream w || failed h port stream) && has_live h port stream)
+      ((fails_at port stream w || failed h port stream) && has_live_key h port stream)
   failed_more = failed_next h e w port stream ∙
       (λ i. (fails_at port stream w || failed h port stream) && (live_out i || live_in i))
 
@@ -226,7 +228,7 @@ module _ (plan : Plan) (facts : KeyFacts plan) (h : History) (e : Event) (w : Ve
   tx_frame u none =
       let g = (e, w) ∷ h in
       let s = lane_out port stream u in
-      let front = ahead_in plan (sealed_packets plan h) (base h) in
+      let front = front_of_packet plan (sealed_packets plan h) (base h) in
       let xs = sealed_packets plan h in
       let from = base h port.link stream in
       tx_is _ _

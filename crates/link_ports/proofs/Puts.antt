@@ -1,6 +1,7 @@
 -- One stream at a port is changed, and no other.
 use Rattle.link_ports.proofs.Terms.{◌≡◌, ◌≢◌, ℕ, ◌<◌, ◌≤◌, ◌==◌, true, false, List, [], ◌∷◌, length, Some, None, refl}
-use Rattle.link_ports.proofs.Terms.{ap, sym, ◌∙◌, subst, arith, ⊎_elim, ◌&&◌, is_some, slice_set, changed, find, found}
+use Rattle.link_ports.proofs.Terms.{ap, sym, ◌∙◌, subst, arith, ⊎_elim, ◌&&◌, is_some, slice_set, changed_by_id, find}
+use Rattle.link_ports.proofs.Terms.{found_by_id}
 use Rattle.link_ports.proofs.Terms.{get_or-set_other, get_or-set_same, get_or_past, is_same_port, LinkState, nat_tests}
 use Rattle.link_ports.proofs.Terms.{Plan, port_place, PortName, put, same_port, set_past, streams_of, StreamState}
 use Rattle.std.specs.List.{slice_index_or}
@@ -9,24 +10,24 @@ use Rattle.ide_plan.specs.declared.stream.StreamPlan.{StreamPlan}
 
 -- ---- one row of a list of rows
 
-found_same : {A : Type 0} (ss : List StreamPlan) (xs : List A) (id : ℕ) (y : A) → is_some (found ss xs id) ≡ true
-    → found ss (changed ss xs id y) id ≡ Some y
+found_same : {A : Type 0} (ss : List StreamPlan) (xs : List A) (id : ℕ) (y : A) → is_some (found_by_id ss xs id) ≡ true
+    → found_by_id ss (changed_by_id ss xs id y) id ≡ Some y
 found_same (s ∷ ss) (x ∷ xs) id y is = let more = found_same ss xs id y in grind (arith, more)
 found_same [] xs id y is = absurd cc
 found_same (s ∷ ss) [] id y is = absurd cc
 
 found_other : {A : Type 0} (ss : List StreamPlan) (xs : List A) (id t : ℕ) (y : A) → (id == t) ≡ false
-    → found ss (changed ss xs id y) t ≡ found ss xs t
+    → found_by_id ss (changed_by_id ss xs id y) t ≡ found_by_id ss xs t
 found_other (s ∷ ss) (x ∷ xs) id t y other = let more = found_other ss xs id t y other in grind (arith, nat_tests, more)
 found_other [] xs id t y other = refl
 found_other (s ∷ ss) [] id t y other = refl
 
-none_found : {A : Type 0} (ss : List StreamPlan) (id : ℕ) → found {A = A} ss [] id ≡ None
+none_found : {A : Type 0} (ss : List StreamPlan) (id : ℕ) → found_by_id {A = A} ss [] id ≡ None
 none_found [] id = refl
 none_found (s ∷ ss) id = refl
 
 pub within : {A : Type 0} (ss : List StreamPlan) (rows : List (List A)) (i id : ℕ)
-    → is_some (found ss (slice_index_or rows i []) id) ≡ true → i < length rows
+    → is_some (found_by_id ss (slice_index_or rows i []) id) ≡ true → i < length rows
 within {A} ss rows i id is = ⊎_elim (λ lt. lt) (λ le. absurd (past le)) (cases_lt i (length rows))
   where
     past : length rows ≤ i → ⊥
@@ -34,22 +35,23 @@ within {A} ss rows i id is = ⊎_elim (λ lt. lt) (λ le. absurd (past le)) (cas
         is in cc
 
 pub put_same : {A : Type 0} (ss : List StreamPlan) (rows : List (List A)) (i id : ℕ) (y : A)
-    → is_some (found ss (slice_index_or rows i []) id) ≡ true
-    → found ss (slice_index_or (slice_set rows i (changed ss (slice_index_or rows i []) id y)) i []) id ≡ Some y
+    → is_some (found_by_id ss (slice_index_or rows i []) id) ≡ true
+    → found_by_id ss (slice_index_or (slice_set rows i (changed_by_id ss (slice_index_or rows i []) id y)) i []) id
+    ≡ Some y
 put_same ss rows i id y is = rw
-    (get_or-set_same rows i (changed ss (slice_index_or rows i []) id y) [] (within ss rows i id is))
+    (get_or-set_same rows i (changed_by_id ss (slice_index_or rows i []) id y) [] (within ss rows i id is))
     (found_same ss _ id y is)
 
 -- another one of the row
 pub put_beside : {A : Type 0} (ss : List StreamPlan) (rows : List (List A)) (i id t : ℕ) (y : A) → (id == t) ≡ false
-    → found ss (slice_index_or (slice_set rows i (changed ss (slice_index_or rows i []) id y)) i []) t
-    ≡ found ss (slice_index_or rows i []) t
+    → found_by_id ss (slice_index_or (slice_set rows i (changed_by_id ss (slice_index_or rows i []) id y)) i []) t
+    ≡ found_by_id ss (slice_index_or rows i []) t
 put_beside ss rows i id t y other = ⊎_elim inside (λ le. rw (set_past rows i _ le) refl) (cases_lt i (length rows))
   where
-    inside : i < length rows → found ss
-        (slice_index_or (slice_set rows i (changed ss (slice_index_or rows i []) id y)) i []) t
-        ≡ found ss (slice_index_or rows i []) t
-    inside lt = rw (get_or-set_same rows i (changed ss (slice_index_or rows i []) id y) [] lt)
+    inside : i < length rows → found_by_id ss
+        (slice_index_or (slice_set rows i (changed_by_id ss (slice_index_or rows i []) id y)) i []) t
+        ≡ found_by_id ss (slice_index_or rows i []) t
+    inside lt = rw (get_or-set_same rows i (changed_by_id ss (slice_index_or rows i []) id y) [] lt)
         (found_other ss _ id t y other)
 
 -- ---- a stream at a port
@@ -70,18 +72,20 @@ find-put_other plan st port stream x q t other = ⊎_elim here elsewhere (cases_
   where
     new : List (List StreamState)
     new = slice_set st.ports (port_place port)
-        (changed (streams_of plan port.link) (slice_index_or st.ports (port_place port) []) stream x)
+        (changed_by_id (streams_of plan port.link) (slice_index_or st.ports (port_place port) []) stream x)
 
-    elsewhere : port_place port ≢ port_place q → found (streams_of plan q.link) (slice_index_or new (port_place q) []) t
-        ≡ found (streams_of plan q.link) (slice_index_or st.ports (port_place q) []) t
-    elsewhere apart = ap (λ (zs : List StreamState). found (streams_of plan q.link) zs t)
+    elsewhere : port_place port ≢ port_place q → found_by_id (streams_of plan q.link)
+        (slice_index_or new (port_place q) []) t
+        ≡ found_by_id (streams_of plan q.link) (slice_index_or st.ports (port_place q) []) t
+    elsewhere apart = ap (λ (zs : List StreamState). found_by_id (streams_of plan q.link) zs t)
         (get_or-set_other st.ports (port_place port) (port_place q) _ [] (λ e. apart (sym e)))
 
-    here : port_place port ≡ port_place q → found (streams_of plan q.link) (slice_index_or new (port_place q) []) t
-        ≡ found (streams_of plan q.link) (slice_index_or st.ports (port_place q) []) t
+    here : port_place port ≡ port_place q → found_by_id (streams_of plan q.link) (slice_index_or new (port_place q) [])
+        t
+        ≡ found_by_id (streams_of plan q.link) (slice_index_or st.ports (port_place q) []) t
     here same =
         let is = place_is port q same in
-        subst (λ (r : PortName). found (streams_of plan r.link) (slice_index_or new (port_place r) []) t
-        ≡ found (streams_of plan r.link)
+        subst (λ (r : PortName). found_by_id (streams_of plan r.link) (slice_index_or new (port_place r) []) t
+        ≡ found_by_id (streams_of plan r.link)
         (slice_index_or st.ports (port_place r) []) t) (same_port port q is)
         (put_beside (streams_of plan port.link) st.ports (port_place port) stream t x (grind arith))

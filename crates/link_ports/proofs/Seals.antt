@@ -1,10 +1,11 @@
 -- What the packets of one send do to the senders of a stream: they are the packets of the history, and the senders
 -- stand for the list with them. It goes by induction on the packets, each of a sub-stream of its own, so that the later
--- ones still fit. In its sub-stream the unit of the Live key goes on; where it ends, a draw that waits, under which
+-- ones still fit. In its sub-stream the unit of the Live key goes on; if it ends, a draw that waits, under which
 -- nothing was sealed, becomes Live (the hard case). In the others at most the posted count rises.
 use Rattle.link_ports.proofs.Terms.{◌≡◌, ℕ, ◌+◌, ◌==◌, Bool, true, false, List, [], ◌∷◌, ◌++◌, map, Option, Some, Ok}
 use Rattle.link_ports.proofs.Terms.{refl, ap, sym, ◌∙◌, subst, arith, length-append, append_assoc, if◌then◌else◌, not}
-use Rattle.link_ports.proofs.Terms.{◌&&◌, nat_le, after_ends, append-nil, AreOther, at_sub, body, counted, each_sub}
+use Rattle.link_ports.proofs.Terms.{◌&&◌, nat_le, after_ends, append-nil, AreOther, at_sub, body, counted_unit}
+use Rattle.link_ports.proofs.Terms.{each_sub}
 use Rattle.link_ports.proofs.Terms.{ended_keys, ended_slots, ends_at, eqb-refl, front_with, gone_on, head_bytes, header}
 use Rattle.link_ports.proofs.Terms.{in_lane, is_in, is_same, is_same_port, is_same_port-refl, is_same_sub, kept_at}
 use Rattle.link_ports.proofs.Terms.{key_in, key_of, Keys, lane_is, lane_out, lesser, Live, live_sender, LiveKey}
@@ -52,7 +53,7 @@ sent_other : (xs : SealedList) (d : SealedPacket) (p : Packet) (s : SubStream) (
 sent_other xs d p s j here draw = sent_in-snoc xs (d, p) s j ∙ rw (here, draw) refl
 
 key_ended : (plan : Plan) (xs : SealedList) (d : SealedPacket) (p : Packet) (s : SubStream)
-    → is_same (sub_stream_of d) s ≡ true → p.prefix.m ≡ true → counted (Live (sealing_key plan xs s d.draw))
+    → is_same (sub_stream_of d) s ≡ true → p.prefix.m ≡ true → counted_unit (Live (sealing_key plan xs s d.draw))
     ≡ Live (sealing_key plan (xs ++ (d, p) ∷ []) s d.draw)
 key_ended plan xs d p s here m =
     rw (
@@ -100,7 +101,7 @@ other_apart ks k n j live on apart = grind (arith, nat_tests, apart)
 -- its unit ends
 slots_ended : (plan : Plan) (xs ys : SealedList) (s : SubStream) (k : Bool) (n : ℕ) (ks : Keys)
     → lesser ks.first ks.second ≡ Some (record { k = k; draw = n })
-    → counted (Live (sealing_key plan xs s n)) ≡ Live (sealing_key plan ys s n)
+    → counted_unit (Live (sealing_key plan xs s n)) ≡ Live (sealing_key plan ys s n)
     → ((j : ℕ) → key_in ks (not k) ≡ On j → Live (record { draw = j; key = key_of plan j s; units = 0; packets = [] })
     ≡ Live (sealing_key plan ys s j))
     → ended_slots (tx_slots plan xs s ks) ≡ tx_slots plan ys s (ended_keys ks.first ks.second)
@@ -218,9 +219,10 @@ module _ (plan : Plan) (closed : Bool) (ahead : SealedPacket → List ℕ) (port
               → is_in s from (d, p) ≡ false → total_in xs s from ≡ total_in ys s from
               → (if b then record (old u) { posted = posted_in xs s from + 1 } else old u) ≡ new u
           by_posted true is slots out total =
-              let counted : is_in (posted_of (lane_out port stream u)) from (d, p)
+              let counted_unit : is_in (posted_of (lane_out port stream u)) from (d, p)
               ≡ true = rw (in_place Pr, is, fits.counts) refl in
-              tx_is _ _ slots (sym (posted-more xs (d, p) (lane_out port stream u) from out ∙ rw counted refl)) total
+              tx_is _ _ slots (sym (posted-more xs (d, p) (lane_out port stream u) from out ∙ rw counted_unit refl))
+              total
           by_posted false is slots out total =
               let none : is_in (posted_of (lane_out port stream u)) from (d, p) ≡ false = rw (in_place Pr, is) refl in
               tx_is _ _ slots (sym (posted-same xs (d, p) (lane_out port stream u) from out none)) total
@@ -246,7 +248,7 @@ module _ (plan : Plan) (closed : Bool) (ahead : SealedPacket → List ℕ) (port
       (head_bytes (header t)) (body t))
       (sym (lane_is port stream d fits.port_is fits.stream_is)) ∙ rw reads refl))
 
-  -- what fits still fits behind a packet of another sub-stream
+  -- what fits still fits after a packet of another sub-stream
   fits_still : (xs : SealedList) (keys : SubKind → Keys) (d x : SealedPacket) (p : Packet)
       → Fits closed ahead port stream from xs keys d
       → Fits closed ahead port stream from xs keys x → is_same_sub d.sub x.sub ≡ false

@@ -1,7 +1,7 @@
 -- The verdict of a send is the one that is due, and the state after it stands for the history with it. It goes by the
 -- machine's own cases. With a Live key on the stream the rules of sealing see what the history says: a refusal changes
 -- nothing, and packets that are sealed fit the senders, which then stand for the list with them. Without one the kept
--- counts are 0, whatever the history counts, but the TLP is refused ahead of all counts.
+-- counts are 0, whatever the history counts, but the TLP is refused before any count is looked at.
 use Rattle.link_ports.specs.Stands.{beside_at, is_of_packets}
 use Rattle.link_ports.specs.Machine.{Stepped}
 use Rattle.link_history.specs.History.{sent_bytes}
@@ -9,7 +9,8 @@ use Rattle.link_events.specs.declared.event.Event.{Event}
 use Rattle.link_history.specs.Terms.{t_due, owner_at}
 use Rattle.link_ports.proofs.Terms.{◌≡◌, ℕ, ◌+◌, ◌==◌, Bool, true, false, List, [], ◌∷◌, ◌++◌, length, map, Option}
 use Rattle.link_ports.proofs.Terms.{Some, None, Result, Ok, Err, refl, ap, sym, ◌∙◌, subst, arith, if◌then◌else◌, ◌&&◌}
-use Rattle.link_ports.proofs.Terms.{◌||◌, is_some, is_none, unwrap_or, after_ends, ahead_in, and_false, answered}
+use Rattle.link_ports.proofs.Terms.{◌||◌, is_some, is_none, unwrap_or, after_ends, front_of_packet, and_false}
+use Rattle.link_ports.proofs.Terms.{stepped_answer}
 use Rattle.link_ports.proofs.Terms.{any_out, AreFalse, base, body, CauseLaw, choice, Cpl, described, due, due_on}
 use Rattle.link_ports.proofs.Terms.{due_read, each_sub, failed, find, first_that_holds, front_of, has_key, has_live_out}
 use Rattle.link_ports.proofs.Terms.{has_port, has_stream, head_bytes, header, History, is_closed, is_keyed, is_keyless}
@@ -17,8 +18,10 @@ use Rattle.link_ports.proofs.Terms.{is_on, is_out, is_quiet, is_same_port, is_sa
 use Rattle.link_ports.proofs.Terms.{Keys, keys_at, lane_out, Lanes, lanes_at, lanes_of, length-map, lesser, LinkPacket}
 use Rattle.link_ports.proofs.Terms.{LinkState, listed, live_key, mode_of, needs_posted, needs_sync, no_key, none_holds}
 use Rattle.link_ports.proofs.Terms.{Npr, on_live, operates, Packet, Plan, PortName, PortsStand, posted_in, Pr, put}
-use Rattle.link_ports.proofs.Terms.{read_of, refusals, sealed_all, sealed_by, sealed_by_is, sealed_in, sealed_packets}
-use Rattle.link_ports.proofs.Terms.{SealedList, SealedPacket, Send, send_as, send_found, send_on, send_read, Sending}
+use Rattle.link_ports.proofs.Terms.{read_of, refusals, sealed_all, sealed_by, sealed_by_is, stepped_seal}
+use Rattle.link_ports.proofs.Terms.{sealed_packets}
+use Rattle.link_ports.proofs.Terms.{SealedList, SealedPacket, Send, send_as, stepped_send_found, stepped_send_on}
+use Rattle.link_ports.proofs.Terms.{stepped_send_read, Sending}
 use Rattle.link_ports.proofs.Terms.{sent_as, standing, StreamState, SubKind, Three, Tlp, tlp_word, total_in, tx_slots}
 use Rattle.link_ports.proofs.Terms.{TxSub, Verdict, with_sealed}
 use Rattle.link_verdicts.specs.declared.verdict.Verdict.TheVariants as v
@@ -45,17 +48,18 @@ unfolding has_live_out
 seals_live plan h port stream u keyed = any_of (λ w. is_keyed h port (lane_out port stream w)) u
     (lesser_on (keys_at h port (lane_out port stream u)) keyed)
 
--- these descriptions fit behind what was sealed
+-- these descriptions fit after what was sealed
 abbrev FitBehind : Plan → History → Sending → List SealedPacket → Type 0
 FitBehind plan h s =
-    AllFit (is_closed plan s.port.link s.stream) (ahead_in plan (sealed_packets plan h) (base h)) s.port s.stream
+    AllFit (is_closed plan s.port.link s.stream) (front_of_packet plan (sealed_packets plan h) (base h)) s.port s.stream
     (base h s.port.link s.stream)
     (sealed_packets plan h) (λ u. keys_at h s.port (lane_out s.port s.stream u))
 
 module _ (plan : Plan) (facts : KeyFacts plan) (h : History) (law : CauseLaw plan h) (s : Sending) where
   -- a description under the key of its sub-stream
   describes : (u : SubKind) (number : ℕ) (m t sync : Bool) → is_keyless (lanes_at plan h s.port s.stream) u ≡ false
-      → Fits (is_closed plan s.port.link s.stream) (ahead_in plan (sealed_packets plan h) (base h)) s.port s.stream
+      → Fits (is_closed plan s.port.link s.stream) (front_of_packet plan (sealed_packets plan h) (base h)) s.port
+      s.stream
       (base h s.port.link s.stream)
       (sealed_packets plan h) (λ u. keys_at h s.port (lane_out s.port s.stream u))
       (described (lanes_at plan h s.port s.stream) s u number m t sync)
@@ -150,7 +154,7 @@ module _ (plan : Plan) (facts : KeyFacts plan) (h : History) (s : Sending) (e : 
     (ds : List SealedPacket)
     (law : CauseLaw plan ((e, v.Sealed ds) ∷ h)) where
   sealed_with : sealed_packets plan ((e, v.Sealed ds) ∷ h)
-      ≡ with_sealed plan (ahead_in plan (sealed_packets plan h) (base h)) (sent_bytes plan h e) ds
+      ≡ with_sealed plan (front_of_packet plan (sealed_packets plan h) (base h)) (sent_bytes plan h e) ds
       (sealed_packets plan h)
   unfolding sealed_packets
   sealed_with = refl
@@ -160,7 +164,7 @@ module _ (plan : Plan) (facts : KeyFacts plan) (h : History) (s : Sending) (e : 
 
   after_seals : (tx : Three TxSub) → has_live_out h s.port s.stream ≡ true
       → tx ≡ each_sub (tx_at plan s.port s.stream (base h s.port.link s.stream)
-      (with_sealed plan (ahead_in plan (sealed_packets plan h) (base h)) (sent_bytes plan h e) ds
+      (with_sealed plan (front_of_packet plan (sealed_packets plan h) (base h)) (sent_bytes plan h e) ds
       (sealed_packets plan h))
       (λ u. after_ends s.port (lane_out s.port s.stream u) ds (keys_at h s.port (lane_out s.port s.stream u))))
       → record (standing plan h s.port s.stream) { tx = tx } ≡ standing plan
@@ -204,7 +208,7 @@ refused_keyless x class keyless = rw keyless (by_failure x.failed)
 refusal_quiet : (b : Bool) (class : SubKind) → is_quiet (if b then v.RefusedInsecure else v.RefusedNoKey class) ≡ true
 refusal_quiet b class = grind arith
 
--- ---- a send where the ports stand for the history
+-- ---- a send if the ports stand for the history
 
 module _ (plan : Plan) (facts : KeyFacts plan) (st : LinkState) (h : History) (stands : PortsStand plan st h)
     (e : Event) (on : is_of_packets e ≡ true) (more trusted : Bool) where
@@ -219,11 +223,11 @@ module _ (plan : Plan) (facts : KeyFacts plan) (st : LinkState) (h : History) (s
       → read_of (sent_bytes plan h e) ≡ Ok t → v.Sealed ds ≡ due plan h e
       → has_live_out h s.port s.stream ≡ true → FitBehind plan h s ds
       → let x = standing plan h s.port s.stream in
-      Steps plan h e (sealed_in plan st s x ds
+      Steps plan h e (stepped_seal plan st s x ds
       (sealed_all (is_closed plan s.port.link s.stream) (head_bytes (header t)) (body t) ds x.tx))
   seals s t ds known found reads is live all =
       let closed = is_closed plan s.port.link s.stream in
-      let front = ahead_in plan (sealed_packets plan h) (base h) in
+      let front = front_of_packet plan (sealed_packets plan h) (base h) in
       let from = base h s.port.link s.stream in
       let xs = sealed_packets plan h in
       let keys : SubKind → Keys = λ u. keys_at h s.port (lane_out s.port s.stream u) in
@@ -246,14 +250,14 @@ module _ (plan : Plan) (facts : KeyFacts plan) (st : LinkState) (h : History) (s
       (ap (λ (ks : List LinkPacket). ks ++ map (kept_at s.port) r.0) stands.packets
       ∙ (done.packets ∙ ap kept_all (sym (sealed_with plan facts h s e on ds law))))
 
-  -- what the sealing rules come to
+  -- what the sealing rules give
   answers : (s : Sending) (t : Tlp) → has_stream plan s.port s.stream ≡ true → is_some (find plan st s.port s.stream)
       ≡ true → read_of (sent_bytes plan h e) ≡ Ok t
       → let x = lanes_at plan h s.port s.stream in (number : ℕ) → sent_as x s number
       ≡ due plan h e
       → (o : Option Verdict) → first_that_holds (refusals x s.class) ≡ o
       → Steps plan h e
-      (answered plan st s t (standing plan h s.port s.stream) o (sealed_by x s number))
+      (stepped_answer plan st s t (standing plan h s.port s.stream) o (sealed_by x s number))
   answers s t known found reads number is (Some w) first =
       let x = lanes_at plan h s.port s.stream in
       tells s.port w (first_quiet (refusals x s.class) w
@@ -302,7 +306,7 @@ module _ (plan : Plan) (facts : KeyFacts plan) (st : LinkState) (h : History) (s
           let number : length st.packets ≡ length (sealed_packets plan h) = ap length stands.packets
           ∙ length-map (sealed_packets plan h) (λ (z : SealedPacket × Packet). kept_at z.0.port z.1) in
           subst (λ (l : Lanes). Steps plan h e
-          (answered plan st s t (standing plan h s.port s.stream)
+          (stepped_answer plan st s t (standing plan h s.port s.stream)
           (first_that_holds (refusals l s.class)) (sealed_by l s (length st.packets + 1))))
           (sym (lanes_is plan h s.port s.stream live))
           (answers s t known (rw found refl) reads (length st.packets + 1)
@@ -314,14 +318,14 @@ module _ (plan : Plan) (facts : KeyFacts plan) (st : LinkState) (h : History) (s
       → sent_as (lanes_at plan h s.port s.stream) s (length (sealed_packets plan h) + 1)
       ≡ due plan h e
       → (o : Option StreamState) → find plan st s.port s.stream ≡ o
-      → Steps plan h e (send_found plan st s t o)
+      → Steps plan h e (stepped_send_found plan st s t o)
   by_found s t reads known is None found = let other = not_kept plan st h s.port s.stream stands found in absurd cc
   by_found s t reads known is (Some y) found = sends_as s t reads is y found
 
   by_choice : (port : PortName) (t : Tlp) → read_of (sent_bytes plan h e) ≡ Ok t → (c : Option ℕ)
       → choice plan port (header t) ≡ c
       → due_on plan h port (header t) more trusted c ≡ due plan h e
-      → Steps plan h e (send_on plan (beside_at plan h) st port t more trusted c)
+      → Steps plan h e (stepped_send_on plan (beside_at plan h) st port t more trusted c)
   by_choice port t reads None chose is = tells port (v.Plain port) refl is
   by_choice port t reads (Some stream) chose is =
       by_found (record {
@@ -337,7 +341,7 @@ module _ (plan : Plan) (facts : KeyFacts plan) (st : LinkState) (h : History) (s
   by_reading : (port : PortName) (r : Result Tlp TlpFault) → read_of (sent_bytes plan h e) ≡ r
       → due_read plan h port r more trusted
       ≡ due plan h e
-      → Steps plan h e (send_read plan (beside_at plan h) st port r more trusted)
+      → Steps plan h e (stepped_send_read plan (beside_at plan h) st port r more trusted)
   by_reading port (Err f) reads is = tells port (v.Malformed port (tlp_word f) (place_in f)) refl is
   by_reading port (Ok t) reads is = by_choice port t reads (choice plan port (header t)) refl is
 
@@ -349,7 +353,7 @@ if_steps plan h e false x y one two = two refl
 pub sends : (plan : Plan) → KeyFacts plan → (st : LinkState) (h : History) → PortsStand plan st h
     → (bytes : List ℕ) (more trusted : Bool) (port : PortName)
     → Steps plan h (Send port bytes more trusted)
-    (if has_port plan port then send_read plan (beside_at plan h) st port (read_of bytes) more trusted else
+    (if has_port plan port then stepped_send_read plan (beside_at plan h) st port (read_of bytes) more trusted else
     (v.Nothing, st))
 unfolding due
 sends plan facts st h stands bytes more trusted port =

@@ -5,7 +5,8 @@ use Rattle.link_ports.proofs.Terms.{refl, ap, sym, ◌∙◌, arith, if◌then�
 use Rattle.link_ports.proofs.Terms.{arrival_due, Arrive, arrive, arrived, brought, Cut, cut_short, due, Dump, dump_due}
 use Rattle.link_ports.proofs.Terms.{Event, has_port, History, is_of_packets, IsNoOperation, KeyFacts, LinkPacket}
 use Rattle.link_ports.proofs.Terms.{LinkState, operates, packet_bytes, packet_numbered, PacketsStand, Pass, passed}
-use Rattle.link_ports.proofs.Terms.{Plan, PortName, PortsStand, quiet_test, sealed_packets, Send, shortened, shown}
+use Rattle.link_ports.proofs.Terms.{Plan, PortName, PortsStand, quiet_test, sealed_packets, Send, shortened}
+use Rattle.link_ports.proofs.Terms.{shown_packet}
 use Rattle.link_ports.proofs.Terms.{Status, step_of}
 use Rattle.link_verdicts.specs.declared.verdict.Verdict.TheVariants as v
 use Rattle.link_ports.proofs.Changes.{Steps, none_of_packets, quiet}
@@ -43,15 +44,15 @@ given plan facts st h port bytes stands = by_port (has_port plan port) refl
     by_port false is = brought_to plan facts st h (Arrive port bytes) refl stands None is refl
 
 dumps : (plan : Plan) → KeyFacts plan → (st : LinkState) (h : History) (n : ℕ) → PortsStand plan st h
-    → Steps plan h (Dump n) (shown n (packet_numbered st.packets n), st)
+    → Steps plan h (Dump n) (shown_packet n (packet_numbered st.packets n), st)
 unfolding due
 dumps plan facts st h n stands =
-    quiet plan facts st h (Dump n) (shown n (packet_numbered st.packets n)) stands
+    quiet plan facts st h (Dump n) (shown_packet n (packet_numbered st.packets n)) stands
     (is_quiet (packet_numbered st.packets n))
-    (of_numbered st.packets (sealed_packets plan h) n stands.packets (shown n) (dump_due n) refl (λ x. refl))
+    (of_numbered st.packets (sealed_packets plan h) n stands.packets (shown_packet n) (dump_due n) refl (λ x. refl))
     (none_of_packets (Dump n) refl)
   where
-    is_quiet : (o : Option LinkPacket) → quiet_test (shown n o) ≡ true
+    is_quiet : (o : Option LinkPacket) → quiet_test (shown_packet n o) ≡ true
     is_quiet o = grind arith
 
 -- ---- all of these events

@@ -4,13 +4,14 @@
 -- held for a unit beyond the next.
 use Rattle.link_ports.proofs.Terms.{◌≡◌, ℕ, ◌+◌, ◌==◌, Bool, true, false, List, [], ◌∷◌, ◌++◌, length, Some, refl, ap}
 use Rattle.link_ports.proofs.Terms.{sym, ◌∙◌, arith, length-append, not, ◌||◌, nat_lt, nat_le, Accepted, accepted_keys}
-use Rattle.link_ports.proofs.Terms.{accepted_slots, accepted_sub, arrived_packet, at_sub, base, CauseLaw, counted, Cpl}
+use Rattle.link_ports.proofs.Terms.{accepted_slots, accepted_sub, arrived_packet, at_sub, base, CauseLaw, counted_unit}
+use Rattle.link_ports.proofs.Terms.{Cpl}
 use Rattle.link_ports.proofs.Terms.{dropped, dropped_held, each_sub, eqb-refl, eqb-sym, Event, Failed, failed, fails_at}
 use Rattle.link_ports.proofs.Terms.{gone_on, got_in, got_since, has_live_in, has_live_out, Held, held, held_in}
 use Rattle.link_ports.proofs.Terms.{held_sub, History, is_of, is_same, is_same-refl, is_same_port-refl, key_in, Keyed}
 use Rattle.link_ports.proofs.Terms.{KeyFacts, Keys, keys_at, lane_in, Loaded, nat_tests, Npr, Off, On, on_draw, on_in}
 use Rattle.link_ports.proofs.Terms.{operates, Packet, pending, Plan, PortName, posted_sum, Pr, receiving, retired}
-use Rattle.link_ports.proofs.Terms.{rx_slot, rx_slots, rx_standing, RxSub, set_sub, slot_in, standing, state_after}
+use Rattle.link_ports.proofs.Terms.{rx_slot, rx_slots, rx_standing, RxSub, set_sub, slot_in_set, standing, state_after}
 use Rattle.link_ports.proofs.Terms.{sub_bits, SubKind, SubStream, sum_by-append, unit_name, UnitName, units_got}
 use Rattle.link_ports.proofs.Terms.{units_since, unless_below, Verdict, with_slot}
 use Rattle.link_verdicts.specs.declared.verdict.Verdict.TheVariants as v
@@ -175,7 +176,7 @@ module _ (plan : Plan) (facts : KeyFacts plan) (h : History) (e : Event) (port :
   held_slots : (k : Bool) → let s = receiving port p in AreApart (keys_at h port s) k j
       → let old = rx_slots plan h port s (keys_at h port s) in
       rx_slots plan ((e, v.Held port (unit_name p j n)) ∷ h) port s (keys_at h port s)
-      ≡ with_slot old k (gone_on p (slot_in old k))
+      ≡ with_slot old k (gone_on p (slot_in_set old k))
   held_slots true are = slots_is _ _ (held_other_slot _ are.1) (held_slot _ are.0)
   held_slots false are = slots_is _ _ (held_slot _ are.0) (held_other_slot _ are.1)
 
@@ -237,7 +238,7 @@ module _ (plan : Plan) (facts : KeyFacts plan) (h : History) (e : Event) (port :
 
   got_slot : (a : Keyed) → a ≡ On j → let s = receiving port p in
       rx_slot plan ((e, v.Accepted port (unit_name p j n) effects) ∷ h) port s (unless_below j a)
-      ≡ counted (rx_slot plan h port s a)
+      ≡ counted_unit (rx_slot plan h port s a)
   got_slot a on =
       let w = v.Accepted port (unit_name p j n) effects in
       let g = (e, w) ∷ h in

@@ -12,7 +12,7 @@ pub use Rattle.ide_types.specs.declared.port.PortName.{PortName}
 pub use Rattle.ide_types.specs.declared.sub.SubKind.{SubKind}
 pub use Rattle.ide_types.specs.declared.sub.SubKind.TheVariants.{Cpl, Npr, Pr}
 pub use Rattle.key_laws.specs.History.{History, base}
-unfoldable pub use Rattle.key_laws.specs.History.{failed as failed_there}
+unfoldable pub use Rattle.key_laws.specs.History.{failed_there}
 pub use Rattle.key_laws.specs.Keys.{Keyed, Keys, Loaded, Off, On, is_on, key_in, on_in, unless_below}
 pub use Rattle.key_laws.specs.Places.{is_same_sub}
 pub use Rattle.link_events.specs.declared.event.Event.{Event}
@@ -33,9 +33,11 @@ pub use Rattle.link_history.specs.Due.{effects_of, first_that_holds, is_keyless,
 pub use Rattle.link_history.specs.Due.{lanes_at, needs_sync, no_key, receiving, refusals, sealed_by, send_on as due_on}
 pub use Rattle.link_history.specs.Due.{send_read as due_read, sent_as, sent_under, settled, under_keys, unit_under}
 unfoldable pub use Rattle.link_history.specs.Due.{before_tag, due, is_verified}
-pub use Rattle.link_history.specs.History.{Arrival, KeyName, SealedList, accepted_keys, after_ends, ahead_in, altered}
+pub use Rattle.link_history.specs.History.{Arrival, KeyName, SealedList, accepted_keys, after_ends, front_of_packet}
+pub use Rattle.link_history.specs.History.{altered}
 pub use Rattle.link_history.specs.History.{arrived_packet, brought, ended_keys, ends_at, failed, fails_at, front_with}
-pub use Rattle.link_history.specs.History.{has_live, held as held_in, is_in, is_keyed, is_of, keys_at, lesser, live_key}
+pub use Rattle.link_history.specs.History.{has_live_key, held as held_in, is_in, is_keyed, is_of, keys_at, lesser}
+pub use Rattle.link_history.specs.History.{live_key}
 pub use Rattle.link_history.specs.History.{on_draw, packet_at, pending, posted_count, posted_in, posted_of, received_in}
 pub use Rattle.link_history.specs.History.{sent_in, shortened, sub_stream_of, total_in, waits, with_sealed}
 unfoldable pub use Rattle.link_history.specs.History.{
@@ -56,20 +58,23 @@ unfoldable pub use Rattle.link_history.specs.KeyFacts.{operates}
 pub use Rattle.link_history.specs.Plan.{SubStream, has_port, has_stream, is_closed, is_same, is_same_port, key_of}
 pub use Rattle.link_history.specs.Plan.{lane_in, lane_out, mode_of, streams_of}
 unfoldable pub use Rattle.link_history.specs.Units.{open_unit, units}
-pub use Rattle.link_ports.specs.Machine.{LinkPacket, LinkState, Stepped, altered_to, answered, arrive, arrive_read}
-pub use Rattle.link_ports.specs.Machine.{changed, cut_short, found, kept_at, packet_numbered, passed, port_place}
-pub use Rattle.link_ports.specs.Machine.{sealed_in, send_as, send_found, send_on, send_read, shown, take_as, take_found}
-pub use Rattle.link_ports.specs.Machine.{unit_name, verdict_of}
+pub use Rattle.link_ports.specs.Machine.{LinkPacket, LinkState, Stepped, altered_to, stepped_answer, arrive}
+pub use Rattle.link_ports.specs.Machine.{arrive_read}
+pub use Rattle.link_ports.specs.Machine.{changed_by_id, cut_short, found_by_id, kept_at, packet_numbered, passed}
+pub use Rattle.link_ports.specs.Machine.{port_place}
+pub use Rattle.link_ports.specs.Machine.{stepped_seal, send_as, stepped_send_found, stepped_send_on, stepped_send_read}
+pub use Rattle.link_ports.specs.Machine.{shown_packet, take_as, stepped_take_found}
+pub use Rattle.link_ports.specs.Machine.{unit_name, verdict_of_taken}
 unfoldable pub use Rattle.link_ports.specs.Machine.{find, put, step_of}
 pub use Rattle.link_ports.specs.Stands.{PacketsStand, PortsStand, got_in, is_of_packets, rx_slot, rx_slots, rx_standing}
-pub use Rattle.link_ports.specs.Stands.{sealing_key, standing_at, tx_slot, tx_slots, tx_standing}
+pub use Rattle.link_ports.specs.Stands.{sealing_key, standing_if_planned, tx_slot, tx_slots, tx_standing}
 unfoldable pub use Rattle.link_ports.specs.Stands.{standing}
 pub use Rattle.link_ports.specs.Stream.{Accepted, Failed, Held, Insecure, Live, LiveKey, NotKeyed, RxSub, Slot, Slots}
 pub use Rattle.link_ports.specs.Stream.{StreamState, Taken, Three, TxSub, accepted_slots, accepted_sub, at_sub, checked}
-pub use Rattle.link_ports.specs.Stream.{counted, dropped, dropped_held, each_sub, ended_slots, gone_on, held_sub}
+pub use Rattle.link_ports.specs.Stream.{counted_unit, dropped, dropped_held, each_sub, ended_slots, gone_on, held_sub}
 pub use Rattle.link_ports.specs.Stream.{holds_any, is_allowed, is_tagged, lane_of, lanes_of, live_in, live_sender}
 pub use Rattle.link_ports.specs.Stream.{packet_under, posted_sum, retired, sealed_all, sealed_slots, sealed_sub}
-pub use Rattle.link_ports.specs.Stream.{set_sub, slot_in, state_after, taken_by, taken_under, with_slot}
+pub use Rattle.link_ports.specs.Stream.{set_sub, slot_in_set, state_after, taken_by, taken_under, with_slot}
 pub use Rattle.link_verdicts.specs.declared.verdict.SealedPacket.{SealedPacket}
 pub use Rattle.link_verdicts.specs.declared.verdict.UnitName.{UnitName}
 pub use Rattle.link_verdicts.specs.declared.verdict.Verdict.{Verdict}

@@ -31,13 +31,13 @@ use Rattle.link_events.specs.declared.event.Loss.{Loss}
 use Rattle.link_verdicts.specs.declared.verdict.Operation.{Operation}
 use Rattle.link_verdicts.specs.declared.verdict.Operation.TheVariants as op
 use Rattle.ide_types.specs.declared.status.StreamStatus.{StreamStatus}
-use Rattle.key_laws.specs.Places.{Place, sent_direction}
+use Rattle.key_laws.specs.Places.{KeyPlace, sent_direction}
 use Rattle.key_laws.specs.Keys.{Touch, Program as ProgramTouch, Go as GoTouch, Stop as StopTouch, Clear as ClearTouch}
 use Rattle.key_laws.specs.Keys.{refusal_if}
 use Rattle.key_laws.specs.Operations.{Op, Idle, Work, Reach, work_of, reach_of, op_after, makes_draw}
 use Rattle.key_laws.specs.History.{status_by, worked}
 use Rattle.key_laws.specs.Due.{PortView, establish_on, refresh_on, stop_on}
-use Rattle.link_ports.specs.Moves.{Move, Program, Go, Halt, is_live, any_live, moved_stream}
+use Rattle.link_ports.specs.Moves.{Move, Program, Go, Halt, is_live_slot, any_live, moved_stream}
 use Rattle.link_history.specs.Plan.{SubStream, key_plan, partner, key_of, streams_of, has_port, mode_of, is_closed}
 use Rattle.link_history.specs.Plan.{streams_by_link}
 use Rattle.ide_plan.specs.declared.plan.Plan.{Plan}
@@ -47,7 +47,8 @@ use Rattle.link_verdicts.specs.declared.verdict.Effect.{Effect}
 use Rattle.link_events.specs.declared.event.InterfaceEvent.{InterfaceEvent}
 use Rattle.link_history.specs.Due.{choice, Sending, refusals, sealed_by, first_that_holds}
 use Rattle.link_history.specs.History.{Arrival}
-use Rattle.link_ports.specs.Stream.{Slot, Slots, slot_in, at_sub, LiveKey, Empty, Live, each_sub, Three, StreamState}
+use Rattle.link_ports.specs.Stream.{Slot, Slots, slot_in_set, at_sub, LiveKey, Empty, Live, each_sub, Three}
+use Rattle.link_ports.specs.Stream.{StreamState}
 use Rattle.link_ports.specs.Stream.{TxSub, Taken, Insecure, NotKeyed, Failed, Held, Accepted, lanes_of, sealed_all}
 use Rattle.link_ports.specs.Stream.{taken_by, state_after}
 
@@ -69,31 +70,34 @@ pub record LinkState : Type 0 where
 abbrev pub port_place : PortName → ℕ
 port_place port = 2 * port.link + sent_direction port.side
 
-abbrev pub found : {A : Type 0} → List StreamPlan → List A → ℕ → Option A
-found (s ∷ ss) (x ∷ xs) id = if s.id == id then Some x else found ss xs id
-found _ _ id = None
+abbrev pub found_by_id : {A : Type 0} → List StreamPlan → List A → ℕ → Option A
+found_by_id (s ∷ ss) (x ∷ xs) id = if s.id == id then Some x else found_by_id ss xs id
+found_by_id _ _ id = None
 
-abbrev pub changed : {A : Type 0} → List StreamPlan → List A → ℕ → A → List A
-changed (s ∷ ss) (x ∷ xs) id y = if s.id == id then y ∷ xs else x ∷ changed ss xs id y
-changed _ xs id y = xs
+abbrev pub changed_by_id : {A : Type 0} → List StreamPlan → List A → ℕ → A → List A
+changed_by_id (s ∷ ss) (x ∷ xs) id y = if s.id == id then y ∷ xs else x ∷ changed_by_id ss xs id y
+changed_by_id _ xs id y = xs
 
 unfoldable pub find : Plan → LinkState → PortName → ℕ → Option StreamState
-find plan st port stream = found (streams_of plan port.link) (slice_index_or st.ports (port_place port) []) stream
+find plan st port stream = found_by_id (streams_of plan port.link) (slice_index_or st.ports (port_place port) []) stream
 
 unfoldable pub put : Plan → LinkState → PortName → ℕ → StreamState → LinkState
 put plan st port stream x =
     record st {
-      ports = slice_set st.ports (port_place port) (changed (streams_of plan port.link)
+      ports = slice_set st.ports (port_place port) (changed_by_id (streams_of plan port.link)
           (slice_index_or st.ports (port_place port) []) stream x);
     }
 
 -- the manager's operation on a stream of a link
 unfoldable pub find_op : Plan → LinkState → ℕ → ℕ → Option Op
-find_op plan st link stream = found (streams_of plan link) (slice_index_or st.ops link []) stream
+find_op plan st link stream = found_by_id (streams_of plan link) (slice_index_or st.ops link []) stream
 
 unfoldable pub put_op : Plan → LinkState → ℕ → ℕ → Op → LinkState
 put_op plan st link stream o =
-    record st { ops = slice_set st.ops link (changed (streams_of plan link) (slice_index_or st.ops link []) stream o) }
+    record st {
+      ops = slice_set st.ops link
+          (changed_by_id (streams_of plan link) (slice_index_or st.ops link []) stream o);
+    }
 
 -- a verdict and the state after it
 abbrev pub Stepped : Type 0
@@ -104,38 +108,40 @@ Stepped = Verdict × LinkState
 abbrev pub kept_at : PortName → Packet → LinkPacket
 kept_at port p = record { port = port; bytes = packet_bytes p }
 
-abbrev pub sealed_in : Plan → LinkState → Sending → StreamState → List SealedPacket → List Packet × Three TxSub
+abbrev pub stepped_seal : Plan → LinkState → Sending → StreamState → List SealedPacket → List Packet × Three TxSub
     → Stepped
-sealed_in plan st s x ds sealed =
+stepped_seal plan st s x ds sealed =
     let new = put plan st s.port s.stream (record x { tx = sealed.1 }) in
     (v.Sealed ds, record new { packets = st.packets ++ map (kept_at s.port) sealed.0 })
 
 -- it is refused, or sealed as these packets
-abbrev pub answered : Plan → LinkState → Sending → Tlp → StreamState → Option Verdict → List SealedPacket → Stepped
-answered plan st s t x (Some verdict) ds = (verdict, st)
-answered plan st s t x None ds =
-    sealed_in plan st s x ds (sealed_all (is_closed plan s.port.link s.stream) (head_bytes (header t)) (body t) ds x.tx)
+abbrev pub stepped_answer : Plan → LinkState → Sending → Tlp → StreamState → Option Verdict → List SealedPacket
+    → Stepped
+stepped_answer plan st s t x (Some verdict) ds = (verdict, st)
+stepped_answer plan st s t x None ds =
+    stepped_seal plan st s x ds
+    (sealed_all (is_closed plan s.port.link s.stream) (head_bytes (header t)) (body t) ds x.tx)
 
 abbrev pub send_as : Plan → LinkState → Sending → Tlp → StreamState → Stepped
 send_as plan st s t x =
     let lanes = lanes_of (mode_of plan s.port.link s.stream) plan.units_per_key x in
-    answered plan st s t x (first_that_holds (refusals lanes s.class)) (sealed_by lanes s (length st.packets + 1))
+    stepped_answer plan st s t x (first_that_holds (refusals lanes s.class)) (sealed_by lanes s (length st.packets + 1))
 
-abbrev pub send_found : Plan → LinkState → Sending → Tlp → Option StreamState → Stepped
-send_found plan st s t None = (v.Nothing, st)
-send_found plan st s t (Some x) = send_as plan st s t x
+abbrev pub stepped_send_found : Plan → LinkState → Sending → Tlp → Option StreamState → Stepped
+stepped_send_found plan st s t None = (v.Nothing, st)
+stepped_send_found plan st s t (Some x) = send_as plan st s t x
 
--- what is said beside the ports: by the interfaces of T of a TLP on a stream, and of events on them; by the manager of
--- what the packets of an accepted unit do
+-- what is said beside the ports: the interfaces say T of a TLP on a stream, and what is due of events on them; the
+-- manager says what the packets of an accepted unit do
 pub record Beside : Type 0 where
   pub t : PortName → HeadView → ℕ → Bool → Bool
   pub effects : PortName → UnitName → List Packet → List Effect
   pub answer : InterfaceEvent → Verdict
 
-abbrev pub send_on : Plan → Beside → LinkState → PortName → Tlp → Bool → Bool → Option ℕ → Stepped
-send_on plan beside st port t more trusted None = (v.Plain port, st)
-send_on plan beside st port t more trusted (Some stream) =
-    send_found plan st (record {
+abbrev pub stepped_send_on : Plan → Beside → LinkState → PortName → Tlp → Bool → Bool → Option ℕ → Stepped
+stepped_send_on plan beside st port t more trusted None = (v.Plain port, st)
+stepped_send_on plan beside st port t more trusted (Some stream) =
+    stepped_send_found plan st (record {
       port = port;
       stream = stream;
       class = class_of (header t);
@@ -143,9 +149,9 @@ send_on plan beside st port t more trusted (Some stream) =
       trusted = beside.t port (header t) stream trusted;
     }) t (find plan st port stream)
 
-abbrev pub send_read : Plan → Beside → LinkState → PortName → Result Tlp TlpFault → Bool → Bool → Stepped
-send_read plan beside st port (Err f) more trusted = (v.Malformed port (tlp_word f) (place_in f), st)
-send_read plan beside st port (Ok t) more trusted = send_on plan beside st port t more trusted
+abbrev pub stepped_send_read : Plan → Beside → LinkState → PortName → Result Tlp TlpFault → Bool → Bool → Stepped
+stepped_send_read plan beside st port (Err f) more trusted = (v.Malformed port (tlp_word f) (place_in f), st)
+stepped_send_read plan beside st port (Ok t) more trusted = stepped_send_on plan beside st port t more trusted
     (choice plan port (header t))
 
 -- ---- arrivals
@@ -153,27 +159,27 @@ send_read plan beside st port (Ok t) more trusted = send_on plan beside st port 
 abbrev pub unit_name : Packet → ℕ → ℕ → UnitName
 unit_name p draw unit = record { stream = p.prefix.stream; sub = p.prefix.sub; draw = draw; unit = unit }
 
-abbrev pub verdict_of : Beside → PortName → Packet → Taken → Verdict
-verdict_of beside port p Insecure = v.Insecure port p.prefix.stream
-verdict_of beside port p NotKeyed = v.NotKeyed port p.prefix.stream p.prefix.sub
-verdict_of beside port p (Failed cause) = v.Fail port p.prefix.stream p.prefix.sub cause
-verdict_of beside port p (Held j n) = v.Held port (unit_name p j n)
-verdict_of beside port p (Accepted j n unit) = v.Accepted port (unit_name p j n)
+abbrev pub verdict_of_taken : Beside → PortName → Packet → Taken → Verdict
+verdict_of_taken beside port p Insecure = v.Insecure port p.prefix.stream
+verdict_of_taken beside port p NotKeyed = v.NotKeyed port p.prefix.stream p.prefix.sub
+verdict_of_taken beside port p (Failed cause) = v.Fail port p.prefix.stream p.prefix.sub cause
+verdict_of_taken beside port p (Held j n) = v.Held port (unit_name p j n)
+verdict_of_taken beside port p (Accepted j n unit) = v.Accepted port (unit_name p j n)
     (beside.effects port (unit_name p j n) unit)
 
 abbrev pub take_as : Plan → Beside → LinkState → PortName → Packet → StreamState → Stepped
 take_as plan beside st port p x =
     let taken = taken_by (mode_of plan port.link p.prefix.stream) (is_closed plan port.link p.prefix.stream) x p in
-    (verdict_of beside port p taken, put plan st port p.prefix.stream (state_after x p taken))
+    (verdict_of_taken beside port p taken, put plan st port p.prefix.stream (state_after x p taken))
 
-abbrev pub take_found : Plan → Beside → LinkState → PortName → Packet → Option StreamState → Stepped
-take_found plan beside st port p None = (v.Unknown port p.prefix.stream, st)
-take_found plan beside st port p (Some x) = take_as plan beside st port p x
+abbrev pub stepped_take_found : Plan → Beside → LinkState → PortName → Packet → Option StreamState → Stepped
+stepped_take_found plan beside st port p None = (v.Unknown port p.prefix.stream, st)
+stepped_take_found plan beside st port p (Some x) = take_as plan beside st port p x
 
 abbrev pub arrive_read : Plan → Beside → LinkState → PortName → Result CutValue PacketFault → Stepped
 arrive_read plan beside st port (Err f) = (v.Malformed port (packet_word f) (packet_place f), st)
 arrive_read plan beside st port (Ok PlainTlp) = (v.Plain port, st)
-arrive_read plan beside st port (Ok (IdePacket p)) = take_found plan beside st port p
+arrive_read plan beside st port (Ok (IdePacket p)) = stepped_take_found plan beside st port p
     (find plan st port p.prefix.stream)
 
 abbrev pub arrive : Plan → Beside → LinkState → Option Arrival → Stepped
@@ -201,9 +207,9 @@ abbrev pub cut_short : ℕ → LinkPacket → Option Arrival
 cut_short len x =
     if nat_le len (length x.bytes) then Some (record { port = partner x.port; bytes = take len x.bytes }) else None
 
-abbrev pub shown : ℕ → Option LinkPacket → Verdict
-shown n None = v.Nothing
-shown n (Some x) = v.Packet n x.bytes
+abbrev pub shown_packet : ℕ → Option LinkPacket → Verdict
+shown_packet n None = v.Nothing
+shown_packet n (Some x) = v.Packet n x.bytes
 
 -- ---- an operation on a stream of a link moves slots at both ports
 
@@ -237,12 +243,12 @@ abbrev pub is_newer : ℕ → Slot → Bool
 is_newer i (Live x) = nat_lt i x.draw
 is_newer i _ = false
 
-abbrev pub is_last_live : Slot → Slot → Bool
-is_last_live (Live x) other = not (is_newer x.draw other)
-is_last_live _ other = false
+abbrev pub is_last_in : Slot → Slot → Bool
+is_last_in (Live x) other = not (is_newer x.draw other)
+is_last_in _ other = false
 
 abbrev pub refuses_in : Slots → Bool → Bool
-refuses_in s k = is_last_live (slot_in s k) (slot_in s (not k))
+refuses_in s k = is_last_in (slot_in_set s k) (slot_in_set s (not k))
 
 abbrev pub refuses_at : Bool → SubKind → Bool → Option StreamState → Bool
 refuses_at sends u k None = false
@@ -250,7 +256,7 @@ refuses_at sends u k (Some x) = refuses_in (slots_of sends u x) k
 
 abbrev pub live_at : Bool → SubKind → Bool → Option StreamState → Bool
 live_at sends u k None = false
-live_at sends u k (Some x) = is_live (slot_in (slots_of sends u x) k)
+live_at sends u k (Some x) = is_live_slot (slot_in_set (slots_of sends u x) k)
 
 abbrev pub ports_of : Plan → LinkState → PortView
 ports_of plan st = record {
@@ -268,12 +274,12 @@ some_live x =
     any_live x.tx.pr.slots || any_live x.tx.npr.slots || any_live x.tx.cpl.slots
     || any_live x.rx.pr.slots || any_live x.rx.npr.slots || any_live x.rx.cpl.slots
 
-abbrev pub stream_status : Option StreamState → StreamStatus
-stream_status None = status_by false false false
-stream_status (Some x) = status_by x.failed (some_live x) (all_live x)
+abbrev pub status_if_planned : Option StreamState → StreamStatus
+status_if_planned None = status_by false false false
+status_if_planned (Some x) = status_by x.failed (some_live x) (all_live x)
 
 abbrev pub status_at : Plan → LinkState → Side → ℕ → ℕ → StreamStatus
-status_at plan st side link stream = stream_status (find plan st (port_at side link) stream)
+status_at plan st side link stream = status_if_planned (find plan st (port_at side link) stream)
 
 -- ---- operations
 
@@ -287,10 +293,10 @@ moves_of refuses (ClearTouch ∷ ts) = Halt false ∷ Halt true ∷ moves_of ref
 moves_of refuses (_ ∷ ts) = moves_of refuses ts
 
 -- what an event of an operation does to the slots of a sub-stream at one end of the link
-abbrev pub end_at : ℕ → ℕ → Bool → Side → SubKind → Place
-end_at link stream sends side u = record { side = side; link = link; stream = stream; sends = sends; sub = u }
+abbrev pub place_at_end : ℕ → ℕ → Bool → Side → SubKind → KeyPlace
+place_at_end link stream sends side u = record { side = side; link = link; stream = stream; sends = sends; sub = u }
 
-abbrev pub moves_at : PortView → Work → Reach → Place → List Move
+abbrev pub moves_at : PortView → Work → Reach → KeyPlace → List Move
 moves_at ports w r p = moves_of (λ k. is_some (ports.refusal p k)) (worked w (Some r) p)
 
 abbrev pub draws_after : ℕ → Work → ℕ
@@ -301,30 +307,30 @@ work_done plan st link stream w None = st
 work_done plan st link stream w (Some r) =
     let ports = ports_of plan st in
     let moved =
-    moved_state plan st link stream (λ side u. moves_at ports w r (end_at link stream true side u))
-    (λ side u. moves_at ports w r (end_at link stream false side u)) in
+    moved_state plan st link stream (λ side u. moves_at ports w r (place_at_end link stream true side u))
+    (λ side u. moves_at ports w r (place_at_end link stream false side u)) in
     record (put_op plan moved link stream (op_after w r)) { draws = draws_after st.draws w }
 
-abbrev pub operated : Plan → LinkState → Operation → ℕ → ℕ → Op → Verdict → Stepped
-operated plan st o link stream q verdict =
+abbrev pub stepped_operation : Plan → LinkState → Operation → ℕ → ℕ → Op → Verdict → Stepped
+stepped_operation plan st o link stream q verdict =
     (verdict, work_done plan st link stream (work_of o q st.draws) (reach_of o verdict))
 
 abbrev pub establish_found : Plan → LinkState → ℕ → ℕ → Option Loss → Option Op → Stepped
 establish_found plan st link stream lose None = (v.Nothing, st)
 establish_found plan st link stream lose (Some q) =
-    operated plan st op.Establish link stream q (establish_on (key_plan plan) q st.draws (ports_of plan st)
+    stepped_operation plan st op.Establish link stream q (establish_on (key_plan plan) q st.draws (ports_of plan st)
     link stream lose)
 
 abbrev pub refresh_found : Plan → LinkState → ℕ → ℕ → Option Loss → Option Op → Stepped
 refresh_found plan st link stream lose None = (v.Nothing, st)
 refresh_found plan st link stream lose (Some q) =
-    operated plan st op.Refresh link stream q (refresh_on (key_plan plan) q st.draws (ports_of plan st)
+    stepped_operation plan st op.Refresh link stream q (refresh_on (key_plan plan) q st.draws (ports_of plan st)
     (status_at plan st Host link stream) link stream lose)
 
 abbrev pub stop_found : Plan → LinkState → ℕ → ℕ → Option Loss → Option Op → Stepped
 stop_found plan st link stream lose None = (v.Nothing, st)
 stop_found plan st link stream lose (Some q) =
-    operated plan st op.Stop link stream q (stop_on q st.draws (ports_of plan st) link stream lose)
+    stepped_operation plan st op.Stop link stream q (stop_on q st.draws (ports_of plan st) link stream lose)
 
 abbrev pub status_found : Plan → LinkState → ℕ → ℕ → Option Op → Stepped
 status_found plan st link stream None = (v.Nothing, st)
@@ -357,7 +363,7 @@ reset_state plan st link =
 -- the verdict of an event, and the state after it
 unfoldable pub step_of : Plan → Beside → LinkState → Event → Stepped
 step_of plan beside st (Send port bytes more trusted) =
-    if has_port plan port then send_read plan beside st port (read_of bytes) more trusted else (v.Nothing, st)
+    if has_port plan port then stepped_send_read plan beside st port (read_of bytes) more trusted else (v.Nothing, st)
 step_of plan beside st (Pass n) = arrive plan beside st (option_and_then passed (packet_numbered st.packets n))
 step_of plan beside st (Alter n at mask) = arrive plan beside st
     (option_and_then (altered_to at mask) (packet_numbered st.packets n))
@@ -365,7 +371,7 @@ step_of plan beside st (Cut n len) = arrive plan beside st
     (option_and_then (cut_short len) (packet_numbered st.packets n))
 step_of plan beside st (Arrive port bytes) =
     if has_port plan port then arrive plan beside st (Some (record { port = port; bytes = bytes })) else (v.Nothing, st)
-step_of plan beside st (Dump n) = (shown n (packet_numbered st.packets n), st)
+step_of plan beside st (Dump n) = (shown_packet n (packet_numbered st.packets n), st)
 step_of plan beside st (Establish link stream lose) = establish_found plan st link stream lose
     (find_op plan st link stream)
 step_of plan beside st (Refresh link stream lose) = refresh_found plan st link stream lose (find_op plan st link stream)

@@ -5,8 +5,8 @@ use Rattle.ide_types.specs.declared.port.PortName.{PortName}
 use Rattle.ide_plan.specs.declared.plan.Plan.{Plan}
 use Rattle.link_history.specs.Plan.{SubStream, key_of, lane_out, lane_in}
 use Rattle.key_laws.specs.Keys.{Keyed, Off, Loaded, On, Keys, key_in, with_key}
-use Rattle.link_ports.specs.Stream.{Empty, Programmed, Slots, slot_in, with_slot, StreamState, at_sub, each_sub}
-pub use Rattle.stream_rules.specs.Slots.{both_slots, begun, is_busy, slot_gone, woken, is_live, any_live}
+use Rattle.link_ports.specs.Stream.{Empty, Programmed, Slots, slot_in_set, with_slot, StreamState, at_sub, each_sub}
+pub use Rattle.stream_rules.specs.Slots.{both_slots, begun, is_busy, slot_gone, woken_slot, is_live_slot, any_live}
 pub use Rattle.stream_rules.specs.Slots.{settled_stream}
 
 -- in a key set: an accepted KEY_PROG of a draw, a GO, a STOP
@@ -20,14 +20,14 @@ pub data Move : Type 0 where
 abbrev pub both_keys : Bool → Keyed → Keyed → Keys
 both_keys k a b = if k then record { first = b; second = a } else record { first = a; second = b }
 
-abbrev pub started : Keyed → Keyed
-started (Loaded j) = On j
-started a = a
+abbrev pub started_key : Keyed → Keyed
+started_key (Loaded j) = On j
+started_key a = a
 
 -- at a receiver
 abbrev pub key_moved_in : Move → Keys → Keys
 key_moved_in (Program k j) keys = with_key keys k (Loaded j)
-key_moved_in (Go k) keys = with_key keys k (started (key_in keys k))
+key_moved_in (Go k) keys = with_key keys k (started_key (key_in keys k))
 key_moved_in (Halt k) keys = with_key keys k Off
 
 -- the other set at a sender's GO: it stays if a unit is unfinished under its draw
@@ -49,13 +49,13 @@ key_moved_out busy (Halt k) keys = with_key keys k Off
 
 abbrev pub slot_moved_in : Plan → SubStream → Move → Slots → Slots
 slot_moved_in plan s (Program k j) slots = with_slot slots k (Programmed j (key_of plan j s))
-slot_moved_in plan s (Go k) slots = with_slot slots k (begun (slot_in slots k))
+slot_moved_in plan s (Go k) slots = with_slot slots k (begun (slot_in_set slots k))
 slot_moved_in plan s (Halt k) slots = with_slot slots k Empty
 
 abbrev pub slot_moved_out : Plan → SubStream → Move → Slots → Slots
 slot_moved_out plan s (Program k j) slots = with_slot slots k (Programmed j (key_of plan j s))
-slot_moved_out plan s (Go k) slots = slot_gone k (slot_in slots k) (slot_in slots (not k))
-slot_moved_out plan s (Halt k) slots = both_slots k Empty (woken (slot_in slots (not k)))
+slot_moved_out plan s (Go k) slots = slot_gone k (slot_in_set slots k) (slot_in_set slots (not k))
+slot_moved_out plan s (Halt k) slots = both_slots k Empty (woken_slot (slot_in_set slots (not k)))
 
 -- ---- a stream at a port
 

@@ -97,19 +97,20 @@ standing plan h port stream = record {
   failed = failed h port stream;
 }
 
-abbrev pub standing_at : Plan → History → PortName → ℕ → Option StreamState
-standing_at plan h port stream = if has_stream plan port stream then Some (standing plan h port stream) else None
+abbrev pub standing_if_planned : Plan → History → PortName → ℕ → Option StreamState
+standing_if_planned plan h port stream = if has_stream plan port stream then Some (standing plan h port stream)
+    else None
 
 -- the ports and the packets stand for a history
 pub record PortsStand (plan : Plan) (st : LinkState) (h : History) : Type 0 where
   pub cause : CauseLaw plan h
-  pub streams : (port : PortName) (stream : ℕ) → find plan st port stream ≡ standing_at plan h port stream
+  pub streams : (port : PortName) (stream : ℕ) → find plan st port stream ≡ standing_if_planned plan h port stream
   pub packets : st.packets ≡ map (λ (x : SealedPacket × Packet). kept_at x.0.port x.1) (sealed_packets plan h)
 
 abbrev pub op_at : Plan → History → ℕ → ℕ → Option Op
 op_at plan h link stream = if is_some (stream_plan plan link stream) then Some (op_of h link stream) else None
 
-pub record StandsFor (plan : Plan) (st : LinkState) (h : History) : Type 0 where
+pub record PortsStandFor (plan : Plan) (st : LinkState) (h : History) : Type 0 where
   pub ports_stand : PortsStand plan st h
   pub ops_is : (link stream : ℕ) → find_op plan st link stream ≡ op_at plan h link stream
   pub draws_is : st.draws ≡ draws h
@@ -124,13 +125,13 @@ beside_at plan h = record {
 
 -- A step gives the verdict that is due, and its state stands for the history with it.
 abbrev pub StepStands : Type 0
-StepStands = (plan : Plan) (st : LinkState) (h : History) (e : Event) → StandsFor plan st h
+StepStands = (plan : Plan) (st : LinkState) (h : History) (e : Event) → PortsStandFor plan st h
     → ((step_of plan (beside_at plan h) st e).0 ≡ due plan h e)
-    × StandsFor plan (step_of plan (beside_at plan h) st e).1 ((e, (step_of plan (beside_at plan h) st e).0) ∷ h)
+    × PortsStandFor plan (step_of plan (beside_at plan h) st e).1 ((e, (step_of plan (beside_at plan h) st e).0) ∷ h)
 
 -- The first state stands for the empty history.
 abbrev pub FirstStands : Type 0
-FirstStands = (plan : Plan) → StandsFor plan (first_state plan) []
+FirstStands = (plan : Plan) → PortsStandFor plan (first_state plan) []
 
 -- it is a send, brings bytes, or shows a packet
 abbrev pub is_of_packets : Event → Bool

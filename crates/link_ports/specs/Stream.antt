@@ -1,7 +1,8 @@
 -- A port's part of one stream, as the rules of streams have it.
 pub use Rattle.stream_rules.specs.Stream.{Three, at_sub, set_sub, each_sub, LiveKey, Slot, Slots, TxSub, RxSub}
-pub use Rattle.stream_rules.specs.Stream.{StreamState, slot_in, with_slot, live_in, live_sender, lane_of, lanes_of}
-pub use Rattle.stream_rules.specs.Stream.{untagged_under, tagged_under, packet_under, gone_on, counted, ended_slots}
+pub use Rattle.stream_rules.specs.Stream.{StreamState, slot_in_set, with_slot, live_in, live_sender, lane_of, lanes_of}
+pub use Rattle.stream_rules.specs.Stream.{untagged_under, tagged_under, packet_under, gone_on, counted_unit}
+pub use Rattle.stream_rules.specs.Stream.{ended_slots}
 pub use Rattle.stream_rules.specs.Stream.{sealed_slots, sealed_sub, sealed_one, sealed_all, Taken, holds_any}
 pub use Rattle.stream_rules.specs.Stream.{posted_sum, is_allowed, is_tagged, checked, taken_under, taken_by, dropped}
 pub use Rattle.stream_rules.specs.Stream.{dropped_held, retired, accepted_slots, accepted_sub, held_sub, state_after}

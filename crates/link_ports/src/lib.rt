@@ -1,5 +1,5 @@
-//! The ports of all links as a machine: what is kept between two events, one step, and that sends and arrivals keep it
-//! what the whole history says.
+//! The ports of all links as a machine: what is kept between two events, one step, and that it stays what the whole
+//! history says at sends and arrivals.
 #![tactic(auto)]
 
 mod stands;

@@ -1,4 +1,4 @@
--- What an event on an interface or on memory comes to is read from its words.
+-- The verdict of an event on an interface or on memory is read from its words.
 use Rattle.std.proofs.Common.{◌≡◌, List, refl, codes}
 use Rattle.std.specs.Prelude.{if◌then◌else◌}
 use Rattle.std.specs.Str.{bytes_eq}

@@ -5,7 +5,7 @@ use Rattle.interface_words.specs.declared.view.View.{View}
 use Rattle.interface_words.specs.declared.view.View.TheVariants as view
 use Rattle.interface_words.specs.declared.verdict.InterfaceVerdict.{InterfaceVerdict}
 use Rattle.interface_words.specs.declared.verdict.InterfaceVerdict.TheVariants as iv
-use Rattle.link_verdicts.specs.InterfaceLines.{interface_words, FitsInterface}
+use Rattle.link_verdicts.specs.InterfaceLines.{interface_words, FitsInterfaceVerdict}
 use Rattle.link_verdicts.proofs.Joins.{IsWord, AreWords}
 use Rattle.link_verdicts.proofs.WordSpellings.{decimal_word, hex_word, bytes_are_word}
 
@@ -16,7 +16,7 @@ view_is_word view.Running = search rules
 view_is_word view.Doubt = search rules
 view_is_word view.Broken = search rules
 
-pub interface_is_words : (x : InterfaceVerdict) → FitsInterface x → AreWords (interface_words x)
+pub interface_is_words : (x : InterfaceVerdict) → FitsInterfaceVerdict x → AreWords (interface_words x)
 interface_is_words (iv.Locked i nonce) h = let a = decimal_word i h.0 in let b = hex_word nonce h.1 in search rules
 interface_is_words (iv.Reported i report) h = let a = decimal_word i h.0 in let b = bytes_are_word report h.1 in search
     rules

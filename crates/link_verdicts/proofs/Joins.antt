@@ -1,4 +1,4 @@
--- A line at the front of a text has one list of words, and one text behind it.
+-- A line at the beginning of a text has one list of words, and one text after it.
 use Rattle.std.proofs.Common.{◌≡◌, ◌<◌, ◌≤◌, ℕ, List, [], ◌∷◌, ◌++◌, refl, ap, ap₂, sym, ◌∙◌, arith, append_assoc}
 use Rattle.ide_types.specs.Names.{Text, joined}
 
@@ -33,7 +33,7 @@ word_apart (b ∷ v) (c ∷ w) xs ys hv hw hx hy e =
     let rest = word_apart v w xs ys hv.1 hw.1 hx hy (ap tail_of e) in
     (ap₂ (λ (x : ℕ) (xs : Text). x ∷ xs) (ap head_of e) rest.0, rest.1)
 
--- a word and those behind it, ahead of two texts
+-- a word and those after it, before two texts
 first_apart : (v w : Text) (vs ws : List Text) (xs ys : Text) → IsWord v → IsWord w → (v ++ joined vs) ++ xs
     ≡ (w ++ joined ws) ++ ys → (v ≡ w) × (joined vs ++ xs ≡ joined ws ++ ys)
 first_apart v w vs ws xs ys hv hw e =

@@ -1,5 +1,5 @@
 -- Each verdict is read back from its words: the first words say which it is, and each field stands alone in a word or
--- behind a letter. That what is read is the verdict is one line of proof for each kind.
+-- after a letter. That what is read is the verdict is one line of proof for each kind.
 use Rattle.std.proofs.Common.{zero, suc, true, false, ◌==◌, slice_index, ◌≡◌, ◌<◌, ◌≤◌, ◌^◌, ℕ, List, [], ◌∷◌, ◌++◌}
 use Rattle.std.proofs.Common.{Bool, length, drop, refl, ap, ap₂, ◌∙◌, arith, codes}
 use Rattle.std.specs.Prelude.{if◌then◌else◌}
@@ -111,7 +111,7 @@ packet ws = record {
   sync = bytes_eq (word_at ws 12) (codes "sync");
 }
 
--- the words behind a packet's, and behind the semicolon there
+-- the words after a packet's, and after the semicolon there
 abbrev behind : List Text → List Text
 behind ws = if bytes_eq (word_at ws 12) (codes "sync") then drop 14 ws else drop 13 ws
 

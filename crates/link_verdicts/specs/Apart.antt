@@ -6,7 +6,7 @@ use Rattle.link_verdicts.specs.Terms.{RefusedNoKey, RefusedUnfinished, RefusedWo
 use Rattle.link_verdicts.specs.Terms.{Fail, Held, Accepted, Established, Refreshed, Stopped, LostRequest, LostReply}
 use Rattle.link_verdicts.specs.Terms.{RefusedNotIdle, RefusedNotSecure, RefusedPoolEmpty, RefusedDevice, RefusedBusy}
 use Rattle.link_verdicts.specs.Terms.{RefusedUnitOpen, Packet, Reset, Status, Interface}
-use Rattle.link_verdicts.specs.InterfaceLines.{FitsInterface}
+use Rattle.link_verdicts.specs.InterfaceLines.{FitsInterfaceVerdict}
 use Rattle.link_verdicts.specs.Lines.{line_of}
 
 -- ---- each number has at most 64 bits, as those of every type here have, and each byte 8
@@ -55,7 +55,7 @@ Fits (RefusedUnitOpen sub) = Unit {0}
 Fits (Packet packet bytes) = (packet < 2 ^ 64) × IsBytes bytes
 Fits (Reset link) = link < 2 ^ 64
 Fits (Status link stream host device) = (link < 2 ^ 64) × (stream < 2 ^ 64)
-Fits (Interface verdict) = FitsInterface verdict
+Fits (Interface verdict) = FitsInterfaceVerdict verdict
 
 -- Texts that are equal, and begin with the lines of two verdicts, begin with one verdict of one number, and go on
 -- alike.

@@ -39,17 +39,17 @@ ShowsBytes (iv.Memory bytes) = Unit {0}
 ShowsBytes _ = ⊥
 
 -- each number has at most 64 bits, and each byte 8
-abbrev pub FitsInterface : InterfaceVerdict → Type 0
-FitsInterface (iv.Locked interface nonce) = (interface < 2 ^ 64) × IsBytes nonce
-FitsInterface (iv.Reported interface report) = (interface < 2 ^ 64) × IsBytes report
-FitsInterface (iv.Started interface draw) = (interface < 2 ^ 64) × (draw < 2 ^ 64)
-FitsInterface (iv.Halted interface needs) = (interface < 2 ^ 64) × (needs < 2 ^ 64)
-FitsInterface (iv.State interface state) = (interface < 2 ^ 64) × (state < 2 ^ 64)
-FitsInterface (iv.View interface view) = interface < 2 ^ 64
-FitsInterface (iv.Written interface state) = (interface < 2 ^ 64) × (state < 2 ^ 64)
-FitsInterface (iv.Flr interface state) = (interface < 2 ^ 64) × (state < 2 ^ 64)
-FitsInterface (iv.Firmware interface state) = (interface < 2 ^ 64) × (state < 2 ^ 64)
-FitsInterface (iv.Memory bytes) = IsBytes bytes
-FitsInterface (iv.RefusedWrongState view) = Unit {0}
-FitsInterface iv.RefusedNotReported = Unit {0}
-FitsInterface (iv.RefusedRefreshFirst draw needed) = (draw < 2 ^ 64) × (needed < 2 ^ 64)
+abbrev pub FitsInterfaceVerdict : InterfaceVerdict → Type 0
+FitsInterfaceVerdict (iv.Locked interface nonce) = (interface < 2 ^ 64) × IsBytes nonce
+FitsInterfaceVerdict (iv.Reported interface report) = (interface < 2 ^ 64) × IsBytes report
+FitsInterfaceVerdict (iv.Started interface draw) = (interface < 2 ^ 64) × (draw < 2 ^ 64)
+FitsInterfaceVerdict (iv.Halted interface needs) = (interface < 2 ^ 64) × (needs < 2 ^ 64)
+FitsInterfaceVerdict (iv.State interface state) = (interface < 2 ^ 64) × (state < 2 ^ 64)
+FitsInterfaceVerdict (iv.View interface view) = interface < 2 ^ 64
+FitsInterfaceVerdict (iv.Written interface state) = (interface < 2 ^ 64) × (state < 2 ^ 64)
+FitsInterfaceVerdict (iv.Flr interface state) = (interface < 2 ^ 64) × (state < 2 ^ 64)
+FitsInterfaceVerdict (iv.Firmware interface state) = (interface < 2 ^ 64) × (state < 2 ^ 64)
+FitsInterfaceVerdict (iv.Memory bytes) = IsBytes bytes
+FitsInterfaceVerdict (iv.RefusedWrongState view) = Unit {0}
+FitsInterfaceVerdict iv.RefusedNotReported = Unit {0}
+FitsInterfaceVerdict (iv.RefusedRefreshFirst draw needed) = (draw < 2 ^ 64) × (needed < 2 ^ 64)

@@ -8,5 +8,6 @@ pub use Rattle.ide_types.specs.Names.{Text, joined}
 pub use Rattle.link_verdicts.specs.Terms.{BlockCause, Effect, Operation, SealedPacket, UnitName, Totals, Verdict}
 pub use Rattle.link_verdicts.specs.Lines.{verdict_words, line_of, totals_line_of, IsSendRefusal, IsArrival}
 pub use Rattle.link_verdicts.specs.Lines.{IsOperationRefusal, IsOutcome}
-pub use Rattle.link_verdicts.specs.InterfaceLines.{interface_words, FitsInterface, IsInterfaceRefusal, ShowsBytes}
+pub use Rattle.link_verdicts.specs.InterfaceLines.{interface_words, FitsInterfaceVerdict, IsInterfaceRefusal}
+pub use Rattle.link_verdicts.specs.InterfaceLines.{ShowsBytes}
 pub use Rattle.link_verdicts.specs.Apart.{Fits, LinesApart}

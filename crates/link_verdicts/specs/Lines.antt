@@ -10,7 +10,7 @@ use Rattle.link_verdicts.specs.Terms.{RefusedDevice, RefusedBusy, RefusedUnitOpe
 pub use Rattle.link_verdicts.specs.Words.{block_word, effect_word, operation_word, bytes_word, bit_of}
 use Rattle.link_verdicts.specs.InterfaceLines.{interface_words}
 
--- ---- parts of a line, each ahead of the words that follow it
+-- ---- parts of a line, each before the words that follow it
 
 abbrev pub unit_words : UnitName → List Text → List Text
 unit_words u after = decimal u.stream ∷ substream_word u.sub ∷ codes "draw" ∷ decimal u.draw ∷ codes "unit"

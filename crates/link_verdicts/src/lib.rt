@@ -3,13 +3,9 @@
 #![tactic(auto)]
 
 mod interface_lines;
-#[cfg(test)]
-mod interface_tests;
 mod lines;
 mod lists;
 mod names;
-#[cfg(test)]
-mod tests;
 mod verdict;
 
 pub use ide_types::Memory;

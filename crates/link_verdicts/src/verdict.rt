@@ -25,7 +25,8 @@ pub struct SealedPacket {
     pub sync: bool,
 }
 
-/// A unit: its stream and sub-stream, the draw of its key, and its counter under that draw, from 1.
+/// A unit: its stream and sub-stream, the draw of its key, and its counter under that draw, from 1 (PCI Express Base
+/// 6.0 section 6.33, in this profile).
 #[derive(Clone, Copy, Debug, PartialEq, Eq)]
 pub struct UnitName {
     pub stream: u8,
@@ -58,7 +59,7 @@ pub enum Effect {
     Blocked(BlockCause),
 }
 
-/// The manager's operations on a stream.
+/// The manager's operations on a stream (this profile).
 #[derive(Clone, Copy, Debug, PartialEq, Eq)]
 pub enum Operation {
     Establish,
@@ -66,7 +67,7 @@ pub enum Operation {
     Stop,
 }
 
-/// The verdict of an event. `place` is the first byte, from 0, at which no spelling goes on.
+/// The verdict of an event (this profile). `place` is the first byte, from 0, at which no spelling goes on.
 #[derive(Debug, Drop)]
 pub enum Verdict {
     /// The event names what does not exist.
@@ -205,7 +206,8 @@ pub enum Verdict {
     },
 }
 
-/// The counts of a run: packets sealed, packets of accepted units, checks that failed, and blocked effects.
+/// The counts of a run: packets sealed, packets of accepted units, checks that failed, and blocked effects (this
+/// profile).
 #[derive(Clone, Copy, Debug, PartialEq, Eq)]
 pub struct Totals {
     pub sealed: u64,

@@ -8,18 +8,18 @@ use Rattle.link_walks.proofs.Terms.{ports_at, performed, work_of, op_of}
 use Rattle.key_laws.specs.Due.{may_establish, may_refresh, unless_open}
 use Rattle.link_walks.proofs.Terms.{streams_by_link, streams_of, with_id}
 use Rattle.key_laws.specs.History.{manager}
-use Rattle.key_laws.specs.Due.{due}
+use Rattle.key_laws.specs.Due.{key_due}
 use Rattle.link_history.specs.Plan.{stream_plan}
 use Rattle.std.proofs.lemmas.List.Elements.{All-tail, All-nil}
 use Rattle.ide_types.specs.declared.status.StreamStatus.{StreamStatus}
 use Rattle.ide_plan.specs.declared.plan.LinkPlan.{LinkPlan}
 use Rattle.ide_plan.specs.declared.stream.StreamPlan.{StreamPlan}
-use Rattle.key_laws.specs.Laws.{CauseLaw}
+use Rattle.key_laws.specs.Laws.{KeyCauseLaw}
 use Rattle.link_events.specs.declared.event.Event.TheVariants as event
 use Rattle.link_verdicts.specs.declared.verdict.Operation.TheVariants as op
 use Rattle.link_verdicts.specs.declared.verdict.Verdict.TheVariants as v
 
--- ---- an event draws only where the pool has keys
+-- ---- an event draws only if the pool has keys
 
 establish_fits : (plan : KeyPlan) (known : Bool) (m : Manager) (l s : ℕ) (performed x : Verdict)
     → length m.begun ≤ plan.pool
@@ -43,8 +43,8 @@ reset_fits : (m : Manager) (link top : ℕ) (x : Verdict) → length m.begun ≤
     → length (manager_after m (event.Reset link) x).begun ≤ top
 reset_fits m link top x le = grind arith
 
-pub draws_fit : (plan : KeyPlan) (h : History) → CauseLaw plan h → draws h ≤ plan.pool
-unfolding manager due
+pub draws_fit : (plan : KeyPlan) (h : History) → KeyCauseLaw plan h → draws h ≤ plan.pool
+unfolding manager key_due
 draws_fit plan [] cause = omega arith
 draws_fit plan ((event.Establish l s loss, x) ∷ h) cause =
     establish_fits plan (plan.has_stream l s) (manager h) l s

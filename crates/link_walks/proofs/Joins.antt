@@ -1,7 +1,7 @@
--- An event of an operation, walked at both ends, comes to what the machine of links says.
+-- An event of an operation, walked at both ends, gives what the machine of links says.
 use Rattle.link_walks.proofs.Terms.{◌≡◌, arith, true, ℕ, List, ◌++◌, Work, Plan, if◌then◌else◌, Operation, ◌≤◌, ◌∙◌}
 use Rattle.link_walks.proofs.Terms.{sym, Device, Host, StreamState, ◌+◌, [], suc, refl, ◌-◌, ap, Some, subst, ◌∷◌}
-use Rattle.link_walks.proofs.Terms.{last_of, port_at, CallsAreMoves}
+use Rattle.link_walks.proofs.Terms.{last_exchange_of, port_at, CallsAreMoves}
 use Rattle.link_walks.proofs.Terms.{DrawsApart, ◌/◌, Option, ◌%◌, None, length, nat_lt, reach_of, work_of, sub_from}
 use Rattle.link_walks.proofs.Terms.{requests_called, FitsPlan, Loss, Verdict, History, refusal_at, performed}
 use Rattle.link_walks.proofs.Terms.{stays, unwrap_or}
@@ -9,8 +9,9 @@ use Rattle.link_walks.proofs.Terms.{key_plan, LinkState, find, find_op}
 use Rattle.link_walks.proofs.Terms.{ports_of, status_at, begun_requests, AreMoves, Side, Pool, draws_in, true-lt}
 use Rattle.link_walks.proofs.Terms.{Refusal, Request, StreamView, draws_now, refusal_of, begun_stream, begun_pool}
 use Rattle.link_walks.proofs.Terms.{ManagerWalk, answers, walk}
-use Rattle.link_walks.proofs.Terms.{manager_walked, verdict_of, op_by, Comes, walk_comes, sends_in, StandsFor, kept_is}
-use Rattle.link_walks.proofs.Terms.{StreamEnds, walk_on, begun_ends, walked_unless, event_walk, host_of, KeysKept}
+use Rattle.link_walks.proofs.Terms.{manager_walked, verdict_of, op_by, Comes, walk_comes, sends_in, PortsStandFor}
+use Rattle.link_walks.proofs.Terms.{kept_is}
+use Rattle.link_walks.proofs.Terms.{StreamEnds, walk_on, begun_ends, walked_ends_unless, event_walk, host_of, KeysKept}
 use Rattle.link_walks.proofs.Terms.{verdict_due, IsJoined}
 use Rattle.link_walks.proofs.Terms.{OperationsJoin}
 use Rattle.tsm_host.proofs.Dues.{all_due}
@@ -35,17 +36,17 @@ pool_of plan st = record { keys = plan.pool; draws = st.draws }
 abbrev begun_from : Plan → LinkState → Operation → StreamEnds → StreamEnds
 begun_from plan st operation e = begun_ends (work_of operation e.keeper.op st.draws) (pool_of plan st) e
 
--- what is known where the event comes
+-- what is known when the event comes
 record Found (plan : Plan) (st : LinkState) (h : History) (requester : ℕ) (e : StreamEnds) : Type 0 where
   pub fits : FitsPlan plan
-  pub stands : StandsFor plan st h
+  pub stands : PortsStandFor plan st h
   pub requester_most : requester ≤ 65535
   pub host : find plan st (port_at Host e.keeper.link) e.keeper.id ≡ Some e.host
   pub device : find plan st (port_at Device e.keeper.link) e.keeper.id ≡ Some e.device
   pub op_is : find_op plan st e.keeper.link e.keeper.id ≡ Some e.keeper.op
   pub kept : KeysKept plan e.keeper
 
-last_most : (o : Operation) → last_of o ≤ 13
+last_most : (o : Operation) → last_exchange_of o ≤ 13
 last_most o = grind arith
 
 draws_on : (w : Work) (pool : Pool) → (draws_now w ≡ true → nat_lt pool.draws (draws_in pool.keys) ≡ true)
@@ -60,7 +61,8 @@ module _ (plan : Plan) (st : LinkState) (h : History) (operation : Operation) (l
 
   abbrev told : Operation → ManagerWalk
   told o =
-      walk (last_of o + 1 - w.first) (answers loss (refusal_at (ports_of plan st) o w.set e.keeper.link e.keeper.id))
+      walk (last_exchange_of o + 1 - w.first)
+      (answers loss (refusal_at (ports_of plan st) o w.set e.keeper.link e.keeper.id))
       (begun_stream w (pool_of plan st) e.keeper)
 
   abbrev verdict : Verdict
@@ -108,10 +110,10 @@ module _ (plan : Plan) (st : LinkState) (h : History) (operation : Operation) (l
         makes lane lt past;
   }
 
-  within : (1 ≤ w.first) × (w.first ≤ last_of w.operation)
+  within : (1 ≤ w.first) × (w.first ≤ last_exchange_of w.operation)
   within = first_within plan operation e.keeper.op st.draws e.keeper.keys found.kept
 
-  -- what the walk comes to
+  -- what the walk gives
   comes_is : Comes w.operation w.set w.draw w.first w.begins e.keeper.link e.keeper.id loss e.keeper.op
       (stays (ports_of plan st) e.keeper.link e.keeper.id loss w) (told w.operation)
   comes_is =
@@ -155,9 +157,10 @@ module _ (plan : Plan) (st : LinkState) (h : History) (operation : Operation) (l
     rest_comes more enough =
         let range = within in
         let top = last_most w.operation in
-        let long : suc (last_of w.operation - w.first) ≡ last_of w.operation + 1 - w.first = omega (arith, range) in
+        let long : suc (last_exchange_of w.operation - w.first)
+        ≡ last_exchange_of w.operation + 1 - w.first = omega (arith, range) in
         rw (← long) (rest_is plan (ports_of plan st) w e.keeper.link e.keeper.id requester e.device knows loss
-        (last_of w.operation - w.first) more w.first
+        (last_exchange_of w.operation - w.first) more w.first
         (begun_from plan st operation e) (omega (arith, range)) range.0 (omega (arith, range, top, enough)) first_next)
 
     joins : CallsAreMoves → (more : ℕ) → 12 ≤ more → IsJoined plan st operation loss (pool_of plan st) e
@@ -199,7 +202,7 @@ module _ (plan : Plan) (st : LinkState) (h : History) (operation : Operation) (l
   by_refusal : CallsAreMoves → (more : ℕ) → 12 ≤ more → (r : Option Refusal)
       → refusal_of operation e.keeper.op (host_of e.host) (pool_of plan st) ≡ r
       → IsJoined plan st operation loss (pool_of plan st) e
-      (walked_unless r e (walk_on (suc more) loss requester (begun_from plan st operation e)))
+      (walked_ends_unless r e (walk_on (suc more) loss requester (begun_from plan st operation e)))
   by_refusal calls more enough (Some r) is = refused r is
   by_refusal calls more enough None is = joins is calls more enough
 

@@ -1,27 +1,29 @@
 -- What stands for a history as an event of an operation comes: keys of acknowledged KEY_PROGs are kept, and the draw of
 -- an unfinished operation was made.
-use Rattle.link_walks.proofs.Terms.{◌≡◌, Bool, arith, true, SubKind, ℕ, List, Plan, nat_tests, Operation, end_at, Slots}
-use Rattle.link_walks.proofs.Terms.{◌≤◌, ◌∙◌, makes_draw, Device, StreamState, ◌+◌, ap, Place, ◌<◌, Some, subst}
+use Rattle.link_walks.proofs.Terms.{◌≡◌, Bool, arith, true, SubKind, ℕ, List, Plan, nat_tests, Operation, place_at_end}
+use Rattle.link_walks.proofs.Terms.{Slots}
+use Rattle.link_walks.proofs.Terms.{◌≤◌, ◌∙◌, makes_draw, Device, StreamState, ◌+◌, ap, KeyPlace, ◌<◌, Some, subst}
 use Rattle.link_walks.proofs.Terms.{port_at, slots_of, Slot, key_of, ◌/◌}
 use Rattle.link_walks.proofs.Terms.{◌%◌, length, option_map, work_of, Op, sub_from, lane_number, History, draws}
-use Rattle.link_walks.proofs.Terms.{moments, op_of, key_plan, slot_in, LinkState, find, find_op, draws_now, sends_in}
-use Rattle.link_walks.proofs.Terms.{StandsFor, key_in, kept_in, Touch, keys}
+use Rattle.link_walks.proofs.Terms.{moments, op_of, key_plan, slot_in_set, LinkState, find, find_op, draws_now}
+use Rattle.link_walks.proofs.Terms.{sends_in}
+use Rattle.link_walks.proofs.Terms.{PortsStandFor, key_in, kept_in, Touch, keys}
 use Rattle.link_walks.proofs.Terms.{Shape, keys_of, Marks, key_cause}
 use Rattle.key_laws.proofs.Stages.{Rising}
 use Rattle.key_laws.proofs.Fits.{FitsAt}
 use Rattle.key_states.proofs.States.{in_state}
-use Rattle.port_operations.specs.Points.{key_held, lane_at}
+use Rattle.port_operations.specs.Points.{key_held, point_lane}
 use Rattle.port_operations.proofs.Points.{points}
 use Rattle.link_walks.proofs.Lanes.{lane_place, lane_slots, IsFull, same_slots, first_program}
 use Rattle.link_walks.proofs.Drawn.{draws_fit}
 
 -- ---- the state of the operation
 
-pub known_op : (plan : Plan) (st : LinkState) (h : History) → StandsFor plan st h → (link stream : ℕ) (q : Op)
+pub known_op : (plan : Plan) (st : LinkState) (h : History) → PortsStandFor plan st h → (link stream : ℕ) (q : Op)
     → find_op plan st link stream ≡ Some q → op_of h link stream ≡ q
 known_op plan st h stands link stream q found = let is = stands.ops_is link stream in grind arith
 
--- ---- a draw is kept behind its KEY_PROG
+-- ---- a draw is kept after its KEY_PROG
 
 kept_rising : (r k : Bool) (j a b n : ℕ) (u : Marks) (sh : Shape) → Rising r k j a b n u sh → a < n
     → kept_in (key_in (keys_of sh) k) ≡ Some j
@@ -32,14 +34,14 @@ lane_is link stream lane lt = grind (arith, nat_tests)
 
 -- a lane whose KEY_PROG was acknowledged before the event keeps the draw of the operation
 kept_before : (q : Op) (next top : ℕ) (link stream : ℕ) (sends : Bool) (u : SubKind) (ts : List Touch) (o : Operation)
-    → FitsAt q top (end_at link stream sends Device u) ts
+    → FitsAt q top (place_at_end link stream sends Device u) ts
     → let w = work_of o q next in makes_draw w.operation ≡ true
-    → first_program w.operation + lane_number (end_at link stream sends Device u) < w.first
+    → first_program w.operation + lane_number (place_at_end link stream sends Device u) < w.first
     → kept_in (key_in (keys sends ts) w.set) ≡ Some w.draw
 kept_before q next top link stream sends u ts o at makes lt = grind (arith, kept_rising)
 
 -- the draw of the operation is made as it begins, or was made before
-drawn_before : (q : Op) (next made top : ℕ) (p : Place) (ts : List Touch) (o : Operation) → FitsAt q made p ts
+drawn_before : (q : Op) (next made top : ℕ) (p : KeyPlace) (ts : List Touch) (o : Operation) → FitsAt q made p ts
     → made ≤ top
     → let w = work_of o q next in (draws_now w ≡ true → next < top) → makes_draw w.operation ≡ true → w.draw < top
 drawn_before q next made top p ts o at le now makes = grind arith
@@ -47,7 +49,7 @@ drawn_before q next made top p ts o at le now makes = grind arith
 kept_is_full : (s : Slot) (x : ℕ × List ℕ) → key_held s ≡ Some x → IsFull s
 kept_is_full s x is = grind arith
 
-module _ (plan : Plan) (st : LinkState) (h : History) (stands : StandsFor plan st h) (link id : ℕ) (q : Op)
+module _ (plan : Plan) (st : LinkState) (h : History) (stands : PortsStandFor plan st h) (link id : ℕ) (q : Op)
     (found : find_op plan st link id ≡ Some q) where
   place_fits : (lane : ℕ) → FitsAt q (draws h) (lane_place link id lane) (moments h (lane_place link id lane))
   place_fits lane =
@@ -58,16 +60,16 @@ module _ (plan : Plan) (st : LinkState) (h : History) (stands : StandsFor plan s
   pub ready_before : (o : Operation) (x : StreamState) → find plan st (port_at Device link) id ≡ Some x
       → let w = work_of o q st.draws in
       makes_draw w.operation ≡ true → (lane : ℕ) → lane < 6 → first_program w.operation + lane < w.first
-      → IsFull (slot_in (lane_slots lane x) w.set)
+      → IsFull (slot_in_set (lane_slots lane x) w.set)
   ready_before o x at makes lane low lt =
       let w = work_of o q st.draws in
       let sends = sends_in Device (lane / 3) in
       let u = sub_from (lane % 3) in
-      let there = lane_at Device link id sends u in
+      let there = point_lane Device link id sends u in
       let kept = kept_before q st.draws (draws h) link id sends u _ o (place_fits lane) makes
       (omega (arith, lane_is link id lane low, lt)) in
-      subst (λ (s : Slots). IsFull (slot_in s w.set)) (same_slots sends u x)
-      (kept_is_full (slot_in (slots_of sends u x) w.set) (w.draw, key_of plan w.draw there)
+      subst (λ (s : Slots). IsFull (slot_in_set s w.set)) (same_slots sends u x)
+      (kept_is_full (slot_in_set (slots_of sends u x) w.set) (w.draw, key_of plan w.draw there)
       ((points plan st h stands).kept Device link id x at sends u w.set ∙ ap
       (option_map (λ (i : ℕ). (i, key_of plan i there))) kept))
 

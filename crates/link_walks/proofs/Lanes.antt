@@ -1,9 +1,13 @@
 -- Exchanges by number: the lanes that they speak of, with their slots, and which of them the device refuses.
-use Rattle.link_walks.proofs.Terms.{◌≡◌, Bool, arith, true, SubKind, ℕ, false, nat_tests, Operation, end_at, Slots, ◌≤◌}
-use Rattle.link_walks.proofs.Terms.{makes_draw, Device, slot_pair, StreamState, ◌+◌, zero, suc, refl, ◌-◌, Place, ◌<◌}
-use Rattle.link_walks.proofs.Terms.{last_of, slots_of, key_slot}
-use Rattle.link_walks.proofs.Terms.{Slot, ◌/◌, ◌%◌, inl, inr, sub_from, cases_lt, PortView, refusal_at, slot_in, None}
-use Rattle.link_walks.proofs.Terms.{is_empty, sends_in, slots_at, exchange_of}
+use Rattle.link_walks.proofs.Terms.{◌≡◌, Bool, arith, true, SubKind, ℕ, false, nat_tests, Operation, place_at_end}
+use Rattle.link_walks.proofs.Terms.{Slots, ◌≤◌}
+use Rattle.link_walks.proofs.Terms.{makes_draw, Device, slot_pair, StreamState, ◌+◌, zero, suc, refl, ◌-◌, KeyPlace}
+use Rattle.link_walks.proofs.Terms.{◌<◌}
+use Rattle.link_walks.proofs.Terms.{last_exchange_of, slots_of, key_slot}
+use Rattle.link_walks.proofs.Terms.{Slot, ◌/◌, ◌%◌, inl, inr, sub_from, cases_lt, PortView, refusal_at, slot_in_set}
+use Rattle.link_walks.proofs.Terms.{None}
+use Rattle.link_walks.proofs.Terms.{is_empty, sends_in, slots_at, exchange_of, KeySet}
+use Rattle.ide_types.specs.declared.key_set.KeySet.TheVariants.{Zero, One}
 use Rattle.key_slots.specs as pair
 use Rattle.link_verdicts.specs.declared.verdict.Operation.TheVariants as op
 use Rattle.tsm_host.specs.declared.exchange.Exchange.TheVariants as exchange
@@ -19,8 +23,8 @@ by_lane P a b c d e f (suc (suc (suc (suc (suc zero))))) lt = f
 by_lane P a b c d e f (suc (suc (suc (suc (suc (suc n)))))) lt = absurd (omega arith)
 
 -- the place of a lane at the device's port
-abbrev pub lane_place : ℕ → ℕ → ℕ → Place
-lane_place link stream lane = end_at link stream (sends_in Device (lane / 3)) Device (sub_from (lane % 3))
+abbrev pub lane_place : ℕ → ℕ → ℕ → KeyPlace
+lane_place link stream lane = place_at_end link stream (sends_in Device (lane / 3)) Device (sub_from (lane % 3))
 
 -- the two slots of a lane
 abbrev pub lane_slots : ℕ → StreamState → Slots
@@ -30,7 +34,7 @@ pub same_slots : (sends : Bool) (u : SubKind) (x : StreamState) → slots_of sen
 same_slots sends u x = grind arith
 
 -- a slot as key management sees it
-pub slot_seen : (sends : Bool) (s : Slots) (k : Bool) → pair.slot_in (slot_pair sends s) k ≡ key_slot (slot_in s k)
+pub slot_seen : (sends : Bool) (s : Slots) (k : Bool) → pair.slot_in (slot_pair sends s) k ≡ key_slot (slot_in_set s k)
 slot_seen sends s k = grind arith
 
 -- a slot with a key
@@ -45,15 +49,15 @@ first_program op.Stop = 1
 
 -- ---- each exchange by its number
 
-pub data Turn (o : Operation) (set : Bool) (n : ℕ) : Type 0 where
+pub data Turn (o : Operation) (set : KeySet) (n : ℕ) : Type 0 where
   asks : o ≡ op.Establish → n ≡ 1 → exchange_of o set n ≡ exchange.Query → Turn o set n
   puts : (lane : ℕ) → lane < 6 → makes_draw o ≡ true → n ≡ first_program o + lane → exchange_of o set n
       ≡ exchange.Program set lane → Turn o set n
   goes : (lane : ℕ) → lane < 6 → makes_draw o ≡ true → n ≡ first_program o + (6 + lane) → exchange_of o set n
       ≡ exchange.Go set lane → Turn o set n
-  halts : (k : Bool) (lane : ℕ) → lane < 6 → o ≡ op.Stop → exchange_of o set n ≡ exchange.Stop k lane → Turn o set n
+  halts : (k : KeySet) (lane : ℕ) → lane < 6 → o ≡ op.Stop → exchange_of o set n ≡ exchange.Stop k lane → Turn o set n
 
-pub turn : (o : Operation) (set : Bool) (n : ℕ) → 1 ≤ n → n ≤ last_of o → Turn o set n
+pub turn : (o : Operation) (set : KeySet) (n : ℕ) → 1 ≤ n → n ≤ last_exchange_of o → Turn o set n
 turn op.Establish set n least most = elim (cases_lt n 2) [
   | inl first ↦ asks refl (omega (arith, first)) (grind (arith, nat_tests))
   | inr past ↦ elim (cases_lt n 8) [
@@ -66,8 +70,8 @@ turn op.Refresh set n least most = elim (cases_lt n 7) [
   | inr above ↦ goes (n - 7) (omega (arith, most)) refl (omega (arith, above)) (grind (arith, nat_tests))
 ]
 turn op.Stop set n least most = elim (cases_lt n 7) [
-  | inl below ↦ halts false (n - 1) (omega (arith, below)) refl (grind (arith, nat_tests))
-  | inr above ↦ halts true (n - 7) (omega (arith, most)) refl (grind (arith, nat_tests))
+  | inl below ↦ halts Zero (n - 1) (omega (arith, below)) refl (grind (arith, nat_tests))
+  | inr above ↦ halts One (n - 7) (omega (arith, most)) refl (grind (arith, nat_tests))
 ]
 
 -- ---- refusals

@@ -1,3 +1,12 @@
+pub mod CallTerms
+pub mod Settling
+pub mod Slots
+pub mod Streams
+pub mod Moves
+pub mod Carried
+pub mod Exchanges
+pub mod Requests
+pub mod Moved
 pub mod Terms
 pub mod Lanes
 pub mod Replies

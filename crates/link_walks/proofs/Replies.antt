@@ -1,36 +1,37 @@
 -- What the device's responder makes of each request of the manager, and what the manager makes of its reply.
 use Rattle.link_walks.proofs.Terms.{◌≡◌, Bool, arith, true, ℕ, List, if◌then◌else◌, false, nat_tests, ◌≤◌, ◌∙◌, Device}
 use Rattle.link_walks.proofs.Terms.{is_only_live, StreamState, [], refl, ap, ◌<◌, Some, ◌∷◌, called, ◌/◌, Option, ◌%◌}
-use Rattle.link_walks.proofs.Terms.{None, Ok, Err, sub_from, IsKey}
-use Rattle.link_walks.proofs.Terms.{is_empty, SlotPair, is_one, same-true, sends_in, pair_at, came_to, shown_stream}
+use Rattle.link_walks.proofs.Terms.{None, Ok, Err, sub_from, IsKey, KeySet, is_one}
+use Rattle.link_walks.proofs.Terms.{is_empty, SlotPair, same-true, sends_in, pair_at, came_to, shown_stream}
 use Rattle.link_walks.proofs.Terms.{port_called, judged_bytes, selector_of, Judged, Expected, carried_as, refusal_if}
 use Rattle.key_slots.specs.{slot_in}
 use Rattle.ide_km.specs.declared.object.KmView.{KmView}
 use Rattle.ide_km.specs.declared.object.KmView.TheVariants.{Query, KeyProg, KpAck, SetGo, SetStop, GoStopAck}
 use Rattle.ide_km.specs.declared.port.ProgramFault.TheVariants.{OnlyLive}
-use Rattle.ide_km.specs.{Place, PortCall, Program, Go, Halt, shown_at, spelling, Fits, set_of, direction_of, sub_of}
-use Rattle.ide_km.specs.{place_of, call_for, reply_for, bytes_of, reading, description}
+use Rattle.ide_km.specs.declared.place.Place.{Place}
+use Rattle.ide_km.specs.{PortCall, Program, Go, Halt, shown_at, spelling, FitsObject, set_of, direction_of, sub_of}
+use Rattle.ide_km.specs.{selected_place, call_for, reply_for, object_bytes, object_reading, description}
 use Rattle.ide_km.proofs.Objects.{spells_read, written_spells}
 use Rattle.tsm_host.specs.Judging.{judged_reply}
-use Rattle.stream_calls.specs.Calls as stream
+use Rattle.sub_stream.specs.Calls as stream
 
 -- ---- a request is read as it was written
 
--- where a request comes to this call, and its reply is judged so
-comes_as : (requester draw id : ℕ) (request : KmView) (x : StreamState) → Fits request
+-- if a request makes this call, and its reply is judged so
+comes_as : (requester draw id : ℕ) (request : KmView) (x : StreamState) → FitsObject request
     → (call : Option PortCall) → call_for (shown_stream id x) draw request ≡ call
-    → (judged : Judged) → judged_bytes request (bytes_of (reply_for requester request call)) ≡ judged
+    → (judged : Judged) → judged_bytes request (object_bytes (reply_for requester request call)) ≡ judged
     → (device : StreamState) → port_called call x ≡ device
     → came_to requester request id draw x ≡ record { judged = judged; device = device }
 comes_as requester draw id request x fits call call_is judged judged_is device device_is =
     rw (spells_read request (spelling request) (written_spells request fits), call_is, judged_is, device_is)
 
 -- a reply is judged as it was written
-as_read : (request : KmView) (bytes : List ℕ) → judged_bytes request bytes ≡ judged_reply request (reading bytes)
+as_read : (request : KmView) (bytes : List ℕ) → judged_bytes request bytes ≡ judged_reply request (object_reading bytes)
 as_read request [] = refl
 as_read request (b ∷ bytes) = refl
 
-replied : (request reply : KmView) → Fits reply → judged_bytes request (spelling reply)
+replied : (request reply : KmView) → FitsObject reply → judged_bytes request (spelling reply)
     ≡ judged_reply request (Ok reply)
 replied request reply fits = as_read request (spelling reply) ∙ ap (judged_reply request)
     (spells_read reply (spelling reply) (written_spells reply fits))
@@ -51,20 +52,20 @@ abbrev pub lane_called : ℕ → stream.SlotCall → StreamState → StreamState
 lane_called lane call x = called (sends_in Device (lane / 3)) (sub_from (lane % 3)) call x
 
 -- what the selector of a lane says
-record Selects (id : ℕ) (set : Bool) (lane : ℕ) (x : StreamState) : Type 0 where
+record Selects (id : ℕ) (set : KeySet) (lane : ℕ) (x : StreamState) : Type 0 where
   low : selector_of set lane < 256
-  set_is : is_one (set_of (selector_of set lane)) ≡ set
+  set_is : set_of (selector_of set lane) ≡ is_one set
   direction_is : direction_of (selector_of set lane) ≡ lane / 3
   sub_is : sub_of (selector_of set lane) ≡ lane % 3
-  shown_is : shown_at (shown_stream id x) (place_of id (selector_of set lane)) ≡ Some (lane_pair lane x)
+  shown_is : shown_at (shown_stream id x) (selected_place id (selector_of set lane)) ≡ Some (lane_pair lane x)
 
-selects : (id : ℕ) (set : Bool) (lane : ℕ) (x : StreamState) → lane < 6 → Selects id set lane x
+selects : (id : ℕ) (set : KeySet) (lane : ℕ) (x : StreamState) → lane < 6 → Selects id set lane x
 selects id set lane x lt = grind (arith, nat_tests)
 
 -- a KEY_PROG that is refused or not
-answers : (requester id sel : ℕ) (key : List ℕ) (place : Place) (k draw : ℕ) → id ≤ 255 → sel < 256 → (b : Bool)
-    → let request = KeyProg id sel 0 key 1 in
-    judged_bytes request (bytes_of
+answers : (requester id sel : ℕ) (key : List ℕ) (place : Place) (k : Bool) (draw : ℕ) → id ≤ 255 → sel < 256
+    → (b : Bool) → let request = KeyProg id sel 0 key 1 in
+    judged_bytes request (object_bytes
     (reply_for requester request (Some (Program place k key draw (if b then Err (OnlyLive key) else Ok tt)))))
     ≡ carried_as None (refusal_if b)
 answers requester id sel key place k draw small low true = rw
@@ -72,44 +73,44 @@ answers requester id sel key place k draw small low true = rw
 answers requester id sel key place k draw small low false = rw
     (replied (KeyProg id sel 0 key 1) (KpAck id 0 sel 0) (omega arith), same-true id, same-true sel)
 
-pub program_comes : (requester draw id : ℕ) (set : Bool) (lane : ℕ) (key : List ℕ) (x : StreamState) → id ≤ 255
+pub program_comes : (requester draw id : ℕ) (set : KeySet) (lane : ℕ) (key : List ℕ) (x : StreamState) → id ≤ 255
     → lane < 6 → IsKey key
     → came_to requester (KeyProg id (selector_of set lane) 0 key 1) id draw x
     ≡ record {
-      judged = carried_as None (refusal_if (is_only_live (lane_pair lane x) set));
-      device = lane_called lane
-          (stream.Program set key draw) x;
+      judged = carried_as None (refusal_if (is_only_live (lane_pair lane x) (is_one set)));
+      device = lane_called lane (stream.Program (is_one set) key draw) x;
     }
 program_comes requester draw id set lane key x small lt is_key =
     let s = selects id set lane x lt in
     let sel = selector_of set lane in
-    let denied = is_only_live (lane_pair lane x) set in
+    let denied = is_only_live (lane_pair lane x) (is_one set) in
     comes_as requester draw id (KeyProg id sel 0 key 1) x
     (omega arith, s.low, omega arith, is_key.0, is_key.1, omega arith)
-    (Some (Program (place_of id sel) (set_of sel) key draw (if denied then Err (OnlyLive key) else Ok tt)))
+    (Some (Program (selected_place id sel) (set_of sel) key draw (if denied then Err (OnlyLive key) else Ok tt)))
     (rw (s.shown_is, s.set_is))
-    _ (answers requester id sel key (place_of id sel) (set_of sel) draw small s.low denied) _
+    _ (answers requester id sel key (selected_place id sel) (set_of sel) draw small s.low denied) _
     (rw (s.direction_is, s.sub_is, s.set_is))
 
-pub go_comes : (requester draw id : ℕ) (set : Bool) (lane : ℕ) (x : StreamState) → id ≤ 255 → lane < 6
-    → is_empty (slot_in (lane_pair lane x) set) ≡ false
+pub go_comes : (requester draw id : ℕ) (set : KeySet) (lane : ℕ) (x : StreamState) → id ≤ 255 → lane < 6
+    → is_empty (slot_in (lane_pair lane x) (is_one set)) ≡ false
     → came_to requester (SetGo id (selector_of set lane) 0) id draw x
-    ≡ record { judged = Expected; device = lane_called lane (stream.Go set) x }
+    ≡ record { judged = Expected; device = lane_called lane (stream.Go (is_one set)) x }
 go_comes requester draw id set lane x small lt full =
     let s = selects id set lane x lt in
     let sel = selector_of set lane in
-    comes_as requester draw id (SetGo id sel 0) x (omega arith) (Some (Go (place_of id sel) (set_of sel) true))
+    comes_as requester draw id (SetGo id sel 0) x (omega arith) (Some (Go (selected_place id sel) (set_of sel) true))
     (rw (s.shown_is, s.set_is, full))
     _ (rw (replied (SetGo id sel 0) (GoStopAck id sel 0) (omega arith), same-true id, same-true sel)) _
     (rw (s.direction_is, s.sub_is, s.set_is))
 
-pub halt_comes : (requester draw id : ℕ) (set : Bool) (lane : ℕ) (x : StreamState) → id ≤ 255 → lane < 6
+pub halt_comes : (requester draw id : ℕ) (set : KeySet) (lane : ℕ) (x : StreamState) → id ≤ 255 → lane < 6
     → came_to requester (SetStop id (selector_of set lane) 0) id draw x
-    ≡ record { judged = Expected; device = lane_called lane (stream.Halt set) x }
+    ≡ record { judged = Expected; device = lane_called lane (stream.Halt (is_one set)) x }
 halt_comes requester draw id set lane x small lt =
     let s = selects id set lane x lt in
     let sel = selector_of set lane in
-    comes_as requester draw id (SetStop id sel 0) x (omega arith) (Some (Halt (place_of id sel) (set_of sel) true))
+    comes_as requester draw id (SetStop id sel 0) x (omega arith)
+    (Some (Halt (selected_place id sel) (set_of sel) true))
     (rw s.shown_is)
     _ (rw (replied (SetStop id sel 0) (GoStopAck id sel 0) (omega arith), same-true id, same-true sel)) _
     (rw (s.direction_is, s.sub_is, s.set_is))

@@ -1,20 +1,21 @@
--- The walk at both ends comes to the manager's walk, and moves both ports by the calls of the exchanges that were
--- carried. By induction on the exchanges that are left, each is lost as a request or as a reply or refused, and the
--- walk stays there (`stays`), or it is answered as expected, and its calls go ahead of those of the rest (`back`). The
--- host's port is called behind one exchange at the most, the last receiver's GO.
+-- The walk at both ends gives the manager's walk, and moves both ports by the calls of the exchanges that were carried.
+-- It goes by induction on the exchanges that are left. Each is lost as a request or as a reply or refused, and the walk
+-- stays there (`stays`); or it is answered as expected, and its calls come before those of the rest (`back`). The
+-- host's port is called after one exchange at the most, the last receiver's GO.
 use Rattle.link_walks.proofs.Terms.{◌≡◌, Bool, arith, true, ℕ, List, ◌++◌, Work, Plan, if◌then◌else◌, false, nat_tests}
 use Rattle.link_walks.proofs.Terms.{Operation, ◌≤◌, ◌∙◌, sym, Reach, makes_draw, is_within, StreamCall, Host}
 use Rattle.link_walks.proofs.Terms.{StreamState, ◌+◌, ◌==◌, [], zero, suc}
-use Rattle.link_walks.proofs.Terms.{refl, ◌-◌, ap, work, exchange_call, exchanges_called, all_called, host_go, ◌&&◌}
-use Rattle.link_walks.proofs.Terms.{◌<◌, Some, subst, ◌∷◌, last_of, Option, None, reach_of, Op, op_standing}
+use Rattle.link_walks.proofs.Terms.{refl, ◌-◌, ap, exchange_call, exchanges_called, all_called, host_go, ◌&&◌}
+use Rattle.link_walks.proofs.Terms.{◌<◌, Some, subst, ◌∷◌, last_exchange_of, Option, None, reach_of, Op, op_standing}
 use Rattle.link_walks.proofs.Terms.{reach, op_after, requests_called, Loss}
 use Rattle.link_walks.proofs.Terms.{Verdict, PortView, lost_in, cut_at, carried_as, option_or, first_from}
 use Rattle.link_walks.proofs.Terms.{done, different-false, Local}
 use Rattle.link_walks.proofs.Terms.{go_requests, StreamView, asked_in, outcome_of, taken_stream, taken_calls}
 use Rattle.link_walks.proofs.Terms.{shown_at_end, ManagerWalk, answers, walk}
-use Rattle.link_walks.proofs.Terms.{continued, StreamEnds, walk_on, ends_after, Exchanged, unless_lost, Walked, goes_on}
+use Rattle.link_walks.proofs.Terms.{continued, StreamEnds, walk_on, ends_after_exchange, Exchanged}
+use Rattle.link_walks.proofs.Terms.{exchanged_unless_lost, WalkedEnds, goes_on}
 use Rattle.link_walks.proofs.Terms.{HasKeys, KeysKept, KeysKeptIn, exchange_of, WireKeys, is_last_receiver_go, Judged}
-use Rattle.link_walks.proofs.Terms.{Expected, Refused, Lost}
+use Rattle.link_walks.proofs.Terms.{Expected, Refused, Lost, KeySet, key_set, one_of_set, work_asked}
 use Rattle.tsm_host.specs.declared.operation.Outcome.{Outcome}
 use Rattle.tsm_host.proofs.Walks.{WorkFits, ends_as}
 use Rattle.link_verdicts.specs.declared.verdict.Verdict.TheVariants as v
@@ -28,7 +29,7 @@ pub all_append : (xs ys : List StreamCall) (x : StreamState) → all_called (xs 
 all_append [] ys x = refl
 all_append (c ∷ cs) ys x = all_append cs ys _
 
--- the calls of so many exchanges, and those of one more ahead
+-- the calls of so many exchanges, and those of one more before them
 one_more : (plan : Plan) (w : Work) (n carried : ℕ) (x : StreamState) → n + 1 ≤ carried
     → all_called (exchanges_called plan w (n + 1) (carried - (n + 1))) (all_called (exchange_call plan w n) x)
     ≡ all_called (exchanges_called plan w n (carried - n)) x
@@ -50,50 +51,52 @@ goes_from w id n below = if makes_draw w.operation then
     (if is_within n (host_go w.operation) below then go_requests id w.set else []) else []
 
 -- which exchange makes the host's port go on
-go_at_host : (o : Operation) (set : Bool) (n : ℕ) → 1 ≤ n → n ≤ last_of o → is_last_receiver_go (exchange_of o set n)
+go_at_host : (o : Operation) (set : KeySet) (n : ℕ) → 1 ≤ n → n ≤ last_exchange_of o
+    → is_last_receiver_go (exchange_of o set n)
     ≡ (makes_draw o && (n == host_go o))
 go_at_host o set n least most = grind (arith, nat_tests)
 
 none_from : (w : Work) (id n : ℕ) → goes_from w id n n ≡ []
 none_from w id n = grind (arith, nat_tests)
 
--- the GOs of one exchange, and of those behind it
+-- the GOs of one exchange, and of those after it
 host_steps : (draws t : Bool) (n go below : ℕ) (requests : List Local) (host : StreamState) → (n == go) ≡ t → n < below
     → requests_called Host (if draws then (if is_within (n + 1) go below then requests else []) else [])
     (requests_called Host (if draws && t then requests else []) host)
     ≡ requests_called Host (if draws then (if is_within n go below then requests else []) else []) host
 host_steps draws t n go below requests host e lt = grind (arith, nat_tests)
 
-host_step : (w : Work) (id n below : ℕ) (host : StreamState) → 1 ≤ n → n ≤ last_of w.operation → n < below
+host_step : (w : Work) (id n below : ℕ) (host : StreamState) → 1 ≤ n → n ≤ last_exchange_of w.operation → n < below
     → requests_called Host (goes_from w id (n + 1) below)
     (requests_called Host (taken_calls (asked_of w n) Expected id) host)
     ≡ requests_called Host (goes_from w id n below) host
 host_step w id n below host least most lt =
-    rw (go_at_host w.operation w.set n least most)
+    rw (go_at_host w.operation (key_set w.set) n least most, one_of_set w.set)
     (host_steps (makes_draw w.operation) (n == host_go w.operation) n (host_go w.operation) below (go_requests id w.set)
     host refl lt)
 
 -- ---- keys that are kept
 
-kept_standing : (plan : Plan) (w : Work) (n : ℕ) (keys : WireKeys) → 1 ≤ n → n ≤ last_of w.operation
+kept_standing : (plan : Plan) (w : Work) (n : ℕ) (keys : WireKeys) → 1 ≤ n → n ≤ last_exchange_of w.operation
     → (makes_draw w.operation ≡ true → HasKeys plan w.draw (first_program w.operation) n keys)
     → KeysKeptIn plan (op_standing w n) keys
 kept_standing plan w n keys least most has = grind arith
 
-kept_ended : (plan : Plan) (w : Work) (n : ℕ) (keys : WireKeys) → n ≡ last_of w.operation
-    → KeysKeptIn plan (op_after (work w.operation w.set w.draw n false) (reach (n + 1) (n + 1))) keys
+kept_ended : (plan : Plan) (w : Work) (n : ℕ) (keys : WireKeys) → n ≡ last_exchange_of w.operation
+    → KeysKeptIn plan (op_after (work_asked (asked_of w n)) (reach (n + 1) (n + 1))) keys
 kept_ended plan w n keys is = grind (arith, nat_tests)
 
--- ---- what the rest of a walk comes to
+-- ---- what the rest of a walk gives
 
-pub record Rest (plan : Plan) (w : Work) (id n : ℕ) (e : StreamEnds) (verdict : Verdict) (y : ManagerWalk) (x : Walked)
+pub record Rest (plan : Plan) (w : Work) (id n : ℕ) (e : StreamEnds) (verdict : Verdict) (y : ManagerWalk)
+    (x : WalkedEnds)
     : Type 0 where
   pub outcome_is : x.outcome ≡ y.outcome
   pub keeper_is : x.ends.keeper ≡ y.stream
   pub comes : Reach
   pub says : reach_of w.operation verdict ≡ Some comes
   pub within : (n ≤ comes.acknowledged) × (comes.acknowledged ≤ comes.carried)
-      × (comes.carried ≤ last_of w.operation + 1)
+      × (comes.carried ≤ last_exchange_of w.operation + 1)
   pub host_is : x.ends.host ≡ requests_called Host (goes_from w id n comes.acknowledged) e.host
   pub device_is : x.ends.device ≡ all_called (exchanges_called plan w n (comes.carried - n)) e.device
   pub names_are : (x.ends.keeper.link ≡ e.keeper.link) × (x.ends.keeper.id ≡ e.keeper.id)
@@ -108,7 +111,7 @@ by_fate : (P : Verdict → Judged → Exchanged → Type 0) (link id : ℕ) (w :
     → ((status : ℕ) → r ≡ Some status → P (v.RefusedDevice n status) (Refused status) came)
     → (r ≡ None → P (ends_as link id w rest) Expected came)
     → P (ends_as link id w (option_or (cut_at (lost_in loss n) r n) rest)) (carried_as (lost_in loss n) r)
-    (unless_lost loss n came x)
+    (exchanged_unless_lost loss n came x)
 by_fate P link id w loss n rest r came x request reply refused onward = grind arith
 
 standing_asked : (w : Work) (n : ℕ) → WorkFits w.operation w.set w.draw → asked_in (op_standing w n)
@@ -116,7 +119,7 @@ standing_asked : (w : Work) (n : ℕ) → WorkFits w.operation w.set w.draw → 
 unfolding WorkFits
 standing_asked w n fits = grind arith
 
-done_says : (link id : ℕ) (w : Work) (n : ℕ) → n ≡ last_of w.operation → reach_of w.operation (done link id w)
+done_says : (link id : ℕ) (w : Work) (n : ℕ) → n ≡ last_exchange_of w.operation → reach_of w.operation (done link id w)
     ≡ Some (reach (n + 1) (n + 1))
 done_says link id w n is = grind arith
 
@@ -126,7 +129,7 @@ module _ (plan : Plan) (ports : PortView) (w : Work) (link id requester : ℕ) (
   -- it stays at the exchange
   stays : (n : ℕ) (e : StreamEnds) → KeysKept plan e.keeper → (verdict : Verdict) (carried : ℕ)
       → reach_of w.operation verdict ≡ Some (reach carried n)
-      → n ≤ carried → carried ≤ last_of w.operation + 1
+      → n ≤ carried → carried ≤ last_exchange_of w.operation + 1
       → (device : StreamState) → device ≡ all_called (exchanges_called plan w n (carried - n)) e.device
       → (out : Outcome)
       → Rest plan w id n e verdict (record { outcome = out; stream = e.keeper })
@@ -143,26 +146,26 @@ module _ (plan : Plan) (ports : PortView) (w : Work) (link id requester : ℕ) (
     keys_are = kept;
   }
 
-  -- what the two walks come to behind an answer
+  -- what the two walks give after an answer
   abbrev told : ℕ → Judged → ℕ → StreamView → ManagerWalk
   told n j k s =
       let a = asked_of w n in
       continued (outcome_of a j) (taken_stream a j s)
       (walk k (answers loss (denial ports w link id)) (taken_stream a j s))
 
-  abbrev walked : ℕ → Exchanged → ℕ → StreamEnds → Walked
-  walked n x more e = let a = asked_of w n in goes_on (outcome_of a x.judged) (ends_after a x e)
-      (walk_on more loss requester (ends_after a x e))
+  abbrev walked : ℕ → Exchanged → ℕ → StreamEnds → WalkedEnds
+  walked n x more e = let a = asked_of w n in goes_on (outcome_of a x.judged) (ends_after_exchange a x e)
+      (walk_on more loss requester (ends_after_exchange a x e))
 
   abbrev answered : ℕ → Option ℕ → StreamEnds → Exchanged
   answered n r e = record { judged = carried_as None r; device = all_called (exchange_call plan w n) e.device }
 
   abbrev after : ℕ → StreamEnds → StreamEnds
-  after n e = ends_after (asked_of w n) (answered n None e) e
+  after n e = ends_after_exchange (asked_of w n) (answered n None e) e
 
-  -- what is known behind an exchange tells what is known from it on
-  back : (n : ℕ) (e : StreamEnds) → IsNext plan w id before n e → 1 ≤ n → n ≤ last_of w.operation
-      → (verdict : Verdict) (y : ManagerWalk) (x : Walked)
+  -- what is known after an exchange tells what is known from it on
+  back : (n : ℕ) (e : StreamEnds) → IsNext plan w id before n e → 1 ≤ n → n ≤ last_exchange_of w.operation
+      → (verdict : Verdict) (y : ManagerWalk) (x : WalkedEnds)
       → Rest plan w id (n + 1) (after n e) verdict y x → Rest plan w id n e verdict y x
   back n e at least most verdict y x rest =
       let within = rest.within in
@@ -181,11 +184,11 @@ module _ (plan : Plan) (ports : PortView) (w : Work) (link id requester : ℕ) (
         keys_are = rest.keys_are;
       }
 
-  -- behind the last exchange
-  ends : (n more k : ℕ) (e : StreamEnds) → IsNext plan w id before n e → 1 ≤ n → n ≡ last_of w.operation
+  -- after the last exchange
+  ends : (n more k : ℕ) (e : StreamEnds) → IsNext plan w id before n e → 1 ≤ n → n ≡ last_exchange_of w.operation
       → Rest plan w id n e (done link id w) (told n Expected k e.keeper) (walked n (answered n None e) more e)
   ends n more k e at least same =
-      let last : (n == last_of w.operation) ≡ true = grind (arith, nat_tests) in
+      let last : (n == last_exchange_of w.operation) ≡ true = grind (arith, nat_tests) in
       let next = after n e in
       let rest = stays (n + 1) next (kept_ended plan w n next.keeper.keys same) (done link id w) (n + 1)
       (done_says link id w n same) (omega arith)
@@ -193,18 +196,18 @@ module _ (plan : Plan) (ports : PortView) (w : Work) (link id requester : ℕ) (
       (outcome.Done (shown_at_end (asked_of w n))) in
       rw last (rw last at (back n e at least (omega (arith, same)) _ _ _ rest))
 
-  -- behind another one the walk goes on
-  further : (n more k : ℕ) (e : StreamEnds) → IsNext plan w id before n e → 1 ≤ n → n < last_of w.operation
+  -- after another one the walk goes on
+  further : (n more k : ℕ) (e : StreamEnds) → IsNext plan w id before n e → 1 ≤ n → n < last_exchange_of w.operation
       → (verdict : Verdict) → let next = after n e in
       Rest plan w id (n + 1) next verdict (walk k (answers loss (denial ports w link id)) next.keeper)
       (walk_on more loss requester next)
       → Rest plan w id n e verdict (told n Expected k e.keeper) (walked n (answered n None e) more e)
   further n more k e at least less verdict rest =
-      let other = different-false n (last_of w.operation) less in rw other
+      let other = different-false n (last_exchange_of w.operation) less in rw other
       (rw other at (back n e at least (omega (arith, less)) _ _ _ rest))
 
-  -- one exchange, where the rest is known
-  steps : (n more k : ℕ) (e : StreamEnds) → IsNext plan w id before n e → 1 ≤ n → n ≤ last_of w.operation
+  -- one exchange, if the rest is known
+  steps : (n more k : ℕ) (e : StreamEnds) → IsNext plan w id before n e → 1 ≤ n → n ≤ last_exchange_of w.operation
       → (rest : Option Verdict)
       → (denial ports w link id n ≡ None → Rest plan w id n e (ends_as link id w rest)
       (told n Expected k e.keeper)
@@ -228,17 +231,17 @@ module _ (plan : Plan) (ports : PortView) (w : Work) (link id requester : ℕ) (
       (one_carried plan w n e.device) _))
       (λ free. rw free (onward free)))
 
-  pub rest_is : (k more n : ℕ) (e : StreamEnds) → n + k ≡ last_of w.operation → 1 ≤ n → k ≤ more
+  pub rest_is : (k more n : ℕ) (e : StreamEnds) → n + k ≡ last_exchange_of w.operation → 1 ≤ n → k ≤ more
       → IsNext plan w id before n e
       → Rest plan w id n e
       (ends_as link id w (first_from (λ x. cut_at (lost_in loss x) (denial ports w link id x) x) n (suc k)))
       (walk (suc k) (answers loss (denial ports w link id)) e.keeper) (walk_on (suc more) loss requester e)
   rest_is zero more n e count least le at =
-      let same : n ≡ last_of w.operation = omega (arith, count) in
+      let same : n ≡ last_exchange_of w.operation = omega (arith, count) in
       steps n more zero e at least (omega (arith, same)) None (λ free. ends n more zero e at least same)
   rest_is (suc k) zero n e count least le at = absurd (omega (arith, le))
   rest_is (suc k) (suc more) n e count least le at =
-      let less : n < last_of w.operation = omega (arith, count) in
+      let less : n < last_exchange_of w.operation = omega (arith, count) in
       let rest = first_from (λ x. cut_at (lost_in loss x) (denial ports w link id x) x) (n + 1) (suc k) in
       steps n (suc more) (suc k) e at least (omega (arith, less)) rest
       (λ free. further n (suc more) (suc k) e at least less (ends_as link id w rest)

@@ -1,12 +1,14 @@
 -- What is known of a stream that stands for a history.
-use Rattle.link_walks.proofs.Terms.{◌≡◌, Bool, arith, true, SubKind, ℕ, List, Plan, false, nat_tests, end_at, Slots}
+use Rattle.link_walks.proofs.Terms.{◌≡◌, Bool, arith, true, SubKind, ℕ, List, Plan, false, nat_tests, place_at_end}
+use Rattle.link_walks.proofs.Terms.{Slots}
 use Rattle.link_walks.proofs.Terms.{◌∙◌, sym, Host, slot_pair, StreamState, refl, ap, SubStream, WaitsBesideLive, Pr}
 use Rattle.link_walks.proofs.Terms.{Npr, Cpl, Some, subst, ◌≢◌, port_at}
 use Rattle.link_walks.proofs.Terms.{slots_of, at_sub, Slot, Live, lane_out, lane_in, IsSound, ReadsStream, DrawsApart}
-use Rattle.link_walks.proofs.Terms.{◌||◌, History, moments, status_by, key_plan, slot_in, Armed, LinkState, find}
+use Rattle.link_walks.proofs.Terms.{◌||◌, History, moments, status_by, key_plan, slot_in_set, Armed, LinkState, find}
 use Rattle.link_walks.proofs.Terms.{ports_of, status_at, refuses_at, refusal_if, Option}
 use Rattle.link_walks.proofs.Terms.{live_at, status_there, Side, live_set, is_set, Reads, status_named, has_some}
-use Rattle.link_walks.proofs.Terms.{has_all, tx_slots, rx_slots, PortsStand, kept_is, host_of, Keys, Shape, keys_of}
+use Rattle.link_walks.proofs.Terms.{has_all_live, tx_slots, rx_slots, PortsStand, kept_is, host_of, Keys, Shape}
+use Rattle.link_walks.proofs.Terms.{keys_of}
 use Rattle.link_walks.proofs.Terms.{key_cause}
 use Rattle.link_ports.specs.Stands.{standing}
 use Rattle.ide_types.specs.declared.port.PortName.{PortName}
@@ -16,18 +18,18 @@ use Rattle.link_history.specs.Cause.{CauseLaw}
 use Rattle.link_keys.proofs.AllFacts.{facts}
 use Rattle.link_keys.proofs.Seats.{keys_out}
 use Rattle.link_keys.proofs.RealFacts.{InOrder, in_order}
-use Rattle.stream_rules.specs.Slots.{is_live}
+use Rattle.stream_rules.specs.Slots.{is_live_slot}
 use Rattle.link_ports.proofs.Frames.{failed_live}
 use Rattle.port_operations.proofs.SlotMoves.{live_in_is, live_out_is}
-use Rattle.call_moves.proofs.Settling.{outs, ins, any_of, settle}
+use Rattle.link_walks.proofs.Settling.{outs, ins, any_of, settle}
 
 -- ---- the slots of a sender
 
 -- at most one is Live, and a key waits only beside a Live one
 abbrev may_stand : Slot → Slot → Bool
 may_stand (Live x) (Live y) = false
-may_stand (Armed j key) b = is_live b
-may_stand a (Armed j key) = is_live a
+may_stand (Armed j key) b = is_live_slot b
+may_stand a (Armed j key) = is_live_slot a
 may_stand a b = true
 
 tx_may : (plan : Plan) (xs : SealedList) (s : SubStream) (sh : Shape) → InOrder sh
@@ -44,7 +46,7 @@ waits_of s may k draw key e = grind arith
 
 rx_never : (plan : Plan) (h : History) (port : PortName) (s : SubStream) (keys : Keys) (k : Bool) (draw : ℕ)
     (key : List ℕ)
-    → slot_in (rx_slots plan h port s keys) k ≢ Armed draw key
+    → slot_in_set (rx_slots plan h port s keys) k ≢ Armed draw key
 rx_never plan h port s keys k draw key e = grind arith
 
 rx_apart : (plan : Plan) (h : History) → CauseLaw plan h → (port : PortName) (s : SubStream)
@@ -70,7 +72,7 @@ module _ (plan : Plan) (h : History) (law : CauseLaw plan h) (side : Side) (link
   sender_may u =
       let port = port_at side link in
       let s = lane_out port stream u in
-      let place = end_at link stream true side u in
+      let place = place_at_end link stream true side u in
       let at = fits (key_plan plan) h (key_cause plan h law) place in
       let are : keys_at h port s ≡ keys_of at.shape = keys_out h port stream u ∙ at.is.are in
       subst (λ (x : Slots). may_stand x.first x.second ≡ true)
@@ -84,7 +86,7 @@ module _ (plan : Plan) (h : History) (law : CauseLaw plan h) (side : Side) (link
       (rx_apart plan h law (port_at side link) (lane_in (port_at side link) stream u))
 
   never_armed : (u : SubKind) (k : Bool) (draw : ℕ) (key : List ℕ)
-      → slot_in (at_sub (standing plan h (port_at side link) stream).rx u).slots k ≢ Armed draw key
+      → slot_in_set (at_sub (standing plan h (port_at side link) stream).rx u).slots k ≢ Armed draw key
   never_armed u k draw key = rw (rx_slots_are u)
       (rx_never plan h (port_at side link) (lane_in (port_at side link) stream u) _ k draw key)
 
@@ -137,7 +139,7 @@ same_status a b c = grind arith
 
 -- the set that is shown is the Live one
 by_first : (set : Bool) (s : Slots) → may_stand s.first s.second ≡ true → is_set set (live_set (slot_pair true s))
-    ≡ is_live (slot_in s set)
+    ≡ is_live_slot (slot_in_set s set)
 by_first set s may = grind arith
 
 pub host_read : (plan : Plan) (st : LinkState) (h : History) → PortsStand plan st h
@@ -148,7 +150,7 @@ host_read plan st h stands link stream x found draws =
     let is = kept_is plan st h (port_at Host link) stream x stands found in
     record {
       pool_is = refl;
-      status_is = ap Some (same_status x.failed (has_some x) (has_all x) ∙ sym (ap status_there found));
+      status_is = ap Some (same_status x.failed (has_some x) (has_all_live x) ∙ sym (ap status_there found));
       live_is = λ set u.
           let may = subst (λ (y : StreamState). may_stand (at_sub y.tx u).slots.first (at_sub y.tx u).slots.second
           ≡ true) (sym is.same) (sender_may plan h stands.cause Host link stream u) in

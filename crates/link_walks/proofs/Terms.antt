@@ -1,19 +1,54 @@
 -- What proofs on walks of links speak of.
-pub use Rattle.call_moves.proofs.Terms.{◌≡◌, Bool, arith, true, SubKind, ℕ, List, ◌++◌, Work, Plan, if◌then◌else◌}
-pub use Rattle.call_moves.proofs.Terms.{false, nat_tests, Operation, end_at, Slots, ◌≤◌, ◌∙◌, sym, Reach, makes_draw}
-pub use Rattle.call_moves.proofs.Terms.{is_within, lane_key, StreamCall, Device}
-pub use Rattle.call_moves.proofs.Terms.{Host, is_only_live, slot_pair, StreamState, ◌+◌, ◌==◌, [], zero, suc, refl, ◌-◌}
-pub use Rattle.call_moves.proofs.Terms.{ap, work, exchange_call, exchanges_called, all_called, Place, SubStream}
-pub use Rattle.call_moves.proofs.Terms.{host_go, WaitsBesideLive, ◌&&◌, Pr, Npr}
-pub use Rattle.call_moves.proofs.Terms.{Cpl, ◌<◌, Some, subst, ◌≢◌, ◌∷◌, called, last_of, port_at, slots_of, refuses_in}
-pub use Rattle.call_moves.proofs.Terms.{key_slot, at_sub, Slot, Live, lane_out, lane_in, key_of, IsSound, ReadsStream}
-pub use Rattle.call_moves.proofs.Terms.{CallsAreMoves, DrawsApart, ◌||◌}
+pub use Rattle.link_walks.proofs.CallTerms.{◌≡◌, Bool, arith, true, SubKind, ℕ, List, ◌++◌, Work, Plan, if◌then◌else◌}
+pub use Rattle.link_walks.proofs.CallTerms.{false, nat_tests, Operation, place_at_end, Slots, ◌≤◌, ◌∙◌, sym, Reach}
+pub use Rattle.link_walks.proofs.CallTerms.{makes_draw}
+pub use Rattle.link_walks.proofs.CallTerms.{is_within, lane_key, StreamCall, Device}
+pub use Rattle.link_walks.proofs.CallTerms.{
+  Host,
+  is_only_live,
+  slot_pair,
+  StreamState,
+  ◌+◌,
+  ◌==◌,
+  [],
+  zero,
+  suc,
+  refl,
+  ◌-◌,
+}
+pub use Rattle.link_walks.proofs.CallTerms.{ap, work, exchange_call, exchanges_called, all_called, KeyPlace, SubStream}
+pub use Rattle.link_walks.proofs.CallTerms.{host_go, WaitsBesideLive, ◌&&◌, Pr, Npr}
+pub use Rattle.link_walks.proofs.CallTerms.{
+  Cpl,
+  ◌<◌,
+  Some,
+  subst,
+  ◌≢◌,
+  ◌∷◌,
+  called,
+  last_exchange_of,
+  port_at,
+  slots_of,
+}
+pub use Rattle.link_walks.proofs.CallTerms.{refuses_in}
+pub use Rattle.link_walks.proofs.CallTerms.{
+  key_slot,
+  at_sub,
+  Slot,
+  Live,
+  lane_out,
+  lane_in,
+  key_of,
+  IsSound,
+  ReadsStream,
+}
+pub use Rattle.link_walks.proofs.CallTerms.{CallsAreMoves, DrawsApart, ◌||◌}
 pub use Rattle.std.proofs.Common.{◌/◌, Option, ◌%◌, None, length, inl, inr, ◌*◌, option_map, Ok, Err}
 pub use Rattle.std.specs.Prelude.{nat_lt, is_some, unwrap_or, All}
 pub use Rattle.std.specs.Option.{option_or}
 pub use Rattle.key_laws.specs.Operations.{reach_of, work_of, Op, op_standing, reach, op_after, Manager, operated}
 pub use Rattle.key_laws.specs.Operations.{manager_after}
-pub use Rattle.call_moves.specs.Calls.{sub_from, requests_called, call_of_exchange}
+pub use Rattle.link_walks.specs.Calls.{sub_from, requests_called, call_of_exchange}
 pub use Rattle.std.proofs.lemmas.List.{get_or-map, get_or_past, length-map, get_or-set_other}
 pub use Rattle.std.proofs.lemmas.Bool.{cases_lt}
 pub use Rattle.ide_plan.specs.Fits.{IsKey, FitsPlan, FitsStream}
@@ -25,27 +60,30 @@ pub use Rattle.key_laws.specs.Due.{PortView, refusal_at, ports_at, performed, st
 pub use Rattle.key_laws.specs.Due.{lost_in, cut_at, first_from, done}
 pub use Rattle.key_laws.specs.Keys.{refusal_if}
 pub use Rattle.link_history.specs.Plan.{key_plan, streams_by_link, streams_of, with_id}
-pub use Rattle.stream_rules.specs.Stream.{slot_in, Armed}
+pub use Rattle.stream_rules.specs.Stream.{slot_in_set, Armed}
 pub use Rattle.link_ports.specs.Machine.{LinkState, find, find_op, ports_of, status_at, refuses_at, live_at}
-pub use Rattle.link_ports.specs.Machine.{stream_status as status_there}
-pub use Rattle.call_moves.specs.Moves.{begun_requests, AreMoves}
+pub use Rattle.link_ports.specs.Machine.{status_if_planned as status_there}
+pub use Rattle.link_walks.specs.Moves.{begun_requests, AreMoves}
 pub use Rattle.ide_types.specs.declared.port.Side.{Side}
-pub use Rattle.key_slots.specs.{is_empty, Pool, draws_in, SlotPair, is_one, live_set, slot_in as pair_slot, six_keys}
-pub use Rattle.key_slots.specs.{unspent}
+pub use Rattle.ide_types.proofs.KeySets.{one_of_set}
+pub use Rattle.key_slots.specs.{is_empty, Pool, draws_in, SlotPair, live_set, slot_in as pair_slot, six_keys}
+pub use Rattle.key_slots.specs.{unspent, KeySet, is_one, key_set}
 pub use Rattle.key_laws.proofs.Tests.{different-false, true-lt, same-true}
 pub use Rattle.tsm_host.specs.declared.operation.Refusal.{Refusal}
 pub use Rattle.tsm_host.specs.Local.{Request, Request as Local, goes as go_requests}
 pub use Rattle.tsm_host.specs.Streams.{StreamView, draws_now, refusal_of, begun_stream, asked_in, begun_pool}
 pub use Rattle.tsm_host.specs.Streams.{outcome_of, taken_stream, taken_calls, shown_at_end, is_set, request_asked}
-pub use Rattle.tsm_host.specs.Streams.{keys_after, acknowledged, HostView}
+pub use Rattle.tsm_host.specs.Streams.{keys_after, acknowledged, work_asked, HostView}
 pub use Rattle.tsm_host.specs.Walk.{Walked as ManagerWalk, answers, walk, walked_unless as manager_walked, verdict_of}
-pub use Rattle.tsm_host.specs.Walk.{op_by, carried_as, continued, Reads, refusal_verdict, IsAsked}
+pub use Rattle.tsm_host.specs.Walk.{op_by, carried_as, continued, Reads, key_refusal_verdict, IsAsked}
 pub use Rattle.tsm_host.proofs.Walks.{Comes, walk_comes, WorkFits}
-pub use Rattle.stream_calls.specs.Calls.{sends_in, slots_at, pair_at, status_by as status_named, has_some, has_all}
-pub use Rattle.link_ports.specs.Stands.{StandsFor, tx_slots, rx_slots, PortsStand}
+pub use Rattle.sub_stream.specs.Calls.{sends_in, slots_at, pair_at, status_by as status_named, has_some, has_all_live}
+pub use Rattle.link_ports.specs.Stands.{PortsStandFor, tx_slots, rx_slots, PortsStand}
 pub use Rattle.link_ports.proofs.Changes.{kept_is}
-pub use Rattle.link_walks.specs.Walks.{StreamEnds, walk_on, came_to, ends_after, begun_ends, walked_unless, event_walk}
-pub use Rattle.link_walks.specs.Walks.{shown_stream, port_called, judged_bytes, Exchanged, unless_lost, Walked, goes_on}
+pub use Rattle.link_walks.specs.Walks.{StreamEnds, walk_on, came_to, ends_after_exchange, begun_ends}
+pub use Rattle.link_walks.specs.Walks.{walked_ends_unless, event_walk}
+pub use Rattle.link_walks.specs.Walks.{shown_stream, port_called, judged_bytes, Exchanged, exchanged_unless_lost}
+pub use Rattle.link_walks.specs.Walks.{WalkedEnds, goes_on}
 pub use Rattle.link_walks.specs.Joined.{HasKeys, host_of, KeysKept, KeysKeptIn, verdict_due, IsJoined, OperationsJoin}
 pub use Rattle.key_laws.specs.Keys.{key_in, kept_in, Touch, keys, Keys}
 pub use Rattle.key_laws.proofs.Shapes.{Shape, keys_of, Marks}

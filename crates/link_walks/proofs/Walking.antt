@@ -1,21 +1,23 @@
 -- One exchange after another: how the manager judges each, and what is left at both ends.
 use Rattle.link_walks.proofs.Terms.{◌≡◌, Bool, arith, true, ℕ, List, Work, Plan, false, nat_tests}
 use Rattle.link_walks.proofs.Terms.{Operation, ◌≤◌, ◌∙◌, makes_draw, lane_key, Device, is_only_live, StreamState, ◌+◌}
-use Rattle.link_walks.proofs.Terms.{ap, work}
-use Rattle.link_walks.proofs.Terms.{exchange_call, all_called, ◌<◌, Some, last_of, refuses_in, DrawsApart, ◌/◌, Option}
+use Rattle.link_walks.proofs.Terms.{ap}
+use Rattle.link_walks.proofs.Terms.{exchange_call, all_called, ◌<◌, Some, last_exchange_of, refuses_in, DrawsApart, ◌/◌}
+use Rattle.link_walks.proofs.Terms.{Option}
 use Rattle.link_walks.proofs.Terms.{op_standing, reach, op_after, call_of_exchange, get_or-set_other, IsKey, PortView}
-use Rattle.link_walks.proofs.Terms.{refusal_at, refusal_if, carried_as, is_some, None, sym, slot_in, is_empty}
+use Rattle.link_walks.proofs.Terms.{refusal_at, refusal_if, carried_as, is_some, None, sym, slot_in_set, is_empty}
 use Rattle.link_walks.proofs.Terms.{pair_slot, different-false, request_asked, keys_after, acknowledged, WorkFits}
-use Rattle.link_walks.proofs.Terms.{sends_in, StreamEnds, came_to, ends_after, HasKeys, exchange_of, WireKeys, kept_key}
-use Rattle.link_walks.proofs.Terms.{request_of, Expected}
+use Rattle.link_walks.proofs.Terms.{sends_in, StreamEnds, came_to, ends_after_exchange, HasKeys, exchange_of, WireKeys}
+use Rattle.link_walks.proofs.Terms.{kept_key}
+use Rattle.link_walks.proofs.Terms.{request_of, Expected, KeySet, key_set, one_of_set, work_asked}
 use Rattle.tsm_host.specs.declared.stage.Asked.{Asked}
-use Rattle.call_moves.proofs.Slots.{only_live_is, is_refusal}
+use Rattle.link_walks.proofs.Slots.{only_live_is, is_refusal}
 use Rattle.link_walks.proofs.Lanes.{lane_place, lane_slots, slot_seen, IsFull, first_program, Turn, asks, puts, goes}
 use Rattle.link_walks.proofs.Lanes.{halts, turn, put_refused, go_refused}
 use Rattle.link_walks.proofs.Replies.{lane_pair, query_comes, program_comes, go_comes, halt_comes}
 
 abbrev pub asked_of : Work → ℕ → Asked
-asked_of w n = record { operation = w.operation; set = w.set; draw = w.draw; exchange = n }
+asked_of w n = record { operation = w.operation; set = key_set w.set; draw = w.draw; exchange = n }
 
 -- the status with which the device refuses exchange n
 abbrev pub denial : PortView → Work → ℕ → ℕ → ℕ → Option ℕ
@@ -32,7 +34,7 @@ pub record Knows (plan : Plan) (ports : PortView) (w : Work) (link id requester 
         ≡ refusal_if (refuses_in (lane_slots lane before) w.set)
     pub apart : (lane : ℕ) → lane < 6 → DrawsApart (lane_slots lane before)
 
--- exchange n is next: lanes whose KEY_PROG comes are as before the event, and those whose GO comes have a key
+-- exchange n is next: lanes whose KEY_PROG is to come are as before the event, and those whose GO is to come have a key
 pub record IsNext (plan : Plan) (w : Work) (id : ℕ) (before : StreamState) (n : ℕ) (e : StreamEnds) : Type 0 where
   pub op_is : e.keeper.op ≡ op_standing w n
   pub id_is : e.keeper.id ≡ id
@@ -41,21 +43,21 @@ pub record IsNext (plan : Plan) (w : Work) (id : ℕ) (before : StreamState) (n 
       → lane_slots lane e.device ≡ lane_slots lane before
   pub ready : makes_draw w.operation ≡ true → (lane : ℕ) → lane < 6 → first_program w.operation + lane < n
       → n ≤ first_program w.operation + (6 + lane)
-      → IsFull (slot_in (lane_slots lane e.device) w.set)
+      → IsFull (slot_in_set (lane_slots lane e.device) w.set)
 
--- the operation behind an exchange that is not its last
-standing_behind : (w : Work) (n : ℕ) → n < last_of w.operation
-    → op_after (work w.operation w.set w.draw n false) (reach (n + 1) (n + 1)) ≡ op_standing w (n + 1)
-standing_behind w n less = grind (arith, nat_tests)
+-- the operation after an exchange that is not its last
+standing_behind : (w : Work) (n : ℕ) → n < last_exchange_of w.operation
+    → op_after (work_asked (asked_of w n)) (reach (n + 1) (n + 1)) ≡ op_standing w (n + 1)
+standing_behind w n less = grind (arith, nat_tests, one_of_set)
 
 -- a KEY_PROG takes its own lane's key
-kept_after : (o : Operation) (set : Bool) (n lane : ℕ) (keys : WireKeys) (key : List ℕ) → makes_draw o ≡ true → 1 ≤ n
+kept_after : (o : Operation) (set : KeySet) (n lane : ℕ) (keys : WireKeys) (key : List ℕ) → makes_draw o ≡ true → 1 ≤ n
     → n + 1 ≤ first_program o + lane
     → kept_key keys lane ≡ Some key → kept_key (keys_after (exchange_of o set n) keys) lane ≡ Some key
 kept_after o set n lane keys key makes least le kept = grind (arith, nat_tests, get_or-set_other {A = Option (List ℕ)})
 
 -- lanes whose KEY_PROG comes later stay as they are
-fresh_after : (plan : Plan) (o : Operation) (set : Bool) (draw n lane : ℕ) (x : StreamState) → makes_draw o ≡ true
+fresh_after : (plan : Plan) (o : Operation) (set : KeySet) (draw n lane : ℕ) (x : StreamState) → makes_draw o ≡ true
     → 1 ≤ n → lane < 6
     → n + 1 ≤ first_program o + lane
     → lane_slots lane (all_called (call_of_exchange plan draw (exchange_of o set n)) x) ≡ lane_slots lane x
@@ -66,9 +68,10 @@ ready_after : (plan : Plan) (o : Operation) (set : Bool) (draw n lane : ℕ) (x 
     → 1 ≤ n → lane < 6
     → first_program o + lane < n + 1 → n + 1 ≤ first_program o + (6 + lane)
     → (n ≡ first_program o + lane → is_only_live (lane_pair lane x) set ≡ false)
-    → (first_program o + lane < n → IsFull (slot_in (lane_slots lane x) set))
-    → IsFull (slot_in (lane_slots lane (all_called (call_of_exchange plan draw (exchange_of o set n)) x)) set)
-ready_after plan o set draw n lane x makes least lt past le free before = grind (arith, nat_tests)
+    → (first_program o + lane < n → IsFull (slot_in_set (lane_slots lane x) set))
+    → IsFull (slot_in_set (lane_slots lane (all_called (call_of_exchange plan draw (exchange_of o (key_set set) n)) x))
+    set)
+ready_after plan o set draw n lane x makes least lt past le free before = grind (arith, nat_tests, one_of_set)
 
 module _ (plan : Plan) (ports : PortView) (w : Work) (link id requester : ℕ) (before : StreamState)
     (knows : Knows plan ports w link id requester before) where
@@ -87,19 +90,19 @@ module _ (plan : Plan) (ports : PortView) (w : Work) (link id requester : ℕ) (
       (ap refusal_if (only_live_is (sends_in Device (lane / 3)) (lane_slots lane before) w.set (knows.apart lane lt)))
 
   -- each request is answered as expected, but for a KEY_PROG that is refused
-  pub came_is : (n : ℕ) (e : StreamEnds) → IsNext plan w id before n e → 1 ≤ n → n ≤ last_of w.operation
+  pub came_is : (n : ℕ) (e : StreamEnds) → IsNext plan w id before n e → 1 ≤ n → n ≤ last_exchange_of w.operation
       → came_to requester (request_asked (asked_of w n) e.keeper) e.keeper.id w.draw e.device
       ≡ record {
         judged = carried_as None (denial ports w link id n);
         device = all_called
             (exchange_call plan w n) e.device;
       }
-  came_is n e at least most = by_turn (turn w.operation w.set n least most)
+  came_is n e at least most = by_turn (turn w.operation (key_set w.set) n least most)
     where
       small : e.keeper.id ≤ 255
       small = omega (arith, knows.small, at.id_is)
 
-      by_turn : Turn w.operation w.set n → let x = exchange_of w.operation w.set n in
+      by_turn : Turn w.operation (key_set w.set) n → let x = exchange_of w.operation (key_set w.set) n in
           came_to requester (request_of e.keeper.id e.keeper.keys x) e.keeper.id w.draw e.device
           ≡ record {
             judged = carried_as None (denial ports w link id n);
@@ -112,29 +115,30 @@ module _ (plan : Plan) (ports : PortView) (w : Work) (link id requester : ℕ) (
       by_turn (puts lane lt makes is_n is) =
           let key : kept_key e.keeper.keys lane ≡ Some (lane_key plan w.draw lane) = at.keys makes lane lt
           (omega (arith, is_n)) in
-          rw (is, key, ← (pair_refused n e at makes lane lt is_n))
-          (program_comes requester w.draw e.keeper.id w.set lane
-          (lane_key plan w.draw lane) e.device small lt (knows.keys makes lane lt))
+          rw (is, key, ← (pair_refused n e at makes lane lt is_n), one_of_set w.set)
+          (rw (one_of_set w.set) at (program_comes requester w.draw e.keeper.id (key_set w.set) lane
+          (lane_key plan w.draw lane) e.device small lt (knows.keys makes lane lt)))
       by_turn (goes lane lt makes is_n is) =
           let free : denial ports w link id n ≡ None = rw is_n
           (go_refused ports w.operation w.set link id makes lane lt) in
           let full : is_empty (pair_slot (lane_pair lane e.device) w.set) ≡ false =
           ap is_empty (slot_seen (sends_in Device (lane / 3)) (lane_slots lane e.device) w.set)
           ∙ at.ready makes lane lt (omega (arith, is_n, lt)) (omega (arith, is_n)) in
-          rw (is, free) (go_comes requester w.draw e.keeper.id w.set lane e.device small lt full)
+          rw (is, free)
+          (go_comes requester w.draw e.keeper.id (key_set w.set) lane e.device small lt (rw (one_of_set w.set) full))
       by_turn (halts k lane lt is_o is) =
           let free : denial ports w link id n ≡ None = λ i. refusal_at ports (is_o i) w.set link id n in
           rw (is, free) (halt_comes requester w.draw e.keeper.id k lane e.device small lt)
 
   -- ---- the exchange was acknowledged
 
-  next_keys : (n : ℕ) (e : StreamEnds) → IsNext plan w id before n e → 1 ≤ n → n < last_of w.operation
+  next_keys : (n : ℕ) (e : StreamEnds) → IsNext plan w id before n e → 1 ≤ n → n < last_exchange_of w.operation
       → makes_draw w.operation ≡ true
       → (lane : ℕ) → lane < 6 → n + 1 ≤ first_program w.operation + lane
       → kept_key (acknowledged (asked_of w n) e.keeper).keys lane ≡ Some (lane_key plan w.draw lane)
   next_keys n e at least less makes lane lt le =
-      rw (different-false n (last_of w.operation) less)
-      (kept_after w.operation w.set n lane e.keeper.keys _ makes least le
+      rw (different-false n (last_exchange_of w.operation) less)
+      (kept_after w.operation (key_set w.set) n lane e.keeper.keys _ makes least le
       (at.keys makes lane lt (omega (arith, le))))
 
   next_fresh : (n : ℕ) (e : StreamEnds) → IsNext plan w id before n e → 1 ≤ n → makes_draw w.operation ≡ true
@@ -142,24 +146,24 @@ module _ (plan : Plan) (ports : PortView) (w : Work) (link id requester : ℕ) (
       → n + 1 ≤ first_program w.operation + lane
       → lane_slots lane (all_called (exchange_call plan w n) e.device) ≡ lane_slots lane before
   next_fresh n e at least makes lane lt le =
-      fresh_after plan w.operation w.set w.draw n lane e.device makes least lt le ∙ at.fresh makes lane lt
+      fresh_after plan w.operation (key_set w.set) w.draw n lane e.device makes least lt le ∙ at.fresh makes lane lt
       (omega (arith, le))
 
   next_ready : (n : ℕ) (e : StreamEnds) → IsNext plan w id before n e → 1 ≤ n → denial ports w link id n ≡ None
       → makes_draw w.operation ≡ true
       → (lane : ℕ) → lane < 6 → first_program w.operation + lane < n + 1
       → n + 1 ≤ first_program w.operation + (6 + lane)
-      → IsFull (slot_in (lane_slots lane (all_called (exchange_call plan w n) e.device)) w.set)
+      → IsFull (slot_in_set (lane_slots lane (all_called (exchange_call plan w n) e.device)) w.set)
   next_ready n e at least free makes lane lt past le =
       ready_after plan w.operation w.set w.draw n lane e.device makes least lt past le
       (λ same. sym (is_refusal (is_only_live (lane_pair lane e.device) w.set))
       ∙ ap is_some (pair_refused n e at makes lane lt same ∙ free))
       (λ before. at.ready makes lane lt before (omega (arith, le)))
 
-  pub next_is : (n : ℕ) (e : StreamEnds) → IsNext plan w id before n e → 1 ≤ n → n < last_of w.operation
+  pub next_is : (n : ℕ) (e : StreamEnds) → IsNext plan w id before n e → 1 ≤ n → n < last_exchange_of w.operation
       → denial ports w link id n ≡ None
       → IsNext plan w id before (n + 1)
-      (ends_after (asked_of w n)
+      (ends_after_exchange (asked_of w n)
       (record { judged = Expected; device = all_called (exchange_call plan w n) e.device }) e)
   next_is n e at least less free =
       record {

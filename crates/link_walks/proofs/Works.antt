@@ -1,9 +1,10 @@
--- Where an event of an operation begins, or goes on.
+-- An event of an operation as it begins, or goes on.
 use Rattle.link_walks.proofs.Terms.{◌≡◌, arith, true, ℕ, Work, Plan, Operation, ◌≤◌, makes_draw, lane_key, refl, Some}
-use Rattle.link_walks.proofs.Terms.{last_of, Option, None, nat_lt, reach_of, work_of, Op, op_standing, Loss, Pool}
+use Rattle.link_walks.proofs.Terms.{last_exchange_of, Option, None, nat_lt, reach_of, work_of, Op, op_standing, Loss}
+use Rattle.link_walks.proofs.Terms.{Pool}
 use Rattle.link_walks.proofs.Terms.{draws_in, six_keys, unspent, Refusal, Verdict}
 use Rattle.link_walks.proofs.Terms.{StreamView, draws_now, refusal_of, begun_stream, asked_in, HostView}
-use Rattle.link_walks.proofs.Terms.{refusal_verdict, IsAsked, HasKeys, KeysKeptIn, WireKeys, kept_key}
+use Rattle.link_walks.proofs.Terms.{key_refusal_verdict, IsAsked, HasKeys, KeysKeptIn, WireKeys, kept_key}
 use Rattle.tsm_host.proofs.Walks.{WorkFits}
 use Rattle.link_walks.proofs.Lanes.{by_lane, first_program}
 
@@ -19,9 +20,9 @@ work_fits o q next = grind arith
 pub begins_first : (o : Operation) (q : Op) (next : ℕ) → (work_of o q next).begins ≡ true → (work_of o q next).first ≡ 1
 begins_first o q next begins = grind arith
 
--- it comes to one of its exchanges
+-- its first exchange is one of the operation's
 pub first_within : (plan : Plan) (o : Operation) (q : Op) (next : ℕ) (keys : WireKeys) → KeysKeptIn plan q keys
-    → let w = work_of o q next in (1 ≤ w.first) × (w.first ≤ last_of w.operation)
+    → let w = work_of o q next in (1 ≤ w.first) × (w.first ≤ last_exchange_of w.operation)
 first_within plan o q next keys kept = grind arith
 
 pub is_asked : (plan : Plan) (q : Op) (keys : WireKeys) → KeysKeptIn plan q keys → IsAsked (asked_in q)
@@ -56,11 +57,11 @@ begun_keys plan o q next s kept makes lane lt le = grind
 
 -- at the beginning no exchange was asked, so its verdict says that nothing was reached
 pub refused_reach : (o : Operation) (q : Op) (host : HostView) (pool : Pool) (loss : Option Loss) (r : Refusal)
-    (verdict : Verdict) → refusal_of o q host pool ≡ Some r → refusal_verdict loss r ≡ Some verdict
+    (verdict : Verdict) → refusal_of o q host pool ≡ Some r → key_refusal_verdict loss r ≡ Some verdict
     → reach_of o verdict ≡ None
 refused_reach o q host pool loss r verdict is due = grind arith
 
--- where it is not refused, the pool has keys for its draw
+-- if it is not refused, the pool has keys for its draw
 pub has_room : (o : Operation) (q : Op) (host : HostView) (pool : Pool) → refusal_of o q host pool ≡ None
     → draws_now (work_of o q pool.draws) ≡ true → nat_lt pool.draws (draws_in pool.keys) ≡ true
 has_room o q host pool none draws = grind arith

@@ -1,4 +1,4 @@
--- That an event of an operation comes to the verdict and the state of the machine of links.
+-- That an event of an operation gives the verdict and the state of the machine of links.
 use Rattle.std.specs.Prelude.{ℕ, ◌≡◌, ◌+◌, ◌≤◌, ◌<◌, true, false, Option, Some, None}
 use Rattle.ide_types.specs.declared.sub.SubKind.{SubKind}
 use Rattle.ide_types.specs.declared.port.Side.{Side}
@@ -16,13 +16,13 @@ use Rattle.tsm_host.specs.Exchanges.{WireKeys, kept_key}
 use Rattle.tsm_host.specs.Streams.{StreamView, HostView, begun_pool}
 use Rattle.tsm_host.specs.Walk.{verdict_of, due_on, op_by}
 use Rattle.stream_rules.specs.Stream.{StreamState}
-use Rattle.stream_calls.specs.Calls.{pair_at, stream_status}
-use Rattle.call_moves.specs.Calls.{lane_key}
-use Rattle.link_ports.specs.Machine.{LinkState, find, find_op, port_at, end_at, ports_of, status_at, moves_at}
+use Rattle.sub_stream.specs.Calls.{pair_at, stream_status}
+use Rattle.link_walks.specs.Calls.{lane_key}
+use Rattle.link_ports.specs.Machine.{LinkState, find, find_op, port_at, place_at_end, ports_of, status_at, moves_at}
 use Rattle.link_ports.specs.Machine.{draws_after}
 use Rattle.link_ports.specs.Moves.{moved_stream}
-use Rattle.link_ports.specs.Stands.{StandsFor}
-use Rattle.link_walks.specs.Walks.{StreamEnds, Walked, event_walk}
+use Rattle.link_ports.specs.Stands.{PortsStandFor}
+use Rattle.link_walks.specs.Walks.{StreamEnds, WalkedEnds, event_walk}
 
 -- what the manager reads of the host's port
 abbrev pub host_of : StreamState → HostView
@@ -47,13 +47,13 @@ KeysKept plan s = KeysKeptIn plan s.op s.keys
 
 -- ---- the law
 
--- the stream at a port after an event that came so far; as before where it was refused
+-- the stream at a port after an event that came so far; as before if it was refused
 abbrev pub moved_by : Plan → LinkState → ℕ → ℕ → Work → Side → Option Reach → StreamState → StreamState
 moved_by plan st link stream w side None x = x
 moved_by plan st link stream w side (Some r) x =
     moved_stream plan (port_at side link) stream
-    (λ u. moves_at (ports_of plan st) w r (end_at link stream true side u))
-    (λ u. moves_at (ports_of plan st) w r (end_at link stream false side u)) x
+    (λ u. moves_at (ports_of plan st) w r (place_at_end link stream true side u))
+    (λ u. moves_at (ports_of plan st) w r (place_at_end link stream false side u)) x
 
 abbrev pub draws_by : ℕ → Work → Option Reach → ℕ
 draws_by next w None = next
@@ -69,9 +69,9 @@ abbrev pub pool_by : Work → Option Reach → Pool → Pool
 pool_by w None pool = pool
 pool_by w (Some r) pool = begun_pool w pool
 
--- what an event comes to, by verdict, ports, operations, draws and keys
+-- what an event gives: the verdict, ports, operations, draws and keys
 pub record IsJoined (plan : Plan) (st : LinkState) (operation : Operation) (loss : Option Loss) (pool : Pool)
-    (e : StreamEnds) (r : Walked) : Type 0 where
+    (e : StreamEnds) (r : WalkedEnds) : Type 0 where
   pub verdict_is : verdict_of operation e.keeper.link e.keeper.id loss r.outcome
       ≡ Some (verdict_due plan st operation e.keeper.op e.keeper.link e.keeper.id loss)
   pub op_is : let w = work_of operation e.keeper.op st.draws in
@@ -92,12 +92,12 @@ pub record IsJoined (plan : Plan) (st : LinkState) (operation : Operation) (loss
   pub id_is : r.ends.keeper.id ≡ e.keeper.id
   pub keys_are : KeysKept plan r.ends.keeper
 
--- Where the state of the machine stands for a history, and both ends, the manager and the pool are as it says.
+-- It is so if the state of the machine stands for a history, and both ends, the manager and the pool are as it says.
 abbrev pub OperationsJoin : Type 0
 OperationsJoin =
     (plan : Plan) (st : LinkState) (h : History) (operation : Operation) (loss : Option Loss) (requester : ℕ)
     (pool : Pool) (e : StreamEnds)
-    → FitsPlan plan → StandsFor plan st h → requester ≤ 65535
+    → FitsPlan plan → PortsStandFor plan st h → requester ≤ 65535
     → find plan st (port_at Host e.keeper.link) e.keeper.id ≡ Some e.host
     → find plan st (port_at Device e.keeper.link) e.keeper.id ≡ Some e.device
     → find_op plan st e.keeper.link e.keeper.id ≡ Some e.keeper.op

@@ -1,15 +1,16 @@
 -- An event of an operation at both ends of a stream: the manager begins it, and its exchanges are carried one after
--- another, each of which the session may lose.
+-- another. The session may lose each of them.
 use Rattle.std.specs.Prelude.{ℕ, suc, zero, ◌==◌, nat_lt, ◌&&◌, List, [], ◌∷◌, Option, Some, None, if◌then◌else◌}
 use Rattle.ide_types.specs.declared.port.Side.TheVariants.{Host, Device}
 use Rattle.link_events.specs.declared.event.Loss.{Loss}
 use Rattle.link_events.specs.declared.event.Lost.{Lost}
 use Rattle.link_events.specs.declared.event.Lost.TheVariants.{Request, Reply}
 use Rattle.link_verdicts.specs.declared.verdict.Operation.{Operation}
-use Rattle.key_slots.specs.{Pool, is_one}
+use Rattle.key_slots.specs.{Pool}
 use Rattle.key_laws.specs.Operations.{Work, work_of}
 use Rattle.ide_km.specs.declared.object.KmView.{KmView}
-use Rattle.ide_km.specs.{Place, PortCall, Program, Go, Halt, Shown, call_of, reply_of, spelling, reading}
+use Rattle.ide_km.specs.declared.place.Place.{Place}
+use Rattle.ide_km.specs.{PortCall, Program, Go, Halt, called_place, Shown, call_of, reply_of, spelling, object_reading}
 use Rattle.tsm_host.specs.declared.judge.Judged.{Judged}
 use Rattle.tsm_host.specs.declared.judge.Judged.TheVariants.{Lost as NotCarried, Bad}
 use Rattle.tsm_host.specs.declared.operation.Outcome.{Outcome}
@@ -20,9 +21,9 @@ use Rattle.tsm_host.specs.Judging.{judged_reply}
 use Rattle.tsm_host.specs.Streams.{StreamView, HostView, asked_in, request_asked, refusal_of, begun_stream, begun_calls}
 use Rattle.tsm_host.specs.Streams.{outcome_of, taken_stream, taken_calls}
 use Rattle.stream_rules.specs.Stream.{StreamState}
-use Rattle.stream_calls.specs.Calls as stream
-use Rattle.stream_calls.specs.Calls.{SlotCall, sends_in, pair_at, called}
-use Rattle.call_moves.specs.Calls.{sub_from, requests_called}
+use Rattle.sub_stream.specs.Calls as stream
+use Rattle.sub_stream.specs.Calls.{SlotCall, sends_in, pair_at, called}
+use Rattle.link_walks.specs.Calls.{sub_from, requests_called}
 
 -- the two ports' parts of a stream, and what the manager keeps of it
 pub record StreamEnds : Type 0 where
@@ -41,34 +42,29 @@ shown_stream id x =
     else None
 
 abbrev pub slot_call : PortCall → SlotCall
-slot_call (Program place set key draw answer) = stream.Program (is_one set) key draw
-slot_call (Go place set answer) = stream.Go (is_one set)
-slot_call (Halt place set answer) = stream.Halt (is_one set)
-
-abbrev pub place_of : PortCall → Place
-place_of (Program place set key draw answer) = place
-place_of (Go place set answer) = place
-place_of (Halt place set answer) = place
+slot_call (Program place set key draw answer) = stream.Program set key draw
+slot_call (Go place set answer) = stream.Go set
+slot_call (Halt place set answer) = stream.Halt set
 
 -- the stream after a call of its port, if any
 abbrev pub port_called : Option PortCall → StreamState → StreamState
 port_called None x = x
-port_called (Some call) x = called (sends_in Device (place_of call).direction) (sub_from (place_of call).sub)
-    (slot_call call) x
+port_called (Some call) x = called (sends_in Device (called_place call).direction)
+    (sub_from (called_place call).sub) (slot_call call) x
 
 -- ---- one exchange
 
--- a reply, of which no bytes are none
+-- a reply; no bytes are no reply
 abbrev pub judged_bytes : KmView → List ℕ → Judged
 judged_bytes request [] = Bad
-judged_bytes request (b ∷ bytes) = judged_reply request (reading (b ∷ bytes))
+judged_bytes request (b ∷ bytes) = judged_reply request (object_reading (b ∷ bytes))
 
 -- how the manager judges what is carried back, and the stream at the device after it
 pub record Exchanged : Type 0 where
   pub judged : Judged
   pub device : StreamState
 
--- the request came to the device
+-- the request reached the device
 abbrev pub came_to : ℕ → KmView → ℕ → ℕ → StreamState → Exchanged
 came_to requester request id draw x =
     let call = call_of (shown_stream id x) (spelling request) draw in
@@ -78,17 +74,18 @@ abbrev pub lost_as : Lost → Exchanged → StreamState → Exchanged
 lost_as Request came x = record { judged = NotCarried; device = x }
 lost_as Reply came x = record { judged = NotCarried; device = came.device }
 
-abbrev pub unless_lost : Option Loss → ℕ → Exchanged → StreamState → Exchanged
-unless_lost None n came x = came
-unless_lost (Some loss) n came x = if loss.exchange == n then lost_as loss.lost came x else came
+abbrev pub exchanged_unless_lost : Option Loss → ℕ → Exchanged → StreamState → Exchanged
+exchanged_unless_lost None n came x = came
+exchanged_unless_lost (Some loss) n came x = if loss.exchange == n then lost_as loss.lost came x else came
 
 abbrev pub exchanged : Option Loss → ℕ → Asked → StreamEnds → Exchanged
 exchanged loss requester a e =
-    unless_lost loss a.exchange (came_to requester (request_asked a e.keeper) e.keeper.id a.draw e.device) e.device
+    exchanged_unless_lost loss a.exchange (came_to requester (request_asked a e.keeper) e.keeper.id a.draw e.device)
+    e.device
 
 -- the manager takes it, and calls the host's port
-abbrev pub ends_after : Asked → Exchanged → StreamEnds → StreamEnds
-ends_after a x e = record {
+abbrev pub ends_after_exchange : Asked → Exchanged → StreamEnds → StreamEnds
+ends_after_exchange a x e = record {
   host = requests_called Host (taken_calls a x.judged e.keeper.id) e.host;
   device = x.device;
   keeper = taken_stream a x.judged e.keeper;
@@ -96,25 +93,25 @@ ends_after a x e = record {
 
 -- ---- one exchange after another
 
-pub record Walked : Type 0 where
+pub record WalkedEnds : Type 0 where
   pub outcome : Outcome
   pub ends : StreamEnds
 
-abbrev pub goes_on : Outcome → StreamEnds → Walked → Walked
+abbrev pub goes_on : Outcome → StreamEnds → WalkedEnds → WalkedEnds
 goes_on outcome.Next e rest = rest
 goes_on o e rest = record { outcome = o; ends = e }
 
--- what the exchange that is next comes to, where there is one
+-- what the next exchange gives, if there is one
 abbrev pub outcome_next : Option Loss → ℕ → StreamEnds → Option Asked → Outcome
 outcome_next loss requester e None = outcome.Next
 outcome_next loss requester e (Some a) = outcome_of a (exchanged loss requester a e).judged
 
 abbrev pub ends_next : Option Loss → ℕ → StreamEnds → Option Asked → StreamEnds
 ends_next loss requester e None = e
-ends_next loss requester e (Some a) = ends_after a (exchanged loss requester a e) e
+ends_next loss requester e (Some a) = ends_after_exchange a (exchanged loss requester a e) e
 
 -- up to so many exchanges
-abbrev pub walk_on : (more : ℕ) → Option Loss → ℕ → StreamEnds → Walked
+abbrev pub walk_on : (more : ℕ) → Option Loss → ℕ → StreamEnds → WalkedEnds
 walk_on zero loss requester e = record { outcome = outcome.Next; ends = e }
 walk_on (suc more) loss requester e =
     goes_on (outcome_next loss requester e (asked_in e.keeper.op)) (ends_next loss requester e (asked_in e.keeper.op))
@@ -130,12 +127,12 @@ begun_ends w pool e = record {
   keeper = begun_stream w pool e.keeper;
 }
 
--- a refusal, or what up to 13 exchanges come to; 13 are the most that an operation has
-abbrev pub walked_unless : Option Refusal → StreamEnds → Walked → Walked
-walked_unless (Some refusal) e walked = record { outcome = outcome.Refused refusal; ends = e }
-walked_unless None e walked = walked
+-- a refusal, or what up to 13 exchanges give; an operation has 13 at most
+abbrev pub walked_ends_unless : Option Refusal → StreamEnds → WalkedEnds → WalkedEnds
+walked_ends_unless (Some refusal) e walked = record { outcome = outcome.Refused refusal; ends = e }
+walked_ends_unless None e walked = walked
 
-abbrev pub event_walk : Operation → HostView → Pool → Option Loss → ℕ → StreamEnds → Walked
+abbrev pub event_walk : Operation → HostView → Pool → Option Loss → ℕ → StreamEnds → WalkedEnds
 event_walk operation host pool loss requester e =
     let w = work_of operation e.keeper.op pool.draws in
-    walked_unless (refusal_of operation e.keeper.op host pool) e (walk_on 13 loss requester (begun_ends w pool e))
+    walked_ends_unless (refusal_of operation e.keeper.op host pool) e (walk_on 13 loss requester (begun_ends w pool e))

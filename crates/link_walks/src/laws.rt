@@ -1,12 +1,19 @@
-//! Operations, exchange by exchange.
+//! Operations, exchange by exchange, and the calls that they make.
 
 ghost use Rattle.link_walks.specs.Joined.{OperationsJoin};
+ghost use Rattle.link_walks.specs.Moves.{CallsAreMoves};
 
-/// Where the state of the machine of links stands for a history, an event of an operation, whose exchanges are carried
-/// one after another or lost, comes to the machine's verdict, and leaves both ports' slots, the manager's state and the
-/// draws as the machine does.
+/// If the state of the machine of links stands for a history, an event of an operation, whose exchanges are carried one
+/// after another or lost, gives the machine's verdict, and leaves both ports' slots, the manager's state and the draws
+/// as the machine does.
 pub fn operations_join()
     ensures { OperationsJoin }
 {
-    call_moves::calls_are_moves();
+    calls_are_moves();
 }
+
+// The local calls of the host's port, and those that the exchanges make at the device's port, one after another, leave
+// the stream as the moves do that the machine of links makes at once.
+fn calls_are_moves()
+    ensures { CallsAreMoves }
+{}

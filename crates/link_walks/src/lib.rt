@@ -1,4 +1,4 @@
-//! Operations on streams, exchange by exchange at both ends, come to what the machine of links says at once.
+//! Operations on streams, exchange by exchange at both ends, give what the machine of links says at once.
 #![tactic(auto)]
 
 mod laws;

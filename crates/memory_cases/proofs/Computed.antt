@@ -9,12 +9,12 @@ use Rattle.tlp_layout.specs.Reading.{read_of, read_head_of}
 use Rattle.ide_prefix.specs.Reading.{cut_of}
 use Rattle.association.specs.Choice.{choice_of}
 use Rattle.key_laws.specs.Keys.{is_open, keys}
-use Rattle.key_laws.specs.History.{manager, moments, base, failed as failed_there}
-use Rattle.key_laws.specs.Due.{due as key_due}
+use Rattle.key_laws.specs.History.{manager, moments, base, failed_there}
+use Rattle.key_laws.specs.Due.{key_due}
 use Rattle.interface_states.specs.Sites.{sites}
 use Rattle.interface_states.specs.Views.{managed, stream_draw}
 use Rattle.interface_states.specs.Devices.{devices}
-use Rattle.interface_states.specs.Due.{due as interface_due}
+use Rattle.interface_states.specs.Due.{interface_verdict_due as interface_due}
 use Rattle.trusted_memory.specs.Writes.{byte_after}
 use Rattle.link_history.specs.Plan.{stream_plan, key_of}
 use Rattle.link_history.specs.Units.{units, open_unit}
@@ -25,11 +25,12 @@ use Rattle.link_history.specs.Memory.{writes}
 use Rattle.link_history.specs.Due.{choice, due, before_tag, is_verified}
 use Rattle.link_verdicts.specs.declared.verdict.Effect.TheVariants.{Applied, Blocked}
 use Rattle.link_verdicts.specs.declared.verdict.BlockCause.TheVariants.{NotRunning, Stale}
-use Rattle.memory_cases.specs.Cases.{IsDue, MemoryCases, reported, started, unheard, sealed, accepted, shown, halted}
+use Rattle.memory_cases.specs.Cases.{IsDue, MemoryCases, reported_history, started_event, unheard, sealed_write}
+use Rattle.memory_cases.specs.Cases.{accepted_write, memory_read_back, halted_history}
 use Rattle.memory_cases.specs.Cases.{run_again}
 
 -- each is a declaration of its own, since the checker counts its steps by declarations
-sealed_due : IsDue (started ∷ reported) sealed
+sealed_due : IsDue (started_event ∷ reported_history) sealed_write
 unfolding due key_due manager moments keys is_open failed_there base interface_due devices managed stream_draw sites
     read_of reading walk_length walked_from choice choice_of keys_at has_live_out has_live_in stream_plan sent_in
     sealed_packets packet_of units open_unit posted_in writes byte_after front_of total_in arrived read_head_of cut_of
@@ -38,7 +39,7 @@ unfolding due key_due manager moments keys is_open failed_there base interface_d
     key_words temp expansion sub_word sbox open_of
 sealed_due = refl
 
-applied_due : IsDue (sealed ∷ started ∷ reported) (accepted Applied)
+applied_due : IsDue (sealed_write ∷ started_event ∷ reported_history) (accepted_write Applied)
 unfolding due key_due manager moments keys is_open failed_there base interface_due devices managed stream_draw sites
     read_of reading walk_length walked_from choice choice_of keys_at has_live_out has_live_in stream_plan sent_in
     sealed_packets packet_of units open_unit posted_in writes byte_after front_of total_in arrived read_head_of cut_of
@@ -47,7 +48,7 @@ unfolding due key_due manager moments keys is_open failed_there base interface_d
     key_words temp expansion sub_word sbox open_of
 applied_due = refl
 
-shown_due : IsDue (accepted Applied ∷ sealed ∷ started ∷ reported) shown
+shown_due : IsDue (accepted_write Applied ∷ sealed_write ∷ started_event ∷ reported_history) memory_read_back
 unfolding due key_due manager moments keys is_open failed_there base interface_due devices managed stream_draw sites
     read_of reading walk_length walked_from choice choice_of keys_at has_live_out has_live_in stream_plan sent_in
     sealed_packets packet_of units open_unit posted_in writes byte_after front_of total_in arrived read_head_of cut_of
@@ -56,7 +57,7 @@ unfolding due key_due manager moments keys is_open failed_there base interface_d
     key_words temp expansion sub_word sbox open_of
 shown_due = refl
 
-unheard_due : IsDue (unheard ∷ reported) sealed
+unheard_due : IsDue (unheard ∷ reported_history) sealed_write
 unfolding due key_due manager moments keys is_open failed_there base interface_due devices managed stream_draw sites
     read_of reading walk_length walked_from choice choice_of keys_at has_live_out has_live_in stream_plan sent_in
     sealed_packets packet_of units open_unit posted_in writes byte_after front_of total_in arrived read_head_of cut_of
@@ -65,7 +66,7 @@ unfolding due key_due manager moments keys is_open failed_there base interface_d
     key_words temp expansion sub_word sbox open_of
 unheard_due = refl
 
-blocked_due : IsDue (sealed ∷ unheard ∷ reported) (accepted (Blocked NotRunning))
+blocked_due : IsDue (sealed_write ∷ unheard ∷ reported_history) (accepted_write (Blocked NotRunning))
 unfolding due key_due manager moments keys is_open failed_there base interface_due devices managed stream_draw sites
     read_of reading walk_length walked_from choice choice_of keys_at has_live_out has_live_in stream_plan sent_in
     sealed_packets packet_of units open_unit posted_in writes byte_after front_of total_in arrived read_head_of cut_of
@@ -74,7 +75,7 @@ unfolding due key_due manager moments keys is_open failed_there base interface_d
     key_words temp expansion sub_word sbox open_of
 blocked_due = refl
 
-halted_due : IsDue halted (accepted (Blocked NotRunning))
+halted_due : IsDue halted_history (accepted_write (Blocked NotRunning))
 unfolding due key_due manager moments keys is_open failed_there base interface_due devices managed stream_draw sites
     read_of reading walk_length walked_from choice choice_of keys_at has_live_out has_live_in stream_plan sent_in
     sealed_packets packet_of units open_unit posted_in writes byte_after front_of total_in arrived read_head_of cut_of
@@ -83,7 +84,7 @@ unfolding due key_due manager moments keys is_open failed_there base interface_d
     key_words temp expansion sub_word sbox open_of
 halted_due = refl
 
-stale_due : IsDue run_again (accepted (Blocked Stale))
+stale_due : IsDue run_again (accepted_write (Blocked Stale))
 unfolding due key_due manager moments keys is_open failed_there base interface_due devices managed stream_draw sites
     read_of reading walk_length walked_from choice choice_of keys_at has_live_out has_live_in stream_plan sent_in
     sealed_packets packet_of units open_unit posted_in writes byte_after front_of total_in arrived read_head_of cut_of

@@ -15,62 +15,66 @@ use Rattle.link_verdicts.specs.declared.verdict.Verdict.{Verdict}
 use Rattle.link_verdicts.specs.declared.verdict.Verdict.TheVariants as v
 use Rattle.key_laws.specs.History.{History}
 use Rattle.link_history.specs.Due.{due}
-use Rattle.interface_cases.specs.Cases.{plan, report, write, device, packet}
+use Rattle.interface_cases.specs.Cases.{interface_plan, device_report, write, device, device_packet}
 
 abbrev pub host : PortName
 host = record { side = Host; link = 0 }
 
 -- the stream is keyed, the interface locked and reported; the newest first
-abbrev pub reported : History
-reported =
-    (Interface (ie.Report 0 None), v.Interface (iv.Reported 0 report))
+abbrev pub reported_history : History
+reported_history =
+    (Interface (ie.Report 0 None), v.Interface (iv.Reported 0 device_report))
     ∷ (Interface (ie.Lock 0 None), v.Interface (iv.Locked 0 (replicate 32 1)))
     ∷ (Establish 0 5 None, v.Established 0 5 0) ∷ []
 
-abbrev pub started : Event × Verdict
-started = (Interface (ie.Start 0 None), v.Interface (iv.Started 0 0))
+abbrev pub started_event : Event × Verdict
+started_event = (Interface (ie.Start 0 None), v.Interface (iv.Started 0 0))
 
 -- the reply to the start is lost
 abbrev pub unheard : Event × Verdict
 unheard = (Interface (ie.Start 0 (Some (record { exchange = 1; lost = Reply }))), v.LostReply 1)
 
 -- the device sends the write
-abbrev pub sealed : Event × Verdict
-sealed = (Send device write false false, v.Sealed (packet true))
+abbrev pub sealed_write : Event × Verdict
+sealed_write = (Send device write false false, v.Sealed (device_packet true))
 
 -- it is accepted, with this effect
-abbrev pub accepted : Effect → Event × Verdict
-accepted effect = (Pass 1, v.Accepted host (record { stream = 5; sub = Pr; draw = 0; unit = 1 }) (effect ∷ []))
+abbrev pub accepted_write : Effect → Event × Verdict
+accepted_write effect = (Pass 1, v.Accepted host (record { stream = 5; sub = Pr; draw = 0; unit = 1 }) (effect ∷ []))
 
 -- what stands there then
-abbrev pub shown : Event × Verdict
-shown = (Interface (ie.Memory 0x10000000 6), v.Interface (iv.Memory (0x11 ∷ 0x22 ∷ 0x33 ∷ 0x44 ∷ 0 ∷ 0 ∷ [])))
+abbrev pub memory_read_back : Event × Verdict
+memory_read_back = (
+  Interface (ie.Memory 0x10000000 6),
+  v.Interface
+      (iv.Memory (0x11 ∷ 0x22 ∷ 0x33 ∷ 0x44 ∷ 0 ∷ 0 ∷ [])),
+)
 
 abbrev pub IsDue : History → Event × Verdict → Type 0
-IsDue h x = due plan h x.0 ≡ x.1
+IsDue h x = due interface_plan h x.0 ≡ x.1
 
 -- the run ends, with the write still on the way
-abbrev pub halted : History
-halted = (Interface (ie.Halt 0 None), v.Interface (iv.Halted 0 1)) ∷ sealed ∷ started ∷ reported
+abbrev pub halted_history : History
+halted_history = (Interface (ie.Halt 0 None), v.Interface (iv.Halted 0 1)) ∷ sealed_write ∷ started_event
+    ∷ reported_history
 
 -- the interface runs again, under the next draw
 abbrev pub run_again : History
 run_again =
     (Interface (ie.Start 0 None), v.Interface (iv.Started 0 1))
     ∷ (Refresh 0 5 None, v.Refreshed 0 5 1)
-    ∷ (Interface (ie.Report 0 None), v.Interface (iv.Reported 0 report))
+    ∷ (Interface (ie.Report 0 None), v.Interface (iv.Reported 0 device_report))
     ∷ (Interface (ie.Lock 0 None), v.Interface (iv.Locked 0 (replicate 32 2)))
-    ∷ halted
+    ∷ halted_history
 
 -- A trusted write of an interface in RUN is applied, and its bytes stand in memory. While the manager does not know
--- that
--- the interface runs, it is blocked; and so it is after a halt, and in a later run.
+-- that the interface runs, it is blocked; and so it is after a halt, and in a later run.
 abbrev pub MemoryCases : Type 0
 MemoryCases =
-    IsDue (started ∷ reported) sealed
-    × IsDue (sealed ∷ started ∷ reported) (accepted Applied)
-    × IsDue (accepted Applied ∷ sealed ∷ started ∷ reported) shown
-    × IsDue (unheard ∷ reported) sealed
-    × IsDue (sealed ∷ unheard ∷ reported) (accepted (Blocked NotRunning))
-    × IsDue halted (accepted (Blocked NotRunning))
-    × IsDue run_again (accepted (Blocked Stale))
+    IsDue (started_event ∷ reported_history) sealed_write
+    × IsDue (sealed_write ∷ started_event ∷ reported_history) (accepted_write Applied)
+    × IsDue (accepted_write Applied ∷ sealed_write ∷ started_event ∷ reported_history) memory_read_back
+    × IsDue (unheard ∷ reported_history) sealed_write
+    × IsDue (sealed_write ∷ unheard ∷ reported_history) (accepted_write (Blocked NotRunning))
+    × IsDue halted_history (accepted_write (Blocked NotRunning))
+    × IsDue run_again (accepted_write (Blocked Stale))

@@ -11,7 +11,7 @@ use Rattle.link_history.specs.Plan.{has_port}
 use Rattle.link_history.specs.Due.{send_on, send_read, choice}
 use Rattle.link_history.specs.Memory.{memory_due}
 use Rattle.interface_states.specs.Terms.{InterfaceEvent}
-unfoldable use Rattle.interface_states.specs.Due.{due as interface_due}
+unfoldable use Rattle.interface_states.specs.Due.{interface_verdict_due as interface_due}
 use Rattle.interface_states.specs.Cause.{InterfaceCause, PairFits, SealFits, t_due, owner_at, owner_read}
 use Rattle.link_events.specs.declared.event.Event.TheVariants as event
 use Rattle.link_events.specs.declared.event.InterfaceEvent.TheVariants as ie

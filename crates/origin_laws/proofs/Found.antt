@@ -2,7 +2,7 @@
 use Rattle.sealing_laws.proofs.Terms.{◌≡◌, ℕ, ◌+◌, ◌<◌, ◌≤◌, ◌==◌, ◌⊎◌, inl, inr, zero, suc, Bool, true, false, List}
 use Rattle.sealing_laws.proofs.Terms.{[], ◌∷◌, ◌++◌, length, length-append, slice_get, Some, refl, ap, sym, subst}
 use Rattle.sealing_laws.proofs.Terms.{arith, if◌then◌else◌, AllByRecursion, nat_tests, Plan, History, base, Event, Send}
-use Rattle.sealing_laws.proofs.Terms.{Verdict, Sealed, SealedPacket, PortName, Packet, SealedList, ahead_in}
+use Rattle.sealing_laws.proofs.Terms.{Verdict, Sealed, SealedPacket, PortName, Packet, SealedList, front_of_packet}
 use Rattle.sealing_laws.proofs.Terms.{with_sealed, open_unit, sent_in, sub_stream_of, eqb-refl}
 use Rattle.sealing_laws.proofs.Terms.{CauseLaw}
 use Rattle.link_history.proofs.Causes.{sealed_by_sealing}
@@ -118,7 +118,8 @@ pub sealing_of : (plan : Plan) (h : History) → CauseLaw plan h → (k : ℕ) (
 unfolding sealed_packets
 sealing_of plan [] cause k d p is = absurd cc
 sealing_of plan ((Send port bytes more trusted, Sealed ds) ∷ h) cause k d p is =
-    elim (with_at plan (ahead_in plan (sealed_packets plan h) (base h)) bytes ds (sealed_packets plan h) k (d, p) is) [
+    elim (with_at plan (front_of_packet plan (sealed_packets plan h) (base h)) bytes ds (sealed_packets plan h) k (d, p)
+    is) [
       | inl before ↦ sealing_later plan h (Send port bytes more trusted, Sealed ds) k d p
           (sealing_of plan h cause.1 k d p before)
       | inr new ↦ record {
@@ -130,7 +131,7 @@ sealing_of plan ((Send port bytes more trusted, Sealed ds) ∷ h) cause k d p is
         older = h;
         came = record { since = []; is = refl };
         from = new.0;
-        until = get_less (with_sealed plan (ahead_in plan (sealed_packets plan h) (base h)) bytes ds
+        until = get_less (with_sealed plan (front_of_packet plan (sealed_packets plan h) (base h)) bytes ds
             (sealed_packets plan h)) k (d, p) is;
         new = new.1;
       }

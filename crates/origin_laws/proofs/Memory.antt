@@ -20,11 +20,12 @@ use Rattle.trusted_memory.specs.Causes.{is_applied, write_effect}
 use Rattle.trusted_memory.specs.Admitted.{admitted_write}
 use Rattle.trusted_memory.specs.Memory.{bytes_from}
 use Rattle.trusted_memory.proofs.Admitted.{admitted_says}
-use Rattle.link_history.specs.Memory.{grant_of, host_effect, admitted_as, admitted, admitted_each, unit_ended, plain_of}
+use Rattle.link_history.specs.Memory.{unit_grant, host_effect, admitted_as, admitted, admitted_each, unit_ended}
+use Rattle.link_history.specs.Memory.{plain_of}
 use Rattle.link_history.specs.Memory.{writes, shown_if, effect_by, effects_of}
 use Rattle.interface_states.specs.Views.{grant_at}
 use Rattle.delivery_laws.proofs.Prefixes.{unit_that_ends}
-unfoldable use Rattle.interface_states.specs.Due.{due as interface_due}
+unfoldable use Rattle.interface_states.specs.Due.{interface_verdict_due as interface_due}
 use Rattle.origin_laws.specs.Origin.{ShowsWrites, AppliesAdmitted, MemoryLaw}
 use Rattle.link_events.specs.declared.event.Event.TheVariants as event
 use Rattle.link_events.specs.declared.event.InterfaceEvent.TheVariants as ie
@@ -45,9 +46,9 @@ head_says : (plan : Plan) (h : History) (port : PortName) (unit : UnitName) (p :
     ≡ is_some (admitted_as plan (grant_at plan h) port unit p.prefix.t payload r)
 head_says plan h port unit p payload (Err f) = refl
 head_says plan h port unit p payload (Ok head) = span_says plan.memory p.prefix.t
-    (grant_of (grant_at plan h) port unit head) (write_span head) payload
+    (unit_grant (grant_at plan h) port unit head) (write_span head) payload
 
--- a packet's effect is applied exactly where its write is admitted
+-- a packet's effect is applied exactly if its write is admitted
 effect_says : (plan : Plan) (h : History) (port : PortName) (unit : UnitName) (p : Packet) (payload : List ℕ)
     → is_applied (effect_by plan (grant_at plan h) port unit p)
     ≡ is_some (admitted plan (grant_at plan h) port unit p payload)

@@ -1,7 +1,7 @@
 -- Each admitted write was sealed while its interface was in the very RUN, under the very lock, that it is admitted for.
--- It is a packet that was got, so packet m of what was got is packet m of what was sealed, with its header and its T;
--- it has T since the device's port sealed it for that interface; and while the manager's view is Running, each such
--- packet of a draw from the floor on was sealed in RUN under the present lock.
+-- It is a packet that was got, so packet m of what was got is packet m of what was sealed, with its header and its T.
+-- It has T since the device's port sealed it for that interface. While the manager's view is Running, each such packet
+-- of a draw from the floor on was sealed in RUN under the present lock.
 use Rattle.sealing_laws.proofs.Terms.{◌≡◌, ℕ, ◌+◌, ◌≤◌, ◌==◌, ◌&&◌, zero, suc, Bool, true, false, not, List, [], ◌∷◌}
 use Rattle.sealing_laws.proofs.Terms.{◌++◌, length, take, drop, slice_get, Option, Some, None, Result, Ok, Err, refl}
 use Rattle.sealing_laws.proofs.Terms.{ap, sym, ◌∙◌, arith, nat_tests, if◌then◌else◌, Plan, SubStream, History, Event}
@@ -38,7 +38,7 @@ use Rattle.delivery_laws.proofs.Prefixes.{got_begins}
 use Rattle.interface_states.specs.Terms.{Running, View}
 use Rattle.interface_states.specs.Sites.{Site, site_at, site_with}
 unfoldable use Rattle.interface_states.specs.Sites.{sites}
-use Rattle.interface_states.specs.Views.{view_at, floor_at, bound_if, granted, grant_at}
+use Rattle.interface_states.specs.Views.{view_at, floor_at, bound_if, granted_to, grant_at}
 use Rattle.interface_states.specs.Devices.{locks_at}
 use Rattle.interface_states.specs.Cause.{SealFits, owner_of, owner_at, owner_read}
 use Rattle.interface_states.specs.Laws.{IsTrusted, InRun}
@@ -116,7 +116,7 @@ if_bound : (view : View) (stream floor : ℕ) (b : ℕ × ℕ) → bound_if view
     × (b ≡ (stream, floor))
 if_bound view stream floor b e = grind arith
 
-granted_means : (h : History) (o : Option Site) (b : ℕ × ℕ) → granted h o ≡ Some b → Granted h o b
+granted_means : (h : History) (o : Option Site) (b : ℕ × ℕ) → granted_to h o ≡ Some b → Granted h o b
 granted_means h None b e = absurd cc
 granted_means h (Some x) b e =
     let is = if_bound (view_at h x) x.plan.stream (floor_at h x) b e in record

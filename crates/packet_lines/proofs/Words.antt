@@ -1,4 +1,4 @@
--- A line of bytes has one word, so that seven tell what all do.
+-- A line of bytes has one word, so its first seven words tell what all of them do.
 use Rattle.std.proofs.Common.{◌≡◌, List, [], ◌∷◌, take, refl}
 use Rattle.ide_types.specs.Names.{Text}
 use Rattle.packet_lines.specs.Reading.{only_bytes}

@@ -51,10 +51,10 @@ plain_words (Ok t) = codes "plain" ∷ head_words (header t)
 plain_words (Err f) = codes "plain" ∷ fault_word (tlp_word f) ∷ decimal (place_in f) ∷ []
 
 -- the header of the TLP that a packet carries, none of a sync packet
-abbrev pub carried : Packet → Option HeadView
-carried p = if is_sync_packet p then None else result_ok (read_head_of p.head)
+abbrev pub carried_header : Packet → Option HeadView
+carried_header p = if is_sync_packet p then None else result_ok (read_head_of p.head)
 
--- the words of a prefix, ahead of others
+-- the words of a prefix, before others
 abbrev pub prefix_words : Prefix → List Text → List Text
 prefix_words p after =
     (codes "m" ++ decimal (bit_of p.m)) ∷ (codes "k" ++ decimal (bit_of p.k)) ∷ (codes "t" ++ decimal (bit_of p.t))
@@ -62,7 +62,7 @@ prefix_words p after =
 
 -- what it carries, with the lengths of its header and body
 abbrev pub carried_words : Packet → List Text
-carried_words p = carried_word (carried p) ∷ size_words (length p.head) (length p.body)
+carried_words p = carried_word (carried_header p) ∷ size_words (length p.head) (length p.body)
 
 abbrev pub packet_words : Packet → List Text
 packet_words p = codes "ide" ∷ prefix_words p.prefix (carried_words p)
@@ -79,5 +79,5 @@ shown_words [] = plain_words (read_of [])
 shown_words (b ∷ bytes) = cut_words (b ∷ bytes) (cut_of (b ∷ bytes))
 
 -- the line of some bytes after the number of their line
-abbrev pub shown : ℕ → Text → Text
-shown number bytes = decimal number ++ joined (shown_words bytes)
+abbrev pub line_shown : ℕ → Text → Text
+line_shown number bytes = decimal number ++ joined (shown_words bytes)

@@ -1,5 +1,5 @@
-//! Lines of packet files: each spells bytes, of which a line is written that shows the packet or the plain TLP
-//! (this profile).
+//! Lines of packet files: each spells bytes, and a line is written that shows the packet or the plain TLP (this
+//! profile).
 #![tactic(auto)]
 
 mod names;
@@ -8,6 +8,3 @@ mod showing;
 
 pub use reading::parse_packet;
 pub use showing::show;
-
-#[cfg(test)]
-mod tests;

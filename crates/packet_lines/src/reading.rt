@@ -1,6 +1,6 @@
 //! Reading a line of a packet file.
 ghost use Rattle.std.specs.Prelude.{◌≡◌, map};
-ghost use Rattle.link_events.specs.Parse.{Gives};
+ghost use Rattle.link_events.specs.Parse.{IsLineAnswer};
 ghost use Rattle.link_events.specs.Words.{words_in};
 ghost use Rattle.packet_lines.specs.Reading.{only_bytes, packet_meaning};
 
@@ -10,7 +10,7 @@ use std::alloc::Global;
 
 // The bytes of the only word.
 fn bytes_in_words(alloc: Global, words: &[&[u8]]) -> Result<Option<Bytes>, LineError>
-    ensures { Gives (only_bytes (map (λ w. w.now) words.now)) result }
+    ensures { IsLineAnswer (only_bytes (map (λ w. w.now) words.now)) result }
 {
     match words {
         [] => Ok(None),
@@ -21,7 +21,7 @@ fn bytes_in_words(alloc: Global, words: &[&[u8]]) -> Result<Option<Bytes>, LineE
 
 // The bytes of the only word of a line.
 fn bytes_on(alloc: Global, line: &[u8]) -> Result<Option<Bytes>, LineError>
-    ensures { Gives (only_bytes (words_in line.now)) result }
+    ensures { IsLineAnswer (only_bytes (words_in line.now)) result }
 {
     let words = words_of(line);
     bytes_in_words(alloc, words.as_slice())
@@ -31,7 +31,7 @@ fn bytes_on(alloc: Global, line: &[u8]) -> Result<Option<Bytes>, LineError>
 /// side. `None` on a line of spaces, or the first fault: more than 20,000 bytes, a byte outside 20h to 7Eh, or another
 /// text (this profile).
 pub fn parse_packet(alloc: Global, line: &[u8]) -> Result<Option<Bytes>, LineError>
-    ensures { Gives (packet_meaning line.now) result }
+    ensures { IsLineAnswer (packet_meaning line.now) result }
 {
     if line.len() > LINE_LIMIT {
         return Err(LineError::Fault(LineFault::TooLong));

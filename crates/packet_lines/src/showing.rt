@@ -7,8 +7,8 @@ ghost use Rattle.ide_prefix.specs.Packet.{is_sync_packet};
 ghost use Rattle.ide_prefix.specs.Faults.{packet_place};
 ghost use Rattle.fault_words.specs.FaultWords.{packet_word as packet_word_of};
 ghost use Rattle.ide_types.specs.Names.{Text, joined, fault_word};
-ghost use Rattle.packet_lines.specs.Showing.{carried, carried_word, carried_words, head_words, packet_words};
-ghost use Rattle.packet_lines.specs.Showing.{plain_words, prefix_words, shown};
+ghost use Rattle.packet_lines.specs.Showing.{carried_header, carried_word, carried_words, head_words, packet_words};
+ghost use Rattle.packet_lines.specs.Showing.{plain_words, prefix_words, line_shown};
 
 use crate::names::{carried_name, kind_name};
 use fault_words::{packet_word, tlp_word};
@@ -55,7 +55,7 @@ fn packet_fault_text(alloc: Global, number: u64, fault: PacketFault) -> Result<S
 // The kind of the TLP that a packet carries, or the word for a sync packet.
 fn carried_kind(packet: &PacketView<'_>) -> &'static str
     requires { packet.now.sync ≡ is_sync_packet (packet_of_view packet.now) }
-    ensures { result.now ≡ carried_word (carried (packet_of_view packet.now)) }
+    ensures { result.now ≡ carried_word (carried_header (packet_of_view packet.now)) }
 {
     carried_name(&packet.header())
 }
@@ -100,7 +100,7 @@ fn packet_text(alloc: Global, number: u64, packet: &PacketView<'_>) -> Result<St
 }
 
 fn text_of(alloc: Global, number: u64, bytes: &[u8]) -> Result<String, AllocError>
-    ensures { IfOk result (λ s. string_bytes s ≡ shown number bytes.now) }
+    ensures { IfOk result (λ s. string_bytes s ≡ line_shown number bytes.now) }
 {
     if bytes.is_empty() {
         return plain_text(alloc, number, bytes);
@@ -115,7 +115,7 @@ fn text_of(alloc: Global, number: u64, bytes: &[u8]) -> Result<String, AllocErro
 /// The line that shows a packet, or a plain TLP if byte 0 is not 92h, after its number, with its line feed (this
 /// profile).
 pub fn show(alloc: Global, number: u64, bytes: &[u8]) -> Result<Bytes, Memory>
-    ensures { IfOk result (λ text. text ≡ shown number bytes.now) }
+    ensures { IfOk result (λ text. text ≡ line_shown number bytes.now) }
 {
     let text = text_of(alloc, number, bytes)?;
     Ok(Bytes::new(text.into_bytes()))

@@ -1,12 +1,14 @@
 -- Each step gives the verdict that is due, and its state stands for the history with it.
 use Rattle.port_operations.proofs.Terms.{◌≡◌, ℕ, Bool, true, false, Option, Some, None, List, [], ◌∷◌, length, refl, ap}
 use Rattle.port_operations.proofs.Terms.{sym, ◌∙◌, subst, arith, if◌then◌else◌, is_some, nat_lt, Device, due, Establish}
-use Rattle.port_operations.proofs.Terms.{establish_found, establish_on, Event, facts, find_op, found, History, Host}
+use Rattle.port_operations.proofs.Terms.{establish_found, establish_on, Event, facts, find_op, found_by_id, History}
+use Rattle.port_operations.proofs.Terms.{Host}
 use Rattle.port_operations.proofs.Terms.{is_of_packets, is_quiet, IsNoOperation, key_due, key_plan, LinkState, Loss}
-use Rattle.port_operations.proofs.Terms.{Manager, manager, nat_tests, none_of_packets, Op, op_at, op_of, operated}
+use Rattle.port_operations.proofs.Terms.{Manager, manager, nat_tests, none_of_packets, Op, op_at, op_of}
+use Rattle.port_operations.proofs.Terms.{stepped_operation}
 use Rattle.port_operations.proofs.Terms.{operated_manager, operates, Operation, Plan, ports_of, quiet, reach_of}
 use Rattle.port_operations.proofs.Terms.{Refresh, refresh_found, refresh_on, Reset, reset_state, Side, slice_index_or}
-use Rattle.port_operations.proofs.Terms.{StandsFor, Status, status_at, status_found, step_of, Stepped, Steps}
+use Rattle.port_operations.proofs.Terms.{PortsStandFor, Status, status_at, status_found, step_of, Stepped, Steps}
 use Rattle.port_operations.proofs.Terms.{StepStands, Stop, stop_found, stop_on, stream_plan, streams_of, Verdict}
 use Rattle.port_operations.proofs.Terms.{work_done, work_of}
 use Rattle.link_events.specs.declared.event.Event.TheVariants.{Interface}
@@ -25,7 +27,7 @@ use Rattle.port_operations.proofs.Resets.{reset_stands, reset_nothing}
 use Rattle.port_operations.proofs.Worked.{asked_stands}
 
 abbrev AllStep : Plan → History → Event → Stepped → Type 0
-AllStep plan h e r = (r.0 ≡ due plan h e) × StandsFor plan r.1 ((e, r.0) ∷ h)
+AllStep plan h e r = (r.0 ≡ due plan h e) × PortsStandFor plan r.1 ((e, r.0) ∷ h)
 
 -- ---- events that are no operations
 
@@ -40,7 +42,8 @@ manager_same h _ x still = refl
 abbrev ops_of : Plan → ℕ → ℕ → Manager → Option Op
 ops_of plan l s m = if is_some (stream_plan plan l s) then Some (m.ops l s) else None
 
-plain : (plan : Plan) (st : LinkState) (h : History) (e : Event) (r : Stepped) → IsNoOperation e → StandsFor plan st h
+plain : (plan : Plan) (st : LinkState) (h : History) (e : Event) (r : Stepped) → IsNoOperation e
+    → PortsStandFor plan st h
     → Steps plan h e r → Kept st r → AllStep plan h e r
 unfolding find_op
 plain plan st h e r still stands step kept = (
@@ -48,7 +51,7 @@ plain plan st h e r still stands step kept = (
   record {
     ports_stand = step.1;
     ops_is = λ l s.
-        ap (λ (zs : List (List Op)). found (streams_of plan l) (slice_index_or zs l []) s) kept.0
+        ap (λ (zs : List (List Op)). found_by_id (streams_of plan l) (slice_index_or zs l []) s) kept.0
         ∙ (stands.ops_is l s ∙ ap (ops_of plan l s) (sym (manager_same h e r.0 still)));
     draws_is = kept.1 ∙ (stands.draws_is ∙ ap (λ (m : Manager). length m.begun) (sym (manager_same h e r.0 still)));
   },
@@ -63,7 +66,7 @@ manager_asked h op.Establish link stream lose x = refl
 manager_asked h op.Refresh link stream lose x = refl
 manager_asked h op.Stop link stream lose x = refl
 
-module _ (plan : Plan) (st : LinkState) (h : History) (stands : StandsFor plan st h) (link stream : ℕ) where
+module _ (plan : Plan) (st : LinkState) (h : History) (stands : PortsStandFor plan st h) (link stream : ℕ) where
   -- the manager knows an operation exactly of the streams of the plan
   known : (q : Op) → find_op plan st link stream ≡ Some q → (is_some (stream_plan plan link stream) ≡ true)
       × (q ≡ op_of h link stream)
@@ -72,16 +75,17 @@ module _ (plan : Plan) (st : LinkState) (h : History) (stands : StandsFor plan s
   unknown : find_op plan st link stream ≡ None → is_some (stream_plan plan link stream) ≡ false
   unknown found = let is : None ≡ op_at plan h link stream = sym found ∙ stands.ops_is link stream in grind arith
 
-  -- the state and the history after an operation that is due, and after one of a stream that the plan has not
+  -- the state and the history after an operation that is due, and after one of a stream that the plan does not have
   does : (o : Operation) (lose : Option Loss) (q : Op) (x : Verdict) → find_op plan st link stream ≡ Some q → x
       ≡ due plan h (asked o link stream lose)
-      → AllStep plan h (asked o link stream lose) (operated plan st o link stream q x)
+      → AllStep plan h (asked o link stream lose) (stepped_operation plan st o link stream q x)
   does o lose q x found is =
       let w_is : work_of o q st.draws ≡ asked_work h o link stream = λ i. work_of o ((known q found).1 i)
       (stands.draws_is i) in
       let after = manager_asked h o link stream lose x in (
         is,
-        subst (λ w. StandsFor plan (work_done plan st link stream w (reach_of o x)) ((asked o link stream lose, x) ∷ h))
+        subst (λ w. PortsStandFor plan (work_done plan st link stream w (reach_of o x))
+            ((asked o link stream lose, x) ∷ h))
             (sym w_is) (record {
               ports_stand = asked_stands plan st h o link stream lose x stands.ports_stand is;
               ops_is = λ l s. ops_worked plan st h o link stream (reach_of o x) stands.ops_is (ap is_some found) l s ∙
@@ -163,7 +167,7 @@ due_reset : (plan : Plan) (h : History) (link : ℕ) →
 unfolding due key_due
 due_reset plan h link = refl
 
-resets : (plan : Plan) (st : LinkState) (h : History) (link : ℕ) → StandsFor plan st h
+resets : (plan : Plan) (st : LinkState) (h : History) (link : ℕ) → PortsStandFor plan st h
     → AllStep plan h (Reset link)
     (if nat_lt link (length plan.links) then (v.Reset link, reset_state plan st link) else (v.Nothing, st))
 resets plan st h link stands = by_has (nat_lt link (length plan.links)) (due_reset plan h link)
@@ -175,7 +179,8 @@ resets plan st h link stands = by_has (nat_lt link (length plan.links)) (due_res
 
 -- ---- all events
 
-packets_step : (plan : Plan) (st : LinkState) (h : History) (e : Event) → is_of_packets e ≡ true → StandsFor plan st h
+packets_step : (plan : Plan) (st : LinkState) (h : History) (e : Event) → is_of_packets e ≡ true
+    → PortsStandFor plan st h
     → AllStep plan h e (step_of plan (beside_at plan h) st e)
 packets_step plan st h e is stands =
     plain plan st h e (step_of plan (beside_at plan h) st e) (none_of_packets e is) stands
@@ -185,7 +190,7 @@ no_interface : (e : InterfaceEvent) → IsNoOperation (Interface e)
 unfolding operates
 no_interface e link stream = refl
 
-asks : (plan : Plan) (st : LinkState) (h : History) (e : InterfaceEvent) → StandsFor plan st h
+asks : (plan : Plan) (st : LinkState) (h : History) (e : InterfaceEvent) → PortsStandFor plan st h
     → AllStep plan h (Interface e) (due plan h (Interface e), st)
 asks plan st h e stands =
     plain plan st h (Interface e) (due plan h (Interface e), st) (no_interface e) stands

@@ -7,24 +7,25 @@ use Rattle.first_fault.specs.Walks.{walked_from, walk_length, reading}
 use Rattle.association.specs.Choice.{choice_of}
 use Rattle.interface_states.specs.Devices.{devices}
 use Rattle.interface_states.specs.Sites.{sites}
-use Rattle.port_operations.specs.Cases.{plan, held_up, held_up_verdicts, lost_on_the_way, lost_verdicts, verdicts_on}
+use Rattle.port_operations.specs.Cases.{port_plan, held_up, held_up_verdicts, lost_on_the_way, lost_verdicts}
+use Rattle.port_operations.specs.Cases.{port_verdicts_on}
 use Rattle.port_operations.specs.Cases.{answers_on, WorkedCases}
 
-held_up_due : verdicts_on [] held_up ≡ held_up_verdicts
+held_up_due : port_verdicts_on [] held_up ≡ held_up_verdicts
 unfolding due devices sites key_due manager moments keys is_open failed_there base read_of reading walk_length
     walked_from choice choice_of keys_at has_live_out has_live_in stream_plan sent_in sealed_packets packet_of units
     open_unit posted_in
 held_up_due = refl
 
-held_up_done : answers_on (first_state plan) held_up ≡ held_up_verdicts
+held_up_done : answers_on (first_state port_plan) held_up ≡ held_up_verdicts
 unfolding step_of find put find_op put_op read_of reading walk_length walked_from choice choice_of stream_plan
 held_up_done = refl
 
-lost_due : verdicts_on [] lost_on_the_way ≡ lost_verdicts
+lost_due : port_verdicts_on [] lost_on_the_way ≡ lost_verdicts
 unfolding due key_due manager moments keys is_open failed_there stream_plan
 lost_due = refl
 
-lost_done : answers_on (first_state plan) lost_on_the_way ≡ lost_verdicts
+lost_done : answers_on (first_state port_plan) lost_on_the_way ≡ lost_verdicts
 unfolding step_of find put find_op put_op stream_plan
 lost_done = refl
 

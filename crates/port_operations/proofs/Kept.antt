@@ -1,9 +1,11 @@
 -- A send or an arrival leaves the manager's operations and the draws.
 use Rattle.link_ports.specs.Machine.{Beside}
 use Rattle.port_operations.proofs.Terms.{◌≡◌, Bool, true, false, ℕ, List, Option, Some, None, Result, Ok, Err, refl}
-use Rattle.port_operations.proofs.Terms.{arith, if◌then◌else◌, Alter, answered, Arrival, Arrive, arrive, choice, Cut}
+use Rattle.port_operations.proofs.Terms.{arith, if◌then◌else◌, Alter, stepped_answer, Arrival, Arrive, arrive, choice}
+use Rattle.port_operations.proofs.Terms.{Cut}
 use Rattle.port_operations.proofs.Terms.{Dump, Event, find, has_port, is_of_packets, LinkState, Pass, Plan, PortName}
-use Rattle.port_operations.proofs.Terms.{put, read_of, Send, send_found, send_on, send_read, Sending, step_of, Stepped}
+use Rattle.port_operations.proofs.Terms.{put, read_of, Send, stepped_send_found, stepped_send_on, stepped_send_read}
+use Rattle.port_operations.proofs.Terms.{Sending, step_of, Stepped}
 use Rattle.port_operations.proofs.Terms.{StreamState, Verdict}
 use Rattle.link_verdicts.specs.declared.verdict.Verdict.TheVariants as v
 use Rattle.link_verdicts.specs.declared.verdict.SealedPacket.{SealedPacket}
@@ -20,21 +22,21 @@ unfolding put
 arrive_kept plan beside st a = grind arith
 
 answered_kept : (plan : Plan) (st : LinkState) (s : Sending) (t : Tlp) (x : StreamState) (o : Option Verdict)
-    (ds : List SealedPacket) → Kept st (answered plan st s t x o ds)
+    (ds : List SealedPacket) → Kept st (stepped_answer plan st s t x o ds)
 unfolding put
 answered_kept plan st s t x o ds = grind arith
 
 found_kept : (plan : Plan) (st : LinkState) (s : Sending) (t : Tlp) (o : Option StreamState)
-    → Kept st (send_found plan st s t o)
+    → Kept st (stepped_send_found plan st s t o)
 found_kept plan st s t None = (refl, refl)
 found_kept plan st s t (Some x) = answered_kept plan st s t x _ _
 
 send_kept : (plan : Plan) (beside : Beside) (st : LinkState) (port : PortName) (r : Result Tlp TlpFault)
     (more trusted b : Bool)
-    → Kept st (if b then send_read plan beside st port r more trusted else (v.Nothing, st))
+    → Kept st (if b then stepped_send_read plan beside st port r more trusted else (v.Nothing, st))
 send_kept plan beside st port (Ok t) more trusted true = by_choice (choice plan port (header t))
   where
-    by_choice : (o : Option ℕ) → Kept st (send_on plan beside st port t more trusted o)
+    by_choice : (o : Option ℕ) → Kept st (stepped_send_on plan beside st port t more trusted o)
     by_choice None = (refl, refl)
     by_choice (Some stream) =
         found_kept plan st (record {

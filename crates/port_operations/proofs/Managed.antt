@@ -1,8 +1,9 @@
 -- The manager's operations and the number of draws stand for the history.
 use Rattle.port_operations.proofs.Terms.{◌≡◌, ℕ, ◌+◌, ◌==◌, Bool, true, false, Option, Some, None, List, [], ◌∷◌}
 use Rattle.port_operations.proofs.Terms.{length, refl, ap, sym, ◌∙◌, subst, arith, if◌then◌else◌, ◌&&◌, is_some}
-use Rattle.port_operations.proofs.Terms.{slice_set, Begun, changed, Device, draws_after, draws_made, end_at, find}
-use Rattle.port_operations.proofs.Terms.{find_op, found, get_or-set_other, History, Host, LinkState, makes_draw}
+use Rattle.port_operations.proofs.Terms.{slice_set, Begun, changed_by_id, Device, draws_after, draws_made, place_at_end}
+use Rattle.port_operations.proofs.Terms.{find}
+use Rattle.port_operations.proofs.Terms.{find_op, found_by_id, get_or-set_other, History, Host, LinkState, makes_draw}
 use Rattle.port_operations.proofs.Terms.{manager, Move, moved_at, moved_found, moved_state, moves_at, nat_tests, Op}
 use Rattle.port_operations.proofs.Terms.{op_after, op_at, op_of, Operation, Plan, port_at, PortName, ports_of, put}
 use Rattle.port_operations.proofs.Terms.{put_beside, put_op, put_same, Reach, Side, slice_index_or, stream_plan}
@@ -23,16 +24,16 @@ unfolding find_op put_op
 find_op-put_other plan st link stream o l s other = by_link (l == link) refl
   where
     new : List (List Op)
-    new = slice_set st.ops link (changed (streams_of plan link) (slice_index_or st.ops link []) stream o)
+    new = slice_set st.ops link (changed_by_id (streams_of plan link) (slice_index_or st.ops link []) stream o)
 
-    by_link : (b : Bool) → (l == link) ≡ b → found (streams_of plan l) (slice_index_or new l []) s
-        ≡ found (streams_of plan l) (slice_index_or st.ops l []) s
-    by_link false e = ap (λ (zs : List Op). found (streams_of plan l) zs s)
+    by_link : (b : Bool) → (l == link) ≡ b → found_by_id (streams_of plan l) (slice_index_or new l []) s
+        ≡ found_by_id (streams_of plan l) (slice_index_or st.ops l []) s
+    by_link false e = ap (λ (zs : List Op). found_by_id (streams_of plan l) zs s)
         (get_or-set_other st.ops link l _ [] (λ same. grind (arith, nat_tests)))
     by_link true e =
         let same : link ≡ l = grind (arith, nat_tests) in
-        subst (λ (n : ℕ). found (streams_of plan n) (slice_index_or new n []) s
-        ≡ found (streams_of plan n) (slice_index_or st.ops n []) s) same
+        subst (λ (n : ℕ). found_by_id (streams_of plan n) (slice_index_or new n []) s
+        ≡ found_by_id (streams_of plan n) (slice_index_or st.ops n []) s) same
         (put_beside (streams_of plan link) st.ops link stream s o (grind (arith, nat_tests)))
 
 -- ---- the moves of slots leave them
@@ -54,7 +55,8 @@ moved_ops plan st link stream out into =
 same_ops : (plan : Plan) (st new : LinkState) → new.ops ≡ st.ops → (l s : ℕ) → find_op plan new l s
     ≡ find_op plan st l s
 unfolding find_op
-same_ops plan st new is l s = ap (λ (zs : List (List Op)). found (streams_of plan l) (slice_index_or zs l []) s) is
+same_ops plan st new is l s = ap (λ (zs : List (List Op)). found_by_id (streams_of plan l) (slice_index_or zs l []) s)
+    is
 
 put_ops : (plan : Plan) (st : LinkState) (link stream n : ℕ) (o : Op) (l s : ℕ)
     → find_op plan (record (put_op plan st link stream o) { draws = n }) l s
@@ -108,8 +110,10 @@ pub ops_worked : (plan : Plan) (st : LinkState) (h : History) (o : Operation) (l
 ops_worked plan st h o link stream None stands known l s = stands l s
 ops_worked plan st h o link stream (Some r) stands known l s =
     let w = work_of o (op_of h link stream) (draws_made h) in
-    let out : Side → SubKind → List Move = λ side u. moves_at (ports_of plan st) w r (end_at link stream true side u) in
-    let into : Side → SubKind → List Move = λ side u. moves_at (ports_of plan st) w r (end_at link stream false side u)
+    let out : Side → SubKind → List Move = λ side u. moves_at (ports_of plan st) w r
+    (place_at_end link stream true side u) in
+    let into : Side → SubKind → List Move = λ side u. moves_at (ports_of plan st) w r
+    (place_at_end link stream false side u)
     in
     ops_after plan st (moved_state plan st link stream out into) h link stream (draws_after st.draws w) (op_after w r)
     (moved_ops plan st link stream out into) stands known l s

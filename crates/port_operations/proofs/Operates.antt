@@ -1,16 +1,18 @@
 -- An event of an operation moves the keys of its stream at both ports, each move allowed: at each place its touches are
--- such moves, by what the place's earlier touches say of the packets there. The hard part is a direction that comes to
--- have its first Live key: a refresh finds one and a stop brings none, so it is an establish, whose draw is then Base,
--- and under draws from it on nothing was sealed or got.
+-- such moves, by what the place's earlier touches say of the packets there. The hard part is a direction that gets its
+-- first Live key. A refresh finds one and a stop brings none, so it is an establish, whose draw is then Base, and under
+-- draws from it on nothing was sealed or got.
 use Rattle.port_operations.proofs.Terms.{◌≡◌, ℕ, ◌≤◌, Bool, true, false, Option, Some, List, [], ◌∷◌, refl, ap, sym}
 use Rattle.port_operations.proofs.Terms.{◌∙◌, subst, arith, ◌||◌, ◌&&◌, ◌==◌, if◌then◌else◌, AllAllowedIn}
-use Rattle.port_operations.proofs.Terms.{AllAllowedOut, AllCome, base, behind, busy_in, CauseLaw, ClearTouch, Cpl}
-use Rattle.port_operations.proofs.Terms.{draws_made, due, end_at, eqb-refl, Establish, Event, failed, got_same}
+use Rattle.port_operations.proofs.Terms.{AllAllowedOut, AllCome, base, touches_after, busy_in, CauseLaw, ClearTouch}
+use Rattle.port_operations.proofs.Terms.{Cpl}
+use Rattle.port_operations.proofs.Terms.{draws_made, due, place_at_end, eqb-refl, Establish, Event, failed, got_same}
 use Rattle.port_operations.proofs.Terms.{got_since, has_live_in, has_live_out, History, in_keyed, is_quiet, IsOperation}
 use Rattle.port_operations.proofs.Terms.{key_cause, key_of, key_plan, keyed_there, Keys, keys, keys_at, keys_into}
 use Rattle.port_operations.proofs.Terms.{keys_moved_in, keys_moved_out, keys_out, keys_there, lane_in, lane_out, Loss}
 use Rattle.port_operations.proofs.Terms.{manager, moments, Move, moves_at, Npr, Off, Op, op_of, Operated, operates}
-use Rattle.port_operations.proofs.Terms.{Operation, out_keyed, pending, Place, place, Plan, port_at, PortName, ports_at}
+use Rattle.port_operations.proofs.Terms.{Operation, out_keyed, pending, KeyPlace, place_in_sub_stream, Plan, port_at}
+use Rattle.port_operations.proofs.Terms.{PortName, ports_at}
 use Rattle.port_operations.proofs.Terms.{posted_in, Pr, quiet_seals_none, Reach, reach_of, Refresh, sealed_packets}
 use Rattle.port_operations.proofs.Terms.{sealed_same, Side, since_same, started, Stop, StopTouch, SubKind, SubStream}
 use Rattle.port_operations.proofs.Terms.{total_in, Touch, touches, units_since, used, Verdict, with_key, Work, work_of}
@@ -29,7 +31,7 @@ use Rattle.port_operations.proofs.Runs.{are_first, NewIn, out_run, in_run, halte
 
 -- ---- what an operation touches
 
-worked_first : (w : Work) (r : Reach) (p : Place) → are_first (worked w (Some r) p) ≡ true
+worked_first : (w : Work) (r : Reach) (p : KeyPlace) → are_first (worked w (Some r) p) ≡ true
 worked_first w r p = grind arith
 
 -- an event that brought an operation this far
@@ -38,20 +40,20 @@ pub record Works (plan : Plan) (h : History) (e : Event) (x : Verdict) (link str
     pub law : CauseLaw plan ((e, x) ∷ h)
     pub quiet : is_quiet x ≡ true
     pub touched : (side : Side) (sends : Bool) (u : SubKind) → touches (manager h).ops (draws_made h) e x
-        (end_at link stream sends side u) ≡ worked w (Some r) (end_at link stream sends side u)
+        (place_at_end link stream sends side u) ≡ worked w (Some r) (place_at_end link stream sends side u)
 
 -- its moves at the ends of the link, read off the history
 abbrev pub outs : History → ℕ → ℕ → Work → Reach → Side → SubKind → List Move
-outs h link stream w r side u = moves_at (ports_at h) w r (end_at link stream true side u)
+outs h link stream w r side u = moves_at (ports_at h) w r (place_at_end link stream true side u)
 
 abbrev pub ins : History → ℕ → ℕ → Work → Reach → Side → SubKind → List Move
-ins h link stream w r side u = moves_at (ports_at h) w r (end_at link stream false side u)
+ins h link stream w r side u = moves_at (ports_at h) w r (place_at_end link stream false side u)
 
 if_none : (b : Bool) (ps : List Packet) → ps ≡ [] → (if b then [] else ps) ≡ []
 if_none b ps none = grind arith
 
 new_in : (plan : Plan) (h : History) → CauseLaw plan h → (port : PortName) (stream : ℕ) (u : SubKind)
-    → NewIn plan h port (lane_in port stream u) (moments h (place port (lane_in port stream u) false))
+    → NewIn plan h port (lane_in port stream u) (moments h (place_in_sub_stream port (lane_in port stream u) false))
 new_in plan h law port stream u j le =
     let s = lane_in port stream u in
     let units = none_got plan h law port stream u j le in
@@ -66,18 +68,20 @@ is_refused false = refl
 module _ (plan : Plan) (h : History) (e : Event) (x : Verdict) (link stream : ℕ) (w : Work) (r : Reach)
     (is : Works plan h e x link stream w r)
     (side : Side) where
-  come_there : (sends : Bool) (u : SubKind) → let p = end_at link stream sends side u in AllCome sends (moments h p)
+  come_there : (sends : Bool) (u : SubKind) → let p = place_at_end link stream sends side u in AllCome sends
+      (moments h p)
       (worked w (Some r) p)
   come_there sends u =
-      let p = end_at link stream sends side u in
+      let p = place_at_end link stream sends side u in
       let cause = key_cause plan ((e, x) ∷ h) is.law in
       subst (AllCome sends (moments h p)) (is.touched side sends u)
       (next_fits (key_plan plan) h e x cause p (fits (key_plan plan) h cause.2 p)).come
 
-  moments_after : (sends : Bool) (u : SubKind) → let p = end_at link stream sends side u in moments ((e, x) ∷ h) p
-      ≡ behind (moments h p) (worked w (Some r) p)
+  moments_after : (sends : Bool) (u : SubKind) → let p = place_at_end link stream sends side u in moments ((e, x) ∷ h) p
+      ≡ touches_after (moments h p) (worked w (Some r) p)
   unfolding moments
-  moments_after sends u = ap (behind (moments h (end_at link stream sends side u))) (is.touched side sends u)
+  moments_after sends u = ap (touches_after (moments h (place_at_end link stream sends side u)))
+      (is.touched side sends u)
 
   -- its moves at a sender, and at a receiver
   moves_out : (u : SubKind) → let port = port_at side link in let s = lane_out port stream u in
@@ -85,7 +89,7 @@ module _ (plan : Plan) (h : History) (e : Event) (x : Verdict) (link stream : �
       (keys_at h port s))
       × AllAllowedOut plan (sealed_packets plan h) s (outs h link stream w r side u) (keys_at h port s)
   moves_out u =
-      let p = end_at link stream true side u in
+      let p = place_at_end link stream true side u in
       let port = port_at side link in
       let s = lane_out port stream u in
       let here = sends_lane port stream u in
@@ -107,7 +111,7 @@ module _ (plan : Plan) (h : History) (e : Event) (x : Verdict) (link stream : �
       (keys_at ((e, x) ∷ h) port s ≡ keys_moved_in (ins h link stream w r side u) (keys_at h port s))
       × AllAllowedIn plan h port s (ins h link stream w r side u) (keys_at h port s)
   moves_in u =
-      let p = end_at link stream false side u in
+      let p = place_at_end link stream false side u in
       let port = port_at side link in
       let s = lane_in port stream u in
       let run = in_run plan h port s (λ k. is_some ((ports_at h).refusal p k)) (moments h p) (worked w (Some r) p)
@@ -130,7 +134,7 @@ none_of : (f : SubKind → Bool) → any_sub f ≡ false → (u : SubKind) → f
 none_of f is u = grind arith
 
 abbrev keyed_at : History → Side → ℕ → ℕ → Bool → SubKind → Bool
-keyed_at h side link stream sends u = keyed_there (keys_there h (end_at link stream sends side u))
+keyed_at h side link stream sends u = keyed_there (keys_there h (place_at_end link stream sends side u))
 
 lives_out : (h : History) (side : Side) (link stream : ℕ) → any_sub (keyed_at h side link stream true)
     ≡ has_live_out h (port_at side link) stream
@@ -152,13 +156,14 @@ are_halts (StopTouch k ∷ ts) = are_halts ts
 are_halts (ClearTouch ∷ ts) = are_halts ts
 are_halts (_ ∷ ts) = false
 
-stop_halts : (q : Op) (next : ℕ) (r : Reach) (p : Place) → are_halts (worked (work_of op.Stop q next) (Some r) p) ≡ true
+stop_halts : (q : Op) (next : ℕ) (r : Reach) (p : KeyPlace) → are_halts (worked (work_of op.Stop q next) (Some r) p)
+    ≡ true
 stop_halts q next r p = grind arith
 
 halted_keyed : (k : Bool) (ks : Keys) → keyed_there (with_key ks k Off) ≡ true → keyed_there ks ≡ true
 halted_keyed k ks is = grind arith
 
-halts : (s : Bool) (ts more : List Touch) → are_halts more ≡ true → keyed_there (keys s (behind ts more)) ≡ true
+halts : (s : Bool) (ts more : List Touch) → are_halts more ≡ true → keyed_there (keys s (touches_after ts more)) ≡ true
     → keyed_there (keys s ts) ≡ true
 halts s ts [] are is = is
 halts s ts (StopTouch k ∷ more) are is = halted_keyed k (keys s ts)
@@ -197,7 +202,7 @@ works plan h o link stream lose x r law reached =
     record { law = law; quiet = ap is_quiet law.0 ∙ asked_quiet plan h o link stream lose; touched = touched o reached }
   where
     touched : (o : Operation) → reach_of o x ≡ Some r → (side : Side) (sends : Bool) (u : SubKind)
-        → let p = end_at link stream sends side u in
+        → let p = place_at_end link stream sends side u in
         touches (manager h).ops (draws_made h) (asked o link stream lose) x p
         ≡ worked (asked_work h o link stream) (Some r) p
     touched op.Establish reached side sends u = rw (eqb-refl link, eqb-refl stream, reached) refl
@@ -205,7 +210,7 @@ works plan h o link stream lose x r law reached =
     touched op.Stop reached side sends u = rw (eqb-refl link, eqb-refl stream, reached) refl
 
 -- the first key of a direction that is On: Base is its draw, and nothing of a draw from it on was used or started
-record First (h g : History) (p : Place) (j : ℕ) : Type 0 where
+record First (h g : History) (p : KeyPlace) (j : ℕ) : Type 0 where
   base_of : base g p.link p.stream ≡ j
   used_below : used (moments h p) ≤ j
   started_below : started (moments h p) ≤ j
@@ -219,7 +224,7 @@ module _ (plan : Plan) (h : History) (link stream : ℕ) (lose : Option Loss) (x
   unfolding base
   base_stays op.Establish law before =
       let some = one_of (keyed_at h side link stream sends) before in
-      base_kept (key_plan plan) h (end_at link stream sends side some.0) lose x
+      base_kept (key_plan plan) h (place_at_end link stream sends side some.0) lose x
       (key_cause plan ((Establish link stream lose, x) ∷ h) law) some.1
   base_stays op.Refresh law before = refl
   base_stays op.Stop law before = refl
@@ -227,22 +232,23 @@ module _ (plan : Plan) (h : History) (link stream : ℕ) (lose : Option Loss) (x
   firsts : (o : Operation) → CauseLaw plan ((asked o link stream lose, x) ∷ h) → reach_of o x ≡ Some r
       → any_sub (keyed_at h side link stream sends) ≡ false
       → any_sub (keyed_at ((asked o link stream lose, x) ∷ h) side link stream sends) ≡ true → (u : SubKind)
-      → First h ((asked o link stream lose, x) ∷ h) (end_at link stream sends side u) (asked_work h o link stream).draw
+      → First h ((asked o link stream lose, x) ∷ h) (place_at_end link stream sends side u)
+      (asked_work h o link stream).draw
   firsts op.Establish law reached before now u =
       let cause = key_cause plan ((Establish link stream lose, x) ∷ h) law in
       let none = none_of (keyed_at h side link stream sends) before u in
-      let first = first_keys (key_plan plan) h (end_at link stream sends side u) lose x r cause reached none in
+      let first = first_keys (key_plan plan) h (place_at_end link stream sends side u) lose x r cause reached none in
       record { base_of = first.base_of; used_below = first.fresh.used_below; started_below = first.fresh.started_below }
   firsts op.Refresh law reached before now u =
       let cause = key_cause plan ((Refresh link stream lose, x) ∷ h) law in
-      let some = refresh_keyed (key_plan plan) h (end_at link stream sends side u) lose x r cause reached in
+      let some = refresh_keyed (key_plan plan) h (place_at_end link stream sends side u) lose x r cause reached in
       let none = none_of (keyed_at h side link stream sends) before u in
       absurd cc
   firsts op.Stop law reached before now u =
       let e = Stop link stream lose in
       let w = asked_work h op.Stop link stream in
       let some = one_of (keyed_at ((e, x) ∷ h) side link stream sends) now in
-      let p = end_at link stream sends side some.0 in
+      let p = place_at_end link stream sends side some.0 in
       let after = moments_after plan h e x link stream w r (works plan h op.Stop link stream lose x r law reached) side
       sends some.0 in
       let kept = halts sends (moments h p) (worked w (Some r) p) (stop_halts (op_of h link stream) (draws_made h) r p)
@@ -264,11 +270,11 @@ module _ (plan : Plan) (h : History) (o : Operation) (link stream : ℕ) (lose :
       let xs = sealed_same plan h e x (quiet_seals_none x is.quiet) in
       let none = λ (s : SubStream). (takes_nothing x is.quiet s).0 in
       let out : has_live_out h port stream ≡ false → has_live_out g port stream ≡ true → (u : SubKind)
-      → First h g (end_at link stream true side u) w.draw =
+      → First h g (place_at_end link stream true side u) w.draw =
       λ before now. firsts plan h link stream lose x r side true o law reached (lives_out h side link stream ∙ before)
       (lives_out g side link stream ∙ now) in
       let into : has_live_in h port stream ≡ false → has_live_in g port stream ≡ true → (u : SubKind)
-      → First h g (end_at link stream false side u) w.draw =
+      → First h g (place_at_end link stream false side u) w.draw =
       λ before now. firsts plan h link stream lose x r side false o law reached (lives_in h side link stream ∙ before)
       (lives_in g side link stream ∙ now) in
       record {

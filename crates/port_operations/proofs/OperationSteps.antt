@@ -4,13 +4,14 @@ use Rattle.port_operations.proofs.Terms.{◌∙◌, arith, if◌then◌else◌, 
 use Rattle.port_operations.proofs.Terms.{find-put_other, has_stream, History, Host, is_same_port, IsOperation, kept_all}
 use Rattle.port_operations.proofs.Terms.{KeyFacts, LinkState, Move, moved_at, moved_found, moved_state, moved_stream}
 use Rattle.port_operations.proofs.Terms.{nat_tests, OperationSteps, Plan, port_at, PortName, PortsStand, put_packets}
-use Rattle.port_operations.proofs.Terms.{quiet_everywhere, quiet_seals_none, sealed_same, Side, standing, standing_at}
+use Rattle.port_operations.proofs.Terms.{quiet_everywhere, quiet_seals_none, sealed_same, Side, standing}
+use Rattle.port_operations.proofs.Terms.{standing_if_planned}
 use Rattle.port_operations.proofs.Terms.{stays, StreamState, SubKind, Verdict}
 use Rattle.port_operations.proofs.Operations.{operated}
 
 -- a stream at a port as it was or as it stands for the history with the pair
 abbrev Found : Plan → LinkState → History → PortName → ℕ → Type 0
-Found plan st h port stream = find plan st port stream ≡ standing_at plan h port stream
+Found plan st h port stream = find plan st port stream ≡ standing_if_planned plan h port stream
 
 moved_there : (plan : Plan) (st : LinkState) (h g : History) (port : PortName) (stream : ℕ)
     (out into : SubKind → List Move) → Found plan st h port stream
@@ -51,7 +52,7 @@ module _ (plan : Plan) (facts : KeyFacts plan) (st : LinkState) (h : History) (e
     (link stream : ℕ)
     (out into : Side → SubKind → List Move)
     (stands : PortsStand plan st h) (is : IsOperation plan h e w link stream out into) where
-  -- an end of the link, where the slots of the other one move too
+  -- an end of the link, when the slots of the other one move too
   moved_end : (side : Side) (ports : LinkState) → Found plan ports h (port_at side link) stream
       → Found plan (moved_at plan ports link stream out into side) ((e, w) ∷ h) (port_at side link) stream
   moved_end side ports found =

@@ -1,7 +1,8 @@
 -- A stream at a port stands for a history with an operation, after the moves of its slots.
 use Rattle.port_operations.proofs.Terms.{◌≡◌, ℕ, Bool, true, false, List, ◌∷◌, length, ap, sym, ◌∙◌, arith}
 use Rattle.port_operations.proofs.Terms.{if◌then◌else◌, ◌&&◌, ◌||◌, accepts_in, any_live, any_on, base, Cpl, each_sub}
-use Rattle.port_operations.proofs.Terms.{Event, failed, failed_next, fails_at, got_in, got_same, got_since, has_live}
+use Rattle.port_operations.proofs.Terms.{Event, failed, failed_next, fails_at, got_in, got_same, got_since}
+use Rattle.port_operations.proofs.Terms.{has_live_key}
 use Rattle.port_operations.proofs.Terms.{has_live_in, has_live_out, held_same, History, holds_in, is_keyed, is_quiet}
 use Rattle.port_operations.proofs.Terms.{key_in, keyed_in, keys_at, lane_in, lane_out, Move, moved_stream, Npr, on_in}
 use Rattle.port_operations.proofs.Terms.{Operated, OperationStands, Plan, PortName, posted_count, posted_in, posted_sum}
@@ -22,9 +23,10 @@ takes_nothing w none s = grind arith
 
 pub failed_quiet : (plan : Plan) (h : History) (e : Event) (w : Verdict) → is_quiet w ≡ true
     → (port : PortName) (stream : ℕ) → failed ((e, w) ∷ h) port stream
-    ≡ (failed h port stream && has_live ((e, w) ∷ h) port stream)
+    ≡ (failed h port stream && has_live_key ((e, w) ∷ h) port stream)
 failed_quiet plan h e w none port stream = failed_next h e w port stream ∙ ap
-    (λ (b : Bool). (b || failed h port stream) && has_live ((e, w) ∷ h) port stream) (fails_nothing w none port stream)
+    (λ (b : Bool). (b || failed h port stream) && has_live_key ((e, w) ∷ h) port stream)
+    (fails_nothing w none port stream)
 
 -- ---- counts
 
@@ -38,7 +40,7 @@ counts_on before now m n goes begins = grind (arith, goes, begins)
 and_live : (a b : Bool) → (a && (b || true)) ≡ a
 and_live a b = grind arith
 
--- where a draw is On, what failed before still does
+-- if a draw is On, what failed before still does
 failed_on : (plan : Plan) (h : History) (e : Event) (w : Verdict) → is_quiet w ≡ true
     → (port : PortName) (stream : ℕ) (u : SubKind) → is_keyed ((e, w) ∷ h) port (lane_in port stream u) ≡ true
     → failed ((e, w) ∷ h) port stream ≡ failed h port stream

@@ -6,13 +6,14 @@ use Rattle.port_operations.proofs.Terms.{◌≡◌, ◌≢◌, ℕ, zero, suc, �
 use Rattle.port_operations.proofs.Terms.{[], ◌∷◌, length, map, refl, ap, sym, ◌∙◌, subst, arith, if◌then◌else◌, ◌&&◌}
 use Rattle.port_operations.proofs.Terms.{◌||◌, is_some, slice_set, base, clears, Cpl, Device, draws_made, due, each_sub}
 use Rattle.port_operations.proofs.Terms.{empty_stream, eqb-refl, facts, failed, failed_next, failed_there, fails_at}
-use Rattle.port_operations.proofs.Terms.{find, find_op, first_ports, FirstStands, found, get_or-set_other}
+use Rattle.port_operations.proofs.Terms.{find, find_op, first_ports, FirstStands, found_by_id, get_or-set_other}
 use Rattle.port_operations.proofs.Terms.{get_or-set_same, got_in, has_live_in, has_live_out, History, Host, Idle, is_on}
 use Rattle.port_operations.proofs.Terms.{kept_all, Keys, keys, keys_at, keys_into, keys_out, lane_in, lane_out}
 use Rattle.port_operations.proofs.Terms.{LinkState, manager, moments, nat_tests, no_keys, Npr, Op, op_at, op_of}
 use Rattle.port_operations.proofs.Terms.{operates, Plan, port_at, port_place, PortName, PortsStand, posted_count}
 use Rattle.port_operations.proofs.Terms.{posted_sum, Pr, Reset, reset_state, rx_slots, sealed_packets, sealed_same}
-use Rattle.port_operations.proofs.Terms.{sent_direction, Side, slice_index_or, standing, standing_at, StandsFor, stays}
+use Rattle.port_operations.proofs.Terms.{sent_direction, Side, slice_index_or, standing, standing_if_planned}
+use Rattle.port_operations.proofs.Terms.{PortsStandFor, stays}
 use Rattle.port_operations.proofs.Terms.{stream_plan, streams_by_link, streams_of, StreamState, SubKind, total_in}
 use Rattle.port_operations.proofs.Terms.{tx_slots, units_since, with_id, within}
 use Rattle.link_verdicts.specs.declared.verdict.Verdict.TheVariants as v
@@ -94,32 +95,32 @@ reset_standing plan h side l stream =
 
 -- ---- the lists
 
-all_found : {A : Type 0} (ss : List StreamPlan) (id : ℕ) (x : A) → found ss (map (λ (s : StreamPlan). x) ss) id
+all_found : {A : Type 0} (ss : List StreamPlan) (id : ℕ) (x : A) → found_by_id ss (map (λ (s : StreamPlan). x) ss) id
     ≡ (if is_some (with_id ss id) then Some x else None)
 all_found [] id x = refl
 all_found (s ∷ ss) id x = let more = all_found ss id x in grind (arith, more)
 
 not_found : {A : Type 0} (ss : List StreamPlan) (xs : List A) (id : ℕ) → is_some (with_id ss id) ≡ false
-    → found ss xs id ≡ None
+    → found_by_id ss xs id ≡ None
 not_found [] xs id none = refl
 not_found (s ∷ ss) [] id none = refl
 not_found (s ∷ ss) (x ∷ xs) id none = let more = not_found ss xs id in grind (arith, more)
 
 -- a row that is filled anew
 filled : {A : Type 0} (ss : List StreamPlan) (rows : List (List A)) (i id : ℕ) (x : A)
-    → (is_some (with_id ss id) ≡ true → is_some (found ss (slice_index_or rows i []) id) ≡ true)
-    → found ss (slice_index_or (slice_set rows i (map (λ (s : StreamPlan). x) ss)) i []) id
+    → (is_some (with_id ss id) ≡ true → is_some (found_by_id ss (slice_index_or rows i []) id) ≡ true)
+    → found_by_id ss (slice_index_or (slice_set rows i (map (λ (s : StreamPlan). x) ss)) i []) id
     ≡ (if is_some (with_id ss id) then Some x else None)
 filled {A} ss rows i id x there = by_known (is_some (with_id ss id)) refl
   where
     row : List A
     row = map (λ (s : StreamPlan). x) ss
 
-    by_known : (b : Bool) → is_some (with_id ss id) ≡ b → found ss (slice_index_or (slice_set rows i row) i []) id
+    by_known : (b : Bool) → is_some (with_id ss id) ≡ b → found_by_id ss (slice_index_or (slice_set rows i row) i []) id
         ≡ (if b then Some x else None)
     by_known false none = not_found ss _ id none
     by_known true known =
-        ap (λ (xs : List A). found ss xs id) (get_or-set_same rows i row [] (within ss rows i id (there known))) ∙
+        ap (λ (xs : List A). found_by_id ss xs id) (get_or-set_same rows i row [] (within ss rows i id (there known))) ∙
         (all_found ss id x ∙ rw known refl)
 
 -- ---- the ports after a reset
@@ -146,19 +147,19 @@ reset_here plan st h side l t stands = by_side side
     device = port_place (port_at Device l)
 
     there : (side : Side) → is_some (with_id ss t) ≡ true → is_some (find plan st (port_at side l) t) ≡ true
-    there side known = let here : is_some (standing_at plan h (port_at side l) t)
+    there side known = let here : is_some (standing_if_planned plan h (port_at side l) t)
         ≡ true = rw known refl in ap is_some (stands.streams (port_at side l) t)
         ∙ here
 
     by_side : (side : Side) → find plan (reset_state plan st l) (port_at side l) t
         ≡ (if is_some (with_id ss t) then Some empty_stream else None)
     by_side Host =
-        ap (λ (xs : List StreamState). found ss xs t)
+        ap (λ (xs : List StreamState). found_by_id ss xs t)
         (get_or-set_other (slice_set st.ports host row) device host row [] (apart_ends l))
         ∙ filled ss st.ports host t empty_stream (there Host)
     by_side Device =
         filled ss (slice_set st.ports host row) device t empty_stream
-        (λ known. ap (λ (xs : List StreamState). is_some (found ss xs t))
+        (λ known. ap (λ (xs : List StreamState). is_some (found_by_id ss xs t))
         (get_or-set_other st.ports host device row [] (λ same. apart_ends l (sym same)))
         ∙ there Device known)
 
@@ -172,52 +173,52 @@ unfolding find
 reset_there plan st l port t other =
     let row = map (λ (s : StreamPlan). empty_stream) (streams_of plan l) in
     let host = port_place (port_at Host l) in
-    ap (λ (xs : List StreamState). found (streams_of plan port.link) xs t)
+    ap (λ (xs : List StreamState). found_by_id (streams_of plan port.link) xs t)
     (get_or-set_other (slice_set st.ports host row) (port_place (port_at Device l)) (port_place port) row []
     (other_place l Device port other)
     ∙ get_or-set_other st.ports host (port_place port) row [] (other_place l Host port other))
 
 reset_streams : (plan : Plan) (st : LinkState) (h : History) (l : ℕ) → PortsStand plan st h → v.Reset l
     ≡ due plan h (Reset l) → (port : PortName) (t : ℕ) → find plan (reset_state plan st l) port t
-    ≡ standing_at plan ((Reset l, v.Reset l) ∷ h) port t
+    ≡ standing_if_planned plan ((Reset l, v.Reset l) ∷ h) port t
 unfolding operates
 reset_streams plan st h l stands is port t = by_link (l == port.link) refl
   where
     here : (side : Side) → find plan (reset_state plan st l) (port_at side l) t
-        ≡ standing_at plan ((Reset l, v.Reset l) ∷ h) (port_at side l) t
+        ≡ standing_if_planned plan ((Reset l, v.Reset l) ∷ h) (port_at side l) t
     here side = reset_here plan st h side l t stands ∙ ap
         (λ (x : StreamState). if is_some (stream_plan plan l t) then Some x else None)
         (sym (reset_standing plan h side l t))
 
     by_link : (b : Bool) → (l == port.link) ≡ b → find plan (reset_state plan st l) port t
-        ≡ standing_at plan ((Reset l, v.Reset l) ∷ h) port t
+        ≡ standing_if_planned plan ((Reset l, v.Reset l) ∷ h) port t
     by_link true e =
         let same : l ≡ port.link = grind (arith, nat_tests) in
         subst (λ (n : ℕ). find plan (reset_state plan st l) (port_at port.side n) t
-        ≡ standing_at plan ((Reset l, v.Reset l) ∷ h) (port_at port.side n) t) same (here port.side)
+        ≡ standing_if_planned plan ((Reset l, v.Reset l) ∷ h) (port_at port.side n) t) same (here port.side)
     by_link false e = reset_there plan st l port t e ∙ stays plan (facts plan) st h (Reset l) (v.Reset l) stands is port
         t e refl refl
 
 -- ---- the manager after a reset
 
-op_here : (plan : Plan) (st : LinkState) (h : History) (l s : ℕ) → StandsFor plan st h
+op_here : (plan : Plan) (st : LinkState) (h : History) (l s : ℕ) → PortsStandFor plan st h
     → find_op plan (reset_state plan st l) l s ≡ (if is_some (stream_plan plan l s) then Some Idle else None)
 unfolding find_op stream_plan
 op_here plan st h l s stands = filled (streams_of plan l) st.ops l s Idle there
   where
     there : is_some (with_id (streams_of plan l) s) ≡ true → is_some
-        (found (streams_of plan l) (slice_index_or st.ops l []) s) ≡ true
+        (found_by_id (streams_of plan l) (slice_index_or st.ops l []) s) ≡ true
     there known = let here : is_some (op_at plan h l s) ≡ true = rw known refl in ap is_some (stands.ops_is l s) ∙ here
 
 op_there : (plan : Plan) (st : LinkState) (l a s : ℕ) → (a == l) ≡ false → find_op plan (reset_state plan st l) a s
     ≡ find_op plan st a s
 unfolding find_op
 op_there plan st l a s other =
-    ap (λ (xs : List Op). found (streams_of plan a) xs s)
+    ap (λ (xs : List Op). found_by_id (streams_of plan a) xs s)
     (get_or-set_other st.ops l a (map (λ (x : StreamPlan). Idle) (streams_of plan l)) []
     (λ same. grind (arith, nat_tests)))
 
-reset_ops : (plan : Plan) (st : LinkState) (h : History) (l : ℕ) → StandsFor plan st h → (a s : ℕ)
+reset_ops : (plan : Plan) (st : LinkState) (h : History) (l : ℕ) → PortsStandFor plan st h → (a s : ℕ)
     → find_op plan (reset_state plan st l) a s ≡ op_at plan ((Reset l, v.Reset l) ∷ h) a s
 unfolding manager
 reset_ops plan st h l stands a s = by_link (a == l) refl
@@ -234,8 +235,8 @@ reset_draws : (h : History) (l : ℕ) → draws_made h ≡ draws_made ((Reset l,
 unfolding manager
 reset_draws h l = refl
 
-pub reset_stands : (plan : Plan) (st : LinkState) (h : History) (l : ℕ) → StandsFor plan st h → v.Reset l
-    ≡ due plan h (Reset l) → StandsFor plan (reset_state plan st l) ((Reset l, v.Reset l) ∷ h)
+pub reset_stands : (plan : Plan) (st : LinkState) (h : History) (l : ℕ) → PortsStandFor plan st h → v.Reset l
+    ≡ due plan h (Reset l) → PortsStandFor plan (reset_state plan st l) ((Reset l, v.Reset l) ∷ h)
 reset_stands plan st h l stands is = record {
   ports_stand = record {
     cause = (is, stands.ports_stand.cause);
@@ -246,14 +247,14 @@ reset_stands plan st h l stands is = record {
   draws_is = stands.draws_is ∙ reset_draws h l;
 }
 
--- a link that the plan has not
+-- a link that the plan does not have
 reset_still : (plan : Plan) (h : History) (l : ℕ) → Still plan h (Reset l) v.Nothing
 unfolding base
 reset_still plan h l = record
     { quiet = refl; keys = untouched plan h (Reset l) v.Nothing (λ p. refl); based = λ a s. refl }
 
-pub reset_nothing : (plan : Plan) (st : LinkState) (h : History) (l : ℕ) → StandsFor plan st h → v.Nothing
-    ≡ due plan h (Reset l) → StandsFor plan st ((Reset l, v.Nothing) ∷ h)
+pub reset_nothing : (plan : Plan) (st : LinkState) (h : History) (l : ℕ) → PortsStandFor plan st h → v.Nothing
+    ≡ due plan h (Reset l) → PortsStandFor plan st ((Reset l, v.Nothing) ∷ h)
 unfolding manager
 reset_nothing plan st h l stands is = record {
   ports_stand = still_stands plan st h (Reset l) v.Nothing stands.ports_stand is (reset_still plan h l);
@@ -290,14 +291,15 @@ begins plan = record {
   ports_stand = record {
     cause = tt;
     streams = λ port stream.
-        ap (λ (xs : List StreamState). found (streams_of plan port.link) xs stream)
+        ap (λ (xs : List StreamState). found_by_id (streams_of plan port.link) xs stream)
         (ports_first (streams_by_link plan) port.link port.side)
         ∙ (all_found (streams_of plan port.link) stream empty_stream
         ∙ ap (λ (x : StreamState). if is_some (with_id (streams_of plan port.link) stream) then Some x else None)
         (sym (empty_standing plan port stream [] (no_keys_first plan port stream))));
     packets = refl;
   };
-  ops_is = λ l s. ap (λ (xs : List Op). found (streams_of plan l) xs s) (ops_first (streams_by_link plan) l) ∙ all_found
+  ops_is = λ l s. ap (λ (xs : List Op). found_by_id (streams_of plan l) xs s) (ops_first (streams_by_link plan) l) ∙
+      all_found
       (streams_of plan l) s Idle;
   draws_is = refl;
 }

@@ -1,14 +1,15 @@
 -- An operation's touches of a place are moves of its keys, each allowed. It goes by induction on the touches, for
 -- senders and for receivers; a KEY_PROG can be the first alone, so the keys before the operation say whether it is
--- refused. Moves are allowed by bounds that hold in each shape of the keys: a draw that waits for its GO is greater
--- than the one that is On and than all that were used or got GO, and one that waits for the older one was not used.
+-- refused. Moves are allowed by bounds that hold in each shape of the keys. A draw that waits for its GO is greater
+-- than the one that is On and than all that were used or got GO. One that waits for the older one was not used.
 use Rattle.port_operations.proofs.Terms.{◌≡◌, ℕ, ◌<◌, ◌≤◌, Bool, true, false, List, [], ◌∷◌, refl, ap, sym, ◌∙◌, subst}
 use Rattle.port_operations.proofs.Terms.{arith, not, if◌then◌else◌, AllAllowedIn, AllAllowedOut, AllCome, AllowedIn}
-use Rattle.port_operations.proofs.Terms.{AllowedOut, behind, busy_in, ClearTouch, Comes, Go, Goes, GoTouch, Halt}
+use Rattle.port_operations.proofs.Terms.{AllowedOut, touches_after, busy_in, ClearTouch, Comes, Go, Goes, GoTouch, Halt}
 use Rattle.port_operations.proofs.Terms.{History, is_open, key_in, key_moved_in, key_moved_out, Keys, keys}
 use Rattle.port_operations.proofs.Terms.{keys_moved_in, keys_moved_out, keys_of, Loaded, Move, moves_of, nat_tests}
 use Rattle.port_operations.proofs.Terms.{new_key, no_keys, Off, On, Plan, PortName, Program, ProgramTouch}
-use Rattle.port_operations.proofs.Terms.{receiving_key, refuses, SealedList, sent_in, settled, Shape, Sound, started}
+use Rattle.port_operations.proofs.Terms.{receiving_key, refuses, SealedList, sent_in, keys_settled, Shape, Sound}
+use Rattle.port_operations.proofs.Terms.{started}
 use Rattle.port_operations.proofs.Terms.{StopTouch, SubStream, Touch, touched, used, waits, with_key}
 
 -- touches of an operation: a KEY_PROG comes first
@@ -44,22 +45,23 @@ bounds s ts t come = subst (Bounds ts) (sym come.is.are) (shape_bounds s ts come
 
 -- ---- what touches make of keys
 
-settled_again : (s : Bool) (f : ℕ → Bool) (ks : Keys) → settled s f (settled s f ks) ≡ settled s f ks
+settled_again : (s : Bool) (f : ℕ → Bool) (ks : Keys) → keys_settled s f (keys_settled s f ks) ≡ keys_settled s f ks
 settled_again s f ks = grind (arith, nat_tests)
 
-settled_none : (s : Bool) (f : ℕ → Bool) → settled s f no_keys ≡ no_keys
+settled_none : (s : Bool) (f : ℕ → Bool) → keys_settled s f no_keys ≡ no_keys
 settled_none s f = grind arith
 
-settled_keys : (s : Bool) (ts : List Touch) → settled s (is_open ts) (keys s ts) ≡ keys s ts
+settled_keys : (s : Bool) (ts : List Touch) → keys_settled s (is_open ts) (keys s ts) ≡ keys s ts
 unfolding keys
 settled_keys s [] = settled_none s (is_open [])
 settled_keys s (t ∷ ts) = settled_again s (is_open (t ∷ ts)) (touched s (keys s ts) t)
 
 loaded : (s : Bool) (f : ℕ → Bool) (k : Bool) (j : ℕ) (ks : Keys) → refuses s ks k ≡ false
-    → settled s f (touched s ks (ProgramTouch k j)) ≡ with_key ks k (Loaded j)
+    → keys_settled s f (touched s ks (ProgramTouch k j)) ≡ with_key ks k (Loaded j)
 loaded s f k j ks free = grind (arith, nat_tests)
 
-halted : (s : Bool) (f : ℕ → Bool) (k : Bool) (ks : Keys) → settled s f (touched s ks (StopTouch k)) ≡ with_key ks k Off
+halted : (s : Bool) (f : ℕ → Bool) (k : Bool) (ks : Keys) → keys_settled s f (touched s ks (StopTouch k))
+    ≡ with_key ks k Off
 halted s f k ks = grind (arith, nat_tests)
 
 programs_is : (s k : Bool) (j : ℕ) (ts : List Touch) → refuses s (keys s ts) k ≡ false → keys s (ProgramTouch k j ∷ ts)
@@ -87,12 +89,12 @@ goes_of k j sh goes = grind (arith, nat_tests)
 
 gone_new : (busy : ℕ → Bool) (k : Bool) (j : ℕ) (ks : Keys) → key_in ks k ≡ Loaded j
     → ((i : ℕ) → key_in ks (not k) ≡ On i → i < j)
-    → ((i : ℕ) → key_in ks (not k) ≡ Loaded i → ⊥) → settled true busy (touched true ks (GoTouch k j))
+    → ((i : ℕ) → key_in ks (not k) ≡ Loaded i → ⊥) → keys_settled true busy (touched true ks (GoTouch k j))
     ≡ key_moved_out busy (Go k) ks
 gone_new busy k j ks is older one = grind (arith, nat_tests, older, one)
 
-gone_again : (busy : ℕ → Bool) (k : Bool) (j : ℕ) (ks : Keys) → key_in ks k ≡ On j → settled true busy ks ≡ ks
-    → settled true busy (touched true ks (GoTouch k j)) ≡ key_moved_out busy (Go k) ks
+gone_again : (busy : ℕ → Bool) (k : Bool) (j : ℕ) (ks : Keys) → key_in ks k ≡ On j → keys_settled true busy ks ≡ ks
+    → keys_settled true busy (touched true ks (GoTouch k j)) ≡ key_moved_out busy (Go k) ks
 gone_again busy k j ks is stays = grind (arith, nat_tests, stays)
 
 gone_out : (k : Bool) (j : ℕ) (ts : List Touch) → Comes true ts (GoTouch k j) → keys true (GoTouch k j ∷ ts)
@@ -103,7 +105,7 @@ gone_out k j ts come =
     by_on goes.0 (ap (λ (ks : Keys). key_in ks k) come.is.are ∙ goes.1)
   where
     by_on : (on : Bool) → key_in (keys true ts) k ≡ (if on then On j else Loaded j)
-        → settled true (is_open ts) (touched true (keys true ts) (GoTouch k j))
+        → keys_settled true (is_open ts) (touched true (keys true ts) (GoTouch k j))
         ≡ key_moved_out (is_open ts) (Go k) (keys true ts)
     by_on true is = gone_again (is_open ts) k j (keys true ts) is (settled_keys true ts)
     by_on false is =
@@ -129,7 +131,7 @@ pub record Knows (xs : SealedList) (s : SubStream) (ts : List Touch) : Type 0 wh
   pub unsent : (j : ℕ) → used ts ≤ j → sent_in xs s j ≡ []
 
 pub record OutRun (plan : Plan) (xs : SealedList) (s : SubStream) (ts more : List Touch) (ms : List Move) : Type 0 where
-  pub keys_are : keys true (behind ts more) ≡ keys_moved_out (busy_in xs s) ms (keys true ts)
+  pub keys_are : keys true (touches_after ts more) ≡ keys_moved_out (busy_in xs s) ms (keys true ts)
   pub allowed : AllAllowedOut plan xs s ms (keys true ts)
 
 out_cons : (plan : Plan) (xs : SealedList) (s : SubStream) (ts : List Touch) (t : Touch) (more : List Touch) (m : Move)
@@ -199,7 +201,7 @@ out_run plan xs s r ts (t ∷ more) same knows come first = out_later plan xs s 
 
 pub record InRun (plan : Plan) (h : History) (port : PortName) (s : SubStream) (ts more : List Touch) (ms : List Move) :
     Type 0 where
-  pub keys_are : keys false (behind ts more) ≡ keys_moved_in ms (keys false ts)
+  pub keys_are : keys false (touches_after ts more) ≡ keys_moved_in ms (keys false ts)
   pub allowed : AllAllowedIn plan h port s ms (keys false ts)
 
 in_cons : (plan : Plan) (h : History) (port : PortName) (s : SubStream) (ts : List Touch) (t : Touch)

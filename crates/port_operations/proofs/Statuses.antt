@@ -1,10 +1,12 @@
 -- The state of a stream at a port, as the slots have it and as the keys say.
 use Rattle.port_operations.proofs.Terms.{◌≡◌, ℕ, Bool, true, false, Some, refl, ap, ◌∙◌, arith, ◌&&◌, ◌||◌, all_live}
-use Rattle.port_operations.proofs.Terms.{any_live, Cpl, Device, end_at, failed_there, has_all, has_key, has_stream}
+use Rattle.port_operations.proofs.Terms.{any_live, Cpl, Device, place_at_end, failed_there, has_all, has_key}
+use Rattle.port_operations.proofs.Terms.{has_stream}
 use Rattle.port_operations.proofs.Terms.{History, Host, in_keyed, keyed_there, keys_at, keys_there, lane_in, lane_out}
 use Rattle.port_operations.proofs.Terms.{LinkState, Npr, out_keyed, Plan, port_at, PortsStand, Pr, rx_slots}
-use Rattle.port_operations.proofs.Terms.{sealed_packets, Side, some_live, standing, standing_at, status_at, status_by}
-use Rattle.port_operations.proofs.Terms.{status_of, stream_status, SubKind, tx_slots}
+use Rattle.port_operations.proofs.Terms.{sealed_packets, Side, some_live, standing, standing_if_planned, status_at}
+use Rattle.port_operations.proofs.Terms.{status_by}
+use Rattle.port_operations.proofs.Terms.{status_of, status_if_planned, SubKind, tx_slots}
 use Rattle.port_operations.proofs.SlotMoves.{live_in_is, live_out_is}
 
 -- ---- six tests
@@ -32,10 +34,10 @@ six_and_back f g = grind arith
 -- ---- keys
 
 abbrev outward : History → Side → ℕ → ℕ → SubKind → Bool
-outward h side link stream u = keyed_there (keys_there h (end_at link stream true side u))
+outward h side link stream u = keyed_there (keys_there h (place_at_end link stream true side u))
 
 abbrev inward : History → Side → ℕ → ℕ → SubKind → Bool
-inward h side link stream u = keyed_there (keys_there h (end_at link stream false side u))
+inward h side link stream u = keyed_there (keys_there h (place_at_end link stream false side u))
 
 -- ---- slots
 
@@ -88,8 +90,9 @@ pub status_is : (plan : Plan) (st : LinkState) (h : History) → PortsStand plan
     → has_stream plan (port_at side link) stream ≡ true → status_at plan st side link stream
     ≡ status_of h side link stream
 status_is plan st h stands side link stream known =
-    let here : standing_at plan h (port_at side link) stream ≡ Some (standing plan h (port_at side link) stream) = rw
+    let here : standing_if_planned plan h (port_at side link) stream
+    ≡ Some (standing plan h (port_at side link) stream) = rw
     known refl in
-    ap stream_status (stands.streams (port_at side link) stream ∙ here)
+    ap status_if_planned (stands.streams (port_at side link) stream ∙ here)
     ∙ (λ i. status_by (standing_failed plan h side link stream i) (some_is plan h side link stream i)
     (all_is plan h side link stream i))

@@ -1,10 +1,12 @@
 -- What operations read of the slots is what the keys say.
 use Rattle.port_operations.proofs.Terms.{◌≡◌, ℕ, ◌==◌, Bool, true, false, Option, Some, None, refl, ap, sym, ◌∙◌, arith}
-use Rattle.port_operations.proofs.Terms.{if◌then◌else◌, at_each, CauseLaw, end_at, facts, find, has_stream, History}
-use Rattle.port_operations.proofs.Terms.{is_live, is_live_there, Keys, keys_at, keys_into, keys_out, keys_there}
-use Rattle.port_operations.proofs.Terms.{lane_in, lane_out, LinkState, live_at, nat_tests, no_keys, On, Place, Plan}
+use Rattle.port_operations.proofs.Terms.{if◌then◌else◌, at_each, CauseLaw, place_at_end, facts, find, has_stream}
+use Rattle.port_operations.proofs.Terms.{History}
+use Rattle.port_operations.proofs.Terms.{is_live_slot, is_live_there, Keys, keys_at, keys_into, keys_out, keys_there}
+use Rattle.port_operations.proofs.Terms.{lane_in, lane_out, LinkState, live_at, nat_tests, no_keys, On, KeyPlace, Plan}
 use Rattle.port_operations.proofs.Terms.{port_at, PortName, ports_at, ports_of, PortsStand, refuses, refuses_at}
-use Rattle.port_operations.proofs.Terms.{refuses_in, rx_slots, rx_standing, RxSub, sealed_packets, SealedList, slot_in}
+use Rattle.port_operations.proofs.Terms.{refuses_in, rx_slots, rx_standing, RxSub, sealed_packets, SealedList}
+use Rattle.port_operations.proofs.Terms.{slot_in_set}
 use Rattle.port_operations.proofs.Terms.{slot_of, Slots, slots_of, standing, StreamState, SubStream, tx_slots}
 use Rattle.port_operations.proofs.Terms.{tx_standing, TxSub}
 use Rattle.key_laws.specs.Keys.{refusal_if}
@@ -21,7 +23,7 @@ refuses_out : (plan : Plan) (k : Bool) (xs : SealedList) (s : SubStream) (ks : K
 refuses_out plan k xs s ks apart = grind (arith, nat_tests, apart)
 
 live_out : (plan : Plan) (k : Bool) (xs : SealedList) (s : SubStream) (ks : Keys) → Apart ks
-    → is_live (slot_in (tx_slots plan xs s ks) k) ≡ is_live_there (slot_of true ks k)
+    → is_live_slot (slot_in_set (tx_slots plan xs s ks) k) ≡ is_live_there (slot_of true ks k)
 live_out plan k xs s ks apart = grind (arith, nat_tests, apart)
 
 refuses_into : (plan : Plan) (h : History) (k : Bool) (port : PortName) (s : SubStream) (ks : Keys) → Apart ks
@@ -29,17 +31,17 @@ refuses_into : (plan : Plan) (h : History) (k : Bool) (port : PortName) (s : Sub
 refuses_into plan h k port s ks apart = grind (arith, nat_tests, apart)
 
 live_into : (plan : Plan) (h : History) (k : Bool) (port : PortName) (s : SubStream) (ks : Keys) → Apart ks
-    → is_live (slot_in (rx_slots plan h port s ks) k) ≡ is_live_there (slot_of false ks k)
+    → is_live_slot (slot_in_set (rx_slots plan h port s ks) k) ≡ is_live_there (slot_of false ks k)
 live_into plan h k port s ks apart = grind arith
 
--- ---- a stream that the plan has, and one that it has not
+-- ---- a stream that the plan has, and one that it does not have
 
-known : (plan : Plan) (h : History) → CauseLaw plan h → (p : Place) (sends : Bool) (seen : Slots → Bool)
+known : (plan : Plan) (h : History) → CauseLaw plan h → (p : KeyPlace) (sends : Bool) (seen : Slots → Bool)
     (there : Bool → Keys → Bool)
     → ((xs : SealedList) (s : SubStream) (ks : Keys) → Apart ks → seen (tx_slots plan xs s ks) ≡ there true ks)
     → ((port : PortName) (s : SubStream) (ks : Keys) → Apart ks → seen (rx_slots plan h port s ks) ≡ there false ks)
     → seen (slots_of sends p.sub (standing plan h (port_at p.side p.link) p.stream))
-    ≡ there sends (keys_there h (end_at p.link p.stream sends p.side p.sub))
+    ≡ there sends (keys_there h (place_at_end p.link p.stream sends p.side p.sub))
 unfolding standing
 known plan h law p true seen there out into =
     let port = port_at p.side p.link in
@@ -55,7 +57,7 @@ known plan h law p false seen there out into =
     (keys_into h port p.stream p.sub))
 
 reads : (plan : Plan) (st : LinkState) (h : History) → PortsStand plan st h
-    → (p : Place) (at : Option StreamState → Bool) (there : Keys → Bool)
+    → (p : KeyPlace) (at : Option StreamState → Bool) (there : Keys → Bool)
     → at None ≡ there no_keys → at (Some (standing plan h (port_at p.side p.link) p.stream)) ≡ there (keys_there h p)
     → at (find plan st (port_at p.side p.link) p.stream) ≡ there (keys_there h p)
 reads plan st h stands p at there bare here =
@@ -73,19 +75,20 @@ bare_refuses s k = grind arith
 bare_live : (s k : Bool) → false ≡ is_live_there (slot_of s no_keys k)
 bare_live s k = grind arith
 
-refuses_is : (plan : Plan) (st : LinkState) (h : History) → PortsStand plan st h → (p : Place) (k : Bool)
+refuses_is : (plan : Plan) (st : LinkState) (h : History) → PortsStand plan st h → (p : KeyPlace) (k : Bool)
     → refuses_at p.sends p.sub k (find plan st (port_at p.side p.link) p.stream) ≡ refuses p.sends (keys_there h p) k
 refuses_is plan st h stands p k =
     reads plan st h stands p (refuses_at p.sends p.sub k) (λ ks. refuses p.sends ks k) (bare_refuses p.sends k)
     (known plan h stands.cause p p.sends (λ slots. refuses_in slots k) (λ s ks. refuses s ks k) (refuses_out plan k)
     (refuses_into plan h k))
 
-live_is : (plan : Plan) (st : LinkState) (h : History) → PortsStand plan st h → (p : Place) (k : Bool)
+live_is : (plan : Plan) (st : LinkState) (h : History) → PortsStand plan st h → (p : KeyPlace) (k : Bool)
     → (ports_of plan st).is_live p k ≡ (ports_at h).is_live p k
 live_is plan st h stands p k =
     reads plan st h stands p (live_at p.sends p.sub k) (λ ks. is_live_there (slot_of p.sends ks k))
     (bare_live p.sends k)
-    (known plan h stands.cause p p.sends (λ slots. is_live (slot_in slots k)) (λ s ks. is_live_there (slot_of s ks k))
+    (known plan h stands.cause p p.sends (λ slots. is_live_slot (slot_in_set slots k))
+    (λ s ks. is_live_there (slot_of s ks k))
     (live_out plan k) (live_into plan h k))
 
 -- Operations read of the slots what the history says of the keys.

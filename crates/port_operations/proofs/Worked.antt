@@ -1,11 +1,12 @@
--- The state after an operation stands for the history with its pair, whether it was refused or came somewhere.
+-- The state after an operation stands for the history with its pair, whether it was refused or reached an exchange.
 use Rattle.port_operations.proofs.Terms.{◌≡◌, ℕ, ◌==◌, Bool, true, false, Option, Some, None, [], ◌∷◌, length, refl, ap}
-use Rattle.port_operations.proofs.Terms.{sym, ◌∙◌, subst, arith, if◌then◌else◌, ◌&&◌, ◌||◌, base, behind, Cpl}
-use Rattle.port_operations.proofs.Terms.{draws_after, draws_made, due, each_sub, end_at, Event, facts, failed}
+use Rattle.port_operations.proofs.Terms.{sym, ◌∙◌, subst, arith, if◌then◌else◌, ◌&&◌, ◌||◌, base, touches_after, Cpl}
+use Rattle.port_operations.proofs.Terms.{draws_after, draws_made, due, each_sub, place_at_end, Event, facts, failed}
 use Rattle.port_operations.proofs.Terms.{failed_live, find, got_same, got_since, has_live_in, has_live_out, has_stream}
 use Rattle.port_operations.proofs.Terms.{held_same, History, is_on, is_on_stream, is_quiet, kept_all, Keys, keys_at}
 use Rattle.port_operations.proofs.Terms.{lane_in, lane_out, LinkState, Loss, manager, moments, moved_state, moves_at}
-use Rattle.port_operations.proofs.Terms.{Npr, on_it, Op, op_after, Operation, Place, place, Plan, PortName, PortsStand}
+use Rattle.port_operations.proofs.Terms.{Npr, on_it, Op, op_after, Operation, KeyPlace, place_in_sub_stream, Plan}
+use Rattle.port_operations.proofs.Terms.{PortName, PortsStand}
 use Rattle.port_operations.proofs.Terms.{PortView, posted_in, posted_sum, Pr, put_op, quiet_seals_none, Reach, reach_of}
 use Rattle.port_operations.proofs.Terms.{rx_slots, rx_slots_same, sealed_same, since_same, standing, StreamState}
 use Rattle.port_operations.proofs.Terms.{SubKind, SubStream, total_in, touches, tx_slots, units_same, units_since}
@@ -90,11 +91,12 @@ no_touch : (b : Bool) → on_it b [] ≡ []
 no_touch b = grind arith
 
 pub untouched : (plan : Plan) (h : History) (e : Event) (x : Verdict)
-    → ((p : Place) → touches (manager h).ops (draws_made h) e x p ≡ []) → (port : PortName) (s : SubStream)
+    → ((p : KeyPlace) → touches (manager h).ops (draws_made h) e x p ≡ []) → (port : PortName) (s : SubStream)
     → keys_at ((e, x) ∷ h) port s ≡ keys_at h port s
 unfolding moments
 untouched plan h e x none port s = seat_same plan ((e, x) ∷ h) h port s
-    (λ sends. ap (behind (moments h (place port s sends))) (none (place port s sends)))
+    (λ sends. ap (touches_after (moments h (place_in_sub_stream port s sends)))
+    (none (place_in_sub_stream port s sends)))
 
 no_end : (a b : Bool) → (a && (b && false)) ≡ false
 no_end a b = grind arith
@@ -108,7 +110,7 @@ asked_still plan h o link stream lose x is refused = record {
   based = based o refused;
 }
   where
-    none : (o : Operation) → reach_of o x ≡ None → (p : Place)
+    none : (o : Operation) → reach_of o x ≡ None → (p : KeyPlace)
         → touches (manager h).ops (draws_made h) (asked o link stream lose) x p ≡ []
     none op.Establish refused p = rw refused (no_touch (is_on_stream p link stream))
     none op.Refresh refused p = rw refused (no_touch (is_on_stream p link stream))
@@ -121,7 +123,7 @@ asked_still plan h o link stream lose x is refused = record {
     based op.Refresh refused l s = refl
     based op.Stop refused l s = refl
 
--- ---- one that came somewhere
+-- ---- one that reached an exchange
 
 -- ports and packets are not those of the manager
 beside : (plan : Plan) (st : LinkState) (h : History) (link stream : ℕ) (o : Op) (n : ℕ) → PortsStand plan st h
@@ -137,8 +139,8 @@ by_ports : (plan : Plan) (st : LinkState) (h g : History) (link stream : ℕ) (w
 by_ports plan st h g link stream w r stands moved =
     beside plan _ g link stream (op_after w r) (draws_after st.draws w)
     (subst (λ (ports : PortView). PortsStand plan
-    (moved_state plan st link stream (λ side u. moves_at ports w r (end_at link stream true side u))
-    (λ side u. moves_at ports w r (end_at link stream false side u))) g)
+    (moved_state plan st link stream (λ side u. moves_at ports w r (place_at_end link stream true side u))
+    (λ side u. moves_at ports w r (place_at_end link stream false side u))) g)
     (sym (ports_is plan st h stands)) moved)
 
 pub asked_stands : (plan : Plan) (st : LinkState) (h : History) (o : Operation) (link stream : ℕ) (lose : Option Loss)

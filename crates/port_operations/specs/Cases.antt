@@ -19,8 +19,8 @@ use Rattle.link_verdicts.specs.declared.verdict.Effect.TheVariants as effect
 use Rattle.link_ports.specs.Machine.{Beside, LinkState, step_of, first_state}
 
 -- link 0 has stream 5, the default one, with units of up to 4 packets; the pool has three draws
-abbrev pub plan : Plan
-plan = record {
+abbrev pub port_plan : Plan
+port_plan = record {
   version = 1;
   portion = 16;
   units_per_key = 4294967296;
@@ -43,8 +43,8 @@ write =
 abbrev pub device : PortName
 device = record { side = Device; link = 0 }
 
-abbrev pub packet : ℕ → ℕ → ℕ → Bool → Bool → SealedPacket
-packet number draw unit m k =
+abbrev pub packet_of_port : ℕ → ℕ → ℕ → Bool → Bool → SealedPacket
+packet_of_port number draw unit m k =
     record {
       number = number;
       port = device;
@@ -60,20 +60,20 @@ packet number draw unit m k =
     }
 
 -- no interfaces
-abbrev pub alone : Beside
-alone = record {
+abbrev pub no_interfaces : Beside
+no_interfaces = record {
   t = λ port head stream trusted. false;
   effects = λ port unit ps. map (λ p. effect.Delivered) ps;
   answer = λ e. v.Nothing;
 }
 
-abbrev pub verdicts_on : History → List Event → List Verdict
-verdicts_on h [] = []
-verdicts_on h (e ∷ es) = let verdict = due plan h e in verdict ∷ verdicts_on ((e, verdict) ∷ h) es
+abbrev pub port_verdicts_on : History → List Event → List Verdict
+port_verdicts_on h [] = []
+port_verdicts_on h (e ∷ es) = let verdict = due port_plan h e in verdict ∷ port_verdicts_on ((e, verdict) ∷ h) es
 
 abbrev pub answers_on : LinkState → List Event → List Verdict
 answers_on st [] = []
-answers_on st (e ∷ es) = let r = step_of plan alone st e in r.0 ∷ answers_on r.1 es
+answers_on st (e ∷ es) = let r = step_of port_plan no_interfaces st e in r.0 ∷ answers_on r.1 es
 
 -- a refresh of a set whose unit is unfinished at the device is refused there, and goes on once the unit ended
 abbrev pub held_up : List Event
@@ -83,8 +83,8 @@ held_up =
 
 abbrev pub held_up_verdicts : List Verdict
 held_up_verdicts =
-    v.Established 0 5 0 ∷ v.Sealed (packet 1 0 1 false false ∷ []) ∷ v.Refreshed 0 5 1 ∷ v.RefusedDevice 4 3
-    ∷ v.Sealed (packet 2 0 1 true false ∷ []) ∷ v.Refreshed 0 5 2 ∷ []
+    v.Established 0 5 0 ∷ v.Sealed (packet_of_port 1 0 1 false false ∷ []) ∷ v.Refreshed 0 5 1 ∷ v.RefusedDevice 4 3
+    ∷ v.Sealed (packet_of_port 2 0 1 true false ∷ []) ∷ v.Refreshed 0 5 2 ∷ []
 
 -- losses, refusals, a stop and a reset
 abbrev pub lost_on_the_way : List Event
@@ -102,5 +102,6 @@ lost_verdicts =
 
 abbrev pub WorkedCases : Type 0
 WorkedCases =
-    (verdicts_on [] held_up ≡ held_up_verdicts) × (answers_on (first_state plan) held_up ≡ held_up_verdicts)
-    × (verdicts_on [] lost_on_the_way ≡ lost_verdicts) × (answers_on (first_state plan) lost_on_the_way ≡ lost_verdicts)
+    (port_verdicts_on [] held_up ≡ held_up_verdicts) × (answers_on (first_state port_plan) held_up ≡ held_up_verdicts)
+    × (port_verdicts_on [] lost_on_the_way ≡ lost_verdicts) ×
+    (answers_on (first_state port_plan) lost_on_the_way ≡ lost_verdicts)

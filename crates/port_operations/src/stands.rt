@@ -16,9 +16,9 @@ pub fn step_stands()
     ensures { StepStands }
 {}
 
-/// If a state stands for a history, a slot holds the key of a draw exactly if the draw is kept there, a stream of which
-/// nothing was asked has no key in any slot, and an unfinished operation has made its draw On at the places that its GO
-/// reached.
+/// If a state stands for a history, a slot holds the key of a draw exactly if the draw is kept there. A stream of which
+/// no operation was asked has no key in any slot, and an unfinished operation has made its draw On at the places that
+/// its GO reached.
 pub fn points_stand()
     ensures { PointsStand }
 {}

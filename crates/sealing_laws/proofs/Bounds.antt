@@ -1,13 +1,14 @@
 -- An open unit has room for its last packet, and no posted count passes 255. Both go by induction on the history, and
--- in a send packet by packet. The hard case is a posted packet within a unit, which is why a third bound goes along:
--- the packets still to come in an open posted unit are counted beforehand, and where such a unit begins there is room
--- for all of it, or the count is 0. Where keys or Base change, what is new is empty.
+-- in a send packet by packet. The hard case is a posted packet within a unit, which is why a third bound goes along.
+-- The packets still to come in an open posted unit are counted beforehand, and when such a unit begins there is room
+-- for all of it, or the count is 0. When keys or Base change, what is new is empty.
 use Rattle.sealing_laws.proofs.Terms.{◌≡◌, ℕ, ◌+◌, ◌<◌, ◌≤◌, ◌==◌, true, false, List, [], ◌∷◌, ◌++◌, length}
 use Rattle.sealing_laws.proofs.Terms.{Option, Some, inl, inr, ◌⊎◌, refl, ap, sym, ◌∙◌, arith, length-append}
 use Rattle.sealing_laws.proofs.Terms.{if◌then◌else◌, ◌&&◌, nat_le, is_some, after_last, and_parts, cases_Bool}
 use Rattle.sealing_laws.proofs.Terms.{eqb-true, leb-true, nat_tests, SubKind, Pr, PortName, Event, Verdict}
 use Rattle.sealing_laws.proofs.Terms.{SealedPacket, Packet, Prefix, Plan, SubStream, lane_out, mode_of, stream_plan}
-use Rattle.sealing_laws.proofs.Terms.{is_same, is_same_port, open_unit, History, base, ahead_in, SealedList, KeyName}
+use Rattle.sealing_laws.proofs.Terms.{is_same, is_same_port, open_unit, History, base, front_of_packet, SealedList}
+use Rattle.sealing_laws.proofs.Terms.{KeyName}
 use Rattle.sealing_laws.proofs.Terms.{sealed_packets, with_sealed, packet_of, prefix_of, sent_in, posted_in}
 use Rattle.sealing_laws.proofs.Terms.{posted_of, is_in, sub_stream_of, is_posted, CauseLaw, DrawFacts, NoneFrom}
 use Rattle.sealing_laws.proofs.Terms.{is_same_sub, same_sub, same_stream, same_port, open_unit-snoc, sent_in-snoc}
@@ -166,7 +167,7 @@ all_out plan p port t stream live from class xs (d ∷ ds) all other =
     } in
     rw one (all_out plan p port t stream live from class (xs ++ (d, none) ∷ []) ds (all.1 none) other)
 
--- ---- where keys and Base change
+-- ---- when keys and Base change
 
 none_from : (plan : Plan) (h : History) (port : PortName) (stream : ℕ) (u : SubKind) (from : ℕ)
     → NoneFrom plan h port.link stream from
@@ -244,7 +245,7 @@ sealing_bounded plan fits facts h e ds law port stream before =
     let s = is.sending in
     let all = all_of_sealing plan facts h law.1 (sending_port e) (sent_bytes plan h e) ds is in
     let xs = sealed_packets plan h in
-    let ahead = ahead_in plan xs (base h) in
+    let ahead = front_of_packet plan xs (base h) in
     elim (cases_Bool (is_same_port s.port port && (s.stream == stream))) [
       | inl here ↦
           let tests = and_parts (is_same_port s.port port) (s.stream == stream) here in

@@ -1,8 +1,8 @@
--- Each packet that is not posted carries the number of posted packets behind the last one of its sub-stream.
+-- Each packet that is not posted carries the number of posted packets after the last one of its sub-stream.
 use Rattle.sealing_laws.proofs.Terms.{◌≡◌, ◌≢◌, ℕ, ◌≤◌, true, List, [], ◌∷◌, ◌++◌, Option, Some, slice_get, take, ap}
 use Rattle.sealing_laws.proofs.Terms.{sym, ◌∙◌, inl, inr, AllByRecursion, ne_eqb, sub_bits, SubKind, PortName, Event}
 use Rattle.sealing_laws.proofs.Terms.{Verdict, Sealed, SealedPacket, Prefix, Packet, Plan, SubStream, is_same}
-use Rattle.sealing_laws.proofs.Terms.{lane_out, open_unit, History, base, ahead_in, SealedList, KeyName}
+use Rattle.sealing_laws.proofs.Terms.{lane_out, open_unit, History, base, front_of_packet, SealedList, KeyName}
 use Rattle.sealing_laws.proofs.Terms.{sealed_packets, sent_in, with_sealed, packet_of, sub_stream_of, posted_in}
 use Rattle.sealing_laws.proofs.Terms.{CauseLaw, DrawFacts, BaseStays, same_stream, sealing_is, sent_bytes}
 use Rattle.sealing_laws.proofs.Terms.{sending_port}
@@ -23,7 +23,7 @@ counted-snoc from s xs x before here i y is in_y up = elim (last_place xs x y i 
   | inr p ↦ rw (p.0, p.1) (here (rw p.0 at in_y) (rw p.0 at up))
 ]
 
--- Base is this where a packet of the list is of the sub-stream and of a draw from it on
+-- Base is this if a packet of the list is of the sub-stream and of a draw from it on
 abbrev Stays : Plan → History → ℕ → SubStream → List SealedPacket → Type 0
 Stays plan h from s ds = AllByRecursion
     (λ (d : SealedPacket). is_same (sub_stream_of d) s ≡ true → from ≤ d.draw → base h s.link s.stream ≡ from) ds
@@ -64,7 +64,8 @@ counted plan facts ((e, Sealed ds) ∷ h) cause s from other stays =
     let is = sealing_is plan h e ds cause.0 in
     let t = is.sending in
     all_counted plan h t.port t.stream (live_at plan h t.port t.stream) t.class
-    (ahead_in plan (sealed_packets plan h) (base h)) (sent_bytes plan h e) from s other ds (sealed_packets plan h)
+    (front_of_packet plan (sealed_packets plan h) (base h)) (sent_bytes plan h e) from s other ds
+    (sealed_packets plan h)
     (all_of_sealing plan facts h cause.1 (sending_port e) (sent_bytes plan h e) ds is) stays.0
     (counted plan facts h cause.1 s from other stays.1)
 counted plan facts ((e, w) ∷ h) cause s from other stays = counted plan facts h cause.1 s from other

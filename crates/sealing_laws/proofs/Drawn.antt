@@ -14,10 +14,10 @@ use Rattle.key_laws.specs.Operations.{Op, Idle, Establishing, Up, Refreshing, Wo
 use Rattle.key_laws.specs.Operations.{reach_of, makes_draw, operated}
 use Rattle.key_laws.specs.Due.{PortView, ports_at, begun_with_draw, may_establish, may_refresh, unless_open, if_secure}
 use Rattle.key_laws.specs.Due.{is_live_sender}
-unfoldable use Rattle.key_laws.specs.Due.{due as key_due}
+unfoldable use Rattle.key_laws.specs.Due.{key_due}
 use Rattle.key_laws.specs.History.{draws}
 unfoldable use Rattle.key_laws.specs.History.{manager}
-use Rattle.key_laws.specs.Laws.{CauseLaw as KeyCauseLaw}
+use Rattle.key_laws.specs.Laws.{KeyCauseLaw}
 use Rattle.key_laws.proofs.Owners.{work_is}
 
 -- the pool has a next draw, or the operation went nowhere

@@ -1,13 +1,14 @@
--- What stands ahead of unit 1 of a draw on a closed stream: the total of the units of all smaller draws from Base on.
--- By induction on the history: at the send that seals the first packet of the unit, the total is of what was sealed
--- before, where no unit of this draw is finished and nothing is of a greater one; later events change no part of it
+-- What comes before unit 1 of a draw on a closed stream: the total of the units of all smaller draws from Base on. By
+-- induction on the history: at the send that seals the first packet of the unit, the total is of what was sealed
+-- before, when no unit of this draw is finished and nothing is of a greater one; later events change no part of it
 -- (Fronts).
 use Rattle.sealing_laws.proofs.Terms.{◌≡◌, ℕ, zero, suc, ◌+◌, ◌<◌, ◌≤◌, Bool, true, false, List, [], ◌∷◌, length}
 use Rattle.sealing_laws.proofs.Terms.{take, slice_get, Some, refl, ap, sym, ◌∙◌, arith, inl, inr, AllByRecursion}
 use Rattle.sealing_laws.proofs.Terms.{list_any, both_ways, cases_Bool, or_cases, take_at, nat_tests, PortName, Sealed}
 use Rattle.sealing_laws.proofs.Terms.{SealedPacket, Packet, Plan, SubStream, is_same, units, History, base}
 use Rattle.sealing_laws.proofs.Terms.{SealedList, sealed_packets, sent, sent_in, is_under, sub_stream_of, total_in}
-use Rattle.sealing_laws.proofs.Terms.{front_of, front_sent, is_of_unit, ahead_in, CauseLaw, DrawFacts, StreamsFit}
+use Rattle.sealing_laws.proofs.Terms.{front_of, front_sent, is_of_unit, front_of_packet, CauseLaw, DrawFacts}
+use Rattle.sealing_laws.proofs.Terms.{StreamsFit}
 use Rattle.sealing_laws.proofs.Terms.{same_stream, is_same-refl, IsLive, AllLive, sealing_is, all_live, sent_bytes}
 use Rattle.sealing_laws.proofs.Terms.{sending_port}
 use Rattle.sealing_laws.proofs.Places.{placed, unit_is}
@@ -113,7 +114,7 @@ front_is plan fits facts ((e, Sealed ds) ∷ h) law s j x up =
         record {
           place = y.place;
           sealed = y.sealed;
-          stands = elim (old_or_new plan (ahead_in plan xs (base h)) (sent_bytes plan h e) ds xs y.place y.sealed
+          stands = elim (old_or_new plan (front_of_packet plan xs (base h)) (sent_bytes plan h e) ds xs y.place y.sealed
               y.stands) [
                 | inl old ↦ old
                 | inr new ↦ absurd (both_ways _ none
@@ -131,7 +132,7 @@ front_is plan fits facts ((e, Sealed ds) ∷ h) law s j x up =
         let one = any_live plan h is.sending.port is.sending.stream (is_of_unit s j 1) ds live some in
         let names = unit_parts s j 1 one.0 one.2 in
         let each = rw names.1 at (draws_one plan h is.sending.port is.sending.stream one.0 s one.1 names.0 ds live) in
-        let new = any_new (is_of_unit s j 1) plan (ahead_in plan xs (base h)) (sent_bytes plan h e) ds xs some in
+        let new = any_new (is_of_unit s j 1) plan (front_of_packet plan xs (base h)) (sent_bytes plan h e) ds xs some in
         let z = new.1 in
         let of = unit_parts s j 1 z.0 new.3 in
         let grown = packets_grow plan h e (Sealed ds) in
@@ -150,7 +151,7 @@ front_is plan fits facts ((e, Sealed ds) ∷ h) law s j x up =
         (arith, ap (λ (zs : SealedList). length (units (sent_in zs s j))) front, within, unit, of.2) in
         total_is xs s from (suc j) below
         ∙ (last_none from j (λ i. units_sent plan h s i) none ∙ moved
-        (λ i less. others_kept plan (ahead_in plan xs (base h)) (sent_bytes plan h e) s i j less ds xs each))
+        (λ i less. others_kept plan (front_of_packet plan xs (base h)) (sent_bytes plan h e) s i j less ds xs each))
 front_is plan fits facts ((e, w) ∷ h) law s j x up =
     let same = base_kept plan facts h e w law s j x up in
     front_is plan fits facts h law.1 s j

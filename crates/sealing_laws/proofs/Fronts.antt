@@ -1,14 +1,14 @@
--- What stays while more is sealed. The list of sealed packets grows only at its end, so a packet keeps its place;
--- sealed draws rise, so where one was sealed under, nothing of a smaller one comes behind (`sent_kept`), and Base
--- stays, since it moves only to a draw of which nothing was sealed (`base_kept`). The rest finds packets among those of
--- the newest send.
+-- What stays while more is sealed. The list of sealed packets grows only at its end, so a packet keeps its place.
+-- Sealed draws rise, so once one was sealed under, nothing of a smaller one follows (`sent_kept`). Base stays, since it
+-- moves only to a draw of which nothing was sealed (`base_kept`). The rest finds packets among those of the last send.
 use Rattle.sealing_laws.proofs.Terms.{◌≡◌, ℕ, zero, suc, ◌<◌, ◌≤◌, Bool, true, List, [], ◌∷◌, ◌++◌, length, take}
 use Rattle.sealing_laws.proofs.Terms.{slice_get, Some, refl, ap, sym, ◌∙◌, subst, arith, append_assoc, length-append}
 use Rattle.sealing_laws.proofs.Terms.{inl, inr, ◌⊎◌, AllByRecursion, list_any, or_cases, or_left, or_right, nat_tests}
 use Rattle.sealing_laws.proofs.Terms.{slice_get_cases, append-nil, take-append-le, PortName, Event, Verdict, Sealed}
 use Rattle.sealing_laws.proofs.Terms.{SealedPacket, Packet, Plan, SubStream, is_same, lane_out, open_unit, History}
 use Rattle.sealing_laws.proofs.Terms.{base, live_key, SealedList, KeyName, sealed_packets, with_sealed, packet_of}
-use Rattle.sealing_laws.proofs.Terms.{sent, sent_in, is_under, sub_stream_of, ahead_in, CauseLaw, DrawFacts, IsLive}
+use Rattle.sealing_laws.proofs.Terms.{sent, sent_in, is_under, sub_stream_of, front_of_packet, CauseLaw, DrawFacts}
+use Rattle.sealing_laws.proofs.Terms.{IsLive}
 use Rattle.sealing_laws.proofs.Terms.{sent_in-snoc, sent_bytes}
 use Rattle.sealing_laws.proofs.Places.{last_place, place_among}
 use Rattle.sealing_laws.proofs.Sums.{in_parts, smaller_before, element_behind}
@@ -27,7 +27,7 @@ with_grows plan ahead bytes (d ∷ ds) xs =
 pub packets_grow : (plan : Plan) (h : History) (e : Event) (w : Verdict) → (rest : SealedList)
     × (sealed_packets plan h ++ rest ≡ sealed_packets plan ((e, w) ∷ h))
 unfolding sealed_packets
-packets_grow plan h e (Sealed ds) = with_grows plan (ahead_in plan (sealed_packets plan h) (base h))
+packets_grow plan h e (Sealed ds) = with_grows plan (front_of_packet plan (sealed_packets plan h) (base h))
     (sent_bytes plan h e) ds (sealed_packets plan h)
 packets_grow plan h e w = ([], append-nil (sealed_packets plan h))
 
@@ -72,7 +72,7 @@ sent_kept plan facts h e w law s i j x less =
     let front = ap (take x.place) (sym grown.1) ∙ take-append-le x.place xs grown.0 (omega (arith, at.1)) in
     sym new ∙ (ap (λ (zs : SealedList). sent_in zs s i) front ∙ old)
 
--- Base stays where a draw from it on was sealed
+-- Base stays once a draw from it on was sealed
 pub base_kept : (plan : Plan) → DrawFacts plan → (h : History) (e : Event) (w : Verdict) → CauseLaw plan ((e, w) ∷ h)
     → (s : SubStream) (j : ℕ) → IsSealedIn plan ((e, w) ∷ h) s j → base ((e, w) ∷ h) s.link s.stream ≤ j
     → base ((e, w) ∷ h) s.link s.stream ≡ base h s.link s.stream
@@ -115,7 +115,7 @@ any_new q plan ahead bytes (d ∷ ds) xs some =
           (rest.0, rest.1, rest.2, rest.3, omega (arith, rest.4, length-append xs (x ∷ [])))
     ]
 
--- a packet that was sealed behind those before it, of those that are sealed for a send
+-- a packet that was sealed after those before it, of those that are sealed for a send
 pub record IsNew
     (plan : Plan) (ahead : SealedPacket → List ℕ) (bytes : List ℕ) (ds : List SealedPacket) (ys : SealedList)
     (place : ℕ) (x : SealedPacket × Packet)

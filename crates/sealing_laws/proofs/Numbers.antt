@@ -1,6 +1,6 @@
 -- No key is used twice with one IV. Equal keys of the pool stand at one place in it, so they are of one draw, direction
--- and sub-stream, and a draw is on one stream; equal IVs are of one number, since a key seals fewer than 2 to the 64
--- units; and that number counts the units that were finished before.
+-- and sub-stream, and a draw is on one stream. Equal IVs are of one number, since a key seals fewer than 2 to the 64
+-- units. That number counts the units that were finished before.
 use Rattle.sealing_laws.proofs.Terms.{◌≡◌, ℕ, suc, ◌+◌, ◌*◌, ◌<◌, ◌≤◌, Bool, true, false, List, [], ◌∷◌, ◌++◌}
 use Rattle.sealing_laws.proofs.Terms.{length, filter, take, drop, slice_get, slice_index_or, Some, inl, inr, refl}
 use Rattle.sealing_laws.proofs.Terms.{ap, sym, ◌∙◌, subst, arith, nat_tests, cases_lt, length-append}
@@ -33,7 +33,7 @@ use Rattle.ide_prefix.proofs.Units.{sub_small}
 
 -- ---- keys
 
--- where no two elements are equal, equal ones stand at one place
+-- if no two elements are equal, equal ones stand at one place
 one_place : (keys : List (List ℕ)) (m n : ℕ) → AllPairs (λ key other. key ≢ other) keys → m < length keys
     → n < length keys → slice_index_or keys m [] ≡ slice_index_or keys n [] → m ≡ n
 one_place keys m n differ m_less n_less same = elim (cases_lt m n) [

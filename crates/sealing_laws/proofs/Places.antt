@@ -8,7 +8,7 @@ use Rattle.sealing_laws.proofs.Terms.{if◌then◌else◌, slice_get, filter, ma
 use Rattle.sealing_laws.proofs.Terms.{nat_tests, nil_from_length, All-nil, SubKind, PortName, Sealed, SealedPacket}
 use Rattle.sealing_laws.proofs.Terms.{Tlp, class_of, header, body, read_of, Prefix, Packet, FitsPrefix, FitsPacket}
 use Rattle.sealing_laws.proofs.Terms.{length-masked, masked-bytes, length-tag_of, tag_of-bytes, Plan, SubStream}
-use Rattle.sealing_laws.proofs.Terms.{lane_out, mode_of, units, open_unit, History, base, ahead_in, SealedList}
+use Rattle.sealing_laws.proofs.Terms.{lane_out, mode_of, units, open_unit, History, base, front_of_packet, SealedList}
 use Rattle.sealing_laws.proofs.Terms.{KeyName, sealed_packets, with_sealed, sent, sent_in, is_under, sub_stream_of}
 use Rattle.sealing_laws.proofs.Terms.{prefix_of, packet_of, untagged_packet, unit_tag, keys_at, is_posted, CauseLaw}
 use Rattle.sealing_laws.proofs.Terms.{DrawFacts, on_live, lane_is, sealing_is, StreamsFit, sent_bytes, sending_port}
@@ -122,7 +122,7 @@ packet_fits plan ahead bytes d front t reads class is_sync fits = elim (cases_Bo
     size_fits true = length-tag_of _ _ _ _
     size_fits false = refl
 
--- a packet that was sealed behind those before it
+-- a packet that was sealed after those before it
 pub record IsPlaced (plan : Plan) (before : SealedList) (x : SealedPacket × Packet) : Type 0 where
   pub fits : FitsPacket x.1
   pub prefix : x.1.prefix ≡ prefix_of x.0
@@ -134,7 +134,7 @@ pub record IsPlaced (plan : Plan) (before : SealedList) (x : SealedPacket × Pac
 abbrev pub Placed : Plan → SealedList → Type 0
 Placed plan xs = (i : ℕ) (x : SealedPacket × Packet) → slice_get xs i ≡ Some x → IsPlaced plan (take i xs) x
 
--- it is of the unit behind those that were sealed before it
+-- it is of the unit after those that were sealed before it
 pub unit_is : (plan : Plan) (ys : SealedList) → Placed plan ys → (i : ℕ) (x : SealedPacket × Packet) → slice_get ys i
     ≡ Some x → (s : SubStream) (j : ℕ)
     → sub_stream_of x.0 ≡ s → x.0.draw ≡ j → x.0.unit ≡ length (units (sent_in (take i ys) s j)) + 1
@@ -191,7 +191,7 @@ placed plan fits facts ((e, Sealed ds) ∷ h) law i x at =
     let bounds = bounded plan fits facts h law.1 s.port s.stream in
     all_placed plan fits s.port s.stream (live_at plan h s.port s.stream) (from_at plan h s.port s.stream) s.class
     (id s.port s.stream) (sent_bytes plan h e) is.tlp
-    is.reads is.class (ahead_in plan (sealed_packets plan h) (base h)) ds (sealed_packets plan h) all bounds
+    is.reads is.class (front_of_packet plan (sealed_packets plan h) (base h)) ds (sealed_packets plan h) all bounds
     (placed plan fits facts h law.1) i x at
   where
     id : (port : PortName) (stream : ℕ) (u : SubKind) (key : KeyName) → live_at plan h port stream u ≡ Some key

@@ -16,8 +16,7 @@ pub record IsSyncOf (d : SealedPacket) : Type 0 where
   pub m : d.m ≡ true
   pub t : d.t ≡ false
 
--- A packet of a send on a stream at a port, where these keys are Live and this is Base, behind what was sealed before
--- it.
+-- A packet of a send on a stream at a port, after what was sealed before it; these keys are Live, and this is Base.
 pub record IsOf (plan : Plan) (port : PortName) (stream : ℕ) (live : SubKind → Option KeyName) (from : ℕ)
     (class : SubKind) (xs : SealedList) (d : SealedPacket) : Type 0 where
   pub port_is : d.port ≡ port
@@ -29,12 +28,12 @@ pub record IsOf (plan : Plan) (port : PortName) (stream : ℕ) (live : SubKind �
   pub posted : is_posted d.sub ≡ false → d.posted ≡ posted_in xs (lane_out port stream d.sub) from
   pub more : d.m ≡ false →
       (length (open_unit (sent_in xs (lane_out port stream d.sub) d.draw)) + 1 == mode_of plan port.link stream) ≡ false
-  -- where it begins a unit, its key is not worn
+  -- if it begins a unit, its key is not worn
   pub unworn : length (open_unit (sent_in xs (lane_out port stream d.sub) d.draw)) ≡ 0
       → (length (units (sent_in xs (lane_out port stream d.sub) d.draw)) == plan.units_per_key) ≡ false
   pub sync : d.sync ≡ true → IsSyncOf d
   pub class_is : d.sync ≡ false → class ≡ d.sub
-  -- where it begins a posted unit, no posted count gets too large within it
+  -- if it begins a posted unit, no posted count gets too large within it
   pub clear : is_posted d.sub ≡ true → length (open_unit (sent_in xs (lane_out port stream d.sub) d.draw)) ≡ 0
       → (u : SubKind) → is_posted u ≡ false → posted_in xs (lane_out port stream u) from + mode_of plan port.link stream
       ≤ 255 ⊎ (posted_in xs (lane_out port stream u) from ≡ 0)
@@ -131,7 +130,7 @@ module _ (plan : Plan) (facts : DrawFacts plan) (h : History) (law : CauseLaw pl
   abbrev All : SealedList → List SealedPacket → Type 0
   All xs ds = AllOf plan s.port s.stream (live_at plan h s.port s.stream) from s.class xs ds
 
-  -- a sync packet of a sub-stream, where one is needed, and what comes behind it
+  -- a sync packet of a sub-stream, if one is needed, and what follows it
   with_sync : (u : SubKind) (b : Bool) (number : ℕ) (ys : SealedList) (rest : List SealedPacket) → is_posted u ≡ false
       → needs_sync x s.class u ≡ b
       → (b ≡ true → MaySeal u) → Same s.port s.stream from u (sealed_packets plan h) ys

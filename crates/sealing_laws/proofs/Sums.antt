@@ -1,6 +1,6 @@
 -- Counts of units over all draws. The finished units that were sealed, or accepted, of draws from one on are the sum
--- over these draws, by induction on the list, or on the history, since each unit is of one draw. Where two such sums
--- are equal and no count of the one is above its partner in the other, all are equal, by induction on the draws.
+-- over these draws, by induction on the list, or on the history, since each unit is of one draw. If two such sums are
+-- equal and no count of the one is above its partner in the other, all are equal, by induction on the draws.
 use Rattle.sealing_laws.proofs.Terms.{◌≡◌, ℕ, zero, suc, ◌+◌, ◌<◌, ◌≤◌, ◌==◌, ◌&&◌, Bool, true, List, [], ◌∷◌, ◌++◌}
 use Rattle.sealing_laws.proofs.Terms.{length, map, filter, take, drop, sum_by, slice_get, Some, refl, ap, sym, ◌∙◌}
 use Rattle.sealing_laws.proofs.Terms.{arith, length-append, if◌then◌else◌, AllByRecursion, nat_tests, append-nil}

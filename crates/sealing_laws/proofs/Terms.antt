@@ -39,7 +39,8 @@ unfoldable pub use Rattle.link_history.specs.Plan.{stream_plan}
 pub use Rattle.link_history.specs.Units.{units_after}
 unfoldable pub use Rattle.link_history.specs.Units.{open_unit, units}
 pub use Rattle.key_laws.specs.History.{History, base}
-pub use Rattle.link_history.specs.History.{ahead_in, SealedList, KeyName, with_sealed, prefix_of, posted_of, is_in}
+pub use Rattle.link_history.specs.History.{front_of_packet, SealedList, KeyName, with_sealed, prefix_of, posted_of}
+pub use Rattle.link_history.specs.History.{is_in}
 pub use Rattle.link_history.specs.History.{sub_stream_of, ends_in, sent, is_under, is_of_unit, live_key}
 pub use Rattle.link_history.specs.History.{untagged_packet, unit_tag, keys_at, posted_count, received_in}
 pub use Rattle.link_history.specs.History.{arrived_packet, is_of, front_due, pending, Arrival, on_draw, failed}
@@ -57,7 +58,7 @@ pub use Rattle.link_history.specs.KeyFacts.{DrawFacts, NoneFrom, BaseStays}
 pub use Rattle.key_laws.specs.Places.{is_same_sub, received_direction}
 pub use Rattle.ide_types.specs.Sub.{sub_bits}
 pub use Rattle.link_verdicts.specs.declared.verdict.Verdict.TheVariants.{Sealed, Accepted, Held, Fail}
-pub use Rattle.link_history.specs.Laws.{TotalsFit, NoForgery, NotForged, ClosedLaw, Begins, NeverFalls, WasSealed}
+pub use Rattle.link_history.specs.Laws.{TotalsFit, NoForgery, NotForged, ClosedLaw, IsPrefixOf, NeverFalls, WasSealed}
 pub use Rattle.link_history.specs.Laws.{last_tag, IsOn, ArrivesInOrder, OrderIsNoForgery, WholeLaw, IsTaken}
 pub use Rattle.tlp_layout.specs.Class.{class_of, layout_of}
 pub use Rattle.link_verdicts.specs.declared.verdict.UnitName.{UnitName}

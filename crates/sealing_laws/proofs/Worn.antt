@@ -4,7 +4,8 @@ use Rattle.sealing_laws.proofs.Terms.{◌≡◌, ℕ, ◌<◌, ◌≤◌, ◌==�
 use Rattle.sealing_laws.proofs.Terms.{Some, inl, inr, ◌⊎◌, refl, sym, ◌∙◌, subst, arith, nat_tests, slice_get}
 use Rattle.sealing_laws.proofs.Terms.{length-append, if◌then◌else◌}
 use Rattle.sealing_laws.proofs.Terms.{SubKind, PortName, Sealed, SealedPacket, Packet, Plan, SubStream, lane_out}
-use Rattle.sealing_laws.proofs.Terms.{units, open_unit, History, base, ahead_in, SealedList, KeyName, sealed_packets}
+use Rattle.sealing_laws.proofs.Terms.{units, open_unit, History, base, front_of_packet, SealedList, KeyName}
+use Rattle.sealing_laws.proofs.Terms.{sealed_packets}
 use Rattle.sealing_laws.proofs.Terms.{with_sealed, sent_in, is_under, sub_stream_of, packet_of, CauseLaw, DrawFacts}
 use Rattle.sealing_laws.proofs.Terms.{lane_is, sealing_is, sending_port, sent_bytes, sent_in-snoc, units-end}
 use Rattle.sealing_laws.proofs.Terms.{units-more, open_unit-end}
@@ -12,12 +13,12 @@ use Rattle.sealing_laws.proofs.Sums.{in_parts}
 use Rattle.sealing_laws.proofs.Sealings.{IsOf, AllOf, live_at, from_at, all_of_sealing}
 use Rattle.sealing_laws.proofs.Places.{last_place}
 
--- the next packet's unit is one that the key may seal, where it is not worn
+-- the next packet's unit is one that the key may seal, if it is not worn
 record Lasts (limit : ℕ) (ps : List Packet) : Type 0 where
   finished : length (units ps) ≤ limit
   opened : (length (open_unit ps) ≡ 0) ⊎ (length (units ps) < limit)
 
--- where the key is not worn there is one unit more
+-- if the key is not worn there is one unit more
 room : (limit : ℕ) (ps : List Packet) → Lasts limit ps
     → (length (open_unit ps) ≡ 0 → (length (units ps) == limit) ≡ false) → length (units ps) < limit
 room limit ps lasts unworn = elim lasts.opened [
@@ -93,6 +94,6 @@ unworn plan facts ((e, Sealed ds) ∷ h) law =
     let is = sealing_is plan h e ds law.0 in
     let s = is.sending in
     all_last plan s.port s.stream (live_at plan h s.port s.stream) (from_at plan h s.port s.stream) s.class
-    (ahead_in plan (sealed_packets plan h) (base h)) (sent_bytes plan h e) ds (sealed_packets plan h)
+    (front_of_packet plan (sealed_packets plan h) (base h)) (sent_bytes plan h e) ds (sealed_packets plan h)
     (all_of_sealing plan facts h law.1 (sending_port e) (sent_bytes plan h e) ds is) (unworn plan facts h law.1)
 unworn plan facts ((e, w) ∷ h) law = unworn plan facts h law.1

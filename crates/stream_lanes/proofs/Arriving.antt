@@ -1,5 +1,5 @@
 -- What the receivers of a stream make of a packet: the answer, all three after it, what is lent, and the order that
--- always holds. It goes by the packet's sub-stream and the answer: its own receiver takes the packet, and where that
+-- always holds. It goes by the packet's sub-stream and the answer: its own receiver takes the packet, and if that
 -- failed all three drop what they hold, its own one for the second time, which changes nothing. The order stays since
 -- an accepted unit has passed its test, and the number of accepted posted packets never falls.
 use Rattle.std.proofs.Common.{◌≡◌, ℕ, ◌+◌, ◌^◌, ◌<◌, ◌≤◌, Bool, true, false, not, ◌&&◌, ◌||◌, ◌==◌, nat_le}
@@ -12,13 +12,15 @@ use Rattle.ide_types.specs.declared.sub.SubKind.TheVariants.{Pr, Npr, Cpl}
 use Rattle.ide_types.specs.declared.sub.FailCause.TheVariants as fail
 use Rattle.ide_prefix.specs.Packet.{Packet}
 use Rattle.stream_rules.specs.Stream.{Slot, Empty, Programmed, Armed, Live, LiveKey, RxSub, Three, StreamState, at_sub}
-use Rattle.stream_rules.specs.Stream.{slot_in, live_in, Taken, Insecure, NotKeyed, Failed, Held, Accepted, holds_any}
+use Rattle.stream_rules.specs.Stream.{slot_in_set, live_in, Taken, Insecure, NotKeyed, Failed, Held, Accepted}
+use Rattle.stream_rules.specs.Stream.{holds_any}
 use Rattle.stream_rules.specs.Stream.{posted_sum, is_tagged, checked, dropped, dropped_held, taken_under, state_after}
 use Rattle.sub_stream.specs.{answer_of, opened_under}
 use Rattle.sub_stream.specs.declared.answer.Taken.{Taken as Answer}
 use Rattle.sub_stream.specs.declared.answer.Taken.TheVariants as answers
 use Rattle.stream_lanes.specs.Arrivals.{opened_after, ReceiveEnd, ReceiveEnds, allows, taken_at, taken_here, kept_after}
-use Rattle.stream_lanes.specs.Arrivals.{end_after, is_fail, lent_after, picked, lent_from, IsReceiveLanes, receiving}
+use Rattle.stream_lanes.specs.Arrivals.{end_after, is_fail, lent_after, picked, lent_from, IsReceiveLanes}
+use Rattle.stream_lanes.specs.Arrivals.{receiving_state}
 use Rattle.stream_lanes.specs.Arrivals.{taken_among, ends_after}
 
 abbrev pub view : ReceiveEnd → ReceiveEnd → ReceiveEnd → Option SubKind → ℕ → ReceiveEnds
@@ -64,11 +66,12 @@ pub among-here : (pr npr cpl : ReceiveEnd) (lent : Option SubKind) (takes : ℕ)
 among-here pr npr cpl lent takes p inv =
     let rx : Three RxSub = record { pr = pr.kept; npr = npr.kept; cpl = cpl.kept } in
     let is = picked-right pr npr cpl takes p.prefix.sub inv in
-    (λ i. taken_at (picked p.prefix.sub pr npr cpl) pr.kept.got p (live_in (slot_in (is.kept_is i).slots p.prefix.k))
-    (live_in (slot_in (is.kept_is i).slots (not p.prefix.k))))
+    (λ i. taken_at (picked p.prefix.sub pr npr cpl) pr.kept.got p
+    (live_in (slot_in_set (is.kept_is i).slots p.prefix.k))
+    (live_in (slot_in_set (is.kept_is i).slots (not p.prefix.k))))
     ∙ under_here (picked p.prefix.sub pr npr cpl) pr.mode pr.closed rx p
-    (live_in (slot_in (at_sub rx p.prefix.sub).slots p.prefix.k))
-    (live_in (slot_in (at_sub rx p.prefix.sub).slots (not p.prefix.k))) is
+    (live_in (slot_in_set (at_sub rx p.prefix.sub).slots p.prefix.k))
+    (live_in (slot_in_set (at_sub rx p.prefix.sub).slots (not p.prefix.k))) is
 
 -- ---- the receivers after it
 
@@ -196,15 +199,15 @@ lent_right u p (Held j n) a pr npr cpl pr' npr' cpl' st e is d1 d2 d3 = let same
 lent_right Pr p (Accepted j n unit) a pr npr cpl pr' npr' cpl' st e is d1 d2 d3 =
     let same : a ≡ answers.Accepted j n (length unit) = cc in
     ap (λ (b : Answer). lent_from (lent_after Pr b) pr' npr' cpl') same ∙ d1 (ap is_fail same)
-    ∙ ap (λ (rx : Three RxSub). opened_under (live_in (slot_in rx.pr.slots p.prefix.k)) Pr unit) (sym is)
+    ∙ ap (λ (rx : Three RxSub). opened_under (live_in (slot_in_set rx.pr.slots p.prefix.k)) Pr unit) (sym is)
 lent_right Npr p (Accepted j n unit) a pr npr cpl pr' npr' cpl' st e is d1 d2 d3 =
     let same : a ≡ answers.Accepted j n (length unit) = cc in
     ap (λ (b : Answer). lent_from (lent_after Npr b) pr' npr' cpl') same ∙ d2 (ap is_fail same)
-    ∙ ap (λ (rx : Three RxSub). opened_under (live_in (slot_in rx.npr.slots p.prefix.k)) Npr unit) (sym is)
+    ∙ ap (λ (rx : Three RxSub). opened_under (live_in (slot_in_set rx.npr.slots p.prefix.k)) Npr unit) (sym is)
 lent_right Cpl p (Accepted j n unit) a pr npr cpl pr' npr' cpl' st e is d1 d2 d3 =
     let same : a ≡ answers.Accepted j n (length unit) = cc in
     ap (λ (b : Answer). lent_from (lent_after Cpl b) pr' npr' cpl') same ∙ d3 (ap is_fail same)
-    ∙ ap (λ (rx : Three RxSub). opened_under (live_in (slot_in rx.cpl.slots p.prefix.k)) Cpl unit) (sym is)
+    ∙ ap (λ (rx : Three RxSub). opened_under (live_in (slot_in_set rx.cpl.slots p.prefix.k)) Cpl unit) (sym is)
 
 -- the packet's own receiver takes it
 own_take : (u w : SubKind) (pr npr cpl : ReceiveEnd) (got : ℕ) (p : Packet)
@@ -244,8 +247,8 @@ pub ends-after : (p : Packet) (t : Taken) (a : Answer) (pr npr cpl pr' npr' cpl'
     → view pr' npr' cpl' (lent_after p.prefix.sub a) (takes + 1) ≡ ends_after (view pr npr cpl lent takes) p t
 ends-after p t a pr npr cpl pr' npr' cpl' lent takes e after =
     let old : ReceiveEnds = view pr npr cpl lent takes in
-    let delivered : lent_from (lent_after p.prefix.sub a) pr' npr' cpl' ≡ opened_after (receiving old) p t =
-    lent_right p.prefix.sub p t a pr npr cpl pr' npr' cpl' (receiving old) e refl after.pr_is.delivered_is
+    let delivered : lent_from (lent_after p.prefix.sub a) pr' npr' cpl' ≡ opened_after (receiving_state old) p t =
+    lent_right p.prefix.sub p t a pr npr cpl pr' npr' cpl' (receiving_state old) e refl after.pr_is.delivered_is
     after.npr_is.delivered_is after.cpl_is.delivered_is in
     (λ i. record {
       mode = after.pr_is.mode_is i;
@@ -258,9 +261,9 @@ ends-after p t a pr npr cpl pr' npr' cpl' lent takes e after =
       mode = pr.mode;
       closed = pr.closed;
       rx = rx;
-      delivered = opened_after (receiving old) p t;
+      delivered = opened_after (receiving_state old) p t;
       takes = takes + 1;
-    }) (three-right (receiving old) p t a e)
+    }) (three-right (receiving_state old) p t a e)
 
 -- ---- what always holds
 
@@ -369,5 +372,5 @@ lanes-kept p t a pr npr cpl pr' npr' cpl' takes few inv is after =
         subst (λ (u : SubKind). Orderly (picked u pr npr cpl) pr.kept.got t) e
         (subst (λ (t : Taken). Orderly (picked p.prefix.sub pr npr cpl) pr.kept.got t) is
         (orderly (picked p.prefix.sub pr npr cpl) pr.kept.got p
-        (live_in (slot_in (picked p.prefix.sub pr npr cpl).kept.slots p.prefix.k))
-        (live_in (slot_in (picked p.prefix.sub pr npr cpl).kept.slots (not p.prefix.k)))))
+        (live_in (slot_in_set (picked p.prefix.sub pr npr cpl).kept.slots p.prefix.k))
+        (live_in (slot_in_set (picked p.prefix.sub pr npr cpl).kept.slots (not p.prefix.k)))))

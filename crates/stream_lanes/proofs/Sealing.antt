@@ -1,7 +1,7 @@
 -- What one sender makes of a packet, and of KEY_PROG and GO: it seals the packet of the rules, and keeps its invariant.
--- Under the Live key both descriptions of the packet agree field by field, and of an open unit the invariant says what
--- stands ahead. A packet joins its unit, with room for one more, or ends it; a call of key management leaves the open
--- unit as it is, or none open (`Moved`), by the states of both slots.
+-- Under the Live key both descriptions of the packet agree field by field, and the invariant says what comes before an
+-- open unit. A packet joins its unit, with room for one more, or ends it; a call of key management leaves the open unit
+-- as it is, or none open (`Moved`), by the states of both slots.
 use Rattle.std.proofs.Common.{◌≡◌, ℕ, ◌+◌, ◌<◌, ◌≤◌, Bool, true, false, not, ◌&&◌, ◌||◌, ◌==◌, if◌then◌else◌, List, []}
 use Rattle.std.proofs.Common.{◌∷◌, ◌++◌, length, Option, Some, None, Ok, Err, unwrap_or, refl, sym, ap, ◌∙◌, subst}
 use Rattle.std.proofs.Common.{arith, inl, inr, ◌⊎◌, length-append}
@@ -18,16 +18,18 @@ use Rattle.ide_prefix.specs.Units.{authenticated, encrypted}
 use Rattle.stream_rules.specs.Sending.{is_posted, no_key, front_with, begins_unit, prefix_of}
 use Rattle.stream_rules.specs.Stream.{Slot, Empty, Programmed, Armed, Live, LiveKey, Slots, with_slot, live_sender}
 use Rattle.stream_rules.specs.Stream.{lane_of, packet_under, tagged_under, untagged_under, sealed_slots, ended_slots}
-use Rattle.stream_rules.specs.Slots.{is_live, any_live, is_busy, both_slots, slot_gone}
+use Rattle.stream_rules.specs.Slots.{is_live_slot, any_live, is_busy, both_slots, slot_gone}
 use Rattle.key_slots.specs.{is_only_live}
 use Rattle.sub_stream.specs.{Sender, Content, packets_under, open_packets, ready_of, ready_under, sealing_of}
-use Rattle.sub_stream.specs.{sealing_under, sealing_as, noted, ends, ahead_for, ahead_of, packet_of, Sealing, slot_pair}
+use Rattle.sub_stream.specs.{sealing_under, sealing_as, noted, ends, ahead_for, ahead_of, tagged_packet, Sealing}
+use Rattle.sub_stream.specs.{slot_pair}
 use Rattle.sub_stream.specs.{gone_slots, gone_sender, programmed_sender}
-use Rattle.stream_lanes.specs.Lanes.{SendEnd, IsSendLane, open_unit, open_in, lane_in, said, is_spent, packet_in}
+use Rattle.stream_lanes.specs.Lanes.{SendEnd, IsSendLane, open_unit_number, open_in, sealing_lane, said, is_spent}
+use Rattle.stream_lanes.specs.Lanes.{packet_said}
 use Rattle.stream_lanes.specs.Lanes.{measured, sync_said}
 
 abbrev pub one_live : Slots → Bool
-one_live s = is_live s.first && is_live s.second
+one_live s = is_live_slot s.first && is_live_slot s.second
 
 abbrev pub view : Sender → Bool → ℕ → ℕ → SendEnd
 view tx closed posted total = record {
@@ -45,7 +47,7 @@ and_false false = refl
 pub live-some : (s : Slots) → any_live s ≡ true → (x : Bool × LiveKey) × (live_sender s ≡ Some x)
 live-some s = by_slots s.first s.second
   where
-    by_slots : (a b : Slot) → (is_live a || is_live b) ≡ true → (x : Bool × LiveKey)
+    by_slots : (a b : Slot) → (is_live_slot a || is_live_slot b) ≡ true → (x : Bool × LiveKey)
         × (live_sender (record { first = a; second = b }) ≡ Some x)
     by_slots (Live x) b e = ((false, x), refl)
     by_slots Empty (Live y) e = ((true, y), refl)
@@ -123,19 +125,19 @@ gone-kept false tx limit closed posted total inv =
     moved-kept tx limit closed posted total (gone_slots tx.slots false) inv
     (go-moved false tx.slots.first tx.slots.second inv.one_live)
 
--- a key that is put in where the slot is not Live
-put_second : (a b : Slot) (j : ℕ) (key : List ℕ) → (is_live a && is_live b) ≡ false
+-- a key that is put in if the slot is not Live
+put_second : (a b : Slot) (j : ℕ) (key : List ℕ) → (is_live_slot a && is_live_slot b) ≡ false
     → is_only_live (slot_pair true (record { first = a; second = b })) true ≡ false
     → Moved (record { first = a; second = b }) (record { first = a; second = Programmed j key })
-put_second a Empty j key one e = (inl refl, and_false (is_live a))
-put_second a (Programmed i l) j key one e = (inl refl, and_false (is_live a))
-put_second a (Armed i l) j key one e = (inl refl, and_false (is_live a))
+put_second a Empty j key one e = (inl refl, and_false (is_live_slot a))
+put_second a (Programmed i l) j key one e = (inl refl, and_false (is_live_slot a))
+put_second a (Armed i l) j key one e = (inl refl, and_false (is_live_slot a))
 put_second Empty (Live y) j key one e = absurd (cc)
 put_second (Programmed i l) (Live y) j key one e = absurd (cc)
 put_second (Armed i l) (Live y) j key one e = absurd (cc)
 put_second (Live x) (Live y) j key one e = absurd (cc)
 
-put_first : (a b : Slot) (j : ℕ) (key : List ℕ) → (is_live a && is_live b) ≡ false
+put_first : (a b : Slot) (j : ℕ) (key : List ℕ) → (is_live_slot a && is_live_slot b) ≡ false
     → is_only_live (slot_pair true (record { first = a; second = b })) false ≡ false
     → Moved (record { first = a; second = b }) (record { first = Programmed j key; second = b })
 put_first Empty b j key one e = (inl refl, refl)
@@ -193,13 +195,13 @@ whole_under e head payload more t sync o =
 
 -- the description of a packet
 abbrev pub said_of : SendEnd → Bool → Bool → Bool → Described
-said_of e more t sync = said e (not more || (length (lane_in e).front + 1 == e.fixed.mode)) t sync
+said_of e more t sync = said e (not more || (length (sealing_lane e).front + 1 == e.fixed.mode)) t sync
 
 abbrev pub sealing_right : Sender → Bool → ℕ → ℕ → Content → Bool → Sealing
 sealing_right tx closed posted total c more =
     let e = view tx closed posted total in
     let d = said_of e more c.t c.sync in
-    let p = packet_in e c.head c.payload d in
+    let p = packet_said e c.head c.payload d in
     record {
       description = measured d p;
       packet = p;
@@ -236,7 +238,7 @@ front_ahead closed total n front e = by_unit closed (n == 1) front e
     by_unit false true front e = e
     by_unit false false front e = refl
 
--- what stands ahead is what the rules say
+-- what comes before a unit is what the rules say
 pub ahead-right : (b : Bool) (old : List ℕ) (closed : Bool) (total n : ℕ) (front : List ℕ) → front
     ≡ (if closed then to_be_bytes w64 total else [])
     → (b ≡ false → old ≡ front_with closed n total)
@@ -275,7 +277,7 @@ sealing-is tx limit closed posted total front c more inv live unspent is_front i
         let ready : ready_of tx ≡ Ok x = ap (ready_under tx.limit) is ∙ ready_live tx.limit _ x spent in
         let open_ahead : (length x.1.packets == 0) ≡ false → tx.ahead ≡ front_with closed (x.1.units + 1) total =
         subst (λ (o : Option (Bool × LiveKey)). (length (packets_under o) == 0) ≡ false → tx.ahead
-        ≡ front_with closed (open_unit o) total) is inv.ahead in
+        ≡ front_with closed (open_unit_number o) total) is inv.ahead in
         let ahead : ahead_for tx x.1 front ≡ front_with closed (x.1.units + 1) total =
         ahead-right (length x.1.packets == 0) tx.ahead closed total (x.1.units + 1) front is_front open_ahead in
         let count : c.posted ≡ (if is_posted tx.sub then 0 else posted) = is_posted_count ∙ count_said
@@ -362,7 +364,7 @@ ended_open s = by_slots s.first s.second
 pub sealed-one_live : (m : Bool) (p : Packet) (s : Slots) → one_live s ≡ false → one_live (sealed_slots m p s) ≡ false
 sealed-one_live m p s = by_slots m s.first s.second
   where
-    by_slots : (m : Bool) (a b : Slot) → (is_live a && is_live b) ≡ false
+    by_slots : (m : Bool) (a b : Slot) → (is_live_slot a && is_live_slot b) ≡ false
         → one_live (sealed_slots m p (record { first = a; second = b })) ≡ false
     by_slots m (Live g) (Live h) e = absurd (cc)
     by_slots true Empty b e = refl
@@ -470,7 +472,7 @@ sealed-kept tx limit closed posted total more p m inv live is_m =
           one_live = sealed-one_live false p tx.slots inv.one_live;
           fits = subst (λ (o : Option (Bool × LiveKey)). length (packets_under o) < tx.mode) (sym on) more_fits;
           ahead = λ e. (λ i. front_with closed ((lane_of posted (is i)).units + 1) total) ∙
-              (λ i. front_with closed (open_unit (sym on i)) total);
+              (λ i. front_with closed (open_unit_number (sym on i)) total);
           no_count = λ e. refl;
         }
 
@@ -499,6 +501,6 @@ short_under e (Some x) d m sync ahead =
     (length-masked x.1.key (iv_of d.sub d.unit) (length (encrypted x.1.packets)) (if d.sync then [] else []) ∙ ap
     (λ (b : Bool). length {A = ℕ} (if b then [] else [])) sync) (omega (arith, tag))
 
-pub sync-short : (e : SendEnd) → length (packet_bytes (packet_in e [] [] (sync_said e))) ≤ 28
+pub sync-short : (e : SendEnd) → length (packet_bytes (packet_said e [] [] (sync_said e))) ≤ 28
 sync-short e = short_under e (live_sender e.kept.slots) (sync_said e) refl refl
     (front_with e.fixed.closed (sync_said e).unit e.kept.total)

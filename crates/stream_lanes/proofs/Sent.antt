@@ -1,7 +1,7 @@
 -- What the senders of a stream make of a TLP, packet by packet: the packets, lengths, bytes and senders of the rules.
--- Only ahead of a posted TLP do sync packets go, so it goes by class and, for a posted one, by which of the two go
--- first. Each packet is that of the rules, as neither its number nor its port is in it and a sync packet has nothing of
--- the TLP; behind sync packets the TLP's own sender is as before, and the joined bytes are only grouped anew.
+-- Sync packets go only before a posted TLP, so it goes by class and, for a posted one, by which of the two go first.
+-- Each packet is that of the rules, as neither its number nor its port is in it and a sync packet has nothing of the
+-- TLP; after sync packets the TLP's own sender is as before, and the joined bytes are only grouped anew.
 use Rattle.std.proofs.Common.{◌≡◌, ℕ, ◌+◌, ◌≤◌, Bool, true, false, ◌&&◌, if◌then◌else◌, List, [], ◌∷◌, ◌++◌, length}
 use Rattle.std.proofs.Common.{map, Option, Some, None, refl, sym, ap, ◌∙◌, subst, arith, append_assoc, append-nil}
 use Rattle.ide_types.specs.declared.sub.SubKind.{SubKind}
@@ -17,28 +17,30 @@ use Rattle.stream_rules.specs.Stream.{sealed_one, sealed_all}
 use Rattle.sub_stream.specs.declared.answer.SealedPacket.{SealedPacket}
 use Rattle.stream_lanes.specs.Sends.{numbered_from, joined_packets, packet_lengths, IsSealed}
 use Rattle.stream_lanes.specs.declared.fixed.Fixed.{Fixed}
-use Rattle.stream_lanes.specs.Lanes.{SendEnd, SendEnds, end_at, lanes_at, tlp_said, sync_said, packet_at, sealed_ends}
+use Rattle.stream_lanes.specs.Lanes.{SendEnd, SendEnds, end_at, sealing_lanes, tlp_said, sync_said, packet_said_at}
+use Rattle.stream_lanes.specs.Lanes.{sealed_ends}
 use Rattle.stream_lanes.specs.Lanes.{measured, synced, sync_packets, sync_bytes}
 use Rattle.stream_lanes.proofs.Sealing.{sync-same}
 
 -- ---- what is not refused
 
 pub record IsClear (x : SendEnds) (sub : SubKind) : Type 0 where
-  pub keyed : is_keyless (lanes_at x) sub ≡ false
-  pub npr_keyed : (needs_sync (lanes_at x) sub Npr && is_keyless (lanes_at x) Npr) ≡ false
-  pub cpl_keyed : (needs_sync (lanes_at x) sub Cpl && is_keyless (lanes_at x) Cpl) ≡ false
-  pub unworn : is_worn (lanes_at x) sub ≡ false
-  pub npr_unworn : (needs_sync (lanes_at x) sub Npr && is_worn (lanes_at x) Npr) ≡ false
-  pub cpl_unworn : (needs_sync (lanes_at x) sub Cpl && is_worn (lanes_at x) Cpl) ≡ false
+  pub keyed : is_keyless (sealing_lanes x) sub ≡ false
+  pub npr_keyed : (needs_sync (sealing_lanes x) sub Npr && is_keyless (sealing_lanes x) Npr) ≡ false
+  pub cpl_keyed : (needs_sync (sealing_lanes x) sub Cpl && is_keyless (sealing_lanes x) Cpl) ≡ false
+  pub unworn : is_worn (sealing_lanes x) sub ≡ false
+  pub npr_unworn : (needs_sync (sealing_lanes x) sub Npr && is_worn (sealing_lanes x) Npr) ≡ false
+  pub cpl_unworn : (needs_sync (sealing_lanes x) sub Cpl && is_worn (sealing_lanes x) Cpl) ≡ false
 
 not_first : (b : Bool) (v : Verdict) (rest : Option Verdict) → (if b then Some v else rest) ≡ None → (b ≡ false)
     × (rest ≡ None)
 not_first true v rest e = absurd (cc)
 not_first false v rest e = (refl, e)
 
-pub clear-facts : (x : SendEnds) (sub : SubKind) → first_that_holds (refusals (lanes_at x) sub) ≡ None → IsClear x sub
+pub clear-facts : (x : SendEnds) (sub : SubKind) → first_that_holds (refusals (sealing_lanes x) sub) ≡ None
+    → IsClear x sub
 clear-facts x sub e =
-    let a = not_first (is_keyless (lanes_at x) sub) _ _ e in
+    let a = not_first (is_keyless (sealing_lanes x) sub) _ _ e in
     let b = not_first _ _ _ a.1 in
     let c = not_first _ _ _ b.1 in
     let d = not_first _ _ _ c.1 in
@@ -68,9 +70,9 @@ pub end-cpl : (b : Bool) (x : SendEnds) → end_at (synced b Npr x) Cpl ≡ end_
 end-cpl true x = refl
 end-cpl false x = refl
 
--- behind the sync packets the sender of the TLP is as it was
-pub end-kept : (x : SendEnds) (sub : SubKind) (b c : Bool) → b ≡ needs_sync (lanes_at x) sub Npr → c
-    ≡ needs_sync (lanes_at x) sub Cpl
+-- after the sync packets the sender of the TLP is as it was
+pub end-kept : (x : SendEnds) (sub : SubKind) (b c : Bool) → b ≡ needs_sync (sealing_lanes x) sub Npr → c
+    ≡ needs_sync (sealing_lanes x) sub Cpl
     → end_at (synced c Cpl (synced b Npr x)) sub ≡ end_at x sub
 end-kept x Pr true true e f = refl
 end-kept x Pr true false e f = refl
@@ -91,7 +93,8 @@ renumbered ahead (Some x) d number port head payload = refl
 
 -- a sync packet as the senders seal it is that of the rules
 sync_packet : (x : SendEnds) (d : Described) (number : ℕ) (port : PortName) (head payload : List ℕ) → d.sync ≡ true
-    → packet_at x [] [] d ≡ (sealed_one x.fixed.closed head payload (record d { number = number; port = port }) x.tx).0
+    → packet_said_at x [] [] d ≡
+    (sealed_one x.fixed.closed head payload (record d { number = number; port = port }) x.tx).0
 sync_packet x d number port head payload e =
     sync-same (front_with x.fixed.closed d.unit (at_sub x.tx d.sub).total) (live_sender (at_sub x.tx d.sub).slots) d []
     [] head payload e
@@ -99,7 +102,7 @@ sync_packet x d number port head payload e =
     number port head payload
 
 tlp_packet : (x : SendEnds) (d : Described) (number : ℕ) (port : PortName) (head payload : List ℕ)
-    → packet_at x head payload d ≡
+    → packet_said_at x head payload d ≡
     (sealed_one x.fixed.closed head payload (record d { number = number; port = port }) x.tx).0
 tlp_packet x d number port head payload =
     renumbered (front_with x.fixed.closed d.unit (at_sub x.tx d.sub).total) (live_sender (at_sub x.tx d.sub).slots) d
@@ -111,7 +114,7 @@ after_packet : (x : SendEnds) (d : Described) (p q : Packet) → p ≡ q
     (record x { tx = each_sub (λ u. sealed_sub d q u (at_sub x.tx u)) })
 after_packet x d p q e = ap (λ (r : Packet). record x { tx = each_sub (λ u. sealed_sub d r u (at_sub x.tx u)) }) e
 
--- the packets that were sealed, as the senders say them, and the bytes behind others
+-- the packets that were sealed, as the senders say them, and the bytes after others
 abbrev pub last_ends : SendEnds → Bool → Bool → SendEnds
 last_ends x b c = synced c Cpl (synced b Npr x)
 
@@ -119,18 +122,18 @@ abbrev pub all_said : SendEnds → SubKind → Bool → Bool → List ℕ → Li
 all_said x sub b c head payload t more =
     (([] ++ sync_packets b Npr x) ++ sync_packets c Cpl (synced b Npr x))
     ++ measured (tlp_said (end_at (last_ends x b c) sub) t more)
-    (packet_at (last_ends x b c) head payload (tlp_said (end_at (last_ends x b c) sub) t more)) ∷ []
+    (packet_said_at (last_ends x b c) head payload (tlp_said (end_at (last_ends x b c) sub) t more)) ∷ []
 
 abbrev pub all_bytes : SendEnds → SubKind → Bool → Bool → List ℕ → List ℕ → Bool → Bool → List ℕ → List ℕ
 all_bytes x sub b c head payload t more before =
     ((before ++ sync_bytes b Npr x) ++ sync_bytes c Cpl (synced b Npr x))
-    ++ packet_bytes (packet_at (last_ends x b c) head payload (tlp_said (end_at (last_ends x b c) sub) t more))
+    ++ packet_bytes (packet_said_at (last_ends x b c) head payload (tlp_said (end_at (last_ends x b c) sub) t more))
 
 abbrev pub all_ends : SendEnds → SubKind → Bool → Bool → List ℕ → List ℕ → Bool → Bool → SendEnds
 all_ends x sub b c head payload t more =
     sealed_ends (last_ends x b c) head payload (tlp_said (end_at (last_ends x b c) sub) t more)
 
--- the rules' descriptions, where it is known which sync packets go first
+-- the rules' descriptions, when it is known which sync packets go first
 abbrev flagged : Bool → Bool → Lanes → Sending → ℕ → List Described
 flagged b c x s number =
     let first = if b then described x s Npr number true false true ∷ [] else [] in
@@ -172,7 +175,7 @@ as_sent x port class more trusted =
 runs_alone : (x : SendEnds) (head payload : List ℕ) (port : PortName) (class : SubKind) (more trusted : Bool)
     (number : ℕ) (before : List ℕ)
     → Runs x head payload (as_sent x port class more trusted) number false false before
-    (flagged false false (lanes_at x) (as_sent x port class more trusted) number)
+    (flagged false false (sealing_lanes x) (as_sent x port class more trusted) number)
 runs_alone x head payload port class more trusted number before =
     let d = tlp_said (end_at x class) (sets_trusted port trusted) more in
     let e = tlp_packet x d (number + 0 + 0) port head payload in
@@ -180,7 +183,8 @@ runs_alone x head payload port class more trusted number before =
     record {
       answered = λ i. record d { number = n i; port = port } ∷ [];
       lengths = λ i. length (packet_bytes (e i)) ∷ [];
-      bytes = one_more before (packet_bytes (packet_at x head payload d)) ∙ (λ i. before ++ (packet_bytes (e i) ++ []));
+      bytes = one_more before (packet_bytes (packet_said_at x head payload d)) ∙
+          (λ i. before ++ (packet_bytes (e i) ++ []));
       senders = after_packet x d _ _ e;
     }
 
@@ -188,7 +192,7 @@ runs_alone x head payload port class more trusted number before =
 runs_posted : (b c : Bool) (x : SendEnds) (head payload : List ℕ) (port : PortName) (more trusted : Bool) (number : ℕ)
     (before : List ℕ)
     → Runs x head payload (as_sent x port Pr more trusted) number b c before
-    (flagged b c (lanes_at x) (as_sent x port Pr more trusted) number)
+    (flagged b c (sealing_lanes x) (as_sent x port Pr more trusted) number)
 runs_posted false false x head payload port more trusted number before = runs_alone x head payload port Pr more trusted
     number before
 runs_posted true false x head payload port more trusted number before =
@@ -202,7 +206,7 @@ runs_posted true false x head payload port more trusted number before =
       answered = λ i. record d1 { number = number; port = port } ∷ record d { number = n i; port = port } ∷ [];
       lengths = λ i. length (packet_bytes (e1 i)) ∷ length (packet_bytes (e i)) ∷ [];
       bytes =
-          two_more before (packet_bytes (packet_at x [] [] d1)) (packet_bytes (packet_at x1 head payload d))
+          two_more before (packet_bytes (packet_said_at x [] [] d1)) (packet_bytes (packet_said_at x1 head payload d))
           ∙ (λ i. before ++ (packet_bytes (e1 i) ++ (packet_bytes (e i) ++ [])));
       senders = after_packet x1 d _ _ e;
     }
@@ -218,7 +222,7 @@ runs_posted false true x head payload port more trusted number before =
       answered = λ i. record d1 { number = m i; port = port } ∷ record d { number = n i; port = port } ∷ [];
       lengths = λ i. length (packet_bytes (e1 i)) ∷ length (packet_bytes (e i)) ∷ [];
       bytes =
-          two_behind before (packet_bytes (packet_at x [] [] d1)) (packet_bytes (packet_at x1 head payload d))
+          two_behind before (packet_bytes (packet_said_at x [] [] d1)) (packet_bytes (packet_said_at x1 head payload d))
           ∙ (λ i. before ++ (packet_bytes (e1 i) ++ (packet_bytes (e i) ++ [])));
       senders = after_packet x1 d _ _ e;
     }
@@ -235,28 +239,28 @@ runs_posted true true x head payload port more trusted number before =
       answered = refl;
       lengths = λ i. length (packet_bytes (e1 i)) ∷ length (packet_bytes (e2 i)) ∷ length (packet_bytes (e i)) ∷ [];
       bytes =
-          three_more before (packet_bytes (packet_at x [] [] d1)) (packet_bytes (packet_at x1 [] [] d2))
-          (packet_bytes (packet_at x2 head payload d))
+          three_more before (packet_bytes (packet_said_at x [] [] d1)) (packet_bytes (packet_said_at x1 [] [] d2))
+          (packet_bytes (packet_said_at x2 head payload d))
           ∙ (λ i. before ++ (packet_bytes (e1 i) ++ (packet_bytes (e2 i) ++ (packet_bytes (e i) ++ []))));
       senders = after_packet x2 d _ _ e;
     }
 
 runs : (class : SubKind) (b c : Bool) (x : SendEnds) (head payload : List ℕ) (port : PortName) (more trusted : Bool)
     (number : ℕ) (before : List ℕ)
-    → b ≡ needs_sync (lanes_at x) class Npr → c ≡ needs_sync (lanes_at x) class Cpl
+    → b ≡ needs_sync (sealing_lanes x) class Npr → c ≡ needs_sync (sealing_lanes x) class Cpl
     → Runs x head payload (as_sent x port class more trusted) number b c before
-    (sealed_by (lanes_at x) (as_sent x port class more trusted) number)
+    (sealed_by (sealing_lanes x) (as_sent x port class more trusted) number)
 runs Pr b c x head payload port more trusted number before e f =
     subst (λ (y : Bool × Bool). Runs x head payload (as_sent x port Pr more trusted) number b c before
-    (flagged y.0 y.1 (lanes_at x) (as_sent x port Pr more trusted) number)) (λ i. (e i, f i))
+    (flagged y.0 y.1 (sealing_lanes x) (as_sent x port Pr more trusted) number)) (λ i. (e i, f i))
     (runs_posted b c x head payload port more trusted number before)
 runs Npr b c x head payload port more trusted number before e f =
     subst (λ (y : Bool × Bool). Runs x head payload (as_sent x port Npr more trusted) number y.0 y.1 before
-    (flagged false false (lanes_at x) (as_sent x port Npr more trusted) number)) (λ i. (sym e i, sym f i))
+    (flagged false false (sealing_lanes x) (as_sent x port Npr more trusted) number)) (λ i. (sym e i, sym f i))
     (runs_alone x head payload port Npr more trusted number before)
 runs Cpl b c x head payload port more trusted number before e f =
     subst (λ (y : Bool × Bool). Runs x head payload (as_sent x port Cpl more trusted) number y.0 y.1 before
-    (flagged false false (lanes_at x) (as_sent x port Cpl more trusted) number)) (λ i. (sym e i, sym f i))
+    (flagged false false (sealing_lanes x) (as_sent x port Cpl more trusted) number)) (λ i. (sym e i, sym f i))
     (runs_alone x head payload port Cpl more trusted number before)
 
 abbrev SealedSo : SendEnds → List ℕ → List ℕ → Sending → ℕ → SubKind → Bool → Bool → Bool → Bool → List ℕ → Type 0
@@ -266,13 +270,13 @@ SealedSo x head payload s number sub b c t more before =
 
 pub sent-right : (x : SendEnds) (head payload : List ℕ) (s : Sending) (number : ℕ) (sub : SubKind) (b c t more : Bool)
     (before : List ℕ)
-    → b ≡ needs_sync (lanes_at x) sub Npr → c ≡ needs_sync (lanes_at x) sub Cpl
+    → b ≡ needs_sync (sealing_lanes x) sub Npr → c ≡ needs_sync (sealing_lanes x) sub Cpl
     → s.stream ≡ x.fixed.stream → s.class ≡ sub → s.more ≡ more → sets_trusted s.port s.trusted ≡ t
     → SealedSo x head payload s number sub b c t more before
 sent-right x head payload s number sub b c t more before e f stream class goes trusted =
     let ran = runs s.class b c x head payload s.port s.more s.trusted number before
-    (e ∙ ap (λ (u : SubKind). needs_sync (lanes_at x) u Npr) (sym class))
-    (f ∙ ap (λ (u : SubKind). needs_sync (lanes_at x) u Cpl) (sym class)) in
+    (e ∙ ap (λ (u : SubKind). needs_sync (sealing_lanes x) u Npr) (sym class))
+    (f ∙ ap (λ (u : SubKind). needs_sync (sealing_lanes x) u Cpl) (sym class)) in
     let so : SealedSo x head payload (record s { stream = x.fixed.stream }) number s.class b c
     (sets_trusted s.port s.trusted) s.more before = record {
       answered = ran.answered;
@@ -296,7 +300,7 @@ same_total : (n : ℕ) → n ≤ n + 1
 same_total n = omega arith
 
 pub totals-after : (x : SendEnds) (head payload : List ℕ) (sub : SubKind) (b c t more : Bool) (u : SubKind) → b
-    ≡ needs_sync (lanes_at x) sub Npr → c ≡ needs_sync (lanes_at x) sub Cpl
+    ≡ needs_sync (sealing_lanes x) sub Npr → c ≡ needs_sync (sealing_lanes x) sub Cpl
     → (at_sub (all_ends x sub b c head payload t more).tx u).total ≤ (at_sub x.tx u).total + 1
 totals-after x head payload sub b c t more u e f = by_subs sub u e f
   where
@@ -325,7 +329,7 @@ totals-after x head payload sub b c t more u e f = by_subs sub u e f
     alone Cpl Npr = same_total x.tx.npr.total
     alone Cpl Cpl = total_more _ x.tx.cpl.total
 
-    by_subs : (sub u : SubKind) → b ≡ needs_sync (lanes_at x) sub Npr → c ≡ needs_sync (lanes_at x) sub Cpl
+    by_subs : (sub u : SubKind) → b ≡ needs_sync (sealing_lanes x) sub Npr → c ≡ needs_sync (sealing_lanes x) sub Cpl
         → (at_sub (all_ends x sub b c head payload t more).tx u).total ≤ (at_sub x.tx u).total + 1
     by_subs Pr u e f = posted b c u
     by_subs Npr u e f = rw (e, f) (alone Npr u)

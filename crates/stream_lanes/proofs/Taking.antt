@@ -1,7 +1,7 @@
 -- What one receiver makes of a packet, and of KEY_PROG: it answers as the rules say, and keeps its invariant. The
 -- answer goes by the state of the slot; the sum that the code allows tests what the rules test, as the sum so far is
 -- within the posted packets that were accepted and that of a unit is small. The hard case is an accepted unit, which
--- moves the total that stands ahead: the other slot holds no packets then, and such a slot is right under any total.
+-- moves the total that comes before later units: the other slot holds no packets then, and so is right under any total.
 use Rattle.std.proofs.Common.{◌≡◌, ℕ, ◌+◌, ◌-◌, ◌^◌, ◌<◌, ◌≤◌, Bool, true, false, not, ◌&&◌, ◌||◌, ◌==◌, nat_lt, nat_le}
 use Rattle.std.proofs.Common.{if◌then◌else◌, List, [], ◌∷◌, ◌++◌, length, Option, Some, None, refl, sym, ap, ◌∙◌, subst}
 use Rattle.std.proofs.Common.{arith, length-append}
@@ -16,17 +16,19 @@ use Rattle.gcm_seal.specs.Gcm.{masked}
 use Rattle.ide_prefix.specs.Iv.{iv_of}
 use Rattle.ide_prefix.specs.Packet.{Packet}
 use Rattle.stream_rules.specs.Sending.{is_posted, front_with}
-use Rattle.stream_rules.specs.Stream.{Slot, Empty, Programmed, Armed, Live, LiveKey, Slots, slot_in, with_slot, live_in}
+use Rattle.stream_rules.specs.Stream.{Slot, Empty, Programmed, Armed, Live, LiveKey, Slots, slot_in_set, with_slot}
+use Rattle.stream_rules.specs.Stream.{live_in}
 use Rattle.stream_rules.specs.Stream.{Taken, Insecure, NotKeyed, Failed, Held, Accepted, holds_any, posted_sum}
-use Rattle.stream_rules.specs.Stream.{is_tagged, checked, dropped, gone_on, counted, retired, accepted_slots}
+use Rattle.stream_rules.specs.Stream.{is_tagged, checked, dropped, gone_on, counted_unit, retired, accepted_slots}
 use Rattle.key_slots.specs.{is_only_live}
 use Rattle.sub_stream.specs.{Receiver, answer_of, opened_from, opened_under, key_for, ahead_in, ahead_of}
-use Rattle.sub_stream.specs.{is_tagged_behind, judged, taken_with, taken_of, dropped_slots, ahead_held, after_answer}
+use Rattle.sub_stream.specs.{is_tagged_behind, judged_packet, taken_with, taken_of, dropped_slots, ahead_held}
+use Rattle.sub_stream.specs.{after_answer}
 use Rattle.sub_stream.specs.{ahead_at, with_slots, programmed_receiver, slot_pair}
 use Rattle.sub_stream.specs.Receivers.{is_accepted}
 use Rattle.sub_stream.specs.declared.answer.Taken.{Taken as Answer}
 use Rattle.sub_stream.specs.declared.answer.Taken.TheVariants as answers
-use Rattle.stream_lanes.specs.Arrivals.{ReceiveEnd, allows, taken_at, taken_here, end_after, IsHeld, HoldsRight}
+use Rattle.stream_lanes.specs.Arrivals.{ReceiveEnd, allows, taken_at, taken_here, end_after, HoldsPackets, HoldsRight}
 use Rattle.stream_lanes.specs.Arrivals.{IsReceiveLane, count_in}
 use Rattle.stream_lanes.proofs.Sealing.{ahead-right}
 
@@ -81,16 +83,16 @@ allowed-right Pr sum got allowed n few e le = ap (nat_le n) e ∙ small_within n
 allowed-right Npr sum got allowed n few e le = ap (nat_le n) e ∙ within_left sum n got (le refl)
 allowed-right Cpl sum got allowed n few e le = ap (nat_le n) e ∙ within_left sum n got (le refl)
 
--- what stands ahead of the packets of a slot, with the next
+-- what comes before the packets of a slot, with the next
 next_ahead : (ahead : List ℕ) (mode : ℕ) (closed : Bool) (total : ℕ) (front : List ℕ) (x : LiveKey) → front
     ≡ (if closed then to_be_bytes w64 total else [])
-    → IsHeld ahead mode closed total x → (if length x.packets == 0 then ahead_of front (x.units + 1) else ahead)
+    → HoldsPackets ahead mode closed total x → (if length x.packets == 0 then ahead_of front (x.units + 1) else ahead)
     ≡ front_with closed (x.units + 1) total
 next_ahead ahead mode closed total front x e held = ahead-right (length x.packets == 0) ahead closed total (x.units + 1)
     front e held.front
 
 few_posted : (ahead : List ℕ) (mode : ℕ) (closed : Bool) (total : ℕ) (x : LiveKey) (p : Packet) → mode ≤ 8
-    → p.prefix.posted < 256 → IsHeld ahead mode closed total x
+    → p.prefix.posted < 256 → HoldsPackets ahead mode closed total x
     → posted_sum (x.packets ++ p ∷ []) ≤ 2295
 few_posted ahead mode closed total x p small byte held = omega
     (arith, posted_sum-joined x.packets p, held.posted, held.fits)
@@ -110,7 +112,8 @@ taken_slots rx sub closed sum own total got allowed front p mine other small hel
     by_none None = refl
     by_none (Some y) = refl
 
-    by_fits : (x : LiveKey) (b : Bool) → (if not b then judged (ahead_in rx x front) allowed x p else Failed fail.Unit)
+    by_fits : (x : LiveKey) (b : Bool) →
+        (if not b then judged_packet (ahead_in rx x front) allowed x p else Failed fail.Unit)
         ≡ (if b then Failed fail.Unit
         else if p.prefix.m then checked (is_tagged_behind (ahead_in rx x front) x p)
         (nat_le (posted_sum (x.packets ++ p ∷ [])) allowed) x p
@@ -134,7 +137,7 @@ taken_slots rx sub closed sum own total got allowed front p mine other small hel
         else Held x.draw (x.units + 1))
 
 slot_right : (k : Bool) (rx : Receiver) (closed : Bool) (sum own total : ℕ) → IsReceiveLane rx closed sum own total
-    → HoldsRight rx.ahead rx.mode closed total (slot_in rx.slots k)
+    → HoldsRight rx.ahead rx.mode closed total (slot_in_set rx.slots k)
 slot_right true rx closed sum own total inv = inv.second
 slot_right false rx closed sum own total inv = inv.first
 
@@ -145,13 +148,13 @@ pub taken-right : (rx : Receiver) (sub : SubKind) (closed : Bool) (sum own total
     → front ≡ (if closed then to_be_bytes w64 total else [])
     → taken_of rx allowed front p ≡ taken_here (view rx sub closed sum own total) got p
 taken-right rx sub closed sum own total got allowed front p inv byte is_allowed le is_front =
-    taken_slots rx sub closed sum own total got allowed front p (slot_in rx.slots p.prefix.k)
+    taken_slots rx sub closed sum own total got allowed front p (slot_in_set rx.slots p.prefix.k)
     (key_for rx (not p.prefix.k))
     inv.small_mode (slot_right p.prefix.k rx closed sum own total inv) byte is_allowed le is_front
 
 -- ---- the receiver after it
 
--- where a unit was accepted its key is Live
+-- if a unit was accepted its key is Live
 pub accepted-keyed : (e : ReceiveEnd) (got : ℕ) (p : Packet) (j n : ℕ) (unit : List Packet) (x y : Option LiveKey)
     → taken_at e got p x y ≡ Accepted j n unit
     → posted_sum (opened_under x p.prefix.sub unit) ≡ posted_sum unit
@@ -212,7 +215,7 @@ nothing_held (Live x) ahead ahead' mode closed total total' held e = record {
 
 -- a Live slot without packets
 begun_right : (ahead : List ℕ) (mode : ℕ) (closed : Bool) (total draw units : ℕ) (key : List ℕ) → 0 < mode
-    → IsHeld ahead mode closed total (record { draw = draw; key = key; units = units; packets = [] })
+    → HoldsPackets ahead mode closed total (record { draw = draw; key = key; units = units; packets = [] })
 begun_right ahead mode closed total draw units key some = record {
   front = λ e. absurd (cc);
   posted = omega arith;
@@ -227,7 +230,7 @@ dropped_right (Armed j key) ahead mode closed total some = tt
 dropped_right (Live x) ahead mode closed total some = begun_right ahead mode closed total x.draw x.units x.key some
 
 counted_right : (slot : Slot) (ahead : List ℕ) (mode : ℕ) (closed : Bool) (total : ℕ) → 0 < mode
-    → HoldsRight ahead mode closed total (counted slot)
+    → HoldsRight ahead mode closed total (counted_unit slot)
 counted_right Empty ahead mode closed total some = tt
 counted_right (Programmed j key) ahead mode closed total some = tt
 counted_right (Armed j key) ahead mode closed total some = tt
@@ -251,10 +254,10 @@ room_more : (n mode : ℕ) → nat_le mode (n + 1) ≡ false → n + 1 < mode
 room_more n mode e = grind (arith, common_steps)
 
 joined_right : (ahead ahead' : List ℕ) (mode : ℕ) (closed : Bool) (total : ℕ) (x : LiveKey) (p : Packet)
-    → IsHeld ahead mode closed total x
+    → HoldsPackets ahead mode closed total x
     → p.prefix.posted < 256 → nat_le mode (length x.packets + 1) ≡ false → ahead'
     ≡ front_with closed (x.units + 1) total
-    → IsHeld ahead' mode closed total (record x { packets = x.packets ++ p ∷ [] })
+    → HoldsPackets ahead' mode closed total (record x { packets = x.packets ++ p ∷ [] })
 joined_right ahead ahead' mode closed total x p held byte room is =
     let size = length-append x.packets (p ∷ []) in
     let less = room_more (length x.packets) mode room in
@@ -302,9 +305,9 @@ BothRight k ahead mode closed total s = HoldsRight ahead mode closed total s.fir
 held_both : (k : Bool) (rx : Receiver) (closed : Bool) (sum own total got : ℕ) (front : List ℕ) (p : Packet) (j n : ℕ)
     → IsReceiveLane rx closed sum own total
     → p.prefix.posted < 256 → front ≡ (if closed then to_be_bytes w64 total else [])
-    → FitsHere rx.mode p (Held j n) (live_in (slot_in rx.slots k)) (live_in (slot_in rx.slots (not k)))
-    → BothRight k (ahead_held rx (live_in (slot_in rx.slots k)) front) rx.mode closed total
-    (with_slot rx.slots k (gone_on p (slot_in rx.slots k)))
+    → FitsHere rx.mode p (Held j n) (live_in (slot_in_set rx.slots k)) (live_in (slot_in_set rx.slots (not k)))
+    → BothRight k (ahead_held rx (live_in (slot_in_set rx.slots k)) front) rx.mode closed total
+    (with_slot rx.slots k (gone_on p (slot_in_set rx.slots k)))
 held_both true rx closed sum own total got front p j n inv byte is_front fits = by_slot rx.slots.second inv.second fits
   where
     by_slot : (s : Slot) → HoldsRight rx.ahead rx.mode closed total s
@@ -336,7 +339,7 @@ held_both false rx closed sum own total got front p j n inv byte is_front fits =
 
 accepted_both : (k : Bool) (rx : Receiver) (closed : Bool) (sum own total : ℕ) (j : ℕ)
     → IsReceiveLane rx closed sum own total
-    → holds_any (live_in (slot_in rx.slots (not k))) ≡ false
+    → holds_any (live_in (slot_in_set rx.slots (not k))) ≡ false
     → BothRight k [] rx.mode closed (total + 1) (accepted_slots j k rx.slots)
 accepted_both true rx closed sum own total j inv none = (
   retired_right j rx.slots.first [] rx.mode closed (total + 1)
@@ -399,7 +402,7 @@ taken-kept rx sub closed sum own total got front p t a sum' own' total' inv byte
         let keeps = same_total (answers.Held j n) same refl in
         let both = held_both p.prefix.k rx closed sum own total got front p j n inv byte is_front fits in
         with_both (ahead_held rx (key_for rx p.prefix.k) front)
-        (with_slot rx.slots p.prefix.k (gone_on p (slot_in rx.slots p.prefix.k))) [] (omega (arith, keeps))
+        (with_slot rx.slots p.prefix.k (gone_on p (slot_in_set rx.slots p.prefix.k))) [] (omega (arith, keeps))
         (rw keeps both.0) (rw keeps both.1)
     by_taken (Accepted j n unit) is e fits =
         let same : a ≡ answers.Accepted j n (length unit) = cc in

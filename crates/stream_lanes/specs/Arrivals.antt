@@ -8,13 +8,14 @@ use Rattle.ide_types.specs.declared.sub.FailCause.TheVariants as fail
 use Rattle.ide_prefix.specs.Packet.{Packet}
 use Rattle.stream_rules.specs.Sending.{front_with}
 use Rattle.stream_rules.specs.Stream.{Slot, Live, LiveKey, RxSub, Three, StreamState, at_sub, set_sub, each_sub}
-use Rattle.stream_rules.specs.Stream.{slot_in, live_in, Taken, NotKeyed, Failed, Held, Accepted, holds_any, posted_sum}
+use Rattle.stream_rules.specs.Stream.{slot_in_set, live_in, Taken, NotKeyed, Failed, Held, Accepted, holds_any}
+use Rattle.stream_rules.specs.Stream.{posted_sum}
 use Rattle.stream_rules.specs.Stream.{is_tagged, checked, dropped_held, accepted_sub, held_sub, taken_by, state_after}
 use Rattle.stream_rules.specs.Slots.{any_live}
 use Rattle.sub_stream.specs.{Receiver, no_slots, opened_under}
 use Rattle.sub_stream.specs.declared.answer.Taken.{Taken as Answer}
 use Rattle.sub_stream.specs.declared.answer.Taken.TheVariants as answers
-use Rattle.stream_calls.specs.Calls.{SlotCall, slots_called_into, no_stream}
+use Rattle.sub_stream.specs.Calls.{SlotCall, slots_called_into, no_stream}
 
 -- ---- one sub-stream
 
@@ -49,8 +50,8 @@ taken_at e got p (Some x) other =
 
 -- the answer to a packet of it, after so many accepted posted packets
 abbrev pub taken_here : ReceiveEnd → ℕ → Packet → Taken
-taken_here e got p = taken_at e got p (live_in (slot_in e.kept.slots p.prefix.k))
-    (live_in (slot_in e.kept.slots (not p.prefix.k)))
+taken_here e got p = taken_at e got p (live_in (slot_in_set e.kept.slots p.prefix.k))
+    (live_in (slot_in_set e.kept.slots (not p.prefix.k)))
 
 abbrev pub kept_after : RxSub → Packet → Taken → RxSub
 kept_after rx p (Failed cause) = dropped_held rx
@@ -59,7 +60,7 @@ kept_after rx p (Accepted j n unit) = accepted_sub j p.prefix.k unit rx
 kept_after rx p taken = rx
 
 abbrev pub delivered_after : ReceiveEnd → Packet → Taken → List Packet
-delivered_after e p (Accepted j n unit) = opened_under (live_in (slot_in e.kept.slots p.prefix.k)) p.prefix.sub unit
+delivered_after e p (Accepted j n unit) = opened_under (live_in (slot_in_set e.kept.slots p.prefix.k)) p.prefix.sub unit
 delivered_after e p (Failed cause) = []
 delivered_after e p (Held j n) = []
 delivered_after e p taken = e.delivered
@@ -71,14 +72,14 @@ end_after e p taken =
 abbrev pub called_into : ReceiveEnd → SlotCall → RxSub
 called_into e call = record e.kept { slots = slots_called_into call e.kept.slots }
 
--- of held packets stands ahead what the rules say; they are few, and their posted counts are bytes
-pub record IsHeld (ahead : List ℕ) (mode : ℕ) (closed : Bool) (total : ℕ) (x : LiveKey) : Type 0 where
+-- what comes before held packets is what the rules say; they are few, and their posted counts are bytes
+pub record HoldsPackets (ahead : List ℕ) (mode : ℕ) (closed : Bool) (total : ℕ) (x : LiveKey) : Type 0 where
   pub front : (length x.packets == 0) ≡ false → ahead ≡ front_with closed (x.units + 1) total
   pub posted : posted_sum x.packets ≤ 255 * length x.packets
   pub fits : length x.packets < mode
 
 abbrev pub HoldsRight : List ℕ → ℕ → Bool → ℕ → Slot → Type 0
-HoldsRight ahead mode closed total (Live x) = IsHeld ahead mode closed total x
+HoldsRight ahead mode closed total (Live x) = HoldsPackets ahead mode closed total x
 HoldsRight ahead mode closed total slot = Unit {0}
 
 pub record IsReceiveLane (rx : Receiver) (closed : Bool) (sum got total : ℕ) : Type 0 where
@@ -149,20 +150,20 @@ pub record IsReceiveLanes (pr npr cpl : ReceiveEnd) (takes : ℕ) : Type 0 where
 -- an accepted unit, decrypted
 abbrev pub opened_after : StreamState → Packet → Taken → List Packet
 opened_after st p (Accepted draw unit packets) =
-    opened_under (live_in (slot_in (at_sub st.rx p.prefix.sub).slots p.prefix.k)) p.prefix.sub packets
+    opened_under (live_in (slot_in_set (at_sub st.rx p.prefix.sub).slots p.prefix.k)) p.prefix.sub packets
 opened_after st p taken = []
 
--- a stream of which only the receivers are looked at
-abbrev pub receiving : ReceiveEnds → StreamState
-receiving x = record no_stream { rx = x.rx }
+-- a stream with these receivers and nothing else
+abbrev pub receiving_state : ReceiveEnds → StreamState
+receiving_state x = record no_stream { rx = x.rx }
 
 abbrev pub taken_among : ReceiveEnds → Packet → Taken
-taken_among x p = taken_by x.mode x.closed (receiving x) p
+taken_among x p = taken_by x.mode x.closed (receiving_state x) p
 
 abbrev pub ends_after : ReceiveEnds → Packet → Taken → ReceiveEnds
 ends_after x p taken = record x {
-  rx = (state_after (receiving x) p taken).rx;
-  delivered = opened_after (receiving x) p taken;
+  rx = (state_after (receiving_state x) p taken).rx;
+  delivered = opened_after (receiving_state x) p taken;
   takes = x.takes + 1;
 }
 

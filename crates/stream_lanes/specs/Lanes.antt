@@ -9,10 +9,10 @@ use Rattle.ide_prefix.specs.Packet.{Packet, packet_bytes}
 use Rattle.stream_rules.specs.Sending.{Lane, Lanes, is_posted, begins_unit, no_key, front_with}
 use Rattle.stream_rules.specs.Stream.{LiveKey, Slots, TxSub, Three, at_sub, set_sub, each_sub, live_sender, lane_of}
 use Rattle.stream_rules.specs.Stream.{packet_under, sealed_slots, sealed_one}
-use Rattle.stream_rules.specs.Slots.{is_live, any_live}
+use Rattle.stream_rules.specs.Slots.{is_live_slot, any_live}
 use Rattle.sub_stream.specs.{Sender, no_slots, open_packets, packets_under, with_length}
 use Rattle.sub_stream.specs.declared.answer.SealedPacket.{SealedPacket}
-use Rattle.stream_calls.specs.Calls.{SlotCall, slots_called_out}
+use Rattle.sub_stream.specs.Calls.{SlotCall, slots_called_out}
 use Rattle.stream_lanes.specs.declared.fixed.Fixed.{Fixed}
 
 -- ---- one sub-stream
@@ -30,41 +30,41 @@ abbrev pub new_send_end : Fixed → SubKind → SendEnd
 new_send_end fixed sub = record { fixed = fixed; sub = sub; kept = no_tx }
 
 -- what the rules of sealing see of it
-abbrev pub lane_in : SendEnd → Lane
-lane_in e = lane_of e.kept.posted (live_sender e.kept.slots)
+abbrev pub sealing_lane : SendEnd → Lane
+sealing_lane e = lane_of e.kept.posted (live_sender e.kept.slots)
 
 -- its key has sealed as many units as it may, and another would begin
 abbrev pub is_spent : SendEnd → Bool
-is_spent e = begins_unit (lane_in e) && ((lane_in e).units == e.fixed.limit)
+is_spent e = begins_unit (sealing_lane e) && ((sealing_lane e).units == e.fixed.limit)
 
 -- what is said of a packet, but for its port and its number
 abbrev pub said : SendEnd → Bool → Bool → Bool → Described
 said e m t sync =
-    let key = unwrap_or (lane_in e).key no_key in
+    let key = unwrap_or (sealing_lane e).key no_key in
     record {
       number = 0;
       port = record { side = Host; link = 0 };
       stream = e.fixed.stream;
       sub = e.sub;
       draw = key.draw;
-      unit = (lane_in e).units + 1;
+      unit = (sealing_lane e).units + 1;
       m = m;
       k = key.k;
       t = t;
-      posted = if is_posted e.sub then 0 else (lane_in e).posted;
+      posted = if is_posted e.sub then 0 else (sealing_lane e).posted;
       sync = sync;
     }
 
 -- a TLP's packet, which goes on with its unit if that has room and `more` is said; and a sync packet
 abbrev pub tlp_said : SendEnd → Bool → Bool → Described
-tlp_said e t more = said e (not more || (length (lane_in e).front + 1 == e.fixed.mode)) t false
+tlp_said e t more = said e (not more || (length (sealing_lane e).front + 1 == e.fixed.mode)) t false
 
 abbrev pub sync_said : SendEnd → Described
 sync_said e = said e true false true
 
 -- the packet that is said, with this header and payload
-abbrev pub packet_in : SendEnd → List ℕ → List ℕ → Described → Packet
-packet_in e head payload d = packet_under (front_with e.fixed.closed d.unit e.kept.total) (live_sender e.kept.slots)
+abbrev pub packet_said : SendEnd → List ℕ → List ℕ → Described → Packet
+packet_said e head payload d = packet_under (front_with e.fixed.closed d.unit e.kept.total) (live_sender e.kept.slots)
     d head payload
 
 -- its own posted count begins again, and a finished unit counts
@@ -73,7 +73,7 @@ sealed_kept d p tx =
     record { slots = sealed_slots d.m p tx.slots; posted = 0; total = if d.m then tx.total + 1 else tx.total }
 
 abbrev pub sealed_end : SendEnd → List ℕ → List ℕ → Described → SendEnd
-sealed_end e head payload d = record e { kept = sealed_kept d (packet_in e head payload d) e.kept }
+sealed_end e head payload d = record e { kept = sealed_kept d (packet_said e head payload d) e.kept }
 
 -- one more posted packet was sealed
 abbrev pub posted_end : SendEnd → SendEnd
@@ -83,22 +83,22 @@ posted_end e = record e { kept = record e.kept { posted = e.kept.posted + 1 } }
 abbrev pub forgotten_end : SendEnd → SendEnd
 forgotten_end e = record e { kept = record { slots = e.kept.slots; posted = 0; total = 0 } }
 
-abbrev pub called_end : SendEnd → SlotCall → SendEnd
-called_end e call = record e { kept = record e.kept { slots = slots_called_out call e.kept.slots } }
+abbrev pub called_send_end : SendEnd → SlotCall → SendEnd
+called_send_end e call = record e { kept = record e.kept { slots = slots_called_out call e.kept.slots } }
 
 -- the number of the open unit
-abbrev pub open_unit : Option (Bool × LiveKey) → ℕ
-open_unit None = 0
-open_unit (Some x) = x.1.units + 1
+abbrev pub open_unit_number : Option (Bool × LiveKey) → ℕ
+open_unit_number None = 0
+open_unit_number (Some x) = x.1.units + 1
 
--- of an open unit stands ahead what the rules say; a posted packet has no posted count
+-- what comes before an open unit is what the rules say; a posted packet has no posted count
 pub record IsSendLane (tx : Sender) (limit : ℕ) (closed : Bool) (posted total : ℕ) : Type 0 where
   pub same_limit : limit ≡ tx.limit
   pub some_mode : 0 < tx.mode
-  pub one_live : (is_live tx.slots.first && is_live tx.slots.second) ≡ false
+  pub one_live : (is_live_slot tx.slots.first && is_live_slot tx.slots.second) ≡ false
   pub fits : length (open_packets tx) < tx.mode
   pub ahead : (length (open_packets tx) == 0) ≡ false → tx.ahead
-      ≡ front_with closed (open_unit (live_sender tx.slots)) total
+      ≡ front_with closed (open_unit_number (live_sender tx.slots)) total
   pub no_count : is_posted tx.sub ≡ true → posted ≡ 0
 
 -- ---- three sub-streams
@@ -117,16 +117,16 @@ abbrev pub end_at : SendEnds → SubKind → SendEnd
 end_at x u = record { fixed = x.fixed; sub = u; kept = at_sub x.tx u }
 
 -- what the rules of sealing see of them, while the stream has not failed
-abbrev pub lanes_at : SendEnds → Lanes
-lanes_at x = record {
+abbrev pub sealing_lanes : SendEnds → Lanes
+sealing_lanes x = record {
   mode = x.fixed.mode;
   limit = x.fixed.limit;
   failed = false;
   lane = λ u. lane_of (at_sub x.tx u).posted (live_sender (at_sub x.tx u).slots);
 }
 
-abbrev pub packet_at : SendEnds → List ℕ → List ℕ → Described → Packet
-packet_at x head payload d = (sealed_one x.fixed.closed head payload d x.tx).0
+abbrev pub packet_said_at : SendEnds → List ℕ → List ℕ → Described → Packet
+packet_said_at x head payload d = (sealed_one x.fixed.closed head payload d x.tx).0
 
 abbrev pub sealed_ends : SendEnds → List ℕ → List ℕ → Described → SendEnds
 sealed_ends x head payload d = record x { tx = (sealed_one x.fixed.closed head payload d x.tx).1 }
@@ -140,8 +140,8 @@ abbrev pub open_in : Slots → List Packet
 open_in slots = packets_under (live_sender slots)
 
 -- the posted packets that may still join an open unit of this mode leave the count within a byte
-abbrev pub HasRoom : ℕ → TxSub → TxSub → Type 0
-HasRoom mode pr tx = (length (open_in pr.slots) == 0) ≡ false → tx.posted + mode ≤ 255 + length (open_in pr.slots)
+abbrev pub HasPostedRoom : ℕ → TxSub → TxSub → Type 0
+HasPostedRoom mode pr tx = (length (open_in pr.slots) == 0) ≡ false → tx.posted + mode ≤ 255 + length (open_in pr.slots)
 
 -- what is open stays open, or goes whole
 abbrev pub KeepsUnit : TxSub → TxSub → Type 0
@@ -152,8 +152,8 @@ pub record IsSendLanes (fixed : Fixed) (pr npr cpl : SendEnd) : Type 0 where
   pub is_npr : npr ≡ record { fixed = fixed; sub = Npr; kept = npr.kept }
   pub is_cpl : cpl ≡ record { fixed = fixed; sub = Cpl; kept = cpl.kept }
   pub small_mode : fixed.mode ≤ 8
-  pub npr_room : HasRoom fixed.mode pr.kept npr.kept
-  pub cpl_room : HasRoom fixed.mode pr.kept cpl.kept
+  pub npr_room : HasPostedRoom fixed.mode pr.kept npr.kept
+  pub cpl_room : HasPostedRoom fixed.mode pr.kept cpl.kept
 
 abbrev pub any_out : Three TxSub → Bool
 any_out tx = any_live tx.pr.slots || any_live tx.npr.slots || any_live tx.cpl.slots
@@ -184,7 +184,7 @@ synced needed u x = if needed then sealed_ends x [] [] (sync_said (end_at x u)) 
 
 abbrev pub sync_packets : Bool → SubKind → SendEnds → List SealedPacket
 sync_packets needed u x =
-    if needed then measured (sync_said (end_at x u)) (packet_at x [] [] (sync_said (end_at x u))) ∷ [] else []
+    if needed then measured (sync_said (end_at x u)) (packet_said_at x [] [] (sync_said (end_at x u))) ∷ [] else []
 
 abbrev pub sync_bytes : Bool → SubKind → SendEnds → List ℕ
-sync_bytes needed u x = if needed then packet_bytes (packet_at x [] [] (sync_said (end_at x u))) else []
+sync_bytes needed u x = if needed then packet_bytes (packet_said_at x [] [] (sync_said (end_at x u))) else []

@@ -11,7 +11,7 @@ use Rattle.sub_stream.specs.{numbered}
 use Rattle.sub_stream.specs.declared.answer.SealedPacket.{SealedPacket}
 use Rattle.stream_lanes.specs.declared.refusal.SendRefusal.{SendRefusal}
 use Rattle.stream_lanes.specs.declared.refusal.SendRefusal.TheVariants.{NoKey, Worn, Unfinished, Insecure}
-use Rattle.stream_lanes.specs.Lanes.{SendEnds, lanes_at}
+use Rattle.stream_lanes.specs.Lanes.{SendEnds, sealing_lanes}
 
 -- the verdict of a refusal
 abbrev pub refusal_verdict : SendRefusal → Verdict
@@ -35,10 +35,10 @@ packet_lengths ps = map (λ p. length (packet_bytes p)) ps
 -- what the senders make of a TLP that is not refused
 pub record IsSealed (old : SendEnds) (head payload : List ℕ) (s : Sending) (number : ℕ) (sealed : List SealedPacket)
     (before after : List ℕ) (new : SendEnds) : Type 0 where
-  pub answered : numbered_from s.port number sealed ≡ sealed_by (lanes_at old) s number
+  pub answered : numbered_from s.port number sealed ≡ sealed_by (sealing_lanes old) s number
   pub lengths : map (λ (p : SealedPacket). p.length) sealed ≡ packet_lengths (sealed_all old.fixed.closed head payload
-      (sealed_by (lanes_at old) s number) old.tx).0
+      (sealed_by (sealing_lanes old) s number) old.tx).0
   pub bytes : after ≡ before ++ joined_packets (sealed_all old.fixed.closed head payload
-      (sealed_by (lanes_at old) s number) old.tx).0
+      (sealed_by (sealing_lanes old) s number) old.tx).0
   pub senders : new ≡ record old
-      { tx = (sealed_all old.fixed.closed head payload (sealed_by (lanes_at old) s number) old.tx).1 }
+      { tx = (sealed_all old.fixed.closed head payload (sealed_by (sealing_lanes old) s number) old.tx).1 }

@@ -1,10 +1,10 @@
-//! What of a stream never changes.
+//! What never changes of a stream.
 
 ghost use Rattle.std.specs.Prelude.{◌≡◌, if◌then◌else◌, []};
 ghost use Rattle.sub_stream.specs.Gathered.{lent_front};
 
-/// Its ID, the most packets of a unit, the most units under one key, and whether the total of units finished before
-/// stands ahead of what is authenticated of a key's first unit.
+/// The stream's ID, the most packets of a unit, the most units under one key, and whether the stream is closed: then
+/// the total of units finished before is authenticated before the packets of a key's first unit.
 #[derive(Clone, Copy, Debug)]
 pub struct Fixed {
     pub stream: u8,
@@ -13,7 +13,8 @@ pub struct Fixed {
     pub closed: bool,
 }
 
-/// The total, which stands ahead on a closed stream.
+/// What is authenticated before the packets of a key's first unit: on a closed stream the total of units finished
+/// before, 8 bytes; on an open one nothing.
 pub fn front(closed: bool, total: &[u8; 8]) -> Option<&[u8; 8]>
     ensures { lent_front result ≡ (if closed then total.now else []) }
 {

@@ -6,7 +6,8 @@ use arrayvec::ArrayVec;
 use std::marker::Model;
 use sub_stream::SealedPacket;
 
-/// The packets that one send sealed, in order: at most a sync packet in each of two sub-streams, and the TLP's.
+/// The packets that one send sealed, in order (this profile): at most a sync packet in each of two sub-streams, and
+/// the packet of the TLP.
 #[derive(Debug, Drop)]
 pub struct Sealed {
     packets: ArrayVec<SealedPacket, 3>,

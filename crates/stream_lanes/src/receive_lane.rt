@@ -1,27 +1,27 @@
 //! The receiver of one sub-stream, with the counts beside it.
 
-ghost use Rattle.std.specs.Prelude.{◌≡◌, ◌+◌, ◌-◌, ◌*◌, ◌<◌, ◌≤◌, ◌^◌, ◌==◌, Some, true, false, not, length, map};
-ghost use Rattle.std.specs.Prelude.{slice_get, is_ok, if◌then◌else◌};
+ghost use Rattle.std.specs.Prelude.{◌≡◌, ◌+◌, ◌-◌, ◌*◌, ◌<◌, ◌≤◌, ◌^◌, ◌==◌, Some, true, false, not};
+ghost use Rattle.std.specs.Prelude.{is_ok, if◌then◌else◌};
 ghost use Rattle.ide_types.specs.Sub.{sub_bits};
 ghost use Rattle.ide_prefix.specs.Cut.{packet_of_view, IsView};
 ghost use Rattle.key_slots.specs.{is_one, is_empty, program_answer, slot_in as key_slot_in};
 ghost use Rattle.stream_rules.specs.Sending.{is_posted};
 ghost use Rattle.stream_rules.specs.Stream.{dropped_held};
 ghost use Rattle.stream_rules.specs.Slots.{any_live};
-ghost use Rattle.sub_stream.specs.{answer_of, lent_parts, mark_of, slot_pair};
+ghost use Rattle.sub_stream.specs.{answer_of, slot_pair};
 ghost use Rattle.sub_stream.specs.Receivers.{is_accepted};
-ghost use Rattle.stream_calls.specs.Calls.{Program, Go, Halt};
+ghost use Rattle.sub_stream.specs.Calls.{Program, Go, Halt};
 ghost use Rattle.stream_lanes.specs.Arrivals.{new_receive_end, no_rx, taken_here, end_after, called_into, count_in};
 
 use crate::fixed::{Fixed, front};
 use ide_prefix::PacketView;
-use ide_types::SubKind;
+use ide_types::{KeySet, SubKind};
 use key_slots::{Key, OnlyLive, SlotEmpty};
 use std::marker::Model;
-use sub_stream::{PacketMark, Rx, Taken};
+use sub_stream::{Delivered, Rx, Taken};
 use unit_aggregation::UnitBuf;
 
-/// A receiver of one sub-stream with its counts. In each call `set` is 0 or 1.
+/// A receiver of one sub-stream with its counts.
 #[derive(Drop)]
 pub struct ReceiveLane {
     rx: Rx,
@@ -152,28 +152,11 @@ impl ReceiveLane {
         self.rx.drop_held();
     }
 
-    /// How many packets the unit has that the last call accepted, at most 8.
-    pub fn delivered(&self) -> usize
-        ensures value { result ≡ length self.now.delivered }
-        ensures most { result ≤ 8 }
+    /// The packets of the unit that the last call accepted, none if it was another call.
+    pub fn delivered(&self) -> Delivered<'_>
+        ensures { result ≡ self.now.delivered }
     {
         self.rx.delivered()
-    }
-
-    /// The header and the decrypted payload of packet `i` of that unit.
-    pub fn packet(&self, i: usize) -> (&[u8], &[u8])
-        requires { i < length self.now.delivered }
-        ensures { slice_get (map lent_parts self.now.delivered) i ≡ Some (result.0.now, result.1.now) }
-    {
-        self.rx.packet(i)
-    }
-
-    /// Whether packet `i` of that unit is trusted, and whether it is a sync packet.
-    pub fn mark(&self, i: usize) -> PacketMark
-        requires { i < length self.now.delivered }
-        ensures { slice_get (map mark_of self.now.delivered) i ≡ Some result }
-    {
-        self.rx.mark(i)
     }
 
     /// Counts from 0 again.
@@ -195,8 +178,7 @@ impl ReceiveLane {
 
     /// Puts a key of this draw into the slot. Returns `OnlyLive` exactly if this slot is Live and the other holds no
     /// newer Live key: then the key comes back.
-    pub fn program(&mut self, set: u8, key: Key, draw: u32) -> Result<(), OnlyLive>
-        requires { set < 2 }
+    pub fn program(&mut self, set: KeySet, key: Key, draw: u32) -> Result<(), OnlyLive>
         ensures answer { result ≡ program_answer (slot_pair false self.old.kept.slots) (is_one set) key }
         ensures kept { self.new.kept ≡ called_into self.old (Program (is_one set) key draw) }
         ensures rest { self.new ≡ record self.old { kept = self.new.kept; delivered = self.new.delivered } }
@@ -205,8 +187,7 @@ impl ReceiveLane {
     }
 
     /// GO: a Programmed key is Live. Returns `SlotEmpty` exactly if the slot is Empty.
-    pub fn go(&mut self, set: u8) -> Result<(), SlotEmpty>
-        requires { set < 2 }
+    pub fn go(&mut self, set: KeySet) -> Result<(), SlotEmpty>
         ensures answer { is_ok result ≡ not (is_empty (key_slot_in (slot_pair false self.old.kept.slots)
             (is_one set))) }
         ensures kept { self.new.kept ≡ called_into self.old (Go (is_one set)) }
@@ -216,8 +197,7 @@ impl ReceiveLane {
     }
 
     /// STOP: empties the slot, whose held packets go.
-    pub fn halt(&mut self, set: u8)
-        requires { set < 2 }
+    pub fn halt(&mut self, set: KeySet)
         ensures kept { self.new.kept ≡ called_into self.old (Halt (is_one set)) }
         ensures rest { self.new ≡ record self.old { kept = self.new.kept; delivered = self.new.delivered } }
     {

@@ -1,14 +1,14 @@
 //! The receivers of a stream.
 
-ghost use Rattle.std.specs.Prelude.{◌≡◌, ◌+◌, ◌<◌, ◌≤◌, ◌^◌, [], Some, IfOk, true, false, not, length, map, slice_get};
+ghost use Rattle.std.specs.Prelude.{◌≡◌, ◌+◌, ◌<◌, ◌≤◌, ◌^◌, [], Some, IfOk, true, false, not};
 ghost use Rattle.std.specs.Prelude.{is_ok, if◌then◌else◌};
 ghost use Rattle.ide_types.specs.Sub.{is_same_sub};
 ghost use Rattle.ide_types.specs.declared.sub.SubKind.TheVariants.{Pr, Npr, Cpl};
 ghost use Rattle.ide_prefix.specs.Cut.{packet_of_view, IsView};
 ghost use Rattle.key_slots.specs.{is_one, is_empty, program_answer, slot_in as key_slot_in};
 ghost use Rattle.stream_rules.specs.Stream.{at_sub, dropped_held};
-ghost use Rattle.sub_stream.specs.{answer_of, lent_parts, mark_of, slot_pair};
-ghost use Rattle.stream_calls.specs.Calls.{Program, Go, Halt};
+ghost use Rattle.sub_stream.specs.{answer_of, slot_pair};
+ghost use Rattle.sub_stream.specs.Calls.{Program, Go, Halt};
 ghost use Rattle.stream_lanes.specs.Arrivals.{new_receive_ends, picked, taken_here, end_after, taken_among, ends_after};
 ghost use Rattle.stream_lanes.specs.Arrivals.{is_fail, lent_after, any_into, all_into, settled_into, called_receivers};
 ghost use Rattle.stream_lanes.specs.Arrivals.{no_receivers};
@@ -16,14 +16,14 @@ ghost use Rattle.stream_lanes.specs.Arrivals.{no_receivers};
 use crate::fixed::Fixed;
 use crate::receive_lane::ReceiveLane;
 use ide_prefix::PacketView;
-use ide_types::{Memory, SubKind};
+use ide_types::{KeySet, Memory, SubKind};
 use key_slots::{Key, OnlyLive, SlotEmpty};
 use std::alloc::Global;
 use std::marker::Model;
-use sub_stream::{PacketMark, Taken};
+use sub_stream::{Delivered, Taken};
 use unit_aggregation::UnitBuf;
 
-/// The receivers of a stream. In each call `set` is 0 or 1.
+/// The receivers of a stream.
 #[derive(Drop)]
 pub struct ReceiveLanes {
     pr: ReceiveLane,
@@ -190,36 +190,13 @@ impl ReceiveLanes {
         self.lent = None;
     }
 
-    /// How many packets are lent, at most 8.
-    pub fn delivered(&self) -> usize
-        ensures value { result ≡ length self.now.delivered }
-        ensures most { result ≤ 8 }
+    /// The packets that are lent.
+    pub fn delivered(&self) -> Delivered<'_>
+        ensures { result ≡ self.now.delivered }
     {
         match self.lent {
             Some(sub) => pick(sub, &self.pr, &self.npr, &self.cpl).delivered(),
-            None => 0,
-        }
-    }
-
-    /// The header and the decrypted payload of packet `i` of what is lent.
-    pub fn packet(&self, i: usize) -> (&[u8], &[u8])
-        requires { i < length self.now.delivered }
-        ensures { slice_get (map lent_parts self.now.delivered) i ≡ Some (result.0.now, result.1.now) }
-    {
-        match self.lent {
-            Some(sub) => pick(sub, &self.pr, &self.npr, &self.cpl).packet(i),
-            None => unreachable!(),
-        }
-    }
-
-    /// Whether packet `i` of what is lent is trusted, and whether it is a sync packet.
-    pub fn mark(&self, i: usize) -> PacketMark
-        requires { i < length self.now.delivered }
-        ensures { slice_get (map mark_of self.now.delivered) i ≡ Some result }
-    {
-        match self.lent {
-            Some(sub) => pick(sub, &self.pr, &self.npr, &self.cpl).mark(i),
-            None => unreachable!(),
+            None => Delivered::none(),
         }
     }
 
@@ -236,8 +213,13 @@ impl ReceiveLanes {
 
     /// Puts a key of this draw into a slot of a sub-stream's receiver. Returns `OnlyLive` exactly if this slot is Live
     /// and the other holds no newer Live key: then the key comes back.
-    pub fn program(&mut self, sub: SubKind, set: u8, key: Key, draw: u32) -> Result<(), OnlyLive>
-        requires { set < 2 }
+    pub fn program(
+        &mut self,
+        sub: SubKind,
+        set: KeySet,
+        key: Key,
+        draw: u32,
+    ) -> Result<(), OnlyLive>
         ensures answer { result ≡ program_answer (slot_pair false (at_sub self.old.rx sub).slots) (is_one set) key }
         ensures lanes { self.new ≡ called_receivers self.old sub (Program (is_one set) key draw) }
     {
@@ -250,8 +232,7 @@ impl ReceiveLanes {
     }
 
     /// GO to a slot of a sub-stream's receiver. Returns `SlotEmpty` exactly if the slot is Empty.
-    pub fn go(&mut self, sub: SubKind, set: u8) -> Result<(), SlotEmpty>
-        requires { set < 2 }
+    pub fn go(&mut self, sub: SubKind, set: KeySet) -> Result<(), SlotEmpty>
         ensures answer { is_ok result ≡ not (is_empty (key_slot_in (slot_pair false (at_sub self.old.rx sub).slots)
             (is_one set))) }
         ensures lanes { self.new ≡ called_receivers self.old sub (Go (is_one set)) }
@@ -265,8 +246,7 @@ impl ReceiveLanes {
     }
 
     /// STOP: empties a slot of a sub-stream's receiver, whose held packets go.
-    pub fn halt(&mut self, sub: SubKind, set: u8)
-        requires { set < 2 }
+    pub fn halt(&mut self, sub: SubKind, set: KeySet)
         ensures { self.new ≡ called_receivers self.old sub (Halt (is_one set)) }
     {
         self.lent = None;

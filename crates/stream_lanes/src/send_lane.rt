@@ -7,18 +7,26 @@ ghost use Rattle.key_slots.specs.{is_one, is_empty, program_answer, live_set, sl
 ghost use Rattle.stream_rules.specs.Sending.{is_posted, begins_unit};
 ghost use Rattle.stream_rules.specs.Slots.{any_live};
 ghost use Rattle.sub_stream.specs.{slot_pair};
-ghost use Rattle.stream_calls.specs.Calls.{Program, Go, Halt};
-ghost use Rattle.stream_lanes.specs.Lanes.{new_send_end, lane_in, is_spent, tlp_said, sync_said, packet_in, sealed_end};
-ghost use Rattle.stream_lanes.specs.Lanes.{posted_end, forgotten_end, called_end, measured, KeepsUnit};
+ghost use Rattle.sub_stream.specs.Calls.{Program, Go, Halt};
+ghost use Rattle.stream_lanes.specs.Lanes.{
+  new_send_end,
+  sealing_lane,
+  is_spent,
+  tlp_said,
+  sync_said,
+  packet_said,
+  sealed_end,
+};
+ghost use Rattle.stream_lanes.specs.Lanes.{posted_end, forgotten_end, called_send_end, measured, KeepsUnit};
 
 use crate::fixed::{Fixed, front};
-use ide_types::SubKind;
+use ide_types::{KeySet, SubKind};
 use key_slots::{Key, OnlyLive, SlotEmpty};
 use std::marker::Model;
 use sub_stream::{PACKET_ROOM, SYNC_ROOM, SealedPacket, Tx, TxRefusal};
 use unit_aggregation::UnitBuf;
 
-/// A sender of one sub-stream with its posted count and its total. In each call `set` is 0 or 1.
+/// A sender of one sub-stream with its posted count and its total.
 #[derive(Drop)]
 pub struct SendLane {
     tx: Tx,
@@ -91,7 +99,7 @@ impl SendLane {
     }
 
     /// The key set of the Live slot.
-    pub fn live_set(&self) -> Option<u8>
+    pub fn live_set(&self) -> Option<KeySet>
         ensures { result ≡ live_set (slot_pair true self.now.kept.slots) }
     {
         self.tx.slots().live()
@@ -99,7 +107,7 @@ impl SendLane {
 
     /// Whether the next packet begins a unit.
     pub fn begins(&self) -> bool
-        ensures { result ≡ begins_unit (lane_in self.now) }
+        ensures { result ≡ begins_unit (sealing_lane self.now) }
     {
         !self.tx.unfinished()
     }
@@ -138,13 +146,13 @@ impl SendLane {
         requires head_short { length head.now ≤ 16 }
         requires payload_short { length payload.now ≤ 4096 }
         requires room { vec_len out.old + PACKET_ROOM ≤ vec_capacity out.old }
-        ensures answer { result ≡ measured (tlp_said self.old t more) (packet_in self.old head.now payload.now
+        ensures answer { result ≡ measured (tlp_said self.old t more) (packet_said self.old head.now payload.now
             (tlp_said self.old t more)) }
         ensures lane { self.new ≡ sealed_end self.old head.now payload.now (tlp_said self.old t more) }
-        ensures bytes { out.new.items ≡ out.old.items ++ packet_bytes (packet_in self.old head.now payload.now
+        ensures bytes { out.new.items ≡ out.old.items ++ packet_bytes (packet_said self.old head.now payload.now
             (tlp_said self.old t more)) }
         ensures capacity { vec_capacity out.old ≤ vec_capacity out.new }
-        ensures fits { length (lane_in self.old).front < self.old.fixed.mode }
+        ensures fits { length (sealing_lane self.old).front < self.old.fixed.mode }
     {
         let total = self.total.to_be_bytes();
         let front = front(self.closed, &total);
@@ -164,9 +172,10 @@ impl SendLane {
         requires unworn { is_spent self.old ≡ false }
         requires few { self.old.kept.total < 2 ^ 40 }
         requires room { vec_len out.old + SYNC_ROOM ≤ vec_capacity out.old }
-        ensures answer { result ≡ measured (sync_said self.old) (packet_in self.old [] [] (sync_said self.old)) }
+        ensures answer { result ≡ measured (sync_said self.old) (packet_said self.old [] [] (sync_said self.old)) }
         ensures lane { self.new ≡ sealed_end self.old [] [] (sync_said self.old) }
-        ensures bytes { out.new.items ≡ out.old.items ++ packet_bytes (packet_in self.old [] [] (sync_said self.old)) }
+        ensures bytes { out.new.items ≡ out.old.items ++ packet_bytes
+            (packet_said self.old [] [] (sync_said self.old)) }
         ensures len { vec_len out.new ≤ vec_len out.old + SYNC_ROOM }
         ensures capacity { vec_capacity out.old ≤ vec_capacity out.new }
     {
@@ -199,10 +208,9 @@ impl SendLane {
 
     /// Puts a key of this draw into the slot. Returns `OnlyLive` exactly if this slot is Live and the other holds no
     /// newer Live key: then the key comes back.
-    pub fn program(&mut self, set: u8, key: Key, draw: u32) -> Result<(), OnlyLive>
-        requires { set < 2 }
+    pub fn program(&mut self, set: KeySet, key: Key, draw: u32) -> Result<(), OnlyLive>
         ensures answer { result ≡ program_answer (slot_pair true self.old.kept.slots) (is_one set) key }
-        ensures lane { self.new ≡ called_end self.old (Program (is_one set) key draw) }
+        ensures lane { self.new ≡ called_send_end self.old (Program (is_one set) key draw) }
         ensures unit { KeepsUnit self.old.kept self.new.kept }
     {
         self.tx.program(set, key, draw)
@@ -210,19 +218,17 @@ impl SendLane {
 
     /// GO: a Programmed key is Live at once if no unit is open, else it waits, Armed, for the unit's end. Returns
     /// `SlotEmpty` exactly if the slot is Empty.
-    pub fn go(&mut self, set: u8) -> Result<(), SlotEmpty>
-        requires { set < 2 }
+    pub fn go(&mut self, set: KeySet) -> Result<(), SlotEmpty>
         ensures answer { is_ok result ≡ not (is_empty (key_slot_in (slot_pair true self.old.kept.slots) (is_one set))) }
-        ensures lane { self.new ≡ called_end self.old (Go (is_one set)) }
+        ensures lane { self.new ≡ called_send_end self.old (Go (is_one set)) }
         ensures unit { KeepsUnit self.old.kept self.new.kept }
     {
         self.tx.go(set)
     }
 
     /// STOP: empties the slot, and drops an open unit under its key; a key that waited for that unit's end is Live.
-    pub fn halt(&mut self, set: u8)
-        requires { set < 2 }
-        ensures lane { self.new ≡ called_end self.old (Halt (is_one set)) }
+    pub fn halt(&mut self, set: KeySet)
+        ensures lane { self.new ≡ called_send_end self.old (Halt (is_one set)) }
         ensures unit { KeepsUnit self.old.kept self.new.kept }
     {
         self.tx.halt(set);

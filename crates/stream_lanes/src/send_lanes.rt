@@ -12,9 +12,17 @@ ghost use Rattle.stream_rules.specs.Sending.{refusals, first_that_holds, sets_tr
 ghost use Rattle.stream_rules.specs.Stream.{at_sub};
 ghost use Rattle.stream_rules.specs.Slots.{any_live};
 ghost use Rattle.sub_stream.specs.{slot_pair};
-ghost use Rattle.stream_calls.specs.Calls.{Program, Go, Halt};
+ghost use Rattle.sub_stream.specs.Calls.{Program, Go, Halt};
 ghost use Rattle.stream_lanes.specs.Sends.{refusal_verdict, IsSealed};
-ghost use Rattle.stream_lanes.specs.Lanes.{new_send_ends, end_at, lanes_at, lane_in, is_spent, tlp_said, packet_at};
+ghost use Rattle.stream_lanes.specs.Lanes.{
+  new_send_ends,
+  end_at,
+  sealing_lanes,
+  sealing_lane,
+  is_spent,
+  tlp_said,
+  packet_said_at,
+};
 ghost use Rattle.stream_lanes.specs.Lanes.{sealed_ends, measured, open_in, any_out, all_out, settled_out, called_ends};
 ghost use Rattle.stream_lanes.specs.Lanes.{synced, sync_packets, sync_bytes};
 
@@ -22,14 +30,14 @@ use crate::fixed::Fixed;
 use crate::list::Sealed;
 use crate::refusal::SendRefusal;
 use crate::send_lane::SendLane;
-use ide_types::{Memory, SubKind};
+use ide_types::{KeySet, Memory, SubKind};
 use key_slots::{Key, OnlyLive, SlotEmpty};
 use std::alloc::Global;
 use std::marker::Model;
 use sub_stream::{PACKET_ROOM, SYNC_ROOM, SealedPacket};
 use unit_aggregation::UnitBuf;
 
-/// The senders of a stream. In each call `set` is 0 or 1.
+/// The senders of a stream.
 #[derive(Drop)]
 pub struct SendLanes {
     fixed: Fixed,
@@ -113,7 +121,7 @@ impl SendLanes {
     }
 
     /// The key set of the Live slot of a sub-stream.
-    pub fn live_set(&self, sub: SubKind) -> Option<u8>
+    pub fn live_set(&self, sub: SubKind) -> Option<KeySet>
         ensures { result ≡ live_set (slot_pair true (at_sub self.now.tx sub).slots) }
     {
         self.lane(sub).live_set()
@@ -122,7 +130,7 @@ impl SendLanes {
     // Whether a sync packet goes first in sub-stream `sub`, NPR or CPL, if a TLP of this class is sent.
     fn needs_sync(&self, class: SubKind, sub: SubKind) -> bool
         requires { is_posted sub ≡ false }
-        ensures value { result ≡ needs_sync (lanes_at self.now) class sub }
+        ensures value { result ≡ needs_sync (sealing_lanes self.now) class sub }
         // The posted packets of the unit that goes on, or begins, leave the count within a byte.
         ensures room { is_posted class ≡ true → (if result then 0 else (at_sub self.now.tx sub).posted)
             + self.now.fixed.mode ≤ 255 + length (open_in self.now.tx.pr.slots) }
@@ -134,21 +142,21 @@ impl SendLanes {
 
     // Whether a sub-stream has no Live key.
     fn keyless(&self, sub: SubKind) -> bool
-        ensures { result ≡ is_keyless (lanes_at self.now) sub }
+        ensures { result ≡ is_keyless (sealing_lanes self.now) sub }
     {
         !self.lane(sub).is_live()
     }
 
     // Whether the key of a sub-stream may begin no further unit.
     fn worn(&self, sub: SubKind) -> bool
-        ensures { result ≡ is_worn (lanes_at self.now) sub }
+        ensures { result ≡ is_worn (sealing_lanes self.now) sub }
     {
         self.lane(sub).is_worn()
     }
 
     // Whether a TLP of this class waits for the end of the posted unit.
     fn waits(&self, class: SubKind) -> bool
-        ensures { result ≡ (not (is_posted class) && not (begins_unit ((lanes_at self.now).lane Pr))) }
+        ensures { result ≡ (not (is_posted class) && not (begins_unit ((sealing_lanes self.now).lane Pr))) }
     {
         class != SubKind::Pr && !self.pr.begins()
     }
@@ -156,7 +164,7 @@ impl SendLanes {
     // Whether a sync packet that goes first finds no Live key.
     fn sync_keyless(&self, class: SubKind, sub: SubKind) -> bool
         requires { is_posted sub ≡ false }
-        ensures { result ≡ (needs_sync (lanes_at self.now) class sub && is_keyless (lanes_at self.now) sub) }
+        ensures { result ≡ (needs_sync (sealing_lanes self.now) class sub && is_keyless (sealing_lanes self.now) sub) }
     {
         self.needs_sync(class, sub) && self.keyless(sub)
     }
@@ -164,7 +172,7 @@ impl SendLanes {
     // Whether a sync packet that goes first would begin a unit, and may not.
     fn sync_worn(&self, class: SubKind, sub: SubKind) -> bool
         requires { is_posted sub ≡ false }
-        ensures { result ≡ (needs_sync (lanes_at self.now) class sub && is_worn (lanes_at self.now) sub) }
+        ensures { result ≡ (needs_sync (sealing_lanes self.now) class sub && is_worn (sealing_lanes self.now) sub) }
     {
         self.needs_sync(class, sub) && self.worn(sub)
     }
@@ -173,7 +181,7 @@ impl SendLanes {
     /// NoKey of a sub-stream that needs a sync packet first, Worn of the sub-stream, Worn of one that needs a sync
     /// packet first.
     pub fn refusal(&self, sub: SubKind) -> Option<SendRefusal>
-        ensures { option_map refusal_verdict result ≡ first_that_holds (refusals (lanes_at self.now) sub) }
+        ensures { option_map refusal_verdict result ≡ first_that_holds (refusals (sealing_lanes self.now) sub) }
     {
         if self.keyless(sub) {
             return Some(SendRefusal::NoKey(sub));
@@ -257,9 +265,9 @@ impl SendLanes {
         requires payload_short { length payload.now ≤ 4096 }
         requires room { vec_len out.old + PACKET_ROOM ≤ vec_capacity out.old }
         ensures answer { let d = tlp_said (end_at self.old Pr) t more in
-            result ≡ measured d (packet_at self.old head.now payload.now d) }
+            result ≡ measured d (packet_said_at self.old head.now payload.now d) }
         ensures lanes { self.new ≡ sealed_ends self.old head.now payload.now (tlp_said (end_at self.old Pr) t more) }
-        ensures bytes { out.new.items ≡ out.old.items ++ packet_bytes (packet_at self.old head.now payload.now
+        ensures bytes { out.new.items ≡ out.old.items ++ packet_bytes (packet_said_at self.old head.now payload.now
             (tlp_said (end_at self.old Pr) t more)) }
         ensures capacity { vec_capacity out.old ≤ vec_capacity out.new }
     {
@@ -290,9 +298,9 @@ impl SendLanes {
         requires payload_short { length payload.now ≤ 4096 }
         requires room { vec_len out.old + PACKET_ROOM ≤ vec_capacity out.old }
         ensures answer { let d = tlp_said (end_at self.old sub) t more in
-            result ≡ measured d (packet_at self.old head.now payload.now d) }
+            result ≡ measured d (packet_said_at self.old head.now payload.now d) }
         ensures lanes { self.new ≡ sealed_ends self.old head.now payload.now (tlp_said (end_at self.old sub) t more) }
-        ensures bytes { out.new.items ≡ out.old.items ++ packet_bytes (packet_at self.old head.now payload.now
+        ensures bytes { out.new.items ≡ out.old.items ++ packet_bytes (packet_said_at self.old head.now payload.now
             (tlp_said (end_at self.old sub) t more)) }
         ensures capacity { vec_capacity out.old ≤ vec_capacity out.new }
     {
@@ -314,7 +322,7 @@ impl SendLanes {
         more: bool,
         out: &mut Vec<u8>,
     ) -> Sealed
-        requires clear { first_that_holds (refusals (lanes_at self.old) sub) ≡ None }
+        requires clear { first_that_holds (refusals (sealing_lanes self.old) sub) ≡ None }
         requires few { (u : SubKind) → (at_sub self.old.tx u).total < 2 ^ 40 }
         requires head_short { length head.now ≤ 16 }
         requires payload_short { length payload.now ≤ 4096 }
@@ -348,8 +356,13 @@ impl SendLanes {
 
     /// Puts a key of this draw into a slot of a sub-stream's sender. Returns `OnlyLive` exactly if this slot is Live
     /// and the other holds no newer Live key: then the key comes back.
-    pub fn program(&mut self, sub: SubKind, set: u8, key: Key, draw: u32) -> Result<(), OnlyLive>
-        requires { set < 2 }
+    pub fn program(
+        &mut self,
+        sub: SubKind,
+        set: KeySet,
+        key: Key,
+        draw: u32,
+    ) -> Result<(), OnlyLive>
         ensures answer { result ≡ program_answer (slot_pair true (at_sub self.old.tx sub).slots) (is_one set) key }
         ensures lanes { self.new ≡ called_ends self.old sub (Program (is_one set) key draw) }
     {
@@ -361,8 +374,7 @@ impl SendLanes {
     }
 
     /// GO to a slot of a sub-stream's sender. Returns `SlotEmpty` exactly if the slot is Empty.
-    pub fn go(&mut self, sub: SubKind, set: u8) -> Result<(), SlotEmpty>
-        requires { set < 2 }
+    pub fn go(&mut self, sub: SubKind, set: KeySet) -> Result<(), SlotEmpty>
         ensures answer { is_ok result ≡ not (is_empty (key_slot_in (slot_pair true (at_sub self.old.tx sub).slots)
             (is_one set))) }
         ensures lanes { self.new ≡ called_ends self.old sub (Go (is_one set)) }
@@ -376,8 +388,7 @@ impl SendLanes {
 
     /// STOP: empties a slot of a sub-stream's sender, and drops an open unit under its key; a key that waited for that
     /// unit's end is Live.
-    pub fn halt(&mut self, sub: SubKind, set: u8)
-        requires { set < 2 }
+    pub fn halt(&mut self, sub: SubKind, set: KeySet)
         ensures { self.new ≡ called_ends self.old sub (Halt (is_one set)) }
     {
         match sub {

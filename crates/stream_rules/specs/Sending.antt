@@ -79,7 +79,7 @@ refusals x class =
 abbrev pub no_key : KeyName
 no_key = record { k = false; draw = 0 }
 
--- a sealed packet's fields, but for what a sync packet has otherwise
+-- a sealed packet's fields, but for those in which a sync packet differs
 abbrev pub described : Lanes → Sending → SubKind → ℕ → Bool → Bool → Bool → SealedPacket
 described x s u number m t sync =
     let key = unwrap_or (x.lane u).key no_key in
@@ -125,6 +125,6 @@ sent_as x s number = unwrap_or (first_that_holds (refusals x s.class)) (v.Sealed
 abbrev pub prefix_of : SealedPacket → Prefix
 prefix_of d = record { m = d.m; k = d.k; t = d.t; sub = d.sub; stream = d.stream; posted = d.posted }
 
--- what stands ahead of the authenticated bytes of a unit: on a closed stream, of unit 1, the total before it in 8 bytes
+-- what comes before the authenticated bytes of a unit: on a closed stream, for unit 1, the total before it in 8 bytes
 abbrev pub front_with : Bool → ℕ → ℕ → List ℕ
 front_with closed unit total = if closed && (unit == 1) then to_be_bytes w64 total else []

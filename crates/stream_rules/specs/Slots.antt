@@ -20,18 +20,18 @@ slot_gone k (Programmed j key) other =
     else both_slots k (Live (record { draw = j; key = key; units = 0; packets = [] })) Empty
 slot_gone k a other = both_slots k a other
 
-abbrev pub woken : Slot → Slot
-woken (Armed j key) = Live (record { draw = j; key = key; units = 0; packets = [] })
-woken s = s
+abbrev pub woken_slot : Slot → Slot
+woken_slot (Armed j key) = Live (record { draw = j; key = key; units = 0; packets = [] })
+woken_slot s = s
 
-abbrev pub is_live : Slot → Bool
-is_live (Live x) = true
-is_live _ = false
+abbrev pub is_live_slot : Slot → Bool
+is_live_slot (Live x) = true
+is_live_slot _ = false
 
 abbrev pub any_live : Slots → Bool
-any_live s = is_live s.first || is_live s.second
+any_live s = is_live_slot s.first || is_live_slot s.second
 
--- a direction of which no slot is Live counts from 0, and a stream of which none is Live has not failed
+-- a direction without a Live slot counts from 0, and a stream without a Live slot has not failed
 abbrev pub settled_stream : Three TxSub → Three RxSub → Bool → StreamState
 settled_stream tx rx failed =
     let out = any_live tx.pr.slots || any_live tx.npr.slots || any_live tx.cpl.slots in

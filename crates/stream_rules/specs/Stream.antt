@@ -71,8 +71,8 @@ pub record StreamState : Type 0 where
   pub rx : Three RxSub
   pub failed : Bool
 
-abbrev pub slot_in : Slots → Bool → Slot
-slot_in s k = if k then s.second else s.first
+abbrev pub slot_in_set : Slots → Bool → Slot
+slot_in_set s k = if k then s.second else s.first
 
 abbrev pub with_slot : Slots → Bool → Slot → Slots
 with_slot s k x = if k then record s { second = x } else record s { first = x }
@@ -136,9 +136,9 @@ abbrev pub gone_on : Packet → Slot → Slot
 gone_on p (Live x) = Live (record x { packets = x.packets ++ p ∷ [] })
 gone_on p s = s
 
-abbrev pub counted : Slot → Slot
-counted (Live x) = Live (record x { units = x.units + 1; packets = [] })
-counted s = s
+abbrev pub counted_unit : Slot → Slot
+counted_unit (Live x) = Live (record x { units = x.units + 1; packets = [] })
+counted_unit s = s
 
 abbrev pub ended_slots : Slots → Slots
 ended_slots s = by_wait s.first s.second
@@ -152,7 +152,7 @@ ended_slots s = by_wait s.first s.second
       first = Live (record { draw = j; key = key; units = 0; packets = [] });
       second = Empty;
     }
-    by_wait a b = record { first = counted a; second = counted b }
+    by_wait a b = record { first = counted_unit a; second = counted_unit b }
 
 abbrev pub sealed_slots : Bool → Packet → Slots → Slots
 sealed_slots m p s = if m then ended_slots s else record { first = gone_on p s.first; second = gone_on p s.second }
@@ -167,7 +167,7 @@ sealed_sub d p u tx =
     }
     else if is_same_sub d.sub Pr then record tx { posted = tx.posted + 1 } else tx
 
--- on a closed stream the total stands ahead of unit 1
+-- on a closed stream the total comes before unit 1
 abbrev pub sealed_one : Bool → List ℕ → List ℕ → SealedPacket → Three TxSub → Packet × Three TxSub
 sealed_one closed head payload d tx =
     let x = at_sub tx d.sub in
@@ -203,7 +203,7 @@ posted_sum ps = sum_by (λ (p : Packet). p.prefix.posted) ps
 abbrev pub is_allowed : Three RxSub → SubKind → List Packet → Bool
 is_allowed rx u unit = (sub_bits u == 0) || nat_le ((at_sub rx u).sum + posted_sum unit) rx.pr.got
 
--- the tag is that of the unit, with the total ahead of unit 1 on a closed stream
+-- the tag is that of the unit, with the total before unit 1 on a closed stream
 abbrev pub is_tagged : Bool → ℕ → LiveKey → Packet → Bool
 is_tagged closed total x p =
     verifies x.key (iv_of p.prefix.sub (x.units + 1)) (front_with closed (x.units + 1) total
@@ -229,7 +229,8 @@ abbrev pub taken_by : ℕ → Bool → StreamState → Packet → Taken
 taken_by mode closed st p =
     let slots = (at_sub st.rx p.prefix.sub).slots in
     if st.failed then Insecure
-    else taken_under mode closed st.rx p (live_in (slot_in slots p.prefix.k)) (live_in (slot_in slots (not p.prefix.k)))
+    else taken_under mode closed st.rx p (live_in (slot_in_set slots p.prefix.k))
+    (live_in (slot_in_set slots (not p.prefix.k)))
 
 abbrev pub dropped : Slot → Slot
 dropped (Live x) = Live (record x { packets = [] })
@@ -244,8 +245,8 @@ retired j (Live x) = if nat_lt x.draw j then Empty else Live x
 retired j s = s
 
 abbrev pub accepted_slots : ℕ → Bool → Slots → Slots
-accepted_slots j true s = record { first = retired j s.first; second = counted s.second }
-accepted_slots j false s = record { first = counted s.first; second = retired j s.second }
+accepted_slots j true s = record { first = retired j s.first; second = counted_unit s.second }
+accepted_slots j false s = record { first = counted_unit s.first; second = retired j s.second }
 
 abbrev pub accepted_sub : ℕ → Bool → List Packet → RxSub → RxSub
 accepted_sub j k unit rx = record {
@@ -256,7 +257,7 @@ accepted_sub j k unit rx = record {
 }
 
 abbrev pub held_sub : Bool → Packet → RxSub → RxSub
-held_sub k p rx = record rx { slots = with_slot rx.slots k (gone_on p (slot_in rx.slots k)) }
+held_sub k p rx = record rx { slots = with_slot rx.slots k (gone_on p (slot_in_set rx.slots k)) }
 
 -- the receivers and what failed after that answer
 abbrev pub state_after : StreamState → Packet → Taken → StreamState

@@ -12,8 +12,9 @@ use Rattle.ide_types.specs.declared.sub.FailCause.TheVariants as fail
 use Rattle.ide_types.specs.declared.sub.SubKind.{SubKind}
 use Rattle.ide_prefix.specs.Packet.{Packet}
 use Rattle.ide_prefix.specs.Units.{untagged}
-use Rattle.stream_rules.specs.Stream.{LiveKey, Taken, NotKeyed, Insecure, Failed, Held, Accepted, slot_in as seen_slot}
-use Rattle.stream_rules.specs.Stream.{with_slot, live_in, gone_on, counted, retired, dropped, accepted_slots}
+use Rattle.stream_rules.specs.Stream.{LiveKey, Taken, NotKeyed, Insecure, Failed, Held, Accepted}
+use Rattle.stream_rules.specs.Stream.{slot_in_set as seen_slot}
+use Rattle.stream_rules.specs.Stream.{with_slot, live_in, gone_on, counted_unit, retired, dropped, accepted_slots}
 use Rattle.stream_rules.specs.Stream.{posted_sum, checked}
 use Rattle.stream_rules.specs.Stream.{Empty as EmptySlot, holds_any}
 use Rattle.stream_rules.specs.Slots.{begun}
@@ -26,12 +27,13 @@ use Rattle.sub_stream.specs.declared.taking.Holds.{Holds}
 use Rattle.sub_stream.specs.declared.taking.Holds.TheVariants.{Nothing, Zero, One, Delivered}
 use Rattle.sub_stream.specs.Answers.{answer_of}
 use Rattle.sub_stream.specs.Gathered.{Gathered, no_packets}
-use Rattle.sub_stream.specs.Seen.{seen, live_with, has_armed, is_programmed}
+use Rattle.sub_stream.specs.Seen.{slot_as_seen, live_with, has_armed, is_programmed}
 use Rattle.sub_stream.specs.Senders.{begun_where_empty, ahead_of}
 use Rattle.sub_stream.specs.Receivers.{Receiver, held_zero, held_one, seen_in, lent_by, ahead_by, HoldsFew, IsReceiver}
 use Rattle.sub_stream.specs.Receivers.{holds_some, holds_apart, held_in, holds_after, held_alone, held_unless_failed}
 use Rattle.sub_stream.specs.Receivers.{is_accepted, is_draw_below, without_older, slots_after, fits_held, fits_unit}
-use Rattle.sub_stream.specs.Receivers.{key_for, ahead_in, is_tagged_behind, judged, early_answer, early_of, BufferAfter}
+use Rattle.sub_stream.specs.Receivers.{key_for, ahead_in, is_tagged_behind, judged_packet, early_answer, early_of}
+use Rattle.sub_stream.specs.Receivers.{BufferAfter}
 use Rattle.sub_stream.specs.Receivers.{taken_with, taken_of, dropped_slots, dropped_receiver, ahead_held, opened_under}
 use Rattle.sub_stream.specs.Receivers.{after_answer, ahead_at, gone_receiver}
 use Rattle.sub_stream.proofs.Receiving.{units_of, held_of, key_seen, fits_seen, early_seen, early_by, other_holds}
@@ -49,7 +51,7 @@ early-taken rx allowed front p a = by_keys (key_for rx p.prefix.k) (key_for rx (
     by_keys (Some x) y e = by_fits (fits_unit rx.mode x y p) e
       where
         by_fits : (b : Bool) → (if b then None else Some (answers.Fail fail.Unit)) ≡ Some a
-            → Some a ≡ answer_of (if b then judged (ahead_in rx x front) allowed x p else Failed fail.Unit)
+            → Some a ≡ answer_of (if b then judged_packet (ahead_in rx x front) allowed x p else Failed fail.Unit)
         by_fits true e = absurd (cc)
         by_fits false e = sym e
 
@@ -72,13 +74,14 @@ early-after rx allowed front p a = by_keys (key_for rx p.prefix.k) (key_for rx (
     by_keys (Some x) y e = by_fits (fits_unit rx.mode x y p) e
       where
         by_fits : (b : Bool) → (if b then None else Some (answers.Fail fail.Unit)) ≡ Some a
-            → after_answer rx front p (if b then judged (ahead_in rx x front) allowed x p else Failed fail.Unit)
+            → after_answer rx front p (if b then judged_packet (ahead_in rx x front) allowed x p else Failed fail.Unit)
             ≡ after_early rx a
         by_fits true e = absurd (cc)
         by_fits false e = by_fail fail.Unit e
 
 -- the slots without what is held
-dropped_seen : (slot : KeySlot) (units : ℕ) (ps : List Packet) → seen units [] slot ≡ dropped (seen units ps slot)
+dropped_seen : (slot : KeySlot) (units : ℕ) (ps : List Packet) → slot_as_seen units [] slot
+    ≡ dropped (slot_as_seen units ps slot)
 dropped_seen Empty units ps = refl
 dropped_seen (Programmed held) units ps = refl
 dropped_seen (Armed held) units ps = refl
@@ -147,7 +150,7 @@ held-other false One ps e = absurd (cc)
 held-other false Nothing ps e = refl
 held-other false Delivered ps e = refl
 
--- what stands ahead is the same
+-- what comes before is the same
 pub ahead-kept : (h : Holds) (unit : Gathered) (front : List ℕ) (n : ℕ)
     → (if length (kept h unit).packets == 0 then ahead_of front n else ahead_by h unit.front)
     ≡ (begun_where_empty (kept h unit) front n).front
@@ -196,7 +199,7 @@ pub taken-keyed : (stream : ℕ) (sub : SubKind) (mode u0 u1 : ℕ) (pair : Slot
     → HoldsFew pair mode h unit.packets → live_held (slot_in pair p.prefix.k) ≡ Some held
     → fits_held h (length unit.packets) mode p.prefix.k p.prefix.m ≡ true
     → taken_of (view stream sub mode u0 u1 pair h unit takes) allowed front p
-    ≡ judged (begun_where_empty (kept h unit) front (units_of p.prefix.k u0 u1 + 1)).front allowed
+    ≡ judged_packet (begun_where_empty (kept h unit) front (units_of p.prefix.k u0 u1 + 1)).front allowed
     (live_with (units_of p.prefix.k u0 u1) (kept h unit).packets held) p
 taken-keyed stream sub mode u0 u1 pair h unit takes allowed front p held few is fits =
     let k = p.prefix.k in
@@ -207,8 +210,8 @@ taken-keyed stream sub mode u0 u1 pair h unit takes allowed front p held few is 
     let room : fits_unit mode x (key_for rx (not k)) p ≡ true =
     fits_seen k pair u0 u1 h mode unit.packets p x few (sym (held-kept k h unit apart)) ∙ fits in
     ap (λ o. taken_with rx allowed front p o (key_for rx (not k))) key
-    ∙ ap (λ b. if b then judged (ahead_in rx x front) allowed x p else Failed fail.Unit) room
-    ∙ ap (λ a. judged a allowed x p) (ahead-kept h unit front (units_of k u0 u1 + 1))
+    ∙ ap (λ b. if b then judged_packet (ahead_in rx x front) allowed x p else Failed fail.Unit) room
+    ∙ ap (λ a. judged_packet a allowed x p) (ahead-kept h unit front (units_of k u0 u1 + 1))
 
 -- ---- the receiver after it
 
@@ -219,7 +222,7 @@ IsJudged p (Failed cause) = Unit {0}
 IsJudged p (Held draw n) = p.prefix.m ≡ false
 IsJudged p (Accepted draw n packets) = Unit {0}
 
-pub judged-is : (ahead : List ℕ) (allowed : ℕ) (x : LiveKey) (p : Packet) → IsJudged p (judged ahead allowed x p)
+pub judged-is : (ahead : List ℕ) (allowed : ℕ) (x : LiveKey) (p : Packet) → IsJudged p (judged_packet ahead allowed x p)
 judged-is ahead allowed x p = by_tests p.prefix.m (is_tagged_behind ahead x p)
     (nat_le (posted_sum (x.packets ++ p ∷ [])) allowed) refl
   where
@@ -233,8 +236,8 @@ judged-is ahead allowed x p = by_tests p.prefix.m (is_tagged_behind ahead x p)
 untagged-same : (p : Packet) → p.tag ≡ [] → untagged p ≡ p
 untagged-same p e = λ i. record { prefix = p.prefix; head = p.head; body = p.body; tag = sym e i }
 
-gone_seen : (slot : KeySlot) (units : ℕ) (ps : List Packet) (q : Packet) → seen units (ps ++ q ∷ []) slot
-    ≡ gone_on q (seen units ps slot)
+gone_seen : (slot : KeySlot) (units : ℕ) (ps : List Packet) (q : Packet) → slot_as_seen units (ps ++ q ∷ []) slot
+    ≡ gone_on q (slot_as_seen units ps slot)
 gone_seen Empty units ps q = refl
 gone_seen (Programmed held) units ps q = refl
 gone_seen (Armed held) units ps q = refl
@@ -246,18 +249,21 @@ slots-held : (k : Bool) (pair : SlotPair) (u0 u1 : ℕ) (h : Holds) (unit : Gath
     ≡ with_slot (seen_in pair u0 u1 h unit.packets) k (gone_on q (seen_slot (seen_in pair u0 u1 h unit.packets) k))
 slots-held true pair u0 u1 h unit q apart =
     (λ i. record {
-      first = seen u0 (sym (held-other true h unit.packets apart) i) pair.zero;
-      second = (ap (λ ps. seen u1 (ps ++ q ∷ []) pair.one) (sym (held-kept true h unit apart)) ∙ gone_seen pair.one u1
+      first = slot_as_seen u0 (sym (held-other true h unit.packets apart) i) pair.zero;
+      second = (ap (λ ps. slot_as_seen u1 (ps ++ q ∷ []) pair.one) (sym (held-kept true h unit apart)) ∙ gone_seen
+          pair.one u1
           (held_one h unit.packets) q) i;
     })
 slots-held false pair u0 u1 h unit q apart =
     (λ i. record {
-      first = (ap (λ ps. seen u0 (ps ++ q ∷ []) pair.zero) (sym (held-kept false h unit apart)) ∙ gone_seen pair.zero u0
+      first = (ap (λ ps. slot_as_seen u0 (ps ++ q ∷ []) pair.zero) (sym (held-kept false h unit apart)) ∙ gone_seen
+          pair.zero u0
           (held_zero h unit.packets) q) i;
-      second = seen u1 (sym (held-other false h unit.packets apart) i) pair.one;
+      second = slot_as_seen u1 (sym (held-other false h unit.packets apart) i) pair.one;
     })
 
-counted_seen : (slot : KeySlot) (units : ℕ) (ps : List Packet) → seen (units + 1) [] slot ≡ counted (seen units ps slot)
+counted_seen : (slot : KeySlot) (units : ℕ) (ps : List Packet) → slot_as_seen (units + 1) [] slot
+    ≡ counted_unit (slot_as_seen units ps slot)
 counted_seen Empty units ps = refl
 counted_seen (Programmed held) units ps = refl
 counted_seen (Armed held) units ps = refl
@@ -266,15 +272,15 @@ counted_seen (Live held) units ps = refl
 abbrev pub kept_slot : ℕ → KeySlot → KeySlot
 kept_slot draw slot = if is_draw_below draw (live_draw slot) then Empty else slot
 
-retired_seen : (slot : KeySlot) (units draw : ℕ) → seen units [] (kept_slot draw slot)
-    ≡ retired draw (seen units [] slot)
+retired_seen : (slot : KeySlot) (units draw : ℕ) → slot_as_seen units [] (kept_slot draw slot)
+    ≡ retired draw (slot_as_seen units [] slot)
 retired_seen Empty units draw = refl
 retired_seen (Programmed held) units draw = refl
 retired_seen (Armed held) units draw = refl
 retired_seen (Live held) units draw = by_age (nat_lt held.draw draw)
   where
-    by_age : (b : Bool) → seen units [] (if b then Empty else Live held)
-        ≡ (if b then EmptySlot else seen units [] (Live held))
+    by_age : (b : Bool) → slot_as_seen units [] (if b then Empty else Live held)
+        ≡ (if b then EmptySlot else slot_as_seen units [] (Live held))
     by_age true = refl
     by_age false = refl
 
@@ -304,7 +310,7 @@ slots-accepted : (k : Bool) (pair : SlotPair) (u0 u1 draw : ℕ) (h : Holds) (ps
 slots-accepted true pair u0 u1 draw h ps qs apart =
     ap (λ (x : SlotPair). seen_in x u0 (u1 + 1) Delivered qs) (older_one pair draw)
     ∙ (λ i. record {
-      first = (retired_seen pair.zero u0 draw ∙ ap (λ xs. retired draw (seen u0 xs pair.zero))
+      first = (retired_seen pair.zero u0 draw ∙ ap (λ xs. retired draw (slot_as_seen u0 xs pair.zero))
           (sym (held-other true h ps apart))) i;
       second = counted_seen pair.one u1 (held_one h ps) i;
     })
@@ -312,7 +318,7 @@ slots-accepted false pair u0 u1 draw h ps qs apart =
     ap (λ (x : SlotPair). seen_in x (u0 + 1) u1 Delivered qs) (older_zero pair draw)
     ∙ (λ i. record {
       first = counted_seen pair.zero u0 (held_zero h ps) i;
-      second = (retired_seen pair.one u1 draw ∙ ap (λ xs. retired draw (seen u1 xs pair.one))
+      second = (retired_seen pair.one u1 draw ∙ ap (λ xs. retired draw (slot_as_seen u1 xs pair.one))
           (sym (held-other false h ps apart))) i;
     })
 
@@ -535,7 +541,8 @@ one_alone One ps = refl
 one_alone Delivered ps = refl
 
 begun_seen : (mine other : KeySlot) (units : ℕ) (ps : List Packet) → (is_programmed mine ≡ true → ps ≡ [])
-    → seen (if is_programmed mine then 0 else units) ps (after_go false false mine other).0 ≡ begun (seen units ps mine)
+    → slot_as_seen (if is_programmed mine then 0 else units) ps (after_go false false mine other).0
+    ≡ begun (slot_as_seen units ps mine)
 begun_seen Empty other units ps e = refl
 begun_seen (Programmed held) other units ps e = rw (e refl) refl
 begun_seen (Armed held) other units ps e = refl
@@ -582,29 +589,29 @@ gone_in : (k : Bool) (pair : SlotPair) (u0 u1 mode : ℕ) (h : Holds) (ps : List
     ≡ with_slot (seen_in pair u0 u1 h ps) k (begun (seen_slot (seen_in pair u0 u1 h ps) k))
 gone_in true pair u0 u1 mode h ps s few =
     (λ i. record {
-      first = seen (if and_false (is_programmed pair.one) i then 0 else u0) (zero_alone h ps i)
+      first = slot_as_seen (if and_false (is_programmed pair.one) i then 0 else u0) (zero_alone h ps i)
           (after_go (s i) false pair.one pair.zero).1;
-      second = seen (if and_true (is_programmed pair.one) i then 0 else u1) (one_alone h ps i)
+      second = slot_as_seen (if and_true (is_programmed pair.one) i then 0 else u1) (one_alone h ps i)
           (after_go (s i) false pair.one pair.zero).0;
     })
     ∙ (λ i. record {
-      first = seen u0 (held_zero h ps) (other_after_go pair.one pair.zero i);
+      first = slot_as_seen u0 (held_zero h ps) (other_after_go pair.one pair.zero i);
       second = begun_seen pair.one pair.zero u1 (held_one h ps) (none_one pair mode h ps few) i;
     })
 gone_in false pair u0 u1 mode h ps s few =
     (λ i. record {
-      first = seen (if and_true (is_programmed pair.zero) i then 0 else u0) (zero_alone h ps i)
+      first = slot_as_seen (if and_true (is_programmed pair.zero) i then 0 else u0) (zero_alone h ps i)
           (after_go (s i) false pair.zero pair.one).0;
-      second = seen (if and_false (is_programmed pair.zero) i then 0 else u1) (one_alone h ps i)
+      second = slot_as_seen (if and_false (is_programmed pair.zero) i then 0 else u1) (one_alone h ps i)
           (after_go (s i) false pair.zero pair.one).1;
     })
     ∙ (λ i. record {
       first = begun_seen pair.zero pair.one u0 (held_zero h ps) (none_zero pair mode h ps few) i;
-      second = seen u1 (held_one h ps) (other_after_go pair.zero pair.one i);
+      second = slot_as_seen u1 (held_one h ps) (other_after_go pair.zero pair.one i);
     })
 
-holds_begun : (slot : KeySlot) (units : ℕ) (ps : List Packet) → holds_any (live_in (begun (seen units ps slot)))
-    ≡ holds_any (live_in (seen units ps slot))
+holds_begun : (slot : KeySlot) (units : ℕ) (ps : List Packet) → holds_any (live_in (begun (slot_as_seen units ps slot)))
+    ≡ holds_any (live_in (slot_as_seen units ps slot))
 holds_begun Empty units ps = refl
 holds_begun (Programmed held) units ps = refl
 holds_begun (Armed held) units ps = refl
@@ -624,10 +631,10 @@ ahead_alone k pair u0 u1 mode h ps front few =
     by_holds One = refl
     by_holds Delivered = refl
 
-    first : holds_any (live_in (seen u0 (held_zero h ps) pair.zero)) ≡ holds_apart true h
+    first : holds_any (live_in (slot_as_seen u0 (held_zero h ps) pair.zero)) ≡ holds_apart true h
     first = other_holds true pair u0 u1 h mode ps few
 
-    second : holds_any (live_in (seen u1 (held_one h ps) pair.one)) ≡ holds_apart false h
+    second : holds_any (live_in (slot_as_seen u1 (held_one h ps) pair.one)) ≡ holds_apart false h
     second = other_holds false pair u0 u1 h mode ps few
 
     by_set : (k : Bool) →

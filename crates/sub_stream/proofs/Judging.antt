@@ -10,7 +10,7 @@ use Rattle.ide_prefix.specs.Units.{clear_bytes, authenticated, encrypted, untagg
 use Rattle.stream_rules.specs.Stream.{LiveKey, Failed, Held, Accepted, posted_sum, checked}
 use Rattle.std.proofs.lemmas.Grind.{common_steps}
 use Rattle.sub_stream.specs.Gathered.{Gathered, with_packet, clear_of, opened_from, opened}
-use Rattle.sub_stream.specs.Receivers.{is_tagged_behind, judged}
+use Rattle.sub_stream.specs.Receivers.{is_tagged_behind, judged_packet}
 
 -- ---- a tag is not joined
 
@@ -59,20 +59,20 @@ tag-seen ahead x p iv clear bodies b is_iv is_clear is_bodies is =
 
 pub judged-tag : (ahead : List ℕ) (allowed : ℕ) (x : LiveKey) (p : Packet) → p.prefix.m ≡ true
     → is_tagged_behind ahead x p ≡ false
-    → judged ahead allowed x p ≡ Failed fail.Tag
+    → judged_packet ahead allowed x p ≡ Failed fail.Tag
 judged-tag ahead allowed x p m tag =
     λ i. if m i then checked (tag i) (nat_le (posted_sum (x.packets ++ p ∷ [])) allowed) x p else Held x.draw
     (x.units + 1)
 
 pub judged-order : (ahead : List ℕ) (allowed : ℕ) (x : LiveKey) (p : Packet) → p.prefix.m ≡ true
     → is_tagged_behind ahead x p ≡ true
-    → nat_le (posted_sum (x.packets ++ p ∷ [])) allowed ≡ false → judged ahead allowed x p ≡ Failed fail.Order
+    → nat_le (posted_sum (x.packets ++ p ∷ [])) allowed ≡ false → judged_packet ahead allowed x p ≡ Failed fail.Order
 judged-order ahead allowed x p m tag order = λ i. if m i then checked (tag i) (order i) x p else Held x.draw
     (x.units + 1)
 
 pub judged-accepted : (ahead : List ℕ) (allowed : ℕ) (x : LiveKey) (p : Packet) → p.prefix.m ≡ true
     → is_tagged_behind ahead x p ≡ true
-    → nat_le (posted_sum (x.packets ++ p ∷ [])) allowed ≡ true → judged ahead allowed x p
+    → nat_le (posted_sum (x.packets ++ p ∷ [])) allowed ≡ true → judged_packet ahead allowed x p
     ≡ Accepted x.draw (x.units + 1) (x.packets ++ p ∷ [])
 judged-accepted ahead allowed x p m tag order = λ i. if m i then checked (tag i) (order i) x p else Held x.draw
     (x.units + 1)

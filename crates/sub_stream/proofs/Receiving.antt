@@ -6,15 +6,15 @@ use denote.Ref.{Bor}
 use Rattle.std.proofs.lemmas.Bool.{lt-ltb}
 use Rattle.ide_types.specs.declared.sub.FailCause.TheVariants as fail
 use Rattle.ide_prefix.specs.Packet.{Packet}
-use Rattle.stream_rules.specs.Stream.{LiveKey, slot_in as seen_slot, live_in, holds_any}
+use Rattle.stream_rules.specs.Stream.{LiveKey, slot_in_set as seen_slot, live_in, holds_any}
 use Rattle.key_slots.specs.declared.slot.Slot.{Slot as KeySlot}
 use Rattle.key_slots.specs.declared.slot.Slot.TheVariants.{Empty, Programmed, Armed, Live}
-use Rattle.key_slots.specs.{DrawnKey, SlotPair, slot_in, is_one, is_live, live_held, shown_key}
+use Rattle.key_slots.specs.{KeySet, DrawnKey, SlotPair, slot_in, is_one, is_live, live_held, shown_key}
 use Rattle.sub_stream.specs.declared.answer.Taken.{Taken as Answer}
 use Rattle.sub_stream.specs.declared.answer.Taken.TheVariants as answers
 use Rattle.sub_stream.specs.declared.taking.Holds.{Holds}
 use Rattle.sub_stream.specs.declared.taking.Holds.TheVariants.{Nothing, Zero, One, Delivered}
-use Rattle.sub_stream.specs.Seen.{seen, live_with}
+use Rattle.sub_stream.specs.Seen.{slot_as_seen, live_with}
 use Rattle.sub_stream.specs.Receivers.{held_zero, held_one, seen_in, HoldsFew, holds_some, holds_apart, fits_held}
 use Rattle.sub_stream.specs.Receivers.{fits_unit, early_answer}
 
@@ -25,7 +25,7 @@ units_of k in_zero in_one = if k then in_one else in_zero
 abbrev pub held_of : Bool → Holds → List Packet → List Packet
 held_of k h ps = if k then held_one h ps else held_zero h ps
 
-live_seen : (slot : KeySlot) (units : ℕ) (ps : List Packet) → live_in (seen units ps slot)
+live_seen : (slot : KeySlot) (units : ℕ) (ps : List Packet) → live_in (slot_as_seen units ps slot)
     ≡ option_map (live_with units ps) (live_held slot)
 live_seen Empty units ps = refl
 live_seen (Programmed held) units ps = refl
@@ -40,10 +40,10 @@ key_seen false pair u0 u1 h ps = live_seen pair.zero u0 (held_zero h ps)
 
 holds_in : (slot : KeySlot) (units : ℕ) (ps : List Packet) (b : Bool)
     → (b ≡ true → (is_live slot ≡ true) × (0 < length ps)) → (b ≡ false → ps ≡ [])
-    → holds_any (live_in (seen units ps slot)) ≡ b
+    → holds_any (live_in (slot_as_seen units ps slot)) ≡ b
 holds_in slot units ps false some none = rw (none refl) (by_slot slot)
   where
-    by_slot : (slot : KeySlot) → holds_any (live_in (seen units [] slot)) ≡ false
+    by_slot : (slot : KeySlot) → holds_any (live_in (slot_as_seen units [] slot)) ≡ false
     by_slot Empty = refl
     by_slot (Programmed held) = refl
     by_slot (Armed held) = refl
@@ -66,7 +66,7 @@ other_holds false pair u0 u1 One mode ps few = holds_in pair.one u1 ps true (λ 
 other_holds false pair u0 u1 Nothing mode ps few = holds_in pair.one u1 [] false (λ no. absurd (cc)) (λ _. refl)
 other_holds false pair u0 u1 Delivered mode ps few = holds_in pair.one u1 [] false (λ no. absurd (cc)) (λ _. refl)
 
--- how many packets are held in a set, where none are in the other
+-- how many packets are held in a set, if none are in the other
 count_held : (k : Bool) (h : Holds) (ps : List Packet) → holds_apart k h ≡ false → length (held_of k h ps)
     ≡ (if holds_some h then length ps else 0)
 count_held true Zero ps e = absurd (cc)
@@ -125,7 +125,7 @@ early_seen k pair u0 u1 h mode ps p few =
         by_other (Some y) = refl
 
 -- a lent key is that of its slot
-pub key_held : (pair : SlotPair) (k : Bool) (set : ℕ) (r : Option (Bor (List ℕ) × ℕ)) (f : Bor (List ℕ) × ℕ)
+pub key_held : (pair : SlotPair) (k : Bool) (set : KeySet) (r : Option (Bor (List ℕ) × ℕ)) (f : Bor (List ℕ) × ℕ)
     → shown_key r ≡ live_held (slot_in pair (is_one set)) → is_one set ≡ k → r ≡ Some f
     → live_held (slot_in pair k) ≡ Some (record { key = f.0.now; draw = f.1 })
 key_held pair k set r f shown mine is =

@@ -18,7 +18,7 @@ use Rattle.sub_stream.specs.declared.answer.TxRefusal.TheVariants.{Worn}
 use Rattle.sub_stream.specs.Seen.{seen_out, has_live, both_live}
 use Rattle.sub_stream.specs.Gathered.{Gathered, with_packet, clear_of, no_packets}
 use Rattle.sub_stream.specs.Senders.{Sender, Content, ready_of, ready_under, sealing_of, sealing_under, sealing_as}
-use Rattle.sub_stream.specs.Senders.{packet_of, ends, ahead_for, IsSender}
+use Rattle.sub_stream.specs.Senders.{tagged_packet, ends, ahead_for, IsSender}
 
 pub sealing_with : (tx : Sender) (front : List ℕ) (c : Content) (more : Bool) (x : Bool × LiveKey) → Ok x ≡ ready_of tx
     → sealing_of tx front c more ≡ Ok (sealing_as tx front x c (ends tx x.1 more))
@@ -43,7 +43,7 @@ pub packet-tagged : (tx : Sender) (front : List ℕ) (x : Bool × LiveKey) (c : 
     → (if c.sync then sync_head else c.head) ≡ c.head → (if c.sync then [] else c.payload) ≡ c.payload
     → prefix ≡ record { m = m; k = x.0; t = c.t; sub = tx.sub; stream = tx.stream; posted = c.posted }
     → iv ≡ iv_of tx.sub (x.1.units + 1)
-    → tagged m x.1.key iv unit (bare x.1.key iv unit.packets prefix c.head c.payload) ≡ packet_of tx front x c m
+    → tagged m x.1.key iv unit (bare x.1.key iv unit.packets prefix c.head c.payload) ≡ tagged_packet tx front x c m
 packet-tagged tx front x c m unit prefix iv ps ahead head payload is_prefix is_iv =
     rw (ps, ahead, is_prefix, is_iv, head, payload) refl
 

@@ -7,17 +7,17 @@ use Rattle.stream_rules.specs.Slots.{is_busy}
 use Rattle.key_slots.specs.declared.slot.Slot.{Slot as KeySlot}
 use Rattle.key_slots.specs.declared.slot.Slot.TheVariants.{Empty, Programmed, Armed, Live}
 use Rattle.key_slots.specs.{DrawnKey, SlotPair, slot_in, with_both, after_go, armed, is_live}
-use Rattle.sub_stream.specs.Seen.{seen, seen_out, has_live, is_programmed}
+use Rattle.sub_stream.specs.Seen.{slot_as_seen, seen_out, has_live, is_programmed}
 use Rattle.sub_stream.specs.Senders.{gone_slots}
 
 pub some_or_none : (ps : List Packet) → nat_lt 0 (length ps) ≡ not (length ps == 0)
 some_or_none [] = refl
 some_or_none (p ∷ ps) = grind (arith, common_steps)
 
--- a slot is busy where it is Live, and it is Live where packets are open
+-- a slot is busy if it is Live, and it is Live if packets are open
 busy-seen : (units : ℕ) (ps : List Packet) (slot : KeySlot) (b : Bool) → (length ps == 0) ≡ b
     → (is_live slot ≡ false → b ≡ true)
-    → is_busy (seen units ps slot) ≡ not b
+    → is_busy (slot_as_seen units ps slot) ≡ not b
 busy-seen units ps Empty b e h = rw (h refl) refl
 busy-seen units ps (Programmed held) b e h = rw (h refl) refl
 busy-seen units ps (Armed held) b e h = rw (h refl) refl
@@ -70,7 +70,8 @@ or_comm true false = refl
 or_comm false true = refl
 or_comm false false = refl
 
-as_sender : (pair : SlotPair) → pair.sender ≡ true → pair ≡ record { sender = true; zero = pair.zero; one = pair.one }
+pub as_sender : (pair : SlotPair) → pair.sender ≡ true
+    → pair ≡ record { sender = true; zero = pair.zero; one = pair.one }
 as_sender pair s = λ i. record { sender = s i; zero = pair.zero; one = pair.one }
 
 pub goes : (k : Bool) (pair : SlotPair) (units : ℕ) (ps : List Packet) → pair.sender ≡ true

@@ -10,7 +10,7 @@ use Rattle.gcm_seal.proofs.Sealing.{length-masked}
 use Rattle.ide_prefix.specs.declared.packet.Prefix.{Prefix}
 use Rattle.ide_prefix.specs.Packet.{Packet, prefix_bytes}
 use Rattle.stream_rules.specs.Stream.{posted_sum}
-use Rattle.unit_aggregation.specs.{Collected, with_packet as with_parts, has_room, rebodied, with_bodies, body_of}
+use Rattle.unit_aggregation.specs.{Collected, unit_with_packet as with_parts, has_room, rebodied, with_bodies, body_of}
 use Rattle.sub_stream.specs.Gathered.{Gathered, packets_in, parts_of, opened, with_packet, IsGathered}
 use Rattle.sub_stream.proofs.Packets.{length-packets_in, packets-added, length-rebodied, posted-rebodied}
 use Rattle.sub_stream.proofs.Packets.{parts-rebodied, opened-rebodied, overwritten-all}

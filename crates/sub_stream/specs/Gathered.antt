@@ -10,7 +10,7 @@ use Rattle.stream_rules.specs.Stream.{posted_sum}
 use Rattle.unit_aggregation.specs.{Collected}
 use Rattle.sub_stream.specs.declared.answer.PacketMark.{PacketMark}
 
--- at most how many packets, the bytes ahead of what they have in clear, and the packets, without a tag
+-- at most how many packets, the bytes before what they have in clear, and the packets, without a tag
 pub record Gathered : Type 0 where
   pub mode : ℕ
   pub front : List ℕ
@@ -56,7 +56,7 @@ pub record IsGathered (prefixes : List Prefix) (posted : ℕ) (buf : Collected) 
 
 -- ---- decrypted
 
--- with their bodies decrypted, the first of which begins at byte n of the unit's plaintext
+-- with their bodies decrypted; the first begins at byte n of the unit's plaintext
 abbrev pub opened_from : List ℕ → List ℕ → ℕ → List Packet → List Packet
 opened_from key iv n [] = []
 opened_from key iv n (p ∷ ps) =
@@ -65,6 +65,11 @@ opened_from key iv n (p ∷ ps) =
 
 abbrev pub opened : List ℕ → List ℕ → List Packet → List Packet
 opened key iv unit = opened_from key iv 0 unit
+
+-- the packets of a unit that is lent, if one is
+abbrev pub lent_packets : Option (Bor Gathered) → List Packet
+lent_packets None = []
+lent_packets (Some unit) = unit.now.packets
 
 -- what is lent of a packet: its header, and its body
 abbrev pub lent_parts : Packet → List ℕ × List ℕ

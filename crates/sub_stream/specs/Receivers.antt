@@ -9,7 +9,7 @@ use Rattle.ide_prefix.specs.Packet.{Packet}
 use Rattle.ide_prefix.specs.Iv.{iv_of}
 use Rattle.ide_prefix.specs.Units.{authenticated, encrypted, untagged}
 use Rattle.stream_rules.specs.Stream.{Empty, Programmed, Slots, LiveKey, Taken, NotKeyed, Failed, Held, Accepted}
-use Rattle.stream_rules.specs.Stream.{slot_in, with_slot, live_in, holds_any, posted_sum, checked, dropped, gone_on}
+use Rattle.stream_rules.specs.Stream.{slot_in_set, with_slot, live_in, holds_any, posted_sum, checked, dropped, gone_on}
 use Rattle.stream_rules.specs.Stream.{accepted_slots}
 use Rattle.stream_rules.specs.Slots.{begun}
 use Rattle.key_slots.specs.{SlotPair, slot_in as key_slot_in, with_both, live_draw, is_only_live}
@@ -19,12 +19,12 @@ use Rattle.sub_stream.specs.declared.answer.Taken.{Taken as Answer}
 use Rattle.sub_stream.specs.declared.answer.Taken.TheVariants as answers
 use Rattle.sub_stream.specs.declared.taking.Holds.{Holds}
 use Rattle.sub_stream.specs.declared.taking.Holds.TheVariants.{Nothing, Zero, One, Delivered}
-use Rattle.sub_stream.specs.Seen.{seen, slot_pair, no_slots, has_armed}
+use Rattle.sub_stream.specs.Seen.{slot_as_seen, slot_pair, no_slots, has_armed}
 use Rattle.sub_stream.specs.Gathered.{Gathered, with_packet, opened}
 use Rattle.sub_stream.specs.Senders.{ahead_of}
 
--- units of at most `mode` packets; `ahead` stands ahead of what the held packets authenticate, `delivered` are the
--- packets of the last accepted unit, decrypted, until the next change, and `takes` how many packets it was given
+-- units of at most `mode` packets; `ahead` comes before what the held packets authenticate, `delivered` are the packets
+-- of the last accepted unit, decrypted, until the next change, and `takes` how many packets it was given
 pub record Receiver : Type 0 where
   pub stream : ℕ
   pub sub : SubKind
@@ -118,7 +118,11 @@ left_without k h = Nothing
 
 abbrev pub seen_in : SlotPair → ℕ → ℕ → Holds → List Packet → Slots
 seen_in pair units_zero units_one h ps =
-    record { first = seen units_zero (held_zero h ps) pair.zero; second = seen units_one (held_one h ps) pair.one }
+    record {
+      first = slot_as_seen units_zero (held_zero h ps) pair.zero;
+      second = slot_as_seen units_one (held_one h ps)
+          pair.one;
+    }
 
 -- packets are held in a Live slot, fewer than the mode
 abbrev pub HoldsFew : SlotPair → ℕ → Holds → List Packet → Type 0
@@ -140,7 +144,7 @@ pub record IsReceiver (mode units_zero units_one takes : ℕ) (pair : SlotPair) 
 -- ---- packets
 
 abbrev pub key_for : Receiver → Bool → Option LiveKey
-key_for rx k = live_in (slot_in rx.slots k)
+key_for rx k = live_in (slot_in_set rx.slots k)
 
 abbrev pub ahead_in : Receiver → LiveKey → List ℕ → List ℕ
 ahead_in rx x front = if length x.packets == 0 then ahead_of front (x.units + 1) else rx.ahead
@@ -155,8 +159,8 @@ is_tagged_behind ahead x p =
 abbrev pub fits_unit : ℕ → LiveKey → Option LiveKey → Packet → Bool
 fits_unit mode x other p = not (holds_any other || (not p.prefix.m && nat_le mode (length x.packets + 1)))
 
-abbrev pub judged : List ℕ → ℕ → LiveKey → Packet → Taken
-judged ahead allowed x p =
+abbrev pub judged_packet : List ℕ → ℕ → LiveKey → Packet → Taken
+judged_packet ahead allowed x p =
     if p.prefix.m then checked (is_tagged_behind ahead x p) (nat_le (posted_sum (x.packets ++ p ∷ [])) allowed) x p
     else Held x.draw (x.units + 1)
 
@@ -164,7 +168,7 @@ abbrev pub taken_with : Receiver → ℕ → List ℕ → Packet → Option Live
 taken_with rx allowed front p None None = NotKeyed
 taken_with rx allowed front p None (Some y) = Failed fail.Key
 taken_with rx allowed front p (Some x) other =
-    if fits_unit rx.mode x other p then judged (ahead_in rx x front) allowed x p else Failed fail.Unit
+    if fits_unit rx.mode x other p then judged_packet (ahead_in rx x front) allowed x p else Failed fail.Unit
 
 -- the answers that come before a look at the tag
 abbrev pub early_answer : ℕ → Packet → Option LiveKey → Option LiveKey → Option Answer
@@ -207,7 +211,7 @@ after_answer rx front p (Failed cause) = dropped_receiver rx
 after_answer rx front p (Held draw unit) =
     record rx {
       ahead = ahead_held rx (key_for rx p.prefix.k) front;
-      slots = with_slot rx.slots p.prefix.k (gone_on p (slot_in rx.slots p.prefix.k));
+      slots = with_slot rx.slots p.prefix.k (gone_on p (slot_in_set rx.slots p.prefix.k));
       delivered = [];
     }
 after_answer rx front p (Accepted draw unit packets) =
@@ -235,7 +239,7 @@ programmed_receiver rx k key draw =
     if is_only_live (slot_pair false rx.slots) k then rx else with_slots rx (with_slot rx.slots k (Programmed draw key))
 
 abbrev pub gone_receiver : Receiver → Bool → Receiver
-gone_receiver rx k = with_slots rx (with_slot rx.slots k (begun (slot_in rx.slots k)))
+gone_receiver rx k = with_slots rx (with_slot rx.slots k (begun (slot_in_set rx.slots k)))
 
 abbrev pub halted_receiver : Receiver → Bool → Receiver
 halted_receiver rx k = with_slots rx (with_slot rx.slots k Empty)

@@ -9,11 +9,11 @@ use Rattle.key_slots.specs.{SlotPair, DrawnKey, live_held, is_live, is_armed}
 use Rattle.key_slots.specs.declared.slot.Slot.TheVariants as key
 
 -- a slot, with the units and the open unit's packets of its key if that is Live
-abbrev pub seen : ℕ → List Packet → KeySlot → Slot
-seen units packets key.Empty = Empty
-seen units packets (key.Programmed held) = Programmed held.draw held.key
-seen units packets (key.Armed held) = Armed held.draw held.key
-seen units packets (key.Live held) = Live (record {
+abbrev pub slot_as_seen : ℕ → List Packet → KeySlot → Slot
+slot_as_seen units packets key.Empty = Empty
+slot_as_seen units packets (key.Programmed held) = Programmed held.draw held.key
+slot_as_seen units packets (key.Armed held) = Armed held.draw held.key
+slot_as_seen units packets (key.Live held) = Live (record {
   draw = held.draw;
   key = held.key;
   units = units;
@@ -38,10 +38,11 @@ abbrev pub is_programmed : KeySlot → Bool
 is_programmed (key.Programmed held) = true
 is_programmed slot = false
 
--- ---- a sender's slots, of which one at most is Live
+-- ---- a sender's slots, at most one of which is Live
 
 abbrev pub seen_out : SlotPair → ℕ → List Packet → Slots
-seen_out pair units packets = record { first = seen units packets pair.zero; second = seen units packets pair.one }
+seen_out pair units packets
+    = record { first = slot_as_seen units packets pair.zero; second = slot_as_seen units packets pair.one }
 
 abbrev pub has_live : SlotPair → Bool
 has_live pair = is_live pair.zero || is_live pair.one

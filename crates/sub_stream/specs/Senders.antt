@@ -8,8 +8,8 @@ use Rattle.ide_types.specs.declared.port.Side.TheVariants.{Host}
 use Rattle.link_verdicts.specs.declared.verdict.SealedPacket.{SealedPacket as Described}
 use Rattle.ide_prefix.specs.Packet.{Packet, packet_bytes, sync_head}
 use Rattle.stream_rules.specs.Stream.{Empty, Programmed, Slots, LiveKey, live_sender, untagged_under, tagged_under}
-use Rattle.stream_rules.specs.Stream.{sealed_slots, slot_in, with_slot}
-use Rattle.stream_rules.specs.Slots.{both_slots, slot_gone, woken, is_live}
+use Rattle.stream_rules.specs.Stream.{sealed_slots, slot_in_set, with_slot}
+use Rattle.stream_rules.specs.Slots.{both_slots, slot_gone, woken_slot, is_live_slot}
 use Rattle.key_slots.specs.{SlotPair, is_only_live}
 use Rattle.sub_stream.specs.declared.answer.SealedPacket.{SealedPacket}
 use Rattle.sub_stream.specs.declared.answer.TxRefusal.{TxRefusal}
@@ -18,7 +18,7 @@ use Rattle.sub_stream.specs.declared.sealing.Carried.{Carried}
 use Rattle.sub_stream.specs.Seen.{slot_pair, no_slots, has_live, both_live}
 use Rattle.sub_stream.specs.Gathered.{Gathered}
 
--- units of at most `mode` packets, and at most `limit` units under one key; `ahead` stands ahead of what the open unit
+-- units of at most `mode` packets, and at most `limit` units under one key; `ahead` comes before what the open unit
 -- authenticates
 pub record Sender : Type 0 where
   pub stream : ℕ
@@ -113,11 +113,11 @@ with_length d n = record {
   length = n;
 }
 
--- what stands ahead of unit n, if this is given for the first
+-- what comes before unit n, if this is given for the first
 abbrev pub ahead_of : List ℕ → ℕ → List ℕ
 ahead_of front n = if n == 1 then front else []
 
--- a unit that begins if no packet is there; what stands ahead of it is set then
+-- a unit that begins if no packet is there; what comes before it is set then
 abbrev pub begun_where_empty : Gathered → List ℕ → ℕ → Gathered
 begun_where_empty unit front n =
     record unit { front = if length unit.packets == 0 then ahead_of front n else unit.front }
@@ -125,8 +125,8 @@ begun_where_empty unit front n =
 abbrev pub ahead_for : Sender → LiveKey → List ℕ → List ℕ
 ahead_for tx x front = if length x.packets == 0 then ahead_of front (x.units + 1) else tx.ahead
 
-abbrev pub packet_of : Sender → List ℕ → Bool × LiveKey → Content → Bool → Packet
-packet_of tx front x c m =
+abbrev pub tagged_packet : Sender → List ℕ → Bool × LiveKey → Content → Bool → Packet
+tagged_packet tx front x c m =
     let d = noted tx x c m in
     tagged_under (ahead_for tx x.1 front) x.1.key x.1.packets d (untagged_under x.1.key x.1.packets d c.head c.payload)
 
@@ -142,7 +142,7 @@ pub record Sealing : Type 0 where
 
 abbrev pub sealing_as : Sender → List ℕ → Bool × LiveKey → Content → Bool → Sealing
 sealing_as tx front x c m =
-    let p = packet_of tx front x c m in
+    let p = tagged_packet tx front x c m in
     record {
       description = with_length (noted tx x c m) (length (packet_bytes p));
       packet = p;
@@ -172,10 +172,10 @@ sender_after tx (Ok s) = s.sender
 -- ---- keys
 
 abbrev pub gone_slots : Slots → Bool → Slots
-gone_slots slots k = slot_gone k (slot_in slots k) (slot_in slots (not k))
+gone_slots slots k = slot_gone k (slot_in_set slots k) (slot_in_set slots (not k))
 
 abbrev pub halted_slots : Slots → Bool → Slots
-halted_slots slots k = both_slots k Empty (woken (slot_in slots (not k)))
+halted_slots slots k = both_slots k Empty (woken_slot (slot_in_set slots (not k)))
 
 abbrev pub programmed_sender : Sender → Bool → List ℕ → ℕ → Sender
 programmed_sender tx k key draw =
@@ -188,4 +188,8 @@ gone_sender tx k = record tx { slots = gone_slots tx.slots k }
 -- an open unit goes with its key
 abbrev pub halted_sender : Sender → Bool → Sender
 halted_sender tx k =
-    record tx { ahead = (if is_live (slot_in tx.slots k) then [] else tx.ahead); slots = halted_slots tx.slots k }
+    record tx {
+      ahead = (if is_live_slot (slot_in_set tx.slots k) then [] else tx.ahead);
+      slots = halted_slots tx.slots
+          k;
+    }

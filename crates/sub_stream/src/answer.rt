@@ -2,7 +2,7 @@
 
 use ide_types::{FailCause, SubKind};
 
-/// A sealed packet as its prefix says, with its draw, its unit's counter and its length in bytes.
+/// A sealed packet as its prefix says, with its draw, its unit's counter and its length in bytes (this profile).
 #[derive(Clone, Copy, Debug, Default, PartialEq, Eq)]
 pub struct SealedPacket {
     pub stream: u8,
@@ -22,7 +22,7 @@ pub struct SealedPacket {
     pub length: usize,
 }
 
-/// Why a sender seals nothing.
+/// Why a sender seals nothing (this profile).
 #[derive(Clone, Copy, Debug, PartialEq, Eq)]
 pub enum TxRefusal {
     /// No slot is Live.
@@ -31,7 +31,7 @@ pub enum TxRefusal {
     Worn(u64),
 }
 
-/// What a receiver answers to a packet.
+/// What a receiver answers to a packet (this profile).
 #[derive(Clone, Copy, Debug, PartialEq, Eq)]
 pub enum Taken {
     /// Neither slot is Live.

@@ -1,27 +1,28 @@
 //! The receiver of one sub-stream.
 
 ghost use Rattle.std.specs.Prelude.{◌≡◌, ◌+◌, ◌<◌, ◌≤◌, ◌^◌, ◌*◌, ◌&&◌, Some, None, is_ok, is_some, not, true, false};
-ghost use Rattle.std.specs.Prelude.{length, slice_get, map, if◌then◌else◌};
+ghost use Rattle.std.specs.Prelude.{length, if◌then◌else◌};
 ghost use Rattle.ide_prefix.specs.Cut.{packet_of_view, IsView};
 ghost use Rattle.key_slots.specs.{slot_in as key_slot_in, is_one, is_empty, program_answer};
-ghost use Rattle.stream_rules.specs.Stream.{slot_in, posted_sum};
+ghost use Rattle.stream_rules.specs.Stream.{slot_in_set, posted_sum};
 ghost use Rattle.sub_stream.specs.Answers.{answer_of};
-ghost use Rattle.sub_stream.specs.Gathered.{lent_front, lent_parts, mark_of};
+ghost use Rattle.sub_stream.specs.Gathered.{lent_front};
 ghost use Rattle.sub_stream.specs.Seen.{slot_pair, key_slot, is_programmed};
 ghost use Rattle.sub_stream.specs.Receivers.{fits_held};
 
-use crate::answer::{PacketMark, Taken};
-use crate::taking::{Holds, count_accepted, keep_held, set_of, take_under};
+use crate::answer::Taken;
+use crate::lent::Delivered;
+use crate::taking::{Holds, count_accepted, keep_held, take_under};
 use crate::unit_packets::UnitPackets;
 use ide_prefix::PacketView;
-use ide_types::{FailCause, SubKind};
+use ide_types::{FailCause, KeySet, SubKind};
 use key_slots::{Key, OnlyLive, SlotEmpty, SlotState, Slots};
 use std::marker::Model;
 use unit_aggregation::UnitBuf;
 
 /// A receiver of one sub-stream: it holds packets until the last of their unit, and accepts whole units under a Live
 /// key. Of two Live keys the older one goes with the first unit under the newer (PCI Express Base 6.0 section 6.33, in
-/// this profile). In each call `set` is 0 or 1.
+/// this profile).
 #[derive(Drop)]
 pub struct Rx {
     stream: u8,
@@ -55,17 +56,15 @@ impl Model for Rx {
 }
 
 // No unit is counted yet under a Programmed key of this set.
-fn restart(slots: &Slots, set: u8, zero: &mut u64, one: &mut u64)
-    requires { set < 2 }
+fn restart(slots: &Slots, set: KeySet, zero: &mut u64, one: &mut u64)
     ensures zero { zero.new ≡ (if is_programmed (key_slot_in slots.now (is_one set)) && not (is_one set) then 0
         else zero.old) }
     ensures one { one.new ≡ (if is_programmed (key_slot_in slots.now (is_one set)) && is_one set then 0 else one.old) }
 {
     if slots.slot(set).0 == SlotState::Programmed {
-        if set == 1 {
-            *one = 0;
-        } else {
-            *zero = 0;
+        match set {
+            KeySet::Zero => *zero = 0,
+            KeySet::One => *one = 0,
         }
     }
 }
@@ -123,8 +122,8 @@ impl Rx {
         ensures { result ≡ early_of self.now (packet_of_view packet.now) }
     {
         let k = packet.prefix.k;
-        let set = set_of(k);
-        match (self.slots.live_key(set), self.slots.live_key(1 - set)) {
+        let set = KeySet::of_bit(k);
+        match (self.slots.live_key(set), self.slots.live_key(set.other())) {
             (None, None) => Some(Taken::NotKeyed),
             (None, Some(_)) => Some(Taken::Fail(FailCause::Key)),
             (Some(_), _) if fits(self.holds, &self.unit, self.mode, packet) => None,
@@ -165,7 +164,7 @@ impl Rx {
             (packet_of_view packet.now) }
     {
         let k = packet.prefix.k;
-        let Some((cipher, draw)) = self.slots.live_key(set_of(k)) else {
+        let Some((cipher, draw)) = self.slots.live_key(KeySet::of_bit(k)) else {
             unreachable!()
         };
         let units = units_in(k, self.zero, self.one);
@@ -184,32 +183,14 @@ impl Rx {
         self.holds = Holds::Nothing;
     }
 
-    /// How many packets the unit has that the last change accepted, 0 if it was another change.
-    pub fn delivered(&self) -> usize
-        ensures value { result ≡ length self.now.delivered }
-        ensures most { result ≤ 8 }
+    /// The packets of the unit that the last change accepted, none if it was another change.
+    pub fn delivered(&self) -> Delivered<'_>
+        ensures { result ≡ self.now.delivered }
     {
         match self.holds {
-            Holds::Delivered => self.unit.count(),
-            _ => 0,
+            Holds::Delivered => Delivered::of(&self.unit),
+            _ => Delivered::none(),
         }
-    }
-
-    /// The header and the decrypted payload of packet `i` of the unit that the last change accepted, counted from 0.
-    pub fn packet(&self, i: usize) -> (&[u8], &[u8])
-        requires { i < length self.now.delivered }
-        ensures { slice_get (map lent_parts self.now.delivered) i ≡ Some (result.0.now, result.1.now) }
-    {
-        self.unit.packet(i)
-    }
-
-    /// Whether packet `i` of the unit that the last change accepted, counted from 0, is trusted, and whether it is a
-    /// sync packet.
-    pub fn mark(&self, i: usize) -> PacketMark
-        requires { i < length self.now.delivered }
-        ensures { slice_get (map mark_of self.now.delivered) i ≡ Some result }
-    {
-        self.unit.mark(i)
     }
 
     /// The sum of the posted counts of the unit that the last change accepted, 0 if it was another change.
@@ -225,14 +206,13 @@ impl Rx {
 
     /// Puts a key of this draw into the slot, whose held packets go. Returns `OnlyLive` exactly if this slot is Live
     /// and the other holds no newer Live key: then the key comes back, and nothing changes.
-    pub fn program(&mut self, set: u8, key: Key, draw: u32) -> Result<(), OnlyLive>
-        requires { set < 2 }
+    pub fn program(&mut self, set: KeySet, key: Key, draw: u32) -> Result<(), OnlyLive>
         ensures answer { result ≡ program_answer (slot_pair false self.old.slots) (is_one set) key }
         ensures receiver { self.new ≡ programmed_receiver self.old (is_one set) key draw }
     {
         match self.slots.program(set, key, draw) {
             Ok(()) => {
-                self.holds = self.holds.without(set == 1);
+                self.holds = self.holds.without(set.is_one());
                 Ok(())
             }
             Err(refusal) => Err(refusal),
@@ -240,9 +220,8 @@ impl Rx {
     }
 
     /// GO: a Programmed key is Live. Returns `SlotEmpty` exactly if the slot is Empty.
-    pub fn go(&mut self, set: u8) -> Result<(), SlotEmpty>
-        requires { set < 2 }
-        ensures answer { is_ok result ≡ not (is_empty (key_slot (slot_in self.old.slots (is_one set)))) }
+    pub fn go(&mut self, set: KeySet) -> Result<(), SlotEmpty>
+        ensures answer { is_ok result ≡ not (is_empty (key_slot (slot_in_set self.old.slots (is_one set)))) }
         ensures receiver { self.new ≡ gone_receiver self.old (is_one set) }
     {
         self.holds = self.holds.held();
@@ -251,11 +230,10 @@ impl Rx {
     }
 
     /// STOP: empties the slot, whose held packets go.
-    pub fn halt(&mut self, set: u8)
-        requires { set < 2 }
+    pub fn halt(&mut self, set: KeySet)
         ensures { self.new ≡ halted_receiver self.old (is_one set) }
     {
-        self.holds = self.holds.without(set == 1);
+        self.holds = self.holds.without(set.is_one());
         self.slots.halt(set);
     }
 

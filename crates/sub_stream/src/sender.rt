@@ -6,7 +6,7 @@ ghost use Rattle.std.specs.Result.{result_map_both};
 ghost use Rattle.ide_prefix.specs.Packet.{sync_head};
 ghost use Rattle.key_slots.specs.{slot_in as key_slot_in, is_one, is_empty, is_live, is_armed as is_armed_key};
 ghost use Rattle.key_slots.specs.{program_answer};
-ghost use Rattle.stream_rules.specs.Stream.{ended_slots, live_sender, slot_in};
+ghost use Rattle.stream_rules.specs.Stream.{ended_slots, live_sender, slot_in_set};
 ghost use Rattle.sub_stream.specs.Gathered.{lent_front};
 ghost use Rattle.sub_stream.specs.Gathered as gathered;
 ghost use Rattle.sub_stream.specs.Seen.{shown_in_use, in_use, live_with, seen_out, has_live, both_live, has_armed};
@@ -21,14 +21,14 @@ use crate::sealing::{
 use crate::unit_packets::UnitPackets;
 use gcm_seal::Gcm;
 use ide_prefix::{Prefix, unit_iv};
-use ide_types::SubKind;
+use ide_types::{KeySet, SubKind};
 use key_slots::{Key, OnlyLive, SlotEmpty, SlotState, Slots};
 use std::marker::Model;
 use unit_aggregation::UnitBuf;
 
 /// A sender of one sub-stream: it seals units of at most `mode` packets under the Live key, and at most as many as its
 /// limit under one key. A newer key waits for the end of an open unit (PCI Express Base 6.0 section 6.33, in this
-/// profile). In each call `set` is 0 or 1.
+/// profile).
 #[derive(Drop)]
 pub struct Tx {
     stream: u8,
@@ -63,7 +63,7 @@ impl Model for Tx {
 fn live_of(slots: &Slots) -> Option<(bool, &Gcm, u32)>
     ensures { shown_in_use result ≡ in_use slots.now }
 {
-    match (slots.live_key(0), slots.live_key(1)) {
+    match (slots.live_key(KeySet::Zero), slots.live_key(KeySet::One)) {
         (Some((cipher, draw)), _) => Some((false, cipher, draw)),
         (None, Some((cipher, draw))) => Some((true, cipher, draw)),
         (None, None) => None,
@@ -90,10 +90,10 @@ fn sealing_key<'a>(
 fn is_armed(slots: &Slots) -> bool
     ensures { result ≡ has_armed slots.now }
 {
-    slots.slot(0).0 == SlotState::Armed || slots.slot(1).0 == SlotState::Armed
+    slots.slot(KeySet::Zero).0 == SlotState::Armed || slots.slot(KeySet::One).0 == SlotState::Armed
 }
 
-/// Begins unit `n` if no packet is there; the front stands ahead of the first unit.
+/// Begins unit `n` if no packet is there; the front comes before the first unit.
 pub fn begin_where_empty(unit: &mut UnitPackets, front: Option<&[u8; 8]>, n: u64)
     ensures { unit.new ≡ begun_where_empty unit.old (lent_front front.entry) n }
 {
@@ -131,8 +131,7 @@ fn end_unit(slots: &mut Slots, units: &mut u64, unit: &mut UnitPackets, last: bo
 }
 
 // The units under the Live key after a GO, which takes a Programmed key into use if no unit is open.
-fn units_after_go(slots: &Slots, set: u8, unfinished: bool, units: u64) -> u64
-    requires { set < 2 }
+fn units_after_go(slots: &Slots, set: KeySet, unfinished: bool, units: u64) -> u64
     ensures { result ≡ (if is_programmed (key_slot_in slots.now (is_one set)) && not unfinished then 0 else units) }
 {
     let programmed = slots.slot(set).0 == SlotState::Programmed;
@@ -140,11 +139,10 @@ fn units_after_go(slots: &Slots, set: u8, unfinished: bool, units: u64) -> u64
 }
 
 // The units under the Live key after a STOP, which takes an Armed key of the other set into use.
-fn units_after_halt(slots: &Slots, set: u8, units: u64) -> u64
-    requires { set < 2 }
+fn units_after_halt(slots: &Slots, set: KeySet, units: u64) -> u64
     ensures { result ≡ (if is_armed_key (key_slot_in slots.now (not (is_one set))) then 0 else units) }
 {
-    if slots.slot(1 - set).0 == SlotState::Armed {
+    if slots.slot(set.other()).0 == SlotState::Armed {
         0
     } else {
         units
@@ -152,8 +150,7 @@ fn units_after_halt(slots: &Slots, set: u8, units: u64) -> u64
 }
 
 // Drops an open unit under the key of this slot.
-fn drop_unit(slots: &Slots, set: u8, unit: &mut UnitPackets)
-    requires { set < 2 }
+fn drop_unit(slots: &Slots, set: KeySet, unit: &mut UnitPackets)
     ensures { unit.new ≡ (if is_live (key_slot_in slots.now (is_one set)) then gathered.no_packets unit.old.mode
         else unit.old) }
 {
@@ -341,8 +338,7 @@ impl Tx {
 
     /// Puts a key of this draw into the slot. Returns `OnlyLive` exactly if this slot is Live and the other holds no
     /// newer Live key: then the key comes back, and nothing changes.
-    pub fn program(&mut self, set: u8, key: Key, draw: u32) -> Result<(), OnlyLive>
-        requires { set < 2 }
+    pub fn program(&mut self, set: KeySet, key: Key, draw: u32) -> Result<(), OnlyLive>
         ensures answer { result ≡ program_answer (slot_pair true self.old.slots) (is_one set) key }
         ensures sender { self.new ≡ programmed_sender self.old (is_one set) key draw }
     {
@@ -351,9 +347,8 @@ impl Tx {
 
     /// GO: a Programmed key is Live at once if no unit is open, and the other slot is emptied; else it waits, Armed,
     /// for the unit's end. Returns `SlotEmpty` exactly if the slot is Empty.
-    pub fn go(&mut self, set: u8) -> Result<(), SlotEmpty>
-        requires { set < 2 }
-        ensures answer { is_ok result ≡ not (is_empty (key_slot (slot_in self.old.slots (is_one set)))) }
+    pub fn go(&mut self, set: KeySet) -> Result<(), SlotEmpty>
+        ensures answer { is_ok result ≡ not (is_empty (key_slot (slot_in_set self.old.slots (is_one set)))) }
         ensures sender { self.new ≡ gone_sender self.old (is_one set) }
     {
         let unfinished = self.unit.count() != 0;
@@ -362,8 +357,7 @@ impl Tx {
     }
 
     /// STOP: empties the slot, and drops an open unit under its key; a key that waited for that unit's end is Live.
-    pub fn halt(&mut self, set: u8)
-        requires { set < 2 }
+    pub fn halt(&mut self, set: KeySet)
         ensures { self.new ≡ halted_sender self.old (is_one set) }
     {
         drop_unit(&self.slots, set, &mut self.unit);

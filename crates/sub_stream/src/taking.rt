@@ -1,6 +1,6 @@
 //! The checks of a packet under a Live key.
 
-ghost use Rattle.std.specs.Prelude.{◌≡◌, ◌-◌, ◌&&◌, ◌+◌, ◌<◌, ◌≤◌, ◌^◌, true, false, not, [], Some, length};
+ghost use Rattle.std.specs.Prelude.{◌≡◌, ◌&&◌, ◌+◌, ◌<◌, ◌≤◌, ◌^◌, true, false, not, [], Some, length};
 ghost use Rattle.std.specs.Prelude.{if◌then◌else◌};
 ghost use Rattle.gcm_seal.specs.Gcm.{verifies};
 ghost use Rattle.ide_prefix.specs.Cut.{packet_of_view, lent_tag, IsView};
@@ -8,7 +8,14 @@ ghost use Rattle.ide_prefix.specs.Units.{encrypted};
 ghost use Rattle.key_slots.specs.{slot_in, is_one, is_live};
 ghost use Rattle.sub_stream.specs.Answers.{answer_of};
 ghost use Rattle.sub_stream.specs.Gathered.{lent_front, clear_of, no_packets};
-ghost use Rattle.sub_stream.specs.Receivers.{judged, BufferAfter, holds_some, holds_apart, holds_after, held_alone};
+ghost use Rattle.sub_stream.specs.Receivers.{
+  judged_packet,
+  BufferAfter,
+  holds_some,
+  holds_apart,
+  holds_after,
+  held_alone,
+};
 ghost use Rattle.sub_stream.specs.Receivers.{held_unless_failed, left_without, is_accepted, without_older, slots_after};
 ghost use Rattle.sub_stream.specs.Seen.{live_with};
 ghost use Rattle.sub_stream.specs.Senders.{begun_where_empty};
@@ -18,7 +25,7 @@ use crate::sender::begin_where_empty;
 use crate::unit_packets::UnitPackets;
 use gcm_seal::Gcm;
 use ide_prefix::{PacketView, carried_head, unit_iv};
-use ide_types::FailCause;
+use ide_types::{FailCause, KeySet};
 use key_slots::Slots;
 
 /// What a receiver's buffer holds: nothing that counts, packets without M in key set 0 or in key set 1, or an accepted
@@ -97,15 +104,6 @@ impl Holds {
     }
 }
 
-/// The key set's number.
-pub fn set_of(k: bool) -> u8
-    ensures small { result < 2 }
-    ensures mine { is_one result ≡ k }
-    ensures other { is_one (1 - result) ≡ not k }
-{
-    u8::from(k)
-}
-
 /// Leaves the held packets alone.
 pub fn keep_held(unit: &mut UnitPackets, holds: Holds)
     ensures { unit.new ≡ (if holds_some holds then unit.old else no_packets unit.old.mode) }
@@ -142,11 +140,11 @@ pub fn take_under(
     requires room { length unit.old.packets < unit.old.mode }
     ensures answer { let x = live_with units unit.old.packets (record { key = cipher.now; draw = draw }) in
         let begun = begun_where_empty unit.old (lent_front front.entry) (units + 1) in
-        Some result ≡ answer_of (judged begun.front allowed x (packet_of_view packet.now)) }
+        Some result ≡ answer_of (judged_packet begun.front allowed x (packet_of_view packet.now)) }
     ensures buffer { let x = live_with units unit.old.packets (record { key = cipher.now; draw = draw }) in
         let begun = begun_where_empty unit.old (lent_front front.entry) (units + 1) in
         BufferAfter begun x (packet_of_view packet.now)
-        (judged begun.front allowed x (packet_of_view packet.now)) unit.new }
+        (judged_packet begun.front allowed x (packet_of_view packet.now)) unit.new }
     ensures mode { unit.new.mode ≡ unit.old.mode }
 {
     carried_head();
@@ -172,14 +170,13 @@ pub fn take_under(
 }
 
 // Empties the other slot if it is Live under an older draw.
-fn retire_older(slots: &mut Slots, set: u8, draw: u32)
-    requires set { set < 2 }
-    requires live { is_live (slot_in slots.old (is_one set)) ≡ true }
+fn retire_older(slots: &mut Slots, set: KeySet, draw: u32)
+    requires { is_live (slot_in slots.old (is_one set)) ≡ true }
     ensures { slots.new ≡ without_older slots.old (is_one set) draw }
 {
-    if let Some((_, other)) = slots.live_key(1 - set) {
+    if let Some((_, other)) = slots.live_key(set.other()) {
         if other < draw {
-            slots.halt(1 - set);
+            slots.halt(set.other());
         }
     }
 }
@@ -199,6 +196,6 @@ pub fn count_accepted(taken: &Taken, k: bool, slots: &mut Slots, zero: &mut u64,
         } else {
             *zero += 1;
         }
-        retire_older(slots, set_of(k), *draw);
+        retire_older(slots, KeySet::of_bit(k), *draw);
     }
 }

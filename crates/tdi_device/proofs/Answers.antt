@@ -9,7 +9,7 @@ use Rattle.tdisp_codec.specs.declared.request.RequestView.TheVariants.{GetDevice
 use Rattle.tdisp_codec.specs.declared.request.RequestView.TheVariants.{StopInterface}
 use Rattle.tdisp_codec.specs.Replies.{reply_spelling}
 use Rattle.tdi_state.specs.Machine.{Tdi, lock_answer}
-use Rattle.tdi_device.specs.Replies.{DeviceTdis, next_nonce, call_of, tdi_called, tdi_reply, is_given, takes_nonce}
+use Rattle.tdi_device.specs.Replies.{DeviceTdis, next_nonce, tdi_call, tdi_called, tdi_reply, is_given, takes_nonce}
 use Rattle.tdi_device.specs.Replies.{used_after, asked_at}
 
 -- a lock that is accepted had a nonce
@@ -47,7 +47,7 @@ reply_now d place tdi request secure drawn before after is next reply = rw (is, 
 pub device_now : (d : DeviceTdis) (place : ℕ) (tdi new : Tdi) (request : RequestView) (secure takes : Bool)
     (drawn : Option (List ℕ)) (interfaces : List Tdi) (nonces : List (List ℕ)) (used : ℕ)
     → slice_get d.interfaces place ≡ Some tdi → drawn ≡ next_nonce d → new
-    ≡ tdi_called tdi (call_of request secure drawn) → takes ≡ takes_nonce tdi request secure drawn
+    ≡ tdi_called tdi (tdi_call request secure drawn) → takes ≡ takes_nonce tdi request secure drawn
     → interfaces ≡ d.interfaces → nonces ≡ d.nonces → used ≡ used_after takes d.used
     → IfSome (slice_get d.interfaces place)
     (λ t. (let kept : DeviceTdis = record

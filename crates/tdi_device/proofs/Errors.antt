@@ -14,10 +14,11 @@ use Rattle.tdi_state.specs.declared.error_codes.ErrorCode.{ErrorCode}
 use Rattle.tdi_state.specs.declared.states.TdiState.{TdiState}
 use Rattle.tdi_state.specs.declared.states.TdiState.TheVariants.{ConfigUnlocked, ConfigLocked, Run, Error}
 use Rattle.tdi_state.specs.Machine.{Tdi, with_state, new_lock, locked_with, lock_answer, start_answer, after_start}
-use Rattle.tdi_device.specs.Replies.{DeviceTdis, Named, named, named_in, named_at, place_of, next_nonce, call_of}
+use Rattle.tdi_device.specs.Replies.{DeviceTdis, NamedTdi, named_tdi, named_tdi_in, named_tdi_at, tdi_place, next_nonce}
+use Rattle.tdi_device.specs.Replies.{tdi_call}
 use Rattle.tdi_device.specs.Replies.{tdi_called, lock_reply, start_reply, tdi_reply, takes_nonce, is_given, used_after}
-use Rattle.tdi_device.specs.Replies.{asked_at, asked_by, asked_tdis, reply_by, reply_to, request_asked, answered}
-use Rattle.tdi_device.specs.Replies.{answer_of}
+use Rattle.tdi_device.specs.Replies.{asked_at, tdis_asked_by, asked_tdis, reply_by, reply_to, request_checked, answered}
+use Rattle.tdi_device.specs.Replies.{tdi_answer}
 use Rattle.tdi_device.specs.Laws.{ErrorsChangeNothing}
 
 -- ---- the interface that is meant
@@ -27,23 +28,23 @@ set_same [] p x is = refl
 set_same (y ∷ xs) zero x is = ap (λ z. z ∷ xs) (let same : x ≡ y = cc in same)
 set_same (y ∷ xs) (suc p) x is = ap (λ zs. y ∷ zs) (set_same xs p x is)
 
-at_place : (xs : List Tdi) (p : ℕ) (t : Option Tdi) (n : Named) → slice_get xs p ≡ t → named_at p t ≡ Some n
+at_place : (xs : List Tdi) (p : ℕ) (t : Option Tdi) (n : NamedTdi) → slice_get xs p ≡ t → named_tdi_at p t ≡ Some n
     → slice_get xs n.place ≡ Some n.tdi
 at_place xs p None n g e = absurd cc
 at_place xs p (Some t) n g e =
-    let same : (let k : Named = record { place = p; tdi = t } in k) ≡ n = cc in
-    subst (λ (k : Named). slice_get xs k.place ≡ Some k.tdi) same g
+    let same : (let k : NamedTdi = record { place = p; tdi = t } in k) ≡ n = cc in
+    subst (λ (k : NamedTdi). slice_get xs k.place ≡ Some k.tdi) same g
 
-in_list : (xs : List Tdi) (place : Option ℕ) (n : Named) → named_in xs place ≡ Some n → slice_get xs n.place
+in_list : (xs : List Tdi) (place : Option ℕ) (n : NamedTdi) → named_tdi_in xs place ≡ Some n → slice_get xs n.place
     ≡ Some n.tdi
 in_list xs None n e = absurd cc
 in_list xs (Some p) n e = at_place xs p (slice_get xs p) n refl e
 
 -- ---- requests that are refused
 
--- what is behind a request: the interface, and whether a nonce was given
+-- what is there after a request: the interface, and whether a nonce was given
 record Unchanged (tdi : Tdi) (request : RequestView) (secure : Bool) (drawn : Option (List ℕ)) : Type 0 where
-  same : tdi_called tdi (call_of request secure drawn) ≡ tdi
+  same : tdi_called tdi (tdi_call request secure drawn) ≡ tdi
   kept : takes_nonce tdi request secure drawn ≡ false
 
 lock_same : (tdi : Tdi) (function flags stream offset mask f code value : ℕ) (secure : Bool) (drawn : Option (List ℕ))
@@ -86,13 +87,13 @@ unchanged tdi (StartInterface function nonce) secure drawn f code value e =
     }
 unchanged tdi (StopInterface function) secure drawn f code value e = absurd cc
 
-by_named : (d : DeviceTdis) (request : RequestView) (secure : Bool) (n : Option Named) (f code value : ℕ)
-    → named d (request_function request) ≡ n → reply_by d request secure n ≡ reply.Error f code value
-    → asked_by d request secure n ≡ d
+by_named : (d : DeviceTdis) (request : RequestView) (secure : Bool) (n : Option NamedTdi) (f code value : ℕ)
+    → named_tdi d (request_function request) ≡ n → reply_by d request secure n ≡ reply.Error f code value
+    → tdis_asked_by d request secure n ≡ d
 by_named d request secure None f code value is e = refl
 by_named d request secure (Some n) f code value is e =
     let u = unchanged n.tdi request secure (next_nonce d) f code value e in
-    let there = in_list d.interfaces (place_of d (request_function request)) n is in
+    let there = in_list d.interfaces (tdi_place d (request_function request)) n is in
     ap (λ t. (let k : DeviceTdis = record {
       interfaces = slice_set d.interfaces n.place t;
       nonces = d.nonces;
@@ -106,11 +107,11 @@ by_named d request secure (Some n) f code value is e =
     (set_same d.interfaces n.place n.tdi there)
 
 by_request : (d : DeviceTdis) (secure : Bool) (function : ℕ) (r : Result RequestView ErrorCode) (f code value : ℕ)
-    → Rattle.tdi_device.specs.Replies.reply_from d secure function r ≡ reply.Error f code value
+    → Rattle.tdi_device.specs.Replies.tdi_reply_from d secure function r ≡ reply.Error f code value
     → Rattle.tdi_device.specs.Replies.tdis_by d secure r ≡ d
 by_request d secure function (Err c) f code value e = refl
 by_request d secure function (Ok request) f code value e = by_named d request secure
-    (named d (request_function request)) f code value refl e
+    (named_tdi d (request_function request)) f code value refl e
 
 pub errors_change_nothing : ErrorsChangeNothing
-errors_change_nothing d bytes secure f code value e = by_request d secure _ (request_asked bytes) f code value e
+errors_change_nothing d bytes secure f code value e = by_request d secure _ (request_checked bytes) f code value e

@@ -52,35 +52,35 @@ is_elsewhere function = (function / 2 ^ 24 % 2 == 1) && not (function / 2 ^ 16 %
 abbrev pub has_requester : ℕ → Tdi → Bool
 has_requester requester tdi = requester == tdi.plan.requester
 
-abbrev pub place_of : DeviceTdis → ℕ → Option ℕ
-place_of d function =
+abbrev pub tdi_place : DeviceTdis → ℕ → Option ℕ
+tdi_place d function =
     if is_elsewhere function then None else position (has_requester (requester_in function)) d.interfaces
 
 -- an interface and its place
-pub record Named : Type 0 where
+pub record NamedTdi : Type 0 where
   pub place : ℕ
   pub tdi : Tdi
 
-abbrev pub named_at : ℕ → Option Tdi → Option Named
-named_at place None = None
-named_at place (Some tdi) = Some (record { place = place; tdi = tdi })
+abbrev pub named_tdi_at : ℕ → Option Tdi → Option NamedTdi
+named_tdi_at place None = None
+named_tdi_at place (Some tdi) = Some (record { place = place; tdi = tdi })
 
-abbrev pub named_in : List Tdi → Option ℕ → Option Named
-named_in interfaces None = None
-named_in interfaces (Some place) = named_at place (slice_get interfaces place)
+abbrev pub named_tdi_in : List Tdi → Option ℕ → Option NamedTdi
+named_tdi_in interfaces None = None
+named_tdi_in interfaces (Some place) = named_tdi_at place (slice_get interfaces place)
 
-abbrev pub named : DeviceTdis → ℕ → Option Named
-named d function = named_in d.interfaces (place_of d function)
+abbrev pub named_tdi : DeviceTdis → ℕ → Option NamedTdi
+named_tdi d function = named_tdi_in d.interfaces (tdi_place d function)
 
 -- ---- the call of an interface that a request makes
 
 -- `secure` says that the stream of a LOCK_INTERFACE is known and Secure at the device; `drawn` is the next nonce
-abbrev pub call_of : RequestView → Bool → Option (List ℕ) → Option Call
-call_of (LockInterface function flags stream offset mask) secure drawn =
+abbrev pub tdi_call : RequestView → Bool → Option (List ℕ) → Option Call
+tdi_call (LockInterface function flags stream offset mask) secure drawn =
     Some (call.LockInterface flags stream offset secure drawn)
-call_of (StartInterface function nonce) secure drawn = Some (call.StartInterface nonce)
-call_of (StopInterface function) secure drawn = Some call.StopInterface
-call_of request secure drawn = None
+tdi_call (StartInterface function nonce) secure drawn = Some (call.StartInterface nonce)
+tdi_call (StopInterface function) secure drawn = Some call.StopInterface
+tdi_call request secure drawn = None
 
 abbrev pub tdi_called : Tdi → Option Call → Tdi
 tdi_called tdi None = tdi
@@ -88,20 +88,20 @@ tdi_called tdi (Some c) = tdi_after tdi c
 
 -- ---- replies
 
-abbrev pub refused : ℕ → ℕ → Reply
-refused function code = reply.Error function code 0
+abbrev pub refused_reply : ℕ → ℕ → Reply
+refused_reply function code = reply.Error function code 0
 
 abbrev pub lock_reply : ℕ → Result (List ℕ) ℕ → Reply
 lock_reply function (Ok nonce) = reply.LockInterface function nonce
-lock_reply function (Err code) = refused function code
+lock_reply function (Err code) = refused_reply function code
 
 abbrev pub portion_reply : ℕ → Result (List ℕ × ℕ) ℕ → Reply
 portion_reply function (Ok portion) = reply.DeviceInterfaceReport function portion.1 portion.0
-portion_reply function (Err code) = refused function code
+portion_reply function (Err code) = refused_reply function code
 
 abbrev pub start_reply : ℕ → Result (Unit {0}) ℕ → Reply
 start_reply function (Ok done) = reply.StartInterface function
-start_reply function (Err code) = refused function code
+start_reply function (Err code) = refused_reply function code
 
 -- one version, 1.0
 abbrev pub version_reply : ℕ → Reply
@@ -147,26 +147,26 @@ takes_nonce tdi request secure drawn = false
 abbrev pub used_after : Bool → ℕ → ℕ
 used_after takes used = if takes then used + 1 else used
 
-abbrev pub asked_at : DeviceTdis → Named → RequestView → Bool → DeviceTdis
+abbrev pub asked_at : DeviceTdis → NamedTdi → RequestView → Bool → DeviceTdis
 asked_at d n request secure = record {
-  interfaces = slice_set d.interfaces n.place (tdi_called n.tdi (call_of request secure (next_nonce d)));
+  interfaces = slice_set d.interfaces n.place (tdi_called n.tdi (tdi_call request secure (next_nonce d)));
   nonces = d.nonces;
   used = used_after (takes_nonce n.tdi request secure (next_nonce d)) d.used;
 }
 
-abbrev pub asked_by : DeviceTdis → RequestView → Bool → Option Named → DeviceTdis
-asked_by d request secure None = d
-asked_by d request secure (Some n) = asked_at d n request secure
+abbrev pub tdis_asked_by : DeviceTdis → RequestView → Bool → Option NamedTdi → DeviceTdis
+tdis_asked_by d request secure None = d
+tdis_asked_by d request secure (Some n) = asked_at d n request secure
 
-abbrev pub reply_by : DeviceTdis → RequestView → Bool → Option Named → Reply
-reply_by d request secure None = refused (request_function request) (error_code InvalidInterface)
+abbrev pub reply_by : DeviceTdis → RequestView → Bool → Option NamedTdi → Reply
+reply_by d request secure None = refused_reply (request_function request) (error_code InvalidInterface)
 reply_by d request secure (Some n) = tdi_reply n.tdi request secure (next_nonce d)
 
 abbrev pub asked_tdis : DeviceTdis → RequestView → Bool → DeviceTdis
-asked_tdis d request secure = asked_by d request secure (named d (request_function request))
+asked_tdis d request secure = tdis_asked_by d request secure (named_tdi d (request_function request))
 
 abbrev pub reply_to : DeviceTdis → RequestView → Bool → Reply
-reply_to d request secure = reply_by d request secure (named d (request_function request))
+reply_to d request secure = reply_by d request secure (named_tdi d (request_function request))
 
 -- ---- bytes that are a message of TDISP, by their first byte
 
@@ -179,32 +179,32 @@ code_by f = InvalidRequest
 abbrev pub function_or_none : List ℕ → ℕ
 function_or_none bytes = unwrap_or (function_of bytes) 0
 
--- the version is looked at ahead of the type, and the type ahead of the length; but a header that is cut off is refused
+-- the version is looked at before the type, and the type before the length; but a header that is cut off is refused
 -- whatever it holds
-abbrev pub asked_in : Bool → Result RequestView TdispFault → Result RequestView ErrorCode
-asked_in true read = Err InvalidRequest
-asked_in false (Ok request) = Ok request
-asked_in false (Err f) = Err (code_by f)
+abbrev pub request_or_error : Bool → Result RequestView TdispFault → Result RequestView ErrorCode
+request_or_error true read = Err InvalidRequest
+request_or_error false (Ok request) = Ok request
+request_or_error false (Err f) = Err (code_by f)
 
-abbrev pub request_asked : List ℕ → Result RequestView ErrorCode
-request_asked bytes = asked_in (nat_lt (length bytes) 17) (request_reading bytes)
+abbrev pub request_checked : List ℕ → Result RequestView ErrorCode
+request_checked bytes = request_or_error (nat_lt (length bytes) 17) (request_reading bytes)
 
 abbrev pub tdis_by : DeviceTdis → Bool → Result RequestView ErrorCode → DeviceTdis
 tdis_by d secure (Ok request) = asked_tdis d request secure
 tdis_by d secure (Err code) = d
 
-abbrev pub reply_from : DeviceTdis → Bool → ℕ → Result RequestView ErrorCode → Reply
-reply_from d secure function (Ok request) = reply_to d request secure
-reply_from d secure function (Err code) = refused function (error_code code)
+abbrev pub tdi_reply_from : DeviceTdis → Bool → ℕ → Result RequestView ErrorCode → Reply
+tdi_reply_from d secure function (Ok request) = reply_to d request secure
+tdi_reply_from d secure function (Err code) = refused_reply function (error_code code)
 
 abbrev pub answered : DeviceTdis → List ℕ → Bool → DeviceTdis
-answered d bytes secure = tdis_by d secure (request_asked bytes)
+answered d bytes secure = tdis_by d secure (request_checked bytes)
 
-abbrev pub answer_of : DeviceTdis → List ℕ → Bool → Reply
-answer_of d bytes secure = reply_from d secure (function_or_none bytes) (request_asked bytes)
+abbrev pub tdi_answer : DeviceTdis → List ℕ → Bool → Reply
+tdi_answer d bytes secure = tdi_reply_from d secure (function_or_none bytes) (request_checked bytes)
 
 abbrev pub answer_bytes : DeviceTdis → List ℕ → Bool → List ℕ
-answer_bytes d bytes secure = reply_spelling (answer_of d bytes secure)
+answer_bytes d bytes secure = reply_spelling (tdi_answer d bytes secure)
 
 -- the stream that a LOCK_INTERFACE names
 abbrev pub lock_stream : RequestView → Option ℕ
@@ -216,7 +216,7 @@ stream_by (Ok request) = lock_stream request
 stream_by (Err code) = None
 
 abbrev pub stream_asked : List ℕ → Option ℕ
-stream_asked bytes = stream_by (request_asked bytes)
+stream_asked bytes = stream_by (request_checked bytes)
 
 -- ---- streams that are left, and a reset of the link
 
@@ -229,8 +229,8 @@ is_left is_secure (Some stream) = not (is_secure stream)
 abbrev pub settled_tdi : (ℕ → Bool) → Tdi → Tdi
 settled_tdi is_secure tdi = if is_left is_secure (bound_stream tdi.state) then tdi_after tdi StreamLeft else tdi
 
-abbrev pub settled : (ℕ → Bool) → DeviceTdis → DeviceTdis
-settled is_secure d = record d { interfaces = map (settled_tdi is_secure) d.interfaces }
+abbrev pub settled_tdis : (ℕ → Bool) → DeviceTdis → DeviceTdis
+settled_tdis is_secure d = record d { interfaces = map (settled_tdi is_secure) d.interfaces }
 
 abbrev pub reset_tdis : DeviceTdis → DeviceTdis
 reset_tdis d = record d { interfaces = map (λ tdi. tdi_after tdi LinkReset) d.interfaces }
@@ -252,5 +252,5 @@ is_owner requester stream tdi = (requester == tdi.plan.requester) && runs_on str
 
 -- T is set of a TLP whose owner, its requester or its completer, is an interface that runs, on the stream that the
 -- interface is bound to
-abbrev pub sets_t : DeviceTdis → ℕ → ℕ → Bool
-sets_t d requester stream = is_some (position (is_owner requester stream) d.interfaces)
+abbrev pub tdis_set_t : DeviceTdis → ℕ → ℕ → Bool
+tdis_set_t d requester stream = is_some (position (is_owner requester stream) d.interfaces)

@@ -2,7 +2,7 @@
 
 ghost use Rattle.std.specs.Prelude.{◌≡◌, ◌+◌, ◌≤◌, ◌++◌, true, IsSome, vec_len, vec_capacity};
 ghost use Rattle.tdisp_codec.specs.Replies.{reply_spelling};
-ghost use Rattle.tdi_device.specs.Replies.{call_of, tdi_called, tdi_reply, is_given, takes_nonce};
+ghost use Rattle.tdi_device.specs.Replies.{tdi_call, tdi_called, tdi_reply, is_given, takes_nonce};
 
 use crate::replies::{append, append_versions, capabilities, locked, reported, started};
 use tdi_state::Interface;
@@ -28,7 +28,7 @@ pub(crate) fn answer_one(
     reply: &mut Vec<u8>,
 ) -> bool
     requires { vec_len reply.old + 1200 ≤ vec_capacity reply.old }
-    ensures interface { interface.new ≡ tdi_called interface.old (call_of request secure nonce) }
+    ensures interface { interface.new ≡ tdi_called interface.old (tdi_call request secure nonce) }
     ensures reply { reply.new.items ≡ reply.old.items
         ++ reply_spelling (tdi_reply interface.old request secure nonce) }
     ensures capacity { vec_capacity reply.old ≤ vec_capacity reply.new }

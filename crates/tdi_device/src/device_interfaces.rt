@@ -59,7 +59,7 @@ fn made(alloc: Global, plans: &[InterfacePlan]) -> Result<Vec<Interface>, Memory
     Ok(interfaces)
 }
 
-/// The streams of a device's port.
+/// What the interfaces of a device ask of its port: whether streams are Secure there (this profile).
 pub trait StreamStates {
     /// Whether the port has the stream, and it is Secure there.
     ghost is_secure: { Self → ℕ → Bool };
@@ -121,7 +121,7 @@ fn reset_all(interfaces: &mut Vec<Interface>)
 
 impl DeviceInterfaces {
     ghost use Rattle.tdi_device.specs.Replies.{
-      place_of,
+      tdi_place,
       has_requester,
       requester_in,
       next_nonce,
@@ -131,13 +131,13 @@ impl DeviceInterfaces {
       reply_to,
       answered,
       answer_bytes,
-      settled,
+      settled_tdis,
       reset_tdis,
       called_at,
-      sets_t,
+      tdis_set_t,
     };
 
-    /// The interfaces of a link's device in CONFIG_UNLOCKED, and its nonces, of which none was given.
+    /// The interfaces of a link's device in CONFIG_UNLOCKED, and its nonces, none of them given.
     pub fn make(
         alloc: Global,
         plans: &Items<InterfacePlan>,
@@ -173,7 +173,7 @@ impl DeviceInterfaces {
 
     // The place of the interface that a function ID names.
     fn place(&self, function: u32) -> Option<usize>
-        ensures { result ≡ place_of self.now function }
+        ensures { result ≡ tdi_place self.now function }
     {
         if is_elsewhere(function) {
             None
@@ -237,7 +237,7 @@ impl DeviceInterfaces {
     /// To be called after each call of the device's port: each interface in CONFIG_LOCKED or RUN goes to ERROR if its
     /// bound stream is not Secure at that port.
     pub fn settle<P: StreamStates>(&mut self, streams: &P)
-        ensures { self.new ≡ settled (P.is_secure streams.now) self.old }
+        ensures { self.new ≡ settled_tdis (P.is_secure streams.now) self.old }
     {
         settle_all(&mut self.interfaces, streams);
     }
@@ -245,7 +245,7 @@ impl DeviceInterfaces {
     /// Whether a TLP with this owner (the requester of a request, the completer of a completion) has T on this stream:
     /// it has if the owner is an interface in RUN and this is its bound stream.
     pub fn sets_t(&self, requester: u16, stream: u8) -> bool
-        ensures { result ≡ sets_t self.now requester stream }
+        ensures { result ≡ tdis_set_t self.now requester stream }
     {
         self.owner_place(requester, stream).is_some()
     }

@@ -1,7 +1,7 @@
 //! Requests as they come, and which are refused before an interface is looked for.
 
 ghost use Rattle.std.specs.Prelude.{◌≡◌, length};
-ghost use Rattle.tdi_device.specs.Replies.{code_by, function_or_none, request_asked, lock_stream, stream_asked};
+ghost use Rattle.tdi_device.specs.Replies.{code_by, function_or_none, request_checked, lock_stream, stream_asked};
 
 use tdi_state::ErrorCode;
 use tdisp_codec::{RequestView, TdispFault, function_of, request_read};
@@ -23,7 +23,7 @@ fn code(fault: TdispFault) -> ErrorCode
 /// VERSION_MISMATCH at another version than 1.0, UNSUPPORTED_REQUEST at a type that is none, INVALID_REQUEST at another
 /// length than the type's.
 pub fn request_asked(bytes: &[u8]) -> Result<RequestView, ErrorCode>
-    ensures { result ≡ request_asked bytes.now }
+    ensures { result ≡ request_checked bytes.now }
 {
     if bytes.len() < HEADER {
         return Err(ErrorCode::InvalidRequest);

@@ -7,8 +7,6 @@ mod device_interfaces;
 mod front;
 mod laws;
 mod replies;
-#[cfg(test)]
-mod tests;
 
 pub use device_interfaces::{DeviceInterfaces, StreamStates, TDISP_REPLY_ROOM};
 pub use front::{request_asked, stream_asked};

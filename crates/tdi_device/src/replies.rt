@@ -4,7 +4,7 @@ ghost use Rattle.std.specs.Prelude.{◌≡◌, ◌+◌, ◌≤◌, ◌++◌, len
 ghost use Rattle.tdisp_codec.specs.Replies.{reply_shown, reply_spelling};
 ghost use Rattle.tdi_state.specs.Kept.{IsShortReport};
 ghost use Rattle.tdi_state.specs.Machine.{portion_shown};
-ghost use Rattle.tdi_device.specs.Replies.{refused, lock_reply, portion_reply, start_reply, version_reply};
+ghost use Rattle.tdi_device.specs.Replies.{refused_reply, lock_reply, portion_reply, start_reply, version_reply};
 ghost use Rattle.tdi_device.specs.Replies.{capabilities_reply, IsShortReply};
 
 use tdisp_codec::{ReplyView, reply_write};
@@ -16,7 +16,7 @@ const VERSIONS: [u8; 1] = [0x10];
 const REQUESTS: [u8; 16] = [0xfe, 0, 0, 0, 0, 0, 0, 0, 0, 0, 0, 0, 0, 0, 0, 0];
 
 pub(crate) fn refused<'a>(function: u32, code: u32) -> ReplyView<'a>
-    ensures reply { reply_shown result ≡ refused function code }
+    ensures reply { reply_shown result ≡ refused_reply function code }
     ensures short { IsShortReply (reply_shown result) }
 {
     ReplyView::Error {

@@ -6,45 +6,51 @@ use Rattle.link_events.specs.declared.event.Lost.{Lost}
 use Rattle.tdisp_codec.specs.Requests.{request_spelling}
 use Rattle.tdisp_codec.specs.Replies.{reply_reading}
 use Rattle.tdi_host.specs.declared.operation.Outcome.{Outcome}
-use Rattle.tdi_host.specs.Judging.{Judged, judged_reply}
-use Rattle.tdi_host.specs.Managers.{ManagerView, Current, current_exchange, request_asked, outcome_by, taken_by}
+use Rattle.tdi_host.specs.Judging.{Judged, interface_reply_judged}
+use Rattle.tdi_host.specs.Managers.{InterfaceManagerView, CurrentInterface, current_exchange, interface_request}
+use Rattle.tdi_host.specs.Managers.{outcome_by, taken_interface_manager}
 use Rattle.tdi_device.specs.Replies.{DeviceTdis, answered, answer_bytes}
 use Rattle.key_laws.specs.Due.{lost_in}
 use Rattle.tdi_walks.specs.Operations.{carried, reached}
-use Rattle.tdi_ends.specs.Keepers.{Ended, IsExchanged}
+use Rattle.tdi_ends.specs.Keepers.{Ended, IsInterfaceExchanged}
 
 -- what holds of the exchange that is asked
 pub some_map : {A : Type 0} {P Q : A → Type 0} (o : Option A) → ((a : A) → P a → Q a) → IfSome o P → IfSome o Q
 some_map None f p = tt
 some_map (Some a) f p = f a p
 
-abbrev judged_bytes : ManagerView → Current → List ℕ → Judged
-judged_bytes m c bytes = judged_reply c.asking.step c.interface.requester m.portion (length m.read.bytes)
+abbrev judged_bytes : InterfaceManagerView → CurrentInterface → List ℕ → Judged
+judged_bytes m c bytes = interface_reply_judged c.asking.step c.interface.requester m.portion (length m.read.bytes)
     (reply_reading bytes)
 
-abbrev ended_by : ManagerView → Current → DeviceTdis → Option Lost → Judged → DeviceTdis → Ended
-ended_by m c d l j after = record
-    { outcome = outcome_by m c (carried l j); manager = taken_by m c (carried l j); device = reached l d after }
+abbrev ended_by : InterfaceManagerView → CurrentInterface → DeviceTdis → Option Lost → Judged → DeviceTdis → Ended
+ended_by m c d l j after = record {
+  outcome = outcome_by m c (carried l j);
+  manager = taken_interface_manager m c (carried l j);
+  device = reached l d
+      after;
+}
 
 -- nothing is lost
-pub carried_whole : (x : Option Current) (m after : ManagerView) (d device : DeviceTdis) (secure : Bool)
+pub carried_whole : (x : Option CurrentInterface) (m after : InterfaceManagerView) (d device : DeviceTdis)
+    (secure : Bool)
     (loss : Option Loss) (number : ℕ) (bytes : List ℕ) (o : Outcome)
     → IfSome x (λ c. number ≡ current_exchange m c) → lost_in loss number ≡ None
-    → IfSome x (λ c. device ≡ answered d (request_spelling (request_asked m c)) secure)
-    → IfSome x (λ c. bytes ≡ answer_bytes d (request_spelling (request_asked m c)) secure)
+    → IfSome x (λ c. device ≡ answered d (request_spelling (interface_request m c)) secure)
+    → IfSome x (λ c. bytes ≡ answer_bytes d (request_spelling (interface_request m c)) secure)
     → IfSome x (λ c. o ≡ outcome_by m c (judged_bytes m c bytes))
-    → IfSome x (λ c. after ≡ taken_by m c (judged_bytes m c bytes))
-    → IfSome x (λ c. IsExchanged secure loss m d c
+    → IfSome x (λ c. after ≡ taken_interface_manager m c (judged_bytes m c bytes))
+    → IfSome x (λ c. IsInterfaceExchanged secure loss m d c
     (let e : Ended = record { outcome = o; manager = after; device = device } in e))
 carried_whole None m after d device secure loss number bytes o n l dev rep out man = tt
 carried_whole (Some c) m after d device secure loss number bytes o n l dev rep out man =
     let whole : lost_in loss (current_exchange m c) ≡ None = ap (lost_in loss) (sym n) ∙ l in
     let same : (let e : Ended = record { outcome = o; manager = after; device = device } in e)
-    ≡ ended_by m c d None (judged_bytes m c (answer_bytes d (request_spelling (request_asked m c)) secure))
-    (answered d (request_spelling (request_asked m c)) secure)
+    ≡ ended_by m c d None (judged_bytes m c (answer_bytes d (request_spelling (interface_request m c)) secure))
+    (answered d (request_spelling (interface_request m c)) secure)
     = rw (out, man, dev, rep) refl in
     record {
       ends = same ∙ ap
-          (λ k. ended_by m c d k (judged_bytes m c (answer_bytes d (request_spelling (request_asked m c)) secure))
-          (answered d (request_spelling (request_asked m c)) secure)) (sym whole);
+          (λ k. ended_by m c d k (judged_bytes m c (answer_bytes d (request_spelling (interface_request m c)) secure))
+          (answered d (request_spelling (interface_request m c)) secure)) (sym whole);
     }

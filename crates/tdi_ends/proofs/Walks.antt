@@ -8,26 +8,29 @@ use Rattle.tdi_host.specs.declared.operation.Outcome.{Outcome}
 use Rattle.tdi_host.specs.declared.operation.Outcome.TheVariants as outcome
 use Rattle.tdi_host.specs.Steps.{next_step}
 use Rattle.tdi_host.specs.Views.{HostTdi}
-use Rattle.tdi_host.specs.Managers.{ManagerView, Current, current, current_in, current_by, asking_after}
+use Rattle.tdi_host.specs.Managers.{InterfaceManagerView, CurrentInterface, current_interface, current_interface_in}
+use Rattle.tdi_host.specs.Managers.{current_by, interface_asking_after}
 use Rattle.tdi_device.specs.Replies.{DeviceTdis}
-use Rattle.tdi_walks.specs.Operations.{walked_once, walking_on, continued, walk}
-use Rattle.tdi_ends.specs.Keepers.{Ended, IsExchanged, exchanged, goes_on, by_current, manager_walk, walking_at}
-use Rattle.tdi_ends.specs.Keepers.{IsWalked, KeepersWalk}
+use Rattle.tdi_walks.specs.Operations.{walked_once, walking_on, continued_walk, interface_walk}
+use Rattle.tdi_ends.specs.Keepers.{Ended, IsInterfaceExchanged, interface_exchanged, ended_if_over, by_current}
+use Rattle.tdi_ends.specs.Keepers.{manager_walk, walking_at}
+use Rattle.tdi_ends.specs.Keepers.{IsInterfaceWalked, KeepersWalk}
 
 -- ---- the exchange that is asked
 
-record Stands (xs : List HostTdi) (asking : Option Asking) (c : Current) : Type 0 where
+record Stands (xs : List HostTdi) (asking : Option Asking) (c : CurrentInterface) : Type 0 where
   asked : asking ≡ Some c.asking
   there : slice_get xs c.asking.place ≡ Some c.interface
 
-stands_at : (xs : List HostTdi) (a : Asking) (i : Option HostTdi) (c : Current) → slice_get xs a.place ≡ i
+stands_at : (xs : List HostTdi) (a : Asking) (i : Option HostTdi) (c : CurrentInterface) → slice_get xs a.place ≡ i
     → current_by a i ≡ Some c → Stands xs (Some a) c
 stands_at xs a None c g e = absurd cc
 stands_at xs a (Some i) c g e =
-    let same : (let k : Current = record { interface = i; asking = a } in k) ≡ c = cc in
-    subst (λ (k : Current). Stands xs (Some a) k) same (record { asked = refl; there = g })
+    let same : (let k : CurrentInterface = record { interface = i; asking = a } in k) ≡ c = cc in
+    subst (λ (k : CurrentInterface). Stands xs (Some a) k) same (record { asked = refl; there = g })
 
-stands : (xs : List HostTdi) (asking : Option Asking) (c : Current) → current_in xs asking ≡ Some c → Stands xs asking c
+stands : (xs : List HostTdi) (asking : Option Asking) (c : CurrentInterface) → current_interface_in xs asking ≡ Some c
+    → Stands xs asking c
 stands xs None c e = absurd cc
 stands xs (Some a) c e = stands_at xs a (slice_get xs a.place) c refl e
 
@@ -51,32 +54,36 @@ set_twice (z ∷ xs) (suc p) x y = ap (λ zs. z ∷ zs) (set_twice xs p x y)
 
 -- ---- the walk
 
-abbrev next_current : Bool → Option Loss → ManagerView → DeviceTdis → Current → Current
+abbrev next_current : Bool → Option Loss → InterfaceManagerView → DeviceTdis → CurrentInterface → CurrentInterface
 next_current secure loss m d c = record {
   interface = (walked_once m.portion c.asking.draws secure loss (walking_at m c d)).interface;
   asking = record c.asking { step = next_step c.asking.step };
 }
 
-moved : (secure : Bool) (loss : Option Loss) (m : ManagerView) (d : DeviceTdis) (c : Current)
-    → Stands m.interfaces m.asking c → (exchanged secure loss m d c).outcome ≡ outcome.Next
-    → current (exchanged secure loss m d c).manager ≡ Some (next_current secure loss m d c)
+moved : (secure : Bool) (loss : Option Loss) (m : InterfaceManagerView) (d : DeviceTdis) (c : CurrentInterface)
+    → Stands m.interfaces m.asking c → (interface_exchanged secure loss m d c).outcome ≡ outcome.Next
+    → current_interface (interface_exchanged secure loss m d c).manager ≡ Some (next_current secure loss m d c)
 moved secure loss m d c s next =
-    ap (λ o. current_in (exchanged secure loss m d c).manager.interfaces (asking_after c.asking o)) next
+    ap (λ o. current_interface_in (interface_exchanged secure loss m d c).manager.interfaces
+    (interface_asking_after c.asking o)) next
     ∙ ap (current_by (next_current secure loss m d c).asking)
     (set_get m.interfaces c.asking.place c.interface _ s.there)
 
-goes_by : (more : ℕ) (secure : Bool) (loss : Option Loss) (m : ManagerView) (d : DeviceTdis) (c : Current) (o : Outcome)
-    → Stands m.interfaces m.asking c → (exchanged secure loss m d c).outcome ≡ o
-    → ((k : Current) → current (exchanged secure loss m d c).manager ≡ Some k
-    → IsWalked (exchanged secure loss m d c).manager k
-    (walk more m.portion k.asking.draws secure loss
-    (walking_at (exchanged secure loss m d c).manager k (exchanged secure loss m d c).device))
-    (manager_walk more secure loss (exchanged secure loss m d c).manager (exchanged secure loss m d c).device))
-    → IsWalked m c (continued o (walked_once m.portion c.asking.draws secure loss (walking_at m c d))
-    (walk more m.portion c.asking.draws secure loss
+goes_by : (more : ℕ) (secure : Bool) (loss : Option Loss) (m : InterfaceManagerView) (d : DeviceTdis)
+    (c : CurrentInterface) (o : Outcome)
+    → Stands m.interfaces m.asking c → (interface_exchanged secure loss m d c).outcome ≡ o
+    → ((k : CurrentInterface) → current_interface (interface_exchanged secure loss m d c).manager ≡ Some k
+    → IsInterfaceWalked (interface_exchanged secure loss m d c).manager k
+    (interface_walk more m.portion k.asking.draws secure loss
+    (walking_at (interface_exchanged secure loss m d c).manager k (interface_exchanged secure loss m d c).device))
+    (manager_walk more secure loss (interface_exchanged secure loss m d c).manager
+    (interface_exchanged secure loss m d c).device))
+    → IsInterfaceWalked m c (continued_walk o (walked_once m.portion c.asking.draws secure loss (walking_at m c d))
+    (interface_walk more m.portion c.asking.draws secure loss
     (walking_on c.asking.step (walked_once m.portion c.asking.draws secure loss (walking_at m c d)))))
-    (goes_on o (exchanged secure loss m d c)
-    (manager_walk more secure loss (exchanged secure loss m d c).manager (exchanged secure loss m d c).device))
+    (ended_if_over o (interface_exchanged secure loss m d c)
+    (manager_walk more secure loss (interface_exchanged secure loss m d c).manager
+    (interface_exchanged secure loss m d c).device))
 goes_by more secure loss m d c outcome.Next s is rest =
     let w = rest (next_current secure loss m d c) (moved secure loss m d c s is) in
     record {
@@ -91,18 +98,22 @@ goes_by more secure loss m d c (outcome.Refused refusal) s is rest = record
     { outcome_is = refl; interfaces_are = refl; read_is = refl; device_is = refl }
 
 -- a step of the manager's walk
-walk_step : (more : ℕ) (secure : Bool) (loss : Option Loss) (m : ManagerView) (d : DeviceTdis) (c : Current) → current m
+walk_step : (more : ℕ) (secure : Bool) (loss : Option Loss) (m : InterfaceManagerView) (d : DeviceTdis)
+    (c : CurrentInterface) → current_interface m
     ≡ Some c
-    → manager_walk (suc more) secure loss m d ≡ goes_on (exchanged secure loss m d c).outcome
-    (exchanged secure loss m d c)
-    (manager_walk more secure loss (exchanged secure loss m d c).manager (exchanged secure loss m d c).device)
+    → manager_walk (suc more) secure loss m d ≡ ended_if_over (interface_exchanged secure loss m d c).outcome
+    (interface_exchanged secure loss m d c)
+    (manager_walk more secure loss (interface_exchanged secure loss m d c).manager
+    (interface_exchanged secure loss m d c).device)
 unfolding manager_walk
 walk_step more secure loss m d c is = ap
-    (λ k. by_current k (λ c. goes_on (exchanged secure loss m d c).outcome (exchanged secure loss m d c)
-    (manager_walk more secure loss (exchanged secure loss m d c).manager (exchanged secure loss m d c).device))
+    (λ k. by_current k (λ c. ended_if_over (interface_exchanged secure loss m d c).outcome
+    (interface_exchanged secure loss m d c)
+    (manager_walk more secure loss (interface_exchanged secure loss m d c).manager
+    (interface_exchanged secure loss m d c).device))
     (record { outcome = outcome.Next; manager = m; device = d })) is
 
-walk_none : (secure : Bool) (loss : Option Loss) (m : ManagerView) (d : DeviceTdis)
+walk_none : (secure : Bool) (loss : Option Loss) (m : InterfaceManagerView) (d : DeviceTdis)
     → (let e : Ended = record { outcome = outcome.Next; manager = m; device = d } in e)
     ≡ manager_walk zero secure loss m d
 unfolding manager_walk
@@ -111,7 +122,7 @@ walk_none secure loss m d = refl
 pub keeper_walks : KeepersWalk
 keeper_walks zero secure loss m d c is =
     let s = stands m.interfaces m.asking c is in
-    subst (λ e. IsWalked m c (walk zero m.portion c.asking.draws secure loss (walking_at m c d)) e)
+    subst (λ e. IsInterfaceWalked m c (interface_walk zero m.portion c.asking.draws secure loss (walking_at m c d)) e)
     (walk_none secure loss m d)
     (record {
       outcome_is = refl;
@@ -121,37 +132,39 @@ keeper_walks zero secure loss m d c is =
     })
 keeper_walks (suc more) secure loss m d c is =
     let s = stands m.interfaces m.asking c is in
-    subst (λ e. IsWalked m c (walk (suc more) m.portion c.asking.draws secure loss (walking_at m c d)) e)
+    subst (λ e. IsInterfaceWalked m c
+    (interface_walk (suc more) m.portion c.asking.draws secure loss (walking_at m c d)) e)
     (sym (walk_step more secure loss m d c is))
-    (goes_by more secure loss m d c (exchanged secure loss m d c).outcome s refl
-    (λ k now. keeper_walks more secure loss (exchanged secure loss m d c).manager
-    (exchanged secure loss m d c).device k now))
+    (goes_by more secure loss m d c (interface_exchanged secure loss m d c).outcome s refl
+    (λ k now. keeper_walks more secure loss (interface_exchanged secure loss m d c).manager
+    (interface_exchanged secure loss m d c).device k now))
 
 -- ---- the code's walk
 
--- an exchange behind which the operation goes on
-pub walks_on : (more : ℕ) (secure : Bool) (loss : Option Loss) (m : ManagerView) (d : DeviceTdis) (e rest : Ended)
-    (x : Option Current) → current m ≡ x → is_some x ≡ true
-    → IfSome x (λ c. IsExchanged secure loss m d c e) → e.outcome ≡ outcome.Next → rest
+-- an exchange after which the operation goes on
+pub walks_on : (more : ℕ) (secure : Bool) (loss : Option Loss) (m : InterfaceManagerView) (d : DeviceTdis)
+    (e rest : Ended)
+    (x : Option CurrentInterface) → current_interface m ≡ x → is_some x ≡ true
+    → IfSome x (λ c. IsInterfaceExchanged secure loss m d c e) → e.outcome ≡ outcome.Next → rest
     ≡ manager_walk more secure loss e.manager e.device → rest ≡ manager_walk (suc more) secure loss m d
 walks_on more secure loss m d e rest None is some came next goes = absurd cc
 walks_on more secure loss m d e rest (Some c) is some came next goes =
-    goes ∙ sym (ap (λ o. goes_on o e (manager_walk more secure loss e.manager e.device)) next)
-    ∙ ap (λ (k : Ended). goes_on k.outcome k (manager_walk more secure loss k.manager k.device)) came.ends ∙ sym
+    goes ∙ sym (ap (λ o. ended_if_over o e (manager_walk more secure loss e.manager e.device)) next)
+    ∙ ap (λ (k : Ended). ended_if_over k.outcome k (manager_walk more secure loss k.manager k.device)) came.ends ∙ sym
     (walk_step more secure loss m d c is)
 
-stops_at : (o : Outcome) (now rest : Ended) → o ≢ outcome.Next → goes_on o now rest ≡ now
+stops_at : (o : Outcome) (now rest : Ended) → o ≢ outcome.Next → ended_if_over o now rest ≡ now
 stops_at outcome.Next now rest other = absurd (other refl)
 stops_at (outcome.Done shown) now rest other = refl
 stops_at (outcome.Refused refusal) now rest other = refl
 
--- one behind which it is over
-pub walks_out : (more : ℕ) (secure : Bool) (loss : Option Loss) (m : ManagerView) (d : DeviceTdis) (e : Ended)
-    (x : Option Current) → current m ≡ x → is_some x ≡ true
-    → IfSome x (λ c. IsExchanged secure loss m d c e) → e.outcome ≢ outcome.Next → e
+-- one after which it is over
+pub walks_out : (more : ℕ) (secure : Bool) (loss : Option Loss) (m : InterfaceManagerView) (d : DeviceTdis) (e : Ended)
+    (x : Option CurrentInterface) → current_interface m ≡ x → is_some x ≡ true
+    → IfSome x (λ c. IsInterfaceExchanged secure loss m d c e) → e.outcome ≢ outcome.Next → e
     ≡ manager_walk (suc more) secure loss m d
 walks_out more secure loss m d e None is some came other = absurd cc
 walks_out more secure loss m d e (Some c) is some came other =
     sym (stops_at e.outcome e (manager_walk more secure loss e.manager e.device) other)
-    ∙ ap (λ (k : Ended). goes_on k.outcome k (manager_walk more secure loss k.manager k.device)) came.ends ∙ sym
+    ∙ ap (λ (k : Ended). ended_if_over k.outcome k (manager_walk more secure loss k.manager k.device)) came.ends ∙ sym
     (walk_step more secure loss m d c is)

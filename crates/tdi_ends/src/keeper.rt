@@ -3,11 +3,16 @@
 ghost use Rattle.std.specs.Prelude.{◌≡◌, ◌+◌, ◌<◌, ◌≤◌, ℕ, [], Some, None, IfOk, IfSome, IsSome, is_some, length};
 ghost use Rattle.std.specs.Prelude.{slice_get, vec_len, vec_capacity};
 ghost use Rattle.tdisp_codec.specs.Requests.{request_spelling};
-ghost use Rattle.tdi_host.specs.Managers.{new_manager, current, request_asked, begun};
-ghost use Rattle.tdi_host.specs.Views.{refusal_of};
+ghost use Rattle.tdi_host.specs.Managers.{
+  new_interface_manager,
+  current_interface,
+  interface_request,
+  begun_interface_manager,
+};
+ghost use Rattle.tdi_host.specs.Views.{interface_refusal_of};
 ghost use Rattle.tdi_device.specs.Replies.{answered, answer_bytes};
 ghost use Rattle.key_laws.specs.Due.{lost_in};
-ghost use Rattle.tdi_ends.specs.Keepers.{IsExchanged, Ended, manager_walk, operated};
+ghost use Rattle.tdi_ends.specs.Keepers.{IsInterfaceExchanged, Ended, manager_walk, interface_operated};
 
 use ide_plan::LinkPlan;
 use ide_types::{Items, Memory, StreamStatus};
@@ -24,7 +29,7 @@ const REQUEST_ROOM: usize = 49;
 /// The most exchanges of an operation: a report has at most 1,140 bytes.
 const MOST_EXCHANGES: u16 = 1_140;
 
-/// The manager of interfaces, with room for one exchange.
+/// The manager of interfaces, with room for one exchange (TDISP, in this profile).
 #[derive(Drop)]
 pub struct InterfaceKeeper {
     interfaces: Interfaces,
@@ -34,9 +39,9 @@ pub struct InterfaceKeeper {
 
 impl Model for InterfaceKeeper {
     ghost use Rattle.std.specs.Prelude.{◌≤◌, vec_capacity};
-    ghost use Rattle.tdi_host.specs.Managers.{ManagerView};
+    ghost use Rattle.tdi_host.specs.Managers.{InterfaceManagerView};
 
-    ghost Value = { ManagerView };
+    ghost Value = { InterfaceManagerView };
 
     ghost view = { λ k. k.interfaces };
 
@@ -61,13 +66,13 @@ fn deliver(
     request: &mut Vec<u8>,
     reply: &mut Vec<u8>,
 )
-    requires asking { IsSome (current manager.now) }
+    requires asking { IsSome (current_interface manager.now) }
     requires request_room { 49 ≤ vec_capacity request.old }
     requires reply_room { 1200 ≤ vec_capacity reply.old }
-    ensures device { IfSome (current manager.now) (λ c. device.new ≡ answered device.old
-        (request_spelling (request_asked manager.now c)) secure) }
-    ensures reply { IfSome (current manager.now) (λ c. reply.new.items ≡ answer_bytes device.old
-        (request_spelling (request_asked manager.now c)) secure) }
+    ensures device { IfSome (current_interface manager.now) (λ c. device.new ≡ answered device.old
+        (request_spelling (interface_request manager.now c)) secure) }
+    ensures reply { IfSome (current_interface manager.now) (λ c. reply.new.items ≡ answer_bytes device.old
+        (request_spelling (interface_request manager.now c)) secure) }
     ensures request_room { 49 ≤ vec_capacity request.new }
     ensures reply_room { 1200 ≤ vec_capacity reply.new }
 {
@@ -78,7 +83,7 @@ fn deliver(
 }
 
 impl InterfaceKeeper {
-    ghost use Rattle.tdi_host.specs.Managers.{stop_begun, stream_keyed, reset_manager};
+    ghost use Rattle.tdi_host.specs.Managers.{stop_begun, stream_keyed, reset_interface_manager};
 
     /// A manager of the interfaces of these links, which are asked for `portion` bytes of a report at a time.
     pub fn make(
@@ -87,7 +92,7 @@ impl InterfaceKeeper {
         portion: u16,
     ) -> Result<InterfaceKeeper, Memory>
         requires { length links.now ≤ 8 }
-        ensures { IfOk result (λ k. k ≡ new_manager links.now portion) }
+        ensures { IfOk result (λ k. k ≡ new_interface_manager links.now portion) }
     {
         let interfaces = Interfaces::make(alloc, links, portion)?;
         let request = Vec::with_capacity(alloc, REQUEST_ROOM)?;
@@ -122,7 +127,7 @@ impl InterfaceKeeper {
 
     /// Notes that a link was reset: views of its interfaces that are Locked, Running or Doubt become Broken.
     pub fn link_reset(&mut self, link: u8)
-        ensures { self.new ≡ reset_manager link self.old }
+        ensures { self.new ≡ reset_interface_manager link self.old }
     {
         self.interfaces.link_reset(link);
     }
@@ -134,8 +139,8 @@ impl InterfaceKeeper {
         secure: bool,
         loss: Option<Loss>,
     ) -> Outcome
-        requires { IsSome (current self.old) }
-        ensures { IfSome (current self.old) (λ c. IsExchanged secure loss self.old device.old c
+        requires { IsSome (current_interface self.old) }
+        ensures { IfSome (current_interface self.old) (λ c. IsInterfaceExchanged secure loss self.old device.old c
             (let e : Ended = record { outcome = result; manager = self.new; device = device.new } in e)) }
     {
         match lost_at(loss, self.interfaces.exchange()) {
@@ -203,7 +208,7 @@ impl InterfaceKeeper {
         requires { interface < length self.old.interfaces }
         ensures { IfSome (slice_get self.old.interfaces interface) (λ i.
             (let e : Ended = record { outcome = result; manager = self.new; device = device.new } in e)
-            ≡ operated interface op status draws secure loss self.old device.old i) }
+            ≡ interface_operated interface op status draws secure loss self.old device.old i) }
     {
         match self.interfaces.begin(interface, op, status, draws) {
             Err(refusal) => Outcome::Refused(refusal),

@@ -10,7 +10,7 @@ one_more_of f [] i x lt is = absurd (omega arith)
 one_more_of f (y ∷ xs) zero x lt is = ap (λ z. f z ∷ xs) is
 one_more_of f (y ∷ xs) (suc i) x lt is = ap (λ zs. f y ∷ zs) (one_more_of f xs i x (omega arith) is)
 
--- one more element of a list is changed, those ahead of it were
+-- one more element of a list is changed, those before it were
 pub one_more : {A : Type 0} (f : A → A) (xs ys : List A) (i : ℕ) (x new : A) → i < length xs → ys
     ≡ (map f (take i xs) ++ drop i xs) → x ≡ get_or ys i x
     → new ≡ f (get_or ys i x) → slice_set ys i new ≡ map f (take (i + 1) xs) ++ drop (i + 1) xs

@@ -8,7 +8,7 @@ use Rattle.tdi_host.specs.declared.step.Step.{Step}
 use Rattle.tdi_host.specs.declared.step.Step.TheVariants as step
 use Rattle.tdi_host.specs.Judging.{Judged, Passed, Nonce, State, Bad, HasRoom, is_portion, if_portion, version_in}
 use Rattle.tdi_host.specs.Judging.{capabilities_in, nonce_in, portion_in, start_in, halt_in, state_in, judged_as}
-use Rattle.tdi_host.specs.Judging.{judged_reply}
+use Rattle.tdi_host.specs.Judging.{interface_reply_judged}
 
 fitting : (asked read : ℕ) (bytes : List ℕ) (remainder : ℕ) (fits : Bool)
     → is_portion asked read (length bytes) remainder ≡ fits
@@ -103,6 +103,6 @@ step_room step.State function asked read r = state_room read function r
 
 -- of any bytes
 pub reply_room : (s : Step) (function asked read : ℕ) (r : Result Reply TdispFault)
-    → HasRoom read (judged_reply s function asked read r)
+    → HasRoom read (interface_reply_judged s function asked read r)
 reply_room s function asked read (Err fault) = tt
 reply_room s function asked read (Ok r) = step_room s function asked read r

@@ -4,13 +4,14 @@ use Rattle.std.specs.Prelude.{slice_set, slice_get, IsSome, IfSome}
 use Rattle.tsm_host.specs.declared.operation.Carried.{Carried}
 use Rattle.tdi_host.specs.declared.interfaces.Asking.{Asking}
 use Rattle.tdi_host.specs.declared.operation.Outcome.{Outcome}
-use Rattle.tdi_host.specs.Steps.{Read, exchange_of}
-use Rattle.tdi_host.specs.Judging.{Judged, judged}
-use Rattle.tdi_host.specs.Views.{HostTdi, taken_interface, outcome_of}
-use Rattle.tdi_host.specs.Managers.{ManagerView, Current, current, current_in, current_by, judged_now, outcome_by}
-use Rattle.tdi_host.specs.Managers.{asking_after, read_after, taken_by}
+use Rattle.tdi_host.specs.Steps.{Read, exchange_number}
+use Rattle.tdi_host.specs.Judging.{Judged, interface_judged}
+use Rattle.tdi_host.specs.Views.{HostTdi, taken_interface, interface_outcome}
+use Rattle.tdi_host.specs.Managers.{InterfaceManagerView, CurrentInterface, current_interface, current_interface_in}
+use Rattle.tdi_host.specs.Managers.{current_by, judged_now, outcome_by}
+use Rattle.tdi_host.specs.Managers.{interface_asking_after, read_after, taken_interface_manager}
 
-abbrev pub asked_as : Asking → HostTdi → Current
+abbrev pub asked_as : Asking → HostTdi → CurrentInterface
 asked_as a i = record { interface = i; asking = a }
 
 at_place : (a : Asking) (xs : List HostTdi) (p : ℕ) (i : HostTdi) → i ≡ get_or xs p i
@@ -21,35 +22,40 @@ at_place a (x ∷ xs) zero i is some = ap (λ y. Some (asked_as a y)) (sym is)
 at_place a (x ∷ xs) (suc p) i is some = at_place a xs p i is some
 
 asked_in : (xs : List HostTdi) (asking : Option Asking) (a : Asking) (i : HostTdi) → asking ≡ Some a → i
-    ≡ get_or xs a.place i → IsSome (current_in xs asking)
-    → current_in xs asking ≡ Some (asked_as a i)
+    ≡ get_or xs a.place i → IsSome (current_interface_in xs asking)
+    → current_interface_in xs asking ≡ Some (asked_as a i)
 asked_in xs asking a i asked is some = rw asked
-    (at_place a xs a.place i is (subst (λ x. IsSome (current_in xs x)) asked some))
+    (at_place a xs a.place i is (subst (λ x. IsSome (current_interface_in xs x)) asked some))
 
 -- the exchange that is asked, by what is read of the fields
-pub asked_now : (m : ManagerView) (a : Asking) (i : HostTdi) → m.asking ≡ Some a → i ≡ get_or m.interfaces a.place i
-    → IsSome (current m)
-    → current m ≡ Some (asked_as a i)
+pub asked_now : (m : InterfaceManagerView) (a : Asking) (i : HostTdi) → m.asking ≡ Some a → i
+    ≡ get_or m.interfaces a.place i
+    → IsSome (current_interface m)
+    → current_interface m ≡ Some (asked_as a i)
 asked_now m a i asked is some = asked_in m.interfaces m.asking a i asked is some
 
-pub outcome_now : (m : ManagerView) (a : Asking) (i new : HostTdi) (carried : Carried) (exchange read : ℕ) (j : Judged)
+pub outcome_now : (m : InterfaceManagerView) (a : Asking) (i new : HostTdi) (carried : Carried) (exchange read : ℕ)
+    (j : Judged)
     (o : Outcome)
-    → current m ≡ Some (asked_as a i) → exchange ≡ exchange_of a.step m.read → read ≡ length m.read.bytes
-    → j ≡ judged a.step i.requester m.portion read carried → new ≡ taken_interface a.step a.draws j i
-    → o ≡ outcome_of a.step exchange j new → IfSome (current m) (λ c. o ≡ outcome_by m c (judged_now m c carried))
+    → current_interface m ≡ Some (asked_as a i) → exchange ≡ exchange_number a.step m.read → read ≡ length m.read.bytes
+    → j ≡ interface_judged a.step i.requester m.portion read carried → new ≡ taken_interface a.step a.draws j i
+    → o ≡ interface_outcome a.step exchange j new → IfSome (current_interface m)
+    (λ c. o ≡ outcome_by m c (judged_now m c carried))
 outcome_now m a i new carried exchange read j o is number size reply taken comes = rw
     (is, comes, taken, reply, number, size) refl
 
-pub manager_now : (m : ManagerView) (a : Asking) (i new : HostTdi) (carried : Carried) (exchange read : ℕ) (j : Judged)
+pub manager_now : (m : InterfaceManagerView) (a : Asking) (i new : HostTdi) (carried : Carried) (exchange read : ℕ)
+    (j : Judged)
     (o : Outcome) (next : Option Asking) (after : Read) (interfaces : List HostTdi) (portion : ℕ)
-    → current m ≡ Some (asked_as a i) → exchange ≡ exchange_of a.step m.read → read ≡ length m.read.bytes
-    → j ≡ judged a.step i.requester m.portion read carried → new ≡ taken_interface a.step a.draws j i
-    → o ≡ outcome_of a.step exchange j new → next ≡ asking_after a o → after ≡ read_after j m.read → interfaces
+    → current_interface m ≡ Some (asked_as a i) → exchange ≡ exchange_number a.step m.read → read ≡ length m.read.bytes
+    → j ≡ interface_judged a.step i.requester m.portion read carried → new ≡ taken_interface a.step a.draws j i
+    → o ≡ interface_outcome a.step exchange j new → next ≡ interface_asking_after a o → after ≡ read_after j m.read
+    → interfaces
     ≡ m.interfaces → portion ≡ m.portion
-    → IfSome (current m) (λ c.
-    (let kept : ManagerView = record
+    → IfSome (current_interface m) (λ c.
+    (let kept : InterfaceManagerView = record
     { interfaces = slice_set interfaces a.place new; portion = portion; asking = next; read = after } in kept)
-    ≡ taken_by m c (judged_now m c carried))
+    ≡ taken_interface_manager m c (judged_now m c carried))
 manager_now m a i new carried exchange read j o next after interfaces portion is number size reply taken comes goes
     reads same asks =
     rw (is, goes, reads, comes, taken, reply, number, size, same, asks) refl

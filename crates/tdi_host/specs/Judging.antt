@@ -38,21 +38,21 @@ abbrev pub if_same : ℕ → ℕ → Judged → Judged
 if_same function back judged = if back == function then judged else Bad
 
 -- any ERROR is a refusal, any other reply is none
-abbrev pub refusal_in : Reply → Judged
-refusal_in (Error back code value) = Refused code
-refusal_in reply = Bad
+abbrev pub error_judged : Reply → Judged
+error_judged (Error back code value) = Refused code
+error_judged reply = Bad
 
 abbrev pub version_in : ℕ → Reply → Judged
 version_in function (Version back versions) = if_same function back Passed
-version_in function reply = refusal_in reply
+version_in function reply = error_judged reply
 
 abbrev pub capabilities_in : ℕ → Reply → Judged
 capabilities_in function (Capabilities back device requests lock_flags width this all) = if_same function back Passed
-capabilities_in function reply = refusal_in reply
+capabilities_in function reply = error_judged reply
 
 abbrev pub nonce_in : ℕ → Reply → Judged
 nonce_in function (LockInterface back nonce) = if_same function back (Nonce nonce)
-nonce_in function reply = refusal_in reply
+nonce_in function reply = error_judged reply
 
 -- a portion has 1 to the asked number of bytes; with what was read before and what follows it, at most 1,140
 abbrev pub is_portion : ℕ → ℕ → ℕ → ℕ → Bool
@@ -65,19 +65,19 @@ if_portion fits bytes remainder = if fits then Portion bytes remainder else Bad
 abbrev pub portion_in : ℕ → ℕ → ℕ → Reply → Judged
 portion_in asked read function (DeviceInterfaceReport back remainder bytes) =
     if_same function back (if_portion (is_portion asked read (length bytes) remainder) bytes remainder)
-portion_in asked read function reply = refusal_in reply
+portion_in asked read function reply = error_judged reply
 
 abbrev pub start_in : ℕ → Reply → Judged
 start_in function (StartInterface back) = if_same function back Passed
-start_in function reply = refusal_in reply
+start_in function reply = error_judged reply
 
 abbrev pub halt_in : ℕ → Reply → Judged
 halt_in function (StopInterface back) = if_same function back Passed
-halt_in function reply = refusal_in reply
+halt_in function reply = error_judged reply
 
 abbrev pub state_in : ℕ → Reply → Judged
 state_in function (DeviceInterfaceState back state) = if_same function back (State state)
-state_in function reply = refusal_in reply
+state_in function reply = error_judged reply
 
 -- of an exchange with the interface of this function ID, if so many bytes of a portion are asked, and so many of the
 -- report were read before
@@ -90,15 +90,16 @@ judged_as step.Start function asked read reply = start_in function reply
 judged_as step.Halt function asked read reply = halt_in function reply
 judged_as step.State function asked read reply = state_in function reply
 
-abbrev pub judged_reply : Step → ℕ → ℕ → ℕ → Result Reply TdispFault → Judged
-judged_reply s function asked read (Err fault) = Bad
-judged_reply s function asked read (Ok reply) = judged_as s function asked read reply
+abbrev pub interface_reply_judged : Step → ℕ → ℕ → ℕ → Result Reply TdispFault → Judged
+interface_reply_judged s function asked read (Err fault) = Bad
+interface_reply_judged s function asked read (Ok reply) = judged_as s function asked read reply
 
 -- no reply of the device is a bad one
-abbrev pub judged : Step → ℕ → ℕ → ℕ → Carried → Judged
-judged s function asked read carried.Lost = Lost
-judged s function asked read (carried.Reply None) = Bad
-judged s function asked read (carried.Reply (Some bytes)) = judged_reply s function asked read (reply_reading bytes.now)
+abbrev pub interface_judged : Step → ℕ → ℕ → ℕ → Carried → Judged
+interface_judged s function asked read carried.Lost = Lost
+interface_judged s function asked read (carried.Reply None) = Bad
+interface_judged s function asked read (carried.Reply (Some bytes)) = interface_reply_judged s function asked read
+    (reply_reading bytes.now)
 
 -- there is room for a portion, which is not empty
 abbrev pub HasRoom : ℕ → Judged → Type 0

@@ -11,14 +11,15 @@ use Rattle.tdi_host.specs.declared.interfaces.Asking.{Asking}
 use Rattle.tdi_host.specs.declared.operation.InterfaceOp.{InterfaceOp}
 use Rattle.tdi_host.specs.declared.operation.Outcome.{Outcome}
 use Rattle.tdi_host.specs.declared.operation.Outcome.TheVariants.{Next}
-use Rattle.tdi_host.specs.Steps.{Read, first_step, next_step, exchange_of}
-use Rattle.tdi_host.specs.Judging.{Judged, Portion, judged}
-use Rattle.tdi_host.specs.Views.{HostTdi, new_interface, refusal_of, unless, request_of, taken_interface, outcome_of}
-use Rattle.tdi_host.specs.Views.{left_by_stop, left_by_reset, keyed_by, is_granted, grant_of}
+use Rattle.tdi_host.specs.Steps.{Read, first_step, next_step, exchange_number}
+use Rattle.tdi_host.specs.Judging.{Judged, Portion, interface_judged}
+use Rattle.tdi_host.specs.Views.{HostTdi, new_interface, interface_refusal_of, interface_unless, step_request}
+use Rattle.tdi_host.specs.Views.{taken_interface, interface_outcome}
+use Rattle.tdi_host.specs.Views.{left_by_stop, left_by_reset, keyed_by, is_granted, interface_grant}
 
--- The interfaces of all links, in the order of the links and of each link's interfaces; the number of bytes that a
--- portion of a report is asked of; the exchange that is to be asked and taken; what was read of a report.
-pub record ManagerView : Type 0 where
+-- The interfaces of all links, in the order of the links and of each link's interfaces; how many bytes of a report one
+-- portion asks for; the exchange that is to be asked and taken; what was read of a report.
+pub record InterfaceManagerView : Type 0 where
   pub interfaces : List HostTdi
   pub portion : ℕ
   pub asking : Option Asking
@@ -37,36 +38,37 @@ abbrev pub interfaces_from : ℕ → List LinkPlan → List HostTdi
 interfaces_from link [] = []
 interfaces_from link (l ∷ ls) = new_interfaces link l.interfaces ++ interfaces_from (link + 1) ls
 
-abbrev pub new_manager : List LinkPlan → ℕ → ManagerView
-new_manager links portion =
+abbrev pub new_interface_manager : List LinkPlan → ℕ → InterfaceManagerView
+new_interface_manager links portion =
     record { interfaces = interfaces_from 0 links; portion = portion; asking = None; read = nothing_read }
 
 -- ---- the exchange that is to be asked and taken
 
-pub record Current : Type 0 where
+pub record CurrentInterface : Type 0 where
   pub interface : HostTdi
   pub asking : Asking
 
-abbrev pub current_by : Asking → Option HostTdi → Option Current
+abbrev pub current_by : Asking → Option HostTdi → Option CurrentInterface
 current_by asking None = None
 current_by asking (Some i) = Some (record { interface = i; asking = asking })
 
-abbrev pub current_in : List HostTdi → Option Asking → Option Current
-current_in interfaces None = None
-current_in interfaces (Some asking) = current_by asking (slice_get interfaces asking.place)
+abbrev pub current_interface_in : List HostTdi → Option Asking → Option CurrentInterface
+current_interface_in interfaces None = None
+current_interface_in interfaces (Some asking) = current_by asking (slice_get interfaces asking.place)
 
-abbrev pub current : ManagerView → Option Current
-current m = current_in m.interfaces m.asking
+abbrev pub current_interface : InterfaceManagerView → Option CurrentInterface
+current_interface m = current_interface_in m.interfaces m.asking
 
-abbrev pub current_exchange : ManagerView → Current → ℕ
-current_exchange m c = exchange_of c.asking.step m.read
+abbrev pub current_exchange : InterfaceManagerView → CurrentInterface → ℕ
+current_exchange m c = exchange_number c.asking.step m.read
 
 -- ---- begin
 
 -- the interface at this place is asked; a refusal changes nothing
-abbrev pub begun : ManagerView → ℕ → InterfaceOp → StreamStatus → ℕ → HostTdi → ManagerView
-begun m place op s draws i =
-    unless (refusal_of op s i) m
+abbrev pub begun_interface_manager : InterfaceManagerView → ℕ → InterfaceOp → StreamStatus → ℕ → HostTdi
+    → InterfaceManagerView
+begun_interface_manager m place op s draws i =
+    interface_unless (interface_refusal_of op s i) m
     (record m {
       asking = Some (record { place = place; step = first_step op; draws = draws });
       read = nothing_read;
@@ -74,8 +76,8 @@ begun m place op s draws i =
 
 -- ---- ask
 
-abbrev pub request_asked : ManagerView → Current → RequestView
-request_asked m c = request_of c.asking.step m.portion (length m.read.bytes) c.interface
+abbrev pub interface_request : InterfaceManagerView → CurrentInterface → RequestView
+interface_request m c = step_request c.asking.step m.portion (length m.read.bytes) c.interface
 
 -- ---- take
 
@@ -83,48 +85,48 @@ abbrev pub read_after : Judged → Read → Read
 read_after (Portion bytes remainder) read = record { bytes = read.bytes ++ bytes; portions = read.portions + 1 }
 read_after judged read = read
 
-abbrev pub judged_now : ManagerView → Current → Carried → Judged
-judged_now m c carried = judged c.asking.step c.interface.requester m.portion (length m.read.bytes) carried
+abbrev pub judged_now : InterfaceManagerView → CurrentInterface → Carried → Judged
+judged_now m c carried = interface_judged c.asking.step c.interface.requester m.portion (length m.read.bytes) carried
 
-abbrev pub interface_by : Current → Judged → HostTdi
+abbrev pub interface_by : CurrentInterface → Judged → HostTdi
 interface_by c judged = taken_interface c.asking.step c.asking.draws judged c.interface
 
-abbrev pub outcome_by : ManagerView → Current → Judged → Outcome
-outcome_by m c judged = outcome_of c.asking.step (current_exchange m c) judged (interface_by c judged)
+abbrev pub outcome_by : InterfaceManagerView → CurrentInterface → Judged → Outcome
+outcome_by m c judged = interface_outcome c.asking.step (current_exchange m c) judged (interface_by c judged)
 
 -- an operation that goes on is asked again
-abbrev pub asking_after : Asking → Outcome → Option Asking
-asking_after asking Next = Some (record asking { step = next_step asking.step })
-asking_after asking outcome = None
+abbrev pub interface_asking_after : Asking → Outcome → Option Asking
+interface_asking_after asking Next = Some (record asking { step = next_step asking.step })
+interface_asking_after asking outcome = None
 
-abbrev pub taken_by : ManagerView → Current → Judged → ManagerView
-taken_by m c judged = record {
+abbrev pub taken_interface_manager : InterfaceManagerView → CurrentInterface → Judged → InterfaceManagerView
+taken_interface_manager m c judged = record {
   interfaces = slice_set m.interfaces c.asking.place (interface_by c judged);
   portion = m.portion;
-  asking = asking_after c.asking (outcome_by m c judged);
+  asking = interface_asking_after c.asking (outcome_by m c judged);
   read = read_after judged m.read;
 }
 
 -- ---- what breaks views, and the draws of streams; no exchange is under way after it
 
-abbrev pub all_interfaces : (HostTdi → HostTdi) → ManagerView → ManagerView
+abbrev pub all_interfaces : (HostTdi → HostTdi) → InterfaceManagerView → InterfaceManagerView
 all_interfaces f m = record m { interfaces = map f m.interfaces; asking = None }
 
-abbrev pub stop_begun : ℕ → ℕ → ManagerView → ManagerView
+abbrev pub stop_begun : ℕ → ℕ → InterfaceManagerView → InterfaceManagerView
 stop_begun link stream m = all_interfaces (left_by_stop link stream) m
 
-abbrev pub stream_keyed : ℕ → ℕ → ℕ → ManagerView → ManagerView
+abbrev pub stream_keyed : ℕ → ℕ → ℕ → InterfaceManagerView → InterfaceManagerView
 stream_keyed link stream draw m = all_interfaces (keyed_by link stream draw) m
 
-abbrev pub reset_manager : ℕ → ManagerView → ManagerView
-reset_manager link m = all_interfaces (left_by_reset link) m
+abbrev pub reset_interface_manager : ℕ → InterfaceManagerView → InterfaceManagerView
+reset_interface_manager link m = all_interfaces (left_by_reset link) m
 
 -- ---- grants
 
 abbrev pub granted_at : List HostTdi → Option ℕ → Option (ℕ × ℕ)
 granted_at interfaces None = None
-granted_at interfaces (Some place) = option_map_or grant_of (slice_get interfaces place) None
+granted_at interfaces (Some place) = option_map_or interface_grant (slice_get interfaces place) None
 
 -- of the interface of the link with this requester ID that is running
-abbrev pub granted : ManagerView → ℕ → ℕ → Option (ℕ × ℕ)
+abbrev pub granted : InterfaceManagerView → ℕ → ℕ → Option (ℕ × ℕ)
 granted m link requester = granted_at m.interfaces (position (is_granted link requester) m.interfaces)

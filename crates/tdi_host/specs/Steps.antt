@@ -24,9 +24,9 @@ pub record Read : Type 0 where
   pub portions : ℕ
 
 -- the exchange's number, from 1
-abbrev pub exchange_of : Step → Read → ℕ
-exchange_of step.Version read = 1
-exchange_of step.Capabilities read = 2
-exchange_of step.Lock read = 3
-exchange_of step.Report read = read.portions + 1
-exchange_of s read = 1
+abbrev pub exchange_number : Step → Read → ℕ
+exchange_number step.Version read = 1
+exchange_number step.Capabilities read = 2
+exchange_number step.Lock read = 3
+exchange_number step.Report read = read.portions + 1
+exchange_number s read = 1

@@ -86,12 +86,12 @@ new_interface link plan = record {
 
 -- ---- begin: refusals, in order
 
-abbrev pub unless_secure : StreamStatus → Option Refusal → Option Refusal
-unless_secure status.Secure refusal = refusal
-unless_secure s refusal = Some (NotSecure s)
+abbrev pub interface_unless_secure : StreamStatus → Option Refusal → Option Refusal
+interface_unless_secure status.Secure refusal = refusal
+interface_unless_secure s refusal = Some (NotSecure s)
 
 abbrev pub lock_refusal : StreamStatus → Seen → Option Refusal
-lock_refusal s IsUnlocked = unless_secure s None
+lock_refusal s IsUnlocked = interface_unless_secure s None
 lock_refusal s v = Some (WrongState (view_of v))
 
 abbrev pub report_refusal : Seen → Option Refusal
@@ -104,38 +104,38 @@ key_refusal draw needs = if nat_lt draw needs then Some (RefreshFirst draw needs
 
 abbrev pub start_refusal : StreamStatus → ℕ → ℕ → Seen → Option Refusal
 start_refusal s draw needs (IsLocked nonce is_reported) =
-    if is_reported then unless_secure s (key_refusal draw needs) else Some NotReported
+    if is_reported then interface_unless_secure s (key_refusal draw needs) else Some NotReported
 start_refusal s draw needs v = Some (WrongState (view_of v))
 
 -- if its stream has this status at the host's port
-abbrev pub refusal_of : InterfaceOp → StreamStatus → HostTdi → Option Refusal
-refusal_of op.Lock s i = lock_refusal s i.seen
-refusal_of op.Report s i = report_refusal i.seen
-refusal_of op.Start s i = start_refusal s i.draw i.needs i.seen
-refusal_of op.Halt s i = None
-refusal_of op.State s i = None
+abbrev pub interface_refusal_of : InterfaceOp → StreamStatus → HostTdi → Option Refusal
+interface_refusal_of op.Lock s i = lock_refusal s i.seen
+interface_refusal_of op.Report s i = report_refusal i.seen
+interface_refusal_of op.Start s i = start_refusal s i.draw i.needs i.seen
+interface_refusal_of op.Halt s i = None
+interface_refusal_of op.State s i = None
 
-abbrev pub ok_unless : Option Refusal → Result (Unit {0}) Refusal
-ok_unless None = Ok tt
-ok_unless (Some refusal) = Err refusal
+abbrev pub interface_ok_unless : Option Refusal → Result (Unit {0}) Refusal
+interface_ok_unless None = Ok tt
+interface_ok_unless (Some refusal) = Err refusal
 
 -- a refusal changes nothing
-abbrev pub unless : {A : Type 0} → Option Refusal → A → A → A
-unless None old new = new
-unless (Some refusal) old new = old
+abbrev pub interface_unless : {A : Type 0} → Option Refusal → A → A → A
+interface_unless None old new = new
+interface_unless (Some refusal) old new = old
 
 -- ---- ask
 
 -- The request of an exchange: the function ID is the requester ID, of segment 0, not valid; the P2P mask is 0. Of a
 -- report, `portion` bytes are asked after the `read` that were read before.
-abbrev pub request_of : Step → ℕ → ℕ → HostTdi → RequestView
-request_of step.Version portion read i = request.GetVersion i.requester
-request_of step.Capabilities portion read i = request.GetCapabilities i.requester
-request_of step.Lock portion read i = request.LockInterface i.requester i.flags i.stream i.offset 0
-request_of step.Report portion read i = request.GetDeviceInterfaceReport i.requester read portion
-request_of step.Start portion read i = request.StartInterface i.requester (nonce_of i.seen)
-request_of step.Halt portion read i = request.StopInterface i.requester
-request_of step.State portion read i = request.GetDeviceInterfaceState i.requester
+abbrev pub step_request : Step → ℕ → ℕ → HostTdi → RequestView
+step_request step.Version portion read i = request.GetVersion i.requester
+step_request step.Capabilities portion read i = request.GetCapabilities i.requester
+step_request step.Lock portion read i = request.LockInterface i.requester i.flags i.stream i.offset 0
+step_request step.Report portion read i = request.GetDeviceInterfaceReport i.requester read portion
+step_request step.Start portion read i = request.StartInterface i.requester (nonce_of i.seen)
+step_request step.Halt portion read i = request.StopInterface i.requester
+step_request step.State portion read i = request.GetDeviceInterfaceState i.requester
 
 -- ---- take: the view
 
@@ -168,10 +168,10 @@ abbrev pub after_report : Judged → Seen → Seen
 after_report (Portion bytes remainder) v = if remainder == 0 then reported v else v
 after_report judged v = v
 
-abbrev pub after_start : ℕ → Judged → Seen → Seen
-after_start draw Passed v = started draw v
-after_start draw (Refused code) v = IsBroken
-after_start draw judged v = IsDoubt
+abbrev pub seen_after_start : ℕ → Judged → Seen → Seen
+seen_after_start draw Passed v = started draw v
+seen_after_start draw (Refused code) v = IsBroken
+seen_after_start draw judged v = IsDoubt
 
 abbrev pub after_halt : Judged → Seen → Seen
 after_halt Passed v = IsUnlocked
@@ -187,7 +187,7 @@ seen_after step.Version draw judged v = v
 seen_after step.Capabilities draw judged v = v
 seen_after step.Lock draw judged v = after_lock judged v
 seen_after step.Report draw judged v = after_report judged v
-seen_after step.Start draw judged v = after_start draw judged v
+seen_after step.Start draw judged v = seen_after_start draw judged v
 seen_after step.Halt draw judged v = after_halt judged v
 seen_after step.State draw judged v = after_state judged v
 
@@ -214,45 +214,45 @@ taken_interface s draws judged i = record i {
 -- ---- take: its outcome
 
 -- the operation is over; what is neither expected nor a refusal is a bad reply
-abbrev pub cut : ℕ → Judged → Outcome
-cut exchange Lost = outcome.Refused (SessionLost exchange)
-cut exchange (Refused code) = outcome.Refused (DeviceRefused exchange code)
-cut exchange judged = outcome.Refused (BadReply exchange)
+abbrev pub cut_outcome : ℕ → Judged → Outcome
+cut_outcome exchange Lost = outcome.Refused (SessionLost exchange)
+cut_outcome exchange (Refused code) = outcome.Refused (DeviceRefused exchange code)
+cut_outcome exchange judged = outcome.Refused (BadReply exchange)
 
-abbrev pub goes_on : ℕ → Judged → Outcome
-goes_on exchange Passed = outcome.Next
-goes_on exchange judged = cut exchange judged
+abbrev pub next_or_cut : ℕ → Judged → Outcome
+next_or_cut exchange Passed = outcome.Next
+next_or_cut exchange judged = cut_outcome exchange judged
 
 abbrev pub lock_outcome : ℕ → Judged → Outcome
 lock_outcome exchange (Nonce nonce) = outcome.Done (shown.Nonce nonce)
-lock_outcome exchange judged = cut exchange judged
+lock_outcome exchange judged = cut_outcome exchange judged
 
 abbrev pub report_outcome : ℕ → Judged → Outcome
 report_outcome exchange (Portion bytes remainder) =
     if remainder == 0 then outcome.Done shown.Report else outcome.Next
-report_outcome exchange judged = cut exchange judged
+report_outcome exchange judged = cut_outcome exchange judged
 
 abbrev pub start_outcome : ℕ → ℕ → Judged → Outcome
 start_outcome exchange draw Passed = outcome.Done (shown.Draw draw)
-start_outcome exchange draw judged = cut exchange judged
+start_outcome exchange draw judged = cut_outcome exchange judged
 
 abbrev pub halt_outcome : ℕ → ℕ → Judged → Outcome
 halt_outcome exchange needs Passed = outcome.Done (shown.Needs needs)
-halt_outcome exchange needs judged = cut exchange judged
+halt_outcome exchange needs judged = cut_outcome exchange judged
 
 abbrev pub state_outcome : ℕ → Judged → Outcome
 state_outcome exchange (State code) = outcome.Done (shown.State code)
-state_outcome exchange judged = cut exchange judged
+state_outcome exchange judged = cut_outcome exchange judged
 
 -- `after` is the interface after the exchange
-abbrev pub outcome_of : Step → ℕ → Judged → HostTdi → Outcome
-outcome_of step.Version exchange judged after = goes_on exchange judged
-outcome_of step.Capabilities exchange judged after = goes_on exchange judged
-outcome_of step.Lock exchange judged after = lock_outcome exchange judged
-outcome_of step.Report exchange judged after = report_outcome exchange judged
-outcome_of step.Start exchange judged after = start_outcome exchange after.draw judged
-outcome_of step.Halt exchange judged after = halt_outcome exchange after.needs judged
-outcome_of step.State exchange judged after = state_outcome exchange judged
+abbrev pub interface_outcome : Step → ℕ → Judged → HostTdi → Outcome
+interface_outcome step.Version exchange judged after = next_or_cut exchange judged
+interface_outcome step.Capabilities exchange judged after = next_or_cut exchange judged
+interface_outcome step.Lock exchange judged after = lock_outcome exchange judged
+interface_outcome step.Report exchange judged after = report_outcome exchange judged
+interface_outcome step.Start exchange judged after = start_outcome exchange after.draw judged
+interface_outcome step.Halt exchange judged after = halt_outcome exchange after.needs judged
+interface_outcome step.State exchange judged after = state_outcome exchange judged
 
 -- ---- what breaks views
 
@@ -261,16 +261,16 @@ abbrev pub broken : Seen → Seen
 broken IsUnlocked = IsUnlocked
 broken v = IsBroken
 
-abbrev pub is_bound : ℕ → ℕ → HostTdi → Bool
-is_bound link stream i = (i.link == link) && (i.stream == stream)
+abbrev pub is_bound_to : ℕ → ℕ → HostTdi → Bool
+is_bound_to link stream i = (i.link == link) && (i.stream == stream)
 
 -- a stop of this stream began
 abbrev pub left_by_stop : ℕ → ℕ → HostTdi → HostTdi
-left_by_stop link stream i = if is_bound link stream i then record i { seen = broken i.seen } else i
+left_by_stop link stream i = if is_bound_to link stream i then record i { seen = broken i.seen } else i
 
 -- this is the stream's draw from now on
 abbrev pub keyed_by : ℕ → ℕ → ℕ → HostTdi → HostTdi
-keyed_by link stream draw i = if is_bound link stream i then record i { draw = draw } else i
+keyed_by link stream draw i = if is_bound_to link stream i then record i { draw = draw } else i
 
 -- the link was reset
 abbrev pub left_by_reset : ℕ → HostTdi → HostTdi
@@ -290,5 +290,5 @@ abbrev pub grant_by : ℕ → Option ℕ → Option (ℕ × ℕ)
 grant_by stream None = None
 grant_by stream (Some floor) = Some (stream, floor)
 
-abbrev pub grant_of : HostTdi → Option (ℕ × ℕ)
-grant_of i = grant_by i.stream (floor_of i.seen)
+abbrev pub interface_grant : HostTdi → Option (ℕ × ℕ)
+interface_grant i = grant_by i.stream (floor_of i.seen)

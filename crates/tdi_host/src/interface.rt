@@ -2,7 +2,14 @@
 
 ghost use Rattle.std.specs.Prelude.{◌≡◌, Some, None};
 ghost use Rattle.tdi_host.specs.Judging.{answer_shown};
-ghost use Rattle.tdi_host.specs.Views.{unless_secure, key_refusal, cut, goes_on, lock_outcome, report_outcome};
+ghost use Rattle.tdi_host.specs.Views.{
+  interface_unless_secure,
+  key_refusal,
+  cut_outcome,
+  next_or_cut,
+  lock_outcome,
+  report_outcome,
+};
 ghost use Rattle.tdi_host.specs.Views.{start_outcome, halt_outcome, state_outcome, was_started_after, needs_after};
 
 use crate::judge::Answer;
@@ -47,9 +54,9 @@ impl Model for HostInterface {
     } };
 }
 
-// Why a stream of this status, wanted Secure, does not do.
+// `NotSecure` unless the stream is Secure, else what else refuses.
 fn unless_secure(status: StreamStatus, refusal: Option<Refusal>) -> Option<Refusal>
-    ensures { result ≡ unless_secure status refusal }
+    ensures { result ≡ interface_unless_secure status refusal }
 {
     match status {
         StreamStatus::Secure => refusal,
@@ -69,7 +76,7 @@ fn key_refusal(draw: u32, needs: u32) -> Option<Refusal>
 
 // The operation is over at this exchange.
 fn cut(exchange: u32, answer: Answer) -> Outcome
-    ensures { result ≡ cut exchange (answer_shown answer.entry) }
+    ensures { result ≡ cut_outcome exchange (answer_shown answer.entry) }
 {
     match answer {
         Answer::Lost => Outcome::Refused(Refusal::SessionLost(exchange)),
@@ -79,7 +86,7 @@ fn cut(exchange: u32, answer: Answer) -> Outcome
 }
 
 fn goes_on(exchange: u32, answer: Answer) -> Outcome
-    ensures { result ≡ goes_on exchange (answer_shown answer.entry) }
+    ensures { result ≡ next_or_cut exchange (answer_shown answer.entry) }
 {
     match answer {
         Answer::Passed => Outcome::Next,
@@ -165,17 +172,17 @@ impl HostInterface {
       lock_refusal,
       report_refusal,
       start_refusal,
-      refusal_of,
-      request_of,
+      interface_refusal_of,
+      step_request,
       taken_interface,
-      outcome_of,
+      interface_outcome,
       view_of,
-      is_bound,
+      is_bound_to,
       left_by_stop,
       keyed_by,
       left_by_reset,
       is_granted,
-      grant_of,
+      interface_grant,
       broken,
     };
 
@@ -266,7 +273,7 @@ impl HostInterface {
 
     /// Why an operation does not begin, if the bound stream has this status at the host's port; `None` if it begins.
     pub(crate) fn refusal(&self, op: InterfaceOp, status: StreamStatus) -> Option<Refusal>
-        ensures { result ≡ refusal_of op status self.now }
+        ensures { result ≡ interface_refusal_of op status self.now }
     {
         match op {
             InterfaceOp::Lock => self.lock_refusal(status),
@@ -278,7 +285,7 @@ impl HostInterface {
 
     /// The outcome after an exchange with this number.
     pub(crate) fn outcome(&self, step: Step, exchange: u32, answer: Answer) -> Outcome
-        ensures { result ≡ outcome_of step exchange (answer_shown answer.entry) self.now }
+        ensures { result ≡ interface_outcome step exchange (answer_shown answer.entry) self.now }
     {
         match step {
             Step::Version | Step::Capabilities => goes_on(exchange, answer),
@@ -301,7 +308,7 @@ impl HostInterface {
     }
 
     fn is_bound(&self, link: u8, stream: u8) -> bool
-        ensures { result ≡ is_bound link stream self.now }
+        ensures { result ≡ is_bound_to link stream self.now }
     {
         self.link == link && self.stream == stream
     }
@@ -349,7 +356,7 @@ impl HostInterface {
 
     /// The bound stream and the floor of a run.
     pub(crate) fn grant(&self) -> Option<(u8, u32)>
-        ensures { result ≡ grant_of self.now }
+        ensures { result ≡ interface_grant self.now }
     {
         match self.standing.floor() {
             Some(floor) => Some((self.stream, floor)),
@@ -359,7 +366,7 @@ impl HostInterface {
 
     /// The request of an exchange: of a report, `asked` bytes after the `read` bytes that were read before.
     pub(crate) fn request(&self, step: Step, asked: u16, read: u16) -> RequestView
-        ensures { result ≡ request_of step asked read self.now }
+        ensures { result ≡ step_request step asked read self.now }
     {
         let function = u32::from(self.requester);
         match step {

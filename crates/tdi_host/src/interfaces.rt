@@ -3,9 +3,16 @@
 ghost use Rattle.std.specs.Prelude.{◌≡◌, ℕ, ◌+◌, ◌++◌, ◌≤◌, ◌<◌, IsSome, IfSome, IfOk, Option, is_some, length, map};
 ghost use Rattle.std.specs.Prelude.{position, slice_get, vec_len, vec_capacity};
 ghost use Rattle.tdisp_codec.specs.Requests.{request_spelling};
-ghost use Rattle.tdi_host.specs.Views.{view_of, ok_unless, refusal_of, left_by_stop, keyed_by, left_by_reset};
+ghost use Rattle.tdi_host.specs.Views.{
+  view_of,
+  interface_ok_unless,
+  interface_refusal_of,
+  left_by_stop,
+  keyed_by,
+  left_by_reset,
+};
 ghost use Rattle.tdi_host.specs.Views.{is_granted};
-ghost use Rattle.tdi_host.specs.Managers.{new_interfaces, asking_after};
+ghost use Rattle.tdi_host.specs.Managers.{new_interfaces, interface_asking_after};
 
 use crate::interface::HostInterface;
 use crate::judge::judge;
@@ -29,7 +36,8 @@ pub struct Asking {
 }
 
 /// The host's manager of the interfaces of all links, which are numbered in the order of the links and of each link's
-/// interfaces, from 0. It has at most one exchange under way: that of the operation which `begin` began last.
+/// interfaces, from 0 (TDISP section 11.3, in this profile). It has at most one exchange under way: that of the
+/// operation which `begin` began last.
 #[derive(Drop)]
 pub struct Interfaces {
     interfaces: Vec<HostInterface>,
@@ -39,9 +47,9 @@ pub struct Interfaces {
 }
 
 impl Model for Interfaces {
-    ghost use Rattle.tdi_host.specs.Managers.{ManagerView};
+    ghost use Rattle.tdi_host.specs.Managers.{InterfaceManagerView};
 
-    ghost Value = { ManagerView };
+    ghost Value = { InterfaceManagerView };
 
     ghost view = { λ m. record {
       interfaces = m.interfaces.items;
@@ -67,7 +75,7 @@ fn add_interfaces(
 
 // The exchange that is next, if the operation goes on.
 fn still_asking(asking: Asking, outcome: Outcome) -> Option<Asking>
-    ensures { result ≡ asking_after asking outcome }
+    ensures { result ≡ interface_asking_after asking outcome }
 {
     match outcome {
         Outcome::Next => Some(Asking {
@@ -105,26 +113,26 @@ fn reset_all(interfaces: &mut Vec<HostInterface>, link: u8)
 
 impl Interfaces {
     ghost use Rattle.tdi_host.specs.Managers.{
-      new_manager,
+      new_interface_manager,
       nothing_read,
-      current,
+      current_interface,
       current_exchange,
-      begun,
-      request_asked,
+      begun_interface_manager,
+      interface_request,
       judged_now,
       outcome_by,
-      taken_by,
+      taken_interface_manager,
       stop_begun,
       stream_keyed,
-      reset_manager,
+      reset_interface_manager,
       granted,
     };
 
-    /// A manager of the interfaces of these links, of which there are up to 8; none is locked. A portion of a report is
-    /// asked of `portion` bytes.
+    /// A manager of the interfaces of these links, up to 8 links; no interface is locked. It asks for a report in
+    /// portions of `portion` bytes. Returns `Memory` for want of memory.
     pub fn make(alloc: Global, links: &Items<LinkPlan>, portion: u16) -> Result<Interfaces, Memory>
         requires { length links.now ≤ 8 }
-        ensures { IfOk result (λ m. m ≡ new_manager links.now portion) }
+        ensures { IfOk result (λ m. m ≡ new_interface_manager links.now portion) }
     {
         let mut interfaces = Vec::new(alloc);
         let mut number = 0;
@@ -223,9 +231,9 @@ impl Interfaces {
     ) -> Result<(), Refusal>
         requires { interface < length self.old.interfaces }
         ensures answer { IfSome (slice_get self.old.interfaces interface) (λ i.
-            result ≡ ok_unless (refusal_of op status i)) }
+            result ≡ interface_ok_unless (interface_refusal_of op status i)) }
         ensures manager { IfSome (slice_get self.old.interfaces interface) (λ i.
-            self.new ≡ begun self.old interface op status draws i) }
+            self.new ≡ begun_interface_manager self.old interface op status draws i) }
     {
         match self.interfaces[interface].refusal(op, status) {
             Some(refusal) => Err(refusal),
@@ -244,7 +252,7 @@ impl Interfaces {
     /// Whether an exchange is to be asked and taken: from a `begin` that answered `Ok` on, until the operation is over,
     /// a stop begins, a stream is keyed or a link is reset.
     pub fn is_asking(&self) -> bool
-        ensures { result ≡ is_some (current self.now) }
+        ensures { result ≡ is_some (current_interface self.now) }
     {
         match self.asking {
             None => false,
@@ -254,8 +262,8 @@ impl Interfaces {
 
     /// The number of the exchange that `ask` writes, from 1.
     pub fn exchange(&self) -> u32
-        requires { IsSome (current self.now) }
-        ensures { IfSome (current self.now) (λ c. result ≡ current_exchange self.now c) }
+        requires { IsSome (current_interface self.now) }
+        ensures { IfSome (current_interface self.now) (λ c. result ≡ current_exchange self.now c) }
     {
         let Some(asking) = self.asking else {
             unreachable!()
@@ -265,10 +273,10 @@ impl Interfaces {
 
     /// Appends the request of the exchange that is next, for which `out` has 49 bytes of room. It takes no memory.
     pub fn ask(&self, out: &mut Vec<u8>)
-        requires asking { IsSome (current self.now) }
+        requires asking { IsSome (current_interface self.now) }
         requires room { vec_len out.old + 49 ≤ vec_capacity out.old }
-        ensures items { IfSome (current self.now) (λ c. out.new.items ≡ out.old.items
-            ++ request_spelling (request_asked self.now c)) }
+        ensures items { IfSome (current_interface self.now) (λ c. out.new.items ≡ out.old.items
+            ++ request_spelling (interface_request self.now c)) }
         ensures capacity { vec_capacity out.old ≤ vec_capacity out.new }
     {
         let Some(asking) = self.asking else {
@@ -281,11 +289,11 @@ impl Interfaces {
 
     /// Takes what was carried in answer to the request of the exchange that is next.
     pub fn take(&mut self, carried: Carried) -> Outcome
-        requires { IsSome (current self.old) }
-        ensures outcome { IfSome (current self.old) (λ c.
+        requires { IsSome (current_interface self.old) }
+        ensures outcome { IfSome (current_interface self.old) (λ c.
             result ≡ outcome_by self.old c (judged_now self.old c carried.entry)) }
-        ensures manager { IfSome (current self.old) (λ c.
-            self.new ≡ taken_by self.old c (judged_now self.old c carried.entry)) }
+        ensures manager { IfSome (current_interface self.old) (λ c.
+            self.new ≡ taken_interface_manager self.old c (judged_now self.old c carried.entry)) }
     {
         let Some(asking) = self.asking else {
             unreachable!()
@@ -328,7 +336,7 @@ impl Interfaces {
 
     /// Notes that a link was reset: views of its interfaces that are Locked, Running or Doubt become Broken.
     pub fn link_reset(&mut self, link: u8)
-        ensures { self.new ≡ reset_manager link self.old }
+        ensures { self.new ≡ reset_interface_manager link self.old }
     {
         reset_all(&mut self.interfaces, link);
         self.asking = None;

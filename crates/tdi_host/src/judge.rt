@@ -2,16 +2,16 @@
 
 ghost use Rattle.std.specs.Prelude.{◌≡◌, ◌+◌, ◌≤◌, length};
 ghost use Rattle.tdisp_codec.specs.Replies.{reply_shown, reply_answer, reply_reading};
-ghost use Rattle.tdi_host.specs.Judging.{answer_shown, if_same, refusal_in, version_in, capabilities_in, nonce_in};
+ghost use Rattle.tdi_host.specs.Judging.{answer_shown, if_same, error_judged, version_in, capabilities_in, nonce_in};
 ghost use Rattle.tdi_host.specs.Judging.{is_portion, if_portion, portion_in, start_in, halt_in, state_in, judged_as};
-ghost use Rattle.tdi_host.specs.Judging.{judged_reply, judged, HasRoom};
+ghost use Rattle.tdi_host.specs.Judging.{interface_reply_judged, interface_judged, HasRoom};
 
 use crate::step::Step;
 use tdisp_codec::{ReplyView, reply_read};
 use tsm_host::Carried;
 
 /// What was carried in answer to a request: the expected reply with its value, a refusal with its code, nothing at all,
-/// or anything else.
+/// or anything else (this profile).
 #[derive(Clone, Copy, Debug, PartialEq, Eq)]
 pub(crate) enum Answer<'a> {
     Passed,
@@ -35,7 +35,7 @@ fn if_same<'a>(function: u32, back: u32, answer: Answer<'a>) -> Answer<'a>
 }
 
 fn refusal<'a>(reply: ReplyView<'a>) -> Answer<'a>
-    ensures { answer_shown result ≡ refusal_in (reply_shown reply.entry) }
+    ensures { answer_shown result ≡ error_judged (reply_shown reply.entry) }
 {
     match reply {
         ReplyView::Error { code, .. } => Answer::Refused(code),
@@ -162,7 +162,7 @@ fn of_step<'a>(
 
 fn of_bytes<'a>(step: Step, function: u32, asked: u16, read: usize, bytes: &'a [u8]) -> Answer<'a>
     requires { read ≤ 1140 }
-    ensures { answer_shown result ≡ judged_reply step function asked read (reply_reading bytes.now) }
+    ensures { answer_shown result ≡ interface_reply_judged step function asked read (reply_reading bytes.now) }
 {
     match reply_read(bytes) {
         Ok(reply) => of_step(step, function, asked, read, reply),
@@ -180,7 +180,7 @@ pub(crate) fn judge<'a>(
     carried: Carried<'a>,
 ) -> Answer<'a>
     requires { read ≤ 1140 }
-    ensures answer { answer_shown result ≡ judged step function asked read carried.entry }
+    ensures answer { answer_shown result ≡ interface_judged step function asked read carried.entry }
     ensures room { HasRoom read (answer_shown result) }
 {
     match carried {

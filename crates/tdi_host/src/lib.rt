@@ -14,8 +14,6 @@ mod portions;
 mod standing;
 mod step;
 mod tdi;
-#[cfg(test)]
-mod tests;
 
 pub use interfaces::Interfaces;
 pub use operation::{InterfaceOp, Outcome, Refusal, Shown, View};

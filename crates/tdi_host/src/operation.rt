@@ -33,7 +33,8 @@ pub enum View {
     Broken,
 }
 
-/// The outcome of an exchange: the operation's next one is to be asked; the operation is at its end; it is over.
+/// The outcome of an exchange: the operation's next one is to be asked; the operation is at its end; it is over (this
+/// profile).
 #[derive(Clone, Copy, Debug, PartialEq, Eq)]
 pub enum Outcome {
     Next,
@@ -56,7 +57,7 @@ pub enum Shown {
     State(u8),
 }
 
-/// Why an operation does not begin, or is over before its end. Exchanges are numbered from 1.
+/// Why an operation does not begin, or is over before its end (this profile). Exchanges are numbered from 1.
 #[derive(Clone, Copy, Debug, PartialEq, Eq)]
 pub enum Refusal {
     /// The view does not allow it.

@@ -1,7 +1,7 @@
 //! The portions of a report.
 
 ghost use Rattle.std.specs.Prelude.{◌≡◌, ◌+◌, ◌≤◌, ◌++◌, [], IfOk, length};
-ghost use Rattle.tdi_host.specs.Steps.{exchange_of};
+ghost use Rattle.tdi_host.specs.Steps.{exchange_number};
 ghost use Rattle.tdi_host.specs.Judging.{answer_shown, HasRoom};
 ghost use Rattle.tdi_host.specs.Managers.{read_after};
 
@@ -92,7 +92,7 @@ impl Portions {
 
     /// The number of an exchange, from 1.
     pub(crate) fn exchange(&self, step: Step) -> u32
-        ensures { result ≡ exchange_of step self.now }
+        ensures { result ≡ exchange_number step self.now }
     {
         match step {
             Step::Version => 1,

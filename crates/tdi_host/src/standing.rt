@@ -3,7 +3,7 @@
 ghost use Rattle.std.specs.Prelude.{◌≡◌};
 ghost use Rattle.tdi_host.specs.Judging.{answer_shown};
 ghost use Rattle.tdi_host.specs.Views.{seen, IsUnlocked, locked_by, reported, started, compared, after_lock};
-ghost use Rattle.tdi_host.specs.Views.{after_report, after_start, after_halt, after_state, seen_after, broken};
+ghost use Rattle.tdi_host.specs.Views.{after_report, seen_after_start, after_halt, after_state, seen_after, broken};
 
 use crate::judge::Answer;
 use crate::operation::View;
@@ -152,7 +152,7 @@ impl Standing {
     }
 
     fn after_start(self, draw: u32, answer: Answer) -> Standing
-        ensures { seen result ≡ after_start draw (answer_shown answer.entry) (seen self) }
+        ensures { seen result ≡ seen_after_start draw (answer_shown answer.entry) (seen self) }
     {
         match answer {
             Answer::Passed => self.started(draw),

@@ -1,7 +1,7 @@
 //! The exchanges of the operations.
 
 ghost use Rattle.std.specs.Prelude.{◌≡◌};
-ghost use Rattle.tdi_host.specs.Steps.{first_step, exchange_of};
+ghost use Rattle.tdi_host.specs.Steps.{first_step, exchange_number};
 
 use crate::operation::InterfaceOp;
 

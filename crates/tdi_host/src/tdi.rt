@@ -2,8 +2,8 @@
 
 ghost use Rattle.std.specs.Prelude.{◌≡◌, true, false};
 
-/// The manager's view of an interface. It is neither `Copy` nor `Clone`: each move takes the old view and gives the new
-/// one, so no lock is started twice, and no nonce outlives its view.
+/// The manager's view of an interface (this profile). It is neither `Copy` nor `Clone`: each move takes the old view
+/// and gives the new one, so no lock is started twice, and no nonce outlives its view.
 #[derive(Drop)]
 pub struct Tdi<S> {
     state: S,

@@ -1,4 +1,4 @@
--- How a lock comes to stand, and RUN is entered.
+-- How a lock is made, and RUN is entered.
 use Rattle.std.proofs.Common.{◌≡◌, ℕ, Bool, true, not, ◌&&◌, ◌⊎◌, inl, inr, List, Option, Some, Result, Ok, Err}
 use Rattle.std.proofs.Common.{if◌then◌else◌, refl, sym, ap, ◌∙◌, arith}
 use Rattle.std.proofs.lemmas.Bool.Decides.{nat_tests}
@@ -46,7 +46,7 @@ started_locked : (state : TdiState) (asked nonce : List ℕ) (lock : Lock) → a
     ≡ ConfigLocked lock nonce → state ≡ ConfigLocked lock nonce
 started_locked state asked nonce lock e = grind (arith, nat_tests)
 
--- only the answer Ok enters the lock, and it comes where every refusal fails, the state among them
+-- only the answer Ok enters the lock, and it comes if every refusal fails, the state among them
 enters : (tdi : Tdi) (flags stream offset : ℕ) (secure : Bool) (drawn : Option (List ℕ)) (lock : Lock) (nonce : List ℕ)
     → lock_answer tdi flags offset secure drawn ≡ Ok nonce → new_lock tdi flags stream offset ≡ lock
     → EntersLock tdi (LockInterface flags stream offset secure drawn) lock nonce
@@ -65,7 +65,7 @@ enters tdi flags stream offset secure drawn lock nonce is new =
       kept = sym (ap (λ (l : Lock). l.registers) new);
     }
 
--- call by call: no other call than LOCK_INTERFACE ends in CONFIG_LOCKED where it did not begin there
+-- call by call: no other call than LOCK_INTERFACE ends in CONFIG_LOCKED if it did not begin there
 pub lock_is_entered : LockIsEntered
 lock_is_entered tdi (LockInterface flags stream offset secure drawn) lock nonce e =
     elim (locked_state tdi lock (new_lock tdi flags stream offset) nonce (lock_answer tdi flags offset secure drawn) e) [
@@ -101,7 +101,7 @@ started_run tdi (ConfigLocked held kept) nonce lock is e = inr
 started_run tdi (Run held) nonce lock is e = inl (is ∙ e)
 started_run tdi Error nonce lock is e = cc
 
--- call by call: no other call than START_INTERFACE ends in RUN where it did not begin there
+-- call by call: no other call than START_INTERFACE ends in RUN if it did not begin there
 pub run_is_entered : RunIsEntered
 run_is_entered tdi (LockInterface flags stream offset secure drawn) lock e =
     inl (locked_run tdi lock (new_lock tdi flags stream offset) (lock_answer tdi flags offset secure drawn) e)

@@ -16,7 +16,7 @@ use tdisp_codec::{ReportRange, ranges_again};
 /// The bytes of six ranges in a report.
 pub(crate) const RANGE_BYTES: usize = 96;
 
-// The BAR of this number, of which there are six: its base by the registers, without pages if there is none.
+// The BAR of this number below 6: its base by the registers, without pages if the interface has none.
 fn bar_at(bars: &[BarPlan], bases: &[u64; 6], n: usize) -> BarPlan
     requires { n < 6 }
     ensures { result ≡ bar_at bars.now bases.now n }

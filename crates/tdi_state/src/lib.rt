@@ -9,8 +9,6 @@ mod laws;
 mod register_set;
 mod report_buffer;
 mod states;
-#[cfg(test)]
-mod tests;
 
 pub use device_interface::Interface;
 pub use error_codes::ErrorCode;

@@ -11,9 +11,10 @@ use Rattle.tdi_state.specs.Machine.{Tdi, lock_of, error_code, portion_of}
 use Rattle.tdi_host.specs.declared.step.Step.{Step}
 use Rattle.tdi_host.specs.declared.step.Step.TheVariants as step
 use Rattle.tdi_host.specs.Judging.{Judged, if_same, is_portion, nonce_in, portion_in, start_in, judged_as}
-use Rattle.tdi_host.specs.Views.{HostTdi, request_of}
-use Rattle.tdi_device.specs.Replies.{DeviceTdis, Named, lock_reply, portion_reply, start_reply, tdi_reply, next_nonce}
-use Rattle.tdi_walks.specs.Exchanges.{nonce_due, portion_due, start_due, judged_due, IsReport, Meets}
+use Rattle.tdi_host.specs.Views.{HostTdi, step_request}
+use Rattle.tdi_device.specs.Replies.{DeviceTdis, NamedTdi, lock_reply, portion_reply, start_reply, tdi_reply}
+use Rattle.tdi_device.specs.Replies.{next_nonce}
+use Rattle.tdi_walks.specs.Exchanges.{nonce_due, portion_due, start_judged, judged_due, IsReport, Meets}
 
 -- a reply that gives back the function ID
 same_function : (f : ℕ) (j : Judged) → if_same f f j ≡ j
@@ -23,7 +24,7 @@ lock_read : (f : ℕ) (answer : Result (List ℕ) ℕ) → nonce_in f (lock_repl
 lock_read f (Ok nonce) = same_function f _
 lock_read f (Err code) = refl
 
-start_read : (f : ℕ) (answer : Result (Unit {0}) ℕ) → start_in f (start_reply f answer) ≡ start_due answer
+start_read : (f : ℕ) (answer : Result (Unit {0}) ℕ) → start_in f (start_reply f answer) ≡ start_judged answer
 start_read f (Ok done) = same_function f _
 start_read f (Err code) = refl
 
@@ -33,7 +34,7 @@ abbrev portion_at : List ℕ → ℕ → ℕ → Bool → Result (List ℕ × �
 portion_at report offset size b = if b then Err (error_code InvalidRequest) else Ok
     (take size (drop offset report), length (drop (offset + size) report))
 
--- it is no longer than asked, and comes with what is behind it to no more than a report
+-- it is no longer than asked, and with what follows it no longer than a report
 fits_read : (report : List ℕ) (offset size : ℕ) → IsReport report → 1 ≤ size → offset < length report
     → is_portion size offset (length (take size (drop offset report))) (length (drop (offset + size) report)) ≡ true
 fits_read report offset size is some lt =
@@ -73,9 +74,9 @@ kept_read : (f : ℕ) (tdi : Tdi) (lock : Option Lock) (offset size : ℕ)
 kept_read f tdi None offset size is some = refl
 kept_read f tdi (Some lock) offset size is some = report_read f (Some (kept_report tdi.plan lock)) offset size is some
 
-pub reply_due : (s : Step) (portion read : ℕ) (i : HostTdi) (d : DeviceTdis) (n : Named) (secure : Bool)
+pub reply_due : (s : Step) (portion read : ℕ) (i : HostTdi) (d : DeviceTdis) (n : NamedTdi) (secure : Bool)
     → Meets portion i d n
-    → judged_as s i.requester portion read (tdi_reply n.tdi (request_of s portion read i) secure (next_nonce d))
+    → judged_as s i.requester portion read (tdi_reply n.tdi (step_request s portion read i) secure (next_nonce d))
     ≡ judged_due s portion read i n.tdi secure (next_nonce d)
 reply_due step.Version portion read i d n secure m = same_function i.requester _
 reply_due step.Capabilities portion read i d n secure m = same_function i.requester _

@@ -9,12 +9,13 @@ use Rattle.tdisp_codec.specs.Replies.{Reply, reply_spelling, FitsReply, reply_re
 use Rattle.tdi_state.specs.Machine.{Tdi}
 use Rattle.tdi_host.specs.declared.step.Step.{Step}
 use Rattle.tdi_host.specs.declared.step.Step.TheVariants as step
-use Rattle.tdi_host.specs.Judging.{Bad, judged_reply}
-use Rattle.tdi_host.specs.Views.{HostTdi, request_of}
-use Rattle.tdi_device.specs.Replies.{DeviceTdis, Named, named, next_nonce, asked_at, asked_by, reply_by, request_asked}
-use Rattle.tdi_device.specs.Replies.{answered, answer_of, answer_bytes, tdi_reply, function_or_none, tdis_by}
-use Rattle.tdi_device.specs.Replies.{reply_from}
-use Rattle.tdi_walks.specs.Exchanges.{judged_due, nonce_due, portion_due, start_due, ExchangesAreDue}
+use Rattle.tdi_host.specs.Judging.{Bad, interface_reply_judged}
+use Rattle.tdi_host.specs.Views.{HostTdi, step_request}
+use Rattle.tdi_device.specs.Replies.{DeviceTdis, NamedTdi, named_tdi, next_nonce, asked_at, tdis_asked_by, reply_by}
+use Rattle.tdi_device.specs.Replies.{request_checked}
+use Rattle.tdi_device.specs.Replies.{answered, tdi_answer, answer_bytes, tdi_reply, function_or_none, tdis_by}
+use Rattle.tdi_device.specs.Replies.{tdi_reply_from}
+use Rattle.tdi_walks.specs.Exchanges.{judged_due, nonce_due, portion_due, start_judged, ExchangesAreDue}
 use Rattle.tdi_walks.specs.Exchanges.{RepliesAreNeverBad}
 use Rattle.tdi_walks.proofs.Widths.{function_of, request_fits, reply_fits}
 use Rattle.tdi_walks.proofs.Due.{reply_due}
@@ -29,32 +30,37 @@ RepliesRead = (reply : Reply) → FitsReply reply → reply_reading (reply_spell
 long : (type function : ℕ) (body : List ℕ) → 17 ≤ length (message_spelling type function body)
 long type function body = grind (arith, length-append)
 
-asked : RequestsRead → (r : RequestView) → FitsRequest r → request_asked (request_spelling r) ≡ Ok r
+asked : RequestsRead → (r : RequestView) → FitsRequest r → request_checked (request_spelling r) ≡ Ok r
 asked reads r fits = rw
     (lt-false (length (request_spelling r)) 17 (long (request_type r) (request_function r) _), reads r fits) refl
 
-device : (d : DeviceTdis) (n : Named) (r : RequestView) (bytes : List ℕ) (secure : Bool) → request_asked bytes ≡ Ok r
-    → named d (request_function r) ≡ Some n
+device : (d : DeviceTdis) (n : NamedTdi) (r : RequestView) (bytes : List ℕ) (secure : Bool) → request_checked bytes
+    ≡ Ok r
+    → named_tdi d (request_function r) ≡ Some n
     → answered d bytes secure ≡ asked_at d n r secure
-device d n r bytes secure is found = ap (tdis_by d secure) is ∙ ap (asked_by d r secure) found
+device d n r bytes secure is found = ap (tdis_by d secure) is ∙ ap (tdis_asked_by d r secure) found
 
-replied : (d : DeviceTdis) (n : Named) (r : RequestView) (bytes : List ℕ) (secure : Bool) → request_asked bytes ≡ Ok r
-    → named d (request_function r) ≡ Some n
-    → answer_of d bytes secure ≡ tdi_reply n.tdi r secure (next_nonce d)
-replied d n r bytes secure is found = ap (reply_from d secure (function_or_none bytes)) is ∙ ap (reply_by d r secure)
+replied : (d : DeviceTdis) (n : NamedTdi) (r : RequestView) (bytes : List ℕ) (secure : Bool) → request_checked bytes
+    ≡ Ok r
+    → named_tdi d (request_function r) ≡ Some n
+    → tdi_answer d bytes secure ≡ tdi_reply n.tdi r secure (next_nonce d)
+replied d n r bytes secure is found = ap (tdi_reply_from d secure (function_or_none bytes)) is ∙ ap
+    (reply_by d r secure)
     found
 
 pub exchange_due : RequestsRead → RepliesRead → ExchangesAreDue
 exchange_due requests replies s portion read i d n secure short m =
-    let r = request_of s portion read i in
-    let is : request_asked (request_spelling r) ≡ Ok r = asked requests r (request_fits s portion read i d n short m) in
-    let found : named d (request_function r) ≡ Some n = ap (named d) (function_of s portion read i) ∙ m.named_is in
-    let reply : answer_of d (request_spelling r) secure ≡ tdi_reply n.tdi r secure (next_nonce d) = replied d n r
+    let r = step_request s portion read i in
+    let is : request_checked (request_spelling r) ≡ Ok r = asked requests r
+    (request_fits s portion read i d n short m) in
+    let found : named_tdi d (request_function r) ≡ Some n = ap (named_tdi d) (function_of s portion read i) ∙
+    m.named_is in
+    let reply : tdi_answer d (request_spelling r) secure ≡ tdi_reply n.tdi r secure (next_nonce d) = replied d n r
     (request_spelling r) secure is found in
     let back : reply_reading (answer_bytes d (request_spelling r) secure) ≡ Ok (tdi_reply n.tdi r secure (next_nonce d))
     = ap (λ x. reply_reading (reply_spelling x)) reply ∙ replies _ (reply_fits s portion read i d n secure m) in
     record {
-      judged = ap (judged_reply s i.requester portion read) back ∙ reply_due s portion read i d n secure m;
+      judged = ap (interface_reply_judged s i.requester portion read) back ∙ reply_due s portion read i d n secure m;
       device = device d n r (request_spelling r) secure is found;
     }
 
@@ -68,7 +74,7 @@ portion_good : (answer : Result (List ℕ × ℕ) ℕ) → portion_due answer �
 portion_good (Ok portion) e = absurd cc
 portion_good (Err code) e = absurd cc
 
-start_good : (answer : Result (Unit {0}) ℕ) → start_due answer ≢ Bad
+start_good : (answer : Result (Unit {0}) ℕ) → start_judged answer ≢ Bad
 start_good (Ok done) e = absurd cc
 start_good (Err code) e = absurd cc
 

@@ -13,12 +13,13 @@ use Rattle.tdi_host.specs.declared.step.Step.{Step}
 use Rattle.tdi_host.specs.declared.step.Step.TheVariants as step
 use Rattle.tdi_host.specs.Judging.{Judged, Passed, Nonce, Portion, State, Refused, Lost as NotCarried, Bad}
 use Rattle.tdi_host.specs.Views.{HostTdi, start_outcome, halt_outcome, state_outcome, lock_outcome}
-use Rattle.tdi_device.specs.Replies.{DeviceTdis, Named, named, named_in, named_at, place_of, next_nonce}
+use Rattle.tdi_device.specs.Replies.{DeviceTdis, NamedTdi, named_tdi, named_tdi_in, named_tdi_at, tdi_place, next_nonce}
 use Rattle.tdi_walks.specs.Exchanges.{device_as, judged_due, Meets, ExchangesAreDue}
 use Rattle.key_laws.specs.Due.{lost_in}
-use Rattle.tdi_walks.specs.Operations.{carried, reached, Walking, Walked, walked_by, walked_once, walking_on}
-use Rattle.tdi_walks.specs.Operations.{continued, walk, begun_at, number_in, stated_once, at_step, lost_early}
-use Rattle.tdi_walks.specs.Operations.{unless_lost, stated_lock, OperationsAreStated}
+use Rattle.tdi_walks.specs.Operations.{carried, reached, Walking, WalkedInterface, walked_by, walked_once, walking_on}
+use Rattle.tdi_walks.specs.Operations.{continued_walk, interface_walk, begun_at, walking_exchange, stated_once, at_step}
+use Rattle.tdi_walks.specs.Operations.{lost_early}
+use Rattle.tdi_walks.specs.Operations.{walked_unless_lost, stated_lock, OperationsAreStated}
 
 -- ---- a device that is asked what changes nothing
 
@@ -30,44 +31,45 @@ set_same (y ∷ xs) zero x is = ap (λ z. z ∷ xs) (sym (same_some is))
     same_some e = cc
 set_same (y ∷ xs) (suc p) x is = ap (λ zs. y ∷ zs) (set_same xs p x is)
 
-at_place : (xs : List Tdi) (p : ℕ) (t : Option Tdi) (n : Named) → slice_get xs p ≡ t → named_at p t ≡ Some n
+at_place : (xs : List Tdi) (p : ℕ) (t : Option Tdi) (n : NamedTdi) → slice_get xs p ≡ t → named_tdi_at p t ≡ Some n
     → slice_get xs n.place ≡ Some n.tdi
 at_place xs p None n g e = absurd cc
 at_place xs p (Some t) n g e =
-    let same : (let k : Named = record { place = p; tdi = t } in k) ≡ n = cc in
-    subst (λ (k : Named). slice_get xs k.place ≡ Some k.tdi) same g
+    let same : (let k : NamedTdi = record { place = p; tdi = t } in k) ≡ n = cc in
+    subst (λ (k : NamedTdi). slice_get xs k.place ≡ Some k.tdi) same g
 
-in_list : (xs : List Tdi) (place : Option ℕ) (n : Named) → named_in xs place ≡ Some n → slice_get xs n.place
+in_list : (xs : List Tdi) (place : Option ℕ) (n : NamedTdi) → named_tdi_in xs place ≡ Some n → slice_get xs n.place
     ≡ Some n.tdi
 in_list xs None n e = absurd cc
 in_list xs (Some p) n e = at_place xs p (slice_get xs p) n refl e
 
-pub same_set : (d : DeviceTdis) (f : ℕ) (n : Named) → named d f ≡ Some n → slice_set d.interfaces n.place n.tdi
+pub same_set : (d : DeviceTdis) (f : ℕ) (n : NamedTdi) → named_tdi d f ≡ Some n → slice_set d.interfaces n.place n.tdi
     ≡ d.interfaces
-same_set d f n is = set_same d.interfaces n.place n.tdi (in_list d.interfaces (place_of d f) n is)
+same_set d f n is = set_same d.interfaces n.place n.tdi (in_list d.interfaces (tdi_place d f) n is)
 
 -- ---- an exchange
 
-pub once_stated : ExchangesAreDue → (portion draws : ℕ) (secure : Bool) (loss : Option Loss) (n : Named) (w : Walking)
+pub once_stated : ExchangesAreDue → (portion draws : ℕ) (secure : Bool) (loss : Option Loss) (n : NamedTdi)
+    (w : Walking)
     → length w.read.bytes ≤ 1140 → Meets portion w.interface w.device n
-    → walked_once portion draws secure loss w ≡ stated_once portion draws secure (lost_in loss (number_in w)) n w
+    → walked_once portion draws secure loss w ≡ stated_once portion draws secure (lost_in loss (walking_exchange w)) n w
 once_stated due portion draws secure loss n w short m =
     let e = due w.step portion (length w.read.bytes) w.interface w.device n secure short m in
-    ap (λ j. walked_by draws w (carried (lost_in loss (number_in w)) j)
-    (reached (lost_in loss (number_in w)) w.device
+    ap (λ j. walked_by draws w (carried (lost_in loss (walking_exchange w)) j)
+    (reached (lost_in loss (walking_exchange w)) w.device
     (device_as w.step portion (length w.read.bytes) w.interface w.device secure))) e.judged
     ∙ ap (λ x. walked_by draws w
-    (carried (lost_in loss (number_in w))
+    (carried (lost_in loss (walking_exchange w))
     (judged_due w.step portion (length w.read.bytes) w.interface n.tdi secure (next_nonce w.device)))
-    (reached (lost_in loss (number_in w)) w.device x)) e.device
+    (reached (lost_in loss (walking_exchange w)) w.device x)) e.device
 
 -- an exchange and the rest
-pub goes : (more portion draws : ℕ) (secure : Bool) (loss : Option Loss) (w : Walking) (now : Walked)
+pub goes : (more portion draws : ℕ) (secure : Bool) (loss : Option Loss) (w : Walking) (now : WalkedInterface)
     → walked_once portion draws secure loss w ≡ now
-    → walk (suc more) portion draws secure loss w ≡ continued now.outcome now
-    (walk more portion draws secure loss (walking_on w.step now))
+    → interface_walk (suc more) portion draws secure loss w ≡ continued_walk now.outcome now
+    (interface_walk more portion draws secure loss (walking_on w.step now))
 goes more portion draws secure loss w now is = ap
-    (λ x. continued x.outcome x (walk more portion draws secure loss (walking_on w.step x))) is
+    (λ x. continued_walk x.outcome x (interface_walk more portion draws secure loss (walking_on w.step x))) is
 
 -- ---- what is over with its one exchange
 
@@ -75,7 +77,7 @@ abbrev pub IsOver : Outcome → Type 0
 IsOver outcome.Next = ⊥
 IsOver o = Unit {0}
 
-pub stops : (o : Outcome) (now rest : Walked) → IsOver o → continued o now rest ≡ now
+pub stops : (o : Outcome) (now rest : WalkedInterface) → IsOver o → continued_walk o now rest ≡ now
 stops outcome.Next now rest over = absurd over
 stops (outcome.Done shown) now rest over = refl
 stops (outcome.Refused refusal) now rest over = refl
@@ -117,13 +119,14 @@ state_over e NotCarried = tt
 state_over e Bad = tt
 
 alone : ExchangesAreDue → (s : Step) (more portion draws : ℕ) (secure : Bool) (loss : Option Loss) (i : HostTdi)
-    (d : DeviceTdis) (n : Named) → Meets portion i d n
-    → ((now : Walked) → now ≡ stated_once portion draws secure (lost_in loss (number_in (at_step s i d))) n
+    (d : DeviceTdis) (n : NamedTdi) → Meets portion i d n
+    → ((now : WalkedInterface) → now ≡ stated_once portion draws secure
+    (lost_in loss (walking_exchange (at_step s i d))) n
     (at_step s i d) → IsOver now.outcome)
-    → walk (suc more) portion draws secure loss (at_step s i d)
-    ≡ stated_once portion draws secure (lost_in loss (number_in (at_step s i d))) n (at_step s i d)
+    → interface_walk (suc more) portion draws secure loss (at_step s i d)
+    ≡ stated_once portion draws secure (lost_in loss (walking_exchange (at_step s i d))) n (at_step s i d)
 alone due s more portion draws secure loss i d n m over =
-    let now = stated_once portion draws secure (lost_in loss (number_in (at_step s i d))) n (at_step s i d) in
+    let now = stated_once portion draws secure (lost_in loss (walking_exchange (at_step s i d))) n (at_step s i d) in
     goes more portion draws secure loss (at_step s i d) now
     (once_stated due portion draws secure loss n (at_step s i d) (omega arith) m)
     ∙ stops now.outcome now _ (over now refl)
@@ -131,40 +134,44 @@ alone due s more portion draws secure loss i d n m over =
 -- ---- lock
 
 -- GET_VERSION, and GET_CAPABILITIES, leave both ends
-quiet_version : (portion draws : ℕ) (secure : Bool) (loss : Option Loss) (i : HostTdi) (d : DeviceTdis) (n : Named)
-    → named d i.requester ≡ Some n
-    → (l : Option Lost) (more : ℕ) (rest : Walked) → walk more portion draws secure loss (at_step step.Capabilities i d)
+quiet_version : (portion draws : ℕ) (secure : Bool) (loss : Option Loss) (i : HostTdi) (d : DeviceTdis) (n : NamedTdi)
+    → named_tdi d i.requester ≡ Some n
+    → (l : Option Lost) (more : ℕ) (rest : WalkedInterface) → interface_walk more portion draws secure loss
+    (at_step step.Capabilities i d)
     ≡ rest
-    → continued (stated_once portion draws secure l n (at_step step.Version i d)).outcome
+    → continued_walk (stated_once portion draws secure l n (at_step step.Version i d)).outcome
     (stated_once portion draws secure l n (at_step step.Version i d))
-    (walk more portion draws secure loss
+    (interface_walk more portion draws secure loss
     (walking_on step.Version (stated_once portion draws secure l n (at_step step.Version i d))))
-    ≡ unless_lost l (lost_early 1 i d) rest
+    ≡ walked_unless_lost l (lost_early 1 i d) rest
 quiet_version portion draws secure loss i d n is None more rest e =
-    ap (λ xs. walk more portion draws secure loss (at_step step.Capabilities i (record d { interfaces = xs })))
+    ap (λ xs. interface_walk more portion draws secure loss
+    (at_step step.Capabilities i (record d { interfaces = xs })))
     (same_set d i.requester n is) ∙ e
 quiet_version portion draws secure loss i d n is (Some Request) more rest e = refl
 quiet_version portion draws secure loss i d n is (Some Reply) more rest e = ap
     (λ xs. lost_early 1 i (record d { interfaces = xs })) (same_set d i.requester n is)
 
-quiet_capabilities : (portion draws : ℕ) (secure : Bool) (loss : Option Loss) (i : HostTdi) (d : DeviceTdis) (n : Named)
-    → named d i.requester ≡ Some n
-    → (l : Option Lost) (more : ℕ) (rest : Walked) → walk more portion draws secure loss (at_step step.Lock i d) ≡ rest
-    → continued (stated_once portion draws secure l n (at_step step.Capabilities i d)).outcome
+quiet_capabilities : (portion draws : ℕ) (secure : Bool) (loss : Option Loss) (i : HostTdi) (d : DeviceTdis)
+    (n : NamedTdi)
+    → named_tdi d i.requester ≡ Some n
+    → (l : Option Lost) (more : ℕ) (rest : WalkedInterface) → interface_walk more portion draws secure loss
+    (at_step step.Lock i d) ≡ rest
+    → continued_walk (stated_once portion draws secure l n (at_step step.Capabilities i d)).outcome
     (stated_once portion draws secure l n (at_step step.Capabilities i d))
-    (walk more portion draws secure loss
+    (interface_walk more portion draws secure loss
     (walking_on step.Capabilities (stated_once portion draws secure l n (at_step step.Capabilities i d))))
-    ≡ unless_lost l (lost_early 2 i d) rest
+    ≡ walked_unless_lost l (lost_early 2 i d) rest
 quiet_capabilities portion draws secure loss i d n is None more rest e =
-    ap (λ xs. walk more portion draws secure loss (at_step step.Lock i (record d { interfaces = xs })))
+    ap (λ xs. interface_walk more portion draws secure loss (at_step step.Lock i (record d { interfaces = xs })))
     (same_set d i.requester n is) ∙ e
 quiet_capabilities portion draws secure loss i d n is (Some Request) more rest e = refl
 quiet_capabilities portion draws secure loss i d n is (Some Reply) more rest e = ap
     (λ xs. lost_early 2 i (record d { interfaces = xs })) (same_set d i.requester n is)
 
 lock_stated : ExchangesAreDue → (more portion draws : ℕ) (secure : Bool) (loss : Option Loss) (i : HostTdi)
-    (d : DeviceTdis) (n : Named) → Meets portion i d n
-    → walk (suc (suc (suc more))) portion draws secure loss (begun_at op.Lock i d)
+    (d : DeviceTdis) (n : NamedTdi) → Meets portion i d n
+    → interface_walk (suc (suc (suc more))) portion draws secure loss (begun_at op.Lock i d)
     ≡ stated_lock portion draws secure loss i d n
 lock_stated due more portion draws secure loss i d n m =
     let third = alone due step.Lock more portion draws secure loss i d n m

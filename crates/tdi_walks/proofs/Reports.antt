@@ -15,12 +15,13 @@ use Rattle.tdi_state.specs.Machine.{Tdi, lock_of, portion_of}
 use Rattle.tdi_host.specs.declared.operation.InterfaceOp.TheVariants as op
 use Rattle.tdi_host.specs.declared.step.Step.TheVariants as step
 use Rattle.tdi_host.specs.Judging.{Portion}
-use Rattle.tdi_host.specs.Views.{HostTdi, request_of, report_outcome}
-use Rattle.tdi_device.specs.Replies.{DeviceTdis, Named, asked_at}
+use Rattle.tdi_host.specs.Views.{HostTdi, step_request, report_outcome}
+use Rattle.tdi_device.specs.Replies.{DeviceTdis, NamedTdi, asked_at}
 use Rattle.tdi_walks.specs.Exchanges.{portion_due, Meets, IsReport, ExchangesAreDue}
 use Rattle.key_laws.specs.Due.{lost_in}
-use Rattle.tdi_walks.specs.Operations.{carried, reached, Walking, Walked, walked_by, walking_on, continued}
-use Rattle.tdi_walks.specs.Operations.{walk, begun_at, stated_once, at_step}
+use Rattle.tdi_walks.specs.Operations.{carried, reached, Walking, WalkedInterface, walked_by, walking_on}
+use Rattle.tdi_walks.specs.Operations.{continued_walk}
+use Rattle.tdi_walks.specs.Operations.{interface_walk, begun_at, stated_once, at_step}
 use Rattle.tdi_walks.specs.Reports.{portion_count, lost_within, ReportIsRead, ReportsAreRead, ReportsAreRefused}
 use Rattle.tdi_walks.proofs.Operations.{same_set, once_stated, goes, IsOver, stops}
 
@@ -92,9 +93,9 @@ answered tdi lock l portion off is some lt =
     (tested (kept_report tdi.plan l) portion off some lt)
 
 -- the device is as before, whatever is lost
-unmoved : (d : DeviceTdis) (n : Named) (i : HostTdi) (portion read : ℕ) (secure : Bool) (l : Option Lost)
+unmoved : (d : DeviceTdis) (n : NamedTdi) (i : HostTdi) (portion read : ℕ) (secure : Bool) (l : Option Lost)
     → slice_set d.interfaces n.place n.tdi ≡ d.interfaces
-    → reached l d (asked_at d n (request_of step.Report portion read i) secure) ≡ d
+    → reached l d (asked_at d n (step_request step.Report portion read i) secure) ≡ d
 unmoved d n i portion read secure None same = ap
     (λ xs. (let k : DeviceTdis = record { interfaces = xs; nonces = d.nonces; used = d.used } in k)) same
 unmoved d n i portion read secure (Some Request) same = refl
@@ -102,19 +103,19 @@ unmoved d n i portion read secure (Some Reply) same = ap
     (λ xs. (let k : DeviceTdis = record { interfaces = xs; nonces = d.nonces; used = d.used } in k)) same
 
 -- a portion that is read, or lost
-abbrev now_at : ℕ → Option Lost → HostTdi → DeviceTdis → List ℕ → List ℕ → ℕ → ℕ → ℕ → Walked
+abbrev now_at : ℕ → Option Lost → HostTdi → DeviceTdis → List ℕ → List ℕ → ℕ → ℕ → ℕ → WalkedInterface
 now_at draws l i d r bytes q portion off = walked_by draws (at_portion i d bytes q)
     (carried l (Portion (part r portion off) (behind r portion off))) d
 
 once : ExchangesAreDue → (portion draws : ℕ) (secure : Bool) (loss : Option Loss) (i : HostTdi) (d : DeviceTdis)
-    (n : Named) (lock : Lock) (off q : ℕ) (bytes : List ℕ)
+    (n : NamedTdi) (lock : Lock) (off q : ℕ) (bytes : List ℕ)
     → Meets portion i d n → lock_of n.tdi.state ≡ Some lock → length bytes ≡ off
     → off < length (kept_report n.tdi.plan lock) → off ≤ 1140
     → stated_once portion draws secure (lost_in loss (q + 1)) n (at_portion i d bytes q)
     ≡ now_at draws (lost_in loss (q + 1)) i d (kept_report n.tdi.plan lock) bytes q portion off
 once due portion draws secure loss i d n lock off q bytes m is long lt short =
     ap (λ j. walked_by draws (at_portion i d bytes q) (carried (lost_in loss (q + 1)) j)
-    (reached (lost_in loss (q + 1)) d (asked_at d n (request_of step.Report portion (length bytes) i) secure)))
+    (reached (lost_in loss (q + 1)) d (asked_at d n (step_request step.Report portion (length bytes) i) secure)))
     (ap (λ k. portion_due (portion_of (option_map (kept_report n.tdi.plan) (lock_of n.tdi.state)) k portion)) long ∙
     answered n.tdi (lock_of n.tdi.state) lock portion off is m.portion_least lt)
     ∙ ap (λ x. walked_by draws (at_portion i d bytes q)
@@ -135,15 +136,15 @@ taken_on (suc n) k [] = none_taken k ∙ sym (none_taken (suc n + k))
 taken_on (suc n) k (x ∷ xs) = ap (λ ys. x ∷ ys) (taken_on n k xs) ∙ ap (λ j. take j (x ∷ xs))
     (let e : suc (n + k) ≡ suc n + k = omega arith in e)
 
--- what a report comes to from this portion on
+-- what a report gives from this portion on
 abbrev Reads : ℕ → ℕ → ℕ → Bool → Option Loss → HostTdi → DeviceTdis → List ℕ → ℕ → ℕ → Type 0
 Reads more portion draws secure loss i d r off q =
     ReportIsRead (lost_within loss (q + 1) (portion_count more portion (length r - off))) r i d
-    (walk more portion draws secure loss (at_portion i d (take off r) q))
+    (interface_walk more portion draws secure loss (at_portion i d (take off r) q))
 
 -- a portion that is lost
 cut_short : (more portion draws : ℕ) (loss : Option Loss) (i : HostTdi) (d : DeviceTdis) (r : List ℕ) (off q : ℕ)
-    (x : Lost) (w : Walked)
+    (x : Lost) (w : WalkedInterface)
     → lost_in loss (q + 1) ≡ Some x → w ≡ now_at draws (Some x) i d r (take off r) q portion off
     → ReportIsRead (lost_within loss (q + 1) (portion_count (suc more) portion (length r - off))) r i d w
 cut_short more portion draws loss i d r off q x w is comes =
@@ -161,7 +162,7 @@ cut_short more portion draws loss i d r off q x w is comes =
 
 -- the last portion
 ended : (more portion draws : ℕ) (loss : Option Loss) (i : HostTdi) (d : DeviceTdis) (r : List ℕ) (off q : ℕ)
-    (w : Walked)
+    (w : WalkedInterface)
     → lost_in loss (q + 1) ≡ None → length r ≤ off + portion → w ≡ now_at draws None i d r (take off r) q portion off
     → behind r portion off ≡ 0
     → nat_le (length r - off) portion ≡ true
@@ -179,10 +180,10 @@ ended more portion draws loss i d r off q w is short comes last one =
 
 -- one portion of several
 later : (more portion draws : ℕ) (secure : Bool) (loss : Option Loss) (i : HostTdi) (d : DeviceTdis) (r : List ℕ)
-    (off q : ℕ) (w : Walked)
+    (off q : ℕ) (w : WalkedInterface)
     → lost_in loss (q + 1) ≡ None → nat_le (length r - off) portion ≡ false
     → Reads more portion draws secure loss i d r (off + portion) (q + 1)
-    → w ≡ walk more portion draws secure loss (at_portion i d (take (off + portion) r) (q + 1))
+    → w ≡ interface_walk more portion draws secure loss (at_portion i d (take (off + portion) r) (q + 1))
     → ReportIsRead (lost_within loss (q + 1) (portion_count (suc more) portion (length r - off))) r i d w
 later more portion draws secure loss i d r off q w is several rest comes =
     let left : length r - off - portion ≡ length r - (off + portion) = omega arith in
@@ -195,7 +196,7 @@ later more portion draws secure loss i d r off q w is several rest comes =
     subst (λ x. ReportIsRead (lost_within loss (q + 1) (portion_count (suc more) portion (length r - off))) r i d x)
     (sym comes)
     (subst (λ l. ReportIsRead l r i d
-    (walk more portion draws secure loss (at_portion i d (take (off + portion) r) (q + 1)))) lost rest)
+    (interface_walk more portion draws secure loss (at_portion i d (take (off + portion) r) (q + 1)))) lost rest)
 
 positive : (k : ℕ) → 1 ≤ k → (k == 0) ≡ false
 positive k some = grind (arith, nat_tests)
@@ -203,20 +204,22 @@ positive k some = grind (arith, nat_tests)
 -- a portion with a remainder goes on
 goes_on : (more portion draws : ℕ) (secure : Bool) (loss : Option Loss) (i : HostTdi) (d : DeviceTdis)
     (r bytes : List ℕ) (q off : ℕ) → 1 ≤ behind r portion off
-    → continued (now_at draws None i d r bytes q portion off).outcome (now_at draws None i d r bytes q portion off)
-    (walk more portion draws secure loss (walking_on step.Report (now_at draws None i d r bytes q portion off)))
-    ≡ walk more portion draws secure loss (at_portion i d (bytes ++ part r portion off) (q + 1))
+    → continued_walk (now_at draws None i d r bytes q portion off).outcome (now_at draws None i d r bytes q portion off)
+    (interface_walk more portion draws secure loss
+    (walking_on step.Report (now_at draws None i d r bytes q portion off)))
+    ≡ interface_walk more portion draws secure loss (at_portion i d (bytes ++ part r portion off) (q + 1))
 goes_on more portion draws secure loss i d r bytes q off some = rw (positive (behind r portion off) some) refl
 
 -- from the exchange that is lost, or not
 reads_by : ExchangesAreDue → (more portion draws : ℕ) (secure : Bool) (loss : Option Loss) (i : HostTdi)
-    (d : DeviceTdis) (n : Named) (lock : Lock) (off q : ℕ) (l : Option Lost) (b : Bool) (w : Walked)
+    (d : DeviceTdis) (n : NamedTdi) (lock : Lock) (off q : ℕ) (l : Option Lost) (b : Bool) (w : WalkedInterface)
     → Meets portion i d n → off < length (kept_report n.tdi.plan lock) → lost_in loss (q + 1) ≡ l
     → nat_le (length (kept_report n.tdi.plan lock) - off) portion ≡ b
-    → w ≡ continued (now_at draws l i d (kept_report n.tdi.plan lock) (take off (kept_report n.tdi.plan lock)) q portion
+    → w ≡ continued_walk (now_at draws l i d (kept_report n.tdi.plan lock) (take off (kept_report n.tdi.plan lock)) q
+    portion
     off).outcome
     (now_at draws l i d (kept_report n.tdi.plan lock) (take off (kept_report n.tdi.plan lock)) q portion off)
-    (walk more portion draws secure loss
+    (interface_walk more portion draws secure loss
     (walking_on step.Report
     (now_at draws l i d (kept_report n.tdi.plan lock) (take off (kept_report n.tdi.plan lock)) q portion off)))
     → (b ≡ false → Reads more portion draws secure loss i d (kept_report n.tdi.plan lock) (off + portion) (q + 1))
@@ -239,10 +242,11 @@ reads_by due more portion draws secure loss i d n lock off q None false w m lt i
     let some : 1 ≤ behind r portion off = omega (arith, length-drop (off + portion) r) in
     later more portion draws secure loss i d r off q w is test (rest refl)
     (comes ∙ goes_on more portion draws secure loss i d r (take off r) q off some
-    ∙ ap (λ bytes. walk more portion draws secure loss (at_portion i d bytes (q + 1))) (taken_on off portion r))
+    ∙ ap (λ bytes. interface_walk more portion draws secure loss (at_portion i d bytes (q + 1)))
+    (taken_on off portion r))
 
 reads : ExchangesAreDue → (more portion draws : ℕ) (secure : Bool) (loss : Option Loss) (i : HostTdi) (d : DeviceTdis)
-    (n : Named) (lock : Lock) (off q : ℕ)
+    (n : NamedTdi) (lock : Lock) (off q : ℕ)
     → Meets portion i d n → lock_of n.tdi.state ≡ Some lock → IsReport (kept_report n.tdi.plan lock)
     → off < length (kept_report n.tdi.plan lock) → length (kept_report n.tdi.plan lock) ≤ off + more
     → Reads more portion draws secure loss i d (kept_report n.tdi.plan lock) off q
@@ -272,7 +276,7 @@ reports_read due more portion draws secure loss i d n lock m is fuel =
     let some = report.some in
     let whole : length (kept_report n.tdi.plan lock) - 0 ≡ length (kept_report n.tdi.plan lock) = omega arith in
     subst (λ k. ReportIsRead (lost_within loss 1 (portion_count more portion k)) (kept_report n.tdi.plan lock) i d
-    (walk more portion draws secure loss (begun_at op.Report i d))) whole
+    (interface_walk more portion draws secure loss (begun_at op.Report i d))) whole
     (reads due more portion draws secure loss i d n lock 0 0 m is report (omega arith) (omega arith))
 
 -- ---- no report

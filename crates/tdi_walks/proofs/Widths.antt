@@ -14,14 +14,15 @@ use Rattle.tdi_state.specs.declared.states.TdiState.{TdiState}
 use Rattle.tdi_state.specs.declared.states.TdiState.TheVariants.{ConfigUnlocked, ConfigLocked, Run, Error}
 use Rattle.tdi_host.specs.declared.step.Step.{Step}
 use Rattle.tdi_host.specs.declared.step.Step.TheVariants as step
-use Rattle.tdi_host.specs.Views.{HostTdi, request_of, nonce_of}
-use Rattle.tdi_device.specs.Replies.{DeviceTdis, Named, refused, lock_reply, portion_reply, start_reply, tdi_reply}
+use Rattle.tdi_host.specs.Views.{HostTdi, step_request, nonce_of}
+use Rattle.tdi_device.specs.Replies.{DeviceTdis, NamedTdi, refused_reply, lock_reply, portion_reply, start_reply}
+use Rattle.tdi_device.specs.Replies.{tdi_reply}
 use Rattle.tdi_device.specs.Replies.{next_nonce}
 use Rattle.tdi_walks.specs.Exchanges.{IsNonce, IsReport, Meets}
 
 -- ---- requests
 
-pub function_of : (s : Step) (portion read : ℕ) (i : HostTdi) → request_function (request_of s portion read i)
+pub function_of : (s : Step) (portion read : ℕ) (i : HostTdi) → request_function (step_request s portion read i)
     ≡ i.requester
 function_of step.Version portion read i = refl
 function_of step.Capabilities portion read i = refl
@@ -34,8 +35,8 @@ function_of step.State portion read i = refl
 wide : (f : ℕ) → f < 2 ^ 16 → f < 2 ^ 32
 wide f lt = omega arith
 
-pub request_fits : (s : Step) (portion read : ℕ) (i : HostTdi) (d : DeviceTdis) (n : Named) → read ≤ 1140
-    → Meets portion i d n → FitsRequest (request_of s portion read i)
+pub request_fits : (s : Step) (portion read : ℕ) (i : HostTdi) (d : DeviceTdis) (n : NamedTdi) → read ≤ 1140
+    → Meets portion i d n → FitsRequest (step_request s portion read i)
 request_fits step.Version portion read i d n short m = (wide i.requester m.requester, tt)
 request_fits step.Capabilities portion read i d n short m = (wide i.requester m.requester, tt)
 request_fits step.Lock portion read i d n short m =
@@ -106,7 +107,7 @@ start_fits Error nonce = omega arith
 
 -- ---- replies
 
-refused_fits : (f code : ℕ) → f < 2 ^ 16 → code < 2 ^ 32 → FitsReply (refused f code)
+refused_fits : (f code : ℕ) → f < 2 ^ 16 → code < 2 ^ 32 → FitsReply (refused_reply f code)
 refused_fits f code lt fits = (wide f lt, tt, (fits, omega arith))
 
 pub locked_fits : (f : ℕ) (answer : Result (List ℕ) ℕ) → f < 2 ^ 16 → NonceFits answer → FitsReply (lock_reply f answer)
@@ -139,9 +140,9 @@ kept_fits tdi is offset size = kept_by tdi (lock_of tdi.state) is
     kept_by t None h = omega arith
     kept_by t (Some lock) h = portion_fits (Some (kept_report t.plan lock)) offset size h
 
-pub reply_fits : (s : Step) (portion read : ℕ) (i : HostTdi) (d : DeviceTdis) (n : Named) (secure : Bool)
+pub reply_fits : (s : Step) (portion read : ℕ) (i : HostTdi) (d : DeviceTdis) (n : NamedTdi) (secure : Bool)
     → Meets portion i d n
-    → FitsReply (tdi_reply n.tdi (request_of s portion read i) secure (next_nonce d))
+    → FitsReply (tdi_reply n.tdi (step_request s portion read i) secure (next_nonce d))
 reply_fits step.Version portion read i d n secure m =
     (wide i.requester m.requester, omega arith, All-from_recursion (λ b. b < 256) (0x10 ∷ []) (search arith))
 reply_fits step.Capabilities portion read i d n secure m = (

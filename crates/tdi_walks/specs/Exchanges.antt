@@ -12,20 +12,21 @@ use Rattle.tdi_state.specs.Machine.{Tdi, lock_of, state_code, lock_answer, porti
 use Rattle.tdi_state.specs.Machine.{LockInterface, StartInterface, StopInterface}
 use Rattle.tdi_host.specs.declared.step.Step.{Step}
 use Rattle.tdi_host.specs.declared.step.Step.TheVariants as step
-use Rattle.tdi_host.specs.Judging.{Judged, Passed, Nonce, Portion, State, Refused, Bad, judged_reply}
-use Rattle.tdi_host.specs.Views.{HostTdi, nonce_of, request_of}
-use Rattle.tdi_device.specs.Replies.{DeviceTdis, Named, named, next_nonce, asked_at, answered, answer_bytes}
+use Rattle.tdi_host.specs.Judging.{Judged, Passed, Nonce, Portion, State, Refused, Bad, interface_reply_judged}
+use Rattle.tdi_host.specs.Views.{HostTdi, nonce_of, step_request}
+use Rattle.tdi_device.specs.Replies.{DeviceTdis, NamedTdi, named_tdi, next_nonce, asked_at, answered, answer_bytes}
 
 -- ---- what is carried
 
 -- the request's bytes; `portion` is asked of a report, and `read` bytes were read before
 abbrev pub asked_bytes : Step → ℕ → ℕ → HostTdi → List ℕ
-asked_bytes s portion read i = request_spelling (request_of s portion read i)
+asked_bytes s portion read i = request_spelling (step_request s portion read i)
 
 -- the manager's judgement of the device's reply
-abbrev pub judged_as : Step → ℕ → ℕ → HostTdi → DeviceTdis → Bool → Judged
-judged_as s portion read i d secure =
-    judged_reply s i.requester portion read (reply_reading (answer_bytes d (asked_bytes s portion read i) secure))
+abbrev pub judged_by_manager : Step → ℕ → ℕ → HostTdi → DeviceTdis → Bool → Judged
+judged_by_manager s portion read i d secure =
+    interface_reply_judged s i.requester portion read
+    (reply_reading (answer_bytes d (asked_bytes s portion read i) secure))
 
 -- the device after the request
 abbrev pub device_as : Step → ℕ → ℕ → HostTdi → DeviceTdis → Bool → DeviceTdis
@@ -41,9 +42,9 @@ abbrev pub portion_due : Result (List ℕ × ℕ) ℕ → Judged
 portion_due (Ok portion) = Portion portion.0 portion.1
 portion_due (Err code) = Refused code
 
-abbrev pub start_due : Result (Unit {0}) ℕ → Judged
-start_due (Ok done) = Passed
-start_due (Err code) = Refused code
+abbrev pub start_judged : Result (Unit {0}) ℕ → Judged
+start_judged (Ok done) = Passed
+start_judged (Err code) = Refused code
 
 -- by the device's interface alone; `drawn` is the device's next nonce
 abbrev pub judged_due : Step → ℕ → ℕ → HostTdi → Tdi → Bool → Option (List ℕ) → Judged
@@ -51,7 +52,7 @@ judged_due step.Version portion read i tdi secure drawn = Passed
 judged_due step.Capabilities portion read i tdi secure drawn = Passed
 judged_due step.Lock portion read i tdi secure drawn = nonce_due (lock_answer tdi i.flags i.offset secure drawn)
 judged_due step.Report portion read i tdi secure drawn = portion_due (portion_answer tdi read portion)
-judged_due step.Start portion read i tdi secure drawn = start_due (start_answer tdi.state (nonce_of i.seen))
+judged_due step.Start portion read i tdi secure drawn = start_judged (start_answer tdi.state (nonce_of i.seen))
 judged_due step.Halt portion read i tdi secure drawn = Passed
 judged_due step.State portion read i tdi secure drawn = State (state_code tdi.state)
 
@@ -78,7 +79,7 @@ abbrev pub ReportsFit : Type 0
 ReportsFit = (plan : InterfacePlan) (lock : Lock) → FitsTdi plan → AreBytes plan.info → IsReport (kept_report plan lock)
 
 -- The manager's interface has the widths of its fields; the device has it, and what it gives are nonces and a report.
-pub record Meets (portion : ℕ) (i : HostTdi) (d : DeviceTdis) (n : Named) : Type 0 where
+pub record Meets (portion : ℕ) (i : HostTdi) (d : DeviceTdis) (n : NamedTdi) : Type 0 where
   pub requester : i.requester < 2 ^ 16
   pub flags : i.flags < 2 ^ 16
   pub stream : i.stream < 256
@@ -86,23 +87,24 @@ pub record Meets (portion : ℕ) (i : HostTdi) (d : DeviceTdis) (n : Named) : Ty
   pub nonce : IsNonce (nonce_of i.seen)
   pub portion_least : 1 ≤ portion
   pub portion_most : portion < 2 ^ 16
-  pub named_is : named d i.requester ≡ Some n
+  pub named_is : named_tdi d i.requester ≡ Some n
   pub drawn : IfSome (next_nonce d) IsNonce
   pub report : IfSome (lock_of n.tdi.state) (λ lock. IsReport (kept_report n.tdi.plan lock))
 
 -- ---- the law
 
-pub record ExchangeIsDue (s : Step) (portion read : ℕ) (i : HostTdi) (d : DeviceTdis) (n : Named) (secure : Bool) : Type
+pub record ExchangeIsDue (s : Step) (portion read : ℕ) (i : HostTdi) (d : DeviceTdis) (n : NamedTdi) (secure : Bool) :
+    Type
     0 where
   -- the judgement of the reply
-  pub judged : judged_as s portion read i d secure ≡ judged_due s portion read i n.tdi secure (next_nonce d)
+  pub judged : judged_by_manager s portion read i d secure ≡ judged_due s portion read i n.tdi secure (next_nonce d)
   -- what the request makes of the device
-  pub device : device_as s portion read i d secure ≡ asked_at d n (request_of s portion read i) secure
+  pub device : device_as s portion read i d secure ≡ asked_at d n (step_request s portion read i) secure
 
 abbrev pub ExchangesAreDue : Type 0
-ExchangesAreDue = (s : Step) (portion read : ℕ) (i : HostTdi) (d : DeviceTdis) (n : Named) (secure : Bool)
+ExchangesAreDue = (s : Step) (portion read : ℕ) (i : HostTdi) (d : DeviceTdis) (n : NamedTdi) (secure : Bool)
     → read ≤ 1140 → Meets portion i d n → ExchangeIsDue s portion read i d n secure
 
 abbrev pub RepliesAreNeverBad : Type 0
-RepliesAreNeverBad = (s : Step) (portion read : ℕ) (i : HostTdi) (d : DeviceTdis) (n : Named) (secure : Bool)
-    → read ≤ 1140 → Meets portion i d n → judged_as s portion read i d secure ≢ Bad
+RepliesAreNeverBad = (s : Step) (portion read : ℕ) (i : HostTdi) (d : DeviceTdis) (n : NamedTdi) (secure : Bool)
+    → read ≤ 1140 → Meets portion i d n → judged_by_manager s portion read i d secure ≢ Bad

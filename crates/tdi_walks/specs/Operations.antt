@@ -1,5 +1,5 @@
--- An operation on an interface at one event: the manager begins it, and its exchanges are carried one after another,
--- each of which the session may lose.
+-- An operation on an interface at one event: the manager begins it, and its exchanges are carried one after another.
+-- The session may lose each of them.
 use Rattle.std.specs.Prelude.{ℕ, zero, suc, ◌≡◌, Bool, length, Option, Some, None}
 use Rattle.link_events.specs.declared.event.Loss.{Loss}
 use Rattle.link_events.specs.declared.event.Lost.{Lost}
@@ -12,12 +12,12 @@ use Rattle.tdi_host.specs.declared.operation.Outcome.TheVariants as outcome
 use Rattle.tdi_host.specs.declared.operation.Refusal.TheVariants.{SessionLost}
 use Rattle.tdi_host.specs.declared.step.Step.{Step}
 use Rattle.tdi_host.specs.declared.step.Step.TheVariants as step
-use Rattle.tdi_host.specs.Steps.{Read, first_step, next_step, exchange_of}
+use Rattle.tdi_host.specs.Steps.{Read, first_step, next_step, exchange_number}
 use Rattle.tdi_host.specs.Judging.{Judged, Lost as NotCarried}
-use Rattle.tdi_host.specs.Views.{HostTdi, request_of, taken_interface, outcome_of}
+use Rattle.tdi_host.specs.Views.{HostTdi, step_request, taken_interface, interface_outcome}
 use Rattle.tdi_host.specs.Managers.{nothing_read, read_after}
-use Rattle.tdi_device.specs.Replies.{DeviceTdis, Named, next_nonce, asked_at}
-use Rattle.tdi_walks.specs.Exchanges.{judged_as, device_as, judged_due, Meets}
+use Rattle.tdi_device.specs.Replies.{DeviceTdis, NamedTdi, next_nonce, asked_at}
+use Rattle.tdi_walks.specs.Exchanges.{judged_by_manager, device_as, judged_due, Meets}
 
 -- ---- an exchange that may be lost
 
@@ -40,90 +40,90 @@ pub record Walking : Type 0 where
   pub device : DeviceTdis
 
 -- the outcome of the event, and both ends after it
-pub record Walked : Type 0 where
+pub record WalkedInterface : Type 0 where
   pub outcome : Outcome
   pub interface : HostTdi
   pub read : Read
   pub device : DeviceTdis
 
-abbrev pub number_in : Walking → ℕ
-number_in w = exchange_of w.step w.read
+abbrev pub walking_exchange : Walking → ℕ
+walking_exchange w = exchange_number w.step w.read
 
 abbrev pub judged_in : ℕ → Bool → Option Loss → Walking → Judged
-judged_in portion secure loss w = carried (lost_in loss (number_in w))
-    (judged_as w.step portion (length w.read.bytes) w.interface w.device secure)
+judged_in portion secure loss w = carried (lost_in loss (walking_exchange w))
+    (judged_by_manager w.step portion (length w.read.bytes) w.interface w.device secure)
 
 abbrev pub device_in : ℕ → Bool → Option Loss → Walking → DeviceTdis
-device_in portion secure loss w = reached (lost_in loss (number_in w)) w.device
+device_in portion secure loss w = reached (lost_in loss (walking_exchange w)) w.device
     (device_as w.step portion (length w.read.bytes) w.interface w.device secure)
 
 -- both ends after an exchange whose reply is judged so
-abbrev pub walked_by : ℕ → Walking → Judged → DeviceTdis → Walked
+abbrev pub walked_by : ℕ → Walking → Judged → DeviceTdis → WalkedInterface
 walked_by draws w judged device =
     let after = taken_interface w.step draws judged w.interface in
     record {
-      outcome = outcome_of w.step (number_in w) judged after;
+      outcome = interface_outcome w.step (walking_exchange w) judged after;
       interface = after;
       read = read_after judged w.read;
       device = device;
     }
 
-abbrev pub walked_once : ℕ → ℕ → Bool → Option Loss → Walking → Walked
+abbrev pub walked_once : ℕ → ℕ → Bool → Option Loss → Walking → WalkedInterface
 walked_once portion draws secure loss w =
     walked_by draws w (judged_in portion secure loss w) (device_in portion secure loss w)
 
 -- at the next exchange
-abbrev pub walking_on : Step → Walked → Walking
+abbrev pub walking_on : Step → WalkedInterface → Walking
 walking_on s w = record { interface = w.interface; step = next_step s; read = w.read; device = w.device }
 
-abbrev pub continued : Outcome → Walked → Walked → Walked
-continued outcome.Next now rest = rest
-continued o now rest = now
+abbrev pub continued_walk : Outcome → WalkedInterface → WalkedInterface → WalkedInterface
+continued_walk outcome.Next now rest = rest
+continued_walk o now rest = now
 
 -- exchange after exchange, up to so many
-abbrev pub walk : (more : ℕ) → ℕ → ℕ → Bool → Option Loss → Walking → Walked
-walk zero portion draws secure loss w =
+abbrev pub interface_walk : (more : ℕ) → ℕ → ℕ → Bool → Option Loss → Walking → WalkedInterface
+interface_walk zero portion draws secure loss w =
     record { outcome = outcome.Next; interface = w.interface; read = w.read; device = w.device }
-walk (suc more) portion draws secure loss w =
-    continued (walked_once portion draws secure loss w).outcome (walked_once portion draws secure loss w)
-    (walk more portion draws secure loss (walking_on w.step (walked_once portion draws secure loss w)))
+interface_walk (suc more) portion draws secure loss w =
+    continued_walk (walked_once portion draws secure loss w).outcome (walked_once portion draws secure loss w)
+    (interface_walk more portion draws secure loss (walking_on w.step (walked_once portion draws secure loss w)))
 
 abbrev pub begun_at : InterfaceOp → HostTdi → DeviceTdis → Walking
 begun_at op i d = record { interface = i; step = first_step op; read = nothing_read; device = d }
 
 -- ---- the stated step of an operation that is not refused at its beginning
 
--- an exchange with these ends, of which this is lost
-abbrev pub stated_once : ℕ → ℕ → Bool → Option Lost → Named → Walking → Walked
+-- an exchange with these ends, if this is lost of it
+abbrev pub stated_once : ℕ → ℕ → Bool → Option Lost → NamedTdi → Walking → WalkedInterface
 stated_once portion draws secure lost n w =
     walked_by draws w
     (carried lost (judged_due w.step portion (length w.read.bytes) w.interface n.tdi secure (next_nonce w.device)))
-    (reached lost w.device (asked_at w.device n (request_of w.step portion (length w.read.bytes) w.interface) secure))
+    (reached lost w.device (asked_at w.device n (step_request w.step portion (length w.read.bytes) w.interface) secure))
 
 abbrev pub at_step : Step → HostTdi → DeviceTdis → Walking
 at_step s i d = record { interface = i; step = s; read = nothing_read; device = d }
 
 -- an operation of one exchange
-abbrev pub stated_alone : Step → ℕ → ℕ → Bool → Option Loss → HostTdi → DeviceTdis → Named → Walked
+abbrev pub stated_alone : Step → ℕ → ℕ → Bool → Option Loss → HostTdi → DeviceTdis → NamedTdi → WalkedInterface
 stated_alone s portion draws secure loss i d n = stated_once portion draws secure (lost_in loss 1) n (at_step s i d)
 
--- a loss ahead of the exchange that changes something leaves both ends
-abbrev pub lost_early : ℕ → HostTdi → DeviceTdis → Walked
+-- a loss before the exchange that changes something leaves both ends
+abbrev pub lost_early : ℕ → HostTdi → DeviceTdis → WalkedInterface
 lost_early exchange i d =
     record { outcome = outcome.Refused (SessionLost exchange); interface = i; read = nothing_read; device = d }
 
-abbrev pub unless_lost : Option Lost → Walked → Walked → Walked
-unless_lost None lost rest = rest
-unless_lost (Some l) lost rest = lost
+abbrev pub walked_unless_lost : Option Lost → WalkedInterface → WalkedInterface → WalkedInterface
+walked_unless_lost None lost rest = rest
+walked_unless_lost (Some l) lost rest = lost
 
 -- GET_VERSION and GET_CAPABILITIES change nothing; LOCK_INTERFACE is exchange 3
-abbrev pub stated_lock : ℕ → ℕ → Bool → Option Loss → HostTdi → DeviceTdis → Named → Walked
+abbrev pub stated_lock : ℕ → ℕ → Bool → Option Loss → HostTdi → DeviceTdis → NamedTdi → WalkedInterface
 stated_lock portion draws secure loss i d n =
-    unless_lost (lost_in loss 1) (lost_early 1 i d)
-    (unless_lost (lost_in loss 2) (lost_early 2 i d)
+    walked_unless_lost (lost_in loss 1) (lost_early 1 i d)
+    (walked_unless_lost (lost_in loss 2) (lost_early 2 i d)
     (stated_once portion draws secure (lost_in loss 3) n (at_step step.Lock i d)))
 
-abbrev pub stated : InterfaceOp → ℕ → ℕ → Bool → Option Loss → HostTdi → DeviceTdis → Named → Walked
+abbrev pub stated : InterfaceOp → ℕ → ℕ → Bool → Option Loss → HostTdi → DeviceTdis → NamedTdi → WalkedInterface
 stated op.Lock portion draws secure loss i d n = stated_lock portion draws secure loss i d n
 stated op.Report portion draws secure loss i d n = stated_alone step.Report portion draws secure loss i d n
 stated op.Start portion draws secure loss i d n = stated_alone step.Start portion draws secure loss i d n
@@ -140,6 +140,7 @@ IsShortOp op = Unit {0}
 abbrev pub OperationsAreStated : Type 0
 OperationsAreStated =
     (o : InterfaceOp) (more portion draws : ℕ) (secure : Bool) (loss : Option Loss) (i : HostTdi) (d : DeviceTdis)
-    (n : Named)
+    (n : NamedTdi)
     → IsShortOp o → Meets portion i d n
-    → walk (suc (suc (suc more))) portion draws secure loss (begun_at o i d) ≡ stated o portion draws secure loss i d n
+    → interface_walk (suc (suc (suc more))) portion draws secure loss (begun_at o i d)
+    ≡ stated o portion draws secure loss i d n

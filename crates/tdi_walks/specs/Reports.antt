@@ -12,11 +12,11 @@ use Rattle.tdi_host.specs.declared.operation.Refusal.TheVariants.{SessionLost}
 use Rattle.tdi_host.specs.declared.operation.Shown.TheVariants as shown
 use Rattle.tdi_host.specs.declared.step.Step.TheVariants as step
 use Rattle.tdi_host.specs.Views.{HostTdi, reported}
-use Rattle.tdi_device.specs.Replies.{DeviceTdis, Named}
+use Rattle.tdi_device.specs.Replies.{DeviceTdis, NamedTdi}
 use Rattle.tdi_walks.specs.Exchanges.{Meets}
-use Rattle.tdi_walks.specs.Operations.{Walked, walk, begun_at, stated_alone}
+use Rattle.tdi_walks.specs.Operations.{WalkedInterface, interface_walk, begun_at, stated_alone}
 
--- how many portions of up to so many bytes are in `left` bytes, of which there are no more than `more`
+-- how many portions of up to so many bytes `left` bytes make, if `more` portions are enough
 abbrev pub portion_count : (more : ℕ) → ℕ → ℕ → ℕ
 portion_count zero portion left = 0
 portion_count (suc more) portion left =
@@ -38,7 +38,8 @@ read_interface (Some exchange) i = i
 
 -- If one of its exchanges is lost, the view is as before; else the report is read, and it is the one that the lock
 -- kept. The device is as before.
-pub record ReportIsRead (lost : Option ℕ) (report : List ℕ) (i : HostTdi) (d : DeviceTdis) (w : Walked) : Type 0 where
+pub record ReportIsRead (lost : Option ℕ) (report : List ℕ) (i : HostTdi) (d : DeviceTdis) (w : WalkedInterface) : Type
+    0 where
   pub outcome_is : w.outcome ≡ read_outcome lost
   pub interface_is : w.interface ≡ read_interface lost i
   pub device_is : w.device ≡ d
@@ -47,16 +48,16 @@ pub record ReportIsRead (lost : Option ℕ) (report : List ℕ) (i : HostTdi) (d
 -- the device's interface is in CONFIG_LOCKED or RUN
 abbrev pub ReportsAreRead : Type 0
 ReportsAreRead =
-    (more portion draws : ℕ) (secure : Bool) (loss : Option Loss) (i : HostTdi) (d : DeviceTdis) (n : Named)
+    (more portion draws : ℕ) (secure : Bool) (loss : Option Loss) (i : HostTdi) (d : DeviceTdis) (n : NamedTdi)
     (lock : Lock)
     → Meets portion i d n → lock_of n.tdi.state ≡ Some lock → length (kept_report n.tdi.plan lock) ≤ more
     → ReportIsRead (lost_within loss 1 (portion_count more portion (length (kept_report n.tdi.plan lock))))
-    (kept_report n.tdi.plan lock) i d (walk more portion draws secure loss (begun_at op.Report i d))
+    (kept_report n.tdi.plan lock) i d (interface_walk more portion draws secure loss (begun_at op.Report i d))
 
 -- the device's interface is in no lock: its first exchange is refused, or lost
 abbrev pub ReportsAreRefused : Type 0
 ReportsAreRefused =
-    (more portion draws : ℕ) (secure : Bool) (loss : Option Loss) (i : HostTdi) (d : DeviceTdis) (n : Named)
+    (more portion draws : ℕ) (secure : Bool) (loss : Option Loss) (i : HostTdi) (d : DeviceTdis) (n : NamedTdi)
     → Meets portion i d n → lock_of n.tdi.state ≡ None
-    → walk (suc more) portion draws secure loss (begun_at op.Report i d)
+    → interface_walk (suc more) portion draws secure loss (begun_at op.Report i d)
     ≡ stated_alone step.Report portion draws secure loss i d n

@@ -22,14 +22,14 @@ pub fn replies_are_never_bad()
     exchanges_are_due();
 }
 
-/// Lock, start, halt and state, carried exchange by exchange, each of which may be lost, make one stated step.
+/// Lock, start, halt and state, carried exchange by exchange, make one stated step. Each exchange may be lost.
 pub fn operations_are_stated()
     ensures { OperationsAreStated }
 {
     exchanges_are_due();
 }
 
-/// A report, carried portion by portion, each exchange of which may be lost, is read whole, and is the one that the
+/// A report is carried portion by portion, and each exchange may be lost. It is read whole, and is the one that the
 /// lock kept; or it is cut short by the loss, or refused by a device that is in no lock. It changes no device.
 pub fn reports_are_read()
     ensures read { ReportsAreRead }

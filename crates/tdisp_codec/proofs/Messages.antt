@@ -1,7 +1,7 @@
 -- The header of a message, and where messages go off: of requests and of replies alike, a reader finds the message or
 -- the place where the bytes go off. The 17 bytes of a header are written out one by one, so that each field stands at
 -- its place; the tests of places 0, 1 and 2 are followed in their order, and then the length, which type and body say.
--- What a kind of messages owes beside is of its bodies alone (`IsCodec`).
+-- What else a kind of messages owes is about its bodies alone (`IsCodec`).
 use Rattle.std.proofs.Common.{◌≡◌, ℕ, ◌+◌, ◌^◌, ◌<◌, ◌≤◌, Bool, true, cond, eqb, List, [], ◌∷◌, ◌++◌, length, get_or}
 use Rattle.std.proofs.Common.{drop, None, refl, sym, ap, subst, ◌∙◌, inl, inr, arith, length-drop, get_or-drop}
 use Rattle.std.proofs.lemmas.Bool.Decides.{nat_tests}

@@ -74,7 +74,7 @@ fits_by (suc n) s f = (range_fits s f, fits_by n (drop 16 s) (drop_octets 16 s f
 pub first_fit : (n : ℕ) (s : List ℕ) → IsBytes s → All FitsRange (first_ranges n s)
 first_fit n s f = All-from_recursion FitsRange (first_ranges n s) (fits_by n s f)
 
--- the range of a number, where there are so many
+-- the range of a number, if there are so many
 pub first_at : (n i : ℕ) (s : List ℕ) → i < n → slice_get (first_ranges n s) i ≡ Some (range_from (drop (16 * i) s))
 unfolding first_ranges
 first_at zero i s lt = absurd (omega arith)

@@ -1,4 +1,4 @@
--- Bytes spell a reply exactly where they are read as it, and go off where the reader says.
+-- Bytes spell a reply exactly if they are read as it, and go off where the reader says.
 use Rattle.std.proofs.Common.{◌≡◌, ℕ, ◌+◌, ◌^◌, ◌<◌, ◌≤◌, true, List, [], ◌∷◌, ◌++◌, length, get_or, take, drop, refl}
 use Rattle.std.proofs.Common.{sym, ap, ◌∙◌, arith, length-append, length-drop, get_or-drop, take_at}
 use Rattle.std.proofs.lemmas.Bool.Decides.{nat_tests}
@@ -129,7 +129,7 @@ capabilities_back function b f long =
       body_is = list_cells 28 b long ∙ whole;
     }
 
--- the count stands in the first byte, or in the first two, and what lies behind is the list
+-- the count stands in the first byte, or in the first two, and what follows is the list
 version_back : (function : ℕ) (b : List ℕ) → IsBytes b → length b ≡ 1 + get_or b 0 0 → Back 0x01 function b
 version_back function b f long =
     let small = f 0 in

@@ -1,4 +1,4 @@
--- Bytes spell a report exactly where they are read as it, and go off where the reader says.
+-- Bytes spell a report exactly if they are read as it, and go off where the reader says.
 use Rattle.std.proofs.Common.{◌≡◌, ℕ, ◌+◌, ◌*◌, ◌/◌, ◌^◌, ◌<◌, Bool, true, List, [], ◌∷◌, ◌++◌, length, take, drop}
 use Rattle.std.proofs.Common.{refl, sym, ap, subst, ◌∙◌, arith, append_assoc, length-append, length-drop, length-take}
 use Rattle.std.proofs.Common.{take-append-drop, take_at}
@@ -25,7 +25,7 @@ any place b = true
 
 -- ---- from a report to bytes, and what is read of them
 
--- behind the first 16 bytes
+-- after the first 16 bytes
 abbrev rest_bytes : Report → List ℕ
 rest_bytes r = flat_map range_bytes r.ranges ++ (little_bytes 4 (length r.device) ++ r.device)
 
@@ -68,7 +68,7 @@ report_octets r s p =
     (joins (octets p.reserved.bytes p.reserved.octets) (joins (two_bytes r.msix) behind)) in
     rw p.spelled (are_bytes whole)
 
--- the count of ranges is read first; it says where the length of the device information stands, and that where the
+-- the count of ranges is read first; it says where the length of the device information stands, and that says where the
 -- report ends
 shape_of : (r : Report) (s : List ℕ) → SpellsReport r s → IsShaped any report_size s × (report_in s ≡ r)
 shape_of r s p =

@@ -1,4 +1,4 @@
--- Bytes spell a request exactly where they are read as it, and go off where the reader says.
+-- Bytes spell a request exactly if they are read as it, and go off where the reader says.
 use Rattle.std.proofs.Common.{◌≡◌, ℕ, ◌≤◌, true, List, [], ◌∷◌, ◌++◌, length, get_or, refl, sym, ap, ◌∙◌, arith}
 use Rattle.std.proofs.Common.{length-append}
 use Rattle.std.proofs.lemmas.Bool.Decides.{nat_tests}

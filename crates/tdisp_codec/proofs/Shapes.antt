@@ -16,7 +16,7 @@ use Rattle.tdisp_codec.specs.declared.fault.TdispFault.TheVariants.{Short, Trail
 use Rattle.tdisp_codec.proofs.Octets.{IsByte}
 use Rattle.tdisp_codec.specs.Messages.{IsSpelled, length_fault, read_or, IsFirstFault}
 
--- the first bytes pass the test, and 0 passes behind them; the length is said by bytes within it
+-- the first bytes pass the test, and 0 passes after them; the length is said by bytes within it
 pub record IsSized (fits : ℕ → ℕ → Bool) (head : List ℕ) (size : List ℕ → ℕ) : Type 0 where
   pub octets : IsBytes head
   pub early : (i : ℕ) → fits i (get_or head i 0) ≡ true
@@ -39,7 +39,7 @@ pub record Stops (fits : ℕ → ℕ → Bool) (size : List ℕ → ℕ) (s : Li
   pub off : place < length s → (fits place (get_or s place 0) ≡ false) ⊎ (place ≡ size s)
   pub short : length s ≤ place → place < size s
 
--- zeros behind bytes change none of them
+-- zeros after bytes change none of them
 zeros_behind : (s : List ℕ) (n i : ℕ) → get_or (s ++ replicate n 0) i 0 ≡ get_or s i 0
 zeros_behind s n i = grind (
   arith,
@@ -56,7 +56,7 @@ module _ {Spelled : List ℕ → Type 0} {fits : ℕ → ℕ → Bool} {head : L
     (g : IsSized fits head size)
     (there : (s : List ℕ) → IsShaped fits size s → Spelled s) (back : (s : List ℕ) → Spelled s → IsShaped fits size s)
   where
-    -- a front, with what is missing of the first bytes
+    -- a prefix, with what is missing of the first bytes
     abbrev begun : List ℕ → List ℕ
     begun f = f ++ drop (length f) head
 
@@ -68,7 +68,7 @@ module _ {Spelled : List ℕ → Type 0} {fits : ℕ → ℕ → Bool} {head : L
           none le
     ]
 
-    -- each byte is one of the front or of the first bytes
+    -- each byte is one of the prefix or of the first bytes
     begun_each : (P : ℕ → ℕ → Type 0) (f : List ℕ) → ((i : ℕ) → i < length f → P i (get_or f i 0))
         → ((i : ℕ) → P i (get_or head i 0)) → (i : ℕ) → P i (get_or (begun f) i 0)
     begun_each P f mine its i = elim (cases_lt i (length f)) [
@@ -114,7 +114,7 @@ module _ {Spelled : List ℕ → Type 0} {fits : ℕ → ℕ → Bool} {head : L
       | inr past ↦ rw (get_or_past (take n s) i 0 (omega (arith, length-take n s))) (omega arith)
     ]
 
-    -- a front is no longer than its spellings
+    -- a prefix is no longer than its spellings
     front_size : (s : List ℕ) (place : ℕ) → place ≤ size s → place ≤ size (take place s)
     front_size s place le = elim (cases_lt (size (take place s)) place) [
       | inr done ↦ done
@@ -124,8 +124,8 @@ module _ {Spelled : List ℕ → Type 0} {fits : ℕ → ℕ → Bool} {head : L
           omega arith
     ]
 
-    -- the front up to the place goes on to a spelling, filled with zeros to its length; one byte more and a test or the
-    -- length fails
+    -- the prefix up to the place goes on to a spelling, filled with zeros to its length; one byte more and a test or
+    -- the length fails
     pub stops_place : (s : List ℕ) (place : ℕ) → IsBytes s → Stops fits size s place → IsFaultPlace Spelled s place
     stops_place s place octets p = record {
       within = p.within;

@@ -56,7 +56,7 @@ length_fault size bytes =
     else if nat_lt size (length bytes) then Some (Trailing size)
     else None
 
--- the first fault of a message, of which it is said whether its type is known, and how long it is
+-- the first fault of a message, given whether its type is known, and how long it is
 abbrev pub message_fault : Bool → ℕ → List ℕ → Option TdispFault
 message_fault known size bytes =
     if length bytes == 0 then Some (Short 0)

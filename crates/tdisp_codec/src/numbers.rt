@@ -23,14 +23,14 @@ pub fn behind(bytes: &[u8], place: usize) -> &[u8]
     }
 }
 
-/// The number in the first two bytes, of which those that are missing count as 0.
+/// The number in the first two bytes; those that are missing count as 0.
 pub fn number16(bytes: &[u8]) -> u16
     ensures { result ≡ little_number 2 bytes.now }
 {
     LittleEndian::read_u16(&[byte_at(bytes, 0), byte_at(bytes, 1)])
 }
 
-/// The number in the first four bytes, of which those that are missing count as 0.
+/// The number in the first four bytes; those that are missing count as 0.
 pub fn number32(bytes: &[u8]) -> u32
     ensures { result ≡ little_number 4 bytes.now }
 {

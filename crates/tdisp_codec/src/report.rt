@@ -17,7 +17,7 @@ pub struct ReportRange {
     pub id: u16,
 }
 
-/// Ranges, lent as their bytes, 16 each.
+/// Ranges, lent as their bytes, 16 each (TDISP section 11.3, in this profile's layout).
 #[derive(Clone, Copy)]
 pub struct Ranges<'a> {
     pub bytes: &'a [u8],

@@ -29,7 +29,8 @@ use Rattle.key_laws.specs.Keys.{Keyed, Off, Loaded, On, key_in, on_in}
 use Rattle.key_laws.specs.History.{History, base}
 use Rattle.link_history.specs.Plan.{SubStream, has_port, has_stream, stream_plan}
 use Rattle.link_history.specs.History.{SealedList, Arrival, arrived, altered, brought, shortened, packet_at}
-use Rattle.link_history.specs.History.{sealed_packets, ahead_in, sub_stream_of, units_got, is_of, keys_at, on_draw}
+use Rattle.link_history.specs.History.{sealed_packets, front_of_packet, sub_stream_of, units_got, is_of, keys_at}
+use Rattle.link_history.specs.History.{on_draw}
 use Rattle.link_history.specs.History.{failed, meets_counts, received_in, sent_bytes}
 use Rattle.link_history.proofs.Causes.{sending_port}
 use Rattle.link_history.specs.Due.{Ending, dump_due, arrival_due, settled, before_tag, before_tag_of, under_keys}
@@ -67,7 +68,7 @@ all_known plan ((e, v.Sealed ds) ∷ h) law i x is =
     let sealing = sealing_is plan h e ds law.0 in
     let port = sealing.sending.port in
     let stream = sealing.sending.stream in
-    each_more (IsKnown plan) plan (ahead_in plan (sealed_packets plan h) (base h)) (sent_bytes plan h e) ds
+    each_more (IsKnown plan) plan (front_of_packet plan (sealed_packets plan h) (base h)) (sent_bytes plan h e) ds
     (sealed_packets plan h)
     (live_all (IsKnown plan) plan h port stream ds (live_known plan h law.1 port stream)
     (all_live plan h (sending_port e) (sent_bytes plan h e) ds sealing)) (all_known plan h law.1) i x is

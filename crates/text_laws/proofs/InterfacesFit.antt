@@ -37,13 +37,14 @@ use Rattle.interface_states.specs.Views.{Managed, on_lock, on_report, on_start, 
 use Rattle.interface_states.specs.Views.{managed_after, managed, stream_draw, number_in}
 use Rattle.interface_states.specs.Due.{Standing, standing_at, unless_lost, if_unlocked, locked_as, lock_due}
 use Rattle.interface_states.specs.Due.{if_locked_or_running, portions, reported_as, if_locked, if_reported, started_as}
-use Rattle.interface_states.specs.Due.{start_due, asked_due, interface_due, on_site, with_number, due as own_due}
+use Rattle.interface_states.specs.Due.{start_due, asked_due, interface_due, on_site, with_number}
+use Rattle.interface_states.specs.Due.{interface_verdict_due as own_due}
 use Rattle.link_history.specs.Cause.{CauseLaw}
 use Rattle.text_laws.proofs.Draws.{few_draws}
 use Rattle.text_laws.proofs.OperationsFit.{lost_fits, secure_fits, fits_if, refresh_due_fits}
 use Rattle.text_laws.proofs.SitesFit.{SiteFits, site_fits, nonce_bytes}
 
--- ---- what stands where an interface is asked
+-- ---- what stands when an interface is asked
 
 record StandingFits (s : Standing) : Type 0 where
   nonce : (nonce : List ℕ) → s.around.drawn ≡ Some nonce → IsBytes nonce

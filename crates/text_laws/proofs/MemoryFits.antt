@@ -26,7 +26,7 @@ use Rattle.gcm_seal.proofs.Sealing.{masked-bytes}
 use Rattle.std.specs.Option.{option_map}
 use Rattle.trusted_memory.specs.declared.span.Span.{Span}
 use Rattle.trusted_memory.specs.Spans.{enables, write_span}
-use Rattle.trusted_memory.specs.Writes.{Write, byte_of, last_enabling, memory_write, newest_first}
+use Rattle.trusted_memory.specs.Writes.{Write, written_byte, last_enabling, memory_write, newest_first}
 unfoldable use Rattle.trusted_memory.specs.Writes.{byte_after}
 use Rattle.trusted_memory.specs.Memory.{bytes_from}
 use Rattle.trusted_memory.specs.Regions.{in_one_region}
@@ -157,7 +157,7 @@ byte_small : (ws : List Write) → Payloads ws → (a : ℕ) → byte_after ws a
 unfolding byte_after
 byte_small ws all a = by (last_enabling ws a) refl
   where
-    by : (o : Option Write) → last_enabling ws a ≡ o → byte_of o a < 256
+    by : (o : Option Write) → last_enabling ws a ≡ o → written_byte o a < 256
     by None is = omega arith
     by (Some w) is = all_bytes w.payload (found_payload (λ w. enables w.span a) ws w all is) (a - w.span.address)
 

@@ -24,12 +24,12 @@ use Rattle.link_verdicts.specs.declared.verdict.Verdict.TheVariants as v
 use Rattle.link_verdicts.specs.Apart.{Fits}
 use Rattle.key_laws.specs.Keys.{refuses, refusal_if, refused_status}
 use Rattle.key_laws.specs.Places.{KeyPlan}
-use Rattle.key_laws.specs.Operations.{Op, Idle, Establishing, Up, Refreshing, Stopping, Work, work_of, last_of}
-use Rattle.key_laws.specs.History.{History, op_of, draws, keys_at, status_of}
+use Rattle.key_laws.specs.Operations.{Op, Idle, Establishing, Up, Refreshing, Stopping, Work, work_of, last_exchange_of}
+use Rattle.key_laws.specs.History.{History, op_of, draws, keys_there, status_of}
 use Rattle.key_laws.specs.Due.{PortView, ports_at, refusal_at, lost_in, lost_at, cut_at, done, performed}
 use Rattle.key_laws.specs.Due.{is_live_sender, unless_open, if_secure, may_establish, may_refresh}
 use Rattle.key_laws.proofs.Performs.{performed_stays, refusal_of_place}
-use Rattle.key_laws.specs.Due.{due as key_due}
+use Rattle.key_laws.specs.Due.{key_due}
 use Rattle.link_history.specs.Plan.{key_plan, stream_plan, streams_by_link, streams_of, with_id, has_link}
 use Rattle.link_history.specs.Due.{due}
 use Rattle.sealing_laws.proofs.Bounds.{id_byte}
@@ -76,7 +76,7 @@ same_number m n is = cc
 same_verdict : (x y : Verdict) → Some x ≡ Some y → x ≡ y
 same_verdict x y is = cc
 
-last_few : (o : Operation) → last_of o ≤ 13
+last_few : (o : Operation) → last_exchange_of o ≤ 13
 last_few op.Establish = omega arith
 last_few op.Refresh = omega arith
 last_few op.Stop = omega arith
@@ -94,7 +94,7 @@ refusal_fits : (h : History) (o : Operation) (set : Bool) (link stream n status 
     → refusal_at (ports_at h) o set link stream n ≡ Some status → status < 2 ^ 64
 refusal_fits h o set link stream n status is =
     let at = refusal_of_place (ports_at h) o set link stream n status is in
-    refused_fits (refuses at.0.sends (keys_at h at.0) set) status at.1
+    refused_fits (refuses at.0.sends (keys_there h at.0) set) status at.1
 
 cut_fits : (lost : Option Lost) (refusal : Option ℕ) (n : ℕ) (x : Verdict) → n < 2 ^ 64
     → ((status : ℕ) → refusal ≡ Some status → status < 2 ^ 64) → cut_at lost refusal n ≡ Some x → Fits x
@@ -159,7 +159,7 @@ refresh_fits kp (Stopping n) next host ports link stream set x few fits = tt
 
 -- ---- events
 
--- a verdict that is due where the plan has the stream
+-- a verdict that is due if the plan has the stream
 where_known : (plan : Plan) → FitsPlan plan → (link stream : ℕ) (x : Verdict) → (FitsStream link stream → Fits x)
     → Fits (if is_some (stream_plan plan link stream) then x else v.Nothing)
 where_known plan fits link stream x each = by_test (is_some (stream_plan plan link stream)) refl

@@ -13,12 +13,12 @@ use Rattle.link_verdicts.proofs.Spellings.{lines_apart}
 use Rattle.key_laws.specs.History.{History}
 use Rattle.link_history.specs.Due.{due}
 use Rattle.link_history.specs.Cause.{CauseLaw}
-use Rattle.link_texts.specs.Runs.{history_with, history_on, text_on}
-use Rattle.link_texts.specs.Telling.{events_told, lines_told, VerdictsFit, AreAllowed}
+use Rattle.text_laws.specs.Runs.{history_with, history_on, text_on}
+use Rattle.text_laws.specs.Telling.{events_told, lines_told, VerdictsFit, AreAllowed}
 use Rattle.text_laws.specs.Statements.{LinesTell, AreTold}
 use Rattle.text_laws.proofs.Fitting.{due_fits}
 
--- the events ahead of one, and that one
+-- the events before one, and that one
 allowed_behind : (es : List Event) (e : Event) (later : List Event) → AllByRecursion IsAllowed (es ++ e ∷ later)
     → IsAllowed e
 allowed_behind [] e later each = each.0

@@ -1,1 +1,3 @@
+pub mod Runs
+pub mod Telling
 pub mod Statements

@@ -8,8 +8,8 @@ use Rattle.link_verdicts.specs.Apart.{Fits}
 use Rattle.key_laws.specs.History.{History}
 use Rattle.link_history.specs.Due.{due}
 use Rattle.link_history.specs.Cause.{CauseLaw}
-use Rattle.link_texts.specs.Runs.{history_on, text_on}
-use Rattle.link_texts.specs.Telling.{events_told, lines_told, VerdictsFit, AreAllowed}
+use Rattle.text_laws.specs.Runs.{history_on, text_on}
+use Rattle.text_laws.specs.Telling.{events_told, lines_told, VerdictsFit, AreAllowed}
 
 -- In a history of few events, what is due of an event that a line may spell has numbers and bytes that the types hold.
 abbrev pub DueFits : Type 0

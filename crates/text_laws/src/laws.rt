@@ -9,7 +9,7 @@ pub fn due_fits()
 {}
 
 /// If the text of events begins with the lines of a history of the first of them, each verdict of that history is the
-/// one that is due; and the history of events with the verdicts that are due has the text of the events for its lines.
+/// one that is due. The history of events with the verdicts that are due has the text of the events for its lines.
 pub fn lines_tell()
     ensures tell { LinesTell }
     ensures told { AreTold }

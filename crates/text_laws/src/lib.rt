@@ -1,4 +1,5 @@
-//! What the text of a run tells: a history that is read from its lines has the verdicts that are due.
+//! The text of a run: the history of a list of events, its verdict lines and its totals; and what it tells: a history
+//! that is read from its lines has the verdicts that are due (this profile).
 #![tactic(auto)]
 
 mod laws;

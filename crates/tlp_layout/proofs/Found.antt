@@ -61,7 +61,7 @@ tlp_fault s f fit h =
     let short = stops_short s f h.0 h.1 in
     (h.0, place_of tlps s h.0 (stops_end whole_size s f h.0 (omega arith) fit h.1) (λ _. omega arith), h.1.cause)
 
--- ---- behind a header
+-- ---- after a header
 
 -- the bytes begin with a header
 pub record HasHead (k : Layout) (s : List ℕ) (n : ℕ) : Type 0 where
@@ -89,7 +89,7 @@ head_found k s n h le =
     let r = take_right k s n h.size h.within (walked k s n h) in
     back k s (rw (take_all n s le) at r)
 
--- up to the length that they say, they are the front of a spelling
+-- up to the length that they say, they are a prefix of a spelling
 ends : (size : List ℕ → ℕ) (k : Layout) (s : List ℕ) (n : ℕ) → HasHead k s n → (place : ℕ) → place ≤ length s
     → place ≤ size s
     → (place < length s → place ≡ size s) → EndsAt size may_follow s place

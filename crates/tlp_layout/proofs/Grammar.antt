@@ -1,6 +1,5 @@
--- Headers are a grammar, and TLPs are one: what is spelled walks byte by byte; what walks and wants no more has a right
--- header and as many bytes behind it as that wants, and is spelled; and else a byte more may follow, until none is
--- wanted.
+-- Headers are a grammar, and TLPs are one. What is spelled walks byte by byte. What walks and wants no more has a right
+-- header and as many bytes after it as that wants, and is spelled. Else a byte more may follow, until none is wanted.
 use Rattle.std.proofs.Common.{◌≡◌, ℕ, ◌+◌, ◌-◌, ◌<◌, ◌≤◌, List, ◌++◌, length, get_or, take, drop, refl, sym, ap, subst}
 use Rattle.std.proofs.Common.{◌∙◌, inl, inr, arith, length-append, length-take, length-drop, get_or-take, get_or-drop}
 use Rattle.std.proofs.Common.{take-append-drop}
@@ -66,7 +65,7 @@ pub spells_with : (h : HeadView) (b : List ℕ) → FitsHead h → length b ≡ 
     → All (λ x. x < 256) b → SpellsTlp (with_payload h b) (head_bytes h ++ b)
 spells_with h b fits e all = record { fits = record { head = fits; size = e; bytes = all }; spelled = refl }
 
--- bytes that are a TLP: a right header, and as many bytes behind it as it wants
+-- bytes that are a TLP: a right header, and as many bytes after it as it wants
 pub record IsWhole (k : Layout) (s : List ℕ) : Type 0 where
   pub walked : IsWalked k s (length s)
   pub size : length s ≡ whole_size s

@@ -196,7 +196,7 @@ early_clear layouts.Message size b1 b2 f1 f2 a1 a2 =
 early_clear layouts.Completion size b1 b2 f1 f2 a1 a2 =
     ((clear_3 b1 f1).0 (and_parts _ _ a1).0, (clear_192 b2 f2).0 (and_parts _ _ a2).0)
 
--- the first six bytes come back in each layout; low is the byte of the tag, and x what is written behind them
+-- the first six bytes come back in each layout; low is the byte of the tag, and x what is written after them
 back_by : (k : Layout) (b0 b1 b2 b3 b4 b5 low : ℕ) (r x : List ℕ) → IsRight k (b0 ∷ b1 ∷ b2 ∷ b3 ∷ b4 ∷ b5 ∷ r)
     → low < 256
     → type_of (fields_of k (b0 ∷ b1 ∷ b2 ∷ b3 ∷ b4 ∷ b5 ∷ r)) ≡ type_from k b0
@@ -328,7 +328,7 @@ first_is : (p w : Bool) (t : ℕ) → t < 32
     × (0x40 * bit p + 0x20 * bit w + t < 256)
 first_is p w t lt = grind (arith, nat_tests)
 
--- byte 0, and bytes that may stand behind it
+-- byte 0, and bytes that may stand after it
 right : (k : Layout) (p w : Bool) (t : ℕ) (bs : List ℕ) → layout_at (0x40 * bit p + 0x20 * bit w + t) ≡ Some k → t < 32
     → suc (length bs) ≡ cond w 16 12 → FitFrom k (cond w 16 12) 1 bs
     → IsRight k ((0x40 * bit p + 0x20 * bit w + t) ∷ bs)

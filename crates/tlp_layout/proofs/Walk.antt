@@ -1,4 +1,4 @@
--- Headers and TLPs as grammars: which byte may follow a front. The bytes behind byte 0 are judged each by its place
+-- Headers and TLPs as grammars: which byte may follow a prefix. The bytes after byte 0 are judged each by its place
 -- alone, so what walks is known place by place, and a byte that may come next is always at hand: 0, or the Length that
 -- is asked.
 use Rattle.std.proofs.Common.{◌≡◌, ℕ, zero, suc, ◌<◌, ◌≤◌, Bool, true, false, cond, eqb, ltb, bit_and, ◌&&◌, IsTrue}
@@ -33,7 +33,7 @@ rest_front i s le =
 pub whole_front : (i : ℕ) (s : List ℕ) → 4 ≤ i → whole_size (take i s) ≡ whole_size s
 whole_front i s le = omega (arith, rest_front i s le, ap head_size (get_or-take i s 0 0 (omega arith)))
 
--- ---- each byte fits behind those before it
+-- ---- each byte fits after those before it
 
 -- what is known of bytes that walk
 pub record IsWalked (k : Layout) (s : List ℕ) (n : ℕ) : Type 0 where
@@ -42,7 +42,7 @@ pub record IsWalked (k : Layout) (s : List ℕ) (n : ℕ) : Type 0 where
   pub agrees : (i : ℕ) → 0 < i → i < n → i < head_size (get_or s 0 0)
       → allowed k (head_size (get_or s 0 0)) i (get_or s i 0) ≡ true
 
--- behind byte 0 of a layout, what may follow a front goes by its place
+-- after byte 0 of a layout, what may follow a prefix goes by its place
 follow_is : (k : Layout) (s : List ℕ) → layout_at (get_or s 0 0) ≡ Some k → (i b : ℕ) → 0 < i → i ≤ length s
     → may_follow (take i s) b ≡
     (ltb b 256 && cond (ltb i (head_size (get_or s 0 0))) (allowed k (head_size (get_or s 0 0)) i b) true)

@@ -1,7 +1,7 @@
--- The spelling of a TLP's header (PCI Express Base 6.0 section 2.2). Rules that are this profile's and not the
--- standard's: a reserved bit that is set is refused, and so are TH, TD and EP; of a configuration request only Length
--- is checked, which is 1; AT is kept at every value; no rule is kept on byte enables, on 4 KiB boundaries or on the
--- payload's size; routings 6 and 7 are refused. Left out are I/O requests, locked reads, AtomicOps, deferrable memory
+-- The spelling of a TLP's header (PCI Express Base 6.0 section 2.2). These rules are this profile's and not the
+-- standard's. A reserved bit that is set is refused, and so are TH, TD and EP. Of a configuration request only Length
+-- is checked, which is 1. AT is kept at every value. No rule is kept on byte enables, on 4 KiB boundaries or on the
+-- payload's size. Routings 6 and 7 are refused. Left out are I/O requests, locked reads, AtomicOps, deferrable memory
 -- writes, prefixes, the digest, processing hints, poisoned TLPs, and the headers of flit mode.
 use Rattle.std.specs.Prelude.{◌≡◌, ℕ, ◌+◌, ◌*◌, ◌/◌, ◌%◌, ◌^◌, ◌<◌, Bool, true, false, List, [], ◌∷◌, ◌++◌, length}
 use Rattle.std.specs.Prelude.{if◌then◌else◌, All}

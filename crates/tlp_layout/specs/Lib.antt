@@ -16,7 +16,7 @@ pub use Rattle.tlp_layout.specs.Head.{head_bytes, head_length, FitsLead, FitsFie
 pub use Rattle.tlp_layout.specs.Causes.{is_wide, has_data, head_size, layout_at, reserved, allowed, cause_at, fault_at}
 pub use Rattle.tlp_layout.specs.Class.{layout_of, kind_with, kind_of, kind_class, class_of, kind_at}
 pub use Rattle.tlp_layout.specs.Tlp.{header, body, body_size, with_payload, tlp_bytes, FitsTlp, SpellsTlp, IsTlp}
-pub use Rattle.tlp_layout.specs.Tlp.{view_of, viewed}
+pub use Rattle.tlp_layout.specs.Tlp.{viewed_tlp, viewed}
 pub use Rattle.tlp_layout.specs.Faults.{IsFault, IsHeadFault, place_in}
 pub use Rattle.tlp_layout.specs.Reading.{head_of, head_read, tlp_read, may_follow, wants_head, wants_tlp, rest_size}
 pub use Rattle.tlp_layout.specs.Reading.{whole_size}

@@ -38,10 +38,10 @@ pub record IsTlp (bytes : List ℕ) : Type 0 where
   pub spells : SpellsTlp tlp bytes
 
 -- the TLP that a view shows: lent bytes are the bytes
-abbrev pub view_of : TlpView → Tlp
-view_of v = with_payload v.head v.payload.now
+abbrev pub viewed_tlp : TlpView → Tlp
+viewed_tlp v = with_payload v.head v.payload.now
 
 -- what a reader answers, with the TLP in the view's place
 abbrev pub viewed : Result TlpView TlpFault → Result Tlp TlpFault
-viewed (Ok v) = Ok (view_of v)
+viewed (Ok v) = Ok (viewed_tlp v)
 viewed (Err f) = Err f

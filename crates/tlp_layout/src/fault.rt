@@ -1,6 +1,6 @@
 //! Why bytes are no TLP.
 
-/// The first fault from the left, with its place, a byte offset from 0.
+/// The first fault from the left, with its place, a byte offset from 0 (this profile).
 #[derive(Clone, Copy, Debug, PartialEq, Eq)]
 pub enum TlpFault {
     /// The bytes end before the TLP does.

@@ -3,7 +3,7 @@
 use crate::layout::Layout;
 use ide_types::SubKind;
 
-/// The first double word of a header but for Fmt, Type and the two tag bits in it.
+/// The first double word of a header but for Fmt, Type and the two tag bits in it (PCI Express Base 6.0 section 2.2).
 #[derive(Clone, Copy, Debug, PartialEq, Eq)]
 pub struct Lead {
     /// Whether the header has 4 double words, not 3.
@@ -18,7 +18,7 @@ pub struct Lead {
     pub length: u16,
 }
 
-/// The header of a TLP, which a payload follows if `has_payload` says so.
+/// The header of a TLP (PCI Express Base 6.0 section 2.2). A payload follows it if `has_payload` says so.
 #[derive(Clone, Copy, Debug, PartialEq, Eq)]
 pub struct HeadView {
     /// The first double word.
@@ -29,7 +29,7 @@ pub struct HeadView {
     pub fields: Fields,
 }
 
-/// The fields of a header by its layout.
+/// The fields of a header by its layout (PCI Express Base 6.0 section 2.2).
 #[derive(Clone, Copy, Debug, PartialEq, Eq)]
 pub enum Fields {
     /// Of a memory read or write request.
@@ -42,7 +42,7 @@ pub enum Fields {
     Completion(CompletionFields),
 }
 
-/// The fields of a memory request.
+/// The fields of a memory request (PCI Express Base 6.0 section 2.2.7).
 #[derive(Clone, Copy, Debug, PartialEq, Eq)]
 pub struct MemoryFields {
     /// Requester ID: bus in bits 15:8, device and function below.
@@ -57,7 +57,7 @@ pub struct MemoryFields {
     pub address: u64,
 }
 
-/// The fields of a configuration request.
+/// The fields of a configuration request (PCI Express Base 6.0 section 2.2.7).
 #[derive(Clone, Copy, Debug, PartialEq, Eq)]
 pub struct ConfigFields {
     /// Whether it is of type 1, not 0.
@@ -93,7 +93,7 @@ pub enum Routing {
     Gathered,
 }
 
-/// The fields of a message request.
+/// The fields of a message request (PCI Express Base 6.0 section 2.2.8).
 #[derive(Clone, Copy, Debug, PartialEq, Eq)]
 pub struct MessageFields {
     /// How it is routed.
@@ -123,7 +123,7 @@ pub enum CompletionStatus {
     Other(u8),
 }
 
-/// The fields of a completion.
+/// The fields of a completion (PCI Express Base 6.0 section 2.2.9).
 #[derive(Clone, Copy, Debug, PartialEq, Eq)]
 pub struct CompletionFields {
     /// Completer ID.
@@ -142,7 +142,7 @@ pub struct CompletionFields {
     pub lower: u8,
 }
 
-/// The six kinds of TLP.
+/// The six kinds of TLP (PCI Express Base 6.0 section 2.2).
 #[derive(Clone, Copy, Debug, PartialEq, Eq)]
 pub enum TlpKind {
     /// A memory read request.

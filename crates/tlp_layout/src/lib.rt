@@ -1,11 +1,11 @@
 //! The layout of transaction layer packets (TLPs): headers of 3 or 4 double words and their payload
 //! (PCI Express Base 6.0 section 2.2), read with the place of the first fault, and written.
 //!
-//! Rules that are this profile's and not the standard's: a reserved bit that is set is refused, and so are
-//! TH, TD and EP; of a configuration request only Length is checked, which is 1; AT is kept at every value;
-//! no rule is kept on byte enables, on 4 KiB boundaries or on the payload's size; routings 6 and 7 are
-//! refused. Left out are I/O requests, locked reads, AtomicOps, deferrable memory writes, prefixes, the
-//! digest, processing hints, poisoned TLPs, and the headers of flit mode.
+//! These rules are this profile's and not the standard's. A reserved bit that is set is refused, and so are TH, TD and
+//! EP. Of a configuration request only Length is checked, which is 1. AT is kept at every value. No rule is kept on
+//! byte enables, on 4 KiB boundaries or on the payload's size. Routings 6 and 7 are refused. Left out are I/O requests,
+//! locked reads, AtomicOps, deferrable memory writes, prefixes, the digest, processing hints, poisoned TLPs, and the
+//! headers of flit mode.
 #![tactic(auto)]
 
 mod fault;
@@ -27,6 +27,3 @@ pub use layout::{head_size, kind_at};
 pub use reading::{read, read_head};
 pub use tlp::{Tlp, TlpView};
 pub use writing::write;
-
-#[cfg(test)]
-mod tests;

@@ -3,7 +3,7 @@
 ghost use Rattle.std.specs.Prelude.{◌≡◌, ◌<◌, ◌≤◌, ◌+◌, Some, IfOk, IfErr, MatchResult, length, slice_index};
 ghost use Rattle.std.specs.Prelude.{if◌then◌else◌};
 ghost use Rattle.tlp_layout.specs.Head.{SpellsHead};
-ghost use Rattle.tlp_layout.specs.Tlp.{SpellsTlp, view_of, viewed};
+ghost use Rattle.tlp_layout.specs.Tlp.{SpellsTlp, viewed_tlp, viewed};
 ghost use Rattle.tlp_layout.specs.Causes.{layout_at as layout_named, head_size as size_named};
 ghost use Rattle.tlp_layout.specs.Faults.{IsFault, IsHeadFault};
 ghost use Rattle.tlp_layout.specs.Reading.{read_of, read_head_of, head_of, lead_of, fields_of, address_read};
@@ -176,7 +176,7 @@ fn head_view(layout: Layout, bytes: &[u8]) -> HeadView
 }
 
 fn whole(bytes: &[u8]) -> Result<TlpView<'_>, TlpFault>
-    ensures ok { IfOk result (λ v. SpellsTlp (view_of v) bytes.now) }
+    ensures ok { IfOk result (λ v. SpellsTlp (viewed_tlp v) bytes.now) }
     ensures err { IfErr result (IsFault bytes.now) }
 {
     let (layout, size) = head_at(bytes)?;
@@ -196,9 +196,9 @@ fn whole(bytes: &[u8]) -> Result<TlpView<'_>, TlpFault>
 /// (PCI Express Base 6.0 section 2.2).
 pub fn read(bytes: &[u8]) -> Result<TlpView<'_>, TlpFault>
     // What is read is spelled so.
-    ensures ok { IfOk result (λ v. SpellsTlp (view_of v) bytes.now) }
+    ensures ok { IfOk result (λ v. SpellsTlp (viewed_tlp v) bytes.now) }
     // What is spelled so is read.
-    ensures only { (t : Tlp) → SpellsTlp t bytes.now → MatchResult result (λ v. view_of v ≡ t) (λ _. ⊥) }
+    ensures only { (t : Tlp) → SpellsTlp t bytes.now → MatchResult result (λ v. viewed_tlp v ≡ t) (λ _. ⊥) }
     // Bytes that are no TLP are refused at their first fault.
     ensures err { IfErr result (IsFault bytes.now) }
     // It is this function of the bytes.

@@ -3,7 +3,7 @@
 use crate::head::{HeadView, TlpKind};
 use ide_types::{Bytes, SubKind};
 
-/// A TLP: its header and the bytes of its payload, none if the header has no payload.
+/// A TLP (PCI Express Base 6.0 section 2.2): its header and the bytes of its payload, none if the header wants none.
 #[derive(Debug, Drop)]
 pub struct Tlp {
     /// The header.
@@ -12,7 +12,7 @@ pub struct Tlp {
     pub payload: Bytes,
 }
 
-/// A TLP whose payload is lent.
+/// A TLP whose payload is lent (PCI Express Base 6.0 section 2.2).
 #[derive(Clone, Copy, Debug)]
 pub struct TlpView<'a> {
     /// The header.
@@ -58,25 +58,25 @@ impl Tlp {
 impl TlpView<'_> {
     ghost use Rattle.std.specs.Prelude.{◌≡◌};
     ghost use Rattle.tlp_layout.specs.Class.{class_of, kind_of};
-    ghost use Rattle.tlp_layout.specs.Tlp.{header, view_of};
+    ghost use Rattle.tlp_layout.specs.Tlp.{header, viewed_tlp};
 
     /// The header.
     pub fn head(&self) -> HeadView
-        ensures { result ≡ header (view_of self.now) }
+        ensures { result ≡ header (viewed_tlp self.now) }
     {
         self.head
     }
 
     /// The kind of the TLP.
     pub fn kind(&self) -> TlpKind
-        ensures { result ≡ kind_of (header (view_of self.now)) }
+        ensures { result ≡ kind_of (header (viewed_tlp self.now)) }
     {
         self.head.kind()
     }
 
     /// The sub-stream that the TLP belongs to (PCI Express Base 6.0 section 6.33).
     pub fn class(&self) -> SubKind
-        ensures { result ≡ class_of (header (view_of self.now)) }
+        ensures { result ≡ class_of (header (viewed_tlp self.now)) }
     {
         self.head.class()
     }

@@ -46,7 +46,7 @@ next Q P (Err e) f q h = faulty P e
 pub weaker : {A : Type 0} (P Q : A → Type 0) (r : Result A PlanFault) → Holds P r → ((x : A) → P x → Q x) → Holds Q r
 weaker P Q r h w = record { given = λ x e. w x (h.given x e) }
 
--- a value that is given where a test holds
+-- a value that is given if a test holds
 pub checked : {A : Type 0} (P : A → Type 0) (b : Bool) (x : A) (f : PlanFault) → (b ≡ true → P x)
     → Holds P (cond b (Ok x) (Err f))
 checked P true x f h = gives P x (h refl)

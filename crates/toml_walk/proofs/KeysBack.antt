@@ -10,7 +10,7 @@ use Rattle.std.proofs.lemmas.List.Elements.{All-nil, All-cons, All-append, All-f
 use Rattle.std.proofs.lemmas.Bool.{true≢false, and_parts, and_from, le-leb, eqb-true, ltb-true, ltb-false, lt-ltb}
 use Rattle.std.proofs.lemmas.Bool.Decides.{nat_tests}
 use Rattle.toml_walk.specs.Shown.{is_bare, is_bare_byte, is_quoted_byte, is_printable, upper_digit, four_digits}
-use Rattle.toml_walk.specs.Shown.{numbered, shown_char, quoted, shown_key}
+use Rattle.toml_walk.specs.Shown.{numbered_escape, shown_char, quoted, spelled_key}
 
 -- ---- a reader of what is shown of characters
 
@@ -58,7 +58,7 @@ four_back k n x =
     rw (a, b, c, d, whole) refl
 
 -- a character is read back from what is shown of it
-numbered_back : (b : Bool) (c : ℕ) (x : List ℕ) → c < 4294967296 → nat_lt c 65536 ≡ b → unshown (numbered c ++ x)
+numbered_back : (b : Bool) (c : ℕ) (x : List ℕ) → c < 4294967296 → nat_lt c 65536 ≡ b → unshown (numbered_escape c ++ x)
     ≡ (c, x)
 numbered_back true c x few is =
     let small : c < 65536 = ltb-true c 65536 is in
@@ -116,7 +116,7 @@ char_back c x few = r0 c x few (c == 34) refl
 
 -- ---- keys
 
--- two characters and what is behind them, from what is shown
+-- two characters and what follows them, from what is shown
 same_first : (c d : ℕ) (x y : List ℕ) → c < 4294967296 → d < 4294967296 → shown_char c ++ x ≡ shown_char d ++ y
     → (c ≡ d) × (x ≡ y)
 same_first c d x y few less e =
@@ -178,8 +178,8 @@ quoted_apart k l one two e =
     tail (b ∷ bs) = bs
 
 -- keys that stand alike are the same
-pub keys_apart : (a b : Bool) (k l : List ℕ) → is_bare k ≡ a → is_bare l ≡ b → IsUtf8 k → IsUtf8 l → shown_key k
-    ≡ shown_key l → k ≡ l
+pub keys_apart : (a b : Bool) (k l : List ℕ) → is_bare k ≡ a → is_bare l ≡ b → IsUtf8 k → IsUtf8 l → spelled_key k
+    ≡ spelled_key l → k ≡ l
 keys_apart true true k l is at one two e = rw (is, at) at e
 keys_apart true false k l is at one two e =
     let begins : k ≡ quoted (chars l) = rw (is, at) at e in
@@ -215,7 +215,7 @@ four_printable n =
       ),
     )
 
-numbered_printable : (b : Bool) (c : ℕ) → nat_lt c 65536 ≡ b → Printable (numbered c)
+numbered_printable : (b : Bool) (c : ℕ) → nat_lt c 65536 ≡ b → Printable (numbered_escape c)
 numbered_printable true c is = rw is
     (All-append (λ b. is_printable b ≡ true) (codes "\\u") (four_digits c)
     (All-from_recursion (λ b. is_printable b ≡ true) (codes "\\u") (refl, (refl, tt))) (four_printable c))
@@ -229,7 +229,7 @@ chosen : (t : Bool) (xs ys : List ℕ) → Printable xs → Printable ys → Pri
 chosen true xs ys h k = h
 chosen false xs ys h k = k
 
-last_printable : (b : Bool) (c : ℕ) → is_printable c ≡ b → Printable (cond b (c ∷ []) (numbered c))
+last_printable : (b : Bool) (c : ℕ) → is_printable c ≡ b → Printable (cond b (c ∷ []) (numbered_escape c))
 last_printable true c is = All-from_recursion (λ b. is_printable b ≡ true) (c ∷ []) (is, tt)
 last_printable false c is = numbered_printable (nat_lt c 65536) c refl
 
@@ -292,9 +292,9 @@ none_quoted k is =
     (not_true (length k == 0 || list_any is_quoted_byte k) is) in
     parts.1
 
-key_printable : (b : Bool) (k : List ℕ) → is_bare k ≡ b → Printable (shown_key k)
+key_printable : (b : Bool) (k : List ℕ) → is_bare k ≡ b → Printable (spelled_key k)
 key_printable true k is = rw is (bare_printable k (none_quoted k is))
 key_printable false k is = rw is (quoted_printable (chars k))
 
-pub shown_printable : (k : List ℕ) → Printable (shown_key k)
+pub shown_printable : (k : List ℕ) → Printable (spelled_key k)
 shown_printable k = key_printable (is_bare k) k refl

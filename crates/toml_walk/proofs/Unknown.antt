@@ -57,7 +57,7 @@ first_or_later false known k ks key is above later e =
           (λ _. inl refl, behind known k ks above);
     })
 
--- the keys ahead of the first unknown one are known, and those behind it are greater
+-- the keys before the first unknown one are known, and those after it are greater
 pub unknown_is_least : (known keys : List Text) (key : Text) → Ascend keys → unknown_in known keys ≡ Some key
     → IsLeastUnknown known keys key
 unfolding IsStrictlySortedBy

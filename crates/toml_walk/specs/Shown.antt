@@ -27,8 +27,8 @@ four_digits n =
     upper_digit (n / 4096 % 16) ∷ upper_digit (n / 256 % 16) ∷ upper_digit (n / 16 % 16) ∷ upper_digit (n % 16) ∷ []
 
 -- the escapes of characters by their numbers, of four or of eight digits
-abbrev pub numbered : ℕ → List ℕ
-numbered c =
+abbrev pub numbered_escape : ℕ → List ℕ
+numbered_escape c =
     if nat_lt c 65536 then codes "\\u" ++ four_digits c
     else codes "\\U" ++ four_digits (c / 65536) ++ four_digits c
 
@@ -47,12 +47,12 @@ shown_char c =
     else if c == 12 then codes "\\f"
     else if c == 13 then codes "\\r"
     else if is_printable c then c ∷ []
-    else numbered c
+    else numbered_escape c
 
 -- the characters as a basic string
 abbrev pub quoted : List ℕ → List ℕ
 quoted cs = codes "\"" ++ flat_map shown_char cs ++ codes "\""
 
 -- a bare key as it is, and any other as a basic string
-abbrev pub shown_key : List ℕ → List ℕ
-shown_key key = if is_bare key then key else quoted (chars key)
+abbrev pub spelled_key : List ℕ → List ℕ
+spelled_key key = if is_bare key then key else quoted (chars key)

@@ -14,7 +14,7 @@ use Rattle.toml_walk.specs.declared.fault.PlanFault.{PlanFault}
 use Rattle.toml_walk.specs.declared.fault.PlanFault.TheVariants.{Missing, Kind, Range, Unknown, Limit}
 use Rattle.toml_walk.specs.declared.list.Span.{Span}
 use Rattle.toml_walk.specs.Fault.{◌>>=◌, or_fault}
-use Rattle.toml_walk.specs.Shown.{shown_key}
+use Rattle.toml_walk.specs.Shown.{spelled_key}
 
 -- the bytes of a text, and of a key's path: keys and places in lists, joined by dots
 abbrev pub Text : Type 0
@@ -52,7 +52,7 @@ unknown_in known (key ∷ keys) = if is_known known key then unknown_in known ke
 
 abbrev pub refused_key : Text → Option Text → Result (Unit {0}) PlanFault
 refused_key table None = Ok tt
-refused_key table (Some key) = Err (Unknown (table ++ shown_key key))
+refused_key table (Some key) = Err (Unknown (table ++ spelled_key key))
 
 -- a table has known keys alone; `table` is its path and a dot, or nothing for the table at the top
 abbrev pub only_known : Text → List Text → Members → Result (Unit {0}) PlanFault

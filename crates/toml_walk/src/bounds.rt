@@ -3,10 +3,10 @@
 ghost use Rattle.std.specs.Prelude.{◌≡◌, ◌<◌, ◌^◌};
 ghost use Rattle.toml_walk.specs.Bounds.{within, formed, has_form, admits};
 
-/// The greatest number that TOML has.
+/// The greatest number that TOML has, 2^63 - 1 (TOML 1.0).
 pub const GREATEST: u64 = 9223372036854775807;
 
-/// What a number has to be besides.
+/// The form that a number has to have, besides its bounds.
 #[derive(Clone, Copy, Debug, PartialEq, Eq)]
 pub enum Form {
     /// Nothing.

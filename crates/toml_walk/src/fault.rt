@@ -18,7 +18,7 @@ pub enum PlanFault {
     /// The key's value is outside its bounds: the number, the length of a text in bytes or of a list in elements, or 1
     /// for `true`.
     Range(Bytes, i64),
-    /// Two elements of the list may not stand beside each other: their places, of which no pair is less.
+    /// Two elements of the list may not stand beside each other: their places, the least such pair.
     Repeated(Bytes, usize, usize),
     /// No table has such a key.
     Unknown(Bytes),

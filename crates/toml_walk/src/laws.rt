@@ -2,7 +2,7 @@
 
 ghost use Rattle.std.specs.Prelude.{◌≡◌, All, List, Some, true, ℕ};
 ghost use Rattle.std.specs.Str.{IsUtf8};
-ghost use Rattle.toml_walk.specs.Shown.{is_printable, shown_key};
+ghost use Rattle.toml_walk.specs.Shown.{is_printable, spelled_key};
 ghost use Rattle.toml_walk.specs.Walk.{Text, unknown_in, Ascend, IsLeastUnknown};
 
 /// The unknown key that is refused is the least in byte order, since the keys of a table ascend.
@@ -13,6 +13,6 @@ pub fn unknown_is_least()
 
 /// Keys that stand alike in a line are the same, and each stands in printable ASCII.
 pub fn shown_keys_are_apart()
-    ensures apart { (k l : List ℕ) → IsUtf8 k → IsUtf8 l → shown_key k ≡ shown_key l → k ≡ l }
-    ensures printable { (k : List ℕ) → All (λ b. is_printable b ≡ true) (shown_key k) }
+    ensures apart { (k l : List ℕ) → IsUtf8 k → IsUtf8 l → spelled_key k ≡ spelled_key l → k ≡ l }
+    ensures printable { (k : List ℕ) → All (λ b. is_printable b ≡ true) (spelled_key k) }
 {}

@@ -3,8 +3,15 @@
 ghost use Rattle.std.specs.Prelude.{◌≡◌, ◌<◌, ◌++◌, ◌∷◌, [], IfOk, OnOk, codes, flat_map};
 ghost use Rattle.std.specs.List.{list_any};
 ghost use Rattle.std.specs.Str.{chars};
-ghost use Rattle.toml_walk.specs.Shown.{is_bare_byte, is_quoted_byte, is_bare, upper_digit, four_digits, numbered};
-ghost use Rattle.toml_walk.specs.Shown.{shown_char, quoted, shown_key};
+ghost use Rattle.toml_walk.specs.Shown.{
+  is_bare_byte,
+  is_quoted_byte,
+  is_bare,
+  upper_digit,
+  four_digits,
+  numbered_escape,
+};
+ghost use Rattle.toml_walk.specs.Shown.{shown_char, quoted, spelled_key};
 
 use ide_types::Bytes;
 use std::alloc::{AllocError, Global};
@@ -57,7 +64,7 @@ fn push_four(n: u32, text: &mut Vec<u8>) -> Result<(), AllocError>
 }
 
 fn push_numbered(c: u32, text: &mut Vec<u8>) -> Result<(), AllocError>
-    ensures { OnOk result (text.new.items ≡ text.old.items ++ numbered c) }
+    ensures { OnOk result (text.new.items ≡ text.old.items ++ numbered_escape c) }
 {
     if c < 65536 {
         text.extend_from_slice(b"\\u")?;
@@ -119,7 +126,7 @@ fn push_quoted(alloc: Global, key: &str, path: &mut Vec<u8>) -> Result<(), Alloc
 }
 
 fn push_shown(alloc: Global, key: &str, path: &mut Vec<u8>) -> Result<(), AllocError>
-    ensures { OnOk result (path.new.items ≡ path.old.items ++ shown_key key.now) }
+    ensures { OnOk result (path.new.items ≡ path.old.items ++ spelled_key key.now) }
 {
     if is_bare(key) {
         path.extend_from_slice(key.as_bytes())
@@ -131,7 +138,7 @@ fn push_shown(alloc: Global, key: &str, path: &mut Vec<u8>) -> Result<(), AllocE
 /// The path of a key that no table has: that of its table and a dot, or nothing at the top, and the key as TOML writes
 /// it in printable ASCII, a bare key as it is and any other as a basic string (TOML 1.0).
 pub(crate) fn shown_path(alloc: Global, table: &[u8], key: &str) -> Result<Bytes, AllocError>
-    ensures { IfOk result (λ path. path ≡ table.now ++ shown_key key.now) }
+    ensures { IfOk result (λ path. path ≡ table.now ++ spelled_key key.now) }
 {
     let mut path = table.to_vec(alloc)?;
     push_shown(alloc, key, &mut path)?;

@@ -1,4 +1,4 @@
--- What one reading gives another gives as well, up to a relation on what is given.
+-- What one reading gives, another gives as well, up to a relation on what is given.
 use Rattle.std.proofs.Common.{◌≡◌, refl, subst, ℕ, ◌+◌, List, [], ◌∷◌, Option, Some, None, Result, Ok, Err}
 use Rattle.toml.specs.Data.{Data, Members, as_table}
 use Rattle.toml_walk.specs.declared.fault.PlanFault.{PlanFault}

@@ -105,7 +105,7 @@ text_deep n path d x s e = none_deep n (depth d) (flat_text d x (given (as_str d
 truth_deep : (n : ℕ) → Deep n truth
 truth_deep n path d x s e = none_deep n (depth d) (flat_truth d x (given (as_bool d) _ x e))
 
--- what is read further of what was read
+-- a reading, and a further one of what it gave
 then_deep : {A B : Type 0} (n : ℕ) (read : Reader A) (more : Text → A → Result B PlanFault) → Deep n read
     → Deep n (λ path d. read path d >>= more path)
 then_deep n read more h path d x s e =

@@ -1,4 +1,4 @@
--- What the keys of a topology say, ahead of the rules over several values, meets every bound of the keys.
+-- What the keys of a topology say, before the rules over several values, meets every bound of the keys.
 use Rattle.std.proofs.Common.{◌≡◌, sym, refl, ℕ, ℤ, pos, negsuc, ◌≤◌, ◌<◌, ◌==◌, ◌&&◌, ◌||◌, nat_le, List, [], ◌∷◌}
 use Rattle.std.proofs.Common.{length, Bool, true, false, arith, codes, lit≤, inl, inr}
 use Rattle.std.specs.List.{All}
@@ -48,7 +48,7 @@ bound_selective z (s ∷ ss) fits h =
     or_right true b h = refl
     or_right false b h = h
 
--- an interface meets its bounds where its stream is one of these
+-- an interface meets its bounds if its stream is one of these
 unfoldable pub DraftFits : InterfaceDraft → Type 0
 DraftFits d = (streams : List StreamPlan) → All FitsStream streams → is_bound streams d.stream ≡ true
     → FitsInterface streams d.interface

@@ -63,7 +63,7 @@ known_at Less known key other d e ms is there later = rw (is, there) refl
 known_at Equal known key other d e ms is there later = rw is refl
 known_at Greater known key other d e ms is there later = rw (is, later) refl
 
--- a known key more makes no key unknown
+-- one more known key makes no key unknown
 pub same_unknown : (known : List Text) (key : Text) (d : Data) (ms : Members) → is_known known key ≡ true
     → unknown_in known (key_names (with_member key d ms)) ≡ unknown_in known (key_names ms)
 same_unknown known key d no_members there = rw there refl

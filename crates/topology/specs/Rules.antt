@@ -13,7 +13,7 @@ use Rattle.topology.specs.declared.draft.InterfaceDraft.{InterfaceDraft}
 use Rattle.topology.specs.declared.draft.LinkDraft.{LinkDraft}
 use Rattle.topology.specs.declared.draft.PlanDraft.{PlanDraft}
 
--- the pair of a place and a later one where there is a later one, and else a later pair
+-- the pair of a place and a later one if there is a later one, else a later pair
 abbrev pub pair_or : ℕ → Option ℕ → Option (ℕ × ℕ) → Option (ℕ × ℕ)
 pair_or i (Some j) later = Some (i, j)
 pair_or i None later = later

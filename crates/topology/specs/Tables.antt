@@ -41,7 +41,7 @@ abbrev pub is_selective_kind : StreamKind → Bool
 is_selective_kind kind.Selective = true
 is_selective_kind kind.Link = false
 
--- a list that a stream of the other kind may have without elements alone
+-- a list that a stream of the other kind may have only without elements
 abbrev pub only_if : Bool → Span → Span
 only_if allowed span = record span { allowed = allowed }
 
@@ -67,7 +67,7 @@ address_range path d = do
   ends ← two true (formed 0 greatest Mebibytes) (formed 0 greatest LastOfMebibyte) path d
   addresses_in_order path ends
 
--- true where it is allowed, or false; Range with 1 is the fault of true
+-- true if it is allowed, or false; Range with 1 is the fault of true
 abbrev pub true_if : Bool → Text → Bool → Result Bool PlanFault
 true_if allowed path b = if b && not allowed then Err (Range path (pos 1)) else Ok b
 
@@ -111,7 +111,7 @@ bar_keys t ms = do
   attributes ← optional t ms (codes "attributes") 0 (number (within 0 15))
   Ok (record { base = base; pages = pages; attributes = attributes })
 
--- the stream ID that a number is, or 0 where it is none
+-- the stream ID that a number is, or 0 if it is none
 abbrev pub stream_id_of : ℤ → ℕ
 stream_id_of (pos n) = if nat_le n 255 then n else 0
 stream_id_of (negsuc n) = 0

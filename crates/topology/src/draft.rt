@@ -1,4 +1,4 @@
-//! What the keys of a topology say, ahead of the rules over several values.
+//! What the keys of a topology say, before the rules over several values.
 
 use ide_plan::{InterfacePlan, Region, StreamPlan};
 use ide_types::Items;
@@ -14,7 +14,7 @@ pub enum StreamKind {
 #[derive(Drop)]
 pub struct InterfaceDraft {
     pub stream: i64,
-    /// Its stream is that number, or 0 where the number is no stream ID.
+    /// Its stream is that number, or 0 if the number is no stream ID.
     pub interface: InterfacePlan,
 }
 

@@ -63,7 +63,7 @@ impl Reader for Integer {
     }
 }
 
-// The stream ID that a number is, or 0 where it is none.
+// The stream ID that a number is, or 0 if it is none.
 fn id_in(number: i64) -> u8
     ensures { result ≡ stream_id_of number }
 {

@@ -15,6 +15,3 @@ pub use line::fault_line;
 pub use migration::{migrate, migrated_plan};
 pub use reading::read;
 pub use toml_walk::{PlanError, PlanFault};
-
-#[cfg(test)]
-mod tests;

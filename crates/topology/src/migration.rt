@@ -79,8 +79,8 @@ fn text_in_version_2(alloc: Global, mut table: Table) -> Result<Bytes, PlanError
     }
 }
 
-/// The text of a topology in version 2: it reads to the table that the bytes read to, with `version` 2. The fault of
-/// the bytes if they mean no plan.
+/// The text of a topology in version 2 (this profile): it reads to the table that the bytes read to, with `version` 2.
+/// Returns the fault of the bytes if they mean no plan, or `Memory` for want of memory.
 pub fn migrate(alloc: Global, bytes: &[u8]) -> Result<Bytes, PlanError>
     ensures text { IfOk result (IsMigrated bytes.now) }
     ensures fault { IfErr result (λ e. Fails e (plan_of bytes.now)) }

@@ -151,7 +151,7 @@ impl Clash for SameRequester {
     }
 }
 
-// Whether the region ends behind the address.
+// Whether the region ends after the address.
 fn ends_behind(region: &Region, address: u64) -> bool
     ensures { result ≡ nat_lt address (region.now.base + region.now.size) }
 {

@@ -119,7 +119,7 @@ impl Reader for Addresses {
     }
 }
 
-// True where it is allowed, or false.
+// True if it is allowed, or false.
 #[derive(Clone, Copy)]
 struct TruthIf {
     allowed: bool,
@@ -146,7 +146,7 @@ impl Reader for TruthIf {
     }
 }
 
-// Up to 8 ranges of addresses, or none where none are allowed.
+// Up to 8 ranges of addresses, or none if none are allowed.
 fn ranges(allowed: bool) -> ListOf<Addresses>
     ensures { result.span ≡ only_if allowed (between 0 8) }
 {
@@ -161,7 +161,7 @@ fn ranges(allowed: bool) -> ListOf<Addresses>
     }
 }
 
-// Any number of traffic classes, or none where none are allowed.
+// Any number of traffic classes, or none if none are allowed.
 fn class_list(allowed: bool) -> ListOf<Byte>
     ensures span { result.span ≡ only_if allowed any_number }
     ensures element { result.element.bounds ≡ within 0 7 }

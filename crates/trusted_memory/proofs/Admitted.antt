@@ -1,4 +1,4 @@
--- A write is admitted exactly where no cause blocks it, and packets lead from contents to contents.
+-- A write is admitted exactly if no cause blocks it, and packets lead from contents to contents.
 use Rattle.std.proofs.Common.{◌≡◌, ℕ, Bool, true, false, cond, not, ◌&&◌, nat_le, nat_lt, ◌==◌, if◌then◌else◌, List, []}
 use Rattle.std.proofs.Common.{◌∷◌, ◌++◌, Option, Some, None, is_some, refl, sym, ap, ◌∙◌, arith}
 use Rattle.std.specs.Option.{option_or}
@@ -8,12 +8,12 @@ use Rattle.link_verdicts.specs.declared.verdict.BlockCause.{BlockCause}
 use Rattle.link_verdicts.specs.declared.verdict.BlockCause.TheVariants as cause
 use Rattle.trusted_memory.specs.declared.grant.Grant.{Grant}
 use Rattle.trusted_memory.specs.declared.span.Span.{Span}
-use Rattle.trusted_memory.specs.Spans.{bytes_of, enables, crosses}
+use Rattle.trusted_memory.specs.Spans.{span_byte_count, enables, crosses}
 use Rattle.trusted_memory.specs.Writes.{Write, payload_byte, written, newest_first}
 use Rattle.trusted_memory.specs.Regions.{in_one_region}
 use Rattle.trusted_memory.specs.Causes.{grant_cause, place_cause, block_cause, block_effect, is_applied}
 use Rattle.trusted_memory.specs.Admitted.{is_on_bound, is_placed, admitted_write}
-use Rattle.trusted_memory.specs.Memory.{Contents, byte_at, Leads}
+use Rattle.trusted_memory.specs.Memory.{MemoryContents, byte_at, Leads}
 use Rattle.trusted_memory.proofs.Turns.{byte_after-next}
 
 -- ---- causes
@@ -46,7 +46,7 @@ pub cause_says : (regions : List Region) (s : Span) (t : Bool) (g : Grant)
 cause_says regions s false g = refl
 cause_says regions s true g =
     grant_says g.bound g.stream g.draw (place_cause regions s) (is_placed regions s)
-    (placed_tests (in_one_region regions s.address (bytes_of s)) (crosses s))
+    (placed_tests (in_one_region regions s.address (span_byte_count s)) (crosses s))
 
 pub some_if : (b : Bool) (w : Write) → b ≡ is_some (if b then Some w else None)
 some_if b w = grind arith
@@ -76,14 +76,14 @@ none_if_blocked regions t g w = (by_effect _ _ w (cause_says regions w.span t g)
 
 -- ---- packets in turn
 
-pub leads_applied : (m n : Contents) (o : Option Write) (w : Write) → o ≡ Some w
+pub leads_applied : (m n : MemoryContents) (o : Option Write) (w : Write) → o ≡ Some w
     → ((a : ℕ) → byte_at n a ≡ written w (byte_at m) a) → Leads m (o ∷ []) n
 leads_applied m n o w is h older left a =
     let same : newest_first (o ∷ []) older ≡ w ∷ older = ap (λ (p : Option Write). newest_first (p ∷ []) older) is in
     rw same (h a ∙ ap (λ (b : ℕ). cond (enables w.span a) (payload_byte w a) b) (left a) ∙ sym
     (byte_after-next w older a))
 
-pub leads_blocked : (m : Contents) (o : Option Write) → o ≡ None → Leads m (o ∷ []) m
+pub leads_blocked : (m : MemoryContents) (o : Option Write) → o ≡ None → Leads m (o ∷ []) m
 leads_blocked m o is older left = rw is left
 
 newest_first-append : (os ps : List (Option Write)) (older : List Write) → newest_first (os ++ ps) older
@@ -92,6 +92,7 @@ newest_first-append [] ps older = refl
 newest_first-append (None ∷ os) ps older = newest_first-append os ps older
 newest_first-append (Some w ∷ os) ps older = newest_first-append os ps (w ∷ older)
 
-pub leads_joined : (m n k : Contents) (os ps : List (Option Write)) → Leads m os n → Leads n ps k → Leads m (os ++ ps) k
+pub leads_joined : (m n k : MemoryContents) (os ps : List (Option Write)) → Leads m os n → Leads n ps k
+    → Leads m (os ++ ps) k
 leads_joined m n k os ps first second older left =
     rw (newest_first-append os ps older) (second (newest_first os older) (first older left))

@@ -9,7 +9,7 @@ use Rattle.ide_plan.specs.declared.plan.Region.{Region}
 use Rattle.ide_plan.specs.Fits.{FitsRegion}
 use Rattle.trusted_memory.specs.Regions.{is_inside, in_region, holds_all, in_one_region}
 use Rattle.trusted_memory.specs.Memory.{new_memory, byte_in, byte_at, bytes_from}
-use Rattle.trusted_memory.specs.Pages.{contents_seen, seen}
+use Rattle.trusted_memory.specs.Pages.{contents_seen, memory_seen}
 
 pub length-bytes_from : (f : ℕ → ℕ) (at n : ℕ) → length (bytes_from f at n) ≡ n
 length-bytes_from f at zero = refl
@@ -93,7 +93,7 @@ ends_low (r ∷ rs) at n fit h = elim (cases_Bool (holds_all r at n)) [
 
 -- ---- at first
 
-pub new_is_seen : (rs : List Region) → seen rs [] 0 ≡ new_memory rs
+pub new_is_seen : (rs : List Region) → memory_seen rs [] 0 ≡ new_memory rs
 new_is_seen rs i = record {
   contents = record { regions = rs; bytes = map (λ r. bytes_from-zero r.base r.size i) rs };
   pages = [];

@@ -12,11 +12,11 @@ use Rattle.std.proofs.lemmas.List.{get_or-replicate}
 use Rattle.std.proofs.lemmas.Map.Made.{is_some-lookup}
 use Rattle.ide_plan.specs.declared.plan.Region.{Region}
 use Rattle.trusted_memory.specs.declared.span.Span.{Span}
-use Rattle.trusted_memory.specs.Spans.{bytes_of, is_enabled, reaches, enables, crosses}
+use Rattle.trusted_memory.specs.Spans.{span_byte_count, is_enabled, reaches, enables, crosses}
 use Rattle.trusted_memory.specs.Writes.{Write, written}
 use Rattle.trusted_memory.specs.Regions.{in_region, in_one_region}
 use Rattle.trusted_memory.specs.Memory.{byte_at, bytes_from, has_page}
-use Rattle.trusted_memory.specs.Pages.{page_bytes, paged_byte, contents_seen, seen, HasWritten}
+use Rattle.trusted_memory.specs.Pages.{page_bytes, paged_byte, contents_seen, memory_seen, HasWritten}
 use Rattle.trusted_memory.proofs.Seen.{byte_in-seen, each_in_region}
 
 -- ---- numbers
@@ -27,7 +27,7 @@ leb-shifted c x y = grind (arith, nat_tests)
 ltb-shifted : (c x y : ℕ) → ltb (c + x) (c + y) ≡ ltb x y
 ltb-shifted c x y = grind (arith, nat_tests)
 
-pub fits_page : (s : Span) → crosses s ≡ false → s.address % 4096 + bytes_of s ≤ 4096
+pub fits_page : (s : Span) → crosses s ≡ false → s.address % 4096 + span_byte_count s ≤ 4096
 fits_page s e = grind (arith, nat_tests)
 
 -- ---- the same page
@@ -42,11 +42,13 @@ reaches-same_page w a same =
     let c = 4096 * (a / 4096) in
     let first : w.span.address ≡ 4096 * (a / 4096) + w.span.address % 4096 = omega arith in
     let here : a ≡ 4096 * (a / 4096) + a % 4096 = omega arith in
-    let end : w.span.address + bytes_of w.span ≡ 4096 * (a / 4096) + (w.span.address % 4096 + bytes_of w.span) = omega
+    let end : w.span.address + span_byte_count w.span ≡ 4096 * (a / 4096) +
+    (w.span.address % 4096 + span_byte_count w.span) = omega
     arith in
     let low : leb w.span.address a ≡ leb (w.span.address % 4096) (a % 4096) = (λ i. leb (first i) (here i)) ∙
     leb-shifted c _ _ in
-    let high : ltb a (w.span.address + bytes_of w.span) ≡ ltb (a % 4096) (w.span.address % 4096 + bytes_of w.span) =
+    let high : ltb a (w.span.address + span_byte_count w.span)
+    ≡ ltb (a % 4096) (w.span.address % 4096 + span_byte_count w.span) =
     (λ i. ltb (here i) (end i)) ∙ ltb-shifted c _ _ in
     sym (λ i. low i && high i)
 
@@ -67,7 +69,7 @@ written-same_page w old a b same e =
 reaches_low : (w : Write) (a : ℕ) → reaches w.span a ≡ true → w.span.address ≤ a
 reaches_low w a e = grind (arith, nat_tests)
 
-reaches_high : (w : Write) (a : ℕ) → reaches w.span a ≡ true → a < w.span.address + bytes_of w.span
+reaches_high : (w : Write) (a : ℕ) → reaches w.span a ≡ true → a < w.span.address + span_byte_count w.span
 reaches_high w a e = grind (arith, nat_tests)
 
 reaches-other_page : (w : Write) (a : ℕ) → crosses w.span ≡ false → w.span.address / 4096 ≢ a / 4096 → reaches w.span a
@@ -145,15 +147,15 @@ enables-reaches s a e = grind arith
 
 -- what is read through regions is what is read through pages, before and after
 pub byte_at-written : (rs : List Region) (es es' : List (ℕ × List ℕ)) (w : Write)
-    → in_one_region rs w.span.address (bytes_of w.span) ≡ true
+    → in_one_region rs w.span.address (span_byte_count w.span) ≡ true
     → ((a : ℕ) → paged_byte es' a ≡ written w (paged_byte es) a) → (a : ℕ) → byte_at (contents_seen rs es') a
     ≡ written w (byte_at (contents_seen rs es)) a
 byte_at-written rs es es' w inside h a = elim (cases_Bool (enables w.span a)) [
   | inl e ↦
       let reached = enables-reaches w.span a e in
       let low : w.span.address ≤ a = reaches_low w a reached in
-      let high : a < w.span.address + bytes_of w.span = reaches_high w a reached in
-      let has = each_in_region rs w.span.address (bytes_of w.span) a inside low high in
+      let high : a < w.span.address + span_byte_count w.span = reaches_high w a reached in
+      let has = each_in_region rs w.span.address (span_byte_count w.span) a inside low high in
       byte_at-seen rs es' a has ∙ h a ∙ rw e refl
   | inr e ↦
       let same : paged_byte es' a ≡ paged_byte es a = h a ∙ rw e refl in
@@ -191,33 +193,35 @@ paged-same es es' same a = ap (λ (o : Option (List ℕ)). get_or (unwrap_or o [
 
 -- ---- which pages are there
 
-pub has_page-lookup : (rs : List Region) (es : List (ℕ × List ℕ)) (spare n : ℕ) → has_page (seen rs es spare) n
+pub has_page-lookup : (rs : List Region) (es : List (ℕ × List ℕ)) (spare n : ℕ) → has_page (memory_seen rs es spare) n
     ≡ is_some (lookup (eqb n) es)
 has_page-lookup rs es spare n = sym (is_some-lookup (eqb n) es)
 
 pub has_page-same : (rs : List Region) (es es' : List (ℕ × List ℕ)) (spare spare' : ℕ) → SamePages es es' → (n : ℕ)
-    → has_page (seen rs es' spare') n ≡ has_page (seen rs es spare) n
+    → has_page (memory_seen rs es' spare') n ≡ has_page (memory_seen rs es spare) n
 has_page-same rs es es' spare spare' same n =
     has_page-lookup rs es' spare' n ∙ ap (λ (o : Option (List ℕ)). is_some o) (same n) ∙ sym
     (has_page-lookup rs es spare n)
 
 pub has_page-put : (rs : List Region) (es es' : List (ℕ × List ℕ)) (spare spare' n : ℕ) (new : List ℕ)
     → PutsPage n new es es' → (q : ℕ)
-    → has_page (seen rs es' spare') q ≡ (has_page (seen rs es spare) q || eqb n q)
+    → has_page (memory_seen rs es' spare') q ≡ (has_page (memory_seen rs es spare) q || eqb n q)
 has_page-put rs es es' spare spare' n new puts q = elim (cases_Bool (eqb n q)) [
   | inl e ↦
-      let there : has_page (seen rs es' spare') q ≡ true =
+      let there : has_page (memory_seen rs es' spare') q ≡ true =
       has_page-lookup rs es' spare' q ∙ ap (λ (o : Option (List ℕ)). is_some o) (found n q true new es es' puts e) in
-      there ∙ sym (or-true (has_page (seen rs es spare) q)) ∙ ap (λ (b : Bool). has_page (seen rs es spare) q || b)
+      there ∙ sym (or-true (has_page (memory_seen rs es spare) q)) ∙ ap
+      (λ (b : Bool). has_page (memory_seen rs es spare) q || b)
       (sym e)
   | inr e ↦
-      let same : has_page (seen rs es' spare') q ≡ has_page (seen rs es spare) q =
+      let same : has_page (memory_seen rs es' spare') q ≡ has_page (memory_seen rs es spare) q =
       has_page-lookup rs es' spare' q ∙ ap (λ (o : Option (List ℕ)). is_some o) (found n q false new es es' puts e)
       ∙ sym (has_page-lookup rs es spare q) in
-      same ∙ sym (or-false (has_page (seen rs es spare) q)) ∙ ap (λ (b : Bool). has_page (seen rs es spare) q || b)
+      same ∙ sym (or-false (has_page (memory_seen rs es spare) q)) ∙ ap
+      (λ (b : Bool). has_page (memory_seen rs es spare) q || b)
       (sym e)
 ]
 
-pub no_page : (rs : List Region) (es : List (ℕ × List ℕ)) (spare n : ℕ) → has_page (seen rs es spare) n ≡ false
+pub no_page : (rs : List Region) (es : List (ℕ × List ℕ)) (spare n : ℕ) → has_page (memory_seen rs es spare) n ≡ false
     → page_bytes es n ≡ []
 no_page rs es spare n h = none_of (lookup (eqb n) es) (sym (has_page-lookup rs es spare n) ∙ h)

@@ -4,7 +4,7 @@ use Rattle.std.specs.Prelude.{ℕ, ◌==◌, ◌&&◌, nat_le, not, Bool, false,
 use Rattle.ide_plan.specs.declared.plan.Region.{Region}
 use Rattle.trusted_memory.specs.declared.grant.Grant.{Grant}
 use Rattle.trusted_memory.specs.declared.span.Span.{Span}
-use Rattle.trusted_memory.specs.Spans.{bytes_of, crosses}
+use Rattle.trusted_memory.specs.Spans.{span_byte_count, crosses}
 use Rattle.trusted_memory.specs.Regions.{in_one_region}
 use Rattle.trusted_memory.specs.Writes.{Write}
 
@@ -15,7 +15,7 @@ is_on_bound stream draw (Some b) = (b.0 == stream) && nat_le b.1 draw
 
 -- in one region, and not across 4 KiB
 abbrev pub is_placed : List Region → Span → Bool
-is_placed regions s = in_one_region regions s.address (bytes_of s) && not (crosses s)
+is_placed regions s = in_one_region regions s.address (span_byte_count s) && not (crosses s)
 
 abbrev pub if_placed : List Region → Bool → Option Write → Option Write
 if_placed regions admitted None = None

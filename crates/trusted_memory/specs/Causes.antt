@@ -10,7 +10,7 @@ use Rattle.link_verdicts.specs.declared.verdict.Effect.{Effect}
 use Rattle.link_verdicts.specs.declared.verdict.Effect.TheVariants.{Applied, Blocked, Delivered}
 use Rattle.trusted_memory.specs.declared.grant.Grant.{Grant}
 use Rattle.trusted_memory.specs.declared.span.Span.{Span}
-use Rattle.trusted_memory.specs.Spans.{bytes_of, crosses}
+use Rattle.trusted_memory.specs.Spans.{span_byte_count, crosses}
 use Rattle.trusted_memory.specs.Regions.{in_one_region}
 
 -- the requester is no running interface; the packet came on another stream than the bound one; its draw is less than
@@ -25,7 +25,7 @@ grant_cause (Some bound) stream draw =
 -- the bytes of all double words are not in one region; they cross a 4 KiB boundary
 abbrev pub place_cause : List Region → Span → Option BlockCause
 place_cause regions s =
-    if not (in_one_region regions s.address (bytes_of s)) then Some Outside
+    if not (in_one_region regions s.address (span_byte_count s)) then Some Outside
     else if crosses s then Some Crosses
     else None
 

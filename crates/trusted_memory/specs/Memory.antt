@@ -11,19 +11,19 @@ use Rattle.trusted_memory.specs.Writes.{Write, written, byte_after, newest_first
 use Rattle.trusted_memory.specs.Regions.{is_inside}
 
 -- the regions, and the bytes of each from its base on
-pub record Contents : Type 0 where
+pub record MemoryContents : Type 0 where
   pub regions : List Region
   pub bytes : List (List ℕ)
 
 -- What is kept of them: the contents; beside them the numbers of the pages of 4,096 bytes that are there, and of how
 -- many more the memory is taken already.
 pub record TrustedMemory : Type 0 where
-  pub contents : Contents
+  pub contents : MemoryContents
   pub pages : List ℕ
   pub spare : ℕ
 
 -- 0 at first
-abbrev pub new_contents : List Region → Contents
+abbrev pub new_contents : List Region → MemoryContents
 new_contents regions = record { regions = regions; bytes = map (λ r. replicate r.size 0) regions }
 
 abbrev pub new_memory : List Region → TrustedMemory
@@ -34,7 +34,7 @@ byte_in (r ∷ rs) (b ∷ bs) a = if is_inside r a then slice_index b (a - r.bas
 byte_in _ _ a = 0
 
 -- the byte at an address, 0 if no region has it
-abbrev pub byte_at : Contents → ℕ → ℕ
+abbrev pub byte_at : MemoryContents → ℕ → ℕ
 byte_at m a = byte_in m.regions m.bytes a
 
 -- n bytes from an address on
@@ -61,9 +61,9 @@ byte_by Applied w old a = written w old a
 byte_by _ w old a = old a
 
 -- what is read anywhere is what these writes left, the newest first
-abbrev pub IsLeftBy : Contents → List Write → Type 0
+abbrev pub IsLeftBy : MemoryContents → List Write → Type 0
 IsLeftBy m writes = (a : ℕ) → byte_at m a ≡ byte_after writes a
 
 -- writes that come one after another lead from the first contents to the second
-abbrev pub Leads : Contents → List (Option Write) → Contents → Type 0
+abbrev pub Leads : MemoryContents → List (Option Write) → MemoryContents → Type 0
 Leads m os n = (older : List Write) → IsLeftBy m older → IsLeftBy n (newest_first os older)

@@ -5,7 +5,7 @@ use Rattle.std.specs.Map.{lookup, keys_of}
 use Rattle.ide_plan.specs.declared.plan.Region.{Region}
 use Rattle.ide_plan.specs.Fits.{FitsRegion}
 use Rattle.trusted_memory.specs.Writes.{Write, written}
-use Rattle.trusted_memory.specs.Memory.{Contents, TrustedMemory, bytes_from}
+use Rattle.trusted_memory.specs.Memory.{MemoryContents, TrustedMemory, bytes_from}
 
 -- the bytes of a page, none if it is not there
 abbrev pub page_bytes : List (ℕ × List ℕ) → ℕ → List ℕ
@@ -16,14 +16,14 @@ abbrev pub paged_byte : List (ℕ × List ℕ) → ℕ → ℕ
 paged_byte pages a = slice_index (page_bytes pages (a / 4096)) (a % 4096)
 
 -- what the pages hold of the regions
-abbrev pub contents_seen : List Region → List (ℕ × List ℕ) → Contents
+abbrev pub contents_seen : List Region → List (ℕ × List ℕ) → MemoryContents
 contents_seen regions pages = record {
   regions = regions;
   bytes = map (λ r. bytes_from (paged_byte pages) r.base r.size) regions;
 }
 
-abbrev pub seen : List Region → List (ℕ × List ℕ) → ℕ → TrustedMemory
-seen regions pages spare = record {
+abbrev pub memory_seen : List Region → List (ℕ × List ℕ) → ℕ → TrustedMemory
+memory_seen regions pages spare = record {
   contents = contents_seen regions pages;
   pages = keys_of pages;
   spare = spare;
@@ -34,7 +34,7 @@ abbrev pub IsBlank : List ℕ → Type 0
 IsBlank page = page ≡ replicate 4096 0
 
 -- the regions are as in a plan; the spare pages are blank, and there is room for so many pages more
-pub record IsKept (regions : List Region) (spare : List (List ℕ)) (room : ℕ) : Type 0 where
+pub record IsMemoryKept (regions : List Region) (spare : List (List ℕ)) (room : ℕ) : Type 0 where
   pub fit : All FitsRegion regions
   pub blank : All IsBlank spare
   pub roomy : length spare ≤ room

@@ -7,8 +7,8 @@ use Rattle.tlp_layout.specs.declared.head.Fields.TheVariants.{Memory}
 use Rattle.trusted_memory.specs.declared.span.Span.{Span}
 
 -- the bytes of its double words
-abbrev pub bytes_of : Span → ℕ
-bytes_of s = 4 * s.length
+abbrev pub span_byte_count : Span → ℕ
+span_byte_count s = 4 * s.length
 
 -- bit k of byte enables
 abbrev pub is_enable_set : ℕ → ℕ → Bool
@@ -24,7 +24,7 @@ is_enabled s i =
 
 -- the address is that of one of the bytes, which ascend from the span's address on
 abbrev pub reaches : Span → ℕ → Bool
-reaches s a = nat_le s.address a && nat_lt a (s.address + bytes_of s)
+reaches s a = nat_le s.address a && nat_lt a (s.address + span_byte_count s)
 
 -- the byte at the address is enabled
 abbrev pub enables : Span → ℕ → Bool
@@ -32,7 +32,7 @@ enables s a = reaches s a && is_enabled s (a - s.address)
 
 -- they cross a 4 KiB boundary
 abbrev pub crosses : Span → Bool
-crosses s = nat_lt 4096 (s.address % 4096 + bytes_of s)
+crosses s = nat_lt 4096 (s.address % 4096 + span_byte_count s)
 
 -- ---- headers
 

@@ -28,13 +28,13 @@ written w old a = if enables w.span a then payload_byte w a else old a
 abbrev pub last_enabling : List Write → ℕ → Option Write
 last_enabling writes a = find (λ w. enables w.span a) writes
 
-abbrev pub byte_of : Option Write → ℕ → ℕ
-byte_of None a = 0
-byte_of (Some w) a = payload_byte w a
+abbrev pub written_byte : Option Write → ℕ → ℕ
+written_byte None a = 0
+written_byte (Some w) a = payload_byte w a
 
 -- what is read at an address: the byte of the last write that enables it, else 0
 unfoldable pub byte_after : List Write → ℕ → ℕ
-byte_after writes a = byte_of (last_enabling writes a) a
+byte_after writes a = written_byte (last_enabling writes a) a
 
 -- each write written over what the older ones left, from 0 everywhere on
 abbrev pub written_in_turn : List Write → ℕ → ℕ

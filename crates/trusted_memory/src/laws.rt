@@ -6,7 +6,7 @@ ghost use Rattle.trusted_memory.specs.declared.grant.Grant.{Grant};
 ghost use Rattle.trusted_memory.specs.Writes.{Write, byte_after, written, written_in_turn};
 ghost use Rattle.trusted_memory.specs.Causes.{block_cause, block_effect, is_applied};
 ghost use Rattle.trusted_memory.specs.Admitted.{admitted_write};
-ghost use Rattle.trusted_memory.specs.Memory.{Contents, Leads};
+ghost use Rattle.trusted_memory.specs.Memory.{MemoryContents, Leads};
 
 /// What the last enabling write left at an address is what is there once each write was written over what the older
 /// ones left.
@@ -26,7 +26,8 @@ pub fn admitted_are_applied()
 /// Packets that come one after another: with no packet the contents stay, and if some packets lead from the first
 /// contents to the second, and others from there to the third, all of them in turn lead from the first to the third.
 pub fn packets_in_turn()
-    ensures none { (m : Contents) → Leads m [] m }
-    ensures joined { (m n k : Contents) (os ps : List (Option Write)) → Leads m os n → Leads n ps k → Leads m (os ++ ps)
+    ensures none { (m : MemoryContents) → Leads m [] m }
+    ensures joined { (m n k : MemoryContents) (os ps : List (Option Write)) → Leads m os n → Leads n ps k → Leads m
+        (os ++ ps)
         k }
 {}

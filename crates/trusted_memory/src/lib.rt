@@ -11,8 +11,6 @@ mod laws;
 mod page;
 mod regions;
 mod span;
-#[cfg(test)]
-mod tests;
 mod trusted;
 mod write;
 

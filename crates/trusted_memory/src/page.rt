@@ -2,7 +2,7 @@
 
 ghost use Rattle.std.specs.Prelude.{◌≡◌, ◌<◌, ◌+◌, ◌≤◌, ℕ, IfOk, length, replicate, slice_index, slice_set};
 ghost use Rattle.std.specs.Prelude.{if◌then◌else◌};
-ghost use Rattle.trusted_memory.specs.Spans.{bytes_of, is_enabled};
+ghost use Rattle.trusted_memory.specs.Spans.{span_byte_count, is_enabled};
 ghost use Rattle.trusted_memory.specs.Writes.{write_of};
 ghost use Rattle.trusted_memory.specs.Pages.{HasWritten};
 
@@ -14,7 +14,7 @@ use std::marker::Model;
 /// The bytes of a page.
 pub const PAGE_BYTES: usize = 4_096;
 
-/// 4,096 bytes.
+/// The bytes of one page, 4,096 of them.
 #[derive(Drop)]
 pub struct Page {
     bytes: Vec<u8>,
@@ -42,7 +42,7 @@ fn put(bytes: &mut [u8], start: usize, write: &MemWriteView<'_>, i: usize)
 }
 
 fn put_all(bytes: &mut [u8], start: usize, write: &MemWriteView<'_>)
-    requires { start + bytes_of write.now.span ≤ length bytes.old }
+    requires { start + span_byte_count write.now.span ≤ length bytes.old }
     ensures { HasWritten start (write_of write.now) bytes.old bytes.new }
 {
     for i in 0..write.span.bytes() {
@@ -69,7 +69,7 @@ impl Page {
 
     /// Writes the enabled bytes of the payload, the first at `start`.
     pub fn write(&mut self, start: usize, write: &MemWriteView<'_>)
-        requires { start + bytes_of write.now.span ≤ PAGE_BYTES }
+        requires { start + span_byte_count write.now.span ≤ PAGE_BYTES }
         ensures written { HasWritten start (write_of write.now) self.old self.new }
     {
         put_all(self.bytes.as_mut_slice(), start, write);

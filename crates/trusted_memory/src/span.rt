@@ -1,7 +1,14 @@
 //! The bytes that memory requests name.
 
 ghost use Rattle.std.specs.Prelude.{◌≡◌, ◌<◌};
-ghost use Rattle.trusted_memory.specs.Spans.{bytes_of, is_enable_set, is_enabled, crosses, double_words, span_of};
+ghost use Rattle.trusted_memory.specs.Spans.{
+  span_byte_count,
+  is_enable_set,
+  is_enabled,
+  crosses,
+  double_words,
+  span_of,
+};
 ghost use Rattle.trusted_memory.specs.Spans.{write_span};
 
 use tlp_layout::{Fields, HeadView};
@@ -64,7 +71,7 @@ impl Span {
 
     /// How many bytes they are.
     pub fn bytes(&self) -> usize
-        ensures { result ≡ bytes_of self.now }
+        ensures { result ≡ span_byte_count self.now }
     {
         4 * self.length as usize
     }

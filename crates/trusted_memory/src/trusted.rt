@@ -4,8 +4,8 @@ ghost use Rattle.std.specs.Prelude.{◌≡◌, ◌+◌, ◌/◌, ◌^◌, ◌≤
 ghost use Rattle.std.specs.Prelude.{Some, IfOk, IsOk, OnOk, length, max, if◌then◌else◌};
 ghost use Rattle.std.specs.Bool.{OnTrue, OnFalse};
 ghost use Rattle.ide_plan.specs.Fits.{FitsRegion};
-ghost use Rattle.tlp_layout.specs.Tlp.{view_of};
-ghost use Rattle.trusted_memory.specs.Spans.{bytes_of, crosses, write_span};
+ghost use Rattle.tlp_layout.specs.Tlp.{viewed_tlp};
+ghost use Rattle.trusted_memory.specs.Spans.{span_byte_count, crosses, write_span};
 ghost use Rattle.trusted_memory.specs.Writes.{Write, written, byte_after, write_in, write_of};
 
 use crate::blanks::{fill, put};
@@ -37,13 +37,13 @@ impl Model for Trusted {
     ghost use Rattle.std.specs.Prelude.{length};
     ghost use Rattle.std.specs.HashMap as hash;
     ghost use Rattle.trusted_memory.specs.Memory.{TrustedMemory};
-    ghost use Rattle.trusted_memory.specs.Pages.{seen, IsKept};
+    ghost use Rattle.trusted_memory.specs.Pages.{memory_seen, IsMemoryKept};
 
     ghost Value = { TrustedMemory };
 
-    ghost view = { λ t. seen t.regions.items t.pages.entries (length t.blanks.items) };
+    ghost view = { λ t. memory_seen t.regions.items t.pages.entries (length t.blanks.items) };
 
-    ghost invariant = { λ t. IsKept t.regions.items t.blanks.items (hash.spare t.pages) };
+    ghost invariant = { λ t. IsMemoryKept t.regions.items t.blanks.items (hash.spare t.pages) };
 }
 
 impl Trusted {
@@ -51,7 +51,7 @@ impl Trusted {
     ghost use Rattle.trusted_memory.specs.Causes.{block_cause, block_effect, is_applied, write_effect};
     ghost use Rattle.trusted_memory.specs.Admitted.{admitted_write};
     ghost use Rattle.trusted_memory.specs.Memory.{
-      Contents,
+      MemoryContents,
       TrustedMemory,
       new_memory,
       byte_at,
@@ -116,7 +116,7 @@ impl Trusted {
 
     fn store(&mut self, write: &MemWriteView<'_>)
         requires inside { in_one_region self.old.contents.regions write.now.span.address
-            (bytes_of write.now.span) ≡ true }
+            (span_byte_count write.now.span) ≡ true }
         requires in_page { crosses write.now.span ≡ false }
         requires there { has_page self.old (write.now.span.address / 4096) ≡ true }
         ensures bytes { (a : ℕ) → byte_at self.new.contents a ≡ written (write_of write.now)
@@ -154,7 +154,8 @@ impl Trusted {
             (admitted_write self.old.contents.regions trusted grant (Some (write_of write.now)) ∷ [])
             self.new.contents }
         ensures spare { self.new.spare
-            + (if takes_page self.old write.now.span (block_cause self.old.contents.regions write.now.span trusted grant)
+            + (if takes_page self.old write.now.span
+            (block_cause self.old.contents.regions write.now.span trusted grant)
             then 1 else 0) ≡ self.old.spare }
         ensures pages { (n : ℕ) → has_page self.new n ≡ (has_page self.old n
             || (takes_page self.old write.now.span (block_cause self.old.contents.regions write.now.span trusted grant)
@@ -177,7 +178,7 @@ impl Trusted {
         ensures effect { result ≡ write_effect self.old.contents.regions trusted grant (write_span tlp.now.head) }
         ensures regions { self.new.contents.regions ≡ self.old.contents.regions }
         ensures leads { Leads self.old.contents
-            (admitted_write self.old.contents.regions trusted grant (write_in (view_of tlp.now)) ∷ [])
+            (admitted_write self.old.contents.regions trusted grant (write_in (viewed_tlp tlp.now)) ∷ [])
             self.new.contents }
         ensures as_before { is_applied result ≡ false → self.new ≡ self.old }
         ensures spare { self.old.spare ≤ self.new.spare + 1 }

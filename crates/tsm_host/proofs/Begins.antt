@@ -10,14 +10,15 @@ use Rattle.key_laws.specs.Operations.{work_of}
 use Rattle.tsm_host.specs.declared.operation.Refusal.{Refusal}
 use Rattle.tsm_host.specs.Streams.{StreamView, new_stream, HostView, is_named, unless, ok_unless, refusal_of}
 use Rattle.tsm_host.specs.Streams.{begun_stream}
-use Rattle.tsm_host.specs.Managers.{ManagerView, Named, named, named_at, named_in, place_of, asking_begun, begun}
+use Rattle.tsm_host.specs.Managers.{ManagerView, Named, named, named_at, named_in, stream_place, asking_begun}
+use Rattle.tsm_host.specs.Managers.{begun_manager}
 use Rattle.tsm_host.proofs.Lists.{get_at}
 
 abbrev pub named_as : ℕ → StreamView → Named
 named_as place s = record { place = place; stream = s }
 
 -- the stream at the place that was found
-pub found : (m : ManagerView) (link id place : ℕ) (s : StreamView) → place_of m link id ≡ Some place → s
+pub found : (m : ManagerView) (link id place : ℕ) (s : StreamView) → stream_place m link id ≡ Some place → s
     ≡ get_or m.streams place s
     → named m link id ≡ Some (named_as place s)
 found m link id place s at is =
@@ -48,7 +49,7 @@ pub begun_by : (streams : List StreamView) (asking : Option ℕ) (m : ManagerVie
     ≡ ok_unless (refusal_of o s.op host pool)
     → asked ≡ asking_begun asking place answer
     → (let kept : ManagerView = record { streams = slice_set streams place new; asking = asked } in kept)
-    ≡ begun m operation host pool (named_as place s)
+    ≡ begun_manager m operation host pool (named_as place s)
 begun_by streams asking m place s new host pool o operation answer asked view is same stream result next =
     rw (← same) (begun_as streams asking m place s new (begun_stream (work_of o s.op pool.draws) pool s)
     (refusal_of o s.op host pool) answer asked view is stream result next)
@@ -63,7 +64,7 @@ some_at : (place : ℕ) (s : Option StreamView) → is_some (named_at place s) �
 some_at place None = refl
 some_at place (Some s) = refl
 
-pub has_place : (m : ManagerView) (link id : ℕ) (place : Option ℕ) → place_of m link id ≡ place
+pub has_place : (m : ManagerView) (link id : ℕ) (place : Option ℕ) → stream_place m link id ≡ place
     → is_some (named m link id) ≡ is_some place
 has_place m link id None at = ap (λ x. is_some (named_in m.streams x)) at
 has_place m link id (Some place) at =

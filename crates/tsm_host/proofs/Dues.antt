@@ -1,4 +1,4 @@
--- An event of the manager comes to the verdict that is due.
+-- An event of the manager gives the verdict that is due.
 use Rattle.std.proofs.Common.{◌≡◌, ℕ, ◌+◌, ◌-◌, ◌≤◌, Bool, true, false, Option, Some, None, refl, arith}
 use Rattle.std.specs.Prelude.{nat_lt, not, if◌then◌else◌}
 use Rattle.ide_types.specs.declared.sub.SubKind.TheVariants.{Pr, Npr, Cpl}
@@ -11,7 +11,8 @@ use Rattle.link_verdicts.specs.declared.verdict.Verdict.{Verdict}
 use Rattle.link_verdicts.specs.declared.verdict.Verdict.TheVariants as v
 use Rattle.key_slots.specs.{Pool, draws_in}
 use Rattle.key_laws.specs.Places.{KeyPlan}
-use Rattle.key_laws.specs.Operations.{Op, Idle, Establishing, Up, Refreshing, Stopping, Work, work, last_of, reach_of}
+use Rattle.key_laws.specs.Operations.{Op, Idle, Establishing, Up, Refreshing, Stopping, Work, work, last_exchange_of}
+use Rattle.key_laws.specs.Operations.{reach_of}
 use Rattle.key_laws.specs.Operations.{op_standing}
 use Rattle.key_laws.specs.Due.{PortView, refusal_at, performed, is_live_sender}
 use Rattle.tsm_host.specs.declared.operation.Refusal.{Refusal}
@@ -22,7 +23,7 @@ use Rattle.tsm_host.specs.Walk.{answers, Walked, walk, walked_unless, verdict_of
 use Rattle.tsm_host.specs.Walk.{WalksAreDue}
 use Rattle.tsm_host.proofs.Walks.{WorkFits, walk_comes}
 
--- what an event comes to, with the verdict that is due
+-- what an event gives, with the verdict that is due
 record Both (o : Operation) (w : Work) (link id : ℕ) (loss : Option Loss) (before : Op) (x : Walked) (due : Verdict) :
     Type 0 where
   verdict_is : verdict_of o link id loss x.outcome ≡ Some due
@@ -55,16 +56,16 @@ at_op link id o keys = record { link = link; id = id; op = o; keys = keys }
 
 -- the walk of an operation that begins or goes on
 performs : (o : Operation) (set : Bool) (draw f : ℕ) (b : Bool) → WorkFits o set draw
-    → (ports : PortView) (link id : ℕ) (loss : Option Loss) (before : Op) (s : StreamView) → f ≤ last_of o
+    → (ports : PortView) (link id : ℕ) (loss : Option Loss) (before : Op) (s : StreamView) → f ≤ last_exchange_of o
     → s.op ≡ op_standing (work o set draw f b) f
     → Both o (work o set draw f b) link id loss before
-    (walk (last_of o + 1 - f) (answers loss (refusal_at ports o set link id)) s)
+    (walk (last_exchange_of o + 1 - f) (answers loss (refusal_at ports o set link id)) s)
     (performed ports link id loss (work o set draw f b))
 performs o set draw f b fits ports link id loss before s le at =
     let comes = walk_comes o set draw f b fits ports link id loss before s le at in
     record { verdict_is = comes.verdict_is; op_is = comes.op_is }
 
--- by the state of the stream: where the operation is refused the cause is the one that is due, and else its walk is
+-- by the state of the stream: if the operation is refused the cause is the one that is due, and else its walk is
 establishes : (plan : KeyPlan) (ports : PortView) (st : StreamStatus) (host : HostView) (pool : Pool)
     (loss : Option Loss) (link id : ℕ) (keys : WireKeys) (o : Op) → IsAsked (asked_in o)
     → Reads plan ports link id st host pool → WalkIsDue op.Establish plan ports st host pool loss (at_op link id o keys)
@@ -88,7 +89,7 @@ establishes plan ports st host pool loss link id keys (Refreshing k j n) asked r
 establishes plan ports st host pool loss link id keys (Stopping n) asked reads = record
     { verdict_is = refl; op_is = refl }
 
--- by the state of the stream: a stop begins in each but its own, where it goes on, and its walk comes to what is due
+-- by the state of the stream: a stop begins in each but its own, in which it goes on, and its walk gives what is due
 stops : (plan : KeyPlan) (ports : PortView) (st : StreamStatus) (host : HostView) (pool : Pool) (loss : Option Loss)
     (link id : ℕ) (keys : WireKeys) (o : Op) → IsAsked (asked_in o)
     → WalkIsDue op.Stop plan ports st host pool loss (at_op link id o keys)
@@ -114,7 +115,7 @@ stops plan ports st host pool loss link id keys (Refreshing k j n) asked =
     (begun_stream (work op.Stop false 0 1 true) pool (at_op link id (Refreshing k j n) keys)) (omega arith) refl in
     record { verdict_is = both.verdict_is; op_is = both.op_is }
 
--- by the state of the stream: where the operation is refused the cause is the one that is due, and else its walk is
+-- by the state of the stream: if the operation is refused the cause is the one that is due, and else its walk is
 refreshes : (plan : KeyPlan) (ports : PortView) (st : StreamStatus) (host : HostView) (pool : Pool) (loss : Option Loss)
     (link id : ℕ) (keys : WireKeys) (o : Op) → IsAsked (asked_in o)
     → Reads plan ports link id st host pool → WalkIsDue op.Refresh plan ports st host pool loss (at_op link id o keys)

@@ -64,7 +64,7 @@ ahead_go : (sender : Bool) (zero one : Slot) (j : ℕ) (k unfinished : Bool)
 ahead_go sender zero one j false unfinished fits = went sender unfinished zero one j fits
 ahead_go sender zero one j true unfinished fits = went sender unfinished one zero j fits
 
--- the slot in use under an older draw, where the other one is to be programmed
+-- the slot in use under an older draw, when the other one is to be programmed
 record Older (mine other : Slot) (i : ℕ) : Type 0 where
   held : DrawnKey
   mine_is : mine ≡ Live held

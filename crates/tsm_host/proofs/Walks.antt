@@ -1,4 +1,4 @@
--- The walk through the exchanges of an operation comes to the verdict that is due.
+-- The walk through the exchanges of an operation gives the verdict that is due.
 use Rattle.std.proofs.Common.{◌≡◌, ℕ, suc, zero, ◌+◌, ◌-◌, ◌<◌, ◌≤◌, ◌==◌, Bool, true, false, Option, Some, None, refl}
 use Rattle.std.proofs.Common.{ap, sym, ◌∙◌, subst, arith}
 use Rattle.std.specs.Prelude.{nat_lt, unwrap_or, option_map, IsSome, if◌then◌else◌}
@@ -10,7 +10,9 @@ use Rattle.link_verdicts.specs.declared.verdict.Operation.{Operation}
 use Rattle.link_verdicts.specs.declared.verdict.Operation.TheVariants as op
 use Rattle.link_verdicts.specs.declared.verdict.Verdict.{Verdict}
 use Rattle.link_verdicts.specs.declared.verdict.Verdict.TheVariants as v
-use Rattle.key_laws.specs.Operations.{Op, Work, work, last_of, reach, reach_of, op_standing, op_ended}
+use Rattle.ide_types.proofs.KeySets.{one_of_set}
+use Rattle.key_laws.specs.Operations.{Op, Up, Refreshing, Work, work, last_exchange_of, reach, reach_of, op_standing}
+use Rattle.key_laws.specs.Operations.{op_ended}
 use Rattle.key_laws.specs.Due.{PortView, refusal_at, lost_in, lost_at, cut_at, first_from, done, stays}
 use Rattle.key_laws.proofs.Tests.{lt-true, lt-false, same-true, different-false}
 use Rattle.tsm_host.specs.declared.judge.Judged.{Judged}
@@ -18,8 +20,11 @@ use Rattle.tsm_host.specs.declared.judge.Judged.TheVariants.{Expected}
 use Rattle.tsm_host.specs.declared.operation.Outcome.{Outcome}
 use Rattle.tsm_host.specs.declared.operation.Outcome.TheVariants as outcome
 use Rattle.tsm_host.specs.declared.stage.Asked.{Asked}
-use Rattle.tsm_host.specs.Streams.{StreamView, asked_in, outcome_of, taken_stream, acknowledged, shown_at_end}
-use Rattle.tsm_host.specs.Walk.{answers, carried_as, Walked, outcome_at, stream_at, continued, walk, verdict_of, op_by}
+use Rattle.tsm_host.specs.Streams.{StreamView, asked_exchange, asked_in, work_asked, outcome_of, taken_stream}
+use Rattle.tsm_host.specs.Streams.{acknowledged}
+use Rattle.tsm_host.specs.Streams.{shown_at_end}
+use Rattle.tsm_host.specs.Walk.{answers, carried_as, Walked, outcome_at, stream_after, continued, walk, verdict_of}
+use Rattle.tsm_host.specs.Walk.{op_by}
 use Rattle.tsm_host.specs.Walk.{NoBadReply}
 
 -- an establish is in set 0; a stop has no set and no draw of its own
@@ -28,22 +33,19 @@ WorkFits op.Establish set draw = set ≡ false
 WorkFits op.Refresh set draw = Unit {0}
 WorkFits op.Stop set draw = (set ≡ false) × (draw ≡ 0)
 
-abbrev asked_of : Operation → Bool → ℕ → ℕ → Asked
-asked_of o set draw n = record { operation = o; set = set; draw = draw; exchange = n }
-
 standing_asked : (o : Operation) (set : Bool) (draw f : ℕ) (b : Bool) (n : ℕ) → WorkFits o set draw
-    → asked_in (op_standing (work o set draw f b) n) ≡ Some (asked_of o set draw n)
+    → asked_in (op_standing (work o set draw f b) n) ≡ Some (asked_exchange o set draw n)
 unfolding WorkFits
-standing_asked op.Establish set draw f b n fits = ap (λ k. Some (asked_of op.Establish k draw n)) (sym fits)
+standing_asked op.Establish set draw f b n fits = ap (λ k. Some (asked_exchange op.Establish k draw n)) (sym fits)
 standing_asked op.Refresh set draw f b n fits = refl
-standing_asked op.Stop set draw f b n fits = ap (λ k. Some (asked_of op.Stop k 0 n)) (sym fits.0) ∙ ap
-    (λ j. Some (asked_of op.Stop set j n)) (sym fits.1)
+standing_asked op.Stop set draw f b n fits = ap (λ k. Some (asked_exchange op.Stop k 0 n)) (sym fits.0) ∙ ap
+    (λ j. Some (asked_exchange op.Stop set j n)) (sym fits.1)
 
 -- the verdict at which the operation stays, or else that of its end
 abbrev pub ends_as : ℕ → ℕ → Work → Option Verdict → Verdict
 ends_as link id w rest = unwrap_or rest (done link id w)
 
--- what the rest of a walk comes to
+-- what the rest of a walk gives
 pub record Comes (o : Operation) (set : Bool) (draw f : ℕ) (b : Bool) (link id : ℕ) (loss : Option Loss) (before : Op)
     (rest : Option Verdict) (x : Walked) : Type 0 where
   pub verdict_is : verdict_of o link id loss x.outcome ≡ Some (ends_as link id (work o set draw f b) rest)
@@ -69,36 +71,36 @@ not_taken : {A : Type 0} (b : Bool) (x y : A) → b ≡ false → (if b then x e
 not_taken true x y e = absurd cc
 not_taken false x y e = refl
 
--- where it is cut off, the operation stays
+-- if it is cut off, the operation stays
 stays_there : (o : Operation) (set : Bool) (draw f : ℕ) (b : Bool) (verdict : Verdict) (before : Op) (n : ℕ)
-    → n ≤ last_of o → CutShort o verdict n
+    → n ≤ last_exchange_of o → CutShort o verdict n
     → op_by before (work o set draw f b) (reach_of o verdict) ≡ op_standing (work o set draw f b) n
 stays_there o set draw f b verdict before n le cut =
     ap (op_by before (work o set draw f b)) cut.says
-    ∙ not_taken (nat_lt (last_of o) n) (op_ended (work o set draw f b)) (op_standing (work o set draw f b) n)
-    (lt-false (last_of o) n le)
+    ∙ not_taken (nat_lt (last_exchange_of o) n) (op_ended (work o set draw f b)) (op_standing (work o set draw f b) n)
+    (lt-false (last_exchange_of o) n le)
 
-ended_as : (o : Operation) (set : Bool) (draw n f : ℕ) (b : Bool) → op_ended (work o set draw n false)
+ended_as : (o : Operation) (set : Bool) (draw n f : ℕ) (b : Bool) → op_ended (work_asked (asked_exchange o set draw n))
     ≡ op_ended (work o set draw f b)
-ended_as op.Establish set draw n f b = refl
-ended_as op.Refresh set draw n f b = refl
+ended_as op.Establish set draw n f b = ap (λ k. Up k draw) (one_of_set set)
+ended_as op.Refresh set draw n f b = ap (λ k. Up k draw) (one_of_set set)
 ended_as op.Stop set draw n f b = refl
 
-standing_as : (o : Operation) (set : Bool) (draw n f : ℕ) (b : Bool) (k : ℕ) → op_standing (work o set draw n false) k
-    ≡ op_standing (work o set draw f b) k
+standing_as : (o : Operation) (set : Bool) (draw n f : ℕ) (b : Bool) (k : ℕ)
+    → op_standing (work_asked (asked_exchange o set draw n)) k ≡ op_standing (work o set draw f b) k
 standing_as op.Establish set draw n f b k = refl
-standing_as op.Refresh set draw n f b k = refl
+standing_as op.Refresh set draw n f b k = ap (λ s. Refreshing s draw k) (one_of_set set)
 standing_as op.Stop set draw n f b k = refl
 
 shows_done : (o : Operation) (set : Bool) (draw n f : ℕ) (b : Bool) (link id : ℕ) (loss : Option Loss)
-    → verdict_of o link id loss (outcome.Done (shown_at_end (asked_of o set draw n)))
+    → verdict_of o link id loss (outcome.Done (shown_at_end (asked_exchange o set draw n)))
     ≡ Some (done link id (work o set draw f b))
 shows_done op.Establish set draw n f b link id loss = refl
 shows_done op.Refresh set draw n f b link id loss = refl
 shows_done op.Stop set draw n f b link id loss = refl
 
 done_says : (o : Operation) (set : Bool) (draw f : ℕ) (b : Bool) (link id : ℕ)
-    → reach_of o (done link id (work o set draw f b)) ≡ Some (reach (last_of o + 1) (last_of o + 1))
+    → reach_of o (done link id (work o set draw f b)) ≡ Some (reach (last_exchange_of o + 1) (last_exchange_of o + 1))
 done_says op.Establish set draw f b link id = refl
 done_says op.Refresh set draw f b link id = refl
 done_says op.Stop set draw f b link id = refl
@@ -111,11 +113,11 @@ answered_by a j carried more s = continued (outcome_of a j) (taken_stream a j s)
 -- an exchange that is lost or refused, or else what is given
 cuts : (o : Operation) (set : Bool) (draw f : ℕ) (b : Bool) (link id : ℕ) (loss : Option Loss) (before : Op)
     (carried : ℕ → Judged) (more n : ℕ) (s : StreamView) (rest : Option Verdict)
-    → n ≤ last_of o → s.op ≡ op_standing (work o set draw f b) n
-    → Comes o set draw f b link id loss before rest (answered_by (asked_of o set draw n) Expected carried more s)
+    → n ≤ last_exchange_of o → s.op ≡ op_standing (work o set draw f b) n
+    → Comes o set draw f b link id loss before rest (answered_by (asked_exchange o set draw n) Expected carried more s)
     → (lost : Option LostPart) (status : Option ℕ) → lost_in loss n ≡ lost
     → Comes o set draw f b link id loss before (option_or (cut_at lost status n) rest)
-    (answered_by (asked_of o set draw n) (carried_as lost status) carried more s)
+    (answered_by (asked_exchange o set draw n) (carried_as lost status) carried more s)
 cuts o set draw f b link id loss before carried more n s rest le at goes (Some lost) status e = record {
   verdict_is = ap (option_map (λ (l : LostPart). lost_at l n)) e;
   op_is = at ∙ sym (stays_there o set draw f b (lost_at lost n) before n le (cut_lost o lost n));
@@ -126,75 +128,78 @@ cuts o set draw f b link id loss before carried more n s rest le at goes None (S
 }
 cuts o set draw f b link id loss before carried more n s rest le at goes None None e = goes
 
--- behind the last exchange
+-- after the last exchange
 ends : (o : Operation) (set : Bool) (draw f : ℕ) (b : Bool) (link id : ℕ) (loss : Option Loss) (before : Op)
-    (carried : ℕ → Judged) (n : ℕ) (s : StreamView) → n ≡ last_of o
-    → Comes o set draw f b link id loss before None (answered_by (asked_of o set draw n) Expected carried zero s)
+    (carried : ℕ → Judged) (n : ℕ) (s : StreamView) → n ≡ last_exchange_of o
+    → Comes o set draw f b link id loss before None (answered_by (asked_exchange o set draw n) Expected carried zero s)
 ends o set draw f b link id loss before carried n s same =
-    let test : (n == last_of o) ≡ true = subst (λ (z : ℕ). (n == z) ≡ true) same (same-true n) in
-    let less : nat_lt (last_of o) (n + 1) ≡ true = lt-true (last_of o) (n + 1) (omega (arith, same)) in
-    let end : nat_lt (last_of o) (last_of o + 1) ≡ true = lt-true (last_of o) (last_of o + 1) (omega arith) in
+    let test : (n == last_exchange_of o) ≡ true = subst (λ (z : ℕ). (n == z) ≡ true) same (same-true n) in
+    let less : nat_lt (last_exchange_of o) (n + 1) ≡ true = lt-true (last_exchange_of o) (n + 1)
+    (omega (arith, same)) in
+    let end : nat_lt (last_exchange_of o) (last_exchange_of o + 1)
+    ≡ true = lt-true (last_exchange_of o) (last_exchange_of o + 1) (omega arith) in
     let by_end : op_by before (work o set draw f b) (reach_of o (done link id (work o set draw f b)))
     ≡ op_ended (work o set draw f b) =
     ap (op_by before (work o set draw f b)) (done_says o set draw f b link id) ∙ taken
-    (nat_lt (last_of o) (last_of o + 1)) (op_ended (work o set draw f b))
-    (op_standing (work o set draw f b) (last_of o + 1)) end in
-    let now : (acknowledged (asked_of o set draw n) s).op ≡ op_ended (work o set draw f b) =
-    taken (nat_lt (last_of o) (n + 1)) (op_ended (work o set draw n false))
-    (op_standing (work o set draw n false) (n + 1)) less ∙ ended_as o set draw n f b in
+    (nat_lt (last_exchange_of o) (last_exchange_of o + 1)) (op_ended (work o set draw f b))
+    (op_standing (work o set draw f b) (last_exchange_of o + 1)) end in
+    let now : (acknowledged (asked_exchange o set draw n) s).op ≡ op_ended (work o set draw f b) =
+    taken (nat_lt (last_exchange_of o) (n + 1)) (op_ended (work_asked (asked_exchange o set draw n)))
+    (op_standing (work_asked (asked_exchange o set draw n)) (n + 1)) less ∙ ended_as o set draw n f b in
     subst (λ (t : Bool). Comes o set draw f b link id loss before None
-    (continued (if t then outcome.Done (shown_at_end (asked_of o set draw n)) else outcome.Next)
-    (acknowledged (asked_of o set draw n) s)
-    (walk zero carried (acknowledged (asked_of o set draw n) s)))) (sym test)
+    (continued (if t then outcome.Done (shown_at_end (asked_exchange o set draw n)) else outcome.Next)
+    (acknowledged (asked_exchange o set draw n) s)
+    (walk zero carried (acknowledged (asked_exchange o set draw n) s)))) (sym test)
     (record { verdict_is = shows_done o set draw n f b link id loss; op_is = now ∙ sym by_end })
 
--- behind another one the walk goes on
+-- after another one the walk goes on
 goes_on : (o : Operation) (set : Bool) (draw f : ℕ) (b : Bool) (link id : ℕ) (loss : Option Loss) (before : Op)
-    (carried : ℕ → Judged) (more n : ℕ) (s : StreamView) (rest : Option Verdict) → n < last_of o
-    → Comes o set draw f b link id loss before rest (walk more carried (acknowledged (asked_of o set draw n) s))
-    → Comes o set draw f b link id loss before rest (answered_by (asked_of o set draw n) Expected carried more s)
+    (carried : ℕ → Judged) (more n : ℕ) (s : StreamView) (rest : Option Verdict) → n < last_exchange_of o
+    → Comes o set draw f b link id loss before rest (walk more carried (acknowledged (asked_exchange o set draw n) s))
+    → Comes o set draw f b link id loss before rest (answered_by (asked_exchange o set draw n) Expected carried more s)
 goes_on o set draw f b link id loss before carried more n s rest lt comes =
-    let test : (n == last_of o) ≡ false = different-false n (last_of o) lt in
+    let test : (n == last_exchange_of o) ≡ false = different-false n (last_exchange_of o) lt in
     subst (λ (t : Bool). Comes o set draw f b link id loss before rest
-    (continued (if t then outcome.Done (shown_at_end (asked_of o set draw n)) else outcome.Next)
-    (acknowledged (asked_of o set draw n) s)
-    (walk more carried (acknowledged (asked_of o set draw n) s)))) (sym test) comes
+    (continued (if t then outcome.Done (shown_at_end (asked_exchange o set draw n)) else outcome.Next)
+    (acknowledged (asked_exchange o set draw n) s)
+    (walk more carried (acknowledged (asked_exchange o set draw n) s)))) (sym test) comes
 
-next_standing : (o : Operation) (set : Bool) (draw f : ℕ) (b : Bool) (n : ℕ) (s : StreamView) → n < last_of o
-    → (acknowledged (asked_of o set draw n) s).op ≡ op_standing (work o set draw f b) (n + 1)
+next_standing : (o : Operation) (set : Bool) (draw f : ℕ) (b : Bool) (n : ℕ) (s : StreamView) → n < last_exchange_of o
+    → (acknowledged (asked_exchange o set draw n) s).op ≡ op_standing (work o set draw f b) (n + 1)
 next_standing o set draw f b n s lt =
-    not_taken (nat_lt (last_of o) (n + 1)) (op_ended (work o set draw n false))
-    (op_standing (work o set draw n false) (n + 1)) (lt-false (last_of o) (n + 1) (omega (arith, lt))) ∙ standing_as
-    o set draw n f b (n + 1)
+    not_taken (nat_lt (last_exchange_of o) (n + 1)) (op_ended (work_asked (asked_exchange o set draw n)))
+    (op_standing (work_asked (asked_exchange o set draw n)) (n + 1))
+    (lt-false (last_exchange_of o) (n + 1) (omega (arith, lt)))
+    ∙ standing_as o set draw n f b (n + 1)
 
 -- by how many exchanges are left: at each the walk ends in a loss or a refusal or goes on to the next, and the last
 -- ends it
 walk_is : (o : Operation) (set : Bool) (draw f : ℕ) (b : Bool) → WorkFits o set draw
     → (link id : ℕ) (loss : Option Loss) (refusal : ℕ → Option ℕ) (before : Op) (more n : ℕ) (s : StreamView) → n + more
-    ≡ last_of o
+    ≡ last_exchange_of o
     → s.op ≡ op_standing (work o set draw f b) n
     → Comes o set draw f b link id loss before (first_from (λ x. cut_at (lost_in loss x) (refusal x) x) n (suc more))
     (walk (suc more) (answers loss refusal) s)
 walk_is o set draw f b fits link id loss refusal before zero n s count at =
-    let le : n ≤ last_of o = omega (arith, count) in
-    let same : n ≡ last_of o = omega (arith, count) in
+    let le : n ≤ last_exchange_of o = omega (arith, count) in
+    let same : n ≡ last_exchange_of o = omega (arith, count) in
     subst (λ (q : Option Asked). Comes o set draw f b link id loss before
     (first_from (λ x. cut_at (lost_in loss x) (refusal x) x) n (suc zero))
-    (continued (outcome_at q (answers loss refusal)) (stream_at q (answers loss refusal) s)
-    (walk zero (answers loss refusal) (stream_at q (answers loss refusal) s))))
+    (continued (outcome_at q (answers loss refusal)) (stream_after q (answers loss refusal) s)
+    (walk zero (answers loss refusal) (stream_after q (answers loss refusal) s))))
     (sym (ap asked_in at ∙ standing_asked o set draw f b n fits))
     (cuts o set draw f b link id loss before (answers loss refusal) zero n s None le at
     (ends o set draw f b link id loss before (answers loss refusal) n s same) (lost_in loss n) (refusal n) refl)
 walk_is o set draw f b fits link id loss refusal before (suc more) n s count at =
-    let lt : n < last_of o = omega (arith, count) in
-    let le : n ≤ last_of o = omega (arith, count) in
-    let on : (n + 1) + more ≡ last_of o = omega (arith, count) in
+    let lt : n < last_exchange_of o = omega (arith, count) in
+    let le : n ≤ last_exchange_of o = omega (arith, count) in
+    let on : (n + 1) + more ≡ last_exchange_of o = omega (arith, count) in
     let rest = walk_is o set draw f b fits link id loss refusal before more (n + 1)
-    (acknowledged (asked_of o set draw n) s) on (next_standing o set draw f b n s lt) in
+    (acknowledged (asked_exchange o set draw n) s) on (next_standing o set draw f b n s lt) in
     subst (λ (q : Option Asked). Comes o set draw f b link id loss before
     (first_from (λ x. cut_at (lost_in loss x) (refusal x) x) n (suc (suc more)))
-    (continued (outcome_at q (answers loss refusal)) (stream_at q (answers loss refusal) s)
-    (walk (suc more) (answers loss refusal) (stream_at q (answers loss refusal) s))))
+    (continued (outcome_at q (answers loss refusal)) (stream_after q (answers loss refusal) s)
+    (walk (suc more) (answers loss refusal) (stream_after q (answers loss refusal) s))))
     (sym (ap asked_in at ∙ standing_asked o set draw f b n fits))
     (cuts o set draw f b link id loss before (answers loss refusal) (suc more) n s
     (first_from (λ x. cut_at (lost_in loss x) (refusal x) x) (n + 1) (suc more)) le at
@@ -204,17 +209,19 @@ walk_is o set draw f b fits link id loss refusal before (suc more) n s count at 
 
 -- from the first exchange of an event on
 pub walk_comes : (o : Operation) (set : Bool) (draw f : ℕ) (b : Bool) → WorkFits o set draw
-    → (ports : PortView) (link id : ℕ) (loss : Option Loss) (before : Op) (s : StreamView) → f ≤ last_of o → s.op
+    → (ports : PortView) (link id : ℕ) (loss : Option Loss) (before : Op) (s : StreamView) → f ≤ last_exchange_of o
+    → s.op
     ≡ op_standing (work o set draw f b) f
     → Comes o set draw f b link id loss before (stays ports link id loss (work o set draw f b))
-    (walk (last_of o + 1 - f) (answers loss (refusal_at ports o set link id)) s)
+    (walk (last_exchange_of o + 1 - f) (answers loss (refusal_at ports o set link id)) s)
 walk_comes o set draw f b fits ports link id loss before s le at =
-    let count : f + (last_of o - f) ≡ last_of o = omega (arith, le) in
-    let more : suc (last_of o - f) ≡ last_of o + 1 - f = omega (arith, le) in
+    let count : f + (last_exchange_of o - f) ≡ last_exchange_of o = omega (arith, le) in
+    let more : suc (last_exchange_of o - f) ≡ last_exchange_of o + 1 - f = omega (arith, le) in
     subst (λ (k : ℕ). Comes o set draw f b link id loss before
     (first_from (λ x. cut_at (lost_in loss x) (refusal_at ports o set link id x) x) f k)
     (walk k (answers loss (refusal_at ports o set link id)) s)) more
-    (walk_is o set draw f b fits link id loss (refusal_at ports o set link id) before (last_of o - f) f s count at)
+    (walk_is o set draw f b fits link id loss (refusal_at ports o set link id) before (last_exchange_of o - f) f s count
+    at)
 
 -- ---- an outcome with a verdict
 
@@ -223,7 +230,7 @@ some_lost : (n : ℕ) (lost : Option LostPart) (verdict : Verdict)
 some_lost n None verdict is = absurd cc
 some_lost n (Some lost) verdict is = refl
 
--- where a reply was bad, or an exchange was lost but no message of it, there is no verdict
+-- if a reply was bad, or an exchange was lost but no message of it, there is no verdict
 pub no_bad_reply : (o : Operation) (link stream : ℕ) (loss : Option Loss) (x : Outcome) (verdict : Verdict)
     → verdict_of o link stream loss x ≡ Some verdict → NoBadReply loss x
 no_bad_reply o link stream loss x verdict is = grind (arith, some_lost)

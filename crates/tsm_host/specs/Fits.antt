@@ -40,7 +40,7 @@ pair_fits (Stopping n) pair = are_empty pair.zero pair.one
 
 -- Each local call that the manager makes at a place is one that the port takes, and leaves slots that fit. A unit is
 -- unfinished only if a key is Live, and a refresh begins only if the slot of its set at a sender is not.
-pub record PairFits (pair : SlotPair) (key : List ℕ) (j : ℕ) : Type 0 where
+pub record SlotPairFits (pair : SlotPair) (key : List ℕ) (j : ℕ) : Type 0 where
   pub establishes : pair_fits Idle pair ≡ true → (is_only_live pair false ≡ false)
       × (pair_fits (Establishing j 1) (programmed pair false (record { key = key; draw = j })) ≡ true)
   pub refreshes : (k : Bool) (i : ℕ) → pair_fits (Up k i) pair ≡ true → i < j
@@ -55,4 +55,4 @@ pub record PairFits (pair : SlotPair) (key : List ℕ) (j : ℕ) : Type 0 where
   pub stops : pair_fits (Stopping 1) (halted (halted pair false) true) ≡ true
 
 abbrev pub PairsFit : Type 0
-PairsFit = (pair : SlotPair) (key : List ℕ) (j : ℕ) → PairFits pair key j
+PairsFit = (pair : SlotPair) (key : List ℕ) (j : ℕ) → SlotPairFits pair key j

@@ -3,7 +3,7 @@ use Rattle.std.specs.Prelude.{ℕ, ◌==◌, Bool, false, ◌&&◌, if◌then◌
 use Rattle.ide_km.specs.declared.object.KmView.{KmView}
 use Rattle.ide_km.specs.declared.object.KmView.TheVariants.{Query, QueryResp, KeyProg, KpAck, SetGo, SetStop, GoStopAck}
 use Rattle.ide_km.specs.declared.object.KmFault.{KmFault}
-use Rattle.ide_km.specs.{reading}
+use Rattle.ide_km.specs.{object_reading}
 use Rattle.tsm_host.specs.declared.judge.Judged.{Judged}
 use Rattle.tsm_host.specs.declared.judge.Judged.TheVariants.{Expected, Lost, Refused, Bad}
 use Rattle.tsm_host.specs.declared.operation.Carried.{Carried}
@@ -47,4 +47,4 @@ judged_reply request (Ok reply) = if is_expected request reply then Expected els
 abbrev pub judged : KmView → Carried → Judged
 judged request carried.Lost = Lost
 judged request (carried.Reply None) = Bad
-judged request (carried.Reply (Some bytes)) = judged_reply request (reading bytes.now)
+judged request (carried.Reply (Some bytes)) = judged_reply request (object_reading bytes.now)

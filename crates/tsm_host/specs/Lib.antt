@@ -6,4 +6,3 @@ pub mod Streams
 pub mod Managers
 pub mod Walk
 pub mod Fits
-pub mod OnePort

@@ -38,8 +38,8 @@ new_manager links = record { streams = streams_from 0 links; asking = None }
 
 -- ---- streams by name
 
-abbrev pub place_of : ManagerView → ℕ → ℕ → Option ℕ
-place_of m link id = position (is_named link id) m.streams
+abbrev pub stream_place : ManagerView → ℕ → ℕ → Option ℕ
+stream_place m link id = position (is_named link id) m.streams
 
 -- a stream and its place
 pub record Named : Type 0 where
@@ -55,7 +55,7 @@ named_in streams None = None
 named_in streams (Some place) = named_at place (slice_get streams place)
 
 abbrev pub named : ManagerView → ℕ → ℕ → Option Named
-named m link id = named_in m.streams (place_of m link id)
+named m link id = named_in m.streams (stream_place m link id)
 
 abbrev pub op_named : Option Named → Option Op
 op_named None = None
@@ -96,8 +96,8 @@ abbrev pub begin_work : Operation → Pool → Named → Work
 begin_work operation pool n = work_of operation n.stream.op pool.draws
 
 -- the stream is asked if the operation begins or goes on; a refusal changes nothing
-abbrev pub begun : ManagerView → Operation → HostView → Pool → Named → ManagerView
-begun m operation host pool n =
+abbrev pub begun_manager : ManagerView → Operation → HostView → Pool → Named → ManagerView
+begun_manager m operation host pool n =
     unless (begin_refusal operation host pool n) m
     (record {
       streams = slice_set m.streams n.place (begun_stream (begin_work operation pool n) pool n.stream);

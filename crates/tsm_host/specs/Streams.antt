@@ -7,8 +7,9 @@ use Rattle.ide_types.specs.declared.status.StreamStatus.{StreamStatus}
 use Rattle.ide_types.specs.declared.status.StreamStatus.TheVariants as status
 use Rattle.link_verdicts.specs.declared.verdict.Operation.{Operation}
 use Rattle.link_verdicts.specs.declared.verdict.Operation.TheVariants as op
-use Rattle.key_slots.specs.{Pool, draws_in, six_keys, pool_after, unspent}
-use Rattle.key_laws.specs.Operations.{Op, Idle, Establishing, Up, Refreshing, Stopping, Work, work, work_of, last_of}
+use Rattle.key_slots.specs.{KeySet, is_one, key_set, Pool, draws_in, six_keys, pool_after, unspent}
+use Rattle.key_laws.specs.Operations.{Op, Idle, Establishing, Up, Refreshing, Stopping, Work, work, work_of}
+use Rattle.key_laws.specs.Operations.{last_exchange_of}
 use Rattle.key_laws.specs.Operations.{makes_draw, reach, op_after, op_standing}
 use Rattle.ide_km.specs.declared.object.KmView.{KmView}
 use Rattle.tsm_host.specs.declared.exchange.Exchange.{Exchange}
@@ -25,11 +26,11 @@ use Rattle.tsm_host.specs.declared.operation.Shown.TheVariants as shown
 use Rattle.tsm_host.specs.declared.stage.Asked.{Asked}
 use Rattle.tsm_host.specs.declared.stage.Stage.{Stage}
 use Rattle.tsm_host.specs.declared.stage.Stage.TheVariants as stage
-use Rattle.tsm_host.specs.Exchanges.{exchange_of, is_last_receiver_go, set_number, WireKeys, kept_key, request_of}
+use Rattle.tsm_host.specs.Exchanges.{exchange_of, is_last_receiver_go, WireKeys, kept_key, request_of}
 use Rattle.tsm_host.specs.Local.{Request, programs, goes, halts}
 
 -- A stream of a link, with the state of its operations, and the keys of an establish or refresh that is unfinished, by
--- lane: each is kept until its KEY_PROG is acknowledged. There are none else.
+-- lane: each is kept until its KEY_PROG is acknowledged. There are no others.
 pub record StreamView : Type 0 where
   pub link : ℕ
   pub id : ℕ
@@ -51,8 +52,8 @@ reset_stream link s = if s.link == link then new_stream s.link s.id else s
 abbrev pub op_in : Stage → Op
 op_in stage.Idle = Idle
 op_in (stage.Establishing draw next keys) = Establishing draw next
-op_in (stage.Up set draw) = Up set draw
-op_in (stage.Refreshing set draw next keys) = Refreshing set draw next
+op_in (stage.Up set draw) = Up (is_one set) draw
+op_in (stage.Refreshing set draw next keys) = Refreshing (is_one set) draw next
 op_in (stage.Stopping next) = Stopping next
 
 abbrev pub stage_keys : Stage → WireKeys
@@ -75,7 +76,7 @@ op_advanced (Stopping next) = Stopping (next + 1)
 op_advanced o = o
 
 -- an establish or a refresh at its first exchange
-abbrev pub keyed_stage : Operation → Bool → ℕ → WireKeys → Stage
+abbrev pub keyed_stage : Operation → KeySet → ℕ → WireKeys → Stage
 keyed_stage op.Refresh set draw keys = stage.Refreshing set draw 1 keys
 keyed_stage operation set draw keys = stage.Establishing draw 1 keys
 
@@ -91,23 +92,21 @@ StageHolds s = Unit {0}
 
 -- ---- the exchange that is next
 
+abbrev pub asked_exchange : Operation → Bool → ℕ → ℕ → Asked
+asked_exchange o set draw n = record { operation = o; set = key_set set; draw = draw; exchange = n }
+
 -- of an unfinished operation
 abbrev pub asked_in : Op → Option Asked
-asked_in (Establishing draw next) = Some (record {
-  operation = op.Establish;
-  set = false;
-  draw = draw;
-  exchange = next;
-})
-asked_in (Refreshing set draw next) = Some (record { operation = op.Refresh; set = set; draw = draw; exchange = next })
-asked_in (Stopping next) = Some (record { operation = op.Stop; set = false; draw = 0; exchange = next })
+asked_in (Establishing draw next) = Some (asked_exchange op.Establish false draw next)
+asked_in (Refreshing set draw next) = Some (asked_exchange op.Refresh set draw next)
+asked_in (Stopping next) = Some (asked_exchange op.Stop false 0 next)
 asked_in o = None
 
 abbrev pub exchange_asked : Asked → Exchange
 exchange_asked a = exchange_of a.operation a.set a.exchange
 
 abbrev pub work_asked : Asked → Work
-work_asked a = work a.operation a.set a.draw a.exchange false
+work_asked a = work a.operation (is_one a.set) a.draw a.exchange false
 
 -- its request
 abbrev pub request_asked : Asked → StreamView → KmView
@@ -118,9 +117,9 @@ request_asked a s = request_of s.id s.keys (exchange_asked a)
 -- what is read of the host's port
 pub record HostView : Type 0 where
   pub status : Option StreamStatus
-  pub live : SubKind → Option ℕ
+  pub live : SubKind → Option KeySet
 
-abbrev pub host_view : {Port : Type 0} → (Port → ℕ → Option StreamStatus) → (Port → ℕ → SubKind → Option ℕ) → Port
+abbrev pub host_view : {Port : Type 0} → (Port → ℕ → Option StreamStatus) → (Port → ℕ → SubKind → Option KeySet) → Port
     → ℕ → HostView
 host_view status_of live_of port stream = record { status = status_of port stream; live = live_of port stream }
 
@@ -129,13 +128,13 @@ abbrev pub status_or_idle : Option StreamStatus → StreamStatus
 status_or_idle None = status.Idle
 status_or_idle (Some s) = s
 
-abbrev pub is_set : Bool → Option ℕ → Bool
+abbrev pub is_set : Bool → Option KeySet → Bool
 is_set set None = false
-is_set set (Some live) = live == set_number set
+is_set set (Some live) = if set then is_one live else not (is_one live)
 
 -- the first sub-stream, PR first, whose Live key is in the set that is to be programmed
-abbrev pub open_unit : HostView → Bool → Option Refusal
-open_unit host set =
+abbrev pub open_unit_refusal : HostView → Bool → Option Refusal
+open_unit_refusal host set =
     if is_set set (host.live Pr) then Some (UnitOpen Pr)
     else if is_set set (host.live Npr) then Some (UnitOpen Npr)
     else if is_set set (host.live Cpl) then Some (UnitOpen Cpl)
@@ -155,15 +154,15 @@ establish_refusal (Stopping next) = Some (Busy op.Stop)
 abbrev pub refresh_refusal : Op → HostView → Option Refusal
 refresh_refusal Idle host = Some (NotSecure (status_or_idle host.status))
 refresh_refusal (Establishing draw next) host = Some (Busy op.Establish)
-refresh_refusal (Up set draw) host = unless_secure (status_or_idle host.status) (open_unit host (not set))
+refresh_refusal (Up set draw) host = unless_secure (status_or_idle host.status) (open_unit_refusal host (not set))
 refresh_refusal (Refreshing set draw next) host = None
 refresh_refusal (Stopping next) host = Some (Busy op.Stop)
 
 -- all refusals but that of an empty pool, which comes last
-abbrev pub refusal_at : Operation → Op → HostView → Option Refusal
-refusal_at op.Establish o host = establish_refusal o
-refusal_at op.Refresh o host = refresh_refusal o host
-refusal_at op.Stop o host = None
+abbrev pub operation_refusal : Operation → Op → HostView → Option Refusal
+operation_refusal op.Establish o host = establish_refusal o
+operation_refusal op.Refresh o host = refresh_refusal o host
+operation_refusal op.Stop o host = None
 
 -- the key set of a keyed stream, else set 0
 abbrev pub current_set : Op → Bool
@@ -183,7 +182,7 @@ first_of None second = second
 first_of (Some refusal) second = Some refusal
 
 abbrev pub refusal_of : Operation → Op → HostView → Pool → Option Refusal
-refusal_of operation o host pool = first_of (refusal_at operation o host)
+refusal_of operation o host pool = first_of (operation_refusal operation o host)
     (pool_refusal (work_of operation o pool.draws) pool)
 
 -- ---- begin: what it does
@@ -217,7 +216,7 @@ begun_calls w pool stream =
 -- ---- take
 
 abbrev pub is_last : Asked → Bool
-is_last a = a.exchange == last_of a.operation
+is_last a = a.exchange == last_exchange_of a.operation
 
 abbrev pub shown_at_end : Asked → Shown
 shown_at_end a = if makes_draw a.operation then shown.Draw a.draw else shown.Stopped
@@ -247,5 +246,5 @@ taken_stream a judged s = s
 
 -- the host's port goes on if the last of the device's receivers did
 abbrev pub taken_calls : Asked → Judged → ℕ → List Request
-taken_calls a Expected stream = if is_last_receiver_go (exchange_asked a) then goes stream a.set else []
+taken_calls a Expected stream = if is_last_receiver_go (exchange_asked a) then goes stream (is_one a.set) else []
 taken_calls a judged stream = []

@@ -11,7 +11,7 @@ use Rattle.link_verdicts.specs.declared.verdict.Verdict.{Verdict}
 use Rattle.link_verdicts.specs.declared.verdict.Verdict.TheVariants as v
 use Rattle.key_slots.specs.{Pool, draws_in}
 use Rattle.key_laws.specs.Places.{KeyPlan}
-use Rattle.key_laws.specs.Operations.{Op, Work, Reach, work_of, last_of, reach_of, op_after}
+use Rattle.key_laws.specs.Operations.{Op, Work, Reach, work_of, last_exchange_of, reach_of, op_after}
 use Rattle.key_laws.specs.Due.{PortView, refusal_at, lost_in, lost_at, establish_on, refresh_on, stop_on}
 use Rattle.key_laws.specs.Due.{is_live_sender}
 use Rattle.tsm_host.specs.declared.judge.Judged.{Judged}
@@ -29,7 +29,7 @@ use Rattle.tsm_host.specs.Streams.{taken_stream}
 
 -- ---- the walk
 
--- what is carried at an exchange: a loss goes ahead of a refusal by the device
+-- what is carried at an exchange: a loss comes before a refusal by the device
 abbrev pub carried_as : Option Message → Option ℕ → Judged
 carried_as (Some lost) status = Lost
 carried_as None (Some status) = Refused status
@@ -48,9 +48,9 @@ abbrev pub outcome_at : Option Asked → (ℕ → Judged) → Outcome
 outcome_at None carried = outcome.Next
 outcome_at (Some a) carried = outcome_of a (carried a.exchange)
 
-abbrev pub stream_at : Option Asked → (ℕ → Judged) → StreamView → StreamView
-stream_at None carried s = s
-stream_at (Some a) carried s = taken_stream a (carried a.exchange) s
+abbrev pub stream_after : Option Asked → (ℕ → Judged) → StreamView → StreamView
+stream_after None carried s = s
+stream_after (Some a) carried s = taken_stream a (carried a.exchange) s
 
 abbrev pub continued : Outcome → StreamView → Walked → Walked
 continued outcome.Next s rest = rest
@@ -60,8 +60,8 @@ continued o s rest = record { outcome = o; stream = s }
 abbrev pub walk : (more : ℕ) → (ℕ → Judged) → StreamView → Walked
 walk zero carried s = record { outcome = outcome.Next; stream = s }
 walk (suc more) carried s =
-    continued (outcome_at (asked_in s.op) carried) (stream_at (asked_in s.op) carried s)
-    (walk more carried (stream_at (asked_in s.op) carried s))
+    continued (outcome_at (asked_in s.op) carried) (stream_after (asked_in s.op) carried s)
+    (walk more carried (stream_after (asked_in s.op) carried s))
 
 -- `begin`, and then the walk
 abbrev pub walked_unless : Option Refusal → StreamView → Walked → Walked
@@ -71,7 +71,7 @@ walked_unless None s walked = walked
 abbrev pub walked : Operation → HostView → Pool → (ℕ → Judged) → StreamView → Walked
 walked operation host pool carried s =
     let w = work_of operation s.op pool.draws in
-    walked_unless (refusal_of operation s.op host pool) s (walk (last_of operation + 1 - w.first) carried
+    walked_unless (refusal_of operation s.op host pool) s (walk (last_exchange_of operation + 1 - w.first) carried
     (begun_stream w pool s))
 
 -- ---- the verdict that it is
@@ -84,21 +84,21 @@ shown_verdict o link stream s = None
 
 -- A lost exchange has the verdict of the message that was lost there. If none was, it has no verdict, nor has a bad
 -- reply.
-abbrev pub refusal_verdict : Option Loss → Refusal → Option Verdict
-refusal_verdict loss NotIdle = Some v.RefusedNotIdle
-refusal_verdict loss (NotSecure s) = Some (v.RefusedNotSecure s)
-refusal_verdict loss (PoolEmpty draws) = Some (v.RefusedPoolEmpty draws)
-refusal_verdict loss (SessionLost n) = option_map (λ lost. lost_at lost n) (lost_in loss n)
-refusal_verdict loss (DeviceRefused n status) = Some (v.RefusedDevice n status)
-refusal_verdict loss (BadReply n) = None
-refusal_verdict loss (Busy o) = Some (v.RefusedBusy o)
-refusal_verdict loss (UnitOpen u) = Some (v.RefusedUnitOpen u)
+abbrev pub key_refusal_verdict : Option Loss → Refusal → Option Verdict
+key_refusal_verdict loss NotIdle = Some v.RefusedNotIdle
+key_refusal_verdict loss (NotSecure s) = Some (v.RefusedNotSecure s)
+key_refusal_verdict loss (PoolEmpty draws) = Some (v.RefusedPoolEmpty draws)
+key_refusal_verdict loss (SessionLost n) = option_map (λ lost. lost_at lost n) (lost_in loss n)
+key_refusal_verdict loss (DeviceRefused n status) = Some (v.RefusedDevice n status)
+key_refusal_verdict loss (BadReply n) = None
+key_refusal_verdict loss (Busy o) = Some (v.RefusedBusy o)
+key_refusal_verdict loss (UnitOpen u) = Some (v.RefusedUnitOpen u)
 
 -- nor has an operation that is not at its end
 abbrev pub verdict_of : Operation → ℕ → ℕ → Option Loss → Outcome → Option Verdict
 verdict_of o link stream loss outcome.Next = None
 verdict_of o link stream loss (outcome.Done s) = shown_verdict o link stream s
-verdict_of o link stream loss (outcome.Refused refusal) = refusal_verdict loss refusal
+verdict_of o link stream loss (outcome.Refused refusal) = key_refusal_verdict loss refusal
 
 -- No reply was bad, and no exchange was lost but one whose message is lost.
 abbrev pub NoBadReply : Option Loss → Outcome → Type 0
@@ -111,7 +111,7 @@ NoBadReply loss o = Unit {0}
 -- an unfinished operation is at one of its exchanges
 abbrev pub IsAsked : Option Asked → Type 0
 IsAsked None = Unit {0}
-IsAsked (Some a) = (1 ≤ a.exchange) × (a.exchange ≤ last_of a.operation)
+IsAsked (Some a) = (1 ≤ a.exchange) × (a.exchange ≤ last_exchange_of a.operation)
 
 -- what the host's port and the pool show is what the definitions read of them
 pub record Reads (plan : KeyPlan) (ports : PortView) (link stream : ℕ) (status : StreamStatus) (host : HostView)

@@ -1,31 +1,25 @@
 //! The exchanges of the operations.
 
 ghost use Rattle.std.specs.Prelude.{◌≡◌, ◌≤◌, ◌<◌};
-ghost use Rattle.key_laws.specs.Operations.{last_of};
-ghost use Rattle.tsm_host.specs.Exchanges.{set_number, selector_of, exchange_of, exchange_lane};
+ghost use Rattle.key_laws.specs.Operations.{last_exchange_of};
+ghost use Rattle.tsm_host.specs.Exchanges.{selector_of, exchange_of, exchange_lane};
 
+use ide_types::KeySet;
 use link_verdicts::Operation;
 
 /// An exchange with the device. A lane is one of six: the device's receivers of posted requests, non-posted requests
-/// and completions are lanes 0 to 2, its senders lanes 3 to 5. The key set is set 1 if `set` is true.
+/// and completions are lanes 0 to 2, its senders lanes 3 to 5.
 #[derive(Clone, Copy, Debug, PartialEq, Eq)]
 pub enum Exchange {
     Query,
-    Program { set: bool, lane: u8 },
-    Go { set: bool, lane: u8 },
-    Stop { set: bool, lane: u8 },
-}
-
-/// The number of a key set.
-pub fn number(set: bool) -> u8
-    ensures { result ≡ set_number set }
-{
-    if set { 1 } else { 0 }
+    Program { set: KeySet, lane: u8 },
+    Go { set: KeySet, lane: u8 },
+    Stop { set: KeySet, lane: u8 },
 }
 
 /// The number of the operation's last exchange.
 pub fn last(operation: Operation) -> u8
-    ensures { result ≡ last_of operation }
+    ensures { result ≡ last_exchange_of operation }
 {
     match operation {
         Operation::Establish => 13,
@@ -34,17 +28,17 @@ pub fn last(operation: Operation) -> u8
 }
 
 /// The selector of a slot at the device (this profile).
-pub fn selector(set: bool, lane: u8) -> u8
+pub fn selector(set: KeySet, lane: u8) -> u8
     requires { lane < 6 }
     ensures { result ≡ selector_of set lane }
 {
-    number(set) + 2 * (lane / 3) + 16 * (lane % 3)
+    set.number() + 2 * (lane / 3) + 16 * (lane % 3)
 }
 
 /// Exchange `n` of an operation that gives keys in this set (this profile).
-pub fn exchange_at(operation: Operation, set: bool, n: u8) -> Exchange
+pub fn exchange_at(operation: Operation, set: KeySet, n: u8) -> Exchange
     requires first { 1 ≤ n }
-    requires last { n ≤ last_of operation }
+    requires last { n ≤ last_exchange_of operation }
     ensures exchange { result ≡ exchange_of operation set n }
     ensures lane { exchange_lane result < 6 }
 {
@@ -68,12 +62,12 @@ pub fn exchange_at(operation: Operation, set: bool, n: u8) -> Exchange
         Operation::Stop => {
             if n < 7 {
                 Exchange::Stop {
-                    set: false,
+                    set: KeySet::Zero,
                     lane: n - 1,
                 }
             } else {
                 Exchange::Stop {
-                    set: true,
+                    set: KeySet::One,
                     lane: n - 7,
                 }
             }

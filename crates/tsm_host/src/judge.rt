@@ -3,13 +3,13 @@
 ghost use Rattle.std.specs.Prelude.{◌≡◌};
 ghost use Rattle.tsm_host.specs.Judging.{is_description, is_key_acknowledgement, is_acknowledgement, is_expected};
 ghost use Rattle.tsm_host.specs.Judging.{refusal_in, judged_reply, judged};
-ghost use Rattle.ide_km.specs.{reading};
+ghost use Rattle.ide_km.specs.{object_reading};
 
 use crate::operation::Carried;
 use ide_km::{KmView, km_read};
 
 /// What was carried in answer to a request: the expected reply, nothing at all, a refusal with its code, or anything
-/// else.
+/// else (this profile).
 #[derive(Clone, Copy, Debug, PartialEq, Eq)]
 pub enum Judged {
     Expected,
@@ -96,7 +96,7 @@ fn refusal(reply: KmView) -> Judged
 }
 
 fn reply(request: KmView, bytes: &[u8]) -> Judged
-    ensures { result ≡ judged_reply request (reading bytes.now) }
+    ensures { result ≡ judged_reply request (object_reading bytes.now) }
 {
     match km_read(bytes) {
         Err(_) => Judged::Bad,

@@ -14,8 +14,6 @@ mod operation;
 mod port;
 mod stage;
 mod stream;
-#[cfg(test)]
-mod tests;
 
 pub use laws::{pairs_fit, walks_are_due};
 pub use link_verdicts::Operation;

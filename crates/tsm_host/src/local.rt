@@ -1,38 +1,61 @@
 //! Local calls of the host's port.
 
 ghost use Rattle.std.specs.Prelude.{◌≡◌, ◌<◌};
+ghost use Rattle.ide_types.specs.{is_one};
 ghost use Rattle.ide_km.specs.{place_at};
-ghost use Rattle.tsm_host.specs.Exchanges.{set_number};
 ghost use Rattle.tsm_host.specs.Local.{CallMoves, CallsMove, AskProgram, AskGo, AskHalt, six_key, programs, goes};
 ghost use Rattle.tsm_host.specs.Local.{halts_in, halts};
 
-use crate::exchange::number;
-use ide_km::SlotPort;
+use ide_km::{Place, SlotPort};
+use ide_types::KeySet;
 use key_slots::{HostSix, Key};
 
 // One call, whose answer is not needed.
-fn program<P: SlotPort>(port: &mut P, stream: u8, set: bool, dir: u8, sub: u8, key: Key, draw: u32)
-    requires { dir < 2 }
-    ensures { CallMoves P.slots P.unfinished P.moves port.old (AskProgram (place_at stream dir sub) (set_number set) key
-        draw) port.new }
-{
-    let _ = port.program(stream, number(set), dir, sub, key, draw);
-}
-
-fn go<P: SlotPort>(port: &mut P, stream: u8, set: bool, dir: u8, sub: u8)
-    requires { dir < 2 }
+fn program<P: SlotPort>(
+    port: &mut P,
+    stream: u8,
+    set: KeySet,
+    direction: u8,
+    sub: u8,
+    key: Key,
+    draw: u32,
+)
+    requires { direction < 2 }
     ensures { CallMoves P.slots P.unfinished P.moves port.old
-        (AskGo (place_at stream dir sub) (set_number set)) port.new }
+        (AskProgram (place_at stream direction sub) (is_one set) key draw) port.new }
 {
-    let _ = port.go(stream, number(set), dir, sub);
+    let place = Place {
+        stream,
+        direction,
+        sub,
+    };
+    let _ = port.program(place, set, key, draw);
 }
 
-fn halt<P: SlotPort>(port: &mut P, stream: u8, set: bool, dir: u8, sub: u8)
-    requires { dir < 2 }
-    ensures { CallMoves P.slots P.unfinished P.moves port.old (AskHalt (place_at stream dir sub)
-        (set_number set)) port.new }
+fn go<P: SlotPort>(port: &mut P, stream: u8, set: KeySet, direction: u8, sub: u8)
+    requires { direction < 2 }
+    ensures { CallMoves P.slots P.unfinished P.moves port.old
+        (AskGo (place_at stream direction sub) (is_one set)) port.new }
 {
-    let _ = port.halt(stream, number(set), dir, sub);
+    let place = Place {
+        stream,
+        direction,
+        sub,
+    };
+    let _ = port.go(place, set);
+}
+
+fn halt<P: SlotPort>(port: &mut P, stream: u8, set: KeySet, direction: u8, sub: u8)
+    requires { direction < 2 }
+    ensures { CallMoves P.slots P.unfinished P.moves port.old
+        (AskHalt (place_at stream direction sub) (is_one set)) port.new }
+{
+    let place = Place {
+        stream,
+        direction,
+        sub,
+    };
+    let _ = port.halt(place, set);
 }
 
 // The keys of an array.
@@ -52,8 +75,8 @@ fn six_of(keys: [Key; 6]) -> (Key, Key, Key, Key, Key, Key)
 }
 
 /// Programs the six slots of a stream's key set.
-pub fn program_six<P: SlotPort>(port: &mut P, stream: u8, set: bool, six: HostSix, draw: u32)
-    ensures { CallsMove P.slots P.unfinished P.moves port.old (programs stream set six draw) port.new }
+pub fn program_six<P: SlotPort>(port: &mut P, stream: u8, set: KeySet, six: HostSix, draw: u32)
+    ensures { CallsMove P.slots P.unfinished P.moves port.old (programs stream (is_one set) six draw) port.new }
 {
     let (a, b, c, d, e, f) = six_of(six.keys());
     program(port, stream, set, 0, 0, a, draw);
@@ -65,8 +88,8 @@ pub fn program_six<P: SlotPort>(port: &mut P, stream: u8, set: bool, six: HostSi
 }
 
 /// Takes the six slots of a key set into use, those of the host's receivers first.
-pub fn go_six<P: SlotPort>(port: &mut P, stream: u8, set: bool)
-    ensures { CallsMove P.slots P.unfinished P.moves port.old (goes stream set) port.new }
+pub fn go_six<P: SlotPort>(port: &mut P, stream: u8, set: KeySet)
+    ensures { CallsMove P.slots P.unfinished P.moves port.old (goes stream (is_one set)) port.new }
 {
     go(port, stream, set, 1, 0);
     go(port, stream, set, 1, 1);
@@ -80,16 +103,16 @@ pub fn go_six<P: SlotPort>(port: &mut P, stream: u8, set: bool)
 pub fn halt_all<P: SlotPort>(port: &mut P, stream: u8)
     ensures { CallsMove P.slots P.unfinished P.moves port.old (halts stream) port.new }
 {
-    halt(port, stream, false, 0, 0);
-    halt(port, stream, false, 0, 1);
-    halt(port, stream, false, 0, 2);
-    halt(port, stream, false, 1, 0);
-    halt(port, stream, false, 1, 1);
-    halt(port, stream, false, 1, 2);
-    halt(port, stream, true, 0, 0);
-    halt(port, stream, true, 0, 1);
-    halt(port, stream, true, 0, 2);
-    halt(port, stream, true, 1, 0);
-    halt(port, stream, true, 1, 1);
-    halt(port, stream, true, 1, 2);
+    halt(port, stream, KeySet::Zero, 0, 0);
+    halt(port, stream, KeySet::Zero, 0, 1);
+    halt(port, stream, KeySet::Zero, 0, 2);
+    halt(port, stream, KeySet::Zero, 1, 0);
+    halt(port, stream, KeySet::Zero, 1, 1);
+    halt(port, stream, KeySet::Zero, 1, 2);
+    halt(port, stream, KeySet::One, 0, 0);
+    halt(port, stream, KeySet::One, 0, 1);
+    halt(port, stream, KeySet::One, 0, 2);
+    halt(port, stream, KeySet::One, 1, 0);
+    halt(port, stream, KeySet::One, 1, 1);
+    halt(port, stream, KeySet::One, 1, 2);
 }

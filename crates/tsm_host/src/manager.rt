@@ -20,8 +20,8 @@ use key_slots::KeyPool;
 use std::alloc::Global;
 use std::marker::Model;
 
-/// The host's manager of key management, for all links. It has at most one exchange under way: that of the
-/// operation which `begin` began last or went on with.
+/// The host's manager of key management, for all links (PCI Express Base 6.0 section 6.33, in this profile). It has at
+/// most one exchange under way: that of the operation which `begin` began last or went on with.
 #[derive(Drop)]
 pub struct Manager {
     streams: Vec<StreamKeys>,
@@ -49,11 +49,11 @@ fn add_streams(streams: &mut Vec<StreamKeys>, link: u8, plans: &[StreamPlan]) ->
 impl Manager {
     ghost use Rattle.tsm_host.specs.Managers.{
       new_manager,
-      place_of,
+      stream_place,
       named,
       current,
       begin_refusal,
-      begun,
+      begun_manager,
       pool_begun,
       calls_begun,
       outcome_now,
@@ -63,7 +63,7 @@ impl Manager {
       asked_now,
     };
 
-    /// A manager of these links, of which there are up to 8; no stream has keys.
+    /// A manager of these links, up to 8 of them; no stream has keys. Returns `Memory` for want of memory.
     pub fn make(alloc: Global, links: &Items<LinkPlan>) -> Result<Manager, Memory>
         requires { length links.now ≤ 8 }
         ensures { IfOk result (λ m. m ≡ new_manager links.now) }
@@ -81,7 +81,7 @@ impl Manager {
     }
 
     fn place(&self, link: u8, stream: u8) -> Option<usize>
-        ensures { result ≡ place_of self.now link stream }
+        ensures { result ≡ stream_place self.now link stream }
     {
         self.streams.iter().position(|s| s.is_named(link, stream))
     }
@@ -124,7 +124,7 @@ impl Manager {
             result ≡ ok_unless (begin_refusal name.operation host pool.old n)) }
         ensures manager { let name = op_name op in IfSome (named self.old name.link name.stream) (λ n.
             let host = host_view P.status_of P.live_of port.old n.stream.id in
-            self.new ≡ begun self.old name.operation host pool.old n) }
+            self.new ≡ begun_manager self.old name.operation host pool.old n) }
         ensures pool { let name = op_name op in IfSome (named self.old name.link name.stream) (λ n.
             let host = host_view P.status_of P.live_of port.old n.stream.id in
             pool.new ≡ pool_begun name.operation host pool.old n) }

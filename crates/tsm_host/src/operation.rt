@@ -25,7 +25,7 @@ pub enum Carried<'a> {
 }
 
 /// The outcome of an exchange: the operation's next one is to be asked; the operation is at its end; it stays where it
-/// is until it is begun again.
+/// is until it is begun again (this profile).
 #[derive(Clone, Copy, Debug, PartialEq, Eq)]
 pub enum Outcome {
     Next,
@@ -42,7 +42,7 @@ pub enum Shown {
     Stopped,
 }
 
-/// Why an operation does not begin, or does not go on now. Exchanges are numbered from 1.
+/// Why an operation does not begin, or does not go on now (this profile). Exchanges are numbered from 1.
 #[derive(Clone, Copy, Debug, PartialEq, Eq)]
 pub enum Refusal {
     /// Of establish: the stream has keys.

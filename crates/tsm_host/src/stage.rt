@@ -1,17 +1,25 @@
 //! The state of a stream for the manager.
 
 ghost use Rattle.std.specs.Prelude.{◌≡◌, ◌+◌, ◌<◌, ◌≤◌, IsSome, IsTrue, true, not, if◌then◌else◌, [], slice_index_or};
-ghost use Rattle.key_laws.specs.Operations.{work_of, last_of, op_after, reach};
+ghost use Rattle.ide_types.specs.{is_one};
+ghost use Rattle.key_laws.specs.Operations.{work_of, last_exchange_of, op_after, reach};
 ghost use Rattle.tsm_host.specs.Exchanges.{exchange_of, exchange_lane, kept_key, key_or_none};
 ghost use Rattle.tsm_host.specs.Streams.{op_in, stage_keys, StageHolds, asked_in, exchange_asked, work_asked};
-ghost use Rattle.tsm_host.specs.Streams.{host_view, refusal_at, open_unit, status_or_idle, unless_secure, is_set};
+ghost use Rattle.tsm_host.specs.Streams.{
+  host_view,
+  operation_refusal,
+  open_unit_refusal,
+  status_or_idle,
+  unless_secure,
+  is_set,
+};
 ghost use Rattle.tsm_host.specs.Streams.{keys_after, establish_refusal, refresh_refusal, current_set, next_in};
 ghost use Rattle.tsm_host.specs.Streams.{op_advanced};
 
-use crate::exchange::{Exchange, exchange_at, last, number};
+use crate::exchange::{Exchange, exchange_at, last};
 use crate::operation::{Refusal, Shown};
 use crate::port::HostPort;
-use ide_types::{StreamStatus, SubKind};
+use ide_types::{KeySet, StreamStatus, SubKind};
 use key_slots::WireSix;
 use link_verdicts::Operation;
 
@@ -26,11 +34,11 @@ pub enum Stage {
         keys: WireSix,
     },
     Up {
-        set: bool,
+        set: KeySet,
         draw: u32,
     },
     Refreshing {
-        set: bool,
+        set: KeySet,
         draw: u32,
         next: u8,
         keys: WireSix,
@@ -45,7 +53,7 @@ pub enum Stage {
 #[derive(Clone, Copy, Debug, PartialEq, Eq)]
 pub struct Asked {
     pub operation: Operation,
-    pub set: bool,
+    pub set: KeySet,
     pub draw: u32,
     pub exchange: u8,
 }
@@ -56,7 +64,7 @@ impl Asked {
     /// The exchange.
     pub fn exchange(&self) -> Exchange
         requires first { 1 ≤ self.now.exchange }
-        requires last { self.now.exchange ≤ last_of self.now.operation }
+        requires last { self.now.exchange ≤ last_exchange_of self.now.operation }
         ensures exchange { result ≡ exchange_asked self.now }
         ensures lane { exchange_lane result < 6 }
     {
@@ -82,10 +90,9 @@ impl Asked {
 }
 
 /// The first sub-stream, PR first, whose Live key at the host's sender is in this set.
-fn open_unit<P: HostPort>(port: &P, stream: u8, set: bool) -> Option<Refusal>
-    ensures { result ≡ open_unit (host_view P.status_of P.live_of port.now stream) set }
+fn open_unit<P: HostPort>(port: &P, stream: u8, set: KeySet) -> Option<Refusal>
+    ensures { result ≡ open_unit_refusal (host_view P.status_of P.live_of port.now stream) (is_one set) }
 {
-    let set = number(set);
     if port.live_set(stream, SubKind::Pr) == Some(set) {
         Some(Refusal::UnitOpen(SubKind::Pr))
     } else if port.live_set(stream, SubKind::Npr) == Some(set) {
@@ -108,9 +115,9 @@ fn status<P: HostPort>(port: &P, stream: u8) -> StreamStatus
 }
 
 /// Why a refresh of a keyed stream may not begin with keys in this set.
-fn not_ready<P: HostPort>(port: &P, stream: u8, set: bool) -> Option<Refusal>
+fn not_ready<P: HostPort>(port: &P, stream: u8, set: KeySet) -> Option<Refusal>
     ensures { let host = host_view P.status_of P.live_of port.now stream in
-        result ≡ unless_secure (status_or_idle host.status) (open_unit host set) }
+        result ≡ unless_secure (status_or_idle host.status) (open_unit_refusal host (is_one set)) }
 {
     match status(port, stream) {
         StreamStatus::Secure => open_unit(port, stream, set),
@@ -137,7 +144,8 @@ impl Stage {
         stream: u8,
         operation: Operation,
     ) -> Option<Refusal>
-        ensures { result ≡ refusal_at operation (op_in self.now) (host_view P.status_of P.live_of port.now stream) }
+        ensures { result ≡ operation_refusal operation (op_in self.now)
+            (host_view P.status_of P.live_of port.now stream) }
     {
         match operation {
             Operation::Establish => self.establish_refusal(),
@@ -163,7 +171,7 @@ impl Stage {
         match self {
             Stage::Idle => Some(Refusal::NotSecure(status(port, stream))),
             Stage::Establishing { .. } => Some(Refusal::Busy(Operation::Establish)),
-            Stage::Up { set, .. } => not_ready(port, stream, !*set),
+            Stage::Up { set, .. } => not_ready(port, stream, set.other()),
             Stage::Refreshing { .. } => None,
             Stage::Stopping { .. } => Some(Refusal::Busy(Operation::Stop)),
         }
@@ -182,33 +190,34 @@ impl Stage {
     }
 
     /// The key set that a refresh of a keyed stream gives keys in; set 0 for an establish.
-    pub fn next_set(&self, operation: Operation) -> bool
+    pub fn next_set(&self, operation: Operation) -> KeySet
         requires { (work_of operation (op_in self.now) 0).begins ≡ true }
-        ensures { result ≡ (work_of operation (op_in self.now) 0).set }
+        ensures { is_one result ≡ (work_of operation (op_in self.now) 0).set }
     {
         match operation {
-            Operation::Refresh => !self.current_set(),
-            Operation::Establish | Operation::Stop => false,
+            Operation::Refresh => self.current_set().other(),
+            Operation::Establish | Operation::Stop => KeySet::Zero,
         }
     }
 
-    fn current_set(&self) -> bool
-        ensures { result ≡ current_set (op_in self.now) }
+    fn current_set(&self) -> KeySet
+        ensures { is_one result ≡ current_set (op_in self.now) }
     {
         match self {
             Stage::Up { set, .. } => *set,
-            _ => false,
+            _ => KeySet::Zero,
         }
     }
 
     /// The exchange that is next, if an operation is unfinished.
+    #[tactic(auto, using(ide_types::proofs::KeySets::set_of_one))]
     pub fn asked(&self) -> Option<Asked>
         ensures { result ≡ asked_in (op_in self.now) }
     {
         match self {
             Stage::Establishing { draw, next, .. } => Some(Asked {
                 operation: Operation::Establish,
-                set: false,
+                set: KeySet::Zero,
                 draw: *draw,
                 exchange: *next,
             }),
@@ -225,7 +234,7 @@ impl Stage {
             }),
             Stage::Stopping { next } => Some(Asked {
                 operation: Operation::Stop,
-                set: false,
+                set: KeySet::Zero,
                 draw: 0,
                 exchange: *next,
             }),

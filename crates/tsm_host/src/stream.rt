@@ -1,7 +1,7 @@
 //! A stream of a link.
 
 ghost use Rattle.std.specs.Prelude.{◌≡◌, ◌≤◌, true, [], Some};
-ghost use Rattle.key_laws.specs.Operations.{work_of, last_of, makes_draw, op_ended};
+ghost use Rattle.key_laws.specs.Operations.{work_of, last_exchange_of, makes_draw, op_ended};
 ghost use Rattle.tsm_host.specs.declared.judge.Judged.TheVariants.{Expected};
 ghost use Rattle.tsm_host.specs.Local.{CallsMove};
 ghost use Rattle.tsm_host.specs.Streams.{op_in, stage_keys, work_asked, StageHolds, keyed_stage, taken_calls};
@@ -13,6 +13,7 @@ use crate::operation::{Carried, Outcome, Refusal};
 use crate::port::HostPort;
 use crate::stage::{Asked, Stage};
 use ide_km::{KmView, km_write};
+use ide_types::KeySet;
 use key_slots::{KeyPool, PoolEmpty, WireSix};
 use link_verdicts::Operation;
 use std::marker::Model;
@@ -250,7 +251,7 @@ impl StreamKeys {
 /// Gives the host's port its GOs, if the last of the device's receivers acknowledged its own.
 fn go_on<P: HostPort>(port: &mut P, stream: u8, asked: Asked)
     requires first { 1 ≤ asked.exchange }
-    requires last { asked.exchange ≤ last_of asked.operation }
+    requires last { asked.exchange ≤ last_exchange_of asked.operation }
     ensures { CallsMove P.slots P.unfinished P.moves port.old (taken_calls asked Expected stream) port.new }
 {
     if asked.exchange().is_last_receiver_go() {
@@ -259,7 +260,7 @@ fn go_on<P: HostPort>(port: &mut P, stream: u8, asked: Asked)
 }
 
 /// The state at the first exchange of an operation that gives keys.
-fn keyed(operation: Operation, set: bool, draw: u32, keys: WireSix) -> Stage
+fn keyed(operation: Operation, set: KeySet, draw: u32, keys: WireSix) -> Stage
     ensures { result ≡ keyed_stage operation set draw keys }
 {
     match operation {

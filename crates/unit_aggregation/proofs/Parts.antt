@@ -1,4 +1,4 @@
--- Packets that lie one behind the other.
+-- Packets that lie one after the other.
 use Rattle.std.proofs.Common.{◌≡◌, ℕ, zero, suc, ◌+◌, ◌-◌, ◌<◌, ◌≤◌, List, [], ◌∷◌, ◌++◌, length, take, drop, get_or}
 use Rattle.std.proofs.Common.{slice_range, Some, refl, sym, ap, ◌∙◌, arith, length-take, length-drop}
 use Rattle.std.specs.List.{slice_get}
@@ -20,7 +20,7 @@ pub length-parts : (x y : List ℕ) (h b : ℕ) (es : List PacketEnds) → lengt
 length-parts x y h b [] = refl
 length-parts x y h b (e ∷ es) = ap (λ (n : ℕ). suc n) (length-parts x y e.head e.body es)
 
--- the heads, joined, are what lies behind the first place
+-- the heads, joined, are what lies after the first place
 pub heads_of-parts : (x y : List ℕ) (h b : ℕ) (es : List PacketEnds) → Rises h b es (length x) (length y)
     → heads_of (parts x y h b es) ≡ drop h x
 heads_of-parts x y h b [] r = sym (drop_all h x (omega (arith, r.0)))
@@ -31,7 +31,7 @@ pub bodies_of-parts : (x y : List ℕ) (h b : ℕ) (es : List PacketEnds) → Ri
 bodies_of-parts x y h b [] r = sym (drop_all b y (omega (arith, r.1)))
 bodies_of-parts x y h b (e ∷ es) r = rw (bodies_of-parts x y e.head e.body es r.2) (sym (drop_split y b e.body r.1))
 
--- behind the front all heads, and all bodies
+-- after the front all heads, and all bodies
 pub joined_heads : (x y : List ℕ) (front : ℕ) (es : List PacketEnds) → Rises front 0 es (length x) (length y) → x
     ≡ take front x ++ heads_of (parts x y front 0 es)
 joined_heads x y front es r =

@@ -5,7 +5,7 @@ use Rattle.std.specs.List.{slice_get}
 use Rattle.std.proofs.lemmas.Bool.{lt-ltb, le-ltb}
 use Rattle.std.proofs.lemmas.List.{take-append-le, take_all}
 use Rattle.unit_aggregation.specs.declared.ends.PacketEnds.{PacketEnds}
-use Rattle.unit_aggregation.specs.Units.{Collected, empty_unit, has_room, with_packet, body_of, overwritten}
+use Rattle.unit_aggregation.specs.Units.{Collected, empty_unit, has_room, unit_with_packet, body_of, overwritten}
 use Rattle.unit_aggregation.specs.Units.{with_bodies}
 use Rattle.unit_aggregation.specs.Layout.{parts, Rises, IsLaidOut, LieWithin}
 use Rattle.unit_aggregation.proofs.Parts.{rises_below, length-parts, bodies_of-parts, rises_on, parts-added, parts_at}
@@ -29,13 +29,13 @@ pub has_room-full : (mode front : ℕ) (x y : List ℕ) (es : List PacketEnds) (
     → mode ≤ length es → has_room v ≡ false
 has_room-full mode front x y es v is full = rw (← is, length-parts x y front 0 es) (le-ltb (length es) mode full)
 
-pub view-full : (v : Collected) (head body : List ℕ) → has_room v ≡ false → v ≡ with_packet v head body
+pub view-full : (v : Collected) (head body : List ℕ) → has_room v ≡ false → v ≡ unit_with_packet v head body
 view-full v head body full = rw full refl
 
 pub view-added : (mode front : ℕ) (x y head body : List ℕ) (es : List PacketEnds) (n m : ℕ) (v : Collected)
     → view mode front x y es ≡ v → length es < mode → Rises front 0 es (length x) (length y)
     → n ≡ length x + length head → m ≡ length y + length body
-    → view mode front (x ++ head) (y ++ body) (es ++ record { head = n; body = m } ∷ []) ≡ with_packet v head body
+    → view mode front (x ++ head) (y ++ body) (es ++ record { head = n; body = m } ∷ []) ≡ unit_with_packet v head body
 view-added mode front x y head body es n m v is less r en em =
     let room = has_room-less mode front x y es v is less in
     let below = rises_below front 0 es (length x) (length y) r in

@@ -9,7 +9,7 @@ heads_of-rebodied : (ps : List (List ℕ × List ℕ)) (s : List ℕ) → heads_
 heads_of-rebodied [] s = refl
 heads_of-rebodied (p ∷ ps) s = ap (λ (t : List ℕ). p.0 ++ t) (heads_of-rebodied ps (drop (length p.1) s))
 
--- what is left for the packets behind the first
+-- what is left for the packets after the first
 rest_long : (p : List ℕ × List ℕ) (ps : List (List ℕ × List ℕ)) (s : List ℕ) → length s ≡ length (bodies_of (p ∷ ps))
     → length (drop (length p.1) s) ≡ length (bodies_of ps)
 rest_long p ps s e = omega (arith, e, length-append p.1 (bodies_of ps), length-drop (length p.1) s)

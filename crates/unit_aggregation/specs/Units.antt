@@ -3,7 +3,7 @@
 use Rattle.std.specs.Prelude.{◌≡◌, ℕ, Bool, List, [], ◌∷◌, ◌++◌, length, map, take, drop, nat_lt, if◌then◌else◌}
 use Rattle.std.specs.List.{flat_map}
 
--- at most how many packets, the bytes ahead of the first, and the packets
+-- at most how many packets, the bytes before the first, and the packets
 pub record Collected : Type 0 where
   pub mode : ℕ
   pub front : List ℕ
@@ -32,8 +32,8 @@ abbrev pub has_room : Collected → Bool
 has_room unit = nat_lt (length unit.packets) unit.mode
 
 -- with the packet at its end, if it fits
-abbrev pub with_packet : Collected → List ℕ → List ℕ → Collected
-with_packet unit head body =
+abbrev pub unit_with_packet : Collected → List ℕ → List ℕ → Collected
+unit_with_packet unit head body =
     if has_room unit then record unit { packets = unit.packets ++ (head, body) ∷ [] } else unit
 
 -- ---- writing

@@ -4,8 +4,6 @@
 
 mod ends;
 mod laws;
-#[cfg(test)]
-mod tests;
 mod unit_buf;
 
 pub use laws::written_keeps_lengths;

@@ -13,7 +13,7 @@ use std::marker::Model;
 /// The most packets of a unit (this profile).
 pub const MAX_PACKETS: usize = 8;
 
-/// The bytes that may stand ahead of the first packet's head, once a unit (this profile).
+/// The bytes that may come before the first packet's head, once a unit (this profile).
 pub const FRONT_BYTES: usize = 8;
 
 /// The most bytes of a packet's head: 4 of its prefix and 16 of its TLP's header (PCI Express Base 6.0 section 2.2).
@@ -22,7 +22,7 @@ pub const HEAD_BYTES: usize = 20;
 /// The most bytes of a packet's body: 1,024 double words (PCI Express Base 6.0 section 2.2).
 pub const BODY_BYTES: usize = 4_096;
 
-/// The unit has as many packets as its mode allows.
+/// The unit has as many packets as its mode allows (this profile).
 #[derive(Clone, Copy, Debug, PartialEq, Eq)]
 pub struct UnitFull;
 
@@ -107,7 +107,7 @@ fn packet_between<'a>(
 
 impl UnitBuf {
     ghost use Rattle.std.specs.Borrow.{sem};
-    ghost use Rattle.unit_aggregation.specs.Units.{empty_unit, aad_of, body_of, has_room, with_packet};
+    ghost use Rattle.unit_aggregation.specs.Units.{empty_unit, aad_of, body_of, has_room, unit_with_packet};
     ghost use Rattle.unit_aggregation.specs.Lending.{LendsBody};
 
     /// A buffer for units of at most `mode` packets, which is 1, 2, 4 or 8; it has none yet.
@@ -133,7 +133,7 @@ impl UnitBuf {
         requires head_short { length head.now ≤ HEAD_BYTES }
         requires body_short { length body.now ≤ BODY_BYTES }
         ensures answer { is_ok result ≡ has_room self.old }
-        ensures unit { self.new ≡ with_packet self.old head.now body.now }
+        ensures unit { self.new ≡ unit_with_packet self.old head.now body.now }
     {
         if self.ends.len() >= self.mode {
             return Err(UnitFull);

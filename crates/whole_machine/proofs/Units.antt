@@ -22,8 +22,8 @@ use Rattle.link_history.specs.Memory.{unit_ended}
 use Rattle.link_history.proofs.Causes.{Came, Passed, AcceptedBy, accepted_by, ending, packet_that_came, received_there}
 use Rattle.link_history.proofs.Causes.{numbered}
 use Rattle.link_ports.specs.Stream.{Taken, Insecure, NotKeyed, Failed, Held, Accepted}
-use Rattle.link_ports.specs.Machine.{LinkState, find, verdict_of, passed, altered_to, cut_short}
-use Rattle.link_ports.specs.Stands.{PortsStand, standing, standing_at, beside_at}
+use Rattle.link_ports.specs.Machine.{LinkState, find, verdict_of_taken, passed, altered_to, cut_short}
+use Rattle.link_ports.specs.Stands.{PortsStand, standing, standing_if_planned, beside_at}
 use Rattle.link_ports.proofs.Numbers.{of_numbered}
 use Rattle.link_ports.proofs.Answers.{answer_is, packet_due, taken_at, Says, says}
 use Rattle.whole_machine.specs.Machine.{arrival_of, unit_taken, unit_found, unit_cut, unit_in}
@@ -69,7 +69,7 @@ due_accepted plan h e port unit effects by =
     )
 
 taken_unit : (plan : Plan) (h : History) (port : PortName) (p : Packet) (unit : UnitName) (es : List Effect) (t : Taken)
-    → verdict_of (beside_at plan h) port p t ≡ v.Accepted port unit es → Says plan h port p t → unit_taken t
+    → verdict_of_taken (beside_at plan h) port p t ≡ v.Accepted port unit es → Says plan h port p t → unit_taken t
     ≡ pending plan h (receiving port p) unit.draw ++ p ∷ []
 taken_unit plan h port p unit es (Accepted j n u) is said =
     let draw : j ≡ unit.draw = cc (is) in
@@ -94,7 +94,8 @@ found_standing : (plan : Plan) (st : LinkState) (h : History) → PortsStand pla
     → has_stream plan port p.prefix.stream ≡ true
     → unit_found plan port p (find plan st port p.prefix.stream) ≡ unit_taken (taken_at plan h port p)
 found_standing plan st h stands port p known =
-    let here : standing_at plan h port p.prefix.stream ≡ Some (standing plan h port p.prefix.stream) = rw known refl in
+    let here : standing_if_planned plan h port p.prefix.stream
+    ≡ Some (standing plan h port p.prefix.stream) = rw known refl in
     ap (unit_found plan port p) (stands.streams port p.prefix.stream ∙ here)
 
 pub unit_is : (plan : Plan) (st : LinkState) (h : History) (e : Event) (port : PortName) (unit : UnitName)

@@ -15,9 +15,9 @@ use Rattle.key_laws.specs.History.{History, op_of, draws}
 unfoldable use Rattle.interface_states.specs.Views.{stream_draw}
 use Rattle.interface_states.specs.Cause.{owner_of, owner_at, t_due}
 use Rattle.interface_states.specs.Views.{grant_at}
-unfoldable use Rattle.interface_states.specs.Due.{due as interface_due}
-use Rattle.interface_machine.specs.Machine.{Faces, faces_after, answer_of, grant_of}
-use Rattle.interface_machine.specs.Stands.{StandsFor as FacesStandFor}
+unfoldable use Rattle.interface_states.specs.Due.{interface_verdict_due as interface_due}
+use Rattle.interface_machine.specs.Machine.{Faces, faces_after, interface_answer, grant_of}
+use Rattle.interface_machine.specs.Stands.{FacesStandFor}
 use Rattle.interface_machine.proofs.Faces.{faces_stand}
 use Rattle.link_history.specs.Memory.{effects_by, admitted_in, shown_if, memory_due}
 unfoldable use Rattle.link_history.specs.Memory.{writes}
@@ -28,10 +28,10 @@ use Rattle.trusted_memory.specs.Memory.{bytes_from}
 use Rattle.link_events.specs.declared.event.InterfaceEvent.TheVariants as ie
 unfoldable use Rattle.link_history.specs.Due.{due}
 use Rattle.link_ports.specs.Machine.{Beside, LinkState, step_of}
-use Rattle.link_ports.specs.Stands.{beside_at, StandsFor as PortsStandFor}
+use Rattle.link_ports.specs.Stands.{beside_at, PortsStandFor}
 use Rattle.port_operations.proofs.AllSteps.{steps}
 use Rattle.port_operations.proofs.Resets.{begins as first}
-use Rattle.whole_machine.specs.Machine.{Whole, t_by, memory_shown, written_after, beside_of, streams_of, draw_after}
+use Rattle.whole_machine.specs.Machine.{Whole, t_by, memory_shown, written_after, beside_of, whole_streams, draw_after}
 use Rattle.whole_machine.specs.Machine.{whole_after}
 use Rattle.whole_machine.specs.Stands.{StandsFor, WholeBegins, WholeSteps}
 use Rattle.whole_machine.proofs.Units.{unit_is}
@@ -53,10 +53,11 @@ memory_says plan h ws same (ie.Memory at len) = ap
 memory_says plan h ws same e = refl
 
 answer_says : (plan : Plan) (w : Whole) (h : History) → StandsFor plan w h → (e : InterfaceEvent)
-    → answer_of plan (streams_of plan w) w.faces e (memory_shown plan w.written e) ≡ due plan h (event.Interface e)
+    → interface_answer plan (whole_streams plan w) w.faces e (memory_shown plan w.written e)
+    ≡ due plan h (event.Interface e)
 unfolding due
 answer_says plan w h stands e =
-    (λ i. answer_of plan (streams_are plan w h stands.links stands.draw i) w.faces e
+    (λ i. interface_answer plan (streams_are plan w h stands.links stands.draw i) w.faces e
     (memory_says plan h w.written stands.written e i))
     ∙ faces_stand.answer plan w.faces h e (memory_due plan h e) stands.faces
 

@@ -16,7 +16,7 @@ use Rattle.key_laws.specs.Operations.{Op, Idle}
 use Rattle.key_laws.specs.History.{begins_keyed}
 use Rattle.interface_states.specs.Devices.{is_secure}
 use Rattle.interface_states.specs.Cause.{owner_of}
-use Rattle.interface_machine.specs.Machine.{Faces, new_faces, Streams, faces_after, answer_of, t_of, grant_of}
+use Rattle.interface_machine.specs.Machine.{Faces, new_faces, Streams, faces_after, interface_answer, t_of, grant_of}
 use Rattle.link_history.specs.Memory.{effects_by, admitted_in, shown_if}
 use Rattle.link_history.specs.History.{Arrival}
 use Rattle.link_history.specs.Plan.{has_port, mode_of, is_closed}
@@ -53,8 +53,8 @@ op_or_idle (Some q) = q
 abbrev pub secure_in : Plan → LinkState → ℕ → ℕ → Bool
 secure_in plan st link stream = is_secure (status_at plan st Device link stream)
 
-abbrev pub streams_of : Plan → Whole → Streams
-streams_of plan w = record {
+abbrev pub whole_streams : Plan → Whole → Streams
+whole_streams plan w = record {
   secure = secure_in plan w.links;
   host = λ link stream. status_at plan w.links Host link stream;
   draw = w.draw;
@@ -107,7 +107,7 @@ abbrev pub beside_of : Plan → Whole → Beside
 beside_of plan w = record {
   t = λ port head stream trusted. t_by plan w.faces port port.side head stream trusted;
   effects = effects_by plan (grant_of plan w.faces);
-  answer = λ e. answer_of plan (streams_of plan w) w.faces e (memory_shown plan w.written e);
+  answer = λ e. interface_answer plan (whole_streams plan w) w.faces e (memory_shown plan w.written e);
 }
 
 -- ---- one step
@@ -128,8 +128,8 @@ written_after plan w e verdict = w.written
 abbrev pub whole_after : Plan → Whole → Event → Verdict → LinkState → Whole
 whole_after plan w e verdict links = record {
   links = links;
-  faces = faces_after plan (streams_of plan w) (secure_in plan links) e verdict w.faces;
-  draw = draw_after (streams_of plan w).op w.links.draws e verdict w.draw;
+  faces = faces_after plan (whole_streams plan w) (secure_in plan links) e verdict w.faces;
+  draw = draw_after (whole_streams plan w).op w.links.draws e verdict w.draw;
   written = written_after plan w e verdict;
 }
 

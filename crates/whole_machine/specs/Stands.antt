@@ -4,10 +4,10 @@ use Rattle.ide_plan.specs.declared.plan.Plan.{Plan}
 use Rattle.link_events.specs.declared.event.Event.{Event}
 use Rattle.key_laws.specs.History.{History}
 use Rattle.interface_states.specs.Views.{stream_draw}
-use Rattle.interface_machine.specs.Stands.{StandsFor as FacesStandFor}
+use Rattle.interface_machine.specs.Stands.{FacesStandFor}
 use Rattle.link_history.specs.Memory.{writes}
 use Rattle.link_history.specs.Due.{due}
-use Rattle.link_ports.specs.Stands.{StandsFor as PortsStandFor}
+use Rattle.link_ports.specs.Stands.{PortsStandFor}
 use Rattle.whole_machine.specs.Machine.{Whole, new_whole, whole_step}
 
 pub record StandsFor (plan : Plan) (w : Whole) (h : History) : Type 0 where

@@ -90,7 +90,7 @@ unfolding tag_of ghash hash_key blocks counter key_stream masked bits aes cipher
     add_round_key mixed mix_columns shift_rows sub_bytes key_words temp expansion sub_word sbox
 tag_3_is = refl
 
--- of the write of unit 1 under draw 1, on an open stream, and on a closed one behind one unit
+-- of the write of unit 1 under draw 1, on an open stream, and on a closed one after one unit
 abbrev pub newer_body : List ℕ
 newer_body = 0xc8 ∷ 0x92 ∷ 0x27 ∷ 0xe7 ∷ []
 
@@ -117,7 +117,7 @@ unfolding tag_of ghash hash_key blocks counter key_stream masked bits aes cipher
     add_round_key mixed mix_columns shift_rows sub_bytes key_words temp expansion sub_word sbox
 closed_tag_is = refl
 
--- of a read behind one write, and of a unit of two reads
+-- of a read after one write, and of a unit of two reads
 abbrev pub read_tag : List ℕ
 read_tag = 0xea ∷ 0x87 ∷ 0x11 ∷ 0x98 ∷ 0x56 ∷ 0x2d ∷ 0x2c ∷ 0xd4 ∷ 0xed ∷ 0xe5 ∷ 0x91 ∷ 0xe5 ∷ []
 
@@ -134,8 +134,8 @@ unfolding tag_of ghash hash_key blocks counter key_stream masked bits aes cipher
     add_round_key mixed mix_columns shift_rows sub_bytes key_words temp expansion sub_word sbox
 reads_tag_is = refl
 
--- what a receiver compares where it fails: of the first write as unit 2, of that with T, of the third as unit 2, and of
--- the first under draw 1 on a closed stream behind no unit
+-- what a receiver compares when it fails: of the first write as unit 2, of that with T, of the third as unit 2, and of
+-- the first under draw 1 on a closed stream after no unit
 abbrev pub repeated_tag : List ℕ
 repeated_tag = 0x16 ∷ 0xe0 ∷ 0xd3 ∷ 0x52 ∷ 0x8a ∷ 0x65 ∷ 0xc1 ∷ 0x3c ∷ 0x65 ∷ 0x02 ∷ 0x7b ∷ 0xf7 ∷ []
 
@@ -194,7 +194,7 @@ trusted_write = written false true body_1 tag_1
 abbrev pub rekeyed_write : Packet
 rekeyed_write = written true false body_1 tag_1
 
--- a read behind one write, and two reads of one unit
+-- a read after one write, and two reads of one unit
 abbrev pub read_behind : Packet
 read_behind = asked true 1 read_tag
 

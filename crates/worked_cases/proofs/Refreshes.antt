@@ -5,8 +5,8 @@ use Rattle.tlp_layout.specs.Reading.{read_of, read_head_of}
 use Rattle.ide_prefix.specs.Reading.{cut_of}
 use Rattle.association.specs.Choice.{choice_of}
 use Rattle.key_laws.specs.Keys.{is_open, keys}
-use Rattle.key_laws.specs.History.{manager, moments, base, failed as failed_there}
-use Rattle.key_laws.specs.Due.{due as key_due}
+use Rattle.key_laws.specs.History.{manager, moments, base, failed_there}
+use Rattle.key_laws.specs.Due.{key_due}
 use Rattle.link_events.specs.declared.event.Event.TheVariants.{Pass}
 use Rattle.interface_states.specs.Sites.{sites}
 use Rattle.link_history.specs.Plan.{stream_plan, key_of}
@@ -23,12 +23,12 @@ use Rattle.worked_cases.proofs.Packets.{closed_2_is, closed_tag, closed_write, e
 use Rattle.worked_cases.proofs.Packets.{newer_tag, newer_tag_is, newer_write, tag_1, tag_1_is, write_1, write_1_is}
 use Rattle.worked_cases.proofs.Packets.{write_2, write_2_is}
 use Rattle.worked_cases.specs.Due.{AreDue}
-use Rattle.worked_cases.specs.Cases.{plan, established, sealed, accepted, fails, fails_key, refreshed, late_packet}
+use Rattle.worked_cases.specs.Cases.{plan, established, sealed, accepted_unit, fails, fails_key, refreshed, late_packet}
 use Rattle.worked_cases.specs.Gone.{AreGone}
 use Rattle.worked_cases.specs.Cases.{reply_lost, tail_missing, older_goes, receiver, sender}
 
 late_6 : due (plan 1 false) (sealed 3 1 1 ∷ refreshed ∷ sealed 2 0 2 ∷ sealed 1 0 1 ∷ established ∷ [])
-    (accepted 1 0 1).0 ≡ (accepted 1 0 1).1
+    (accepted_unit 1 0 1).0 ≡ (accepted_unit 1 0 1).1
 unfolding due sites key_due manager moments keys is_open failed_there base read_of reading walk_length walked_from
     choice
     choice_of keys_at has_live_out has_live_in stream_plan sent_in sealed_packets packet_of units open_unit posted_in
@@ -39,20 +39,23 @@ late_6 =
     true
     (ap comes write_1_is) refl (ap (bytes_eq tag_1) tag_1_is)
 
-late_7 : due (plan 1 false) (accepted 1 0 1 ∷ sealed 3 1 1 ∷ refreshed ∷ sealed 2 0 2 ∷ sealed 1 0 1 ∷ established ∷ [])
-    (accepted 3 1 1).0 ≡ (accepted 3 1 1).1
+late_7 : due (plan 1 false)
+    (accepted_unit 1 0 1 ∷ sealed 3 1 1 ∷ refreshed ∷ sealed 2 0 2 ∷ sealed 1 0 1 ∷ established ∷ [])
+    (accepted_unit 3 1 1).0 ≡ (accepted_unit 3 1 1).1
 unfolding due sites key_due manager moments keys is_open failed_there base read_of reading walk_length walked_from
     choice
     choice_of keys_at has_live_out has_live_in stream_plan sent_in sealed_packets packet_of units open_unit posted_in
     front_of total_in arrived read_head_of cut_of key_of before_tag is_verified meets_counts got_since held_in
     units_got units_since verifies
 late_7 =
-    ends (plan 1 false) (accepted 1 0 1 ∷ sealed 3 1 1 ∷ refreshed ∷ sealed 2 0 2 ∷ sealed 1 0 1 ∷ established ∷ []) _
+    ends (plan 1 false) (accepted_unit 1 0 1 ∷ sealed 3 1 1 ∷ refreshed ∷ sealed 2 0 2 ∷ sealed 1 0 1 ∷ established
+    ∷ []) _
     newer_write Pr 1 1 true
     (ap comes newer_3_is) refl (ap (bytes_eq newer_tag) newer_tag_is)
 
 late_8 : due (plan 1 false)
-    (accepted 3 1 1 ∷ accepted 1 0 1 ∷ sealed 3 1 1 ∷ refreshed ∷ sealed 2 0 2 ∷ sealed 1 0 1 ∷ established ∷ [])
+    (accepted_unit 3 1 1 ∷ accepted_unit 1 0 1 ∷ sealed 3 1 1 ∷ refreshed ∷ sealed 2 0 2 ∷ sealed 1 0 1 ∷ established
+    ∷ [])
     (fails_key (Pass 2)).0 ≡ (fails_key (Pass 2)).1
 unfolding due sites key_due manager moments keys is_open failed_there base read_of reading walk_length walked_from
     choice
@@ -60,7 +63,8 @@ unfolding due sites key_due manager moments keys is_open failed_there base read_
     front_of total_in arrived read_head_of cut_of key_of before_tag is_verified meets_counts got_since held_in
     units_got units_since verifies
 late_8 =
-    stops (plan 1 false) (accepted 3 1 1 ∷ accepted 1 0 1 ∷ sealed 3 1 1 ∷ refreshed ∷ sealed 2 0 2 ∷ sealed 1 0 1
+    stops (plan 1 false) (accepted_unit 3 1 1 ∷ accepted_unit 1 0 1 ∷ sealed 3 1 1 ∷ refreshed ∷ sealed 2 0 2
+    ∷ sealed 1 0 1
     ∷ established ∷ []) _ write_2 _
     (ap comes write_2_is) refl
 
@@ -78,8 +82,8 @@ unfolding due sites key_due manager moments keys is_open failed_there base read_
     front_of total_in arrived
 reply_lost_due = (refl, (refl, (refl, (refl, tt))))
 
-open_tail_5 : due (plan 1 false) (sealed 2 1 1 ∷ refreshed ∷ sealed 1 0 1 ∷ established ∷ []) (accepted 2 1 1).0
-    ≡ (accepted 2 1 1).1
+open_tail_5 : due (plan 1 false) (sealed 2 1 1 ∷ refreshed ∷ sealed 1 0 1 ∷ established ∷ []) (accepted_unit 2 1 1).0
+    ≡ (accepted_unit 2 1 1).1
 unfolding due sites key_due manager moments keys is_open failed_there base read_of reading walk_length walked_from
     choice
     choice_of keys_at has_live_out has_live_in stream_plan sent_in sealed_packets packet_of units open_unit posted_in
@@ -89,7 +93,7 @@ open_tail_5 =
     ends (plan 1 false) (sealed 2 1 1 ∷ refreshed ∷ sealed 1 0 1 ∷ established ∷ []) _ newer_write Pr 1 1 true
     (ap comes newer_2_is) refl (ap (bytes_eq newer_tag) newer_tag_is)
 
-pub open_tail_due : AreDue (plan 1 false) [] (tail_missing (accepted 2 1 1))
+pub open_tail_due : AreDue (plan 1 false) [] (tail_missing (accepted_unit 2 1 1))
 unfolding due sites key_due manager moments keys is_open failed_there base read_of reading walk_length walked_from
     choice
     choice_of keys_at has_live_out has_live_in stream_plan sent_in sealed_packets packet_of units open_unit posted_in

@@ -7,7 +7,7 @@ use Rattle.ide_prefix.specs.Units.{authenticated, encrypted}
 use Rattle.ide_prefix.specs.Reading.{cut_of}
 use Rattle.ide_types.specs.declared.sub.SubKind.TheVariants.{Pr}
 use Rattle.key_laws.specs.Keys.{is_open, keys}
-use Rattle.key_laws.specs.History.{History, manager, moments, base, failed as failed_there}
+use Rattle.key_laws.specs.History.{History, manager, moments, base, failed_there}
 use Rattle.link_events.specs.declared.event.Event.TheVariants.{Pass}
 use Rattle.link_verdicts.specs.declared.verdict.Verdict.{Verdict}
 use Rattle.link_history.specs.Plan.{stream_plan}
@@ -18,7 +18,7 @@ use Rattle.link_history.specs.Due.{Ending, before_tag}
 use Rattle.link_history.specs.Laws.{WasSealed, NotForged, NoForgery, last_tag}
 use Rattle.worked_cases.proofs.Ends.{comes, ending as ending_of}
 use Rattle.worked_cases.proofs.Packets.{write_1, write_1_is}
-use Rattle.worked_cases.specs.Cases.{plan, write, host, packet, established, sealed, accepted}
+use Rattle.worked_cases.specs.Cases.{plan, write, host, packet, established, sealed, accepted_unit}
 
 abbrev past : History
 past = sealed 1 0 1 ∷ established ∷ []
@@ -85,5 +85,5 @@ establish_not_forged : NotForged (plan 1 false) [] established.0
 unfolding arrived
 establish_not_forged a x is before verified = no_arrival (WasSealed (plan 1 false) [] a.port x) a is
 
-pub good_history : NoForgery (plan 1 false) (accepted 1 0 1 ∷ sealed 1 0 1 ∷ established ∷ [])
+pub good_history : NoForgery (plan 1 false) (accepted_unit 1 0 1 ∷ sealed 1 0 1 ∷ established ∷ [])
 good_history = (arrival_not_forged, (send_not_forged, (establish_not_forged, tt)))

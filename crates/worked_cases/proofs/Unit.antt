@@ -5,8 +5,8 @@ use Rattle.tlp_layout.specs.Reading.{read_of, read_head_of}
 use Rattle.ide_prefix.specs.Reading.{cut_of}
 use Rattle.association.specs.Choice.{choice_of}
 use Rattle.key_laws.specs.Keys.{is_open, keys}
-use Rattle.key_laws.specs.History.{manager, moments, base, failed as failed_there}
-use Rattle.key_laws.specs.Due.{due as key_due}
+use Rattle.key_laws.specs.History.{manager, moments, base, failed_there}
+use Rattle.key_laws.specs.Due.{key_due}
 use Rattle.interface_states.specs.Sites.{sites}
 use Rattle.link_history.specs.Plan.{stream_plan, key_of}
 use Rattle.link_history.specs.Units.{units, open_unit}
@@ -20,7 +20,8 @@ use Rattle.std.specs.Prelude.{bytes_eq}
 use Rattle.worked_cases.proofs.Ends.{comes, ends, stops}
 use Rattle.worked_cases.proofs.Packets.{first_read, first_read_is, reads_tag, reads_tag_is, second_read, second_read_is}
 use Rattle.worked_cases.specs.Due.{AreDue}
-use Rattle.worked_cases.specs.Cases.{plan, established, sealed_on, held, both_accepted, unfinished_write, unfinished}
+use Rattle.worked_cases.specs.Cases.{plan, established, sealed_on, held_packet, both_accepted, unfinished_write}
+use Rattle.worked_cases.specs.Cases.{unfinished}
 use Rattle.worked_cases.specs.Cases.{two_in_a_unit}
 
 two_2 : due (plan 2 false) (established ∷ []) (sealed_on 1 false).0 ≡ (sealed_on 1 false).1
@@ -37,7 +38,7 @@ unfolding due sites key_due manager moments keys is_open failed_there base read_
     front_of total_in arrived
 two_3 = refl
 
-two_4 : due (plan 2 false) (sealed_on 2 true ∷ sealed_on 1 false ∷ established ∷ []) held.0 ≡ held.1
+two_4 : due (plan 2 false) (sealed_on 2 true ∷ sealed_on 1 false ∷ established ∷ []) held_packet.0 ≡ held_packet.1
 unfolding due sites key_due manager moments keys is_open failed_there base read_of reading walk_length walked_from
     choice
     choice_of keys_at has_live_out has_live_in stream_plan sent_in sealed_packets packet_of units open_unit posted_in
@@ -47,7 +48,7 @@ two_4 =
     stops (plan 2 false) (sealed_on 2 true ∷ sealed_on 1 false ∷ established ∷ []) _ first_read _
     (ap comes first_read_is) refl
 
-two_5 : due (plan 2 false) (held ∷ sealed_on 2 true ∷ sealed_on 1 false ∷ established ∷ []) both_accepted.0
+two_5 : due (plan 2 false) (held_packet ∷ sealed_on 2 true ∷ sealed_on 1 false ∷ established ∷ []) both_accepted.0
     ≡ both_accepted.1
 unfolding due sites key_due manager moments keys is_open failed_there base read_of reading walk_length walked_from
     choice
@@ -55,10 +56,11 @@ unfolding due sites key_due manager moments keys is_open failed_there base read_
     front_of total_in arrived read_head_of cut_of key_of before_tag is_verified meets_counts got_since held_in
     units_got units_since verifies masked
 two_5 =
-    ends (plan 2 false) (held ∷ sealed_on 2 true ∷ sealed_on 1 false ∷ established ∷ []) _ second_read Npr 0 1 true
+    ends (plan 2 false) (held_packet ∷ sealed_on 2 true ∷ sealed_on 1 false ∷ established ∷ []) _ second_read Npr 0 1
+    true
     (ap comes second_read_is) refl (ap (bytes_eq reads_tag) reads_tag_is)
 
-two_6 : due (plan 2 false) (both_accepted ∷ held ∷ sealed_on 2 true ∷ sealed_on 1 false ∷ established ∷ [])
+two_6 : due (plan 2 false) (both_accepted ∷ held_packet ∷ sealed_on 2 true ∷ sealed_on 1 false ∷ established ∷ [])
     unfinished_write.0 ≡ unfinished_write.1
 unfolding due sites key_due manager moments keys is_open failed_there base read_of reading walk_length walked_from
     choice
@@ -67,7 +69,8 @@ unfolding due sites key_due manager moments keys is_open failed_there base read_
 two_6 = refl
 
 two_7 : due (plan 2 false)
-    (unfinished_write ∷ both_accepted ∷ held ∷ sealed_on 2 true ∷ sealed_on 1 false ∷ established ∷ []) unfinished.0
+    (unfinished_write ∷ both_accepted ∷ held_packet ∷ sealed_on 2 true ∷ sealed_on 1 false ∷ established ∷ [])
+    unfinished.0
     ≡ unfinished.1
 unfolding due sites key_due manager moments keys is_open failed_there base read_of reading walk_length walked_from
     choice

@@ -5,8 +5,8 @@ use Rattle.tlp_layout.specs.Reading.{read_of, read_head_of}
 use Rattle.ide_prefix.specs.Reading.{cut_of}
 use Rattle.association.specs.Choice.{choice_of}
 use Rattle.key_laws.specs.Keys.{is_open, keys}
-use Rattle.key_laws.specs.History.{manager, moments, base, failed as failed_there}
-use Rattle.key_laws.specs.Due.{due as key_due}
+use Rattle.key_laws.specs.History.{manager, moments, base, failed_there}
+use Rattle.key_laws.specs.Due.{key_due}
 use Rattle.link_events.specs.declared.event.Event.TheVariants.{Pass, Alter}
 use Rattle.interface_states.specs.Sites.{sites}
 use Rattle.link_history.specs.Plan.{stream_plan, key_of}
@@ -30,7 +30,7 @@ use Rattle.worked_cases.specs.Cases.{
   plan,
   established,
   sealed,
-  accepted,
+  accepted_unit,
   fails,
   fails_key,
   insecure,
@@ -39,7 +39,7 @@ use Rattle.worked_cases.specs.Cases.{
 use Rattle.worked_cases.specs.Cases.{fails_order, accepted_once, trusted_on_the_way, other_set_on_the_way, one_missing}
 use Rattle.worked_cases.specs.Cases.{read_ahead}
 
-accepted_once_3 : due (plan 1 false) (sealed 1 0 1 ∷ established ∷ []) (accepted 1 0 1).0 ≡ (accepted 1 0 1).1
+accepted_once_3 : due (plan 1 false) (sealed 1 0 1 ∷ established ∷ []) (accepted_unit 1 0 1).0 ≡ (accepted_unit 1 0 1).1
 unfolding due sites key_due manager moments keys is_open failed_there base read_of reading walk_length walked_from
     choice
     choice_of keys_at has_live_out has_live_in stream_plan sent_in sealed_packets packet_of units open_unit posted_in
@@ -49,7 +49,7 @@ accepted_once_3 =
     ends (plan 1 false) (sealed 1 0 1 ∷ established ∷ []) _ write_1 Pr 0 1 true
     (ap comes write_1_is) refl (ap (bytes_eq tag_1) tag_1_is)
 
-accepted_once_4 : due (plan 1 false) (accepted 1 0 1 ∷ sealed 1 0 1 ∷ established ∷ []) (fails (Pass 1)).0
+accepted_once_4 : due (plan 1 false) (accepted_unit 1 0 1 ∷ sealed 1 0 1 ∷ established ∷ []) (fails (Pass 1)).0
     ≡ (fails (Pass 1)).1
 unfolding due sites key_due manager moments keys is_open failed_there base read_of reading walk_length walked_from
     choice
@@ -57,10 +57,10 @@ unfolding due sites key_due manager moments keys is_open failed_there base read_
     front_of total_in arrived read_head_of cut_of key_of before_tag is_verified meets_counts got_since held_in
     units_got units_since verifies
 accepted_once_4 =
-    ends (plan 1 false) (accepted 1 0 1 ∷ sealed 1 0 1 ∷ established ∷ []) _ write_1 Pr 0 2 false
+    ends (plan 1 false) (accepted_unit 1 0 1 ∷ sealed 1 0 1 ∷ established ∷ []) _ write_1 Pr 0 2 false
     (ap comes write_1_is) refl (ap (bytes_eq tag_1) repeated_tag_is)
 
-accepted_once_5 : due (plan 1 false) (fails (Pass 1) ∷ accepted 1 0 1 ∷ sealed 1 0 1 ∷ established ∷ []) insecure.0
+accepted_once_5 : due (plan 1 false) (fails (Pass 1) ∷ accepted_unit 1 0 1 ∷ sealed 1 0 1 ∷ established ∷ []) insecure.0
     ≡ insecure.1
 unfolding due sites key_due manager moments keys is_open failed_there base read_of reading walk_length walked_from
     choice
@@ -68,7 +68,7 @@ unfolding due sites key_due manager moments keys is_open failed_there base read_
     front_of total_in arrived read_head_of cut_of key_of before_tag is_verified meets_counts got_since held_in
     units_got units_since verifies
 accepted_once_5 =
-    stops (plan 1 false) (fails (Pass 1) ∷ accepted 1 0 1 ∷ sealed 1 0 1 ∷ established ∷ []) _ write_1 _
+    stops (plan 1 false) (fails (Pass 1) ∷ accepted_unit 1 0 1 ∷ sealed 1 0 1 ∷ established ∷ []) _ write_1 _
     (ap comes write_1_is) refl
 
 pub accepted_once_due : AreDue (plan 1 false) [] accepted_once
@@ -114,8 +114,9 @@ unfolding due sites key_due manager moments keys is_open failed_there base read_
     front_of total_in arrived
 rekeyed_due = (refl, (refl, (rekeyed_3, tt)))
 
-one_missing_5 : due (plan 1 false) (sealed 3 0 3 ∷ sealed 2 0 2 ∷ sealed 1 0 1 ∷ established ∷ []) (accepted 1 0 1).0
-    ≡ (accepted 1 0 1).1
+one_missing_5 : due (plan 1 false) (sealed 3 0 3 ∷ sealed 2 0 2 ∷ sealed 1 0 1 ∷ established ∷ [])
+    (accepted_unit 1 0 1).0
+    ≡ (accepted_unit 1 0 1).1
 unfolding due sites key_due manager moments keys is_open failed_there base read_of reading walk_length walked_from
     choice
     choice_of keys_at has_live_out has_live_in stream_plan sent_in sealed_packets packet_of units open_unit posted_in
@@ -125,7 +126,7 @@ one_missing_5 =
     ends (plan 1 false) (sealed 3 0 3 ∷ sealed 2 0 2 ∷ sealed 1 0 1 ∷ established ∷ []) _ write_1 Pr 0 1 true
     (ap comes write_1_is) refl (ap (bytes_eq tag_1) tag_1_is)
 
-one_missing_6 : due (plan 1 false) (accepted 1 0 1 ∷ sealed 3 0 3 ∷ sealed 2 0 2 ∷ sealed 1 0 1 ∷ established ∷ [])
+one_missing_6 : due (plan 1 false) (accepted_unit 1 0 1 ∷ sealed 3 0 3 ∷ sealed 2 0 2 ∷ sealed 1 0 1 ∷ established ∷ [])
     (fails (Pass 3)).0 ≡ (fails (Pass 3)).1
 unfolding due sites key_due manager moments keys is_open failed_there base read_of reading walk_length walked_from
     choice
@@ -133,7 +134,8 @@ unfolding due sites key_due manager moments keys is_open failed_there base read_
     front_of total_in arrived read_head_of cut_of key_of before_tag is_verified meets_counts got_since held_in
     units_got units_since verifies
 one_missing_6 =
-    ends (plan 1 false) (accepted 1 0 1 ∷ sealed 3 0 3 ∷ sealed 2 0 2 ∷ sealed 1 0 1 ∷ established ∷ []) _ write_3 Pr 0
+    ends (plan 1 false) (accepted_unit 1 0 1 ∷ sealed 3 0 3 ∷ sealed 2 0 2 ∷ sealed 1 0 1 ∷ established ∷ []) _ write_3
+    Pr 0
     2 false
     (ap comes write_3_is) refl (ap (bytes_eq tag_3) missing_tag_is)
 

@@ -18,7 +18,7 @@ use Rattle.link_verdicts.specs.declared.verdict.UnitName.{UnitName}
 use Rattle.link_verdicts.specs.declared.verdict.Effect.TheVariants.{Delivered, Blocked}
 use Rattle.link_verdicts.specs.declared.verdict.BlockCause.TheVariants.{NotTrusted}
 use Rattle.key_laws.specs.History.{History}
-use Rattle.key_laws.specs.Places.{Place}
+use Rattle.key_laws.specs.Places.{KeyPlace}
 
 -- ---- what there is
 
@@ -59,10 +59,10 @@ abbrev pub device : PortName
 device = record { side = Device; link = 0 }
 
 -- where the device's port seals posted TLPs, and where the host's receives them
-abbrev pub sender : Place
+abbrev pub sender : KeyPlace
 sender = record { side = Device; link = 0; stream = 5; sends = true; sub = Pr }
 
-abbrev pub receiver : Place
+abbrev pub receiver : KeyPlace
 receiver = record { side = Host; link = 0; stream = 5; sends = false; sub = Pr }
 
 -- ---- pairs
@@ -92,8 +92,8 @@ established = (Establish 0 5 None, v.Established 0 5 0)
 abbrev pub refreshed : Event × Verdict
 refreshed = (Refresh 0 5 None, v.Refreshed 0 5 1)
 
-abbrev pub stopped : Event × Verdict
-stopped = (Stop 0 5 None, v.Stopped 0 5)
+abbrev pub stopped_stream : Event × Verdict
+stopped_stream = (Stop 0 5 None, v.Stopped 0 5)
 
 abbrev pub pool_is_empty : Event × Verdict
 pool_is_empty = (Establish 0 5 None, v.RefusedPoolEmpty 2)
@@ -107,8 +107,8 @@ abbrev pub sealed_on : ℕ → Bool → Event × Verdict
 sealed_on number m = (Send device read true false, v.Sealed (packet number Npr 0 1 m 0 ∷ []))
 
 -- the write of this number, which is blocked since it has no T
-abbrev pub accepted : ℕ → ℕ → ℕ → Event × Verdict
-accepted number draw unit = (
+abbrev pub accepted_unit : ℕ → ℕ → ℕ → Event × Verdict
+accepted_unit number draw unit = (
   Pass number,
   v.Accepted host (record {
     stream = 5;
@@ -122,8 +122,8 @@ accepted number draw unit = (
 abbrev pub reads : UnitName
 reads = record { stream = 5; sub = Npr; draw = 0; unit = 1 }
 
-abbrev pub held : Event × Verdict
-held = (Pass 1, v.Held host reads)
+abbrev pub held_packet : Event × Verdict
+held_packet = (Pass 1, v.Held host reads)
 
 abbrev pub both_accepted : Event × Verdict
 both_accepted = (Pass 2, v.Accepted host reads (Delivered ∷ Delivered ∷ []))
@@ -167,7 +167,7 @@ count_reached = (
 -- ---- cases
 
 abbrev pub accepted_once : List (Event × Verdict)
-accepted_once = established ∷ sealed 1 0 1 ∷ accepted 1 0 1 ∷ fails (Pass 1) ∷ insecure ∷ []
+accepted_once = established ∷ sealed 1 0 1 ∷ accepted_unit 1 0 1 ∷ fails (Pass 1) ∷ insecure ∷ []
 
 -- byte 1 of a packet has T, 20h, and K, 40h
 abbrev pub trusted_on_the_way : List (Event × Verdict)
@@ -178,18 +178,19 @@ other_set_on_the_way = established ∷ sealed 1 0 1 ∷ fails_key (Alter 1 1 0x4
 
 abbrev pub one_missing : List (Event × Verdict)
 one_missing =
-    established ∷ sealed 1 0 1 ∷ sealed 2 0 2 ∷ sealed 3 0 3 ∷ accepted 1 0 1 ∷ fails (Pass 3) ∷ []
+    established ∷ sealed 1 0 1 ∷ sealed 2 0 2 ∷ sealed 3 0 3 ∷ accepted_unit 1 0 1 ∷ fails (Pass 3) ∷ []
 
 abbrev pub read_ahead : List (Event × Verdict)
 read_ahead = established ∷ sealed 1 0 1 ∷ sealed_read ∷ fails_order ∷ []
 
 abbrev pub two_in_a_unit : List (Event × Verdict)
 two_in_a_unit =
-    established ∷ sealed_on 1 false ∷ sealed_on 2 true ∷ held ∷ both_accepted ∷ unfinished_write ∷ unfinished ∷ []
+    established ∷ sealed_on 1 false ∷ sealed_on 2 true ∷ held_packet ∷ both_accepted ∷ unfinished_write ∷ unfinished
+    ∷ []
 
 abbrev pub late_packet : List (Event × Verdict)
 late_packet =
-    established ∷ sealed 1 0 1 ∷ sealed 2 0 2 ∷ refreshed ∷ sealed 3 1 1 ∷ accepted 1 0 1 ∷ accepted 3 1 1
+    established ∷ sealed 1 0 1 ∷ sealed 2 0 2 ∷ refreshed ∷ sealed 3 1 1 ∷ accepted_unit 1 0 1 ∷ accepted_unit 3 1 1
     ∷ fails_key (Pass 2) ∷ []
 
 abbrev pub reply_lost : List (Event × Verdict)
@@ -203,12 +204,12 @@ tail_missing arrival = established ∷ sealed 1 0 1 ∷ refreshed ∷ sealed 2 1
 abbrev pub older_goes : List ((Event × Verdict) × Bool × Bool)
 older_goes =
     (established, false, false) ∷ (sealed 1 0 1, false, false) ∷ (refreshed, true, false) ∷ (sealed 2 1 1, true, false)
-    ∷ (accepted 2 1 1, true, true) ∷ (stopped, true, true) ∷ (pool_is_empty, true, true) ∷ []
+    ∷ (accepted_unit 2 1 1, true, true) ∷ (stopped_stream, true, true) ∷ (pool_is_empty, true, true) ∷ []
 
 -- so many writes of one unit each, the newest first
-abbrev pub writes : ℕ → History
-writes zero = established ∷ []
-writes (suc n) = sealed (suc n) 0 (suc n) ∷ writes n
+abbrev pub history_of_writes : ℕ → History
+history_of_writes zero = established ∷ []
+history_of_writes (suc n) = sealed (suc n) 0 (suc n) ∷ history_of_writes n
 
 abbrev pub count_full : List (Event × Verdict)
 count_full = count_reached ∷ sealed 259 0 257 ∷ []

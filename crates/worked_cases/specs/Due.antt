@@ -1,4 +1,4 @@
--- Events with their verdicts, in order, each of which is the one that is due.
+-- Events with their verdicts, in order. Each verdict is the one that is due.
 use Rattle.std.specs.Prelude.{◌≡◌, List, [], ◌∷◌}
 use Rattle.ide_plan.specs.declared.plan.Plan.{Plan}
 use Rattle.link_events.specs.declared.event.Event.{Event}

@@ -2,19 +2,19 @@
 use Rattle.std.specs.Prelude.{◌≡◌, ℕ, Bool, not, List, [], ◌∷◌}
 use Rattle.link_events.specs.declared.event.Event.{Event}
 use Rattle.link_verdicts.specs.declared.verdict.Verdict.{Verdict}
-use Rattle.key_laws.specs.Places.{Place}
+use Rattle.key_laws.specs.Places.{KeyPlace}
 use Rattle.key_laws.specs.Keys.{keys}
 use Rattle.key_laws.specs.History.{History, moments}
 use Rattle.key_laws.specs.Laws.{has_gone, is_kept_there}
 
 -- Whether the draw has gone from the place, of a history in which it was On there: if so it is kept there no more, and
 -- else it is.
-abbrev pub IsGone : Place → ℕ → History → Bool → Type 0
+abbrev pub IsGone : KeyPlace → ℕ → History → Bool → Type 0
 IsGone p j h gone =
     (has_gone p.sends (moments h p) j ≡ gone) × (is_kept_there (keys p.sends (moments h p)) j ≡ not gone)
 
 -- so it is after each pair of a list, at two places
-abbrev pub AreGone : Place → Place → ℕ → History → List ((Event × Verdict) × Bool × Bool) → Type 0
+abbrev pub AreGone : KeyPlace → KeyPlace → ℕ → History → List ((Event × Verdict) × Bool × Bool) → Type 0
 AreGone p q j h [] = Unit {0}
 AreGone p q j h ((pair, at_p, at_q) ∷ later) =
     IsGone p j (pair ∷ h) at_p × IsGone q j (pair ∷ h) at_q × AreGone p q j (pair ∷ h) later

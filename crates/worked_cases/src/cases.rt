@@ -5,7 +5,15 @@ ghost use Rattle.link_events.specs.declared.event.Event.TheVariants.{Pass};
 ghost use Rattle.link_history.specs.Laws.{NoForgery};
 ghost use Rattle.worked_cases.specs.Due.{AreDue};
 ghost use Rattle.worked_cases.specs.Gone.{AreGone};
-ghost use Rattle.worked_cases.specs.Cases.{plan, writes, established, sealed, accepted, fails, accepted_once};
+ghost use Rattle.worked_cases.specs.Cases.{
+  plan,
+  history_of_writes,
+  established,
+  sealed,
+  accepted_unit,
+  fails,
+  accepted_once,
+};
 ghost use Rattle.worked_cases.specs.Cases.{trusted_on_the_way, other_set_on_the_way, one_missing, read_ahead};
 ghost use Rattle.worked_cases.specs.Cases.{two_in_a_unit, late_packet, reply_lost, tail_missing, count_full};
 ghost use Rattle.worked_cases.specs.Cases.{older_goes, receiver, sender};
@@ -35,7 +43,7 @@ pub fn read_waits_for_its_write()
 /// After 255 posted writes a sync packet of each of the other two sub-streams goes before the next, and none before the
 /// one after that.
 pub fn sync_packets_go_first()
-    ensures { AreDue (plan 1 false) (writes 255) count_full }
+    ensures { AreDue (plan 1 false) (history_of_writes 255) count_full }
 {}
 
 /// Units of two packets: the first of two reads is held, and the second brings both. While a posted unit is unfinished
@@ -58,7 +66,7 @@ pub fn lost_reply_and_refresh_again()
 /// The last write under the older key is missing when the first one under the newer key arrives: on an open stream that
 /// one is accepted, on a closed stream it fails by its tag.
 pub fn closed_stream()
-    ensures open_is_accepted { AreDue (plan 1 false) [] (tail_missing (accepted 2 1 1)) }
+    ensures open_is_accepted { AreDue (plan 1 false) [] (tail_missing (accepted_unit 2 1 1)) }
     ensures closed_fails { AreDue (plan 1 true) [] (tail_missing (fails (Pass 2))) }
 {}
 
@@ -72,5 +80,5 @@ pub fn older_draw_stays_gone()
 /// A stream is established, a write is sealed, and it is accepted: no tag verified on a unit that its partner had not
 /// sealed.
 pub fn good_history_forges_nothing()
-    ensures { NoForgery (plan 1 false) (accepted 1 0 1 ∷ sealed 1 0 1 ∷ established ∷ []) }
+    ensures { NoForgery (plan 1 false) (accepted_unit 1 0 1 ∷ sealed 1 0 1 ∷ established ∷ []) }
 {}

@@ -1,6 +1,6 @@
 -- What stands beside the ports after bytes came to one of them. Each device followed its port, and the manager is as it
--- was; memory is what the writes that the unit brought left, by what the manager says of requesters, which is what the
--- machine says of them.
+-- was. Memory is what the writes of the unit left, by what the manager says of requesters, which is what the machine
+-- says of them.
 use Rattle.std.proofs.Common.{◌≡◌, ℕ, true, Some, ap, sym, ◌∙◌, subst}
 use Rattle.std.specs.Prelude.{length, slice_get}
 use Rattle.ide_plan.specs.declared.plan.Plan.{Plan}
@@ -11,8 +11,8 @@ use Rattle.trusted_memory.specs.{IsLeftBy, newest_first}
 use Rattle.interface_states.specs.Sites.{Site}
 use Rattle.interface_machine.specs.Machine.{Face, around_of, grant_of}
 use Rattle.link_ports.specs.Machine.{LinkState}
-use Rattle.link_ports.specs.Stands.{StandsFor}
-use Rattle.whole_machine.specs.Machine.{Whole, secure_in, streams_of, arrival_of, written_after, whole_after}
+use Rattle.link_ports.specs.Stands.{PortsStandFor}
+use Rattle.whole_machine.specs.Machine.{Whole, secure_in, whole_streams, arrival_of, written_after, whole_after}
 use Rattle.link_ends.specs.declared.ends.LinkEnds.{LinkEnds}
 use Rattle.link_ends.specs.Hosts.{InterfacesView}
 use Rattle.all_links.specs.declared.links.Links.{Links}
@@ -22,7 +22,8 @@ use Rattle.all_links.specs.Sides.{SidesArrive, AllFollow, arrival_at}
 use Rattle.all_ends.specs.Writes.{writes_by}
 use Rattle.world_states.specs.Whole.{IsBeside}
 use Rattle.world_states.proofs.Statuses.{secure_is}
-use Rattle.world_states.proofs.Rests.{is_of_ports, is_of_packets, of_ports, next_of_ports, none_of_ports, managed_of_packets}
+use Rattle.world_states.proofs.Rests.{is_of_ports, is_of_packets, of_ports, next_of_ports, none_of_ports}
+use Rattle.world_states.proofs.Rests.{managed_of_packets}
 use Rattle.world_states.proofs.Rests.{draw_of_packets}
 use Rattle.world_states.proofs.Follows.{IsLed, OnlyLeaves, led_follows, beside_led}
 use Rattle.world_states.proofs.Kept.{AreBoth, managed_kept, written_is}
@@ -31,13 +32,13 @@ use Rattle.world_states.proofs.Kept.{AreBoth, managed_kept, written_is}
 pub only_leaves : (plan : Plan) (w : Whole) (e : Event) (verdict : Verdict) (new : LinkState) (x : Site) (f : Face)
     → is_of_ports e verdict ≡ true → OnlyLeaves plan w e verdict new x f
 only_leaves plan w e verdict new x f is =
-    let a = around_of plan (streams_of plan w) w.faces.used x f in
+    let a = around_of plan (whole_streams plan w) w.faces.used x f in
     record {
       next = next_of_ports a _ x e verdict f.tdi is;
       none = none_of_ports a x e verdict f.tdi is;
     }
 
--- where all devices follow their ports, each is led by what the machine says of them
+-- if all devices follow their ports, each is led by what the machine says of them
 pub all_led : (plan : Plan) (old new : Links) (w : Whole) → AreBoth plan old new w → AllFollow old.ends new.ends
     → (link : ℕ) (l l' : LinkEnds) → slice_get old.ends link ≡ Some l → slice_get new.ends link ≡ Some l'
     → IsLed plan w.links (links_state plan new) link l l'
@@ -49,7 +50,7 @@ all_led plan old new w both follows link l l' at at' =
     (follows link l l' at at')
 
 left_by : (plan : Plan) (old new : Links) (w : Whole) (h : History) (e : Event) (verdict : Verdict)
-    → AreBoth plan old new w → StandsFor plan (links_state plan old) h
+    → AreBoth plan old new w → PortsStandFor plan (links_state plan old) h
     → grants_in old.keeper.interfaces ≡ grant_of plan w.faces → SidesArrive (arrival_at e) verdict old new
     → IsLeftBy new.trusted.contents (written_after plan w e verdict)
 left_by plan old new w h e verdict both stands grants sides =
@@ -64,7 +65,7 @@ left_by plan old new w h e verdict both stands grants sides =
     subst (IsLeftBy new.trusted.contents) (same ∙ sym (written_is plan w e verdict)) led
 
 pub arrives_beside : (plan : Plan) (old new : Links) (w : Whole) (h : History) (e : Event) (verdict : Verdict)
-    → is_of_packets e verdict ≡ true → AreBoth plan old new w → StandsFor plan (links_state plan old) h
+    → is_of_packets e verdict ≡ true → AreBoth plan old new w → PortsStandFor plan (links_state plan old) h
     → grants_in old.keeper.interfaces ≡ grant_of plan w.faces
     → new.trusted.contents.regions ≡ old.trusted.contents.regions → SidesArrive (arrival_at e) verdict old new
     → IsBeside plan new.ends new.keeper.interfaces new.trusted.contents
@@ -79,8 +80,8 @@ arrives_beside plan old new w h e verdict is both stands grants regions sides =
       interfaces = ap (λ (m : InterfacesView). length m.interfaces) sides.keeper;
       managed = λ i x interface f at there kept managed.
           managed_kept plan w e verdict old.keeper.interfaces new.keeper.interfaces i x interface f sides.keeper there
-          (draw_of_packets (streams_of plan w).op w.links.draws e verdict w.draw is)
-          (managed_of_packets (streams_of plan w).op w.links.draws x e verdict f.managed is) managed;
+          (draw_of_packets (whole_streams plan w).op w.links.draws e verdict w.draw is)
+          (managed_of_packets (whole_streams plan w).op w.links.draws x e verdict f.managed is) managed;
       regions = regions ∙ both.whole.beside.regions;
       written = left_by plan old new w h e verdict both stands grants sides;
     })

@@ -1,6 +1,6 @@
--- An operation of the manager on an interface changes that one alone, as the machine does: what the operation comes to,
--- exchange by exchange, is the machine's step (`InterfaceOperationsJoin`), with what the ports show of its stream. A
--- number that no interface has is asked of none.
+-- An operation of the manager on an interface changes that one alone, as the machine does: exchange by exchange it is
+-- the machine's step (`InterfaceOperationsJoin`), with what the ports show of its stream. If no interface has the
+-- number, none is asked.
 use Rattle.std.proofs.Common.{◌≡◌, ℕ, length, refl, ap, sym, ◌∙◌, ◌+◌, subst, Option, Some, ⊎_elim}
 use Rattle.std.specs.Prelude.{slice_get, slice_set}
 use Rattle.std.proofs.lemmas.Bool.{cases_lt}
@@ -17,15 +17,15 @@ use Rattle.tsm_host.specs.Streams.{status_or_idle}
 use Rattle.tdi_host.specs.declared.operation.InterfaceOp.{InterfaceOp}
 use Rattle.tdi_host.specs.declared.operation.InterfaceOp.TheVariants as op
 use Rattle.tdi_device.specs.Replies.{DeviceTdis}
-use Rattle.tdi_ends.specs.Keepers.{Ended, operated}
+use Rattle.tdi_ends.specs.Keepers.{Ended, interface_operated}
 use Rattle.ide_port.specs.{status_in}
 use Rattle.device_side.specs.Ends.{secure_at}
 use Rattle.link_ports.specs.Machine.{LinkState, Stepped, step_of, status_at}
 use Rattle.interface_joins.specs.Faces.{IsFace}
-use Rattle.interface_joins.specs.Joined.{IsJoined, InterfaceOperationsJoin}
+use Rattle.interface_joins.specs.Joined.{IsInterfaceJoined, InterfaceOperationsJoin}
 use Rattle.interface_joins.specs.Verdicts.{op_event}
 use Rattle.link_ends.specs.Hosts.{InterfacesView, operated_on}
-use Rattle.whole_machine.specs.Machine.{Whole, secure_in, streams_of, beside_of, whole_after}
+use Rattle.whole_machine.specs.Machine.{Whole, secure_in, whole_streams, beside_of, whole_after}
 use Rattle.all_links.specs.declared.links.Links.{Links}
 use Rattle.all_links.specs.Links.{links_state}
 use Rattle.all_links.specs.Sides.{SidesAsk}
@@ -48,8 +48,8 @@ module _ (plan : Plan) (old new : Links) (w : Whole) (verdict : Verdict) (both :
   -- the operation reads of the ports and of the draws what the machine has
   operated_is : (i : ℕ) (x : Site) (o : InterfaceOp) (loss : Option Loss)
       (p : IsPlaced plan old.ends old.keeper.interfaces w i x)
-      → operated i o ((streams_of plan w).host x.link x.plan.stream) (streams_of plan w).drawn
-      ((streams_of plan w).secure x.link x.plan.stream) loss old.keeper.interfaces p.link_ends.device.interfaces
+      → interface_operated i o ((whole_streams plan w).host x.link x.plan.stream) (whole_streams plan w).drawn
+      ((whole_streams plan w).secure x.link x.plan.stream) loss old.keeper.interfaces p.link_ends.device.interfaces
       p.interface
       ≡ operated_on i o loss old.keeper.keys.pool.draws old.keeper.interfaces p.link_ends p.interface
   operated_is i x o loss p =
@@ -63,19 +63,19 @@ module _ (plan : Plan) (old new : Links) (w : Whole) (verdict : Verdict) (both :
       p.ends_are)
       ∙ ap (secure_at p.link_ends.device.port) stream) in
       let drawn = ap (λ (st : LinkState). st.draws) both.whole.links in
-      λ n. operated i o (host n) (drawn n) (secure n) loss old.keeper.interfaces p.link_ends.device.interfaces
+      λ n. interface_operated i o (host n) (drawn n) (secure n) loss old.keeper.interfaces p.link_ends.device.interfaces
       p.interface
 
-  -- what the operation on the interface of this number came to
+  -- what the operation on the interface of this number gave
   joined_there : (i : ℕ) (x : Site) (o : InterfaceOp) (loss : Option Loss) → slice_get (sites plan) i ≡ Some x
       → (p : IsPlaced plan old.ends old.keeper.interfaces w i x)
-      → IsJoined plan (streams_of plan w) w.faces.used x p.face i p.place o loss old.keeper.interfaces
+      → IsInterfaceJoined plan (whole_streams plan w) w.faces.used x p.face i p.place o loss old.keeper.interfaces
       p.link_ends.device.interfaces
       (operated_on i o loss old.keeper.keys.pool.draws old.keeper.interfaces p.link_ends p.interface)
   joined_there i x o loss at p =
-      subst (λ (e : Ended). IsJoined plan (streams_of plan w) w.faces.used x p.face i p.place o loss
+      subst (λ (e : Ended). IsInterfaceJoined plan (whole_streams plan w) w.faces.used x p.face i p.place o loss
       old.keeper.interfaces p.link_ends.device.interfaces e) (operated_is i x o loss p)
-      (join plan (streams_of plan w) w.faces.used x p.face i p.place o loss old.keeper.interfaces
+      (join plan (whole_streams plan w) w.faces.used x p.face i p.place o loss old.keeper.interfaces
       p.link_ends.device.interfaces p.interface p.tdi
       (is_at plan old.ends old.keeper.interfaces old.trusted.contents w i x p both.whole.beside both.links.fits at))
 
@@ -104,11 +104,11 @@ module _ (plan : Plan) (old new : Links) (w : Whole) (verdict : Verdict) (both :
               interfaces = slice_set p.link_ends.device.interfaces.interfaces p.place j.tdi;
               nonces = p.link_ends.device.interfaces.nonces;
               used = p.link_ends.device.interfaces.used + one_if
-                  (accepts_lock (around_of plan (streams_of plan w) w.faces.used x p.face) x
+                  (accepts_lock (around_of plan (whole_streams plan w) w.faces.used x p.face) x
                   (event.Interface (op_event o i loss)) (same n) p.face.tdi);
             }));
         keeps = subst (λ (v : Verdict). IsFace (w.draw x.link x.plan.stream) x j.interface j.tdi
-            (face_after plan (streams_of plan w) (secure_in plan w.links) w.faces.used
+            (face_after plan (whole_streams plan w) (secure_in plan w.links) w.faces.used
             (event.Interface (op_event o i loss)) v x p.face)) same j.face;
       }
 

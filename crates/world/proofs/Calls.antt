@@ -1,7 +1,7 @@
 -- An event on one interface changes that one alone, at its device and at the manager (`one_beside`): no other site has
--- its number, no other interface its place, and only a lock that it accepts takes a nonce. What it binds an interface
--- to is the stream of the topology, and that is Secure (`asked_binds`). A write, a level reset and a firmware update
--- call the device's interface where the machine applies them, and the manager keeps what it kept.
+-- its number, no other interface its place, and only a lock that it accepts takes a nonce. It binds an interface to the
+-- stream of the topology alone, and that is Secure (`asked_binds`). A write, a level reset and a firmware update call
+-- the device's interface if the machine applies them, and the manager keeps what it kept.
 use Rattle.std.proofs.Common.{◌≡◌, ℕ, suc, zero, ◌+◌, ◌≤◌, ◌==◌, ◌&&◌, ◌||◌, Bool, true, false, List, [], ◌∷◌}
 use Rattle.std.proofs.Common.{length, refl, ap, sym, ◌∙◌, subst, arith, Option, Some, Result, Ok, Err, inl, inr}
 use Rattle.std.proofs.Common.{◌⊎◌, ⊎_elim}
@@ -30,21 +30,21 @@ use Rattle.tdi_state.specs.Machine.{Tdi, bound_stream, lock_flags, lock_answer, 
 use Rattle.tdi_state.specs.Machine.{after_start, after_failure, after_change, Call, LockInterface, StartInterface}
 use Rattle.tdi_state.specs.Machine.{StopInterface, WriteRegister, LevelReset, FirmwareUpdate, StreamLeft, LinkReset}
 use Rattle.tdi_state.specs.Machine.{tdi_after}
-use Rattle.interface_states.specs.Exchanges.{carries, is_applied}
+use Rattle.interface_states.specs.Exchanges.{carries, changes_device}
 use Rattle.interface_states.specs.Sites.{Site, sites}
 use Rattle.interface_states.specs.Views.{Managed, is_number, number_in, on_operation}
-use Rattle.interface_states.specs.Devices.{Around, called, lock_call, asked, accepts_lock, one_if}
+use Rattle.interface_states.specs.Devices.{Around, tdi_if_called, lock_call, tdi_asked, accepts_lock, one_if}
 use Rattle.interface_states.specs.Due.{Standing, asked_due}
 use Rattle.interface_machine.specs.Machine.{Face, Streams, around_of, face_after, gives_nonce}
-use Rattle.interface_machine.specs.Machine.{with_each, is_true, standing_of, asked_of, answer_to}
+use Rattle.interface_machine.specs.Machine.{with_each, is_true, standing_of, asked_due_of, answer_to}
 use Rattle.link_ports.specs.Machine.{LinkState, Stepped}
 unfoldable use Rattle.link_ports.specs.Machine.{step_of}
-use Rattle.whole_machine.specs.Machine.{Whole, secure_in, streams_of, beside_of, whole_after}
+use Rattle.whole_machine.specs.Machine.{Whole, secure_in, whole_streams, beside_of, whole_after}
 use Rattle.whole_machine.specs.Machine.{memory_shown}
 use Rattle.interface_joins.specs.Faces.{IsFace, IsManaged}
 use Rattle.tdi_device.specs.Replies.{called_at}
 use Rattle.tdi_host.specs.Views.{HostTdi}
-use Rattle.trusted_memory.specs.{Contents, IsLeftBy}
+use Rattle.trusted_memory.specs.{MemoryContents, IsLeftBy}
 use Rattle.link_ends.specs.declared.ends.LinkEnds.{LinkEnds}
 use Rattle.link_ends.specs.Hosts.{InterfacesView}
 use Rattle.link_ends.proofs.Lists.{set_read}
@@ -128,7 +128,7 @@ only_one g (y ∷ xs) (k ∷ fs) (suc i) x f at there none =
 
 -- ---- what an interface is bound to
 
--- P of the stream that it is bound to, where it is
+-- P of the stream that it is bound to, if it is bound
 abbrev pub Binds : (ℕ → Type 0) → TdiState → Type 0
 Binds P state = IfSome (bound_stream state) P
 
@@ -183,12 +183,12 @@ call_binds P tdi StreamLeft binds is = failure_binds P tdi.state
 call_binds P tdi LinkReset binds is = tt
 
 pub called_binds : (P : ℕ → Type 0) (b : Bool) (c : Call) (tdi : Tdi) → MayBind P c → Binds P tdi.state
-    → Binds P (called b c tdi).state
+    → Binds P (tdi_if_called b c tdi).state
 called_binds P true c tdi binds is = call_binds P tdi c binds is
 called_binds P false c tdi binds is = is
 
 pub asked_binds : (P : ℕ → Type 0) (a : Around) (x : Site) (e : InterfaceEvent) (w : Verdict) (tdi : Tdi)
-    → (a.secure ≡ true → P x.plan.stream) → Binds P tdi.state → Binds P (asked a x e w tdi).state
+    → (a.secure ≡ true → P x.plan.stream) → Binds P tdi.state → Binds P (tdi_asked a x e w tdi).state
 asked_binds P a x (ie.Lock i loss) w tdi binds is = called_binds P (carries w 3) (lock_call a x) tdi binds is
 asked_binds P a x (ie.Report i loss) w tdi binds is = is
 asked_binds P a x (ie.Start i loss) w tdi binds is = called_binds P (carries w 1) (StartInterface a.nonce) tdi tt is
@@ -196,9 +196,9 @@ asked_binds P a x (ie.Halt i loss) w tdi binds is = called_binds P (carries w 1)
 asked_binds P a x (ie.State i loss) w tdi binds is = is
 asked_binds P a x (ie.View i) w tdi binds is = is
 asked_binds P a x (ie.Write i register value) w tdi binds is =
-    called_binds P (is_applied w) (WriteRegister register value) tdi tt is
-asked_binds P a x (ie.Flr i) w tdi binds is = called_binds P (is_applied w) LevelReset tdi tt is
-asked_binds P a x (ie.Firmware i) w tdi binds is = called_binds P (is_applied w) FirmwareUpdate tdi tt is
+    called_binds P (changes_device w) (WriteRegister register value) tdi tt is
+asked_binds P a x (ie.Flr i) w tdi binds is = called_binds P (changes_device w) LevelReset tdi tt is
+asked_binds P a x (ie.Firmware i) w tdi binds is = called_binds P (changes_device w) FirmwareUpdate tdi tt is
 asked_binds P a x (ie.Memory at len) w tdi binds is = is
 
 if_binds : (P : ℕ → Type 0) (b : Bool) (new old : Tdi) → Binds P new.state → Binds P old.state
@@ -221,7 +221,7 @@ call_plan tdi FirmwareUpdate = refl
 call_plan tdi StreamLeft = refl
 call_plan tdi LinkReset = refl
 
-pub called_plan : (b : Bool) (c : Call) (tdi : Tdi) → (called b c tdi).plan ≡ tdi.plan
+pub called_plan : (b : Bool) (c : Call) (tdi : Tdi) → (tdi_if_called b c tdi).plan ≡ tdi.plan
 called_plan true c tdi = call_plan tdi c
 called_plan false c tdi = refl
 
@@ -308,17 +308,18 @@ pub record IsOne (plan : Plan) (ends : List LinkEnds) (m : InterfacesView) (w : 
   pub portion : m'.portion ≡ m.portion
   pub manager : m'.interfaces ≡ slice_set m.interfaces i interface
   pub ends_are : new ≡ slice_set ends x.link (one_link p.link_ends p.place tdi
-      (accepts_lock (around_of plan (streams_of plan w) w.faces.used x p.face) x (event.Interface e) verdict
+      (accepts_lock (around_of plan (whole_streams plan w) w.faces.used x p.face) x (event.Interface e) verdict
       p.face.tdi))
   pub keeps : IsFace (w.draw x.link x.plan.stream) x interface tdi
-      (face_after plan (streams_of plan w) (secure_in plan w.links) w.faces.used (event.Interface e) verdict x p.face)
+      (face_after plan (whole_streams plan w) (secure_in plan w.links) w.faces.used (event.Interface e) verdict x
+      p.face)
 
-module _ (plan : Plan) (ends : List LinkEnds) (m : InterfacesView) (memory : Contents) (w : Whole)
+module _ (plan : Plan) (ends : List LinkEnds) (m : InterfacesView) (memory : MemoryContents) (w : Whole)
     (before : IsBeside plan ends m memory w) (i : ℕ) (x : Site) (at : slice_get (sites plan) i ≡ Some x)
     (p : IsPlaced plan ends m w i x) (e : InterfaceEvent) (verdict : Verdict) (number : number_in e ≡ Some i)
     (new : List LinkEnds) (m' : InterfacesView) (one : IsOne plan ends m w i x p e verdict new m') where
   abbrev streams_now : Streams
-  streams_now = streams_of plan w
+  streams_now = whole_streams plan w
 
   abbrev whole_now : Whole
   whole_now = whole_after plan w (event.Interface e) verdict w.links
@@ -489,10 +490,10 @@ interface_step plan w st e verdict is = (ap (λ (s : Stepped). s.0) is, ap (λ (
 -- the verdict of an event on an interface that is there
 pub answer_there : (plan : Plan) (w : Whole) (e : InterfaceEvent) (i : ℕ) (x : Site) (f : Face) → number_in e ≡ Some i
     → slice_get (sites plan) i ≡ Some x → slice_get w.faces.list i ≡ Some f
-    → (beside_of plan w).answer e ≡ asked_due plan x (standing_of plan (streams_of plan w) w.faces.used x f) e
+    → (beside_of plan w).answer e ≡ asked_due plan x (standing_of plan (whole_streams plan w) w.faces.used x f) e
 answer_there plan w e i x f number at there =
-    ap (λ (o : Option ℕ). answer_to plan (streams_of plan w) w.faces e o (memory_shown plan w.written e)) number
-    ∙ ap (asked_of plan (streams_of plan w) w.faces.used e) (face_found plan w.faces.list i x f at there)
+    ap (λ (o : Option ℕ). answer_to plan (whole_streams plan w) w.faces e o (memory_shown plan w.written e)) number
+    ∙ ap (asked_due_of plan (whole_streams plan w) w.faces.used e) (face_found plan w.faces.list i x f at there)
 
 -- an event on a number that no interface has
 pub nowhere_beside : (plan : Plan) (old new : Links) (w : Whole) (e : InterfaceEvent) (verdict : Verdict) (i : ℕ)
@@ -523,29 +524,29 @@ there_beside plan old new w e verdict i x at before number contents one is =
     subst (λ (st : LinkState). IsBeside plan new.ends new.keeper.interfaces new.trusted.contents
     (whole_after plan w (event.Interface e) verdict st))
     (sym (interface_step plan w (links_state plan new) e verdict is).1)
-    (subst (λ (c : Contents). IsBeside plan new.ends new.keeper.interfaces c
+    (subst (λ (c : MemoryContents). IsBeside plan new.ends new.keeper.interfaces c
     (whole_after plan w (event.Interface e) verdict w.links)) (sym contents)
     (one_beside plan old.ends old.keeper.interfaces old.trusted.contents w before i x at (before.placed i x at) e
     verdict number new.ends new.keeper.interfaces one))
 
 -- ---- calls
 
--- what a call of an interface means: where the machine's verdict applies it, the device's test does
+-- what a call of an interface means: if the machine's verdict applies it, the device's test does
 record IsCall (number : ℕ) (test : Tdi → Bool) (call : Call) (e : InterfaceEvent) : Type 0 where
   number_is : number_in e ≡ Some number
   asks : (a : Around) (x : Site) (verdict : Verdict) (tdi : Tdi)
-      → asked a x e verdict tdi ≡ called (is_applied verdict) call tdi
+      → tdi_asked a x e verdict tdi ≡ tdi_if_called (changes_device verdict) call tdi
   manages : (drawn : ℕ) (verdict : Verdict) (g : Managed) → on_operation drawn e verdict g ≡ g
   locks : (a : Around) (x : Site) (verdict : Verdict) (tdi : Tdi)
       → accepts_lock a x (event.Interface e) verdict tdi ≡ false
   applies : (plan : Plan) (x : Site) (s : Standing) (tdi : Tdi) → tdi.plan ≡ x.plan
-      → is_applied (asked_due plan x s e) ≡ test tdi
+      → changes_device (asked_due plan x s e) ≡ test tdi
   binds : (stream : ℕ) → MayBind (λ s. s ≡ stream) call
 
 called_one : (b gives : Bool) (l : LinkEnds) (place : ℕ) (tdi : Tdi) (call : Call) → gives ≡ false
     → slice_get l.device.interfaces.interfaces place ≡ Some tdi
     → (if b then record l { device = record l.device { interfaces = called_at l.device.interfaces place tdi call } }
-    else l) ≡ one_link l place (called b call tdi) gives
+    else l) ≡ one_link l place (tdi_if_called b call tdi) gives
 called_one true gives l place tdi call none is =
     let used = sym (none_more l.device.interfaces.used gives none) in
     λ n. record l {
@@ -567,7 +568,7 @@ called_one false gives l place tdi call none is =
     }
 
 write_applied : (b : Bool) (n code : ℕ)
-    → is_applied (if b then v.Interface (iv.Written n code) else v.Nothing) ≡ b
+    → changes_device (if b then v.Interface (iv.Written n code) else v.Nothing) ≡ b
 write_applied true n code = refl
 write_applied false n code = refl
 
@@ -591,12 +592,12 @@ module _ (plan : Plan) (old new : Links) (w : Whole) (verdict : Verdict) (both :
       let here : is_number (number_in e) x.number ≡ true =
       ap (λ (o : Option ℕ). is_number o x.number) c.number_is
       ∙ eq-eqb number x.number (sym (site_numbered plan number x at)) in
-      let around = around_of plan (streams_of plan w) w.faces.used x p.face in
-      let applied : is_applied verdict ≡ test p.tdi =
-      ap is_applied due ∙ c.applies plan x
-      (standing_of plan (streams_of plan w) w.faces.used x p.face) p.tdi p.keeps.layout in
+      let around = around_of plan (whole_streams plan w) w.faces.used x p.face in
+      let applied : changes_device verdict ≡ test p.tdi =
+      ap changes_device due ∙ c.applies plan x
+      (standing_of plan (whole_streams plan w) w.faces.used x p.face) p.tdi p.keeps.layout in
       record {
-        tdi = called (test p.tdi) call p.tdi;
+        tdi = tdi_if_called (test p.tdi) call p.tdi;
         interface = p.interface;
         portion = ap (λ (m : InterfacesView). m.portion) sides.keeper;
         manager = ap (λ (m : InterfacesView). m.interfaces) sides.keeper
@@ -612,7 +613,8 @@ module _ (plan : Plan) (old new : Links) (w : Whole) (verdict : Verdict) (both :
               (sym (if_kept (is_number (number_in e) x.number) _ p.face.managed
               (c.manages w.links.draws verdict p.face.managed)))
               p.keeps.managed;
-          tdi_is = (λ n. called (sym applied n) call (p.keeps.tdi_is n)) ∙ (sym (c.asks around x verdict p.face.tdi)
+          tdi_is = (λ n. tdi_if_called (sym applied n) call (p.keeps.tdi_is n)) ∙
+              (sym (c.asks around x verdict p.face.tdi)
               ∙ sym (if_taken (is_number (number_in e) x.number) _ p.face.tdi here));
           layout = called_plan (test p.tdi) call p.tdi ∙ p.keeps.layout;
           bound = called_binds (λ s. s ≡ x.plan.stream) (test p.tdi) call p.tdi (c.binds x.plan.stream) p.keeps.bound;

@@ -1,7 +1,6 @@
 -- The world before the first event. Its ports, operations and bounds are those of the machine's first state, by
--- induction
--- on the plan's links; interface number `i` stands at the place of the same link where the topology lists it, since the
--- lists of sites, of the manager and of the devices are made link by link in one order.
+-- induction on the plan's links. Interface number `i` stands at the place of the same link at which the topology lists
+-- it, since the lists of sites, of the manager and of the devices are made link by link in one order.
 use Rattle.std.proofs.Common.{◌≡◌, ℕ, suc, zero, ◌+◌, ◌-◌, ◌<◌, ◌≤◌, List, [], ◌∷◌, ◌++◌, length}
 use Rattle.std.proofs.Common.{map}
 use Rattle.std.proofs.Common.{refl, ap, sym, ◌∙◌, subst, arith, inl, inr, Some, Option, length-append}
@@ -27,7 +26,7 @@ use Rattle.interface_machine.specs.Machine.{new_face}
 use Rattle.whole_machine.specs.Machine.{new_whole}
 use Rattle.tdi_state.specs.Machine.{Tdi, new_tdi}
 use Rattle.tdi_host.specs.Views.{new_interface}
-use Rattle.tdi_host.specs.Managers.{new_interfaces, interfaces_from, new_manager as new_host}
+use Rattle.tdi_host.specs.Managers.{new_interfaces, interfaces_from, new_interface_manager as new_host}
 use Rattle.interface_joins.specs.Faces.{IsFace}
 use Rattle.trusted_memory.specs.{IsLeftBy, new_contents, byte_at, TrustedMemory}
 use Rattle.trusted_memory.proofs.Seen.{new_is_seen, byte_at-new}
@@ -48,11 +47,12 @@ use Rattle.all_ends.specs.AllEnds.{ends_from}
 use Rattle.all_ends.specs.Places.{located}
 use Rattle.all_links.specs.Links.{IsFirst, links_state}
 use Rattle.all_ends.specs.Requester.{requester_of}
-use Rattle.all_ends.specs.States.{ports_in, ops_in, ops_of, behind, name_of, names_of, names_from, state_of, IsBounded}
+use Rattle.all_ends.specs.States.{ports_in, ops_in, ops_of, views_after, name_of, names_of, names_from, state_of}
+use Rattle.all_ends.specs.States.{IsBounded}
 use Rattle.all_ends.specs.States.{IsLink, AreLinks}
 use Rattle.all_links.specs.declared.links.Links.{Links}
 use Rattle.world_states.specs.Whole.{IsPlaced, IsDevice, IsBeside}
-use Rattle.world_states.specs.Worlds.{Stands, IsNew, world_of, IsWorld}
+use Rattle.world_states.specs.Worlds.{Stands, IsNewWorld, world_of, IsWorld}
 
 abbrev streams_in : List LinkPlan → List (List StreamPlan)
 streams_in ls = map (λ (l : LinkPlan). l.streams) ls
@@ -67,7 +67,7 @@ ports_first limit from (l ∷ ls) =
 
 one_first : (link : ℕ) (ss : List StreamPlan) (rest : List StreamView)
     → (ops_of ss (new_streams link ss ++ rest) ≡ map (λ (s : StreamPlan). Idle) ss)
-    × (behind ss (new_streams link ss ++ rest) ≡ rest)
+    × (views_after ss (new_streams link ss ++ rest) ≡ rest)
 one_first link [] rest = (refl, refl)
 one_first link (s ∷ ss) rest = let more = one_first link ss rest in (ap (λ (os : List Op). Idle ∷ os) more.0, more.1)
 
@@ -433,7 +433,7 @@ first_stands plan s begins is = record {
   stands = begins plan;
 }
 
-pub first_is : (plan : Plan) (s : Links) → WholeBegins → IsFirst plan s → IsNew plan (world_of plan s)
+pub first_is : (plan : Plan) (s : Links) → WholeBegins → IsFirst plan s → IsNewWorld plan (world_of plan s)
 first_is plan s begins is =
     record { plan_is = refl; steps_are = is.steps; stands = first_stands plan s begins is }
 

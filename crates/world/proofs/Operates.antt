@@ -1,7 +1,7 @@
 -- An operation on a stream: interfaces follow the device's port, and the manager of interfaces is told what the machine
--- reads off the verdict. An establish gives the stream its draw where one was made, which is where it began; a refresh
--- does so where it came to its end; a stop breaks views where it began, as its verdict always tells how far it came. A
--- stream that is not there is not operated on.
+-- reads off the verdict. An establish gives the stream its draw if one was made, that is, if it began; a refresh does
+-- so if it ended; a stop breaks views if it began, as its verdict always tells how far it came. A stream that is not
+-- there is not operated on.
 use Rattle.std.proofs.Common.{◌≡◌, ◌⊎◌, inl, inr, ⊎_elim, ℕ, ◌==◌, ◌&&◌, Bool, true, false, length}
 use Rattle.std.proofs.Common.{Option, Some, None, refl, ap, sym, ◌∙◌, subst, arith}
 use Rattle.std.specs.Prelude.{slice_get, not, is_some, nat_lt, nat_le, option_map, if◌then◌else◌}
@@ -26,12 +26,13 @@ use Rattle.interface_machine.specs.Machine.{around_of}
 use Rattle.tsm_host.specs.Managers.{ManagerView, Named, named, op_named}
 use Rattle.tdi_host.specs.Views.{HostTdi, broken, left_by_stop, keyed_by}
 use Rattle.tdi_host.specs.Managers.{all_interfaces}
-use Rattle.trusted_memory.specs.{Contents, IsLeftBy}
+use Rattle.trusted_memory.specs.{MemoryContents, IsLeftBy}
 use Rattle.interface_joins.specs.Faces.{IsManaged}
 use Rattle.link_ports.specs.Machine.{Beside, LinkState, Stepped, work_done, draws_after, ports_of}
 use Rattle.link_ports.specs.Machine.{establish_found, refresh_found, stop_found}
 unfoldable use Rattle.link_ports.specs.Machine.{find_op, step_of}
-use Rattle.whole_machine.specs.Machine.{Whole, secure_in, streams_of, op_or_idle, draw_after, written_after, beside_of}
+use Rattle.whole_machine.specs.Machine.{Whole, secure_in, whole_streams, op_or_idle, draw_after, written_after}
+use Rattle.whole_machine.specs.Machine.{beside_of}
 use Rattle.whole_machine.specs.Machine.{whole_after, arrival_of}
 use Rattle.link_ends.specs.Hosts.{InterfacesView, keyed_if, stopped_if}
 use Rattle.all_links.specs.declared.links.Links.{Links}
@@ -191,7 +192,7 @@ draws_done : (plan : Plan) (st : LinkState) (link stream : ℕ) (w : Work) (r : 
 draws_done plan st link stream w None = refl
 draws_done plan st link stream w (Some r) = refl
 
--- a draw was made where an establish began
+-- a draw was made if an establish began
 drew_by : (q : Op) (next : ℕ) (b : Bool)
     → not ((if b then draws_after next (work_of op.Establish q next) else next) == next)
     ≡ ((work_of op.Establish q next).begins && b)
@@ -259,8 +260,8 @@ module _ (plan : Plan) (old new : Links) (w : Whole) (verdict : Verdict) (both :
   operated_beside : (e : Event) (f : HostTdi → HostTdi) → is_of_ports e verdict ≡ true
       → arrival_of plan w.links e ≡ None → IsTold old.keeper.interfaces new.keeper.interfaces f
       → ((x : Site) (h : HostTdi) (g : Managed) → IsManaged (w.draw x.link x.plan.stream) x h g
-      → IsManaged (draw_after (streams_of plan w).op w.links.draws e verdict w.draw x.link x.plan.stream) x (f h)
-      (managed_after (streams_of plan w).op w.links.draws x e verdict g))
+      → IsManaged (draw_after (whole_streams plan w).op w.links.draws e verdict w.draw x.link x.plan.stream) x (f h)
+      (managed_after (whole_streams plan w).op w.links.draws x e verdict g))
       → IsBeside plan new.ends new.keeper.interfaces new.trusted.contents
       (whole_after plan w e verdict (links_state plan new))
   operated_beside e f ports none told managed =
@@ -273,8 +274,8 @@ module _ (plan : Plan) (old new : Links) (w : Whole) (verdict : Verdict) (both :
             (λ s. sym (secure_is plan new.ends new.keeper.keys new.packets.packets k s l' both.links_after now))
             (sides.devices k l l' was now);
         only = λ i x f at there. record {
-          next = next_of_ports (around_of plan (streams_of plan w) w.faces.used x f) _ x e verdict f.tdi ports;
-          none = none_of_ports (around_of plan (streams_of plan w) w.faces.used x f) x e verdict f.tdi ports;
+          next = next_of_ports (around_of plan (whole_streams plan w) w.faces.used x f) _ x e verdict f.tdi ports;
+          none = none_of_ports (around_of plan (whole_streams plan w) w.faces.used x f) x e verdict f.tdi ports;
         };
         portion = told.portion;
         interfaces = told.many;
@@ -283,8 +284,8 @@ module _ (plan : Plan) (old new : Links) (w : Whole) (verdict : Verdict) (both :
           interface_is = told.each i h is;
           managed = managed x h g.managed kept;
         };
-        regions = ap (λ (c : Contents). c.regions) sides.contents ∙ both.whole.beside.regions;
-        written = subst (λ (c : Contents). IsLeftBy c (written_after plan w e verdict)) (sym sides.contents)
+        regions = ap (λ (c : MemoryContents). c.regions) sides.contents ∙ both.whole.beside.regions;
+        written = subst (λ (c : MemoryContents). IsLeftBy c (written_after plan w e verdict)) (sym sides.contents)
             (subst (IsLeftBy old.trusted.contents) (sym (written_kept plan w e verdict none))
             both.whole.beside.written);
       })
@@ -296,7 +297,7 @@ module _ (plan : Plan) (old new : Links) (w : Whole) (verdict : Verdict) (both :
   -- the stream has the next draw, or not
   establish_told : (b : Bool) → SidesOperate op.Establish link stream verdict old new
       → new.keeper.interfaces ≡ keyed_if b link stream w.links.draws old.keeper.interfaces
-      → begins_keyed ((streams_of plan w).op link stream) w.links.draws verdict ≡ b
+      → begins_keyed ((whole_streams plan w).op link stream) w.links.draws verdict ≡ b
       → IsBeside plan new.ends new.keeper.interfaces new.trusted.contents
       (whole_after plan w (event.Establish link stream loss) verdict (links_state plan new))
   establish_told b sides told begins =
@@ -308,7 +309,7 @@ module _ (plan : Plan) (old new : Links) (w : Whole) (verdict : Verdict) (both :
       let bound = is_bound_there link stream (w.draw x.link x.plan.stream) x h g is in
       subst (λ (c : Bool). IsManaged
       (if (link == x.link) && (stream == x.plan.stream)
-      && begins_keyed ((streams_of plan w).op link stream) w.links.draws verdict
+      && begins_keyed ((whole_streams plan w).op link stream) w.links.draws verdict
       then w.links.draws else w.draw x.link x.plan.stream) x
       (if b then (if c then record h { draw = w.links.draws } else h) else h) g) (sym bound)
       (subst (λ (c : Bool). IsManaged
@@ -328,7 +329,7 @@ module _ (plan : Plan) (old new : Links) (w : Whole) (verdict : Verdict) (both :
       let nothing = establish_nothing plan (beside_of plan w) w.links (links_state plan new) link stream loss verdict
       (found_nowhere plan old new w verdict both op.Establish link stream sides none) is in
       establish_told false sides (sides.unnamed none)
-      (ap (begins_keyed ((streams_of plan w).op link stream) w.links.draws) nothing ∙ and_never _))
+      (ap (begins_keyed ((whole_streams plan w).op link stream) w.links.draws) nothing ∙ and_never _))
       (λ n.
       let found = found_here plan old new w verdict both op.Establish link stream sides n in
       let done = establish_done plan (beside_of plan w) w.links (links_state plan new) link stream loss n.it.stream.op
@@ -339,7 +340,7 @@ module _ (plan : Plan) (old new : Links) (w : Whole) (verdict : Verdict) (both :
       ∙ sym (drew_is plan w.links (links_state plan new) link stream n.it.stream.op verdict done)))
       (name_cases old.keeper.keys.manager (length old.ends) link stream)
 
-  -- the stream has the draw of the refresh that came to its end
+  -- the stream has the draw of the refresh that ended
   refresh_told : (q : Op) (before after : ℕ) (u : Verdict) → verdict ≡ u
       → SidesOperate op.Refresh link stream verdict old new
       → new.keeper.interfaces ≡ told_by op.Refresh link stream q before after u old.keeper.interfaces
@@ -352,7 +353,7 @@ module _ (plan : Plan) (old new : Links) (w : Whole) (verdict : Verdict) (both :
       (told_if true (keyed_by link stream j) old.keeper.interfaces))
       (λ x h g is.
       let bound = is_bound_there link stream (w.draw x.link x.plan.stream) x h g is in
-      subst (λ (u : Verdict). IsManaged (draw_after (streams_of plan w).op w.links.draws
+      subst (λ (u : Verdict). IsManaged (draw_after (whole_streams plan w).op w.links.draws
       (event.Refresh link stream loss) u w.draw x.link x.plan.stream) x (keyed_by link stream j h) g) (sym same)
       (subst (λ (c : Bool). IsManaged
       (if (link == x.link) && (stream == x.plan.stream) then j else w.draw x.link x.plan.stream) x
@@ -363,7 +364,7 @@ module _ (plan : Plan) (old new : Links) (w : Whole) (verdict : Verdict) (both :
       (λ h. if false then keyed_by link stream 0 h else h) refl refl
       (told_same old.keeper.interfaces _ new.keeper.interfaces _ told
       (told_if false (keyed_by link stream 0) old.keeper.interfaces))
-      (λ x h g is. subst (λ (t : Verdict). IsManaged (draw_after (streams_of plan w).op w.links.draws
+      (λ x h g is. subst (λ (t : Verdict). IsManaged (draw_after (whole_streams plan w).op w.links.draws
       (event.Refresh link stream loss) t w.draw x.link x.plan.stream) x h g) (sym same) is)
 
   pub refresh_beside : SidesOperate op.Refresh link stream verdict old new
@@ -383,7 +384,7 @@ module _ (plan : Plan) (old new : Links) (w : Whole) (verdict : Verdict) (both :
   -- a stop began, or not
   stop_told : (b : Bool) → SidesOperate op.Stop link stream verdict old new
       → new.keeper.interfaces ≡ stopped_if b link stream old.keeper.interfaces
-      → stop_begins ((streams_of plan w).op link stream) w.links.draws verdict ≡ b
+      → stop_begins ((whole_streams plan w).op link stream) w.links.draws verdict ≡ b
       → IsBeside plan new.ends new.keeper.interfaces new.trusted.contents
       (whole_after plan w (event.Stop link stream loss) verdict (links_state plan new))
   stop_told b sides told begins =
@@ -396,7 +397,7 @@ module _ (plan : Plan) (old new : Links) (w : Whole) (verdict : Verdict) (both :
       subst (λ (c : Bool). IsManaged (w.draw x.link x.plan.stream) x
       (if b then (if c then record h { seen = broken h.seen } else h) else h)
       (if (link == x.link) && (stream == x.plan.stream)
-      && stop_begins ((streams_of plan w).op link stream) w.links.draws verdict
+      && stop_begins ((whole_streams plan w).op link stream) w.links.draws verdict
       then record g { view = view_broken g.view } else g)) (sym bound)
       (subst (λ (c : Bool). IsManaged (w.draw x.link x.plan.stream) x
       (if b then (if (link == x.link) && (stream == x.plan.stream) then record h { seen = broken h.seen } else h)
@@ -415,7 +416,7 @@ module _ (plan : Plan) (old new : Links) (w : Whole) (verdict : Verdict) (both :
       let nothing = stop_nothing plan (beside_of plan w) w.links (links_state plan new) link stream loss verdict
       (found_nowhere plan old new w verdict both op.Stop link stream sides none) is in
       stop_told false sides (sides.unnamed none)
-      (ap (stop_begins ((streams_of plan w).op link stream) w.links.draws) nothing ∙ and_never _))
+      (ap (stop_begins ((whole_streams plan w).op link stream) w.links.draws) nothing ∙ and_never _))
       (λ n.
       let found = found_here plan old new w verdict both op.Stop link stream sides n in
       let q = n.it.stream.op in

@@ -17,18 +17,18 @@ use Rattle.link_verdicts.specs.declared.verdict.Verdict.TheVariants as v
 use Rattle.tdi_state.specs.Machine.{Tdi, LinkReset, tdi_after}
 use Rattle.interface_states.specs.Sites.{Site, sites}
 use Rattle.interface_states.specs.Views.{Managed, view_broken}
-use Rattle.interface_states.specs.Devices.{called}
+use Rattle.interface_states.specs.Devices.{tdi_if_called}
 use Rattle.interface_machine.specs.Machine.{Face, face_after}
 use Rattle.tdi_host.specs.Views.{HostTdi, Seen, IsUnlocked, IsLocked, IsRunning, IsDoubt, IsBroken, nonce_of, broken}
 use Rattle.tdi_host.specs.Views.{left_by_reset}
-use Rattle.trusted_memory.specs.{Contents, IsLeftBy}
+use Rattle.trusted_memory.specs.{MemoryContents, IsLeftBy}
 use Rattle.interface_joins.specs.Faces.{SeenAs, IsManaged}
 use Rattle.link_ports.specs.Machine.{Beside, LinkState, Stepped, reset_state}
 unfoldable use Rattle.link_ports.specs.Machine.{step_of}
 use Rattle.link_ends.specs.declared.ends.LinkEnds.{LinkEnds}
 use Rattle.link_ends.specs.Ends.{reset_ends}
 use Rattle.link_ends.specs.Hosts.{InterfacesView}
-use Rattle.whole_machine.specs.Machine.{Whole, secure_in, streams_of, beside_of, whole_after}
+use Rattle.whole_machine.specs.Machine.{Whole, secure_in, whole_streams, beside_of, whole_after}
 use Rattle.all_links.specs.declared.links.Links.{Links}
 use Rattle.all_links.specs.Links.{links_state}
 use Rattle.all_ends.specs.Places.{located}
@@ -99,13 +99,13 @@ module _ (plan : Plan) (old new : Links) (w : Whole) (both : AreBoth plan old ne
   whole_now = whole_after plan w (event.Reset link) (v.Reset link) (links_state plan new)
 
   abbrev face_of : Site → Face → Face
-  face_of x f = face_after plan (streams_of plan w) (secure_in plan (links_state plan new)) w.faces.used
+  face_of x f = face_after plan (whole_streams plan w) (secure_in plan (links_state plan new)) w.faces.used
       (event.Reset link) (v.Reset link) x f
 
   module _ (there : link < length old.ends) (l : LinkEnds) (is : slice_get old.ends link ≡ Some l)
       (ends : new.ends ≡ slice_set old.ends link (reset_ends l)) where
     used_now : (k : ℕ) → whole_now.faces.used k ≡ w.faces.used k
-    used_now k = used_kept plan (streams_of plan w) (secure_in plan (links_state plan new)) (event.Reset link)
+    used_now k = used_kept plan (whole_streams plan w) (secure_in plan (links_state plan new)) (event.Reset link)
         (v.Reset link) w.faces (λ i x f at kept. refl) k
 
     device_now : (k : ℕ) (y : LinkEnds) → slice_get (slice_set old.ends link (reset_ends l)) k ≡ Some y
@@ -129,9 +129,10 @@ module _ (plan : Plan) (old new : Links) (w : Whole) (both : AreBoth plan old ne
     record IsReset (x : Site) (place : ℕ) (tdi : Tdi) : Type 0 where
       link_ends : LinkEnds
       ends_are : slice_get new.ends x.link ≡ Some link_ends
-      tdi_is : slice_get link_ends.device.interfaces.interfaces place ≡ Some (called (link == x.link) LinkReset tdi)
+      tdi_is : slice_get link_ends.device.interfaces.interfaces place
+          ≡ Some (tdi_if_called (link == x.link) LinkReset tdi)
       secure : Binds (λ stream. secure_in plan (links_state plan new) x.link stream ≡ true)
-          (called (link == x.link) LinkReset tdi).state
+          (tdi_if_called (link == x.link) LinkReset tdi).state
 
     reset_here : (i : ℕ) (x : Site) (p : IsPlaced plan old.ends old.keeper.interfaces w i x) → (link == x.link) ≡ true
         → IsReset x p.place p.tdi
@@ -147,9 +148,10 @@ module _ (plan : Plan) (old new : Links) (w : Whole) (both : AreBoth plan old ne
               ∙ (set_there old.ends link l (reset_ends l) is ∙ ap (λ (y : LinkEnds). Some (reset_ends y)) link_is));
           tdi_is = slice_get-map (λ (t : Tdi). tdi_after t LinkReset) p.link_ends.device.interfaces.interfaces p.place
               ∙ (ap (option_map (λ (t : Tdi). tdi_after t LinkReset)) p.tdi_is
-              ∙ ap (λ (b : Bool). Some (called b LinkReset p.tdi)) again);
+              ∙ ap (λ (b : Bool). Some (tdi_if_called b LinkReset p.tdi)) again);
           secure = subst (λ (b : Bool). Binds
-              (λ stream. secure_in plan (links_state plan new) x.link stream ≡ true) (called b LinkReset p.tdi).state)
+              (λ stream. secure_in plan (links_state plan new) x.link stream ≡ true)
+              (tdi_if_called b LinkReset p.tdi).state)
               again tt;
         }
 
@@ -170,9 +172,10 @@ module _ (plan : Plan) (old new : Links) (w : Whole) (both : AreBoth plan old ne
         record {
           link_ends = p.link_ends;
           ends_are = ends_are;
-          tdi_is = p.tdi_is ∙ ap (λ (b : Bool). Some (called b LinkReset p.tdi)) again;
+          tdi_is = p.tdi_is ∙ ap (λ (b : Bool). Some (tdi_if_called b LinkReset p.tdi)) again;
           secure = subst (λ (b : Bool). Binds
-              (λ stream. secure_in plan (links_state plan new) x.link stream ≡ true) (called b LinkReset p.tdi).state)
+              (λ stream. secure_in plan (links_state plan new) x.link stream ≡ true)
+              (tdi_if_called b LinkReset p.tdi).state)
               again (subst (λ (f : ℕ → Bool). Binds (λ stream. f stream ≡ true) p.tdi.state)
               (λ n stream. same stream n) p.secure);
         }
@@ -196,7 +199,7 @@ module _ (plan : Plan) (old new : Links) (w : Whole) (both : AreBoth plan old ne
           located_is = ap (λ (es : List LinkEnds). located 0 i es) ends
               ∙ (located_set old.ends link i l (reset_ends l) is
               (length-map l.device.interfaces.interfaces (λ (t : Tdi). tdi_after t LinkReset)) ∙ p.located_is);
-          tdi = called (link == x.link) LinkReset p.tdi;
+          tdi = tdi_if_called (link == x.link) LinkReset p.tdi;
           tdi_is = r.tdi_is;
           interface = left_by_reset link p.interface;
           interface_is = ap (λ (hs : List HostTdi). slice_get hs i) interfaces_are
@@ -213,7 +216,7 @@ module _ (plan : Plan) (old new : Links) (w : Whole) (both : AreBoth plan old ne
                 (sym (same_link p.interface.link x.link link p.keeps.managed.laid_out.link))
                 (broken_managed (link == x.link) (w.draw x.link x.plan.stream) x p.interface p.face.managed
                 p.keeps.managed);
-            tdi_is = ap (called (link == x.link) LinkReset) p.keeps.tdi_is;
+            tdi_is = ap (tdi_if_called (link == x.link) LinkReset) p.keeps.tdi_is;
             layout = called_plan (link == x.link) LinkReset p.tdi ∙ p.keeps.layout;
             bound = called_binds (λ s. s ≡ x.plan.stream) (link == x.link) LinkReset p.tdi tt p.keeps.bound;
           };
@@ -228,8 +231,8 @@ module _ (plan : Plan) (old new : Links) (w : Whole) (both : AreBoth plan old ne
       faced = each_many face_of (sites plan) w.faces.list (sym both.whole.beside.faced);
       devices = λ k y at. device_now k y (ap (λ (es : List LinkEnds). slice_get es k) (sym ends) ∙ at);
       placed = placed_now;
-      regions = ap (λ (c : Contents). c.regions) sides.contents ∙ both.whole.beside.regions;
-      written = subst (λ (c : Contents). IsLeftBy c w.written) (sym sides.contents) both.whole.beside.written;
+      regions = ap (λ (c : MemoryContents). c.regions) sides.contents ∙ both.whole.beside.regions;
+      written = subst (λ (c : MemoryContents). IsLeftBy c w.written) (sym sides.contents) both.whole.beside.written;
     }
 
   reset_there : (verdict : Verdict) → link < length old.ends

@@ -9,7 +9,7 @@ use Rattle.link_events.specs.declared.event.InterfaceEvent.TheVariants as ie
 use Rattle.link_verdicts.specs.declared.verdict.Verdict.{Verdict}
 use Rattle.key_laws.specs.History.{History}
 use Rattle.link_ports.specs.Machine.{Stepped, step_of}
-use Rattle.link_ports.specs.Stands.{StandsFor}
+use Rattle.link_ports.specs.Stands.{PortsStandFor}
 use Rattle.whole_machine.specs.Machine.{Whole, beside_of, whole_after}
 use Rattle.interface_joins.specs.Joined.{InterfaceOperationsJoin}
 use Rattle.tdi_host.specs.declared.operation.InterfaceOp.TheVariants as op
@@ -29,7 +29,7 @@ use Rattle.world.proofs.Operates.{establish_beside, refresh_beside, stop_beside}
 pub record Turn (plan : Plan) (old new : Links) (w : Whole) (e : Event) (verdict : Verdict) : Type 0 where
   pub both : AreBoth plan old new w
   pub history : History
-  pub stands : StandsFor plan (links_state plan old) history
+  pub stands : PortsStandFor plan (links_state plan old) history
   pub regions : new.trusted.contents.regions ≡ old.trusted.contents.regions
   pub step : ◌≡◌ {A = Stepped} (verdict, links_state plan new) (step_of plan (beside_of plan w) w.links e)
 

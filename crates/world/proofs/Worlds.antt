@@ -1,17 +1,16 @@
--- One step of the world. What the links say beside the ports is what the whole machine says, so that the step of the
--- links
--- is the machine's, and its verdict and its state those of the machine, which stands for the history with the event.
--- For
--- want of memory all is as before, and is carried over.
+-- One step of the world. What the links say beside the ports is what the whole machine says. So the step of the links
+-- is the machine's, and its verdict and its state are those of the machine, which stands for the history with the
+-- event. For want of memory all is as before, and is carried over.
 use Rattle.std.proofs.Common.{◌≡◌, ◌∷◌, refl, ap, sym, ◌∙◌, subst, Result, Ok, Err}
 use Rattle.std.specs.Prelude.{IfOk, OnErr}
 use Rattle.ide_types.specs.declared.memory.Memory.{Memory}
 use Rattle.ide_plan.specs.declared.plan.Plan.{Plan}
 use Rattle.link_events.specs.declared.event.Event.{Event}
+use Rattle.link_events.specs.declared.event.InterfaceEvent.{InterfaceEvent}
 use Rattle.link_verdicts.specs.declared.verdict.Verdict.{Verdict}
 use Rattle.key_laws.specs.History.{History}
 use Rattle.link_ports.specs.Machine.{LinkState, Stepped, step_of}
-use Rattle.link_ports.specs.Stands.{StandsFor as PortsStandFor}
+use Rattle.link_ports.specs.Stands.{PortsStandFor}
 use Rattle.port_operations.specs.Points.{PointsStand}
 use Rattle.whole_machine.specs.Machine.{Whole, beside_of, whole_after, whole_step}
 use Rattle.whole_machine.specs.Stands.{StandsFor, WholeSteps}
@@ -19,19 +18,16 @@ use Rattle.interface_joins.specs.Joined.{InterfaceOperationsJoin}
 use Rattle.link_ends.specs.declared.host.HostKeeper.{HostKeeper}
 use Rattle.all_links.specs.declared.links.Links.{Links}
 use Rattle.all_ends.specs.States.{AreLinks, state_of}
-use Rattle.all_links.specs.Links.{links_state, Standing, Ends, EndsWith, EndsOr, Stays}
+use Rattle.all_links.specs.Links.{links_state, StandsForSome, Ends, EndsWith, EndsOr, Stays}
 use Rattle.all_links.specs.Besides.{beside_in}
 use Rattle.all_links.specs.Sides.{Sides}
 use Rattle.all_ends.proofs.Finds.{links_same, bounded_same}
 use Rattle.world_states.specs.Worlds.{WorldView, Stands, HasStood, IsStep, world_of, IsWorld}
-use Rattle.world_states.proofs.Besides.{beside_is}
+use Rattle.world_states.proofs.Besides.{answers_are, beside_is}
 use Rattle.world.proofs.Turns.{Turn, beside_after}
 
-abbrev pub event_step : Links → Event → Plan → LinkState → Stepped
-event_step old e plan st = step_of plan (beside_in old) st e
-
 -- the links stand for the history that the world stands for
-pub standing : (plan : Plan) (s : Links) → IsWorld plan s → Standing s
+pub standing : (plan : Plan) (s : Links) → IsWorld plan s → StandsForSome s
 standing plan s is = record {
   plan = plan;
   history = is.history;
@@ -46,16 +42,20 @@ pub record Given : Type 0 where
   pub join : InterfaceOperationsJoin
 
 module _ (plan : Plan) (old new : Links) (e : Event) (verdict : Verdict) (given : Given)
-    (links : AreLinks plan old.ends old.keeper.keys) (ended : EndsWith verdict old new (λ p st. event_step old e p st))
+    (links : AreLinks plan old.ends old.keeper.keys) (ended : EndsWith verdict old new e)
     (sides : Sides e verdict old new) (h : History) (s : Stands (world_of plan old) h) where
   before : PortsStandFor plan (links_state plan old) h
   before = subst (λ (st : LinkState). PortsStandFor plan st h) s.is.links s.stands.links
 
-  ends : Ends plan new verdict (event_step old e plan (links_state plan old))
-  ends = ended.ends plan h links before
+  abbrev answer : InterfaceEvent → Verdict
+  answer = (beside_of plan s.whole).answer
 
-  same : event_step old e plan (links_state plan old) ≡ step_of plan (beside_of plan s.whole) s.whole.links e
-  same = λ i. step_of plan (beside_is plan old s.whole given.join links s.is i) (sym s.is.links i) e
+  ends : Ends plan new verdict (step_of plan (beside_in old answer) (links_state plan old) e)
+  ends = ended.ends answer (λ f on. answers_are plan old s.whole given.join links s.is f) plan h links before
+
+  same : step_of plan (beside_in old answer) (links_state plan old) e
+      ≡ step_of plan (beside_of plan s.whole) s.whole.links e
+  same = λ i. step_of plan (beside_is plan old s.whole links s.is i) (sym s.is.links i) e
 
   stepped : (verdict, links_state plan new) ≡ step_of plan (beside_of plan s.whole) s.whole.links e
   stepped = (λ i. (ends.verdict_is i, ends.state_is i)) ∙ same
@@ -103,8 +103,8 @@ stays_same plan old new x = (λ i. record {
 })
 
 module _ (plan : Plan) (old new : Links) (e : Event) (given : Given) (w : IsWorld plan old) where
-  pub world_after : (r : Result Verdict Memory) → EndsOr r old new (λ p st. event_step old e p st)
-      → IfOk r (λ v. Sides e v old new) → IsWorld plan new
+  pub world_after : (r : Result Verdict Memory) → EndsOr r old new e → IfOk r (λ v. Sides e v old new)
+      → IsWorld plan new
   world_after (Ok verdict) x sides =
       let stood = stood_after plan old new e verdict given w.links x sides w.history w.stands in
       record {
@@ -121,7 +121,7 @@ module _ (plan : Plan) (old new : Links) (e : Event) (given : Given) (w : IsWorl
   }
 
   pub step_after : (before : WorldView) → world_of plan old ≡ before → (r : Result Verdict Memory)
-      → EndsOr r old new (λ p st. event_step old e p st) → IfOk r (λ v. Sides e v old new)
+      → EndsOr r old new e → IfOk r (λ v. Sides e v old new)
       → IfOk r (λ verdict. IsStep before e verdict (world_of plan new))
   step_after before is (Ok verdict) x sides =
       subst (λ (b : WorldView). IsStep b e verdict (world_of plan new)) is (record {
@@ -132,6 +132,6 @@ module _ (plan : Plan) (old new : Links) (e : Event) (given : Given) (w : IsWorl
   step_after before is (Err m) x sides = tt
 
   pub memory_after : (before : WorldView) → world_of plan old ≡ before → (r : Result Verdict Memory)
-      → EndsOr r old new (λ p st. event_step old e p st) → OnErr r (world_of plan new ≡ before)
+      → EndsOr r old new e → OnErr r (world_of plan new ≡ before)
   memory_after before is (Ok verdict) x = tt
   memory_after before is (Err m) x = stays_same plan old new x ∙ is

@@ -1,5 +1,5 @@
 //! The world of a run: all links of a topology with their devices' interfaces, both managers and trusted memory, one
-//! event after another; each verdict is the one that is due after the events before it (PCI Express Base 6.0 section
+//! event after another. Each verdict is the one that is due after the events before it (PCI Express Base 6.0 section
 //! 6.33 and chapter 11, in this profile).
 #![tactic(auto)]
 

@@ -16,7 +16,7 @@ use std::marker::Model;
 use whole_machine::{whole_begins, whole_steps};
 
 /// All links of a topology, with their devices' interfaces, the keys, the packets that were sealed, what the managers
-/// know, and trusted memory.
+/// know, and trusted memory (PCI Express Base 6.0 section 6.33 and chapter 11, in this profile).
 #[derive(Drop)]
 pub struct World {
     alloc: Global,
@@ -35,20 +35,20 @@ impl Model for World {
 }
 
 impl World {
-    ghost use Rattle.world_states.specs.Worlds.{IsNew, IsStep};
+    ghost use Rattle.world_states.specs.Worlds.{IsNewWorld, IsStep};
 
     /// The world before the first event: no stream of the plan has keys, no interface is locked, and trusted memory is
     /// 0.
     pub fn make(alloc: Global, plan: Plan) -> Result<World, Memory>
         requires { FitsPlan plan }
-        ensures { IfOk result (λ w. IsNew plan w) }
+        ensures { IfOk result (λ w. IsNewWorld plan w) }
     {
         let links = Links::make(alloc, &plan)?;
         whole_begins();
         Ok(World { alloc, plan, links })
     }
 
-    /// How many events came to a verdict.
+    /// How many events got a verdict.
     pub fn calls(&self) -> u64
         ensures { result ≡ self.now.steps }
     {

@@ -1,12 +1,12 @@
 -- What all links say beside their ports is what the whole machine says. T and grants are those of the one site of a
--- link with a requester, as requesters of a link differ (`t_is`, `grant_is`); effects read the same regions and grants;
--- and an event on an interface is answered as the machine answers it, an operation by what it carries out (`asked_is`).
+-- link with a requester, as requesters of a link differ (`t_is`, `grant_is`). Effects read the same regions and grants.
+-- An event on an interface has the machine's answer, an operation by what it carries out (`verdict_is`).
 use Rattle.std.proofs.Common.{◌≡◌, ℕ, ◌<◌, ◌≤◌, ◌==◌, ◌&&◌, Bool, true, false, List, length, refl, sym, ap, ◌∙◌}
 use Rattle.std.proofs.Common.{arith, Option, Some, None, subst, ⊎_elim, ◌⊎◌, ◌+◌}
 use Rattle.std.proofs.lemmas.Bool.{cases_lt, cases_Bool, and_parts, eqb-true, eq-eqb, ne_eqb, and_from, and_left}
 use Rattle.std.proofs.lemmas.Bool.{and_right}
 use Rattle.std.proofs.lemmas.Option.{none-some, same_Some, slice_get_within}
-use Rattle.std.specs.Option.{option_and_then, option_map_or, unwrap_or}
+use Rattle.std.specs.Option.{option_and_then, option_map_or}
 use Rattle.std.specs.Prelude.{slice_get, is_some, map, if◌then◌else◌, Result, Ok, Err, IfSome, IsSome}
 use Rattle.ide_types.specs.declared.port.PortName.{PortName}
 use Rattle.ide_types.specs.declared.port.Side.{Side}
@@ -23,7 +23,6 @@ use Rattle.interface_words.specs.declared.verdict.InterfaceVerdict.TheVariants a
 use Rattle.interface_words.specs.declared.view.View.{View}
 use Rattle.interface_words.specs.RegisterNames.{has_register}
 use Rattle.link_events.specs.declared.event.Event.{Event}
-use Rattle.link_events.specs.declared.event.Event.TheVariants as event
 use Rattle.link_events.specs.declared.event.InterfaceEvent.{InterfaceEvent}
 use Rattle.link_events.specs.declared.event.InterfaceEvent.TheVariants as ie
 use Rattle.link_events.specs.declared.event.Loss.{Loss}
@@ -36,21 +35,22 @@ use Rattle.key_laws.specs.Places.{sent_direction}
 use Rattle.tdi_state.specs.declared.states.TdiState.{TdiState}
 use Rattle.tdi_state.specs.declared.states.TdiState.TheVariants.{ConfigUnlocked, ConfigLocked, Run, Error}
 use Rattle.tdi_state.specs.Machine.{Tdi, WriteRegister, LevelReset, FirmwareUpdate, bound_stream}
-use Rattle.tdi_device.specs.Replies.{is_owner, runs_on, sets_t}
+use Rattle.tdi_device.specs.Replies.{is_owner, runs_on, tdis_set_t}
 use Rattle.tdi_host.specs.declared.operation.InterfaceOp.{InterfaceOp}
 use Rattle.tdi_host.specs.declared.operation.InterfaceOp.TheVariants as op
 use Rattle.tdi_host.specs.Managers.{granted, granted_at}
 use Rattle.tdi_host.specs.Views.{HostTdi, Seen, IsUnlocked, IsLocked, IsRunning, IsDoubt, IsBroken, is_granted}
-use Rattle.tdi_host.specs.Views.{is_running, grant_of as host_grant, grant_by, floor_of, view_of}
-use Rattle.tdi_ends.specs.Keepers.{operated}
-use Rattle.trusted_memory.specs.{Contents, Write, IsLeftBy, byte_at, bytes_from, in_one_region}
+use Rattle.tdi_host.specs.Views.{is_running, interface_grant as host_grant, grant_by, floor_of, view_of}
+use Rattle.tdi_ends.specs.Keepers.{interface_operated}
+use Rattle.trusted_memory.specs.{MemoryContents, Write, IsLeftBy, byte_at, bytes_from, in_one_region}
 unfoldable use Rattle.trusted_memory.specs.{byte_after}
 use Rattle.interface_states.specs.Cause.{owner_of}
 use Rattle.interface_states.specs.Devices.{is_run}
 use Rattle.interface_states.specs.Due.{asked_due, code_after, write_due}
 use Rattle.interface_states.specs.Sites.{Site, sites}
 use Rattle.interface_states.specs.Views.{Managed, bound_if}
-use Rattle.interface_machine.specs.Machine.{Face, find_face, standing_of, asked_of, answer_of, with_requester}
+use Rattle.interface_machine.specs.Machine.{Face, find_face, standing_of, asked_due_of, interface_answer}
+use Rattle.interface_machine.specs.Machine.{with_requester}
 use Rattle.interface_machine.specs.Machine.{grant_of, t_of}
 use Rattle.interface_joins.specs.Faces.{SeenAs}
 use Rattle.interface_joins.specs.Joined.{InterfaceOperationsJoin}
@@ -63,13 +63,13 @@ use Rattle.link_ports.specs.Machine.{LinkPacket, LinkState, status_at}
 use Rattle.link_ends.specs.declared.ends.LinkEnds.{LinkEnds}
 use Rattle.link_ends.specs.Hosts.{InterfacesView, operated_on}
 use Rattle.link_ends.specs.Keepers.{KeeperView}
-use Rattle.whole_machine.specs.Machine.{Whole, beside_of, memory_shown, secure_in, streams_of, t_by}
+use Rattle.whole_machine.specs.Machine.{Whole, beside_of, memory_shown, secure_in, whole_streams, t_by}
 use Rattle.all_links.specs.declared.links.Links.{Links}
 use Rattle.all_ends.specs.AllEnds.{grants_in}
-use Rattle.all_links.specs.Besides.{t_in, beside_in, verdict_asked, AskIsAnswered, IsAnswered}
-use Rattle.all_links.specs.Interfaces.{interface_named, answer_in, asked_in, ended_in, ended_at, ended_on}
+use Rattle.all_links.specs.Besides.{t_in, answer_of_links, beside_in, IsAnswered}
+use Rattle.all_links.specs.Interfaces.{interface_named, answer_in, ended_in, ended_at, ended_on}
 use Rattle.all_ends.specs.Places.{code_behind}
-use Rattle.all_links.specs.Interfaces.{written_as, flr_as, firmware_as, viewed_as, read_as, tdi_at, seen_at}
+use Rattle.all_links.specs.Interfaces.{written_as, flr_as, firmware_as, viewed_as, read_as, tdi_of_ends, seen_at}
 use Rattle.all_links.specs.Interfaces.{device_interfaces, verdict_in}
 use Rattle.all_ends.specs.States.{AreLinks, state_of}
 use Rattle.all_ends.specs.Verdicts.{head_effect, packet_effect}
@@ -154,7 +154,7 @@ shown_is : (b : Bool) (bytes : List ℕ) → read_as b bytes ≡ shown_if b byte
 shown_is true bytes = refl
 shown_is false bytes = refl
 
-memory_is : (plan : Plan) (memory : Contents) (written : List Write) (at len : ℕ) → memory.regions ≡ plan.memory
+memory_is : (plan : Plan) (memory : MemoryContents) (written : List Write) (at len : ℕ) → memory.regions ≡ plan.memory
     → IsLeftBy memory written
     → read_as (in_one_region memory.regions at len) (bytes_from (byte_at memory) at len)
     ≡ memory_shown plan written (ie.Memory at len)
@@ -162,7 +162,7 @@ memory_is plan memory written at len regions left =
     shown_is (in_one_region memory.regions at len) (bytes_from (byte_at memory) at len)
     ∙ (λ j. shown_if (in_one_region (regions j) at len) (bytes_from (λ a. left a j) at len))
 
-module _ (plan : Plan) (ends : List LinkEnds) (m : InterfacesView) (memory : Contents) (w : Whole)
+module _ (plan : Plan) (ends : List LinkEnds) (m : InterfacesView) (memory : MemoryContents) (w : Whole)
     (beside : IsBeside plan ends m memory w) (fits : FitsPlan plan) (many : length ends ≡ length plan.links) where
   -- ---- T
 
@@ -214,7 +214,7 @@ module _ (plan : Plan) (ends : List LinkEnds) (m : InterfacesView) (memory : Con
 
   t_found : (link requester stream : ℕ) (l : LinkEnds) → slice_get ends link ≡ Some l
       → IsSomeSite (is_requester link requester) (sites plan)
-      → sets_t l.device.interfaces requester stream ≡ t_of plan w.faces link stream (Some requester)
+      → tdis_set_t l.device.interfaces requester stream ≡ t_of plan w.faces link stream (Some requester)
   t_found link requester stream l is s =
       let p = beside.placed s.place s.site s.site_is in
       let mine = requester_true link requester s.site s.passes in
@@ -237,7 +237,7 @@ module _ (plan : Plan) (ends : List LinkEnds) (m : InterfacesView) (memory : Con
 
       runs : (p : IsPlaced plan ends m w s.place s.site) → s.site.link ≡ link → s.site.plan.requester ≡ requester
           → slice_get l.device.interfaces.interfaces p.place ≡ Some p.tdi → runs_on stream p.tdi.state ≡ true
-          → sets_t l.device.interfaces requester stream ≡ runs_on stream p.tdi.state
+          → tdis_set_t l.device.interfaces requester stream ≡ runs_on stream p.tdi.state
       runs p link_is requester_is at runs_there =
           let owner : is_owner requester stream p.tdi ≡ true =
           and_from (requester == p.tdi.plan.requester) (runs_on stream p.tdi.state)
@@ -263,7 +263,7 @@ module _ (plan : Plan) (ends : List LinkEnds) (m : InterfacesView) (memory : Con
 
       stands : (p : IsPlaced plan ends m w s.place s.site) → s.site.link ≡ link → s.site.plan.requester ≡ requester
           → slice_get l.device.interfaces.interfaces p.place ≡ Some p.tdi → runs_on stream p.tdi.state ≡ false
-          → sets_t l.device.interfaces requester stream ≡ runs_on stream p.tdi.state
+          → tdis_set_t l.device.interfaces requester stream ≡ runs_on stream p.tdi.state
       stands p link_is requester_is at not_there =
           ap is_some (position_none (is_owner requester stream) l.device.interfaces.interfaces
           (λ k t there. idle p link_is requester_is at not_there k t there
@@ -271,7 +271,7 @@ module _ (plan : Plan) (ends : List LinkEnds) (m : InterfacesView) (memory : Con
 
   t_nowhere : (link requester stream : ℕ) (l : LinkEnds) → slice_get ends link ≡ Some l
       → ((k : ℕ) (y : Site) → slice_get (sites plan) k ≡ Some y → is_requester link requester y ≡ false)
-      → sets_t l.device.interfaces requester stream ≡ t_of plan w.faces link stream (Some requester)
+      → tdis_set_t l.device.interfaces requester stream ≡ t_of plan w.faces link stream (Some requester)
   t_nowhere link requester stream l is fails =
       ap is_some (position_none (is_owner requester stream) l.device.interfaces.interfaces (λ k t there.
       let s = site_at_place plan ends m memory w link k l t beside many is there in
@@ -425,32 +425,35 @@ module _ (plan : Plan) (ends : List LinkEnds) (m : InterfacesView) (memory : Con
 
   -- ---- answers
 
-  -- by number: where there is such an interface, by what stands there, and else nothing
-  answered : (i : ℕ) (e : InterfaceEvent) (given : Option (ℕ × ℕ) → Verdict) → given None ≡ v.Nothing
+  -- the machine's, by number
+  abbrev due_at : ℕ → InterfaceEvent → Option Verdict
+  due_at i e =
+      Some (asked_due_of plan (whole_streams plan w) w.faces.used e
+      (find_face (λ y. y.number == i) (sites plan) w.faces.list))
+
+  -- by number: if there is such an interface, by what stands there, else nothing
+  answered : (i : ℕ) (e : InterfaceEvent) (given : Option (ℕ × ℕ) → Option Verdict) → given None ≡ Some v.Nothing
       → ((x : Site) (p : IsPlaced plan ends m w i x) → slice_get (sites plan) i ≡ Some x
       → given (Some (x.link, p.place))
-      ≡ asked_due plan x (standing_of plan (streams_of plan w) w.faces.used x p.face) e)
-      → given (interface_named m ends i)
-      ≡ asked_of plan (streams_of plan w) w.faces.used e (find_face (λ y. y.number == i) (sites plan) w.faces.list)
+      ≡ Some (asked_due plan x (standing_of plan (whole_streams plan w) w.faces.used x p.face) e))
+      → given (interface_named m ends i) ≡ due_at i e
   answered i e given absent there = ⊎_elim here nowhere (cases_lt i (length (sites plan)))
     where
       at : (x : Site) (p : IsPlaced plan ends m w i x) → slice_get (sites plan) i ≡ Some x
-          → given (interface_named m ends i)
-          ≡ asked_of plan (streams_of plan w) w.faces.used e (find_face (λ y. y.number == i) (sites plan) w.faces.list)
+          → given (interface_named m ends i) ≡ due_at i e
       at x p is =
           ap given (interface_there plan ends m memory w i x p beside fits is) ∙ there x p is
-          ∙ sym (ap (asked_of plan (streams_of plan w) w.faces.used e)
+          ∙ sym (ap (λ (o : Option (Site × Face)). Some (asked_due_of plan (whole_streams plan w) w.faces.used e o))
           (face_found plan w.faces.list i x p.face is p.face_is))
 
-      here : i < length (sites plan) → given (interface_named m ends i)
-          ≡ asked_of plan (streams_of plan w) w.faces.used e (find_face (λ y. y.number == i) (sites plan) w.faces.list)
+      here : i < length (sites plan) → given (interface_named m ends i) ≡ due_at i e
       here lt = let x = get_there (sites plan) i lt in at x.0 (beside.placed i x.0 x.1) x.1
 
-      nowhere : length (sites plan) ≤ i → given (interface_named m ends i)
-          ≡ asked_of plan (streams_of plan w) w.faces.used e (find_face (λ y. y.number == i) (sites plan) w.faces.list)
+      nowhere : length (sites plan) ≤ i → given (interface_named m ends i) ≡ due_at i e
       nowhere le =
           ap given (interface_absent plan ends m memory w i beside le) ∙ absent
-          ∙ sym (ap (asked_of plan (streams_of plan w) w.faces.used e) (face_absent plan w.faces.list i le))
+          ∙ sym (ap (λ (o : Option (Site × Face)). Some (asked_due_of plan (whole_streams plan w) w.faces.used e o))
+          (face_absent plan w.faces.list i le))
 
   view_is : (i : ℕ) (x : Site) (p : IsPlaced plan ends m w i x) → slice_get (sites plan) i ≡ Some x
       → viewed_as i (slice_get m.interfaces i) ≡ v.Interface (iv.View x.number p.face.managed.view)
@@ -459,14 +462,14 @@ module _ (plan : Plan) (ends : List LinkEnds) (m : InterfacesView) (memory : Con
       ∙ (λ j. v.Interface (iv.View (sym (site_numbered plan i x is) j)
       (seen_view p.interface.seen p.face.managed p.keeps.managed.seen j)))
 
-  tdi_there : (i : ℕ) (x : Site) (p : IsPlaced plan ends m w i x) → tdi_at ends (x.link, p.place) ≡ Some p.tdi
+  tdi_there : (i : ℕ) (x : Site) (p : IsPlaced plan ends m w i x) → tdi_of_ends ends (x.link, p.place) ≡ Some p.tdi
   tdi_there i x p =
       ap (λ (o : Option LinkEnds). option_and_then (λ d. slice_get d.interfaces p.place) (device_interfaces o))
       p.ends_are ∙ p.tdi_is
 
   write_is : (i : ℕ) (register : Register) (value : ℕ) (x : Site) (p : IsPlaced plan ends m w i x)
       → slice_get (sites plan) i ≡ Some x
-      → written_as i register value (tdi_at ends (x.link, p.place)) ≡ write_due x p.face.tdi register value
+      → written_as i register value (tdi_of_ends ends (x.link, p.place)) ≡ write_due x p.face.tdi register value
   write_is i register value x p is =
       ap (written_as i register value) (tdi_there i x p)
       ∙ (λ j. if has_register (p.keeps.layout j) register then v.Interface
@@ -474,13 +477,13 @@ module _ (plan : Plan) (ends : List LinkEnds) (m : InterfacesView) (memory : Con
       else v.Nothing)
 
   flr_is : (i : ℕ) (x : Site) (p : IsPlaced plan ends m w i x) → slice_get (sites plan) i ≡ Some x
-      → flr_as i (tdi_at ends (x.link, p.place)) ≡ v.Interface (iv.Flr x.number (code_after p.face.tdi LevelReset))
+      → flr_as i (tdi_of_ends ends (x.link, p.place)) ≡ v.Interface (iv.Flr x.number (code_after p.face.tdi LevelReset))
   flr_is i x p is =
       ap (flr_as i) (tdi_there i x p)
       ∙ (λ j. v.Interface (iv.Flr (sym (site_numbered plan i x is) j) (code_behind (p.keeps.tdi_is j) LevelReset)))
 
   firmware_is : (i : ℕ) (x : Site) (p : IsPlaced plan ends m w i x) → slice_get (sites plan) i ≡ Some x
-      → firmware_as i (tdi_at ends (x.link, p.place))
+      → firmware_as i (tdi_of_ends ends (x.link, p.place))
       ≡ v.Interface (iv.Firmware x.number (code_after p.face.tdi FirmwareUpdate))
   firmware_is i x p is =
       ap (firmware_as i) (tdi_there i x p)
@@ -494,7 +497,7 @@ module _ (plan : Plan) (ends : List LinkEnds) (m : InterfacesView) (memory : Con
     -- the ports say of its stream what the machine reads of them
     operated_is : (i : ℕ) (o : InterfaceOp) (loss : Option Loss) (x : Site) (p : IsPlaced plan ends m w i x)
         → operated_on i o loss k.pool.draws m p.link_ends p.interface
-        ≡ operated i o (status_at plan w.links Host x.link x.plan.stream) w.links.draws
+        ≡ interface_operated i o (status_at plan w.links Host x.link x.plan.stream) w.links.draws
         (secure_in plan w.links x.link x.plan.stream) loss m p.link_ends.device.interfaces p.interface
     operated_is i o loss x p =
         let stream = p.keeps.managed.laid_out.stream in
@@ -509,77 +512,55 @@ module _ (plan : Plan) (ends : List LinkEnds) (m : InterfacesView) (memory : Con
         ∙ secure_is plan ends k packets x.link x.plan.stream p.link_ends links p.ends_are
         ∙ ap (λ (st : LinkState). secure_in plan st x.link x.plan.stream) (sym state_is) in
         let drawn : k.pool.draws ≡ w.links.draws = ap (λ (st : LinkState). st.draws) (sym state_is) in
-        (λ j. operated i o (host j) (drawn j) (secure j) loss m p.link_ends.device.interfaces p.interface)
+        (λ j. interface_operated i o (host j) (drawn j) (secure j) loss m p.link_ends.device.interfaces p.interface)
 
     -- it has a verdict, the one that is due
     verdict_is : (i : ℕ) (o : InterfaceOp) (loss : Option Loss) (x : Site) (p : IsPlaced plan ends m w i x)
         → slice_get (sites plan) i ≡ Some x
         → verdict_in i o loss (ended_at m ends k.pool.draws i o loss (Some (x.link, p.place)))
-        ≡ Some (asked_due plan x (standing_of plan (streams_of plan w) w.faces.used x p.face) (op_event o i loss))
+        ≡ Some (asked_due plan x (standing_of plan (whole_streams plan w) w.faces.used x p.face) (op_event o i loss))
     verdict_is i o loss x p is =
-        let j = joins plan (streams_of plan w) w.faces.used x p.face i p.place o loss m p.link_ends.device.interfaces
+        let j = joins plan (whole_streams plan w) w.faces.used x p.face i p.place o loss m p.link_ends.device.interfaces
         p.interface p.tdi (is_at plan ends m memory w i x p beside fits is) in
         (λ n. verdict_in i o loss (ended_on m k.pool.draws i o loss (p.ends_are n) (p.interface_is n)))
         ∙ ap (ended_as i o loss) (operated_is i o loss x p)
         ∙ j.ended_is ∙ ap Some j.verdict_is
 
-    asked_is : (i : ℕ) (o : InterfaceOp) (loss : Option Loss) (x : Site) (p : IsPlaced plan ends m w i x)
-        → slice_get (sites plan) i ≡ Some x
-        → asked_in i o loss (ended_at m ends k.pool.draws i o loss (Some (x.link, p.place)))
-        ≡ asked_due plan x (standing_of plan (streams_of plan w) w.faces.used x p.face) (op_event o i loss)
-    asked_is i o loss x p is = ap (λ (due : Option Verdict). unwrap_or due v.Nothing) (verdict_is i o loss x p is)
-
-    has_verdict : (i : ℕ) (o : InterfaceOp) (loss : Option Loss)
-        → IsSome (verdict_in i o loss (ended_in m ends k.pool.draws i o loss))
-    has_verdict i o loss = ⊎_elim here nowhere (cases_lt i (length (sites plan)))
-      where
-        here : i < length (sites plan) → IsSome (verdict_in i o loss (ended_in m ends k.pool.draws i o loss))
-        here lt =
-            let x = get_there (sites plan) i lt in
-            let p = beside.placed i x.0 x.1 in
-            subst (λ (due : Option Verdict). IsSome due)
-            (sym (ap (λ (at : Option (ℕ × ℕ)). verdict_in i o loss (ended_at m ends k.pool.draws i o loss at))
-            (interface_there plan ends m memory w i x.0 p beside fits x.1)
-            ∙ verdict_is i o loss x.0 p x.1)) refl
-
-        nowhere : length (sites plan) ≤ i → IsSome (verdict_in i o loss (ended_in m ends k.pool.draws i o loss))
-        nowhere le =
-            subst (λ (due : Option Verdict). IsSome due)
-            (sym (ap (λ (at : Option (ℕ × ℕ)). verdict_in i o loss (ended_at m ends k.pool.draws i o loss at))
-            (interface_absent plan ends m memory w i beside le))) refl
-
     operation_is : (i : ℕ) (o : InterfaceOp) (loss : Option Loss)
-        → asked_in i o loss (ended_in m ends k.pool.draws i o loss)
-        ≡ asked_of plan (streams_of plan w) w.faces.used (op_event o i loss)
-        (find_face (λ y. y.number == i) (sites plan) w.faces.list)
+        → verdict_in i o loss (ended_in m ends k.pool.draws i o loss) ≡ due_at i (op_event o i loss)
     operation_is i o loss =
-        answered i (op_event o i loss) (λ at. asked_in i o loss (ended_at m ends k.pool.draws i o loss at)) refl
-        (asked_is i o loss)
+        answered i (op_event o i loss) (λ at. verdict_in i o loss (ended_at m ends k.pool.draws i o loss at)) refl
+        (verdict_is i o loss)
 
+    -- every event has the verdict that the machine answers it with
     answer_is : (e : InterfaceEvent) → answer_in ends m k.pool.draws memory e
-        ≡ answer_of plan (streams_of plan w) w.faces e (memory_shown plan w.written e)
+        ≡ Some (interface_answer plan (whole_streams plan w) w.faces e (memory_shown plan w.written e))
     answer_is (ie.Lock i loss) = operation_is i op.Lock loss
     answer_is (ie.Report i loss) = operation_is i op.Report loss
     answer_is (ie.Start i loss) = operation_is i op.Start loss
     answer_is (ie.Halt i loss) = operation_is i op.Halt loss
     answer_is (ie.State i loss) = operation_is i op.State loss
-    answer_is (ie.View i) = answered i (ie.View i) (λ at. viewed_as i (seen_at m i at)) refl (view_is i)
+    answer_is (ie.View i) =
+        answered i (ie.View i) (λ at. Some (viewed_as i (seen_at m i at))) refl (λ x p is. ap Some (view_is i x p is))
     answer_is (ie.Write i register value) =
         answered i (ie.Write i register value)
-        (λ at. written_as i register value (option_and_then (tdi_at ends) at)) refl (write_is i register value)
-    answer_is (ie.Flr i) = answered i (ie.Flr i) (λ at. flr_as i (option_and_then (tdi_at ends) at)) refl (flr_is i)
+        (λ at. Some (written_as i register value (option_and_then (tdi_of_ends ends) at))) refl
+        (λ x p is. ap Some (write_is i register value x p is))
+    answer_is (ie.Flr i) =
+        answered i (ie.Flr i) (λ at. Some (flr_as i (option_and_then (tdi_of_ends ends) at))) refl
+        (λ x p is. ap Some (flr_is i x p is))
     answer_is (ie.Firmware i) =
-        answered i (ie.Firmware i) (λ at. firmware_as i (option_and_then (tdi_at ends) at)) refl (firmware_is i)
-    answer_is (ie.Memory at len) = memory_is plan memory w.written at len beside.regions beside.written
+        answered i (ie.Firmware i) (λ at. Some (firmware_as i (option_and_then (tdi_of_ends ends) at))) refl
+        (λ x p is. ap Some (firmware_is i x p is))
+    answer_is (ie.Memory at len) = ap Some (memory_is plan memory w.written at len beside.regions beside.written)
 
 -- ---- all of it
 
-pub beside_is : (plan : Plan) (s : Links) (w : Whole) → InterfaceOperationsJoin
-    → AreLinks plan s.ends s.keeper.keys → IsWhole (world_of plan s) w → beside_in s ≡ beside_of plan w
-beside_is plan s w joins links whole =
+pub beside_is : (plan : Plan) (s : Links) (w : Whole) → AreLinks plan s.ends s.keeper.keys
+    → IsWhole (world_of plan s) w → beside_in s (beside_of plan w).answer ≡ beside_of plan w
+beside_is plan s w links whole =
     let m = s.keeper.interfaces in
     let memory = s.trusted.contents in
-    let k = s.keeper.keys in
     let b = whole.beside in
     λ i. record {
       t = λ port head stream trusted.
@@ -589,44 +570,20 @@ beside_is plan s w joins links whole =
           map (λ p. ((λ j. packet_effect (b.regions j)
           (λ link requester. grant_is plan s.ends m memory w b links.fits links.many link requester j) port unit p)
           ∙ effect_is plan (grant_of plan w.faces) port unit p) i) ps;
-      answer = λ e.
-          answer_is plan s.ends m memory w b links.fits links.many k s.packets.packets joins links whole.links e i;
+      answer = (beside_of plan w).answer;
     }
 
--- every event has a verdict
+-- every event on an interface has the machine's answer
+pub answers_are : (plan : Plan) (s : Links) (w : Whole) → InterfaceOperationsJoin → AreLinks plan s.ends s.keeper.keys
+    → IsWhole (world_of plan s) w → (e : InterfaceEvent) → answer_of_links s e ≡ Some ((beside_of plan w).answer e)
+answers_are plan s w joins links whole =
+    answer_is plan s.ends s.keeper.interfaces s.trusted.contents w whole.beside links.fits links.many s.keeper.keys
+    s.packets.packets joins links whole.links
+
 pub is_answered : (plan : Plan) (s : Links) (w : Whole) → InterfaceOperationsJoin → AreLinks plan s.ends s.keeper.keys
-    → IsWhole (world_of plan s) w → (e : Event) → IsAnswered s e
-is_answered plan s w joins links whole e = by e
-  where
-    has : (i : ℕ) (o : InterfaceOp) (loss : Option Loss) → IsSome (verdict_asked s i o loss)
-    has = has_verdict plan s.ends s.keeper.interfaces s.trusted.contents w whole.beside links.fits links.many
-        s.keeper.keys s.packets.packets joins links whole.links
-
-    by_interface : (f : InterfaceEvent) → AskIsAnswered s f
-    by_interface (ie.Lock i loss) = has i op.Lock loss
-    by_interface (ie.Report i loss) = has i op.Report loss
-    by_interface (ie.Start i loss) = has i op.Start loss
-    by_interface (ie.Halt i loss) = has i op.Halt loss
-    by_interface (ie.State i loss) = has i op.State loss
-    by_interface (ie.View i) = tt
-    by_interface (ie.Write i register value) = tt
-    by_interface (ie.Flr i) = tt
-    by_interface (ie.Firmware i) = tt
-    by_interface (ie.Memory at len) = tt
-
-    by : (f : Event) → IsAnswered s f
-    by (event.Interface f) = by_interface f
-    by (event.Send port bytes more trusted) = tt
-    by (event.Pass n) = tt
-    by (event.Alter n at mask) = tt
-    by (event.Cut n len) = tt
-    by (event.Arrive port bytes) = tt
-    by (event.Dump n) = tt
-    by (event.Establish link stream loss) = tt
-    by (event.Refresh link stream loss) = tt
-    by (event.Stop link stream loss) = tt
-    by (event.Reset link) = tt
-    by (event.Status link stream) = tt
+    → IsWhole (world_of plan s) w → (event : Event) → IsAnswered s event
+is_answered plan s w joins links whole event e on =
+    subst (λ (o : Option Verdict). IsSome o) (sym (answers_are plan s w joins links whole e)) refl
 
 pub grants_are : (plan : Plan) (s : Links) (w : Whole) → AreLinks plan s.ends s.keeper.keys
     → IsWhole (world_of plan s) w → grants_in s.keeper.interfaces ≡ grant_of plan w.faces

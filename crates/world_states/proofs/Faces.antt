@@ -1,5 +1,5 @@
 -- What a step makes of the interfaces one by one: at each place of the list it is that of the interface there, by
--- induction on the list. Where no lock is accepted no nonce is given.
+-- induction on the list. If no lock is accepted, no nonce is given.
 use Rattle.std.proofs.Common.{◌≡◌, ℕ, suc, zero, ◌+◌, ◌==◌, ◌&&◌, Bool, false, List, [], ◌∷◌, length, Some, refl, ap}
 use Rattle.std.proofs.Common.{arith}
 use Rattle.std.specs.Prelude.{slice_get}
@@ -51,7 +51,7 @@ none_given plan s used e w link xs fs none =
 none_more : (n : ℕ) (b : Bool) → b ≡ false → n + one_if b ≡ n
 none_more n b none = rw none (omega arith)
 
--- where no lock is accepted, as many nonces were given as before
+-- if no lock is accepted, as many nonces were given as before
 pub used_kept : (plan : Plan) (s : Streams) (secure : ℕ → ℕ → Bool) (e : Event) (w : Verdict) (fs : Faces)
     → ((i : ℕ) (x : Site) (f : Face) → slice_get (sites plan) i ≡ Some x → slice_get fs.list i ≡ Some f
     → accepts_lock (around_of plan s fs.used x f) x e w f.tdi ≡ false)

@@ -1,6 +1,6 @@
 -- What stands beside the ports after an event that makes no more of an interface than that its stream leaves Secure.
--- The interfaces of a device are settled by its port, or no stream left Secure there: either way each is the machine's,
--- which leaves its lock where its stream left Secure (`placed_led`).
+-- The interfaces of a device are settled by its port, or no stream left Secure there. Either way each is the machine's,
+-- which leaves its lock if its stream left Secure (`placed_led`).
 use Rattle.std.proofs.Common.{◌≡◌, ◌⊎◌, ⊎_elim, ℕ, ◌<◌, true, false, List}
 use Rattle.std.proofs.Common.{length, Some, option_map, inl, inr, ap, sym, ◌∙◌, arith}
 use Rattle.std.specs.Prelude.{slice_get}
@@ -10,21 +10,21 @@ use Rattle.ide_plan.specs.declared.plan.Plan.{Plan}
 use Rattle.link_events.specs.declared.event.Event.{Event}
 use Rattle.link_verdicts.specs.declared.verdict.Verdict.{Verdict}
 use Rattle.tdi_state.specs.Machine.{Tdi, StreamLeft}
-use Rattle.tdi_device.specs.Replies.{DeviceTdis, settled, settled_tdi}
+use Rattle.tdi_device.specs.Replies.{DeviceTdis, settled_tdis, settled_tdi}
 use Rattle.tdi_host.specs.Views.{HostTdi}
 use Rattle.device_side.specs.Ends.{secure_at}
-use Rattle.trusted_memory.specs.{Contents, IsLeftBy}
+use Rattle.trusted_memory.specs.{MemoryContents, IsLeftBy}
 use Rattle.interface_states.specs.Sites.{Site, sites}
-use Rattle.interface_states.specs.Devices.{called, accepts_lock}
+use Rattle.interface_states.specs.Devices.{tdi_if_called, accepts_lock}
 use Rattle.interface_states.specs.Views.{managed_after}
 use Rattle.interface_machine.specs.Machine.{Face, around_of, face_after}
 use Rattle.interface_joins.specs.Faces.{IsManaged}
-use Rattle.whole_machine.specs.Machine.{Whole, secure_in, streams_of, draw_after, written_after, whole_after}
+use Rattle.whole_machine.specs.Machine.{Whole, secure_in, whole_streams, draw_after, written_after, whole_after}
 use Rattle.link_ports.specs.Machine.{LinkState}
 use Rattle.link_ends.specs.declared.ends.LinkEnds.{LinkEnds}
 use Rattle.link_ends.specs.Hosts.{InterfacesView}
 use Rattle.all_ends.specs.Places.{located}
-use Rattle.all_links.specs.Sides.{Follows}
+use Rattle.all_links.specs.Sides.{IsSettledOrSame}
 use Rattle.world_states.specs.Whole.{IsPlaced, IsDevice, IsBeside}
 use Rattle.world_states.proofs.Places.{get_there}
 use Rattle.world_states.proofs.Sites.{located_kept}
@@ -33,20 +33,20 @@ use Rattle.world_states.proofs.Settled.{Keeps, leaves, settled_is, stays_is, kee
 
 -- ---- a device
 
--- its interfaces are settled by what is Secure behind the event, or are as before, and no stream left Secure
+-- its interfaces are settled by what is Secure after the event, or are as before, and no stream left Secure
 abbrev pub IsLed : Plan → LinkState → LinkState → ℕ → LinkEnds → LinkEnds → Type 0
 IsLed plan old new link l l' =
-    (l'.device.interfaces ≡ settled (secure_in plan new link) l.device.interfaces)
+    (l'.device.interfaces ≡ settled_tdis (secure_in plan new link) l.device.interfaces)
     ⊎ ((l'.device.interfaces ≡ l.device.interfaces)
     × ((stream : ℕ) → secure_in plan old link stream ≡ true → secure_in plan new link stream ≡ true))
 
--- where they follow their port, and the machine's states of the port are its
+-- if they follow their port, and the machine's states of the port are its
 pub led_follows : (plan : Plan) (old new : LinkState) (link : ℕ) (l l' : LinkEnds)
     → ((stream : ℕ) → secure_in plan old link stream ≡ secure_at l.device.port stream)
-    → ((stream : ℕ) → secure_in plan new link stream ≡ secure_at l'.device.port stream) → Follows l l'
+    → ((stream : ℕ) → secure_in plan new link stream ≡ secure_at l'.device.port stream) → IsSettledOrSame l l'
     → IsLed plan old new link l l'
 led_follows plan old new link l l' before after follows = ⊎_elim
-    (λ same. inl (same ∙ (λ i. settled (λ stream. sym (after stream) i) l.device.interfaces)))
+    (λ same. inl (same ∙ (λ i. settled_tdis (λ stream. sym (after stream) i) l.device.interfaces)))
     (λ same. inr (
       ap (λ d. d.interfaces) same,
       λ stream is. after stream ∙ (λ i. secure_at (same i).port stream) ∙ sym (before stream) ∙ is,
@@ -77,7 +77,7 @@ pub led_tdi : (plan : Plan) (old new : LinkState) (x : Site) (l l' : LinkEnds) (
     → IsLed plan old new x.link l l' → slice_get l.device.interfaces.interfaces place ≡ Some tdi
     → Keeps (secure_in plan old x.link) x.plan tdi
     → slice_get l'.device.interfaces.interfaces place
-    ≡ Some (called (leaves (secure_in plan old x.link) (secure_in plan new x.link) x.plan) StreamLeft tdi)
+    ≡ Some (tdi_if_called (leaves (secure_in plan old x.link) (secure_in plan new x.link) x.plan) StreamLeft tdi)
 led_tdi plan old new x l l' place tdi led is keeps = ⊎_elim
     (λ same. ap (λ (d : DeviceTdis). slice_get d.interfaces place) same
     ∙ slice_get-map (settled_tdi (secure_in plan new x.link)) l.device.interfaces.interfaces place
@@ -91,18 +91,18 @@ led_tdi plan old new x l l' place tdi led is keeps = ⊎_elim
 -- the event makes no more of it than that its stream leaves Secure, and it accepts no lock
 pub record OnlyLeaves (plan : Plan) (w : Whole) (e : Event) (verdict : Verdict) (new : LinkState) (x : Site) (f : Face)
     : Type 0 where
-  pub next : (face_after plan (streams_of plan w) (secure_in plan new) w.faces.used e verdict x f).tdi
-      ≡ called (leaves (secure_in plan w.links x.link) (secure_in plan new x.link) x.plan) StreamLeft f.tdi
-  pub none : accepts_lock (around_of plan (streams_of plan w) w.faces.used x f) x e verdict f.tdi ≡ false
+  pub next : (face_after plan (whole_streams plan w) (secure_in plan new) w.faces.used e verdict x f).tdi
+      ≡ tdi_if_called (leaves (secure_in plan w.links x.link) (secure_in plan new x.link) x.plan) StreamLeft f.tdi
+  pub none : accepts_lock (around_of plan (whole_streams plan w) w.faces.used x f) x e verdict f.tdi ≡ false
 
--- the manager keeps of it what the machine keeps of it behind the event
+-- the manager keeps of it what the machine keeps of it after the event
 pub record IsManagedAfter (plan : Plan) (w : Whole) (e : Event) (verdict : Verdict) (m : InterfacesView) (i : ℕ)
     (x : Site) (f : Face) : Type 0 where
   pub interface : HostTdi
   pub interface_is : slice_get m.interfaces i ≡ Some interface
   pub managed : IsManaged
-      (draw_after (streams_of plan w).op w.links.draws e verdict w.draw x.link x.plan.stream) x interface
-      (managed_after (streams_of plan w).op w.links.draws x e verdict f.managed)
+      (draw_after (whole_streams plan w).op w.links.draws e verdict w.draw x.link x.plan.stream) x interface
+      (managed_after (whole_streams plan w).op w.links.draws x e verdict f.managed)
 
 pub placed_keeps : (plan : Plan) (ends : List LinkEnds) (m : InterfacesView) (w : Whole) (i : ℕ) (x : Site)
     → (p : IsPlaced plan ends m w i x) → Keeps (secure_in plan w.links x.link) x.plan p.tdi
@@ -125,16 +125,17 @@ placed_led plan w e verdict new ends ends' m m' i x l' at p is same led only man
       ends_are = is;
       place = p.place;
       located_is = same ∙ p.located_is;
-      tdi = called (leaves before after x.plan) StreamLeft p.tdi;
+      tdi = tdi_if_called (leaves before after x.plan) StreamLeft p.tdi;
       tdi_is = led_tdi plan w.links new x p.link_ends l' p.place p.tdi led p.tdi_is keeps;
       interface = managed.interface;
       interface_is = managed.interface_is;
-      face = face_after plan (streams_of plan w) (secure_in plan new) w.faces.used e verdict x p.face;
-      face_is = each_at (face_after plan (streams_of plan w) (secure_in plan new) w.faces.used e verdict) (sites plan)
+      face = face_after plan (whole_streams plan w) (secure_in plan new) w.faces.used e verdict x p.face;
+      face_is = each_at (face_after plan (whole_streams plan w) (secure_in plan new) w.faces.used e verdict)
+          (sites plan)
           w.faces.list i x p.face at p.face_is;
       keeps = record {
         managed = managed.managed;
-        tdi_is = ap (called (leaves before after x.plan) StreamLeft) p.keeps.tdi_is ∙ sym only.next;
+        tdi_is = ap (tdi_if_called (leaves before after x.plan) StreamLeft) p.keeps.tdi_is ∙ sym only.next;
         layout = behind.layout;
         bound = behind.bound;
       };
@@ -147,7 +148,8 @@ pub placed_follows : (plan : Plan) (w : Whole) (e : Event) (verdict : Verdict) (
     → slice_get (sites plan) i ≡ Some x → (p : IsPlaced plan ends m w i x) → slice_get ends' x.link ≡ Some l'
     → located 0 i ends' ≡ located 0 i ends
     → ((stream : ℕ) → secure_in plan w.links x.link stream ≡ secure_at p.link_ends.device.port stream)
-    → ((stream : ℕ) → secure_in plan new x.link stream ≡ secure_at l'.device.port stream) → Follows p.link_ends l'
+    → ((stream : ℕ) → secure_in plan new x.link stream ≡ secure_at l'.device.port stream)
+    → IsSettledOrSame p.link_ends l'
     → OnlyLeaves plan w e verdict new x p.face → IsManagedAfter plan w e verdict m' i x p.face
     → IsPlaced plan ends' m' (whole_after plan w e verdict new) i x
 placed_follows plan w e verdict new ends ends' m m' i x l' at p is same before after follows only managed =
@@ -169,7 +171,7 @@ device_led plan w e verdict new link l l' used led d =
 
 -- each device is led, each interface no more than leaves its stream, and the manager and memory are the machine's
 pub record LedBeside (plan : Plan) (w : Whole) (e : Event) (verdict : Verdict) (new : LinkState)
-    (ends ends' : List LinkEnds) (m m' : InterfacesView) (memory : Contents) : Type 0 where
+    (ends ends' : List LinkEnds) (m m' : InterfacesView) (memory : MemoryContents) : Type 0 where
   pub many : length ends' ≡ length ends
   pub led : (link : ℕ) (l l' : LinkEnds) → slice_get ends link ≡ Some l → slice_get ends' link ≡ Some l'
       → IsLed plan w.links new link l l'
@@ -184,20 +186,22 @@ pub record LedBeside (plan : Plan) (w : Whole) (e : Event) (verdict : Verdict) (
   pub written : IsLeftBy memory (written_after plan w e verdict)
 
 pub beside_led : (plan : Plan) (w : Whole) (e : Event) (verdict : Verdict) (new : LinkState)
-    (ends ends' : List LinkEnds) (m m' : InterfacesView) (memory memory' : Contents) → IsBeside plan ends m memory w
+    (ends ends' : List LinkEnds) (m m' : InterfacesView) (memory memory' : MemoryContents)
+    → IsBeside plan ends m memory w
     → LedBeside plan w e verdict new ends ends' m m' memory'
     → IsBeside plan ends' m' memory' (whole_after plan w e verdict new)
 beside_led plan w e verdict new ends ends' m m' memory memory' b s =
     let within : (link : ℕ) (l' : LinkEnds) → slice_get ends' link ≡ Some l' → link < length ends
     = λ link l' at. omega (arith, s.many, slice_get_within ends' link l' at) in
-    let used = used_kept plan (streams_of plan w) (secure_in plan new) e verdict w.faces
+    let used = used_kept plan (whole_streams plan w) (secure_in plan new) e verdict w.faces
     (λ i x f at there. (s.only i x f at there).none) in
     let places : (i : ℕ) → located 0 i ends' ≡ located 0 i ends = λ i. located_kept 0 i ends ends' s.many
     (λ k l l' at at'. (led_same plan w.links new k l l' (s.led k l l' at at')).many) in
     record {
       portion = s.portion ∙ b.portion;
       managed = s.interfaces ∙ b.managed;
-      faced = each_many (face_after plan (streams_of plan w) (secure_in plan new) w.faces.used e verdict) (sites plan)
+      faced = each_many (face_after plan (whole_streams plan w) (secure_in plan new) w.faces.used e verdict)
+          (sites plan)
           w.faces.list (sym b.faced);
       devices = λ link l' at.
           let l = get_there ends link (within link l' at) in

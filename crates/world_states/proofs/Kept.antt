@@ -23,7 +23,7 @@ use Rattle.link_history.specs.History.{Arrival}
 use Rattle.link_history.specs.Memory.{Grants}
 use Rattle.link_ports.specs.Machine.{Beside, LinkState, Stepped, status_found}
 unfoldable use Rattle.link_ports.specs.Machine.{find_op, step_of}
-use Rattle.whole_machine.specs.Machine.{Whole, secure_in, streams_of, arrival_of, draw_after, written_after}
+use Rattle.whole_machine.specs.Machine.{Whole, secure_in, whole_streams, arrival_of, draw_after, written_after}
 use Rattle.whole_machine.specs.Machine.{whole_after}
 use Rattle.link_ends.specs.Hosts.{InterfacesView}
 use Rattle.all_links.specs.declared.links.Links.{Links}
@@ -51,7 +51,7 @@ only_rests : (plan : Plan) (w : Whole) (e : Event) (verdict : Verdict) (new : Li
     → ((stream : ℕ) → secure_in plan w.links x.link stream ≡ true → secure_in plan new x.link stream ≡ true)
     → Rests e verdict x → OnlyLeaves plan w e verdict new x f
 only_rests plan w e verdict new x f stays rests =
-    let a = around_of plan (streams_of plan w) w.faces.used x f in
+    let a = around_of plan (whole_streams plan w) w.faces.used x f in
     record {
       next =
           ap (λ (b : Bool). next_tdi a b x e verdict f.tdi)
@@ -62,18 +62,18 @@ only_rests plan w e verdict new x f stays rests =
       none = rests.none a f.tdi;
     }
 
--- the same manager keeps it where the machine keeps the same of it
+-- the same manager keeps it if the machine keeps the same of it
 pub managed_kept : (plan : Plan) (w : Whole) (e : Event) (verdict : Verdict) (m m' : InterfacesView) (i : ℕ) (x : Site)
     (interface : HostTdi) (f : Face) → m' ≡ m → slice_get m.interfaces i ≡ Some interface
-    → draw_after (streams_of plan w).op w.links.draws e verdict w.draw ≡ w.draw
-    → managed_after (streams_of plan w).op w.links.draws x e verdict f.managed ≡ f.managed
+    → draw_after (whole_streams plan w).op w.links.draws e verdict w.draw ≡ w.draw
+    → managed_after (whole_streams plan w).op w.links.draws x e verdict f.managed ≡ f.managed
     → IsManaged (w.draw x.link x.plan.stream) x interface f.managed → IsManagedAfter plan w e verdict m' i x f
 managed_kept plan w e verdict m m' i x interface f keeper is draw kept managed = record {
   interface = interface;
   interface_is = ap (λ (n : InterfacesView). slice_get n.interfaces i) keeper ∙ is;
   managed = subst
       (λ (d : ℕ → ℕ → ℕ). IsManaged (d x.link x.plan.stream) x interface
-      (managed_after (streams_of plan w).op w.links.draws x e verdict f.managed)) (sym draw)
+      (managed_after (whole_streams plan w).op w.links.draws x e verdict f.managed)) (sym draw)
       (subst (λ n. IsManaged (w.draw x.link x.plan.stream) x interface n) (sym kept) managed);
 }
 
@@ -105,7 +105,7 @@ written_kept plan w e verdict none =
 pub record IsStill (plan : Plan) (w : Whole) (e : Event) (verdict : Verdict) (new : LinkState) : Type 0 where
   pub stays : (link stream : ℕ) → secure_in plan w.links link stream ≡ true → secure_in plan new link stream ≡ true
   pub rests : (i : ℕ) (x : Site) → slice_get (sites plan) i ≡ Some x → Rests e verdict x
-  pub draw : draw_after (streams_of plan w).op w.links.draws e verdict w.draw ≡ w.draw
+  pub draw : draw_after (whole_streams plan w).op w.links.draws e verdict w.draw ≡ w.draw
   pub written : written_after plan w e verdict ≡ w.written
 
 pub kept_beside : (plan : Plan) (w : Whole) (e : Event) (verdict : Verdict) (new : LinkState) (old after : Links)
@@ -122,13 +122,13 @@ kept_beside plan w e verdict new old after b many sides still =
       interfaces = ap (λ (m : InterfacesView). length m.interfaces) sides.keeper;
       managed = λ i x interface f at is there managed.
           managed_kept plan w e verdict old.keeper.interfaces after.keeper.interfaces i x interface f sides.keeper is
-          still.draw ((still.rests i x at).managed (streams_of plan w).op w.links.draws f.managed) managed;
+          still.draw ((still.rests i x at).managed (whole_streams plan w).op w.links.draws f.managed) managed;
       regions = ap (λ m. m.regions) sides.contents ∙ b.regions;
       written = subst (λ m. IsLeftBy m (written_after plan w e verdict)) (sym sides.contents)
           (subst (IsLeftBy old.trusted.contents) (sym still.written) b.written);
     })
 
--- the links before and behind an event, and the state of the machine before it
+-- the links before and after an event, and the state of the machine before it
 pub record AreBoth (plan : Plan) (old new : Links) (w : Whole) : Type 0 where
   pub links : AreLinks plan old.ends old.keeper.keys
   pub links_after : AreLinks plan new.ends new.keeper.keys
@@ -207,7 +207,7 @@ module _ (plan : Plan) (old new : Links) (w : Whole) (verdict : Verdict) (beside
   pub leaving_beside : (e : Event) → leaves_ports plan e ≡ true
       → (verdict, links_state plan new) ≡ step_of plan beside w.links e
       → ((i : ℕ) (x : Site) → slice_get (sites plan) i ≡ Some x → Rests e verdict x)
-      → draw_after (streams_of plan w).op w.links.draws e verdict w.draw ≡ w.draw
+      → draw_after (whole_streams plan w).op w.links.draws e verdict w.draw ≡ w.draw
       → arrival_of plan w.links e ≡ None
       → IsBeside plan new.ends new.keeper.interfaces new.trusted.contents
       (whole_after plan w e verdict (links_state plan new))
@@ -266,4 +266,4 @@ module _ (plan : Plan) (old new : Links) (w : Whole) (verdict : Verdict) (beside
       ap (λ (r : Stepped). r.0) step ∙ absent_verdict plan beside w.links link absent in
       let packets : is_of_packets (Reset link) verdict ≡ true = ap (is_of_packets (Reset link)) nothing in
       leaving_beside (Reset link) absent step (λ i x at. rests_of_packets (Reset link) verdict x packets)
-      (draw_of_packets (streams_of plan w).op w.links.draws (Reset link) verdict w.draw packets) refl
+      (draw_of_packets (whole_streams plan w).op w.links.draws (Reset link) verdict w.draw packets) refl

@@ -1,5 +1,5 @@
 -- Device interfaces by number. The sites of a plan stand link by link, so that a site's number is its place in their
--- list, and counts the interfaces on earlier links and those ahead on its own (`site_planned`). What is looked for
+-- list, and counts the interfaces on earlier links and the earlier ones on its own (`site_planned`). What is looked for
 -- among sites, with what is kept of them, is the first that passes the test (`face_first`).
 use Rattle.std.proofs.Common.{◌≡◌, ℕ, suc, zero, ◌+◌, ◌-◌, ◌<◌, ◌≤◌, ◌==◌, Bool, true, false, List, [], ◌∷◌, ◌++◌}
 use Rattle.std.proofs.Common.{length, refl, sym, ap, ◌∙◌, subst, arith, Some, None, inl, inr, ◌⊎◌, ⊎_elim}

@@ -12,7 +12,7 @@ use Rattle.key_laws.specs.Operations.{Op}
 use Rattle.tdi_state.specs.Machine.{Tdi, StreamLeft}
 use Rattle.interface_states.specs.Sites.{Site}
 use Rattle.interface_states.specs.Views.{Managed, managed_after, is_number, number_in}
-use Rattle.interface_states.specs.Devices.{Around, next_tdi, called, accepts_lock}
+use Rattle.interface_states.specs.Devices.{Around, next_tdi, tdi_if_called, accepts_lock}
 use Rattle.whole_machine.specs.Machine.{draw_after}
 
 -- ---- events on ports
@@ -24,7 +24,7 @@ is_of_ports (event.Reset link) (v.Reset l) = false
 is_of_ports e w = true
 
 pub next_of_ports : (a : Around) (left : Bool) (x : Site) (e : Event) (w : Verdict) (tdi : Tdi)
-    → is_of_ports e w ≡ true → next_tdi a left x e w tdi ≡ called left StreamLeft tdi
+    → is_of_ports e w ≡ true → next_tdi a left x e w tdi ≡ tdi_if_called left StreamLeft tdi
 next_of_ports a left x e w tdi is = grind arith
 
 pub none_of_ports : (a : Around) (x : Site) (e : Event) (w : Verdict) (tdi : Tdi) → is_of_ports e w ≡ true

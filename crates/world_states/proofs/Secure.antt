@@ -1,5 +1,5 @@
--- A send lets no stream leave Secure at a device's port. A sealed packet leaves a sender's Live key there, or, where it
--- ends a unit, the waiting one is Live in its place; receivers and what failed are as they were, and so are other
+-- A send lets no stream leave Secure at a device's port. A sealed packet leaves a sender's Live key there, or, if it
+-- ends a unit, the waiting one is Live in its place. Receivers and what failed are as they were, and so are other
 -- streams and ports.
 use Rattle.std.proofs.Common.{◌≡◌, ℕ, ◌+◌, ◌==◌, ◌&&◌, Bool, true, false, List, [], ◌∷◌, length, Option, Some, None}
 use Rattle.std.proofs.Common.{Result, Ok, Err, refl, ap, sym, ◌∙◌, subst, arith}
@@ -24,24 +24,25 @@ use Rattle.link_verdicts.specs.declared.verdict.Verdict.TheVariants as v
 use Rattle.link_history.specs.Plan.{has_port, mode_of, is_closed, is_same_port}
 use Rattle.link_history.specs.Due.{choice, Sending, refusals, sealed_by, first_that_holds}
 use Rattle.stream_rules.specs.Stream.{Slot, Slots, TxSub, Three, StreamState, Empty, Programmed, Armed, Live, gone_on}
-use Rattle.stream_rules.specs.Stream.{counted, ended_slots, sealed_slots, sealed_sub, sealed_one, sealed_all, lanes_of}
-use Rattle.stream_rules.specs.Slots.{is_live, any_live}
+use Rattle.stream_rules.specs.Stream.{counted_unit, ended_slots, sealed_slots, sealed_sub, sealed_one, sealed_all}
+use Rattle.stream_rules.specs.Stream.{lanes_of}
+use Rattle.stream_rules.specs.Slots.{is_live_slot, any_live}
 use Rattle.key_laws.specs.History.{status_by}
 use Rattle.interface_states.specs.Devices.{is_secure}
 use Rattle.whole_machine.specs.Machine.{secure_in}
-use Rattle.link_ports.specs.Machine.{Beside, LinkState, LinkPacket, port_at, all_live, some_live, stream_status}
-use Rattle.link_ports.specs.Machine.{answered, send_found, send_on, send_read}
+use Rattle.link_ports.specs.Machine.{Beside, LinkState, LinkPacket, port_at, all_live, some_live, status_if_planned}
+use Rattle.link_ports.specs.Machine.{stepped_answer, stepped_send_found, stepped_send_on, stepped_send_read}
 unfoldable use Rattle.link_ports.specs.Machine.{find, put, step_of}
 use Rattle.link_ports.proofs.Puts.{find-put, find-put_other}
 use Rattle.link_ports.proofs.Changes.{at_place}
 
 -- ---- senders
 
-gone_live : (p : Packet) (s : Slot) → is_live (gone_on p s) ≡ is_live s
+gone_live : (p : Packet) (s : Slot) → is_live_slot (gone_on p s) ≡ is_live_slot s
 gone_live p (Live x) = refl
 gone_live p s = refl
 
-counted_live : (s : Slot) → is_live (counted s) ≡ is_live s
+counted_live : (s : Slot) → is_live_slot (counted_unit s) ≡ is_live_slot s
 counted_live (Live x) = refl
 counted_live s = refl
 
@@ -101,8 +102,8 @@ all_with : (failed a b c d e f x y z : Bool) → (not failed && (a && b && c && 
 all_with failed a b c d e f x y z is one two three = grind arith
 
 secure_sealed : (x : StreamState) (closed : Bool) (head payload : List ℕ) (ds : List SealedPacket)
-    → is_secure (stream_status (Some x)) ≡ true
-    → is_secure (stream_status (Some (record x { tx = (sealed_all closed head payload ds x.tx).1 }))) ≡ true
+    → is_secure (status_if_planned (Some x)) ≡ true
+    → is_secure (status_if_planned (Some (record x { tx = (sealed_all closed head payload ds x.tx).1 }))) ≡ true
 secure_sealed x closed head payload ds is =
     let tx = (sealed_all closed head payload ds x.tx).1 in
     let y = record x { tx = tx } in
@@ -119,8 +120,8 @@ secure_sealed x closed head payload ds is =
 
 -- no stream leaves Secure at a port
 abbrev StaySecure : Plan → LinkState → LinkState → Type 0
-StaySecure plan old new = (q : PortName) (t : ℕ) → is_secure (stream_status (find plan old q t)) ≡ true
-    → is_secure (stream_status (find plan new q t)) ≡ true
+StaySecure plan old new = (q : PortName) (t : ℕ) → is_secure (status_if_planned (find plan old q t)) ≡ true
+    → is_secure (status_if_planned (find plan new q t)) ≡ true
 
 find_packets : (plan : Plan) (st : LinkState) (ps : List LinkPacket) (q : PortName) (t : ℕ)
     → find plan (record st { packets = ps }) q t ≡ find plan st q t
@@ -129,32 +130,32 @@ find_packets plan st ps q t = refl
 
 put_kept : (plan : Plan) (st : LinkState) (port : PortName) (stream : ℕ) (x y : StreamState)
     → find plan st port stream ≡ Some x
-    → (is_secure (stream_status (Some x)) ≡ true → is_secure (stream_status (Some y)) ≡ true)
+    → (is_secure (status_if_planned (Some x)) ≡ true → is_secure (status_if_planned (Some y)) ≡ true)
     → (q : PortName) (t : ℕ) (b : Bool) → (is_same_port port q && (stream == t)) ≡ b
-    → is_secure (stream_status (find plan st q t)) ≡ true
-    → is_secure (stream_status (find plan (put plan st port stream y) q t)) ≡ true
+    → is_secure (status_if_planned (find plan st q t)) ≡ true
+    → is_secure (status_if_planned (find plan (put plan st port stream y) q t)) ≡ true
 put_kept plan st port stream x y found keeps q t true same is =
-    at_place port q stream t (λ r n. is_secure (stream_status (find plan st r n)) ≡ true
-    → is_secure (stream_status (find plan (put plan st port stream y) r n)) ≡ true) same
-    (λ old. ap (λ o. is_secure (stream_status o)) (find-put plan st port stream y (ap is_some found))
-    ∙ keeps (ap (λ o. is_secure (stream_status o)) (sym found) ∙ old)) is
+    at_place port q stream t (λ r n. is_secure (status_if_planned (find plan st r n)) ≡ true
+    → is_secure (status_if_planned (find plan (put plan st port stream y) r n)) ≡ true) same
+    (λ old. ap (λ o. is_secure (status_if_planned o)) (find-put plan st port stream y (ap is_some found))
+    ∙ keeps (ap (λ o. is_secure (status_if_planned o)) (sym found) ∙ old)) is
 put_kept plan st port stream x y found keeps q t false other is =
-    ap (λ o. is_secure (stream_status o)) (find-put_other plan st port stream y q t other) ∙ is
+    ap (λ o. is_secure (status_if_planned o)) (find-put_other plan st port stream y q t other) ∙ is
 
 sealed_kept : (plan : Plan) (st : LinkState) (s : Sending) (t : Tlp) (x : StreamState) (o : Option Verdict)
     (ds : List SealedPacket) → find plan st s.port s.stream ≡ Some x
-    → StaySecure plan st (answered plan st s t x o ds).1
+    → StaySecure plan st (stepped_answer plan st s t x o ds).1
 sealed_kept plan st s t x (Some w) ds found q n is = is
 sealed_kept plan st s t x None ds found q n is =
     let sealed = sealed_all (is_closed plan s.port.link s.stream) (head_bytes (header t)) (body t) ds x.tx in
     let y = record x { tx = sealed.1 } in
-    ap (λ o. is_secure (stream_status o)) (find_packets plan (put plan st s.port s.stream y) _ q n)
+    ap (λ o. is_secure (status_if_planned o)) (find_packets plan (put plan st s.port s.stream y) _ q n)
     ∙ put_kept plan st s.port s.stream x y found
     (secure_sealed x (is_closed plan s.port.link s.stream) (head_bytes (header t)) (body t) ds) q n
     (is_same_port s.port q && (s.stream == n)) refl is
 
 found_kept : (plan : Plan) (st : LinkState) (s : Sending) (t : Tlp) (o : Option StreamState)
-    → find plan st s.port s.stream ≡ o → StaySecure plan st (send_found plan st s t o).1
+    → find plan st s.port s.stream ≡ o → StaySecure plan st (stepped_send_found plan st s t o).1
 found_kept plan st s t None found q n is = is
 found_kept plan st s t (Some x) found q n is =
     let lanes = lanes_of (mode_of plan s.port.link s.stream) plan.units_per_key x in
@@ -162,7 +163,7 @@ found_kept plan st s t (Some x) found q n is =
     found q n is
 
 on_kept : (plan : Plan) (beside : Beside) (st : LinkState) (port : PortName) (t : Tlp) (more trusted : Bool)
-    (o : Option ℕ) → StaySecure plan st (send_on plan beside st port t more trusted o).1
+    (o : Option ℕ) → StaySecure plan st (stepped_send_on plan beside st port t more trusted o).1
 on_kept plan beside st port t more trusted None q n is = is
 on_kept plan beside st port t more trusted (Some stream) q n is =
     let s : Sending = record {
@@ -175,7 +176,7 @@ on_kept plan beside st port t more trusted (Some stream) q n is =
     found_kept plan st s t (find plan st port stream) refl q n is
 
 read_kept : (plan : Plan) (beside : Beside) (st : LinkState) (port : PortName) (r : Result Tlp TlpFault)
-    (more trusted : Bool) → StaySecure plan st (send_read plan beside st port r more trusted).1
+    (more trusted : Bool) → StaySecure plan st (stepped_send_read plan beside st port r more trusted).1
 read_kept plan beside st port (Err f) more trusted q n is = is
 read_kept plan beside st port (Ok t) more trusted q n is =
     on_kept plan beside st port t more trusted (choice plan port (header t)) q n is
@@ -185,11 +186,13 @@ port_kept : (plan : Plan) (beside : Beside) (st : LinkState) (port : PortName) (
     → StaySecure plan st (step_of plan beside st (Send port bytes more trusted)).1
 unfolding step_of
 port_kept plan beside st port bytes more trusted true has q n is =
-    subst (λ (b : Bool). is_secure (stream_status (find plan (if b then send_read plan beside st port (read_of bytes)
+    subst (λ (b : Bool). is_secure
+    (status_if_planned (find plan (if b then stepped_send_read plan beside st port (read_of bytes)
     more trusted else (v.Nothing, st)).1 q n)) ≡ true) (sym has)
     (read_kept plan beside st port (read_of bytes) more trusted q n is)
 port_kept plan beside st port bytes more trusted false has q n is =
-    subst (λ (b : Bool). is_secure (stream_status (find plan (if b then send_read plan beside st port (read_of bytes)
+    subst (λ (b : Bool). is_secure
+    (status_if_planned (find plan (if b then stepped_send_read plan beside st port (read_of bytes)
     more trusted else (v.Nothing, st)).1 q n)) ≡ true) (sym has) is
 
 pub secure_kept : (plan : Plan) (beside : Beside) (st : LinkState) (port : PortName) (bytes : List ℕ)

@@ -1,7 +1,7 @@
--- Device interfaces where they stand: at the manager by number, and at the device of a link by place. A number counts
--- the interfaces on earlier links and those ahead on the same link (`located_read`, `located_from`), and the devices of
--- all links have the plan's interfaces, so each place has its site (`site_at_place`). As the requesters of a link
--- differ, a device finds an interface by its requester (`named_there`).
+-- Device interfaces at their places: at the manager by number, and at the device of a link by place. A number counts
+-- the interfaces on earlier links and the earlier ones on the same link (`located_read`, `located_from`), and the
+-- devices of all links have the plan's interfaces, so each place has its site (`site_at_place`). As the requesters of a
+-- link differ, a device finds an interface by its requester (`named_there`).
 use Rattle.std.proofs.Common.{◌≡◌, ℕ, suc, zero, ◌+◌, ◌-◌, ◌<◌, ◌≤◌, false, List, [], ◌∷◌}
 use Rattle.std.proofs.Common.{length, refl, sym, ap, ◌∙◌, subst, arith, Option, Some, None, ⊎_elim}
 use Rattle.std.proofs.lemmas.Bool.{cases_lt, eq-eqb, ne_eqb, lt-ltb, le-ltb, le-leb}
@@ -15,12 +15,12 @@ use Rattle.ide_plan.specs.declared.plan.LinkPlan.{LinkPlan}
 use Rattle.ide_plan.specs.declared.plan.Plan.{Plan}
 use Rattle.interface_states.specs.Sites.{Site, sites}
 use Rattle.tdi_state.specs.Machine.{Tdi}
-use Rattle.tdi_device.specs.Replies.{DeviceTdis, named, named_in, named_at, is_elsewhere, requester_in}
+use Rattle.tdi_device.specs.Replies.{DeviceTdis, named_tdi, named_tdi_in, named_tdi_at, is_elsewhere, requester_in}
 use Rattle.tdi_device.specs.Replies.{has_requester}
-use Rattle.trusted_memory.specs.{Contents}
+use Rattle.trusted_memory.specs.{MemoryContents}
 use Rattle.link_ends.specs.declared.ends.LinkEnds.{LinkEnds}
 use Rattle.link_ends.specs.Hosts.{InterfacesView}
-use Rattle.whole_machine.specs.Machine.{Whole, streams_of}
+use Rattle.whole_machine.specs.Machine.{Whole, whole_streams}
 use Rattle.interface_joins.specs.Joined.{IsAt}
 use Rattle.all_links.specs.Interfaces.{interface_named}
 use Rattle.all_ends.specs.Places.{located}
@@ -189,10 +189,10 @@ whole_id : (r : ℕ) → r ≤ 65535 → requester_in r ≡ r
 whole_id r le = omega arith
 
 named_by : (d : DeviceTdis) (r place : ℕ) (t : Tdi) → r ≤ 65535 → position (has_requester r) d.interfaces ≡ Some place
-    → slice_get d.interfaces place ≡ Some t → named d r ≡ Some (record { place = place; tdi = t })
+    → slice_get d.interfaces place ≡ Some t → named_tdi d r ≡ Some (record { place = place; tdi = t })
 named_by d r place t le found is =
-    rw (near r le) (ap (λ (n : ℕ). named_in d.interfaces (position (has_requester n) d.interfaces)) (whole_id r le)
-    ∙ ap (named_in d.interfaces) found ∙ ap (named_at place) is)
+    rw (near r le) (ap (λ (n : ℕ). named_tdi_in d.interfaces (position (has_requester n) d.interfaces)) (whole_id r le)
+    ∙ ap (named_tdi_in d.interfaces) found ∙ ap (named_tdi_at place) is)
 
 nonces_are : (ls : List LinkPlan) (i : ℕ) (l : LinkPlan) → slice_get ls i ≡ Some l
     → slice_index_or (map (λ (k : LinkPlan). k.nonces) ls) i [] ≡ l.nonces
@@ -200,7 +200,7 @@ nonces_are [] i l is = absurd (none-some l is)
 nonces_are (k ∷ ls) zero l is = ap (λ (j : LinkPlan). j.nonces) (same_Some k l is)
 nonces_are (k ∷ ls) (suc i) l is = nonces_are ls i l is
 
-module _ (plan : Plan) (ends : List LinkEnds) (m : InterfacesView) (memory : Contents) (w : Whole) where
+module _ (plan : Plan) (ends : List LinkEnds) (m : InterfacesView) (memory : MemoryContents) (w : Whole) where
   -- the devices have the plan's interfaces
   held_is : IsBeside plan ends m memory w → length ends ≡ length plan.links → held_in_all ends ≡ length (sites plan)
   held_is beside many =
@@ -257,7 +257,7 @@ module _ (plan : Plan) (ends : List LinkEnds) (m : InterfacesView) (memory : Con
 
   -- ---- by requester
 
-  -- no place ahead of it has its requester
+  -- no place before it has its requester
   requester_ahead : (i k : ℕ) (x : Site) (p : IsPlaced plan ends m w i x) (t : Tdi) → IsBeside plan ends m memory w
       → FitsPlan plan → slice_get (sites plan) i ≡ Some x → k < p.place
       → slice_get p.link_ends.device.interfaces.interfaces k ≡ Some t → t.plan.requester ≡ x.plan.requester → ⊥
@@ -273,7 +273,7 @@ module _ (plan : Plan) (ends : List LinkEnds) (m : InterfacesView) (memory : Con
 
   pub named_there : (i : ℕ) (x : Site) (p : IsPlaced plan ends m w i x) → IsBeside plan ends m memory w
       → FitsPlan plan → slice_get (sites plan) i ≡ Some x
-      → named p.link_ends.device.interfaces p.interface.requester ≡ Some (record { place = p.place; tdi = p.tdi })
+      → named_tdi p.link_ends.device.interfaces p.interface.requester ≡ Some (record { place = p.place; tdi = p.tdi })
   named_there i x p beside fits is =
       let planned = site_planned plan i x fits is in
       let d = p.link_ends.device.interfaces in
@@ -284,13 +284,14 @@ module _ (plan : Plan) (ends : List LinkEnds) (m : InterfacesView) (memory : Con
       (eq-eqb x.plan.requester p.tdi.plan.requester (sym same))
       (λ k t lt there. ne_eqb x.plan.requester t.plan.requester
       (λ alike. requester_ahead i k x p t beside fits is lt there (sym alike))) in
-      ap (named d) requester_is ∙ named_by d x.plan.requester p.place p.tdi within found p.tdi_is
+      ap (named_tdi d) requester_is ∙ named_by d x.plan.requester p.place p.tdi within found p.tdi_is
 
   -- ---- as the operations want it
 
   pub is_at : (i : ℕ) (x : Site) (p : IsPlaced plan ends m w i x) → IsBeside plan ends m memory w → FitsPlan plan
       → slice_get (sites plan) i ≡ Some x
-      → IsAt plan (streams_of plan w) w.faces.used x p.face i p.place m p.link_ends.device.interfaces p.interface p.tdi
+      → IsAt plan (whole_streams plan w) w.faces.used x p.face i p.place m p.link_ends.device.interfaces p.interface
+      p.tdi
   is_at i x p beside fits is =
       let planned = site_planned plan i x fits is in
       let d = beside.devices x.link p.link_ends p.ends_are in

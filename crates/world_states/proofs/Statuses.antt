@@ -1,5 +1,5 @@
--- What a port shows of a stream is what the machine has of it: the machine keeps the states of all ports in one list,
--- of each link the host's and then the device's, so that a port's are read at twice its link and its side.
+-- What a port shows of a stream is what the machine has of it. The machine keeps the states of all ports in one list,
+-- of each link the host's and then the device's. So a port's are read at twice its link and its side.
 use Rattle.std.proofs.Common.{◌≡◌, ℕ, suc, zero, ◌+◌, ◌*◌, Bool, List, [], ◌∷◌, refl, ap, sym, ◌∙◌, arith, Option, Some}
 use Rattle.std.proofs.Common.{None}
 use Rattle.std.proofs.lemmas.Option.{none-some, same_Some}
@@ -14,7 +14,7 @@ use Rattle.ide_plan.specs.declared.stream.StreamPlan.{StreamPlan}
 use Rattle.key_laws.specs.History.{status_by as key_status}
 use Rattle.key_laws.specs.Places.{sent_direction}
 use Rattle.stream_rules.specs.Stream.{StreamState}
-use Rattle.stream_calls.specs.Calls.{stream_status, status_by as call_status}
+use Rattle.sub_stream.specs.Calls.{stream_status, status_by as call_status}
 use Rattle.tsm_host.specs.Streams.{status_or_idle}
 use Rattle.ide_port.specs.{Found, found, status_in}
 use Rattle.device_side.specs.Ends.{says_secure, secure_at}
@@ -55,8 +55,8 @@ find_is : (plan : Plan) (ends : List LinkEnds) (k : KeeperView) (packets : List 
     ≡ option_map (λ (f : Found). f.state) (found (port_in s l).plans (port_in s l).states stream)
 unfolding find
 find_is plan ends k packets s link stream l links is =
-    ap (λ (xs : List StreamState). machine.found (streams_of plan link) xs stream) (states_at ends s link l is)
-    ∙ ap (λ (ss : List StreamPlan). machine.found ss (port_in s l).states stream)
+    ap (λ (xs : List StreamState). machine.found_by_id (streams_of plan link) xs stream) (states_at ends s link l is)
+    ∙ ap (λ (ss : List StreamPlan). machine.found_by_id ss (port_in s l).states stream)
     (sym (plans_are plan link l s (links.each_link link l is)))
     ∙ machine_found (port_in s l).plans (port_in s l).states stream
 
@@ -66,7 +66,7 @@ status_same : (a b c : Bool) → call_status a b c ≡ key_status a b c
 status_same a b c = grind arith
 
 status_shown : (o : Option Found) → status_or_idle (option_map (λ (f : Found). stream_status f.state) o)
-    ≡ machine.stream_status (option_map (λ (f : Found). f.state) o)
+    ≡ machine.status_if_planned (option_map (λ (f : Found). f.state) o)
 status_shown None = refl
 status_shown (Some f) = status_same f.state.failed (machine.some_live f.state) (machine.all_live f.state)
 
@@ -75,7 +75,7 @@ status_is : (plan : Plan) (ends : List LinkEnds) (k : KeeperView) (packets : Lis
     → status_or_idle (status_in (port_in s l) stream) ≡ status_at plan (state_of plan ends k packets) s link stream
 status_is plan ends k packets s link stream l links is =
     status_shown (found (port_in s l).plans (port_in s l).states stream)
-    ∙ ap machine.stream_status (sym (find_is plan ends k packets s link stream l links is))
+    ∙ ap machine.status_if_planned (sym (find_is plan ends k packets s link stream l links is))
 
 pub host_status_is : (plan : Plan) (ends : List LinkEnds) (k : KeeperView) (packets : List LinkPacket)
     (link stream : ℕ) (l : LinkEnds) → AreLinks plan ends k → slice_get ends link ≡ Some l

@@ -1,3 +1,3 @@
 pub mod Whole
 pub mod Worlds
-pub use Rattle.world_states.specs.Worlds.{WorldView, Stands, IsNew, IsStep, HasStood}
+pub use Rattle.world_states.specs.Worlds.{WorldView, Stands, IsNewWorld, IsStep, HasStood}

@@ -8,7 +8,7 @@ use Rattle.whole_machine.specs.Machine.{Whole, secure_in}
 use Rattle.tdi_state.specs.Machine.{Tdi, bound_stream}
 use Rattle.tdi_host.specs.Views.{HostTdi}
 use Rattle.interface_joins.specs.Faces.{IsFace}
-use Rattle.trusted_memory.specs.{Contents, IsLeftBy}
+use Rattle.trusted_memory.specs.{MemoryContents, IsLeftBy}
 use Rattle.link_ends.specs.declared.ends.LinkEnds.{LinkEnds}
 use Rattle.link_ends.specs.Hosts.{InterfacesView}
 use Rattle.all_ends.specs.Places.{located}
@@ -39,7 +39,8 @@ pub record IsDevice (plan : Plan) (w : Whole) (link : ℕ) (l : LinkEnds) : Type
 
 -- Each interface of the topology stands at its place, and there are no others; memory holds what the admitted writes
 -- left.
-pub record IsBeside (plan : Plan) (ends : List LinkEnds) (m : InterfacesView) (memory : Contents) (w : Whole) : Type 0
+pub record IsBeside (plan : Plan) (ends : List LinkEnds) (m : InterfacesView) (memory : MemoryContents) (w : Whole) :
+    Type 0
   where
     pub portion : m.portion ≡ plan.portion
     pub managed : length m.interfaces ≡ length (sites plan)

@@ -11,7 +11,7 @@ use Rattle.whole_machine.specs.Machine.{Whole}
 use Rattle.whole_machine.specs.Stands.{StandsFor}
 use Rattle.link_ends.specs.declared.ends.LinkEnds.{LinkEnds}
 use Rattle.link_ends.specs.Hosts.{InterfacesView}
-use Rattle.trusted_memory.specs.{Contents}
+use Rattle.trusted_memory.specs.{MemoryContents}
 use Rattle.all_links.specs.declared.links.Links.{Links}
 use Rattle.all_ends.specs.States.{IsBounded, AreLinks}
 use Rattle.all_links.specs.Links.{links_state}
@@ -24,7 +24,7 @@ pub record WorldView : Type 0 where
   pub state : LinkState
   pub ends : List LinkEnds
   pub interfaces : InterfacesView
-  pub memory : Contents
+  pub memory : MemoryContents
   pub steps : ℕ
 
 -- The world is a state of the whole machine: of its ports that state itself; of interfaces and memory what the machine
@@ -40,13 +40,13 @@ pub record Stands (s : WorldView) (h : History) : Type 0 where
   pub stands : StandsFor s.plan whole h
 
 -- before the first event
-pub record IsNew (plan : Plan) (s : WorldView) : Type 0 where
+pub record IsNewWorld (plan : Plan) (s : WorldView) : Type 0 where
   pub plan_is : s.plan ≡ plan
   pub steps_are : s.steps ≡ 0
   pub stands : Stands s []
 
 -- The verdict is the one that is due after the events before it, the world stands for the history with it, and a slot
--- holds the key of a draw exactly where the draw is kept then.
+-- holds the key of a draw exactly if the draw is kept then.
 pub record HasStood (h : History) (event : Event) (verdict : Verdict) (old new : WorldView) : Type 0 where
   pub due_is : verdict ≡ due old.plan h event
   pub stands : Stands new ((event, verdict) ∷ h)

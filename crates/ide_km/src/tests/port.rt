@@ -3,7 +3,8 @@
 ghost use Rattle.std.specs.Prelude.{◌≡◌, ◌&&◌, nat_lt, if◌then◌else◌, Some, None};
 ghost use Rattle.ide_km.specs.Calls.{is_same_place, place_at};
 
-use crate::{ProgramFault, SlotPort};
+use crate::{Place, ProgramFault, SlotPort};
+use ide_types::KeySet;
 use key_slots::{Key, OnlyLive, Slots};
 
 /// A port that has stream 5 in one direction and one sub-stream. Tests look at its slots.
@@ -16,16 +17,18 @@ pub struct OnePort {
 }
 
 impl OnePort {
-    fn has(&self, stream: u8, dir: u8, sub: u8) -> bool
+    fn has(&self, place: Place) -> bool
         ensures { let own = place_at 5 self.now.direction self.now.sub in
-            result ≡ (is_same_place (place_at stream dir sub) own && nat_lt sub 3) }
+            result ≡ (is_same_place place own && nat_lt place.sub 3) }
     {
-        ((stream == 5 && dir == self.direction) && sub == self.sub) && sub < 3
+        ((place.stream == 5 && place.direction == self.direction) && place.sub == self.sub)
+            && place.sub < 3
     }
 }
 
 impl SlotPort for OnePort {
-    ghost use Rattle.ide_km.specs.Calls.{Place, PortCall};
+    ghost use Rattle.ide_km.specs.declared.place.Place.{Place};
+    ghost use Rattle.ide_km.specs.Calls.{PortCall};
 
     ghost slots = { λ port place.
         if is_same_place place (place_at 5 port.direction port.sub) then Some port.slots else None };
@@ -36,14 +39,12 @@ impl SlotPort for OnePort {
 
     fn program(
         &mut self,
-        stream: u8,
-        set: u8,
-        dir: u8,
-        sub: u8,
+        place: Place,
+        set: KeySet,
         key: Key,
         draw: u32,
     ) -> Result<(), ProgramFault> {
-        if !self.has(stream, dir, sub) {
+        if !self.has(place) {
             return Err(ProgramFault::NoPlace(key));
         }
         match self.slots.program(set, key, draw) {
@@ -52,12 +53,12 @@ impl SlotPort for OnePort {
         }
     }
 
-    fn go(&mut self, stream: u8, set: u8, dir: u8, sub: u8) -> bool {
-        self.has(stream, dir, sub) && self.slots.arm(set, self.unfinished).is_ok()
+    fn go(&mut self, place: Place, set: KeySet) -> bool {
+        self.has(place) && self.slots.arm(set, self.unfinished).is_ok()
     }
 
-    fn halt(&mut self, stream: u8, set: u8, dir: u8, sub: u8) -> bool {
-        if !self.has(stream, dir, sub) {
+    fn halt(&mut self, place: Place, set: KeySet) -> bool {
+        if !self.has(place) {
             return false;
         }
         self.slots.halt(set);

@@ -1,13 +1,12 @@
 use Rattle.all_ends.proofs.Terms.{map, take, packet_write, ◌≡◌, ◌∙◌, ap, sym, subst, List, ◌++◌, [], ◌∷◌, arith}
 use Rattle.all_ends.proofs.Terms.{length-append, Region, Write, Option, Packet, Leads, marked_effect, marked_write}
-use Rattle.all_ends.proofs.Terms.{port_in}
 use Rattle.all_ends.specs.AllEnds.{grants_in}
 use Rattle.all_ends.proofs.Effects.{one_more, one_more_write}
 use Rattle.all_ends.proofs.verdicts.effects.Goals as goal
 
 pub loop-i-preserved : goal.loop-i-preserved
 loop-i-preserved c =
-    let ps : List Packet = (port_in c.args.port.side c.args.ends.now).delivered in
+    let ps : List Packet = c.args.packets.now in
     let regions : List Region = c.args.memory.now.contents.regions in
     let grants = grants_in c.args.keeper.now in
     let same : c.loop-i.memory.contents.regions ≡ regions = c.loop-i.invariant.2 in

@@ -1,10 +1,10 @@
-use Rattle.all_ends.proofs.Terms.{◌≡◌, ◌≤◌, ◌+◌, length, take, map, port_in, Leads, packet_effect, packet_write}
+use Rattle.all_ends.proofs.Terms.{◌≡◌, ◌≤◌, ◌+◌, length, take, map, Leads, packet_effect, packet_write}
 use Rattle.all_ends.specs.AllEnds.{grants_in}
 use Rattle.all_ends.proofs.verdicts.effects.Given as goal
 
 abbrev pub invariant-loop-i : goal.invariant-loop-i
 invariant-loop-i l =
-    let ps = take l.i (port_in l.port.side l.ends).delivered in
+    let ps = take l.i l.packets in
     let regions = l.initial.memory.contents.regions in
     (l.list ≡ map (packet_effect regions (grants_in l.keeper) l.port l.unit) ps)
     × (length l.list ≡ l.i)

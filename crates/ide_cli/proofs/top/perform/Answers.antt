@@ -1,191 +1,162 @@
-use Rattle.std.proofs.Common.{map, string_bytes}
+use Rattle.std.proofs.Common.{[], Err, refl}
+use Rattle.line_runs.specs.declared.ends.End.TheVariants as end
 use Rattle.line_runs.specs.declared.ends.Fault.TheVariants as fault
-use Rattle.ide_words.specs.Words.{asked, check, generate, migrate, run, show}
-use Rattle.ide_cli.specs.SoFar.{asked_so_far, lines_given}
+use Rattle.line_runs.specs.Outcome.{Due}
+use Rattle.ide_words.specs.Words.{check, migrate, run, show}
+use Rattle.ide_cli.specs.Generated.{generated_due}
+use Rattle.ide_cli.specs.Seen.{CallSeen, call_seen}
 use Rattle.ide_cli.proofs.Requests.{answered_check, answered_generate, answered_run, answered_show}
 use Rattle.ide_cli.proofs.Requests.{answered_without_memory, asks_for, asks_for_none, asks_nothing}
-use Rattle.ide_cli.proofs.Requests.{asks_other, asks_these, generated_without_memory}
-use Rattle.ide_cli.proofs.Furthers.{asked_far, none_is_read, nothing_read}
-use Rattle.ide_cli.proofs.Loads.{no_line_at_first, no_line_wrote, nothing_yet}
-use Rattle.ide_cli.proofs.Stops.{asked_wrote, none_at_first}
+use Rattle.ide_cli.proofs.Requests.{asks_other, asks_these, ran_without_memory}
+use Rattle.ide_cli.proofs.Furthers.{asked_far, nothing_read}
+use Rattle.ide_cli.proofs.Stops.{asked_wrote, wrote_no_line}
+use Rattle.ide_cli.proofs.top.perform.Given.{Over}
 use Rattle.ide_cli.proofs.top.perform.Goals as goal
+
+-- what is seen of the call, by what the words ask for
+abbrev seen_usage : (g : Over) → goal.After-finish g → CallSeen
+seen_usage g c = call_seen g.S.Shelf.seen g.O.Sink.seen c.args.words.now c.args.shelf.now c.args.shelf.now
+    c.args.out.now c.finish.new.out c.finish.result
+
+abbrev seen_memory : (g : Over) → goal.In-Err-Memory g → CallSeen
+seen_memory g c = call_seen g.S.Shelf.seen g.O.Sink.seen c.args.words.now c.args.shelf.now c.args.shelf.now
+    c.args.out.now c.args.out.now (Err fault.Memory)
+
+abbrev seen_run : (g : Over) → goal.After-run_files g → CallSeen
+seen_run g c = call_seen g.S.Shelf.seen g.O.Sink.seen c.args.words.now c.args.shelf.now c.run_files.new.shelf
+    c.args.out.now c.run_files.new.out c.run_files.result
+
+abbrev seen_check : (g : Over) → goal.After-check_topology g → CallSeen
+seen_check g c = call_seen g.S.Shelf.seen g.O.Sink.seen c.args.words.now c.args.shelf.now c.check_topology.new.shelf
+    c.args.out.now c.check_topology.new.out c.check_topology.result
+
+abbrev seen_migrate : (g : Over) → goal.After-migrate_topology g → CallSeen
+seen_migrate g c = call_seen g.S.Shelf.seen g.O.Sink.seen c.args.words.now c.args.shelf.now c.migrate_topology.new.shelf
+    c.args.out.now c.migrate_topology.new.out c.migrate_topology.result
+
+abbrev seen_show : (g : Over) → goal.After-show_packets g → CallSeen
+seen_show g c = call_seen g.S.Shelf.seen g.O.Sink.seen c.args.words.now c.args.shelf.now c.show_packets.new.shelf
+    c.args.out.now c.show_packets.new.out c.show_packets.result
+
+abbrev seen_generate : (g : Over) → goal.After-generate g → CallSeen
+seen_generate g c = call_seen g.S.Shelf.seen g.O.Sink.seen c.args.words.now c.args.shelf.now c.args.shelf.now
+    c.args.out.now c.generate.new.out c.generate.result
 
 pub returns-in-Err-Usage-clause-answers : goal.returns-in-Err-Usage-clause-answers
 returns-in-Err-Usage-clause-answers g c =
-    let is = rw c.in-Err-Usage.field-0-is at c.in-Err-Usage.ensures.err in
-    asks_nothing (map string_bytes c.args.words.now) (g.S.Shelf.seen c.args.shelf.now) (g.O.Sink.seen c.args.out.now)
-    (g.O.Sink.seen c.finish.new.out) c.finish.result is c.finish.ensures.ran
+    asks_nothing (rw c.in-Err-Usage.field-0-is at c.in-Err-Usage.ensures.err) c.finish.ensures.ran
 
 pub returns-in-Err-Memory-clause-answers : goal.returns-in-Err-Memory-clause-answers
-returns-in-Err-Memory-clause-answers g c = answered_without_memory (asked (map string_bytes c.args.words.now))
-    (g.S.Shelf.seen c.args.shelf.now) (g.O.Sink.seen c.args.out.now)
+returns-in-Err-Memory-clause-answers g c = answered_without_memory _ _ _
 
 pub returns-in-Ok-Run-clause-answers : goal.returns-in-Ok-Run-clause-answers
 returns-in-Ok-Run-clause-answers g c =
-    let is = rw c.in-Ok-Run.field-0-is at c.in-Ok-Run.ensures.ok in
-    asks_for (map string_bytes c.args.words.now) (run c.in-Ok-Run.topology.now c.in-Ok-Run.script.now)
-    (g.S.Shelf.seen c.args.shelf.now)
-    (g.S.Shelf.seen c.run_files.new.shelf) (g.O.Sink.seen c.args.out.now) (g.O.Sink.seen c.run_files.new.out)
-    c.run_files.result is
+    asks_for (rw c.in-Ok-Run.field-0-is at c.in-Ok-Run.ensures.ok)
     (answered_run _ _ _ _ _ _ _ c.run_files.ensures.answers)
 
 pub returns-in-Ok-Check-clause-answers : goal.returns-in-Ok-Check-clause-answers
 returns-in-Ok-Check-clause-answers g c =
-    let is = rw c.in-Ok-Check.field-0-is at c.in-Ok-Check.ensures.ok in
-    asks_for (map string_bytes c.args.words.now) (check c.in-Ok-Check.topology.now) (g.S.Shelf.seen c.args.shelf.now)
-    (g.S.Shelf.seen c.check_topology.new.shelf) (g.O.Sink.seen c.args.out.now) (g.O.Sink.seen c.check_topology.new.out)
-    c.check_topology.result is
+    asks_for (rw c.in-Ok-Check.field-0-is at c.in-Ok-Check.ensures.ok)
     (answered_check _ _ _ _ _ _ c.check_topology.ensures.answers)
 
 pub returns-in-Ok-Migrate-clause-answers : goal.returns-in-Ok-Migrate-clause-answers
 returns-in-Ok-Migrate-clause-answers g c =
-    let is = rw c.in-Ok-Migrate.field-0-is at c.in-Ok-Migrate.ensures.ok in
-    asks_for (map string_bytes c.args.words.now) (migrate c.in-Ok-Migrate.topology.now)
-    (g.S.Shelf.seen c.args.shelf.now)
-    (g.S.Shelf.seen c.migrate_topology.new.shelf) (g.O.Sink.seen c.args.out.now)
-    (g.O.Sink.seen c.migrate_topology.new.out) c.migrate_topology.result is
-    c.migrate_topology.ensures.answers
+    asks_for (rw c.in-Ok-Migrate.field-0-is at c.in-Ok-Migrate.ensures.ok) c.migrate_topology.ensures.answers
 
 pub returns-in-Ok-Show-clause-answers : goal.returns-in-Ok-Show-clause-answers
 returns-in-Ok-Show-clause-answers g c =
-    let is = rw c.in-Ok-Show.field-0-is at c.in-Ok-Show.ensures.ok in
-    asks_for (map string_bytes c.args.words.now) (show c.in-Ok-Show.packets.now) (g.S.Shelf.seen c.args.shelf.now)
-    (g.S.Shelf.seen c.show_packets.new.shelf) (g.O.Sink.seen c.args.out.now) (g.O.Sink.seen c.show_packets.new.out)
-    c.show_packets.result is
+    asks_for (rw c.in-Ok-Show.field-0-is at c.in-Ok-Show.ensures.ok)
     (answered_show _ _ _ _ _ _ c.show_packets.ensures.answers)
 
 pub returns-in-Ok-Generate-clause-answers : goal.returns-in-Ok-Generate-clause-answers
 returns-in-Ok-Generate-clause-answers g c =
-    let is = rw c.in-Ok-Generate.field-0-is at c.in-Ok-Generate.ensures.ok in
-    asks_for (map string_bytes c.args.words.now) (generate c.in-Ok-Generate.seed c.in-Ok-Generate.count)
-    (g.S.Shelf.seen c.args.shelf.now)
-    (g.S.Shelf.seen c.args.shelf.now) (g.O.Sink.seen c.args.out.now) (g.O.Sink.seen c.generate.new.out)
-    c.generate.result is
-    (answered_generate _ _ (g.S.Shelf.seen c.args.shelf.now) _ _ _ c.generate.ensures.ran)
+    asks_for (rw c.in-Ok-Generate.field-0-is at c.in-Ok-Generate.ensures.ok)
+    (answered_generate _ _ _ _ _ _ c.generate.ensures.ran)
 
 pub returns-in-Err-Usage-clause-so_far : goal.returns-in-Err-Usage-clause-so_far
-returns-in-Err-Usage-clause-so_far g c =
-    let a = asked (map string_bytes c.args.words.now) in
-    no_line_wrote (asked_so_far a) (lines_given a) _ (g.S.Shelf.seen c.args.shelf.now) (g.S.Shelf.seen c.args.shelf.now)
-    (g.O.Sink.seen c.args.out.now) (g.O.Sink.seen c.finish.new.out) c.finish.result
-    (no_line_at_first (asked_so_far a) (lines_given a) (g.S.Shelf.seen c.args.shelf.now).contents _ (none_at_first a))
-    c.finish.ensures.ran
+returns-in-Err-Usage-clause-so_far g c = wrote_no_line (seen_usage g c) _ refl c.finish.ensures.ran
 
 pub returns-in-Err-Memory-clause-so_far : goal.returns-in-Err-Memory-clause-so_far
 returns-in-Err-Memory-clause-so_far g c =
-    let a = asked (map string_bytes c.args.words.now) in
-    nothing_yet fault.Memory (asked_so_far a) (lines_given a) (g.S.Shelf.seen c.args.shelf.now)
-    (g.S.Shelf.seen c.args.shelf.now) (g.O.Sink.seen c.args.out.now)
-    (no_line_at_first (asked_so_far a) (lines_given a) (g.S.Shelf.seen c.args.shelf.now).contents _ (none_at_first a))
-
-pub returns-in-Ok-Show-clause-so_far : goal.returns-in-Ok-Show-clause-so_far
-returns-in-Ok-Show-clause-so_far g c =
-    let is = rw c.in-Ok-Show.field-0-is at c.in-Ok-Show.ensures.ok in
-    asked_wrote (asked (map string_bytes c.args.words.now)) (show c.in-Ok-Show.packets.now)
-    (g.S.Shelf.seen c.args.shelf.now) (g.S.Shelf.seen c.show_packets.new.shelf) (g.O.Sink.seen c.args.out.now)
-    (g.O.Sink.seen c.show_packets.new.out)
-    c.show_packets.result is c.show_packets.ensures.so_far
+    let nothing : Due = (end.Usage, []) in
+    wrote_no_line (seen_memory g c) nothing refl (ran_without_memory nothing (g.O.Sink.seen c.args.out.now))
 
 pub returns-in-Ok-Run-clause-so_far : goal.returns-in-Ok-Run-clause-so_far
 returns-in-Ok-Run-clause-so_far g c =
-    let is = rw c.in-Ok-Run.field-0-is at c.in-Ok-Run.ensures.ok in
-    asked_wrote (asked (map string_bytes c.args.words.now)) (run c.in-Ok-Run.topology.now c.in-Ok-Run.script.now)
-    (g.S.Shelf.seen c.args.shelf.now) (g.S.Shelf.seen c.run_files.new.shelf) (g.O.Sink.seen c.args.out.now)
-    (g.O.Sink.seen c.run_files.new.out) c.run_files.result is c.run_files.ensures.so_far
-
-pub returns-in-Err-Usage-clause-no_further : goal.returns-in-Err-Usage-clause-no_further
-returns-in-Err-Usage-clause-no_further g c =
-    nothing_read (asked (map string_bytes c.args.words.now)) (g.S.Shelf.seen c.args.shelf.now) c.finish.result
-    (rw c.in-Err-Usage.field-0-is at c.in-Err-Usage.ensures.err)
-
-pub returns-in-Ok-Run-clause-no_further : goal.returns-in-Ok-Run-clause-no_further
-returns-in-Ok-Run-clause-no_further g c =
-    let is = rw c.in-Ok-Run.field-0-is at c.in-Ok-Run.ensures.ok in
-    asked_far (asked (map string_bytes c.args.words.now)) (run c.in-Ok-Run.topology.now c.in-Ok-Run.script.now)
-    (g.S.Shelf.seen c.args.shelf.now) (g.S.Shelf.seen c.run_files.new.shelf) c.run_files.result is
-    c.run_files.ensures.no_further
-
-pub returns-in-Ok-Check-clause-no_further : goal.returns-in-Ok-Check-clause-no_further
-returns-in-Ok-Check-clause-no_further g c =
-    let is = rw c.in-Ok-Check.field-0-is at c.in-Ok-Check.ensures.ok in
-    asked_far (asked (map string_bytes c.args.words.now)) (check c.in-Ok-Check.topology.now)
-    (g.S.Shelf.seen c.args.shelf.now) (g.S.Shelf.seen c.check_topology.new.shelf) c.check_topology.result is
-    c.check_topology.ensures.no_further
-
-pub returns-in-Ok-Show-clause-no_further : goal.returns-in-Ok-Show-clause-no_further
-returns-in-Ok-Show-clause-no_further g c =
-    let is = rw c.in-Ok-Show.field-0-is at c.in-Ok-Show.ensures.ok in
-    asked_far (asked (map string_bytes c.args.words.now)) (show c.in-Ok-Show.packets.now)
-    (g.S.Shelf.seen c.args.shelf.now) (g.S.Shelf.seen c.show_packets.new.shelf) c.show_packets.result is
-    c.show_packets.ensures.no_further
+    asked_wrote (seen_run g c) _ (rw c.in-Ok-Run.field-0-is at c.in-Ok-Run.ensures.ok) c.run_files.ensures.so_far
 
 pub returns-in-Ok-Check-clause-so_far : goal.returns-in-Ok-Check-clause-so_far
 returns-in-Ok-Check-clause-so_far g c =
-    let is = rw c.in-Ok-Check.field-0-is at c.in-Ok-Check.ensures.ok in
-    asked_wrote (asked (map string_bytes c.args.words.now)) (check c.in-Ok-Check.topology.now)
-    (g.S.Shelf.seen c.args.shelf.now) (g.S.Shelf.seen c.check_topology.new.shelf) (g.O.Sink.seen c.args.out.now)
-    (g.O.Sink.seen c.check_topology.new.out) c.check_topology.result is c.check_topology.ensures.so_far
+    asked_wrote (seen_check g c) _ (rw c.in-Ok-Check.field-0-is at c.in-Ok-Check.ensures.ok)
+    c.check_topology.ensures.so_far
 
 pub returns-in-Ok-Migrate-clause-so_far : goal.returns-in-Ok-Migrate-clause-so_far
 returns-in-Ok-Migrate-clause-so_far g c =
-    let is = rw c.in-Ok-Migrate.field-0-is at c.in-Ok-Migrate.ensures.ok in
-    asked_wrote (asked (map string_bytes c.args.words.now)) (migrate c.in-Ok-Migrate.topology.now)
-    (g.S.Shelf.seen c.args.shelf.now) (g.S.Shelf.seen c.migrate_topology.new.shelf) (g.O.Sink.seen c.args.out.now)
-    (g.O.Sink.seen c.migrate_topology.new.out) c.migrate_topology.result is c.migrate_topology.ensures.so_far
+    asked_wrote (seen_migrate g c) _ (rw c.in-Ok-Migrate.field-0-is at c.in-Ok-Migrate.ensures.ok)
+    c.migrate_topology.ensures.so_far
+
+pub returns-in-Ok-Show-clause-so_far : goal.returns-in-Ok-Show-clause-so_far
+returns-in-Ok-Show-clause-so_far g c =
+    asked_wrote (seen_show g c) _ (rw c.in-Ok-Show.field-0-is at c.in-Ok-Show.ensures.ok) c.show_packets.ensures.so_far
+
+pub returns-in-Ok-Generate-clause-so_far : goal.returns-in-Ok-Generate-clause-so_far
+returns-in-Ok-Generate-clause-so_far g c = wrote_no_line (seen_generate g c) _ refl c.generate.ensures.ran
+
+pub returns-in-Err-Usage-clause-no_further : goal.returns-in-Err-Usage-clause-no_further
+returns-in-Err-Usage-clause-no_further g c =
+    nothing_read (seen_usage g c) _ (rw c.in-Err-Usage.field-0-is at c.in-Err-Usage.ensures.err) refl (λ contents
+    ahead. refl)
+
+pub returns-in-Ok-Run-clause-no_further : goal.returns-in-Ok-Run-clause-no_further
+returns-in-Ok-Run-clause-no_further g c =
+    asked_far (seen_run g c) _ (rw c.in-Ok-Run.field-0-is at c.in-Ok-Run.ensures.ok) c.run_files.ensures.no_further
+
+pub returns-in-Ok-Check-clause-no_further : goal.returns-in-Ok-Check-clause-no_further
+returns-in-Ok-Check-clause-no_further g c =
+    asked_far (seen_check g c) _ (rw c.in-Ok-Check.field-0-is at c.in-Ok-Check.ensures.ok)
+    c.check_topology.ensures.no_further
 
 pub returns-in-Ok-Migrate-clause-no_further : goal.returns-in-Ok-Migrate-clause-no_further
 returns-in-Ok-Migrate-clause-no_further g c =
-    let is = rw c.in-Ok-Migrate.field-0-is at c.in-Ok-Migrate.ensures.ok in
-    asked_far (asked (map string_bytes c.args.words.now)) (migrate c.in-Ok-Migrate.topology.now)
-    (g.S.Shelf.seen c.args.shelf.now) (g.S.Shelf.seen c.migrate_topology.new.shelf) c.migrate_topology.result is
+    asked_far (seen_migrate g c) _ (rw c.in-Ok-Migrate.field-0-is at c.in-Ok-Migrate.ensures.ok)
     c.migrate_topology.ensures.no_further
 
-pub returns-in-Ok-Generate-clause-so_far : goal.returns-in-Ok-Generate-clause-so_far
-returns-in-Ok-Generate-clause-so_far g c =
-    let a = asked (map string_bytes c.args.words.now) in
-    no_line_wrote (asked_so_far a) (lines_given a) _ (g.S.Shelf.seen c.args.shelf.now) (g.S.Shelf.seen c.args.shelf.now)
-    (g.O.Sink.seen c.args.out.now) (g.O.Sink.seen c.generate.new.out) c.generate.result
-    (no_line_at_first (asked_so_far a) (lines_given a) (g.S.Shelf.seen c.args.shelf.now).contents _ (none_at_first a))
-    c.generate.ensures.ran
+pub returns-in-Ok-Show-clause-no_further : goal.returns-in-Ok-Show-clause-no_further
+returns-in-Ok-Show-clause-no_further g c =
+    asked_far (seen_show g c) _ (rw c.in-Ok-Show.field-0-is at c.in-Ok-Show.ensures.ok)
+    c.show_packets.ensures.no_further
 
 pub returns-in-Ok-Generate-clause-no_further : goal.returns-in-Ok-Generate-clause-no_further
 returns-in-Ok-Generate-clause-no_further g c =
-    let is = rw c.in-Ok-Generate.field-0-is at c.in-Ok-Generate.ensures.ok in
-    none_is_read (asked (map string_bytes c.args.words.now)) c.in-Ok-Generate.seed c.in-Ok-Generate.count
-    (g.S.Shelf.seen c.args.shelf.now) c.generate.result is
-
-pub returns-in-Ok-Run-clause-generated : goal.returns-in-Ok-Run-clause-generated
-returns-in-Ok-Run-clause-generated g c =
-    let is = rw c.in-Ok-Run.field-0-is at c.in-Ok-Run.ensures.ok in
-    asks_other (map string_bytes c.args.words.now) (run c.in-Ok-Run.topology.now c.in-Ok-Run.script.now) _ _ _ is
-    (λ seed count e. cc)
-
-pub returns-in-Ok-Check-clause-generated : goal.returns-in-Ok-Check-clause-generated
-returns-in-Ok-Check-clause-generated g c =
-    let is = rw c.in-Ok-Check.field-0-is at c.in-Ok-Check.ensures.ok in
-    asks_other (map string_bytes c.args.words.now) (check c.in-Ok-Check.topology.now) _ _ _ is (λ seed count e. cc)
-
-pub returns-in-Ok-Migrate-clause-generated : goal.returns-in-Ok-Migrate-clause-generated
-returns-in-Ok-Migrate-clause-generated g c =
-    let is = rw c.in-Ok-Migrate.field-0-is at c.in-Ok-Migrate.ensures.ok in
-    asks_other (map string_bytes c.args.words.now) (migrate c.in-Ok-Migrate.topology.now) _ _ _ is (λ seed count e. cc)
-
-pub returns-in-Ok-Show-clause-generated : goal.returns-in-Ok-Show-clause-generated
-returns-in-Ok-Show-clause-generated g c =
-    let is = rw c.in-Ok-Show.field-0-is at c.in-Ok-Show.ensures.ok in
-    asks_other (map string_bytes c.args.words.now) (show c.in-Ok-Show.packets.now) _ _ _ is (λ seed count e. cc)
-
-pub returns-in-Ok-Generate-clause-generated : goal.returns-in-Ok-Generate-clause-generated
-returns-in-Ok-Generate-clause-generated g c =
-    let is = rw c.in-Ok-Generate.field-0-is at c.in-Ok-Generate.ensures.ok in
-    asks_these (map string_bytes c.args.words.now) c.in-Ok-Generate.seed c.in-Ok-Generate.count
-    (g.O.Sink.seen c.args.out.now) (g.O.Sink.seen c.generate.new.out) c.generate.result is c.generate.ensures.ran
+    nothing_read (seen_generate g c) _ (rw c.in-Ok-Generate.field-0-is at c.in-Ok-Generate.ensures.ok) refl (λ
+    contents ahead. refl)
 
 pub returns-in-Err-Usage-clause-generated : goal.returns-in-Err-Usage-clause-generated
 returns-in-Err-Usage-clause-generated g c =
-    let is = rw c.in-Err-Usage.field-0-is at c.in-Err-Usage.ensures.err in
-    asks_for_none (map string_bytes c.args.words.now) _ _ _ is
+    asks_for_none (seen_usage g c) (rw c.in-Err-Usage.field-0-is at c.in-Err-Usage.ensures.err)
 
 pub returns-in-Err-Memory-clause-generated : goal.returns-in-Err-Memory-clause-generated
-returns-in-Err-Memory-clause-generated g c =
-    generated_without_memory (map string_bytes c.args.words.now) (g.O.Sink.seen c.args.out.now)
+returns-in-Err-Memory-clause-generated g c seed count asks =
+    ran_without_memory (generated_due seed count) (g.O.Sink.seen c.args.out.now)
+
+pub returns-in-Ok-Run-clause-generated : goal.returns-in-Ok-Run-clause-generated
+returns-in-Ok-Run-clause-generated g c =
+    asks_other (seen_run g c) (run _ _) (rw c.in-Ok-Run.field-0-is at c.in-Ok-Run.ensures.ok) (λ seed count e. cc)
+
+pub returns-in-Ok-Check-clause-generated : goal.returns-in-Ok-Check-clause-generated
+returns-in-Ok-Check-clause-generated g c =
+    asks_other (seen_check g c) (check _) (rw c.in-Ok-Check.field-0-is at c.in-Ok-Check.ensures.ok) (λ seed count e. cc)
+
+pub returns-in-Ok-Migrate-clause-generated : goal.returns-in-Ok-Migrate-clause-generated
+returns-in-Ok-Migrate-clause-generated g c =
+    asks_other (seen_migrate g c) (migrate _) (rw c.in-Ok-Migrate.field-0-is at c.in-Ok-Migrate.ensures.ok) (λ seed
+    count e. cc)
+
+pub returns-in-Ok-Show-clause-generated : goal.returns-in-Ok-Show-clause-generated
+returns-in-Ok-Show-clause-generated g c =
+    asks_other (seen_show g c) (show _) (rw c.in-Ok-Show.field-0-is at c.in-Ok-Show.ensures.ok) (λ seed count e. cc)
+
+pub returns-in-Ok-Generate-clause-generated : goal.returns-in-Ok-Generate-clause-generated
+returns-in-Ok-Generate-clause-generated g c =
+    asks_these (seen_generate g c) _ _ (rw c.in-Ok-Generate.field-0-is at c.in-Ok-Generate.ensures.ok)
+    c.generate.ensures.ran

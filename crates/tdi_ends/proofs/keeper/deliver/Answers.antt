@@ -1,15 +1,15 @@
 use Rattle.std.proofs.Common.{◌++◌, ap, ◌∙◌}
 use Rattle.tdisp_codec.specs.Requests.{request_spelling}
-use Rattle.tdi_host.specs.Managers.{current, request_asked}
+use Rattle.tdi_host.specs.Managers.{current_interface, interface_request}
 use Rattle.tdi_device.specs.Replies.{answer_bytes}
 use Rattle.tdi_ends.proofs.Carried.{some_map}
 use Rattle.tdi_ends.proofs.keeper.deliver.Goals as goal
 
 pub returns-clause-reply : goal.returns-clause-reply
 returns-clause-reply c =
-    some_map (current c.args.manager.now) (λ k items.
+    some_map (current_interface c.args.manager.now) (λ k items.
     c.answer.ensures.reply ∙ ap (λ xs. xs ++ answer_bytes c.args.device.now c.deref.result.now c.args.secure)
     c.clear-2.ensures.items
     ∙ ap (λ b. answer_bytes c.args.device.now b c.args.secure)
-    (c.deref.ensures.value ∙ items ∙ ap (λ xs. xs ++ request_spelling (request_asked c.args.manager.now k))
+    (c.deref.ensures.value ∙ items ∙ ap (λ xs. xs ++ request_spelling (interface_request c.args.manager.now k))
     c.clear.ensures.items)) c.ask.ensures.items

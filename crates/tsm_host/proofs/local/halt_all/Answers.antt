@@ -1,7 +1,7 @@
 use Rattle.std.proofs.Common.{refl}
 use Rattle.tsm_host.proofs.local.halt_all.Goals as goal
 
--- the twelve calls one after another: the port behind each, with what the clause of that call says of it
+-- the twelve calls one after another: the port after each, with what the clause of that call says of it
 pub returns : goal.returns
 returns g c = (
   c.halt.new.port,

@@ -16,7 +16,7 @@ parts a b c d e f a' b' c' d' e' f' same = (
       same,
 )
 
--- the six calls one after another: the port behind each, with the clause of that call at the key of its lane
+-- the six calls one after another: the port after each, with the clause of that call at the key of its lane
 pub returns : goal.returns
 returns g c =
     let keys = parts _ _ _ _ _ _ _ _ _ _ _ _ c.six_of-a.ensures in (

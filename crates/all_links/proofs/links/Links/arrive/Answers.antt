@@ -1,18 +1,14 @@
-use Rattle.all_links.proofs.Terms.{true, false}
+use Rattle.all_links.proofs.Terms.{false}
 use Rattle.all_links.proofs.Finds.{nothing_changes}
-use Rattle.all_links.proofs.Arrivals.{as_step, given}
+use Rattle.all_links.proofs.Arrivals.{given}
 use Rattle.all_links.proofs.Sides.{nothing_arrives, brings, brings_given}
 use Rattle.all_links.proofs.links.Links.arrive.Goals as goal
 
 pub returns-then-not-has_link-clause-ends : goal.returns-then-not-has_link-clause-ends
 returns-then-not-has_link-clause-ends c =
     nothing_changes c.only.ensures.value c.only.ensures.links c.requires.bounded
-    (λ plan h links stands. given c.args.self.now plan c.args.port c.args.bytes.now false links
+    (λ answer by plan h links stands. given c.args.self.now answer plan c.args.port c.args.bytes.now false links
     c.if-not-has_link.ensures)
-
-pub returns-clause-ends : goal.returns-clause-ends
-returns-clause-ends c = as_step (λ plan links. given c.args.self.now plan c.args.port c.args.bytes.now true links
-    c.if-not-has_link.ensures) c.arrive_at.ensures.ends
 
 pub returns-then-not-has_link-clause-sides : goal.returns-then-not-has_link-clause-sides
 returns-then-not-has_link-clause-sides c =

@@ -1,4 +1,4 @@
-use Rattle.all_links.proofs.Terms.{None, take, true, false, arith, nat_tests, refl, beside_in, step_of, LinkPacket, Cut}
+use Rattle.all_links.proofs.Terms.{None, take, true, false, arith, nat_tests, refl, LinkPacket, Cut}
 use Rattle.all_links.proofs.Finds.{nothing_changes}
 use Rattle.all_links.proofs.Arrivals.{cuts, cuts_it, packet_arrived}
 use Rattle.all_links.proofs.Sides.{nothing_arrives, packet_beside, brings_cut}
@@ -7,7 +7,8 @@ use Rattle.all_links.proofs.links.Links.cut_short.Goals as goal
 pub returns-in-None-clause-ends : goal.returns-in-None-clause-ends
 returns-in-None-clause-ends c =
     nothing_changes c.only.ensures.value c.only.ensures.links c.requires.bounded
-    (λ plan h links stands. cuts_it c.args.self.now plan c.args.packet None c.in-None.ensures c.args.length)
+    (λ answer by plan h links stands. cuts_it c.args.self.now answer plan c.args.packet None c.in-None.ensures
+    c.args.length)
 
 pub returns-then-length-bytes-clause-ends : goal.returns-then-length-bytes-clause-ends
 returns-then-length-bytes-clause-ends c =
@@ -16,14 +17,14 @@ returns-then-length-bytes-clause-ends c =
     (take c.args.length x.bytes) c.arrive-verdict.result c.arrive-verdict.new.self c.arrive-verdict.new.memory
     c.args.self.now.trusted.contents c.requires.bounded c.in-Some.ensures
     c.partner-port.ensures refl c.arrive-verdict.ensures.regions c.arrive-verdict.ensures.arrives
-    (λ plan st. step_of plan (beside_in c.args.self.now) st (Cut c.args.packet c.args.length))
-    (λ plan. cuts c.args.self.now plan c.args.packet c.args.length x true c.in-Some.ensures
+    (Cut c.args.packet c.args.length)
+    (λ answer plan. cuts c.args.self.now answer plan c.args.packet c.args.length x true c.in-Some.ensures
     (grind (arith, nat_tests, c.if-length-bytes.true)))
 
 pub returns-else-length-bytes-clause-ends : goal.returns-else-length-bytes-clause-ends
 returns-else-length-bytes-clause-ends c =
     nothing_changes c.only-else-length-bytes.ensures.value c.only-else-length-bytes.ensures.links c.requires.bounded
-    (λ plan h links stands. cuts c.args.self.now plan c.args.packet c.args.length
+    (λ answer by plan h links stands. cuts c.args.self.now answer plan c.args.packet c.args.length
     (record { port = c.in-Some.port; bytes = c.in-Some.bytes.now }) false c.in-Some.ensures
     (grind (arith, nat_tests, c.if-length-bytes.false)))
 

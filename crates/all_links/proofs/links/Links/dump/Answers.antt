@@ -8,12 +8,12 @@ use Rattle.all_links.proofs.links.Links.dump.Goals as goal
 pub returns-in-None-clause-ends : goal.returns-in-None-clause-ends
 returns-in-None-clause-ends c =
     nothing_changes c.only.ensures.value c.only.ensures.links c.requires.bounded
-    (λ plan h links stands. dumps c.args.self.now plan c.args.packet _ c.in-None.ensures)
+    (λ answer by plan h links stands. dumps c.args.self.now answer plan c.args.packet _ c.in-None.ensures)
 
 pub returns-in_ok-bytes-in-Some-clause-ends : goal.returns-in_ok-bytes-in-Some-clause-ends
 returns-in_ok-bytes-in-Some-clause-ends c =
     nothing_changes c.only-in-Some.ensures.value c.only-in-Some.ensures.links c.requires.bounded
-    (λ plan h links stands. dumps c.args.self.now plan c.args.packet _ c.in-Some.ensures
+    (λ answer by plan h links stands. dumps c.args.self.now answer plan c.args.packet _ c.in-Some.ensures
     ∙ ap (λ (bs : List ℕ). (v.Packet c.args.packet bs, links_state plan c.args.self.now))
     (sym c.in_ok-bytes-in-Some.ensures))
 

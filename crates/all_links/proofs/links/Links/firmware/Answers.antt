@@ -1,10 +1,10 @@
-use Rattle.all_links.proofs.Terms.{ℕ, true, Option, refl, ap, sym, option_and_then}
+use Rattle.all_links.proofs.Terms.{ℕ, true, Option, Some, refl, ap, sym, option_and_then}
 use Rattle.tdi_state.specs.Machine.{Tdi, FirmwareUpdate}
 use Rattle.link_events.specs.declared.event.InterfaceEvent.TheVariants as ie
 use Rattle.link_verdicts.specs.declared.verdict.Verdict.TheVariants as v
 use Rattle.interface_words.specs.declared.verdict.InterfaceVerdict.TheVariants as iv
-use Rattle.all_links.specs.Interfaces.{firmware_as, tdi_at}
-use Rattle.all_links.proofs.Finds.{as_answer, only_says}
+use Rattle.all_links.specs.Interfaces.{firmware_as, tdi_of_ends}
+use Rattle.all_links.proofs.Finds.{only_says}
 use Rattle.all_links.proofs.Asked.{is_there, called}
 use Rattle.all_links.proofs.Sides.{nothing_called, called_beside}
 use Rattle.all_links.proofs.links.Links.firmware.Goals as goal
@@ -18,18 +18,18 @@ firmware-state-requires c =
 
 pub returns-in-None-clause-ends : goal.returns-in-None-clause-ends
 returns-in-None-clause-ends c =
-    as_answer (ie.Firmware c.args.number)
-    (ap (λ (o : Option (ℕ × ℕ)). firmware_as c.args.number (option_and_then (tdi_at c.args.self.now.ends) o))
-    c.in-None.ensures)
-    (only_says c.only.ensures.value c.only.ensures.links c.requires.bounded)
+    only_says (ie.Firmware c.args.number)
+    (ap (λ (o : Option (ℕ × ℕ)). Some
+    (firmware_as c.args.number (option_and_then (tdi_of_ends c.args.self.now.ends) o)))
+    c.in-None.ensures) c.only.ensures.value c.only.ensures.links c.requires.bounded
 
 pub returns-in-Some-clause-ends : goal.returns-in-Some-clause-ends
 returns-in-Some-clause-ends c =
-    let x = called c.args.self.now c.args.number (c.in-Some.link, c.in-Some.place) FirmwareUpdate
-    c.firmware-state.result c.firmware-state.new.self c.shows.new.self c.shows.result
+    called c.args.self.now c.args.number (c.in-Some.link, c.in-Some.place) FirmwareUpdate c.firmware-state.result
+    c.firmware-state.new.self c.shows.new.self c.shows.result (ie.Firmware c.args.number)
     (λ code. v.Interface (iv.Firmware c.args.number code)) c.in-Some.ensures c.firmware-state.ensures
-    c.shows.ensures.value c.shows.ensures.links c.requires.bounded in
-    as_answer (ie.Firmware c.args.number) (ap (λ (o : Option Tdi). firmware_as c.args.number o) (sym x.1)) x.2
+    (λ tdi is. ap (λ (o : Option Tdi). Some (firmware_as c.args.number o)) (sym is)) c.shows.ensures.value
+    c.shows.ensures.links c.requires.bounded
 
 pub returns-in-None-clause-sides : goal.returns-in-None-clause-sides
 returns-in-None-clause-sides c =

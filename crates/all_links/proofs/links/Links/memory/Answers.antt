@@ -1,11 +1,11 @@
 use Rattle.all_links.proofs.Terms.{ℕ, zero, suc, refl, ◌+◌, ◌++◌, take, drop, take-append_seam, vec_len, List, Bool}
-use Rattle.all_links.proofs.Terms.{true, false, length, ap, sym, ◌∙◌, ◌≡◌, arith, Contents}
+use Rattle.all_links.proofs.Terms.{true, false, length, ap, sym, ◌∙◌, ◌≡◌, arith, MemoryContents, Some}
 use Rattle.link_events.specs.declared.event.InterfaceEvent.TheVariants as ie
 use Rattle.link_verdicts.specs.declared.verdict.Verdict.TheVariants as v
 use Rattle.interface_words.specs.declared.verdict.InterfaceVerdict.TheVariants as iv
 use Rattle.trusted_memory.specs.{byte_at, bytes_from, in_one_region}
 use Rattle.all_links.specs.Interfaces.{read_as}
-use Rattle.all_links.proofs.Finds.{as_answer, only_says}
+use Rattle.all_links.proofs.Finds.{only_says}
 use Rattle.all_links.proofs.Sides.{keeps_all}
 use Rattle.all_links.proofs.links.Links.memory.Goals as goal
 
@@ -15,7 +15,7 @@ length-bytes f at (suc n) = ap (λ (k : ℕ). suc k) (length-bytes f (at + 1) n)
 
 pub returns-then-peek-clause-ends : goal.returns-then-peek-clause-ends
 returns-then-peek-clause-ends c =
-    let m : Contents = c.args.self.now.trusted.contents in
+    let m : MemoryContents = c.args.self.now.trusted.contents in
     let at : ℕ = c.args.address in
     let len : length c.deref_mut.result.now ≡ c.args.length = omega
     (arith, c.deref_mut.ensures.len, c.in_ok-bytes.ensures.len) in
@@ -34,12 +34,12 @@ returns-then-peek-clause-ends c =
     (bytes_from (byte_at m) at c.args.length) =
     ap (λ (bs : List ℕ). v.Interface (iv.Memory bs)) bytes ∙ ap
     (λ (b : Bool). read_as b (bytes_from (byte_at m) at c.args.length)) (sym inside) in
-    as_answer (ie.Memory at c.args.length) due
-    (only_says c.shows.ensures.value c.shows.ensures.links c.requires.bounded)
+    only_says (ie.Memory at c.args.length) (ap Some due) c.shows.ensures.value c.shows.ensures.links
+    c.requires.bounded
 
 pub returns-else-peek-clause-ends : goal.returns-else-peek-clause-ends
 returns-else-peek-clause-ends c =
-    let m : Contents = c.args.self.now.trusted.contents in
+    let m : MemoryContents = c.args.self.now.trusted.contents in
     let at : ℕ = c.args.address in
     let len : length c.deref_mut.result.now ≡ c.args.length = omega
     (arith, c.deref_mut.ensures.len, c.in_ok-bytes.ensures.len) in
@@ -47,7 +47,7 @@ returns-else-peek-clause-ends c =
     (sym len) ∙ sym c.peek.ensures.answer ∙ c.if-peek.false in
     let due : v.Nothing ≡ read_as (in_one_region m.regions at c.args.length) (bytes_from (byte_at m) at c.args.length) =
     ap (λ (b : Bool). read_as b (bytes_from (byte_at m) at c.args.length)) (sym outside) in
-    as_answer (ie.Memory at c.args.length) due (only_says c.only.ensures.value c.only.ensures.links c.requires.bounded)
+    only_says (ie.Memory at c.args.length) (ap Some due) c.only.ensures.value c.only.ensures.links c.requires.bounded
 
 pub returns-then-peek-clause-sides : goal.returns-then-peek-clause-sides
 returns-then-peek-clause-sides c =

@@ -1,4 +1,4 @@
-use Rattle.all_links.proofs.Terms.{ℕ, length, subst, EndsWith, step_of, operation_event, beside_in, links_state}
+use Rattle.all_links.proofs.Terms.{ℕ, length, subst, EndsWith, operation_event, links_state}
 use Rattle.all_links.proofs.Finds.{nothing_changes}
 use Rattle.all_ends.proofs.Streams.{name_is, unnamed}
 use Rattle.all_links.proofs.Operations.{step_none}
@@ -9,7 +9,7 @@ use Rattle.all_links.proofs.links.Links.operate.Goals as goal
 pub returns-in-None-clause-ends : goal.returns-in-None-clause-ends
 returns-in-None-clause-ends c =
     nothing_changes c.only.ensures.value c.only.ensures.links c.requires.bounded
-    (λ plan h links stands. step_none plan (beside_in c.args.self.now) (links_state plan c.args.self.now)
+    (λ answer by plan h links stands. step_none plan _ (links_state plan c.args.self.now)
     c.args.operation c.args.link c.args.stream c.args.loss
     (unnamed plan c.args.self.now.ends c.args.self.now.keeper.keys c.args.self.now.packets.packets c.args.link
     c.args.stream links c.in-None.ensures))
@@ -19,7 +19,7 @@ returns-in-Some-clause-ends c =
     let n = name_is c.args.self.now.keeper.keys.manager (length c.args.self.now.ends) c.args.link c.args.stream
     c.in-Some.link c.in-Some.stream c.in-Some.ensures in
     subst (λ (p : ℕ × ℕ). EndsWith c.operate_on.result c.args.self.now c.operate_on.new.self
-    (λ plan st. step_of plan (beside_in c.args.self.now) st (operation_event c.args.operation p.0 p.1 c.args.loss)))
+    (operation_event c.args.operation p.0 p.1 c.args.loss))
     (λ i. (n.link_is i, n.stream_is i)) c.operate_on.ensures.ends
 
 pub returns-in-None-clause-sides : goal.returns-in-None-clause-sides

@@ -1,6 +1,6 @@
 use Rattle.all_links.proofs.Terms.{ap, sym, ◌∙◌, ◌+◌, List, ℕ, Some, option_map, Links}
 use Rattle.tdi_ends.specs.Keepers.{Ended}
-use Rattle.all_links.proofs.Asked.{operated_as}
+use Rattle.all_links.proofs.Asked.{asked_nowhere, operated_as}
 use Rattle.all_links.proofs.Sides.{nothing_asked, asked_beside}
 use Rattle.all_links.proofs.links.Links.operate_interface.Goals as goal
 
@@ -9,6 +9,11 @@ carry_interface-outcome-requires-clause-here c = ap (option_map (λ (at : ℕ ×
 
 pub asked_verdict-requires : goal.asked_verdict-requires
 asked_verdict-requires c = record { carried = c.carry_interface-outcome.ensures.answered c.new-none.result }
+
+pub returns-in-None-clause-ends : goal.returns-in-None-clause-ends
+returns-in-None-clause-ends c =
+    asked_nowhere c.args.number c.args.op c.args.loss c.in-None.ensures c.only.ensures.value c.only.ensures.links
+    c.requires.bounded
 
 pub returns-in-Some-clause-ends : goal.returns-in-Some-clause-ends
 returns-in-Some-clause-ends c =

@@ -1,5 +1,5 @@
-use Rattle.all_links.proofs.Terms.{◌+◌, ◌<◌, sym, subst, arith, length, IsSome, named, Links, EndsWith, step_of}
-use Rattle.all_links.proofs.Terms.{operation_event, beside_in, OperatesAt}
+use Rattle.all_links.proofs.Terms.{◌+◌, ◌<◌, sym, subst, arith, length, IsSome, named, Links, EndsWith}
+use Rattle.all_links.proofs.Terms.{operation_event, OperatesAt}
 use Rattle.tsm_host.specs.Operations.{OpName}
 use Rattle.tsm_host.specs.Walk.{verdict_of}
 use Rattle.all_links.specs.Sides.{SidesOperate}
@@ -27,10 +27,9 @@ pub returns-clause-ends : goal.returns-clause-ends
 returns-clause-ends c =
     let after : Links = c.carry_stream-outcome.new.self in
     subst (λ (s : Links). EndsWith c.operated_verdict.result c.args.self.now (record s { steps = s.steps + 1 })
-    (λ plan st. step_of plan (beside_in c.args.self.now) st
-    (operation_event c.args.operation c.args.link c.args.stream c.args.loss)))
+    (operation_event c.args.operation c.args.link c.args.stream c.args.loss))
     (sym c.carry_stream-outcome.ensures.links)
-    (operates_on c.operations_join.ensures (beside_in c.args.self.now) c.args.self.now after.ends
+    (operates_on c.operations_join.ensures c.args.self.now after.ends
     after.keeper.interfaces after.keeper.keys c.named_op-op.result c.args.operation
     c.args.link c.args.stream c.args.loss c.carry_stream-outcome.result c.operated_verdict.result
     c.requires.bounded c.requires.here c.requires.stream c.named_op-op.ensures

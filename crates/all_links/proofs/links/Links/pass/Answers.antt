@@ -1,4 +1,4 @@
-use Rattle.all_links.proofs.Terms.{None, Some, refl, beside_in, step_of, LinkPacket, Pass}
+use Rattle.all_links.proofs.Terms.{None, Some, refl, LinkPacket, Pass}
 use Rattle.all_links.proofs.Finds.{nothing_changes}
 use Rattle.all_links.proofs.Arrivals.{passes, packet_arrived}
 use Rattle.all_links.proofs.Sides.{nothing_arrives, packet_beside, brings_whole}
@@ -7,7 +7,7 @@ use Rattle.all_links.proofs.links.Links.pass.Goals as goal
 pub returns-in-None-clause-ends : goal.returns-in-None-clause-ends
 returns-in-None-clause-ends c =
     nothing_changes c.only.ensures.value c.only.ensures.links c.requires.bounded
-    (λ plan h links stands. passes c.args.self.now plan c.args.packet None c.in-None.ensures)
+    (λ answer by plan h links stands. passes c.args.self.now answer plan c.args.packet None c.in-None.ensures)
 
 pub returns-in-Some-clause-ends : goal.returns-in-Some-clause-ends
 returns-in-Some-clause-ends c =
@@ -15,8 +15,7 @@ returns-in-Some-clause-ends c =
     packet_arrived c.args.self.now c.args.packet x c.partner-port.result x.bytes c.arrive-verdict.result
     c.arrive-verdict.new.self c.arrive-verdict.new.memory c.args.self.now.trusted.contents c.requires.bounded
     c.in-Some.ensures c.partner-port.ensures refl c.arrive-verdict.ensures.regions c.arrive-verdict.ensures.arrives
-    (λ plan st. step_of plan (beside_in c.args.self.now) st (Pass c.args.packet))
-    (λ plan. passes c.args.self.now plan c.args.packet (Some x) c.in-Some.ensures)
+    (Pass c.args.packet) (λ answer plan. passes c.args.self.now answer plan c.args.packet (Some x) c.in-Some.ensures)
 
 pub returns-in-None-clause-sides : goal.returns-in-None-clause-sides
 returns-in-None-clause-sides c =

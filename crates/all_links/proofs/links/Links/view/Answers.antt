@@ -1,4 +1,4 @@
-use Rattle.all_links.proofs.Terms.{ℕ, Option, subst, slice_get, InterfacesView, ap, sym, ◌∙◌, ◌≡◌}
+use Rattle.all_links.proofs.Terms.{ℕ, Option, Some, subst, slice_get, InterfacesView, ap, sym, ◌∙◌, ◌≡◌}
 use Rattle.std.specs.Prelude.{IfSome}
 use Rattle.interface_words.specs.declared.view.View.{View}
 use Rattle.tdi_host.specs.declared.operation.View.{View as Seen}
@@ -8,17 +8,17 @@ use Rattle.link_verdicts.specs.declared.verdict.Verdict.TheVariants as v
 use Rattle.interface_words.specs.declared.verdict.InterfaceVerdict.TheVariants as iv
 use Rattle.all_links.specs.Interfaces.{viewed_as, seen_at, interface_named}
 use Rattle.interface_joins.specs.Verdicts.{view_shown}
-use Rattle.all_links.proofs.Finds.{as_answer, only_says}
+use Rattle.all_links.proofs.Finds.{only_says}
 use Rattle.all_links.proofs.Asked.{if_some, is_found}
 use Rattle.all_links.proofs.Sides.{keeps_all}
 use Rattle.all_links.proofs.links.Links.view.Goals as goal
 
 pub returns-in-None-clause-ends : goal.returns-in-None-clause-ends
 returns-in-None-clause-ends c =
-    as_answer (ie.View c.args.number)
-    (ap (λ (o : Option (ℕ × ℕ)). viewed_as c.args.number
-    (seen_at c.args.self.now.keeper.interfaces c.args.number o)) c.in-None.ensures)
-    (only_says c.only.ensures.value c.only.ensures.links c.requires.bounded)
+    only_says (ie.View c.args.number)
+    (ap (λ (o : Option (ℕ × ℕ)). Some (viewed_as c.args.number
+    (seen_at c.args.self.now.keeper.interfaces c.args.number o))) c.in-None.ensures)
+    c.only.ensures.value c.only.ensures.links c.requires.bounded
 
 pub returns-in-Some-clause-ends : goal.returns-in-Some-clause-ends
 returns-in-Some-clause-ends c =
@@ -34,7 +34,7 @@ returns-in-Some-clause-ends c =
     ap (λ (y : View). v.Interface (iv.View n y)) (c.view_shown-view.ensures ∙ ap (λ (y : Seen). view_shown y) seen)
     ∙ sym (ap (λ (o : Option HostTdi). viewed_as n o)
     (ap (λ (o : Option (ℕ × ℕ)). seen_at m n o) (sym c.in-Some.ensures) ∙ x.kept_there)) in
-    as_answer (ie.View n) due (only_says c.shows.ensures.value c.shows.ensures.links c.requires.bounded)
+    only_says (ie.View n) (ap Some due) c.shows.ensures.value c.shows.ensures.links c.requires.bounded
 
 pub returns-in-None-clause-sides : goal.returns-in-None-clause-sides
 returns-in-None-clause-sides c =

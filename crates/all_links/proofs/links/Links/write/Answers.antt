@@ -1,5 +1,5 @@
-use Rattle.all_links.proofs.Terms.{ℕ, List, Bool, true, Option, Some, ap, sym, ◌∙◌, ◌≡◌, if◌then◌else◌, slice_get}
-use Rattle.all_links.proofs.Terms.{same_Some, option_and_then, LinkEnds, Verdict}
+use Rattle.all_links.proofs.Terms.{ℕ, List, Bool, true, false, Option, Some, ap, sym, ◌∙◌, ◌≡◌, if◌then◌else◌}
+use Rattle.all_links.proofs.Terms.{slice_get, same_Some, option_and_then, LinkEnds}
 use Rattle.std.specs.Prelude.{IfSome}
 use Rattle.interface_words.specs.declared.register.Register.{Register}
 use Rattle.interface_words.specs.RegisterNames.{has_register}
@@ -7,9 +7,9 @@ use Rattle.tdi_state.specs.Machine.{Tdi, WriteRegister}
 use Rattle.link_verdicts.specs.declared.verdict.Verdict.TheVariants as v
 use Rattle.interface_words.specs.declared.verdict.InterfaceVerdict.TheVariants as iv
 use Rattle.link_events.specs.declared.event.InterfaceEvent.TheVariants as ie
-use Rattle.all_links.specs.Interfaces.{written_as, tdi_at}
+use Rattle.all_links.specs.Interfaces.{written_as, tdi_of_ends}
 use Rattle.all_ends.specs.Places.{code_behind}
-use Rattle.all_links.proofs.Finds.{as_answer, only_says}
+use Rattle.all_links.proofs.Finds.{only_says}
 use Rattle.all_links.proofs.Asked.{if_some, is_found, is_there, called}
 use Rattle.all_links.proofs.Sides.{nothing_called, called_beside, not_called}
 use Rattle.all_links.proofs.links.Links.write.Goals as goal
@@ -28,10 +28,10 @@ write_register-state-requires-clause-here c =
 
 pub returns-in-None-clause-ends : goal.returns-in-None-clause-ends
 returns-in-None-clause-ends c =
-    as_answer (ie.Write c.args.number c.args.register c.args.value)
-    (ap (λ (o : Option (ℕ × ℕ)). written_as c.args.number c.args.register c.args.value
-    (option_and_then (tdi_at c.args.self.now.ends) o)) c.in-None.ensures)
-    (only_says c.only.ensures.value c.only.ensures.links c.requires.bounded)
+    only_says (ie.Write c.args.number c.args.register c.args.value)
+    (ap (λ (o : Option (ℕ × ℕ)). Some (written_as c.args.number c.args.register c.args.value
+    (option_and_then (tdi_of_ends c.args.self.now.ends) o))) c.in-None.ensures)
+    c.only.ensures.value c.only.ensures.links c.requires.bounded
 
 -- whether it has the register
 module _ (ends : List LinkEnds) (at : ℕ × ℕ) (register : Register) (answer : Bool) where
@@ -47,9 +47,14 @@ module _ (ends : List LinkEnds) (at : ℕ × ℕ) (register : Register) (answer 
       (if_some (λ (y : LinkEnds). IfSome (slice_get y.device.interfaces.interfaces at.1)
       (λ (t : Tdi). answer ≡ has_register t.plan register)) (slice_get ends at.0) l link_there says)
 
-abbrev written_if : ℕ → Register → ℕ → Tdi → Bool → Verdict
-written_if n register value tdi b = if b then v.Interface
-    (iv.Written n (code_behind tdi (WriteRegister register value))) else v.Nothing
+-- the verdict, if it has it or not
+written_is : (n : ℕ) (register : Register) (value : ℕ) (tdi : Tdi) (o : Option Tdi) (b : Bool) → o ≡ Some tdi
+    → has_register tdi.plan register ≡ b
+    → (if b then v.Interface (iv.Written n (code_behind tdi (WriteRegister register value))) else v.Nothing)
+    ≡ written_as n register value o
+written_is n register value tdi o b is has =
+    ap (λ (y : Bool). if y then v.Interface (iv.Written n (code_behind tdi (WriteRegister register value))) else
+    v.Nothing) (sym has) ∙ ap (λ (y : Option Tdi). written_as n register value y) (sym is)
 
 pub returns-then-has_register-clause-ends : goal.returns-then-has_register-clause-ends
 returns-then-has_register-clause-ends c =
@@ -59,16 +64,12 @@ returns-then-has_register-clause-ends c =
     let has : c.has_register.result ≡ has_register x.tdi.plan c.args.register =
     has_it c.args.self.now.ends at c.args.register c.has_register.result x.ends_at x.tdi x.link_there x.tdi_there
     c.has_register.ensures in
-    let y = called c.args.self.now n at (WriteRegister c.args.register c.args.value) c.write_register-state.result
-    c.write_register-state.new.self c.shows.new.self c.shows.result
-    (λ code. v.Interface (iv.Written n code)) c.in-Some.ensures c.write_register-state.ensures c.shows.ensures.value
-    c.shows.ensures.links c.requires.bounded in
-    let same : y.0 ≡ x.tdi = same_Some y.0 x.tdi (sym y.1 ∙ x.named_is) in
-    let test : has_register y.0.plan c.args.register ≡ true = ap (λ (t : Tdi). has_register t.plan c.args.register) same
-    ∙ sym has ∙ c.if-has_register.true in
-    as_answer (ie.Write n c.args.register c.args.value)
-    (sym (ap (λ (o : Option Tdi). written_as n c.args.register c.args.value o) y.1 ∙ ap
-    (λ (b : Bool). written_if n c.args.register c.args.value y.0 b) test)) y.2
+    called c.args.self.now n at (WriteRegister c.args.register c.args.value) c.write_register-state.result
+    c.write_register-state.new.self c.shows.new.self c.shows.result (ie.Write n c.args.register c.args.value)
+    (λ code. v.Interface (iv.Written n code)) c.in-Some.ensures c.write_register-state.ensures
+    (λ tdi is. ap Some (written_is n c.args.register c.args.value tdi _ true is
+    (ap (λ (t : Tdi). has_register t.plan c.args.register) (same_Some tdi x.tdi (sym is ∙ x.named_is))
+    ∙ sym has ∙ c.if-has_register.true))) c.shows.ensures.value c.shows.ensures.links c.requires.bounded
 
 pub returns-else-has_register-clause-ends : goal.returns-else-has_register-clause-ends
 returns-else-has_register-clause-ends c =
@@ -78,10 +79,9 @@ returns-else-has_register-clause-ends c =
     let has : c.has_register.result ≡ has_register x.tdi.plan c.args.register =
     has_it c.args.self.now.ends at c.args.register c.has_register.result x.ends_at x.tdi x.link_there x.tdi_there
     c.has_register.ensures in
-    as_answer (ie.Write n c.args.register c.args.value)
-    (sym (ap (λ (o : Option Tdi). written_as n c.args.register c.args.value o) x.named_is
-    ∙ ap (λ (b : Bool). written_if n c.args.register c.args.value x.tdi b) (sym has ∙ c.if-has_register.false)))
-    (only_says c.only-else-has_register.ensures.value c.only-else-has_register.ensures.links c.requires.bounded)
+    only_says (ie.Write n c.args.register c.args.value)
+    (ap Some (written_is n c.args.register c.args.value x.tdi _ false x.named_is (sym has ∙ c.if-has_register.false)))
+    c.only-else-has_register.ensures.value c.only-else-has_register.ensures.links c.requires.bounded
 
 pub returns-in-None-clause-sides : goal.returns-in-None-clause-sides
 returns-in-None-clause-sides c =

@@ -1,4 +1,4 @@
-use Rattle.ide_port.proofs.Terms.{◌≡◌, ℕ, refl, sym, ap, ◌∙◌, arith, view_of, header, body, head_bytes, class_of}
+use Rattle.ide_port.proofs.Terms.{◌≡◌, ℕ, refl, sym, ap, ◌∙◌, arith, viewed_tlp, header, body, head_bytes, class_of}
 use Rattle.ide_port.proofs.Terms.{StreamEnd, sending, PortEnd}
 use Rattle.ide_stream.specs.Sends.{IsSent}
 use Rattle.ide_port.proofs.Keeping.{inside, there, kept-sent}
@@ -8,7 +8,8 @@ use Rattle.ide_port.proofs.port.Port.send_on.Goals.{in-Ok, in-Err}
 
 pub returns-in_default : goal.returns-in_default
 returns-in_default c = λ number.
-    plain-step c.self.inside c.args.self.now c.self.view_is c.args.id (cc) c.unsealed.new.self (view_of c.args.tlp.now)
+    plain-step c.self.inside c.args.self.now c.self.view_is c.args.id (cc) c.unsealed.new.self
+    (viewed_tlp c.args.tlp.now)
     c.args.trusted c.args.more number
     c.unsealed.ensures
 
@@ -24,8 +25,8 @@ send-requires-clause-few c =
 
 -- what the stream sealed, at a number
 sent : (c : goal.Joined-send) (number : ℕ) → IsSent c.index_mut-stream.result.now
-    (head_bytes (header (view_of c.args.tlp.now))) (body (view_of c.args.tlp.now))
-    (sending c.self.inside.name c.index_mut-stream.result.now.id (class_of (header (view_of c.args.tlp.now)))
+    (head_bytes (header (viewed_tlp c.args.tlp.now))) (body (viewed_tlp c.args.tlp.now))
+    (sending c.self.inside.name c.index_mut-stream.result.now.id (class_of (header (viewed_tlp c.args.tlp.now)))
     c.args.more c.args.trusted) number
     c.send.result c.clear.new.self.items c.send.new.out.items c.send.new.self
 sent c number =
@@ -54,6 +55,6 @@ returns c = λ number.
     sent-step c.self.inside c.args.self.now c.self.view_is c.self.invariant c.args.id c.in-Some.place
     c.index_mut-stream.result.now (cc)
     c.index_mut-stream.ensures.value
-    c.send.new.self (view_of c.args.tlp.now) c.args.trusted c.args.more number c.send.result c.match-send.result
+    c.send.new.self (viewed_tlp c.args.tlp.now) c.args.trusted c.args.more number c.send.result c.match-send.result
     c.clear.new.self.items c.send.new.out.items
     c.clear.ensures.items (sent c number) said

@@ -1,43 +1,34 @@
-use Rattle.ide_port.proofs.Terms.{true, false, sym, ap, arith, Halt, place_at, is_there, slot_call}
+use Rattle.ide_port.proofs.Terms.{true, false, sym, ap, arith, Halt, is_one, is_there, slot_call}
 use Rattle.ide_port.proofs.Keeping.{kept-called}
 use Rattle.ide_port.proofs.Steps.{IsLane, lane-some, lane-inside, nowhere-step, called-step}
 use Rattle.ide_port.proofs.port.PortSlotPort.halt.Goals as goal
 
 pub index_mut-stream-requires : goal.index_mut-stream-requires
 index_mut-stream-requires c =
-    omega (
-      arith,
-      lane-inside c.self.inside c.args.stream c.args.sub c.in-Some.place c.in-Some.sub c.self.invariant
-          (cc),
-      c.self.inside.streams.ok.0,
-    )
+    let inside = lane-inside c.self.inside c.args.place.stream c.args.place.sub c.in-Some.index c.in-Some.sub
+    c.self.invariant (cc) in
+    omega (arith, inside, c.self.inside.streams.ok.0)
 
 pub returns-in-None : goal.returns-in-None
 returns-in-None c =
     let x = nowhere-step c.self.inside c.args.self.now c.self.view_is c.self.invariant
-    (Halt (place_at c.args.stream c.args.dir c.args.sub) c.args.set false) (cc) in
+    (Halt c.args.place (is_one c.args.set) false) (cc) in
     record { answer = sym (ap (λ o. is_there o) x.shows); moves = x.moves; slots = x.slots }
 
 -- the place that is called
-lane : (c : goal.After-self-in-Some-1) → IsLane c.self.inside.plans c.args.stream c.args.sub c.in-Some.place
+lane : (c : goal.After-self-in-Some-1) → IsLane c.self.inside.plans c.args.place.stream c.args.place.sub c.in-Some.index
     c.in-Some.sub
-lane c = lane-some c.self.inside.plans c.args.stream c.args.sub _ _ (cc)
+lane c = lane-some c.self.inside.plans c.args.place.stream c.args.place.sub _ _ (cc)
 
 pub invariant_of-self-in-Some : goal.invariant_of-self-in-Some
 invariant_of-self-in-Some c =
-    kept-called c.self.inside c.self.invariant c.args.stream c.in-Some.place c.index_mut-stream.result.now
-    (lane c).place_is c.index_mut-stream.ensures.value
-    c.halt.new.self c.args.dir c.in-Some.sub
-    (slot_call (Halt (place_at c.args.stream c.args.dir c.args.sub) c.args.set true)) c.halt.ensures
+    kept-called c.self.inside c.self.invariant c.args.place.stream c.in-Some.index c.index_mut-stream.result.now
+    (lane c).place_is c.index_mut-stream.ensures.value c.halt.new.self c.args.place.direction c.in-Some.sub
+    (slot_call (Halt c.args.place (is_one c.args.set) true)) c.halt.ensures
 
 pub returns-in-Some : goal.returns-in-Some
 returns-in-Some c =
     let x = called-step c.self.inside c.args.self.now c.self.view_is c.self.invariant
-    (Halt (place_at c.args.stream c.args.dir c.args.sub) c.args.set true)
-    c.in-Some.place c.in-Some.sub c.index_mut-stream.result.now c.halt.new.self c.requires.dir (lane c)
-    c.index_mut-stream.ensures.value c.halt.ensures in
-    record {
-      answer = sym (ap (λ o. is_there o) x.shows);
-      moves = x.moves;
-      slots = x.slots;
-    }
+    (Halt c.args.place (is_one c.args.set) true) c.in-Some.index c.in-Some.sub c.index_mut-stream.result.now
+    c.halt.new.self c.requires (lane c) c.index_mut-stream.ensures.value c.halt.ensures in
+    record { answer = sym (ap (λ o. is_there o) x.shows); moves = x.moves; slots = x.slots }

@@ -1,4 +1,4 @@
-use Rattle.ide_port.proofs.Terms.{◌≡◌, Err, sym, ap, ◌∙◌, arith, Program, place_at, program_at, pair_in, slot_call}
+use Rattle.ide_port.proofs.Terms.{◌≡◌, Err, sym, ap, ◌∙◌, arith, Program, is_one, program_answer_at, pair_in, slot_call}
 use Rattle.ide_port.proofs.Keeping.{kept-called}
 use Rattle.ide_port.proofs.Steps.{IsLane, lane-some, lane-inside, nowhere-step, called-step, key_back, key-back}
 use Rattle.ide_port.proofs.port.PortSlotPort.program.Goals as goal
@@ -7,40 +7,35 @@ use Rattle.ide_km.specs.declared.port.ProgramFault.TheVariants.{NoPlace}
 
 pub index_mut-stream-requires : goal.index_mut-stream-requires
 index_mut-stream-requires c =
-    omega (
-      arith,
-      lane-inside c.self.inside c.args.stream c.args.sub c.in-Some.place c.in-Some.sub c.self.invariant
-          (cc),
-      c.self.inside.streams.ok.0,
-    )
+    let inside = lane-inside c.self.inside c.args.place.stream c.args.place.sub c.in-Some.index c.in-Some.sub
+    c.self.invariant (cc) in
+    omega (arith, inside, c.self.inside.streams.ok.0)
 
 pub returns-in-None : goal.returns-in-None
 returns-in-None c =
     let x = nowhere-step c.self.inside c.args.self.now c.self.view_is c.self.invariant
-    (Program (place_at c.args.stream c.args.dir c.args.sub) c.args.set c.args.key c.args.draw
-    (Err (NoPlace c.args.key))) (cc) in
-    record { answer = sym (ap (λ o. program_at o c.args.set c.args.key) x.shows); moves = x.moves; slots = x.slots }
+    (Program c.args.place (is_one c.args.set) c.args.key c.args.draw (Err (NoPlace c.args.key))) (cc) in
+    let answer = sym (ap (λ o. program_answer_at o (is_one c.args.set) c.args.key) x.shows) in
+    record { answer = answer; moves = x.moves; slots = x.slots }
 
 -- the place that is called
-lane : (c : goal.Joined-program) → IsLane c.self.inside.plans c.args.stream c.args.sub c.in-Some.place c.in-Some.sub
-lane c = lane-some c.self.inside.plans c.args.stream c.args.sub _ _ (cc)
+lane : (c : goal.Joined-program) → IsLane c.self.inside.plans c.args.place.stream c.args.place.sub c.in-Some.index
+    c.in-Some.sub
+lane c = lane-some c.self.inside.plans c.args.place.stream c.args.place.sub _ _ (cc)
 
 pub invariant_of-self-in-Some : goal.invariant_of-self-in-Some
 invariant_of-self-in-Some c =
-    kept-called c.self.inside c.self.invariant c.args.stream c.in-Some.place c.index_mut-stream.result.now
-    (lane c).place_is c.index_mut-stream.ensures.value
-    c.program.new.self c.args.dir c.in-Some.sub
-    (slot_call (Program (place_at c.args.stream c.args.dir c.args.sub) c.args.set c.args.key c.args.draw
-    c.match-program.result))
+    kept-called c.self.inside c.self.invariant c.args.place.stream c.in-Some.index c.index_mut-stream.result.now
+    (lane c).place_is c.index_mut-stream.ensures.value c.program.new.self c.args.place.direction c.in-Some.sub
+    (slot_call (Program c.args.place (is_one c.args.set) c.args.key c.args.draw c.match-program.result))
     c.program.ensures.stream
 
 pub returns-after-program : goal.returns-after-program
 returns-after-program c =
     let x = called-step c.self.inside c.args.self.now c.self.view_is c.self.invariant
-    (Program (place_at c.args.stream c.args.dir c.args.sub) c.args.set c.args.key c.args.draw c.match-program.result)
-    c.in-Some.place c.in-Some.sub c.index_mut-stream.result.now c.program.new.self c.requires.dir (lane c)
-    c.index_mut-stream.ensures.value
-    c.program.ensures.stream in
+    (Program c.args.place (is_one c.args.set) c.args.key c.args.draw c.match-program.result)
+    c.in-Some.index c.in-Some.sub c.index_mut-stream.result.now c.program.new.self c.requires (lane c)
+    c.index_mut-stream.ensures.value c.program.ensures.stream in
     let said : c.match-program.result ≡ key_back c.program.result =
     elim c.match-program.branch [
       | in-Ok w ↦ w.result-is ∙ ap key_back (sym w.in-Ok.is)
@@ -48,8 +43,8 @@ returns-after-program c =
     ] in
     record {
       answer = said ∙ ap key_back c.program.ensures.answer ∙ key-back
-          (pair_in c.index_mut-stream.result.now c.args.dir c.in-Some.sub) c.args.set c.args.key
-          ∙ sym (ap (λ o. program_at o c.args.set c.args.key) x.shows);
+          (pair_in c.index_mut-stream.result.now c.args.place.direction c.in-Some.sub) (is_one c.args.set) c.args.key
+          ∙ sym (ap (λ o. program_answer_at o (is_one c.args.set) c.args.key) x.shows);
       moves = x.moves;
       slots = x.slots;
     }

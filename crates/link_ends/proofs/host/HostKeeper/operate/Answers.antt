@@ -1,4 +1,4 @@
-use Rattle.link_ends.proofs.Terms.{sym, subst, DeviceEnd, LinkEnds, IsOperated, IsWalked, Stands}
+use Rattle.link_ends.proofs.Terms.{sym, subst, DeviceEnd, LinkEnds, IsOperated}
 use Rattle.link_ends.proofs.host.HostKeeper.operate.Goals as goal
 
 -- settling leaves the ports

@@ -6,7 +6,7 @@ use Rattle.sub_stream.specs.{sender_after}
 use Rattle.sub_stream.specs.Gathered.{lent_front}
 use Rattle.sub_stream.specs.declared.answer.SealedPacket.{SealedPacket}
 use Rattle.sub_stream.specs.declared.answer.TxRefusal.{TxRefusal}
-use Rattle.stream_lanes.specs.Lanes.{SendEnd, IsSendLane, is_spent, tlp_said, packet_in, sealed_end, measured}
+use Rattle.stream_lanes.specs.Lanes.{SendEnd, IsSendLane, is_spent, tlp_said, packet_said, sealed_end, measured}
 use Rattle.stream_lanes.proofs.Sealing.{view, sealing_right, sealing-is, sealed-kept}
 use Rattle.stream_lanes.proofs.send_lane.SendLane.seal.Goals as goal
 
@@ -37,7 +37,7 @@ ok_is : (a b : SealedPacket) (r : Result SealedPacket TxRefusal) → r ≡ Ok a 
 ok_is a b r e f = cc
 
 packet_is : (c : goal.After-count) → c.in-Ok.packet ≡ measured (tlp_said (end c) c.args.t c.args.more)
-    (packet_in (end c) c.args.head.now c.args.payload.now (tlp_said (end c) c.args.t c.args.more))
+    (packet_said (end c) c.args.head.now c.args.payload.now (tlp_said (end c) c.args.t c.args.more))
 unfolding sealed content end
 packet_is c = ok_is _ _ _ (sym c.in-Ok.ensures.answer) (ap sealing_answer (right c))
 
@@ -46,7 +46,7 @@ unfolding end
 returns-clause-answer c =
     packet_is c
     ∙ ap (λ (e : SendEnd). measured (tlp_said e c.args.t c.args.more)
-    (packet_in e c.args.head.now c.args.payload.now (tlp_said e c.args.t c.args.more))) c.self.view_is
+    (packet_said e c.args.head.now c.args.payload.now (tlp_said e c.args.t c.args.more))) c.self.view_is
 
 pub returns-clause-bytes : goal.returns-clause-bytes
 unfolding sealed content end
@@ -54,7 +54,7 @@ returns-clause-bytes c =
     c.in-Ok.ensures.bytes
     ∙ ap (λ (s : Result Sealing TxRefusal). c.args.out.now.items ++ sealing_bytes s) (right c)
     ∙ ap (λ (e : SendEnd). c.args.out.now.items ++ packet_bytes
-    (packet_in e c.args.head.now c.args.payload.now (tlp_said e c.args.t c.args.more))) c.self.view_is
+    (packet_said e c.args.head.now c.args.payload.now (tlp_said e c.args.t c.args.more))) c.self.view_is
 
 sender_is : (c : goal.After-count) → c.seal.new.self ≡ (sealed c).sender
 unfolding content

@@ -9,7 +9,7 @@ use Rattle.sub_stream.specs.{sender_after}
 use Rattle.sub_stream.specs.Gathered.{lent_front}
 use Rattle.sub_stream.specs.declared.answer.SealedPacket.{SealedPacket}
 use Rattle.sub_stream.specs.declared.answer.TxRefusal.{TxRefusal}
-use Rattle.stream_lanes.specs.Lanes.{SendEnd, IsSendLane, is_spent, sync_said, packet_in, sealed_end, measured}
+use Rattle.stream_lanes.specs.Lanes.{SendEnd, IsSendLane, is_spent, sync_said, packet_said, sealed_end, measured}
 use Rattle.stream_lanes.proofs.Sealing.{view, sealing-is, sealed-kept, sync-short, sync-same}
 use Rattle.stream_lanes.proofs.send_lane.SendLane.sync.Goals as goal
 
@@ -30,7 +30,7 @@ with_sealed c p = record {
 }
 
 sealing_so : (c : goal.After-count) → sealing_of c.self.inside.tx (lent_front c.front-front.result) (content c) false
-    ≡ Ok (with_sealed c (packet_in (end c) sync_head [] (sync_said (end c))))
+    ≡ Ok (with_sealed c (packet_said (end c) sync_head [] (sync_said (end c))))
 unfolding with_sealed content end
 sealing_so c =
     sealing-is c.self.inside.tx c.self.inside.limit c.self.inside.closed c.self.inside.posted c.self.inside.total
@@ -40,7 +40,7 @@ sealing_so c =
     refl
 
 sealed : goal.After-count → Sealing
-sealed c = with_sealed c (packet_in (end c) [] [] (sync_said (end c)))
+sealed c = with_sealed c (packet_said (end c) [] [] (sync_said (end c)))
 
 right : (c : goal.After-count) → sealing_of c.self.inside.tx (lent_front c.front-front.result) (content c) false
     ≡ Ok (sealed c)
@@ -55,7 +55,7 @@ ok_is : (a b : SealedPacket) (r : Result SealedPacket TxRefusal) → r ≡ Ok a 
 ok_is a b r e f = cc
 
 packet_is : (c : goal.After-count) → c.in-Ok.packet ≡ measured (sync_said (end c))
-    (packet_in (end c) [] [] (sync_said (end c)))
+    (packet_said (end c) [] [] (sync_said (end c)))
 unfolding sealed with_sealed end content
 packet_is c = ok_is _ _ _ (sym c.in-Ok.ensures.answer) (ap sealing_answer (right c))
 
@@ -63,14 +63,14 @@ pub returns-clause-answer : goal.returns-clause-answer
 unfolding end
 returns-clause-answer c =
     packet_is c
-    ∙ ap (λ (e : SendEnd). measured (sync_said e) (packet_in e [] [] (sync_said e))) c.self.view_is
+    ∙ ap (λ (e : SendEnd). measured (sync_said e) (packet_said e [] [] (sync_said e))) c.self.view_is
 
 pub returns-clause-bytes : goal.returns-clause-bytes
 unfolding sealed with_sealed end content
 returns-clause-bytes c =
     c.in-Ok.ensures.bytes
     ∙ ap (λ (s : Result Sealing TxRefusal). c.args.out.now.items ++ sealing_bytes s) (right c)
-    ∙ ap (λ (e : SendEnd). c.args.out.now.items ++ packet_bytes (packet_in e [] [] (sync_said e))) c.self.view_is
+    ∙ ap (λ (e : SendEnd). c.args.out.now.items ++ packet_bytes (packet_said e [] [] (sync_said e))) c.self.view_is
 
 sender_is : (c : goal.After-count) → c.sync.new.self ≡ (sealed c).sender
 unfolding content
@@ -98,14 +98,14 @@ invariant_of-self c =
     false (sealed c).packet _ c.self.invariant (live c) refl)
 
 bytes_are : (c : goal.After-count) → c.sync.new.out.items ≡ c.args.out.now.items
-    ++ packet_bytes (packet_in (end c) [] [] (sync_said (end c)))
+    ++ packet_bytes (packet_said (end c) [] [] (sync_said (end c)))
 unfolding sealed with_sealed end content
 bytes_are c = c.in-Ok.ensures.bytes ∙ ap (λ (s : Result Sealing TxRefusal). c.args.out.now.items ++ sealing_bytes s)
     (right c)
 
 pub returns-clause-len : goal.returns-clause-len
 returns-clause-len c =
-    let more = packet_bytes (packet_in (end c) [] [] (sync_said (end c))) in
+    let more = packet_bytes (packet_said (end c) [] [] (sync_said (end c))) in
     let size : length c.sync.new.out.items ≡ length c.args.out.now.items + length more = ap length (bytes_are c) ∙
     length-append c.args.out.now.items more in
     let few : length more ≤ 28 = sync-short (end c) in

@@ -1,7 +1,7 @@
 use Rattle.std.proofs.Common.{◌≡◌, ◌+◌, ◌≤◌, true, length, sym, subst}
 use Rattle.ide_types.specs.declared.sub.SubKind.TheVariants.{Pr, Npr, Cpl}
 use Rattle.stream_rules.specs.Slots.{any_live}
-use Rattle.stream_lanes.specs.Lanes.{SendEnd, SendEnds, HasRoom, open_in, tlp_said, packet_in}
+use Rattle.stream_lanes.specs.Lanes.{SendEnd, SendEnds, HasPostedRoom, open_in, tlp_said, packet_said}
 use Rattle.stream_lanes.proofs.Sealing.{room-sealed}
 use Rattle.stream_lanes.proofs.Sent.{lane-kept}
 use Rattle.stream_lanes.proofs.send_lanes.SendLanes.seal_posted.Goals as goal
@@ -10,7 +10,7 @@ pub invariant_of-self : goal.invariant_of-self
 invariant_of-self c =
     let inside = c.self.inside in
     let d = tlp_said inside.pr c.args.t c.args.more in
-    let p = packet_in inside.pr c.args.head.now c.args.payload.now d in
+    let p = packet_said inside.pr c.args.head.now c.args.payload.now d in
     let live : any_live inside.pr.kept.slots ≡ true = subst (λ (x : SendEnds). any_live x.tx.pr.slots ≡ true)
     (sym c.self.view_is) c.requires.live in
     let npr : inside.npr.kept.posted + inside.fixed.mode ≤ 255 + length (open_in inside.pr.kept.slots) =
@@ -28,11 +28,11 @@ invariant_of-self c =
           c.count_posted-2.ensures;
       small_mode = c.self.invariant.small_mode;
       npr_room =
-          subst (λ (y : SendEnd × SendEnd). HasRoom inside.fixed.mode y.0.kept y.1.kept)
+          subst (λ (y : SendEnd × SendEnd). HasPostedRoom inside.fixed.mode y.0.kept y.1.kept)
           (λ i. (sym c.seal-packet.ensures.lane i, sym c.count_posted.ensures i))
           (room-sealed inside.fixed.mode inside.npr.kept.posted d.m p inside.pr.kept.slots live npr);
       cpl_room =
-          subst (λ (y : SendEnd × SendEnd). HasRoom inside.fixed.mode y.0.kept y.1.kept)
+          subst (λ (y : SendEnd × SendEnd). HasPostedRoom inside.fixed.mode y.0.kept y.1.kept)
           (λ i. (sym c.seal-packet.ensures.lane i, sym c.count_posted-2.ensures i))
           (room-sealed inside.fixed.mode inside.cpl.kept.posted d.m p inside.pr.kept.slots live cpl);
     }

@@ -4,7 +4,8 @@ use Rattle.ide_prefix.specs.Packet.{packet_bytes}
 use Rattle.stream_rules.specs.Stream.{TxSub, at_sub}
 use Rattle.sub_stream.specs.declared.answer.SealedPacket.{SealedPacket}
 use Rattle.stream_lanes.specs.Sends.{IsSealed}
-use Rattle.stream_lanes.specs.Lanes.{SendEnds, end_at, is_spent, tlp_said, packet_at, sealed_ends, measured, synced}
+use Rattle.stream_lanes.specs.Lanes.{SendEnds, end_at, is_spent, tlp_said, packet_said_at, sealed_ends, measured}
+use Rattle.stream_lanes.specs.Lanes.{synced}
 use Rattle.stream_lanes.specs.Lanes.{sync_packets, sync_bytes}
 use Rattle.stream_lanes.proofs.Sent.{clear-facts, when-needed, synced-cpl, end-cpl, end-kept, all_said, all_bytes}
 use Rattle.stream_lanes.proofs.Sent.{all_ends, sent-right, totals-after}
@@ -52,21 +53,21 @@ returns-clause-sent c s number stream class goes trusted =
     ∙ (λ i. c.sync_cpl.ensures.sealed i ++ c.seal-packet.ensures.answer i ∷ [])
     ∙ (λ i. (c.sync_npr.ensures.sealed i ++ sync_packets d Cpl (first i))
     ++ measured (tlp_said (end_at (second i) c.args.sub) c.args.t c.args.more)
-    (packet_at (second i) c.args.head.now c.args.payload.now
+    (packet_said_at (second i) c.args.head.now c.args.payload.now
     (tlp_said (end_at (second i) c.args.sub) c.args.t c.args.more)) ∷ [])
     ∙ (λ i. (c.new-sealed.ensures i ++ sync_packets b Npr x ++ sync_packets d Cpl (synced b Npr x))
     ++ measured (tlp_said (end_at (synced d Cpl (synced b Npr x)) c.args.sub) c.args.t c.args.more)
-    (packet_at (synced d Cpl (synced b Npr x))
+    (packet_said_at (synced d Cpl (synced b Npr x))
     c.args.head.now c.args.payload.now
     (tlp_said (end_at (synced d Cpl (synced b Npr x)) c.args.sub) c.args.t c.args.more)) ∷ []) in
     let bytes : c.seal-packet.new.out.items ≡ all_bytes x c.args.sub b d c.args.head.now c.args.payload.now c.args.t
     c.args.more c.args.out.now.items =
     c.seal-packet.ensures.bytes
     ∙ (λ i. c.sync_cpl.ensures.bytes i ++ packet_bytes
-    (packet_at (second i) c.args.head.now c.args.payload.now
+    (packet_said_at (second i) c.args.head.now c.args.payload.now
     (tlp_said (end_at (second i) c.args.sub) c.args.t c.args.more)))
     ∙ (λ i. (c.sync_npr.ensures.bytes i ++ sync_bytes d Cpl (first i))
-    ++ packet_bytes (packet_at (synced d Cpl (synced b Npr x)) c.args.head.now c.args.payload.now
+    ++ packet_bytes (packet_said_at (synced d Cpl (synced b Npr x)) c.args.head.now c.args.payload.now
     (tlp_said (end_at (synced d Cpl (synced b Npr x)) c.args.sub) c.args.t
     c.args.more))) in
     let ends : c.seal-packet.new.self ≡ all_ends x c.args.sub b d c.args.head.now c.args.payload.now c.args.t

@@ -11,7 +11,7 @@ pub returns-in-Some-default : goal.returns-in-Some-default
 returns-in-Some-default c =
     let p = packet_of_view c.args.packet.now in
     let k = c.args.packet.now.prefix.k in
-    let key = key_held c.self.inside.slots k _ _ _ c.live_key.ensures c.set_of-set.ensures.mine c.in-Some-default.is-0
+    let key = key_held c.self.inside.slots k _ _ _ c.live_key.ensures c.of_bit-set.ensures.one c.in-Some-default.is-0
     in
     let fits : fits_held c.self.inside.holds (length c.self.inside.unit.packets) c.self.inside.mode k p.prefix.m
     ≡ true = sym c.fits.ensures ∙ c.if-fits.true in
@@ -26,7 +26,7 @@ pub returns-in-Some-default-2 : goal.returns-in-Some-default-2
 returns-in-Some-default-2 c =
     let p = packet_of_view c.args.packet.now in
     let k = c.args.packet.now.prefix.k in
-    let key = key_held c.self.inside.slots k _ _ _ c.live_key.ensures c.set_of-set.ensures.mine c.in-Some-default.is-0
+    let key = key_held c.self.inside.slots k _ _ _ c.live_key.ensures c.of_bit-set.ensures.one c.in-Some-default.is-0
     in
     let fits : fits_held c.self.inside.holds (length c.self.inside.unit.packets) c.self.inside.mode k p.prefix.m
     ≡ false = sym c.fits.ensures ∙ c.if-fits.false in

@@ -9,7 +9,8 @@ use Rattle.sub_stream.specs.Answers.{answer_of}
 use Rattle.sub_stream.specs.Gathered.{Gathered, lent_front}
 use Rattle.sub_stream.specs.Seen.{live_with}
 use Rattle.sub_stream.specs.Senders.{begun_where_empty}
-use Rattle.sub_stream.specs.Receivers.{Receiver, fits_held, judged, early_of, taken_of, after_answer, BufferAfter}
+use Rattle.sub_stream.specs.Receivers.{Receiver, fits_held, judged_packet, early_of, taken_of, after_answer}
+use Rattle.sub_stream.specs.Receivers.{BufferAfter}
 use Rattle.sub_stream.specs.Receivers.{IsReceiver}
 use Rattle.sub_stream.proofs.Receiving.{units_of, key_held}
 use Rattle.sub_stream.proofs.Answering.{kept, view, judged-is, not_apart, fits-early, taken-keyed, view-answered}
@@ -24,7 +25,7 @@ held c = record { key = c.in-Some.cipher.now; draw = c.in-Some.draw }
 
 key : (c : goal.After-self-1) → live_held (slot_in c.self.inside.slots (packet c).prefix.k) ≡ Some (held c)
 unfolding packet held
-key c = key_held c.self.inside.slots c.args.packet.now.prefix.k _ _ _ c.live_key.ensures c.set_of.ensures.mine
+key c = key_held c.self.inside.slots c.args.packet.now.prefix.k _ _ _ c.live_key.ensures c.of_bit.ensures.one
     c.in-Some.is
 
 fits : (c : goal.After-self-1) → fits_held c.self.inside.holds (length c.self.inside.unit.packets) c.self.inside.mode
@@ -37,7 +38,7 @@ fits c =
 
 answer : goal.After-self-1 → Taken
 answer c =
-    judged (begun_where_empty (kept c.self.inside.holds c.self.inside.unit) (lent_front c.args.front)
+    judged_packet (begun_where_empty (kept c.self.inside.holds c.self.inside.unit) (lent_front c.args.front)
     (units_of (packet c).prefix.k c.self.inside.zero c.self.inside.one + 1)).front
     c.args.allowed (live_with (units_of (packet c).prefix.k c.self.inside.zero c.self.inside.one)
     (kept c.self.inside.holds c.self.inside.unit).packets (held c)) (packet c)
@@ -55,7 +56,7 @@ answered : (c : goal.After-self-1) → Some c.take_under-taken.result ≡ answer
 unfolding packet held answer
 answered c =
     c.take_under-taken.ensures.answer
-    ∙ (λ i. answer_of (judged
+    ∙ (λ i. answer_of (judged_packet
     (begun_where_empty (c.keep_held.ensures i) (lent_front c.args.front) (c.units_in-units.ensures i + 1)).front
     c.args.allowed (live_with (c.units_in-units.ensures i) (c.keep_held.ensures i).packets
     (held c)) (packet c)))
@@ -70,7 +71,7 @@ unfolding packet held answer
 buffer c =
     let Left : ℕ × Gathered → Type 0 = λ y. BufferAfter (begun_where_empty y.1 (lent_front c.args.front) (y.0 + 1))
     (live_with y.0 y.1.packets (held c)) (packet c)
-    (judged (begun_where_empty y.1 (lent_front c.args.front) (y.0 + 1)).front
+    (judged_packet (begun_where_empty y.1 (lent_front c.args.front) (y.0 + 1)).front
     c.args.allowed (live_with y.0 y.1.packets (held c)) (packet c)) c.take_under-taken.new.unit in
     subst Left (λ i. (c.units_in-units.ensures i, c.keep_held.ensures i)) c.take_under-taken.ensures.buffer
 

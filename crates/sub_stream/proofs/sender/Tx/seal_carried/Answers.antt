@@ -6,7 +6,7 @@ use Rattle.stream_rules.specs.Stream.{LiveKey, sealed_slots, ended_slots}
 use Rattle.sub_stream.specs.Gathered.{Gathered, lent_front}
 use Rattle.sub_stream.specs.Seen.{seen_out, live_with}
 use Rattle.sub_stream.specs.Senders.{Sender, Content, carried_content, sealing_of, sealing_as, sealing_answer}
-use Rattle.sub_stream.specs.Senders.{sealing_bytes, sender_after, packet_of, ahead_for}
+use Rattle.sub_stream.specs.Senders.{sealing_bytes, sender_after, tagged_packet, ahead_for}
 use Rattle.sub_stream.proofs.Sealed.{sealing_with, bare, tagged, packet-tagged, bytes-sealed, slots-sealed, front_if}
 use Rattle.sub_stream.proofs.Sealed.{sender-sealed}
 use Rattle.sub_stream.proofs.sender.Tx.seal_carried.Goals as goal
@@ -61,7 +61,7 @@ packet c = tagged c.is_last-m.result c.in-Ok.key.1.now c.unit_iv-iv.result (unit
     (bare c.in-Ok.key.1.now c.unit_iv-iv.result (unit c).packets (prefix c) c.args.carried.now.head.now
     c.args.carried.now.payload.now)
 
-packet_is : (c : goal.After-len) → packet c ≡ packet_of (tx c) (front c) (key c) (content c) c.is_last-m.result
+packet_is : (c : goal.After-len) → packet c ≡ tagged_packet (tx c) (front c) (key c) (content c) c.is_last-m.result
 unfolding tx key prefix front content unit packet
 packet_is c =
     packet-tagged (tx c) (front c) (key c) (content c) c.is_last-m.result (unit c) (prefix c) c.unit_iv-iv.result

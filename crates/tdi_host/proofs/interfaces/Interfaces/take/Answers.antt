@@ -1,5 +1,5 @@
 use Rattle.std.proofs.Common.{◌≡◌, Some, get_or, ap}
-use Rattle.tdi_host.specs.Judging.{answer_shown, judged}
+use Rattle.tdi_host.specs.Judging.{answer_shown, interface_judged}
 use Rattle.tdi_host.proofs.Takes.{asked_now, outcome_now, manager_now}
 use Rattle.tdi_host.proofs.interfaces.Interfaces.take.Goals as goal
 
@@ -8,7 +8,7 @@ returns-clause-outcome c =
     let asked : c.args.self.now.asking ≡ Some c.in-Some.asking = rw (← c.self.view_is) c.in-Some.is in
     let is : c.index_mut-interface.result.now ≡ get_or c.args.self.now.interfaces c.in-Some.asking.place
     c.index_mut-interface.result.now = rw (← c.self.view_is) c.index_mut-interface.ensures.value in
-    let reply : answer_shown c.judge-answer.result ≡ judged c.in-Some.asking.step
+    let reply : answer_shown c.judge-answer.result ≡ interface_judged c.in-Some.asking.step
     c.index_mut-interface.result.now.requester c.args.self.now.portion c.len-read.result c.args.carried
     = rw (← c.self.view_is, ← c.requester.ensures, ← c.from-function.ensures) c.judge-answer.ensures.answer in
     outcome_now c.args.self.now c.in-Some.asking c.index_mut-interface.result.now c.take.new.self c.args.carried
@@ -22,7 +22,7 @@ returns-clause-manager c =
     let asked : c.args.self.now.asking ≡ Some c.in-Some.asking = rw (← c.self.view_is) c.in-Some.is in
     let is : c.index_mut-interface.result.now ≡ get_or c.args.self.now.interfaces c.in-Some.asking.place
     c.index_mut-interface.result.now = rw (← c.self.view_is) c.index_mut-interface.ensures.value in
-    let reply : answer_shown c.judge-answer.result ≡ judged c.in-Some.asking.step
+    let reply : answer_shown c.judge-answer.result ≡ interface_judged c.in-Some.asking.step
     c.index_mut-interface.result.now.requester c.args.self.now.portion c.len-read.result c.args.carried
     = rw (← c.self.view_is, ← c.requester.ensures, ← c.from-function.ensures) c.judge-answer.ensures.answer in
     manager_now c.args.self.now c.in-Some.asking c.index_mut-interface.result.now c.take.new.self c.args.carried

@@ -1,2 +1,0 @@
-pub mod Statements
-pub use Rattle.count_laws.specs.Statements.{CountLaw, CountLawHolds}

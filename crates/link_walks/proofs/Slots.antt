@@ -1,0 +1,65 @@
+-- What a call does to the slots of a place, and which of them stay Live.
+use Rattle.link_walks.proofs.CallTerms.{◌≡◌, Bool, arith, true, ℕ, List, false, sym, ◌≢◌, nat_tests, SlotCall, Program}
+use Rattle.link_walks.proofs.CallTerms.{Go}
+use Rattle.link_walks.proofs.CallTerms.{Halt, slots_called_out, slots_called_into, Work, makes_draw, Operation}
+use Rattle.link_walks.proofs.CallTerms.{refuses_in}
+use Rattle.link_walks.proofs.CallTerms.{is_last_in, is_only_live}
+use Rattle.link_walks.proofs.CallTerms.{is_last_live, live_draw, slot_pair, key_slot, Slots, Slot, Live, LiveKey}
+use Rattle.link_walks.proofs.CallTerms.{WaitsBesideLive, DrawsApart, if◌then◌else◌, not, any_live, refl, is_some}
+use Rattle.link_walks.proofs.CallTerms.{refusal_if}
+
+-- ---- KEY_PROG
+
+-- what is refused there is what the rules of links refuse, if two Live draws are apart
+last_live_is : (k : Bool) (a b : Slot) → ((x y : LiveKey) → a ≡ Live x → b ≡ Live y → x.draw ≢ y.draw)
+    → is_last_live k (live_draw (key_slot a)) (live_draw (key_slot b)) ≡ is_last_in a b
+last_live_is k a b apart = grind (arith, nat_tests)
+
+pub only_live_is : (sends : Bool) (s : Slots) (k : Bool) → DrawsApart s → is_only_live (slot_pair sends s) k
+    ≡ refuses_in s k
+only_live_is sends s false apart = last_live_is false s.first s.second apart
+only_live_is sends s true apart = last_live_is true s.second s.first
+    (λ x y first second same. apart y x second first (sym same))
+
+-- a status is there exactly if it is refused
+pub is_refusal : (b : Bool) → is_some (refusal_if b) ≡ b
+is_refusal true = refl
+is_refusal false = refl
+
+-- ---- no KEY_PROG and no GO takes its Live slot from a place that had one
+
+abbrev pub is_halt : SlotCall → Bool
+is_halt (Halt k) = true
+is_halt _ = false
+
+abbrev pub is_no_halt : SlotCall → Bool
+is_no_halt call = not (is_halt call)
+
+-- an operation's first call and its second at a place: a key and its GO, or a stop of each set
+abbrev pub first_call : Work → List ℕ → SlotCall
+first_call w key = if makes_draw w.operation then Program w.set key w.draw else Halt false
+
+abbrev pub second_call : Work → SlotCall
+second_call w = if makes_draw w.operation then Go w.set else Halt true
+
+-- the kind of its calls
+abbrev pub is_of : Operation → SlotCall → Bool
+is_of o call = if makes_draw o then is_no_halt call else is_halt call
+
+abbrev pub slots_by : Bool → SlotCall → Slots → Slots
+slots_by true call s = slots_called_out call s
+slots_by false call s = slots_called_into call s
+
+pub slots_keep : (sends : Bool) (call : SlotCall) (s : Slots) → is_no_halt call ≡ true → any_live s ≡ true
+    → any_live (slots_by sends call s) ≡ true
+slots_keep sends call s kept some = grind arith
+
+-- ---- STOP: no place without a Live slot gets one
+
+pub slots_halt : (sends : Bool) (call : SlotCall) (s : Slots) → is_halt call ≡ true → (sends ≡ true → WaitsBesideLive s)
+    → any_live (slots_by sends call s) ≡ true → any_live s ≡ true
+slots_halt sends call s is waits some = grind arith
+
+-- after it no key waits
+pub halts_wait : (call : SlotCall) (s : Slots) → is_halt call ≡ true → WaitsBesideLive (slots_called_out call s)
+halts_wait call s is k draw key waits = grind arith
