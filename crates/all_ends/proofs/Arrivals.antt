@@ -4,10 +4,10 @@ use Rattle.all_ends.proofs.Terms.{LinkPacket, PortEnd, LinkEnds, port_in, with_p
 use Rattle.all_ends.proofs.Terms.{taken_ends, state_of}
 use Rattle.ide_prefix.specs.declared.fault.PacketFault.{PacketFault}
 use Rattle.ide_prefix.specs.Reading.{CutValue}
-use Rattle.ide_port.specs.Arrivals.{take_read}
+use Rattle.ide_port.specs.{take_step}
 use Rattle.all_ends.proofs.Finds.{ports_same, Keeps, KeepsEnds}
 
-pub take_keeps : (e : PortEnd) (r : Result CutValue PacketFault) → Keeps e (take_read e r).port
+pub take_keeps : (e : PortEnd) (r : Result CutValue PacketFault) → Keeps e (take_step e r).port
 take_keeps e r = grind arith
 
 -- the ports are seen, and not the interfaces

@@ -34,6 +34,15 @@ each_set P (x ∷ xs) zero y new old (suc j) z is = old (suc j) z is
 each_set P (x ∷ xs) (suc i) y new old zero z is = old 0 z is
 each_set P (x ∷ xs) (suc i) y new old (suc j) z is = each_set (λ k. P (suc k)) xs i y new (λ k. old (suc k)) j z is
 
+-- what holds of the item that changes, and of each with itself, holds of all
+pub each_both : {A : Type 0} (R : A → A → Type 0) (xs : List A) (i : ℕ) (x y : A) → slice_get xs i ≡ Some x → R x y
+    → ((z : A) → R z z) → (j : ℕ) (z z' : A) → slice_get xs j ≡ Some z → slice_get (slice_set xs i y) j ≡ Some z'
+    → R z z'
+each_both {A} R xs i x y is changed same j z z' at at' =
+    each_set (λ n w. (u : A) → slice_get xs n ≡ Some u → R u w) xs i y
+    (λ u at_u. subst (λ (w : A). R w y) (same_Some x u (sym is ∙ at_u)) changed)
+    (λ n w at_w u at_u. subst (λ (t : A). R t w) (same_Some w u (sym at_w ∙ at_u)) (same w)) j z' at' z at
+
 -- ---- the states of one port
 
 twice : (i d : ℕ) → 2 * suc i + d ≡ suc (suc (2 * i + d))

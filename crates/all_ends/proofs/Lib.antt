@@ -7,3 +7,5 @@ pub mod Streams
 pub mod Sends
 pub mod Arrivals
 pub mod Writes
+pub mod Operated
+pub mod Located

@@ -1,33 +1,32 @@
--- Sends at a port, as the machine has them. It goes as the bytes are read: a fault, a TLP that takes no stream, one
+-- Sends at a port, as the machine has them. It goes by what the bytes come to: a fault, a TLP that takes no stream, one
 -- that is refused on its stream, and one that is sealed; mode, limit and closing are the port's as the plan's, and a
 -- chosen stream is at the port since the links stand for a history. The packets that are kept are cut from the port's
 -- joined bytes by their lengths, which by induction undoes the joining.
 use Rattle.all_ends.proofs.Terms.{◌≡◌, ℕ, suc, zero, ◌+◌, ◌<◌, Bool, true, List, [], ◌∷◌, ◌++◌, length, refl, ap}
-use Rattle.all_ends.proofs.Terms.{sym, ◌∙◌, subst, arith, length-append, Option, Some, None, Result, Ok, Err}
+use Rattle.all_ends.proofs.Terms.{sym, ◌∙◌, subst, arith, length-append, Option, Some, None}
 use Rattle.all_ends.proofs.Terms.{option_map, slice_get, slice_set, map, sum_by, if◌then◌else◌, none-some, same_Some}
 use Rattle.all_ends.proofs.Terms.{append-nil, take-append_seam, drop-append_seam, sum_by-cons, PortName, Plan}
 use Rattle.all_ends.proofs.Terms.{Packet, packet_bytes, Verdict, SealedPacket, StreamState, TxSub, Three, lanes_of}
-use Rattle.all_ends.proofs.Terms.{sealed_all, mode_of, is_closed, has_stream, choice, History, LinkPacket, LinkState}
-use Rattle.all_ends.proofs.Terms.{Stepped, kept_at, stepped_answer, stepped_seal, find, PortsStandFor, standing}
+use Rattle.all_ends.proofs.Terms.{sealed_all, mode_of, is_closed, has_stream, History, LinkPacket, LinkState, put}
+use Rattle.all_ends.proofs.Terms.{Stepped, kept_at, stepped_answer, find, streams_of, PortsStandFor, standing}
 use Rattle.all_ends.proofs.Terms.{sending}
 use Rattle.all_ends.proofs.Terms.{packet_lengths, joined_packets, PortEnd, Found, found, changed, SendStep, LinkEnds}
 use Rattle.all_ends.proofs.Terms.{cut_packets, port_in, with_port, KeeperView, state_of, found_id, changed_same}
 use Rattle.all_ends.proofs.Terms.{Beside}
 use Rattle.tlp_layout.specs.declared.tlp.Tlp.{Tlp}
-use Rattle.tlp_layout.specs.declared.fault.TlpFault.{TlpFault}
 use Rattle.tlp_layout.specs.Class.{class_of}
 use Rattle.tlp_layout.specs.Faults.{place_in}
 use Rattle.tlp_layout.specs.Head.{head_bytes}
 use Rattle.tlp_layout.specs.Tlp.{header, body}
 use Rattle.fault_words.specs.FaultWords.{tlp_word}
-use Rattle.association.specs.Choice.{choice_of, chosen}
+use Rattle.association.specs.Outgoing.{Outgoing, NoTlp, OnNone, OnStream, outgoing_of}
 use Rattle.link_verdicts.specs.declared.verdict.Verdict.TheVariants as v
 use Rattle.link_verdicts.specs.declared.verdict.SealedPacket.{SealedPacket as Described}
 use Rattle.stream_rules.specs.Sending.{Sending, Lanes, refusals, first_that_holds, sealed_by}
-use Rattle.link_history.proofs.Choices.{choice_known}
-use Rattle.link_ports.specs.Machine as machine
+use Rattle.link_history.proofs.Choices.{stream_known}
+use Rattle.link_ports.specs.Machine.{stepped_on_stream, stepped_send}
 use Rattle.ide_stream.specs.Sends.{ok_unless_verdict, unless_verdict}
-use Rattle.ide_port.specs.Sends.{unsealed, as_verdict, sent_on, send_found, send_chosen, send_step_read}
+use Rattle.ide_port.specs.Sends.{unsealed, as_verdict, stream_step, send_step}
 use Rattle.ide_port.specs.{Trusting}
 use Rattle.all_ends.proofs.Finds.{IsPort, Keeps, find_at, put_at, state_kept, mode_at, closed_at}
 
@@ -53,13 +52,13 @@ lengths_join (p ∷ ps) (q ∷ qs) is =
 
 -- ---- one step
 
-pub send_keeps : (e : PortEnd) (sets : Trusting) (more : Bool) (n : ℕ) (r : Result Tlp TlpFault)
-    → Keeps e (send_step_read e sets more n r).port
-send_keeps e sets more n r = grind arith
+pub send_keeps : (e : PortEnd) (o : Outgoing) (more : Bool) (sets : Trusting) (n : ℕ)
+    → Keeps e (send_step e o more sets n).port
+send_keeps e o more sets n = grind arith
 
-pub send_joins : (e : PortEnd) (sets : Trusting) (more : Bool) (n : ℕ) (r : Result Tlp TlpFault)
-    → (send_step_read e sets more n r).port.sealed ≡ joined_packets (send_step_read e sets more n r).packets
-send_joins e sets more n r = grind arith
+pub send_joins : (e : PortEnd) (o : Outgoing) (more : Bool) (sets : Trusting) (n : ℕ)
+    → (send_step e o more sets n).port.sealed ≡ joined_packets (send_step e o more sets n).packets
+send_joins e o more sets n = grind arith
 
 -- what a step of the port makes of all links
 abbrev pub sent : Plan → List LinkEnds → KeeperView → List LinkPacket → PortName → LinkEnds → SendStep → Stepped
@@ -128,40 +127,42 @@ answered_as plan ends k packets port l t more trusted id f None is at_port at =
     let ds : List Described = sealed_by (lanes_of f.plan.mode e.limit f.state) s (length packets + 1) in
     let sealed : List Packet × Three TxSub = sealed_all f.plan.closed (head_bytes (header t)) (body t) ds f.state.tx in
     let closed : is_closed plan port.link id ≡ f.plan.closed = closed_at plan port e id f at_port at in
-    ap (λ (c : Bool). stepped_seal plan (state_of plan ends k packets) s f.state ds
-    (sealed_all c (head_bytes (header t)) (body t) ds f.state.tx)) closed
+    (λ i.
+    let out : List Packet × Three TxSub = sealed_all (closed i) (head_bytes (header t)) (body t) ds f.state.tx in
+    let new : LinkState = put plan (state_of plan ends k packets) port id (record f.state { tx = out.1 }) in
+    (v.Sealed ds, record new { packets = packets ++ map (kept_at port) out.0 }))
     ∙ ap (λ (st : LinkState). (v.Sealed ds, record st { packets = packets ++ map (kept_at port) sealed.0 }))
     (put_at plan ends k packets port l id (record f.state { tx = sealed.1 }) _ is at_port
     (ap (λ (j : ℕ). changed e.plans e.states j (record f.state { tx = sealed.1 })) name))
 
-choice_same : (plan : Plan) (port : PortName) (e : PortEnd) (t : Tlp) → IsPort plan port e → choice plan port (header t)
-    ≡ chosen (choice_of e.plans e.name.side (header t))
-unfolding choice
-choice_same plan port e t at_port = (λ i. chosen (choice_of (sym at_port.plans i) (sym at_port.name i).side (header t)))
+outgoing_same : (plan : Plan) (port : PortName) (e : PortEnd) (bytes : List ℕ) → IsPort plan port e
+    → outgoing_of (streams_of plan port.link) port.side bytes ≡ outgoing_of e.plans e.name.side bytes
+outgoing_same plan port e bytes at_port =
+    (λ i. outgoing_of (sym at_port.plans i) (sym at_port.name i).side bytes)
 
 pub sends_as : (plan : Plan) (b : Beside) (ends : List LinkEnds) (k : KeeperView) (packets : List LinkPacket)
-    (port : PortName) (l : LinkEnds) (h : History) (r : Result Tlp TlpFault) (more trusted : Bool)
+    (port : PortName) (l : LinkEnds) (h : History) (bytes : List ℕ) (more trusted : Bool)
     → slice_get ends port.link ≡ Some l
     → IsPort plan port (port_in port.side l)
     → PortsStandFor plan (state_of plan ends k packets) h
-    → machine.stepped_send_read plan b (state_of plan ends k packets) port r more trusted
+    → let e = port_in port.side l in
+    stepped_send plan b (state_of plan ends k packets) port (outgoing_of (streams_of plan port.link) port.side bytes)
+    more trusted
     ≡ sent plan ends k packets port l
-    (send_step_read (port_in port.side l) (λ head stream. b.t port head stream trusted) more (length packets + 1) r)
-sends_as plan b ends k packets port l h (Err fault) more trusted is at_port stands = unsealed_as plan ends k packets
-    port l (λ n. v.Malformed n (tlp_word fault) (place_in fault)) is at_port
-sends_as plan b ends k packets port l h (Ok t) more asked is at_port stands =
-    by_choice (choice plan port (header t)) refl
-    ∙ ap (λ (o : Option ℕ). sent plan ends k packets port l
-    (send_chosen (port_in port.side l) t (λ head stream. b.t port head stream asked) more (length packets + 1) o))
-    (choice_same plan port (port_in port.side l) t at_port)
+    (send_step e (outgoing_of e.plans e.name.side bytes) more (λ head stream. b.t port head stream trusted)
+    (length packets + 1))
+sends_as plan b ends k packets port l h bytes more asked is at_port stands =
+    by_outgoing (outgoing_of (streams_of plan port.link) port.side bytes) refl
+    ∙ ap (λ (o : Outgoing). sent plan ends k packets port l
+    (send_step (port_in port.side l) o more (λ head stream. b.t port head stream asked) (length packets + 1)))
+    (outgoing_same plan port (port_in port.side l) bytes at_port)
   where
-    by_found : (id : ℕ) (o : Option Found) → let trusted = b.t port (header t) id asked in has_stream plan port id
-        ≡ true → found (port_in port.side l).plans (port_in port.side l).states id ≡ o
-        → machine.stepped_send_found plan (state_of plan ends k packets) (send_of port id t more trusted) t
+    by_found : (t : Tlp) (id : ℕ) (o : Option Found) → let trusted = b.t port (header t) id asked in
+        has_stream plan port id ≡ true → found (port_in port.side l).plans (port_in port.side l).states id ≡ o
+        → stepped_on_stream plan (state_of plan ends k packets) (send_of port id t more trusted) t
         (option_map (λ (f : Found). f.state) o) ≡ sent plan ends k packets port l
-        (send_found (port_in port.side l) t trusted more
-        (length packets + 1) o)
-    by_found id None known at =
+        (stream_step (port_in port.side l) t more trusted (length packets + 1) o)
+    by_found t id None known at =
         let one : find plan (state_of plan ends k packets) port id ≡ Some (standing plan h port id) =
         stands.ports_stand.streams port id ∙ ap (λ (y : Bool). if y then Some (standing plan h port id) else None) known
         in
@@ -169,33 +170,36 @@ sends_as plan b ends k packets port l h (Ok t) more asked is at_port stands =
         (λ (o : Option Found). option_map (λ (f : Found). f.state) o) (sym at) ∙ sym
         (find_at plan ends k packets port l id is at_port) ∙ one in
         absurd (none-some (standing plan h port id) none)
-    by_found id (Some f) known at =
+    by_found t id (Some f) known at =
         let trusted : Bool = b.t port (header t) id asked in
         let x = port_in port.side l in
         let s : Sending = send_of port id t more trusted in
         let mode : mode_of plan port.link id ≡ f.plan.mode = mode_at plan port x id f at_port at in
         let lanes : lanes_of (mode_of plan port.link id) plan.units_per_key f.state
         ≡ lanes_of f.plan.mode x.limit f.state = (λ i. lanes_of (mode i) (sym at_port.limit i) f.state) in
+        let refusal = λ (y : Sending). first_that_holds (refusals (lanes_of f.plan.mode x.limit f.state) y.class) in
         let name : f.plan.id ≡ id = found_id x.plans x.states id f at in
         let same : s ≡ sending x.name f.plan.id (class_of (header t)) more trusted =
         (λ i. send_of (sym at_port.name i) (sym name i) t more trusted) in
         ap (λ (ls : Lanes). stepped_answer plan (state_of plan ends k packets) s t f.state
         (first_that_holds (refusals ls s.class)) (sealed_by ls s (length packets + 1))) lanes
-        ∙ answered_as plan ends k packets port l t more trusted id f
-        (first_that_holds (refusals (lanes_of f.plan.mode x.limit f.state) s.class)) is at_port at
-        ∙ ap (λ (y : Sending). sent plan ends k packets port l (sent_on x t f y (length packets + 1))) same
+        ∙ answered_as plan ends k packets port l t more trusted id f (refusal s) is at_port at
+        ∙ ap (λ (y : Sending). sent plan ends k packets port l (on_stream x t f y (length packets + 1) (refusal y)))
+        same
 
-    by_choice : (o : Option ℕ) → choice plan port (header t) ≡ o
-        → machine.stepped_send_on plan b (state_of plan ends k packets) port t more asked o
-        ≡ sent plan ends k packets port l (send_chosen (port_in port.side l) t
-        (λ head stream. b.t port head stream asked) more (length packets + 1) o)
-    by_choice None at = unsealed_as plan ends k packets port l (λ n. v.Plain n) is at_port
-    by_choice (Some id) at =
-        ap (λ (o : Option StreamState). machine.stepped_send_found plan (state_of plan ends k packets)
+    by_outgoing : (o : Outgoing) → outgoing_of (streams_of plan port.link) port.side bytes ≡ o
+        → stepped_send plan b (state_of plan ends k packets) port o more asked
+        ≡ sent plan ends k packets port l (send_step (port_in port.side l) o more
+        (λ head stream. b.t port head stream asked) (length packets + 1))
+    by_outgoing (NoTlp fault) comes = unsealed_as plan ends k packets port l
+        (λ n. v.Malformed n (tlp_word fault) (place_in fault)) is at_port
+    by_outgoing OnNone comes = unsealed_as plan ends k packets port l (λ n. v.Plain n) is at_port
+    by_outgoing (OnStream t id) comes =
+        ap (λ (o : Option StreamState). stepped_on_stream plan (state_of plan ends k packets)
         (send_of port id t more (b.t port (header t) id asked)) t o)
         (find_at plan ends k packets port l id is at_port)
-        ∙ by_found id (found (port_in port.side l).plans (port_in port.side l).states id)
-        (choice_known plan port (header t) id at) refl
+        ∙ by_found t id (found (port_in port.side l).plans (port_in port.side l).states id)
+        (stream_known plan port bytes t id comes) refl
 
 -- ---- what is kept
 

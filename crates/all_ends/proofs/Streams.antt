@@ -6,15 +6,15 @@ use Rattle.all_ends.proofs.Terms.{◌≡◌, ℕ, suc, zero, ◌==◌, ◌<◌, 
 use Rattle.all_ends.proofs.Terms.{◌⊎◌, length, refl, ap, sym, ◌∙◌, subst, arith, ⊎_elim, Option, Some, None}
 use Rattle.all_ends.proofs.Terms.{option_map, is_some, slice_get, slice_set, map, if◌then◌else◌, All, slice_index_or}
 use Rattle.all_ends.proofs.Terms.{nat_tests, none-some, same_Some, get_or_past, length-map, All-head, All-tail, Op}
-use Rattle.all_ends.proofs.Terms.{Idle, History, status_by as key_status, Side, Host, Device, PortName, StreamStatus}
+use Rattle.all_ends.proofs.Terms.{Idle, History, Side, Host, Device, PortName}
 use Rattle.all_ends.proofs.Terms.{Plan, LinkPlan, StreamPlan, FitsStream, FitsLink, StreamState, streams_of}
 use Rattle.all_ends.proofs.Terms.{streams_by_link, stream_plan, LinkPacket, find, find_op, port_at, port_place}
-use Rattle.all_ends.proofs.Terms.{status_at, reset_state, empty_stream, PortsStandFor, standing, op_at, KeysKept}
+use Rattle.all_ends.proofs.Terms.{status_at, reset_state, PortsStandFor, standing, op_at, KeysKept}
 use Rattle.all_ends.proofs.Terms.{StreamView, reset_stream, ManagerView, Named, named, op_named, reset_manager}
 use Rattle.all_ends.proofs.Terms.{PortEnd, Found, found, reset_port, status_in, LinkEnds, port_in, reset_ends}
 use Rattle.all_ends.proofs.Terms.{stream_named, KeeperView, ports_in, ops_in, ops_of, views_after, name_of, names_of}
 use Rattle.all_ends.proofs.Terms.{state_of, IsLink, AreLinks, op_named_first}
-use Rattle.sub_stream.specs.Calls.{stream_status, no_stream, status_by as call_status}
+use Rattle.sub_stream.specs.Calls.{stream_status, no_stream}
 use Rattle.link_ports.specs.Machine as machine
 use Rattle.all_ends.proofs.Managers.{Apart, op_found, ops_changed}
 use Rattle.all_ends.proofs.Finds.{both_set, Keeps, KeepsEnds, port_is, find_at}
@@ -95,9 +95,6 @@ pub found_some : (o : Option Found) (x : StreamState) → option_map (λ (f : Fo
 found_some None x is = absurd (none-some x is)
 found_some (Some f) x is = (f, refl)
 
-status_same : (a b c : Bool) → key_status a b c ≡ call_status a b c
-status_same a b c = grind arith
-
 -- a stream of the plan at a port
 pub port_found : (plan : Plan) (ends : List LinkEnds) (k : KeeperView) (packets : List LinkPacket) (h : History)
     (link stream : ℕ) (l : LinkEnds) (side : Side)
@@ -125,14 +122,12 @@ pub at_side : (plan : Plan) (ends : List LinkEnds) (k : KeeperView) (packets : L
 at_side plan ends k packets h link stream l side links stands known is =
     let f = port_found plan ends k packets h link stream l side links stands known is in
     ap (λ (o : Option Found). option_map (λ (g : Found). stream_status g.state) o) f.1
-    ∙ sym (ap (λ (o : Option StreamState). Some (machine.status_if_planned o)) f.2
-    ∙ ap (λ (s : StreamStatus). Some s)
-    (status_same f.0.state.failed (machine.some_live f.0.state) (machine.all_live f.0.state)))
+    ∙ sym (ap (λ (o : Option StreamState). Some (machine.status_if_planned o)) f.2)
 
 -- ---- the ports after a reset
 
 abbrev empty_in : Plan → ℕ → List StreamState
-empty_in plan link = map (λ (s : StreamPlan). empty_stream) (streams_of plan link)
+empty_in plan link = map (λ (s : StreamPlan). no_stream) (streams_of plan link)
 
 ports_reset : (plan : Plan) (ends : List LinkEnds) (link : ℕ) (l : LinkEnds) → slice_get ends link ≡ Some l
     → IsLink plan link l

@@ -11,7 +11,7 @@ pub use Rattle.ide_types.specs.declared.port.Side.{Side}
 pub use Rattle.ide_types.specs.declared.port.Side.TheVariants.{Device, Host}
 pub use Rattle.ide_types.specs.declared.status.StreamStatus.{StreamStatus}
 pub use Rattle.key_laws.proofs.Tests.{different-false}
-pub use Rattle.key_laws.specs.History.{History, status_by}
+pub use Rattle.key_laws.specs.History.{History}
 pub use Rattle.key_laws.specs.Operations.{Idle, Op}
 pub use Rattle.key_laws.specs.Places.{sent_direction}
 pub use Rattle.all_ends.specs.AllEnds.{ends_from}
@@ -31,11 +31,10 @@ pub use Rattle.link_history.specs.Memory.{Grants}
 pub use Rattle.trusted_memory.specs.{Leads, Write}
 pub use Rattle.ide_plan.specs.declared.plan.Region.{Region}
 pub use Rattle.link_verdicts.specs.declared.verdict.UnitName.{UnitName}
-unfoldable pub use Rattle.link_history.specs.Due.{choice}
 pub use Rattle.link_history.specs.Plan.{has_stream, is_closed, mode_of, streams_by_link, streams_of, with_id}
 unfoldable pub use Rattle.link_history.specs.Plan.{stream_plan}
-pub use Rattle.link_ports.specs.Machine.{Beside, LinkPacket, LinkState, Stepped, stepped_answer, empty_stream, kept_at}
-pub use Rattle.link_ports.specs.Machine.{port_at, port_place, reset_state, stepped_seal, status_at, unit_name}
+pub use Rattle.link_ports.specs.Machine.{Beside, LinkPacket, LinkState, Stepped, stepped_answer, kept_at}
+pub use Rattle.link_ports.specs.Machine.{port_at, port_place, reset_state, status_at, unit_name}
 unfoldable pub use Rattle.link_ports.specs.Machine.{find, find_op, put}
 pub use Rattle.link_ports.specs.Stands.{PortsStandFor, op_at, standing}
 pub use Rattle.link_verdicts.specs.declared.verdict.Effect.{Effect}

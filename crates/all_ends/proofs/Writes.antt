@@ -31,7 +31,7 @@ use Rattle.link_history.specs.Memory.{admitted_as, admitted, admitted_each, admi
 use Rattle.link_ports.specs.Stands.{rx_slot, rx_slots, receiving_key}
 unfoldable use Rattle.link_ports.specs.Stands.{standing}
 use Rattle.whole_machine.specs.Machine.{unit_taken, unit_found, unit_cut, unit_in}
-use Rattle.ide_port.specs.Arrivals.{TakeStep, port_arrival, take_found, take_read}
+use Rattle.ide_port.specs.Arrivals.{TakeStep, port_arrival, packet_step}
 use Rattle.ide_port.specs.declared.answer.Arrival.{Arrival}
 use Rattle.ide_port.specs.declared.answer.Arrival.TheVariants as came
 use Rattle.all_ends.specs.Writes.{writes_by}
@@ -194,7 +194,7 @@ module _ (plan : Plan) (grants : Grants) (ends : List LinkEnds) (k : KeeperView)
       ≡ unit_writes t.answer (λ unit. map (packet_write plan.memory grants port unit) t.port.delivered)
 
   found_agrees : (p : Packet) (f : Found) → found here.plans here.states p.prefix.stream ≡ Some f
-      → Agrees (unit_found plan port p (Some f.state)) (take_found here p (Some f))
+      → Agrees (unit_found plan port p (Some f.state)) (packet_step here p (Some f))
   found_agrees p f at =
       let id : ℕ = p.prefix.stream in
       let seen : find plan now port id ≡ Some f.state =
@@ -215,16 +215,16 @@ module _ (plan : Plan) (grants : Grants) (ends : List LinkEnds) (k : KeeperView)
       (taken_is f.state p f.plan.mode f.plan.closed)
 
   option_agrees : (p : Packet) (o : Option Found) → found here.plans here.states p.prefix.stream ≡ o
-      → Agrees (unit_found plan port p (option_map (λ (f : Found). f.state) o)) (take_found here p o)
+      → Agrees (unit_found plan port p (option_map (λ (f : Found). f.state) o)) (packet_step here p o)
   option_agrees p None at = refl
   option_agrees p (Some f) at = found_agrees p f at
 
-  read_agrees : (r : Result CutValue PacketFault) → Agrees (unit_cut plan now port r) (take_read here r)
+  read_agrees : (r : Result CutValue PacketFault) → Agrees (unit_cut plan now port r) (take_step here r)
   read_agrees (Err fault) = refl
   read_agrees (Ok PlainTlp) = refl
   read_agrees (Ok (IdePacket p)) =
       ap (λ (o : Option StreamState).
-      unit_writes (take_read here (Ok (IdePacket p))).answer
+      unit_writes (take_step here (Ok (IdePacket p))).answer
       (λ unit. admitted_in plan grants port unit (unit_found plan port p o)))
       (find_at plan ends k packets port l p.prefix.stream is at_port)
       ∙ option_agrees p (found here.plans here.states p.prefix.stream) refl
@@ -243,9 +243,9 @@ module _ (plan : Plan) (grants : Grants) (ends : List LinkEnds) (k : KeeperView)
   by_verdict arrival (came.Accepted unit count) effects = refl
 
   pub writes_agree : (bytes : List ℕ) (effects : UnitName → List Effect)
-      → (let t = take_step here bytes in
+      → (let t = take_step here (cut_of bytes) in
       writes_by plan grants now (Some (record { port = port; bytes = bytes })) (arrival_verdict port t.answer effects)
       ≡ unit_writes t.answer (λ unit. map (packet_write plan.memory grants port unit) t.port.delivered))
   writes_agree bytes effects =
-      by_verdict (Some (record { port = port; bytes = bytes })) (take_step here bytes).answer effects
+      by_verdict (Some (record { port = port; bytes = bytes })) (take_step here (cut_of bytes)).answer effects
       ∙ read_agrees (cut_of bytes)

@@ -14,6 +14,7 @@ use Rattle.link_ends.specs.Hosts.{InterfacesView}
 use Rattle.tsm_host.specs.declared.operation.Op.{Op}
 use Rattle.tsm_host.specs.declared.operation.Outcome.{Outcome}
 use Rattle.ide_port.specs.declared.answer.Sent.{Sent}
+use Rattle.ide_prefix.specs.Reading.{cut_of}
 use Rattle.ide_port.specs.{IsSentAtPort, take_step, status_in}
 use Rattle.link_ends.specs.declared.ends.LinkEnds.{LinkEnds}
 use Rattle.link_ends.specs.Ends.{new_ends, port_in, with_port, taken_ends, trusting_at, reset_ends}
@@ -46,14 +47,14 @@ abbrev pub Changes : List LinkEnds → ℕ → List LinkEnds → (LinkEnds → L
 Changes old link new P = (l : LinkEnds) → slice_get old link ≡ Some l → (l' : LinkEnds)
     × (new ≡ slice_set old link l') × P l l'
 
-pub record Sends (port : PortName) (tlp : List ℕ) (trusted more : Bool) (answer : Sent) (l l' : LinkEnds) : Type 0 where
-  pub sent : (number : ℕ) → IsSentAtPort (port_in port.side l) tlp (trusting_at port.side l trusted) more number answer
+pub record Sends (port : PortName) (tlp : List ℕ) (more trusted : Bool) (answer : Sent) (l l' : LinkEnds) : Type 0 where
+  pub sent : (number : ℕ) → IsSentAtPort (port_in port.side l) tlp more (trusting_at port.side l trusted) number answer
       (port_in port.side l')
   pub other : l' ≡ with_port port.side (port_in port.side l') l
 
 abbrev pub SendsAt : List LinkEnds → PortName → List ℕ → Bool → Bool → Sent → List LinkEnds → Type 0
-SendsAt old port tlp trusted more answer new = Changes old port.link new
-    (λ l l'. Sends port tlp trusted more answer l l')
+SendsAt old port tlp more trusted answer new = Changes old port.link new
+    (λ l l'. Sends port tlp more trusted answer l l')
 
 -- what the manager says of requesters
 abbrev pub grants_in : InterfacesView → Grants
@@ -61,11 +62,11 @@ grants_in m link requester = granted m link requester
 
 pub record Arrives (regions : List Region) (grants : Grants) (port : PortName) (bytes : List ℕ) (verdict : Verdict)
     (m n : MemoryContents) (l l' : LinkEnds) : Type 0 where
-  pub ends : l' ≡ taken_ends port.side (take_step (port_in port.side l) bytes).port l
-  pub verdict_is : let step = take_step (port_in port.side l) bytes in
+  pub ends : l' ≡ taken_ends port.side (take_step (port_in port.side l) (cut_of bytes)).port l
+  pub verdict_is : let step = take_step (port_in port.side l) (cut_of bytes) in
       verdict ≡ arrival_verdict port step.answer
       (λ unit. map (packet_effect regions grants port unit) step.port.delivered)
-  pub written : let step = take_step (port_in port.side l) bytes in
+  pub written : let step = take_step (port_in port.side l) (cut_of bytes) in
       Leads m (unit_writes step.answer (λ unit. map (packet_write regions grants port unit) step.port.delivered)) n
 
 abbrev pub ArrivesAt : List LinkEnds → List Region → Grants → PortName → List ℕ → Verdict → MemoryContents

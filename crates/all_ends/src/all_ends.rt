@@ -103,13 +103,13 @@ impl AllEnds {
 
     /// Sends a TLP's bytes at a port. A host's port sets T as it is asked. A device's port sets T if the TLP's owner is
     /// an interface in RUN and the TLP takes the stream that the interface is bound to.
-    pub fn send(&mut self, port: PortName, tlp: &[u8], trusted: bool, more: bool) -> Sent
+    pub fn send(&mut self, port: PortName, tlp: &[u8], more: bool, trusted: bool) -> Sent
         requires here { port.link < length self.old }
         requires few { CallsBelow (2 ^ 40) self.old }
-        ensures { SendsAt self.old port tlp.now trusted more result self.new }
+        ensures { SendsAt self.old port tlp.now more trusted result self.new }
     {
         let ends = &mut self.links[port.link as usize];
-        ends.send(port.side, tlp, trusted, more)
+        ends.send(port.side, tlp, more, trusted)
     }
 
     /// The bytes that the last send at the port sealed, its packets joined.

@@ -5,24 +5,22 @@
 use Rattle.all_links.proofs.Terms.{◌≡◌, ℕ, ◌+◌, ◌-◌, ◌==◌, ◌<◌, take, Bool, List, [], ◌∷◌, length, refl, ap, sym, ◌∙◌}
 use Rattle.all_links.proofs.Terms.{true, subst, arith, Option, Some, None, Result, Ok, Err, option_map, slice_get}
 use Rattle.all_links.proofs.Terms.{slice_set, map, nat_le, nat_lt, if◌then◌else◌, option_and_then, PortName, Plan}
-use Rattle.all_links.proofs.Terms.{Packet, Verdict, Effect, mode_of, is_closed, partner, Pass, Alter, Cut, Arrive}
-use Rattle.all_links.proofs.Terms.{Dump, StreamState, LiveKey, Taken, taken_by, state_after, opened_from}
-use Rattle.all_links.proofs.Terms.{opened_under, opened_after, LinkPacket, LinkState, Stepped, verdict_of_taken}
-use Rattle.all_links.proofs.Terms.{unit_name}
-use Rattle.all_links.proofs.Terms.{put, arrive, arrive_read, stepped_take_found as found_step, step_of, packet_numbered}
-use Rattle.all_links.proofs.Terms.{passed, altered_to, cut_short, shown_packet, PortEnd, Found, found, changed}
-use Rattle.all_links.proofs.Terms.{TakeStep}
+use Rattle.all_links.proofs.Terms.{Packet, Verdict, Effect, mode_of, is_closed, partner, Pass, Alter, Cut, Arrive, Dump}
+use Rattle.all_links.proofs.Terms.{StreamState, LiveKey, Taken, taken_by, state_after, opened_from, opened_under}
+use Rattle.all_links.proofs.Terms.{opened_after, LinkPacket, LinkState, Stepped, verdict_of_taken, unit_name, put}
+use Rattle.all_links.proofs.Terms.{stepped_arrival, stepped_cut, stepped_packet, step_of, packet_numbered, passed}
+use Rattle.all_links.proofs.Terms.{altered_to, cut_short, shown_packet, PortEnd, Found, found, changed, TakeStep}
 use Rattle.all_links.proofs.Terms.{take_step, LinkEnds, Links, port_in, with_port, KeeperView, Beside, beside_in}
 use Rattle.all_links.proofs.Terms.{UnitName, MemoryContents, TrustedMemory, packet_effect, taken_ends, arrival_verdict}
-use Rattle.all_links.proofs.Terms.{ArrivesAt, state_of, IsBounded, AreLinks, links_state, Ends, EndsWith}
-use Rattle.all_links.proofs.Terms.{altered_bytes, found_id, lt-true}
+use Rattle.all_links.proofs.Terms.{ArrivesAt, state_of, IsBounded, AreLinks, links_state, Ends, EndsWith, altered_bytes}
+use Rattle.all_links.proofs.Terms.{found_id, lt-true}
 use Rattle.link_events.specs.declared.event.Event.{Event}
 use Rattle.link_events.specs.declared.event.InterfaceEvent.{InterfaceEvent}
 use Rattle.ide_prefix.specs.declared.fault.PacketFault.{PacketFault}
 use Rattle.ide_prefix.specs.Reading.{CutValue, PlainTlp, IdePacket, cut_of}
 use Rattle.link_verdicts.specs.declared.verdict.Verdict.TheVariants as v
 use Rattle.link_history.specs.History.{Arrival}
-use Rattle.ide_port.specs.Arrivals.{port_arrival, take_found, take_read, taken_on}
+use Rattle.ide_port.specs.Arrivals.{port_arrival, packet_step}
 use Rattle.all_ends.specs.AllEnds.{grants_in}
 use Rattle.stream_rules.specs.Stream.{Accepted}
 use Rattle.all_ends.proofs.Writes.{IsTaken, taken_is}
@@ -70,23 +68,23 @@ pub arrives_as : (old : Links) (answer : InterfaceEvent → Verdict) (plan : Pla
     (k : KeeperView) (packets : List LinkPacket)
     (port : PortName) (l : LinkEnds) (r : Result CutValue PacketFault) → slice_get ends port.link ≡ Some l
     → IsPort plan port (port_in port.side l)
-    → arrive_read plan (beside_in old answer) (state_of plan ends k packets) port r
-    ≡ stepped old plan ends k packets port l (take_read (port_in port.side l) r)
+    → stepped_cut plan (beside_in old answer) (state_of plan ends k packets) port r
+    ≡ stepped old plan ends k packets port l (take_step (port_in port.side l) r)
 arrives_as old answer plan ends k packets port l (Err fault) is at_port =
     ap (λ (st : LinkState).
-    ((arrive_read plan (beside_in old answer) (state_of plan ends k packets) port (Err fault)).0, st))
+    ((stepped_cut plan (beside_in old answer) (state_of plan ends k packets) port (Err fault)).0, st))
     (state_kept plan ends k packets port l _ is refl)
 arrives_as old answer plan ends k packets port l (Ok PlainTlp) is at_port =
     ap (λ (st : LinkState). (v.Plain port, st)) (state_kept plan ends k packets port l _ is refl)
 arrives_as old answer plan ends k packets port l (Ok (IdePacket p)) is at_port =
-    ap (λ (o : Option StreamState). found_step plan (beside_in old answer) (state_of plan ends k packets) port p o)
+    ap (λ (o : Option StreamState). stepped_packet plan (beside_in old answer) (state_of plan ends k packets) port p o)
     (find_at plan ends k packets port l p.prefix.stream is at_port)
     ∙ by_found (found (port_in port.side l).plans (port_in port.side l).states p.prefix.stream) refl
   where
     by_found : (o : Option Found) → found (port_in port.side l).plans (port_in port.side l).states p.prefix.stream ≡ o
-        → found_step plan (beside_in old answer) (state_of plan ends k packets) port p
+        → stepped_packet plan (beside_in old answer) (state_of plan ends k packets) port p
         (option_map (λ (f : Found). f.state) o)
-        ≡ stepped old plan ends k packets port l (take_found (port_in port.side l) p o)
+        ≡ stepped old plan ends k packets port l (packet_step (port_in port.side l) p o)
     by_found None at = ap (λ (st : LinkState). (v.Unknown port p.prefix.stream, st))
         (state_kept plan ends k packets port l _ is refl)
     by_found (Some f) at =
@@ -97,7 +95,7 @@ arrives_as old answer plan ends k packets port l (Ok (IdePacket p)) is at_port =
         ≡ f.plan.closed = closed_at plan port e p.prefix.stream f at_port at in
         let id : f.plan.id ≡ p.prefix.stream = found_id e.plans e.states p.prefix.stream f at in
         let t : Taken = taken_by f.plan.mode f.plan.closed f.state p in
-        let one : found_step plan (beside_in old answer) (state_of plan ends k packets) port p (Some f.state)
+        let one : stepped_packet plan (beside_in old answer) (state_of plan ends k packets) port p (Some f.state)
         ≡ (
           verdict_of_taken (beside_in old answer) port p t,
           put plan (state_of plan ends k packets) port p.prefix.stream
@@ -109,8 +107,9 @@ arrives_as old answer plan ends k packets port l (Ok (IdePacket p)) is at_port =
               (state_of plan ends k packets) port p.prefix.stream
               (state_after f.state p (taken_by (mode i) (closed i) f.state p)),
         )) in
-        let after = put_at plan ends k packets port l p.prefix.stream (state_after f.state p t) (taken_on e p f).port is
-        at_port (ap (λ (n : ℕ). changed e.plans e.states n (state_after f.state p t)) id) in
+        let after = put_at plan ends k packets port l p.prefix.stream (state_after f.state p t)
+        (packet_step e p (Some f)).port is at_port
+        (ap (λ (n : ℕ). changed e.plans e.states n (state_after f.state p t)) id) in
         one ∙ ap (λ (w : Verdict).
         (w, put plan (state_of plan ends k packets) port p.prefix.stream (state_after f.state p t)))
         (taken_says old answer port p f.state t (taken_is f.state p f.plan.mode f.plan.closed))
@@ -122,7 +121,7 @@ arrives_as old answer plan ends k packets port l (Ok (IdePacket p)) is at_port =
 -- ---- all links
 
 abbrev pub arrival_step : Beside → PortName → List ℕ → Plan → LinkState → Stepped
-arrival_step b port bytes plan st = arrive plan b st (Some (record { port = port; bytes = bytes }))
+arrival_step b port bytes plan st = stepped_arrival plan b st (Some (record { port = port; bytes = bytes }))
 
 pub arrived : (old : Links) (port : PortName) (bytes : List ℕ) (verdict : Verdict) (ends : List LinkEnds)
     (m : TrustedMemory) (n : MemoryContents)
@@ -138,7 +137,7 @@ arrived old port bytes verdict ends m n bounded here contents regions arrives ev
     let found_link = there old.ends port.link here in
     let l : LinkEnds = found_link.0 in
     let e : PortEnd = port_in port.side l in
-    let e2 : PortEnd = (take_step e bytes).port in
+    let e2 : PortEnd = (take_step e (cut_of bytes)).port in
     let a = arrives l found_link.1 in
     let keeps : KeepsEnds l (taken_ends port.side e2 l) = keeps_taken port.side e2 l
     (keeps_port port.side l e2 (take_keeps e (cut_of bytes))) in
@@ -158,7 +157,7 @@ arrived old port bytes verdict ends m n bounded here contents regions arrives ev
           at_port in
           record {
             verdict_is = a.2.verdict_is
-                ∙ ap (λ (c : MemoryContents). arrival_verdict port (take_step e bytes).answer
+                ∙ ap (λ (c : MemoryContents). arrival_verdict port (take_step e (cut_of bytes)).answer
                 (λ unit. map (packet_effect c.regions (grants_in old.keeper.interfaces) port unit) e2.delivered))
                 contents
                 ∙ ap (λ (x : Stepped). x.0) (sym as_machine);
@@ -204,20 +203,20 @@ module _ (old : Links) (answer : InterfaceEvent → Verdict) (plan : Plan) where
       (ap (λ (n : ℕ). nat_lt port.link n) (sym links.many) ∙ sym is)
 
   module _ (n : ℕ) (o : Option LinkPacket) (is : o ≡ packet_numbered old.packets.packets n) where
-    pub passes : step_of plan beside now (Pass n) ≡ arrive plan beside now (option_and_then passed o)
+    pub passes : step_of plan beside now (Pass n) ≡ stepped_arrival plan beside now (option_and_then passed o)
     unfolding step_of
-    passes = ap (λ (p : Option LinkPacket). arrive plan beside now (option_and_then passed p)) (sym is)
+    passes = ap (λ (p : Option LinkPacket). stepped_arrival plan beside now (option_and_then passed p)) (sym is)
 
     pub alters_it : (at mask : ℕ) → step_of plan beside now (Alter n at mask)
-        ≡ arrive plan beside now (option_and_then (altered_to at mask) o)
+        ≡ stepped_arrival plan beside now (option_and_then (altered_to at mask) o)
     unfolding step_of
     alters_it at mask = ap
-        (λ (p : Option LinkPacket). arrive plan beside now (option_and_then (altered_to at mask) p)) (sym is)
+        (λ (p : Option LinkPacket). stepped_arrival plan beside now (option_and_then (altered_to at mask) p)) (sym is)
 
     pub cuts_it : (len : ℕ) → step_of plan beside now (Cut n len)
-        ≡ arrive plan beside now (option_and_then (cut_short len) o)
+        ≡ stepped_arrival plan beside now (option_and_then (cut_short len) o)
     unfolding step_of
-    cuts_it len = ap (λ (p : Option LinkPacket). arrive plan beside now (option_and_then (cut_short len) p))
+    cuts_it len = ap (λ (p : Option LinkPacket). stepped_arrival plan beside now (option_and_then (cut_short len) p))
         (sym is)
 
     pub dumps : step_of plan beside now (Dump n) ≡ (shown_packet n o, now)
@@ -226,19 +225,19 @@ module _ (old : Links) (answer : InterfaceEvent → Verdict) (plan : Plan) where
 
   pub alters : (n at mask : ℕ) (x : LinkPacket) (o : Option (List ℕ)) → Some x ≡ packet_numbered old.packets.packets n
       → o ≡ altered_bytes at mask x.bytes
-      → step_of plan beside now (Alter n at mask) ≡ arrive plan beside now
+      → step_of plan beside now (Alter n at mask) ≡ stepped_arrival plan beside now
       (option_map (at_partner x) o)
   alters n at mask x o is same =
       alters_it n (Some x) is at mask
-      ∙ ap (λ (a : Option Arrival). arrive plan beside now a)
+      ∙ ap (λ (a : Option Arrival). stepped_arrival plan beside now a)
       (altered_is at mask x ∙ ap (λ (p : Option (List ℕ)). option_map (at_partner x) p) (sym same))
 
   pub cuts : (n len : ℕ) (x : LinkPacket) (b : Bool) → Some x ≡ packet_numbered old.packets.packets n
       → nat_le len (length x.bytes) ≡ b
-      → step_of plan beside now (Cut n len) ≡ arrive plan beside now
+      → step_of plan beside now (Cut n len) ≡ stepped_arrival plan beside now
       (if b then Some (at_partner x (take len x.bytes)) else None)
   cuts n len x b is test = cuts_it n (Some x) is len ∙ ap
-      (λ (t : Bool). arrive plan beside now (if t then Some (at_partner x (take len x.bytes)) else None)) test
+      (λ (t : Bool). stepped_arrival plan beside now (if t then Some (at_partner x (take len x.bytes)) else None)) test
 
 -- an altered packet that arrived
 pub altered_arrived : {verdict : Verdict} {old new : Links} (n at mask : ℕ) (x : LinkPacket) (port : PortName)

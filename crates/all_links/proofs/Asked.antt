@@ -1,12 +1,11 @@
 -- Events on interfaces. One is found by its number among the devices of all links; after an event on it the ports and
 -- the manager's streams are as before, since only the interfaces of its device change, and what the manager knows of
 -- it.
-use Rattle.all_links.proofs.Terms.{◌≡◌, ℕ, suc, zero, ◌+◌, ◌-◌, ◌<◌, Bool, true, false, List, [], ◌∷◌, length, refl, ap}
-use Rattle.all_links.proofs.Terms.{sym, ◌∙◌, subst, arith, nat_tests, Option, Some, None, IsSome, slice_get, slice_set}
-use Rattle.all_links.proofs.Terms.{nat_lt, option_map, if◌then◌else◌, option_and_then, none-some, same_Some}
-use Rattle.all_links.proofs.Terms.{slice_get_within, Verdict}
-use Rattle.all_links.proofs.Terms.{StreamState, LinkEnds, Links, InterfacesView, KeeperView, ports_in, IsBounded}
-use Rattle.all_links.proofs.Terms.{links_state, EndsWith, Stepped, Interface, answer_of_links}
+use Rattle.all_links.proofs.Terms.{◌≡◌, ℕ, suc, zero, ◌+◌, ◌<◌, List, [], ◌∷◌, length, refl, ap, sym, ◌∙◌, subst, arith}
+use Rattle.all_links.proofs.Terms.{nat_tests, Option, Some, None, IsSome, slice_get, slice_set, option_map}
+use Rattle.all_links.proofs.Terms.{option_and_then, none-some, same_Some, slice_get_within, Verdict, StreamState}
+use Rattle.all_links.proofs.Terms.{LinkEnds, Links, InterfacesView, KeeperView, ports_in, IsBounded, links_state}
+use Rattle.all_links.proofs.Terms.{EndsWith, Stepped, Interface, answer_of_links}
 use Rattle.std.specs.Prelude.{IfSome}
 use Rattle.link_verdicts.specs.declared.verdict.Verdict.TheVariants as v
 use Rattle.tdi_state.specs.Machine.{Tdi, Call}
@@ -22,62 +21,18 @@ use Rattle.link_events.specs.declared.event.Loss.{Loss}
 use Rattle.link_ends.specs.Hosts.{operated_on}
 use Rattle.link_ends.specs.declared.host.HostKeeper.{HostKeeper}
 use Rattle.all_ends.specs.AllEnds.{IsThere, CallsAt, AsksAt}
-use Rattle.all_links.specs.Interfaces.{interface_named, tdi_named, tdi_of_ends, ended_in, ended_at}
+use Rattle.all_links.specs.Interfaces.{interface_named, tdi_named, tdi_of_ends, ended_in, ended_at, ended_on}
+use Rattle.all_links.specs.Interfaces.{verdict_in, link_named}
 use Rattle.all_ends.specs.Places.{located, code_behind}
-use Rattle.all_links.specs.Interfaces.{ended_on, verdict_in, link_named}
 use Rattle.interface_joins.specs.Verdicts.{asked_as, op_event, report_of}
 use Rattle.all_links.proofs.Finds.{answers, only_says}
+use Rattle.all_ends.proofs.Located.{is_located}
 use Rattle.all_ends.proofs.Finds.{there, ports_same, as_before, KeepsEnds, links_kept, bounded_kept}
 
 pub if_some : {A : Type 0} (P : A → Type 0) (o : Option A) (x : A) → o ≡ Some x → IfSome o P → P x
 if_some P o x is p = subst (λ y. IfSome y P) is p
 
 -- ---- where an interface is
-
-record IsLocated (ends : List LinkEnds) (link : ℕ) (at : ℕ × ℕ) : Type 0 where
-  place : ℕ
-  ends_at : LinkEnds
-  link_is : link + place ≡ at.0
-  there_is : slice_get ends place ≡ Some ends_at
-  within : at.1 < length ends_at.device.interfaces.interfaces
-
-first_located : (link n : ℕ) (l : LinkEnds) (ls : List LinkEnds) (at : ℕ × ℕ)
-    → nat_lt n (length l.device.interfaces.interfaces) ≡ true
-    → Some (link, n) ≡ Some at → IsLocated (l ∷ ls) link at
-first_located link n l ls at lt is =
-    let same : (link, n) ≡ at = same_Some (link, n) at is in
-    let less : n < length l.device.interfaces.interfaces = grind (arith, nat_tests) in
-    record {
-      place = 0;
-      ends_at = l;
-      link_is = (let zeroes : link + 0 ≡ link = omega arith in zeroes) ∙ ap (λ (p : ℕ × ℕ). p.0) same;
-      there_is = refl;
-      within = subst (λ (p : ℕ × ℕ). p.1 < length l.device.interfaces.interfaces) same less;
-    }
-
-next_located : (link : ℕ) (l : LinkEnds) (ls : List LinkEnds) (at : ℕ × ℕ) → IsLocated ls (link + 1) at
-    → IsLocated (l ∷ ls) link at
-next_located link l ls at x = record {
-  place = suc x.place;
-  ends_at = x.ends_at;
-  link_is = (let moved : link + suc x.place ≡ (link + 1) + x.place = omega arith in moved) ∙ x.link_is;
-  there_is = x.there_is;
-  within = x.within;
-}
-
-by_test : (link n : ℕ) (l : LinkEnds) (ls : List LinkEnds) (at : ℕ × ℕ) (b : Bool) (rest : Option (ℕ × ℕ))
-    → nat_lt n (length l.device.interfaces.interfaces) ≡ b
-    → (rest ≡ Some at → IsLocated ls (link + 1) at) → (if b then Some (link, n) else rest) ≡ Some at
-    → IsLocated (l ∷ ls) link at
-by_test link n l ls at true rest lt more is = first_located link n l ls at lt is
-by_test link n l ls at false rest lt more is = next_located link l ls at (more is)
-
-is_located : (link n : ℕ) (ends : List LinkEnds) (at : ℕ × ℕ) → located link n ends ≡ Some at → IsLocated ends link at
-is_located link n [] at is = absurd (none-some at is)
-is_located link n (l ∷ ls) at is =
-    by_test link n l ls at (nat_lt n (length l.device.interfaces.interfaces))
-    (located (link + 1) (n - length l.device.interfaces.interfaces) ls) refl
-    (is_located (link + 1) (n - length l.device.interfaces.interfaces) ls at) is
 
 named_parts : (m : InterfacesView) (ends : List LinkEnds) (n : ℕ) (at : ℕ × ℕ) → interface_named m ends n ≡ Some at
     → (located 0 n ends ≡ Some at) × (n < length m.interfaces)

@@ -1,8 +1,9 @@
--- Events that change nothing, room that is taken first, and what is said of events on interfaces.
+-- Events that change nothing, events that have a verdict or none, room that is taken first, and what is said of events
+-- on interfaces.
 use Rattle.all_links.proofs.Terms.{◌≡◌, ◌+◌, List, refl, ap, sym, ◌∙◌, subst, arith, Plan, LinkState, LinkPacket, Some}
 use Rattle.all_links.proofs.Terms.{Stepped, Verdict, History, PortsStandFor, Links, state_of, IsBounded, AreLinks}
 use Rattle.all_links.proofs.Terms.{links_state, EndsWith, beside_in, MemoryContents, Ends, EndsOr, Result, Ok, Err}
-use Rattle.all_links.proofs.Terms.{Interface}
+use Rattle.all_links.proofs.Terms.{Interface, true, false, Option, None, IfSome, IsSome, is_some, EndsAs, HasNoVerdict}
 use Rattle.all_links.proofs.Terms.{same_Some, step_of, IsAnsweredBy, answer_of_links}
 use Rattle.all_links.specs.Interfaces.{answer_in}
 use Rattle.ide_types.specs.declared.memory.Memory.{Memory}
@@ -35,6 +36,21 @@ nothing_changes {verdict} {w} {old} {new} {e} says is bounded same =
             links = links;
           };
     })
+
+-- ---- a verdict, or none
+
+pub ends_as : (o : Option Verdict) (old new : Links) (e : Event) → ((verdict : Verdict) → o ≡ Some verdict
+    → EndsWith verdict old new e) → (o ≡ None → HasNoVerdict old e) → EndsAs o old new e
+ends_as (Some verdict) old new e ends none = ends verdict refl
+ends_as None old new e ends none = none refl
+
+pub if_some : (o : Option Verdict) (P : Verdict → Type 0) → ((verdict : Verdict) → o ≡ Some verdict → P verdict)
+    → IfSome o P
+if_some (Some verdict) P each = each verdict refl
+if_some None P each = tt
+
+pub some_none : {o : Option Verdict} → IsSome o → o ≡ None → ⊥
+some_none some none = let same : false ≡ true = subst (λ (o : Option Verdict). is_some o ≡ true) none some in absurd cc
 
 -- ---- room that is taken first
 

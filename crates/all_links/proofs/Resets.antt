@@ -1,14 +1,14 @@
 -- The states of streams that are read, and resets, as the machine has them.
-use Rattle.all_links.proofs.Terms.{beside_in, InterfacesView, ◌≡◌, ℕ, ◌+◌, Bool, true, List, length, refl, ap, sym}
-use Rattle.all_links.proofs.Terms.{◌∙◌, subst, arith, Option, Some, None, is_some, slice_get, slice_set, nat_lt}
-use Rattle.all_links.proofs.Terms.{if◌then◌else◌, true-lt, Op, History, Host, Device, StreamStatus, Plan, Reset}
-use Rattle.all_links.proofs.Terms.{Status, Stepped, status_at, status_found, step_of, reset_state, PortsStandFor, named}
+use Rattle.all_links.proofs.Terms.{beside_in, InterfacesView, ◌≡◌, ℕ, ◌+◌, Bool, true, List, length, refl, ap, sym, ◌∙◌}
+use Rattle.all_links.proofs.Terms.{subst, arith, Option, Some, None, is_some, slice_get, slice_set, nat_lt}
+use Rattle.all_links.proofs.Terms.{if◌then◌else◌, true-lt, Op, History, Host, Device, StreamStatus, Plan, Reset, Status}
+use Rattle.all_links.proofs.Terms.{Stepped, status_at, status_found, step_of, reset_state, PortsStandFor, named}
 use Rattle.all_links.proofs.Terms.{LinkEnds, Links, reset_ends, stream_named, KeeperView, ResetsAt, statuses_of}
 use Rattle.all_links.proofs.Terms.{both_of, IsBounded, AreLinks, links_state, EndsWith, Beside}
 use Rattle.link_verdicts.specs.declared.verdict.Verdict.TheVariants as v
 use Rattle.all_ends.proofs.Finds.{there, links_kept, bounded_kept}
-use Rattle.all_ends.proofs.Streams.{IsName, at_side, ends_reset, keeper_reset, op_is, planned, reset_kept}
-use Rattle.all_ends.proofs.Streams.{reset_names, some_op, state_reset, unnamed}
+use Rattle.all_ends.proofs.Streams.{IsName, at_side, ends_reset, keeper_reset, op_is, planned, reset_kept, reset_names}
+use Rattle.all_ends.proofs.Streams.{some_op, state_reset, unnamed}
 
 -- the states that were read, under the numbers that a name gives
 pub status_read : (old : Links) (plan : Plan) (h : History) (link stream a b : ℕ)

@@ -1,21 +1,20 @@
 -- Sends at a port of the links, as the machine has them.
 use Rattle.all_links.proofs.Terms.{◌≡◌, ℕ, ◌+◌, ◌<◌, Bool, true, List, [], ◌++◌, length, refl, ap, sym, ◌∙◌, arith}
 use Rattle.all_links.proofs.Terms.{Option, Some, slice_get, slice_set, map, sum_by, nat_lt, if◌then◌else◌, PortName}
-use Rattle.all_links.proofs.Terms.{Plan, Verdict, SealedPacket, LinkPacket, Stepped, kept_at, step_of}
-use Rattle.all_links.proofs.Terms.{joined_packets, Sent, PortEnd, SendStep, send_step, sent_verdict, lengths_sent}
-use Rattle.all_links.proofs.Terms.{IsSentAtPort, LinkEnds, Links, cut_packets, port_in, with_port, SendsAt, state_of}
-use Rattle.all_links.proofs.Terms.{IsBounded, AreLinks, links_state, EndsWith, lt-true, Send, Side, Host, Device}
-use Rattle.tlp_layout.specs.Reading.{read_of}
+use Rattle.all_links.proofs.Terms.{Plan, Verdict, SealedPacket, LinkPacket, Stepped, kept_at, step_of, joined_packets}
+use Rattle.all_links.proofs.Terms.{Sent, PortEnd, SendStep, send_step, sent_verdict, lengths_sent, IsSentAtPort}
+use Rattle.all_links.proofs.Terms.{LinkEnds, Links, cut_packets, port_in, with_port, SendsAt, state_of, IsBounded}
+use Rattle.all_links.proofs.Terms.{AreLinks, links_state, EndsWith, lt-true, Send, Side, Host, Device}
+use Rattle.association.specs.Outgoing.{Outgoing, outgoing_of}
+use Rattle.link_history.specs.Plan.{streams_of}
 use Rattle.link_verdicts.specs.declared.verdict.Verdict.TheVariants as v
-use Rattle.link_ports.specs.Machine as machine
 use Rattle.ide_port.specs.declared.answer.Sent.TheVariants.{Sealed}
-use Rattle.ide_port.specs.Sends.{send_step_read}
 use Rattle.tlp_layout.specs.declared.head.HeadView.{HeadView}
 use Rattle.ide_port.specs.{Trusting}
 use Rattle.trusted_memory.specs.{TrustedMemory}
 use Rattle.link_ends.specs.Ends.{trusting_at}
 use Rattle.all_links.specs.Besides.{beside_in, t_in}
-use Rattle.link_ports.specs.Machine.{Beside}
+use Rattle.link_ports.specs.Machine.{Beside, stepped_send}
 use Rattle.all_ends.proofs.Finds.{there, set_there, KeepsEnds, keeps_port, port_is, bounded_kept, links_kept}
 use Rattle.all_ends.proofs.Finds.{bounded_same, links_same}
 use Rattle.all_ends.proofs.Sends.{cut_joined, lengths_join, sealed_on, send_joins, send_keeps, sends_as, sent}
@@ -24,13 +23,16 @@ pub given : (b : Beside) (old : Links) (plan : Plan) (port : PortName) (bytes : 
     → AreLinks plan old.ends old.keeper.keys
     → here ≡ nat_lt port.link (length old.ends)
     → step_of plan b (links_state plan old) (Send port bytes more trusted)
-    ≡ (if here then machine.stepped_send_read plan b (links_state plan old) port (read_of bytes) more trusted else
-    (v.Nothing, links_state plan old))
+    ≡ (if here
+    then stepped_send plan b (links_state plan old) port (outgoing_of (streams_of plan port.link) port.side bytes) more
+    trusted
+    else (v.Nothing, links_state plan old))
 unfolding step_of
 given b old plan port bytes more trusted here links is =
-    ap (λ (t : Bool). if t then machine.stepped_send_read plan b (links_state plan old) port (read_of bytes) more
-    trusted else
-    (v.Nothing, links_state plan old))
+    ap (λ (t : Bool). if t
+    then stepped_send plan b (links_state plan old) port (outgoing_of (streams_of plan port.link) port.side bytes) more
+    trusted
+    else (v.Nothing, links_state plan old))
     (ap (λ (n : ℕ). nat_lt port.link n) (sym links.many) ∙ sym is)
 
 asked_at : (side : Side) (l : LinkEnds) (trusted : Bool) →
@@ -39,35 +41,36 @@ asked_at Host l trusted = refl
 asked_at Device l trusted = refl
 
 -- a send at a port that exists, whose packets were cut from the port's bytes
-pub seals : (old new : Links) (port : PortName) (bytes : List ℕ) (trusted more : Bool) (answer : Sent)
+pub seals : (old new : Links) (port : PortName) (bytes : List ℕ) (more trusted : Bool) (answer : Sent)
     (verdict : Verdict) → IsBounded old.ends old.packets.packets old.steps → port.link < length old.ends
-    → SendsAt old.ends port bytes trusted more answer new.ends → verdict
+    → SendsAt old.ends port bytes more trusted answer new.ends → verdict
     ≡ sent_verdict port (length old.packets.packets + 1) answer → new.keeper.keys ≡ old.keeper.keys → new.steps
     ≡ old.steps + 1
     → ((l : LinkEnds) → slice_get new.ends port.link ≡ Some l → new.packets.packets ≡ old.packets.packets
     ++ cut_packets port (lengths_sent answer) (port_in port.side l).sealed)
     → new.trusted ≡ old.trusted → EndsWith verdict old new (Send port bytes more trusted)
-seals old new port bytes trusted more answer verdict bounded here sends says keeper steps kept memory =
+seals old new port bytes more trusted answer verdict bounded here sends says keeper steps kept memory =
     let found_link = there old.ends port.link here in
     let l : LinkEnds = found_link.0 in
     let e : PortEnd = port_in port.side l in
     let n : ℕ = length old.packets.packets + 1 in
     let sets : Trusting = trusting_at port.side l trusted in
-    let step : SendStep = send_step e bytes sets more n in
+    let out : Outgoing = outgoing_of e.plans e.name.side bytes in
+    let step : SendStep = send_step e out more sets n in
     let a = sends l found_link.1 in
-    let sent_is : IsSentAtPort e bytes sets more n answer (port_in port.side a.0) = a.2.sent n in
+    let sent_is : IsSentAtPort e bytes more sets n answer (port_in port.side a.0) = a.2.sent n in
     let ends_is : new.ends ≡ slice_set old.ends port.link (with_port port.side step.port l) =
     a.1 ∙ ap (λ (y : LinkEnds). slice_set old.ends port.link y)
     (a.2.other ∙ ap (λ (x : PortEnd). with_port port.side x l) sent_is.port) in
     let at : slice_get new.ends port.link ≡ Some a.0 = ap (λ (xs : List LinkEnds). slice_get xs port.link) a.1 ∙
     set_there old.ends port.link l a.0 found_link.1 in
     let joined : (port_in port.side a.0).sealed ≡ joined_packets step.packets = ap (λ (x : PortEnd). x.sealed)
-    sent_is.port ∙ send_joins e sets more n (read_of bytes) in
+    sent_is.port ∙ send_joins e out more sets n in
     let packets_is : new.packets.packets ≡ old.packets.packets ++ map (kept_at port) step.packets =
     kept a.0 at ∙ (λ i. old.packets.packets ++ cut_packets port (sent_is.lengths i) (joined i)) ∙ ap
     (λ (ps : List LinkPacket). old.packets.packets ++ ps) (cut_joined port step.packets) in
     let both : KeepsEnds l (with_port port.side step.port l) = keeps_port port.side l step.port
-    (send_keeps e sets more n (read_of bytes)) in
+    (send_keeps e out more sets n) in
     let after : IsBounded (slice_set old.ends port.link (with_port port.side step.port l))
     (old.packets.packets ++ map (kept_at port) step.packets) (old.steps + 1) =
     bounded_kept old.ends old.packets.packets _ old.steps port.link l _ bounded found_link.1 both.host.calls
@@ -83,12 +86,12 @@ seals old new port bytes trusted more answer verdict bounded here sends says kee
           let at_port = port_is plan old.ends old.keeper.keys port l links found_link.1 in
           let as_machine = given b old plan port bytes more trusted true links
           (sym (lt-true port.link (length old.ends) here))
-          ∙ sends_as plan b old.ends old.keeper.keys old.packets.packets port l h (read_of bytes) more
+          ∙ sends_as plan b old.ends old.keeper.keys old.packets.packets port l h bytes more
           trusted found_link.1 at_port stands
           ∙ ap (λ (o : Option LinkEnds). sent plan old.ends old.keeper.keys old.packets.packets port l
-          (send_step_read e (λ head stream. t_in o port.side head stream trusted) more n (read_of bytes))) found_link.1
+          (send_step e out more (λ head stream. t_in o port.side head stream trusted) n)) found_link.1
           ∙ ap (λ (y : Trusting). sent plan old.ends old.keeper.keys old.packets.packets port l
-          (send_step_read e y more n (read_of bytes))) (asked_at port.side l trusted) in
+          (send_step e out more y n)) (asked_at port.side l trusted) in
           record {
             verdict_is = says ∙ ap (λ (p : PortName). sent_verdict p n answer) (sym at_port.name) ∙ sent_is.answered ∙
                 ap (λ (x : Stepped). x.0) (sym as_machine);
@@ -106,23 +109,24 @@ pub not_sealed : (answer : Sent) → ((ps : List SealedPacket) → answer ≡ Se
 not_sealed answer none = grind (arith, none)
 
 -- the lengths of what was sealed add up to the length of what the port lends
-pub sealed_length : (old : Links) (ends : List LinkEnds) (port : PortName) (bytes : List ℕ) (trusted more : Bool)
+pub sealed_length : (old : Links) (ends : List LinkEnds) (port : PortName) (bytes : List ℕ) (more trusted : Bool)
     (answer : Sent) (ps : List SealedPacket) (lent : List ℕ) → port.link < length old.ends
-    → SendsAt old.ends port bytes trusted more answer ends → map (λ (p : SealedPacket). p.length) ps
+    → SendsAt old.ends port bytes more trusted answer ends → map (λ (p : SealedPacket). p.length) ps
     ≡ lengths_sent answer
     → ((l : LinkEnds) → slice_get ends port.link ≡ Some l → lent ≡ (port_in port.side l).sealed)
     → sum_by (λ (p : SealedPacket). p.length) ps ≡ length lent
-sealed_length old ends port bytes trusted more answer ps lent here sends said lends =
+sealed_length old ends port bytes more trusted answer ps lent here sends said lends =
     let found_link = there old.ends port.link here in
     let l : LinkEnds = found_link.0 in
     let e : PortEnd = port_in port.side l in
     let sets : Trusting = trusting_at port.side l trusted in
-    let step : SendStep = send_step e bytes sets more 0 in
+    let out : Outgoing = outgoing_of e.plans e.name.side bytes in
+    let step : SendStep = send_step e out more sets 0 in
     let a = sends l found_link.1 in
-    let sent_is : IsSentAtPort e bytes sets more 0 answer (port_in port.side a.0) = a.2.sent 0 in
+    let sent_is : IsSentAtPort e bytes more sets 0 answer (port_in port.side a.0) = a.2.sent 0 in
     let at : slice_get ends port.link ≡ Some a.0 = ap (λ (xs : List LinkEnds). slice_get xs port.link) a.1 ∙ set_there
     old.ends port.link l a.0 found_link.1 in
     let joined : (port_in port.side a.0).sealed ≡ joined_packets step.packets = ap (λ (x : PortEnd). x.sealed)
-    sent_is.port ∙ send_joins e sets more 0 (read_of bytes) in
+    sent_is.port ∙ send_joins e out more sets 0 in
     lengths_join ps step.packets (said ∙ sent_is.lengths) ∙ ap (λ (bs : List ℕ). length bs)
     (sym (lends a.0 at ∙ joined))

@@ -17,6 +17,7 @@ use Rattle.ide_types.specs.declared.memory.Memory.{Memory}
 use Rattle.link_events.specs.declared.event.Loss.{Loss}
 use Rattle.link_verdicts.specs.declared.verdict.Operation.{Operation}
 use Rattle.link_verdicts.specs.declared.verdict.Verdict.TheVariants as v
+use Rattle.ide_prefix.specs.Reading.{cut_of}
 use Rattle.link_history.specs.History.{Arrival}
 use Rattle.tsm_host.specs.declared.operation.Op.{Op as OpCall}
 use Rattle.tsm_host.specs.declared.operation.Op.TheVariants as call
@@ -33,25 +34,14 @@ use Rattle.link_ends.specs.declared.host.HostKeeper.{HostKeeper}
 use Rattle.whole_machine.specs.Machine.{arrival_of}
 use Rattle.all_ends.specs.AllEnds.{grants_in, AsksAt, CallsAt}
 use Rattle.all_links.specs.Interfaces.{interface_named}
-use Rattle.all_links.specs.Sides.{SidesKeep, IsSettledOrSame, AllFollow, SidesArrive, told_by, SidesOperate}
+use Rattle.all_links.specs.Sides.{SidesKeep, IsSettledOrSame, AllFollow, SidesArrive, told_by, SidesOperate, SidesReset}
+use Rattle.all_links.specs.Sides.{SidesAsk, called_if, SidesCall}
 use Rattle.all_ends.specs.Writes.{writes_by}
-use Rattle.all_links.specs.Sides.{SidesReset, SidesAsk, called_if, SidesCall}
 use Rattle.all_links.proofs.Arrivals.{at_partner, altered_is, numbered_here}
-use Rattle.all_ends.proofs.Finds.{there, each_set, port_is}
+use Rattle.all_ends.proofs.Finds.{there, each_both, port_is}
 use Rattle.all_links.proofs.Operations.{some_named}
 use Rattle.all_links.proofs.Asked.{if_some, set_back, with_interfaces}
 use Rattle.all_ends.proofs.Writes.{writes_agree}
-
--- ---- one link that changes
-
--- what holds of it, and of each link with itself, holds of all
-each_both : {A : Type 0} (R : A → A → Type 0) (xs : List A) (i : ℕ) (x y : A) → slice_get xs i ≡ Some x → R x y
-    → ((z : A) → R z z) → (j : ℕ) (z z' : A) → slice_get xs j ≡ Some z → slice_get (slice_set xs i y) j ≡ Some z'
-    → R z z'
-each_both {A} R xs i x y is changed same j z z' at at' =
-    each_set (λ n w. (u : A) → slice_get xs n ≡ Some u → R u w) xs i y
-    (λ u at_u. subst (λ (w : A). R w y) (same_Some x u (sym is ∙ at_u)) changed)
-    (λ n w at_w u at_u. subst (λ (t : A). R t w) (same_Some w u (sym at_w ∙ at_u)) (same w)) j z' at' z at
 
 -- ---- nothing
 
@@ -84,10 +74,10 @@ same_interfaces : (s : Side) (e : PortEnd) (l : LinkEnds) → (with_port s e l).
 same_interfaces Host e l = refl
 same_interfaces Device e l = refl
 
-pub sent_keeps : (old new : Links) (port : PortName) (tlp : List ℕ) (trusted more : Bool) (answer : Sent)
-    → port.link < length old.ends → SendsAt old.ends port tlp trusted more answer new.ends
+pub sent_keeps : (old new : Links) (port : PortName) (tlp : List ℕ) (more trusted : Bool) (answer : Sent)
+    → port.link < length old.ends → SendsAt old.ends port tlp more trusted answer new.ends
     → new.keeper.interfaces ≡ old.keeper.interfaces → new.trusted ≡ old.trusted → SidesKeep old new
-sent_keeps old new port tlp trusted more answer here sends keeper memory =
+sent_keeps old new port tlp more trusted answer here sends keeper memory =
     let f = there old.ends port.link here in
     let a = sends f.0 f.1 in
     record {
@@ -142,7 +132,7 @@ arrived_beside old port bytes verdict ends m here arrives =
     let f = there old.ends port.link here in
     let l : LinkEnds = f.0 in
     let a = arrives l f.1 in
-    let t = take_step (port_in port.side l) bytes in
+    let t = take_step (port_in port.side l) (cut_of bytes) in
     let grants = grants_in old.keeper.interfaces in
     record {
       keeper = refl;

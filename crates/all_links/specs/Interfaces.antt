@@ -1,6 +1,6 @@
 -- What events on interfaces and on trusted memory give, by what is kept.
-use Rattle.std.specs.Prelude.{ℕ, Bool, true, false, nat_lt, nat_le, if◌then◌else◌, List, length}
-use Rattle.std.specs.Prelude.{slice_get, Option, Some, None}
+use Rattle.std.specs.Prelude.{ℕ, Bool, true, false, nat_lt, nat_le, if◌then◌else◌, List, length, slice_get, Option}
+use Rattle.std.specs.Prelude.{Some, None}
 use Rattle.std.specs.Option.{option_and_then, option_map}
 use Rattle.interface_words.specs.declared.register.Register.{Register}
 use Rattle.interface_words.specs.declared.verdict.InterfaceVerdict.TheVariants as iv

@@ -1,5 +1,5 @@
 -- What an event makes of all links.
-use Rattle.std.specs.Prelude.{◌≡◌, ◌+◌, [], Result, Ok, Err}
+use Rattle.std.specs.Prelude.{◌≡◌, ◌+◌, [], Option, Some, None, Result, Ok, Err}
 use Rattle.ide_types.specs.declared.memory.Memory.{Memory}
 use Rattle.ide_plan.specs.declared.plan.Plan.{Plan}
 use Rattle.link_events.specs.declared.event.Event.{Event}
@@ -14,7 +14,7 @@ use Rattle.tdi_host.specs.Managers.{new_interface_manager as new_interfaces}
 use Rattle.trusted_memory.specs.{new_memory}
 use Rattle.all_links.specs.declared.links.Links.{Links}
 use Rattle.all_ends.specs.AllEnds.{ends_from}
-use Rattle.all_links.specs.Besides.{IsAnsweredBy, beside_in}
+use Rattle.all_links.specs.Besides.{IsAnswered, IsAnsweredBy, beside_in}
 use Rattle.all_ends.specs.States.{state_of, AreLinks, IsBounded}
 
 abbrev pub links_state : Plan → Links → LinkState
@@ -64,3 +64,16 @@ pub record Stays (old new : Links) : Type 0 where
 abbrev pub EndsOr : Result Verdict Memory → Links → Links → Event → Type 0
 EndsOr (Ok verdict) old new event = EndsWith verdict old new event
 EndsOr (Err e) old new event = Stays old new
+
+-- The event has no verdict. That does not come while the links stand for some history and the event is answered.
+abbrev pub HasNoVerdict : Links → Event → Type 0
+HasNoVerdict old event = StandsForSome old → IsAnswered old event → ⊥
+
+-- an event with a verdict, or one that has none
+abbrev pub EndsAs : Option Verdict → Links → Links → Event → Type 0
+EndsAs (Some verdict) old new event = EndsWith verdict old new event
+EndsAs None old new event = HasNoVerdict old event
+
+abbrev pub EndsAsOr : Result (Option Verdict) Memory → Links → Links → Event → Type 0
+EndsAsOr (Ok verdict) old new event = EndsAs verdict old new event
+EndsAsOr (Err e) old new event = Stays old new

@@ -1,6 +1,6 @@
 -- What an event makes of what stands beside the ports: the devices' interfaces, the manager's, and trusted memory.
-use Rattle.std.specs.Prelude.{ℕ, ◌≡◌, ◌<◌, ◌≤◌, ◌==◌, ◌⊎◌, Bool, true, not, List, length, slice_get, slice_set}
-use Rattle.std.specs.Prelude.{Option, Some, None, if◌then◌else◌}
+use Rattle.std.specs.Prelude.{ℕ, ◌≡◌, ◌<◌, ◌≤◌, ◌==◌, ◌⊎◌, Bool, true, not, List, length, slice_get, slice_set, Option}
+use Rattle.std.specs.Prelude.{Some, None, if◌then◌else◌}
 use Rattle.ide_plan.specs.declared.plan.Plan.{Plan}
 use Rattle.interface_words.specs.RegisterNames.{has_register}
 use Rattle.link_events.specs.declared.event.Event.{Event}

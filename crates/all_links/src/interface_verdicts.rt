@@ -1,12 +1,11 @@
 //! The verdicts of operations on interfaces.
 
-ghost use Rattle.std.specs.Prelude.{◌≡◌, Some, IsSome};
+ghost use Rattle.std.specs.Prelude.{◌≡◌};
 ghost use Rattle.interface_joins.specs.Verdicts.{view_shown, shown_as, refused_as, asked_as};
 
 use crate::stream_verdicts::lost_verdict;
 use ide_types::Bytes;
 use interface_words::{InterfaceVerdict, View};
-use link_ends::lost_at;
 use link_events::Loss;
 use link_verdicts::Verdict;
 use tdi_host::{Outcome, Refusal, Shown};
@@ -43,36 +42,38 @@ fn shown(interface: u8, shown: Shown, report: Bytes) -> Verdict
     })
 }
 
-fn refused(loss: Option<Loss>, refusal: Refusal) -> Verdict
-    requires carried { IsSome (refused_as loss refusal) }
-    ensures { refused_as loss refusal ≡ Some result }
+fn refused(loss: Option<Loss>, refusal: Refusal) -> Option<Verdict>
+    ensures { result ≡ refused_as loss refusal }
 {
     match refusal {
-        Refusal::WrongState(view) => of_interface(InterfaceVerdict::RefusedWrongState {
+        Refusal::WrongState(view) => Some(of_interface(InterfaceVerdict::RefusedWrongState {
             view: view_shown(view),
-        }),
-        Refusal::NotReported => of_interface(InterfaceVerdict::RefusedNotReported),
-        Refusal::NotSecure(status) => Verdict::RefusedNotSecure { status },
-        Refusal::RefreshFirst(draw, needed) => {
-            of_interface(InterfaceVerdict::RefusedRefreshFirst { draw, needed })
-        }
-        Refusal::SessionLost(exchange) => match lost_at(loss, exchange) {
-            Some(lost) => lost_verdict(lost, exchange),
-            None => unreachable!(),
-        },
-        Refusal::DeviceRefused(exchange, code) => Verdict::RefusedDevice { exchange, code },
-        Refusal::BadReply(_) => unreachable!(),
+        })),
+        Refusal::NotReported => Some(of_interface(InterfaceVerdict::RefusedNotReported)),
+        Refusal::NotSecure(status) => Some(Verdict::RefusedNotSecure { status }),
+        Refusal::RefreshFirst(draw, needed) => Some(of_interface(
+            InterfaceVerdict::RefusedRefreshFirst { draw, needed },
+        )),
+        Refusal::SessionLost(exchange) => lost_verdict(loss, exchange),
+        Refusal::DeviceRefused(exchange, code) => Some(Verdict::RefusedDevice { exchange, code }),
+        Refusal::BadReply(_) => None,
     }
 }
 
-/// The verdict of an operation on the interface of this number; a report that was read is this one.
-pub fn asked_verdict(interface: u8, loss: Option<Loss>, outcome: Outcome, report: Bytes) -> Verdict
-    requires carried { IsSome (asked_as interface loss report outcome) }
-    ensures { asked_as interface loss report outcome ≡ Some result }
+/// The verdict of an operation on the interface of this number; a report that was read is this one. None is made up
+/// for an operation that is neither at its end nor refused, for a bad reply, and for an exchange that is lost without
+/// the loss of a message.
+pub fn asked_verdict(
+    interface: u8,
+    loss: Option<Loss>,
+    outcome: Outcome,
+    report: Bytes,
+) -> Option<Verdict>
+    ensures { result ≡ asked_as interface loss report outcome }
 {
     match outcome {
-        Outcome::Next => unreachable!(),
-        Outcome::Done(value) => shown(interface, value, report),
+        Outcome::Next => None,
+        Outcome::Done(value) => Some(shown(interface, value, report)),
         Outcome::Refused(refusal) => refused(loss, refusal),
     }
 }

@@ -66,11 +66,11 @@ fn altered(alloc: Global, bytes: &[u8], at: u64, mask: u8) -> Result<Option<Vec<
 impl Links {
     ghost use Rattle.all_ends.specs.States.{IsBounded};
     ghost use Rattle.all_ends.specs.AllEnds.{OperatesAt};
-    ghost use Rattle.all_links.specs.Links.{IsFirst, StandsForSome, EndsWith, EndsOr};
+    ghost use Rattle.all_links.specs.Links.{IsFirst, StandsForSome, EndsWith, EndsOr, EndsAs, EndsAsOr};
     ghost use Rattle.all_links.specs.Sides.{SidesKeep, SidesArrive, SidesOperate, SidesReset, SidesAsk, SidesCall};
     ghost use Rattle.all_links.specs.Sides.{SidesInterface, Sides, arrival_at};
     ghost use Rattle.all_ends.specs.AllEnds.{AsksAt};
-    ghost use Rattle.all_links.specs.Besides.{answer_of_links, IsAnswered};
+    ghost use Rattle.all_links.specs.Besides.{answer_of_links};
     ghost use Rattle.all_links.specs.Interfaces.{interface_named, link_named};
     ghost use Rattle.interface_joins.specs.Verdicts.{report_of, op_event, asked_as, NoBadInterfaceReply};
 
@@ -125,8 +125,8 @@ impl Links {
         &mut self,
         port: PortName,
         bytes: &[u8],
-        trusted: bool,
         more: bool,
+        trusted: bool,
     ) -> Result<Verdict, Memory>
         requires steps { self.old.steps < 2 ^ 28 }
         requires bounded { IsBounded self.old.ends self.old.packets.packets self.old.steps }
@@ -137,11 +137,11 @@ impl Links {
             return Ok(self.only(Verdict::Nothing));
         }
         self.reserve_packets()?;
-        Ok(self.seal(port, bytes, trusted, more))
+        Ok(self.seal(port, bytes, more, trusted))
     }
 
     // A send at a port that exists; there is room for what it seals.
-    fn seal(&mut self, port: PortName, bytes: &[u8], trusted: bool, more: bool) -> Verdict
+    fn seal(&mut self, port: PortName, bytes: &[u8], more: bool, trusted: bool) -> Verdict
         requires steps { self.old.steps < 2 ^ 28 }
         requires bounded { IsBounded self.old.ends self.old.packets.packets self.old.steps }
         requires here { port.link < length self.old.ends }
@@ -151,7 +151,7 @@ impl Links {
         ensures sides { SidesKeep self.old self.new }
     {
         let number = self.packets.count() as u64 + 1;
-        let sent = self.ends.send(port, bytes, trusted, more);
+        let sent = self.ends.send(port, bytes, more, trusted);
         if let Sent::Sealed(sealed) = &sent {
             self.packets
                 .keep(port, sealed.as_slice(), self.ends.packets(port));
@@ -347,22 +347,20 @@ impl Links {
         link: u64,
         stream: u64,
         loss: Option<Loss>,
-    ) -> Verdict
+    ) -> Option<Verdict>
         requires steps { self.old.steps < 2 ^ 28 }
         requires bounded { IsBounded self.old.ends self.old.packets.packets self.old.steps }
-        requires stands { StandsForSome self.old }
-        ensures ends { EndsWith result self.old self.new (operation_event operation link stream loss) }
-        ensures sides { SidesOperate operation link stream result self.old self.new }
+        ensures ends { EndsAs result self.old self.new (operation_event operation link stream loss) }
+        ensures sides { IfSome result (λ v. SidesOperate operation link stream v self.old self.new) }
     {
         match self.named(link, stream) {
-            None => self.only(Verdict::Nothing),
+            None => Some(self.only(Verdict::Nothing)),
             Some((link, stream)) => self.operate_on(operation, link, stream, loss),
         }
     }
 
-    // Carries an operation on a stream that exists.
+    // Carries an operation on a stream that exists. If the links stand for some history no reply is bad.
     fn carry_stream(&mut self, op: Op, loss: Option<Loss>) -> Outcome
-        requires stands { StandsForSome self.old }
         requires here { (op_name op).link < length self.old.ends }
         requires stream { IsSome (named self.old.keeper.keys.manager (op_name op).link (op_name op).stream) }
         ensures links { self.new ≡ record self.old { ends = self.new.ends; keeper = self.new.keeper } }
@@ -374,8 +372,8 @@ impl Links {
             let drew = not (self.new.keeper.keys.pool.draws == draw) in
             self.new.keeper.interfaces ≡ told op begins drew draw result self.old.keeper.interfaces) }
         ensures answered { let name = op_name op in
-            IsSome (verdict_of name.operation name.link name.stream loss result) }
-        ensures no_bad_reply { NoBadStreamReply loss result }
+            StandsForSome self.old → IsSome (verdict_of name.operation name.link name.stream loss result) }
+        ensures no_bad_reply { StandsForSome self.old → NoBadStreamReply loss result }
     {
         link_walks::operations_join();
         self.ends.operate(op.link(), &mut self.keeper, op, loss)
@@ -388,14 +386,13 @@ impl Links {
         link: u8,
         stream: u8,
         loss: Option<Loss>,
-    ) -> Verdict
+    ) -> Option<Verdict>
         requires steps { self.old.steps < 2 ^ 28 }
         requires bounded { IsBounded self.old.ends self.old.packets.packets self.old.steps }
-        requires stands { StandsForSome self.old }
         requires here { link < length self.old.ends }
         requires stream { IsSome (named self.old.keeper.keys.manager link stream) }
-        ensures ends { EndsWith result self.old self.new (operation_event operation link stream loss) }
-        ensures sides { SidesOperate operation link stream result self.old self.new }
+        ensures ends { EndsAs result self.old self.new (operation_event operation link stream loss) }
+        ensures sides { IfSome result (λ v. SidesOperate operation link stream v self.old self.new) }
     {
         link_walks::operations_join();
         let op = named_op(operation, link, stream);
@@ -464,7 +461,8 @@ impl Links {
         self.ends.interface(number)
     }
 
-    // Carries an operation on the interface of this number, which is on this link.
+    // Carries an operation on the interface of this number, which is on this link. If the event has a verdict no reply
+    // is bad.
     fn carry_interface(
         &mut self,
         link: u8,
@@ -473,11 +471,12 @@ impl Links {
         loss: Option<Loss>,
     ) -> tdi_host::Outcome
         requires here { link_named self.old.keeper.interfaces self.old.ends number ≡ Some link }
-        requires carried { IsSome (answer_of_links self.old (op_event op number loss)) }
         ensures links { self.new ≡ record self.old { ends = self.new.ends; keeper = self.new.keeper } }
         ensures asks { AsksAt self.old.ends link self.old.keeper number op loss result self.new.ends self.new.keeper }
-        ensures answered { (report : List ℕ) → IsSome (asked_as number loss report result) }
-        ensures no_bad_reply { NoBadInterfaceReply loss result }
+        ensures answered { IsSome (answer_of_links self.old (op_event op number loss))
+            → (report : List ℕ) → IsSome (asked_as number loss report result) }
+        ensures no_bad_reply { IsSome (answer_of_links self.old (op_event op number loss))
+            → NoBadInterfaceReply loss result }
     {
         let interface = number as usize;
         self.ends
@@ -491,34 +490,38 @@ impl Links {
         op: InterfaceOp,
         number: u64,
         loss: Option<Loss>,
-    ) -> Verdict
+    ) -> Option<Verdict>
         requires steps { self.old.steps < 2 ^ 28 }
         requires bounded { IsBounded self.old.ends self.old.packets.packets self.old.steps }
         requires short { report_of op ≡ (λ e. []) }
-        requires carried { IsSome (answer_of_links self.old (op_event op number loss)) }
-        ensures ends { EndsWith result self.old self.new (Event.Interface (op_event op number loss)) }
-        ensures sides { SidesAsk number op loss self.old self.new }
+        ensures ends { EndsAs result self.old self.new (Event.Interface (op_event op number loss)) }
+        ensures sides { IfSome result (λ v. SidesAsk number op loss self.old self.new) }
     {
         match self.interface(number) {
-            None => self.only(Verdict::Nothing),
+            None => Some(self.only(Verdict::Nothing)),
             Some((link, _)) => {
                 let outcome = self.carry_interface(link, number, op, loss);
                 let none = Bytes::new(Vec::new(alloc));
-                self.only(asked_verdict(number as u8, loss, outcome, none))
+                self.steps += 1;
+                asked_verdict(number as u8, loss, outcome, none)
             }
         }
     }
 
     // Reads a report; the room for the longest is taken first.
-    fn report(&mut self, alloc: Global, number: u64, loss: Option<Loss>) -> Result<Verdict, Memory>
+    fn report(
+        &mut self,
+        alloc: Global,
+        number: u64,
+        loss: Option<Loss>,
+    ) -> Result<Option<Verdict>, Memory>
         requires steps { self.old.steps < 2 ^ 28 }
         requires bounded { IsBounded self.old.ends self.old.packets.packets self.old.steps }
-        requires carried { IsSome (answer_of_links self.old (InterfaceEvent.Report number loss)) }
-        ensures ends { EndsOr result self.old self.new (Event.Interface (InterfaceEvent.Report number loss)) }
-        ensures sides { IfOk result (λ v. SidesAsk number InterfaceOp.Report loss self.old self.new) }
+        ensures ends { EndsAsOr result self.old self.new (Event.Interface (InterfaceEvent.Report number loss)) }
+        ensures sides { IfOk result (λ o. IfSome o (λ v. SidesAsk number InterfaceOp.Report loss self.old self.new)) }
     {
         match self.interface(number) {
-            None => Ok(self.only(Verdict::Nothing)),
+            None => Ok(Some(self.only(Verdict::Nothing))),
             Some((link, _)) => {
                 let mut report = Vec::with_capacity(alloc, MOST_REPORT)?;
                 let outcome = self.carry_interface(link, number, InterfaceOp::Report, loss);
@@ -526,7 +529,8 @@ impl Links {
                     .extend_from_slice(self.keeper.interfaces.manager().report())
                     .unwrap();
                 let report = Bytes::new(report);
-                Ok(self.only(asked_verdict(number as u8, loss, outcome, report)))
+                self.steps += 1;
+                Ok(asked_verdict(number as u8, loss, outcome, report))
             }
         }
     }
@@ -617,13 +621,12 @@ impl Links {
         }
     }
 
-    fn ask(&mut self, alloc: Global, event: &InterfaceEvent) -> Result<Verdict, Memory>
+    fn ask(&mut self, alloc: Global, event: &InterfaceEvent) -> Result<Option<Verdict>, Memory>
         requires steps { self.old.steps < 2 ^ 28 }
         requires bounded { IsBounded self.old.ends self.old.packets.packets self.old.steps }
         requires allowed { IsAllowedInterface event.now }
-        requires carried { IsSome (answer_of_links self.old event.now) }
-        ensures ends { EndsOr result self.old self.new (Event.Interface event.now) }
-        ensures sides { IfOk result (λ v. SidesInterface event.now self.old self.new) }
+        ensures ends { EndsAsOr result self.old self.new (Event.Interface event.now) }
+        ensures sides { IfOk result (λ o. IfSome o (λ v. SidesInterface event.now self.old self.new)) }
     {
         match event {
             InterfaceEvent::Lock { interface, lose } => {
@@ -639,44 +642,33 @@ impl Links {
             InterfaceEvent::State { interface, lose } => {
                 Ok(self.operate_interface(alloc, InterfaceOp::State, *interface, *lose))
             }
-            InterfaceEvent::View { interface } => Ok(self.view(*interface)),
+            InterfaceEvent::View { interface } => Ok(Some(self.view(*interface))),
             InterfaceEvent::Write {
                 interface,
                 register,
                 value,
-            } => Ok(self.write(*interface, *register, *value)),
-            InterfaceEvent::Flr { interface } => Ok(self.flr(*interface)),
-            InterfaceEvent::Firmware { interface } => Ok(self.firmware(*interface)),
-            InterfaceEvent::Memory { address, length } => self.memory(alloc, *address, *length),
+            } => Ok(Some(self.write(*interface, *register, *value))),
+            InterfaceEvent::Flr { interface } => Ok(Some(self.flr(*interface))),
+            InterfaceEvent::Firmware { interface } => Ok(Some(self.firmware(*interface))),
+            InterfaceEvent::Memory { address, length } => {
+                Ok(Some(self.memory(alloc, *address, *length)?))
+            }
         }
     }
 
     /// The verdict of an event, and what it makes of the links (this profile). For want of memory nothing changes.
     ///
-    /// An operation on an interface has no verdict if a reply is bad, or if an exchange is lost none of whose messages
-    /// is lost, and none is made up for it. `carried` says that the event is no such operation: `World` proves it from
-    /// its invariant.
-    pub fn answer(&mut self, alloc: Global, event: &Event) -> Result<Verdict, Memory>
-        requires stands { StandsForSome self.old }
+    /// An operation has no verdict if a reply is bad, or if an exchange is lost none of whose messages is lost, and none
+    /// is made up for it. `ends` says that this does not come while the links stand for some history, and, on an
+    /// interface, while its device answers as the machine does; `World` shows both of every event.
+    pub fn answer(&mut self, alloc: Global, event: &Event) -> Result<Option<Verdict>, Memory>
         requires steps { self.old.steps < 2 ^ 28 }
         requires bounded { IsBounded self.old.ends self.old.packets.packets self.old.steps }
         requires allowed { IsAllowed event.now }
-        requires carried { IsAnswered self.old event.now }
-        ensures ends { EndsOr result self.old self.new event.now }
-        ensures sides { IfOk result (λ v. Sides event.now v self.old self.new) }
+        ensures ends { EndsAsOr result self.old self.new event.now }
+        ensures sides { IfOk result (λ o. IfSome o (λ v. Sides event.now v self.old self.new)) }
     {
         match event {
-            Event::Send {
-                port,
-                bytes,
-                more,
-                trusted,
-            } => self.send(*port, bytes.as_slice(), *trusted, *more),
-            Event::Pass { packet } => self.pass_event(*packet),
-            Event::Alter { packet, at, mask } => self.alter_event(alloc, *packet, *at, *mask),
-            Event::Cut { packet, length } => self.cut_event(*packet, *length),
-            Event::Arrive { port, bytes } => self.arrive_event(*port, bytes.as_slice()),
-            Event::Dump { packet } => self.dump(alloc, *packet),
             Event::Establish { link, stream, lose } => {
                 Ok(self.operate(Operation::Establish, *link, *stream, *lose))
             }
@@ -686,9 +678,22 @@ impl Links {
             Event::Stop { link, stream, lose } => {
                 Ok(self.operate(Operation::Stop, *link, *stream, *lose))
             }
-            Event::Reset { link } => Ok(self.reset(*link)),
-            Event::Status { link, stream } => Ok(self.status(*link, *stream)),
             Event::Interface { event } => self.ask(alloc, event),
+            Event::Send {
+                port,
+                bytes,
+                more,
+                trusted,
+            } => Ok(Some(self.send(*port, bytes.as_slice(), *more, *trusted)?)),
+            Event::Pass { packet } => Ok(Some(self.pass_event(*packet)?)),
+            Event::Alter { packet, at, mask } => {
+                Ok(Some(self.alter_event(alloc, *packet, *at, *mask)?))
+            }
+            Event::Cut { packet, length } => Ok(Some(self.cut_event(*packet, *length)?)),
+            Event::Arrive { port, bytes } => Ok(Some(self.arrive_event(*port, bytes.as_slice())?)),
+            Event::Dump { packet } => Ok(Some(self.dump(alloc, *packet)?)),
+            Event::Reset { link } => Ok(Some(self.reset(*link))),
+            Event::Status { link, stream } => Ok(Some(self.status(*link, *stream))),
         }
     }
 }

@@ -1,14 +1,14 @@
 //! The verdicts of operations on streams.
 
 ghost use Rattle.std.specs.Prelude.{◌≡◌};
-ghost use Rattle.key_laws.specs.Due.{lost_at as verdict_lost};
+ghost use Rattle.std.specs.Option.{option_map};
+ghost use Rattle.key_laws.specs.Due.{lost_at as verdict_lost, lost_in};
 ghost use Rattle.tsm_host.specs.Operations.{op_name};
 ghost use Rattle.tsm_host.specs.Walk.{
   shown_verdict as verdict_shown,
   key_refusal_verdict as verdict_refused,
   verdict_of,
 };
-ghost use Rattle.std.specs.Prelude.{Some, IsSome};
 
 use link_ends::lost_at;
 use link_events::{Loss, Lost};
@@ -26,70 +26,59 @@ pub fn named_op(operation: Operation, link: u8, stream: u8) -> Op
     }
 }
 
-// What an operation shows at its end.
-fn shown_verdict(operation: Operation, link: u8, stream: u8, shown: Shown) -> Verdict
-    requires carried { IsSome (verdict_shown operation link stream shown) }
-    ensures { verdict_shown operation link stream shown ≡ Some result }
+// What an operation shows at its end, if that is what it can show.
+fn shown_verdict(operation: Operation, link: u8, stream: u8, shown: Shown) -> Option<Verdict>
+    ensures { result ≡ verdict_shown operation link stream shown }
 {
-    match operation {
-        Operation::Establish => match shown {
-            Shown::Draw(draw) => Verdict::Established { link, stream, draw },
-            Shown::Stopped => unreachable!(),
-        },
-        Operation::Refresh => match shown {
-            Shown::Draw(draw) => Verdict::Refreshed { link, stream, draw },
-            Shown::Stopped => unreachable!(),
-        },
-        Operation::Stop => match shown {
-            Shown::Stopped => Verdict::Stopped { link, stream },
-            Shown::Draw(_) => unreachable!(),
-        },
+    match (operation, shown) {
+        (Operation::Establish, Shown::Draw(draw)) => {
+            Some(Verdict::Established { link, stream, draw })
+        }
+        (Operation::Refresh, Shown::Draw(draw)) => Some(Verdict::Refreshed { link, stream, draw }),
+        (Operation::Stop, Shown::Stopped) => Some(Verdict::Stopped { link, stream }),
+        _ => None,
     }
 }
 
-/// The verdict of an exchange that lost this message.
-pub fn lost_verdict(lost: Lost, exchange: u32) -> Verdict
-    ensures { result ≡ verdict_lost lost exchange }
+/// The verdict of an exchange that was lost, if the loss of a message is what lost it.
+pub fn lost_verdict(loss: Option<Loss>, exchange: u32) -> Option<Verdict>
+    ensures { result ≡ option_map (λ lost. verdict_lost lost exchange) (lost_in loss exchange) }
 {
-    match lost {
-        Lost::Request => Verdict::LostRequest { exchange },
-        Lost::Reply => Verdict::LostReply { exchange },
+    match lost_at(loss, exchange) {
+        None => None,
+        Some(Lost::Request) => Some(Verdict::LostRequest { exchange }),
+        Some(Lost::Reply) => Some(Verdict::LostReply { exchange }),
     }
 }
 
-fn refusal_verdict(loss: Option<Loss>, refusal: Refusal) -> Verdict
-    requires carried { IsSome (verdict_refused loss refusal) }
-    ensures { verdict_refused loss refusal ≡ Some result }
+fn refusal_verdict(loss: Option<Loss>, refusal: Refusal) -> Option<Verdict>
+    ensures { result ≡ verdict_refused loss refusal }
 {
     match refusal {
-        Refusal::NotIdle => Verdict::RefusedNotIdle,
-        Refusal::NotSecure(status) => Verdict::RefusedNotSecure { status },
-        Refusal::PoolEmpty(draws) => Verdict::RefusedPoolEmpty { draws },
-        Refusal::SessionLost(exchange) => match lost_at(loss, exchange) {
-            Some(lost) => lost_verdict(lost, exchange),
-            None => unreachable!(),
-        },
-        Refusal::DeviceRefused(exchange, code) => Verdict::RefusedDevice { exchange, code },
-        Refusal::BadReply(_) => unreachable!(),
-        Refusal::Busy(operation) => Verdict::RefusedBusy { operation },
-        Refusal::UnitOpen(sub) => Verdict::RefusedUnitOpen { sub },
+        Refusal::NotIdle => Some(Verdict::RefusedNotIdle),
+        Refusal::NotSecure(status) => Some(Verdict::RefusedNotSecure { status }),
+        Refusal::PoolEmpty(draws) => Some(Verdict::RefusedPoolEmpty { draws }),
+        Refusal::SessionLost(exchange) => lost_verdict(loss, exchange),
+        Refusal::DeviceRefused(exchange, code) => Some(Verdict::RefusedDevice { exchange, code }),
+        Refusal::BadReply(_) => None,
+        Refusal::Busy(operation) => Some(Verdict::RefusedBusy { operation }),
+        Refusal::UnitOpen(sub) => Some(Verdict::RefusedUnitOpen { sub }),
     }
 }
 
-/// The verdict of an operation's event on a stream of a link (this profile). The operation is at its end, or stays at
-/// an exchange: no reply was bad, and no exchange was lost but by the loss of a message.
+/// The verdict of an operation's event on a stream of a link (this profile). None is made up for an operation that is
+/// neither at its end nor refused, for a bad reply, and for an exchange that is lost without the loss of a message.
 pub fn operated_verdict(
     operation: Operation,
     link: u8,
     stream: u8,
     loss: Option<Loss>,
     outcome: Outcome,
-) -> Verdict
-    requires carried { IsSome (verdict_of operation link stream loss outcome) }
-    ensures { verdict_of operation link stream loss outcome ≡ Some result }
+) -> Option<Verdict>
+    ensures { result ≡ verdict_of operation link stream loss outcome }
 {
     match outcome {
-        Outcome::Next => unreachable!(),
+        Outcome::Next => None,
         Outcome::Done(shown) => shown_verdict(operation, link, stream, shown),
         Outcome::Refused(refusal) => refusal_verdict(loss, refusal),
     }

@@ -1,4 +1,5 @@
 pub mod Choice
+pub mod Outgoing
 pub mod Ways
 -- what clauses and crates above cite
 pub use Rattle.association.specs.Choice.{chosen}

@@ -9,7 +9,7 @@ use Rattle.ide_plan.specs.declared.interface.InterfacePlan.{InterfacePlan}
 use Rattle.ide_plan.specs.declared.stream.StreamPlan.{StreamPlan}
 use Rattle.tlp_layout.specs.declared.head.HeadView.{HeadView}
 use Rattle.association.specs.Choice.{id_of}
-use Rattle.ide_km.specs.{PortCall, call_of, reply_of}
+use Rattle.ide_km.specs.{PlaceCall, call_of, is_done, reply_of}
 use Rattle.tdi_device.specs.Replies.{DeviceTdis, new_tdis, settled_tdis, tdis_set_t, answered, answer_bytes}
 use Rattle.tdi_device.specs.Replies.{stream_asked}
 use Rattle.tdi_device.specs.Replies.{reset_tdis}
@@ -50,19 +50,16 @@ device_with_port e port = settled_device (record e { port = port })
 
 -- ---- keys
 
--- the call of the port that a request makes
-abbrev pub call_asked : DeviceEnd → List ℕ → ℕ → Option PortCall
-call_asked e request draw = call_of (shown e.port) request draw
-
+-- as the port takes the call that the request makes, or not
 abbrev pub reply_given : DeviceEnd → List ℕ → ℕ → List ℕ
-reply_given e request draw = reply_of e.requester request (call_asked e request draw)
+reply_given e request draw = reply_of e.requester request (is_done (shown e.port) (call_of request draw))
 
-abbrev pub after_call : PortEnd → Option PortCall → PortEnd
+abbrev pub after_call : PortEnd → Option PlaceCall → PortEnd
 after_call port None = port
 after_call port (Some call) = called_port call port
 
 abbrev pub asked_device : DeviceEnd → List ℕ → ℕ → DeviceEnd
-asked_device e request draw = record e { port = after_call e.port (call_asked e request draw) }
+asked_device e request draw = record e { port = after_call e.port (call_of request draw) }
 
 -- ---- interfaces
 

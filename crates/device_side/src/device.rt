@@ -7,6 +7,7 @@ ghost use Rattle.tdi_state.specs.Held.{FitsTdi};
 ghost use Rattle.interface_words.specs.RegisterNames.{has_register, width_of};
 ghost use Rattle.tdi_state.specs.Machine.{state_code, LevelReset, FirmwareUpdate, WriteRegister};
 ghost use Rattle.tdi_device.specs.Replies.{called_at};
+ghost use Rattle.ide_prefix.specs.Reading.{cut_of};
 ghost use Rattle.ide_port.specs.{IsSentAtPort, take_step, status_in};
 ghost use Rattle.device_side.specs.Ends.{is_to_interfaces, is_lockable, secure_at};
 
@@ -166,15 +167,14 @@ impl Device {
     /// stream that the interface is bound to.
     pub fn send(&mut self, tlp: &[u8], more: bool) -> Sent
         requires { self.old.port.calls < 2 ^ 40 }
-        ensures sent { (number : ℕ) → IsSentAtPort self.old.port tlp.now (device_trusting self.old.interfaces) more
-            number
-            result self.new.port }
+        ensures sent { (number : ℕ) → IsSentAtPort self.old.port tlp.now more (device_trusting self.old.interfaces)
+            number result self.new.port }
         ensures others { self.new ≡ record self.old { port = self.new.port } }
     {
         let owners = Owners {
             interfaces: &self.interfaces,
         };
-        self.port.send(tlp, &owners, more)
+        self.port.send(tlp, more, &owners)
     }
 
     /// The bytes that the last send sealed, its packets joined.
@@ -189,8 +189,8 @@ impl Device {
     /// interface in CONFIG_LOCKED or RUN goes to ERROR if its stream is not Secure.
     pub fn take(&mut self, bytes: &[u8]) -> Arrival
         requires { self.old.port.calls < 2 ^ 40 }
-        ensures answer { result ≡ (take_step self.old.port bytes.now).answer }
-        ensures device { self.new ≡ device_with_port self.old (take_step self.old.port bytes.now).port }
+        ensures answer { result ≡ (take_step self.old.port (cut_of bytes.now)).answer }
+        ensures device { self.new ≡ device_with_port self.old (take_step self.old.port (cut_of bytes.now)).port }
     {
         let arrival = self.port.take(bytes);
         self.settle();

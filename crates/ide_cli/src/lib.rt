@@ -1,7 +1,6 @@
 //! The whole program over a shelf of files and a sink of text.
 #![tactic(auto)]
 
-mod command;
 mod generate;
 mod packets;
 mod running;

@@ -1,11 +1,18 @@
-//! The lines of a packet file, shown.
+//! The command `show`: the lines of a packet file.
 
-ghost use Rattle.std.specs.Prelude.{◌≡◌};
+ghost use Rattle.std.specs.Prelude.{◌≡◌, ◌≢◌, ◌+◌, ◌≤◌, IfErr, IfOk, option_map, take};
+ghost use Rattle.line_runs.specs.Front.{AskedPieces, Gave, bytes_of};
+ghost use Rattle.line_runs.specs.Gathering.{GoesOn, NoFurther, ReadAsFar};
+ghost use Rattle.line_runs.specs.Lines.{file_limit};
+ghost use Rattle.line_runs.specs.Outcome.{RanOn};
 ghost use Rattle.ide_cli.specs.LineLaws.{long_packet, whole_packet};
+ghost use Rattle.ide_cli.specs.Meaning.{show_due};
+ghost use Rattle.ide_cli.specs.SoFar.{WroteBy, shown_so_far};
 ghost use Rattle.ide_cli.specs.Works.{shown_line, no_text};
 
+use ide_base::{Shelf, Sink};
 use ide_types::{Bytes, Memory};
-use line_runs::LineWork;
+use line_runs::{End, Fault, LineWork, run_file};
 use link_events::LineError;
 use packet_lines::{parse_packet, show};
 use std::alloc::Global;
@@ -58,4 +65,29 @@ impl LineWork for PacketWork {
     fn closing(&self) -> Result<Bytes, Memory> {
         Ok(Bytes::new(Vec::new(self.alloc)))
     }
+}
+
+/// `show PACKETS`: a line for each packet or plain TLP of a file.
+pub(crate) fn show_packets<S: Shelf, O: Sink>(
+    alloc: Global,
+    packets: &str,
+    shelf: &mut S,
+    out: &mut O,
+) -> Result<End, Fault>
+    ensures end { IfOk result (λ e. e ≢ End.Usage) }
+    ensures answers { RanOn (λ contents. option_map show_due (contents packets.now)) (S.seen shelf.old)
+        (S.seen shelf.new) (O.seen out.old) (O.seen out.new) result }
+    ensures so_far { IfErr result (λ e. WroteBy e (λ contents n. shown_so_far
+        (take n (bytes_of (contents packets.now)))) (λ contents n. take n (bytes_of (contents packets.now)))
+        (S.seen shelf.old) (S.seen shelf.new) (O.seen out.old) (O.seen out.new)) }
+    ensures no_further { IfOk result (λ e. ReadAsFar (λ contents. NoFurther (GoesOn shown_line no_text tt)
+        (bytes_of (contents packets.now))) (S.seen shelf.old) (S.seen shelf.new)) }
+    ensures cap { (S.seen shelf.new).given ≤ (S.seen shelf.old).given + (file_limit + 1) }
+    ensures pieces { AskedPieces (S.seen shelf.old).longest (S.seen shelf.new).longest }
+    ensures too_long { IfOk result (λ e. e ≡ End.TooLong → Gave (S.seen shelf.old).given (file_limit + 1)
+        (S.seen shelf.new).given) }
+    ensures whole { IfOk result (λ e. e ≡ End.Done → (S.seen shelf.new).given ≤ (S.seen shelf.old).given + file_limit) }
+{
+    let mut work = PacketWork::new(alloc);
+    run_file(alloc, &mut work, packets, shelf, out)
 }

@@ -1,15 +1,28 @@
-//! The lines of a script, run on the world of a topology.
+//! The command `run`: the lines of a script, run on the world of a topology.
 
-ghost use Rattle.std.specs.Prelude.{◌≡◌, ◌<◌, ◌+◌, ◌^◌, IfErr, IfOk, OnOk};
+ghost use Rattle.std.specs.Prelude.{◌≡◌, ◌≢◌, ◌<◌, ◌≤◌, ◌+◌, ◌^◌, IfErr, IfOk, OnOk, option_map};
+ghost use Rattle.ide_plan.specs.Fits.{FitsPlan};
+ghost use Rattle.line_runs.specs.Front.{AskedPieces, Gave, bytes_of};
+ghost use Rattle.line_runs.specs.Gathering.{NoFurther, ReadAsFar, WroteEnded};
+ghost use Rattle.line_runs.specs.Lines.{file_limit};
+ghost use Rattle.line_runs.specs.Outcome.{RanOn};
 ghost use Rattle.link_events.specs.Parse.{line_meaning, IsLineAnswer};
 ghost use Rattle.link_events.specs.Spells.{IsAllowed};
 ghost use Rattle.ide_cli.specs.LineLaws.{long_event, whole_event};
+ghost use Rattle.ide_cli.specs.Loading.{topology_limit};
+ghost use Rattle.ide_cli.specs.Meaning.{run_due};
+ghost use Rattle.ide_cli.specs.Reads.{RanPast, RunNoFurther, ScriptGoesOn};
+ghost use Rattle.ide_cli.specs.Script.{script_due};
+ghost use Rattle.ide_cli.specs.SoFar.{WroteBy, run_so_far, script_given, script_so_far};
 ghost use Rattle.ide_cli.specs.Works.{EventCame, Follows, IsEarly, MayAsk, ScriptPast, closing_line, ran_event};
 ghost use Rattle.ide_cli.specs.Works.{ran_line};
 
 use crate::running::Running;
+use crate::topologies::{Loaded, load, refuse};
+use ide_base::{Shelf, Sink};
+use ide_plan::Plan;
 use ide_types::{Bytes, Memory};
-use line_runs::LineWork;
+use line_runs::{End, Fault, LineWork, run_file};
 use link_events::{Event, LineError, lines_spell, parse_line};
 use link_verdicts::{line, totals_line};
 use std::alloc::Global;
@@ -105,5 +118,66 @@ impl LineWork for ScriptWork {
     fn closing(&self) -> Result<Bytes, Memory> {
         let text = totals_line(self.alloc, &self.running.totals())?;
         Ok(Bytes::new(text))
+    }
+}
+
+// Runs the lines of a script on the links of a plan.
+fn run_script<S: Shelf, O: Sink>(
+    alloc: Global,
+    plan: Plan,
+    script: &str,
+    shelf: &mut S,
+    out: &mut O,
+) -> Result<End, Fault>
+    requires { FitsPlan plan }
+    ensures end { IfOk result (λ e. e ≢ End.Usage) }
+    ensures answers { RanOn (λ contents. option_map (script_due plan) (contents script.now)) (S.seen shelf.old)
+        (S.seen shelf.new) (O.seen out.old) (O.seen out.new) result }
+    ensures so_far { IfErr result (λ e. WroteEnded e (script_so_far plan) script.now (S.seen shelf.old)
+        (S.seen shelf.new) (O.seen out.old) (O.seen out.new)) }
+    ensures no_further { IfOk result (λ e. ReadAsFar (λ contents. NoFurther (ScriptGoesOn plan)
+        (bytes_of (contents script.now))) (S.seen shelf.old) (S.seen shelf.new)) }
+    ensures cap { (S.seen shelf.new).given ≤ (S.seen shelf.old).given + (file_limit + 1) }
+    ensures pieces { AskedPieces (S.seen shelf.old).longest (S.seen shelf.new).longest }
+    ensures too_long { IfOk result (λ e. e ≡ End.TooLong → Gave (S.seen shelf.old).given (file_limit + 1)
+        (S.seen shelf.new).given) }
+    ensures whole { IfOk result (λ e. e ≡ End.Done → (S.seen shelf.new).given ≤ (S.seen shelf.old).given + file_limit) }
+{
+    match World::make(alloc, plan) {
+        Err(_) => Err(Fault::Memory),
+        Ok(world) => {
+            let mut work = ScriptWork::new(alloc, world);
+            run_file(alloc, &mut work, script, shelf, out)
+        }
+    }
+}
+
+/// `run TOPOLOGY SCRIPT`: the verdict lines of a script's events on the links of a topology.
+pub(crate) fn run_files<S: Shelf, O: Sink>(
+    alloc: Global,
+    topology: &str,
+    script: &str,
+    shelf: &mut S,
+    out: &mut O,
+) -> Result<End, Fault>
+    ensures end { IfOk result (λ e. e ≢ End.Usage) }
+    ensures answers { RanOn (λ contents. run_due (contents topology.now) (contents script.now)) (S.seen shelf.old)
+        (S.seen shelf.new) (O.seen out.old) (O.seen out.new) result }
+    ensures so_far { IfErr result (λ e. WroteBy e (λ contents n. run_so_far (contents topology.now)
+        (contents script.now) n) (λ contents n. script_given (contents topology.now) (contents script.now) n)
+        (S.seen shelf.old) (S.seen shelf.new) (O.seen out.old) (O.seen out.new)) }
+    ensures no_further { IfOk result (λ e. ReadAsFar (λ contents. RunNoFurther (contents topology.now)
+        (contents script.now)) (S.seen shelf.old) (S.seen shelf.new)) }
+    ensures cap { (S.seen shelf.new).given ≤ (S.seen shelf.old).given + (topology_limit + 1 + (file_limit + 1)) }
+    ensures pieces { AskedPieces (S.seen shelf.old).longest (S.seen shelf.new).longest }
+    ensures too_long { IfOk result (λ e. e ≡ End.TooLong → RanPast (S.seen shelf.old).given (S.seen shelf.new).given) }
+    ensures whole { IfOk result (λ e. e ≡ End.Done → (S.seen shelf.new).given
+        ≤ (S.seen shelf.old).given + (topology_limit + file_limit)) }
+{
+    match load(alloc, shelf, topology) {
+        Err(e) => Err(e),
+        Ok(Loaded::Sound(plan)) => run_script(alloc, plan, script, shelf, out),
+        Ok(Loaded::Faulty(fault)) => refuse(alloc, &fault, out),
+        Ok(Loaded::Long) => Ok(End::TooLong),
     }
 }

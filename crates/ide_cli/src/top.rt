@@ -19,8 +19,9 @@ ghost use Rattle.ide_cli.specs.SoFar.{WroteSoFar};
 ghost use Rattle.ide_cli.specs.Reads.{ReadNoFurther, ReadPast, most_counted, most_read};
 ghost use Rattle.ide_cli.specs.Seen.{call_seen, outcome_of_status, run_seen, said_words};
 
-use crate::command::{run_files, show_packets};
 use crate::generate::generate;
+use crate::packets::show_packets;
+use crate::script::run_files;
 use crate::status::Status;
 use crate::topologies::{check_topology, migrate_topology};
 use delivery_laws::{

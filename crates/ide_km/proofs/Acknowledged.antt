@@ -4,13 +4,14 @@ use Rattle.std.proofs.Common.{refl, ◌∙◌, inl, inr, arith, slice_index}
 use Rattle.std.proofs.lemmas.Bool.{cases_Bool, and_from, eqb-true, eq-eqb}
 use Rattle.key_slots.specs.declared.slot.Slot.{Slot}
 use Rattle.key_slots.specs.Slots.{SlotPair, slot_in, with_both, is_only_live, programmed}
+use Rattle.key_slots.specs.{Program}
 use Rattle.ide_km.specs.declared.object.KmView.{KmView}
 use Rattle.ide_km.specs.declared.object.KmView.TheVariants.{Query, QueryResp, KeyProg, KpAck, SetGo, SetStop, GoStopAck}
 use Rattle.ide_km.specs.declared.object.KmFault.{KmFault}
 use Rattle.ide_km.specs.Objects.{object_reading}
 use Rattle.ide_km.specs.declared.place.Place.{Place}
-use Rattle.ide_km.specs.Calls.{Program, Shown, shown_at, program_answer_at, is_same_place, SlotsAfter}
-use Rattle.ide_km.specs.Replies.{set_of, selected_place, key_call, call_from, call_of, Kept, status_code, status_after}
+use Rattle.ide_km.specs.Calls.{place_call, Shown, shown_at, is_taken_at, is_same_place, SlotsAfter}
+use Rattle.ide_km.specs.Replies.{set_of, selected_place, call_for, call_from, call_of, Kept, is_done, status_code}
 use Rattle.ide_km.specs.Replies.{key_status_of, reply_from, reply_object, HoldsKey, Acknowledged}
 
 -- ---- replies that are no success
@@ -42,8 +43,8 @@ here place = and_from _ _
 
 key_at : (shown after : Shown) (unfinished : Place → Bool) (place : Place) (set : Bool) (key : List ℕ) (draw : ℕ)
     (o : Option SlotPair) → shown_at shown place ≡ o
-    → SlotsAfter shown unfinished (Program place set key draw (program_answer_at o set key)) after
-    → status_code (status_after (Some (Program place set key draw (program_answer_at o set key)))) ≡ 0
+    → SlotsAfter shown unfinished (place_call place (Program set key draw)) after
+    → status_code (key_status_of 0 (is_taken_at o (Program set key draw))) ≡ 0
     → HoldsKey (after place) set key draw
 key_at shown after unfinished place set key draw None is h e = absurd (omega (arith, e))
 key_at shown after unfinished place set key draw (Some slots) is h e = elim
@@ -66,8 +67,8 @@ record Stands (r : Result KmView KmFault) (stream selector draw : ℕ) (after : 
 
 key_stands : (shown after : Shown) (unfinished : Place → Bool) (draw stream selector index : ℕ) (key : List ℕ)
     (counter : ℕ)
-    → Kept shown unfinished (key_call shown draw stream selector index key counter) after
-    → status_code (key_status_of index (key_call shown draw stream selector index key counter)) ≡ 0
+    → Kept shown unfinished (call_for draw (KeyProg stream selector index key counter)) after
+    → status_code (key_status_of index (is_done shown (call_for draw (KeyProg stream selector index key counter)))) ≡ 0
     → Stands (Ok (KeyProg stream selector index key counter)) stream selector draw after
 key_stands shown after unfinished draw stream selector index key counter h e = elim (cases_Bool (eqb index 0)) [
   | inr other ↦ let wrong : ◌≡◌ {A = ℕ} 2 0 = rw other at e in absurd (omega (arith, wrong))
@@ -85,11 +86,11 @@ key_stands shown after unfinished draw stream selector index key counter h e = e
   ]
 ]
 
--- status 0 is only given for a KEY_PROG whose call was answered Ok, and such a call leaves the slot Programmed
+-- status 0 is only given for a KEY_PROG whose call is taken, and such a call leaves the slot Programmed
 stands : (shown after : Shown) (unfinished : Place → Bool) (rid draw stream selector index : ℕ) (request : List ℕ)
     (r : Result KmView KmFault)
-    → Kept shown unfinished (call_from shown draw r) after
-    → reply_from rid request r (call_from shown draw r) ≡ Some (KpAck stream 0 selector index)
+    → Kept shown unfinished (call_from draw r) after
+    → reply_from rid request r (is_done shown (call_from draw r)) ≡ Some (KpAck stream 0 selector index)
     → Stands r stream selector draw after
 stands shown after unfinished rid draw stream selector index request (Err fault) h e = absurd
     (never _ (slice_index request 4) 1 (slice_index request 6) (slice_index request 7) stream selector index
@@ -101,7 +102,8 @@ stands shown after unfinished rid draw stream selector index request
 stands shown after unfinished rid draw stream selector index request (Ok (KeyProg s sel port key counter)) h e =
     let a : s ≡ stream = cc in
     let b : sel ≡ selector = cc in
-    let c : status_code (key_status_of port (key_call shown draw s sel port key counter)) ≡ 0 = cc in
+    let call = call_for draw (KeyProg s sel port key counter) in
+    let c : status_code (key_status_of port (is_done shown call)) ≡ 0 = cc in
     rw (← a, ← b) (key_stands shown after unfinished draw s sel port key counter h c)
 stands shown after unfinished rid draw stream selector index request (Ok (KpAck s status sel port)) h e = absurd cc
 stands shown after unfinished rid draw stream selector index request (Ok (SetGo s sel port)) h e = absurd
@@ -112,8 +114,8 @@ stands shown after unfinished rid draw stream selector index request (Ok (GoStop
 
 pub acknowledged : (shown after : Shown) (unfinished : Place → Bool) (rid draw stream selector index : ℕ)
     (request : List ℕ)
-    → Kept shown unfinished (call_of shown request draw) after
-    → reply_object rid request (call_of shown request draw) ≡ Some (KpAck stream 0 selector index)
+    → Kept shown unfinished (call_of request draw) after
+    → reply_object rid request (is_done shown (call_of request draw)) ≡ Some (KpAck stream 0 selector index)
     → Acknowledged request stream selector draw after
 acknowledged shown after unfinished rid draw stream selector index request h e =
     let s = stands shown after unfinished rid draw stream selector index request (object_reading request) h e in

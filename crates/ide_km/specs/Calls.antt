@@ -1,8 +1,9 @@
 -- The calls of a port that key management moves.
 use Rattle.std.specs.Prelude.{ℕ, ◌≡◌, Bool, true, false, not, ◌&&◌, ◌==◌, nat_lt, List, Option, Some, None, Result, Ok}
-use Rattle.std.specs.Prelude.{Err, if◌then◌else◌}
+use Rattle.std.specs.Prelude.{Err, is_ok, if◌then◌else◌}
 use Rattle.std.specs.Option.{option_map}
 use Rattle.key_slots.specs.{SlotPair, slot_in, is_empty, is_only_live, programmed, armed, halted}
+use Rattle.key_slots.specs.{KeyCall, Program, Go, Halt}
 use Rattle.ide_km.specs.declared.place.Place.{Place}
 use Rattle.ide_km.specs.declared.port.ProgramFault.{ProgramFault}
 use Rattle.ide_km.specs.declared.port.ProgramFault.TheVariants.{NoPlace, OnlyLive}
@@ -10,11 +11,13 @@ use Rattle.ide_km.specs.declared.port.ProgramFault.TheVariants.{NoPlace, OnlyLiv
 abbrev pub place_at : ℕ → ℕ → ℕ → Place
 place_at stream direction sub = record { stream = stream; direction = direction; sub = sub }
 
--- a call with its arguments and its answer; a key set is said by whether it is set 1
-pub data PortCall : Type 0 where
-  Program : Place → Bool → List ℕ → ℕ → Result (Unit {0}) ProgramFault → PortCall
-  Go : Place → Bool → Bool → PortCall
-  Halt : Place → Bool → Bool → PortCall
+-- a call of the two slots of a place
+pub record PlaceCall : Type 0 where
+  pub place : Place
+  pub call : KeyCall
+
+abbrev pub place_call : Place → KeyCall → PlaceCall
+place_call place call = record { place = place; call = call }
 
 -- ---- answers
 
@@ -47,28 +50,32 @@ is_there (Some slots) = true
 abbrev pub halt_answer : Shown → Place → Bool
 halt_answer shown place = is_there (shown_at shown place)
 
+-- whether the two slots of a place, if the port has it, take the call
+abbrev pub is_taken_at : Option SlotPair → KeyCall → Bool
+is_taken_at slots (Program set key draw) = is_ok (program_answer_at slots set key)
+is_taken_at slots (Go set) = go_answer_at slots set
+is_taken_at slots (Halt set) = is_there slots
+
+-- whether a port that shows these slots takes the call
+abbrev pub is_taken : Shown → PlaceCall → Bool
+is_taken shown c = is_taken_at (shown_at shown c.place) c.call
+
 -- ---- slots after a call
 
-abbrev pub called_place : PortCall → Place
-called_place (Program place set key draw answer) = place
-called_place (Go place set answer) = place
-called_place (Halt place set answer) = place
-
 -- the two slots of the place that is called
-abbrev pub slots_by : PortCall → Bool → SlotPair → SlotPair
-slots_by (Program place set key draw answer) unfinished slots =
-    programmed slots set (record { key = key; draw = draw })
-slots_by (Go place set answer) unfinished slots = armed slots set unfinished
-slots_by (Halt place set answer) unfinished slots = halted slots set
+abbrev pub slots_by : KeyCall → Bool → SlotPair → SlotPair
+slots_by (Program set key draw) unfinished slots = programmed slots set (record { key = key; draw = draw })
+slots_by (Go set) unfinished slots = armed slots set unfinished
+slots_by (Halt set) unfinished slots = halted slots set
 
 abbrev pub is_same_place : Place → Place → Bool
 is_same_place p q = ((p.stream == q.stream) && (p.direction == q.direction)) && (p.sub == q.sub)
 
-abbrev pub place_after : Shown → (Place → Bool) → PortCall → Place → Option SlotPair
-place_after shown unfinished call p =
-    if is_same_place p (called_place call) && nat_lt p.sub 3 then option_map (slots_by call (unfinished p)) (shown p)
+abbrev pub place_after : Shown → (Place → Bool) → PlaceCall → Place → Option SlotPair
+place_after shown unfinished c p =
+    if is_same_place p c.place && nat_lt p.sub 3 then option_map (slots_by c.call (unfinished p)) (shown p)
     else shown p
 
 -- the slots move at the place that is called, and nowhere else
-abbrev pub SlotsAfter : Shown → (Place → Bool) → PortCall → Shown → Type 0
-SlotsAfter before unfinished call after = (p : Place) → after p ≡ place_after before unfinished call p
+abbrev pub SlotsAfter : Shown → (Place → Bool) → PlaceCall → Shown → Type 0
+SlotsAfter before unfinished c after = (p : Place) → after p ≡ place_after before unfinished c p

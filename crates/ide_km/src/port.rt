@@ -1,18 +1,9 @@
 //! The calls of a port that key management moves.
 
 ghost use Rattle.std.specs.Prelude.{◌≡◌, ◌<◌, Bool, Option};
-ghost use Rattle.key_slots.specs.{SlotPair, is_one};
+ghost use Rattle.key_slots.specs.{SlotPair, is_one, Program, Go, Halt};
 ghost use Rattle.ide_km.specs.declared.place.Place.{Place};
-ghost use Rattle.ide_km.specs.Calls.{
-  PortCall,
-  Program,
-  Go,
-  Halt,
-  shown_program_answer,
-  go_answer,
-  halt_answer,
-  SlotsAfter,
-};
+ghost use Rattle.ide_km.specs.Calls.{PlaceCall, place_call, shown_program_answer, go_answer, halt_answer, SlotsAfter};
 
 use crate::place::Place;
 use ide_types::KeySet;
@@ -34,8 +25,8 @@ pub trait SlotPort {
     /// Whether the sender of a place has begun a unit and not ended it.
     ghost unfinished: { Self → Place → Bool };
 
-    /// What a call with its answer makes of all that the port keeps.
-    ghost moves: { Self → PortCall → Self → Type 0 };
+    /// What a call makes of all that the port keeps.
+    ghost moves: { Self → PlaceCall → Self → Type 0 };
 
     /// KEY_PROG: a key and the number under which it is kept. `NoPlace` and `OnlyLive` give the key back.
     fn program(
@@ -47,23 +38,23 @@ pub trait SlotPort {
     ) -> Result<(), ProgramFault>
         requires { place.direction < 2 }
         ensures answer { result ≡ shown_program_answer (slots self.old) place (is_one set) key }
-        ensures slots { let call = Program place (is_one set) key draw result in
+        ensures slots { let call = place_call place (Program (is_one set) key draw) in
             SlotsAfter (slots self.old) (unfinished self.old) call (slots self.new) }
-        ensures moves { moves self.old (Program place (is_one set) key draw result) self.new };
+        ensures moves { moves self.old (place_call place (Program (is_one set) key draw)) self.new };
 
     /// GO; false if the port has no such place or the slot is Empty.
     fn go(&mut self, place: Place, set: KeySet) -> bool
         requires { place.direction < 2 }
         ensures answer { result ≡ go_answer (slots self.old) place (is_one set) }
-        ensures slots { let call = Go place (is_one set) result in
+        ensures slots { let call = place_call place (Go (is_one set)) in
             SlotsAfter (slots self.old) (unfinished self.old) call (slots self.new) }
-        ensures moves { moves self.old (Go place (is_one set) result) self.new };
+        ensures moves { moves self.old (place_call place (Go (is_one set))) self.new };
 
     /// STOP; false if the port has no such place.
     fn halt(&mut self, place: Place, set: KeySet) -> bool
         requires { place.direction < 2 }
         ensures answer { result ≡ halt_answer (slots self.old) place }
-        ensures slots { let call = Halt place (is_one set) result in
+        ensures slots { let call = place_call place (Halt (is_one set)) in
             SlotsAfter (slots self.old) (unfinished self.old) call (slots self.new) }
-        ensures moves { moves self.old (Halt place (is_one set) result) self.new };
+        ensures moves { moves self.old (place_call place (Halt (is_one set))) self.new };
 }

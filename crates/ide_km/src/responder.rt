@@ -4,7 +4,7 @@ ghost use Rattle.std.specs.Prelude.{◌≡◌, ◌+◌, ◌<◌, ◌≤◌, ◌+
 ghost use Rattle.std.specs.Prelude.{vec_capacity};
 ghost use Rattle.key_slots.specs.{is_one};
 ghost use Rattle.ide_km.specs.Objects.{spelling};
-ghost use Rattle.ide_km.specs.Replies.{set_of, selected_place, key_call, call_for, call_of, Moved, Kept};
+ghost use Rattle.ide_km.specs.Replies.{set_of, selected_place, call_for, call_of, Moved, Kept};
 ghost use Rattle.ide_km.specs.Replies.{
   key_status_of,
   is_done,
@@ -58,11 +58,12 @@ fn program<P: SlotPort>(
     counter: u64,
     draw: u32,
 ) -> KeyStatus
-    ensures moved { let call = key_call (P.slots port.old) draw stream selector index key counter in
+    ensures moved { let call = call_for draw (KmView.KeyProg stream selector index key counter) in
         Moved P.moves port.old call port.new }
-    ensures slots { let call = key_call (P.slots port.old) draw stream selector index key counter in
+    ensures slots { let call = call_for draw (KmView.KeyProg stream selector index key counter) in
         Kept (P.slots port.old) (P.unfinished port.old) call (P.slots port.new) }
-    ensures status { result ≡ key_status_of index (key_call (P.slots port.old) draw stream selector index key counter) }
+    ensures status { let call = call_for draw (KmView.KeyProg stream selector index key counter) in
+        result ≡ key_status_of index (is_done (P.slots port.old) call) }
 {
     if index != 0 {
         return KeyStatus::Port;
@@ -83,21 +84,21 @@ fn program<P: SlotPort>(
 
 /// Starts or stops a slot, if the port index is 0, and answers whether it did.
 fn go<P: SlotPort>(port: &mut P, stream: u8, selector: u8, index: u8, draw: u32) -> bool
-    ensures moved { let call = call_for (P.slots port.old) draw (KmView.SetGo stream selector index) in
+    ensures moved { let call = call_for draw (KmView.SetGo stream selector index) in
         Moved P.moves port.old call port.new }
-    ensures slots { let call = call_for (P.slots port.old) draw (KmView.SetGo stream selector index) in
+    ensures slots { let call = call_for draw (KmView.SetGo stream selector index) in
         Kept (P.slots port.old) (P.unfinished port.old) call (P.slots port.new) }
-    ensures done { result ≡ is_done (call_for (P.slots port.old) draw (KmView.SetGo stream selector index)) }
+    ensures done { result ≡ is_done (P.slots port.old) (call_for draw (KmView.SetGo stream selector index)) }
 {
     index == 0 && port.go(selected_place(stream, selector), selected_set(selector))
 }
 
 fn halt<P: SlotPort>(port: &mut P, stream: u8, selector: u8, index: u8, draw: u32) -> bool
-    ensures moved { let call = call_for (P.slots port.old) draw (KmView.SetStop stream selector index) in
+    ensures moved { let call = call_for draw (KmView.SetStop stream selector index) in
         Moved P.moves port.old call port.new }
-    ensures slots { let call = call_for (P.slots port.old) draw (KmView.SetStop stream selector index) in
+    ensures slots { let call = call_for draw (KmView.SetStop stream selector index) in
         Kept (P.slots port.old) (P.unfinished port.old) call (P.slots port.new) }
-    ensures done { result ≡ is_done (call_for (P.slots port.old) draw (KmView.SetStop stream selector index)) }
+    ensures done { result ≡ is_done (P.slots port.old) (call_for draw (KmView.SetStop stream selector index)) }
 {
     index == 0 && port.halt(selected_place(stream, selector), selected_set(selector))
 }
@@ -173,10 +174,10 @@ impl Responder {
 
     /// Makes the call of the port that the object asks for, and answers the reply.
     fn respond<P: SlotPort>(&self, port: &mut P, object: KmView, draw: u32) -> Option<KmView>
-        ensures moved { Moved P.moves port.old (call_for (P.slots port.old) draw object) port.new }
-        ensures slots { let call = call_for (P.slots port.old) draw object in
+        ensures moved { Moved P.moves port.old (call_for draw object) port.new }
+        ensures slots { let call = call_for draw object in
             Kept (P.slots port.old) (P.unfinished port.old) call (P.slots port.new) }
-        ensures reply { result ≡ reply_for self.now.rid object (call_for (P.slots port.old) draw object) }
+        ensures reply { result ≡ reply_for self.now.rid object (is_done (P.slots port.old) (call_for draw object)) }
         ensures short { length (object_bytes result) ≤ 8 }
     {
         match object {
@@ -228,11 +229,11 @@ impl Responder {
     )
         requires { vec_len reply.old + 8 ≤ vec_capacity reply.old }
         ensures same { self.new ≡ self.old }
-        ensures moved { Moved P.moves port.old (call_of (P.slots port.old) request.now draw) port.new }
-        ensures slots { let call = call_of (P.slots port.old) request.now draw in
+        ensures moved { Moved P.moves port.old (call_of request.now draw) port.new }
+        ensures slots { let call = call_of request.now draw in
             Kept (P.slots port.old) (P.unfinished port.old) call (P.slots port.new) }
-        ensures reply { let call = call_of (P.slots port.old) request.now draw in
-            reply.new.items ≡ reply.old.items ++ reply_of self.old.rid request.now call }
+        ensures reply { let done = is_done (P.slots port.old) (call_of request.now draw) in
+            reply.new.items ≡ reply.old.items ++ reply_of self.old.rid request.now done }
         ensures capacity { vec_capacity reply.old ≤ vec_capacity reply.new }
     {
         let object = match km_read(request) {

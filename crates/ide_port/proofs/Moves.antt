@@ -1,17 +1,16 @@
 -- What a call makes of slots is what key management says of them.
 use Rattle.ide_port.proofs.Terms.{◌≡◌, true, false, ◌&&◌, ◌||◌, arith, nat_tests, SubKind, Slots, Three, TxSub, RxSub}
-use Rattle.ide_port.proofs.Terms.{StreamState, at_sub, set_sub, settled_stream, slot_pair, SlotCall, slots_at, pair_at}
-use Rattle.ide_port.proofs.Terms.{called, slots_called_out}
-use Rattle.ide_port.proofs.Terms.{slots_called_into, PortCall, slots_by, has_open_unit, slot_call, is_waiting}
+use Rattle.ide_port.proofs.Terms.{StreamState, at_sub, set_sub, settled_stream, slot_pair, KeyCall, slots_at, pair_at}
+use Rattle.ide_port.proofs.Terms.{called, slots_called_out, slots_called_into, slots_by, has_open_unit, is_waiting}
 use Rattle.ide_port.proofs.Terms.{NoneWaits}
 use Rattle.std.proofs.Common.{Bool}
 
-slots_out : (c : PortCall) (s : Slots) → slot_pair true (slots_called_out (slot_call c) s)
+slots_out : (c : KeyCall) (s : Slots) → slot_pair true (slots_called_out c s)
     ≡ slots_by c (has_open_unit s) (slot_pair true s)
 slots_out c s = grind (arith, nat_tests)
 
-slots_into : (c : PortCall) (u : Bool) (s : Slots) → (is_waiting s.first || is_waiting s.second) ≡ false
-    → slot_pair false (slots_called_into (slot_call c) s) ≡ slots_by c u (slot_pair false s)
+slots_into : (c : KeyCall) (u : Bool) (s : Slots) → (is_waiting s.first || is_waiting s.second) ≡ false
+    → slot_pair false (slots_called_into c s) ≡ slots_by c u (slot_pair false s)
 slots_into c u s h = grind (arith, nat_tests)
 
 -- ---- the place that is called
@@ -30,14 +29,14 @@ set_same t u x = grind arith
 set_other : {A : Type 0} (t : Three A) (u w : SubKind) (x : A) → (w ≡ u → ⊥) → at_sub (set_sub t u x) w ≡ at_sub t w
 set_other t u w x ne = grind arith
 
-pub moved-pair : (sends : Bool) (u : SubKind) (c : PortCall) (st : StreamState) → NoneWaits st
-    → pair_at sends u (called sends u (slot_call c) st) ≡ slots_by c (sends && has_open_unit (at_sub st.tx u).slots)
+pub moved-pair : (sends : Bool) (u : SubKind) (c : KeyCall) (st : StreamState) → NoneWaits st
+    → pair_at sends u (called sends u c st) ≡ slots_by c (sends && has_open_unit (at_sub st.tx u).slots)
     (pair_at sends u st)
 moved-pair true u c st h = simp (settled_out, set_same, slots_out)
 moved-pair false u c st h = simp (settled_in, set_same) (slots_into c false (at_sub st.rx u).slots (h u))
 
 -- ---- other places
 
-pub other-pair : (b sends : Bool) (w u : SubKind) (c : SlotCall) (st : StreamState) → (b ≡ sends → w ≡ u → ⊥)
+pub other-pair : (b sends : Bool) (w u : SubKind) (c : KeyCall) (st : StreamState) → (b ≡ sends → w ≡ u → ⊥)
     → pair_at b w (called sends u c st) ≡ pair_at b w st
 other-pair b sends w u c st ne = grind (arith, settled_out, settled_in, set_other)

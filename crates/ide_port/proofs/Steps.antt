@@ -7,12 +7,12 @@ use Rattle.ide_port.proofs.Terms.{Err, refl, sym, ap, ◌∙◌, subst, arith, s
 use Rattle.std.proofs.Common.{Bool}
 use Rattle.ide_port.proofs.Terms.{nat_tests, SubKind, StreamPlan}
 use Rattle.ide_port.proofs.Terms.{Packet, Tlp, class_of, head_bytes, header, body, SlotPair, program_answer}
-use Rattle.ide_port.proofs.Terms.{PortCall, SlotsAfter, shown_at, program_answer_at, answer_of, StreamEnd, sending}
+use Rattle.ide_port.proofs.Terms.{PlaceCall, SlotsAfter, shown_at, program_answer_at, answer_of, StreamEnd, sending}
 use Rattle.ide_port.proofs.Terms.{answer_as}
 use Rattle.ide_port.proofs.Terms.{taken_in, end_taken, called_end}
 use Rattle.ide_port.proofs.Terms.{pair_in, lengths_said, Inside, SendRefusal, PortEnd, Found, found, changed, sub_from}
-use Rattle.ide_port.proofs.Terms.{stream_at, shown, unfinished_at, slot_call, called_states, called_port, stream_of}
-use Rattle.ide_port.proofs.Terms.{IsSendStep, place_and_sub, arrival_said}
+use Rattle.ide_port.proofs.Terms.{stream_at, shown, unfinished_at, called_states, called_port, stream_of}
+use Rattle.ide_port.proofs.Terms.{place_and_sub, arrival_said}
 use Rattle.std.proofs.Common.{Bool, Ok}
 use Rattle.ide_types.specs.declared.port.PortName.{PortName}
 use Rattle.key_slots.specs.declared.slots.OnlyLive.{OnlyLive}
@@ -26,9 +26,8 @@ use Rattle.ide_port.specs.declared.answer.Sent.{Sent}
 use Rattle.ide_port.specs.declared.answer.Sent.TheVariants.{Plain, Refused, Sealed}
 use Rattle.ide_port.specs.declared.answer.Arrival.{Arrival}
 use Rattle.ide_port.specs.declared.answer.Arrival.TheVariants.{Unknown}
-use Rattle.ide_port.specs.Sends.{as_verdict, sent_verdict, lengths_sent, send_found}
-use Rattle.ide_port.specs.Arrivals.{TakeStep, port_arrival, take_found}
-use Rattle.ide_km.specs.{called_place}
+use Rattle.ide_port.specs.Sends.{as_verdict, sent_verdict, lengths_sent, stream_step, IsSendStep}
+use Rattle.ide_port.specs.Arrivals.{TakeStep, port_arrival, packet_step}
 use Rattle.ide_port.specs.Kept.{plan_place}
 use Rattle.ide_port.proofs.Streams.{state_of, absent}
 use Rattle.ide_port.proofs.Keeping.{Keeps, seen, now, inside, there, lends-there, lends-still, none-found}
@@ -58,10 +57,10 @@ module _ (p : Inside) (e : PortEnd) (view : now p ≡ e) (id : ℕ) (at : plan_p
   pub gone : found e.plans e.states id ≡ None
   gone = rw (← view) (absent p.plans _ id at)
 
-  pub plain-step : (new : PortEnd) (t : Tlp) (trusted more : Bool) (number : ℕ) → new
+  pub plain-step : (new : PortEnd) (t : Tlp) (more trusted : Bool) (number : ℕ) → new
       ≡ record e { sealed = []; calls = e.calls + 1 }
-      → IsSendStep e.name number Plain new (send_found e t trusted more number (found e.plans e.states id))
-  plain-step new t trusted more number is = rw gone (record { answered = refl; lengths = refl; port = is })
+      → IsSendStep e.name number Plain new (stream_step e t more trusted number (found e.plans e.states id))
+  plain-step new t more trusted number is = rw gone (record { answered = refl; lengths = refl; port = is })
 
 -- ---- a call of a stream
 
@@ -74,14 +73,14 @@ module _ (p : Inside) (e : PortEnd) (view : now p ≡ e) (kept : Keeps p) (id pl
       (Some (record { plan = (there p kept id place x at is).plan; state = x.state }))
   reads read = rw (← view) (ap read (there p kept id place x at is).is_found)
 
-  pub sent-step : (y : StreamEnd) (t : Tlp) (trusted more : Bool) (number : ℕ)
+  pub sent-step : (y : StreamEnd) (t : Tlp) (more trusted : Bool) (number : ℕ)
       (answer : Result (List SealedPacket) SendRefusal) (r : Sent)
       (before out : List ℕ) → before ≡ []
       → IsSent x (head_bytes (header t)) (body t) (sending p.name x.id (class_of (header t)) more trusted) number answer
       before out y → r ≡ sent_as answer
       → IsSendStep e.name number r (seen p (slice_set p.streams.items place y) out p.lent (p.calls + 1))
-      (send_found e t trusted more number (found e.plans e.states id))
-  sent-step y t trusted more number answer r before out none sent said =
+      (stream_step e t more trusted number (found e.plans e.states id))
+  sent-step y t more trusted number answer r before out none sent said =
       let k = there p kept id place x at is in
       let z = stream_of p.name.side p.limit k.plan x in
       let Q : StreamEnd → Type 0 =
@@ -111,7 +110,7 @@ module _ (p : Inside) (e : PortEnd) (view : now p ≡ e) (packet : Packet) where
       → x ≡ get_or p.streams.items place x → taken ≡ answer_of (taken_in x packet) → y ≡ end_taken x packet
       → r ≡ arrival_said packet.prefix.stream packet.prefix.sub taken
       → IsTaken r (seen p (slice_set p.streams.items place y) p.sealed.items (Some place) (p.calls + 1))
-      (take_found e packet (found e.plans e.states packet.prefix.stream))
+      (packet_step e packet (found e.plans e.states packet.prefix.stream))
   taken-step kept place x y taken r at is answered after said =
       let k = there p kept packet.prefix.stream place x at is in
       let z = stream_of p.name.side p.limit k.plan x in
@@ -131,7 +130,7 @@ module _ (p : Inside) (e : PortEnd) (view : now p ≡ e) (packet : Packet) where
 
   pub unknown-step : (new : PortEnd) → plan_place p.plans packet.prefix.stream ≡ None → new
       ≡ record e { delivered = []; calls = e.calls + 1 }
-      → IsTaken (Unknown packet.prefix.stream) new (take_found e packet (found e.plans e.states packet.prefix.stream))
+      → IsTaken (Unknown packet.prefix.stream) new (packet_step e packet (found e.plans e.states packet.prefix.stream))
   unknown-step new at is = rw (gone p e view packet.prefix.stream at) (record { answer = refl; port = is })
 
 -- ---- a call of key management
@@ -164,21 +163,21 @@ pub lane-inside : (p : Inside) (id sub place : ℕ) (u : SubKind) → Keeps p �
 lane-inside p id sub place u kept at = inside p id place kept (lane-some p.plans id sub place u at).place_is
 
 -- the slots that key management sees of the place, and what the call makes of the port
-pub record IsCalled (e new : PortEnd) (c : PortCall) (o : Option SlotPair) : Type 0 where
-  pub shows : shown_at (shown e) (called_place c) ≡ o
+pub record IsCalled (e new : PortEnd) (c : PlaceCall) (o : Option SlotPair) : Type 0 where
+  pub shows : shown_at (shown e) c.place ≡ o
   pub moves : new ≡ called_port c e
   pub slots : SlotsAfter (shown e) (unfinished_at e) c (shown new)
 
-module _ (p : Inside) (e : PortEnd) (view : now p ≡ e) (kept : Keeps p) (c : PortCall) where
+module _ (p : Inside) (e : PortEnd) (view : now p ≡ e) (kept : Keeps p) (c : PlaceCall) where
   slots-step : (new : PortEnd) → new ≡ called_port c e → SlotsAfter (shown e) (unfinished_at e) c (shown new)
   slots-step new is = rw is
       (slots-after e c (rw (← view)
       (record { none = none-found p.name.side p.limit p.calls p.plans p.streams.items kept.each })))
 
-  pub nowhere-step : place_and_sub p.plans (called_place c).stream (called_place c).sub ≡ None
+  pub nowhere-step : place_and_sub p.plans c.place.stream c.place.sub ≡ None
       → IsCalled e (seen p p.streams.items p.sealed.items None p.calls) c None
   nowhere-step at =
-      let q = called_place c in
+      let q = c.place in
       let none : nat_lt q.sub 3 ≡ true → found e.plans e.states q.stream ≡ None =
       λ t. gone p e view q.stream (none_in (nat_lt q.sub 3) (plan_place p.plans q.stream) (sub_from q.sub) at t) in
       let out : stream_at e q ≡ None = grind (arith, nat_tests, none) in
@@ -187,19 +186,19 @@ module _ (p : Inside) (e : PortEnd) (view : now p ≡ e) (kept : Keeps p) (c : P
       (λ o. record e { states = called_states e c o; delivered = [] }) (sym out) in
       record { shows = grind (arith, nat_tests, out); moves = moves; slots = slots-step _ moves }
 
-  pub called-step : (place : ℕ) (u : SubKind) (x y : StreamEnd) → (called_place c).direction < 2
-      → IsLane p.plans (called_place c).stream (called_place c).sub place u
-      → x ≡ get_or p.streams.items place x → y ≡ called_end x (called_place c).direction u (slot_call c)
+  pub called-step : (place : ℕ) (u : SubKind) (x y : StreamEnd) → c.place.direction < 2
+      → IsLane p.plans c.place.stream c.place.sub place u
+      → x ≡ get_or p.streams.items place x → y ≡ called_end x c.place.direction u c.call
       → IsCalled e (seen p (slice_set p.streams.items place y) p.sealed.items None p.calls) c
-      (Some (pair_in x (called_place c).direction u))
+      (Some (pair_in x c.place.direction u))
   called-step place u x y dir lane is after =
-      let q = called_place c in
+      let q = c.place in
       let k = there p kept q.stream place x lane.place_is is in
       let two : nat_lt q.direction 2 ≡ true = grind (arith, nat_tests) in
       let at : stream_at (now p) q ≡ Some (record { plan = k.plan; state = x.state }) = rw (two, lane.three) k.is_found
       in
-      let mine : y ≡ called_end (stream_of p.name.side p.limit k.plan x) q.direction (sub_from q.sub) (slot_call c) =
-      after ∙ (λ i. called_end (k.of_plan.plan i) q.direction (lane.sub_is i) (slot_call c)) in
+      let mine : y ≡ called_end (stream_of p.name.side p.limit k.plan x) q.direction (sub_from q.sub) c.call =
+      after ∙ (λ i. called_end (k.of_plan.plan i) q.direction (lane.sub_is i) c.call) in
       let was : shown (now p) q ≡ Some (pair_in x q.direction u) =
       ap (option_map _) at ∙ ap Some (sym (λ i. pair_in (k.of_plan.plan i) q.direction (lane.sub_is i))) in
       let moves : seen p (slice_set p.streams.items place y) p.sealed.items None p.calls ≡ called_port c e =

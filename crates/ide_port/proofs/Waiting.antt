@@ -2,7 +2,7 @@
 use Rattle.ide_port.proofs.Terms.{◌≡◌, ℕ, true, false, ◌||◌, List, Option, arith, nat_tests, SubKind, Packet, Verdict}
 use Rattle.ide_port.proofs.Terms.{Slots, Three, TxSub, RxSub, StreamState, at_sub, set_sub, dropped_held, held_sub}
 use Rattle.ide_port.proofs.Terms.{accepted_sub, Insecure, NotKeyed}
-use Rattle.ide_port.proofs.Terms.{Failed, Held, Accepted, state_after, settled_stream, SlotCall, called}
+use Rattle.ide_port.proofs.Terms.{Failed, Held, Accepted, state_after, settled_stream, KeyCall, called}
 use Rattle.ide_port.proofs.Terms.{slots_called_out, slots_called_into, no_stream, unless_verdict, is_waiting, NoneWaits}
 use Rattle.std.proofs.Common.{Bool}
 use Rattle.stream_rules.specs.Stream.{Taken}
@@ -47,14 +47,14 @@ none-taken st p (Accepted j n unit) h u = none-set st.rx p.prefix.sub _ h
 
 -- ---- keys
 
-none-into : (call : SlotCall) (s : Slots) → neither s → neither (slots_called_into call s)
+none-into : (call : KeyCall) (s : Slots) → neither s → neither (slots_called_into call s)
 none-into call s h = grind (arith, nat_tests)
 
 none-settled : (tx : Three TxSub) (rx : Three RxSub) (failed : Bool) → NoneIn rx
     → NoneWaits (settled_stream tx rx failed)
 none-settled tx rx failed h u = grind (arith, h u)
 
-pub none-called : (sends : Bool) (u : SubKind) (call : SlotCall) (st : StreamState) → NoneWaits st
+pub none-called : (sends : Bool) (u : SubKind) (call : KeyCall) (st : StreamState) → NoneWaits st
     → NoneWaits (called sends u call st)
 none-called true u call st h =
     none-settled (set_sub st.tx u (record (at_sub st.tx u) { slots = slots_called_out call (at_sub st.tx u).slots }))

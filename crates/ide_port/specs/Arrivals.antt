@@ -1,9 +1,9 @@
 -- What becomes of bytes that arrive at a port.
-use Rattle.std.specs.Prelude.{ℕ, ◌+◌, List, [], length, Option, Some, None, Result, Ok, Err}
+use Rattle.std.specs.Prelude.{ℕ, ◌+◌, [], length, Option, Some, None, Result, Ok, Err}
 use Rattle.link_verdicts.specs.declared.verdict.UnitName.{UnitName}
 use Rattle.ide_prefix.specs.declared.fault.PacketFault.{PacketFault}
 use Rattle.ide_prefix.specs.Packet.{Packet}
-use Rattle.ide_prefix.specs.Reading.{CutValue, PlainTlp, IdePacket, cut_of}
+use Rattle.ide_prefix.specs.Reading.{CutValue, PlainTlp, IdePacket}
 use Rattle.stream_rules.specs.Stream.{Taken, Insecure as IsInsecure, NotKeyed as IsKeyless, Failed, Held as IsHeld}
 use Rattle.stream_rules.specs.Stream.{Accepted as IsAccepted, taken_by, state_after}
 use Rattle.ide_stream.specs.{opened_after}
@@ -32,8 +32,10 @@ port_arrival p (Failed cause) = Fail p.prefix.stream p.prefix.sub cause
 port_arrival p (IsHeld draw unit) = Held (unit_name p draw unit)
 port_arrival p (IsAccepted draw unit packets) = Accepted (unit_name p draw unit) (length packets)
 
-abbrev pub taken_on : PortEnd → Packet → Found → TakeStep
-taken_on e p f =
+-- a packet of a stream, if the port has it
+abbrev pub packet_step : PortEnd → Packet → Option Found → TakeStep
+packet_step e p None = untaken e (Unknown p.prefix.stream)
+packet_step e p (Some f) =
     let taken = taken_by f.plan.mode f.plan.closed f.state p in
     record {
       answer = port_arrival p taken;
@@ -45,14 +47,8 @@ taken_on e p f =
           };
     }
 
-abbrev pub take_found : PortEnd → Packet → Option Found → TakeStep
-take_found e p None = untaken e (Unknown p.prefix.stream)
-take_found e p (Some f) = taken_on e p f
-
-abbrev pub take_read : PortEnd → Result CutValue PacketFault → TakeStep
-take_read e (Err fault) = untaken e (Malformed fault)
-take_read e (Ok PlainTlp) = untaken e Plain
-take_read e (Ok (IdePacket p)) = take_found e p (found e.plans e.states p.prefix.stream)
-
-abbrev pub take_step : PortEnd → List ℕ → TakeStep
-take_step e bytes = take_read e (cut_of bytes)
+-- an arrival whose bytes are this
+abbrev pub take_step : PortEnd → Result CutValue PacketFault → TakeStep
+take_step e (Err fault) = untaken e (Malformed fault)
+take_step e (Ok PlainTlp) = untaken e Plain
+take_step e (Ok (IdePacket p)) = packet_step e p (found e.plans e.states p.prefix.stream)

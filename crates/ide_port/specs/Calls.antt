@@ -1,22 +1,16 @@
 -- The calls of key management at a port, and what they read of it.
-use Rattle.std.specs.Prelude.{ℕ, ◌==◌, nat_lt, Bool, true, false, ◌&&◌, ◌||◌, List, [], Option, Some, None}
-use Rattle.std.specs.Prelude.{if◌then◌else◌}
+use Rattle.std.specs.Prelude.{ℕ, nat_lt, Bool, true, false, ◌&&◌, ◌||◌, List, [], Option, Some, None, if◌then◌else◌}
 use Rattle.std.specs.Option.{option_map, option_and_then}
 use Rattle.ide_types.specs.declared.sub.SubKind.{SubKind}
-use Rattle.ide_types.specs.declared.sub.SubKind.TheVariants.{Pr, Npr, Cpl}
 use Rattle.ide_types.specs.declared.status.StreamStatus.{StreamStatus}
 use Rattle.key_slots.specs.{KeySet, SlotPair, live_set}
 use Rattle.ide_km.specs.declared.place.Place.{Place}
-use Rattle.ide_km.specs.{PortCall, Program, Go, Halt, called_place}
+use Rattle.ide_km.specs.{PlaceCall}
+use Rattle.ide_prefix.specs.{sub_from}
 use Rattle.stream_rules.specs.Stream.{Slots, StreamState, at_sub}
 use Rattle.stream_rules.specs.Slots.{is_busy}
-use Rattle.sub_stream.specs.Calls as stream
-use Rattle.sub_stream.specs.Calls.{SlotCall, sends_in, pair_at, slots_at, called, stream_status}
+use Rattle.sub_stream.specs.Calls.{sends_in, pair_at, called, stream_status}
 use Rattle.ide_port.specs.Ends.{PortEnd, Found, found, changed}
-
--- the sub-stream of a number below 3
-abbrev pub sub_from : ℕ → SubKind
-sub_from n = if n == 0 then Pr else if n == 1 then Npr else Cpl
 
 -- ---- what is read of the port
 
@@ -54,18 +48,12 @@ live_in_port e id u = option_and_then (λ (f : Found). live_set (pair_at true u 
 
 -- ---- what a call makes of it
 
-abbrev pub slot_call : PortCall → SlotCall
-slot_call (Program place set key draw answer) = stream.Program set key draw
-slot_call (Go place set answer) = stream.Go set
-slot_call (Halt place set answer) = stream.Halt set
-
-abbrev pub called_states : PortEnd → PortCall → Option Found → List StreamState
-called_states e call None = e.states
-called_states e call (Some f) =
-    let place = called_place call in
-    changed e.plans e.states f.plan.id (called (sends_in e.name.side place.direction) (sub_from place.sub)
-    (slot_call call) f.state)
+abbrev pub called_states : PortEnd → PlaceCall → Option Found → List StreamState
+called_states e c None = e.states
+called_states e c (Some f) =
+    changed e.plans e.states f.plan.id
+    (called (sends_in e.name.side c.place.direction) (sub_from c.place.sub) c.call f.state)
 
 -- the stream of the place is called, and no other changes; nothing is lent any more
-abbrev pub called_port : PortCall → PortEnd → PortEnd
-called_port call e = record e { states = called_states e call (stream_at e (called_place call)); delivered = [] }
+abbrev pub called_port : PlaceCall → PortEnd → PortEnd
+called_port c e = record e { states = called_states e c (stream_at e c.place); delivered = [] }

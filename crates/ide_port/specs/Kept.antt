@@ -6,18 +6,14 @@ use Rattle.ide_types.specs.declared.port.Side.{Side}
 use Rattle.ide_types.specs.declared.sub.SubKind.{SubKind}
 use Rattle.ide_plan.specs.declared.stream.StreamPlan.{StreamPlan}
 use Rattle.ide_prefix.specs.Packet.{Packet}
+use Rattle.ide_prefix.specs.{sub_from}
 use Rattle.stream_rules.specs.Stream.{Slot, Armed, StreamState, at_sub}
 use Rattle.sub_stream.specs.declared.answer.Taken.{Taken}
 use Rattle.sub_stream.specs.declared.answer.Taken.TheVariants as taken
-use Rattle.ide_types.specs.declared.port.PortName.{PortName}
 use Rattle.link_verdicts.specs.declared.verdict.UnitName.{UnitName}
-use Rattle.ide_stream.specs.{StreamEnd, new_end, packet_lengths}
-use Rattle.ide_port.specs.declared.answer.Sent.{Sent}
+use Rattle.ide_stream.specs.{StreamEnd, new_end}
 use Rattle.ide_port.specs.declared.answer.Arrival.{Arrival}
 use Rattle.ide_port.specs.declared.answer.Arrival.TheVariants.{Insecure, NotKeyed, Fail, Held, Accepted}
-use Rattle.ide_port.specs.Ends.{PortEnd}
-use Rattle.ide_port.specs.Sends.{SendStep, sent_verdict, lengths_sent}
-use Rattle.ide_port.specs.Calls.{sub_from}
 
 -- ---- streams and plans, one to one
 
@@ -88,12 +84,6 @@ place_and_sub plans id sub = if nat_lt sub 3 then option_map (λ place. (place, 
     else None
 
 -- ---- answers
-
--- an answer, and the port after it, as a step says
-pub record IsSendStep (name : PortName) (number : ℕ) (answer : Sent) (new : PortEnd) (step : SendStep) : Type 0 where
-  pub answered : sent_verdict name number answer ≡ step.verdict
-  pub lengths : lengths_sent answer ≡ packet_lengths step.packets
-  pub port : new ≡ step.port
 
 abbrev pub unit_said : ℕ → SubKind → ℕ → ℕ → UnitName
 unit_said stream sub draw unit = record { stream = stream; sub = sub; draw = draw; unit = unit }

@@ -2,7 +2,7 @@
 
 ghost use Rattle.std.specs.Prelude.{◌≡◌, IfOk, map, All};
 ghost use Rattle.ide_plan.specs.Fits.{FitsStream};
-ghost use Rattle.ide_port.specs.Calls.{sub_from};
+ghost use Rattle.ide_prefix.specs.{sub_from};
 ghost use Rattle.ide_port.specs.Kept.{plan_place, place_and_sub, new_stream_ends};
 
 use ide_plan::{Selector, StreamPlan};

@@ -122,10 +122,11 @@ fn reset_streams(streams: &mut Vec<Stream>)
 
 impl Port {
     ghost use Rattle.ide_port.specs.Ends.{new_port, found, reset_port};
-    ghost use Rattle.ide_port.specs.Sends.{IsSentAtPort, unsealed, send_chosen, send_found, sent_verdict};
-    ghost use Rattle.ide_port.specs.Arrivals.{take_step, take_found};
+    ghost use Rattle.ide_prefix.specs.Reading.{cut_of};
+    ghost use Rattle.association.specs.Outgoing.{outgoing_on};
+    ghost use Rattle.ide_port.specs.Sends.{IsSendStep, IsSentAtPort, send_step, stream_step, sent_verdict, unsealed};
+    ghost use Rattle.ide_port.specs.Arrivals.{take_step, packet_step};
     ghost use Rattle.ide_port.specs.Calls.{status_in, live_in_port};
-    ghost use Rattle.ide_port.specs.Kept.{IsSendStep};
 
     /// The port of this name with these streams of its link, without keys; a key seals at most `limit` units.
     pub fn make(
@@ -168,12 +169,13 @@ impl Port {
     }
 
     /// Sends a TLP's bytes: the TLP takes a stream, which seals it after the sync packets that must go first, or it
-    /// goes plain. `trusting` says whether T is set. `more` says that the unit goes on if it has room. What was sealed
-    /// is lent by `packets` until the next send.
-    pub fn send<T: Trusting>(&mut self, tlp: &[u8], trusting: &T, more: bool) -> Sent
+    /// goes plain. `more` says that the unit goes on if it has room, `trusting` whether T is set. What was sealed is
+    /// lent by `packets` until the next send.
+    #[tactic(auto, unfolding(association::specs::Outgoing::outgoing_of))]
+    pub fn send<T: Trusting>(&mut self, tlp: &[u8], more: bool, trusting: &T) -> Sent
         requires { self.old.calls < 2 ^ 40 }
         // Whatever the number of the next sealed packet is over the run.
-        ensures { (number : ℕ) → IsSentAtPort self.old tlp.now (T.trusting trusting.now) more number result self.new }
+        ensures { (number : ℕ) → IsSentAtPort self.old tlp.now more (T.trusting trusting.now) number result self.new }
     {
         match read(tlp) {
             Err(fault) => {
@@ -182,7 +184,7 @@ impl Port {
             }
             Ok(view) => {
                 let choice = choose(&self.plans, self.name.side, &view.head());
-                self.send_chosen(named(choice), tlp, &view, trusting, more)
+                self.send_chosen(named(choice), tlp, &view, more, trusting)
             }
         }
     }
@@ -193,14 +195,13 @@ impl Port {
         id: Option<u8>,
         bytes: &[u8],
         tlp: &TlpView,
-        trusting: &T,
         more: bool,
+        trusting: &T,
     ) -> Sent
         requires few { self.old.calls < 2 ^ 40 }
         requires read { read_of bytes.now ≡ Ok (viewed_tlp tlp.now) }
-        ensures { (number : ℕ) → let step = send_chosen self.old (viewed_tlp tlp.now) (T.trusting trusting.now) more
-            number id in
-            IsSendStep self.old.name number result self.new step }
+        ensures { (number : ℕ) → IsSendStep self.old.name number result self.new
+            (send_step self.old (outgoing_on (viewed_tlp tlp.now) id) more (T.trusting trusting.now) number) }
     {
         match id {
             None => {
@@ -209,18 +210,18 @@ impl Port {
             }
             Some(id) => {
                 let t = trusting.is_trusted(&tlp.head(), id);
-                self.send_on(id, bytes, tlp, t, more)
+                self.send_on(id, bytes, tlp, more, t)
             }
         }
     }
 
     // Sends a TLP on a stream.
-    fn send_on(&mut self, id: u8, bytes: &[u8], tlp: &TlpView, trusted: bool, more: bool) -> Sent
+    fn send_on(&mut self, id: u8, bytes: &[u8], tlp: &TlpView, more: bool, trusted: bool) -> Sent
         requires few { self.old.calls < 2 ^ 40 }
         requires read { read_of bytes.now ≡ Ok (viewed_tlp tlp.now) }
         ensures { (number : ℕ) → let f = found self.old.plans self.old.states id in
             IsSendStep self.old.name number result self.new
-            (send_found self.old (viewed_tlp tlp.now) trusted more number f) }
+            (stream_step self.old (viewed_tlp tlp.now) more trusted number f) }
     {
         let Some(place) = place(self.plans.as_slice(), id) else {
             self.unsealed();
@@ -231,7 +232,7 @@ impl Port {
         sealed.clear();
         self.calls += 1;
         let stream = &mut self.streams[place];
-        match stream.send(tlp.class(), head, payload, trusted, more, sealed) {
+        match stream.send(tlp.class(), head, payload, more, trusted, sealed) {
             Ok(sealed) => Sent::Sealed(sealed),
             Err(refusal) => Sent::Refused(refusal),
         }
@@ -257,8 +258,8 @@ impl Port {
     /// Takes bytes that arrive. What an accepted unit carries is lent until the next arrival or call of key management.
     pub fn take(&mut self, bytes: &[u8]) -> Arrival
         requires { self.old.calls < 2 ^ 40 }
-        ensures answer { result ≡ (take_step self.old bytes.now).answer }
-        ensures port { self.new ≡ (take_step self.old bytes.now).port }
+        ensures answer { result ≡ (take_step self.old (cut_of bytes.now)).answer }
+        ensures port { self.new ≡ (take_step self.old (cut_of bytes.now)).port }
     {
         match cut(bytes) {
             Err(fault) => {
@@ -278,9 +279,9 @@ impl Port {
         requires few { self.old.calls < 2 ^ 40 }
         requires view { IsView packet.now }
         ensures answer { let f = found self.old.plans self.old.states packet.now.prefix.stream in
-            result ≡ (take_found self.old (packet_of_view packet.now) f).answer }
+            result ≡ (packet_step self.old (packet_of_view packet.now) f).answer }
         ensures port { let f = found self.old.plans self.old.states packet.now.prefix.stream in
-            self.new ≡ (take_found self.old (packet_of_view packet.now) f).port }
+            self.new ≡ (packet_step self.old (packet_of_view packet.now) f).port }
     {
         let id = packet.prefix.stream;
         let Some(place) = place(self.plans.as_slice(), id) else {

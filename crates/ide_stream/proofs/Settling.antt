@@ -14,7 +14,7 @@ use Rattle.sub_stream.specs.{answer_of}
 use Rattle.sub_stream.specs.declared.answer.SealedPacket.{SealedPacket}
 use Rattle.sub_stream.specs.declared.answer.Taken.{Taken as Answer}
 use Rattle.sub_stream.specs.declared.answer.Taken.TheVariants as answers
-use Rattle.sub_stream.specs.Calls.{SlotCall}
+use Rattle.key_slots.specs.{KeyCall}
 use Rattle.ide_stream.specs.declared.directions.Directions.{Directions}
 use Rattle.ide_stream.specs.Ends.{StreamEnd, lanes_in, taken_in, end_taken}
 use Rattle.ide_stream.specs.Sends.{ok_unless_verdict, refused, unless_verdict, IsSent, sealing}
@@ -41,7 +41,7 @@ slots_few Pr tx slots calls few = record { pr = few.pr; npr = few.npr; cpl = few
 slots_few Npr tx slots calls few = record { pr = few.pr; npr = few.npr; cpl = few.cpl }
 slots_few Cpl tx slots calls few = record { pr = few.pr; npr = few.npr; cpl = few.cpl }
 
-pub call-kept : (sends : Bool) (u : SubKind) (call : SlotCall) (d : Directions) (calls : ℕ) → IsStream d calls
+pub call-kept : (sends : Bool) (u : SubKind) (call : KeyCall) (d : Directions) (calls : ℕ) → IsStream d calls
     → IsStream (settled_directions (called_directions sends u call d)) calls
 call-kept true u call d calls inv = record {
   same_mode = inv.same_mode;

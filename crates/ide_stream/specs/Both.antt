@@ -2,10 +2,9 @@
 use Rattle.std.specs.Prelude.{◌≡◌, ℕ, ◌≤◌, ◌&&◌, ◌||◌, Bool, true, false, []}
 use Rattle.ide_types.specs.declared.sub.SubKind.{SubKind}
 use Rattle.ide_types.specs.declared.port.Side.{Side}
-use Rattle.key_slots.specs.{SlotPair}
+use Rattle.key_slots.specs.{SlotPair, KeyCall}
 use Rattle.stream_rules.specs.Stream.{TxSub, Three, at_sub}
 use Rattle.sub_stream.specs.{slot_pair}
-use Rattle.sub_stream.specs.Calls.{SlotCall}
 use Rattle.ide_stream.specs.declared.directions.Directions.{Directions}
 use Rattle.ide_stream.specs.Ends.{StreamEnd}
 use Rattle.stream_lanes.specs.{any_out, settled_out, called_ends, any_into, settled_into, called_receivers}
@@ -15,7 +14,7 @@ abbrev pub pair_of : Bool → SubKind → Directions → SlotPair
 pair_of true u d = slot_pair true (at_sub d.tx.tx u).slots
 pair_of false u d = slot_pair false (at_sub d.rx.rx u).slots
 
-abbrev pub called_directions : Bool → SubKind → SlotCall → Directions → Directions
+abbrev pub called_directions : Bool → SubKind → KeyCall → Directions → Directions
 called_directions true u call d = record d { tx = called_ends d.tx u call }
 called_directions false u call d = record d { rx = called_receivers d.rx u call }
 

@@ -4,11 +4,11 @@ use Rattle.std.specs.Prelude.{ℕ, ◌+◌, Bool, List, []}
 use Rattle.ide_types.specs.declared.sub.SubKind.{SubKind}
 use Rattle.ide_types.specs.declared.port.Side.{Side}
 use Rattle.ide_prefix.specs.Packet.{Packet}
-use Rattle.key_slots.specs.{SlotPair}
+use Rattle.key_slots.specs.{SlotPair, KeyCall}
 use Rattle.stream_rules.specs.Sending.{Lanes}
 use Rattle.stream_rules.specs.Stream.{StreamState, Taken, lanes_of, taken_by, state_after}
 use Rattle.stream_lanes.specs.{opened_after}
-use Rattle.sub_stream.specs.Calls.{SlotCall, sends_in, pair_at, called, no_stream}
+use Rattle.sub_stream.specs.Calls.{sends_in, pair_at, called, no_stream}
 
 -- Units of at most `mode` packets, and at most `limit` under one key; `delivered` are the packets of the last accepted
 -- unit, decrypted, until the next packet or call of key management; `calls` counts sends and packets that came.
@@ -55,7 +55,7 @@ end_taken e p =
 abbrev pub pair_in : StreamEnd → ℕ → SubKind → SlotPair
 pair_in e direction u = pair_at (sends_in e.side direction) u e.state
 
-abbrev pub called_end : StreamEnd → ℕ → SubKind → SlotCall → StreamEnd
+abbrev pub called_end : StreamEnd → ℕ → SubKind → KeyCall → StreamEnd
 called_end e direction u call = record e { state = called (sends_in e.side direction) u call e.state; delivered = [] }
 
 -- without keys, counts and failure

@@ -1,8 +1,7 @@
 //! Both directions of a stream.
 
 ghost use Rattle.std.specs.Prelude.{◌≡◌, not, is_ok, if◌then◌else◌};
-ghost use Rattle.key_slots.specs.{is_one, is_empty, program_answer, slot_in};
-ghost use Rattle.sub_stream.specs.Calls.{Program, Go, Halt};
+ghost use Rattle.key_slots.specs.{is_one, is_empty, program_answer, slot_in, Program, Go, Halt};
 
 use ide_types::{KeySet, SubKind};
 use key_slots::{Key, OnlyLive, SlotEmpty};

@@ -6,9 +6,9 @@ ghost use Rattle.std.specs.Option.{option_map};
 ghost use Rattle.ide_plan.specs.Fits.{is_mode};
 ghost use Rattle.ide_types.specs.declared.port.PortName.{PortName};
 ghost use Rattle.ide_prefix.specs.Cut.{packet_of_view, IsView};
-ghost use Rattle.key_slots.specs.{slot_in, is_one, is_empty, program_answer, live_set};
+ghost use Rattle.key_slots.specs.{slot_in, is_one, is_empty, program_answer, live_set, Program, Go, Halt};
 ghost use Rattle.stream_rules.specs.Sending.{sets_trusted, refusals, first_that_holds};
-ghost use Rattle.sub_stream.specs.Calls.{SlotCall, Program, Go, Halt, pair_at, sends_in, status_by, stream_status};
+ghost use Rattle.sub_stream.specs.Calls.{pair_at, sends_in, status_by, stream_status};
 ghost use Rattle.sub_stream.specs.{answer_of};
 
 use crate::directions::Directions;
@@ -130,8 +130,8 @@ impl Stream {
     }
 
     /// Seals a TLP's header and payload, of at most 16 and 4,096 bytes, after the sync packets that must go first, and
-    /// appends the packets to `out`, which has room for `SEND_ROOM` bytes more. `t` says that the TLP is trusted,
-    /// `more` that its unit goes on if it has room. Refused, in this order: Insecure, NoKey of the sub-stream,
+    /// appends the packets to `out`, which has room for `SEND_ROOM` bytes more. `more` says that its unit goes
+    /// on if it has room, `t` that the TLP is trusted. Refused, in this order: Insecure, NoKey of the sub-stream,
     /// Unfinished, NoKey of a sub-stream that needs a sync packet first, Worn of the sub-stream, Worn of one that needs
     /// a sync packet first. A refusal changes nothing.
     pub fn send(
@@ -139,8 +139,8 @@ impl Stream {
         sub: SubKind,
         head: &[u8],
         payload: &[u8],
-        t: bool,
         more: bool,
+        t: bool,
         out: &mut Vec<u8>,
     ) -> Result<Sealed, SendRefusal>
         requires head_short { length head.now ≤ 16 }
@@ -157,7 +157,7 @@ impl Stream {
         self.calls += 1;
         match self.refusal(sub) {
             Some(refusal) => Err(refusal),
-            None => Ok(self.directions.tx.send(sub, head, payload, t, more, out)),
+            None => Ok(self.directions.tx.send(sub, head, payload, more, t, out)),
         }
     }
 

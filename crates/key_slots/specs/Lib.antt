@@ -1,6 +1,7 @@
 pub mod Drawn
 pub mod Draws
 pub mod Slots
+pub mod Calls
 -- what clauses and crates above cite
 pub use Rattle.ide_types.specs.declared.key_set.KeySet.{KeySet}
 pub use Rattle.ide_types.specs.{is_one, key_set, set_number}
@@ -8,6 +9,7 @@ pub use Rattle.key_slots.specs.declared.pool.PoolEmpty.{PoolEmpty}
 pub use Rattle.key_slots.specs.declared.slot.Slot.{Slot}
 pub use Rattle.key_slots.specs.declared.slot.SlotState.{SlotState}
 pub use Rattle.key_slots.specs.declared.slots.OnlyLive.{OnlyLive}
+pub use Rattle.key_slots.specs.Calls.{KeyCall, Program, Go, Halt}
 pub use Rattle.key_slots.specs.Drawn.{DrawnKey}
 pub use Rattle.key_slots.specs.Draws.{Pool, DrawnSix, place_among_six, pool_key, six_keys, draws_in, new_pool}
 pub use Rattle.key_slots.specs.Draws.{draw_answer}

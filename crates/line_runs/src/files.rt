@@ -1,18 +1,28 @@
-//! A file of lines, from its name to what is written for it.
-ghost use Rattle.std.specs.Prelude.{◌≡◌, ◌≢◌, ◌≤◌, ◌<◌, ◌+◌, ◌++◌, ℕ, List, Ok, IfOk, IfErr, length, option_map, take};
+//! A file of lines, from its name to what is written for it: it is read in pieces, each piece is cut at its line feeds,
+//! and the text of the lines is gathered before it is written.
+ghost use Rattle.std.specs.Prelude.{◌≡◌, ◌≢◌, ◌≤◌, ◌<◌, ◌+◌, ◌++◌, ◌^◌, ℕ, [], List, Ok, IsErr, IfOk, IfErr, IfSome};
+ghost use Rattle.std.specs.Prelude.{◌∷◌, MatchOption, OnOk, None, length, nat_lt, option_map, take, vec_capacity};
+ghost use Rattle.std.specs.Prelude.{vec_len};
 ghost use Rattle.ide_base.specs.Outside.{Given, ShelfCause, given_by};
+ghost use Rattle.link_events.specs.Words.{line_limit};
 ghost use Rattle.line_runs.specs.Front.{AskedPieces, Gave, IsReadOf, ReadsOn, bytes_of};
-ghost use Rattle.line_runs.specs.Gathering.{GoesOn, NoFurther, ReadAsFar, WroteEnded, ended_text, limit_due};
-ghost use Rattle.line_runs.specs.Lines.{file_due, file_limit};
-ghost use Rattle.line_runs.specs.Outcome.{Ran, RanOn};
+ghost use Rattle.line_runs.specs.Gathering.{CutIn, Gathers, GoesOn, NoFurther, PieceRan, ReadAsFar, WroteEnded};
+ghost use Rattle.line_runs.specs.Gathering.{due_behind, ended_text, limit_due};
+ghost use Rattle.line_runs.specs.Lines.{Came, file_due, file_limit};
+ghost use Rattle.line_runs.specs.Outcome.{Ran, RanOn, Wrote};
+ghost use Rattle.line_runs.specs.Pieces.{pieces};
 
 use crate::front::PIECE;
-use crate::lines::{LineWork, refuse, run_last};
-use crate::pieces::{Lines, run_piece};
+use crate::lines::{LineWork, refuse, refuse_in, run_last};
+use crate::writing::write;
 use crate::{End, FILE_LIMIT, Fault};
 use ide_base::{Shelf, ShelfFault, Sink};
-use link_events::{LINE_LIMIT, LineFault};
+use ide_types::{Bytes, Memory};
+use link_events::{LINE_LIMIT, LineError, LineFault};
+use memchr::memchr;
 use std::alloc::Global;
+
+// ---- the file
 
 // Reads on from a place of a file, up to the last byte that counts; after that byte, one byte more.
 fn read_piece<S: Shelf>(
@@ -103,4 +113,169 @@ pub fn run_file<S: Shelf, O: Sink, W: LineWork>(
             Ok(None) => at += n,
         }
     }
+}
+
+// ---- the lines that end in a piece
+
+// The bytes before the first line feed and those after it; `None` if there is no line feed (this profile).
+#[tactic(auto, using(crate::proofs::Cuts::line_at, crate::proofs::Cuts::no_line, crate::proofs::Cuts::within))]
+fn split_line(bytes: &[u8]) -> Option<(&[u8], &[u8])>
+    ensures pieces { MatchOption result (pieces bytes.now ≡ bytes.now ∷ []) (λ p. pieces bytes.now ≡ p.0.now
+        ∷ pieces p.1.now) }
+    ensures shorter { IfSome result (λ p. length p.0.now + 1 + length p.1.now ≡ length bytes.now) }
+{
+    match memchr(b'\n', bytes) {
+        Some(end) => {
+            let (line, _) = bytes.split_at(end);
+            let (_, rest) = bytes.split_at(end + 1);
+            Some((line, rest))
+        }
+        None => None,
+    }
+}
+
+// The lines of a file that is read in pieces: the number of the next one, and the bytes of it that came in earlier
+// pieces, at most 20,000. Room for them is reserved once.
+#[derive(Drop)]
+struct Lines {
+    number: u64,
+    unended: Vec<u8>,
+    ghost short: { vec_len unended ≤ line_limit },
+    ghost room: { line_limit ≤ vec_capacity unended },
+}
+
+impl Lines {
+    // The state before the first line.
+    fn make(alloc: Global) -> Result<Lines, Memory>
+        ensures number { IfOk result (λ l. l.number ≡ 1) }
+        ensures unended { IfOk result (λ l. l.unended.items ≡ []) }
+    {
+        let unended = Vec::with_capacity(alloc, LINE_LIMIT)?;
+        Ok(Lines { number: 1, unended })
+    }
+
+    // Whether a line that goes on with these bytes has more than a line may have.
+    fn is_long(&self, more: &[u8]) -> bool
+        ensures { result ≡ nat_lt line_limit (length self.now.unended.items + length more.now) }
+    {
+        more.len() > LINE_LIMIT - self.unended.len()
+    }
+
+    // Keeps more bytes of the line.
+    fn keep(&mut self, more: &[u8])
+        requires { length self.old.unended.items + length more.now ≤ line_limit }
+        ensures unended { self.new.unended.items ≡ self.old.unended.items ++ more.now }
+        ensures number { self.new.number ≡ self.old.number }
+    {
+        let _ = self.unended.extend_from_slice(more);
+    }
+
+    // Runs the line that ends with these bytes. If it lies in one piece, it is not copied.
+    fn run_line<W: LineWork>(&mut self, work: &mut W, end: &[u8]) -> Result<Bytes, LineError>
+        requires number { self.old.number < 2 ^ 26 }
+        requires fits { W.fits work.old self.old.number }
+        ensures came { (past : W.Past) → W.follows work.old past → Came (W.advance past self.old.number
+            (self.old.unended.items ++ end.now)) (W.follows work.new) result }
+        ensures fits { OnOk result (W.fits work.new self.new.number) }
+        ensures unended { OnOk result (self.new.unended.items ≡ []) }
+        ensures number { self.new.number ≡ self.old.number + 1 }
+    {
+        let number = self.number;
+        self.number += 1;
+        if self.is_long(end) {
+            return Err(LineError::Fault(LineFault::TooLong));
+        }
+        if self.unended.is_empty() {
+            return work.line(number, end);
+        }
+        self.keep(end);
+        let text = work.line(number, &self.unended);
+        self.unended.clear();
+        text
+    }
+}
+
+// Runs the lines that end in a piece, and writes their text.
+fn run_piece<O: Sink, W: LineWork>(
+    alloc: Global,
+    work: &mut W,
+    lines: &mut Lines,
+    piece: &[u8],
+    gathered: &mut Vec<u8>,
+    out: &mut O,
+) -> Result<Option<End>, Fault>
+    requires number { lines.old.number + length piece.now < 2 ^ 26 }
+    requires fits { W.fits work.old lines.old.number }
+    requires empty { gathered.old.items ≡ [] }
+    ensures end { IfOk result (λ o. IfSome o (λ e. e ≡ End.Script)) }
+    ensures ran { (past : W.Past) → W.follows work.old past → PieceRan (W.follows work.new) (λ over left. due_behind
+        W.advance W.closing over lines.old.number past lines.old.unended.items (piece.now ++ left))
+        (λ later over left. due_behind W.advance W.closing over lines.new.number later lines.new.unended.items left)
+        (O.seen out.old) (O.seen out.new) result }
+    ensures fits { IfOk result (λ o. o ≡ None → W.fits work.new lines.new.number) }
+    ensures number { IfOk result (λ o. o ≡ None → lines.new.number ≤ lines.old.number + length piece.now) }
+    ensures empty { IfOk result (λ o. o ≡ None → gathered.new.items ≡ []) }
+{
+    let mut rest = piece;
+    while let Some((end, after)) = split_line(rest) {
+        let number = lines.number;
+        match lines.run_line(work, end) {
+            Err(LineError::Memory) => return Err(end_for_memory(gathered.as_slice(), out)),
+            Err(LineError::Fault(fault)) => {
+                return refuse_in(alloc, gathered.as_slice(), number, fault, out);
+            }
+            Ok(text) => gather(gathered, text.as_slice(), out)?,
+        }
+        rest = after;
+    }
+    if lines.is_long(rest) {
+        return refuse_in(
+            alloc,
+            gathered.as_slice(),
+            lines.number,
+            LineFault::TooLong,
+            out,
+        );
+    }
+    lines.keep(rest);
+    flush(gathered, out)?;
+    Ok(None)
+}
+
+// ---- text that is gathered
+
+// More gathered text than this is written.
+const GATHERED: usize = 16_384;
+
+// Writes what was gathered.
+fn flush<O: Sink>(gathered: &mut Vec<u8>, out: &mut O) -> Result<(), Fault>
+    ensures wrote { Wrote gathered.old.items (O.seen out.old) (O.seen out.new) result }
+    ensures empty { OnOk result (gathered.new.items ≡ []) }
+{
+    write(out, gathered.as_slice())?;
+    gathered.clear();
+    Ok(())
+}
+
+// Writes what was gathered, and ends for want of memory.
+fn end_for_memory<O: Sink>(gathered: &[u8], out: &mut O) -> Fault
+    ensures { CutIn gathered.now (O.seen out.old) (O.seen out.new) result }
+{
+    match write(out, gathered) {
+        Ok(()) => Fault::Memory,
+        Err(e) => e,
+    }
+}
+
+// Gathers the text of a line, and writes what is gathered if that is much.
+fn gather<O: Sink>(gathered: &mut Vec<u8>, text: &[u8], out: &mut O) -> Result<(), Fault>
+    ensures { Gathers gathered.old.items text.now gathered.new.items (O.seen out.old) (O.seen out.new) result }
+{
+    if gathered.extend_from_slice(text).is_err() {
+        return Err(end_for_memory(gathered.as_slice(), out));
+    }
+    if gathered.len() > GATHERED {
+        return flush(gathered, out);
+    }
+    Ok(())
 }

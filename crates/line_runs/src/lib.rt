@@ -4,10 +4,7 @@
 mod ends;
 mod files;
 mod front;
-mod gather;
 mod lines;
-mod pieces;
-mod split;
 mod writing;
 
 pub use ends::{End, Fault};

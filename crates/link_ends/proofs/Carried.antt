@@ -1,23 +1,21 @@
 -- What an exchange makes of the manager and of both ends, whether its request reaches the device or is lost.
 use Rattle.link_ends.proofs.Terms.{◌≡◌, ℕ, Bool, true, false, List, [], sym, ◌∙◌, arith, Option, Some, None}
-use Rattle.link_ends.proofs.Terms.{if◌then◌else◌, slice_get, slice_set, Side, nat_tests, call_of, reply_of, spelling}
-use Rattle.link_ends.proofs.Terms.{Loss, Judged, Expected, Refused, Bad}
+use Rattle.link_ends.proofs.Terms.{if◌then◌else◌, slice_get, slice_set, Side, nat_tests, PlaceCall, call_of, is_done}
+use Rattle.link_ends.proofs.Terms.{reply_of, spelling, Loss, Judged, Expected, Refused, Bad}
 use Rattle.link_ends.proofs.Terms.{Outcome, Asked, is_last_receiver_go, StreamView, asked_in, exchange_asked}
 use Rattle.link_ends.proofs.Terms.{request_asked, outcome_of, taken_stream, taken_calls, ManagerView, current}
 use Rattle.link_ends.proofs.Terms.{current_in, current_at, current_asked}
-use Rattle.link_ends.proofs.Terms.{asking_after, IsAsked, StreamState, requests_called, StreamEnds, Exchanged}
+use Rattle.link_ends.proofs.Terms.{asking_after, IsAsked, StreamState, all_called_at, StreamEnds, Exchanged}
 use Rattle.link_ends.proofs.Terms.{exchanged, exchanged_unless_lost, lost_as, came_to, ends_after_exchange}
-use Rattle.link_ends.proofs.Terms.{shown_stream, port_called}
-use Rattle.link_ends.proofs.Terms.{judged_bytes, Found, DeviceEnd}
+use Rattle.link_ends.proofs.Terms.{shown_stream, port_called, goes, judged_bytes, Found, DeviceEnd}
 use Rattle.link_ends.proofs.Terms.{asked_device, reply_given, LinkEnds, lost_in, Pool, KeeperView, HasStream}
 use Rattle.link_ends.proofs.Terms.{IsAtBothEnds}
 use Rattle.link_ends.proofs.Terms.{DiffersInStream, IsExchanged, ap, subst}
 use Rattle.key_slots.specs.{is_one}
 use Rattle.link_events.specs.declared.event.Lost.{Lost}
 use Rattle.tsm_host.specs.declared.judge.Judged.TheVariants.{Lost as NotCarried}
-use Rattle.tsm_host.specs.Local.{goes}
 use Rattle.link_ends.proofs.Lists.{read_set, set_again}
-use Rattle.link_ends.proofs.Ports.{AllAt, PortMoves, requests_there, goes_at}
+use Rattle.link_ends.proofs.Ports.{AllAt, PortMoves, all_there, goes_at}
 use Rattle.link_ends.proofs.Exchanges.{DeviceGoes, device_goes}
 
 -- ---- the stream that is asked
@@ -87,15 +85,15 @@ is_delivered m0 m l0 l place id host device e a after reply on st asked after_is
     let went : DeviceGoes l0.device.port id e.device request a.draw l.device.port =
     device_goes l0.device.port l.device.port id device e.device a e.keeper on.device_side on.device_found st.device
     st.id_is asked in
-    let said : reply_of l0.device.requester request (call_of (shown_stream e.keeper.id e.device) request a.draw)
-    ≡ reply =
-    (λ i. reply_of (sym st.requester i) request (call_of (shown_stream (st.id_is i) e.device) request a.draw))
-    ∙ (ap (λ o. reply_of l.device.requester request o) (sym went.call) ∙ sym reply_is) in
+    let call : Option PlaceCall = call_of request a.draw in
+    let said : reply_of l0.device.requester request (is_done (shown_stream e.keeper.id e.device) call) ≡ reply =
+    (λ i. reply_of (sym st.requester i) request (is_done (shown_stream (st.id_is i) e.device) call))
+    ∙ (ap (λ o. reply_of l.device.requester request o) (sym went.done) ∙ sym reply_is) in
     record {
-      after = port_called (call_of (shown_stream id e.device) request a.draw) e.device;
+      after = port_called call e.device;
       came = λ i. record {
         judged = judged_bytes (request_asked a e.keeper) (said i);
-        device = port_called (call_of (shown_stream (st.id_is i) e.device) request a.draw) e.device;
+        device = port_called call e.device;
       };
       port = rw after_is went.port;
       requester = ap (λ (d : DeviceEnd). d.requester) after_is ∙ st.requester;
@@ -131,8 +129,8 @@ pub exchange_ends : (m0 m m' : ManagerView) (l0 l l' : LinkEnds) (place id : ℕ
     → HasStream l0.device.port id y l'.device.port → l'.device.requester ≡ l0.device.requester
     → IsExchanged m0 l0 place id loss a e result m' l'
 exchange_ends m0 m m' l0 l l' place id host device e a loss result j y on st is result_is after moves port requester =
-    let called : HasStream l0.host id (requests_called l0.host.name.side (taken_calls a j e.keeper.id) e.host) l'.host =
-    requests_there l0.host l.host l'.host id host e.host (taken_calls a j e.keeper.id) on.host_found st.host
+    let called : HasStream l0.host id (all_called_at l0.host.name.side (taken_calls a j e.keeper.id) e.host) l'.host =
+    all_there l0.host l.host l'.host id host e.host (taken_calls a j e.keeper.id) on.host_found st.host
     (rw st.id_is (taken_at id a j)) moves in
     let stands : DiffersInStream m0 l0 place id (ends_after_exchange a (record { judged = j; device = y }) e) m' l'
     = record {
@@ -140,7 +138,7 @@ exchange_ends m0 m m' l0 l l' place id host device e a loss result j y on st is 
       streams = ap (λ (k : ManagerView). k.streams) after ∙ ap
           (λ (vs : List StreamView). slice_set vs place (taken_stream a j e.keeper)) st.streams
           ∙ set_again m0.streams place e.keeper (taken_stream a j e.keeper);
-      host = subst (λ (s : Side). HasStream l0.host id (requests_called s (taken_calls a j e.keeper.id) e.host) l'.host)
+      host = subst (λ (s : Side). HasStream l0.host id (all_called_at s (taken_calls a j e.keeper.id) e.host) l'.host)
           on.host_side called;
       device = port;
       requester = requester;

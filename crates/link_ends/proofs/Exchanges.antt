@@ -1,7 +1,7 @@
 -- One exchange: the request reaches the device or is lost, and the manager takes what is carried back.
 use Rattle.link_ends.proofs.Terms.{◌≡◌, ℕ, ◌==◌, ◌<◌, Bool, true, false, List, refl, ◌∙◌, Option, Some, None, nat_lt}
-use Rattle.link_ends.proofs.Terms.{◌&&◌, if◌then◌else◌, slice_range, Side, SlotPair, Place, PortCall, Shown, call_of}
-use Rattle.link_ends.proofs.Terms.{call_from, spelling, direction_of}
+use Rattle.link_ends.proofs.Terms.{◌&&◌, slice_range, Side, Place, PlaceCall, Shown, call_of}
+use Rattle.link_ends.proofs.Terms.{call_from, is_done, spelling, direction_of}
 use Rattle.link_ends.proofs.Terms.{sub_of, Operation, same-true, exchange_of, selector_of, request_of, WireKeys}
 use Rattle.link_ends.proofs.Terms.{StreamView, request_asked, IsAsked, Asked, StreamState, shown_stream, port_called}
 use Rattle.link_ends.proofs.Terms.{PortEnd, Found, found, shown}
@@ -13,7 +13,7 @@ use Rattle.ide_types.specs.declared.port.Side.TheVariants.{Device}
 use Rattle.ide_km.specs.declared.object.KmFault.{KmFault}
 use Rattle.ide_km.specs.declared.object.KmView.TheVariants.{KeyProg}
 use Rattle.ide_km.specs.Objects as objects
-use Rattle.ide_km.specs.{selected_place, called_place}
+use Rattle.ide_km.specs.{selected_place}
 use Rattle.tsm_host.specs.declared.exchange.Exchange.TheVariants as exchange
 use Rattle.link_walks.proofs.Lanes.{by_lane, Turn, asks, puts, goes, halts, turn}
 use Rattle.link_ends.proofs.Ports.{IsAt, moved, called_there, found_there}
@@ -32,55 +32,40 @@ there Zero =
 lane_at : (id : ℕ) (set : KeySet) (lane : ℕ) → lane < 6 → IsAt id (selected_place id (selector_of set lane))
 lane_at id set lane lt = record { stream_is = refl; is_there = there set lane lt }
 
--- ---- ports that show the same of a stream get the same call
+-- ---- the call of a request is at the stream, where ports that show the same of it take the same calls
 
 abbrev pub SameShown : ℕ → Shown → Shown → Type 0
 SameShown id a b = (place : Place) → IsAt id place → a place ≡ b place
 
-abbrev pub CallAt : ℕ → Option PortCall → Type 0
+abbrev pub CallAt : ℕ → Option PlaceCall → Type 0
 CallAt id None = Unit {0}
-CallAt id (Some call) = IsAt id (called_place call)
+CallAt id (Some c) = IsAt id c.place
 
-record SameCall (id : ℕ) (a b : Shown) (request : List ℕ) (draw : ℕ) : Type 0 where
-  same : call_of a request draw ≡ call_of b request draw
-  at : CallAt id (call_of b request draw)
+same_done : (id : ℕ) (a b : Shown) (o : Option PlaceCall) → SameShown id a b → CallAt id o → is_done a o ≡ is_done b o
+same_done id a b None same at = refl
+same_done id a b (Some c) same at = rw (same c.place at) refl
 
-abbrev seen : Place → Option SlotPair → Option SlotPair
-seen place shows = if nat_lt place.sub 3 then shows else None
-
-program_at_all : (id sel draw : ℕ) (key : List ℕ) (a : Shown) (counter : ℕ) → IsAt id (selected_place id sel)
+program_at_all : (id sel draw : ℕ) (key : List ℕ) (counter : ℕ) → IsAt id (selected_place id sel)
     → (b : Bool)
     → (counter == 1) ≡ b
-    → CallAt id (call_from a draw (objects.object_or (KeyProg id sel 0 key counter) None))
-program_at_all id sel draw key a counter at true e = rw e at
-program_at_all id sel draw key a counter at false e = rw e tt
+    → CallAt id (call_from draw (objects.object_or (KeyProg id sel 0 key counter) None))
+program_at_all id sel draw key counter at true e = rw e at
+program_at_all id sel draw key counter at false e = rw e tt
 
-program_same : (id sel draw : ℕ) (key : List ℕ) (counter : ℕ) (a b : Shown) → SameShown id a b
-    → IsAt id (selected_place id sel) → (fault : Option KmFault)
-    → (call_from a draw (objects.object_or (KeyProg id sel 0 key counter) fault)
-    ≡ call_from b draw (objects.object_or (KeyProg id sel 0 key counter) fault))
-    × CallAt id (call_from b draw (objects.object_or (KeyProg id sel 0 key counter) fault))
-program_same id sel draw key counter a b same at None =
-    (rw (same (selected_place id sel) at) refl, program_at_all id sel draw key b counter at (counter == 1) refl)
-program_same id sel draw key counter a b same at (Some fault) = (refl, tt)
+program_at : (id sel draw : ℕ) (key : List ℕ) (counter : ℕ) → IsAt id (selected_place id sel)
+    → (fault : Option KmFault) → CallAt id (call_from draw (objects.object_or (KeyProg id sel 0 key counter) fault))
+program_at id sel draw key counter at None = program_at_all id sel draw key counter at (counter == 1) refl
+program_at id sel draw key counter at (Some fault) = tt
 
-turn_same : (a b : Shown) (id draw : ℕ) (keys : WireKeys) (o : Operation) (set : KeySet) (n : ℕ) → SameShown id a b
-    → Turn o set n
-    → SameCall id a b (spelling (request_of id keys (exchange_of o set n))) draw
-turn_same a b id draw keys o set n same (asks is first e) = rw e (record { same = refl; at = tt })
-turn_same a b id draw keys o set n same (puts lane lt makes is e) =
-    let at = lane_at id set lane lt in
+turn_at : (id draw : ℕ) (keys : WireKeys) (o : Operation) (set : KeySet) (n : ℕ) → Turn o set n
+    → CallAt id (call_of (spelling (request_of id keys (exchange_of o set n))) draw)
+turn_at id draw keys o set n (asks is first e) = rw e tt
+turn_at id draw keys o set n (puts lane lt makes is e) =
     let request : List ℕ = spelling (request_of id keys (exchange.Program set lane)) in
-    let both = program_same id (selector_of set lane) draw (slice_range request 8 40)
-    (from_le_bytes w64 (slice_range request 40 48)) a b same at
-    (objects.fault_of request) in
-    rw e (record { same = both.0; at = both.1 })
-turn_same a b id draw keys o set n same (goes lane lt makes is e) =
-    let at = lane_at id set lane lt in
-    rw e (record { same = rw (same (selected_place id (selector_of set lane)) at) refl; at = at })
-turn_same a b id draw keys o set n same (halts k lane lt is e) =
-    let at = lane_at id k lane lt in
-    rw e (record { same = rw (same (selected_place id (selector_of k lane)) at) refl; at = at })
+    rw e (program_at id (selector_of set lane) draw (slice_range request 8 40)
+    (from_le_bytes w64 (slice_range request 40 48)) (lane_at id set lane lt) (objects.fault_of request))
+turn_at id draw keys o set n (goes lane lt makes is e) = rw e (lane_at id set lane lt)
+turn_at id draw keys o set n (halts k lane lt is e) = rw e (lane_at id k lane lt)
 
 -- ---- the device's port shows the stream
 
@@ -90,11 +75,11 @@ shown_there e id f side is place at = rw (at.is_there, at.stream_is, side, is, s
 
 pub record DeviceGoes (e : PortEnd) (id : ℕ) (x : StreamState) (request : List ℕ) (draw : ℕ) (e' : PortEnd) : Type 0
   where
-    pub call : call_of (λ place. shown e' place) request draw ≡ call_of (shown_stream id x) request draw
-    pub port : HasStream e id (port_called (call_of (shown_stream id x) request draw) x)
-        (after_call e' (call_of (λ place. shown e' place) request draw))
+    pub done : is_done (λ place. shown e' place) (call_of request draw)
+        ≡ is_done (shown_stream id x) (call_of request draw)
+    pub port : HasStream e id (port_called (call_of request draw) x) (after_call e' (call_of request draw))
 
-moved_there : (e e' : PortEnd) (id : ℕ) (f : Found) (x : StreamState) (call : Option PortCall) → e.name.side ≡ Device
+moved_there : (e e' : PortEnd) (id : ℕ) (f : Found) (x : StreamState) (call : Option PlaceCall) → e.name.side ≡ Device
     → found e.plans e.states id ≡ Some f
     → HasStream e id x e' → CallAt id call
     → HasStream e id (port_called call x) (after_call e' call)
@@ -111,7 +96,7 @@ device_goes e e' id f x a keeper side is has named asked =
     let side' : e'.name.side ≡ Device = ap (λ (p : PortEnd). p.name.side) has ∙ side in
     let shows : SameShown id (λ place. shown e' place) (shown_stream id x) = shown_there e' id _ side'
     (found_there e e' id f x is has) in
-    let d : SameCall id (λ place. shown e' place) (shown_stream id x) (spelling (request_asked a keeper)) a.draw =
-    rw named (turn_same _ _ id a.draw keeper.keys a.operation a.set a.exchange shows
+    let at : CallAt id (call_of (spelling (request_asked a keeper)) a.draw) =
+    rw named (turn_at id a.draw keeper.keys a.operation a.set a.exchange
     (turn a.operation a.set a.exchange asked.0 asked.1)) in
-    record { call = d.same; port = rw d.same (moved_there e e' id f x _ side is has d.at) }
+    record { done = same_done id _ _ _ shows at; port = moved_there e e' id f x _ side is has at }

@@ -6,7 +6,7 @@ use Rattle.link_ends.proofs.Terms.{work_of, op_standing, makes_draw, Outcome, op
 use Rattle.link_ends.proofs.Terms.{host_view, asked_in, refusal_of, ok_unless, begun_stream, begun_calls, ManagerView}
 use Rattle.link_ends.proofs.Terms.{Named, named, begin_refusal}
 use Rattle.link_ends.proofs.Terms.{begun_manager, pool_begun, calls_begun, IsAsked, pair_at, stream_status}
-use Rattle.link_ends.proofs.Terms.{requests_called}
+use Rattle.link_ends.proofs.Terms.{all_called_at, halts}
 use Rattle.link_ends.proofs.Terms.{WalkedEnds, walk_on, walked_ends_unless, begun_ends, event_walk, PortEnd, Found}
 use Rattle.link_ends.proofs.Terms.{found}
 use Rattle.link_ends.proofs.Terms.{status_in, live_in_port, LinkEnds}
@@ -17,11 +17,10 @@ use Rattle.ide_types.specs.declared.sub.SubKind.{SubKind}
 use Rattle.tsm_host.specs.declared.operation.Op.{Op}
 use Rattle.tsm_host.specs.declared.operation.Outcome.TheVariants as outcome
 use Rattle.tsm_host.specs.declared.operation.Refusal.{Refusal}
-use Rattle.tsm_host.specs.Local.{halts}
 use Rattle.link_walks.specs.Joined.{host_of}
 use Rattle.link_walks.proofs.Works.{begun_id}
 use Rattle.link_ends.proofs.Lists.{set_read}
-use Rattle.link_ends.proofs.Ports.{AllAt, PortMoves, requests_there, programs_at, halts_at, stream_stands}
+use Rattle.link_ends.proofs.Ports.{AllAt, PortMoves, all_there, programs_at, halts_at, stream_stands}
 use Rattle.link_ends.proofs.Names.{IsNamed, named_stands}
 
 -- what the manager reads of the host's port
@@ -135,8 +134,8 @@ module _ (k : KeeperView) (m1 : ManagerView) (pool1 : Pool) (l : LinkEnds) (host
       rw refusal at manager_is in
       let called : PortMoves l.host (begun_calls begun_work k.pool n.stream.id) host1 = rw refusal at moves in
       let moved : HasStream l.host id
-      (requests_called l.host.name.side (begun_calls begun_work k.pool n.stream.id) host.state) host1 =
-      requests_there l.host l.host host1 id host host.state (begun_calls begun_work k.pool n.stream.id) on.host_found
+      (all_called_at l.host.name.side (begun_calls begun_work k.pool n.stream.id) host.state) host1 =
+      all_there l.host l.host host1 id host host.state (begun_calls begun_work k.pool n.stream.id) on.host_found
       (stream_stands l.host id host on.host_found)
       (rw at_name.id_is (begun_at id begun_work k.pool)) called in
       let st : DiffersInStream k.manager l n.place id (begun_ends begun_work k.pool (ends_found n host device)) m1
@@ -145,7 +144,7 @@ module _ (k : KeeperView) (m1 : ManagerView) (pool1 : Pool) (l : LinkEnds) (host
         id_is = begun_id begun_work k.pool n.stream ∙ at_name.id_is;
         streams = ap (λ (m : ManagerView). m.streams) after;
         host = subst (λ (d : Side). HasStream l.host id
-            (requests_called d (begun_calls begun_work k.pool n.stream.id) host.state) host1) on.host_side moved;
+            (all_called_at d (begun_calls begun_work k.pool n.stream.id) host.state) host1) on.host_side moved;
         device = stream_stands l.device.port id device on.device_found;
         requester = refl;
       } in

@@ -1,8 +1,8 @@
 -- Words that several proofs take.
-pub use Rattle.link_walks.specs.Calls.{request_call, requests_called}
+pub use Rattle.link_walks.specs.Calls.{all_called_at}
 pub use Rattle.device_side.specs.Ends.{DeviceEnd, after_call, asked_device, reply_given}
 pub use Rattle.ide_km.specs.declared.place.Place.{Place}
-pub use Rattle.ide_km.specs.{PortCall, Shown, call_from, call_of, direction_of, place_at, reply_of, spelling}
+pub use Rattle.ide_km.specs.{PlaceCall, Shown, call_from, call_of, direction_of, is_done, place_at, reply_of, spelling}
 pub use Rattle.ide_km.specs.{sub_of}
 pub use Rattle.ide_port.proofs.Streams.{found-changed, found-id}
 pub use Rattle.ide_port.specs.{Found, PortEnd, called_port, changed, found, live_in_port, shown, status_in}
@@ -31,7 +31,7 @@ pub use Rattle.std.specs.Prelude.{option_and_then, option_map, position, slice_g
 pub use Rattle.sub_stream.specs.Calls.{called, pair_at, sends_in, stream_status}
 pub use Rattle.stream_rules.specs.Stream.{StreamState}
 pub use Rattle.tsm_host.specs.Exchanges.{WireKeys, exchange_of, is_last_receiver_go, request_of, selector_of}
-pub use Rattle.tsm_host.specs.Local.{AskGo, AskHalt, AskProgram, answered_call, programs}
+pub use Rattle.tsm_host.specs.Local.{CallsMove, goes, halts, programs}
 pub use Rattle.tsm_host.specs.Managers.{Current, ManagerView, Named, asking_after, begin_refusal, begun_manager}
 pub use Rattle.tsm_host.specs.Managers.{calls_begun}
 pub use Rattle.tsm_host.specs.Managers.{calls_taken, current, current_asked, current_at, current_in, named, named_in}

@@ -3,6 +3,7 @@
 ghost use Rattle.std.specs.Prelude.{◌≡◌, ◌+◌, ◌<◌, ◌≤◌, ◌^◌, ℕ, IfOk, All, length};
 ghost use Rattle.ide_plan.specs.Fits.{FitsStream};
 ghost use Rattle.tdi_state.specs.Held.{FitsTdi};
+ghost use Rattle.ide_prefix.specs.Reading.{cut_of};
 ghost use Rattle.ide_port.specs.{IsSentAtPort, take_step, status_in};
 
 use device_side::Device;
@@ -49,15 +50,14 @@ impl LinkEnds {
 
     /// Sends a TLP's bytes at the port of this side. A host's port sets T as it is asked. A device's port sets T if the
     /// TLP's owner is an interface in RUN and the TLP takes the stream that the interface is bound to.
-    pub fn send(&mut self, side: Side, tlp: &[u8], trusted: bool, more: bool) -> Sent
+    pub fn send(&mut self, side: Side, tlp: &[u8], more: bool, trusted: bool) -> Sent
         requires few { (port_in side self.old).calls < 2 ^ 40 }
-        ensures sent { (number : ℕ) → IsSentAtPort (port_in side self.old) tlp.now (trusting_at side self.old trusted)
-            more
-            number result (port_in side self.new) }
+        ensures sent { (number : ℕ) → IsSentAtPort (port_in side self.old) tlp.now more
+            (trusting_at side self.old trusted) number result (port_in side self.new) }
         ensures ends { self.new ≡ with_port side (port_in side self.new) self.old }
     {
         match side {
-            Side::Host => self.host.send(tlp, &Asked(trusted), more),
+            Side::Host => self.host.send(tlp, more, &Asked(trusted)),
             Side::Device => self.device.send(tlp, more),
         }
     }
@@ -78,8 +78,8 @@ impl LinkEnds {
     /// device's port.
     pub fn take(&mut self, side: Side, bytes: &[u8]) -> Arrival
         requires { (port_in side self.old).calls < 2 ^ 40 }
-        ensures answer { result ≡ (take_step (port_in side self.old) bytes.now).answer }
-        ensures ends { self.new ≡ taken_ends side (take_step (port_in side self.old) bytes.now).port self.old }
+        ensures answer { result ≡ (take_step (port_in side self.old) (cut_of bytes.now)).answer }
+        ensures ends { self.new ≡ taken_ends side (take_step (port_in side self.old) (cut_of bytes.now)).port self.old }
     {
         match side {
             Side::Host => self.host.take(bytes),

@@ -4,9 +4,9 @@
 use Rattle.link_history.proofs.Terms.{Bool, Err, List, None, Ok, Option, Result, Some, [], ap, arith, false, length}
 use Rattle.link_history.proofs.Terms.{refl, subst, sym, true, ℕ, ◌+◌, ◌∙◌, ◌∷◌, ◌≡◌, unwrap_or, key_due, Ending}
 use Rattle.link_history.proofs.Terms.{Sending, arrival_due, before_tag}
-use Rattle.link_history.proofs.Terms.{before_tag_of, choice, due, dump_due, effects_of, ended, first_that_holds}
+use Rattle.link_history.proofs.Terms.{before_tag_of, due, dump_due, effects_of, ended, first_that_holds, send_due}
 use Rattle.link_history.proofs.Terms.{is_mixed, is_overfull, is_verified, lanes_at, receiving, refusals, sealed_by}
-use Rattle.link_history.proofs.Terms.{send_on, send_read, unit_under, Arrival}
+use Rattle.link_history.proofs.Terms.{streams_of, unit_under, Arrival}
 use Rattle.link_history.proofs.Terms.{arrived, arrived_packet, cut_packet, failed, meets_counts, on_draw, packet_at}
 use Rattle.link_history.proofs.Terms.{packet_in, received_in, sealed_packets, units_got, is_quiet, SubStream, has_link}
 use Rattle.link_history.proofs.Terms.{has_port, has_stream, stream_plan}
@@ -20,10 +20,11 @@ use Rattle.link_history.proofs.Senders.{AreFalse}
 use Rattle.link_history.proofs.KeyVerdicts.{establish_due_quiet, refresh_due_quiet, stop_due_quiet, interface_due_quiet}
 use Rattle.link_history.proofs.KeyVerdicts.{if_quiet}
 use Rattle.tlp_layout.specs.declared.tlp.Tlp.{Tlp}
-use Rattle.tlp_layout.specs.declared.fault.TlpFault.{TlpFault}
 use Rattle.tlp_layout.specs.Class.{class_of}
 use Rattle.tlp_layout.specs.Tlp.{header}
 use Rattle.tlp_layout.specs.Reading.{read_of}
+use Rattle.association.specs.Outgoing.{Outgoing, NoTlp, OnNone, OnStream, outgoing_of}
+use Rattle.association.proofs.Outgoing.{on_stream_reads}
 use Rattle.ide_prefix.specs.declared.fault.PacketFault.{PacketFault}
 use Rattle.ide_prefix.specs.Reading.{CutValue, PlainTlp, IdePacket, cut_of}
 use Rattle.link_verdicts.specs.declared.verdict.Verdict.TheVariants as v
@@ -73,7 +74,6 @@ pub record IsSealing (plan : Plan) (h : History) (port : PortName) (bytes : List
     pub reads : read_of bytes ≡ Ok tlp
     pub class : sending.class ≡ class_of (header tlp)
     pub at_port : sending.port ≡ port
-    pub chosen : choice plan port (header tlp) ≡ Some sending.stream
     pub free : AreFalse (refusals (lanes_at plan h sending.port sending.stream) sending.class)
     pub number : ℕ
     pub next : number ≡ length (sealed_packets plan h) + 1
@@ -117,12 +117,12 @@ first_tells plan h e [] last all ends = ends tt
 first_tells plan h e ((true, w) ∷ xs) last all ends = all.0
 first_tells plan h e ((false, w) ∷ xs) last all ends = first_tells plan h e xs last all.1 (λ free. ends (refl, free))
 
-on_tells : (plan : Plan) (h : History) (e : Event) → is_sealing e ≡ true → (t : Tlp)
-    → read_of (sent_bytes plan h e) ≡ Ok t → (more trusted : Bool) (o : Option ℕ)
-    → choice plan (sending_port e) (header t) ≡ o
-    → Tells plan h e (send_on plan h (sending_port e) (header t) more trusted o)
-on_tells plan h e seals t reads more trusted None chosen = tt
-on_tells plan h e seals t reads more trusted (Some stream) chosen =
+outgoing_tells : (plan : Plan) (h : History) (e : Event) → is_sealing e ≡ true → (more trusted : Bool) (o : Outgoing)
+    → outgoing_of (streams_of plan (sending_port e).link) (sending_port e).side (sent_bytes plan h e) ≡ o
+    → Tells plan h e (send_due plan h (sending_port e) o more trusted)
+outgoing_tells plan h e seals more trusted (NoTlp f) comes = tt
+outgoing_tells plan h e seals more trusted OnNone comes = tt
+outgoing_tells plan h e seals more trusted (OnStream t stream) comes =
     let port = sending_port e in
     let s : Sending = record {
       port = port;
@@ -138,23 +138,15 @@ on_tells plan h e seals t reads more trusted (Some stream) chosen =
       record {
         sending = s;
         tlp = t;
-        reads = reads;
+        reads = (on_stream_reads (streams_of plan port.link) port.side (sent_bytes plan h e) t stream comes).0;
         class = refl;
         at_port = refl;
-        chosen = chosen;
         free = free;
         number = _;
         next = refl;
         list = refl;
       },
     ))
-
-read_tells : (plan : Plan) (h : History) (e : Event) → is_sealing e ≡ true → (more trusted : Bool)
-    (r : Result Tlp TlpFault) → read_of (sent_bytes plan h e) ≡ r
-    → Tells plan h e (send_read plan h (sending_port e) r more trusted)
-read_tells plan h e seals more trusted (Err f) reads = tt
-read_tells plan h e seals more trusted (Ok t) reads =
-    on_tells plan h e seals t reads more trusted (choice plan (sending_port e) (header t)) refl
 
 if_tells : (plan : Plan) (h : History) (e : Event) (here : Bool) (x y : Verdict) → Tells plan h e x → Tells plan h e y
     → Tells plan h e (if here then x else y)
@@ -163,10 +155,12 @@ if_tells plan h e false x y one two = two
 
 send_tells : (plan : Plan) (h : History) (port : PortName) (bytes : List ℕ) (more trusted here : Bool)
     → Tells plan h (Send port bytes more trusted)
-    (if here then send_read plan h port (read_of bytes) more trusted else v.Nothing)
+    (if here then send_due plan h port (outgoing_of (streams_of plan port.link) port.side bytes) more trusted
+    else v.Nothing)
 send_tells plan h port bytes more trusted here =
     let e = Send port bytes more trusted in
-    if_tells plan h e here _ v.Nothing (read_tells plan h e refl more trusted (read_of bytes) refl) tt
+    if_tells plan h e here _ v.Nothing
+    (outgoing_tells plan h e refl more trusted (outgoing_of (streams_of plan port.link) port.side bytes) refl) tt
 
 -- ---- arrivals
 

@@ -1,12 +1,15 @@
 -- The stream that a TLP takes is one of its link's.
 use Rattle.link_history.proofs.Terms.{Bool, List, Option, Some, [], arith, inl, inr, true, ℕ, ◌==◌, ◌∷◌, ◌≡◌, ◌⊎◌}
-use Rattle.link_history.proofs.Terms.{nat_tests, choice, has_stream, stream_plan, streams_of, with_id, Plan, PortName}
+use Rattle.link_history.proofs.Terms.{nat_tests, has_stream, stream_plan, streams_of, with_id, Plan, PortName}
 use Rattle.link_history.proofs.Terms.{if◌then◌else◌, is_some}
-use Rattle.tlp_layout.specs.declared.head.HeadView.{HeadView}
+use Rattle.tlp_layout.specs.declared.tlp.Tlp.{Tlp}
+use Rattle.tlp_layout.specs.Tlp.{header}
 use Rattle.ide_plan.specs.declared.stream.StreamPlan.{StreamPlan}
 use Rattle.ide_plan.specs.declared.stream.Selector.{Selector}
 use Rattle.association.specs.Choice.{choice_of, chosen, least_of, lesser_id, if_none, takes_by_range, takes_the_rest}
 use Rattle.association.specs.Choice.{takes_class}
+use Rattle.association.specs.Outgoing.{OnStream, outgoing_of}
+use Rattle.association.proofs.Outgoing.{on_stream_reads}
 use Rattle.association.specs.declared.choice.Choice.TheVariants as choices
 
 -- the least ID of a list that begins with this stream is its own, or that of the rest
@@ -26,13 +29,14 @@ one_of_three : (a b c : Option ℕ) (id : ℕ)
     → (a ≡ Some id) ⊎ ((b ≡ Some id) ⊎ (c ≡ Some id))
 one_of_three a b c id is = grind arith
 
-pub choice_known : (plan : Plan) (port : PortName) (head : HeadView) (stream : ℕ) → choice plan port head ≡ Some stream
-    → has_stream plan port stream ≡ true
-unfolding choice choice_of stream_plan
-choice_known plan port head stream is =
+pub stream_known : (plan : Plan) (port : PortName) (bytes : List ℕ) (t : Tlp) (stream : ℕ)
+    → outgoing_of (streams_of plan port.link) port.side bytes ≡ OnStream t stream → has_stream plan port stream ≡ true
+unfolding choice_of stream_plan
+stream_known plan port bytes t stream is =
     let ss = streams_of plan port.link in
+    let head = header t in
     elim (one_of_three (least_of (takes_by_range port.side head) ss) (least_of takes_the_rest ss)
-    (least_of (takes_class head) ss) stream is) [
+    (least_of (takes_class head) ss) stream (on_stream_reads ss port.side bytes t stream is).1) [
       | inl e ↦ least_known (takes_by_range port.side head) ss stream e
       | inr (inl e) ↦ least_known takes_the_rest ss stream e
       | inr (inr e) ↦ least_known (takes_class head) ss stream e

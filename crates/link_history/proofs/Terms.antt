@@ -35,9 +35,9 @@ pub use Rattle.link_history.specs.Due.{Ending, Lanes, Sending, arrival_due, befo
 pub use Rattle.link_history.specs.Due.{effects_of, ended, ends_unit, first_that_holds, is_keyless, is_mixed}
 pub use Rattle.link_history.specs.Due.{is_overfull}
 pub use Rattle.link_history.specs.Due.{is_verified, lanes_at}
-pub use Rattle.link_history.specs.Due.{needs_sync, no_key, receiving, refusals, sealed_by, send_on, send_read}
+pub use Rattle.link_history.specs.Due.{needs_sync, no_key, receiving, refusals, sealed_by, send_due}
 pub use Rattle.link_history.specs.Due.{sets_trusted, unit_under}
-unfoldable pub use Rattle.link_history.specs.Due.{before_tag, choice, due}
+unfoldable pub use Rattle.link_history.specs.Due.{before_tag, due}
 pub use Rattle.link_history.specs.History.{Arrival, KeyName, SealedList, accepted_keys, after_ends, front_of_packet}
 pub use Rattle.link_history.specs.History.{arrived_packet, cut_packet, ended_keys, ends_at, ends_in, failed, fails_at}
 pub use Rattle.link_history.specs.History.{has_live_key, is_in, is_keyed, is_under}

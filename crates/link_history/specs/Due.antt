@@ -4,14 +4,13 @@ use Rattle.std.specs.Prelude.{Some, [], is_some, length, nat_le, nat_lt, not, �
 use Rattle.link_history.specs.Terms.{option_map_or, PortName, Device, Host}
 use Rattle.link_history.specs.Terms.{Plan, Event, Alter, Arrive, Cut, Dump, Establish, Interface, Pass, Refresh, Reset}
 use Rattle.link_history.specs.Terms.{Send, Status, Stop, t_due}
-use Rattle.link_history.specs.Terms.{owner_at, SealedPacket, UnitName, Verdict, read_of, header, TlpFault, Tlp, iv_of}
+use Rattle.link_history.specs.Terms.{owner_at, SealedPacket, UnitName, Verdict, header, iv_of}
 use Rattle.link_history.specs.Terms.{Packet, packet_bytes}
 use Rattle.link_history.specs.Terms.{CutValue, IdePacket, PlainTlp, cut_of, authenticated, encrypted, PacketFault}
 use Rattle.link_history.specs.Terms.{verifies, History, status_of, received_direction}
 use Rattle.key_laws.specs.Due.{key_due}
 use Rattle.interface_states.specs.Due.{interface_verdict_due as interface_due}
-use Rattle.association.specs.Choice.{choice_of, chosen}
-use Rattle.tlp_layout.specs.declared.head.HeadView.{HeadView}
+use Rattle.association.specs.Outgoing.{Outgoing, NoTlp, OnNone, OnStream, outgoing_of}
 use Rattle.tlp_layout.specs.Class.{class_of}
 use Rattle.tlp_layout.specs.Faults.{place_in}
 use Rattle.ide_prefix.specs.Faults.{packet_place}
@@ -53,26 +52,19 @@ lanes_at plan h port stream = record {
   lane = λ u. lane_at plan h port (lane_out port stream u);
 }
 
--- the stream that a TLP takes
-unfoldable pub choice : Plan → PortName → HeadView → Option ℕ
-choice plan port head = chosen (choice_of (streams_of plan port.link) port.side head)
-
-abbrev pub send_on : Plan → History → PortName → HeadView → Bool → Bool → Option ℕ → Verdict
-send_on plan h port head more trusted None = v.Plain port
-send_on plan h port head more trusted (Some stream) =
+abbrev pub send_due : Plan → History → PortName → Outgoing → Bool → Bool → Verdict
+send_due plan h port (NoTlp f) more trusted = v.Malformed port (tlp_word f) (place_in f)
+send_due plan h port OnNone more trusted = v.Plain port
+send_due plan h port (OnStream t stream) more trusted =
     let s : Sending =
     record {
       port = port;
       stream = stream;
-      class = class_of head;
+      class = class_of (header t);
       more = more;
-      trusted = t_due plan h port port.side (owner_at plan port.link head) stream trusted;
+      trusted = t_due plan h port port.side (owner_at plan port.link (header t)) stream trusted;
     } in
     sent_as (lanes_at plan h port stream) s (length (sealed_packets plan h) + 1)
-
-abbrev pub send_read : Plan → History → PortName → Result Tlp TlpFault → Bool → Bool → Verdict
-send_read plan h port (Err f) more trusted = v.Malformed port (tlp_word f) (place_in f)
-send_read plan h port (Ok t) more trusted = send_on plan h port (header t) more trusted (choice plan port (header t))
 
 -- ---- arrivals
 
@@ -154,7 +146,9 @@ dump_due n (Some x) = v.Packet n (packet_bytes x.1)
 -- the interfaces.
 unfoldable pub due : Plan → History → Event → Verdict
 due plan h (Send port bytes more trusted) =
-    if has_port plan port then send_read plan h port (read_of bytes) more trusted else v.Nothing
+    if has_port plan port
+    then send_due plan h port (outgoing_of (streams_of plan port.link) port.side bytes) more trusted
+    else v.Nothing
 due plan h (Dump n) = dump_due n (packet_at (sealed_packets plan h) n)
 due plan h (Establish link stream lose) = key_due (key_plan plan) h (Establish link stream lose) v.Nothing
 due plan h (Refresh link stream lose) = key_due (key_plan plan) h (Refresh link stream lose) v.Nothing

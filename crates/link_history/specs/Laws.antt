@@ -1,6 +1,7 @@
 -- The laws of a history.
 use Rattle.std.specs.Prelude.{◌++◌, ◌+◌, ◌<◌, ◌∷◌, ◌≡◌, ◌≢◌, ◌≤◌, Bool, List, Ok, Some, [], false, slice_get, take}
 use Rattle.std.specs.Prelude.{true, ℕ}
+pub use Rattle.key_laws.specs.Laws.{NeverFalls}
 use Rattle.link_history.specs.Terms.{PortName, Plan, Event, Verdict, Accepted, Held, Packet, packet_bytes}
 use Rattle.link_history.specs.Terms.{authenticated, encrypted}
 use Rattle.link_history.specs.Terms.{History, base, received_direction}
@@ -42,12 +43,6 @@ NoForgery plan ((event, verdict) ∷ h) = NotForged plan h event × NoForgery pl
 
 abbrev pub IsPrefixOf : {A : Type 0} → List A → List A → Type 0
 IsPrefixOf {A} xs ys = (rest : List A) × (xs ++ rest ≡ ys)
-
--- no draw is smaller than an earlier one
-abbrev pub NeverFalls : List ℕ → Type 0
-NeverFalls [] = Unit {0}
-NeverFalls (j ∷ []) = Unit {0}
-NeverFalls (j ∷ i ∷ js) = (i ≤ j) × NeverFalls (i ∷ js)
 
 -- The draws of successive accepted units of a sub-stream never fall.
 abbrev pub DrawsNeverFall : History → Type 0

@@ -18,7 +18,7 @@ pub use Rattle.link_history.specs.History.{sealed_packets, sent_bytes, sent, arr
 pub use Rattle.link_history.specs.History.{draws_got}
 pub use Rattle.link_history.specs.History.{keys_at, on_draw, live_key, failed, posted_count, meets_counts, total_in}
 pub use Rattle.link_history.specs.History.{units_since, front_with, front_sent, front_due}
-pub use Rattle.link_history.specs.Due.{due, choice}
+pub use Rattle.link_history.specs.Due.{due}
 pub use Rattle.link_history.specs.Memory.{writes, ContentsFollow}
 pub use Rattle.link_history.specs.Cause.{CauseLaw, OneHistory}
 pub use Rattle.link_history.specs.Laws.{NoForgery, PrefixLaw, DrawsNeverFall, TotalsFit, WholeLaw, OrderIsNoForgery}

@@ -2,12 +2,12 @@
 use Rattle.link_ports.specs.Machine.{Beside, unit_name}
 use Rattle.link_ports.specs.Stands.{beside_at}
 use Rattle.link_ports.proofs.Terms.{◌≡◌, true, List, [], ◌∷◌, ◌++◌, Option, Some, None, Result, Ok, Err, refl, ap}
-use Rattle.link_ports.proofs.Terms.{sym, ◌∙◌, subst, arith, Accepted, Arrival, arrival_due, arrive, arrive_read}
+use Rattle.link_ports.proofs.Terms.{sym, ◌∙◌, subst, arith, Accepted, Arrival, arrival_due}
 use Rattle.link_ports.proofs.Terms.{arrived, before_tag, before_tag_of, Came, due, effects_of, Event, Failed, find}
 use Rattle.link_ports.proofs.Terms.{has_stream, Held, History, Insecure, IsNoOperation, KeyFacts, LinkState, NotKeyed}
 use Rattle.link_ports.proofs.Terms.{Packet, packet_that_came, packet_word, pending, Plan, PortName, PortsStand, put}
 use Rattle.link_ports.proofs.Terms.{receiving, sealed_same, seals_none, settled, standing, state_after, StreamState}
-use Rattle.link_ports.proofs.Terms.{take_as, stepped_take_found, Taken, verdict_of_taken}
+use Rattle.link_ports.proofs.Terms.{stepped_packet, stepped_cut, stepped_arrival, Taken, verdict_of_taken}
 use Rattle.link_verdicts.specs.declared.verdict.Verdict.TheVariants as v
 use Rattle.ide_prefix.specs.declared.fault.PacketFault.{PacketFault}
 use Rattle.ide_prefix.specs.Faults.{packet_place}
@@ -70,7 +70,7 @@ module _ (plan : Plan) (facts : KeyFacts plan) (st : LinkState) (h : History) (e
   standing_takes : (port : PortName) (p : Packet) → Came plan h e port p → packet_due plan h port p ≡ due plan h e
       → let x = standing plan h port p.prefix.stream in
       has_stream plan port p.prefix.stream ≡ true → find plan st port p.prefix.stream ≡ Some x
-      → Steps plan h e (take_as plan (beside_at plan h) st port p x)
+      → Steps plan h e (stepped_packet plan (beside_at plan h) st port p (Some x))
   standing_takes port p came is known found =
       let stream = p.prefix.stream in
       let t = taken_at plan h port p in
@@ -87,19 +87,19 @@ module _ (plan : Plan) (facts : KeyFacts plan) (st : LinkState) (h : History) (e
   by_found : (port : PortName) (p : Packet) → Came plan h e port p
       → settled plan h port (before_tag_of plan h port (Ok (IdePacket p))) ≡ due plan h e
       → (o : Option StreamState) → find plan st port p.prefix.stream ≡ o
-      → Steps plan h e (stepped_take_found plan (beside_at plan h) st port p o)
+      → Steps plan h e (stepped_packet plan (beside_at plan h) st port p o)
   by_found port p came is None found =
       quiet plan facts st h e (v.Unknown port p.prefix.stream) stands refl
       (rw (not_kept plan st h port p.prefix.stream stands found) at is) still
   by_found port p came is (Some x) found =
       let kept = kept_is plan st h port p.prefix.stream x stands found in
       subst (λ (y : StreamState). find plan st port p.prefix.stream ≡ Some y
-      → Steps plan h e (take_as plan (beside_at plan h) st port p y)) (sym kept.same)
+      → Steps plan h e (stepped_packet plan (beside_at plan h) st port p (Some y))) (sym kept.same)
       (standing_takes port p came (rw kept.known at is) kept.known) found
 
   by_cut : (a : Arrival) → arrived plan h e ≡ Some a → (r : Result CutValue PacketFault) → cut_of a.bytes ≡ r
       → settled plan h a.port (before_tag_of plan h a.port r) ≡ due plan h e
-      → Steps plan h e (arrive_read plan (beside_at plan h) st a.port r)
+      → Steps plan h e (stepped_cut plan (beside_at plan h) st a.port r)
   by_cut a arrival (Err f) cut is = quiet plan facts st h e (v.Malformed a.port (packet_word f) (packet_place f)) stands
       refl is still
   by_cut a arrival (Ok PlainTlp) cut is = quiet plan facts st h e (v.Plain a.port) stands refl is still
@@ -108,7 +108,7 @@ module _ (plan : Plan) (facts : KeyFacts plan) (st : LinkState) (h : History) (e
       (find plan st a.port p.prefix.stream) refl
 
   pub arrives : (o : Option Arrival) → arrived plan h e ≡ o → arrival_due plan h o ≡ due plan h e
-      → Steps plan h e (arrive plan (beside_at plan h) st o)
+      → Steps plan h e (stepped_arrival plan (beside_at plan h) st o)
   unfolding before_tag
   arrives None arrival is = quiet plan facts st h e v.Nothing stands refl is still
   arrives (Some a) arrival is = by_cut a arrival (cut_of a.bytes) refl is

@@ -8,27 +8,28 @@ use Rattle.link_history.specs.History.{sent_bytes}
 use Rattle.link_events.specs.declared.event.Event.{Event}
 use Rattle.link_history.specs.Terms.{t_due, owner_at}
 use Rattle.link_ports.proofs.Terms.{◌≡◌, ℕ, ◌+◌, ◌==◌, Bool, true, false, List, [], ◌∷◌, ◌++◌, length, map, Option}
-use Rattle.link_ports.proofs.Terms.{Some, None, Result, Ok, Err, refl, ap, sym, ◌∙◌, subst, arith, if◌then◌else◌, ◌&&◌}
+use Rattle.link_ports.proofs.Terms.{Some, None, Ok, refl, ap, sym, ◌∙◌, subst, arith, if◌then◌else◌, ◌&&◌}
 use Rattle.link_ports.proofs.Terms.{◌||◌, is_some, is_none, unwrap_or, after_ends, front_of_packet, and_false}
 use Rattle.link_ports.proofs.Terms.{stepped_answer}
-use Rattle.link_ports.proofs.Terms.{any_out, AreFalse, base, body, CauseLaw, choice, Cpl, described, due, due_on}
-use Rattle.link_ports.proofs.Terms.{due_read, each_sub, failed, find, first_that_holds, front_of, has_key, has_live_out}
+use Rattle.link_ports.proofs.Terms.{any_out, AreFalse, base, body, CauseLaw, Cpl, described, due, send_due}
+use Rattle.link_ports.proofs.Terms.{each_sub, failed, find, first_that_holds, front_of, has_key, has_live_out}
 use Rattle.link_ports.proofs.Terms.{has_port, has_stream, head_bytes, header, History, is_closed, is_keyed, is_keyless}
 use Rattle.link_ports.proofs.Terms.{is_on, is_out, is_quiet, is_same_port, is_same_sub, kept_at, KeyFacts, KeyName}
 use Rattle.link_ports.proofs.Terms.{Keys, keys_at, lane_out, Lanes, lanes_at, lanes_of, length-map, lesser, LinkPacket}
 use Rattle.link_ports.proofs.Terms.{LinkState, listed, live_key, mode_of, needs_posted, needs_sync, no_key, none_holds}
 use Rattle.link_ports.proofs.Terms.{Npr, on_live, operates, Packet, Plan, PortName, PortsStand, posted_in, Pr, put}
-use Rattle.link_ports.proofs.Terms.{read_of, refusals, sealed_all, sealed_by, sealed_by_is, stepped_seal}
+use Rattle.link_ports.proofs.Terms.{read_of, refusals, sealed_all, sealed_by, sealed_by_is}
 use Rattle.link_ports.proofs.Terms.{sealed_packets}
-use Rattle.link_ports.proofs.Terms.{SealedList, SealedPacket, Send, send_as, stepped_send_found, stepped_send_on}
-use Rattle.link_ports.proofs.Terms.{stepped_send_read, Sending}
+use Rattle.link_ports.proofs.Terms.{SealedList, SealedPacket, Send, stepped_on_stream, stepped_send, streams_of}
+use Rattle.link_ports.proofs.Terms.{Sending}
 use Rattle.link_ports.proofs.Terms.{sent_as, standing, StreamState, SubKind, Three, Tlp, tlp_word, total_in, tx_slots}
 use Rattle.link_ports.proofs.Terms.{TxSub, Verdict, with_sealed}
 use Rattle.link_verdicts.specs.declared.verdict.Verdict.TheVariants as v
-use Rattle.tlp_layout.specs.declared.fault.TlpFault.{TlpFault}
 use Rattle.tlp_layout.specs.Class.{class_of}
 use Rattle.tlp_layout.specs.Faults.{place_in}
-use Rattle.link_history.proofs.Choices.{choice_known}
+use Rattle.association.specs.Outgoing.{Outgoing, NoTlp, OnNone, OnStream, outgoing_of}
+use Rattle.association.proofs.Outgoing.{on_stream_reads}
+use Rattle.link_history.proofs.Choices.{stream_known}
 use Rattle.link_ports.proofs.Puts.{find-put, find-put_other}
 use Rattle.link_ports.proofs.Frames.{each_same, stream_is, rx_frame, live_out, failed_same}
 use Rattle.link_ports.proofs.Changes.{Steps, none_of_packets, kept_is, not_kept, changes, quiet, kept_all}
@@ -222,9 +223,7 @@ module _ (plan : Plan) (facts : KeyFacts plan) (st : LinkState) (h : History) (s
       → is_some (find plan st s.port s.stream) ≡ true
       → read_of (sent_bytes plan h e) ≡ Ok t → v.Sealed ds ≡ due plan h e
       → has_live_out h s.port s.stream ≡ true → FitBehind plan h s ds
-      → let x = standing plan h s.port s.stream in
-      Steps plan h e (stepped_seal plan st s x ds
-      (sealed_all (is_closed plan s.port.link s.stream) (head_bytes (header t)) (body t) ds x.tx))
+      → Steps plan h e (stepped_answer plan st s t (standing plan h s.port s.stream) None ds)
   seals s t ds known found reads is live all =
       let closed = is_closed plan s.port.link s.stream in
       let front = front_of_packet plan (sealed_packets plan h) (base h) in
@@ -274,7 +273,7 @@ module _ (plan : Plan) (facts : KeyFacts plan) (st : LinkState) (h : History) (s
   refuses : (s : Sending) (t : Tlp) (number : ℕ) → sent_as (lanes_at plan h s.port s.stream) s number
       ≡ due plan h e
       → has_live_out h s.port s.stream ≡ false → Steps plan h e
-      (send_as plan st s t (standing plan h s.port s.stream))
+      (stepped_on_stream plan st s t (Some (standing plan h s.port s.stream)))
   refuses s t number is none =
       let x = lanes_at plan h s.port s.stream in
       let y = lanes_of (mode_of plan s.port.link s.stream) plan.units_per_key (standing plan h s.port s.stream) in
@@ -293,14 +292,14 @@ module _ (plan : Plan) (facts : KeyFacts plan) (st : LinkState) (h : History) (s
       → sent_as (lanes_at plan h s.port s.stream) s (length (sealed_packets plan h) + 1)
       ≡ due plan h e
       → (y : StreamState) → find plan st s.port s.stream ≡ Some y
-      → Steps plan h e (send_as plan st s t y)
+      → Steps plan h e (stepped_on_stream plan st s t (Some y))
   sends_as s t reads is y found =
       let kept = kept_is plan st h s.port s.stream y stands found in
-      subst (λ (z : StreamState). Steps plan h e (send_as plan st s t z)) (sym kept.same)
+      subst (λ (z : StreamState). Steps plan h e (stepped_on_stream plan st s t (Some z))) (sym kept.same)
       (by_live kept.known (has_live_out h s.port s.stream) refl)
     where
       by_live : has_stream plan s.port s.stream ≡ true → (b : Bool) → has_live_out h s.port s.stream ≡ b
-          → Steps plan h e (send_as plan st s t (standing plan h s.port s.stream))
+          → Steps plan h e (stepped_on_stream plan st s t (Some (standing plan h s.port s.stream)))
       by_live known true live =
           let x = lanes_at plan h s.port s.stream in
           let number : length st.packets ≡ length (sealed_packets plan h) = ap length stands.packets
@@ -318,16 +317,17 @@ module _ (plan : Plan) (facts : KeyFacts plan) (st : LinkState) (h : History) (s
       → sent_as (lanes_at plan h s.port s.stream) s (length (sealed_packets plan h) + 1)
       ≡ due plan h e
       → (o : Option StreamState) → find plan st s.port s.stream ≡ o
-      → Steps plan h e (stepped_send_found plan st s t o)
+      → Steps plan h e (stepped_on_stream plan st s t o)
   by_found s t reads known is None found = let other = not_kept plan st h s.port s.stream stands found in absurd cc
   by_found s t reads known is (Some y) found = sends_as s t reads is y found
 
-  by_choice : (port : PortName) (t : Tlp) → read_of (sent_bytes plan h e) ≡ Ok t → (c : Option ℕ)
-      → choice plan port (header t) ≡ c
-      → due_on plan h port (header t) more trusted c ≡ due plan h e
-      → Steps plan h e (stepped_send_on plan (beside_at plan h) st port t more trusted c)
-  by_choice port t reads None chose is = tells port (v.Plain port) refl is
-  by_choice port t reads (Some stream) chose is =
+  by_outgoing : (port : PortName) (o : Outgoing)
+      → outgoing_of (streams_of plan port.link) port.side (sent_bytes plan h e) ≡ o
+      → send_due plan h port o more trusted ≡ due plan h e
+      → Steps plan h e (stepped_send plan (beside_at plan h) st port o more trusted)
+  by_outgoing port (NoTlp f) comes is = tells port (v.Malformed port (tlp_word f) (place_in f)) refl is
+  by_outgoing port OnNone comes is = tells port (v.Plain port) refl is
+  by_outgoing port (OnStream t stream) comes is =
       by_found (record {
         port = port;
         stream = stream;
@@ -335,15 +335,9 @@ module _ (plan : Plan) (facts : KeyFacts plan) (st : LinkState) (h : History) (s
         more = more;
         trusted = t_due plan h
             port port.side (owner_at plan port.link (header t)) stream trusted;
-      }) t reads
-      (choice_known plan port (header t) stream chose) is (find plan st port stream) refl
-
-  by_reading : (port : PortName) (r : Result Tlp TlpFault) → read_of (sent_bytes plan h e) ≡ r
-      → due_read plan h port r more trusted
-      ≡ due plan h e
-      → Steps plan h e (stepped_send_read plan (beside_at plan h) st port r more trusted)
-  by_reading port (Err f) reads is = tells port (v.Malformed port (tlp_word f) (place_in f)) refl is
-  by_reading port (Ok t) reads is = by_choice port t reads (choice plan port (header t)) refl is
+      }) t
+      (on_stream_reads (streams_of plan port.link) port.side (sent_bytes plan h e) t stream comes).0
+      (stream_known plan port (sent_bytes plan h e) t stream comes) is (find plan st port stream) refl
 
 if_steps : (plan : Plan) (h : History) (e : Event) (b : Bool) (x y : Stepped) → (b ≡ true → Steps plan h e x)
     → (b ≡ false → Steps plan h e y) → Steps plan h e (if b then x else y)
@@ -353,11 +347,14 @@ if_steps plan h e false x y one two = two refl
 pub sends : (plan : Plan) → KeyFacts plan → (st : LinkState) (h : History) → PortsStand plan st h
     → (bytes : List ℕ) (more trusted : Bool) (port : PortName)
     → Steps plan h (Send port bytes more trusted)
-    (if has_port plan port then stepped_send_read plan (beside_at plan h) st port (read_of bytes) more trusted else
-    (v.Nothing, st))
+    (if has_port plan port
+    then stepped_send plan (beside_at plan h) st port (outgoing_of (streams_of plan port.link) port.side bytes) more
+    trusted
+    else (v.Nothing, st))
 unfolding due
 sends plan facts st h stands bytes more trusted port =
     let e = Send port bytes more trusted in
     if_steps plan h e (has_port plan port) _ _
-    (λ here. by_reading plan facts st h stands e refl more trusted port (read_of bytes) refl (rw here refl))
+    (λ here. by_outgoing plan facts st h stands e refl more trusted port
+    (outgoing_of (streams_of plan port.link) port.side bytes) refl (rw here refl))
     (λ none. tells plan facts st h stands e refl more trusted port v.Nothing refl (rw none refl))

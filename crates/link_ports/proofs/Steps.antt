@@ -2,11 +2,11 @@
 use Rattle.link_ports.specs.Stands.{beside_at}
 use Rattle.link_ports.proofs.Terms.{◌≡◌, ℕ, Bool, true, false, List, Option, Some, None, option_map, option_and_then}
 use Rattle.link_ports.proofs.Terms.{refl, ap, sym, ◌∙◌, arith, if◌then◌else◌, Alter, altered, altered_to, Arrival}
-use Rattle.link_ports.proofs.Terms.{arrival_due, Arrive, arrive, arrived, brought, Cut, cut_short, due, Dump, dump_due}
+use Rattle.link_ports.proofs.Terms.{arrival_due, Arrive, arrived, brought, Cut, cut_short, due, Dump, dump_due}
 use Rattle.link_ports.proofs.Terms.{Event, has_port, History, is_of_packets, IsNoOperation, KeyFacts, LinkPacket}
 use Rattle.link_ports.proofs.Terms.{LinkState, operates, packet_bytes, packet_numbered, PacketsStand, Pass, passed}
 use Rattle.link_ports.proofs.Terms.{Plan, PortName, PortsStand, quiet_test, sealed_packets, Send, shortened}
-use Rattle.link_ports.proofs.Terms.{shown_packet}
+use Rattle.link_ports.proofs.Terms.{shown_packet, stepped_arrival}
 use Rattle.link_ports.proofs.Terms.{Status, step_of}
 use Rattle.link_verdicts.specs.declared.verdict.Verdict.TheVariants as v
 use Rattle.link_ports.proofs.Changes.{Steps, none_of_packets, quiet}
@@ -22,14 +22,16 @@ none_status l s link stream = refl
 brought_to : (plan : Plan) → KeyFacts plan → (st : LinkState) (h : History) (e : Event) → is_of_packets e ≡ true
     → PortsStand plan st h → (o : Option Arrival)
     → o ≡ arrived plan h e
-    → arrival_due plan h (arrived plan h e) ≡ due plan h e → Steps plan h e (arrive plan (beside_at plan h) st o)
+    → arrival_due plan h (arrived plan h e) ≡ due plan h e
+    → Steps plan h e (stepped_arrival plan (beside_at plan h) st o)
 brought_to plan facts st h e of stands o found is = arrives plan facts st h e (none_of_packets e of) stands o
     (sym found) (ap (arrival_due plan h) found ∙ is)
 
 given : (plan : Plan) → KeyFacts plan → (st : LinkState) (h : History) (port : PortName) (bytes : List ℕ)
     → PortsStand plan st h
     → Steps plan h (Arrive port bytes)
-    (if has_port plan port then arrive plan (beside_at plan h) st (Some (record { port = port; bytes = bytes }))
+    (if has_port plan port
+    then stepped_arrival plan (beside_at plan h) st (Some (record { port = port; bytes = bytes }))
     else (v.Nothing, st))
 unfolding arrived due
 given plan facts st h port bytes stands = by_port (has_port plan port) refl
@@ -37,7 +39,7 @@ given plan facts st h port bytes stands = by_port (has_port plan port) refl
     by_port : (b : Bool) → (if b then Some (record { port = port; bytes = bytes }) else None)
         ≡ arrived plan h (Arrive port bytes)
         → Steps plan h (Arrive port bytes)
-        (if b then arrive plan (beside_at plan h) st (Some (record { port = port; bytes = bytes })) else
+        (if b then stepped_arrival plan (beside_at plan h) st (Some (record { port = port; bytes = bytes })) else
         (v.Nothing, st))
     by_port true is = brought_to plan facts st h (Arrive port bytes) refl stands
         (Some (record { port = port; bytes = bytes })) is refl

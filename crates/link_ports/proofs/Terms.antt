@@ -28,10 +28,10 @@ unfoldable pub use Rattle.link_history.proofs.Senders.{listed}
 pub use Rattle.link_history.proofs.Tests.{eqb-refl, eqb-sym, is_same-refl, is_same_port-refl, same_in, same_port}
 pub use Rattle.link_history.proofs.Tests.{same_stream, same_sub}
 pub use Rattle.link_history.specs.Cause.{CauseLaw}
-pub use Rattle.link_history.specs.Due.{Lane, Lanes, Sending, arrival_due, before_tag_of, choice, described, dump_due}
+pub use Rattle.link_history.specs.Due.{Lane, Lanes, Sending, arrival_due, before_tag_of, described, dump_due}
 pub use Rattle.link_history.specs.Due.{effects_of, first_that_holds, is_keyless, is_mixed, is_overfull, lane_at}
-pub use Rattle.link_history.specs.Due.{lanes_at, needs_sync, no_key, receiving, refusals, sealed_by, send_on as due_on}
-pub use Rattle.link_history.specs.Due.{send_read as due_read, sent_as, sent_under, settled, under_keys, unit_under}
+pub use Rattle.link_history.specs.Due.{lanes_at, needs_sync, no_key, receiving, refusals, sealed_by, send_due}
+pub use Rattle.link_history.specs.Due.{sent_as, sent_under, settled, under_keys, unit_under}
 unfoldable pub use Rattle.link_history.specs.Due.{before_tag, due, is_verified}
 pub use Rattle.link_history.specs.History.{Arrival, KeyName, SealedList, accepted_keys, after_ends, front_of_packet}
 pub use Rattle.link_history.specs.History.{altered}
@@ -58,12 +58,11 @@ unfoldable pub use Rattle.link_history.specs.KeyFacts.{operates}
 pub use Rattle.link_history.specs.Plan.{SubStream, has_port, has_stream, is_closed, is_same, is_same_port, key_of}
 pub use Rattle.link_history.specs.Plan.{lane_in, lane_out, mode_of, streams_of}
 unfoldable pub use Rattle.link_history.specs.Units.{open_unit, units}
-pub use Rattle.link_ports.specs.Machine.{LinkPacket, LinkState, Stepped, altered_to, stepped_answer, arrive}
-pub use Rattle.link_ports.specs.Machine.{arrive_read}
+pub use Rattle.link_ports.specs.Machine.{LinkPacket, LinkState, Stepped, altered_to, stepped_answer}
 pub use Rattle.link_ports.specs.Machine.{changed_by_id, cut_short, found_by_id, kept_at, packet_numbered, passed}
 pub use Rattle.link_ports.specs.Machine.{port_place}
-pub use Rattle.link_ports.specs.Machine.{stepped_seal, send_as, stepped_send_found, stepped_send_on, stepped_send_read}
-pub use Rattle.link_ports.specs.Machine.{shown_packet, take_as, stepped_take_found}
+pub use Rattle.link_ports.specs.Machine.{stepped_on_stream, stepped_send, stepped_packet, stepped_cut, stepped_arrival}
+pub use Rattle.link_ports.specs.Machine.{shown_packet}
 pub use Rattle.link_ports.specs.Machine.{unit_name, verdict_of_taken}
 unfoldable pub use Rattle.link_ports.specs.Machine.{find, put, step_of}
 pub use Rattle.link_ports.specs.Stands.{PacketsStand, PortsStand, got_in, is_of_packets, rx_slot, rx_slots, rx_standing}

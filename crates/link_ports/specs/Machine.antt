@@ -1,5 +1,5 @@
 -- What is kept of all links between two events, and one step.
-use Rattle.std.specs.Prelude.{true, false, not, ◌&&◌, ◌||◌, ℕ, ◌+◌, ◌-◌, ◌*◌, ◌==◌, nat_lt, nat_le, Bool, if◌then◌else◌}
+use Rattle.std.specs.Prelude.{true, false, not, ◌&&◌, ℕ, ◌+◌, ◌-◌, ◌*◌, ◌==◌, nat_lt, nat_le, Bool, if◌then◌else◌}
 use Rattle.std.specs.Prelude.{List, [], ◌∷◌, ◌++◌, length, map, take, slice_get, slice_index, slice_set, bit_xor}
 use Rattle.std.specs.Prelude.{Option, Some, None, is_some, Result, Ok, Err}
 use Rattle.std.specs.List.{slice_index_or}
@@ -13,12 +13,11 @@ use Rattle.link_verdicts.specs.declared.verdict.Verdict.TheVariants as v
 use Rattle.link_verdicts.specs.declared.verdict.SealedPacket.{SealedPacket}
 use Rattle.link_verdicts.specs.declared.verdict.UnitName.{UnitName}
 use Rattle.tlp_layout.specs.declared.tlp.Tlp.{Tlp}
-use Rattle.tlp_layout.specs.declared.fault.TlpFault.{TlpFault}
 use Rattle.tlp_layout.specs.Class.{class_of}
 use Rattle.tlp_layout.specs.Faults.{place_in}
 use Rattle.tlp_layout.specs.Head.{head_bytes}
 use Rattle.tlp_layout.specs.Tlp.{header, body}
-use Rattle.tlp_layout.specs.Reading.{read_of}
+use Rattle.association.specs.Outgoing.{Outgoing, NoTlp, OnNone, OnStream, outgoing_of}
 use Rattle.ide_prefix.specs.declared.fault.PacketFault.{PacketFault}
 use Rattle.ide_prefix.specs.Faults.{packet_place}
 use Rattle.ide_prefix.specs.Packet.{Packet, packet_bytes}
@@ -31,13 +30,13 @@ use Rattle.link_events.specs.declared.event.Loss.{Loss}
 use Rattle.link_verdicts.specs.declared.verdict.Operation.{Operation}
 use Rattle.link_verdicts.specs.declared.verdict.Operation.TheVariants as op
 use Rattle.ide_types.specs.declared.status.StreamStatus.{StreamStatus}
+use Rattle.ide_types.specs.declared.status.StreamStatus.TheVariants as status
 use Rattle.key_laws.specs.Places.{KeyPlace, sent_direction}
-use Rattle.key_laws.specs.Keys.{Touch, Program as ProgramTouch, Go as GoTouch, Stop as StopTouch, Clear as ClearTouch}
-use Rattle.key_laws.specs.Keys.{refusal_if}
+use Rattle.key_laws.specs.Keys.{Touch, refusal_if}
 use Rattle.key_laws.specs.Operations.{Op, Idle, Work, Reach, work_of, reach_of, op_after, makes_draw}
-use Rattle.key_laws.specs.History.{status_by, worked}
+use Rattle.key_laws.specs.History.{worked}
 use Rattle.key_laws.specs.Due.{PortView, establish_on, refresh_on, stop_on}
-use Rattle.link_ports.specs.Moves.{Move, Program, Go, Halt, is_live_slot, any_live, moved_stream}
+use Rattle.link_ports.specs.Touches.{taken_touches, touched_stream}
 use Rattle.link_history.specs.Plan.{SubStream, key_plan, partner, key_of, streams_of, has_port, mode_of, is_closed}
 use Rattle.link_history.specs.Plan.{streams_by_link}
 use Rattle.ide_plan.specs.declared.plan.Plan.{Plan}
@@ -45,11 +44,11 @@ use Rattle.ide_plan.specs.declared.stream.StreamPlan.{StreamPlan}
 use Rattle.tlp_layout.specs.declared.head.HeadView.{HeadView}
 use Rattle.link_verdicts.specs.declared.verdict.Effect.{Effect}
 use Rattle.link_events.specs.declared.event.InterfaceEvent.{InterfaceEvent}
-use Rattle.link_history.specs.Due.{choice, Sending, refusals, sealed_by, first_that_holds}
+use Rattle.link_history.specs.Due.{Sending, refusals, sealed_by, first_that_holds}
 use Rattle.link_history.specs.History.{Arrival}
-use Rattle.link_ports.specs.Stream.{Slot, Slots, slot_in_set, at_sub, LiveKey, Empty, Live, each_sub, Three}
-use Rattle.link_ports.specs.Stream.{StreamState}
-use Rattle.link_ports.specs.Stream.{TxSub, Taken, Insecure, NotKeyed, Failed, Held, Accepted, lanes_of, sealed_all}
+use Rattle.link_ports.specs.Stream.{Slot, Slots, slot_in_set, LiveKey, Live, StreamState}
+use Rattle.link_ports.specs.Stream.{is_live_slot, slots_at, stream_status, no_stream}
+use Rattle.link_ports.specs.Stream.{Taken, Insecure, NotKeyed, Failed, Held, Accepted, lanes_of, sealed_all}
 use Rattle.link_ports.specs.Stream.{taken_by, state_after}
 
 -- a sealed packet: the port that sealed it, and its bytes
@@ -108,29 +107,6 @@ Stepped = Verdict × LinkState
 abbrev pub kept_at : PortName → Packet → LinkPacket
 kept_at port p = record { port = port; bytes = packet_bytes p }
 
-abbrev pub stepped_seal : Plan → LinkState → Sending → StreamState → List SealedPacket → List Packet × Three TxSub
-    → Stepped
-stepped_seal plan st s x ds sealed =
-    let new = put plan st s.port s.stream (record x { tx = sealed.1 }) in
-    (v.Sealed ds, record new { packets = st.packets ++ map (kept_at s.port) sealed.0 })
-
--- it is refused, or sealed as these packets
-abbrev pub stepped_answer : Plan → LinkState → Sending → Tlp → StreamState → Option Verdict → List SealedPacket
-    → Stepped
-stepped_answer plan st s t x (Some verdict) ds = (verdict, st)
-stepped_answer plan st s t x None ds =
-    stepped_seal plan st s x ds
-    (sealed_all (is_closed plan s.port.link s.stream) (head_bytes (header t)) (body t) ds x.tx)
-
-abbrev pub send_as : Plan → LinkState → Sending → Tlp → StreamState → Stepped
-send_as plan st s t x =
-    let lanes = lanes_of (mode_of plan s.port.link s.stream) plan.units_per_key x in
-    stepped_answer plan st s t x (first_that_holds (refusals lanes s.class)) (sealed_by lanes s (length st.packets + 1))
-
-abbrev pub stepped_send_found : Plan → LinkState → Sending → Tlp → Option StreamState → Stepped
-stepped_send_found plan st s t None = (v.Nothing, st)
-stepped_send_found plan st s t (Some x) = send_as plan st s t x
-
 -- what is said beside the ports: the interfaces say T of a TLP on a stream, and what is due of events on them; the
 -- manager says what the packets of an accepted unit do
 pub record Beside : Type 0 where
@@ -138,21 +114,32 @@ pub record Beside : Type 0 where
   pub effects : PortName → UnitName → List Packet → List Effect
   pub answer : InterfaceEvent → Verdict
 
-abbrev pub stepped_send_on : Plan → Beside → LinkState → PortName → Tlp → Bool → Bool → Option ℕ → Stepped
-stepped_send_on plan beside st port t more trusted None = (v.Plain port, st)
-stepped_send_on plan beside st port t more trusted (Some stream) =
-    stepped_send_found plan st (record {
+-- a TLP is refused on its stream, or sealed as these packets
+abbrev pub stepped_answer : Plan → LinkState → Sending → Tlp → StreamState → Option Verdict → List SealedPacket
+    → Stepped
+stepped_answer plan st s t x (Some verdict) ds = (verdict, st)
+stepped_answer plan st s t x None ds =
+    let sealed = sealed_all (is_closed plan s.port.link s.stream) (head_bytes (header t)) (body t) ds x.tx in
+    let new = put plan st s.port s.stream (record x { tx = sealed.1 }) in
+    (v.Sealed ds, record new { packets = st.packets ++ map (kept_at s.port) sealed.0 })
+
+abbrev pub stepped_on_stream : Plan → LinkState → Sending → Tlp → Option StreamState → Stepped
+stepped_on_stream plan st s t None = (v.Nothing, st)
+stepped_on_stream plan st s t (Some x) =
+    let lanes = lanes_of (mode_of plan s.port.link s.stream) plan.units_per_key x in
+    stepped_answer plan st s t x (first_that_holds (refusals lanes s.class)) (sealed_by lanes s (length st.packets + 1))
+
+abbrev pub stepped_send : Plan → Beside → LinkState → PortName → Outgoing → Bool → Bool → Stepped
+stepped_send plan beside st port (NoTlp f) more trusted = (v.Malformed port (tlp_word f) (place_in f), st)
+stepped_send plan beside st port OnNone more trusted = (v.Plain port, st)
+stepped_send plan beside st port (OnStream t stream) more trusted =
+    stepped_on_stream plan st (record {
       port = port;
       stream = stream;
       class = class_of (header t);
       more = more;
       trusted = beside.t port (header t) stream trusted;
     }) t (find plan st port stream)
-
-abbrev pub stepped_send_read : Plan → Beside → LinkState → PortName → Result Tlp TlpFault → Bool → Bool → Stepped
-stepped_send_read plan beside st port (Err f) more trusted = (v.Malformed port (tlp_word f) (place_in f), st)
-stepped_send_read plan beside st port (Ok t) more trusted = stepped_send_on plan beside st port t more trusted
-    (choice plan port (header t))
 
 -- ---- arrivals
 
@@ -167,24 +154,21 @@ verdict_of_taken beside port p (Held j n) = v.Held port (unit_name p j n)
 verdict_of_taken beside port p (Accepted j n unit) = v.Accepted port (unit_name p j n)
     (beside.effects port (unit_name p j n) unit)
 
-abbrev pub take_as : Plan → Beside → LinkState → PortName → Packet → StreamState → Stepped
-take_as plan beside st port p x =
+abbrev pub stepped_packet : Plan → Beside → LinkState → PortName → Packet → Option StreamState → Stepped
+stepped_packet plan beside st port p None = (v.Unknown port p.prefix.stream, st)
+stepped_packet plan beside st port p (Some x) =
     let taken = taken_by (mode_of plan port.link p.prefix.stream) (is_closed plan port.link p.prefix.stream) x p in
     (verdict_of_taken beside port p taken, put plan st port p.prefix.stream (state_after x p taken))
 
-abbrev pub stepped_take_found : Plan → Beside → LinkState → PortName → Packet → Option StreamState → Stepped
-stepped_take_found plan beside st port p None = (v.Unknown port p.prefix.stream, st)
-stepped_take_found plan beside st port p (Some x) = take_as plan beside st port p x
-
-abbrev pub arrive_read : Plan → Beside → LinkState → PortName → Result CutValue PacketFault → Stepped
-arrive_read plan beside st port (Err f) = (v.Malformed port (packet_word f) (packet_place f), st)
-arrive_read plan beside st port (Ok PlainTlp) = (v.Plain port, st)
-arrive_read plan beside st port (Ok (IdePacket p)) = stepped_take_found plan beside st port p
+abbrev pub stepped_cut : Plan → Beside → LinkState → PortName → Result CutValue PacketFault → Stepped
+stepped_cut plan beside st port (Err f) = (v.Malformed port (packet_word f) (packet_place f), st)
+stepped_cut plan beside st port (Ok PlainTlp) = (v.Plain port, st)
+stepped_cut plan beside st port (Ok (IdePacket p)) = stepped_packet plan beside st port p
     (find plan st port p.prefix.stream)
 
-abbrev pub arrive : Plan → Beside → LinkState → Option Arrival → Stepped
-arrive plan beside st None = (v.Nothing, st)
-arrive plan beside st (Some a) = arrive_read plan beside st a.port (cut_of a.bytes)
+abbrev pub stepped_arrival : Plan → Beside → LinkState → Option Arrival → Stepped
+stepped_arrival plan beside st None = (v.Nothing, st)
+stepped_arrival plan beside st (Some a) = stepped_cut plan beside st a.port (cut_of a.bytes)
 
 -- ---- packets by number
 
@@ -211,32 +195,30 @@ abbrev pub shown_packet : ℕ → Option LinkPacket → Verdict
 shown_packet n None = v.Nothing
 shown_packet n (Some x) = v.Packet n x.bytes
 
--- ---- an operation on a stream of a link moves slots at both ports
+-- ---- an operation on a stream of a link touches slots at both ports
 
-abbrev pub moved_found : Plan → LinkState → PortName → ℕ → (SubKind → List Move) → (SubKind → List Move)
+abbrev pub touched_found : Plan → LinkState → PortName → ℕ → (SubKind → List Touch) → (SubKind → List Touch)
     → Option StreamState → LinkState
-moved_found plan st port stream out into None = st
-moved_found plan st port stream out into (Some x) = put plan st port stream (moved_stream plan port stream out into x)
+touched_found plan st port stream out into None = st
+touched_found plan st port stream out into (Some x) =
+    put plan st port stream (touched_stream plan port stream out into x)
 
-abbrev pub moved_at : Plan → LinkState → ℕ → ℕ → (Side → SubKind → List Move) → (Side → SubKind → List Move) → Side
+abbrev pub touched_at : Plan → LinkState → ℕ → ℕ → (Side → SubKind → List Touch) → (Side → SubKind → List Touch) → Side
     → LinkState
-moved_at plan st link stream out into side =
+touched_at plan st link stream out into side =
     let port : PortName = record { side = side; link = link } in
-    moved_found plan st port stream (out side) (into side) (find plan st port stream)
+    touched_found plan st port stream (out side) (into side) (find plan st port stream)
 
 -- the state after it
-abbrev pub moved_state : Plan → LinkState → ℕ → ℕ → (Side → SubKind → List Move) → (Side → SubKind → List Move)
+abbrev pub touched_state : Plan → LinkState → ℕ → ℕ → (Side → SubKind → List Touch) → (Side → SubKind → List Touch)
     → LinkState
-moved_state plan st link stream out into =
-    moved_at plan (moved_at plan st link stream out into Host) link stream out into Device
+touched_state plan st link stream out into =
+    touched_at plan (touched_at plan st link stream out into Host) link stream out into Device
 
 -- ---- what operations read of the ports
 
 abbrev pub port_at : Side → ℕ → PortName
 port_at side link = record { side = side; link = link }
-
-abbrev pub slots_of : Bool → SubKind → StreamState → Slots
-slots_of sends u x = if sends then (at_sub x.tx u).slots else (at_sub x.rx u).slots
 
 -- a KEY_PROG of a Live slot is refused if the other slot holds no newer Live key
 abbrev pub is_newer : ℕ → Slot → Bool
@@ -252,11 +234,11 @@ refuses_in s k = is_last_in (slot_in_set s k) (slot_in_set s (not k))
 
 abbrev pub refuses_at : Bool → SubKind → Bool → Option StreamState → Bool
 refuses_at sends u k None = false
-refuses_at sends u k (Some x) = refuses_in (slots_of sends u x) k
+refuses_at sends u k (Some x) = refuses_in (slots_at sends u x) k
 
 abbrev pub live_at : Bool → SubKind → Bool → Option StreamState → Bool
 live_at sends u k None = false
-live_at sends u k (Some x) = is_live_slot (slot_in_set (slots_of sends u x) k)
+live_at sends u k (Some x) = is_live_slot (slot_in_set (slots_at sends u x) k)
 
 abbrev pub ports_of : Plan → LinkState → PortView
 ports_of plan st = record {
@@ -264,40 +246,21 @@ ports_of plan st = record {
   is_live = λ p k. live_at p.sends p.sub k (find plan st (port_at p.side p.link) p.stream);
 }
 
-abbrev pub all_live : StreamState → Bool
-all_live x =
-    any_live x.tx.pr.slots && any_live x.tx.npr.slots && any_live x.tx.cpl.slots
-    && any_live x.rx.pr.slots && any_live x.rx.npr.slots && any_live x.rx.cpl.slots
-
-abbrev pub some_live : StreamState → Bool
-some_live x =
-    any_live x.tx.pr.slots || any_live x.tx.npr.slots || any_live x.tx.cpl.slots
-    || any_live x.rx.pr.slots || any_live x.rx.npr.slots || any_live x.rx.cpl.slots
-
 abbrev pub status_if_planned : Option StreamState → StreamStatus
-status_if_planned None = status_by false false false
-status_if_planned (Some x) = status_by x.failed (some_live x) (all_live x)
+status_if_planned None = status.Idle
+status_if_planned (Some x) = stream_status x
 
 abbrev pub status_at : Plan → LinkState → Side → ℕ → ℕ → StreamStatus
 status_at plan st side link stream = status_if_planned (find plan st (port_at side link) stream)
 
 -- ---- operations
 
--- the moves of touches, if the slots refuse a KEY_PROG of these sets; only the first touch may be one
-abbrev pub moves_of : (Bool → Bool) → List Touch → List Move
-moves_of refuses [] = []
-moves_of refuses (ProgramTouch k j ∷ ts) = if refuses k then moves_of refuses ts else Program k j ∷ moves_of refuses ts
-moves_of refuses (GoTouch k j ∷ ts) = Go k ∷ moves_of refuses ts
-moves_of refuses (StopTouch k ∷ ts) = Halt k ∷ moves_of refuses ts
-moves_of refuses (ClearTouch ∷ ts) = Halt false ∷ Halt true ∷ moves_of refuses ts
-moves_of refuses (_ ∷ ts) = moves_of refuses ts
-
--- what an event of an operation does to the slots of a sub-stream at one end of the link
 abbrev pub place_at_end : ℕ → ℕ → Bool → Side → SubKind → KeyPlace
 place_at_end link stream sends side u = record { side = side; link = link; stream = stream; sends = sends; sub = u }
 
-abbrev pub moves_at : PortView → Work → Reach → KeyPlace → List Move
-moves_at ports w r p = moves_of (λ k. is_some (ports.refusal p k)) (worked w (Some r) p)
+-- what an event of an operation does to the slots of a place
+abbrev pub touches_at : PortView → Work → Reach → KeyPlace → List Touch
+touches_at ports w r p = taken_touches (λ k. is_some (ports.refusal p k)) (worked w (Some r) p)
 
 abbrev pub draws_after : ℕ → Work → ℕ
 draws_after next w = if w.begins && makes_draw w.operation then next + 1 else next
@@ -306,10 +269,10 @@ abbrev pub work_done : Plan → LinkState → ℕ → ℕ → Work → Option Re
 work_done plan st link stream w None = st
 work_done plan st link stream w (Some r) =
     let ports = ports_of plan st in
-    let moved =
-    moved_state plan st link stream (λ side u. moves_at ports w r (place_at_end link stream true side u))
-    (λ side u. moves_at ports w r (place_at_end link stream false side u)) in
-    record (put_op plan moved link stream (op_after w r)) { draws = draws_after st.draws w }
+    let touched =
+    touched_state plan st link stream (λ side u. touches_at ports w r (place_at_end link stream true side u))
+    (λ side u. touches_at ports w r (place_at_end link stream false side u)) in
+    record (put_op plan touched link stream (op_after w r)) { draws = draws_after st.draws w }
 
 abbrev pub stepped_operation : Plan → LinkState → Operation → ℕ → ℕ → Op → Verdict → Stepped
 stepped_operation plan st o link stream q verdict =
@@ -339,20 +302,10 @@ status_found plan st link stream (Some q) =
 
 -- ---- a reset
 
-abbrev pub no_slots : Slots
-no_slots = record { first = Empty; second = Empty }
-
-abbrev pub empty_stream : StreamState
-empty_stream = record {
-  tx = each_sub (λ u. record { slots = no_slots; posted = 0; total = 0 });
-  rx = each_sub (λ u. record { slots = no_slots; sum = 0; got = 0; total = 0 });
-  failed = false;
-}
-
 -- both ports of the link begin again, and the manager knows of no operation there
 abbrev pub reset_state : Plan → LinkState → ℕ → LinkState
 reset_state plan st link =
-    let empty = map (λ (s : StreamPlan). empty_stream) (streams_of plan link) in
+    let empty = map (λ (s : StreamPlan). no_stream) (streams_of plan link) in
     record st {
       ports =
           slice_set (slice_set st.ports (port_place (port_at Host link)) empty)
@@ -363,14 +316,19 @@ reset_state plan st link =
 -- the verdict of an event, and the state after it
 unfoldable pub step_of : Plan → Beside → LinkState → Event → Stepped
 step_of plan beside st (Send port bytes more trusted) =
-    if has_port plan port then stepped_send_read plan beside st port (read_of bytes) more trusted else (v.Nothing, st)
-step_of plan beside st (Pass n) = arrive plan beside st (option_and_then passed (packet_numbered st.packets n))
-step_of plan beside st (Alter n at mask) = arrive plan beside st
+    if has_port plan port
+    then stepped_send plan beside st port (outgoing_of (streams_of plan port.link) port.side bytes) more trusted
+    else (v.Nothing, st)
+step_of plan beside st (Pass n) = stepped_arrival plan beside st
+    (option_and_then passed (packet_numbered st.packets n))
+step_of plan beside st (Alter n at mask) = stepped_arrival plan beside st
     (option_and_then (altered_to at mask) (packet_numbered st.packets n))
-step_of plan beside st (Cut n len) = arrive plan beside st
+step_of plan beside st (Cut n len) = stepped_arrival plan beside st
     (option_and_then (cut_short len) (packet_numbered st.packets n))
 step_of plan beside st (Arrive port bytes) =
-    if has_port plan port then arrive plan beside st (Some (record { port = port; bytes = bytes })) else (v.Nothing, st)
+    if has_port plan port
+    then stepped_arrival plan beside st (Some (record { port = port; bytes = bytes }))
+    else (v.Nothing, st)
 step_of plan beside st (Dump n) = (shown_packet n (packet_numbered st.packets n), st)
 step_of plan beside st (Establish link stream lose) = establish_found plan st link stream lose
     (find_op plan st link stream)
@@ -390,7 +348,7 @@ new_key plan s j = record { draw = j; key = key_of plan j s; units = 0; packets 
 abbrev pub first_ports : List (List StreamPlan) → List (List StreamState)
 first_ports [] = []
 first_ports (ss ∷ links) =
-    map (λ (s : StreamPlan). empty_stream) ss ∷ map (λ (s : StreamPlan). empty_stream) ss ∷ first_ports links
+    map (λ (s : StreamPlan). no_stream) ss ∷ map (λ (s : StreamPlan). no_stream) ss ∷ first_ports links
 
 -- the state before the first event
 abbrev pub first_state : Plan → LinkState

@@ -7,3 +7,6 @@ pub use Rattle.stream_rules.specs.Stream.{sealed_slots, sealed_sub, sealed_one, 
 pub use Rattle.stream_rules.specs.Stream.{posted_sum, is_allowed, is_tagged, checked, taken_under, taken_by, dropped}
 pub use Rattle.stream_rules.specs.Stream.{dropped_held, retired, accepted_slots, accepted_sub, held_sub, state_after}
 pub use Rattle.stream_rules.specs.Stream.{Empty, Programmed, Armed, Live, Insecure, NotKeyed, Failed, Held, Accepted}
+pub use Rattle.stream_rules.specs.Slots.{both_slots, begun, slot_gone, woken_slot, is_live_slot, any_live, slots_at}
+pub use Rattle.stream_rules.specs.Slots.{settled_stream, no_slots, no_stream, has_all_live, has_some_live}
+pub use Rattle.stream_rules.specs.Slots.{stream_status}

@@ -1,26 +1,25 @@
--- What proofs on calls and moves speak of.
+-- What proofs on calls and touches speak of.
 pub use Rattle.std.proofs.Common.{◌≡◌, Bool, arith, true, ℕ, List, ◌++◌, false, ◌≤◌, ◌∙◌, sym, ◌+◌, ◌==◌, [], zero, suc}
 pub use Rattle.std.proofs.Common.{refl, ◌-◌, ap, ◌<◌, Some, subst, ◌≢◌, ◌∷◌}
 pub use Rattle.std.proofs.lemmas.Bool.Decides.{nat_tests}
 pub use Rattle.ide_types.specs.declared.sub.SubKind.{SubKind}
 pub use Rattle.ide_plan.specs.declared.plan.Plan.{Plan}
-pub use Rattle.sub_stream.specs.Calls.{SlotCall, Program, Go, Halt, slots_called_out, slots_called_into, called}
+pub use Rattle.sub_stream.specs.Calls.{slots_called_out, slots_called_into, called}
 pub use Rattle.key_laws.specs.Operations.{Work, Reach, makes_draw, work, last_exchange_of}
 pub use Rattle.key_laws.specs.History.{is_within, program_at, go_at, when, worked}
-pub use Rattle.link_walks.specs.Calls.{lane_key, StreamCall, exchange_call, exchanges_called, all_called, request_call}
+pub use Rattle.link_walks.specs.Calls.{lane_key, StreamCall, exchange_call, exchanges_called, all_called, stream_call}
 pub use Rattle.ide_types.specs.declared.port.Side.TheVariants.{Device, Host}
 pub use Rattle.link_verdicts.specs.declared.verdict.Operation.{Operation}
 pub use Rattle.key_laws.specs.Places.{lane, KeyPlace}
-pub use Rattle.link_ports.specs.Machine.{place_at_end, port_at, slots_of, moves_at, moves_of, refuses_in}
-pub use Rattle.link_ports.specs.Machine.{is_last_in}
-pub use Rattle.key_slots.specs.{is_only_live, is_last_live, live_draw}
+pub use Rattle.link_ports.specs.Machine.{place_at_end, port_at, touches_at, refuses_in, is_last_in}
+pub use Rattle.key_slots.specs.{is_only_live, is_last_live, live_draw, KeyCall, Program, Go, Halt}
 pub use Rattle.sub_stream.specs.{slot_pair, key_slot}
 pub use Rattle.stream_rules.specs.Stream.{Slots, StreamState, at_sub, each_sub, Slot, Live, LiveKey}
 pub use Rattle.link_history.specs.Plan.{SubStream, lane_out, lane_in, key_of}
-pub use Rattle.link_ports.specs.Moves.{moved_stream, Move, slots_moved_out, slots_moved_in}
-pub use Rattle.link_walks.specs.Moves.{host_go, WaitsBesideLive, IsSound, ReadsStream, device_calls, CallsAreMoves}
-pub use Rattle.link_walks.specs.Moves.{host_requests, DrawsApart}
+pub use Rattle.link_ports.specs.Touches.{slots_touched, taken_touches, touched_stream}
+pub use Rattle.link_walks.specs.Touches.{host_go, WaitsBesideLive, IsSound, ReadsStream, device_calls, CallsAreTouches}
+pub use Rattle.link_walks.specs.Touches.{host_calls, DrawsApart}
 pub use Rattle.std.specs.Prelude.{if◌then◌else◌, ◌&&◌, not, map, ◌||◌, is_some}
 pub use Rattle.key_laws.specs.Keys.{refusal_if}
 pub use Rattle.ide_types.specs.declared.sub.SubKind.TheVariants.{Pr, Npr, Cpl}
-pub use Rattle.stream_rules.specs.Slots.{any_live}
+pub use Rattle.stream_rules.specs.Slots.{any_live, slots_at}

@@ -1,23 +1,23 @@
 -- Exchanges from one to another: which of them concern a place, if two exchanges of the operation do.
 use Rattle.link_walks.proofs.CallTerms.{◌≡◌, Bool, arith, ℕ, List, ◌++◌, ◌≤◌, ◌∙◌, ◌+◌, ◌==◌, [], zero, suc, ◌<◌}
 use Rattle.link_walks.proofs.CallTerms.{nat_tests}
-use Rattle.link_walks.proofs.CallTerms.{SubKind, Plan, SlotCall, Work, is_within, exchange_call, exchanges_called}
+use Rattle.link_walks.proofs.CallTerms.{SubKind, Plan, KeyCall, Work, is_within, exchange_call, exchanges_called}
 use Rattle.link_walks.proofs.Streams.{one_if, calls_at, calls_append}
 
 -- one of two calls or both, if each comes between two exchanges
-abbrev pub calls_within : (p q from below : ℕ) (first second : SlotCall) → List SlotCall
+abbrev pub calls_within : (p q from below : ℕ) (first second : KeyCall) → List KeyCall
 calls_within p q from below first second = one_if (is_within from p below) first
     ++ one_if (is_within from q below) second
 
-none_within : (p q n below : ℕ) (first second : SlotCall) → n + 0 ≡ below → [] ≡ calls_within p q n below first second
+none_within : (p q n below : ℕ) (first second : KeyCall) → n + 0 ≡ below → [] ≡ calls_within p q n below first second
 none_within p q n below first second is = grind (arith, nat_tests)
 
-next_within : (p q n below : ℕ) (first second : SlotCall) → p < q → n < below
+next_within : (p q n below : ℕ) (first second : KeyCall) → p < q → n < below
     → ((one_if (p == n) first ++ one_if (q == n) second) ++ calls_within p q (n + 1) below first second)
     ≡ calls_within p q n below first second
 next_within p q n below first second lt low = grind (arith, nat_tests)
 
-pub carried_at : (plan : Plan) (w : Work) (sends : Bool) (u : SubKind) (p q last below : ℕ) (first second : SlotCall)
+pub carried_at : (plan : Plan) (w : Work) (sends : Bool) (u : SubKind) (p q last below : ℕ) (first second : KeyCall)
     → p < q → below ≤ last + 1
     → ((n : ℕ) → 1 ≤ n → n ≤ last → calls_at sends u (exchange_call plan w n) ≡ one_if (p == n) first
     ++ one_if (q == n) second)

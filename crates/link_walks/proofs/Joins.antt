@@ -1,14 +1,14 @@
 -- An event of an operation, walked at both ends, gives what the machine of links says.
 use Rattle.link_walks.proofs.Terms.{◌≡◌, arith, true, ℕ, List, ◌++◌, Work, Plan, if◌then◌else◌, Operation, ◌≤◌, ◌∙◌}
 use Rattle.link_walks.proofs.Terms.{sym, Device, Host, StreamState, ◌+◌, [], suc, refl, ◌-◌, ap, Some, subst, ◌∷◌}
-use Rattle.link_walks.proofs.Terms.{last_exchange_of, port_at, CallsAreMoves}
-use Rattle.link_walks.proofs.Terms.{DrawsApart, ◌/◌, Option, ◌%◌, None, length, nat_lt, reach_of, work_of, sub_from}
-use Rattle.link_walks.proofs.Terms.{requests_called, FitsPlan, Loss, Verdict, History, refusal_at, performed}
+use Rattle.link_walks.proofs.Terms.{last_exchange_of, port_at, CallsAreTouches}
+use Rattle.link_walks.proofs.Terms.{◌/◌, Option, ◌%◌, None, length, nat_lt, reach_of, work_of, sub_from}
+use Rattle.link_walks.proofs.Terms.{all_called_at, FitsPlan, Loss, Verdict, History, refusal_at, performed}
 use Rattle.link_walks.proofs.Terms.{stays, unwrap_or}
 use Rattle.link_walks.proofs.Terms.{key_plan, LinkState, find, find_op}
-use Rattle.link_walks.proofs.Terms.{ports_of, status_at, begun_requests, AreMoves, Side, Pool, draws_in, true-lt}
-use Rattle.link_walks.proofs.Terms.{Refusal, Request, StreamView, draws_now, refusal_of, begun_stream, begun_pool}
-use Rattle.link_walks.proofs.Terms.{ManagerWalk, answers, walk}
+use Rattle.link_walks.proofs.Terms.{ports_of, status_at, AreTouches, Side, Pool, draws_in, true-lt}
+use Rattle.link_walks.proofs.Terms.{Refusal, PlaceCall, StreamView, draws_now, refusal_of, begun_stream, begun_pool}
+use Rattle.link_walks.proofs.Terms.{begun_calls, ManagerWalk, answers, walk}
 use Rattle.link_walks.proofs.Terms.{manager_walked, verdict_of, op_by, Comes, walk_comes, sends_in, PortsStandFor}
 use Rattle.link_walks.proofs.Terms.{kept_is}
 use Rattle.link_walks.proofs.Terms.{StreamEnds, walk_on, begun_ends, walked_ends_unless, event_walk, host_of, KeysKept}
@@ -16,7 +16,6 @@ use Rattle.link_walks.proofs.Terms.{verdict_due, IsJoined}
 use Rattle.link_walks.proofs.Terms.{OperationsJoin}
 use Rattle.tsm_host.proofs.Dues.{all_due}
 use Rattle.tsm_host.specs.declared.operation.Outcome.TheVariants as outcome
-use Rattle.link_walks.proofs.Lanes.{same_slots}
 use Rattle.link_walks.proofs.Drawn.{lane_keys, id_fits}
 use Rattle.link_walks.proofs.Standing.{is_sound, reads_stream, host_read}
 use Rattle.link_walks.proofs.Kept.{ready_before, draw_below}
@@ -25,10 +24,10 @@ use Rattle.link_walks.proofs.Works.{begun_link, begun_id, begun_keys, refused_re
 use Rattle.link_walks.proofs.Walking.{Knows, IsNext}
 use Rattle.link_walks.proofs.Resting.{goes_from, Rest, rest_is}
 
-requests_append : (side : Side) (rs more : List Request) (x : StreamState) → requests_called side (rs ++ more) x
-    ≡ requests_called side more (requests_called side rs x)
-requests_append side [] more x = refl
-requests_append side (r ∷ rs) more x = requests_append side rs more _
+calls_append : (side : Side) (cs more : List PlaceCall) (x : StreamState) → all_called_at side (cs ++ more) x
+    ≡ all_called_at side more (all_called_at side cs x)
+calls_append side [] more x = refl
+calls_append side (c ∷ cs) more x = calls_append side cs more _
 
 abbrev pool_of : Plan → LinkState → Pool
 pool_of plan st = record { keys = plan.pool; draws = st.draws }
@@ -135,12 +134,10 @@ module _ (plan : Plan) (st : LinkState) (h : History) (operation : Operation) (l
               (draw_below plan st h found.stands link id e.keeper.op found.op_is operation
               (λ now. true-lt st.draws (length plan.pool / 6)
               (has_room operation e.keeper.op (host_of e.host) (pool_of plan st) free now)) makes);
-          reads = λ lane lt. rw (← (same_slots (sends_in Device (lane / 3)) (sub_from (lane % 3)) e.device))
-              (reads_stream plan st Device link id e.device found.device (sends_in Device (lane / 3))
-              (sub_from (lane % 3)) w.set);
-          apart = λ lane lt. subst DrawsApart (same_slots (sends_in Device (lane / 3)) (sub_from (lane % 3)) e.device)
-              ((is_sound plan st h found.stands.ports_stand Device link id e.device found.device).apart
-              (sends_in Device (lane / 3)) (sub_from (lane % 3)));
+          reads = λ lane lt. reads_stream plan st Device link id e.device found.device (sends_in Device (lane / 3))
+              (sub_from (lane % 3)) w.set;
+          apart = λ lane lt. (is_sound plan st h found.stands.ports_stand Device link id e.device found.device).apart
+              (sends_in Device (lane / 3)) (sub_from (lane % 3));
         }
 
     verdict_comes : performed (ports_of plan st) e.keeper.link e.keeper.id loss w ≡ verdict
@@ -163,7 +160,7 @@ module _ (plan : Plan) (st : LinkState) (h : History) (operation : Operation) (l
         (last_exchange_of w.operation - w.first) more w.first
         (begun_from plan st operation e) (omega (arith, range)) range.0 (omega (arith, range, top, enough)) first_next)
 
-    joins : CallsAreMoves → (more : ℕ) → 12 ≤ more → IsJoined plan st operation loss (pool_of plan st) e
+    joins : CallsAreTouches → (more : ℕ) → 12 ≤ more → IsJoined plan st operation loss (pool_of plan st) e
         (walk_on (suc more) loss requester (begun_from plan st operation e))
     joins calls more enough =
         let link = e.keeper.link in
@@ -174,7 +171,8 @@ module _ (plan : Plan) (st : LinkState) (h : History) (operation : Operation) (l
         let reached : reach_of operation verdict ≡ Some r = sym (λ i. reach_of (same i) (verdict_comes i)) ∙ rest.says
         in
         let stands = found.stands.ports_stand in
-        let moves : AreMoves plan (ports_of plan st) link id w r e.host e.device = calls plan (ports_of plan st) link id
+        let same_touches : AreTouches plan (ports_of plan st) link id w r e.host e.device = calls plan
+        (ports_of plan st) link id
         w r e.host e.device
         (operation, e.keeper.op, st.draws, refl)
         (assumption (within, rest.within, begins_first operation e.keeper.op st.draws))
@@ -189,9 +187,9 @@ module _ (plan : Plan) (st : LinkState) (h : History) (operation : Operation) (l
           op_is = ap (λ (s : StreamView). s.op) rest.keeper_is ∙
               (comes_is.op_is ∙ (λ i. op_by e.keeper.op w (reach_of (same i) (verdict_comes i))));
           host_is = rw reached (rest.host_is ∙
-              (sym (requests_append Host (begun_requests plan id w) (goes_from w id w.first r.acknowledged) e.host)
-              ∙ moves.host_moved));
-          device_is = rw reached (rest.device_is ∙ moves.device_moved);
+              (sym (calls_append Host (begun_calls w (pool_of plan st) id) (goes_from w id w.first r.acknowledged)
+              e.host) ∙ same_touches.host_touched));
+          device_is = rw reached (rest.device_is ∙ same_touches.device_touched);
           draws_is = rw reached
               (draws_on w (pool_of plan st) (has_room operation e.keeper.op (host_of e.host) (pool_of plan st) free));
           link_is = rest.names_are.0 ∙ begun_link w (pool_of plan st) e.keeper;
@@ -199,14 +197,14 @@ module _ (plan : Plan) (st : LinkState) (h : History) (operation : Operation) (l
           keys_are = rest.keys_are;
         }
 
-  by_refusal : CallsAreMoves → (more : ℕ) → 12 ≤ more → (r : Option Refusal)
+  by_refusal : CallsAreTouches → (more : ℕ) → 12 ≤ more → (r : Option Refusal)
       → refusal_of operation e.keeper.op (host_of e.host) (pool_of plan st) ≡ r
       → IsJoined plan st operation loss (pool_of plan st) e
       (walked_ends_unless r e (walk_on (suc more) loss requester (begun_from plan st operation e)))
   by_refusal calls more enough (Some r) is = refused r is
   by_refusal calls more enough None is = joins is calls more enough
 
-pub joined : CallsAreMoves → OperationsJoin
+pub joined : CallsAreTouches → OperationsJoin
 joined calls plan st h operation loss requester pool e fits stands most host device op_is is kept =
     let found : Found plan st h requester e = assumption in
     subst (λ (p : Pool). IsJoined plan st operation loss p e (event_walk operation (host_of e.host) p loss requester e))

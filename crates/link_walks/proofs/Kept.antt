@@ -1,9 +1,8 @@
 -- What stands for a history as an event of an operation comes: keys of acknowledged KEY_PROGs are kept, and the draw of
 -- an unfinished operation was made.
 use Rattle.link_walks.proofs.Terms.{◌≡◌, Bool, arith, true, SubKind, ℕ, List, Plan, nat_tests, Operation, place_at_end}
-use Rattle.link_walks.proofs.Terms.{Slots}
-use Rattle.link_walks.proofs.Terms.{◌≤◌, ◌∙◌, makes_draw, Device, StreamState, ◌+◌, ap, KeyPlace, ◌<◌, Some, subst}
-use Rattle.link_walks.proofs.Terms.{port_at, slots_of, Slot, key_of, ◌/◌}
+use Rattle.link_walks.proofs.Terms.{◌≤◌, ◌∙◌, makes_draw, Device, StreamState, ◌+◌, ap, KeyPlace, ◌<◌, Some}
+use Rattle.link_walks.proofs.Terms.{port_at, slots_at, Slot, key_of, ◌/◌}
 use Rattle.link_walks.proofs.Terms.{◌%◌, length, option_map, work_of, Op, sub_from, lane_number, History, draws}
 use Rattle.link_walks.proofs.Terms.{moments, op_of, key_plan, slot_in_set, LinkState, find, find_op, draws_now}
 use Rattle.link_walks.proofs.Terms.{sends_in}
@@ -14,7 +13,7 @@ use Rattle.key_laws.proofs.Fits.{FitsAt}
 use Rattle.key_states.proofs.States.{in_state}
 use Rattle.port_operations.specs.Points.{key_held, point_lane}
 use Rattle.port_operations.proofs.Points.{points}
-use Rattle.link_walks.proofs.Lanes.{lane_place, lane_slots, IsFull, same_slots, first_program}
+use Rattle.link_walks.proofs.Lanes.{lane_place, lane_slots, IsFull, first_program}
 use Rattle.link_walks.proofs.Drawn.{draws_fit}
 
 -- ---- the state of the operation
@@ -68,10 +67,9 @@ module _ (plan : Plan) (st : LinkState) (h : History) (stands : PortsStandFor pl
       let there = point_lane Device link id sends u in
       let kept = kept_before q st.draws (draws h) link id sends u _ o (place_fits lane) makes
       (omega (arith, lane_is link id lane low, lt)) in
-      subst (λ (s : Slots). IsFull (slot_in_set s w.set)) (same_slots sends u x)
-      (kept_is_full (slot_in_set (slots_of sends u x) w.set) (w.draw, key_of plan w.draw there)
+      kept_is_full (slot_in_set (slots_at sends u x) w.set) (w.draw, key_of plan w.draw there)
       ((points plan st h stands).kept Device link id x at sends u w.set ∙ ap
-      (option_map (λ (i : ℕ). (i, key_of plan i there))) kept))
+      (option_map (λ (i : ℕ). (i, key_of plan i there))) kept)
 
   pub draw_below : (o : Operation) → let w = work_of o q st.draws in
       (draws_now w ≡ true → st.draws < length plan.pool / 6) → makes_draw w.operation ≡ true

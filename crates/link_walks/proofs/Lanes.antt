@@ -1,9 +1,9 @@
 -- Exchanges by number: the lanes that they speak of, with their slots, and which of them the device refuses.
-use Rattle.link_walks.proofs.Terms.{◌≡◌, Bool, arith, true, SubKind, ℕ, false, nat_tests, Operation, place_at_end}
+use Rattle.link_walks.proofs.Terms.{◌≡◌, Bool, arith, true, ℕ, false, nat_tests, Operation, place_at_end}
 use Rattle.link_walks.proofs.Terms.{Slots, ◌≤◌}
 use Rattle.link_walks.proofs.Terms.{makes_draw, Device, slot_pair, StreamState, ◌+◌, zero, suc, refl, ◌-◌, KeyPlace}
 use Rattle.link_walks.proofs.Terms.{◌<◌}
-use Rattle.link_walks.proofs.Terms.{last_exchange_of, slots_of, key_slot}
+use Rattle.link_walks.proofs.Terms.{last_exchange_of, key_slot}
 use Rattle.link_walks.proofs.Terms.{Slot, ◌/◌, ◌%◌, inl, inr, sub_from, cases_lt, PortView, refusal_at, slot_in_set}
 use Rattle.link_walks.proofs.Terms.{None}
 use Rattle.link_walks.proofs.Terms.{is_empty, sends_in, slots_at, exchange_of, KeySet}
@@ -29,9 +29,6 @@ lane_place link stream lane = place_at_end link stream (sends_in Device (lane / 
 -- the two slots of a lane
 abbrev pub lane_slots : ℕ → StreamState → Slots
 lane_slots lane x = slots_at (sends_in Device (lane / 3)) (sub_from (lane % 3)) x
-
-pub same_slots : (sends : Bool) (u : SubKind) (x : StreamState) → slots_of sends u x ≡ slots_at sends u x
-same_slots sends u x = grind arith
 
 -- a slot as key management sees it
 pub slot_seen : (sends : Bool) (s : Slots) (k : Bool) → pair.slot_in (slot_pair sends s) k ≡ key_slot (slot_in_set s k)

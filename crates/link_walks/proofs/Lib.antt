@@ -2,11 +2,11 @@ pub mod CallTerms
 pub mod Settling
 pub mod Slots
 pub mod Streams
-pub mod Moves
+pub mod Touches
 pub mod Carried
 pub mod Exchanges
-pub mod Requests
-pub mod Moved
+pub mod HostCalls
+pub mod Touched
 pub mod Terms
 pub mod Lanes
 pub mod Replies

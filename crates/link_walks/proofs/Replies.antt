@@ -4,27 +4,28 @@ use Rattle.link_walks.proofs.Terms.{is_only_live, StreamState, [], refl, ap, ◌
 use Rattle.link_walks.proofs.Terms.{None, Ok, Err, sub_from, IsKey, KeySet, is_one}
 use Rattle.link_walks.proofs.Terms.{is_empty, SlotPair, same-true, sends_in, pair_at, came_to, shown_stream}
 use Rattle.link_walks.proofs.Terms.{port_called, judged_bytes, selector_of, Judged, Expected, carried_as, refusal_if}
-use Rattle.key_slots.specs.{slot_in}
+use Rattle.std.specs.Prelude.{Result, is_ok, not}
+use Rattle.key_slots.specs.{slot_in, KeyCall, Program, Go, Halt}
 use Rattle.ide_km.specs.declared.object.KmView.{KmView}
 use Rattle.ide_km.specs.declared.object.KmView.TheVariants.{Query, KeyProg, KpAck, SetGo, SetStop, GoStopAck}
 use Rattle.ide_km.specs.declared.port.ProgramFault.TheVariants.{OnlyLive}
-use Rattle.ide_km.specs.declared.place.Place.{Place}
-use Rattle.ide_km.specs.{PortCall, Program, Go, Halt, shown_at, spelling, FitsObject, set_of, direction_of, sub_of}
+use Rattle.ide_km.specs.declared.port.ProgramFault.{ProgramFault}
+use Rattle.ide_km.specs.{PlaceCall, place_call, shown_at, is_done, spelling, FitsObject, set_of, direction_of, sub_of}
 use Rattle.ide_km.specs.{selected_place, call_for, reply_for, object_bytes, object_reading, description}
 use Rattle.ide_km.proofs.Objects.{spells_read, written_spells}
 use Rattle.tsm_host.specs.Judging.{judged_reply}
-use Rattle.sub_stream.specs.Calls as stream
 
 -- ---- a request is read as it was written
 
--- if a request makes this call, and its reply is judged so
+-- if a request makes this call, which is taken or not, and its reply is judged so
 comes_as : (requester draw id : ℕ) (request : KmView) (x : StreamState) → FitsObject request
-    → (call : Option PortCall) → call_for (shown_stream id x) draw request ≡ call
-    → (judged : Judged) → judged_bytes request (object_bytes (reply_for requester request call)) ≡ judged
+    → (call : Option PlaceCall) → call_for draw request ≡ call
+    → (done : Bool) → is_done (shown_stream id x) call ≡ done
+    → (judged : Judged) → judged_bytes request (object_bytes (reply_for requester request done)) ≡ judged
     → (device : StreamState) → port_called call x ≡ device
     → came_to requester request id draw x ≡ record { judged = judged; device = device }
-comes_as requester draw id request x fits call call_is judged judged_is device device_is =
-    rw (spells_read request (spelling request) (written_spells request fits), call_is, judged_is, device_is)
+comes_as requester draw id request x fits call call_is done done_is judged judged_is device device_is =
+    rw (spells_read request (spelling request) (written_spells request fits), call_is, done_is, judged_is, device_is)
 
 -- a reply is judged as it was written
 as_read : (request : KmView) (bytes : List ℕ) → judged_bytes request bytes ≡ judged_reply request (object_reading bytes)
@@ -39,7 +40,7 @@ replied request reply fits = as_read request (spelling reply) ∙ ap (judged_rep
 pub query_comes : (requester draw id : ℕ) (x : StreamState) → requester ≤ 65535 → came_to requester (Query 0) id draw x
     ≡ record { judged = Expected; device = x }
 query_comes requester draw id x most =
-    comes_as requester draw id (Query 0) x (omega arith) None refl _
+    comes_as requester draw id (Query 0) x (omega arith) None refl false refl _
     (replied (Query 0) (description requester) (omega arith)) _ refl
 
 -- ---- a request by its lane
@@ -48,7 +49,7 @@ query_comes requester draw id x most =
 abbrev pub lane_pair : ℕ → StreamState → SlotPair
 lane_pair lane x = pair_at (sends_in Device (lane / 3)) (sub_from (lane % 3)) x
 
-abbrev pub lane_called : ℕ → stream.SlotCall → StreamState → StreamState
+abbrev pub lane_called : ℕ → KeyCall → StreamState → StreamState
 lane_called lane call x = called (sends_in Device (lane / 3)) (sub_from (lane % 3)) call x
 
 -- what the selector of a lane says
@@ -63,14 +64,17 @@ selects : (id : ℕ) (set : KeySet) (lane : ℕ) (x : StreamState) → lane < 6 
 selects id set lane x lt = grind (arith, nat_tests)
 
 -- a KEY_PROG that is refused or not
-answers : (requester id sel : ℕ) (key : List ℕ) (place : Place) (k : Bool) (draw : ℕ) → id ≤ 255 → sel < 256
-    → (b : Bool) → let request = KeyProg id sel 0 key 1 in
-    judged_bytes request (object_bytes
-    (reply_for requester request (Some (Program place k key draw (if b then Err (OnlyLive key) else Ok tt)))))
-    ≡ carried_as None (refusal_if b)
-answers requester id sel key place k draw small low true = rw
+taken_unless : (b : Bool) (key : List ℕ)
+    → is_ok (let r : Result (Unit {0}) ProgramFault = if b then Err (OnlyLive key) else Ok tt in r) ≡ not b
+taken_unless true key = refl
+taken_unless false key = refl
+
+answers : (requester id sel : ℕ) (key : List ℕ) → id ≤ 255 → sel < 256 → (b : Bool)
+    → let request = KeyProg id sel 0 key 1 in
+    judged_bytes request (object_bytes (reply_for requester request (not b))) ≡ carried_as None (refusal_if b)
+answers requester id sel key small low true = rw
     (replied (KeyProg id sel 0 key 1) (KpAck id 3 sel 0) (omega arith), same-true id, same-true sel)
-answers requester id sel key place k draw small low false = rw
+answers requester id sel key small low false = rw
     (replied (KeyProg id sel 0 key 1) (KpAck id 0 sel 0) (omega arith), same-true id, same-true sel)
 
 pub program_comes : (requester draw id : ℕ) (set : KeySet) (lane : ℕ) (key : List ℕ) (x : StreamState) → id ≤ 255
@@ -78,7 +82,7 @@ pub program_comes : (requester draw id : ℕ) (set : KeySet) (lane : ℕ) (key :
     → came_to requester (KeyProg id (selector_of set lane) 0 key 1) id draw x
     ≡ record {
       judged = carried_as None (refusal_if (is_only_live (lane_pair lane x) (is_one set)));
-      device = lane_called lane (stream.Program (is_one set) key draw) x;
+      device = lane_called lane (Program (is_one set) key draw) x;
     }
 program_comes requester draw id set lane key x small lt is_key =
     let s = selects id set lane x lt in
@@ -86,31 +90,32 @@ program_comes requester draw id set lane key x small lt is_key =
     let denied = is_only_live (lane_pair lane x) (is_one set) in
     comes_as requester draw id (KeyProg id sel 0 key 1) x
     (omega arith, s.low, omega arith, is_key.0, is_key.1, omega arith)
-    (Some (Program (selected_place id sel) (set_of sel) key draw (if denied then Err (OnlyLive key) else Ok tt)))
-    (rw (s.shown_is, s.set_is))
-    _ (answers requester id sel key (selected_place id sel) (set_of sel) draw small s.low denied) _
+    (Some (place_call (selected_place id sel) (Program (set_of sel) key draw))) refl
+    (not denied) (rw (s.shown_is, s.set_is) (taken_unless denied key))
+    _ (answers requester id sel key small s.low denied) _
     (rw (s.direction_is, s.sub_is, s.set_is))
 
 pub go_comes : (requester draw id : ℕ) (set : KeySet) (lane : ℕ) (x : StreamState) → id ≤ 255 → lane < 6
     → is_empty (slot_in (lane_pair lane x) (is_one set)) ≡ false
     → came_to requester (SetGo id (selector_of set lane) 0) id draw x
-    ≡ record { judged = Expected; device = lane_called lane (stream.Go (is_one set)) x }
+    ≡ record { judged = Expected; device = lane_called lane (Go (is_one set)) x }
 go_comes requester draw id set lane x small lt full =
     let s = selects id set lane x lt in
     let sel = selector_of set lane in
-    comes_as requester draw id (SetGo id sel 0) x (omega arith) (Some (Go (selected_place id sel) (set_of sel) true))
-    (rw (s.shown_is, s.set_is, full))
+    comes_as requester draw id (SetGo id sel 0) x (omega arith)
+    (Some (place_call (selected_place id sel) (Go (set_of sel)))) refl
+    true (rw (s.shown_is, s.set_is, full))
     _ (rw (replied (SetGo id sel 0) (GoStopAck id sel 0) (omega arith), same-true id, same-true sel)) _
     (rw (s.direction_is, s.sub_is, s.set_is))
 
 pub halt_comes : (requester draw id : ℕ) (set : KeySet) (lane : ℕ) (x : StreamState) → id ≤ 255 → lane < 6
     → came_to requester (SetStop id (selector_of set lane) 0) id draw x
-    ≡ record { judged = Expected; device = lane_called lane (stream.Halt (is_one set)) x }
+    ≡ record { judged = Expected; device = lane_called lane (Halt (is_one set)) x }
 halt_comes requester draw id set lane x small lt =
     let s = selects id set lane x lt in
     let sel = selector_of set lane in
     comes_as requester draw id (SetStop id sel 0) x (omega arith)
-    (Some (Halt (selected_place id sel) (set_of sel) true))
-    (rw s.shown_is)
+    (Some (place_call (selected_place id sel) (Halt (set_of sel)))) refl
+    true (rw s.shown_is)
     _ (rw (replied (SetStop id sel 0) (GoStopAck id sel 0) (omega arith), same-true id, same-true sel)) _
     (rw (s.direction_is, s.sub_is, s.set_is))

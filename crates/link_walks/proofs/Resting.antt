@@ -2,15 +2,15 @@
 -- It goes by induction on the exchanges that are left. Each is lost as a request or as a reply or refused, and the walk
 -- stays there (`stays`); or it is answered as expected, and its calls come before those of the rest (`back`). The
 -- host's port is called after one exchange at the most, the last receiver's GO.
-use Rattle.link_walks.proofs.Terms.{◌≡◌, Bool, arith, true, ℕ, List, ◌++◌, Work, Plan, if◌then◌else◌, false, nat_tests}
+use Rattle.link_walks.proofs.Terms.{◌≡◌, Bool, arith, true, ℕ, List, ◌++◌, Work, Plan, if◌then◌else◌, nat_tests}
 use Rattle.link_walks.proofs.Terms.{Operation, ◌≤◌, ◌∙◌, sym, Reach, makes_draw, is_within, StreamCall, Host}
 use Rattle.link_walks.proofs.Terms.{StreamState, ◌+◌, ◌==◌, [], zero, suc}
 use Rattle.link_walks.proofs.Terms.{refl, ◌-◌, ap, exchange_call, exchanges_called, all_called, host_go, ◌&&◌}
 use Rattle.link_walks.proofs.Terms.{◌<◌, Some, subst, ◌∷◌, last_exchange_of, Option, None, reach_of, Op, op_standing}
-use Rattle.link_walks.proofs.Terms.{reach, op_after, requests_called, Loss}
+use Rattle.link_walks.proofs.Terms.{reach, op_after, all_called_at, Loss}
 use Rattle.link_walks.proofs.Terms.{Verdict, PortView, lost_in, cut_at, carried_as, option_or, first_from}
-use Rattle.link_walks.proofs.Terms.{done, different-false, Local}
-use Rattle.link_walks.proofs.Terms.{go_requests, StreamView, asked_in, outcome_of, taken_stream, taken_calls}
+use Rattle.link_walks.proofs.Terms.{done, different-false, PlaceCall}
+use Rattle.link_walks.proofs.Terms.{host_goes, StreamView, asked_in, outcome_of, taken_stream, taken_calls}
 use Rattle.link_walks.proofs.Terms.{shown_at_end, ManagerWalk, answers, walk}
 use Rattle.link_walks.proofs.Terms.{continued, StreamEnds, walk_on, ends_after_exchange, Exchanged}
 use Rattle.link_walks.proofs.Terms.{exchanged_unless_lost, WalkedEnds, goes_on}
@@ -46,9 +46,9 @@ one_carried plan w n x = let count : n + 1 - n ≡ 1 = omega arith in rw (count,
 
 -- ---- GOs of the host's port
 
-abbrev pub goes_from : Work → ℕ → ℕ → ℕ → List Local
+abbrev pub goes_from : Work → ℕ → ℕ → ℕ → List PlaceCall
 goes_from w id n below = if makes_draw w.operation then
-    (if is_within n (host_go w.operation) below then go_requests id w.set else []) else []
+    (if is_within n (host_go w.operation) below then host_goes id w.set else []) else []
 
 -- which exchange makes the host's port go on
 go_at_host : (o : Operation) (set : KeySet) (n : ℕ) → 1 ≤ n → n ≤ last_exchange_of o
@@ -60,19 +60,19 @@ none_from : (w : Work) (id n : ℕ) → goes_from w id n n ≡ []
 none_from w id n = grind (arith, nat_tests)
 
 -- the GOs of one exchange, and of those after it
-host_steps : (draws t : Bool) (n go below : ℕ) (requests : List Local) (host : StreamState) → (n == go) ≡ t → n < below
-    → requests_called Host (if draws then (if is_within (n + 1) go below then requests else []) else [])
-    (requests_called Host (if draws && t then requests else []) host)
-    ≡ requests_called Host (if draws then (if is_within n go below then requests else []) else []) host
-host_steps draws t n go below requests host e lt = grind (arith, nat_tests)
+host_steps : (draws t : Bool) (n go below : ℕ) (cs : List PlaceCall) (host : StreamState) → (n == go) ≡ t → n < below
+    → all_called_at Host (if draws then (if is_within (n + 1) go below then cs else []) else [])
+    (all_called_at Host (if draws && t then cs else []) host)
+    ≡ all_called_at Host (if draws then (if is_within n go below then cs else []) else []) host
+host_steps draws t n go below cs host e lt = grind (arith, nat_tests)
 
 host_step : (w : Work) (id n below : ℕ) (host : StreamState) → 1 ≤ n → n ≤ last_exchange_of w.operation → n < below
-    → requests_called Host (goes_from w id (n + 1) below)
-    (requests_called Host (taken_calls (asked_of w n) Expected id) host)
-    ≡ requests_called Host (goes_from w id n below) host
+    → all_called_at Host (goes_from w id (n + 1) below)
+    (all_called_at Host (taken_calls (asked_of w n) Expected id) host)
+    ≡ all_called_at Host (goes_from w id n below) host
 host_step w id n below host least most lt =
     rw (go_at_host w.operation (key_set w.set) n least most, one_of_set w.set)
-    (host_steps (makes_draw w.operation) (n == host_go w.operation) n (host_go w.operation) below (go_requests id w.set)
+    (host_steps (makes_draw w.operation) (n == host_go w.operation) n (host_go w.operation) below (host_goes id w.set)
     host refl lt)
 
 -- ---- keys that are kept
@@ -97,7 +97,7 @@ pub record Rest (plan : Plan) (w : Work) (id n : ℕ) (e : StreamEnds) (verdict 
   pub says : reach_of w.operation verdict ≡ Some comes
   pub within : (n ≤ comes.acknowledged) × (comes.acknowledged ≤ comes.carried)
       × (comes.carried ≤ last_exchange_of w.operation + 1)
-  pub host_is : x.ends.host ≡ requests_called Host (goes_from w id n comes.acknowledged) e.host
+  pub host_is : x.ends.host ≡ all_called_at Host (goes_from w id n comes.acknowledged) e.host
   pub device_is : x.ends.device ≡ all_called (exchanges_called plan w n (comes.carried - n)) e.device
   pub names_are : (x.ends.keeper.link ≡ e.keeper.link) × (x.ends.keeper.id ≡ e.keeper.id)
   pub keys_are : KeysKept plan x.ends.keeper
@@ -140,7 +140,7 @@ module _ (plan : Plan) (ports : PortView) (w : Work) (link id requester : ℕ) (
     comes = reach carried n;
     says = says;
     within = omega arith;
-    host_is = sym (ap (λ (rs : List Local). requests_called Host rs e.host) (none_from w id n));
+    host_is = sym (ap (λ (cs : List PlaceCall). all_called_at Host cs e.host) (none_from w id n));
     device_is = device_is;
     names_are = (refl, refl);
     keys_are = kept;
@@ -176,8 +176,8 @@ module _ (plan : Plan) (ports : PortView) (w : Work) (link id requester : ℕ) (
         says = rest.says;
         within = omega (arith, within);
         host_is =
-            rest.host_is ∙ (ap (λ (z : ℕ). requests_called Host (goes_from w id (n + 1) rest.comes.acknowledged)
-            (requests_called Host (taken_calls (asked_of w n) Expected z) e.host)) at.id_is
+            rest.host_is ∙ (ap (λ (z : ℕ). all_called_at Host (goes_from w id (n + 1) rest.comes.acknowledged)
+            (all_called_at Host (taken_calls (asked_of w n) Expected z) e.host)) at.id_is
             ∙ host_step w id n rest.comes.acknowledged e.host least most (omega (arith, within)));
         device_is = rest.device_is ∙ one_more plan w n rest.comes.carried e.device (omega (arith, within));
         names_are = rest.names_are;

@@ -1,5 +1,5 @@
 -- What a call does to the slots of a place, and which of them stay Live.
-use Rattle.link_walks.proofs.CallTerms.{◌≡◌, Bool, arith, true, ℕ, List, false, sym, ◌≢◌, nat_tests, SlotCall, Program}
+use Rattle.link_walks.proofs.CallTerms.{◌≡◌, Bool, arith, true, ℕ, List, false, sym, ◌≢◌, nat_tests, KeyCall, Program}
 use Rattle.link_walks.proofs.CallTerms.{Go}
 use Rattle.link_walks.proofs.CallTerms.{Halt, slots_called_out, slots_called_into, Work, makes_draw, Operation}
 use Rattle.link_walks.proofs.CallTerms.{refuses_in}
@@ -28,38 +28,38 @@ is_refusal false = refl
 
 -- ---- no KEY_PROG and no GO takes its Live slot from a place that had one
 
-abbrev pub is_halt : SlotCall → Bool
+abbrev pub is_halt : KeyCall → Bool
 is_halt (Halt k) = true
 is_halt _ = false
 
-abbrev pub is_no_halt : SlotCall → Bool
+abbrev pub is_no_halt : KeyCall → Bool
 is_no_halt call = not (is_halt call)
 
 -- an operation's first call and its second at a place: a key and its GO, or a stop of each set
-abbrev pub first_call : Work → List ℕ → SlotCall
+abbrev pub first_call : Work → List ℕ → KeyCall
 first_call w key = if makes_draw w.operation then Program w.set key w.draw else Halt false
 
-abbrev pub second_call : Work → SlotCall
+abbrev pub second_call : Work → KeyCall
 second_call w = if makes_draw w.operation then Go w.set else Halt true
 
 -- the kind of its calls
-abbrev pub is_of : Operation → SlotCall → Bool
+abbrev pub is_of : Operation → KeyCall → Bool
 is_of o call = if makes_draw o then is_no_halt call else is_halt call
 
-abbrev pub slots_by : Bool → SlotCall → Slots → Slots
+abbrev pub slots_by : Bool → KeyCall → Slots → Slots
 slots_by true call s = slots_called_out call s
 slots_by false call s = slots_called_into call s
 
-pub slots_keep : (sends : Bool) (call : SlotCall) (s : Slots) → is_no_halt call ≡ true → any_live s ≡ true
+pub slots_keep : (sends : Bool) (call : KeyCall) (s : Slots) → is_no_halt call ≡ true → any_live s ≡ true
     → any_live (slots_by sends call s) ≡ true
 slots_keep sends call s kept some = grind arith
 
 -- ---- STOP: no place without a Live slot gets one
 
-pub slots_halt : (sends : Bool) (call : SlotCall) (s : Slots) → is_halt call ≡ true → (sends ≡ true → WaitsBesideLive s)
+pub slots_halt : (sends : Bool) (call : KeyCall) (s : Slots) → is_halt call ≡ true → (sends ≡ true → WaitsBesideLive s)
     → any_live (slots_by sends call s) ≡ true → any_live s ≡ true
 slots_halt sends call s is waits some = grind arith
 
 -- after it no key waits
-pub halts_wait : (call : SlotCall) (s : Slots) → is_halt call ≡ true → WaitsBesideLive (slots_called_out call s)
+pub halts_wait : (call : KeyCall) (s : Slots) → is_halt call ≡ true → WaitsBesideLive (slots_called_out call s)
 halts_wait call s is k draw key waits = grind arith

@@ -3,11 +3,11 @@ use Rattle.link_walks.proofs.Terms.{◌≡◌, Bool, arith, true, SubKind, ℕ, 
 use Rattle.link_walks.proofs.Terms.{Slots}
 use Rattle.link_walks.proofs.Terms.{◌∙◌, sym, Host, slot_pair, StreamState, refl, ap, SubStream, WaitsBesideLive, Pr}
 use Rattle.link_walks.proofs.Terms.{Npr, Cpl, Some, subst, ◌≢◌, port_at}
-use Rattle.link_walks.proofs.Terms.{slots_of, at_sub, Slot, Live, lane_out, lane_in, IsSound, ReadsStream, DrawsApart}
-use Rattle.link_walks.proofs.Terms.{◌||◌, History, moments, status_by, key_plan, slot_in_set, Armed, LinkState, find}
+use Rattle.link_walks.proofs.Terms.{slots_at, at_sub, Slot, Live, lane_out, lane_in, IsSound, ReadsStream, DrawsApart}
+use Rattle.link_walks.proofs.Terms.{◌||◌, History, moments, key_plan, slot_in_set, Armed, LinkState, find}
 use Rattle.link_walks.proofs.Terms.{ports_of, status_at, refuses_at, refusal_if, Option}
-use Rattle.link_walks.proofs.Terms.{live_at, status_there, Side, live_set, is_set, Reads, status_named, has_some}
-use Rattle.link_walks.proofs.Terms.{has_all_live, tx_slots, rx_slots, PortsStand, kept_is, host_of, Keys, Shape}
+use Rattle.link_walks.proofs.Terms.{live_at, status_there, Side, live_set, is_set, Reads}
+use Rattle.link_walks.proofs.Terms.{tx_slots, rx_slots, PortsStand, kept_is, host_of, Keys, Shape}
 use Rattle.link_walks.proofs.Terms.{keys_of}
 use Rattle.link_walks.proofs.Terms.{key_cause}
 use Rattle.link_ports.specs.Stands.{standing}
@@ -20,7 +20,7 @@ use Rattle.link_keys.proofs.Seats.{keys_out}
 use Rattle.link_keys.proofs.RealFacts.{InOrder, in_order}
 use Rattle.stream_rules.specs.Slots.{is_live_slot}
 use Rattle.link_ports.proofs.Frames.{failed_live}
-use Rattle.port_operations.proofs.SlotMoves.{live_in_is, live_out_is}
+use Rattle.port_operations.proofs.SlotTouches.{live_in_is, live_out_is}
 use Rattle.link_walks.proofs.Settling.{outs, ins, any_of, settle}
 
 -- ---- the slots of a sender
@@ -80,7 +80,7 @@ module _ (plan : Plan) (h : History) (law : CauseLaw plan h) (side : Side) (link
       (tx_may plan (sealed_packets plan h) s at.shape (in_order true (moments h place) at.shape at.is.sound))
 
   draws_apart : (sends : Bool) (u : SubKind) → DrawsApart
-      (slots_of sends u (standing plan h (port_at side link) stream))
+      (slots_at sends u (standing plan h (port_at side link) stream))
   draws_apart true u = apart_of (at_sub (standing plan h (port_at side link) stream).tx u).slots (sender_may u)
   draws_apart false u = subst DrawsApart (sym (rx_slots_are u))
       (rx_apart plan h law (port_at side link) (lane_in (port_at side link) stream u))
@@ -134,9 +134,6 @@ reads_stream plan st side link stream x found sends u k = ap
     (λ (y : Option StreamState). refusal_if (refuses_at sends u k y))
     found
 
-same_status : (a b c : Bool) → status_named a b c ≡ status_by a b c
-same_status a b c = grind arith
-
 -- the set that is shown is the Live one
 by_first : (set : Bool) (s : Slots) → may_stand s.first s.second ≡ true → is_set set (live_set (slot_pair true s))
     ≡ is_live_slot (slot_in_set s set)
@@ -150,7 +147,7 @@ host_read plan st h stands link stream x found draws =
     let is = kept_is plan st h (port_at Host link) stream x stands found in
     record {
       pool_is = refl;
-      status_is = ap Some (same_status x.failed (has_some x) (has_all_live x) ∙ sym (ap status_there found));
+      status_is = ap Some (sym (ap status_there found));
       live_is = λ set u.
           let may = subst (λ (y : StreamState). may_stand (at_sub y.tx u).slots.first (at_sub y.tx u).slots.second
           ≡ true) (sym is.same) (sender_may plan h stands.cause Host link stream u) in

@@ -1,7 +1,7 @@
 -- Calls at a port, one after another: what they leave in each place, and that the stream is settled as it is by one
 -- settling at the end.
 use Rattle.link_walks.proofs.CallTerms.{◌≡◌, Bool, arith, true, List, ◌++◌, false, ◌∙◌, sym, [], refl, ap, ◌∷◌, SubKind}
-use Rattle.link_walks.proofs.CallTerms.{SlotCall, called, StreamCall, all_called, Slots, StreamState, WaitsBesideLive}
+use Rattle.link_walks.proofs.CallTerms.{KeyCall, called, StreamCall, all_called, Slots, StreamState, WaitsBesideLive}
 use Rattle.link_walks.proofs.CallTerms.{if◌then◌else◌, ◌&&◌, not, Pr, Npr, Cpl}
 use Rattle.link_walks.proofs.CallTerms.{any_live}
 use Rattle.ide_types.specs.Sub.{is_same_sub}
@@ -26,15 +26,15 @@ places_called sends u [] s = s
 places_called sends u (c ∷ cs) s = places_called sends u cs (place_called sends u c s)
 
 -- the calls of a place alone
-abbrev pub one_if : Bool → SlotCall → List SlotCall
+abbrev pub one_if : Bool → KeyCall → List KeyCall
 one_if true call = call ∷ []
 one_if false call = []
 
-abbrev pub calls_at : Bool → SubKind → List StreamCall → List SlotCall
+abbrev pub calls_at : Bool → SubKind → List StreamCall → List KeyCall
 calls_at sends u [] = []
 calls_at sends u (c ∷ cs) = one_if (is_at sends u c) c.call ++ calls_at sends u cs
 
-abbrev pub called_by : Bool → List SlotCall → Slots → Slots
+abbrev pub called_by : Bool → List KeyCall → Slots → Slots
 called_by sends [] s = s
 called_by sends (call ∷ calls) s = called_by sends calls (slots_by sends call s)
 
@@ -50,7 +50,7 @@ calls_append sends u (c ∷ xs) ys = grind (arith, calls_append sends u xs ys)
 
 -- ---- one call
 
-called_is : (sends : Bool) (u : SubKind) (call : SlotCall) (x : StreamState)
+called_is : (sends : Bool) (u : SubKind) (call : KeyCall) (x : StreamState)
     → let c : StreamCall = record { sends = sends; sub = u; call = call } in
     called sends u call x ≡ settle
     (with_slots (λ v. place_called true v c (outs x v)) (λ v. place_called false v c (ins x v)) x)
@@ -78,11 +78,11 @@ still_waits u c s is waits = chosen WaitsBesideLive (is_at true u c) _ _ (halts_
 
 -- ---- calls in order
 
-abbrev pub all_by : (SlotCall → Bool) → List StreamCall → Bool
+abbrev pub all_by : (KeyCall → Bool) → List StreamCall → Bool
 all_by test [] = true
 all_by test (c ∷ cs) = test c.call && all_by test cs
 
-pub all_append : (test : SlotCall → Bool) (xs ys : List StreamCall) → all_by test xs ≡ true → all_by test ys ≡ true
+pub all_append : (test : KeyCall → Bool) (xs ys : List StreamCall) → all_by test xs ≡ true → all_by test ys ≡ true
     → all_by test (xs ++ ys) ≡ true
 all_append test [] ys first second = second
 all_append test (c ∷ xs) ys first second = let each = both-true (test c.call) (all_by test xs) first in rw (each.0)

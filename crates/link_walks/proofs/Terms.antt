@@ -28,7 +28,7 @@ pub use Rattle.link_walks.proofs.CallTerms.{
   called,
   last_exchange_of,
   port_at,
-  slots_of,
+  slots_at,
 }
 pub use Rattle.link_walks.proofs.CallTerms.{refuses_in}
 pub use Rattle.link_walks.proofs.CallTerms.{
@@ -42,13 +42,15 @@ pub use Rattle.link_walks.proofs.CallTerms.{
   IsSound,
   ReadsStream,
 }
-pub use Rattle.link_walks.proofs.CallTerms.{CallsAreMoves, DrawsApart, ◌||◌}
+pub use Rattle.link_walks.proofs.CallTerms.{CallsAreTouches, DrawsApart, ◌||◌}
 pub use Rattle.std.proofs.Common.{◌/◌, Option, ◌%◌, None, length, inl, inr, ◌*◌, option_map, Ok, Err}
 pub use Rattle.std.specs.Prelude.{nat_lt, is_some, unwrap_or, All}
 pub use Rattle.std.specs.Option.{option_or}
 pub use Rattle.key_laws.specs.Operations.{reach_of, work_of, Op, op_standing, reach, op_after, Manager, operated}
 pub use Rattle.key_laws.specs.Operations.{manager_after}
-pub use Rattle.link_walks.specs.Calls.{sub_from, requests_called, call_of_exchange}
+pub use Rattle.link_walks.specs.Calls.{all_called_at, call_of_exchange}
+pub use Rattle.ide_prefix.specs.{sub_from}
+pub use Rattle.ide_km.specs.{PlaceCall}
 pub use Rattle.std.proofs.lemmas.List.{get_or-map, get_or_past, length-map, get_or-set_other}
 pub use Rattle.std.proofs.lemmas.Bool.{cases_lt}
 pub use Rattle.ide_plan.specs.Fits.{IsKey, FitsPlan, FitsStream}
@@ -63,21 +65,22 @@ pub use Rattle.link_history.specs.Plan.{key_plan, streams_by_link, streams_of, w
 pub use Rattle.stream_rules.specs.Stream.{slot_in_set, Armed}
 pub use Rattle.link_ports.specs.Machine.{LinkState, find, find_op, ports_of, status_at, refuses_at, live_at}
 pub use Rattle.link_ports.specs.Machine.{status_if_planned as status_there}
-pub use Rattle.link_walks.specs.Moves.{begun_requests, AreMoves}
+pub use Rattle.link_walks.specs.Touches.{AreTouches}
 pub use Rattle.ide_types.specs.declared.port.Side.{Side}
 pub use Rattle.ide_types.proofs.KeySets.{one_of_set}
 pub use Rattle.key_slots.specs.{is_empty, Pool, draws_in, SlotPair, live_set, slot_in as pair_slot, six_keys}
 pub use Rattle.key_slots.specs.{unspent, KeySet, is_one, key_set}
 pub use Rattle.key_laws.proofs.Tests.{different-false, true-lt, same-true}
 pub use Rattle.tsm_host.specs.declared.operation.Refusal.{Refusal}
-pub use Rattle.tsm_host.specs.Local.{Request, Request as Local, goes as go_requests}
+pub use Rattle.tsm_host.specs.Local.{goes as host_goes}
 pub use Rattle.tsm_host.specs.Streams.{StreamView, draws_now, refusal_of, begun_stream, asked_in, begun_pool}
+pub use Rattle.tsm_host.specs.Streams.{begun_calls}
 pub use Rattle.tsm_host.specs.Streams.{outcome_of, taken_stream, taken_calls, shown_at_end, is_set, request_asked}
 pub use Rattle.tsm_host.specs.Streams.{keys_after, acknowledged, work_asked, HostView}
 pub use Rattle.tsm_host.specs.Walk.{Walked as ManagerWalk, answers, walk, walked_unless as manager_walked, verdict_of}
 pub use Rattle.tsm_host.specs.Walk.{op_by, carried_as, continued, Reads, key_refusal_verdict, IsAsked}
 pub use Rattle.tsm_host.proofs.Walks.{Comes, walk_comes, WorkFits}
-pub use Rattle.sub_stream.specs.Calls.{sends_in, slots_at, pair_at, status_by as status_named, has_some, has_all_live}
+pub use Rattle.sub_stream.specs.Calls.{sends_in, pair_at}
 pub use Rattle.link_ports.specs.Stands.{PortsStandFor, tx_slots, rx_slots, PortsStand}
 pub use Rattle.link_ports.proofs.Changes.{kept_is}
 pub use Rattle.link_walks.specs.Walks.{StreamEnds, walk_on, came_to, ends_after_exchange, begun_ends}

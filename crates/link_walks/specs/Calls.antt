@@ -1,51 +1,45 @@
 -- The calls of an operation's event at the two ports of a stream, one after another.
-use Rattle.std.specs.Prelude.{ℕ, suc, zero, ◌+◌, ◌*◌, ◌/◌, ◌%◌, ◌==◌, Bool, List, [], ◌∷◌, ◌++◌, map, if◌then◌else◌}
+use Rattle.std.specs.Prelude.{ℕ, suc, zero, ◌+◌, ◌*◌, ◌/◌, ◌%◌, Bool, List, [], ◌∷◌, ◌++◌, map}
 use Rattle.std.specs.List.{slice_index_or}
 use Rattle.ide_types.specs.declared.sub.SubKind.{SubKind}
-use Rattle.ide_types.specs.declared.sub.SubKind.TheVariants.{Pr, Npr, Cpl}
 use Rattle.ide_types.specs.declared.port.Side.{Side}
 use Rattle.ide_types.specs.declared.port.Side.TheVariants.{Device}
 use Rattle.ide_plan.specs.declared.plan.Plan.{Plan}
 use Rattle.ide_types.specs.{is_one, key_set}
+use Rattle.ide_prefix.specs.{sub_from}
+use Rattle.key_slots.specs.{KeyCall, Program, Go, Halt}
+use Rattle.ide_km.specs.{PlaceCall}
 use Rattle.key_laws.specs.Operations.{Work}
 use Rattle.tsm_host.specs.declared.exchange.Exchange.{Exchange}
 use Rattle.tsm_host.specs.declared.exchange.Exchange.TheVariants as exchange
 use Rattle.tsm_host.specs.Exchanges.{exchange_of}
-use Rattle.tsm_host.specs.Local.{Request, AskProgram, AskGo, AskHalt}
 use Rattle.stream_rules.specs.Stream.{StreamState}
-use Rattle.sub_stream.specs.Calls.{SlotCall, Program, Go, Halt, sends_in, called}
+use Rattle.sub_stream.specs.Calls.{sends_in, called}
 
 -- a call at a port: whether at a sender, and in which sub-stream
 pub record StreamCall : Type 0 where
   pub sends : Bool
   pub sub : SubKind
-  pub call : SlotCall
+  pub call : KeyCall
 
 -- calls in order
 abbrev pub all_called : List StreamCall → StreamState → StreamState
 all_called [] x = x
 all_called (c ∷ cs) x = all_called cs (called c.sends c.sub c.call x)
 
--- the sub-stream of a number below 3
-abbrev pub sub_from : ℕ → SubKind
-sub_from n = if n == 0 then Pr else if n == 1 then Npr else Cpl
+-- ---- calls at places
 
--- ---- local calls of the host's port
+-- a call at a place of the port of this side
+abbrev pub stream_call : Side → PlaceCall → StreamCall
+stream_call side c =
+    record { sends = sends_in side c.place.direction; sub = sub_from c.place.sub; call = c.call }
 
-abbrev pub request_call : Side → Request → StreamCall
-request_call side (AskProgram place set key draw) =
-    record { sends = sends_in side place.direction; sub = sub_from place.sub; call = Program set key draw }
-request_call side (AskGo place set) =
-    record { sends = sends_in side place.direction; sub = sub_from place.sub; call = Go set }
-request_call side (AskHalt place set) =
-    record { sends = sends_in side place.direction; sub = sub_from place.sub; call = Halt set }
-
-abbrev pub requests_called : Side → List Request → StreamState → StreamState
-requests_called side rs x = all_called (map (request_call side) rs) x
+abbrev pub all_called_at : Side → List PlaceCall → StreamState → StreamState
+all_called_at side cs x = all_called (map (stream_call side) cs) x
 
 -- ---- exchanges at the device's port: its receivers are lanes 0 to 2, its senders lanes 3 to 5
 
-abbrev pub lane_call : ℕ → SlotCall → StreamCall
+abbrev pub lane_call : ℕ → KeyCall → StreamCall
 lane_call lane call = record { sends = sends_in Device (lane / 3); sub = sub_from (lane % 3); call = call }
 
 -- the key of a draw in a lane

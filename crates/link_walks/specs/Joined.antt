@@ -18,9 +18,9 @@ use Rattle.tsm_host.specs.Walk.{verdict_of, due_on, op_by}
 use Rattle.stream_rules.specs.Stream.{StreamState}
 use Rattle.sub_stream.specs.Calls.{pair_at, stream_status}
 use Rattle.link_walks.specs.Calls.{lane_key}
-use Rattle.link_ports.specs.Machine.{LinkState, find, find_op, port_at, place_at_end, ports_of, status_at, moves_at}
+use Rattle.link_ports.specs.Machine.{LinkState, find, find_op, port_at, place_at_end, ports_of, status_at, touches_at}
 use Rattle.link_ports.specs.Machine.{draws_after}
-use Rattle.link_ports.specs.Moves.{moved_stream}
+use Rattle.link_ports.specs.Touches.{touched_stream}
 use Rattle.link_ports.specs.Stands.{PortsStandFor}
 use Rattle.link_walks.specs.Walks.{StreamEnds, WalkedEnds, event_walk}
 
@@ -48,12 +48,12 @@ KeysKept plan s = KeysKeptIn plan s.op s.keys
 -- ---- the law
 
 -- the stream at a port after an event that came so far; as before if it was refused
-abbrev pub moved_by : Plan → LinkState → ℕ → ℕ → Work → Side → Option Reach → StreamState → StreamState
-moved_by plan st link stream w side None x = x
-moved_by plan st link stream w side (Some r) x =
-    moved_stream plan (port_at side link) stream
-    (λ u. moves_at (ports_of plan st) w r (place_at_end link stream true side u))
-    (λ u. moves_at (ports_of plan st) w r (place_at_end link stream false side u)) x
+abbrev pub touched_by : Plan → LinkState → ℕ → ℕ → Work → Side → Option Reach → StreamState → StreamState
+touched_by plan st link stream w side None x = x
+touched_by plan st link stream w side (Some r) x =
+    touched_stream plan (port_at side link) stream
+    (λ u. touches_at (ports_of plan st) w r (place_at_end link stream true side u))
+    (λ u. touches_at (ports_of plan st) w r (place_at_end link stream false side u)) x
 
 abbrev pub draws_by : ℕ → Work → Option Reach → ℕ
 draws_by next w None = next
@@ -78,10 +78,10 @@ pub record IsJoined (plan : Plan) (st : LinkState) (operation : Operation) (loss
       r.ends.keeper.op ≡ op_by e.keeper.op w
       (reach_of operation (verdict_due plan st operation e.keeper.op e.keeper.link e.keeper.id loss))
   pub host_is : let w = work_of operation e.keeper.op st.draws in
-      r.ends.host ≡ moved_by plan st e.keeper.link e.keeper.id w Host
+      r.ends.host ≡ touched_by plan st e.keeper.link e.keeper.id w Host
       (reach_of operation (verdict_due plan st operation e.keeper.op e.keeper.link e.keeper.id loss)) e.host
   pub device_is : let w = work_of operation e.keeper.op st.draws in
-      r.ends.device ≡ moved_by plan st e.keeper.link e.keeper.id w Device
+      r.ends.device ≡ touched_by plan st e.keeper.link e.keeper.id w Device
       (reach_of operation (verdict_due plan st operation e.keeper.op e.keeper.link e.keeper.id loss)) e.device
   pub draws_is : let w = work_of operation e.keeper.op st.draws in
       (pool_by w (reach_of operation (verdict_due plan st operation e.keeper.op e.keeper.link e.keeper.id loss))

@@ -10,7 +10,8 @@ use Rattle.key_slots.specs.{Pool}
 use Rattle.key_laws.specs.Operations.{Work, work_of}
 use Rattle.ide_km.specs.declared.object.KmView.{KmView}
 use Rattle.ide_km.specs.declared.place.Place.{Place}
-use Rattle.ide_km.specs.{PortCall, Program, Go, Halt, called_place, Shown, call_of, reply_of, spelling, object_reading}
+use Rattle.ide_km.specs.{PlaceCall, Shown, is_done, call_of, reply_of, spelling, object_reading}
+use Rattle.ide_prefix.specs.{sub_from}
 use Rattle.tsm_host.specs.declared.judge.Judged.{Judged}
 use Rattle.tsm_host.specs.declared.judge.Judged.TheVariants.{Lost as NotCarried, Bad}
 use Rattle.tsm_host.specs.declared.operation.Outcome.{Outcome}
@@ -21,9 +22,8 @@ use Rattle.tsm_host.specs.Judging.{judged_reply}
 use Rattle.tsm_host.specs.Streams.{StreamView, HostView, asked_in, request_asked, refusal_of, begun_stream, begun_calls}
 use Rattle.tsm_host.specs.Streams.{outcome_of, taken_stream, taken_calls}
 use Rattle.stream_rules.specs.Stream.{StreamState}
-use Rattle.sub_stream.specs.Calls as stream
-use Rattle.sub_stream.specs.Calls.{SlotCall, sends_in, pair_at, called}
-use Rattle.link_walks.specs.Calls.{sub_from, requests_called}
+use Rattle.sub_stream.specs.Calls.{sends_in, pair_at, called}
+use Rattle.link_walks.specs.Calls.{all_called_at}
 
 -- the two ports' parts of a stream, and what the manager keeps of it
 pub record StreamEnds : Type 0 where
@@ -41,16 +41,10 @@ shown_stream id x =
     then Some (pair_at (sends_in Device place.direction) (sub_from place.sub) x)
     else None
 
-abbrev pub slot_call : PortCall → SlotCall
-slot_call (Program place set key draw answer) = stream.Program set key draw
-slot_call (Go place set answer) = stream.Go set
-slot_call (Halt place set answer) = stream.Halt set
-
 -- the stream after a call of its port, if any
-abbrev pub port_called : Option PortCall → StreamState → StreamState
+abbrev pub port_called : Option PlaceCall → StreamState → StreamState
 port_called None x = x
-port_called (Some call) x = called (sends_in Device (called_place call).direction)
-    (sub_from (called_place call).sub) (slot_call call) x
+port_called (Some c) x = called (sends_in Device c.place.direction) (sub_from c.place.sub) c.call x
 
 -- ---- one exchange
 
@@ -67,8 +61,9 @@ pub record Exchanged : Type 0 where
 -- the request reached the device
 abbrev pub came_to : ℕ → KmView → ℕ → ℕ → StreamState → Exchanged
 came_to requester request id draw x =
-    let call = call_of (shown_stream id x) (spelling request) draw in
-    record { judged = judged_bytes request (reply_of requester (spelling request) call); device = port_called call x }
+    let call = call_of (spelling request) draw in
+    let done = is_done (shown_stream id x) call in
+    record { judged = judged_bytes request (reply_of requester (spelling request) done); device = port_called call x }
 
 abbrev pub lost_as : Lost → Exchanged → StreamState → Exchanged
 lost_as Request came x = record { judged = NotCarried; device = x }
@@ -86,7 +81,7 @@ exchanged loss requester a e =
 -- the manager takes it, and calls the host's port
 abbrev pub ends_after_exchange : Asked → Exchanged → StreamEnds → StreamEnds
 ends_after_exchange a x e = record {
-  host = requests_called Host (taken_calls a x.judged e.keeper.id) e.host;
+  host = all_called_at Host (taken_calls a x.judged e.keeper.id) e.host;
   device = x.device;
   keeper = taken_stream a x.judged e.keeper;
 }
@@ -122,7 +117,7 @@ walk_on (suc more) loss requester e =
 -- it begins, or goes on
 abbrev pub begun_ends : Work → Pool → StreamEnds → StreamEnds
 begun_ends w pool e = record {
-  host = requests_called Host (begun_calls w pool e.keeper.id) e.host;
+  host = all_called_at Host (begun_calls w pool e.keeper.id) e.host;
   device = e.device;
   keeper = begun_stream w pool e.keeper;
 }

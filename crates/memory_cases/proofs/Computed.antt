@@ -8,6 +8,7 @@ use Rattle.first_fault.specs.Walks.{walked_from, walk_length, reading}
 use Rattle.tlp_layout.specs.Reading.{read_of, read_head_of}
 use Rattle.ide_prefix.specs.Reading.{cut_of}
 use Rattle.association.specs.Choice.{choice_of}
+use Rattle.association.specs.Outgoing.{outgoing_of}
 use Rattle.key_laws.specs.Keys.{is_open, keys}
 use Rattle.key_laws.specs.History.{manager, moments, base, failed_there}
 use Rattle.key_laws.specs.Due.{key_due}
@@ -22,7 +23,7 @@ use Rattle.link_history.specs.History.{packet_of, sent_in, sealed_packets, poste
 use Rattle.link_history.specs.History.{has_live_in, front_of, total_in, arrived, meets_counts, got_since, held}
 use Rattle.link_history.specs.History.{units_got, units_since}
 use Rattle.link_history.specs.Memory.{writes}
-use Rattle.link_history.specs.Due.{choice, due, before_tag, is_verified}
+use Rattle.link_history.specs.Due.{due, before_tag, is_verified}
 use Rattle.link_verdicts.specs.declared.verdict.Effect.TheVariants.{Applied, Blocked}
 use Rattle.link_verdicts.specs.declared.verdict.BlockCause.TheVariants.{NotRunning, Stale}
 use Rattle.memory_cases.specs.Cases.{IsDue, MemoryCases, reported_history, started_event, unheard, sealed_write}
@@ -32,7 +33,7 @@ use Rattle.memory_cases.specs.Cases.{run_again}
 -- each is a declaration of its own, since the checker counts its steps by declarations
 sealed_due : IsDue (started_event ∷ reported_history) sealed_write
 unfolding due key_due manager moments keys is_open failed_there base interface_due devices managed stream_draw sites
-    read_of reading walk_length walked_from choice choice_of keys_at has_live_out has_live_in stream_plan sent_in
+    read_of reading walk_length walked_from outgoing_of choice_of keys_at has_live_out has_live_in stream_plan sent_in
     sealed_packets packet_of units open_unit posted_in writes byte_after front_of total_in arrived read_head_of cut_of
     key_of before_tag is_verified meets_counts got_since held units_got units_since verifies tag_of ghash hash_key
     blocks counter key_stream masked bits aes cipher rounds add_round_key mixed mix_columns shift_rows sub_bytes
@@ -41,7 +42,7 @@ sealed_due = refl
 
 applied_due : IsDue (sealed_write ∷ started_event ∷ reported_history) (accepted_write Applied)
 unfolding due key_due manager moments keys is_open failed_there base interface_due devices managed stream_draw sites
-    read_of reading walk_length walked_from choice choice_of keys_at has_live_out has_live_in stream_plan sent_in
+    read_of reading walk_length walked_from outgoing_of choice_of keys_at has_live_out has_live_in stream_plan sent_in
     sealed_packets packet_of units open_unit posted_in writes byte_after front_of total_in arrived read_head_of cut_of
     key_of before_tag is_verified meets_counts got_since held units_got units_since verifies tag_of ghash hash_key
     blocks counter key_stream masked bits aes cipher rounds add_round_key mixed mix_columns shift_rows sub_bytes
@@ -50,7 +51,7 @@ applied_due = refl
 
 shown_due : IsDue (accepted_write Applied ∷ sealed_write ∷ started_event ∷ reported_history) memory_read_back
 unfolding due key_due manager moments keys is_open failed_there base interface_due devices managed stream_draw sites
-    read_of reading walk_length walked_from choice choice_of keys_at has_live_out has_live_in stream_plan sent_in
+    read_of reading walk_length walked_from outgoing_of choice_of keys_at has_live_out has_live_in stream_plan sent_in
     sealed_packets packet_of units open_unit posted_in writes byte_after front_of total_in arrived read_head_of cut_of
     key_of before_tag is_verified meets_counts got_since held units_got units_since verifies tag_of ghash hash_key
     blocks counter key_stream masked bits aes cipher rounds add_round_key mixed mix_columns shift_rows sub_bytes
@@ -59,7 +60,7 @@ shown_due = refl
 
 unheard_due : IsDue (unheard ∷ reported_history) sealed_write
 unfolding due key_due manager moments keys is_open failed_there base interface_due devices managed stream_draw sites
-    read_of reading walk_length walked_from choice choice_of keys_at has_live_out has_live_in stream_plan sent_in
+    read_of reading walk_length walked_from outgoing_of choice_of keys_at has_live_out has_live_in stream_plan sent_in
     sealed_packets packet_of units open_unit posted_in writes byte_after front_of total_in arrived read_head_of cut_of
     key_of before_tag is_verified meets_counts got_since held units_got units_since verifies tag_of ghash hash_key
     blocks counter key_stream masked bits aes cipher rounds add_round_key mixed mix_columns shift_rows sub_bytes
@@ -68,7 +69,7 @@ unheard_due = refl
 
 blocked_due : IsDue (sealed_write ∷ unheard ∷ reported_history) (accepted_write (Blocked NotRunning))
 unfolding due key_due manager moments keys is_open failed_there base interface_due devices managed stream_draw sites
-    read_of reading walk_length walked_from choice choice_of keys_at has_live_out has_live_in stream_plan sent_in
+    read_of reading walk_length walked_from outgoing_of choice_of keys_at has_live_out has_live_in stream_plan sent_in
     sealed_packets packet_of units open_unit posted_in writes byte_after front_of total_in arrived read_head_of cut_of
     key_of before_tag is_verified meets_counts got_since held units_got units_since verifies tag_of ghash hash_key
     blocks counter key_stream masked bits aes cipher rounds add_round_key mixed mix_columns shift_rows sub_bytes
@@ -77,7 +78,7 @@ blocked_due = refl
 
 halted_due : IsDue halted_history (accepted_write (Blocked NotRunning))
 unfolding due key_due manager moments keys is_open failed_there base interface_due devices managed stream_draw sites
-    read_of reading walk_length walked_from choice choice_of keys_at has_live_out has_live_in stream_plan sent_in
+    read_of reading walk_length walked_from outgoing_of choice_of keys_at has_live_out has_live_in stream_plan sent_in
     sealed_packets packet_of units open_unit posted_in writes byte_after front_of total_in arrived read_head_of cut_of
     key_of before_tag is_verified meets_counts got_since held units_got units_since verifies tag_of ghash hash_key
     blocks counter key_stream masked bits aes cipher rounds add_round_key mixed mix_columns shift_rows sub_bytes
@@ -86,7 +87,7 @@ halted_due = refl
 
 stale_due : IsDue run_again (accepted_write (Blocked Stale))
 unfolding due key_due manager moments keys is_open failed_there base interface_due devices managed stream_draw sites
-    read_of reading walk_length walked_from choice choice_of keys_at has_live_out has_live_in stream_plan sent_in
+    read_of reading walk_length walked_from outgoing_of choice_of keys_at has_live_out has_live_in stream_plan sent_in
     sealed_packets packet_of units open_unit posted_in writes byte_after front_of total_in arrived read_head_of cut_of
     key_of before_tag is_verified meets_counts got_since held units_got units_since verifies tag_of ghash hash_key
     blocks counter key_stream masked bits aes cipher rounds add_round_key mixed mix_columns shift_rows sub_bytes

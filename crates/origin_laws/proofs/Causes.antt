@@ -1,14 +1,16 @@
 -- What is due of interfaces is due by them alone, and T is set as they say.
-use Rattle.sealing_laws.proofs.Terms.{◌≡◌, ℕ, ◌+◌, Bool, true, false, List, [], ◌∷◌, length, Option, Some, None, Result}
-use Rattle.sealing_laws.proofs.Terms.{Ok, Err, refl, ap, sym, subst, if◌then◌else◌, unwrap_or, AllByRecursion, Plan}
+use Rattle.sealing_laws.proofs.Terms.{◌≡◌, ℕ, ◌+◌, Bool, true, false, List, [], ◌∷◌, length, Result}
+use Rattle.sealing_laws.proofs.Terms.{refl, ap, sym, subst, if◌then◌else◌, unwrap_or, AllByRecursion, Plan}
 use Rattle.sealing_laws.proofs.Terms.{History, Event, Send, Verdict, PortName, Tlp, header, read_of, CauseLaw, Sending}
 use Rattle.sealing_laws.proofs.Terms.{Lanes, lanes_at, needs_sync, described, ends_unit, sets_trusted, sealed_by_is}
 use Rattle.sealing_laws.proofs.Terms.{SubKind, Npr, Cpl, class_of}
 unfoldable use Rattle.sealing_laws.proofs.Terms.{due, listed, sealed_packets}
 use Rattle.tlp_layout.specs.declared.fault.TlpFault.{TlpFault}
 use Rattle.stream_rules.specs.Sending.{first_that_holds, refusals, sealed_by}
-use Rattle.link_history.specs.Plan.{has_port}
-use Rattle.link_history.specs.Due.{send_on, send_read, choice}
+use Rattle.association.specs.Outgoing.{Outgoing, NoTlp, OnNone, OnStream, outgoing_of}
+use Rattle.association.proofs.Outgoing.{on_stream_reads}
+use Rattle.link_history.specs.Plan.{has_port, streams_of}
+use Rattle.link_history.specs.Due.{send_due}
 use Rattle.link_history.specs.Memory.{memory_due}
 use Rattle.interface_states.specs.Terms.{InterfaceEvent}
 unfoldable use Rattle.interface_states.specs.Due.{interface_verdict_due as interface_due}
@@ -89,11 +91,12 @@ sealed_fits plan h bytes trusted x s number t =
     subst (AllByRecursion (SealFits plan h s.port bytes trusted)) (sym (sealed_by_is x s number))
     (listed_fits plan h bytes trusted x s number (needs_sync x s.class Npr) (needs_sync x s.class Cpl) t)
 
-on_fits : (plan : Plan) (h : History) (port : PortName) (bytes : List ℕ) (t : Tlp) → read_of bytes ≡ Ok t
-    → (more trusted : Bool) (o : Option ℕ)
-    → Fits plan h port bytes more trusted (send_on plan h port (header t) more trusted o)
-on_fits plan h port bytes t reads more trusted None = tt
-on_fits plan h port bytes t reads more trusted (Some stream) =
+outgoing_fits : (plan : Plan) (h : History) (port : PortName) (bytes : List ℕ) (more trusted : Bool) (o : Outgoing)
+    → outgoing_of (streams_of plan port.link) port.side bytes ≡ o
+    → Fits plan h port bytes more trusted (send_due plan h port o more trusted)
+outgoing_fits plan h port bytes more trusted (NoTlp f) comes = tt
+outgoing_fits plan h port bytes more trusted OnNone comes = tt
+outgoing_fits plan h port bytes more trusted (OnStream t stream) comes =
     let s : Sending = record {
       port = port;
       stream = stream;
@@ -105,15 +108,15 @@ on_fits plan h port bytes t reads more trusted (Some stream) =
     (tt, (tt, (tt, (tt, (tt, (tt, (tt, (tt, tt))))))))
     (sealed_fits plan h bytes trusted (lanes_at plan h port stream) s (length (sealed_packets plan h) + 1)
     (ap (λ (r : Result Tlp TlpFault). t_due plan h port port.side (owner_read plan port.link r) stream trusted)
-    (sym reads)))
+    (sym (on_stream_reads (streams_of plan port.link) port.side bytes t stream comes).0)))
 
-read_fits : (plan : Plan) (h : History) (port : PortName) (bytes : List ℕ) (more trusted : Bool)
-    (r : Result Tlp TlpFault) → read_of bytes ≡ r → (here : Bool)
-    → Fits plan h port bytes more trusted (if here then send_read plan h port r more trusted else v.Nothing)
-read_fits plan h port bytes more trusted r reads false = tt
-read_fits plan h port bytes more trusted (Err f) reads true = tt
-read_fits plan h port bytes more trusted (Ok t) reads true = on_fits plan h port bytes t reads more trusted
-    (choice plan port (header t))
+here_fits : (plan : Plan) (h : History) (port : PortName) (bytes : List ℕ) (more trusted here : Bool)
+    → Fits plan h port bytes more trusted
+    (if here then send_due plan h port (outgoing_of (streams_of plan port.link) port.side bytes) more trusted
+    else v.Nothing)
+here_fits plan h port bytes more trusted false = tt
+here_fits plan h port bytes more trusted true = outgoing_fits plan h port bytes more trusted
+    (outgoing_of (streams_of plan port.link) port.side bytes) refl
 
 -- ---- all events
 
@@ -122,7 +125,7 @@ unfolding due
 pair_fits plan h (event.Interface e) w is = given_free plan h e w is
 pair_fits plan h (event.Send port bytes more trusted) w is =
     subst (Fits plan h port bytes more trusted) (sym is)
-    (read_fits plan h port bytes more trusted (read_of bytes) refl (has_port plan port))
+    (here_fits plan h port bytes more trusted (has_port plan port))
 pair_fits plan h e w is = tt
 
 pub interface_cause : (plan : Plan) (h : History) → CauseLaw plan h → InterfaceCause plan h

@@ -1,10 +1,11 @@
 -- The worked cases by computation.
-use Rattle.port_operations.proofs.Terms.{◌≡◌, [], refl, base, choice, due, failed_there, find, find_op, first_state}
+use Rattle.port_operations.proofs.Terms.{◌≡◌, [], refl, base, due, failed_there, find, find_op, first_state}
 use Rattle.port_operations.proofs.Terms.{has_live_in, has_live_out, is_open, key_due, keys, keys_at, manager, moments}
 use Rattle.port_operations.proofs.Terms.{open_unit, packet_of, posted_in, put, put_op, read_of, sealed_packets, sent_in}
 use Rattle.port_operations.proofs.Terms.{step_of, stream_plan, units}
 use Rattle.first_fault.specs.Walks.{walked_from, walk_length, reading}
 use Rattle.association.specs.Choice.{choice_of}
+use Rattle.association.specs.Outgoing.{outgoing_of}
 use Rattle.interface_states.specs.Devices.{devices}
 use Rattle.interface_states.specs.Sites.{sites}
 use Rattle.port_operations.specs.Cases.{port_plan, held_up, held_up_verdicts, lost_on_the_way, lost_verdicts}
@@ -13,12 +14,12 @@ use Rattle.port_operations.specs.Cases.{answers_on, WorkedCases}
 
 held_up_due : port_verdicts_on [] held_up ≡ held_up_verdicts
 unfolding due devices sites key_due manager moments keys is_open failed_there base read_of reading walk_length
-    walked_from choice choice_of keys_at has_live_out has_live_in stream_plan sent_in sealed_packets packet_of units
-    open_unit posted_in
+    walked_from outgoing_of choice_of keys_at has_live_out has_live_in stream_plan sent_in sealed_packets packet_of
+    units open_unit posted_in
 held_up_due = refl
 
 held_up_done : answers_on (first_state port_plan) held_up ≡ held_up_verdicts
-unfolding step_of find put find_op put_op read_of reading walk_length walked_from choice choice_of stream_plan
+unfolding step_of find put find_op put_op read_of reading walk_length walked_from outgoing_of choice_of stream_plan
 held_up_done = refl
 
 lost_due : port_verdicts_on [] lost_on_the_way ≡ lost_verdicts

@@ -1,10 +1,10 @@
 -- A send or an arrival leaves the manager's operations and the draws.
 use Rattle.link_ports.specs.Machine.{Beside}
-use Rattle.port_operations.proofs.Terms.{◌≡◌, Bool, true, false, ℕ, List, Option, Some, None, Result, Ok, Err, refl}
-use Rattle.port_operations.proofs.Terms.{arith, if◌then◌else◌, Alter, stepped_answer, Arrival, Arrive, arrive, choice}
+use Rattle.port_operations.proofs.Terms.{◌≡◌, Bool, true, false, List, Option, Some, None, refl}
+use Rattle.port_operations.proofs.Terms.{arith, if◌then◌else◌, Alter, stepped_answer, Arrival, Arrive, stepped_arrival}
 use Rattle.port_operations.proofs.Terms.{Cut}
 use Rattle.port_operations.proofs.Terms.{Dump, Event, find, has_port, is_of_packets, LinkState, Pass, Plan, PortName}
-use Rattle.port_operations.proofs.Terms.{put, read_of, Send, stepped_send_found, stepped_send_on, stepped_send_read}
+use Rattle.port_operations.proofs.Terms.{put, Send, stepped_on_stream, stepped_send, streams_of}
 use Rattle.port_operations.proofs.Terms.{Sending, step_of, Stepped}
 use Rattle.port_operations.proofs.Terms.{StreamState, Verdict}
 use Rattle.link_verdicts.specs.declared.verdict.Verdict.TheVariants as v
@@ -12,12 +12,13 @@ use Rattle.link_verdicts.specs.declared.verdict.SealedPacket.{SealedPacket}
 use Rattle.tlp_layout.specs.Class.{class_of}
 use Rattle.tlp_layout.specs.Tlp.{header}
 use Rattle.tlp_layout.specs.declared.tlp.Tlp.{Tlp}
-use Rattle.tlp_layout.specs.declared.fault.TlpFault.{TlpFault}
+use Rattle.association.specs.Outgoing.{Outgoing, NoTlp, OnNone, OnStream, outgoing_of}
 
 abbrev pub Kept : LinkState → Stepped → Type 0
 Kept st r = (r.1.ops ≡ st.ops) × (r.1.draws ≡ st.draws)
 
-arrive_kept : (plan : Plan) (beside : Beside) (st : LinkState) (a : Option Arrival) → Kept st (arrive plan beside st a)
+arrive_kept : (plan : Plan) (beside : Beside) (st : LinkState) (a : Option Arrival)
+    → Kept st (stepped_arrival plan beside st a)
 unfolding put
 arrive_kept plan beside st a = grind arith
 
@@ -27,38 +28,34 @@ unfolding put
 answered_kept plan st s t x o ds = grind arith
 
 found_kept : (plan : Plan) (st : LinkState) (s : Sending) (t : Tlp) (o : Option StreamState)
-    → Kept st (stepped_send_found plan st s t o)
+    → Kept st (stepped_on_stream plan st s t o)
 found_kept plan st s t None = (refl, refl)
 found_kept plan st s t (Some x) = answered_kept plan st s t x _ _
 
-send_kept : (plan : Plan) (beside : Beside) (st : LinkState) (port : PortName) (r : Result Tlp TlpFault)
-    (more trusted b : Bool)
-    → Kept st (if b then stepped_send_read plan beside st port r more trusted else (v.Nothing, st))
-send_kept plan beside st port (Ok t) more trusted true = by_choice (choice plan port (header t))
-  where
-    by_choice : (o : Option ℕ) → Kept st (stepped_send_on plan beside st port t more trusted o)
-    by_choice None = (refl, refl)
-    by_choice (Some stream) =
-        found_kept plan st (record {
-          port = port;
-          stream = stream;
-          class = class_of (header t);
-          more = more;
-          trusted = beside.t port (header t)
-              stream trusted;
-        }) t (find plan st port stream)
-send_kept plan beside st port (Err f) more trusted true = (refl, refl)
-send_kept plan beside st port r more trusted false = (refl, refl)
+send_kept : (plan : Plan) (beside : Beside) (st : LinkState) (port : PortName) (o : Outgoing) (more trusted b : Bool)
+    → Kept st (if b then stepped_send plan beside st port o more trusted else (v.Nothing, st))
+send_kept plan beside st port (NoTlp f) more trusted true = (refl, refl)
+send_kept plan beside st port OnNone more trusted true = (refl, refl)
+send_kept plan beside st port (OnStream t stream) more trusted true =
+    found_kept plan st (record {
+      port = port;
+      stream = stream;
+      class = class_of (header t);
+      more = more;
+      trusted = beside.t port (header t)
+          stream trusted;
+    }) t (find plan st port stream)
+send_kept plan beside st port o more trusted false = (refl, refl)
 
 pub step_kept : (plan : Plan) (beside : Beside) (st : LinkState) (e : Event) → is_of_packets e ≡ true
     → Kept st (step_of plan beside st e)
 unfolding step_of
-step_kept plan beside st (Send port bytes more trusted) is = send_kept plan beside st port (read_of bytes) more trusted
-    (has_port plan port)
+step_kept plan beside st (Send port bytes more trusted) is = send_kept plan beside st port
+    (outgoing_of (streams_of plan port.link) port.side bytes) more trusted (has_port plan port)
 step_kept plan beside st (Arrive port bytes) is = by_port (has_port plan port)
   where
     by_port : (b : Bool) → Kept st
-        (if b then arrive plan beside st (Some (record { port = port; bytes = bytes })) else (v.Nothing, st))
+        (if b then stepped_arrival plan beside st (Some (record { port = port; bytes = bytes })) else (v.Nothing, st))
     by_port true = arrive_kept plan beside st (Some (record { port = port; bytes = bytes }))
     by_port false = (refl, refl)
 step_kept plan beside st (Pass n) is = arrive_kept plan beside st _

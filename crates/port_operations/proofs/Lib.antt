@@ -1,5 +1,5 @@
 pub mod Terms
-pub mod SlotMoves
+pub mod SlotTouches
 pub mod Operations
 pub mod OperationSteps
 pub mod Runs

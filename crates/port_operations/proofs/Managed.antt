@@ -2,9 +2,9 @@
 use Rattle.port_operations.proofs.Terms.{◌≡◌, ℕ, ◌+◌, ◌==◌, Bool, true, false, Option, Some, None, List, [], ◌∷◌}
 use Rattle.port_operations.proofs.Terms.{length, refl, ap, sym, ◌∙◌, subst, arith, if◌then◌else◌, ◌&&◌, is_some}
 use Rattle.port_operations.proofs.Terms.{slice_set, Begun, changed_by_id, Device, draws_after, draws_made, place_at_end}
-use Rattle.port_operations.proofs.Terms.{find}
+use Rattle.port_operations.proofs.Terms.{find, touches_at}
 use Rattle.port_operations.proofs.Terms.{find_op, found_by_id, get_or-set_other, History, Host, LinkState, makes_draw}
-use Rattle.port_operations.proofs.Terms.{manager, Move, moved_at, moved_found, moved_state, moves_at, nat_tests, Op}
+use Rattle.port_operations.proofs.Terms.{manager, nat_tests, Op, Touch, touched_at, touched_found, touched_state}
 use Rattle.port_operations.proofs.Terms.{op_after, op_at, op_of, Operation, Plan, port_at, PortName, ports_of, put}
 use Rattle.port_operations.proofs.Terms.{put_beside, put_op, put_same, Reach, Side, slice_index_or, stream_plan}
 use Rattle.port_operations.proofs.Terms.{streams_of, StreamState, SubKind, Work, work_done, work_of}
@@ -36,18 +36,18 @@ find_op-put_other plan st link stream o l s other = by_link (l == link) refl
         ≡ found_by_id (streams_of plan n) (slice_index_or st.ops n []) s) same
         (put_beside (streams_of plan link) st.ops link stream s o (grind (arith, nat_tests)))
 
--- ---- the moves of slots leave them
+-- ---- the touches of slots leave them
 
-found_ops : (plan : Plan) (st : LinkState) (port : PortName) (stream : ℕ) (out into : SubKind → List Move)
-    (x : Option StreamState) → (moved_found plan st port stream out into x).ops ≡ st.ops
+found_ops : (plan : Plan) (st : LinkState) (port : PortName) (stream : ℕ) (out into : SubKind → List Touch)
+    (x : Option StreamState) → (touched_found plan st port stream out into x).ops ≡ st.ops
 unfolding put
 found_ops plan st port stream out into None = refl
 found_ops plan st port stream out into (Some x) = refl
 
-moved_ops : (plan : Plan) (st : LinkState) (link stream : ℕ) (out into : Side → SubKind → List Move)
-    → (moved_state plan st link stream out into).ops ≡ st.ops
-moved_ops plan st link stream out into =
-    let first = moved_at plan st link stream out into Host in
+touched_ops : (plan : Plan) (st : LinkState) (link stream : ℕ) (out into : Side → SubKind → List Touch)
+    → (touched_state plan st link stream out into).ops ≡ st.ops
+touched_ops plan st link stream out into =
+    let first = touched_at plan st link stream out into Host in
     found_ops plan first (port_at Device link) stream (out Device) (into Device)
     (find plan first (port_at Device link) stream)
     ∙ found_ops plan st (port_at Host link) stream (out Host) (into Host) (find plan st (port_at Host link) stream)
@@ -70,33 +70,33 @@ abbrev OpsStand : Plan → LinkState → History → Type 0
 OpsStand plan st h = (l s : ℕ) → find_op plan st l s ≡ op_at plan h l s
 
 -- by what stood before, and what the stream has now
-ops_after : (plan : Plan) (st moved : LinkState) (h : History) (link stream n : ℕ) (o : Op) → moved.ops ≡ st.ops
+ops_after : (plan : Plan) (st after : LinkState) (h : History) (link stream n : ℕ) (o : Op) → after.ops ≡ st.ops
     → OpsStand plan st h → is_some (find_op plan st link stream) ≡ true → (l s : ℕ)
-    → find_op plan (record (put_op plan moved link stream o) { draws = n }) l s
+    → find_op plan (record (put_op plan after link stream o) { draws = n }) l s
     ≡ (if is_some (stream_plan plan l s) then Some (if (l == link) && (s == stream) then o else op_of h l s) else
     None)
-ops_after plan st moved h link stream n o is stands known l s = put_ops plan moved link stream n o l s ∙ by_test
+ops_after plan st after h link stream n o is stands known l s = put_ops plan after link stream n o l s ∙ by_test
     ((l == link) && (s == stream)) refl
   where
-    there : is_some (find_op plan moved link stream) ≡ true
-    there = ap is_some (same_ops plan st moved is link stream) ∙ known
+    there : is_some (find_op plan after link stream) ≡ true
+    there = ap is_some (same_ops plan st after is link stream) ∙ known
 
     planned : is_some (stream_plan plan link stream) ≡ true
     planned = let is : is_some (op_at plan h link stream) ≡ true = ap is_some (sym (stands link stream)) ∙ known in
         grind arith
 
-    by_test : (b : Bool) → ((l == link) && (s == stream)) ≡ b → find_op plan (put_op plan moved link stream o) l s
+    by_test : (b : Bool) → ((l == link) && (s == stream)) ≡ b → find_op plan (put_op plan after link stream o) l s
         ≡ (if is_some (stream_plan plan l s) then Some (if b then o else op_of h l s) else None)
-    by_test false other = find_op-put_other plan moved link stream o l s other ∙
-        (same_ops plan st moved is l s ∙ stands l s)
+    by_test false other = find_op-put_other plan after link stream o l s other ∙
+        (same_ops plan st after is l s ∙ stands l s)
     by_test true here =
         let one : link ≡ l = grind (arith, nat_tests) in
         let two : stream ≡ s = grind (arith, nat_tests) in
-        subst (λ (a : ℕ). find_op plan (put_op plan moved link stream o) a s
+        subst (λ (a : ℕ). find_op plan (put_op plan after link stream o) a s
         ≡ (if is_some (stream_plan plan a s) then Some o else None)) one
-        (subst (λ (b : ℕ). find_op plan (put_op plan moved link stream o) link b
+        (subst (λ (b : ℕ). find_op plan (put_op plan after link stream o) link b
         ≡ (if is_some (stream_plan plan link b) then Some o else None)) two
-        (find_op-put plan moved link stream o there ∙ sym (rw planned refl)))
+        (find_op-put plan after link stream o there ∙ sym (rw planned refl)))
 
 drawn_one : (bs : List Begun) (link stream : ℕ) (w : Work) (f : Bool) → (if f then length bs + 1 else length bs)
     ≡ length (if f then record { link = link; stream = stream; set = w.set } ∷ bs else bs)
@@ -110,13 +110,13 @@ pub ops_worked : (plan : Plan) (st : LinkState) (h : History) (o : Operation) (l
 ops_worked plan st h o link stream None stands known l s = stands l s
 ops_worked plan st h o link stream (Some r) stands known l s =
     let w = work_of o (op_of h link stream) (draws_made h) in
-    let out : Side → SubKind → List Move = λ side u. moves_at (ports_of plan st) w r
+    let out : Side → SubKind → List Touch = λ side u. touches_at (ports_of plan st) w r
     (place_at_end link stream true side u) in
-    let into : Side → SubKind → List Move = λ side u. moves_at (ports_of plan st) w r
+    let into : Side → SubKind → List Touch = λ side u. touches_at (ports_of plan st) w r
     (place_at_end link stream false side u)
     in
-    ops_after plan st (moved_state plan st link stream out into) h link stream (draws_after st.draws w) (op_after w r)
-    (moved_ops plan st link stream out into) stands known l s
+    ops_after plan st (touched_state plan st link stream out into) h link stream (draws_after st.draws w) (op_after w r)
+    (touched_ops plan st link stream out into) stands known l s
 
 pub draws_worked : (plan : Plan) (st : LinkState) (h : History) (o : Operation) (link stream : ℕ) (r : Option Reach)
     → st.draws ≡ draws_made h

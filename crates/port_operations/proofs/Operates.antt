@@ -1,16 +1,17 @@
--- An event of an operation moves the keys of its stream at both ports, each move allowed: at each place its touches are
--- such moves, by what the place's earlier touches say of the packets there. The hard part is a direction that gets its
--- first Live key. A refresh finds one and a stop brings none, so it is an establish, whose draw is then Base, and under
--- draws from it on nothing was sealed or got.
+-- An event of an operation touches the keys of its stream at both ports, and each touch is allowed, by what the earlier
+-- touches of its place say of the packets there. The hard part is a direction that gets its first Live key. A refresh
+-- finds one and a stop brings none, so it is an establish, whose draw is then Base, and under draws from it on nothing
+-- was sealed or got.
 use Rattle.port_operations.proofs.Terms.{◌≡◌, ℕ, ◌≤◌, Bool, true, false, Option, Some, List, [], ◌∷◌, refl, ap, sym}
-use Rattle.port_operations.proofs.Terms.{◌∙◌, subst, arith, ◌||◌, ◌&&◌, ◌==◌, if◌then◌else◌, AllAllowedIn}
-use Rattle.port_operations.proofs.Terms.{AllAllowedOut, AllCome, base, touches_after, busy_in, CauseLaw, ClearTouch}
-use Rattle.port_operations.proofs.Terms.{Cpl}
+use Rattle.port_operations.proofs.Terms.{◌∙◌, subst, arith, ◌||◌, ◌&&◌, ◌==◌, if◌then◌else◌}
+use Rattle.port_operations.proofs.Terms.{AllCome, AllowedIn, AllowedOut, base, touches_after, busy_in, CauseLaw}
+use Rattle.port_operations.proofs.Terms.{ClearTouch, Cpl}
 use Rattle.port_operations.proofs.Terms.{draws_made, due, place_at_end, eqb-refl, Establish, Event, failed, got_same}
 use Rattle.port_operations.proofs.Terms.{got_since, has_live_in, has_live_out, History, in_keyed, is_quiet, IsOperation}
 use Rattle.port_operations.proofs.Terms.{key_cause, key_of, key_plan, keyed_there, Keys, keys, keys_at, keys_into}
-use Rattle.port_operations.proofs.Terms.{keys_moved_in, keys_moved_out, keys_out, keys_there, lane_in, lane_out, Loss}
-use Rattle.port_operations.proofs.Terms.{manager, moments, Move, moves_at, Npr, Off, Op, op_of, Operated, operates}
+use Rattle.port_operations.proofs.Terms.{key_touched_in, key_touched_out, keys_out, keys_there, lane_in, lane_out}
+use Rattle.port_operations.proofs.Terms.{LeadTo, Loss}
+use Rattle.port_operations.proofs.Terms.{manager, moments, touches_at, Npr, Off, Op, op_of, Operated, operates}
 use Rattle.port_operations.proofs.Terms.{Operation, out_keyed, pending, KeyPlace, place_in_sub_stream, Plan, port_at}
 use Rattle.port_operations.proofs.Terms.{PortName, ports_at}
 use Rattle.port_operations.proofs.Terms.{posted_in, Pr, quiet_seals_none, Reach, reach_of, Refresh, sealed_packets}
@@ -42,12 +43,12 @@ pub record Works (plan : Plan) (h : History) (e : Event) (x : Verdict) (link str
     pub touched : (side : Side) (sends : Bool) (u : SubKind) → touches (manager h).ops (draws_made h) e x
         (place_at_end link stream sends side u) ≡ worked w (Some r) (place_at_end link stream sends side u)
 
--- its moves at the ends of the link, read off the history
-abbrev pub outs : History → ℕ → ℕ → Work → Reach → Side → SubKind → List Move
-outs h link stream w r side u = moves_at (ports_at h) w r (place_at_end link stream true side u)
+-- its touches at the ends of the link, read off the history
+abbrev pub outs : History → ℕ → ℕ → Work → Reach → Side → SubKind → List Touch
+outs h link stream w r side u = touches_at (ports_at h) w r (place_at_end link stream true side u)
 
-abbrev pub ins : History → ℕ → ℕ → Work → Reach → Side → SubKind → List Move
-ins h link stream w r side u = moves_at (ports_at h) w r (place_at_end link stream false side u)
+abbrev pub ins : History → ℕ → ℕ → Work → Reach → Side → SubKind → List Touch
+ins h link stream w r side u = touches_at (ports_at h) w r (place_at_end link stream false side u)
 
 if_none : (b : Bool) (ps : List Packet) → ps ≡ [] → (if b then [] else ps) ≡ []
 if_none b ps none = grind arith
@@ -83,44 +84,39 @@ module _ (plan : Plan) (h : History) (e : Event) (x : Verdict) (link stream : �
   moments_after sends u = ap (touches_after (moments h (place_at_end link stream sends side u)))
       (is.touched side sends u)
 
-  -- its moves at a sender, and at a receiver
-  moves_out : (u : SubKind) → let port = port_at side link in let s = lane_out port stream u in
-      (keys_at ((e, x) ∷ h) port s ≡ keys_moved_out (busy_in (sealed_packets plan h) s) (outs h link stream w r side u)
-      (keys_at h port s))
-      × AllAllowedOut plan (sealed_packets plan h) s (outs h link stream w r side u) (keys_at h port s)
-  moves_out u =
+  -- what its touches lead to at a sender, and at a receiver
+  lead_out : (u : SubKind) → let port = port_at side link in
+      let s = lane_out port stream u in
+      let xs = sealed_packets plan h in
+      LeadTo (AllowedOut plan xs s) (key_touched_out (busy_in xs s)) (outs h link stream w r side u) (keys_at h port s)
+      (keys_at ((e, x) ∷ h) port s)
+  lead_out u =
       let p = place_at_end link stream true side u in
       let port = port_at side link in
       let s = lane_out port stream u in
+      let xs = sealed_packets plan h in
       let here = sends_lane port stream u in
-      let run = out_run plan (sealed_packets plan h) s (λ k. is_some ((ports_at h).refusal p k)) (moments h p)
-      (worked w (Some r) p) (λ k. is_refused (refuses true (keys true (moments h p)) k))
+      rw (keys_out h port stream u, keys_out ((e, x) ∷ h) port stream u ∙ ap (keys true) (moments_after true u))
+      (out_run plan xs s (λ k. is_some ((ports_at h).refusal p k)) (moments h p) (worked w (Some r) p)
+      (λ k. is_refused (refuses true (keys true (moments h p)) k))
       (record {
         busy = λ i j. busy_is plan h is.law.1 port s j here i;
         unsent = λ j le. none_sent plan h is.law.1 port s j here le;
       })
-      (come_there true u) (worked_first w r p) in (
-        keys_out ((e, x) ∷ h) port stream u ∙ (ap (keys true) (moments_after true u)
-            ∙ (run.keys_are ∙ ap (keys_moved_out (busy_in (sealed_packets plan h) s) (outs h link stream w r side u))
-            (sym (keys_out h port stream u)))),
-        subst (AllAllowedOut plan (sealed_packets plan h) s (outs h link stream w r side u))
-            (sym (keys_out h port stream u)) run.allowed,
-      )
+      (come_there true u) (worked_first w r p))
 
-  moves_in : (u : SubKind) → let port = port_at side link in let s = lane_in port stream u in
-      (keys_at ((e, x) ∷ h) port s ≡ keys_moved_in (ins h link stream w r side u) (keys_at h port s))
-      × AllAllowedIn plan h port s (ins h link stream w r side u) (keys_at h port s)
-  moves_in u =
+  lead_in : (u : SubKind) → let port = port_at side link in
+      let s = lane_in port stream u in
+      LeadTo (AllowedIn plan h port s) key_touched_in (ins h link stream w r side u) (keys_at h port s)
+      (keys_at ((e, x) ∷ h) port s)
+  lead_in u =
       let p = place_at_end link stream false side u in
       let port = port_at side link in
       let s = lane_in port stream u in
-      let run = in_run plan h port s (λ k. is_some ((ports_at h).refusal p k)) (moments h p) (worked w (Some r) p)
+      rw (keys_into h port stream u, keys_into ((e, x) ∷ h) port stream u ∙ ap (keys false) (moments_after false u))
+      (in_run plan h port s (λ k. is_some ((ports_at h).refusal p k)) (moments h p) (worked w (Some r) p)
       (λ k. is_refused (refuses false (keys false (moments h p)) k))
-      (new_in plan h is.law.1 port stream u) (come_there false u) (worked_first w r p) in (
-        keys_into ((e, x) ∷ h) port stream u ∙ (ap (keys false) (moments_after false u)
-            ∙ (run.keys_are ∙ ap (keys_moved_in (ins h link stream w r side u)) (sym (keys_into h port stream u)))),
-        subst (AllAllowedIn plan h port s (ins h link stream w r side u)) (sym (keys_into h port stream u)) run.allowed,
-      )
+      (new_in plan h is.law.1 port stream u) (come_there false u) (worked_first w r p))
 
 -- ---- whether a direction has a Live key
 
@@ -279,10 +275,8 @@ module _ (plan : Plan) (h : History) (o : Operation) (link stream : ℕ) (lose :
       (lives_in g side link stream ∙ now) in
       record {
         quiet = is.quiet;
-        keys_out = λ u. (moves_out plan h e x link stream w r is side u).0;
-        keys_into = λ u. (moves_in plan h e x link stream w r is side u).0;
-        allowed_out = λ u. (moves_out plan h e x link stream w r is side u).1;
-        allowed_into = λ u. (moves_in plan h e x link stream w r is side u).1;
+        lead_out = λ u. lead_out plan h e x link stream w r is side u;
+        lead_into = λ u. lead_in plan h e x link stream w r is side u;
         base_out = λ before now. base_stays plan h link stream lose x r side true o law
             (lives_out h side link stream ∙ before);
         base_into = λ before now. base_stays plan h link stream lose x r side false o law

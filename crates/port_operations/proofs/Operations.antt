@@ -1,16 +1,17 @@
--- A stream at a port stands for a history with an operation, after the moves of its slots.
+-- A stream at a port stands for a history with an operation, after the touches of its slots.
 use Rattle.port_operations.proofs.Terms.{◌≡◌, ℕ, Bool, true, false, List, ◌∷◌, length, ap, sym, ◌∙◌, arith}
 use Rattle.port_operations.proofs.Terms.{if◌then◌else◌, ◌&&◌, ◌||◌, accepts_in, any_live, any_on, base, Cpl, each_sub}
 use Rattle.port_operations.proofs.Terms.{Event, failed, failed_next, fails_at, got_in, got_same, got_since}
 use Rattle.port_operations.proofs.Terms.{has_live_key}
 use Rattle.port_operations.proofs.Terms.{has_live_in, has_live_out, held_same, History, holds_in, is_keyed, is_quiet}
-use Rattle.port_operations.proofs.Terms.{key_in, keyed_in, keys_at, lane_in, lane_out, Move, moved_stream, Npr, on_in}
+use Rattle.port_operations.proofs.Terms.{key_in, keyed_in, keys_at, lane_in, lane_out, Npr, on_in}
 use Rattle.port_operations.proofs.Terms.{Operated, OperationStands, Plan, PortName, posted_count, posted_in, posted_sum}
 use Rattle.port_operations.proofs.Terms.{Pr, quiet_seals_none, rx_slot, rx_slot_same, rx_slots, rx_standing, RxSub}
 use Rattle.port_operations.proofs.Terms.{sealed_packets, sealed_same, settled_stream, since_same, Slots, slots_is}
-use Rattle.port_operations.proofs.Terms.{slots_moved_in, slots_moved_out, standing, SubKind, SubStream, total_in}
+use Rattle.port_operations.proofs.Terms.{slots_touched, standing, SubKind, SubStream, total_in, Touch, touched_stream}
 use Rattle.port_operations.proofs.Terms.{tx_slots, tx_standing, TxSub, units_same, units_since, Verdict}
-use Rattle.port_operations.proofs.SlotMoves.{all_moved_in, all_moved_out, live_in_is, live_out_is}
+use Rattle.port_operations.proofs.Terms.{AllowedIn, AllowedOut, busy_in, key_touched_in, key_touched_out}
+use Rattle.port_operations.proofs.SlotTouches.{all_touched, touched_in, touched_out, live_in_is, live_out_is}
 
 -- ---- quiet verdicts
 
@@ -67,22 +68,25 @@ unfolding has_live_in
 ins_live plan h g port stream = let one = λ (u : SubKind). live_in_is plan g port (lane_in port stream u)
     (keys_at g port (lane_in port stream u)) in λ i. one Pr i || one Npr i || one Cpl i
 
-tx_moved : (plan : Plan) (h : History) (e : Event) (w : Verdict) (port : PortName) (stream : ℕ)
-    (out into : SubKind → List Move) → Operated plan h e w port stream out into → (u : SubKind)
+tx_touched : (plan : Plan) (h : History) (e : Event) (w : Verdict) (port : PortName) (stream : ℕ)
+    (out into : SubKind → List Touch) → Operated plan h e w port stream out into → (u : SubKind)
     → let s = lane_out port stream u in
-    slots_moved_out plan s (out u) (tx_slots plan (sealed_packets plan h) s (keys_at h port s))
+    slots_touched true plan s (out u) (tx_slots plan (sealed_packets plan h) s (keys_at h port s))
     ≡ tx_slots plan (sealed_packets plan ((e, w) ∷ h)) s (keys_at ((e, w) ∷ h) port s)
-tx_moved plan h e w port stream out into is u =
+tx_touched plan h e w port stream out into is u =
     let s = lane_out port stream u in
-    all_moved_out plan (sealed_packets plan h) s (out u) (keys_at h port s) (is.allowed_out u)
-    ∙ (λ i. tx_slots plan (sym (sealed_same plan h e w (quiet_seals_none w is.quiet)) i) s (sym (is.keys_out u) i))
+    let xs = sealed_packets plan h in
+    let now = keys_at ((e, w) ∷ h) port s in
+    all_touched true plan s (AllowedOut plan xs s) (key_touched_out (busy_in xs s)) (tx_slots plan xs s)
+    (touched_out plan xs s) (out u) (keys_at h port s) now (is.lead_out u)
+    ∙ (λ i. tx_slots plan (sym (sealed_same plan h e w (quiet_seals_none w is.quiet)) i) s now)
 
-rx_moved : (plan : Plan) (h : History) (e : Event) (w : Verdict) (port : PortName) (stream : ℕ)
-    (out into : SubKind → List Move) → Operated plan h e w port stream out into → (u : SubKind)
+rx_touched : (plan : Plan) (h : History) (e : Event) (w : Verdict) (port : PortName) (stream : ℕ)
+    (out into : SubKind → List Touch) → Operated plan h e w port stream out into → (u : SubKind)
     → let s = lane_in port stream u in
-    slots_moved_in plan s (into u) (rx_slots plan h port s (keys_at h port s))
+    slots_touched false plan s (into u) (rx_slots plan h port s (keys_at h port s))
     ≡ rx_slots plan ((e, w) ∷ h) port s (keys_at ((e, w) ∷ h) port s)
-rx_moved plan h e w port stream out into is u =
+rx_touched plan h e w port stream out into is u =
     let g = (e, w) ∷ h in
     let s = lane_in port stream u in
     let keys = keys_at g port s in
@@ -94,8 +98,9 @@ rx_moved plan h e w port stream out into is u =
       units_same h e w s j none.0,
       λ n. held_same plan h e w s j n none.1,
     )) in
-    all_moved_in plan h port s (into u) (keys_at h port s) (is.allowed_into u)
-    ∙ (ap (rx_slots plan h port s) (sym (is.keys_into u)) ∙ sym (slots_is _ _ (still false) (still true)))
+    all_touched false plan s (AllowedIn plan h port s) key_touched_in (rx_slots plan h port s)
+    (touched_in plan h port s) (into u) (keys_at h port s) keys (is.lead_into u)
+    ∙ sym (slots_is _ _ (still false) (still true))
 
 -- the senders and receivers with their new slots, and the counts as they were
 abbrev tx_new : Plan → History → History → PortName → ℕ → SubKind → TxSub
@@ -115,20 +120,21 @@ rx_new plan h g port stream u = record {
 }
 
 slots_new : (plan : Plan) (h : History) (e : Event) (w : Verdict) (port : PortName) (stream : ℕ)
-    (out into : SubKind → List Move) → Operated plan h e w port stream out into
-    → moved_stream plan port stream out into (standing plan h port stream)
+    (out into : SubKind → List Touch) → Operated plan h e w port stream out into
+    → touched_stream plan port stream out into (standing plan h port stream)
     ≡ settled_stream (each_sub (tx_new plan h ((e, w) ∷ h) port stream))
     (each_sub (rx_new plan h ((e, w) ∷ h) port stream)) (failed h port stream)
 unfolding standing
 slots_new plan h e w port stream out into is =
     let g = (e, w) ∷ h in
     λ i. settled_stream (each_sub
-    (λ u. record (tx_new plan h g port stream u) { slots = tx_moved plan h e w port stream out into is u i }))
-    (each_sub (λ u. record (rx_new plan h g port stream u) { slots = rx_moved plan h e w port stream out into is u i }))
+    (λ u. record (tx_new plan h g port stream u) { slots = tx_touched plan h e w port stream out into is u i }))
+    (each_sub (λ u. record (rx_new plan h g port stream u)
+    { slots = rx_touched plan h e w port stream out into is u i }))
     (failed h port stream)
 
 settled_is : (plan : Plan) (h : History) (e : Event) (w : Verdict) (port : PortName) (stream : ℕ)
-    (out into : SubKind → List Move) → Operated plan h e w port stream out into
+    (out into : SubKind → List Touch) → Operated plan h e w port stream out into
     → settled_stream (each_sub (tx_new plan h ((e, w) ∷ h) port stream))
     (each_sub (rx_new plan h ((e, w) ∷ h) port stream)) (failed h port stream)
     ≡ standing plan ((e, w) ∷ h) port stream
@@ -184,7 +190,7 @@ settled_is plan h e w port stream out into is =
       failed = fails i;
     }
 
--- The moves of an operation leave what stands for the history with it.
+-- The touches of an operation leave what stands for the history with it.
 pub operated : OperationStands
 operated plan h e w port stream out into is = slots_new plan h e w port stream out into is ∙ settled_is plan h e w port
     stream out into is

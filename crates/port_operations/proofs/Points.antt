@@ -4,7 +4,7 @@ use Rattle.port_operations.proofs.Terms.{at_each, place_at_end, find, find_op, H
 use Rattle.port_operations.proofs.Terms.{kept_is}
 use Rattle.port_operations.proofs.Terms.{key_cause, key_in, key_of, key_plan, Keys, keys_at, keys_into, keys_out}
 use Rattle.port_operations.proofs.Terms.{lane_in, lane_out, LinkState, Op, op_of, Plan, port_at, PortName, rx_slots}
-use Rattle.port_operations.proofs.Terms.{rx_standing, RxSub, sealed_packets, SealedList, Side, slot_in_set, slots_of}
+use Rattle.port_operations.proofs.Terms.{rx_standing, RxSub, sealed_packets, SealedList, Side, slot_in_set, slots_at}
 use Rattle.port_operations.proofs.Terms.{standing, PortsStandFor, StreamState, SubKind, SubStream, tx_slots}
 use Rattle.port_operations.proofs.Terms.{tx_standing}
 use Rattle.port_operations.proofs.Terms.{TxSub}
@@ -28,7 +28,7 @@ rx_set plan h port s keys k = grind arith
 -- ---- the slots of a stream that stands for the history
 
 standing_kept : (plan : Plan) (h : History) (side : Side) (link stream : ℕ) (sends : Bool) (u : SubKind) (k : Bool)
-    → key_held (slot_in_set (slots_of sends u (standing plan h (port_at side link) stream)) k)
+    → key_held (slot_in_set (slots_at sends u (standing plan h (port_at side link) stream)) k)
     ≡ option_map (named plan (point_lane side link stream sends u))
     (kept_draw h (place_at_end link stream sends side u) k)
 unfolding standing
@@ -50,11 +50,11 @@ standing_kept plan h side link stream false u k =
 kept : (plan : Plan) (st : LinkState) (h : History) → PortsStandFor plan st h
     → (side : Side) (link stream : ℕ) (x : StreamState) → find plan st (port_at side link) stream ≡ Some x
     → (sends : Bool) (u : SubKind) (k : Bool)
-    → key_held (slot_in_set (slots_of sends u x) k) ≡ option_map (named plan (point_lane side link stream sends u))
+    → key_held (slot_in_set (slots_at sends u x) k) ≡ option_map (named plan (point_lane side link stream sends u))
     (kept_draw h (place_at_end link stream sends side u) k)
 kept plan st h stands side link stream x found sends u k =
     let is = kept_is plan st h (port_at side link) stream x stands.ports_stand found in
-    ap (λ (y : StreamState). key_held (slot_in_set (slots_of sends u y) k)) is.same ∙ standing_kept plan h side link
+    ap (λ (y : StreamState). key_held (slot_in_set (slots_at sends u y) k)) is.same ∙ standing_kept plan h side link
     stream
     sends u k
 

@@ -5,7 +5,7 @@
 use Rattle.port_operations.proofs.Terms.{◌≡◌, ◌≢◌, ℕ, zero, suc, ◌+◌, ◌*◌, ◌==◌, Bool, true, false, Some, None, List}
 use Rattle.port_operations.proofs.Terms.{[], ◌∷◌, length, map, refl, ap, sym, ◌∙◌, subst, arith, if◌then◌else◌, ◌&&◌}
 use Rattle.port_operations.proofs.Terms.{◌||◌, is_some, slice_set, base, clears, Cpl, Device, draws_made, due, each_sub}
-use Rattle.port_operations.proofs.Terms.{empty_stream, eqb-refl, facts, failed, failed_next, failed_there, fails_at}
+use Rattle.port_operations.proofs.Terms.{no_stream, eqb-refl, facts, failed, failed_next, failed_there, fails_at}
 use Rattle.port_operations.proofs.Terms.{find, find_op, first_ports, FirstStands, found_by_id, get_or-set_other}
 use Rattle.port_operations.proofs.Terms.{get_or-set_same, got_in, has_live_in, has_live_out, History, Host, Idle, is_on}
 use Rattle.port_operations.proofs.Terms.{kept_all, Keys, keys, keys_at, keys_into, keys_out, lane_in, lane_out}
@@ -50,7 +50,7 @@ module _ (plan : Plan) (port : PortName) (stream : ℕ) where
       && (dead_out ((e, x) ∷ h) none i || dead_in ((e, x) ∷ h) none i))
       ∙ and_none (fails_at port stream x || failed h port stream)
 
-  empty_standing : (h : History) → NoKeys plan h port stream → standing plan h port stream ≡ empty_stream
+  empty_standing : (h : History) → NoKeys plan h port stream → standing plan h port stream ≡ no_stream
   unfolding standing
   empty_standing h none = λ i. record {
     tx = each_sub (λ u. let s = lane_out port stream u in
@@ -88,7 +88,7 @@ cleared_in plan h side l stream u =
     (moments h (record { side = side; link = l; stream = stream; sends = false; sub = u }))).are)
 
 reset_standing : (plan : Plan) (h : History) (side : Side) (l stream : ℕ)
-    → standing plan ((Reset l, v.Reset l) ∷ h) (port_at side l) stream ≡ empty_stream
+    → standing plan ((Reset l, v.Reset l) ∷ h) (port_at side l) stream ≡ no_stream
 reset_standing plan h side l stream =
     empty_standing plan (port_at side l) stream ((Reset l, v.Reset l) ∷ h)
     (record { out = cleared_out plan h side l stream; into = cleared_in plan h side l stream })
@@ -130,7 +130,7 @@ apart_ends l same = absurd (omega (arith, same))
 
 reset_here : (plan : Plan) (st : LinkState) (h : History) (side : Side) (l t : ℕ) → PortsStand plan st h
     → find plan (reset_state plan st l) (port_at side l) t ≡
-    (if is_some (stream_plan plan l t) then Some empty_stream else None)
+    (if is_some (stream_plan plan l t) then Some no_stream else None)
 unfolding find stream_plan
 reset_here plan st h side l t stands = by_side side
   where
@@ -138,7 +138,7 @@ reset_here plan st h side l t stands = by_side side
     ss = streams_of plan l
 
     row : List StreamState
-    row = map (λ (s : StreamPlan). empty_stream) ss
+    row = map (λ (s : StreamPlan). no_stream) ss
 
     host : ℕ
     host = port_place (port_at Host l)
@@ -152,13 +152,13 @@ reset_here plan st h side l t stands = by_side side
         ∙ here
 
     by_side : (side : Side) → find plan (reset_state plan st l) (port_at side l) t
-        ≡ (if is_some (with_id ss t) then Some empty_stream else None)
+        ≡ (if is_some (with_id ss t) then Some no_stream else None)
     by_side Host =
         ap (λ (xs : List StreamState). found_by_id ss xs t)
         (get_or-set_other (slice_set st.ports host row) device host row [] (apart_ends l))
-        ∙ filled ss st.ports host t empty_stream (there Host)
+        ∙ filled ss st.ports host t no_stream (there Host)
     by_side Device =
-        filled ss (slice_set st.ports host row) device t empty_stream
+        filled ss (slice_set st.ports host row) device t no_stream
         (λ known. ap (λ (xs : List StreamState). is_some (found_by_id ss xs t))
         (get_or-set_other st.ports host device row [] (λ same. apart_ends l (sym same)))
         ∙ there Device known)
@@ -171,7 +171,7 @@ reset_there : (plan : Plan) (st : LinkState) (l : ℕ) (port : PortName) (t : �
     → find plan (reset_state plan st l) port t ≡ find plan st port t
 unfolding find
 reset_there plan st l port t other =
-    let row = map (λ (s : StreamPlan). empty_stream) (streams_of plan l) in
+    let row = map (λ (s : StreamPlan). no_stream) (streams_of plan l) in
     let host = port_place (port_at Host l) in
     ap (λ (xs : List StreamState). found_by_id (streams_of plan port.link) xs t)
     (get_or-set_other (slice_set st.ports host row) (port_place (port_at Device l)) (port_place port) row []
@@ -271,7 +271,7 @@ no_keys_first plan port stream = record { out = λ u. keys_out [] port stream u;
 
 ports_first : (links : List (List StreamPlan)) (link : ℕ) (side : Side)
     → slice_index_or (first_ports links) (2 * link + sent_direction side) []
-    ≡ map (λ (s : StreamPlan). empty_stream) (slice_index_or links link [])
+    ≡ map (λ (s : StreamPlan). no_stream) (slice_index_or links link [])
 ports_first [] link side = refl
 ports_first (ss ∷ links) zero Host = refl
 ports_first (ss ∷ links) zero Device = refl
@@ -293,7 +293,7 @@ begins plan = record {
     streams = λ port stream.
         ap (λ (xs : List StreamState). found_by_id (streams_of plan port.link) xs stream)
         (ports_first (streams_by_link plan) port.link port.side)
-        ∙ (all_found (streams_of plan port.link) stream empty_stream
+        ∙ (all_found (streams_of plan port.link) stream no_stream
         ∙ ap (λ (x : StreamState). if is_some (with_id (streams_of plan port.link) stream) then Some x else None)
         (sym (empty_standing plan port stream [] (no_keys_first plan port stream))));
     packets = refl;

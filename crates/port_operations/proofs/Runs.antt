@@ -1,16 +1,16 @@
--- An operation's touches of a place are moves of its keys, each allowed. It goes by induction on the touches, for
--- senders and for receivers; a KEY_PROG can be the first alone, so the keys before the operation say whether it is
--- refused. Moves are allowed by bounds that hold in each shape of the keys. A draw that waits for its GO is greater
--- than the one that is On and than all that were used or got GO. One that waits for the older one was not used.
+-- An operation's touches of a place are allowed of its keys, but for a KEY_PROG that is refused and changes nothing. It
+-- goes by induction on the touches, for senders and for receivers; a KEY_PROG can be the first alone, so the keys
+-- before them tell if it is refused. The others are allowed by bounds that hold in each shape of the keys. A draw that
+-- waits for its GO is greater than the one that is On and than all that were used or got GO. One that waits for the
+-- older one was not used.
 use Rattle.port_operations.proofs.Terms.{◌≡◌, ℕ, ◌<◌, ◌≤◌, Bool, true, false, List, [], ◌∷◌, refl, ap, sym, ◌∙◌, subst}
-use Rattle.port_operations.proofs.Terms.{arith, not, if◌then◌else◌, AllAllowedIn, AllAllowedOut, AllCome, AllowedIn}
-use Rattle.port_operations.proofs.Terms.{AllowedOut, touches_after, busy_in, ClearTouch, Comes, Go, Goes, GoTouch, Halt}
-use Rattle.port_operations.proofs.Terms.{History, is_open, key_in, key_moved_in, key_moved_out, Keys, keys}
-use Rattle.port_operations.proofs.Terms.{keys_moved_in, keys_moved_out, keys_of, Loaded, Move, moves_of, nat_tests}
-use Rattle.port_operations.proofs.Terms.{new_key, no_keys, Off, On, Plan, PortName, Program, ProgramTouch}
+use Rattle.port_operations.proofs.Terms.{arith, not, if◌then◌else◌, AllCome, AllowedIn, AllowedOut, touches_after}
+use Rattle.port_operations.proofs.Terms.{busy_in, ClearTouch, Comes, Goes, GoTouch, History, is_open, key_in}
+use Rattle.port_operations.proofs.Terms.{key_touched_in, key_touched_out, Keys, keys, keys_of, LeadTo, Loaded}
+use Rattle.port_operations.proofs.Terms.{nat_tests, new_key, no_keys, Off, On, Plan, PortName, ProgramTouch}
 use Rattle.port_operations.proofs.Terms.{receiving_key, refuses, SealedList, sent_in, keys_settled, Shape, Sound}
-use Rattle.port_operations.proofs.Terms.{started}
-use Rattle.port_operations.proofs.Terms.{StopTouch, SubStream, Touch, touched, used, waits, with_key}
+use Rattle.port_operations.proofs.Terms.{started, StopTouch, SubStream, taken_touches, Touch, touched, used, waits}
+use Rattle.port_operations.proofs.Terms.{with_key}
 
 -- touches of an operation: a KEY_PROG comes first
 abbrev pub are_later : List Touch → Bool
@@ -90,15 +90,15 @@ goes_of k j sh goes = grind (arith, nat_tests)
 gone_new : (busy : ℕ → Bool) (k : Bool) (j : ℕ) (ks : Keys) → key_in ks k ≡ Loaded j
     → ((i : ℕ) → key_in ks (not k) ≡ On i → i < j)
     → ((i : ℕ) → key_in ks (not k) ≡ Loaded i → ⊥) → keys_settled true busy (touched true ks (GoTouch k j))
-    ≡ key_moved_out busy (Go k) ks
+    ≡ key_touched_out busy (GoTouch k j) ks
 gone_new busy k j ks is older one = grind (arith, nat_tests, older, one)
 
 gone_again : (busy : ℕ → Bool) (k : Bool) (j : ℕ) (ks : Keys) → key_in ks k ≡ On j → keys_settled true busy ks ≡ ks
-    → keys_settled true busy (touched true ks (GoTouch k j)) ≡ key_moved_out busy (Go k) ks
+    → keys_settled true busy (touched true ks (GoTouch k j)) ≡ key_touched_out busy (GoTouch k j) ks
 gone_again busy k j ks is stays = grind (arith, nat_tests, stays)
 
 gone_out : (k : Bool) (j : ℕ) (ts : List Touch) → Comes true ts (GoTouch k j) → keys true (GoTouch k j ∷ ts)
-    ≡ key_moved_out (is_open ts) (Go k) (keys true ts)
+    ≡ key_touched_out (is_open ts) (GoTouch k j) (keys true ts)
 unfolding keys is_open
 gone_out k j ts come =
     let goes = goes_of k j come.shape come.may in
@@ -106,15 +106,11 @@ gone_out k j ts come =
   where
     by_on : (on : Bool) → key_in (keys true ts) k ≡ (if on then On j else Loaded j)
         → keys_settled true (is_open ts) (touched true (keys true ts) (GoTouch k j))
-        ≡ key_moved_out (is_open ts) (Go k) (keys true ts)
+        ≡ key_touched_out (is_open ts) (GoTouch k j) (keys true ts)
     by_on true is = gone_again (is_open ts) k j (keys true ts) is (settled_keys true ts)
     by_on false is =
         let known = bounds true ts (GoTouch k j) come in
         gone_new (is_open ts) k j (keys true ts) is (λ i. known.older k i j is) (λ i. known.one k i j is)
-
-gone_into : (k : Bool) (j : ℕ) (ks : Keys) (on : Bool) → key_in ks k ≡ (if on then On j else Loaded j)
-    → with_key ks k (On j) ≡ key_moved_in (Go k) ks
-gone_into k j ks on is = grind arith
 
 waits_older : (k : Bool) (i j : ℕ) → i < j → (waits k j (On i) ≡ true) × (waits (not k) i (On j) ≡ false)
 waits_older k i j lt = grind (arith, nat_tests)
@@ -130,91 +126,64 @@ pub record Knows (xs : SealedList) (s : SubStream) (ts : List Touch) : Type 0 wh
   pub busy : busy_in xs s ≡ is_open ts
   pub unsent : (j : ℕ) → used ts ≤ j → sent_in xs s j ≡ []
 
-pub record OutRun (plan : Plan) (xs : SealedList) (s : SubStream) (ts more : List Touch) (ms : List Move) : Type 0 where
-  pub keys_are : keys true (touches_after ts more) ≡ keys_moved_out (busy_in xs s) ms (keys true ts)
-  pub allowed : AllAllowedOut plan xs s ms (keys true ts)
+module _ (plan : Plan) (xs : SealedList) (s : SubStream) (r : Bool → Bool) where
+  -- more touches, but for a refused KEY_PROG, lead from these keys to those after all
+  abbrev pub OutLead : List Touch → List Touch → Keys → Type 0
+  OutLead ts more ks = LeadTo (AllowedOut plan xs s) (key_touched_out (busy_in xs s)) (taken_touches r more) ks
+      (keys true (touches_after ts more))
 
-out_cons : (plan : Plan) (xs : SealedList) (s : SubStream) (ts : List Touch) (t : Touch) (more : List Touch) (m : Move)
-    (ms : List Move)
-    → keys true (t ∷ ts) ≡ key_moved_out (busy_in xs s) m (keys true ts) → AllowedOut plan xs s m (keys true ts)
-    → OutRun plan xs s (t ∷ ts) more ms → OutRun plan xs s ts (t ∷ more) (m ∷ ms)
-out_cons plan xs s ts t more m ms step may rest = record {
-  keys_are = rest.keys_are ∙ ap (keys_moved_out (busy_in xs s) ms) step;
-  allowed = (may, subst (AllAllowedOut plan xs s ms) step rest.allowed);
-}
+  out_later : (ts more : List Touch) → Knows xs s ts → AllCome true ts more → are_later more ≡ true
+      → OutLead ts more (keys true ts)
+  unfolding used is_open
+  out_later ts [] knows come later = refl
+  out_later ts (GoTouch k j ∷ more) knows come later =
+      let known = bounds true ts (GoTouch k j) come.0 in (
+        λ n is. (knows.unsent n (known.fresh k n is).0, λ i on. waits_older k i n (known.older k i n is on)),
+        subst (OutLead (GoTouch k j ∷ ts) more)
+            (gone_out k j ts come.0
+            ∙ ap (λ (f : ℕ → Bool). key_touched_out f (GoTouch k j) (keys true ts)) (sym knows.busy))
+            (out_later (GoTouch k j ∷ ts) more (record { busy = knows.busy; unsent = knows.unsent }) come.1 later),
+      )
+  out_later ts (StopTouch k ∷ more) knows come later = (
+    λ i on waiting. knows.unsent i ((bounds true ts (StopTouch k) come.0).waiting k i on waiting),
+    subst (OutLead (StopTouch k ∷ ts) more) (halted_is true k ts)
+        (out_later (StopTouch k ∷ ts) more (record { busy = knows.busy; unsent = knows.unsent }) come.1 later),
+  )
+  out_later ts (ClearTouch ∷ more) knows come later = (
+    tt,
+    subst (OutLead (ClearTouch ∷ ts) more) (cleared_are true ts)
+        (out_later (ClearTouch ∷ ts) more (record { busy = knows.busy; unsent = knows.unsent }) come.1 later),
+  )
+  out_later ts (_ ∷ more) knows come later = absurd cc
 
-out_later : (plan : Plan) (xs : SealedList) (s : SubStream) (r : Bool → Bool) (ts more : List Touch) → Knows xs s ts
-    → AllCome true ts more
-    → are_later more ≡ true → OutRun plan xs s ts more (moves_of r more)
-unfolding used is_open
-out_later plan xs s r ts [] knows come later = record { keys_are = refl; allowed = tt }
-out_later plan xs s r ts (GoTouch k j ∷ more) knows come later =
-    let known = bounds true ts (GoTouch k j) come.0 in
-    out_cons plan xs s ts (GoTouch k j) more (Go k) (moves_of r more)
-    (gone_out k j ts come.0 ∙ ap (λ (f : ℕ → Bool). key_moved_out f (Go k) (keys true ts)) (sym knows.busy))
-    (λ n is. (knows.unsent n (known.fresh k n is).0, λ i on. waits_older k i n (known.older k i n is on)))
-    (out_later plan xs s r (GoTouch k j ∷ ts) more (record { busy = knows.busy; unsent = knows.unsent }) come.1 later)
-out_later plan xs s r ts (StopTouch k ∷ more) knows come later =
-    out_cons plan xs s ts (StopTouch k) more (Halt k) (moves_of r more) (halted_is true k ts)
-    (λ i on waiting. knows.unsent i ((bounds true ts (StopTouch k) come.0).waiting k i on waiting))
-    (out_later plan xs s r (StopTouch k ∷ ts) more (record { busy = knows.busy; unsent = knows.unsent }) come.1 later)
-out_later plan xs s r ts (ClearTouch ∷ more) knows come later =
-    let rest = out_later plan xs s r (ClearTouch ∷ ts) more (record { busy = knows.busy; unsent = knows.unsent }) come.1
-    later in
-    let known = bounds true ts ClearTouch come.0 in
-    record {
-      keys_are = rest.keys_are ∙ ap (keys_moved_out (busy_in xs s) (moves_of r more)) (cleared_are true ts);
-      allowed = (
-        λ i on waiting. knows.unsent i (known.waiting false i on waiting),
-        (
-          λ i on waiting. absurd cc,
-          subst (AllAllowedOut plan xs s (moves_of r more)) (cleared_are true ts)
-              rest.allowed,
-        ),
-      );
-    }
-out_later plan xs s r ts (_ ∷ more) knows come later = absurd cc
+  pub out_run : (ts more : List Touch) → ((k : Bool) → refuses true (keys true ts) k ≡ r k) → Knows xs s ts
+      → AllCome true ts more → are_first more ≡ true → OutLead ts more (keys true ts)
+  unfolding used is_open
+  out_run ts (ProgramTouch k j ∷ more) same knows come first = by_answer (r k) (same k)
+    where
+      rest : OutLead (ProgramTouch k j ∷ ts) more (keys true (ProgramTouch k j ∷ ts))
+      rest = out_later (ProgramTouch k j ∷ ts) more (record { busy = knows.busy; unsent = knows.unsent }) come.1 first
 
-pub out_run : (plan : Plan) (xs : SealedList) (s : SubStream) (r : Bool → Bool) (ts more : List Touch)
-    → ((k : Bool) → refuses true (keys true ts) k ≡ r k)
-    → Knows xs s ts → AllCome true ts more → are_first more ≡ true → OutRun plan xs s ts more (moves_of r more)
-unfolding used is_open
-out_run plan xs s r ts (ProgramTouch k j ∷ more) same knows come first = by_answer (r k) (same k)
-  where
-    rest : OutRun plan xs s (ProgramTouch k j ∷ ts) more (moves_of r more)
-    rest = out_later plan xs s r (ProgramTouch k j ∷ ts) more (record { busy = knows.busy; unsent = knows.unsent })
-        come.1 first
-
-    by_answer : (b : Bool) → refuses true (keys true ts) k ≡ b
-        → OutRun plan xs s ts (ProgramTouch k j ∷ more) (if b then moves_of r more else Program k j ∷ moves_of r more)
-    by_answer true denied = record {
-      keys_are = rest.keys_are ∙ ap (keys_moved_out (busy_in xs s) (moves_of r more)) (refused_is true k j ts denied);
-      allowed = subst (AllAllowedOut plan xs s (moves_of r more)) (refused_is true k j ts denied) rest.allowed;
-    }
-    by_answer false free = out_cons plan xs s ts (ProgramTouch k j) more (Program k j) (moves_of r more)
-        (programs_is true k j ts free)
-        (λ i. unwaited (keys true ts) k i free) rest
-out_run plan xs s r ts [] same knows come first = out_later plan xs s r ts [] knows come first
-out_run plan xs s r ts (t ∷ more) same knows come first = out_later plan xs s r ts (t ∷ more) knows come first
+      by_answer : (b : Bool) → refuses true (keys true ts) k ≡ b
+          → LeadTo (AllowedOut plan xs s) (key_touched_out (busy_in xs s))
+          (if b then taken_touches r more else ProgramTouch k j ∷ taken_touches r more) (keys true ts)
+          (keys true (touches_after (ProgramTouch k j ∷ ts) more))
+      by_answer true denied = subst (OutLead (ProgramTouch k j ∷ ts) more) (refused_is true k j ts denied) rest
+      by_answer false free = (
+        λ i. unwaited (keys true ts) k i free,
+        subst (OutLead (ProgramTouch k j ∷ ts) more) (programs_is true k j ts free) rest,
+      )
+  out_run ts [] same knows come first = out_later ts [] knows come first
+  out_run ts (t ∷ more) same knows come first = out_later ts (t ∷ more) knows come first
 
 -- ---- receivers
 
-pub record InRun (plan : Plan) (h : History) (port : PortName) (s : SubStream) (ts more : List Touch) (ms : List Move) :
-    Type 0 where
-  pub keys_are : keys false (touches_after ts more) ≡ keys_moved_in ms (keys false ts)
-  pub allowed : AllAllowedIn plan h port s ms (keys false ts)
-
-in_cons : (plan : Plan) (h : History) (port : PortName) (s : SubStream) (ts : List Touch) (t : Touch)
-    (more : List Touch) (m : Move) (ms : List Move)
-    → keys false (t ∷ ts) ≡ key_moved_in m (keys false ts) → AllowedIn plan h port s m (keys false ts)
-    → InRun plan h port s (t ∷ ts) more ms → InRun plan h port s ts (t ∷ more) (m ∷ ms)
-in_cons plan h port s ts t more m ms step may rest = record {
-  keys_are = rest.keys_are ∙ ap (keys_moved_in ms) step;
-  allowed = (may, subst (AllAllowedIn plan h port s ms) step rest.allowed);
-}
+gone_into : (k : Bool) (j : ℕ) (ks : Keys) (on : Bool) → key_in ks k ≡ (if on then On j else Loaded j)
+    → with_key ks k (On j) ≡ key_touched_in (GoTouch k j) ks
+gone_into k j ks on is = grind arith
 
 gone_in : (k : Bool) (j : ℕ) (ts : List Touch) → Comes false ts (GoTouch k j) → keys false (GoTouch k j ∷ ts)
-    ≡ key_moved_in (Go k) (keys false ts)
+    ≡ key_touched_in (GoTouch k j) (keys false ts)
 unfolding keys
 gone_in k j ts come = let goes = goes_of k j come.shape come.may in gone_into k j (keys false ts) goes.0
     (ap (λ (ks : Keys). key_in ks k) come.is.are ∙ goes.1)
@@ -223,44 +192,43 @@ gone_in k j ts come = let goes = goes_of k j come.shape come.may in gone_into k 
 abbrev pub NewIn : Plan → History → PortName → SubStream → List Touch → Type 0
 NewIn plan h port s ts = (j : ℕ) → started ts ≤ j → receiving_key plan h port s j ≡ new_key plan s j
 
-in_later : (plan : Plan) (h : History) (port : PortName) (s : SubStream) (r : Bool → Bool) (ts more : List Touch)
-    → NewIn plan h port s ts
-    → AllCome false ts more → are_later more ≡ true → InRun plan h port s ts more (moves_of r more)
-unfolding started
-in_later plan h port s r ts [] new come later = record { keys_are = refl; allowed = tt }
-in_later plan h port s r ts (GoTouch k j ∷ more) new come later =
-    in_cons plan h port s ts (GoTouch k j) more (Go k) (moves_of r more) (gone_in k j ts come.0)
-    (λ n is. new n ((bounds false ts (GoTouch k j) come.0).fresh k n is).1)
-    (in_later plan h port s r (GoTouch k j ∷ ts) more (λ n le. new n (omega arith)) come.1 later)
-in_later plan h port s r ts (StopTouch k ∷ more) new come later =
-    in_cons plan h port s ts (StopTouch k) more (Halt k) (moves_of r more) (halted_is false k ts) tt
-    (in_later plan h port s r (StopTouch k ∷ ts) more new come.1 later)
-in_later plan h port s r ts (ClearTouch ∷ more) new come later =
-    let rest = in_later plan h port s r (ClearTouch ∷ ts) more new come.1 later in
-    record {
-      keys_are = rest.keys_are ∙ ap (keys_moved_in (moves_of r more)) (cleared_are false ts);
-      allowed = (tt, (tt, subst (AllAllowedIn plan h port s (moves_of r more)) (cleared_are false ts) rest.allowed));
-    }
-in_later plan h port s r ts (_ ∷ more) new come later = absurd cc
+module _ (plan : Plan) (h : History) (port : PortName) (s : SubStream) (r : Bool → Bool) where
+  abbrev pub InLead : List Touch → List Touch → Keys → Type 0
+  InLead ts more ks = LeadTo (AllowedIn plan h port s) key_touched_in (taken_touches r more) ks
+      (keys false (touches_after ts more))
 
-pub in_run : (plan : Plan) (h : History) (port : PortName) (s : SubStream) (r : Bool → Bool) (ts more : List Touch)
-    → ((k : Bool) → refuses false (keys false ts) k ≡ r k)
-    → NewIn plan h port s ts → AllCome false ts more → are_first more ≡ true
-    → InRun plan h port s ts more (moves_of r more)
-unfolding started
-in_run plan h port s r ts (ProgramTouch k j ∷ more) same new come first = by_answer (r k) (same k)
-  where
-    rest : InRun plan h port s (ProgramTouch k j ∷ ts) more (moves_of r more)
-    rest = in_later plan h port s r (ProgramTouch k j ∷ ts) more new come.1 first
+  in_later : (ts more : List Touch) → NewIn plan h port s ts → AllCome false ts more → are_later more ≡ true
+      → InLead ts more (keys false ts)
+  unfolding started
+  in_later ts [] new come later = refl
+  in_later ts (GoTouch k j ∷ more) new come later = (
+    λ n is. new n ((bounds false ts (GoTouch k j) come.0).fresh k n is).1,
+    subst (InLead (GoTouch k j ∷ ts) more) (gone_in k j ts come.0)
+        (in_later (GoTouch k j ∷ ts) more (λ n le. new n (omega arith)) come.1 later),
+  )
+  in_later ts (StopTouch k ∷ more) new come later = (
+    tt,
+    subst (InLead (StopTouch k ∷ ts) more) (halted_is false k ts) (in_later (StopTouch k ∷ ts) more new come.1 later),
+  )
+  in_later ts (ClearTouch ∷ more) new come later = (
+    tt,
+    subst (InLead (ClearTouch ∷ ts) more) (cleared_are false ts) (in_later (ClearTouch ∷ ts) more new come.1 later),
+  )
+  in_later ts (_ ∷ more) new come later = absurd cc
 
-    by_answer : (b : Bool) → refuses false (keys false ts) k ≡ b
-        → InRun plan h port s ts (ProgramTouch k j ∷ more)
-        (if b then moves_of r more else Program k j ∷ moves_of r more)
-    by_answer true denied = record {
-      keys_are = rest.keys_are ∙ ap (keys_moved_in (moves_of r more)) (refused_is false k j ts denied);
-      allowed = subst (AllAllowedIn plan h port s (moves_of r more)) (refused_is false k j ts denied) rest.allowed;
-    }
-    by_answer false free = in_cons plan h port s ts (ProgramTouch k j) more (Program k j) (moves_of r more)
-        (programs_is false k j ts free) tt rest
-in_run plan h port s r ts [] same new come first = in_later plan h port s r ts [] new come first
-in_run plan h port s r ts (t ∷ more) same new come first = in_later plan h port s r ts (t ∷ more) new come first
+  pub in_run : (ts more : List Touch) → ((k : Bool) → refuses false (keys false ts) k ≡ r k) → NewIn plan h port s ts
+      → AllCome false ts more → are_first more ≡ true → InLead ts more (keys false ts)
+  unfolding started
+  in_run ts (ProgramTouch k j ∷ more) same new come first = by_answer (r k) (same k)
+    where
+      rest : InLead (ProgramTouch k j ∷ ts) more (keys false (ProgramTouch k j ∷ ts))
+      rest = in_later (ProgramTouch k j ∷ ts) more new come.1 first
+
+      by_answer : (b : Bool) → refuses false (keys false ts) k ≡ b
+          → LeadTo (AllowedIn plan h port s) key_touched_in
+          (if b then taken_touches r more else ProgramTouch k j ∷ taken_touches r more) (keys false ts)
+          (keys false (touches_after (ProgramTouch k j ∷ ts) more))
+      by_answer true denied = subst (InLead (ProgramTouch k j ∷ ts) more) (refused_is false k j ts denied) rest
+      by_answer false free = (tt, subst (InLead (ProgramTouch k j ∷ ts) more) (programs_is false k j ts free) rest)
+  in_run ts [] same new come first = in_later ts [] new come first
+  in_run ts (t ∷ more) same new come first = in_later ts (t ∷ more) new come first

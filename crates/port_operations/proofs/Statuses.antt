@@ -1,13 +1,14 @@
 -- The state of a stream at a port, as the slots have it and as the keys say.
-use Rattle.port_operations.proofs.Terms.{◌≡◌, ℕ, Bool, true, false, Some, refl, ap, ◌∙◌, arith, ◌&&◌, ◌||◌, all_live}
-use Rattle.port_operations.proofs.Terms.{any_live, Cpl, Device, place_at_end, failed_there, has_all, has_key}
-use Rattle.port_operations.proofs.Terms.{has_stream}
+use Rattle.port_operations.proofs.Terms.{◌≡◌, ℕ, Bool, true, false, Some, refl, ap, ◌∙◌, arith, ◌&&◌, ◌||◌}
+use Rattle.port_operations.proofs.Terms.{any_live, Cpl, Device, place_at_end, failed_there, has_all, has_all_live}
+use Rattle.port_operations.proofs.Terms.{has_key, has_stream}
 use Rattle.port_operations.proofs.Terms.{History, Host, in_keyed, keyed_there, keys_at, keys_there, lane_in, lane_out}
 use Rattle.port_operations.proofs.Terms.{LinkState, Npr, out_keyed, Plan, port_at, PortsStand, Pr, rx_slots}
-use Rattle.port_operations.proofs.Terms.{sealed_packets, Side, some_live, standing, standing_if_planned, status_at}
+use Rattle.port_operations.proofs.Terms.{sealed_packets, Side, has_some_live, standing, standing_if_planned, status_at}
 use Rattle.port_operations.proofs.Terms.{status_by}
 use Rattle.port_operations.proofs.Terms.{status_of, status_if_planned, SubKind, tx_slots}
-use Rattle.port_operations.proofs.SlotMoves.{live_in_is, live_out_is}
+use Rattle.stream_rules.specs.Slots.{status_by as slots_status}
+use Rattle.port_operations.proofs.SlotTouches.{live_in_is, live_out_is}
 
 -- ---- six tests
 
@@ -56,7 +57,7 @@ rx_live plan h side link stream u = let s = lane_in (port_at side link) stream u
     (port_at side link) s (keys_at h (port_at side link) s) ∙ in_keyed h (port_at side link) stream u
 
 some_is : (plan : Plan) (h : History) (side : Side) (link stream : ℕ)
-    → some_live (standing plan h (port_at side link) stream) ≡ has_key (keys_there h) side link stream
+    → has_some_live (standing plan h (port_at side link) stream) ≡ has_key (keys_there h) side link stream
 unfolding standing
 some_is plan h side link stream =
     let out = tx_live plan h side link stream in
@@ -69,7 +70,7 @@ some_is plan h side link stream =
     by_side Device = six_or_back (outward h Device link stream) (inward h Device link stream)
 
 all_is : (plan : Plan) (h : History) (side : Side) (link stream : ℕ)
-    → all_live (standing plan h (port_at side link) stream) ≡ has_all (keys_there h) side link stream
+    → has_all_live (standing plan h (port_at side link) stream) ≡ has_all (keys_there h) side link stream
 unfolding standing
 all_is plan h side link stream =
     let out = tx_live plan h side link stream in
@@ -86,13 +87,17 @@ standing_failed : (plan : Plan) (h : History) (side : Side) (link stream : ℕ)
 unfolding standing
 standing_failed plan h side link stream = refl
 
+same_status : (failed some all : Bool) → slots_status failed some all ≡ status_by failed some all
+same_status failed some all = grind arith
+
 pub status_is : (plan : Plan) (st : LinkState) (h : History) → PortsStand plan st h → (side : Side) (link stream : ℕ)
     → has_stream plan (port_at side link) stream ≡ true → status_at plan st side link stream
     ≡ status_of h side link stream
 status_is plan st h stands side link stream known =
     let here : standing_if_planned plan h (port_at side link) stream
-    ≡ Some (standing plan h (port_at side link) stream) = rw
-    known refl in
+    ≡ Some (standing plan h (port_at side link) stream) = rw known refl in
     ap status_if_planned (stands.streams (port_at side link) stream ∙ here)
-    ∙ (λ i. status_by (standing_failed plan h side link stream i) (some_is plan h side link stream i)
+    ∙ ((λ i. slots_status (standing_failed plan h side link stream i) (some_is plan h side link stream i)
     (all_is plan h side link stream i))
+    ∙ same_status (failed_there h side link stream) (has_key (keys_there h) side link stream)
+    (has_all (keys_there h) side link stream))

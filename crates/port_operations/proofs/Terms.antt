@@ -6,15 +6,15 @@ pub use Rattle.link_ports.proofs.Terms.{sym, true, ℕ, ◌&&◌, ◌+◌, ◌<�
 pub use Rattle.link_ports.proofs.Terms.{Arrival, Arrive, CauseLaw, Cpl, Cut, Dump, Event, History, IsNoOperation}
 pub use Rattle.link_ports.proofs.Terms.{KeyFacts, Keys, LinkState, Live, Loaded, Npr, Off, On, Pass, Plan, PortName}
 pub use Rattle.link_ports.proofs.Terms.{PortsStand, Pr, RxSub, SealedList, Send, Sending, Slots, Status, Stepped}
-pub use Rattle.link_ports.proofs.Terms.{StreamState, SubKind, SubStream, TxSub, Verdict, stepped_answer, arrive}
+pub use Rattle.link_ports.proofs.Terms.{StreamState, SubKind, SubStream, TxSub, Verdict}
 pub use Rattle.link_ports.proofs.Terms.{changed_by_id}
 pub use Rattle.link_ports.proofs.Terms.{each_sub, eqb-refl, failed, fails_at, found_by_id, get_or-set_other}
 pub use Rattle.link_ports.proofs.Terms.{get_or-set_same}
 pub use Rattle.link_ports.proofs.Terms.{got_in, got_since, has_live_key, has_port, has_stream, is_keyed, is_of_packets}
 pub use Rattle.link_ports.proofs.Terms.{is_on, is_quiet, is_same_port, key_in, key_of, lane_in, lane_out, nat_tests}
 pub use Rattle.link_ports.proofs.Terms.{on_in, pending, port_place, posted_count, posted_sum, quiet_seals_none, rx_slot}
-pub use Rattle.link_ports.proofs.Terms.{rx_slots, rx_standing, sealed_same, sealing_key, stepped_send_found}
-pub use Rattle.link_ports.proofs.Terms.{stepped_send_on, stepped_send_read}
+pub use Rattle.link_ports.proofs.Terms.{rx_slots, rx_standing, sealed_same, sealing_key, stepped_on_stream}
+pub use Rattle.link_ports.proofs.Terms.{stepped_answer, stepped_arrival, stepped_send}
 pub use Rattle.link_ports.proofs.Terms.{slot_in_set, standing_if_planned, streams_of, total_in, tx_slots, tx_standing}
 pub use Rattle.link_ports.proofs.Terms.{units_since}
 pub use Rattle.link_ports.proofs.Terms.{waits}
@@ -54,7 +54,6 @@ pub use Rattle.key_laws.specs.Operations.{operated as operated_manager, reach_of
 pub use Rattle.key_laws.specs.Places.{KeyPlace, is_on_stream, sent_direction}
 pub use Rattle.link_events.specs.declared.event.Event.TheVariants.{Establish, Refresh, Reset, Stop}
 pub use Rattle.link_events.specs.declared.event.Loss.{Loss}
-unfoldable pub use Rattle.link_history.specs.Due.{choice}
 pub use Rattle.link_history.specs.History.{place_in_sub_stream}
 unfoldable pub use Rattle.link_history.specs.History.{keys_at, posted_in, sent_in}
 pub use Rattle.link_history.specs.Plan.{key_plan, streams_by_link, with_id}
@@ -69,20 +68,17 @@ pub use Rattle.link_ports.proofs.Changes.{quiet_everywhere, stays}
 pub use Rattle.link_ports.proofs.Frames.{accepts_in, failed_live, got_same, held_same, holds_in, rx_slot_same}
 pub use Rattle.link_ports.proofs.Frames.{rx_slots_same, since_same, slots_is, units_same}
 pub use Rattle.link_ports.proofs.Puts.{find-put, find-put_other, put_beside, put_same, within}
-pub use Rattle.link_ports.specs.Machine.{all_live, draws_after, empty_stream, place_at_end, establish_found}
-pub use Rattle.link_ports.specs.Machine.{first_ports}
-pub use Rattle.link_ports.specs.Machine.{first_state, live_at, moved_at, moved_found, moved_state, moves_at, moves_of}
-pub use Rattle.link_ports.specs.Machine.{new_key, stepped_operation, port_at, ports_of, refresh_found, refuses_at}
-pub use Rattle.link_ports.specs.Machine.{refuses_in}
-pub use Rattle.link_ports.specs.Machine.{reset_state, slots_of, some_live, status_at, status_found, stop_found}
-pub use Rattle.link_ports.specs.Machine.{status_if_planned, work_done}
+pub use Rattle.link_ports.specs.Machine.{draws_after, place_at_end, establish_found, first_ports, first_state, live_at}
+pub use Rattle.link_ports.specs.Machine.{touched_at, touched_found, touched_state, touches_at, new_key}
+pub use Rattle.link_ports.specs.Machine.{stepped_operation, port_at, ports_of, refresh_found, refuses_at, refuses_in}
+pub use Rattle.link_ports.specs.Machine.{reset_state, status_at, status_found, status_if_planned, stop_found, work_done}
 unfoldable pub use Rattle.link_ports.specs.Machine.{find_op, put_op}
-pub use Rattle.link_ports.specs.Moves.{Go, Halt, Move, Program, any_live, is_live_slot, key_moved_in, key_moved_out}
-pub use Rattle.link_ports.specs.Moves.{keys_moved_in, keys_moved_out, moved_stream, settled_stream, slot_moved_in}
-pub use Rattle.link_ports.specs.Moves.{slot_moved_out, slots_moved_in, slots_moved_out}
+pub use Rattle.link_ports.specs.Stream.{any_live, has_all_live, has_some_live, is_live_slot, no_stream, settled_stream}
+pub use Rattle.link_ports.specs.Stream.{slots_at}
+pub use Rattle.link_ports.specs.Touches.{slot_touched, slots_touched, taken_touches, touched_stream}
 pub use Rattle.link_ports.specs.Stands.{FirstStands, PortsStandFor, StepStands, op_at, receiving_key}
 pub use Rattle.link_verdicts.specs.declared.verdict.Operation.{Operation}
-pub use Rattle.port_operations.specs.Operations.{AllAllowedIn, AllAllowedOut, AllowedIn, AllowedOut, IsOperation}
-pub use Rattle.port_operations.specs.Operations.{Operated, OperationStands, OperationSteps, busy_in}
+pub use Rattle.port_operations.specs.Operations.{AllowedIn, AllowedOut, IsOperation, key_touched_in, key_touched_out}
+pub use Rattle.port_operations.specs.Operations.{LeadTo, Operated, OperationStands, OperationSteps, busy_in}
 pub use Rattle.std.specs.List.{slice_index_or}
 unfoldable pub use Rattle.tlp_layout.specs.Reading.{read_of}

@@ -7,7 +7,7 @@ use Rattle.port_operations.proofs.Terms.{lane_in, lane_out, LinkState, live_at, 
 use Rattle.port_operations.proofs.Terms.{port_at, PortName, ports_at, ports_of, PortsStand, refuses, refuses_at}
 use Rattle.port_operations.proofs.Terms.{refuses_in, rx_slots, rx_standing, RxSub, sealed_packets, SealedList}
 use Rattle.port_operations.proofs.Terms.{slot_in_set}
-use Rattle.port_operations.proofs.Terms.{slot_of, Slots, slots_of, standing, StreamState, SubStream, tx_slots}
+use Rattle.port_operations.proofs.Terms.{slot_of, Slots, slots_at, standing, StreamState, SubStream, tx_slots}
 use Rattle.port_operations.proofs.Terms.{tx_standing, TxSub}
 use Rattle.key_laws.specs.Keys.{refusal_if}
 use Rattle.link_keys.proofs.Unplanned.{unplanned_keys}
@@ -40,7 +40,7 @@ known : (plan : Plan) (h : History) → CauseLaw plan h → (p : KeyPlace) (send
     (there : Bool → Keys → Bool)
     → ((xs : SealedList) (s : SubStream) (ks : Keys) → Apart ks → seen (tx_slots plan xs s ks) ≡ there true ks)
     → ((port : PortName) (s : SubStream) (ks : Keys) → Apart ks → seen (rx_slots plan h port s ks) ≡ there false ks)
-    → seen (slots_of sends p.sub (standing plan h (port_at p.side p.link) p.stream))
+    → seen (slots_at sends p.sub (standing plan h (port_at p.side p.link) p.stream))
     ≡ there sends (keys_there h (place_at_end p.link p.stream sends p.side p.sub))
 unfolding standing
 known plan h law p true seen there out into =

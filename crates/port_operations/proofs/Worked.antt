@@ -4,7 +4,8 @@ use Rattle.port_operations.proofs.Terms.{sym, ◌∙◌, subst, arith, if◌then
 use Rattle.port_operations.proofs.Terms.{draws_after, draws_made, due, each_sub, place_at_end, Event, facts, failed}
 use Rattle.port_operations.proofs.Terms.{failed_live, find, got_same, got_since, has_live_in, has_live_out, has_stream}
 use Rattle.port_operations.proofs.Terms.{held_same, History, is_on, is_on_stream, is_quiet, kept_all, Keys, keys_at}
-use Rattle.port_operations.proofs.Terms.{lane_in, lane_out, LinkState, Loss, manager, moments, moved_state, moves_at}
+use Rattle.port_operations.proofs.Terms.{lane_in, lane_out, LinkState, Loss, manager, moments, touched_state}
+use Rattle.port_operations.proofs.Terms.{touches_at}
 use Rattle.port_operations.proofs.Terms.{Npr, on_it, Op, op_after, Operation, KeyPlace, place_in_sub_stream, Plan}
 use Rattle.port_operations.proofs.Terms.{PortName, PortsStand}
 use Rattle.port_operations.proofs.Terms.{PortView, posted_in, posted_sum, Pr, put_op, quiet_seals_none, Reach, reach_of}
@@ -134,14 +135,14 @@ beside plan st h link stream o n stands = record
 
 by_ports : (plan : Plan) (st : LinkState) (h g : History) (link stream : ℕ) (w : Work) (r : Reach)
     → PortsStand plan st h → PortsStand plan
-    (moved_state plan st link stream (outs h link stream w r) (ins h link stream w r)) g
+    (touched_state plan st link stream (outs h link stream w r) (ins h link stream w r)) g
     → PortsStand plan (work_done plan st link stream w (Some r)) g
-by_ports plan st h g link stream w r stands moved =
+by_ports plan st h g link stream w r stands after =
     beside plan _ g link stream (op_after w r) (draws_after st.draws w)
     (subst (λ (ports : PortView). PortsStand plan
-    (moved_state plan st link stream (λ side u. moves_at ports w r (place_at_end link stream true side u))
-    (λ side u. moves_at ports w r (place_at_end link stream false side u))) g)
-    (sym (ports_is plan st h stands)) moved)
+    (touched_state plan st link stream (λ side u. touches_at ports w r (place_at_end link stream true side u))
+    (λ side u. touches_at ports w r (place_at_end link stream false side u))) g)
+    (sym (ports_is plan st h stands)) after)
 
 pub asked_stands : (plan : Plan) (st : LinkState) (h : History) (o : Operation) (link stream : ℕ) (lose : Option Loss)
     (x : Verdict) → PortsStand plan st h

@@ -7,8 +7,8 @@ use Rattle.ide_plan.specs.declared.plan.Plan.{Plan}
 use Rattle.key_laws.specs.Operations.{Idle, Establishing, Refreshing}
 use Rattle.key_laws.specs.History.{History, kept_draw, draw_on_at, go_at}
 use Rattle.link_history.specs.Plan.{SubStream, lane_out, lane_in, key_of}
-use Rattle.link_ports.specs.Stream.{Slot, Empty, Programmed, Armed, Live, StreamState, slot_in_set}
-use Rattle.link_ports.specs.Machine.{LinkState, find, find_op, slots_of, port_at, place_at_end}
+use Rattle.link_ports.specs.Stream.{Slot, Empty, Programmed, Armed, Live, StreamState, slot_in_set, slots_at}
+use Rattle.link_ports.specs.Machine.{LinkState, find, find_op, port_at, place_at_end}
 use Rattle.link_ports.specs.Stands.{PortsStandFor}
 
 -- the draw in a slot, and its key
@@ -27,13 +27,13 @@ pub record StreamPoints (plan : Plan) (st : LinkState) (h : History) : Type 0 wh
   -- a slot holds the key of a draw exactly if the draw is kept there
   pub kept : (side : Side) (link stream : ℕ) (x : StreamState) → find plan st (port_at side link) stream ≡ Some x
       → (sends : Bool) (u : SubKind) (k : Bool)
-      → key_held (slot_in_set (slots_of sends u x) k)
+      → key_held (slot_in_set (slots_at sends u x) k)
       ≡ option_map (λ j. (j, key_of plan j (point_lane side link stream sends u)))
       (kept_draw h (place_at_end link stream sends side u) k)
   -- while no operation was asked of a stream no slot holds a key
   pub idle : (link stream : ℕ) → find_op plan st link stream ≡ Some Idle → (side : Side) (x : StreamState)
       → find plan st (port_at side link) stream ≡ Some x → (sends : Bool) (u : SubKind) (k : Bool)
-      → key_held (slot_in_set (slots_of sends u x) k) ≡ None
+      → key_held (slot_in_set (slots_at sends u x) k) ≡ None
   -- while an establish is unfinished its draw is On at the places that its GO reached, and no other is kept
   pub establishing : (link stream j n : ℕ) → find_op plan st link stream ≡ Some (Establishing j n)
       → (side : Side) (sends : Bool) (u : SubKind) → let p = place_at_end link stream sends side u in

@@ -23,14 +23,14 @@ pub fn points_stand()
     ensures { PointsStand }
 {}
 
-/// If an operation's pair moves the keys of a stream at a port, and each move is allowed, the moves of the slots leave
-/// what stands for the history with that pair.
+/// If an operation's pair touches the keys of a stream at a port, and each touch is allowed, the same touches of the
+/// slots leave what stands for the history with that pair.
 pub fn operation_stands()
     ensures { OperationStands }
 {}
 
 /// If a state stands for a history, the state after an operation on one stream stands for the history with its pair:
-/// slots move at both ports, and nothing else does.
+/// slots change at both ports, and nothing else does.
 pub fn operation_steps()
     ensures { OperationSteps }
 {}

@@ -119,19 +119,19 @@ abbrev pub last_ends : SendEnds → Bool → Bool → SendEnds
 last_ends x b c = synced c Cpl (synced b Npr x)
 
 abbrev pub all_said : SendEnds → SubKind → Bool → Bool → List ℕ → List ℕ → Bool → Bool → List SealedPacket
-all_said x sub b c head payload t more =
+all_said x sub b c head payload more t =
     (([] ++ sync_packets b Npr x) ++ sync_packets c Cpl (synced b Npr x))
-    ++ measured (tlp_said (end_at (last_ends x b c) sub) t more)
-    (packet_said_at (last_ends x b c) head payload (tlp_said (end_at (last_ends x b c) sub) t more)) ∷ []
+    ++ measured (tlp_said (end_at (last_ends x b c) sub) more t)
+    (packet_said_at (last_ends x b c) head payload (tlp_said (end_at (last_ends x b c) sub) more t)) ∷ []
 
 abbrev pub all_bytes : SendEnds → SubKind → Bool → Bool → List ℕ → List ℕ → Bool → Bool → List ℕ → List ℕ
-all_bytes x sub b c head payload t more before =
+all_bytes x sub b c head payload more t before =
     ((before ++ sync_bytes b Npr x) ++ sync_bytes c Cpl (synced b Npr x))
-    ++ packet_bytes (packet_said_at (last_ends x b c) head payload (tlp_said (end_at (last_ends x b c) sub) t more))
+    ++ packet_bytes (packet_said_at (last_ends x b c) head payload (tlp_said (end_at (last_ends x b c) sub) more t))
 
 abbrev pub all_ends : SendEnds → SubKind → Bool → Bool → List ℕ → List ℕ → Bool → Bool → SendEnds
-all_ends x sub b c head payload t more =
-    sealed_ends (last_ends x b c) head payload (tlp_said (end_at (last_ends x b c) sub) t more)
+all_ends x sub b c head payload more t =
+    sealed_ends (last_ends x b c) head payload (tlp_said (end_at (last_ends x b c) sub) more t)
 
 -- the rules' descriptions, when it is known which sync packets go first
 abbrev flagged : Bool → Bool → Lanes → Sending → ℕ → List Described
@@ -152,8 +152,8 @@ pub record IsSealedAs (x : SendEnds) (head payload : List ℕ) (port : PortName)
 abbrev Runs : SendEnds → List ℕ → List ℕ → Sending → ℕ → Bool → Bool → List ℕ → List Described → Type 0
 Runs x head payload s number b c before ds =
     let t = sets_trusted s.port s.trusted in
-    IsSealedAs x head payload s.port number ds (all_said x s.class b c head payload t s.more) before
-    (all_bytes x s.class b c head payload t s.more before) (all_ends x s.class b c head payload t s.more)
+    IsSealedAs x head payload s.port number ds (all_said x s.class b c head payload s.more t) before
+    (all_bytes x s.class b c head payload s.more t before) (all_ends x s.class b c head payload s.more t)
 
 one_more : (before a : List ℕ) → ((before ++ []) ++ []) ++ a ≡ before ++ (a ++ [])
 one_more before a = simp (append_assoc, append-nil)
@@ -177,7 +177,7 @@ runs_alone : (x : SendEnds) (head payload : List ℕ) (port : PortName) (class :
     → Runs x head payload (as_sent x port class more trusted) number false false before
     (flagged false false (sealing_lanes x) (as_sent x port class more trusted) number)
 runs_alone x head payload port class more trusted number before =
-    let d = tlp_said (end_at x class) (sets_trusted port trusted) more in
+    let d = tlp_said (end_at x class) more (sets_trusted port trusted) in
     let e = tlp_packet x d (number + 0 + 0) port head payload in
     let n : number ≡ number + 0 + 0 = omega arith in
     record {
@@ -198,7 +198,7 @@ runs_posted false false x head payload port more trusted number before = runs_al
 runs_posted true false x head payload port more trusted number before =
     let d1 = sync_said (end_at x Npr) in
     let x1 = synced true Npr x in
-    let d = tlp_said (end_at x1 Pr) (sets_trusted port trusted) more in
+    let d = tlp_said (end_at x1 Pr) more (sets_trusted port trusted) in
     let e1 = sync_packet x d1 number port head payload refl in
     let e = tlp_packet x1 d (number + 1 + 0) port head payload in
     let n : number + 1 ≡ number + 1 + 0 = omega arith in
@@ -213,7 +213,7 @@ runs_posted true false x head payload port more trusted number before =
 runs_posted false true x head payload port more trusted number before =
     let d1 = sync_said (end_at x Cpl) in
     let x1 = synced true Cpl x in
-    let d = tlp_said (end_at x1 Pr) (sets_trusted port trusted) more in
+    let d = tlp_said (end_at x1 Pr) more (sets_trusted port trusted) in
     let e1 = sync_packet x d1 (number + 0) port head payload refl in
     let e = tlp_packet x1 d (number + 0 + 1) port head payload in
     let m : number ≡ number + 0 = omega arith in
@@ -231,7 +231,7 @@ runs_posted true true x head payload port more trusted number before =
     let x1 = synced true Npr x in
     let d2 = sync_said (end_at x1 Cpl) in
     let x2 = synced true Cpl x1 in
-    let d = tlp_said (end_at x2 Pr) (sets_trusted port trusted) more in
+    let d = tlp_said (end_at x2 Pr) more (sets_trusted port trusted) in
     let e1 = sync_packet x d1 number port head payload refl in
     let e2 = sync_packet x1 d2 (number + 1) port head payload refl in
     let e = tlp_packet x2 d (number + 1 + 1) port head payload in
@@ -264,31 +264,31 @@ runs Cpl b c x head payload port more trusted number before e f =
     (runs_alone x head payload port Cpl more trusted number before)
 
 abbrev SealedSo : SendEnds → List ℕ → List ℕ → Sending → ℕ → SubKind → Bool → Bool → Bool → Bool → List ℕ → Type 0
-SealedSo x head payload s number sub b c t more before =
-    IsSealed x head payload s number (all_said x sub b c head payload t more) before
-    (all_bytes x sub b c head payload t more before) (all_ends x sub b c head payload t more)
+SealedSo x head payload s number sub b c more t before =
+    IsSealed x head payload s number (all_said x sub b c head payload more t) before
+    (all_bytes x sub b c head payload more t before) (all_ends x sub b c head payload more t)
 
-pub sent-right : (x : SendEnds) (head payload : List ℕ) (s : Sending) (number : ℕ) (sub : SubKind) (b c t more : Bool)
+pub sent-right : (x : SendEnds) (head payload : List ℕ) (s : Sending) (number : ℕ) (sub : SubKind) (b c more t : Bool)
     (before : List ℕ)
     → b ≡ needs_sync (sealing_lanes x) sub Npr → c ≡ needs_sync (sealing_lanes x) sub Cpl
     → s.stream ≡ x.fixed.stream → s.class ≡ sub → s.more ≡ more → sets_trusted s.port s.trusted ≡ t
-    → SealedSo x head payload s number sub b c t more before
-sent-right x head payload s number sub b c t more before e f stream class goes trusted =
+    → SealedSo x head payload s number sub b c more t before
+sent-right x head payload s number sub b c more t before e f stream class goes trusted =
     let ran = runs s.class b c x head payload s.port s.more s.trusted number before
     (e ∙ ap (λ (u : SubKind). needs_sync (sealing_lanes x) u Npr) (sym class))
     (f ∙ ap (λ (u : SubKind). needs_sync (sealing_lanes x) u Cpl) (sym class)) in
     let so : SealedSo x head payload (record s { stream = x.fixed.stream }) number s.class b c
-    (sets_trusted s.port s.trusted) s.more before = record {
+    s.more (sets_trusted s.port s.trusted) before = record {
       answered = ran.answered;
       lengths = ran.lengths;
       bytes = ran.bytes;
       senders = ran.senders;
     } in
-    let here : SealedSo x head payload s number s.class b c (sets_trusted s.port s.trusted) s.more before =
-    subst (λ (r : Sending). SealedSo x head payload r number s.class b c (sets_trusted s.port s.trusted) s.more before)
+    let here : SealedSo x head payload s number s.class b c s.more (sets_trusted s.port s.trusted) before =
+    subst (λ (r : Sending). SealedSo x head payload r number s.class b c s.more (sets_trusted s.port s.trusted) before)
     (λ i. record s { stream = sym stream i }) so in
     subst (λ (y : SubKind × Bool × Bool). SealedSo x head payload s number y.0 b c y.1 y.2 before)
-    (λ i. (class i, trusted i, goes i)) here
+    (λ i. (class i, goes i, trusted i)) here
 
 -- ---- totals
 
@@ -299,12 +299,12 @@ total_more false n = omega arith
 same_total : (n : ℕ) → n ≤ n + 1
 same_total n = omega arith
 
-pub totals-after : (x : SendEnds) (head payload : List ℕ) (sub : SubKind) (b c t more : Bool) (u : SubKind) → b
+pub totals-after : (x : SendEnds) (head payload : List ℕ) (sub : SubKind) (b c more t : Bool) (u : SubKind) → b
     ≡ needs_sync (sealing_lanes x) sub Npr → c ≡ needs_sync (sealing_lanes x) sub Cpl
-    → (at_sub (all_ends x sub b c head payload t more).tx u).total ≤ (at_sub x.tx u).total + 1
-totals-after x head payload sub b c t more u e f = by_subs sub u e f
+    → (at_sub (all_ends x sub b c head payload more t).tx u).total ≤ (at_sub x.tx u).total + 1
+totals-after x head payload sub b c more t u e f = by_subs sub u e f
   where
-    posted : (b c : Bool) (u : SubKind) → (at_sub (all_ends x Pr b c head payload t more).tx u).total ≤
+    posted : (b c : Bool) (u : SubKind) → (at_sub (all_ends x Pr b c head payload more t).tx u).total ≤
         (at_sub x.tx u).total + 1
     posted true true Pr = total_more _ x.tx.pr.total
     posted true false Pr = total_more _ x.tx.pr.total
@@ -319,7 +319,7 @@ totals-after x head payload sub b c t more u e f = by_subs sub u e f
     posted false true Cpl = omega arith
     posted false false Cpl = same_total x.tx.cpl.total
 
-    alone : (sub u : SubKind) → (at_sub (all_ends x sub false false head payload t more).tx u).total ≤
+    alone : (sub u : SubKind) → (at_sub (all_ends x sub false false head payload more t).tx u).total ≤
         (at_sub x.tx u).total + 1
     alone Pr u = posted false false u
     alone Npr Pr = same_total x.tx.pr.total
@@ -330,7 +330,7 @@ totals-after x head payload sub b c t more u e f = by_subs sub u e f
     alone Cpl Cpl = total_more _ x.tx.cpl.total
 
     by_subs : (sub u : SubKind) → b ≡ needs_sync (sealing_lanes x) sub Npr → c ≡ needs_sync (sealing_lanes x) sub Cpl
-        → (at_sub (all_ends x sub b c head payload t more).tx u).total ≤ (at_sub x.tx u).total + 1
+        → (at_sub (all_ends x sub b c head payload more t).tx u).total ≤ (at_sub x.tx u).total + 1
     by_subs Pr u e f = posted b c u
     by_subs Npr u e f = rw (e, f) (alone Npr u)
     by_subs Cpl u e f = rw (e, f) (alone Cpl u)

@@ -12,10 +12,11 @@ use Rattle.stream_rules.specs.Stream.{slot_in_set, live_in, Taken, NotKeyed, Fai
 use Rattle.stream_rules.specs.Stream.{posted_sum}
 use Rattle.stream_rules.specs.Stream.{is_tagged, checked, dropped_held, accepted_sub, held_sub, taken_by, state_after}
 use Rattle.stream_rules.specs.Slots.{any_live}
+use Rattle.key_slots.specs.{KeyCall}
 use Rattle.sub_stream.specs.{Receiver, no_slots, opened_under}
 use Rattle.sub_stream.specs.declared.answer.Taken.{Taken as Answer}
 use Rattle.sub_stream.specs.declared.answer.Taken.TheVariants as answers
-use Rattle.sub_stream.specs.Calls.{SlotCall, slots_called_into, no_stream}
+use Rattle.sub_stream.specs.Calls.{slots_called_into, no_stream}
 
 -- ---- one sub-stream
 
@@ -69,7 +70,7 @@ abbrev pub end_after : ReceiveEnd → Packet → Taken → ReceiveEnd
 end_after e p taken =
     record e { kept = kept_after e.kept p taken; delivered = delivered_after e p taken; takes = e.takes + 1 }
 
-abbrev pub called_into : ReceiveEnd → SlotCall → RxSub
+abbrev pub called_into : ReceiveEnd → KeyCall → RxSub
 called_into e call = record e.kept { slots = slots_called_into call e.kept.slots }
 
 -- what comes before held packets is what the rules say; they are few, and their posted counts are bytes
@@ -185,7 +186,7 @@ settled_into rx =
     })
 
 -- a call, after which nothing is lent
-abbrev pub called_receivers : ReceiveEnds → SubKind → SlotCall → ReceiveEnds
+abbrev pub called_receivers : ReceiveEnds → SubKind → KeyCall → ReceiveEnds
 called_receivers x u call =
     let rx = at_sub x.rx u in
     record x { rx = set_sub x.rx u (record rx { slots = slots_called_into call rx.slots }); delivered = [] }

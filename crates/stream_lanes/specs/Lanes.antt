@@ -10,9 +10,10 @@ use Rattle.stream_rules.specs.Sending.{Lane, Lanes, is_posted, begins_unit, no_k
 use Rattle.stream_rules.specs.Stream.{LiveKey, Slots, TxSub, Three, at_sub, set_sub, each_sub, live_sender, lane_of}
 use Rattle.stream_rules.specs.Stream.{packet_under, sealed_slots, sealed_one}
 use Rattle.stream_rules.specs.Slots.{is_live_slot, any_live}
+use Rattle.key_slots.specs.{KeyCall}
 use Rattle.sub_stream.specs.{Sender, no_slots, open_packets, packets_under, with_length}
 use Rattle.sub_stream.specs.declared.answer.SealedPacket.{SealedPacket}
-use Rattle.sub_stream.specs.Calls.{SlotCall, slots_called_out}
+use Rattle.sub_stream.specs.Calls.{slots_called_out}
 use Rattle.stream_lanes.specs.declared.fixed.Fixed.{Fixed}
 
 -- ---- one sub-stream
@@ -57,7 +58,7 @@ said e m t sync =
 
 -- a TLP's packet, which goes on with its unit if that has room and `more` is said; and a sync packet
 abbrev pub tlp_said : SendEnd → Bool → Bool → Described
-tlp_said e t more = said e (not more || (length (sealing_lane e).front + 1 == e.fixed.mode)) t false
+tlp_said e more t = said e (not more || (length (sealing_lane e).front + 1 == e.fixed.mode)) t false
 
 abbrev pub sync_said : SendEnd → Described
 sync_said e = said e true false true
@@ -83,7 +84,7 @@ posted_end e = record e { kept = record e.kept { posted = e.kept.posted + 1 } }
 abbrev pub forgotten_end : SendEnd → SendEnd
 forgotten_end e = record e { kept = record { slots = e.kept.slots; posted = 0; total = 0 } }
 
-abbrev pub called_send_end : SendEnd → SlotCall → SendEnd
+abbrev pub called_send_end : SendEnd → KeyCall → SendEnd
 called_send_end e call = record e { kept = record e.kept { slots = slots_called_out call e.kept.slots } }
 
 -- the number of the open unit
@@ -171,7 +172,7 @@ settled_out tx =
       total = if out then (at_sub tx u).total else 0;
     })
 
-abbrev pub called_ends : SendEnds → SubKind → SlotCall → SendEnds
+abbrev pub called_ends : SendEnds → SubKind → KeyCall → SendEnds
 called_ends x u call =
     let tx = at_sub x.tx u in
     record x { tx = set_sub x.tx u (record tx { slots = slots_called_out call tx.slots }) }

@@ -4,13 +4,12 @@ ghost use Rattle.std.specs.Prelude.{◌≡◌, ◌+◌, ◌-◌, ◌*◌, ◌<�
 ghost use Rattle.std.specs.Prelude.{is_ok, if◌then◌else◌};
 ghost use Rattle.ide_types.specs.Sub.{sub_bits};
 ghost use Rattle.ide_prefix.specs.Cut.{packet_of_view, IsView};
-ghost use Rattle.key_slots.specs.{is_one, is_empty, program_answer, slot_in as key_slot_in};
+ghost use Rattle.key_slots.specs.{is_one, is_empty, program_answer, slot_in as key_slot_in, Program, Go, Halt};
 ghost use Rattle.stream_rules.specs.Sending.{is_posted};
 ghost use Rattle.stream_rules.specs.Stream.{dropped_held};
 ghost use Rattle.stream_rules.specs.Slots.{any_live};
 ghost use Rattle.sub_stream.specs.{answer_of, slot_pair};
 ghost use Rattle.sub_stream.specs.Receivers.{is_accepted};
-ghost use Rattle.sub_stream.specs.Calls.{Program, Go, Halt};
 ghost use Rattle.stream_lanes.specs.Arrivals.{new_receive_end, no_rx, taken_here, end_after, called_into, count_in};
 
 use crate::fixed::{Fixed, front};

@@ -4,10 +4,10 @@ ghost use Rattle.std.specs.Prelude.{◌≡◌, ◌+◌, ◌<◌, ◌≤◌, ◌^
 ghost use Rattle.std.specs.Prelude.{vec_len, vec_capacity, if◌then◌else◌};
 ghost use Rattle.ide_prefix.specs.Packet.{packet_bytes};
 ghost use Rattle.key_slots.specs.{is_one, is_empty, program_answer, live_set, slot_in as key_slot_in};
+ghost use Rattle.key_slots.specs.{Program, Go, Halt};
 ghost use Rattle.stream_rules.specs.Sending.{is_posted, begins_unit};
 ghost use Rattle.stream_rules.specs.Slots.{any_live};
 ghost use Rattle.sub_stream.specs.{slot_pair};
-ghost use Rattle.sub_stream.specs.Calls.{Program, Go, Halt};
 ghost use Rattle.stream_lanes.specs.Lanes.{
   new_send_end,
   sealing_lane,
@@ -130,14 +130,14 @@ impl SendLane {
         self.posted
     }
 
-    /// Seals a TLP's header and payload under the Live key, and appends its packet to `out`. `t` says that the TLP is
-    /// trusted, `more` that the unit goes on if it has room.
+    /// Seals a TLP's header and payload under the Live key, and appends its packet to `out`. `more` says that
+    /// the unit goes on if it has room, `t` that the TLP is trusted.
     pub fn seal(
         &mut self,
         head: &[u8],
         payload: &[u8],
-        t: bool,
         more: bool,
+        t: bool,
         out: &mut Vec<u8>,
     ) -> SealedPacket
         requires live { any_live self.old.kept.slots ≡ true }
@@ -146,11 +146,11 @@ impl SendLane {
         requires head_short { length head.now ≤ 16 }
         requires payload_short { length payload.now ≤ 4096 }
         requires room { vec_len out.old + PACKET_ROOM ≤ vec_capacity out.old }
-        ensures answer { result ≡ measured (tlp_said self.old t more) (packet_said self.old head.now payload.now
-            (tlp_said self.old t more)) }
-        ensures lane { self.new ≡ sealed_end self.old head.now payload.now (tlp_said self.old t more) }
+        ensures answer { result ≡ measured (tlp_said self.old more t) (packet_said self.old head.now payload.now
+            (tlp_said self.old more t)) }
+        ensures lane { self.new ≡ sealed_end self.old head.now payload.now (tlp_said self.old more t) }
         ensures bytes { out.new.items ≡ out.old.items ++ packet_bytes (packet_said self.old head.now payload.now
-            (tlp_said self.old t more)) }
+            (tlp_said self.old more t)) }
         ensures capacity { vec_capacity out.old ≤ vec_capacity out.new }
         ensures fits { length (sealing_lane self.old).front < self.old.fixed.mode }
     {
@@ -158,7 +158,7 @@ impl SendLane {
         let front = front(self.closed, &total);
         let Ok(packet) = self
             .tx
-            .seal(head, payload, self.posted, t, more, front, out)
+            .seal(head, payload, self.posted, more, t, front, out)
         else {
             unreachable!()
         };

@@ -7,12 +7,12 @@ ghost use Rattle.ide_types.specs.declared.sub.SubKind.{SubKind};
 ghost use Rattle.ide_types.specs.declared.sub.SubKind.TheVariants.{Pr, Npr, Cpl};
 ghost use Rattle.ide_prefix.specs.Packet.{packet_bytes};
 ghost use Rattle.key_slots.specs.{is_one, is_empty, program_answer, live_set, slot_in as key_slot_in};
+ghost use Rattle.key_slots.specs.{Program, Go, Halt};
 ghost use Rattle.stream_rules.specs.Sending.{Sending, is_posted, is_keyless, is_worn, begins_unit, needs_sync};
 ghost use Rattle.stream_rules.specs.Sending.{refusals, first_that_holds, sets_trusted};
 ghost use Rattle.stream_rules.specs.Stream.{at_sub};
 ghost use Rattle.stream_rules.specs.Slots.{any_live};
 ghost use Rattle.sub_stream.specs.{slot_pair};
-ghost use Rattle.sub_stream.specs.Calls.{Program, Go, Halt};
 ghost use Rattle.stream_lanes.specs.Sends.{refusal_verdict, IsSealed};
 ghost use Rattle.stream_lanes.specs.Lanes.{
   new_send_ends,
@@ -252,8 +252,8 @@ impl SendLanes {
         &mut self,
         head: &[u8],
         payload: &[u8],
-        t: bool,
         more: bool,
+        t: bool,
         out: &mut Vec<u8>,
     ) -> SealedPacket
         requires live { any_live self.old.tx.pr.slots ≡ true }
@@ -264,14 +264,14 @@ impl SendLanes {
         requires head_short { length head.now ≤ 16 }
         requires payload_short { length payload.now ≤ 4096 }
         requires room { vec_len out.old + PACKET_ROOM ≤ vec_capacity out.old }
-        ensures answer { let d = tlp_said (end_at self.old Pr) t more in
+        ensures answer { let d = tlp_said (end_at self.old Pr) more t in
             result ≡ measured d (packet_said_at self.old head.now payload.now d) }
-        ensures lanes { self.new ≡ sealed_ends self.old head.now payload.now (tlp_said (end_at self.old Pr) t more) }
+        ensures lanes { self.new ≡ sealed_ends self.old head.now payload.now (tlp_said (end_at self.old Pr) more t) }
         ensures bytes { out.new.items ≡ out.old.items ++ packet_bytes (packet_said_at self.old head.now payload.now
-            (tlp_said (end_at self.old Pr) t more)) }
+            (tlp_said (end_at self.old Pr) more t)) }
         ensures capacity { vec_capacity out.old ≤ vec_capacity out.new }
     {
-        let packet = self.pr.seal(head, payload, t, more, out);
+        let packet = self.pr.seal(head, payload, more, t, out);
         self.npr.count_posted();
         self.cpl.count_posted();
         packet
@@ -283,8 +283,8 @@ impl SendLanes {
         sub: SubKind,
         head: &[u8],
         payload: &[u8],
-        t: bool,
         more: bool,
+        t: bool,
         out: &mut Vec<u8>,
     ) -> SealedPacket
         requires live { any_live (at_sub self.old.tx sub).slots ≡ true }
@@ -297,29 +297,29 @@ impl SendLanes {
         requires head_short { length head.now ≤ 16 }
         requires payload_short { length payload.now ≤ 4096 }
         requires room { vec_len out.old + PACKET_ROOM ≤ vec_capacity out.old }
-        ensures answer { let d = tlp_said (end_at self.old sub) t more in
+        ensures answer { let d = tlp_said (end_at self.old sub) more t in
             result ≡ measured d (packet_said_at self.old head.now payload.now d) }
-        ensures lanes { self.new ≡ sealed_ends self.old head.now payload.now (tlp_said (end_at self.old sub) t more) }
+        ensures lanes { self.new ≡ sealed_ends self.old head.now payload.now (tlp_said (end_at self.old sub) more t) }
         ensures bytes { out.new.items ≡ out.old.items ++ packet_bytes (packet_said_at self.old head.now payload.now
-            (tlp_said (end_at self.old sub) t more)) }
+            (tlp_said (end_at self.old sub) more t)) }
         ensures capacity { vec_capacity out.old ≤ vec_capacity out.new }
     {
         match sub {
-            SubKind::Pr => self.seal_posted(head, payload, t, more, out),
-            SubKind::Npr => self.npr.seal(head, payload, t, more, out),
-            SubKind::Cpl => self.cpl.seal(head, payload, t, more, out),
+            SubKind::Pr => self.seal_posted(head, payload, more, t, out),
+            SubKind::Npr => self.npr.seal(head, payload, more, t, out),
+            SubKind::Cpl => self.cpl.seal(head, payload, more, t, out),
         }
     }
 
     /// Seals a TLP that `refusal` does not refuse, after the sync packets that must go first, and appends the packets
-    /// to `out`. `t` says that the TLP is trusted, `more` that its unit goes on if it has room.
+    /// to `out`. `more` says that its unit goes on if it has room, `t` that the TLP is trusted.
     pub fn send(
         &mut self,
         sub: SubKind,
         head: &[u8],
         payload: &[u8],
-        t: bool,
         more: bool,
+        t: bool,
         out: &mut Vec<u8>,
     ) -> Sealed
         requires clear { first_that_holds (refusals (sealing_lanes self.old) sub) ≡ None }
@@ -338,7 +338,7 @@ impl SendLanes {
         let mut sealed = Sealed::new();
         self.sync_npr(npr, &mut sealed, out);
         self.sync_cpl(cpl, &mut sealed, out);
-        let packet = self.seal(sub, head, payload, t, more, out);
+        let packet = self.seal(sub, head, payload, more, t, out);
         sealed.push(packet);
         sealed
     }

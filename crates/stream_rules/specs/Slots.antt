@@ -1,5 +1,8 @@
--- What keys do to slots: a key is put in, gets GO, or is taken out.
+-- What keys do to slots: a key is put in, gets GO, or is taken out; and what all slots of a stream come to.
 use Rattle.std.specs.Prelude.{Bool, true, false, ◌&&◌, ◌||◌, nat_lt, [], length, if◌then◌else◌}
+use Rattle.ide_types.specs.declared.sub.SubKind.{SubKind}
+use Rattle.ide_types.specs.declared.status.StreamStatus.{StreamStatus}
+use Rattle.ide_types.specs.declared.status.StreamStatus.TheVariants as status
 use Rattle.stream_rules.specs.Stream.{Slot, Empty, Programmed, Armed, Live, Slots, TxSub, RxSub, Three, StreamState}
 use Rattle.stream_rules.specs.Stream.{at_sub, each_sub}
 
@@ -50,3 +53,43 @@ settled_stream tx rx failed =
       });
       failed = failed && (out || into);
     }
+
+-- the slots of a sender, or of a receiver, in a sub-stream
+abbrev pub slots_at : Bool → SubKind → StreamState → Slots
+slots_at true u st = (at_sub st.tx u).slots
+slots_at false u st = (at_sub st.rx u).slots
+
+-- ---- without keys
+
+abbrev pub no_slots : Slots
+no_slots = record { first = Empty; second = Empty }
+
+abbrev pub no_stream : StreamState
+no_stream = record {
+  tx = each_sub (λ u. record { slots = no_slots; posted = 0; total = 0 });
+  rx = each_sub (λ u. record { slots = no_slots; sum = 0; got = 0; total = 0 });
+  failed = false;
+}
+
+-- ---- the status of a stream
+
+-- each of the six sub-streams has a Live key
+abbrev pub has_all_live : StreamState → Bool
+has_all_live st =
+    any_live st.tx.pr.slots && any_live st.tx.npr.slots && any_live st.tx.cpl.slots
+    && any_live st.rx.pr.slots && any_live st.rx.npr.slots && any_live st.rx.cpl.slots
+
+abbrev pub has_some_live : StreamState → Bool
+has_some_live st =
+    any_live st.tx.pr.slots || any_live st.tx.npr.slots || any_live st.tx.cpl.slots
+    || any_live st.rx.pr.slots || any_live st.rx.npr.slots || any_live st.rx.cpl.slots
+
+-- failed; or keyed throughout, in part, or not at all
+abbrev pub status_by : Bool → Bool → Bool → StreamStatus
+status_by true some all = status.Insecure
+status_by false some true = status.Secure
+status_by false true false = status.Partial
+status_by false false false = status.Idle
+
+abbrev pub stream_status : StreamState → StreamStatus
+stream_status st = status_by st.failed (has_some_live st) (has_all_live st)

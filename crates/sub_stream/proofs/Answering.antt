@@ -23,8 +23,8 @@ use Rattle.key_slots.specs.declared.slot.Slot.TheVariants.{Empty, Programmed, Ar
 use Rattle.key_slots.specs.{DrawnKey, SlotPair, slot_in, is_live, is_armed, live_held, live_draw, after_go, armed}
 use Rattle.sub_stream.specs.declared.answer.Taken.{Taken as Answer}
 use Rattle.sub_stream.specs.declared.answer.Taken.TheVariants as answers
-use Rattle.sub_stream.specs.declared.taking.Holds.{Holds}
-use Rattle.sub_stream.specs.declared.taking.Holds.TheVariants.{Nothing, Zero, One, Delivered}
+use Rattle.sub_stream.specs.declared.receiver.Holds.{Holds}
+use Rattle.sub_stream.specs.declared.receiver.Holds.TheVariants.{Nothing, Zero, One, Delivered}
 use Rattle.sub_stream.specs.Answers.{answer_of}
 use Rattle.sub_stream.specs.Gathered.{Gathered, no_packets}
 use Rattle.sub_stream.specs.Seen.{slot_as_seen, live_with, has_armed, is_programmed}

@@ -12,8 +12,8 @@ use Rattle.key_slots.specs.declared.slot.Slot.TheVariants.{Empty, Programmed, Ar
 use Rattle.key_slots.specs.{KeySet, DrawnKey, SlotPair, slot_in, is_one, is_live, live_held, shown_key}
 use Rattle.sub_stream.specs.declared.answer.Taken.{Taken as Answer}
 use Rattle.sub_stream.specs.declared.answer.Taken.TheVariants as answers
-use Rattle.sub_stream.specs.declared.taking.Holds.{Holds}
-use Rattle.sub_stream.specs.declared.taking.Holds.TheVariants.{Nothing, Zero, One, Delivered}
+use Rattle.sub_stream.specs.declared.receiver.Holds.{Holds}
+use Rattle.sub_stream.specs.declared.receiver.Holds.TheVariants.{Nothing, Zero, One, Delivered}
 use Rattle.sub_stream.specs.Seen.{slot_as_seen, live_with}
 use Rattle.sub_stream.specs.Receivers.{held_zero, held_one, seen_in, HoldsFew, holds_some, holds_apart, fits_held}
 use Rattle.sub_stream.specs.Receivers.{fits_unit, early_answer}

@@ -17,9 +17,10 @@ use Rattle.key_slots.specs.{is_live as is_live_key}
 use Rattle.key_slots.specs.declared.slot.Slot.TheVariants as key
 use Rattle.sub_stream.specs.declared.answer.Taken.{Taken as Answer}
 use Rattle.sub_stream.specs.declared.answer.Taken.TheVariants as answers
-use Rattle.sub_stream.specs.declared.taking.Holds.{Holds}
-use Rattle.sub_stream.specs.declared.taking.Holds.TheVariants.{Nothing, Zero, One, Delivered}
-use Rattle.sub_stream.specs.Seen.{slot_as_seen, slot_pair, no_slots, has_armed}
+use Rattle.sub_stream.specs.declared.receiver.Holds.{Holds}
+use Rattle.sub_stream.specs.declared.receiver.Holds.TheVariants.{Nothing, Zero, One, Delivered}
+use Rattle.sub_stream.specs.Seen.{slot_as_seen, slot_pair, has_armed}
+use Rattle.stream_rules.specs.Slots.{no_slots}
 use Rattle.sub_stream.specs.Gathered.{Gathered, with_packet, opened}
 use Rattle.sub_stream.specs.Senders.{ahead_of}
 

@@ -31,9 +31,6 @@ key_slot (Live x) = key.Live (record { key = x.key; draw = x.draw })
 abbrev pub slot_pair : Bool → Slots → SlotPair
 slot_pair sender slots = record { sender = sender; zero = key_slot slots.first; one = key_slot slots.second }
 
-abbrev pub no_slots : Slots
-no_slots = record { first = Empty; second = Empty }
-
 abbrev pub is_programmed : KeySlot → Bool
 is_programmed (key.Programmed held) = true
 is_programmed slot = false

@@ -14,8 +14,9 @@ use Rattle.key_slots.specs.{SlotPair, is_only_live}
 use Rattle.sub_stream.specs.declared.answer.SealedPacket.{SealedPacket}
 use Rattle.sub_stream.specs.declared.answer.TxRefusal.{TxRefusal}
 use Rattle.sub_stream.specs.declared.answer.TxRefusal.TheVariants.{NoKey, Worn}
-use Rattle.sub_stream.specs.declared.sealing.Carried.{Carried}
-use Rattle.sub_stream.specs.Seen.{slot_pair, no_slots, has_live, both_live}
+use Rattle.sub_stream.specs.declared.sender.Carried.{Carried}
+use Rattle.sub_stream.specs.Seen.{slot_pair, has_live, both_live}
+use Rattle.stream_rules.specs.Slots.{no_slots}
 use Rattle.sub_stream.specs.Gathered.{Gathered}
 
 -- units of at most `mode` packets, and at most `limit` units under one key; `ahead` comes before what the open unit

@@ -6,13 +6,10 @@
 mod answer;
 mod lent;
 mod receiver;
-mod sealing;
 mod sender;
-mod taking;
 mod unit_packets;
 
 pub use answer::{PacketMark, SealedPacket, Taken, TxRefusal};
 pub use lent::Delivered;
 pub use receiver::Rx;
-pub use sealing::{PACKET_ROOM, PAYLOAD_BYTES, SYNC_ROOM, TLP_HEAD_BYTES};
-pub use sender::Tx;
+pub use sender::{PACKET_ROOM, PAYLOAD_BYTES, SYNC_ROOM, TLP_HEAD_BYTES, Tx};

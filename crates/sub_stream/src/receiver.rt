@@ -1,24 +1,106 @@
-//! The receiver of one sub-stream.
+//! The receiver of one sub-stream, what it holds, and the checks of a packet under a Live key.
 
 ghost use Rattle.std.specs.Prelude.{◌≡◌, ◌+◌, ◌<◌, ◌≤◌, ◌^◌, ◌*◌, ◌&&◌, Some, None, is_ok, is_some, not, true, false};
-ghost use Rattle.std.specs.Prelude.{length, if◌then◌else◌};
-ghost use Rattle.ide_prefix.specs.Cut.{packet_of_view, IsView};
-ghost use Rattle.key_slots.specs.{slot_in as key_slot_in, is_one, is_empty, program_answer};
+ghost use Rattle.std.specs.Prelude.{[], length, if◌then◌else◌};
+ghost use Rattle.gcm_seal.specs.Gcm.{verifies};
+ghost use Rattle.ide_prefix.specs.Cut.{packet_of_view, lent_tag, IsView};
+ghost use Rattle.ide_prefix.specs.Units.{encrypted};
+ghost use Rattle.key_slots.specs.{slot_in as key_slot_in, is_one, is_empty, is_live, program_answer};
 ghost use Rattle.stream_rules.specs.Stream.{slot_in_set, posted_sum};
 ghost use Rattle.sub_stream.specs.Answers.{answer_of};
-ghost use Rattle.sub_stream.specs.Gathered.{lent_front};
-ghost use Rattle.sub_stream.specs.Seen.{slot_pair, key_slot, is_programmed};
-ghost use Rattle.sub_stream.specs.Receivers.{fits_held};
+ghost use Rattle.sub_stream.specs.Gathered.{lent_front, clear_of, no_packets};
+ghost use Rattle.sub_stream.specs.Seen.{slot_pair, key_slot, is_programmed, live_with};
+ghost use Rattle.sub_stream.specs.Senders.{begun_where_empty};
+ghost use Rattle.sub_stream.specs.Receivers.{fits_held, judged_packet, BufferAfter, holds_some, holds_apart};
+ghost use Rattle.sub_stream.specs.Receivers.{holds_after, held_alone, held_unless_failed, left_without, is_accepted};
+ghost use Rattle.sub_stream.specs.Receivers.{without_older, slots_after};
 
 use crate::answer::Taken;
 use crate::lent::Delivered;
-use crate::taking::{Holds, count_accepted, keep_held, take_under};
+use crate::sender::begin_where_empty;
 use crate::unit_packets::UnitPackets;
-use ide_prefix::PacketView;
+use gcm_seal::Gcm;
+use ide_prefix::{PacketView, carried_head, unit_iv};
 use ide_types::{FailCause, KeySet, SubKind};
 use key_slots::{Key, OnlyLive, SlotEmpty, SlotState, Slots};
 use std::marker::Model;
 use unit_aggregation::UnitBuf;
+
+/// What a receiver's buffer holds: nothing that counts, packets without M in key set 0 or in key set 1, or an accepted
+/// unit, decrypted.
+#[derive(Clone, Copy, Debug, PartialEq, Eq)]
+pub enum Holds {
+    Nothing,
+    Zero,
+    One,
+    Delivered,
+}
+
+impl Holds {
+    /// Whether packets are held.
+    pub fn some(self) -> bool
+        ensures { result ≡ holds_some self }
+    {
+        match self {
+            Holds::Zero | Holds::One => true,
+            Holds::Nothing | Holds::Delivered => false,
+        }
+    }
+
+    /// Whether packets are held in another key set than this.
+    pub fn apart(self, k: bool) -> bool
+        ensures { result ≡ holds_apart k self }
+    {
+        match self {
+            Holds::Zero => k,
+            Holds::One => !k,
+            Holds::Nothing | Holds::Delivered => false,
+        }
+    }
+
+    /// The held packets alone.
+    pub fn held(self) -> Holds
+        ensures { result ≡ held_alone self }
+    {
+        match self {
+            Holds::Delivered => Holds::Nothing,
+            holds => holds,
+        }
+    }
+
+    /// What is held after an answer that came before a look at the tag.
+    pub fn unless_failed(self, taken: &Taken) -> Holds
+        ensures { result ≡ held_unless_failed self taken.now }
+    {
+        match taken {
+            Taken::NotKeyed => self,
+            _ => Holds::Nothing,
+        }
+    }
+
+    /// What is held once this key set's slot is emptied.
+    pub fn without(self, k: bool) -> Holds
+        ensures { result ≡ left_without k self }
+    {
+        match self {
+            Holds::Zero if k => Holds::Zero,
+            Holds::One if !k => Holds::One,
+            _ => Holds::Nothing,
+        }
+    }
+
+    /// What is held after an answer under a Live key.
+    pub fn after(k: bool, taken: &Taken) -> Holds
+        ensures { result ≡ holds_after k taken.now }
+    {
+        match taken {
+            Taken::Held { .. } if k => Holds::One,
+            Taken::Held { .. } => Holds::Zero,
+            Taken::Accepted { .. } => Holds::Delivered,
+            _ => Holds::Nothing,
+        }
+    }
+}
 
 /// A receiver of one sub-stream: it holds packets until the last of their unit, and accepts whole units under a Live
 /// key. Of two Live keys the older one goes with the first unit under the newer (PCI Express Base 6.0 section 6.33, in
@@ -258,5 +340,103 @@ impl Rx {
         ensures { result ≡ self.now.takes }
     {
         self.takes
+    }
+}
+
+// ---- the checks of a packet under a Live key
+
+// Leaves the held packets alone.
+fn keep_held(unit: &mut UnitPackets, holds: Holds)
+    ensures { unit.new ≡ (if holds_some holds then unit.old else no_packets unit.old.mode) }
+{
+    if !holds.some() {
+        unit.clear();
+    }
+}
+
+// Whether there is a tag, and it is that of the unit.
+fn is_tagged(cipher: &Gcm, iv: &[u8; 12], unit: &UnitPackets, tag: Option<&[u8; 12]>) -> bool
+    ensures { result ≡ verifies cipher.now iv.now (clear_of unit.now) (encrypted unit.now.packets)
+        (lent_tag tag.entry) }
+{
+    match tag {
+        Some(tag) => cipher.verify(iv, unit.clear_bytes(), unit.body(), tag),
+        None => false,
+    }
+}
+
+// Answers a packet under the key, for which the unit has room. Then the packet is with the held ones, or the unit is
+// decrypted.
+fn take_under(
+    cipher: &Gcm,
+    draw: u32,
+    units: u64,
+    packet: &PacketView,
+    allowed: u64,
+    front: Option<&[u8; 8]>,
+    unit: &mut UnitPackets,
+) -> Taken
+    requires view { IsView packet.now }
+    requires few { units < 2 ^ 40 }
+    requires room { length unit.old.packets < unit.old.mode }
+    ensures answer { let x = live_with units unit.old.packets (record { key = cipher.now; draw = draw }) in
+        let begun = begun_where_empty unit.old (lent_front front.entry) (units + 1) in
+        Some result ≡ answer_of (judged_packet begun.front allowed x (packet_of_view packet.now)) }
+    ensures buffer { let x = live_with units unit.old.packets (record { key = cipher.now; draw = draw }) in
+        let begun = begun_where_empty unit.old (lent_front front.entry) (units + 1) in
+        BufferAfter begun x (packet_of_view packet.now)
+        (judged_packet begun.front allowed x (packet_of_view packet.now)) unit.new }
+    ensures mode { unit.new.mode ≡ unit.old.mode }
+{
+    carried_head();
+    let n = units + 1;
+    begin_where_empty(unit, front, n);
+    unit.push(&packet.prefix, packet.head, packet.body);
+    if !packet.prefix.m {
+        return Taken::Held { draw, unit: n };
+    }
+    let iv = unit_iv(packet.prefix.sub, n);
+    if !is_tagged(cipher, &iv, unit, packet.tag) {
+        return Taken::Fail(FailCause::Tag);
+    }
+    if unit.posted() > allowed {
+        return Taken::Fail(FailCause::Order);
+    }
+    unit.open(cipher, &iv);
+    Taken::Accepted {
+        draw,
+        unit: n,
+        count: unit.count() as u8,
+    }
+}
+
+// Empties the other slot if it is Live under an older draw.
+fn retire_older(slots: &mut Slots, set: KeySet, draw: u32)
+    requires { is_live (key_slot_in slots.old (is_one set)) ≡ true }
+    ensures { slots.new ≡ without_older slots.old (is_one set) draw }
+{
+    if let Some((_, other)) = slots.live_key(set.other()) {
+        if other < draw {
+            slots.halt(set.other());
+        }
+    }
+}
+
+// Counts an accepted unit under this Live key, whose other slot is emptied if it is Live under an older draw.
+fn count_accepted(taken: &Taken, k: bool, slots: &mut Slots, zero: &mut u64, one: &mut u64)
+    requires live { is_live (key_slot_in slots.old k) ≡ true }
+    requires zero { zero.old + 1 < 2 ^ 64 }
+    requires one { one.old + 1 < 2 ^ 64 }
+    ensures slots { slots.new ≡ slots_after taken.now k slots.old }
+    ensures zero { zero.new ≡ (if is_accepted taken.now && not k then zero.old + 1 else zero.old) }
+    ensures one { one.new ≡ (if is_accepted taken.now && k then one.old + 1 else one.old) }
+{
+    if let Taken::Accepted { draw, .. } = taken {
+        if k {
+            *one += 1;
+        } else {
+            *zero += 1;
+        }
+        retire_older(slots, KeySet::of_bit(k), *draw);
     }
 }

@@ -1,30 +1,49 @@
-//! The sender of one sub-stream.
+//! The sender of one sub-stream, and the bytes of the packets that it seals.
 
 ghost use Rattle.std.specs.Prelude.{◌≡◌, ◌==◌, ◌&&◌, ◌||◌, ◌^◌, false, ℕ, ◌+◌, ◌<◌, ◌≤◌, List, ◌++◌, [], length};
 ghost use Rattle.std.specs.Prelude.{vec_len, vec_capacity, is_ok, not, true, if◌then◌else◌};
 ghost use Rattle.std.specs.Result.{result_map_both};
-ghost use Rattle.ide_prefix.specs.Packet.{sync_head};
+ghost use Rattle.gcm_seal.specs.Gcm.{masked, tag_of};
+ghost use Rattle.ide_prefix.specs.Packet.{prefix_bytes, sync_head};
+ghost use Rattle.ide_prefix.specs.Units.{encrypted};
 ghost use Rattle.key_slots.specs.{slot_in as key_slot_in, is_one, is_empty, is_live, is_armed as is_armed_key};
 ghost use Rattle.key_slots.specs.{program_answer};
 ghost use Rattle.stream_rules.specs.Stream.{ended_slots, live_sender, slot_in_set};
-ghost use Rattle.sub_stream.specs.Gathered.{lent_front};
+ghost use Rattle.sub_stream.specs.Gathered.{clear_of, lent_front, with_packet};
 ghost use Rattle.sub_stream.specs.Gathered as gathered;
 ghost use Rattle.sub_stream.specs.Seen.{shown_in_use, in_use, live_with, seen_out, has_live, both_live, has_armed};
 ghost use Rattle.sub_stream.specs.Seen.{is_programmed, slot_pair, key_slot};
 ghost use Rattle.sub_stream.specs.Senders.{ready_under, begun_where_empty, carried_content, tlp_content, sync_content};
 
 use crate::answer::{SealedPacket, TxRefusal};
-use crate::sealing::{
-    Carried, PACKET_ROOM, PAYLOAD_BYTES, PREFIX_BYTES, SYNC_HEAD, SYNC_ROOM, TAG_BYTES,
-    TLP_HEAD_BYTES, append_packet, append_tag,
-};
 use crate::unit_packets::UnitPackets;
-use gcm_seal::Gcm;
-use ide_prefix::{Prefix, unit_iv};
+use gcm_seal::{Gcm, MAX_BYTES};
+use ide_prefix::{Prefix, SYNC_FIRST, unit_iv, write_prefix};
 use ide_types::{KeySet, SubKind};
 use key_slots::{Key, OnlyLive, SlotEmpty, SlotState, Slots};
 use std::marker::Model;
 use unit_aggregation::UnitBuf;
+
+/// The most bytes that a TLP's header has: four double words (PCI Express Base 6.0 section 2.2).
+pub const TLP_HEAD_BYTES: usize = 16;
+
+/// The most bytes that a TLP's payload has: 1,024 double words (PCI Express Base 6.0 section 2.2).
+pub const PAYLOAD_BYTES: usize = 4_096;
+
+/// The most bytes of a packet: 4 of its prefix, a header, a payload, and 12 of the tag.
+pub const PACKET_ROOM: usize = 4_128;
+
+/// The bytes of a sync packet: 4 of its prefix, 12 of its header, and 12 of the tag.
+pub const SYNC_ROOM: usize = 28;
+
+// The bytes of a packet's prefix.
+const PREFIX_BYTES: usize = 4;
+
+// The bytes of a unit's tag.
+const TAG_BYTES: usize = 12;
+
+// The header of a sync packet (this profile).
+const SYNC_HEAD: [u8; 12] = [SYNC_FIRST, 0, 0, 0, 0, 0, 0, 0, 0, 0, 0, 0];
 
 /// A sender of one sub-stream: it seals units of at most `mode` packets under the Live key, and at most as many as its
 /// limit under one key. A newer key waits for the end of an open unit (PCI Express Base 6.0 section 6.33, in this
@@ -275,16 +294,16 @@ impl Tx {
     }
 
     /// Seals a TLP's header and payload, and appends its packet to `out`, which has room for `PACKET_ROOM` bytes more.
-    /// `posted` is the posted count, 0 in the posted sub-stream; `t` says that the TLP is trusted, and `more` that the
-    /// unit goes on if it has room. `front` is the total on a closed stream (8 bytes): it is authenticated before the
+    /// `posted` is the posted count, 0 in the posted sub-stream; `more` says that the unit goes on if it has room, and
+    /// `t` that the TLP is trusted. `front` is the total on a closed stream (8 bytes): it is authenticated before the
     /// packets of unit 1 under a key, and is the same for all packets of one unit.
     pub fn seal(
         &mut self,
         head: &[u8],
         payload: &[u8],
         posted: u8,
-        t: bool,
         more: bool,
+        t: bool,
         front: Option<&[u8; 8]>,
         out: &mut Vec<u8>,
     ) -> Result<SealedPacket, TxRefusal>
@@ -379,5 +398,97 @@ impl Tx {
         ensures { result.now ≡ slot_pair true self.now.slots }
     {
         &self.slots
+    }
+}
+
+// ---- the bytes of a packet
+
+/// What a packet carries: a TLP's header and payload, or a sync packet's header alone, with the posted count and T.
+#[derive(Clone, Copy)]
+pub struct Carried<'a> {
+    pub head: &'a [u8],
+    pub payload: &'a [u8],
+    pub posted: u8,
+    pub t: bool,
+    pub sync: bool,
+}
+
+// Appends the bytes, for which there is room.
+fn append(out: &mut Vec<u8>, bytes: &[u8])
+    requires { vec_len out.old + length bytes.now ≤ vec_capacity out.old }
+    ensures items { out.new.items ≡ out.old.items ++ bytes.now }
+    ensures len { vec_len out.new ≡ vec_len out.old + length bytes.now }
+    ensures capacity { vec_capacity out.old ≤ vec_capacity out.new }
+{
+    let _ = out.extend_from_slice(bytes);
+}
+
+// Appends a prefix and a header.
+fn append_clear(out: &mut Vec<u8>, prefix: &Prefix, head: &[u8])
+    requires { vec_len out.old + 4 + length head.now ≤ vec_capacity out.old }
+    ensures items { out.new.items ≡ out.old.items ++ (prefix_bytes prefix.now ++ head.now) }
+    ensures len { vec_len out.new ≡ vec_len out.old + 4 + length head.now }
+    ensures capacity { vec_capacity out.old ≤ vec_capacity out.new }
+{
+    append(out, &write_prefix(prefix));
+    append(out, head);
+}
+
+// Appends a payload as the ciphertext from byte `from` of a unit's plaintext on.
+fn append_masked(out: &mut Vec<u8>, cipher: &Gcm, iv: &[u8; 12], from: u32, payload: &[u8])
+    requires room { vec_len out.old + length payload.now ≤ vec_capacity out.old }
+    requires short { from + length payload.now ≤ MAX_BYTES }
+    ensures items { out.new.items ≡ out.old.items ++ masked cipher.now iv.now from payload.now }
+    ensures len { vec_len out.new ≡ vec_len out.old + length payload.now }
+    ensures capacity { vec_capacity out.old ≤ vec_capacity out.new }
+{
+    let start = out.len();
+    append(out, payload);
+    cipher.mask(iv, from, out.slice_mut(start..));
+}
+
+// Appends a packet without its tag, and adds it to the unit.
+fn append_packet(
+    out: &mut Vec<u8>,
+    cipher: &Gcm,
+    iv: &[u8; 12],
+    prefix: &Prefix,
+    head: &[u8],
+    payload: &[u8],
+    unit: &mut UnitPackets,
+)
+    requires unit_room { length unit.old.packets < unit.old.mode }
+    requires head_short { length head.now ≤ TLP_HEAD_BYTES }
+    requires payload_short { length payload.now ≤ PAYLOAD_BYTES }
+    requires room { vec_len out.old + 4 + length head.now + length payload.now ≤ vec_capacity out.old }
+    ensures items { out.new.items ≡ out.old.items
+        ++ (prefix_bytes prefix.now ++ (head.now ++ masked cipher.now iv.now (length (encrypted unit.old.packets))
+        payload.now)) }
+    ensures unit { unit.new ≡ with_packet unit.old (record {
+      prefix = prefix.now;
+      head = head.now;
+      body = masked cipher.now iv.now (length (encrypted unit.old.packets)) payload.now;
+      tag = [];
+    }) }
+    ensures len { vec_len out.new ≡ vec_len out.old + 4 + length head.now + length payload.now }
+    ensures capacity { vec_capacity out.old ≤ vec_capacity out.new }
+{
+    let from = unit.body().len() as u32;
+    append_clear(out, prefix, head);
+    let start = out.len();
+    append_masked(out, cipher, iv, from, payload);
+    unit.push(prefix, head, &out.as_slice()[start..]);
+}
+
+// Appends the tag of a unit after its last packet.
+fn append_tag(out: &mut Vec<u8>, cipher: &Gcm, iv: &[u8; 12], unit: &UnitPackets, last: bool)
+    requires { vec_len out.old + TAG_BYTES ≤ vec_capacity out.old }
+    ensures items { out.new.items ≡ out.old.items ++ (if last then tag_of cipher.now iv.now (clear_of unit.now)
+        (encrypted unit.now.packets) else []) }
+    ensures capacity { vec_capacity out.old ≤ vec_capacity out.new }
+{
+    if last {
+        let tag = cipher.tag(iv, unit.clear_bytes(), unit.body());
+        append(out, &tag);
     }
 }

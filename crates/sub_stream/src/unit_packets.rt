@@ -8,7 +8,7 @@ ghost use Rattle.stream_rules.specs.Stream.{posted_sum};
 ghost use Rattle.unit_aggregation.specs.{with_bodies, body_of};
 
 use crate::answer::PacketMark;
-use crate::sealing::{PAYLOAD_BYTES, TLP_HEAD_BYTES};
+use crate::sender::{PAYLOAD_BYTES, TLP_HEAD_BYTES};
 use arrayvec::ArrayVec;
 use gcm_seal::{Gcm, MAX_BYTES};
 use ide_prefix::{Prefix, SYNC_FIRST, write_prefix};

@@ -1,6 +1,6 @@
 -- The verdicts of sends fit.
 use Rattle.std.proofs.Common.{◌≡◌, ℕ, ◌+◌, ◌-◌, ◌<◌, ◌≤◌, ◌^◌, Bool, true, false, List, [], ◌∷◌, ◌++◌, length, filter}
-use Rattle.std.proofs.Common.{Some, None, Option, Ok, Err, Result, refl, sym, subst, arith, length-drop}
+use Rattle.std.proofs.Common.{Some, None, Option, refl, sym, subst, arith, length-drop}
 use Rattle.std.specs.Prelude.{if◌then◌else◌, not, unwrap_or}
 use Rattle.std.specs.List.{AllByRecursion, after_last, suffix_len}
 use Rattle.std.proofs.lemmas.List.{length-map}
@@ -15,23 +15,22 @@ use Rattle.link_verdicts.specs.declared.verdict.Verdict.{Verdict}
 use Rattle.link_verdicts.specs.declared.verdict.Verdict.TheVariants as v
 use Rattle.link_verdicts.specs.declared.verdict.SealedPacket.{SealedPacket}
 use Rattle.link_verdicts.specs.Apart.{Fits, FitPackets, FitsSealed}
-use Rattle.tlp_layout.specs.declared.tlp.Tlp.{Tlp}
-use Rattle.tlp_layout.specs.declared.fault.TlpFault.{TlpFault}
 use Rattle.tlp_layout.specs.Class.{class_of}
 use Rattle.tlp_layout.specs.Tlp.{header}
-use Rattle.tlp_layout.specs.Reading.{read_of}
+use Rattle.association.specs.Outgoing.{Outgoing, NoTlp, OnNone, OnStream, outgoing_of}
+use Rattle.association.proofs.Outgoing.{no_tlp_reads}
 use Rattle.ide_prefix.specs.Packet.{Packet}
 use Rattle.key_laws.specs.History.{History, base}
-use Rattle.link_history.specs.Plan.{SubStream, has_port, lane_out}
+use Rattle.link_history.specs.Plan.{SubStream, has_port, lane_out, streams_of}
 use Rattle.link_history.specs.Units.{units, units_after}
 use Rattle.link_history.specs.History.{KeyName, SealedList, sealed_packets, sent_in, is_under, keys_at, live_key, is_in}
 use Rattle.link_history.specs.History.{posted_in, posted_of}
-use Rattle.link_history.specs.Due.{Sending, Lanes, Lane, lanes_at, sent_under, choice, due, send_read, send_on}
+use Rattle.link_history.specs.Due.{Sending, Lanes, Lane, lanes_at, sent_under, due, send_due}
 use Rattle.link_history.specs.Due.{refusals, first_that_holds, sealed_by, described, needs_sync, no_key, is_posted}
 use Rattle.link_history.specs.Due.{ends_unit, sets_trusted}
 use Rattle.interface_states.specs.Cause.{t_due, owner_at}
 use Rattle.link_history.specs.Cause.{CauseLaw}
-use Rattle.link_history.proofs.Choices.{choice_known}
+use Rattle.link_history.proofs.Choices.{stream_known}
 use Rattle.link_history.proofs.Senders.{listed, sealed_by_is, on_live}
 use Rattle.sealing_laws.proofs.Few.{sealed_few, filter_few}
 use Rattle.text_laws.proofs.Draws.{on_below}
@@ -172,12 +171,15 @@ sent_fits plan fits h cause few s at number small =
     (listed_fits x s number (needs_sync x s.class Npr) (needs_sync x s.class Cpl)
     (lane_fits plan h cause few s.port s.stream) at small))
 
-send_fits : (plan : Plan) → FitsPlan plan → (h : History) → CauseLaw plan h → length h < 2 ^ 28
-    → (port : PortName) (t : Tlp) (more trusted : Bool) (o : Option ℕ) → choice plan port (header t) ≡ o
-    → port.link < 2 ^ 64
-    → Fits (send_on plan h port (header t) more trusted o)
-send_fits plan fits h cause few port t more trusted None is small = small
-send_fits plan fits h cause few port t more trusted (Some stream) is small =
+outgoing_fits : (plan : Plan) → FitsPlan plan → (h : History) → CauseLaw plan h → length h < 2 ^ 28
+    → (port : PortName) (bytes : List ℕ) (more trusted : Bool) → length bytes < 2 ^ 64 → port.link < 2 ^ 64
+    → (o : Outgoing) → outgoing_of (streams_of plan port.link) port.side bytes ≡ o
+    → Fits (send_due plan h port o more trusted)
+outgoing_fits plan fits h cause few port bytes more trusted small link (NoTlp f) comes =
+    let reads = no_tlp_reads (streams_of plan port.link) port.side bytes f comes in
+    (link, omega (arith, small, tlp_place bytes f reads))
+outgoing_fits plan fits h cause few port bytes more trusted small link OnNone comes = link
+outgoing_fits plan fits h cause few port bytes more trusted small link (OnStream t stream) comes =
     let s : Sending = record {
       port = port;
       stream = stream;
@@ -187,7 +189,7 @@ send_fits plan fits h cause few port t more trusted (Some stream) is small =
           (owner_at plan port.link (header t)) stream trusted;
     } in
     sent_fits plan fits h cause few s
-    (stream_fits plan fits port.link stream (choice_known plan port (header t) stream is))
+    (stream_fits plan fits port.link stream (stream_known plan port bytes t stream comes))
     (length (sealed_packets plan h) + 1) (omega (arith, few, sealed_few plan h cause))
 
 pub port_fits : (plan : Plan) → FitsPlan plan → (port : PortName) → has_port plan port ≡ true → port.link < 2 ^ 64
@@ -200,13 +202,9 @@ pub send_due_fits : (plan : Plan) → FitsPlan plan → (h : History) → CauseL
 unfolding due
 send_due_fits plan fits h cause few port bytes more trusted small = by_port (has_port plan port) refl
   where
-    by_reading : port.link < 2 ^ 64 → (r : Result Tlp TlpFault) → read_of bytes ≡ r
-        → Fits (send_read plan h port r more trusted)
-    by_reading link (Err f) reads = (link, omega (arith, small, tlp_place bytes f reads))
-    by_reading link (Ok t) reads = send_fits plan fits h cause few port t more trusted (choice plan port (header t))
-        refl link
-
     by_port : (b : Bool) → has_port plan port ≡ b → Fits
-        (if b then send_read plan h port (read_of bytes) more trusted else v.Nothing)
-    by_port true is = by_reading (port_fits plan fits port is) (read_of bytes) refl
+        (if b then send_due plan h port (outgoing_of (streams_of plan port.link) port.side bytes) more trusted
+        else v.Nothing)
+    by_port true is = outgoing_fits plan fits h cause few port bytes more trusted small (port_fits plan fits port is)
+        (outgoing_of (streams_of plan port.link) port.side bytes) refl
     by_port false is = tt

@@ -15,12 +15,9 @@ use Rattle.toml_walk.specs.declared.fault.PlanFault.TheVariants.{Missing, Kind, 
 use Rattle.toml_walk.specs.declared.list.Span.{Span}
 use Rattle.toml_walk.specs.Fault.{◌>>=◌, or_fault}
 use Rattle.toml_walk.specs.Shown.{spelled_key}
+pub use Rattle.ide_types.specs.{Text}
 
--- the bytes of a text, and of a key's path: keys and places in lists, joined by dots
-abbrev pub Text : Type 0
-Text = List ℕ
-
--- what the value at a path means, or its first fault
+-- what the value at a path means, or its first fault; a path is keys and places in lists, joined by dots
 abbrev pub Reader : Type 0 → Type 0
 Reader A = Text → Data → Result A PlanFault
 

@@ -4,6 +4,7 @@ use Rattle.std.specs.Prelude.{slice_get, slice_set}
 use Rattle.ide_plan.specs.declared.plan.LinkPlan.{LinkPlan}
 use Rattle.ide_plan.specs.declared.stream.StreamPlan.{StreamPlan}
 use Rattle.key_slots.specs.{Pool}
+use Rattle.ide_km.specs.{PlaceCall}
 use Rattle.link_verdicts.specs.declared.verdict.Operation.{Operation}
 use Rattle.key_laws.specs.Operations.{Op, Work, work_of}
 use Rattle.tsm_host.specs.declared.operation.Carried.{Carried}
@@ -12,7 +13,6 @@ use Rattle.tsm_host.specs.declared.operation.Outcome.TheVariants.{Next}
 use Rattle.tsm_host.specs.declared.operation.Refusal.{Refusal}
 use Rattle.tsm_host.specs.declared.stage.Asked.{Asked}
 use Rattle.tsm_host.specs.Judging.{judged}
-use Rattle.tsm_host.specs.Local.{Request}
 use Rattle.tsm_host.specs.Streams.{StreamView, new_stream, is_named, reset_stream, asked_in, request_asked, HostView}
 use Rattle.tsm_host.specs.Streams.{refusal_of, unless, begun_stream, begun_pool, begun_calls, outcome_of, taken_stream}
 use Rattle.tsm_host.specs.Streams.{taken_calls}
@@ -108,7 +108,7 @@ abbrev pub pool_begun : Operation → HostView → Pool → Named → Pool
 pool_begun operation host pool n =
     unless (begin_refusal operation host pool n) pool (begun_pool (begin_work operation pool n) pool)
 
-abbrev pub calls_begun : Operation → HostView → Pool → Named → List Request
+abbrev pub calls_begun : Operation → HostView → Pool → Named → List PlaceCall
 calls_begun operation host pool n =
     unless (begin_refusal operation host pool n) [] (begun_calls (begin_work operation pool n) pool n.stream.id)
 
@@ -133,7 +133,7 @@ taken m c carried = record {
   asking = asking_after c.place (outcome_now c carried);
 }
 
-abbrev pub calls_taken : Current → Carried → List Request
+abbrev pub calls_taken : Current → Carried → List PlaceCall
 calls_taken c carried = taken_calls c.asked (judged (request_asked c.asked c.stream) carried) c.stream.id
 
 -- ---- link_reset

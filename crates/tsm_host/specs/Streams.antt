@@ -12,6 +12,7 @@ use Rattle.key_laws.specs.Operations.{Op, Idle, Establishing, Up, Refreshing, St
 use Rattle.key_laws.specs.Operations.{last_exchange_of}
 use Rattle.key_laws.specs.Operations.{makes_draw, reach, op_after, op_standing}
 use Rattle.ide_km.specs.declared.object.KmView.{KmView}
+use Rattle.ide_km.specs.{PlaceCall}
 use Rattle.tsm_host.specs.declared.exchange.Exchange.{Exchange}
 use Rattle.tsm_host.specs.declared.exchange.Exchange.TheVariants as exchange
 use Rattle.tsm_host.specs.declared.judge.Judged.{Judged}
@@ -27,7 +28,7 @@ use Rattle.tsm_host.specs.declared.stage.Asked.{Asked}
 use Rattle.tsm_host.specs.declared.stage.Stage.{Stage}
 use Rattle.tsm_host.specs.declared.stage.Stage.TheVariants as stage
 use Rattle.tsm_host.specs.Exchanges.{exchange_of, is_last_receiver_go, WireKeys, kept_key, request_of}
-use Rattle.tsm_host.specs.Local.{Request, programs, goes, halts}
+use Rattle.tsm_host.specs.Local.{programs, goes, halts}
 
 -- A stream of a link, with the state of its operations, and the keys of an establish or refresh that is unfinished, by
 -- lane: each is kept until its KEY_PROG is acknowledged. There are no others.
@@ -207,7 +208,7 @@ abbrev pub begun_pool : Work → Pool → Pool
 begun_pool w pool = if draws_now w then pool_after pool else pool
 
 -- the host's slots of the set are programmed with the same keys; of a stop all are emptied
-abbrev pub begun_calls : Work → Pool → ℕ → List Request
+abbrev pub begun_calls : Work → Pool → ℕ → List PlaceCall
 begun_calls w pool stream =
     if w.begins then (if makes_draw w.operation then programs stream w.set (six_keys pool.keys w.draw) w.draw
     else halts stream)
@@ -245,6 +246,6 @@ taken_stream a Expected s = acknowledged a s
 taken_stream a judged s = s
 
 -- the host's port goes on if the last of the device's receivers did
-abbrev pub taken_calls : Asked → Judged → ℕ → List Request
+abbrev pub taken_calls : Asked → Judged → ℕ → List PlaceCall
 taken_calls a Expected stream = if is_last_receiver_go (exchange_asked a) then goes stream (is_one a.set) else []
 taken_calls a judged stream = []

@@ -2,9 +2,9 @@
 
 ghost use Rattle.std.specs.Prelude.{◌≡◌, ◌<◌};
 ghost use Rattle.ide_types.specs.{is_one};
-ghost use Rattle.ide_km.specs.{place_at};
-ghost use Rattle.tsm_host.specs.Local.{CallMoves, CallsMove, AskProgram, AskGo, AskHalt, six_key, programs, goes};
-ghost use Rattle.tsm_host.specs.Local.{halts_in, halts};
+ghost use Rattle.key_slots.specs.{Program, Go, Halt};
+ghost use Rattle.ide_km.specs.{place_at, place_call};
+ghost use Rattle.tsm_host.specs.Local.{CallMoves, CallsMove, six_key, programs, goes, halts_in, halts};
 
 use ide_km::{Place, SlotPort};
 use ide_types::KeySet;
@@ -22,7 +22,7 @@ fn program<P: SlotPort>(
 )
     requires { direction < 2 }
     ensures { CallMoves P.slots P.unfinished P.moves port.old
-        (AskProgram (place_at stream direction sub) (is_one set) key draw) port.new }
+        (place_call (place_at stream direction sub) (Program (is_one set) key draw)) port.new }
 {
     let place = Place {
         stream,
@@ -35,7 +35,7 @@ fn program<P: SlotPort>(
 fn go<P: SlotPort>(port: &mut P, stream: u8, set: KeySet, direction: u8, sub: u8)
     requires { direction < 2 }
     ensures { CallMoves P.slots P.unfinished P.moves port.old
-        (AskGo (place_at stream direction sub) (is_one set)) port.new }
+        (place_call (place_at stream direction sub) (Go (is_one set))) port.new }
 {
     let place = Place {
         stream,
@@ -48,7 +48,7 @@ fn go<P: SlotPort>(port: &mut P, stream: u8, set: KeySet, direction: u8, sub: u8
 fn halt<P: SlotPort>(port: &mut P, stream: u8, set: KeySet, direction: u8, sub: u8)
     requires { direction < 2 }
     ensures { CallMoves P.slots P.unfinished P.moves port.old
-        (AskHalt (place_at stream direction sub) (is_one set)) port.new }
+        (place_call (place_at stream direction sub) (Halt (is_one set))) port.new }
 {
     let place = Place {
         stream,

@@ -4,6 +4,7 @@ use Rattle.first_fault.specs.Walks.{walked_from, walk_length, reading}
 use Rattle.tlp_layout.specs.Reading.{read_of, read_head_of}
 use Rattle.ide_prefix.specs.Reading.{cut_of}
 use Rattle.association.specs.Choice.{choice_of}
+use Rattle.association.specs.Outgoing.{outgoing_of}
 use Rattle.key_laws.specs.Keys.{is_open, keys}
 use Rattle.key_laws.specs.History.{manager, moments, base, failed_there}
 use Rattle.key_laws.specs.Due.{key_due}
@@ -14,7 +15,7 @@ use Rattle.link_history.specs.Units.{units, open_unit}
 use Rattle.link_history.specs.History.{packet_of, sent_in, sealed_packets, posted_in, keys_at, has_live_out}
 use Rattle.link_history.specs.History.{has_live_in, front_of, total_in, arrived, meets_counts, got_since}
 use Rattle.link_history.specs.History.{held as held_in, units_got, units_since}
-use Rattle.link_history.specs.Due.{choice, due, before_tag, is_verified}
+use Rattle.link_history.specs.Due.{due, before_tag, is_verified}
 use Rattle.gcm_seal.specs.Gcm.{masked, verifies}
 use Rattle.ide_prefix.specs.Packet.{Packet}
 use Rattle.ide_types.specs.declared.sub.SubKind.TheVariants.{Pr, Npr}
@@ -41,9 +42,8 @@ use Rattle.worked_cases.specs.Cases.{read_ahead}
 
 accepted_once_3 : due (plan 1 false) (sealed 1 0 1 ∷ established ∷ []) (accepted_unit 1 0 1).0 ≡ (accepted_unit 1 0 1).1
 unfolding due sites key_due manager moments keys is_open failed_there base read_of reading walk_length walked_from
-    choice
-    choice_of keys_at has_live_out has_live_in stream_plan sent_in sealed_packets packet_of units open_unit posted_in
-    front_of total_in arrived read_head_of cut_of key_of before_tag is_verified meets_counts got_since held_in
+    outgoing_of choice_of keys_at has_live_out has_live_in stream_plan sent_in sealed_packets packet_of units open_unit
+    posted_in front_of total_in arrived read_head_of cut_of key_of before_tag is_verified meets_counts got_since held_in
     units_got units_since verifies
 accepted_once_3 =
     ends (plan 1 false) (sealed 1 0 1 ∷ established ∷ []) _ write_1 Pr 0 1 true
@@ -52,9 +52,8 @@ accepted_once_3 =
 accepted_once_4 : due (plan 1 false) (accepted_unit 1 0 1 ∷ sealed 1 0 1 ∷ established ∷ []) (fails (Pass 1)).0
     ≡ (fails (Pass 1)).1
 unfolding due sites key_due manager moments keys is_open failed_there base read_of reading walk_length walked_from
-    choice
-    choice_of keys_at has_live_out has_live_in stream_plan sent_in sealed_packets packet_of units open_unit posted_in
-    front_of total_in arrived read_head_of cut_of key_of before_tag is_verified meets_counts got_since held_in
+    outgoing_of choice_of keys_at has_live_out has_live_in stream_plan sent_in sealed_packets packet_of units open_unit
+    posted_in front_of total_in arrived read_head_of cut_of key_of before_tag is_verified meets_counts got_since held_in
     units_got units_since verifies
 accepted_once_4 =
     ends (plan 1 false) (accepted_unit 1 0 1 ∷ sealed 1 0 1 ∷ established ∷ []) _ write_1 Pr 0 2 false
@@ -63,9 +62,8 @@ accepted_once_4 =
 accepted_once_5 : due (plan 1 false) (fails (Pass 1) ∷ accepted_unit 1 0 1 ∷ sealed 1 0 1 ∷ established ∷ []) insecure.0
     ≡ insecure.1
 unfolding due sites key_due manager moments keys is_open failed_there base read_of reading walk_length walked_from
-    choice
-    choice_of keys_at has_live_out has_live_in stream_plan sent_in sealed_packets packet_of units open_unit posted_in
-    front_of total_in arrived read_head_of cut_of key_of before_tag is_verified meets_counts got_since held_in
+    outgoing_of choice_of keys_at has_live_out has_live_in stream_plan sent_in sealed_packets packet_of units open_unit
+    posted_in front_of total_in arrived read_head_of cut_of key_of before_tag is_verified meets_counts got_since held_in
     units_got units_since verifies
 accepted_once_5 =
     stops (plan 1 false) (fails (Pass 1) ∷ accepted_unit 1 0 1 ∷ sealed 1 0 1 ∷ established ∷ []) _ write_1 _
@@ -73,16 +71,14 @@ accepted_once_5 =
 
 pub accepted_once_due : AreDue (plan 1 false) [] accepted_once
 unfolding due sites key_due manager moments keys is_open failed_there base read_of reading walk_length walked_from
-    choice
-    choice_of keys_at has_live_out has_live_in stream_plan sent_in sealed_packets packet_of units open_unit posted_in
-    front_of total_in arrived
+    outgoing_of choice_of keys_at has_live_out has_live_in stream_plan sent_in sealed_packets packet_of units open_unit
+    posted_in front_of total_in arrived
 accepted_once_due = (refl, (refl, (accepted_once_3, (accepted_once_4, (accepted_once_5, tt)))))
 
 trusted_3 : due (plan 1 false) (sealed 1 0 1 ∷ established ∷ []) (fails (Alter 1 1 0x20)).0 ≡ (fails (Alter 1 1 0x20)).1
 unfolding due sites key_due manager moments keys is_open failed_there base read_of reading walk_length walked_from
-    choice
-    choice_of keys_at has_live_out has_live_in stream_plan sent_in sealed_packets packet_of units open_unit posted_in
-    front_of total_in arrived read_head_of cut_of key_of before_tag is_verified meets_counts got_since held_in
+    outgoing_of choice_of keys_at has_live_out has_live_in stream_plan sent_in sealed_packets packet_of units open_unit
+    posted_in front_of total_in arrived read_head_of cut_of key_of before_tag is_verified meets_counts got_since held_in
     units_got units_since verifies
 trusted_3 =
     ends (plan 1 false) (sealed 1 0 1 ∷ established ∷ []) _ trusted_write Pr 0 1 false
@@ -91,17 +87,15 @@ trusted_3 =
 
 pub trusted_due : AreDue (plan 1 false) [] trusted_on_the_way
 unfolding due sites key_due manager moments keys is_open failed_there base read_of reading walk_length walked_from
-    choice
-    choice_of keys_at has_live_out has_live_in stream_plan sent_in sealed_packets packet_of units open_unit posted_in
-    front_of total_in arrived
+    outgoing_of choice_of keys_at has_live_out has_live_in stream_plan sent_in sealed_packets packet_of units open_unit
+    posted_in front_of total_in arrived
 trusted_due = (refl, (refl, (trusted_3, tt)))
 
 rekeyed_3 : due (plan 1 false) (sealed 1 0 1 ∷ established ∷ []) (fails_key (Alter 1 1 0x40)).0
     ≡ (fails_key (Alter 1 1 0x40)).1
 unfolding due sites key_due manager moments keys is_open failed_there base read_of reading walk_length walked_from
-    choice
-    choice_of keys_at has_live_out has_live_in stream_plan sent_in sealed_packets packet_of units open_unit posted_in
-    front_of total_in arrived read_head_of cut_of key_of before_tag is_verified meets_counts got_since held_in
+    outgoing_of choice_of keys_at has_live_out has_live_in stream_plan sent_in sealed_packets packet_of units open_unit
+    posted_in front_of total_in arrived read_head_of cut_of key_of before_tag is_verified meets_counts got_since held_in
     units_got units_since verifies
 rekeyed_3 =
     stops (plan 1 false) (sealed 1 0 1 ∷ established ∷ []) _ rekeyed_write _
@@ -109,18 +103,16 @@ rekeyed_3 =
 
 pub rekeyed_due : AreDue (plan 1 false) [] other_set_on_the_way
 unfolding due sites key_due manager moments keys is_open failed_there base read_of reading walk_length walked_from
-    choice
-    choice_of keys_at has_live_out has_live_in stream_plan sent_in sealed_packets packet_of units open_unit posted_in
-    front_of total_in arrived
+    outgoing_of choice_of keys_at has_live_out has_live_in stream_plan sent_in sealed_packets packet_of units open_unit
+    posted_in front_of total_in arrived
 rekeyed_due = (refl, (refl, (rekeyed_3, tt)))
 
 one_missing_5 : due (plan 1 false) (sealed 3 0 3 ∷ sealed 2 0 2 ∷ sealed 1 0 1 ∷ established ∷ [])
     (accepted_unit 1 0 1).0
     ≡ (accepted_unit 1 0 1).1
 unfolding due sites key_due manager moments keys is_open failed_there base read_of reading walk_length walked_from
-    choice
-    choice_of keys_at has_live_out has_live_in stream_plan sent_in sealed_packets packet_of units open_unit posted_in
-    front_of total_in arrived read_head_of cut_of key_of before_tag is_verified meets_counts got_since held_in
+    outgoing_of choice_of keys_at has_live_out has_live_in stream_plan sent_in sealed_packets packet_of units open_unit
+    posted_in front_of total_in arrived read_head_of cut_of key_of before_tag is_verified meets_counts got_since held_in
     units_got units_since verifies
 one_missing_5 =
     ends (plan 1 false) (sealed 3 0 3 ∷ sealed 2 0 2 ∷ sealed 1 0 1 ∷ established ∷ []) _ write_1 Pr 0 1 true
@@ -129,9 +121,8 @@ one_missing_5 =
 one_missing_6 : due (plan 1 false) (accepted_unit 1 0 1 ∷ sealed 3 0 3 ∷ sealed 2 0 2 ∷ sealed 1 0 1 ∷ established ∷ [])
     (fails (Pass 3)).0 ≡ (fails (Pass 3)).1
 unfolding due sites key_due manager moments keys is_open failed_there base read_of reading walk_length walked_from
-    choice
-    choice_of keys_at has_live_out has_live_in stream_plan sent_in sealed_packets packet_of units open_unit posted_in
-    front_of total_in arrived read_head_of cut_of key_of before_tag is_verified meets_counts got_since held_in
+    outgoing_of choice_of keys_at has_live_out has_live_in stream_plan sent_in sealed_packets packet_of units open_unit
+    posted_in front_of total_in arrived read_head_of cut_of key_of before_tag is_verified meets_counts got_since held_in
     units_got units_since verifies
 one_missing_6 =
     ends (plan 1 false) (accepted_unit 1 0 1 ∷ sealed 3 0 3 ∷ sealed 2 0 2 ∷ sealed 1 0 1 ∷ established ∷ []) _ write_3
@@ -141,16 +132,14 @@ one_missing_6 =
 
 pub one_missing_due : AreDue (plan 1 false) [] one_missing
 unfolding due sites key_due manager moments keys is_open failed_there base read_of reading walk_length walked_from
-    choice
-    choice_of keys_at has_live_out has_live_in stream_plan sent_in sealed_packets packet_of units open_unit posted_in
-    front_of total_in arrived
+    outgoing_of choice_of keys_at has_live_out has_live_in stream_plan sent_in sealed_packets packet_of units open_unit
+    posted_in front_of total_in arrived
 one_missing_due = (refl, (refl, (refl, (refl, (one_missing_5, (one_missing_6, tt))))))
 
 read_ahead_4 : due (plan 1 false) (sealed_read ∷ sealed 1 0 1 ∷ established ∷ []) fails_order.0 ≡ fails_order.1
 unfolding due sites key_due manager moments keys is_open failed_there base read_of reading walk_length walked_from
-    choice
-    choice_of keys_at has_live_out has_live_in stream_plan sent_in sealed_packets packet_of units open_unit posted_in
-    front_of total_in arrived read_head_of cut_of key_of before_tag is_verified meets_counts got_since held_in
+    outgoing_of choice_of keys_at has_live_out has_live_in stream_plan sent_in sealed_packets packet_of units open_unit
+    posted_in front_of total_in arrived read_head_of cut_of key_of before_tag is_verified meets_counts got_since held_in
     units_got units_since verifies masked
 read_ahead_4 =
     ends (plan 1 false) (sealed_read ∷ sealed 1 0 1 ∷ established ∷ []) _ read_behind Npr 0 1 true
@@ -158,7 +147,6 @@ read_ahead_4 =
 
 pub read_ahead_due : AreDue (plan 1 false) [] read_ahead
 unfolding due sites key_due manager moments keys is_open failed_there base read_of reading walk_length walked_from
-    choice
-    choice_of keys_at has_live_out has_live_in stream_plan sent_in sealed_packets packet_of units open_unit posted_in
-    front_of total_in arrived
+    outgoing_of choice_of keys_at has_live_out has_live_in stream_plan sent_in sealed_packets packet_of units open_unit
+    posted_in front_of total_in arrived
 read_ahead_due = (refl, (refl, (refl, (read_ahead_4, tt))))

@@ -32,13 +32,14 @@ use Rattle.trusted_memory.specs.{IsLeftBy, new_contents, byte_at, TrustedMemory}
 use Rattle.trusted_memory.proofs.Seen.{new_is_seen, byte_at-new}
 use Rattle.trusted_memory.proofs.Turns.{byte_after-none}
 use Rattle.stream_rules.specs.Stream.{StreamState}
+use Rattle.stream_rules.specs.Slots.{no_stream}
 use Rattle.key_laws.specs.Operations.{Op, Idle}
 use Rattle.key_slots.specs.{new_pool}
 use Rattle.tsm_host.specs.Streams.{StreamView, new_stream}
 use Rattle.tsm_host.specs.Managers.{new_manager, new_streams, streams_from}
 use Rattle.link_history.specs.Plan.{streams_of}
 use Rattle.link_walks.specs.Joined.{KeysKept}
-use Rattle.link_ports.specs.Machine.{first_ports, first_state, empty_stream}
+use Rattle.link_ports.specs.Machine.{first_ports, first_state}
 use Rattle.link_ends.specs.declared.ends.LinkEnds.{LinkEnds}
 use Rattle.link_ends.specs.Ends.{new_ends}
 use Rattle.link_ends.specs.Keepers.{KeeperView}
@@ -62,8 +63,8 @@ streams_in ls = map (λ (l : LinkPlan). l.streams) ls
 ports_first : (limit from : ℕ) (ls : List LinkPlan) → ports_in (ends_from limit from ls) ≡ first_ports (streams_in ls)
 ports_first limit from [] = refl
 ports_first limit from (l ∷ ls) =
-    ap (λ (ps : List (List StreamState)). map (λ (s : StreamPlan). empty_stream) l.streams
-    ∷ map (λ (s : StreamPlan). empty_stream) l.streams ∷ ps) (ports_first limit (from + 1) ls)
+    ap (λ (ps : List (List StreamState)). map (λ (s : StreamPlan). no_stream) l.streams
+    ∷ map (λ (s : StreamPlan). no_stream) l.streams ∷ ps) (ports_first limit (from + 1) ls)
 
 one_first : (link : ℕ) (ss : List StreamPlan) (rest : List StreamView)
     → (ops_of ss (new_streams link ss ++ rest) ≡ map (λ (s : StreamPlan). Idle) ss)

@@ -1,9 +1,9 @@
 -- One step of the world. What the links say beside the ports is what the whole machine says. So the step of the links
 -- is the machine's, and its verdict and its state are those of the machine, which stands for the history with the
--- event. For want of memory all is as before, and is carried over.
-use Rattle.std.proofs.Common.{◌≡◌, ◌∷◌, refl, ap, sym, ◌∙◌, subst, Result, Ok, Err}
-use Rattle.std.specs.Prelude.{IfOk, OnErr}
-use Rattle.ide_types.specs.declared.memory.Memory.{Memory}
+-- event.
+use Rattle.std.proofs.Common.{◌≡◌, ◌∷◌, refl, ap, sym, ◌∙◌, subst, Option, Some, None}
+use Rattle.std.proofs.lemmas.Option.{none-some, same_Some}
+use Rattle.std.specs.Prelude.{IfSome, IsSome}
 use Rattle.ide_plan.specs.declared.plan.Plan.{Plan}
 use Rattle.link_events.specs.declared.event.Event.{Event}
 use Rattle.link_events.specs.declared.event.InterfaceEvent.{InterfaceEvent}
@@ -15,15 +15,13 @@ use Rattle.port_operations.specs.Points.{PointsStand}
 use Rattle.whole_machine.specs.Machine.{Whole, beside_of, whole_after, whole_step}
 use Rattle.whole_machine.specs.Stands.{StandsFor, WholeSteps}
 use Rattle.interface_joins.specs.Joined.{InterfaceOperationsJoin}
-use Rattle.link_ends.specs.declared.host.HostKeeper.{HostKeeper}
 use Rattle.all_links.specs.declared.links.Links.{Links}
-use Rattle.all_ends.specs.States.{AreLinks, state_of}
-use Rattle.all_links.specs.Links.{links_state, StandsForSome, Ends, EndsWith, EndsOr, Stays}
+use Rattle.all_ends.specs.States.{AreLinks}
+use Rattle.all_links.specs.Links.{links_state, StandsForSome, Ends, EndsWith, EndsAs, HasNoVerdict}
 use Rattle.all_links.specs.Besides.{beside_in}
 use Rattle.all_links.specs.Sides.{Sides}
-use Rattle.all_ends.proofs.Finds.{links_same, bounded_same}
 use Rattle.world_states.specs.Worlds.{WorldView, Stands, HasStood, IsStep, world_of, IsWorld}
-use Rattle.world_states.proofs.Besides.{answers_are, beside_is}
+use Rattle.world_states.proofs.Besides.{answers_are, beside_is, is_answered}
 use Rattle.world.proofs.Turns.{Turn, beside_after}
 
 -- the links stand for the history that the world stands for
@@ -90,22 +88,21 @@ module _ (plan : Plan) (old new : Links) (e : Event) (verdict : Verdict) (given 
     points = given.points plan (links_state plan new) ((e, verdict) ∷ h) new_stands.links;
   }
 
--- ---- a step of the world, or want of memory
-
-stays_same : (plan : Plan) (old new : Links) → Stays old new → world_of plan new ≡ world_of plan old
-stays_same plan old new x = (λ i. record {
-  plan = plan;
-  state = state_of plan (x.ends i) (x.keeper i).keys (x.packets i);
-  ends = x.ends i;
-  interfaces = (x.keeper i).interfaces;
-  memory = x.trusted i;
-  steps = x.steps i;
-})
+-- ---- a step of the world
 
 module _ (plan : Plan) (old new : Links) (e : Event) (given : Given) (w : IsWorld plan old) where
-  pub world_after : (r : Result Verdict Memory) → EndsOr r old new e → IfOk r (λ v. Sides e v old new)
-      → IsWorld plan new
-  world_after (Ok verdict) x sides =
+  -- each event has a verdict
+  not_without : HasNoVerdict old e → ⊥
+  not_without none = none (standing plan old w)
+      (is_answered plan old w.stands.whole given.join w.links w.stands.is e)
+
+  pub has_verdict : (o : Option Verdict) → EndsAs o old new e → IsSome o
+  has_verdict (Some verdict) x = refl
+  has_verdict None x = absurd (not_without x)
+
+  pub world_after : (o : Option Verdict) → EndsAs o old new e → IfSome o (λ v. Sides e v old new) → IsWorld plan new
+  world_after None x sides = absurd (not_without x)
+  world_after (Some verdict) x sides =
       let stood = stood_after plan old new e verdict given w.links x sides w.history w.stands in
       record {
         links = (ends plan old new e verdict given w.links x sides w.history w.stands).links;
@@ -113,25 +110,15 @@ module _ (plan : Plan) (old new : Links) (e : Event) (given : Given) (w : IsWorl
         history = (e, verdict) ∷ w.history;
         stands = stood.stands;
       }
-  world_after (Err m) x sides = record {
-    links = links_same plan _ _ _ _ (sym x.ends) (sym (ap (λ (k : HostKeeper). k.keys) x.keeper)) w.links;
-    bounded = bounded_same _ _ _ _ _ _ (sym x.ends) (sym x.packets) (sym x.steps) w.bounded;
-    history = w.history;
-    stands = subst (λ (s : WorldView). Stands s w.history) (sym (stays_same plan old new x)) w.stands;
-  }
 
-  pub step_after : (before : WorldView) → world_of plan old ≡ before → (r : Result Verdict Memory)
-      → EndsOr r old new e → IfOk r (λ v. Sides e v old new)
-      → IfOk r (λ verdict. IsStep before e verdict (world_of plan new))
-  step_after before is (Ok verdict) x sides =
-      subst (λ (b : WorldView). IsStep b e verdict (world_of plan new)) is (record {
+  pub step_after : (view : WorldView) → world_of plan old ≡ view → (o : Option Verdict) (verdict : Verdict)
+      → o ≡ Some verdict → EndsAs o old new e → IfSome o (λ v. Sides e v old new)
+      → IsStep view e verdict (world_of plan new)
+  step_after view is None verdict some x sides = absurd (none-some verdict some)
+  step_after view is (Some said) verdict some x sides =
+      subst (λ (v : Verdict). IsStep view e v (world_of plan new)) (same_Some said verdict some)
+      (subst (λ (b : WorldView). IsStep b e said (world_of plan new)) is (record {
         plan_is = refl;
         steps_are = x.counted;
-        stood = λ h s. stood_after plan old new e verdict given w.links x sides h s;
-      })
-  step_after before is (Err m) x sides = tt
-
-  pub memory_after : (before : WorldView) → world_of plan old ≡ before → (r : Result Verdict Memory)
-      → EndsOr r old new e → OnErr r (world_of plan new ≡ before)
-  memory_after before is (Ok verdict) x = tt
-  memory_after before is (Err m) x = stays_same plan old new x ∙ is
+        stood = λ h s. stood_after plan old new e said given w.links x sides h s;
+      }))

@@ -66,6 +66,7 @@ impl World {
         whole_steps();
         points_stand();
         interface_operations_join();
-        self.links.answer(self.alloc, event)
+        let verdict = self.links.answer(self.alloc, event)?;
+        Ok(verdict.unwrap())
     }
 }

@@ -2,7 +2,7 @@
 -- ends a unit, the waiting one is Live in its place. Receivers and what failed are as they were, and so are other
 -- streams and ports.
 use Rattle.std.proofs.Common.{◌≡◌, ℕ, ◌+◌, ◌==◌, ◌&&◌, Bool, true, false, List, [], ◌∷◌, length, Option, Some, None}
-use Rattle.std.proofs.Common.{Result, Ok, Err, refl, ap, sym, ◌∙◌, subst, arith}
+use Rattle.std.proofs.Common.{refl, ap, sym, ◌∙◌, subst, arith}
 use Rattle.std.specs.Prelude.{not, if◌then◌else◌, is_some}
 use Rattle.ide_types.specs.declared.port.PortName.{PortName}
 use Rattle.ide_types.specs.declared.port.Side.TheVariants.{Device}
@@ -11,27 +11,25 @@ use Rattle.ide_types.specs.declared.sub.SubKind.TheVariants.{Pr, Npr, Cpl}
 use Rattle.ide_types.specs.Sub.{is_same_sub}
 use Rattle.ide_plan.specs.declared.plan.Plan.{Plan}
 use Rattle.tlp_layout.specs.declared.tlp.Tlp.{Tlp}
-use Rattle.tlp_layout.specs.declared.fault.TlpFault.{TlpFault}
 use Rattle.tlp_layout.specs.Class.{class_of}
 use Rattle.tlp_layout.specs.Head.{head_bytes}
 use Rattle.tlp_layout.specs.Tlp.{header, body}
-use Rattle.tlp_layout.specs.Reading.{read_of}
+use Rattle.association.specs.Outgoing.{Outgoing, NoTlp, OnNone, OnStream, outgoing_of}
 use Rattle.ide_prefix.specs.Packet.{Packet}
 use Rattle.link_events.specs.declared.event.Event.TheVariants.{Send}
 use Rattle.link_verdicts.specs.declared.verdict.SealedPacket.{SealedPacket}
 use Rattle.link_verdicts.specs.declared.verdict.Verdict.{Verdict}
 use Rattle.link_verdicts.specs.declared.verdict.Verdict.TheVariants as v
-use Rattle.link_history.specs.Plan.{has_port, mode_of, is_closed, is_same_port}
-use Rattle.link_history.specs.Due.{choice, Sending, refusals, sealed_by, first_that_holds}
+use Rattle.link_history.specs.Plan.{has_port, mode_of, is_closed, is_same_port, streams_of}
+use Rattle.link_history.specs.Due.{Sending, refusals, sealed_by, first_that_holds}
 use Rattle.stream_rules.specs.Stream.{Slot, Slots, TxSub, Three, StreamState, Empty, Programmed, Armed, Live, gone_on}
 use Rattle.stream_rules.specs.Stream.{counted_unit, ended_slots, sealed_slots, sealed_sub, sealed_one, sealed_all}
 use Rattle.stream_rules.specs.Stream.{lanes_of}
-use Rattle.stream_rules.specs.Slots.{is_live_slot, any_live}
-use Rattle.key_laws.specs.History.{status_by}
+use Rattle.stream_rules.specs.Slots.{is_live_slot, any_live, has_all_live, has_some_live, status_by}
 use Rattle.interface_states.specs.Devices.{is_secure}
 use Rattle.whole_machine.specs.Machine.{secure_in}
-use Rattle.link_ports.specs.Machine.{Beside, LinkState, LinkPacket, port_at, all_live, some_live, status_if_planned}
-use Rattle.link_ports.specs.Machine.{stepped_answer, stepped_send_found, stepped_send_on, stepped_send_read}
+use Rattle.link_ports.specs.Machine.{Beside, LinkState, LinkPacket, port_at, status_if_planned}
+use Rattle.link_ports.specs.Machine.{stepped_answer, stepped_on_stream, stepped_send}
 unfoldable use Rattle.link_ports.specs.Machine.{find, put, step_of}
 use Rattle.link_ports.proofs.Puts.{find-put, find-put_other}
 use Rattle.link_ports.proofs.Changes.{at_place}
@@ -107,11 +105,12 @@ secure_sealed : (x : StreamState) (closed : Bool) (head payload : List ℕ) (ds 
 secure_sealed x closed head payload ds is =
     let tx = (sealed_all closed head payload ds x.tx).1 in
     let y = record x { tx = tx } in
-    let all : (not x.failed && all_live x) ≡ true = sym (secure_by x.failed (some_live x) (all_live x)) ∙ is in
+    let all : (not x.failed && has_all_live x) ≡ true = sym (secure_by x.failed (has_some_live x) (has_all_live x)) ∙ is
+    in
     let old = each_of x.failed (any_live x.tx.pr.slots) (any_live x.tx.npr.slots) (any_live x.tx.cpl.slots)
     (any_live x.rx.pr.slots) (any_live x.rx.npr.slots) (any_live x.rx.cpl.slots) all in
     let new = all_sealed closed head payload ds x.tx (record { pr = old.0; npr = old.1; cpl = old.2 }) in
-    secure_by x.failed (some_live y) (all_live y)
+    secure_by x.failed (has_some_live y) (has_all_live y)
     ∙ all_with x.failed (any_live x.tx.pr.slots) (any_live x.tx.npr.slots) (any_live x.tx.cpl.slots)
     (any_live x.rx.pr.slots) (any_live x.rx.npr.slots) (any_live x.rx.cpl.slots) (any_live tx.pr.slots)
     (any_live tx.npr.slots) (any_live tx.cpl.slots) all new.pr new.npr new.cpl
@@ -155,17 +154,18 @@ sealed_kept plan st s t x None ds found q n is =
     (is_same_port s.port q && (s.stream == n)) refl is
 
 found_kept : (plan : Plan) (st : LinkState) (s : Sending) (t : Tlp) (o : Option StreamState)
-    → find plan st s.port s.stream ≡ o → StaySecure plan st (stepped_send_found plan st s t o).1
+    → find plan st s.port s.stream ≡ o → StaySecure plan st (stepped_on_stream plan st s t o).1
 found_kept plan st s t None found q n is = is
 found_kept plan st s t (Some x) found q n is =
     let lanes = lanes_of (mode_of plan s.port.link s.stream) plan.units_per_key x in
     sealed_kept plan st s t x (first_that_holds (refusals lanes s.class)) (sealed_by lanes s (length st.packets + 1))
     found q n is
 
-on_kept : (plan : Plan) (beside : Beside) (st : LinkState) (port : PortName) (t : Tlp) (more trusted : Bool)
-    (o : Option ℕ) → StaySecure plan st (stepped_send_on plan beside st port t more trusted o).1
-on_kept plan beside st port t more trusted None q n is = is
-on_kept plan beside st port t more trusted (Some stream) q n is =
+send_kept : (plan : Plan) (beside : Beside) (st : LinkState) (port : PortName) (o : Outgoing) (more trusted : Bool)
+    → StaySecure plan st (stepped_send plan beside st port o more trusted).1
+send_kept plan beside st port (NoTlp f) more trusted q n is = is
+send_kept plan beside st port OnNone more trusted q n is = is
+send_kept plan beside st port (OnStream t stream) more trusted q n is =
     let s : Sending = record {
       port = port;
       stream = stream;
@@ -175,25 +175,21 @@ on_kept plan beside st port t more trusted (Some stream) q n is =
     } in
     found_kept plan st s t (find plan st port stream) refl q n is
 
-read_kept : (plan : Plan) (beside : Beside) (st : LinkState) (port : PortName) (r : Result Tlp TlpFault)
-    (more trusted : Bool) → StaySecure plan st (stepped_send_read plan beside st port r more trusted).1
-read_kept plan beside st port (Err f) more trusted q n is = is
-read_kept plan beside st port (Ok t) more trusted q n is =
-    on_kept plan beside st port t more trusted (choice plan port (header t)) q n is
-
 port_kept : (plan : Plan) (beside : Beside) (st : LinkState) (port : PortName) (bytes : List ℕ)
     (more trusted has : Bool) → has_port plan port ≡ has
     → StaySecure plan st (step_of plan beside st (Send port bytes more trusted)).1
 unfolding step_of
 port_kept plan beside st port bytes more trusted true has q n is =
     subst (λ (b : Bool). is_secure
-    (status_if_planned (find plan (if b then stepped_send_read plan beside st port (read_of bytes)
-    more trusted else (v.Nothing, st)).1 q n)) ≡ true) (sym has)
-    (read_kept plan beside st port (read_of bytes) more trusted q n is)
+    (status_if_planned (find plan (if b then stepped_send plan beside st port
+    (outgoing_of (streams_of plan port.link) port.side bytes) more trusted else (v.Nothing, st)).1 q n)) ≡ true)
+    (sym has)
+    (send_kept plan beside st port (outgoing_of (streams_of plan port.link) port.side bytes) more trusted q n is)
 port_kept plan beside st port bytes more trusted false has q n is =
     subst (λ (b : Bool). is_secure
-    (status_if_planned (find plan (if b then stepped_send_read plan beside st port (read_of bytes)
-    more trusted else (v.Nothing, st)).1 q n)) ≡ true) (sym has) is
+    (status_if_planned (find plan (if b then stepped_send plan beside st port
+    (outgoing_of (streams_of plan port.link) port.side bytes) more trusted else (v.Nothing, st)).1 q n)) ≡ true)
+    (sym has) is
 
 pub secure_kept : (plan : Plan) (beside : Beside) (st : LinkState) (port : PortName) (bytes : List ℕ)
     (more trusted : Bool) (link stream : ℕ) → secure_in plan st link stream ≡ true

@@ -1,6 +1,6 @@
 -- What a port shows of a stream is what the machine has of it. The machine keeps the states of all ports in one list,
 -- of each link the host's and then the device's. So a port's are read at twice its link and its side.
-use Rattle.std.proofs.Common.{◌≡◌, ℕ, suc, zero, ◌+◌, ◌*◌, Bool, List, [], ◌∷◌, refl, ap, sym, ◌∙◌, arith, Option, Some}
+use Rattle.std.proofs.Common.{◌≡◌, ℕ, suc, zero, ◌+◌, ◌*◌, List, [], ◌∷◌, refl, ap, sym, ◌∙◌, arith, Option, Some}
 use Rattle.std.proofs.Common.{None}
 use Rattle.std.proofs.lemmas.Option.{none-some, same_Some}
 use Rattle.std.specs.List.{slice_index_or}
@@ -11,10 +11,9 @@ use Rattle.ide_types.specs.declared.status.StreamStatus.{StreamStatus}
 use Rattle.ide_types.specs.declared.status.StreamStatus.TheVariants as status
 use Rattle.ide_plan.specs.declared.plan.Plan.{Plan}
 use Rattle.ide_plan.specs.declared.stream.StreamPlan.{StreamPlan}
-use Rattle.key_laws.specs.History.{status_by as key_status}
 use Rattle.key_laws.specs.Places.{sent_direction}
 use Rattle.stream_rules.specs.Stream.{StreamState}
-use Rattle.sub_stream.specs.Calls.{stream_status, status_by as call_status}
+use Rattle.sub_stream.specs.Calls.{stream_status}
 use Rattle.tsm_host.specs.Streams.{status_or_idle}
 use Rattle.ide_port.specs.{Found, found, status_in}
 use Rattle.device_side.specs.Ends.{says_secure, secure_at}
@@ -62,13 +61,10 @@ find_is plan ends k packets s link stream l links is =
 
 -- ---- its status
 
-status_same : (a b c : Bool) → call_status a b c ≡ key_status a b c
-status_same a b c = grind arith
-
 status_shown : (o : Option Found) → status_or_idle (option_map (λ (f : Found). stream_status f.state) o)
     ≡ machine.status_if_planned (option_map (λ (f : Found). f.state) o)
 status_shown None = refl
-status_shown (Some f) = status_same f.state.failed (machine.some_live f.state) (machine.all_live f.state)
+status_shown (Some f) = refl
 
 status_is : (plan : Plan) (ends : List LinkEnds) (k : KeeperView) (packets : List LinkPacket) (s : Side)
     (link stream : ℕ) (l : LinkEnds) → AreLinks plan ends k → slice_get ends link ≡ Some l

@@ -28,7 +28,7 @@ impl OnePort {
 
 impl SlotPort for OnePort {
     ghost use Rattle.ide_km.specs.declared.place.Place.{Place};
-    ghost use Rattle.ide_km.specs.Calls.{PortCall};
+    ghost use Rattle.ide_km.specs.Calls.{PlaceCall};
 
     ghost slots = { λ port place.
         if is_same_place place (place_at 5 port.direction port.sub) then Some port.slots else None };

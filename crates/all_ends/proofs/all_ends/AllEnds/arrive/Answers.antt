@@ -2,6 +2,7 @@ use Rattle.all_ends.proofs.Terms.{◌≡◌, ◌∙◌, ap, sym, subst, refl, �
 use Rattle.all_ends.proofs.Terms.{slice_set, same_Some, slice_get_read, LinkEnds, UnitName, Side, Write, Leads}
 use Rattle.all_ends.proofs.Terms.{packet_effect, packet_write, unit_writes, arrival_verdict, take_step, port_in}
 use Rattle.all_ends.proofs.Terms.{PortEnd}
+use Rattle.ide_prefix.specs.Reading.{cut_of}
 use Rattle.all_ends.specs.AllEnds.{Arrives, grants_in}
 use Rattle.all_ends.proofs.Arrivals.{port_taken}
 use Rattle.all_ends.proofs.all_ends.AllEnds.arrive.Goals as goal
@@ -15,7 +16,7 @@ returns-clause-arrives c = λ l is.
     in
     let same : x ≡ l = same_Some x l (sym at ∙ (ap (λ ls. slice_get ls c.args.port.link) c.self.view_is ∙ is)) in
     let side : Side = c.args.port.side in
-    let step = take_step (port_in side x) c.args.bytes.now in
+    let step = take_step (port_in side x) (cut_of c.args.bytes.now) in
     let regions = c.args.memory.now.contents.regions in
     let grants = grants_in c.args.keeper.now in
     let seen : c.delivered-packets.result ≡ step.port.delivered =

@@ -13,17 +13,17 @@ returns-clause-operates c =
     c.operate.result c.operate.new.self c.operate.new.keeper.keys) c.link.ensures c.operate.ensures.operates
 
 pub returns-clause-answered : goal.returns-clause-answered
-returns-clause-answered c =
+returns-clause-answered c stands =
     let due = operates_due c.operations_join.ensures c.args.self.now c.operate.new.self c.operate.new.keeper.keys
-    c.args.op c.args.loss c.operate.result c.requires.stands c.requires.here c.requires.stream
+    c.args.op c.args.loss c.operate.result stands c.requires.here c.requires.stream
     (subst (λ (link : ℕ). OperatesAt c.args.self.now.ends link c.args.self.now.keeper.keys c.args.op c.args.loss
     c.operate.result c.operate.new.self c.operate.new.keeper.keys) c.link.ensures c.operate.ensures.operates) in
     subst (λ (o : Option Verdict). IsSome o) (sym due.1) refl
 
 pub returns-clause-no_bad_reply : goal.returns-clause-no_bad_reply
-returns-clause-no_bad_reply c =
+returns-clause-no_bad_reply c stands =
     let due = operates_due c.operations_join.ensures c.args.self.now c.operate.new.self c.operate.new.keeper.keys
-    c.args.op c.args.loss c.operate.result c.requires.stands c.requires.here c.requires.stream
+    c.args.op c.args.loss c.operate.result stands c.requires.here c.requires.stream
     (subst (λ (link : ℕ). OperatesAt c.args.self.now.ends link c.args.self.now.keeper.keys c.args.op c.args.loss
     c.operate.result c.operate.new.self c.operate.new.keeper.keys) c.link.ensures c.operate.ensures.operates) in
     let a = op_name c.args.op in

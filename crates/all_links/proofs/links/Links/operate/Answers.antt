@@ -1,4 +1,4 @@
-use Rattle.all_links.proofs.Terms.{ℕ, length, subst, EndsWith, operation_event, links_state}
+use Rattle.all_links.proofs.Terms.{ℕ, length, subst, IfSome, Verdict, EndsAs, operation_event, links_state}
 use Rattle.all_links.proofs.Finds.{nothing_changes}
 use Rattle.all_ends.proofs.Streams.{name_is, unnamed}
 use Rattle.all_links.proofs.Operations.{step_none}
@@ -18,7 +18,7 @@ pub returns-in-Some-clause-ends : goal.returns-in-Some-clause-ends
 returns-in-Some-clause-ends c =
     let n = name_is c.args.self.now.keeper.keys.manager (length c.args.self.now.ends) c.args.link c.args.stream
     c.in-Some.link c.in-Some.stream c.in-Some.ensures in
-    subst (λ (p : ℕ × ℕ). EndsWith c.operate_on.result c.args.self.now c.operate_on.new.self
+    subst (λ (p : ℕ × ℕ). EndsAs c.operate_on.result c.args.self.now c.operate_on.new.self
     (operation_event c.args.operation p.0 p.1 c.args.loss))
     (λ i. (n.link_is i, n.stream_is i)) c.operate_on.ensures.ends
 
@@ -30,5 +30,6 @@ pub returns-in-Some-clause-sides : goal.returns-in-Some-clause-sides
 returns-in-Some-clause-sides c =
     let n = name_is c.args.self.now.keeper.keys.manager (length c.args.self.now.ends) c.args.link c.args.stream
     c.in-Some.link c.in-Some.stream c.in-Some.ensures in
-    subst (λ (p : ℕ × ℕ). SidesOperate c.args.operation p.0 p.1 c.operate_on.result c.args.self.now
-    c.operate_on.new.self) (λ i. (n.link_is i, n.stream_is i)) c.operate_on.ensures.sides
+    subst (λ (p : ℕ × ℕ). IfSome c.operate_on.result
+    (λ (w : Verdict). SidesOperate c.args.operation p.0 p.1 w c.args.self.now c.operate_on.new.self))
+    (λ i. (n.link_is i, n.stream_is i)) c.operate_on.ensures.sides

@@ -1,5 +1,6 @@
-use Rattle.all_links.proofs.Terms.{◌+◌, ◌<◌, sym, subst, arith, length, IsSome, named, Links, EndsWith}
+use Rattle.all_links.proofs.Terms.{◌+◌, ◌<◌, ◌∙◌, sym, subst, arith, length, IsSome, named, Links, EndsWith}
 use Rattle.all_links.proofs.Terms.{operation_event, OperatesAt}
+use Rattle.all_links.proofs.Finds.{ends_as, if_some, some_none}
 use Rattle.tsm_host.specs.Operations.{OpName}
 use Rattle.tsm_host.specs.Walk.{verdict_of}
 use Rattle.all_links.specs.Sides.{SidesOperate}
@@ -16,37 +17,35 @@ carry_stream-outcome-requires-clause-stream c =
     subst (λ (a : OpName). IsSome (named c.args.self.now.keeper.keys.manager a.link a.stream))
     (sym c.named_op-op.ensures) c.requires.stream
 
-pub operated_verdict-requires : goal.operated_verdict-requires
-operated_verdict-requires c = record {
-  carried = subst
-      (λ (a : OpName). IsSome (verdict_of a.operation a.link a.stream c.args.loss c.carry_stream-outcome.result))
-      c.named_op-op.ensures c.carry_stream-outcome.ensures.answered;
-}
-
 pub returns-clause-ends : goal.returns-clause-ends
 returns-clause-ends c =
     let after : Links = c.carry_stream-outcome.new.self in
-    subst (λ (s : Links). EndsWith c.operated_verdict.result c.args.self.now (record s { steps = s.steps + 1 })
-    (operation_event c.args.operation c.args.link c.args.stream c.args.loss))
+    let event = operation_event c.args.operation c.args.link c.args.stream c.args.loss in
+    ends_as c.operated_verdict.result c.args.self.now (record after { steps = after.steps + 1 }) event
+    (λ verdict is. subst (λ (s : Links). EndsWith verdict c.args.self.now (record s { steps = s.steps + 1 }) event)
     (sym c.carry_stream-outcome.ensures.links)
     (operates_on c.operations_join.ensures c.args.self.now after.ends
     after.keeper.interfaces after.keeper.keys c.named_op-op.result c.args.operation
-    c.args.link c.args.stream c.args.loss c.carry_stream-outcome.result c.operated_verdict.result
+    c.args.link c.args.stream c.args.loss c.carry_stream-outcome.result verdict
     c.requires.bounded c.requires.here c.requires.stream c.named_op-op.ensures
     (subst (λ (a : OpName). OperatesAt c.args.self.now.ends a.link c.args.self.now.keeper.keys c.named_op-op.result
     c.args.loss c.carry_stream-outcome.result after.ends after.keeper.keys) c.named_op-op.ensures
     c.carry_stream-outcome.ensures.operates)
-    c.operated_verdict.ensures)
+    (sym c.operated_verdict.ensures ∙ is)))
+    (λ none stands answered. some_none (subst
+    (λ (a : OpName). IsSome (verdict_of a.operation a.link a.stream c.args.loss c.carry_stream-outcome.result))
+    c.named_op-op.ensures (c.carry_stream-outcome.ensures.answered stands)) (sym c.operated_verdict.ensures ∙ none))
 
 pub returns-clause-sides : goal.returns-clause-sides
 returns-clause-sides c =
     let after : Links = c.carry_stream-outcome.new.self in
-    subst (λ (s : Links). SidesOperate c.args.operation c.args.link c.args.stream c.operated_verdict.result
+    if_some c.operated_verdict.result _
+    (λ verdict is. subst (λ (s : Links). SidesOperate c.args.operation c.args.link c.args.stream verdict
     c.args.self.now (record s { steps = s.steps + 1 })) (sym c.carry_stream-outcome.ensures.links)
     (operated_beside c.args.self.now after.ends after.keeper c.named_op-op.result
-    c.args.operation c.args.link c.args.stream c.args.loss c.carry_stream-outcome.result c.operated_verdict.result
+    c.args.operation c.args.link c.args.stream c.args.loss c.carry_stream-outcome.result verdict
     c.requires.here (omega (arith, c.ranges.stream)) c.requires.stream c.named_op-op.ensures
     (subst (λ (a : OpName). OperatesAt c.args.self.now.ends a.link c.args.self.now.keeper.keys c.named_op-op.result
     c.args.loss c.carry_stream-outcome.result after.ends after.keeper.keys) c.named_op-op.ensures
     c.carry_stream-outcome.ensures.operates)
-    c.carry_stream-outcome.ensures.interfaces c.operated_verdict.ensures)
+    c.carry_stream-outcome.ensures.interfaces (sym c.operated_verdict.ensures ∙ is)))

@@ -1,14 +1,15 @@
-use Rattle.all_links.proofs.Terms.{ap, sym, ◌∙◌, ◌++◌, ◌+◌, ℕ, Some, option_map, InterfacesView, Links}
+use Rattle.all_links.proofs.Terms.{ap, refl, sym, ◌∙◌, ◌++◌, ◌+◌, ℕ, option_map, InterfacesView, Links, Interface}
+use Rattle.link_events.specs.declared.event.InterfaceEvent.TheVariants as ie
 use Rattle.tdi_host.specs.declared.operation.InterfaceOp.TheVariants as op
 use Rattle.all_links.proofs.Asked.{asked_nowhere, operated_as}
+use Rattle.all_links.proofs.Finds.{ends_as, if_some, some_none}
 use Rattle.all_links.proofs.Sides.{nothing_asked, asked_beside}
 use Rattle.all_links.proofs.links.Links.report.Goals as goal
 
-pub carry_interface-outcome-requires-clause-here : goal.carry_interface-outcome-requires-clause-here
-carry_interface-outcome-requires-clause-here c = ap (option_map (λ (at : ℕ × ℕ). at.0)) (sym c.in-Some.ensures)
-
-pub asked_verdict-requires : goal.asked_verdict-requires
-asked_verdict-requires c = record { carried = c.carry_interface-outcome.ensures.answered c.new-report.result }
+pub carry_interface-outcome-requires : goal.carry_interface-outcome-requires
+carry_interface-outcome-requires c = record {
+  here = ap (option_map (λ (at : ℕ × ℕ). at.0)) (sym c.in-Some.ensures);
+}
 
 pub returns-in-None-clause-ends : goal.returns-in-None-clause-ends
 returns-in-None-clause-ends c =
@@ -17,16 +18,19 @@ returns-in-None-clause-ends c =
 
 pub returns-in_ok-report-in-Some-clause-ends : goal.returns-in_ok-report-in-Some-clause-ends
 returns-in_ok-report-in-Some-clause-ends c =
-    operated_as c.args.self.now c.args.number (c.in-Some.link, c.in-Some.field-0-1) op.Report c.args.loss
-    c.carry_interface-outcome.result c.carry_interface-outcome.new.self.ends c.carry_interface-outcome.new.self.keeper
-    c.only-in-Some.new.self c.only-in-Some.result c.new-report.result c.in-Some.ensures
-    c.carry_interface-outcome.ensures.asks
-    (c.asked_verdict.ensures ∙ ap Some (sym c.only-in-Some.ensures.value))
+    let after : Links = c.carry_interface-outcome.new.self in
+    let event = ie.Report c.args.number c.args.loss in
+    ends_as c.asked_verdict.result c.args.self.now (record after { steps = after.steps + 1 }) (Interface event)
+    (λ verdict is. operated_as c.args.self.now c.args.number (c.in-Some.link, c.in-Some.field-0-1) op.Report c.args.loss
+    c.carry_interface-outcome.result after.ends after.keeper (record after { steps = after.steps + 1 }) verdict
+    c.new-report.result c.in-Some.ensures c.carry_interface-outcome.ensures.asks (sym c.asked_verdict.ensures ∙ is)
     (λ e same. c.new-report.ensures ∙ (rw c.unwrap.ensures at c.extend_from_slice.ensures.items)
     ∙ (λ i. c.in_ok-report-in-Some.ensures.items i ++
     (c.report.ensures.value ∙ ap (λ (m : InterfacesView). m.read.bytes) (c.manager.ensures ∙ same)) i))
-    (c.only-in-Some.ensures.links
-    ∙ ap (λ (s : Links). record s { steps = s.steps + 1 }) c.carry_interface-outcome.ensures.links) c.requires.bounded
+    (ap (λ (s : Links). record s { steps = s.steps + 1 }) c.carry_interface-outcome.ensures.links) c.requires.bounded)
+    (λ none stands answered. some_none
+    (c.carry_interface-outcome.ensures.answered (answered event refl) c.new-report.result)
+    (sym c.asked_verdict.ensures ∙ none))
 
 pub returns-in-None-clause-sides : goal.returns-in-None-clause-sides
 returns-in-None-clause-sides c =
@@ -34,8 +38,9 @@ returns-in-None-clause-sides c =
 
 pub returns-in_ok-report-in-Some-clause-sides : goal.returns-in_ok-report-in-Some-clause-sides
 returns-in_ok-report-in-Some-clause-sides c =
-    asked_beside c.args.self.now c.only-in-Some.new.self c.args.number (c.in-Some.link, c.in-Some.field-0-1) op.Report
-    c.args.loss c.carry_interface-outcome.result c.carry_interface-outcome.new.self.ends
-    c.carry_interface-outcome.new.self.keeper c.in-Some.ensures c.carry_interface-outcome.ensures.asks
-    (c.only-in-Some.ensures.links
-    ∙ ap (λ (s : Links). record s { steps = s.steps + 1 }) c.carry_interface-outcome.ensures.links)
+    let after : Links = c.carry_interface-outcome.new.self in
+    if_some c.asked_verdict.result _
+    (λ verdict is. asked_beside c.args.self.now (record after { steps = after.steps + 1 }) c.args.number
+    (c.in-Some.link, c.in-Some.field-0-1) op.Report c.args.loss c.carry_interface-outcome.result after.ends after.keeper
+    c.in-Some.ensures c.carry_interface-outcome.ensures.asks
+    (ap (λ (s : Links). record s { steps = s.steps + 1 }) c.carry_interface-outcome.ensures.links))

@@ -17,7 +17,7 @@ packets-requires c =
 
 pub keep-requires-clause-lengths : goal.keep-requires-clause-lengths
 keep-requires-clause-lengths c =
-    sealed_length c.args.self.now c.send-sent.new.self c.args.port c.args.bytes.now c.args.trusted c.args.more
+    sealed_length c.args.self.now c.send-sent.new.self c.args.port c.args.bytes.now c.args.more c.args.trusted
     c.send-sent.result c.as_slice.result.now c.packets.result.now c.requires.here c.send-sent.ensures
     (ap (λ (ps : List SealedPacket). map (λ (p : SealedPacket). p.length) ps) c.as_slice.ensures.value ∙ ap
     (λ (a : Sent). lengths_sent a) (sym c.in-Sealed.is)) c.packets.ensures.value
@@ -37,9 +37,9 @@ returns-clause-ends c =
     ++ cut_packets c.args.port (lengths_sent c.send-sent.result) (port_in c.args.port.side l).sealed)
     (memory : c.match-sent.self.trusted ≡ old.trusted).
     seals old (record c.match-sent.self { steps = c.match-sent.self.steps + 1 }) c.args.port c.args.bytes.now
-    c.args.trusted c.args.more c.send-sent.result
+    c.args.more c.args.trusted c.send-sent.result
     c.send_verdict.result c.requires.bounded c.requires.here
-    (subst (λ (xs : List LinkEnds). SendsAt old.ends c.args.port c.args.bytes.now c.args.trusted c.args.more
+    (subst (λ (xs : List LinkEnds). SendsAt old.ends c.args.port c.args.bytes.now c.args.more c.args.trusted
     c.send-sent.result xs)
     (sym ends_is) c.send-sent.ensures) says keeper_is steps_is kept memory in
     elim c.match-sent.branch [
@@ -70,8 +70,8 @@ returns-clause-sides c =
     (keeper_is : c.match-sent.self.keeper.interfaces ≡ old.keeper.interfaces)
     (memory : c.match-sent.self.trusted ≡ old.trusted).
     sent_keeps old (record c.match-sent.self { steps = c.match-sent.self.steps + 1 }) c.args.port c.args.bytes.now
-    c.args.trusted c.args.more c.send-sent.result c.requires.here
-    (subst (λ (xs : List LinkEnds). SendsAt old.ends c.args.port c.args.bytes.now c.args.trusted c.args.more
+    c.args.more c.args.trusted c.send-sent.result c.requires.here
+    (subst (λ (xs : List LinkEnds). SendsAt old.ends c.args.port c.args.bytes.now c.args.more c.args.trusted
     c.send-sent.result xs) (sym ends_is) c.send-sent.ensures) keeper_is memory in
     elim c.match-sent.branch [
       | in-Sealed w ↦

@@ -10,7 +10,7 @@ pub returns-in_default : goal.returns-in_default
 returns-in_default c = λ number.
     plain-step c.self.inside c.args.self.now c.self.view_is c.args.id (cc) c.unsealed.new.self
     (viewed_tlp c.args.tlp.now)
-    c.args.trusted c.args.more number
+    c.args.more c.args.trusted number
     c.unsealed.ensures
 
 pub index_mut-stream-requires : goal.index_mut-stream-requires
@@ -55,6 +55,6 @@ returns c = λ number.
     sent-step c.self.inside c.args.self.now c.self.view_is c.self.invariant c.args.id c.in-Some.place
     c.index_mut-stream.result.now (cc)
     c.index_mut-stream.ensures.value
-    c.send.new.self (viewed_tlp c.args.tlp.now) c.args.trusted c.args.more number c.send.result c.match-send.result
+    c.send.new.self (viewed_tlp c.args.tlp.now) c.args.more c.args.trusted number c.send.result c.match-send.result
     c.clear.new.self.items c.send.new.out.items
     c.clear.ensures.items (sent c number) said

@@ -1,4 +1,4 @@
-use Rattle.ide_port.proofs.Terms.{false, sym, ap, ◌∙◌, arith, Go, is_one, go_answer_at, slot_call}
+use Rattle.ide_port.proofs.Terms.{sym, ap, ◌∙◌, arith, Go, is_one, go_answer_at, place_call}
 use Rattle.ide_port.proofs.Keeping.{kept-called}
 use Rattle.ide_port.proofs.Steps.{IsLane, lane-some, lane-inside, nowhere-step, called-step}
 use Rattle.ide_port.proofs.port.PortSlotPort.go.Goals as goal
@@ -12,7 +12,7 @@ index_mut-stream-requires c =
 pub returns-in-None : goal.returns-in-None
 returns-in-None c =
     let x = nowhere-step c.self.inside c.args.self.now c.self.view_is c.self.invariant
-    (Go c.args.place (is_one c.args.set) false) (cc) in
+    (place_call c.args.place (Go (is_one c.args.set))) (cc) in
     record { answer = sym (ap (λ o. go_answer_at o (is_one c.args.set)) x.shows); moves = x.moves; slots = x.slots }
 
 -- the place that is called
@@ -24,12 +24,12 @@ pub invariant_of-self-in-Some : goal.invariant_of-self-in-Some
 invariant_of-self-in-Some c =
     kept-called c.self.inside c.self.invariant c.args.place.stream c.in-Some.index c.index_mut-stream.result.now
     (lane c).place_is c.index_mut-stream.ensures.value c.go.new.self c.args.place.direction c.in-Some.sub
-    (slot_call (Go c.args.place (is_one c.args.set) c.is_ok.result)) c.go.ensures.stream
+    (Go (is_one c.args.set)) c.go.ensures.stream
 
 pub returns-in-Some : goal.returns-in-Some
 returns-in-Some c =
     let x = called-step c.self.inside c.args.self.now c.self.view_is c.self.invariant
-    (Go c.args.place (is_one c.args.set) c.is_ok.result) c.in-Some.index c.in-Some.sub c.index_mut-stream.result.now
+    (place_call c.args.place (Go (is_one c.args.set))) c.in-Some.index c.in-Some.sub c.index_mut-stream.result.now
     c.go.new.self c.requires (lane c) c.index_mut-stream.ensures.value c.go.ensures.stream in
     record {
       answer = c.is_ok.ensures.value ∙ c.go.ensures.answer ∙ sym (ap (λ o. go_answer_at o (is_one c.args.set)) x.shows);

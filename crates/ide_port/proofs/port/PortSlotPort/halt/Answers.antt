@@ -1,4 +1,4 @@
-use Rattle.ide_port.proofs.Terms.{true, false, sym, ap, arith, Halt, is_one, is_there, slot_call}
+use Rattle.ide_port.proofs.Terms.{sym, ap, arith, Halt, is_one, is_there, place_call}
 use Rattle.ide_port.proofs.Keeping.{kept-called}
 use Rattle.ide_port.proofs.Steps.{IsLane, lane-some, lane-inside, nowhere-step, called-step}
 use Rattle.ide_port.proofs.port.PortSlotPort.halt.Goals as goal
@@ -12,7 +12,7 @@ index_mut-stream-requires c =
 pub returns-in-None : goal.returns-in-None
 returns-in-None c =
     let x = nowhere-step c.self.inside c.args.self.now c.self.view_is c.self.invariant
-    (Halt c.args.place (is_one c.args.set) false) (cc) in
+    (place_call c.args.place (Halt (is_one c.args.set))) (cc) in
     record { answer = sym (ap (λ o. is_there o) x.shows); moves = x.moves; slots = x.slots }
 
 -- the place that is called
@@ -24,11 +24,11 @@ pub invariant_of-self-in-Some : goal.invariant_of-self-in-Some
 invariant_of-self-in-Some c =
     kept-called c.self.inside c.self.invariant c.args.place.stream c.in-Some.index c.index_mut-stream.result.now
     (lane c).place_is c.index_mut-stream.ensures.value c.halt.new.self c.args.place.direction c.in-Some.sub
-    (slot_call (Halt c.args.place (is_one c.args.set) true)) c.halt.ensures
+    (Halt (is_one c.args.set)) c.halt.ensures
 
 pub returns-in-Some : goal.returns-in-Some
 returns-in-Some c =
     let x = called-step c.self.inside c.args.self.now c.self.view_is c.self.invariant
-    (Halt c.args.place (is_one c.args.set) true) c.in-Some.index c.in-Some.sub c.index_mut-stream.result.now
+    (place_call c.args.place (Halt (is_one c.args.set))) c.in-Some.index c.in-Some.sub c.index_mut-stream.result.now
     c.halt.new.self c.requires (lane c) c.index_mut-stream.ensures.value c.halt.ensures in
     record { answer = sym (ap (λ o. is_there o) x.shows); moves = x.moves; slots = x.slots }

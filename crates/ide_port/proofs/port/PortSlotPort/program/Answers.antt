@@ -1,9 +1,8 @@
-use Rattle.ide_port.proofs.Terms.{◌≡◌, Err, sym, ap, ◌∙◌, arith, Program, is_one, program_answer_at, pair_in, slot_call}
+use Rattle.ide_port.proofs.Terms.{◌≡◌, sym, ap, ◌∙◌, arith, Program, is_one, program_answer_at, pair_in, place_call}
 use Rattle.ide_port.proofs.Keeping.{kept-called}
 use Rattle.ide_port.proofs.Steps.{IsLane, lane-some, lane-inside, nowhere-step, called-step, key_back, key-back}
 use Rattle.ide_port.proofs.port.PortSlotPort.program.Goals as goal
 use Rattle.ide_port.proofs.port.PortSlotPort.program.Goals.{in-Ok, in-Err}
-use Rattle.ide_km.specs.declared.port.ProgramFault.TheVariants.{NoPlace}
 
 pub index_mut-stream-requires : goal.index_mut-stream-requires
 index_mut-stream-requires c =
@@ -14,7 +13,7 @@ index_mut-stream-requires c =
 pub returns-in-None : goal.returns-in-None
 returns-in-None c =
     let x = nowhere-step c.self.inside c.args.self.now c.self.view_is c.self.invariant
-    (Program c.args.place (is_one c.args.set) c.args.key c.args.draw (Err (NoPlace c.args.key))) (cc) in
+    (place_call c.args.place (Program (is_one c.args.set) c.args.key c.args.draw)) (cc) in
     let answer = sym (ap (λ o. program_answer_at o (is_one c.args.set) c.args.key) x.shows) in
     record { answer = answer; moves = x.moves; slots = x.slots }
 
@@ -27,13 +26,13 @@ pub invariant_of-self-in-Some : goal.invariant_of-self-in-Some
 invariant_of-self-in-Some c =
     kept-called c.self.inside c.self.invariant c.args.place.stream c.in-Some.index c.index_mut-stream.result.now
     (lane c).place_is c.index_mut-stream.ensures.value c.program.new.self c.args.place.direction c.in-Some.sub
-    (slot_call (Program c.args.place (is_one c.args.set) c.args.key c.args.draw c.match-program.result))
+    (Program (is_one c.args.set) c.args.key c.args.draw)
     c.program.ensures.stream
 
 pub returns-after-program : goal.returns-after-program
 returns-after-program c =
     let x = called-step c.self.inside c.args.self.now c.self.view_is c.self.invariant
-    (Program c.args.place (is_one c.args.set) c.args.key c.args.draw c.match-program.result)
+    (place_call c.args.place (Program (is_one c.args.set) c.args.key c.args.draw))
     c.in-Some.index c.in-Some.sub c.index_mut-stream.result.now c.program.new.self c.requires (lane c)
     c.index_mut-stream.ensures.value c.program.ensures.stream in
     let said : c.match-program.result ≡ key_back c.program.result =

@@ -1,6 +1,5 @@
 use Rattle.std.proofs.Common.{sym, ap, ◌∙◌, subst}
-use Rattle.key_slots.specs.{is_one}
-use Rattle.sub_stream.specs.Calls.{Program}
+use Rattle.key_slots.specs.{is_one, Program}
 use Rattle.ide_stream.specs.declared.directions.Directions.{Directions}
 use Rattle.ide_stream.specs.Both.{settled_directions, IsStream}
 use Rattle.ide_stream.proofs.Settling.{call-kept}

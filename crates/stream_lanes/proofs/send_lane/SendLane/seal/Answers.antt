@@ -36,8 +36,8 @@ right c =
 ok_is : (a b : SealedPacket) (r : Result SealedPacket TxRefusal) → r ≡ Ok a → r ≡ Ok b → a ≡ b
 ok_is a b r e f = cc
 
-packet_is : (c : goal.After-count) → c.in-Ok.packet ≡ measured (tlp_said (end c) c.args.t c.args.more)
-    (packet_said (end c) c.args.head.now c.args.payload.now (tlp_said (end c) c.args.t c.args.more))
+packet_is : (c : goal.After-count) → c.in-Ok.packet ≡ measured (tlp_said (end c) c.args.more c.args.t)
+    (packet_said (end c) c.args.head.now c.args.payload.now (tlp_said (end c) c.args.more c.args.t))
 unfolding sealed content end
 packet_is c = ok_is _ _ _ (sym c.in-Ok.ensures.answer) (ap sealing_answer (right c))
 
@@ -45,8 +45,8 @@ pub returns-clause-answer : goal.returns-clause-answer
 unfolding end
 returns-clause-answer c =
     packet_is c
-    ∙ ap (λ (e : SendEnd). measured (tlp_said e c.args.t c.args.more)
-    (packet_said e c.args.head.now c.args.payload.now (tlp_said e c.args.t c.args.more))) c.self.view_is
+    ∙ ap (λ (e : SendEnd). measured (tlp_said e c.args.more c.args.t)
+    (packet_said e c.args.head.now c.args.payload.now (tlp_said e c.args.more c.args.t))) c.self.view_is
 
 pub returns-clause-bytes : goal.returns-clause-bytes
 unfolding sealed content end
@@ -54,14 +54,14 @@ returns-clause-bytes c =
     c.in-Ok.ensures.bytes
     ∙ ap (λ (s : Result Sealing TxRefusal). c.args.out.now.items ++ sealing_bytes s) (right c)
     ∙ ap (λ (e : SendEnd). c.args.out.now.items ++ packet_bytes
-    (packet_said e c.args.head.now c.args.payload.now (tlp_said e c.args.t c.args.more))) c.self.view_is
+    (packet_said e c.args.head.now c.args.payload.now (tlp_said e c.args.more c.args.t))) c.self.view_is
 
 sender_is : (c : goal.After-count) → c.seal.new.self ≡ (sealed c).sender
 unfolding content
 sender_is c = c.in-Ok.ensures.sender ∙ ap (sender_after c.self.inside.tx) (right c)
 
 total_is : (c : goal.After-count) → c.count.new.total ≡
-    (if (tlp_said (end c) c.args.t c.args.more).m then c.self.inside.total + 1 else c.self.inside.total)
+    (if (tlp_said (end c) c.args.more c.args.t).m then c.self.inside.total + 1 else c.self.inside.total)
 unfolding end
 total_is c =
     c.count.ensures.total
@@ -71,7 +71,7 @@ pub returns-clause-lane : goal.returns-clause-lane
 unfolding sealed content end
 returns-clause-lane c =
     (λ i. view (sender_is c i) c.self.inside.closed (c.count.ensures.posted i) (total_is c i))
-    ∙ ap (λ (e : SendEnd). sealed_end e c.args.head.now c.args.payload.now (tlp_said e c.args.t c.args.more))
+    ∙ ap (λ (e : SendEnd). sealed_end e c.args.head.now c.args.payload.now (tlp_said e c.args.more c.args.t))
     c.self.view_is
 
 pub invariant_of-self : goal.invariant_of-self

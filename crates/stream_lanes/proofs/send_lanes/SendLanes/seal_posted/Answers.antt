@@ -9,7 +9,7 @@ use Rattle.stream_lanes.proofs.send_lanes.SendLanes.seal_posted.Goals as goal
 pub invariant_of-self : goal.invariant_of-self
 invariant_of-self c =
     let inside = c.self.inside in
-    let d = tlp_said inside.pr c.args.t c.args.more in
+    let d = tlp_said inside.pr c.args.more c.args.t in
     let p = packet_said inside.pr c.args.head.now c.args.payload.now d in
     let live : any_live inside.pr.kept.slots ≡ true = subst (λ (x : SendEnds). any_live x.tx.pr.slots ≡ true)
     (sym c.self.view_is) c.requires.live in

@@ -48,36 +48,36 @@ returns-clause-sent c s number stream class goes trusted =
     let first = c.sync_npr.ensures.lanes in
     let second : c.sync_cpl.new.self ≡ synced d Cpl (synced b Npr x) = c.sync_cpl.ensures.lanes ∙ ap (synced d Cpl)
     first in
-    let said : c.push.new.self ≡ all_said x c.args.sub b d c.args.head.now c.args.payload.now c.args.t c.args.more =
+    let said : c.push.new.self ≡ all_said x c.args.sub b d c.args.head.now c.args.payload.now c.args.more c.args.t =
     c.push.ensures
     ∙ (λ i. c.sync_cpl.ensures.sealed i ++ c.seal-packet.ensures.answer i ∷ [])
     ∙ (λ i. (c.sync_npr.ensures.sealed i ++ sync_packets d Cpl (first i))
-    ++ measured (tlp_said (end_at (second i) c.args.sub) c.args.t c.args.more)
+    ++ measured (tlp_said (end_at (second i) c.args.sub) c.args.more c.args.t)
     (packet_said_at (second i) c.args.head.now c.args.payload.now
-    (tlp_said (end_at (second i) c.args.sub) c.args.t c.args.more)) ∷ [])
+    (tlp_said (end_at (second i) c.args.sub) c.args.more c.args.t)) ∷ [])
     ∙ (λ i. (c.new-sealed.ensures i ++ sync_packets b Npr x ++ sync_packets d Cpl (synced b Npr x))
-    ++ measured (tlp_said (end_at (synced d Cpl (synced b Npr x)) c.args.sub) c.args.t c.args.more)
+    ++ measured (tlp_said (end_at (synced d Cpl (synced b Npr x)) c.args.sub) c.args.more c.args.t)
     (packet_said_at (synced d Cpl (synced b Npr x))
     c.args.head.now c.args.payload.now
-    (tlp_said (end_at (synced d Cpl (synced b Npr x)) c.args.sub) c.args.t c.args.more)) ∷ []) in
-    let bytes : c.seal-packet.new.out.items ≡ all_bytes x c.args.sub b d c.args.head.now c.args.payload.now c.args.t
-    c.args.more c.args.out.now.items =
+    (tlp_said (end_at (synced d Cpl (synced b Npr x)) c.args.sub) c.args.more c.args.t)) ∷ []) in
+    let bytes : c.seal-packet.new.out.items ≡ all_bytes x c.args.sub b d c.args.head.now c.args.payload.now c.args.more
+    c.args.t c.args.out.now.items =
     c.seal-packet.ensures.bytes
     ∙ (λ i. c.sync_cpl.ensures.bytes i ++ packet_bytes
     (packet_said_at (second i) c.args.head.now c.args.payload.now
-    (tlp_said (end_at (second i) c.args.sub) c.args.t c.args.more)))
+    (tlp_said (end_at (second i) c.args.sub) c.args.more c.args.t)))
     ∙ (λ i. (c.sync_npr.ensures.bytes i ++ sync_bytes d Cpl (first i))
     ++ packet_bytes (packet_said_at (synced d Cpl (synced b Npr x)) c.args.head.now c.args.payload.now
-    (tlp_said (end_at (synced d Cpl (synced b Npr x)) c.args.sub) c.args.t
-    c.args.more))) in
-    let ends : c.seal-packet.new.self ≡ all_ends x c.args.sub b d c.args.head.now c.args.payload.now c.args.t
-    c.args.more =
+    (tlp_said (end_at (synced d Cpl (synced b Npr x)) c.args.sub) c.args.more
+    c.args.t))) in
+    let ends : c.seal-packet.new.self ≡ all_ends x c.args.sub b d c.args.head.now c.args.payload.now c.args.more
+    c.args.t =
     c.seal-packet.ensures.lanes
     ∙ (λ i. sealed_ends (second i) c.args.head.now c.args.payload.now
-    (tlp_said (end_at (second i) c.args.sub) c.args.t c.args.more)) in
+    (tlp_said (end_at (second i) c.args.sub) c.args.more c.args.t)) in
     subst (λ (y : List SealedPacket × List ℕ × SendEnds). IsSealed x c.args.head.now c.args.payload.now s number y.0
     c.args.out.now.items y.1 y.2) (λ i. (sym said i, sym bytes i, sym ends i))
-    (sent-right x c.args.head.now c.args.payload.now s number c.args.sub b d c.args.t c.args.more c.args.out.now.items
+    (sent-right x c.args.head.now c.args.payload.now s number c.args.sub b d c.args.more c.args.t c.args.out.now.items
     c.needs_sync-npr.ensures.value c.needs_sync-cpl.ensures.value stream class goes trusted)
 
 pub returns-clause-totals : goal.returns-clause-totals
@@ -86,10 +86,10 @@ returns-clause-totals c u =
     (synced c.needs_sync-npr.result Npr c.args.self.now) = c.sync_cpl.ensures.lanes ∙ ap
     (synced c.needs_sync-cpl.result Cpl) c.sync_npr.ensures.lanes in
     let ends : c.seal-packet.new.self ≡ all_ends c.args.self.now c.args.sub c.needs_sync-npr.result
-    c.needs_sync-cpl.result c.args.head.now c.args.payload.now c.args.t c.args.more =
+    c.needs_sync-cpl.result c.args.head.now c.args.payload.now c.args.more c.args.t =
     c.seal-packet.ensures.lanes
     ∙ (λ i. sealed_ends (second i) c.args.head.now c.args.payload.now
-    (tlp_said (end_at (second i) c.args.sub) c.args.t c.args.more)) in
+    (tlp_said (end_at (second i) c.args.sub) c.args.more c.args.t)) in
     subst (λ (y : SendEnds). (at_sub y.tx u).total ≤ (at_sub c.args.self.now.tx u).total + 1) (sym ends)
     (totals-after c.args.self.now c.args.head.now c.args.payload.now c.args.sub c.needs_sync-npr.result
-    c.needs_sync-cpl.result c.args.t c.args.more u c.needs_sync-npr.ensures.value c.needs_sync-cpl.ensures.value)
+    c.needs_sync-cpl.result c.args.more c.args.t u c.needs_sync-npr.ensures.value c.needs_sync-cpl.ensures.value)

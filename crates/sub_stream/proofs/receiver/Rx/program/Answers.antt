@@ -7,8 +7,8 @@ use Rattle.key_slots.specs.declared.slot.Slot.TheVariants.{Empty, Programmed, Ar
 use Rattle.key_slots.specs.declared.slots.OnlyLive.{OnlyLive}
 use Rattle.key_slots.specs.{DrawnKey, is_one, SlotPair, slot_in, with_both, is_only_live, program_answer}
 use Rattle.key_slots.specs.{programmed}
-use Rattle.sub_stream.specs.declared.taking.Holds.{Holds}
-use Rattle.sub_stream.specs.declared.taking.Holds.TheVariants.{Nothing, Zero, One, Delivered}
+use Rattle.sub_stream.specs.declared.receiver.Holds.{Holds}
+use Rattle.sub_stream.specs.declared.receiver.Holds.TheVariants.{Nothing, Zero, One, Delivered}
 use Rattle.sub_stream.specs.Gathered.{Gathered}
 use Rattle.sub_stream.specs.Seen.{slot_as_seen, key_slot, slot_pair}
 use Rattle.sub_stream.specs.Receivers.{Receiver, held_zero, held_one, seen_in, left_without, HoldsFew, with_slots}

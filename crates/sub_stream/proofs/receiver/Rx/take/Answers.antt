@@ -1,6 +1,6 @@
 use Rattle.std.proofs.Common.{◌≡◌, ◌+◌, Some, sym, ap, ◌∙◌}
 use Rattle.ide_prefix.specs.Cut.{packet_of_view}
-use Rattle.sub_stream.specs.declared.taking.Holds.{Holds}
+use Rattle.sub_stream.specs.declared.receiver.Holds.{Holds}
 use Rattle.sub_stream.specs.Gathered.{lent_front}
 use Rattle.sub_stream.specs.Receivers.{Receiver, early_of}
 use Rattle.sub_stream.proofs.Answering.{early-taken, early-after, view, view-early, after_early}

@@ -4,7 +4,7 @@ use Rattle.ide_prefix.specs.Cut.{packet_of_view}
 use Rattle.ide_prefix.specs.Packet.{Packet}
 use Rattle.stream_rules.specs.Stream.{Taken}
 use Rattle.key_slots.specs.{DrawnKey, SlotPair, slot_in, live_held}
-use Rattle.sub_stream.specs.declared.taking.Holds.{Holds}
+use Rattle.sub_stream.specs.declared.receiver.Holds.{Holds}
 use Rattle.sub_stream.specs.Answers.{answer_of}
 use Rattle.sub_stream.specs.Gathered.{Gathered, lent_front}
 use Rattle.sub_stream.specs.Seen.{live_with}

@@ -1,24 +1,23 @@
-use Rattle.world_states.proofs.Besides.{is_answered}
-use Rattle.world.proofs.Worlds.{standing, world_after, step_after, memory_after}
+use Rattle.world.proofs.Worlds.{has_verdict, world_after, step_after}
 use Rattle.world.proofs.world.World.step.Goals as goal
 
-pub answer-requires-clause-stands : goal.answer-requires-clause-stands
-answer-requires-clause-stands c = standing c.self.inside.plan c.self.inside.links c.self.invariant
+pub unwrap-requires : goal.unwrap-requires
+unwrap-requires c =
+    has_verdict c.self.inside.plan c.self.inside.links c.answer.new.self c.args.event.now
+    (record {
+      steps = c.whole_steps.ensures;
+      points = c.points_stand.ensures;
+      join = c.interface_operations_join.ensures;
+    }) c.self.invariant c.in_ok-verdict.verdict c.in_ok-verdict.ensures.ends
 
-pub answer-requires-clause-carried : goal.answer-requires-clause-carried
-answer-requires-clause-carried c =
-    let w = c.self.invariant in
-    is_answered c.self.inside.plan c.self.inside.links w.stands.whole c.interface_operations_join.ensures w.links
-    w.stands.is c.args.event.now
-
-pub invariant_of-self : goal.invariant_of-self
-invariant_of-self c =
+pub invariant_of-self-2 : goal.invariant_of-self-2
+invariant_of-self-2 c =
     world_after c.self.inside.plan c.self.inside.links c.answer.new.self c.args.event.now
     (record {
       steps = c.whole_steps.ensures;
       points = c.points_stand.ensures;
       join = c.interface_operations_join.ensures;
-    }) c.self.invariant c.answer.result c.answer.ensures.ends c.answer.ensures.sides
+    }) c.self.invariant c.in_ok-verdict.verdict c.in_ok-verdict.ensures.ends c.in_ok-verdict.ensures.sides
 
 pub returns-clause-step : goal.returns-clause-step
 returns-clause-step c =
@@ -27,13 +26,5 @@ returns-clause-step c =
       steps = c.whole_steps.ensures;
       points = c.points_stand.ensures;
       join = c.interface_operations_join.ensures;
-    }) c.self.invariant c.args.self.now c.self.view_is c.answer.result c.answer.ensures.ends c.answer.ensures.sides
-
-pub returns-clause-memory : goal.returns-clause-memory
-returns-clause-memory c =
-    memory_after c.self.inside.plan c.self.inside.links c.answer.new.self c.args.event.now
-    (record {
-      steps = c.whole_steps.ensures;
-      points = c.points_stand.ensures;
-      join = c.interface_operations_join.ensures;
-    }) c.self.invariant c.args.self.now c.self.view_is c.answer.result c.answer.ensures.ends
+    }) c.self.invariant c.args.self.now c.self.view_is c.in_ok-verdict.verdict c.unwrap.result c.unwrap.ensures
+    c.in_ok-verdict.ensures.ends c.in_ok-verdict.ensures.sides

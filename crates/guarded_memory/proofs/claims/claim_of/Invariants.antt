@@ -1,0 +1,6 @@
+use Rattle.std.proofs.Common.{◌≡◌, drop}
+use Rattle.guarded_memory.specs.Claims.{claim_from, claim_of}
+use Rattle.guarded_memory.proofs.claims.claim_of.Given as goal
+
+abbrev pub invariant-loop-i : goal.invariant-loop-i
+invariant-loop-i l = claim_from l.i (drop l.i l.standings) l.span ≡ claim_of l.standings l.span

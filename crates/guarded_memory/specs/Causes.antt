@@ -1,0 +1,60 @@
+-- Why a claimed write is blocked, the first cause that holds (this profile). The causes speak of the bytes that it
+-- names, of T, and of the stream and the draw that its packet came under, and of no payload.
+use Rattle.std.specs.Prelude.{ℕ, ◌==◌, ◌||◌, nat_lt, not, Bool, true, false, if◌then◌else◌, List, Option, Some, None}
+use Rattle.ide_plan.specs.declared.interface.BarPlan.{BarPlan}
+use Rattle.trusted_memory.specs.declared.span.Span.{Span}
+use Rattle.trusted_memory.specs.Spans.{crosses}
+use Rattle.guarded_memory.specs.declared.standing.InterfaceState.{InterfaceState}
+use Rattle.guarded_memory.specs.declared.standing.Standing.{Standing}
+use Rattle.guarded_memory.specs.declared.claims.Claim.{Claim}
+use Rattle.guarded_memory.specs.declared.causes.MmioCause.{MmioCause}
+use Rattle.guarded_memory.specs.declared.causes.MmioCause.TheVariants.{Crosses, NotTrusted, NotRunning, WrongStream}
+use Rattle.guarded_memory.specs.declared.causes.MmioCause.TheVariants.{Stale}
+use Rattle.guarded_memory.specs.declared.causes.MmioEffect.{MmioEffect}
+use Rattle.guarded_memory.specs.declared.causes.MmioEffect.TheVariants.{Delivered, Stored, Blocked}
+use Rattle.guarded_memory.specs.Standings.{is_open_range, is_config_unlocked, is_in_run}
+use Rattle.guarded_memory.specs.Claims.{claim_of}
+
+-- of a write that is not trusted: the range is not open, and the interface is not in CONFIG_UNLOCKED
+abbrev pub untrusted_cause : InterfaceState → BarPlan → Option MmioCause
+untrusted_cause state range = if is_open_range range || is_config_unlocked state then None else Some NotTrusted
+
+-- it came on another stream than the bound one; its draw is less than the floor
+abbrev pub bound_cause : Option (ℕ × ℕ) → ℕ → ℕ → Option MmioCause
+bound_cause None stream draw = Some WrongStream
+bound_cause (Some bound) stream draw =
+    if not (bound.0 == stream) then Some WrongStream
+    else if nat_lt draw bound.1 then Some Stale
+    else None
+
+-- of a trusted write: the interface is not in RUN; else by stream and draw
+abbrev pub trusted_cause : Standing → ℕ → ℕ → Option MmioCause
+trusted_cause x stream draw = if is_in_run x.state then bound_cause x.bound stream draw else Some NotRunning
+
+abbrev pub access_cause : Standing → BarPlan → Bool → ℕ → ℕ → Option MmioCause
+access_cause x range true stream draw = trusted_cause x stream draw
+access_cause x range false stream draw = untrusted_cause x.state range
+
+-- its bytes cross a 4 KiB boundary of addresses; else by T
+abbrev pub mmio_cause : Standing → BarPlan → Span → Bool → ℕ → ℕ → Option MmioCause
+mmio_cause x range s t stream draw = if crosses s then Some Crosses else access_cause x range t stream draw
+
+-- ---- effects
+
+abbrev pub cause_effect : Option MmioCause → MmioEffect
+cause_effect None = Stored
+cause_effect (Some cause) = Blocked cause
+
+abbrev pub is_stored : MmioEffect → Bool
+is_stored Stored = true
+is_stored effect = false
+
+-- of a memory write that is claimed by this, or by none
+abbrev pub claim_effect : Option Claim → Span → Bool → ℕ → ℕ → MmioEffect
+claim_effect None s t stream draw = Delivered
+claim_effect (Some c) s t stream draw = cause_effect (mmio_cause c.standing c.range s t stream draw)
+
+-- of a TLP at a device's port: of a memory write by the bytes that it names, else it is delivered
+abbrev pub mmio_effect : List Standing → Bool → ℕ → ℕ → Option Span → MmioEffect
+mmio_effect xs t stream draw None = Delivered
+mmio_effect xs t stream draw (Some s) = claim_effect (claim_of xs s) s t stream draw

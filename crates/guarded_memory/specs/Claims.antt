@@ -1,0 +1,38 @@
+-- Which interface and BAR claim a write (PCI Express Base 6.0 section 7.5.1.2.1, in this profile).
+use Rattle.std.specs.Prelude.{ℕ, ◌+◌, ◌*◌, ◌&&◌, nat_le, Bool, if◌then◌else◌, List, [], ◌∷◌, Option, Some, None}
+use Rattle.std.specs.Option.{option_or, option_map}
+use Rattle.ide_plan.specs.declared.interface.BarPlan.{BarPlan}
+use Rattle.trusted_memory.specs.declared.span.Span.{Span}
+use Rattle.trusted_memory.specs.Spans.{span_byte_count}
+use Rattle.guarded_memory.specs.declared.standing.Standing.{Standing}
+use Rattle.guarded_memory.specs.declared.claims.Claim.{Claim}
+
+-- the bytes of all its double words are in the range: from the base up to, not including, the base and 4096 bytes for
+-- each page, as whole numbers
+abbrev pub holds_span : BarPlan → Span → Bool
+holds_span range s = nat_le range.base s.address
+    && nat_le (s.address + span_byte_count s) (range.base + 4096 * range.pages)
+
+-- the first that passes a test, with its number, counted from n on
+abbrev pub first_passing : {X : Type 0} → (X → Bool) → ℕ → List X → Option (ℕ × X)
+first_passing test n [] = None
+first_passing test n (x ∷ xs) = if test x then Some (n, x) else first_passing test (n + 1) xs
+
+-- the least BAR whose range holds it
+abbrev pub holding_bar : List BarPlan → Span → Option (ℕ × BarPlan)
+holding_bar bars s = first_passing (λ range. holds_span range s) 0 bars
+
+-- of an interface with memory space on
+abbrev pub claimed_bar : Standing → Span → Option (ℕ × BarPlan)
+claimed_bar x s = if x.memory_space then holding_bar x.bars s else None
+
+abbrev pub claim_by : ℕ → Standing → ℕ × BarPlan → Claim
+claim_by i x bar = record { interface = i; standing = x; bar = bar.0; range = bar.1 }
+
+abbrev pub claim_from : ℕ → List Standing → Span → Option Claim
+claim_from n [] s = None
+claim_from n (x ∷ xs) s = option_or (option_map (claim_by n x) (claimed_bar x s)) (claim_from (n + 1) xs s)
+
+-- by the least interface, and its least BAR
+abbrev pub claim_of : List Standing → Span → Option Claim
+claim_of xs s = claim_from 0 xs s

@@ -1,0 +1,23 @@
+-- What a lock guards (PCI Express Base 6.0 chapter 11, in this profile).
+use Rattle.std.specs.Prelude.{ℕ, ◌≡◌, ◌&&◌, not, Bool, true, false, List, slice_get, Option, Some}
+use Rattle.trusted_memory.specs.Admitted.{is_on_bound}
+use Rattle.trusted_memory.specs.Writes.{Write}
+use Rattle.guarded_memory.specs.declared.standing.Standing.{Standing}
+use Rattle.guarded_memory.specs.Standings.{has_open_range, is_in_run, is_locked_or_run}
+use Rattle.guarded_memory.specs.Happenings.{contents_by}
+use Rattle.guarded_memory.specs.Stored.{stored_by}
+
+-- a range that is not open, of an interface in CONFIG_LOCKED or RUN
+abbrev pub is_guarded : Standing → ℕ → Bool
+is_guarded x b = is_locked_or_run x.state && not (has_open_range x.bars b)
+
+-- a trusted write, to an interface in RUN, on its bound stream, under a draw from its floor on
+abbrev pub is_admitted : Standing → Bool → ℕ → ℕ → Bool
+is_admitted x t stream draw = t && (is_in_run x.state && is_on_bound stream draw x.bound)
+
+-- a byte of a guarded range changes only by an admitted write: by any other TLP it stays
+abbrev pub GuardedBytesStay : Type 0
+GuardedBytesStay = (xs : List Standing) (t : Bool) (stream draw : ℕ) (o : Option Write) (old : ℕ → ℕ → ℕ → ℕ)
+    (i b offset : ℕ) (x : Standing)
+    → slice_get xs i ≡ Some x → is_guarded x b ≡ true → is_admitted x t stream draw ≡ false
+    → contents_by (stored_by xs t stream draw o) old i b offset ≡ old i b offset

@@ -1,0 +1,29 @@
+-- How an interface stands, and which of its ranges are open (PCI Express Base 6.0 chapter 11, in this profile).
+use Rattle.std.specs.Prelude.{ℕ, ◌/◌, ◌%◌, ◌==◌, Bool, true, false, List, slice_get}
+use Rattle.std.specs.Option.{option_map_or}
+use Rattle.ide_plan.specs.declared.interface.BarPlan.{BarPlan}
+use Rattle.guarded_memory.specs.declared.standing.InterfaceState.{InterfaceState}
+use Rattle.guarded_memory.specs.declared.standing.InterfaceState.TheVariants.{ConfigUnlocked, ConfigLocked, Run}
+
+-- bit 2 of the attributes: open to writes that are not trusted
+abbrev pub is_open_range : BarPlan → Bool
+is_open_range range = range.attributes / 4 % 2 == 1
+
+-- the range of this BAR is open; one that is not there is not
+abbrev pub has_open_range : List BarPlan → ℕ → Bool
+has_open_range bars b = option_map_or is_open_range (slice_get bars b) false
+
+-- ---- states
+
+abbrev pub is_config_unlocked : InterfaceState → Bool
+is_config_unlocked ConfigUnlocked = true
+is_config_unlocked state = false
+
+abbrev pub is_in_run : InterfaceState → Bool
+is_in_run Run = true
+is_in_run state = false
+
+abbrev pub is_locked_or_run : InterfaceState → Bool
+is_locked_or_run ConfigLocked = true
+is_locked_or_run Run = true
+is_locked_or_run state = false

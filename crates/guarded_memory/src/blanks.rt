@@ -1,0 +1,47 @@
+//! Pages that are not in use yet.
+
+ghost use Rattle.std.specs.Prelude.{◌≡◌, ◌+◌, ◌≤◌, ◌++◌, ◌∷◌, [], All, IsOk, OnOk, Some, is_ok, if◌then◌else◌};
+ghost use Rattle.std.specs.Prelude.{length, max, replicate};
+ghost use Rattle.std.specs.HashMap as hash;
+ghost use Rattle.trusted_memory.specs.Pages.{IsBlank};
+ghost use Rattle.guarded_memory.specs.declared.names.PageName.{PageName};
+ghost use Rattle.guarded_memory.specs.Contents.{is_page_name};
+
+use crate::names::PageName;
+use crate::page::Page;
+use ide_types::Memory;
+use std::alloc::Global;
+use std::collections::HashMap;
+
+fn add(alloc: Global, pages: &mut Vec<Page>) -> Result<(), Memory>
+    ensures { pages.new.items ≡ (if is_ok result then pages.old.items ++ replicate 4096 0 ∷ [] else pages.old.items) }
+{
+    let page = Page::new(alloc)?;
+    pages.push(page)?;
+    Ok(())
+}
+
+/// Adds blank pages until there are `count` at least. For want of memory those that were added stay.
+pub fn fill(alloc: Global, pages: &mut Vec<Page>, count: usize) -> Result<(), Memory>
+    requires { All IsBlank pages.old.items }
+    ensures blank { All IsBlank pages.new.items }
+    ensures ok { OnOk result (length pages.new.items ≡ max (length pages.old.items) count) }
+    ensures enough { count ≤ length pages.old.items → IsOk result }
+    ensures least { length pages.old.items ≤ length pages.new.items }
+    ensures most { length pages.new.items ≤ max (length pages.old.items) count }
+{
+    for i in pages.len()..count {
+        add(alloc, pages)?;
+    }
+    Ok(())
+}
+
+/// Puts a page there, for which there is room.
+pub fn put(pages: &mut HashMap<PageName, Page>, name: PageName, page: Page)
+    requires { 1 ≤ hash.spare pages.old }
+    ensures there { (q : PageName) → hash.get is_page_name pages.new q
+        ≡ (if is_page_name name q then Some page else hash.get is_page_name pages.old q) }
+    ensures room { hash.spare pages.old ≤ hash.spare pages.new + 1 }
+{
+    let _ = pages.insert(name, page);
+}

@@ -1,0 +1,98 @@
+//! Why writes are blocked, and what becomes of them.
+
+ghost use Rattle.std.specs.Prelude.{◌≡◌};
+ghost use Rattle.guarded_memory.specs.Causes.{untrusted_cause, bound_cause, trusted_cause, access_cause, mmio_cause};
+
+use crate::standing::is_open_range;
+use crate::{Claim, InterfaceState, Standing};
+use ide_plan::BarPlan;
+use trusted_memory::Span;
+
+/// Why a claimed write is not stored, the first that holds: its bytes cross a 4 KiB boundary of addresses; it is not
+/// trusted, the range is not open, and the interface is not in CONFIG_UNLOCKED; it is trusted, and the interface is not
+/// in RUN; it came on another stream than the bound one; its key is from before the interface started (this profile).
+#[derive(Clone, Copy, Debug, PartialEq, Eq)]
+pub enum MmioCause {
+    Crosses,
+    NotTrusted,
+    NotRunning,
+    WrongStream,
+    Stale,
+}
+
+/// The effect of a TLP of a unit that was accepted at a device's port: `Stored` or `Blocked` of a memory write that is
+/// claimed, `Delivered` of any other TLP (this profile).
+#[derive(Clone, Copy, Debug, PartialEq, Eq)]
+pub enum MmioEffect {
+    Delivered,
+    Stored,
+    Blocked(MmioCause),
+}
+
+// Of a write that is not trusted.
+fn untrusted_cause(state: InterfaceState, range: &BarPlan) -> Option<MmioCause>
+    ensures { result ≡ untrusted_cause state range.now }
+{
+    if is_open_range(range) || state.is_config_unlocked() {
+        None
+    } else {
+        Some(MmioCause::NotTrusted)
+    }
+}
+
+// By the bound stream and the floor.
+fn bound_cause(bound: Option<(u8, u32)>, stream: u8, draw: u32) -> Option<MmioCause>
+    ensures { result ≡ bound_cause bound stream draw }
+{
+    match bound {
+        None => Some(MmioCause::WrongStream),
+        Some((bound, floor)) => {
+            if bound != stream {
+                Some(MmioCause::WrongStream)
+            } else if draw < floor {
+                Some(MmioCause::Stale)
+            } else {
+                None
+            }
+        }
+    }
+}
+
+// Of a trusted write.
+fn trusted_cause(standing: &Standing, stream: u8, draw: u32) -> Option<MmioCause>
+    ensures { result ≡ trusted_cause standing.now stream draw }
+{
+    if standing.state.is_in_run() {
+        bound_cause(standing.bound, stream, draw)
+    } else {
+        Some(MmioCause::NotRunning)
+    }
+}
+
+fn access_cause(claim: &Claim, trusted: bool, stream: u8, draw: u32) -> Option<MmioCause>
+    ensures { result ≡ access_cause claim.now.standing claim.now.range trusted stream draw }
+{
+    if trusted {
+        trusted_cause(&claim.standing, stream, draw)
+    } else {
+        untrusted_cause(claim.standing.state, &claim.range)
+    }
+}
+
+/// The first cause that blocks a claimed write over these bytes, which came on this stream under the key of this draw;
+/// `None` if nothing blocks it.
+pub fn mmio_cause(
+    claim: &Claim,
+    span: Span,
+    trusted: bool,
+    stream: u8,
+    draw: u32,
+) -> Option<MmioCause>
+    ensures { result ≡ mmio_cause claim.now.standing claim.now.range span trusted stream draw }
+{
+    if span.crosses() {
+        Some(MmioCause::Crosses)
+    } else {
+        access_cause(claim, trusted, stream, draw)
+    }
+}

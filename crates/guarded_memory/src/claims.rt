@@ -1,0 +1,75 @@
+//! Which BAR claims a write.
+
+ghost use Rattle.std.specs.Prelude.{◌≡◌, true, IfSome};
+ghost use Rattle.guarded_memory.specs.Claims.{holds_span, holding_bar, claimed_bar, claim_of};
+
+use crate::Standing;
+use ide_plan::BarPlan;
+use trusted_memory::Span;
+
+/// The BAR that claims a write, and the interface that has it, by their numbers and as they stand (PCI Express Base 6.0
+/// section 7.5.1.2.1, in this profile).
+#[derive(Clone, Copy, Debug, PartialEq, Eq)]
+pub struct Claim {
+    /// The interface's number among those of the device.
+    pub interface: usize,
+    /// How the interface stands.
+    pub standing: Standing,
+    /// The BAR's number.
+    pub bar: usize,
+    /// The BAR's range, with its base as it stands.
+    pub range: BarPlan,
+}
+
+// Whether all bytes are in the range, whose end may pass 64 bits.
+fn holds_span(range: &BarPlan, span: Span) -> bool
+    ensures { result ≡ holds_span range.now span }
+{
+    let size = 4_096 * range.pages as u64;
+    let bytes = span.bytes() as u64;
+    range.base <= span.address && bytes <= size && span.address - range.base <= size - bytes
+}
+
+// The least BAR whose range holds all bytes, with its number.
+fn holding_bar(bars: &[BarPlan], span: Span) -> Option<(usize, BarPlan)>
+    ensures bar { result ≡ holding_bar bars.now span }
+    ensures holds { IfSome result (λ r. holds_span r.1 span ≡ true) }
+{
+    for (i, range) in bars.iter().enumerate() {
+        if holds_span(range, span) {
+            return Some((i, *range));
+        }
+    }
+    None
+}
+
+// The BAR by which an interface claims the bytes: none while its memory space is off.
+fn claimed_bar(standing: &Standing, span: Span) -> Option<(usize, BarPlan)>
+    ensures bar { result ≡ claimed_bar standing.now span }
+    ensures holds { IfSome result (λ r. holds_span r.1 span ≡ true) }
+{
+    if standing.memory_space {
+        holding_bar(&standing.bars, span)
+    } else {
+        None
+    }
+}
+
+/// The claim on a memory write over these bytes: that of the least interface with memory space on that has a BAR whose
+/// range holds all of them, by the least such BAR; `None` if there is none (this profile).
+pub fn claim_of(standings: &[Standing], span: Span) -> Option<Claim>
+    ensures claim { result ≡ claim_of standings.now span }
+    ensures holds { IfSome result (λ c. holds_span c.range span ≡ true) }
+{
+    for (i, standing) in standings.iter().enumerate() {
+        if let Some((bar, range)) = claimed_bar(standing, span) {
+            return Some(Claim {
+                interface: i,
+                standing: *standing,
+                bar,
+                range,
+            });
+        }
+    }
+    None
+}

@@ -1,0 +1,22 @@
+//! The memory behind the base address registers of a device's interfaces, which a lock guards: while an interface is in
+//! CONFIG_LOCKED or RUN, a range that is not open admits only trusted writes on the interface's bound stream
+//! (PCI Express Base 6.0 chapter 11, in this profile).
+//!
+//! Memory is taken by `Guarded::make` and `spare` alone.
+#![tactic(auto)]
+
+mod blanks;
+mod causes;
+mod claims;
+mod guarded;
+mod laws;
+mod names;
+mod page;
+mod sizes;
+mod standing;
+
+pub use causes::{MmioCause, MmioEffect, mmio_cause};
+pub use claims::{Claim, claim_of};
+pub use guarded::Guarded;
+pub use laws::{guarded_bytes_stay, happenings_in_turn, mmio_cases};
+pub use standing::{InterfaceState, Standing};

@@ -1,0 +1,63 @@
+//! How an interface stands when a write arrives.
+
+ghost use Rattle.std.specs.Prelude.{◌≡◌};
+ghost use Rattle.guarded_memory.specs.Standings.{is_open_range, has_open_range};
+ghost use Rattle.guarded_memory.specs.Standings.{is_config_unlocked, is_in_run};
+
+use ide_plan::BarPlan;
+
+/// The state of a device interface (PCI Express Base 6.0 chapter 11).
+#[derive(Clone, Copy, Debug, PartialEq, Eq)]
+pub enum InterfaceState {
+    ConfigUnlocked,
+    ConfigLocked,
+    Run,
+    Error,
+}
+
+/// What is asked of an interface when a write arrives (PCI Express Base 6.0 chapter 11, in this profile).
+#[derive(Clone, Copy, Debug, PartialEq, Eq)]
+pub struct Standing {
+    /// Its state.
+    pub state: InterfaceState,
+    /// Whether memory space is on: bit 1 of its command register.
+    pub memory_space: bool,
+    /// Its base address registers by their number, each with its base as it stands; one that the interface has not has
+    /// no pages. Bit 2 of the attributes says that the range is open to writes that are not trusted.
+    pub bars: [BarPlan; 6],
+    /// The ID of the stream that it is bound to, and its floor, the least draw under which writes are admitted.
+    pub bound: Option<(u8, u32)>,
+}
+
+/// Whether a range is open to writes that are not trusted.
+pub fn is_open_range(range: &BarPlan) -> bool
+    ensures { result ≡ is_open_range range.now }
+{
+    (range.attributes >> 2) & 1 == 1
+}
+
+/// Whether the range of this BAR is open; one that is not there is not.
+pub fn has_open_range(bars: &[BarPlan], bar: usize) -> bool
+    ensures { result ≡ has_open_range bars.now bar }
+{
+    match bars.get(bar) {
+        Some(range) => is_open_range(range),
+        None => false,
+    }
+}
+
+impl InterfaceState {
+    /// Whether it is CONFIG_UNLOCKED.
+    pub fn is_config_unlocked(self) -> bool
+        ensures { result ≡ is_config_unlocked self }
+    {
+        matches!(self, InterfaceState::ConfigUnlocked)
+    }
+
+    /// Whether it is RUN.
+    pub fn is_in_run(self) -> bool
+        ensures { result ≡ is_in_run self }
+    {
+        matches!(self, InterfaceState::Run)
+    }
+}

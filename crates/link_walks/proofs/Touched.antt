@@ -1,0 +1,96 @@
+-- The calls of an event leave the stream as its touches do.
+use Rattle.link_walks.proofs.CallTerms.{◌≡◌, Bool, arith, true, ℕ, List, ◌++◌, false, ◌∙◌, sym, ◌-◌, ap, SubKind, Plan}
+use Rattle.link_walks.proofs.CallTerms.{KeyCall, Work, Reach, lane_key, StreamCall, all_called, Device, Host}
+use Rattle.link_walks.proofs.CallTerms.{Operation}
+use Rattle.link_walks.proofs.CallTerms.{lane, KeyPlace, place_at_end, port_at, refuses_in, is_some}
+use Rattle.link_walks.proofs.CallTerms.{slots_at, touches_at, is_only_live, slot_pair, StreamState, SubStream, lane_out}
+use Rattle.link_walks.proofs.CallTerms.{lane_in, touched_stream, IsSound, ReadsStream, device_calls, CallsAreTouches}
+use Rattle.link_history.specs.Plan.{key_of}
+use Rattle.ide_types.specs.declared.port.PortName.{PortName}
+use Rattle.ide_types.specs.declared.port.Side.{Side}
+use Rattle.key_laws.specs.Due.{PortView}
+use Rattle.link_verdicts.specs.declared.verdict.Operation.TheVariants as op
+use Rattle.link_walks.proofs.Settling.{outs, ins, with_slots, settle}
+use Rattle.link_walks.proofs.Slots.{only_live_is, is_refusal, first_call, second_call, is_of}
+use Rattle.link_walks.proofs.Streams.{one_if, calls_at, called_by, places_are, all_by, called_once, keyed_once}
+use Rattle.link_walks.proofs.Streams.{halted_once}
+use Rattle.link_walks.proofs.Touches.{AreTouched, touches_carried, touches_asked}
+use Rattle.link_walks.proofs.Exchanges.{calls_carried, kind_carried}
+use Rattle.link_walks.proofs.HostCalls.{host_stream_calls, calls_asked, kind_asked}
+
+-- ---- a place, with its key
+
+abbrev place_lane : Bool → PortName → ℕ → SubKind → SubStream
+place_lane true port stream u = lane_out port stream u
+place_lane false port stream u = lane_in port stream u
+
+same_key : (plan : Plan) (side : Side) (link stream draw : ℕ) (sends : Bool) (u : SubKind)
+    → lane_key plan draw (lane (place_at_end link stream sends side u))
+    ≡ key_of plan draw (place_lane sends (port_at side link) stream u)
+unfolding key_of
+same_key plan side link stream draw sends u = grind arith
+
+-- ---- all places
+
+-- by the kind of an operation's calls, one settling at the end is enough
+once : (o : Operation) (cs : List StreamCall) (x : StreamState) → IsSound x → all_by (is_of o) cs ≡ true
+    → all_called cs x ≡ called_once cs x
+once op.Establish cs x sound all = keyed_once cs x all sound.settled
+once op.Refresh cs x sound all = keyed_once cs x all sound.settled
+once op.Stop cs x sound all = halted_once cs x all sound.settled sound.waits
+
+module _ (plan : Plan) (ports : PortView) (link stream : ℕ) (w : Work) (r : Reach) (side : Side) (x : StreamState)
+    (sound : IsSound x)
+    (reads : ReadsStream ports side link stream x) where
+  -- a place at this end, and what it refuses
+  abbrev at : Bool → SubKind → KeyPlace
+  at sends u = place_at_end link stream sends side u
+
+  refused_is : (sends : Bool) (u : SubKind) → is_some (ports.refusal (at sends u) w.set)
+      ≡ is_only_live (slot_pair sends (slots_at sends u x)) w.set
+  refused_is sends u =
+      ap is_some (reads sends u w.set)
+      ∙ (is_refusal (refuses_in (slots_at sends u x) w.set)
+      ∙ sym (only_live_is sends (slots_at sends u x) w.set (sound.apart sends u)))
+
+  -- calls that are the operation's first and second at each place, and leave its slots as its touches do
+  all_touched : (cs : List StreamCall) (first second : Bool → SubKind → Bool) → all_by (is_of w.operation) cs ≡ true
+      → ((sends : Bool) (u : SubKind) → calls_at sends u cs
+      ≡ one_if (first sends u) (first_call w (lane_key plan w.draw (lane (at sends u))))
+      ++ one_if (second sends u) (second_call w))
+      → ((sends : Bool) (u : SubKind)
+      → AreTouched plan w r (at sends u) (place_lane sends (port_at side link) stream u)
+      (λ k. is_some (ports.refusal (at sends u) k))
+      (first sends u)
+      (second sends u) (slots_at sends u x))
+      → all_called cs x ≡ touched_stream plan (port_at side link) stream (λ u. touches_at ports w r (at true u))
+      (λ u. touches_at ports w r (at false u)) x
+  all_touched cs first second all calls touches =
+      let keyed = λ (sends : Bool) (u : SubKind). ap
+      (λ (key : List ℕ). one_if (first sends u) (first_call w key) ++ one_if (second sends u) (second_call w))
+      (same_key plan side link stream w.draw sends u) in
+      let after = λ (sends : Bool) (u : SubKind).
+      ap (λ (calls : List KeyCall). called_by sends calls (slots_at sends u x)) (calls sends u ∙ keyed sends u) ∙
+      touches
+      sends u in
+      once w.operation cs x sound all
+      ∙ (λ i. settle (with_slots (λ u. (places_are true u cs (outs x u) ∙ after true u) i)
+      (λ u. (places_are false u cs (ins x u) ∙ after false u) i) x))
+
+pub are_touches : CallsAreTouches
+are_touches plan ports link stream w r host device is reached host_sound device_sound host_reads device_reads = record {
+  host_touched =
+      all_touched plan ports link stream w r Host host host_sound host_reads (host_stream_calls plan stream w r) _ _
+      (kind_asked plan w stream r)
+      (λ sends u. calls_asked plan w link stream sends u r)
+      (λ sends u. touches_asked plan w link stream sends u r _ _ _
+      (refused_is plan ports link stream w r Host host host_sound host_reads sends u) reached.first reached.goes_on
+      reached.begins);
+  device_touched =
+      all_touched plan ports link stream w r Device device device_sound device_reads (device_calls plan w r) _ _
+      (kind_carried plan w (r.carried - w.first) w.first)
+      (λ sends u. calls_carried plan w link stream sends u r.carried reached.first
+      (omega (arith, reached.goes_on, reached.carried)) reached.last)
+      (λ sends u. touches_carried plan w.operation w.set w.draw w.first w.begins link stream sends u r _ _ _
+      (refused_is plan ports link stream w r Device device device_sound device_reads sends u));
+}

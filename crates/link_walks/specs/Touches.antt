@@ -1,0 +1,98 @@
+-- That the calls of an event, one after another, do what its touches do, which the machine of links makes at once.
+use Rattle.std.specs.Prelude.{ℕ, ◌≡◌, ◌≢◌, ◌+◌, ◌-◌, ◌≤◌, Bool, true, false, not, List, [], ◌++◌, if◌then◌else◌}
+use Rattle.ide_types.specs.declared.sub.SubKind.{SubKind}
+use Rattle.ide_types.specs.declared.sub.SubKind.TheVariants.{Pr}
+use Rattle.ide_types.specs.declared.port.Side.{Side}
+use Rattle.ide_types.specs.declared.port.Side.TheVariants.{Host, Device}
+use Rattle.ide_plan.specs.declared.plan.Plan.{Plan}
+use Rattle.key_slots.specs.{new_pool}
+use Rattle.ide_km.specs.{PlaceCall}
+use Rattle.key_laws.specs.Operations.{Op, Work, Reach, work_of, last_exchange_of, makes_draw}
+use Rattle.link_verdicts.specs.declared.verdict.Operation.{Operation}
+use Rattle.key_laws.specs.History.{is_within, go_at}
+use Rattle.key_laws.specs.Places.{key_place_at}
+use Rattle.key_laws.specs.Keys.{refusal_if}
+use Rattle.key_laws.specs.Due.{PortView}
+use Rattle.tsm_host.specs.Local.{goes}
+use Rattle.tsm_host.specs.Streams.{begun_calls}
+use Rattle.stream_rules.specs.Stream.{Live, Armed, Slots, StreamState, LiveKey, slot_in_set, at_sub}
+use Rattle.stream_rules.specs.Slots.{is_live_slot, settled_stream, slots_at}
+use Rattle.link_ports.specs.Machine.{port_at, place_at_end, refuses_in, touches_at}
+use Rattle.link_ports.specs.Touches.{touched_stream}
+use Rattle.link_walks.specs.Calls.{StreamCall, all_called, all_called_at, exchanges_called}
+
+-- ---- what is known of a stream at a port
+
+-- two Live keys are of different draws
+abbrev pub DrawsApart : Slots → Type 0
+DrawsApart s = (x y : LiveKey) → s.first ≡ Live x → s.second ≡ Live y → x.draw ≢ y.draw
+
+-- a key waits only beside a Live one
+abbrev pub WaitsBesideLive : Slots → Type 0
+WaitsBesideLive s =
+    (k : Bool) (draw : ℕ) (key : List ℕ) → slot_in_set s k ≡ Armed draw key → is_live_slot (slot_in_set s (not k))
+    ≡ true
+
+-- counts are 0 in a direction without a Live key, and a failure stands only beside one
+pub record IsSound (x : StreamState) : Type 0 where
+  pub settled : settled_stream x.tx x.rx x.failed ≡ x
+  pub apart : (sends : Bool) (u : SubKind) → DrawsApart (slots_at sends u x)
+  pub waits : (u : SubKind) → WaitsBesideLive (at_sub x.tx u).slots
+  pub none_waits : (u : SubKind) (k : Bool) (draw : ℕ) (key : List ℕ)
+      → slot_in_set (at_sub x.rx u).slots k ≢ Armed draw key
+
+-- what an operation reads of the ports is what this stream says
+abbrev pub ReadsStream : PortView → Side → ℕ → ℕ → StreamState → Type 0
+ReadsStream ports side link stream x =
+    (sends : Bool) (u : SubKind) (k : Bool) → ports.refusal (place_at_end link stream sends side u) k
+    ≡ refusal_if (refuses_in (slots_at sends u x) k)
+
+-- ---- the calls of an event
+
+-- the exchange after which the host's port gets its GOs
+abbrev pub host_go : Operation → ℕ
+host_go o = go_at o (key_place_at Host 0 0 false Pr)
+
+-- the host's local calls: those with which the operation begins, and its GOs after the last of the device's receivers
+abbrev pub host_calls : Plan → ℕ → Work → Reach → List PlaceCall
+host_calls plan stream w r =
+    begun_calls w (new_pool plan.pool) stream
+    ++ (if makes_draw w.operation then (if is_within w.first (host_go w.operation) r.acknowledged then goes stream w.set
+    else []) else [])
+
+-- the device's calls are those of the exchanges that were carried
+abbrev pub device_calls : Plan → Work → Reach → List StreamCall
+device_calls plan w r = exchanges_called plan w w.first (r.carried - w.first)
+
+-- how far an event of an operation comes
+pub record IsReached (w : Work) (r : Reach) : Type 0 where
+  pub first : 1 ≤ w.first
+  pub begins : w.begins ≡ true → w.first ≡ 1
+  pub goes_on : w.first ≤ r.acknowledged
+  pub carried : r.acknowledged ≤ r.carried
+  pub last : r.carried ≤ last_exchange_of w.operation + 1
+
+-- an operation in a state of the stream
+abbrev pub IsWork : Work → Type 0
+IsWork w = (o : Operation) × (q : Op) × (next : ℕ) × (w ≡ work_of o q next)
+
+-- ---- the law
+
+-- The calls at a port, one after another, leave the stream as the touches of the event do.
+pub record AreTouches (plan : Plan) (ports : PortView) (link stream : ℕ) (w : Work) (r : Reach) (host device :
+    StreamState) : Type 0 where
+  pub host_touched : all_called_at Host (host_calls plan stream w r) host
+      ≡ touched_stream plan (port_at Host link) stream
+      (λ u. touches_at ports w r (place_at_end link stream true Host u))
+      (λ u. touches_at ports w r (place_at_end link stream false Host u)) host
+  pub device_touched : all_called (device_calls plan w r) device
+      ≡ touched_stream plan (port_at Device link) stream
+      (λ u. touches_at ports w r (place_at_end link stream true Device u))
+      (λ u. touches_at ports w r (place_at_end link stream false Device u)) device
+
+abbrev pub CallsAreTouches : Type 0
+CallsAreTouches =
+    (plan : Plan) (ports : PortView) (link stream : ℕ) (w : Work) (r : Reach) (host device : StreamState)
+    → IsWork w → IsReached w r → IsSound host → IsSound device
+    → ReadsStream ports Host link stream host → ReadsStream ports Device link stream device
+    → AreTouches plan ports link stream w r host device
