@@ -345,7 +345,7 @@ sub-bytes s =
     at-byte (sub_bytes s) (r + 4 * ((c + r) % 4))
     (state_of-bytes (λ r c. sbox (cell s r c)) (λ r c. sbox-byte (cell s r c))))
 
-length-added : (w s : List ℕ) → length (add_round_key w s) ≡ 16
+pub length-added : (w s : List ℕ) → length (add_round_key w s) ≡ 16
 unfolding add_round_key
 length-added w s = refl
 

@@ -6,3 +6,4 @@ pub mod Rounds
 pub mod Numbers
 pub mod Blocks
 pub mod Vectors
+pub mod Halves

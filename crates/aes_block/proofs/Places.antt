@@ -60,11 +60,11 @@ of_16 P each (a ∷ b ∷ c ∷ d ∷ e ∷ f ∷ g ∷ h ∷ i ∷ j ∷ k ∷ 
 of_16 P each (a ∷ b ∷ c ∷ d ∷ e ∷ f ∷ g ∷ h ∷ i ∷ j ∷ k ∷ l ∷ m ∷ n ∷ o ∷ p ∷ q ∷ more) long = absurd
     (omega (arith, long))
 
-pub low_map : (v : List ℕ) → IsVector v → zip2 bit_and v (replicate 16 15) ≡ map low v
-low_map v fits = zip2_splat bit_and v 16 15 fits.0
+pub low_map : {n : ℕ} (v : List ℕ) → length v ≡ n → zip2 bit_and v (replicate n 15) ≡ map low v
+low_map {n} v long = zip2_splat bit_and v n 15 long
 
-pub high_map : (v : List ℕ) → IsVector v → zip2 (λ a b. a / 2 ^ b) v (replicate 16 4) ≡ map high v
-high_map v fits = zip2_splat (λ a b. a / 2 ^ b) v 16 4 fits.0
+pub high_map : {n : ℕ} (v : List ℕ) → length v ≡ n → zip2 (λ a b. a / 2 ^ b) v (replicate n 4) ≡ map high v
+high_map {n} v long = zip2_splat (λ a b. a / 2 ^ b) v n 4 long
 
 -- one function of each lane after another
 pub after : (f g : ℕ → ℕ) (v at r : List ℕ) → r ≡ map f at → at ≡ map g v → r ≡ map (λ x. f (g x)) v

@@ -2,7 +2,7 @@
 -- instructions, 2009). A byte is kept as its code, the two parts, of 4 bits each, of an element of a field of degree 2
 -- over one of 16 elements; inverses come from tables of 16 entries. A place from 128 on stands for no entry, and
 -- gives 0.
-use Rattle.std.specs.Prelude.{◌≡◌, ◌<◌, ℕ, Bool, length, map, ◌/◌, List, [], ◌∷◌, get_or, cond, leb, ltb, bit_and}
+use Rattle.std.specs.Prelude.{◌≡◌, ◌<◌, ℕ, Bool, length, map, ◌/◌, List, [], ◌∷◌, ◌++◌, get_or, cond, leb, ltb, bit_and}
 use Rattle.std.specs.Prelude.{bit_xor, ◌||◌}
 use Rattle.aes_block.specs.declared.RoundKey.{RoundKey}
 use mir.Val.{Fits}
@@ -92,6 +92,10 @@ IsVector v = (length v ≡ 16) × Each1 (Fits w8) v
 -- v has the codes of the block s
 abbrev pub IsCoded : List ℕ → List ℕ → Type 0
 IsCoded s v = IsVector s × (v ≡ map code s)
+
+-- v has the codes of the blocks s and t, one after the other
+abbrev pub AreCoded : List ℕ → List ℕ → List ℕ → Type 0
+AreCoded s t v = IsVector s × IsVector t × (v ≡ map code s ++ map code t)
 
 -- a byte of the words of a round, as a round with MixColumns and the last round add it: with the constant of the S-box
 unfoldable pub key_code : ℕ → ℕ

@@ -11,8 +11,10 @@ ghost use Rattle.aes_block.specs.Nibbles.{AreRoundKeys};
 ghost use Rattle.aes_block.specs.Aes.{aes, round_key, round_words, sub_word, temp};
 
 mod lanes;
+mod pairs;
 
 use lanes::{coded, first_round, last_round, round, sub_bytes};
+pub use pairs::side_by_side;
 use std::marker::Model;
 use std::simd::prelude::*;
 
@@ -135,24 +137,20 @@ impl Aes256 {
         last_round(s, self.round_keys[14].bytes)
     }
 
-    // The cipher's outputs at two blocks, whose rounds go side by side.
+    // The cipher's outputs at two blocks, in the halves of one vector.
     #[inline(always)]
     fn output_two(&self, a: u8x16, b: u8x16) -> (u8x16, u8x16)
         ensures first { result.0 ≡ aes self.now a }
         ensures second { result.1 ≡ aes self.now b }
     {
-        let mut s = first_round(a, self.round_keys[0].bytes);
-        let mut t = first_round(b, self.round_keys[0].bytes);
+        let mut s = pairs::first_round(a, b, self.round_keys[0].bytes);
         'rounds: for n in 1..14 {
-            let k = self.round_keys[n].bytes;
-            s = round(s, k);
-            t = round(t, k);
+            s = pairs::round(s, self.round_keys[n].bytes);
         }
-        let k = self.round_keys[14].bytes;
-        (last_round(s, k), last_round(t, k))
+        pairs::last_round(s, self.round_keys[14].bytes)
     }
 
-    // The same at four blocks.
+    // The same at four blocks, in two vectors.
     #[inline(always)]
     fn output_four(&self, a: u8x16, b: u8x16, c: u8x16, d: u8x16) -> (u8x16, u8x16, u8x16, u8x16)
         ensures first { result.0 ≡ aes self.now a }
@@ -160,24 +158,17 @@ impl Aes256 {
         ensures third { result.2 ≡ aes self.now c }
         ensures fourth { result.3 ≡ aes self.now d }
     {
-        let mut s = first_round(a, self.round_keys[0].bytes);
-        let mut t = first_round(b, self.round_keys[0].bytes);
-        let mut u = first_round(c, self.round_keys[0].bytes);
-        let mut v = first_round(d, self.round_keys[0].bytes);
+        let mut s = pairs::first_round(a, b, self.round_keys[0].bytes);
+        let mut t = pairs::first_round(c, d, self.round_keys[0].bytes);
         'rounds: for n in 1..14 {
             let k = self.round_keys[n].bytes;
-            s = round(s, k);
-            t = round(t, k);
-            u = round(u, k);
-            v = round(v, k);
+            s = pairs::round(s, k);
+            t = pairs::round(t, k);
         }
         let k = self.round_keys[14].bytes;
-        (
-            last_round(s, k),
-            last_round(t, k),
-            last_round(u, k),
-            last_round(v, k),
-        )
+        let s = pairs::last_round(s, k);
+        let t = pairs::last_round(t, k);
+        (s.0, s.1, t.0, t.1)
     }
 
     /// The cipher's output at a block of 16 bytes (FIPS 197 section 5.1).

@@ -13,6 +13,7 @@ use Rattle.std.proofs.lemmas.List.{get_or-take, get_or_past, length-take, length
 use Rattle.std.proofs.Math.Nat.{pow-suc, mod-eq_of_lt}
 use lib.Arith.{digits_lt}
 use lib.Bits.{xor_comm, xor_assoc, xor_block, xor_shifted, xor_zero_l, xor_zero_r}
+use Rattle.std.proofs.lemmas.Simd.{length-zip2}
 use lib.Lanes.{Each1, zip2, pick_l}
 use Rattle.aes_block.specs.Nibbles.{IsVector}
 use Rattle.aes_block.proofs.Blocks.{byte_at-byte}
@@ -312,7 +313,7 @@ joined-two xs ys e =
     ∙ ap (λ (l : List ℕ). bit_xor (joined_bytes l) (joined_bytes ys)) (append-nil xs)
 
 -- the sum of two such sums: p and q are the next bytes, s the sum so far
-pub sums-next : (f g : ℕ → ℕ → ℕ) (a b p q : List ℕ) (s t : ℕ) → length a ≡ 16 → length b ≡ 16
+sums-next : (f g : ℕ → ℕ → ℕ) (a b p q : List ℕ) (s t : ℕ) → length a ≡ 16 → length b ≡ 16
     → p ≡ map (f (15 - t)) a → q ≡ map (g (15 - t)) b
     → s ≡ bit_xor (moved_sum f a t) (moved_sum g b t)
     → bit_xor (joined_bytes (zip2 bit_xor p q)) (raised 8 s) ≡ bit_xor (moved_sum f a (t + 1)) (moved_sum g b (t + 1))
@@ -324,3 +325,29 @@ sums-next f g a b p q s t la lb ep eq es =
     ∙ (λ i. bit_xor (joined-two m n long i) (raised-xor 8 (moved_sum f a t) (moved_sum g b t) i))
     ∙ xor_four (joined_bytes m) (joined_bytes n) (raised 8 (moved_sum f a t)) (raised 8 (moved_sum g b t))
     ∙ (λ i. bit_xor (sum-next f a t i) (sum-next g b t i))
+
+-- the sum of four such sums, of a and c and of b and d
+abbrev pub four_sums : (f g k l : ℕ → ℕ → ℕ) (a b c d : List ℕ) (t : ℕ) → ℕ
+four_sums f g k l a b c d t =
+    bit_xor (bit_xor (moved_sum f a t) (moved_sum k c t)) (bit_xor (moved_sum g b t) (moved_sum l d t))
+
+pub four-next : (f g k l : ℕ → ℕ → ℕ) (a b c d : List ℕ) (s t : ℕ) → length a ≡ 16 → length b ≡ 16 → length c ≡ 16
+    → length d ≡ 16 → s ≡ four_sums f g k l a b c d t
+    → bit_xor (joined_bytes (zip2 bit_xor (zip2 bit_xor (map (f (15 - t)) a) (map (k (15 - t)) c))
+    (zip2 bit_xor (map (g (15 - t)) b) (map (l (15 - t)) d)))) (raised 8 s)
+    ≡ four_sums f g k l a b c d (t + 1)
+four-next f g k l a b c d s t la lb lc ld e =
+    let n : ℕ = 15 - t in
+    let long : (f : ℕ → ℕ) (v : List ℕ) → length v ≡ 16 → length (map f v) ≡ 16 = λ f v e. length-map v f ∙ e in
+    let sum : (f g : ℕ → ℕ) (v w : List ℕ) → length v ≡ 16 → length w ≡ 16
+    → length (zip2 bit_xor (map f v) (map g w)) ≡ 16 =
+    λ f g v w lv lw. length-zip2 bit_xor (map f v) (map g w) (long f v lv ∙ sym (long g w lw)) ∙ long f v lv in
+    let p : List ℕ = zip2 bit_xor (map (f n) a) (map (k n) c) in
+    let q : List ℕ = zip2 bit_xor (map (g n) b) (map (l n) d) in
+    let x : ℕ = bit_xor (moved_sum f a t) (moved_sum k c t) in
+    let y : ℕ = bit_xor (moved_sum g b t) (moved_sum l d t) in
+    (λ i. bit_xor (joined-two p q (sum (f n) (k n) a c la lc ∙ sym (sum (g n) (l n) b d lb ld)) i)
+    ((ap (raised 8) e ∙ raised-xor 8 x y) i))
+    ∙ xor_four (joined_bytes p) (joined_bytes q) (raised 8 x) (raised 8 y)
+    ∙ (λ i. bit_xor (sums-next f k a c (map (f n) a) (map (k n) c) x t la lc refl refl refl i)
+    (sums-next g l b d (map (g n) b) (map (l n) d) y t lb ld refl refl refl i))

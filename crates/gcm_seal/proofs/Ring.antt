@@ -19,7 +19,7 @@ use Rattle.gcm_seal.specs.Gcm.{sum_of_products, ghash, blocks, hash_input}
 use Rattle.gcm_seal.proofs.Strings.{hashed_blocks}
 use Rattle.std.specs.Int.{div_ceil}
 use Rattle.std.proofs.lemmas.List.Sums.{fold-append}
-use Rattle.gcm_seal.specs.Inside.{step_x, act, block_product, absorbed, padded_block, padded_blocks}
+use Rattle.gcm_seal.specs.Inside.{step_x, act, block_product, absorbed, padded_block, padded_blocks, sum_of_four}
 
 -- ---- xor
 
@@ -326,28 +326,52 @@ pub times-lt : (h v : ℕ) → h < 2 ^ 128 → block_product h v < 2 ^ 128
 unfolding block_product
 times-lt h v lt = act-lt (polynomial v) h lt
 
--- ---- two blocks at once
+-- ---- four blocks at once
 
 times-acts : (h v : ℕ) → h < 2 ^ 128 → v < 2 ^ 128 → block_product h v ≡ act (polynomial h) v
 times-acts h v hl vl = times-act h v hl ∙ ap (act (polynomial h)) (act-polynomial v vl)
 
--- the product with the square of h
-times-square : (h u : ℕ) → h < 2 ^ 128 → block_product (block_product h h) u ≡ block_product h (block_product h u)
+-- products one after another
+times-last : (g h u : ℕ) → g < 2 ^ 128 → h < 2 ^ 128
+    → block_product (block_product g h) u ≡ act (polynomial g) (block_product h u)
 unfolding block_product
-times-square h u hl =
-    act-act (polynomial u) (polynomial h) h
-    ∙ sym (times-acts h (block_product h u) hl (times-lt h u hl))
+times-last g h u gl hl = ap (act (polynomial u)) (times-acts g h gl hl) ∙ act-act (polynomial u) (polynomial g) h
+
+times-times : (g h u : ℕ) → g < 2 ^ 128 → h < 2 ^ 128
+    → block_product (block_product g h) u ≡ block_product g (block_product h u)
+times-times g h u gl hl =
+    times-last g h u gl hl ∙ sym (times-acts g (block_product h u) gl (times-lt h u hl))
 
 times-sum : (h a b : ℕ) → block_product h (bit_xor a b) ≡ bit_xor (block_product h a) (block_product h b)
 unfolding block_product
 times-sum h a b =
     ap (λ (p : List Bool). act p h) (polynomial-xor a b) ∙ act-plus (polynomial a) (polynomial b) h
 
+-- the product with the square, and one more
 pub two-products : (h u w : ℕ) → h < 2 ^ 128
     → bit_xor (block_product (block_product h h) u) (block_product h w)
     ≡ block_product h (bit_xor (block_product h u) w)
 two-products h u w hl =
-    ap (λ (x : ℕ). bit_xor x (block_product h w)) (times-square h u hl) ∙ sym (times-sum h (block_product h u) w)
+    ap (λ (x : ℕ). bit_xor x (block_product h w)) (times-times h h u hl hl) ∙ sym (times-sum h (block_product h u) w)
+
+xor_turned : (a b c : ℕ) → bit_xor (bit_xor a b) c ≡ bit_xor (bit_xor a c) b
+xor_turned a b c = xor_assoc a b c ∙ ap (bit_xor a) (xor_comm b c) ∙ sym (xor_assoc a c b)
+
+pub four-products : (h a b c d : ℕ) → h < 2 ^ 128
+    → sum_of_four h a b c d
+    ≡ block_product h (bit_xor (block_product h (bit_xor (block_product h (bit_xor (block_product h a) b)) c)) d)
+four-products h a b c d hl =
+    let g : ℕ = block_product h h in
+    let gl : g < 2 ^ 128 = times-lt h h hl in
+    let x : ℕ = bit_xor (block_product g a) c in
+    let y : ℕ = block_product h b in
+    let e : ℕ = block_product h d in
+    (λ i. bit_xor (two-products g a c gl i) (bit_xor (times-times g h b gl hl i) e))
+    ∙ sym (xor_assoc (block_product g x) (block_product g y) e)
+    ∙ ap (λ (z : ℕ). bit_xor z e) (sym (times-sum g x y))
+    ∙ two-products h (bit_xor x y) d hl
+    ∙ ap (λ (z : ℕ). block_product h (bit_xor (block_product h z) d))
+    (xor_turned (block_product g a) c y ∙ ap (λ (z : ℕ). bit_xor z c) (two-products h a b hl))
 
 -- h times the sum of y and x
 times-xor : (h y x : ℕ) → h < 2 ^ 128 → y < 2 ^ 128

@@ -73,6 +73,16 @@ row_at rows j = get_or rows j (record { upper = []; lower = [] })
 abbrev pub AreRows : BlockNumber → List Row → Type 0
 AreRows h rows = (j : ℕ) → j < 16 → IsRow h j (row_at rows j)
 
--- the rows of h and of its square
+-- the rows of h and of its powers
 abbrev pub AreMultiples : BlockNumber → Multiples → Type 0
-AreMultiples h m = AreRows h m.first × AreRows (block_product h h) m.second
+AreMultiples h m =
+    let square = block_product h h in
+    AreRows h m.first × AreRows square m.second × AreRows (block_product square h) m.third
+    × AreRows (block_product square square) m.fourth
+
+-- the products of four blocks with the powers of h, the fourth first, added up
+abbrev pub sum_of_four : BlockNumber → BlockNumber → BlockNumber → BlockNumber → BlockNumber → BlockNumber
+sum_of_four h a b c d =
+    let square = block_product h h in
+    bit_xor (bit_xor (block_product (block_product square square) a) (block_product square c))
+    (bit_xor (block_product (block_product square h) b) (block_product h d))

@@ -1,15 +1,17 @@
 //! GHASH of blocks (SP 800-38D section 6.4) by look-ups of 4 bits within vectors: the code is written so that no
 //! address in memory and no branch depends on the hash key or on a block.
 
-ghost use Rattle.std.specs.Prelude.{◌≡◌, ℕ, T, ◌+◌, ◌*◌, ◌^◌, ◌<◌, ◌≤◌, ◌==◌, ◌||◌, ◌++◌, bit_xor, length, map};
+ghost use Rattle.std.specs.Prelude.{◌≡◌, ℕ, List, T, ◌+◌, ◌*◌, ◌^◌, ◌<◌, ◌≤◌, ◌==◌, ◌||◌, ◌++◌, bit_xor, length, map};
 ghost use Rattle.std.specs.Prelude.{◌/◌, slice_index, take, ◌∷◌};
 ghost use Rattle.std.specs.Int.{div_ceil, from_be_bytes, to_be_bytes, w128};
-ghost use lib.Lanes.{Each1};
+ghost use lib.Lanes.{Each1, zip2};
 ghost use Rattle.aes_block.specs.Nibbles.{IsVector, entry_of};
 ghost use Rattle.gcm_seal.specs.Inside.{AreMultiples, AreRows, AreSteps, IsRow, IsTable, absorbed, block_product};
 ghost use Rattle.gcm_seal.specs.Inside.{byte_product, joined_bytes, padded_block, padded_blocks, raised, step_x};
+ghost use Rattle.gcm_seal.specs.Inside.{sum_of_four};
 
 use crate::MAX_BYTES;
+use aes_block::side_by_side;
 use std::simd::prelude::*;
 
 // x^128 modulo the polynomial, 1 + x + x^2 + x^7, as a block.
@@ -87,27 +89,15 @@ const ONE: [u8; 16] = [
     128, 0, 128, 0, 128, 0, 128, 0, 128, 0, 128, 0, 128, 0, 128, 0,
 ];
 
-// Byte `j` of `v` in the lanes in which `unset` is 0, and 0 in those in which it is 128.
+// Byte `j` of `v` in the lanes in which `unset` is 0, and 0 in those in which it is 128; and the same of `w`.
 #[inline(always)]
-fn chosen(v: u8x16, unset: u8x16, j: u8) -> u8x16
+fn chosen(v: u8x16, w: u8x16, unset: u8x16, j: u8) -> u8x32
     requires index { j < 16 }
     requires places { Each1 (λ s. T (s == 0 || s == 128)) unset }
-    ensures { result ≡ map (λ s. entry_of v (bit_xor s j)) unset }
+    ensures { result ≡ map (λ s. entry_of v (bit_xor s j)) unset ++ map (λ s. entry_of w (bit_xor s j)) unset }
 {
-    v.swizzle_dyn(unset ^ u8x16::splat(j))
-}
-
-// Byte `j` of the multiples of a block by the polynomials of 4 bits.
-#[inline(always)]
-fn table(s: &Steps, j: u8) -> u8x16
-    requires { j < 16 }
-    ensures { (b : ℕ) → AreSteps b s.now → IsTable b j result }
-{
-    let upper = chosen(s.once, u8x16::from_array(EIGHT), j)
-        ^ chosen(s.by_x, u8x16::from_array(FOUR), j);
-    let lower = chosen(s.by_x2, u8x16::from_array(TWO), j)
-        ^ chosen(s.by_x3, u8x16::from_array(ONE), j);
-    upper ^ lower
+    let at = side_by_side(unset, unset) ^ u8x32::splat(j);
+    side_by_side(v, w).swizzle_dyn_within::<16>(at)
 }
 
 // A byte of the multiples of a block by the upper 4 bits of a byte, and by the lower.
@@ -115,6 +105,23 @@ fn table(s: &Steps, j: u8) -> u8x16
 struct Row {
     upper: u8x16,
     lower: u8x16,
+}
+
+// Byte `j` of the multiples of two blocks by the polynomials of 4 bits.
+#[inline(always)]
+fn row_of(s: &Steps, t: &Steps, j: u8) -> Row
+    requires { j < 16 }
+    ensures { (b c : ℕ) → AreSteps b s.now → AreSteps c t.now → IsTable b j result.upper × IsTable c j result.lower }
+{
+    let first = chosen(s.once, t.once, u8x16::from_array(EIGHT), j)
+        ^ chosen(s.by_x, t.by_x, u8x16::from_array(FOUR), j);
+    let second = chosen(s.by_x2, t.by_x2, u8x16::from_array(TWO), j)
+        ^ chosen(s.by_x3, t.by_x3, u8x16::from_array(ONE), j);
+    let both = first ^ second;
+    Row {
+        upper: both.extract::<0, 16>(),
+        lower: both.extract::<16, 16>(),
+    }
 }
 
 fn rows(h: u128) -> [Row; 16]
@@ -128,30 +135,35 @@ fn rows(h: u128) -> [Row; 16]
     };
     let mut rows = [none; 16];
     for j in 0..16u8 {
-        rows[j as usize] = Row {
-            upper: table(&upper, j),
-            lower: table(&lower, j),
-        };
+        rows[j as usize] = row_of(&upper, &lower, j);
     }
     rows
 }
 
-/// The 16 bytes of the multiples of a hash key and of its square, ready for products with two blocks at once.
+/// The 16 bytes of the multiples of a hash key and of its powers up to the fourth, ready for products with four blocks
+/// at once.
 #[derive(Drop)]
 pub struct Multiples {
     first: [Row; 16],
     second: [Row; 16],
+    third: [Row; 16],
+    fourth: [Row; 16],
 }
 
-/// The multiples of `h`, which take 1 KiB.
+/// The multiples of `h`, which take 2 KiB.
 pub fn multiples_of(h: u128) -> Multiples
     ensures { AreMultiples h result }
 {
     let first = rows(h);
     let square = product_of(&first, h);
+    let second = rows(square);
+    let cube = product_of(&second, h);
+    let fourth = product_of(&second, square);
     Multiples {
         first,
-        second: rows(square),
+        second,
+        third: rows(cube),
+        fourth: rows(fourth),
     }
 }
 
@@ -163,6 +175,26 @@ fn partial(row: &Row, v: u8x16) -> u8x16
     let upper = v >> u8x16::splat(4);
     let lower = v & u8x16::splat(15);
     row.upper.swizzle_dyn(upper) ^ row.lower.swizzle_dyn(lower)
+}
+
+// The same of two blocks, with a row for each.
+#[inline(always)]
+fn partial_two(a: &Row, b: &Row, v: u8x32) -> u8x32
+    ensures { (g h j : ℕ) (x y : List ℕ) → IsVector x → IsVector y → v ≡ x ++ y → IsRow g j a.now → IsRow h j b.now
+        → result ≡ map (byte_product g j) x ++ map (byte_product h j) y }
+{
+    let upper = v >> u8x32::splat(4);
+    let lower = v & u8x32::splat(15);
+    side_by_side(a.upper, b.upper).swizzle_dyn_within::<16>(upper)
+        ^ side_by_side(a.lower, b.lower).swizzle_dyn_within::<16>(lower)
+}
+
+// The sum of the halves of a vector.
+#[inline(always)]
+fn folded(v: u8x32) -> u8x16
+    ensures { (a b : List ℕ) → length a ≡ 16 → length b ≡ 16 → v ≡ a ++ b → result ≡ zip2 bit_xor a b }
+{
+    v.extract::<0, 16>() ^ v.extract::<16, 16>()
 }
 
 const UP: [usize; 16] = [
@@ -225,17 +257,21 @@ pub fn times(m: &Multiples, x: u128) -> u128
     product_of(&m.first, x)
 }
 
-// The sum of the products of `a` and the square of the hash key, and of `b` and the hash key.
-fn times_two(m: &Multiples, a: u8x16, b: u8x16) -> u128
+// The sum of the products of `a`, `b`, `c` and `d` with the hash key to the powers of 4, 3, 2 and 1.
+fn times_four(m: &Multiples, a: u8x16, b: u8x16, c: u8x16, d: u8x16) -> u128
     ensures { (h : ℕ) → h < 2 ^ 128 → AreMultiples h m.now
-        → result ≡ bit_xor (block_product (block_product h h) (from_be_bytes w128 a))
-        (block_product h (from_be_bytes w128 b)) }
+        → result ≡ sum_of_four h (from_be_bytes w128 a) (from_be_bytes w128 b) (from_be_bytes w128 c)
+        (from_be_bytes w128 d) }
 {
+    let front = side_by_side(a, b);
+    let back = side_by_side(c, d);
     let mut low = u8x16::splat(0);
     let mut high = u8x16::splat(0);
     for i in 0..16usize {
-        let next = partial(&m.second[15 - i], a) ^ partial(&m.first[15 - i], b);
-        let p = moved(low, high, next);
+        let j = 15 - i;
+        let next = partial_two(&m.fourth[j], &m.third[j], front)
+            ^ partial_two(&m.second[j], &m.first[j], back);
+        let p = moved(low, high, folded(next));
         low = p.0;
         high = p.1;
     }
@@ -274,15 +310,22 @@ fn added(y: u128, v: u8x16) -> u8x16
     vector_of(y) ^ v
 }
 
-// The hash `y` after blocks `i` and `i + 1` of `s`.
+// The hash `y` after the four blocks of `s` from block `i` on.
 #[inline(always)]
-fn absorb_two(m: &Multiples, y: u128, s: &[u8], i: usize) -> u128
-    requires { 16 * i + 16 < length s.now }
+fn absorb_four(m: &Multiples, y: u128, s: &[u8], i: usize) -> u128
+    requires { 16 * i + 48 < length s.now }
     ensures { (h : ℕ) → h < 2 ^ 128 → AreMultiples h m.now
-        → result ≡ block_product h (bit_xor (block_product h (bit_xor y (padded_block s.now i)))
-        (padded_block s.now (i + 1))) }
+        → result ≡ block_product h (bit_xor (block_product h (bit_xor (block_product h (bit_xor
+        (block_product h (bit_xor y (padded_block s.now i))) (padded_block s.now (i + 1))))
+        (padded_block s.now (i + 2)))) (padded_block s.now (i + 3))) }
 {
-    times_two(m, added(y, block_at(s, i)), block_at(s, i + 1))
+    times_four(
+        m,
+        added(y, block_at(s, i)),
+        block_at(s, i + 1),
+        block_at(s, i + 2),
+        block_at(s, i + 3),
+    )
 }
 
 // The hash `y` after a block.
@@ -294,20 +337,6 @@ fn absorb_one(m: &Multiples, y: u128, v: u8x16) -> u128
     product(&m.first, added(y, v))
 }
 
-// The hash `x` after the last of `n` blocks of `s`, if two at a time leave one over.
-#[inline(always)]
-fn absorb_odd(m: &Multiples, x: u128, s: &[u8], n: usize) -> u128
-    requires { 16 * n < length s.now + 16 }
-    ensures { (h y : ℕ) → h < 2 ^ 128 → AreMultiples h m.now
-        → x ≡ absorbed h y (padded_blocks s.now (2 * (n / 2)))
-        → result ≡ absorbed h y (padded_blocks s.now n) }
-{
-    if n % 2 == 1 {
-        return absorb_one(m, x, block_at(s, n - 1));
-    }
-    x
-}
-
 /// The hash `y` after the blocks of `s`.
 pub fn absorb(m: &Multiples, y: u128, s: &[u8]) -> u128
     requires { length s.now ≤ MAX_BYTES }
@@ -316,8 +345,11 @@ pub fn absorb(m: &Multiples, y: u128, s: &[u8]) -> u128
 {
     let n = (s.len() + 15) / 16;
     let mut x = y;
-    for i in 0..n / 2 {
-        x = absorb_two(m, x, s, 2 * i);
+    'fours: for i in 0..n / 4 {
+        x = absorb_four(m, x, s, 4 * i);
     }
-    absorb_odd(m, x, s, n)
+    'rest: for i in 4 * (n / 4)..n {
+        x = absorb_one(m, x, block_at(s, i));
+    }
+    x
 }

@@ -55,7 +55,7 @@ fn combine_two(buf: &mut [u8], first: u8x16, second: u8x16)
 }
 
 /// A key of 32 bytes, prepared (SP 800-38D section 7.1, step 1): its key expansion, and what products with its hash
-/// subkey and with the square of that are looked up in. Contracts see the key.
+/// subkey and with the powers of that up to the fourth are looked up in. Contracts see the key.
 #[derive(Drop)]
 pub struct Gcm {
     cipher: Aes256,
@@ -208,7 +208,9 @@ impl Gcm {
     {
         let lengths = ((8 * a.len() as u128) << 64) + 8 * c.len() as u128;
         let y = absorb(&self.multiples, absorb(&self.multiples, 0, a), c);
-        let s = vector_of(times(&self.multiples, y ^ lengths)) ^ self.output(iv, 0);
+        // The cipher needs no hash: it runs while the processor waits for `y`.
+        let mask = self.output(iv, 0);
+        let s = vector_of(times(&self.multiples, y ^ lengths)) ^ mask;
         let t = s.to_array();
         [
             t[0], t[1], t[2], t[3], t[4], t[5], t[6], t[7], t[8], t[9], t[10], t[11],

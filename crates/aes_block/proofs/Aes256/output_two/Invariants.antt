@@ -1,10 +1,9 @@
 use Rattle.std.proofs.Common.{◌-◌}
 use Rattle.aes_block.specs.Aes.{round_words, rounds}
-use Rattle.aes_block.specs.Nibbles.{IsCoded}
+use Rattle.aes_block.specs.Nibbles.{AreCoded}
 use Rattle.aes_block.proofs.Aes256.output_two.Given as goal
 
 abbrev pub invariant-rounds : goal.invariant-rounds
-invariant-rounds l = record {
-  first : IsCoded (rounds (round_words l.self-inside.key) l.fn.a (l.n - 1)) l.s;
-  second : IsCoded (rounds (round_words l.self-inside.key) l.fn.b (l.n - 1)) l.t;
-}
+invariant-rounds l =
+    let ws = round_words l.self-inside.key in
+    AreCoded (rounds ws l.fn.a (l.n - 1)) (rounds ws l.fn.b (l.n - 1)) l.s

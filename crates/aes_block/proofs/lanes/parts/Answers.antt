@@ -7,15 +7,15 @@ use Rattle.aes_block.proofs.Places.{second_place_place, placed}
 use Rattle.aes_block.proofs.lanes.parts.Goals as goal
 
 pub look-scaled-requires : goal.look-scaled-requires
-look-scaled-requires c = placed low c.args.v _ c.fits-v.1 (low_map c.args.v c.fits-v) low_place
+look-scaled-requires c = placed low c.args.v _ c.fits-v.1 (low_map c.args.v c.fits-v.0) low_place
 
 pub look-requires : goal.look-requires
-look-requires c = placed high c.args.v _ c.fits-v.1 (high_map c.args.v c.fits-v) high_place
+look-requires c = placed high c.args.v _ c.fits-v.1 (high_map c.args.v c.fits-v.0) high_place
 
 pub look-requires-2 : goal.look-requires-2
 look-requires-2 c =
     let v = c.args.v in
-    placed nibble_sum v _ c.fits-v.1 (zip2_of_maps bit_xor low high v (low_map v c.fits-v) (high_map v c.fits-v))
+    placed nibble_sum v _ c.fits-v.1 (zip2_of_maps bit_xor low high v (low_map v c.fits-v.0) (high_map v c.fits-v.0))
     both_place
 
 pub look-requires-3 : goal.look-requires-3
@@ -23,8 +23,8 @@ look-requires-3 c =
     let v = c.args.v in
     placed first_place v _ c.fits-v.1
     (zip2_of_maps bit_xor (λ x. entry_of inverses (high x)) (λ x. entry_of scaled (low x)) v
-    (after (entry_of inverses) high v _ _ c.look.ensures (high_map v c.fits-v))
-    (after (entry_of scaled) low v _ _ c.look-scaled.ensures (low_map v c.fits-v)))
+    (after (entry_of inverses) high v _ _ c.look.ensures (high_map v c.fits-v.0))
+    (after (entry_of scaled) low v _ _ c.look-scaled.ensures (low_map v c.fits-v.0)))
     first_place_place
 
 pub look-requires-4 : goal.look-requires-4
@@ -33,8 +33,8 @@ look-requires-4 c =
     placed second_place v _ c.fits-v.1
     (zip2_of_maps bit_xor (λ x. entry_of inverses (nibble_sum x)) (λ x. entry_of scaled (low x)) v
     (after (entry_of inverses) nibble_sum v _ _ c.look-2.ensures
-    (zip2_of_maps bit_xor low high v (low_map v c.fits-v) (high_map v c.fits-v)))
-    (after (entry_of scaled) low v _ _ c.look-scaled.ensures (low_map v c.fits-v)))
+    (zip2_of_maps bit_xor low high v (low_map v c.fits-v.0) (high_map v c.fits-v.0)))
+    (after (entry_of scaled) low v _ _ c.look-scaled.ensures (low_map v c.fits-v.0)))
     second_place_place
 
 pub returns-clause-first : goal.returns-clause-first
@@ -44,9 +44,9 @@ returns-clause-first c =
     zip2_of_maps bit_xor (λ x. entry_of inverses (first_place x)) nibble_sum v
     (after (entry_of inverses) first_place v _ _ c.look-3.ensures
     (zip2_of_maps bit_xor (λ x. entry_of inverses (high x)) (λ x. entry_of scaled (low x)) v
-    (after (entry_of inverses) high v _ _ c.look.ensures (high_map v c.fits-v))
-    (after (entry_of scaled) low v _ _ c.look-scaled.ensures (low_map v c.fits-v))))
-    (zip2_of_maps bit_xor low high v (low_map v c.fits-v) (high_map v c.fits-v))
+    (after (entry_of inverses) high v _ _ c.look.ensures (high_map v c.fits-v.0))
+    (after (entry_of scaled) low v _ _ c.look-scaled.ensures (low_map v c.fits-v.0))))
+    (zip2_of_maps bit_xor low high v (low_map v c.fits-v.0) (high_map v c.fits-v.0))
 
 pub returns-clause-second : goal.returns-clause-second
 unfolding second_part
@@ -56,6 +56,6 @@ returns-clause-second c =
     (after (entry_of inverses) second_place v _ _ c.look-4.ensures
     (zip2_of_maps bit_xor (λ x. entry_of inverses (nibble_sum x)) (λ x. entry_of scaled (low x)) v
     (after (entry_of inverses) nibble_sum v _ _ c.look-2.ensures
-    (zip2_of_maps bit_xor low high v (low_map v c.fits-v) (high_map v c.fits-v)))
-    (after (entry_of scaled) low v _ _ c.look-scaled.ensures (low_map v c.fits-v))))
-    (high_map v c.fits-v)
+    (zip2_of_maps bit_xor low high v (low_map v c.fits-v.0) (high_map v c.fits-v.0)))
+    (after (entry_of scaled) low v _ _ c.look-scaled.ensures (low_map v c.fits-v.0))))
+    (high_map v c.fits-v.0)

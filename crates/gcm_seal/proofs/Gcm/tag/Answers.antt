@@ -31,8 +31,8 @@ returns c =
     let hash =
     c.times.ensures h hl are
     ∙ rw (c.absorb-y.ensures h hl are, c.absorb.ensures h hl are, whole) y in
-    let bytes : zip2 bit_xor c.vector_of.result c.output.result
+    let bytes : zip2 bit_xor c.vector_of.result c.output-mask.result
     ≡ to_be_bytes w128 (bit_xor x (from_be_bytes w128 (aes key first))) =
-    (λ i. zip2 bit_xor (c.vector_of.ensures i) (c.output.ensures i))
+    (λ i. zip2 bit_xor (c.vector_of.ensures i) (c.output-mask.ensures i))
     ∙ bytes-sum x (aes key first) (length-aes key first) (λ i. at-byte (aes key first) i (aes-bytes key first)) in
     ap first_twelve (bytes ∙ ap (λ (n : ℕ). to_be_bytes w128 (bit_xor n (from_be_bytes w128 (aes key first)))) hash)

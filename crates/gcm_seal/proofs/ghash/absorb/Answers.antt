@@ -4,29 +4,40 @@ use Rattle.gcm_seal.specs.Inside.{absorbed, block_product, padded_block, padded_
 use Rattle.gcm_seal.proofs.Ring.{absorbed-next}
 use Rattle.gcm_seal.proofs.ghash.absorb.Goals as goal
 
-pub loop-i-init : goal.loop-i-init
+pub fours-init : goal.fours-init
 unfolding padded_blocks
-loop-i-init c = λ h lt are. refl
+fours-init c = λ h lt are. refl
 
-pub loop-i-preserved : goal.loop-i-preserved
-loop-i-preserved c = λ h lt are.
+pub fours-preserved : goal.fours-preserved
+fours-preserved c = λ h lt are.
     let s = c.args.s.now in
     let y = c.args.y in
-    let i : ℕ = 2 * c.loop-i.i in
-    let next : i + 1 + 1 ≡ 2 * (c.loop-i.i + 1) = omega arith in
-    c.absorb_two-x.ensures h lt are
-    ∙ (λ k. block_product h (bit_xor
-    (((λ l. block_product h (bit_xor (c.loop-i.invariant h lt are l) (padded_block s i))) ∙ absorbed-next h y s i) k)
-    (padded_block s (i + 1))))
-    ∙ absorbed-next h y s (i + 1)
-    ∙ ap (λ (n : ℕ). absorbed h y (padded_blocks s n)) next
+    let i : ℕ = 4 * c.fours.i in
+    let two : i + 1 + 1 ≡ i + 2 = omega arith in
+    let three : i + 2 + 1 ≡ i + 3 = omega arith in
+    let next : i + 3 + 1 ≡ 4 * (c.fours.i + 1) = omega arith in
+    let more = λ (b e : ℕ) (is : b + 1 ≡ e) (x : ℕ) (held : x ≡ absorbed h y (padded_blocks s b)).
+    ap (λ (x : ℕ). block_product h (bit_xor x (padded_block s b))) held
+    ∙ absorbed-next h y s b
+    ∙ ap (λ (n : ℕ). absorbed h y (padded_blocks s n)) is in
+    c.absorb_four-x.ensures h lt are
+    ∙ more (i + 3) (4 * (c.fours.i + 1)) next _
+    (more (i + 2) (i + 3) three _ (more (i + 1) (i + 2) two _ (more i (i + 1) refl _ (c.fours.invariant h lt are))))
+
+pub rest-init : goal.rest-init
+rest-init c = λ h lt are.
+    let all : 4 * c.fours.i ≡ 4 * ((length c.args.s.now + 15) / 16 / 4) = omega arith in
+    c.fours.invariant h lt are ∙ ap (λ (n : ℕ). absorbed h c.args.y (padded_blocks c.args.s.now n)) all
+
+pub rest-preserved : goal.rest-preserved
+rest-preserved c = λ h lt are.
+    let s = c.args.s.now in
+    let i : ℕ = c.rest.i in
+    c.absorb_one-x.ensures h lt are
+    ∙ (λ k. block_product h (bit_xor (c.rest.invariant h lt are k) (c.block_at.ensures k)))
+    ∙ absorbed-next h c.args.y s i
 
 pub returns : goal.returns
 returns c = λ h lt are.
-    let s = c.args.s.now in
-    let y = c.args.y in
-    let all : 2 * c.loop-i.i ≡ 2 * ((length s + 15) / 16 / 2) = omega arith in
-    let count : (length s + 15) / 16 ≡ div_ceil (length s) 16 = omega arith in
-    c.absorb_odd.ensures h y lt are
-    (c.loop-i.invariant h lt are ∙ ap (λ (n : ℕ). absorbed h y (padded_blocks s n)) all)
-    ∙ ap (λ (n : ℕ). absorbed h y (padded_blocks s n)) count
+    let count : c.rest.i ≡ div_ceil (length c.args.s.now) 16 = omega arith in
+    c.rest.invariant h lt are ∙ ap (λ (n : ℕ). absorbed h c.args.y (padded_blocks c.args.s.now n)) count

@@ -16,12 +16,12 @@ loop-j-preserved c =
     let h : ℕ = c.args.h in
     let j : ℕ = c.loop-j.j in
     let rows = c.loop-j.rows in
-    let v : Row = record { upper = c.table.result; lower = c.table-in-loop-j.result } in
+    let v : Row = c.row_of.result in
     let long : j < length rows = omega (arith, c.loop-j.invariant.long) in
     let lower : AreSteps (raised 4 h) c.steps_of-lower.result =
     subst (λ b. AreSteps b c.steps_of-lower.result) c.times_x4.ensures c.steps_of-lower.ensures in
     let new : IsRow h j v =
-    (c.table.ensures h c.steps_of-upper.ensures, c.table-in-loop-j.ensures (raised 4 h) lower) in
+    c.row_of.ensures h (raised 4 h) c.steps_of-upper.ensures lower in
     record {
       long = length-set _ _ _ ∙ c.loop-j.invariant.long;
       made = λ k lt. elim (cases_lt k j) [
