@@ -6,6 +6,8 @@ use Rattle.ide_prefix.specs.declared.fault.PacketFault.{PacketFault}
 use Rattle.ide_prefix.specs.Reading.{CutValue}
 use Rattle.ide_port.specs.{take_step}
 use Rattle.all_ends.proofs.Finds.{ports_same, Keeps, KeepsEnds}
+use Rattle.accesses.specs.declared.link.LinkAccesses.{LinkAccesses}
+use Rattle.all_ends.specs.AllEnds.{standings_in}
 
 pub take_keeps : (e : PortEnd) (r : Result CutValue PacketFault) → Keeps e (take_step e r).port
 take_keeps e r = grind arith
@@ -28,3 +30,19 @@ pub keeps_taken : (side : Side) (e : PortEnd) (l : LinkEnds) → KeepsEnds l (wi
     → KeepsEnds l (taken_ends side e l)
 keeps_taken Host e l keeps = keeps
 keeps_taken Device e l keeps = record { host = keeps.host; device = keeps.device; requester = keeps.requester }
+
+-- settled by the port that bytes came to, the ends are as after the arrival
+pub settled_after : (side : Side) (e : PortEnd) (l : LinkEnds)
+    → taken_ends side (port_in side (with_port side e l)) (with_port side e l) ≡ taken_ends side e l
+settled_after Host e l = refl
+settled_after Device e l = refl
+
+pub port_there : (side : Side) (e : PortEnd) (l : LinkEnds) → port_in side (with_port side e l) ≡ e
+port_there Host e l = refl
+port_there Device e l = refl
+
+-- the interfaces stand as before it until they settle
+pub standings_there : (side : Side) (e : PortEnd) (l : LinkEnds) (a : LinkAccesses)
+    → standings_in (with_port side e l) a ≡ standings_in l a
+standings_there Host e l a = refl
+standings_there Device e l a = refl

@@ -43,7 +43,8 @@ by_test : (link n : ℕ) (l : LinkEnds) (ls : List LinkEnds) (at : ℕ × ℕ) (
 by_test link n l ls at true rest lt more is = first_located link n l ls at lt is
 by_test link n l ls at false rest lt more is = next_located link l ls at (more is)
 
-pub is_located : (link n : ℕ) (ends : List LinkEnds) (at : ℕ × ℕ) → located link n ends ≡ Some at → IsLocated ends link at
+pub is_located : (link n : ℕ) (ends : List LinkEnds) (at : ℕ × ℕ) → located link n ends ≡ Some at
+    → IsLocated ends link at
 is_located link n [] at is = absurd (none-some at is)
 is_located link n (l ∷ ls) at is =
     by_test link n l ls at (nat_lt n (length l.device.interfaces.interfaces))

@@ -4,7 +4,7 @@ use Rattle.all_ends.proofs.Terms.{arith, length-append, map, slice_range, sum_by
 use Rattle.all_ends.proofs.Terms.{drop-drop, drop-append-le, take-append-le, map-append, sum_by-cons, All-append}
 use Rattle.all_ends.proofs.Terms.{All-cons, All-nil, All-weaker, All-head, All-tail, PortName, LinkPacket}
 use Rattle.all_ends.proofs.Terms.{SealedPacket, cut_packets, marked_packet, IsWithin, marks_from}
-use Rattle.all_ends.specs.declared.packets.Mark.{Mark}
+use Rattle.all_ends.specs.declared.all_ends.Mark.{Mark}
 
 cut_at : (start n : ℕ) (all : List ℕ) → slice_range all start (start + n) ≡ take n (drop start all)
 cut_at start n all = let e : start + n - start ≡ n = omega arith in rw e refl

@@ -217,7 +217,8 @@ module _ (plan : Plan) (k : KeeperView) (packets : List LinkPacket) (link id : �
 
 -- ---- the state after it
 
-pub record IsDone (plan : Plan) (st : LinkState) (link id : ℕ) (q : Op) (host device : Found) (w : Work) (r : Option Reach)
+pub record IsDone (plan : Plan) (st : LinkState) (link id : ℕ) (q : Op) (host device : Found) (w : Work)
+    (r : Option Reach)
     (x : StreamEnds) (draws : ℕ) : Type 0 where
   pub host_is : x.host ≡ touched_by plan st link id w Host r host.state
   pub device_is : x.device ≡ touched_by plan st link id w Device r device.state

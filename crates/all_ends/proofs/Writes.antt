@@ -28,6 +28,7 @@ use Rattle.key_laws.specs.Keys.{Keyed, Off, Loaded, On, Keys}
 use Rattle.link_history.specs.Plan.{SubStream, lane_in, key_of, has_stream}
 use Rattle.link_history.specs.History.{Arrival as Arrives, keys_at}
 use Rattle.link_history.specs.Memory.{admitted_as, admitted, admitted_each, admitted_in}
+use Rattle.link_history.specs.Packets.{received_in}
 use Rattle.link_ports.specs.Stands.{rx_slot, rx_slots, receiving_key}
 unfoldable use Rattle.link_ports.specs.Stands.{standing}
 use Rattle.whole_machine.specs.Machine.{unit_taken, unit_found, unit_cut, unit_in}
@@ -35,7 +36,7 @@ use Rattle.ide_port.specs.Arrivals.{TakeStep, port_arrival, packet_step}
 use Rattle.ide_port.specs.declared.answer.Arrival.{Arrival}
 use Rattle.ide_port.specs.declared.answer.Arrival.TheVariants as came
 use Rattle.all_ends.specs.Writes.{writes_by}
-use Rattle.all_ends.specs.Verdicts.{head_write}
+use Rattle.all_ends.specs.Verdicts.{head_write, of_unit}
 use Rattle.all_ends.proofs.Finds.{IsPort, find_at, mode_at, closed_at}
 
 -- ---- one packet
@@ -146,31 +147,41 @@ module _ (x : StreamState) (p : Packet) where
 
 -- ---- an accepted unit
 
-module _ (plan : Plan) (grants : Grants) (port : PortName) (p : Packet) where
+-- what is given of a unit's packets as they came is what is given of them opened by the plan's key
+abbrev pub OpensAs : Plan → PortName → {A : Type 0} → (UnitName → List Packet → List A)
+    → (UnitName → List Packet → List A) → Type 0
+OpensAs plan port f g = (unit : UnitName) (ps : List Packet) → f unit ps
+    ≡ g unit (opened_from (key_of plan unit.draw (received_in port unit)) (iv_of unit.sub unit.unit) 0 ps)
+
+-- of the writes that are admitted
+writes_open : (plan : Plan) (grants : Grants) (port : PortName)
+    → OpensAs plan port (λ unit ps. admitted_in plan grants port unit ps)
+    (λ unit ps. map (packet_write plan.memory grants port unit) ps)
+unfolding open_of
+writes_open plan grants port unit ps =
+    each_opened plan grants port unit (key_of plan unit.draw (received_in port unit)) (iv_of unit.sub unit.unit) 0 ps
+
+module _ {A : Type 0} (plan : Plan) (port : PortName) (f g : UnitName → List Packet → List A)
+    (opens : OpensAs plan port f g) where
   -- the keys of the packet's sub-stream are the plan's
-  abbrev HasKeys : StreamState → Type 0
-  HasKeys x = (y : LiveKey) → first_key x p ≡ Some y
+  abbrev HasKeys : Packet → StreamState → Type 0
+  HasKeys p x = (y : LiveKey) → first_key x p ≡ Some y
       → y.key ≡ key_of plan y.draw (lane_in port p.prefix.stream p.prefix.sub)
 
-  -- the machine's writes of an arrival that gave this, and the port's
-  taken_same : (x : StreamState) (t : Taken) → HasKeys x → IsTaken x p t
-      → unit_writes (port_arrival p t) (λ unit. admitted_in plan grants port unit (unit_taken t))
-      ≡ unit_writes (port_arrival p t) (λ unit. map (packet_write plan.memory grants port unit) (opened_after x p t))
-  unfolding open_of
-  taken_same x (Accepted draw n ps) keys under =
+  -- by the machine, of an arrival that gave this, and by the port
+  taken_same : (p : Packet) (x : StreamState) (t : Taken) → HasKeys p x → IsTaken x p t
+      → of_unit (port_arrival p t) (λ unit. f unit (unit_taken t))
+      ≡ of_unit (port_arrival p t) (λ unit. g unit (opened_after x p t))
+  taken_same p x (Accepted draw n ps) keys under =
       let unit : UnitName = unit_name p draw n in
-      let iv : List ℕ = iv_of p.prefix.sub n in
       let s : SubStream = lane_in port p.prefix.stream p.prefix.sub in
       let y : LiveKey = under.key in
       let same : key_of plan draw s ≡ y.key =
       ap (λ (j : ℕ). key_of plan j s) under.draw_is ∙ sym (keys y under.live) in
-      ap (λ (key : List ℕ). admitted_each plan grants port unit (masked key iv 0 (encrypted ps)) ps) same
-      ∙ each_opened plan grants port unit y.key iv 0 ps
-      ∙ (λ i. map (packet_write plan.memory grants port unit)
-      (opened_from y.key (iv_of p.prefix.sub (under.unit_is i)) 0 ps))
-      ∙ ap (λ (o : Option LiveKey). map (packet_write plan.memory grants port unit) (opened_under o p.prefix.sub ps))
-      (sym under.live)
-  taken_same x t keys under = refl
+      opens unit ps
+      ∙ (λ i. g unit (opened_from (same i) (iv_of p.prefix.sub (under.unit_is i)) 0 ps))
+      ∙ ap (λ (o : Option LiveKey). g unit (opened_under o p.prefix.sub ps)) (sym under.live)
+  taken_same p x t keys under = refl
 
 -- ---- one arrival
 
@@ -178,9 +189,10 @@ where_it_stands : (b : Bool) (x y : StreamState) → (if b then Some y else None
 where_it_stands true x y is = same_Some y x is
 where_it_stands false x y is = absurd (none-some x is)
 
-module _ (plan : Plan) (grants : Grants) (ends : List LinkEnds) (k : KeeperView) (packets : List LinkPacket)
-    (h : History) (port : PortName) (l : LinkEnds) (stands : PortsStandFor plan (state_of plan ends k packets) h)
-    (is : slice_get ends port.link ≡ Some l) (at_port : IsPort plan port (port_in port.side l)) where
+module _ {A : Type 0} (plan : Plan) (ends : List LinkEnds) (k : KeeperView) (packets : List LinkPacket) (h : History)
+    (port : PortName) (l : LinkEnds) (stands : PortsStandFor plan (state_of plan ends k packets) h)
+    (is : slice_get ends port.link ≡ Some l) (at_port : IsPort plan port (port_in port.side l))
+    (f g : UnitName → List Packet → List A) (opens : OpensAs plan port f g) where
   abbrev now : LinkState
   now = state_of plan ends k packets
 
@@ -190,62 +202,74 @@ module _ (plan : Plan) (grants : Grants) (ends : List LinkEnds) (k : KeeperView)
   -- what is given of a unit
   abbrev Agrees : List Packet → TakeStep → Type 0
   Agrees unit_ended t =
-      unit_writes t.answer (λ unit. admitted_in plan grants port unit unit_ended)
-      ≡ unit_writes t.answer (λ unit. map (packet_write plan.memory grants port unit) t.port.delivered)
+      of_unit t.answer (λ unit. f unit unit_ended) ≡ of_unit t.answer (λ unit. g unit t.port.delivered)
 
-  found_agrees : (p : Packet) (f : Found) → found here.plans here.states p.prefix.stream ≡ Some f
-      → Agrees (unit_found plan port p (Some f.state)) (packet_step here p (Some f))
-  found_agrees p f at =
+  found_agrees : (p : Packet) (x : Found) → found here.plans here.states p.prefix.stream ≡ Some x
+      → Agrees (unit_found plan port p (Some x.state)) (packet_step here p (Some x))
+  found_agrees p x at =
       let id : ℕ = p.prefix.stream in
-      let seen : find plan now port id ≡ Some f.state =
+      let seen : find plan now port id ≡ Some x.state =
       find_at plan ends k packets port l id is at_port
-      ∙ ap (λ (o : Option Found). option_map (λ (g : Found). g.state) o) at
+      ∙ ap (λ (o : Option Found). option_map (λ (y : Found). y.state) o) at
       in
-      let state : standing plan h port id ≡ f.state =
-      where_it_stands (has_stream plan port id) f.state (standing plan h port id)
+      let state : standing plan h port id ≡ x.state =
+      where_it_stands (has_stream plan port id) x.state (standing plan h port id)
       (sym (stands.ports_stand.streams port id) ∙ seen) in
-      let t : Taken = taken_by f.plan.mode f.plan.closed f.state p in
-      let mode : mode_of plan port.link id ≡ f.plan.mode = mode_at plan port here id f at_port at in
-      let closed : is_closed plan port.link id ≡ f.plan.closed = closed_at plan port here id f at_port at in
-      (λ i. unit_writes (port_arrival p t)
-      (λ unit. admitted_in plan grants port unit (unit_taken (taken_by (mode i) (closed i) f.state p))))
-      ∙ taken_same plan grants port p f.state t
-      (subst (λ (x : StreamState). HasKeys plan grants port p x) state
+      let t : Taken = taken_by x.plan.mode x.plan.closed x.state p in
+      let mode : mode_of plan port.link id ≡ x.plan.mode = mode_at plan port here id x at_port at in
+      let closed : is_closed plan port.link id ≡ x.plan.closed = closed_at plan port here id x at_port at in
+      (λ i. of_unit (port_arrival p t) (λ unit. f unit (unit_taken (taken_by (mode i) (closed i) x.state p))))
+      ∙ taken_same plan port f g opens p x.state t
+      (subst (λ (y : StreamState). HasKeys plan port f g opens p y) state
       (λ y key. standing_key plan h port id p.prefix.sub p.prefix.k y key))
-      (taken_is f.state p f.plan.mode f.plan.closed)
+      (taken_is x.state p x.plan.mode x.plan.closed)
 
   option_agrees : (p : Packet) (o : Option Found) → found here.plans here.states p.prefix.stream ≡ o
-      → Agrees (unit_found plan port p (option_map (λ (f : Found). f.state) o)) (packet_step here p o)
+      → Agrees (unit_found plan port p (option_map (λ (x : Found). x.state) o)) (packet_step here p o)
   option_agrees p None at = refl
-  option_agrees p (Some f) at = found_agrees p f at
+  option_agrees p (Some x) at = found_agrees p x at
 
   read_agrees : (r : Result CutValue PacketFault) → Agrees (unit_cut plan now port r) (take_step here r)
   read_agrees (Err fault) = refl
   read_agrees (Ok PlainTlp) = refl
   read_agrees (Ok (IdePacket p)) =
       ap (λ (o : Option StreamState).
-      unit_writes (take_step here (Ok (IdePacket p))).answer
-      (λ unit. admitted_in plan grants port unit (unit_found plan port p o)))
+      of_unit (take_step here (Ok (IdePacket p))).answer (λ unit. f unit (unit_found plan port p o)))
       (find_at plan ends k packets port l p.prefix.stream is at_port)
       ∙ option_agrees p (found here.plans here.states p.prefix.stream) refl
 
-  -- the verdict says which writes there were
-  by_verdict : (arrival : Option Arrives) (answer : Arrival) (effects : UnitName → List Effect)
-      → writes_by plan grants now arrival (arrival_verdict port answer effects)
-      ≡ unit_writes answer (λ unit. admitted_in plan grants port unit (unit_in plan now arrival))
-  by_verdict arrival (came.Malformed fault) effects = refl
-  by_verdict arrival came.Plain effects = refl
-  by_verdict arrival (came.Unknown stream) effects = refl
-  by_verdict arrival (came.Insecure stream) effects = refl
-  by_verdict arrival (came.NotKeyed stream sub) effects = refl
-  by_verdict arrival (came.Fail stream sub cause) effects = refl
-  by_verdict arrival (came.Held unit) effects = refl
-  by_verdict arrival (came.Accepted unit count) effects = refl
+  -- of the unit that these bytes end, if they end one
+  pub unit_agrees : (bytes : List ℕ) → (let t = take_step here (cut_of bytes) in
+      of_unit t.answer (λ unit. f unit (unit_in plan now (Some (record { port = port; bytes = bytes }))))
+      ≡ of_unit t.answer (λ unit. g unit t.port.delivered))
+  unit_agrees bytes = read_agrees (cut_of bytes)
 
-  pub writes_agree : (bytes : List ℕ) (effects : UnitName → List Effect)
-      → (let t = take_step here (cut_of bytes) in
-      writes_by plan grants now (Some (record { port = port; bytes = bytes })) (arrival_verdict port t.answer effects)
-      ≡ unit_writes t.answer (λ unit. map (packet_write plan.memory grants port unit) t.port.delivered))
-  writes_agree bytes effects =
-      by_verdict (Some (record { port = port; bytes = bytes })) (take_step here (cut_of bytes)).answer effects
-      ∙ read_agrees (cut_of bytes)
+-- ---- writes
+
+-- the verdict says which writes there were
+by_verdict : (plan : Plan) (grants : Grants) (st : LinkState) (port : PortName) (arrival : Option Arrives)
+    (answer : Arrival) (effects : UnitName → List Effect)
+    → writes_by plan grants st arrival (arrival_verdict port answer effects)
+    ≡ of_unit answer (λ unit. admitted_in plan grants port unit (unit_in plan st arrival))
+by_verdict plan grants st port arrival (came.Malformed fault) effects = refl
+by_verdict plan grants st port arrival came.Plain effects = refl
+by_verdict plan grants st port arrival (came.Unknown stream) effects = refl
+by_verdict plan grants st port arrival (came.Insecure stream) effects = refl
+by_verdict plan grants st port arrival (came.NotKeyed stream sub) effects = refl
+by_verdict plan grants st port arrival (came.Fail stream sub cause) effects = refl
+by_verdict plan grants st port arrival (came.Held unit) effects = refl
+by_verdict plan grants st port arrival (came.Accepted unit count) effects = refl
+
+pub writes_agree : (plan : Plan) (grants : Grants) (ends : List LinkEnds) (k : KeeperView) (packets : List LinkPacket)
+    (h : History) (port : PortName) (l : LinkEnds) → PortsStandFor plan (state_of plan ends k packets) h
+    → slice_get ends port.link ≡ Some l → IsPort plan port (port_in port.side l) → (bytes : List ℕ)
+    (effects : UnitName → List Effect)
+    → (let t = take_step (port_in port.side l) (cut_of bytes) in
+    writes_by plan grants (state_of plan ends k packets) (Some (record { port = port; bytes = bytes }))
+    (arrival_verdict port t.answer effects)
+    ≡ unit_writes t.answer (λ unit. map (packet_write plan.memory grants port unit) t.port.delivered))
+writes_agree plan grants ends k packets h port l stands is at_port bytes effects =
+    by_verdict plan grants (state_of plan ends k packets) port (Some (record { port = port; bytes = bytes }))
+    (take_step (port_in port.side l) (cut_of bytes)).answer effects
+    ∙ unit_agrees plan ends k packets h port l stands is at_port (λ unit ps. admitted_in plan grants port unit ps)
+    (λ unit ps. map (packet_write plan.memory grants port unit) ps) (writes_open plan grants port) bytes

@@ -1,5 +1,5 @@
 -- The ends of all links, and what each call makes of those of one link.
-use Rattle.std.specs.Prelude.{ℕ, ◌≡◌, ◌+◌, ◌<◌, Bool, Option, Some, None, List, [], ◌∷◌, length, map, slice_get}
+use Rattle.std.specs.Prelude.{ℕ, ◌≡◌, ◌+◌, ◌++◌, ◌<◌, Bool, Option, Some, None, List, [], ◌∷◌, length, map, slice_get}
 use Rattle.std.specs.Prelude.{slice_set}
 use Rattle.ide_types.specs.declared.port.PortName.{PortName}
 use Rattle.ide_types.specs.declared.status.StreamStatus.{StreamStatus}
@@ -7,7 +7,7 @@ use Rattle.ide_plan.specs.declared.plan.LinkPlan.{LinkPlan}
 use Rattle.link_events.specs.declared.event.Loss.{Loss}
 use Rattle.link_verdicts.specs.declared.verdict.Verdict.{Verdict}
 use Rattle.ide_plan.specs.declared.plan.Region.{Region}
-use Rattle.link_history.specs.Memory.{Grants}
+use Rattle.link_history.specs.Admission.{Grants}
 use Rattle.trusted_memory.specs.{MemoryContents, Leads}
 use Rattle.tdi_host.specs.Managers.{granted}
 use Rattle.link_ends.specs.Hosts.{InterfacesView}
@@ -18,7 +18,12 @@ use Rattle.ide_prefix.specs.Reading.{cut_of}
 use Rattle.ide_port.specs.{IsSentAtPort, take_step, status_in}
 use Rattle.link_ends.specs.declared.ends.LinkEnds.{LinkEnds}
 use Rattle.link_ends.specs.Ends.{new_ends, port_in, with_port, taken_ends, trusting_at, reset_ends}
-use Rattle.all_ends.specs.Verdicts.{packet_effect, packet_write, unit_writes, arrival_verdict}
+use Rattle.link_history.specs.Sent.{reads_by}
+use Rattle.guarded_memory.specs.declared.standing.Standing.{Standing}
+use Rattle.guarded_memory.specs.{MmioLeads}
+use Rattle.accesses.specs.declared.link.LinkAccesses.{LinkAccesses}
+use Rattle.accesses.specs.{standings_by}
+use Rattle.all_ends.specs.Verdicts.{effects_from, packet_write, packet_stored, unit_writes, of_unit, arrival_verdict}
 use Rattle.link_ends.specs.Keepers.{KeeperView, Operates, HasCalls}
 use Rattle.all_ends.specs.Requester.{requester_of}
 use Rattle.all_ends.specs.Places.{code_behind}
@@ -60,20 +65,44 @@ SendsAt old port tlp more trusted answer new = Changes old port.link new
 abbrev pub grants_in : InterfacesView → Grants
 grants_in m link requester = granted m link requester
 
+-- how the interfaces of a link's device stand
+abbrev pub standings_in : LinkEnds → LinkAccesses → List Standing
+standings_in l a = standings_by a.floors l.device.interfaces
+
+-- effects depend on what stands at the link before the arrival
 pub record Arrives (regions : List Region) (grants : Grants) (port : PortName) (bytes : List ℕ) (verdict : Verdict)
-    (m n : MemoryContents) (l l' : LinkEnds) : Type 0 where
+    (m n : MemoryContents) (a a' : LinkAccesses) (l l' : LinkEnds) : Type 0 where
   pub ends : l' ≡ taken_ends port.side (take_step (port_in port.side l) (cut_of bytes)).port l
   pub verdict_is : let step = take_step (port_in port.side l) (cut_of bytes) in
       verdict ≡ arrival_verdict port step.answer
-      (λ unit. map (packet_effect regions grants port unit) step.port.delivered)
+      (λ unit. effects_from regions grants (standings_in l a) (length a.reads) port unit step.port.delivered)
   pub written : let step = take_step (port_in port.side l) (cut_of bytes) in
       Leads m (unit_writes step.answer (λ unit. map (packet_write regions grants port unit) step.port.delivered)) n
+  pub reads_are : let step = take_step (port_in port.side l) (cut_of bytes) in
+      a'.reads ≡ a.reads ++ of_unit step.answer (λ unit. reads_by unit.draw
+      (effects_from regions grants (standings_in l a) (length a.reads) port unit step.port.delivered)
+      step.port.delivered)
+  pub stored : let step = take_step (port_in port.side l) (cut_of bytes) in
+      MmioLeads a.guarded
+      (of_unit step.answer (λ unit. map (packet_stored (standings_in l a) port unit) step.port.delivered)) a'.guarded
+  pub floors_stay : a'.floors ≡ a.floors
+  pub sizes_stay : a'.guarded.sizes ≡ a.guarded.sizes
 
-abbrev pub ArrivesAt : List LinkEnds → List Region → Grants → PortName → List ℕ → Verdict → MemoryContents
-    → MemoryContents
-    → List LinkEnds → Type 0
-ArrivesAt old regions grants port bytes verdict m n new =
-    Changes old port.link new (λ l l'. Arrives regions grants port bytes verdict m n l l')
+-- what stands at this link changes with its ends, and at no other
+pub record ChangesBoth (old : List LinkEnds) (xs : List LinkAccesses) (link : ℕ) (new : List LinkEnds)
+    (ys : List LinkAccesses) (P : LinkAccesses → LinkAccesses → LinkEnds → LinkEnds → Type 0) (l : LinkEnds)
+    (a : LinkAccesses) : Type 0 where
+  pub ends : LinkEnds
+  pub access : LinkAccesses
+  pub ends_are : new ≡ slice_set old link ends
+  pub accesses_are : ys ≡ slice_set xs link access
+  pub made : P a access l ends
+
+abbrev pub ArrivesAt : List LinkEnds → List LinkAccesses → List Region → Grants → PortName → List ℕ → Verdict
+    → MemoryContents → MemoryContents → List LinkEnds → List LinkAccesses → Type 0
+ArrivesAt old xs regions grants port bytes verdict m n new ys =
+    (l : LinkEnds) (a : LinkAccesses) → slice_get old port.link ≡ Some l → slice_get xs port.link ≡ Some a
+    → ChangesBoth old xs port.link new ys (λ a a' l l'. Arrives regions grants port bytes verdict m n a a' l l') l a
 
 -- the device's interfaces leave their lock if their stream is no longer Secure at its port
 abbrev pub Settles : LinkEnds → LinkEnds → Type 0

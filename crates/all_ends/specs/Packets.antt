@@ -2,7 +2,7 @@
 use Rattle.std.specs.Prelude.{ℕ, ◌+◌, ◌≤◌, List, [], ◌∷◌, length, slice_range}
 use Rattle.ide_types.specs.declared.port.PortName.{PortName}
 use Rattle.link_ports.specs.Machine.{LinkPacket}
-use Rattle.all_ends.specs.declared.packets.Mark.{Mark}
+use Rattle.all_ends.specs.declared.all_ends.Mark.{Mark}
 
 -- The packets in order; beside them there is room for so many more bytes and packets, which is not part of what stays.
 pub record KeptPackets : Type 0 where

@@ -3,9 +3,7 @@
 #![tactic(auto)]
 
 mod all_ends;
-mod packets;
 mod verdicts;
 
-pub use all_ends::AllEnds;
-pub use packets::{Mark, Packets};
+pub use all_ends::{AllEnds, Mark, Packets};
 pub use verdicts::{partner, send_verdict};

@@ -1,19 +1,25 @@
 //! The verdicts of sends and arrivals.
 
 ghost use Rattle.std.specs.Option.{option_and_then};
-ghost use Rattle.std.specs.Prelude.{◌≡◌, ◌∷◌, [], ◌+◌, ◌<◌, ◌≤◌, ◌^◌, length, map, if◌then◌else◌};
+ghost use Rattle.std.specs.Prelude.{◌≡◌, ◌∷◌, [], ◌+◌, ◌++◌, ◌<◌, ◌≤◌, ◌^◌, length, map, if◌then◌else◌};
 ghost use Rattle.tlp_layout.specs.Reading.{read_head_of};
 ghost use Rattle.link_history.specs.Plan.{partner as partner_of};
 ghost use Rattle.interface_states.specs.Cause.{owner_of};
 ghost use Rattle.tdi_host.specs.Managers.{granted};
 ghost use Rattle.trusted_memory.specs.{Leads};
+ghost use Rattle.guarded_memory.specs.{MmioLeads};
+ghost use Rattle.accesses.specs.{standings_by};
+ghost use Rattle.link_history.specs.Guarded.{stored_as};
+ghost use Rattle.link_history.specs.Sent.{reads_by};
 ghost use Rattle.sub_stream.specs.{numbered};
 ghost use Rattle.ide_stream.specs.{refusal_verdict as verdict_refused, numbered_from};
 ghost use Rattle.ide_port.specs.{sent_verdict};
 ghost use Rattle.all_ends.specs.AllEnds.{grants_in};
-ghost use Rattle.all_ends.specs.Verdicts.{head_effect, head_write, marked_effect, marked_write, packet_effect};
-ghost use Rattle.all_ends.specs.Verdicts.{packet_write, unit_writes, arrival_verdict};
+ghost use Rattle.all_ends.specs.Verdicts.{head_effect, head_write, claimed_effect, queued_by, effects_from};
+ghost use Rattle.all_ends.specs.Verdicts.{packet_write, packet_stored, unit_writes, of_unit, arrival_verdict};
+ghost use Rattle.all_ends.specs.Verdicts.{PacketCame, UnitCame};
 
+use accesses::LinkAccesses;
 use association::owner;
 use fault_words::{packet_word, tlp_word};
 use ide_port::{Arrival, Sent};
@@ -21,9 +27,10 @@ use ide_stream::SendRefusal;
 use ide_types::{PortName, Side};
 use link_verdicts::{Effect, Effects, SealedPacket, SealedPackets, UnitName, Verdict};
 use sub_stream::{Delivered, PacketMark};
+use tdi_device::DeviceInterfaces;
 use tdi_ends::InterfaceKeeper;
 use tlp_layout::{HeadView, TlpView, read_head};
-use trusted_memory::{Grant, Trusted, packets_in_turn};
+use trusted_memory::{Grant, Trusted};
 
 /// The port at the other end of the link.
 pub fn partner(port: PortName) -> PortName
@@ -107,6 +114,15 @@ pub fn send_verdict(port: PortName, number: u64, sent: &Sent) -> Verdict
 
 // ---- arrivals
 
+/// A port that accepts a unit, and what effects there depend on beside memory and reads that wait: the manager of
+/// interfaces at a host's port, the device's interfaces at a device's (this profile).
+#[derive(Clone, Copy)]
+pub struct ReceivingPort<'a> {
+    pub port: PortName,
+    pub keeper: &'a InterfaceKeeper,
+    pub interfaces: &'a DeviceInterfaces,
+}
+
 // What the manager says of the requester of a TLP with this header.
 fn bound(link: u8, keeper: &InterfaceKeeper, head: &HeadView) -> Option<(u8, u32)>
     ensures { result ≡ option_and_then (λ requester. granted keeper.now link requester) (owner_of head.now) }
@@ -118,107 +134,153 @@ fn bound(link: u8, keeper: &InterfaceKeeper, head: &HeadView) -> Option<(u8, u32
 }
 
 // The effect of a TLP with this header and payload at a host's port; its packet has this T and came in this unit.
-fn delivered(
-    link: u8,
+fn requested(
+    at: &ReceivingPort,
     unit: UnitName,
     trusted: bool,
     header: &[u8],
     payload: &[u8],
-    keeper: &InterfaceKeeper,
     memory: &mut Trusted,
+    access: &mut LinkAccesses,
 ) -> Effect
     requires { 1 ≤ memory.old.spare }
-    ensures effect { result ≡ head_effect memory.old.contents.regions (grants_in keeper.now) link unit trusted
-        (read_head_of header.now) }
+    ensures effect { result ≡ head_effect memory.old.contents.regions (grants_in at.now.keeper.now) at.now.port.link
+        (length access.old.reads) unit trusted (read_head_of header.now) }
+    ensures reads { access.new.reads ≡ access.old.reads ++ queued_by unit.draw result (read_head_of header.now) }
+    ensures kept { access.new ≡ record access.old { reads = access.new.reads } }
     ensures regions { memory.new.contents.regions ≡ memory.old.contents.regions }
     ensures spare { memory.old.spare ≤ memory.new.spare + 1 }
-    ensures leads { Leads memory.old.contents (head_write memory.old.contents.regions (grants_in keeper.now) link unit
-        trusted payload.now (read_head_of header.now) ∷ []) memory.new.contents }
+    ensures leads { Leads memory.old.contents (head_write memory.old.contents.regions (grants_in at.now.keeper.now)
+        at.now.port.link unit trusted payload.now (read_head_of header.now) ∷ []) memory.new.contents }
 {
     match read_head(header) {
         Err(_) => Effect::Delivered,
         Ok(head) => {
             let grant = Grant {
-                bound: bound(link, keeper, &head),
+                bound: bound(at.port.link, at.keeper, &head),
                 stream: unit.stream,
                 draw: unit.draw,
             };
             let tlp = TlpView { head, payload };
-            memory.deliver(&tlp, trusted, grant)
+            access.request(memory, &tlp, trusted, grant)
         }
     }
 }
 
+// The effect of a TLP with this header and payload at a device's port; its packet has this T and came in this unit.
+fn claimed(
+    at: &ReceivingPort,
+    unit: UnitName,
+    trusted: bool,
+    header: &[u8],
+    payload: &[u8],
+    access: &mut LinkAccesses,
+) -> Effect
+    requires { 2 ≤ access.old.guarded.spare }
+    ensures effect { let xs = standings_by access.old.floors at.now.interfaces.now in
+        result ≡ claimed_effect xs unit trusted (read_head_of header.now) }
+    ensures none_waits { queued_by unit.draw result (read_head_of header.now) ≡ [] }
+    ensures stored { let xs = standings_by access.old.floors at.now.interfaces.now in
+        MmioLeads access.old.guarded (stored_as xs unit trusted payload.now (read_head_of header.now) ∷ [])
+        access.new.guarded }
+    ensures kept { access.new ≡ record access.old { guarded = access.new.guarded } }
+    ensures sizes { access.new.guarded.sizes ≡ access.old.guarded.sizes }
+    ensures spare { access.old.guarded.spare ≤ access.new.guarded.spare + 2 }
+{
+    match read_head(header) {
+        Err(_) => Effect::Delivered,
+        Ok(head) => access.deliver(at.interfaces, &TlpView { head, payload }, trusted, unit),
+    }
+}
+
 // The effect of a packet with this mark, header and payload at a port that accepted it.
+#[tactic(auto, using(crate::proofs::Effects::sync, crate::proofs::Effects::at_host, crate::proofs::Effects::at_device))]
 fn effect(
-    port: PortName,
+    at: &ReceivingPort,
     unit: UnitName,
     mark: PacketMark,
     header: &[u8],
     payload: &[u8],
-    keeper: &InterfaceKeeper,
     memory: &mut Trusted,
+    access: &mut LinkAccesses,
 ) -> Effect
-    requires { 1 ≤ memory.old.spare }
-    ensures effect { result ≡ marked_effect memory.old.contents.regions (grants_in keeper.now) port unit mark
-        header.now }
+    requires spare { 1 ≤ memory.old.spare }
+    requires pages { 2 ≤ access.old.guarded.spare }
+    ensures came { PacketCame memory.old.contents.regions (grants_in at.now.keeper.now)
+        (standings_by access.old.floors at.now.interfaces.now) at.now.port unit mark header.now payload.now
+        access.old.reads memory.old.contents access.old.guarded
+        result access.new.reads memory.new.contents access.new.guarded }
     ensures regions { memory.new.contents.regions ≡ memory.old.contents.regions }
+    ensures floors { access.new.floors ≡ access.old.floors }
+    ensures sizes { access.new.guarded.sizes ≡ access.old.guarded.sizes }
     ensures spare { memory.old.spare ≤ memory.new.spare + 1 }
-    ensures leads { Leads memory.old.contents (marked_write memory.old.contents.regions (grants_in keeper.now) port unit
-        mark header.now payload.now ∷ []) memory.new.contents }
+    ensures pages { access.old.guarded.spare ≤ access.new.guarded.spare + 2 }
 {
     if mark.sync {
         return Effect::Sync;
     }
-    match port.side {
-        Side::Device => Effect::Delivered,
-        Side::Host => delivered(port.link, unit, mark.t, header, payload, keeper, memory),
+    match at.port.side {
+        Side::Device => claimed(at, unit, mark.t, header, payload, access),
+        Side::Host => requested(at, unit, mark.t, header, payload, memory, access),
     }
 }
 
 // The effect of each packet of the unit that a port accepted.
 fn effects(
-    port: PortName,
+    at: &ReceivingPort,
     unit: UnitName,
     packets: &Delivered,
-    keeper: &InterfaceKeeper,
     memory: &mut Trusted,
+    access: &mut LinkAccesses,
 ) -> Effects
-    requires { 8 ≤ memory.old.spare }
-    ensures effects { let regions = memory.old.contents.regions in
-        result ≡ map (packet_effect regions (grants_in keeper.now) port unit) packets.now }
+    requires spare { 8 ≤ memory.old.spare }
+    requires pages { 16 ≤ access.old.guarded.spare }
+    ensures came { UnitCame memory.old.contents.regions (grants_in at.now.keeper.now)
+        (standings_by access.old.floors at.now.interfaces.now) at.now.port unit packets.now
+        access.old.reads memory.old.contents access.old.guarded
+        result access.new.reads memory.new.contents access.new.guarded }
     ensures regions { memory.new.contents.regions ≡ memory.old.contents.regions }
-    ensures leads { let regions = memory.old.contents.regions in
-        let writes = map (packet_write regions (grants_in keeper.now) port unit) packets.now in
-        Leads memory.old.contents writes memory.new.contents }
+    ensures floors { access.new.floors ≡ access.old.floors }
+    ensures sizes { access.new.guarded.sizes ≡ access.old.guarded.sizes }
 {
-    packets_in_turn();
     let mut list = Effects::new();
     for i in 0..packets.count() {
         let mark = packets.mark(i);
         let (header, payload) = packets.packet(i);
-        list.push(effect(port, unit, mark, header, payload, keeper, memory));
+        list.push(effect(at, unit, mark, header, payload, memory, access));
     }
     list
 }
 
 /// The verdict of an arrival at a port; `packets` are those of the unit, if one was accepted (this profile).
+#[tactic(auto, using(crate::proofs::Effects::none_more))]
 pub fn taken_verdict(
-    port: PortName,
+    at: &ReceivingPort,
     arrival: Arrival,
     packets: &Delivered,
-    keeper: &InterfaceKeeper,
     memory: &mut Trusted,
+    access: &mut LinkAccesses,
 ) -> Verdict
-    requires { 8 ≤ memory.old.spare }
-    ensures verdict { let regions = memory.old.contents.regions in
-        result ≡ arrival_verdict port arrival (λ unit. map (packet_effect regions (grants_in keeper.now) port unit)
-        packets.now) }
-    ensures regions { memory.new.contents.regions ≡ memory.old.contents.regions }
+    requires spare { 8 ≤ memory.old.spare }
+    requires pages { 16 ≤ access.old.guarded.spare }
+    ensures verdict { let xs = standings_by access.old.floors at.now.interfaces.now in
+        result ≡ arrival_verdict at.now.port arrival (λ unit. effects_from memory.old.contents.regions
+        (grants_in at.now.keeper.now) xs (length access.old.reads) at.now.port unit packets.now) }
+    ensures reads { let xs = standings_by access.old.floors at.now.interfaces.now in
+        access.new.reads ≡ access.old.reads ++ of_unit arrival (λ unit. reads_by unit.draw
+        (effects_from memory.old.contents.regions (grants_in at.now.keeper.now) xs (length access.old.reads)
+        at.now.port unit packets.now) packets.now) }
     ensures leads { let regions = memory.old.contents.regions in
-        Leads memory.old.contents (unit_writes arrival (λ unit. map (packet_write regions (grants_in keeper.now) port
-        unit) packets.now)) memory.new.contents }
+        Leads memory.old.contents (unit_writes arrival (λ unit. map (packet_write regions (grants_in at.now.keeper.now)
+        at.now.port unit) packets.now)) memory.new.contents }
+    ensures stored { let xs = standings_by access.old.floors at.now.interfaces.now in
+        MmioLeads access.old.guarded (of_unit arrival (λ unit. map (packet_stored xs at.now.port unit) packets.now))
+        access.new.guarded }
+    ensures regions { memory.new.contents.regions ≡ memory.old.contents.regions }
+    ensures floors { access.new.floors ≡ access.old.floors }
+    ensures sizes { access.new.guarded.sizes ≡ access.old.guarded.sizes }
 {
+    let port = at.port;
     match arrival {
         Arrival::Malformed(fault) => Verdict::Malformed {
             port,
@@ -239,7 +301,7 @@ pub fn taken_verdict(
         Arrival::Accepted(unit, _) => Verdict::Accepted {
             port,
             unit,
-            effects: effects(port, unit, packets, keeper, memory),
+            effects: effects(at, unit, packets, memory, access),
         },
     }
 }

@@ -1,14 +1,23 @@
 -- Events on interfaces. One is found by its number among the devices of all links; after an event on it the ports and
 -- the manager's streams are as before, since only the interfaces of its device change, and what the manager knows of
 -- it.
+use Rattle.all_links.proofs.Terms.{length-set}
 use Rattle.all_links.proofs.Terms.{◌≡◌, ℕ, suc, zero, ◌+◌, ◌<◌, List, [], ◌∷◌, length, refl, ap, sym, ◌∙◌, subst, arith}
 use Rattle.all_links.proofs.Terms.{nat_tests, Option, Some, None, IsSome, slice_get, slice_set, option_map}
 use Rattle.all_links.proofs.Terms.{option_and_then, none-some, same_Some, slice_get_within, Verdict, StreamState}
 use Rattle.all_links.proofs.Terms.{LinkEnds, Links, InterfacesView, KeeperView, ports_in, IsBounded, links_state}
 use Rattle.all_links.proofs.Terms.{EndsWith, Stepped, Interface, answer_of_links}
 use Rattle.std.specs.Prelude.{IfSome}
+use Rattle.std.specs.Option.{option_map_or}
+use Rattle.all_links.proofs.Terms.{◌==◌, Bool, false}
+use Rattle.ide_types.specs.declared.sub.SubKind.TheVariants.{Pr}
+use Rattle.ide_port.specs.{receiving_draw_in}
+use Rattle.interface_states.specs.Devices.{is_run}
+use Rattle.tdi_state.specs.declared.states.TdiState.{TdiState}
+use Rattle.tdi_state.specs.declared.states.TdiState.TheVariants.{ConfigUnlocked, ConfigLocked, Run, Error}
+use Rattle.all_links.specs.Accesses.{stream_of, device_draw, runs_in}
 use Rattle.link_verdicts.specs.declared.verdict.Verdict.TheVariants as v
-use Rattle.tdi_state.specs.Machine.{Tdi, Call}
+use Rattle.tdi_state.specs.Machine.{Tdi, Call, state_code}
 use Rattle.tdi_device.specs.Replies.{DeviceTdis, called_at}
 use Rattle.tdi_host.specs.declared.operation.InterfaceOp.{InterfaceOp}
 use Rattle.tdi_host.specs.declared.operation.InterfaceOp.TheVariants as op
@@ -114,11 +123,12 @@ interfaces_change old link l d ends m verdict e due is ends_is bounded =
     (sym ends_is)
     (record {
       counted = refl;
+      many = length-set old.ends link l2;
       regions = refl;
       bounded = bounded_kept old.ends old.packets.packets old.packets.packets old.steps link l l2 bounded is
           (omega arith) (omega arith) bounded.sealed_here;
-      ends = λ answer by plan h links stands.
-          let step = sym (answers old due answer by plan (links_state plan old)) in
+      ends = λ b plan by h links stands.
+          let step = sym (answers old due b plan by (links_state plan old)) in
           let ports : ports_in (slice_set old.ends link l2) ≡ ports_in old.ends =
           ports_same old.ends link l2 l refl refl ∙ ap ports_in (set_back old.ends link l is) in
           record {
@@ -231,3 +241,39 @@ operated_as old n at o loss outcome ends k new verdict report named asks says re
     (Interface (op_event o n loss))) (λ i. record { keys = sym a.2.keys i; interfaces = k.interfaces })
     (interfaces_change old at.0 x.ends_at a.0.device.interfaces ends k.interfaces verdict (op_event o n loss) due
     x.link_there (a.1 ∙ ap (λ (y : LinkEnds). slice_set old.ends at.0 y) a.2.ends) bounded))
+
+-- ---- whether it runs, and the draw at its device
+
+pub run_code : (state : TdiState) → (state_code state == 2) ≡ is_run state
+run_code ConfigUnlocked = refl
+run_code (ConfigLocked lock nonce) = refl
+run_code (Run lock) = refl
+run_code Error = refl
+
+pub runs_not : (s : Links) (n : ℕ) → None ≡ interface_named s.keeper.interfaces s.ends n → false ≡ runs_in s n
+runs_not s n nowhere =
+    ap (λ (o : Option (ℕ × ℕ)). option_map_or (λ (t : Tdi). is_run t.state) (option_and_then (tdi_of_ends s.ends) o)
+    false) nowhere
+
+pub runs_at : (s : Links) (n : ℕ) (at : ℕ × ℕ) (b : Bool) → Some at ≡ interface_named s.keeper.interfaces s.ends n
+    → IfSome (slice_get s.ends at.0) (λ (l : LinkEnds). IfSome (slice_get l.device.interfaces.interfaces at.1)
+    (λ (t : Tdi). b ≡ (state_code t.state == 2))) → b ≡ runs_in s n
+runs_at s n at b named says =
+    let x = is_found s.keeper.interfaces s.ends n at named in
+    if_some (λ (t : Tdi). b ≡ (state_code t.state == 2)) (slice_get x.ends_at.device.interfaces.interfaces at.1) x.tdi
+    x.tdi_there
+    (if_some (λ (l : LinkEnds). IfSome (slice_get l.device.interfaces.interfaces at.1)
+    (λ (t : Tdi). b ≡ (state_code t.state == 2))) (slice_get s.ends at.0) x.ends_at x.link_there says)
+    ∙ run_code x.tdi.state
+    ∙ sym (ap (λ (o : Option Tdi). option_map_or (λ (t : Tdi). is_run t.state) o false) x.named_is)
+
+pub draw_is : (s : Links) (i link stream : ℕ) (l : LinkEnds) (x : HostTdi) (o : Option ℕ) → slice_get s.ends link
+    ≡ Some l → slice_get s.keeper.interfaces.interfaces i ≡ Some x → stream ≡ x.stream
+    → o ≡ receiving_draw_in l.device.port stream Pr → option_map_or (λ (d : ℕ). d) o 0 ≡ device_draw s i link
+draw_is s i link stream l x o l_is x_is stream_is says =
+    let named : stream ≡ stream_of s i =
+    stream_is ∙ sym (ap (λ (p : Option HostTdi). option_map_or (λ (y : HostTdi). y.stream) p 0) x_is) in
+    ap (λ (p : Option ℕ). option_map_or (λ (d : ℕ). d) p 0)
+    (says ∙ (λ j. receiving_draw_in l.device.port (named j) Pr)
+    ∙ sym (ap (λ (p : Option LinkEnds). option_and_then (λ (y : LinkEnds).
+    receiving_draw_in y.device.port (stream_of s i) Pr) p) l_is))

@@ -1,8 +1,9 @@
 pub mod Terms
 pub mod Finds
 mod Arrivals
-mod Sends
+pub mod Sends
 pub mod Resets
 mod Operations
 pub mod Asked
-mod Sides
+pub mod Sides
+pub mod Accesses

@@ -1,4 +1,5 @@
 -- The states of streams that are read, and resets, as the machine has them.
+use Rattle.all_links.proofs.Terms.{length-set}
 use Rattle.all_links.proofs.Terms.{beside_in, InterfacesView, ◌≡◌, ℕ, ◌+◌, Bool, true, List, length, refl, ap, sym, ◌∙◌}
 use Rattle.all_links.proofs.Terms.{subst, arith, Option, Some, None, is_some, slice_get, slice_set, nat_lt}
 use Rattle.all_links.proofs.Terms.{if◌then◌else◌, true-lt, Op, History, Host, Device, StreamStatus, Plan, Reset, Status}
@@ -86,11 +87,12 @@ resets old link ends m k bounded here ends_are keeper =
       steps = old.steps + 1;
     }) (Reset link)) (sym keeper) (record {
       counted = refl;
+      many = length-set old.ends link (reset_ends f.0);
       regions = refl;
       bounded = bounded_kept old.ends old.packets.packets old.packets.packets old.steps link f.0 _ bounded f.1
           (omega arith) (omega arith) bounded.sealed_here;
-      ends = λ answer by plan h links stands.
-          let step = reset_step (beside_in old answer) old plan link true links (sym here) in
+      ends = λ b plan by h links stands.
+          let step = reset_step (beside_in old b) old plan link true links (sym here) in
           record {
             verdict_is = ap (λ (x : Stepped). x.0) (sym step);
             state_is = state_reset plan old.ends old.keeper.keys old.packets.packets link f.0 links f.1 ∙ ap

@@ -1,4 +1,5 @@
 -- Sends at a port of the links, as the machine has them.
+use Rattle.all_links.proofs.Terms.{length-set}
 use Rattle.all_links.proofs.Terms.{◌≡◌, ℕ, ◌+◌, ◌<◌, Bool, true, List, [], ◌++◌, length, refl, ap, sym, ◌∙◌, arith}
 use Rattle.all_links.proofs.Terms.{Option, Some, slice_get, slice_set, map, sum_by, nat_lt, if◌then◌else◌, PortName}
 use Rattle.all_links.proofs.Terms.{Plan, Verdict, SealedPacket, LinkPacket, Stepped, kept_at, step_of, joined_packets}
@@ -9,6 +10,9 @@ use Rattle.association.specs.Outgoing.{Outgoing, outgoing_of}
 use Rattle.link_history.specs.Plan.{streams_of}
 use Rattle.link_verdicts.specs.declared.verdict.Verdict.TheVariants as v
 use Rattle.ide_port.specs.declared.answer.Sent.TheVariants.{Sealed}
+use Rattle.ide_port.specs.declared.answer.Sent.TheVariants as sent
+use Rattle.stream_lanes.specs.declared.refusal.SendRefusal.TheVariants as refusal
+use Rattle.all_links.specs.Accesses.{is_sending}
 use Rattle.tlp_layout.specs.declared.head.HeadView.{HeadView}
 use Rattle.ide_port.specs.{Trusting}
 use Rattle.trusted_memory.specs.{TrustedMemory}
@@ -17,7 +21,8 @@ use Rattle.all_links.specs.Besides.{beside_in, t_in}
 use Rattle.link_ports.specs.Machine.{Beside, stepped_send}
 use Rattle.all_ends.proofs.Finds.{there, set_there, KeepsEnds, keeps_port, port_is, bounded_kept, links_kept}
 use Rattle.all_ends.proofs.Finds.{bounded_same, links_same}
-use Rattle.all_ends.proofs.Sends.{cut_joined, lengths_join, sealed_on, send_joins, send_keeps, sends_as, sent}
+use Rattle.all_ends.proofs.Sends.{cut_joined, lengths_join, sealed_on, send_joins, send_keeps, sends_as}
+use Rattle.all_ends.proofs.Sends.{sent as sent_at}
 
 pub given : (b : Beside) (old : Links) (plan : Plan) (port : PortName) (bytes : List ℕ) (more trusted here : Bool)
     → AreLinks plan old.ends old.keeper.keys
@@ -78,19 +83,20 @@ seals old new port bytes more trusted answer verdict bounded here sends says kee
     (sealed_on port (length old.ends) old.packets.packets step.packets here bounded.sealed_here) in
     record {
       counted = steps;
+      many = ap (λ (xs : List LinkEnds). length xs) a.1 ∙ length-set old.ends port.link a.0;
       regions = ap (λ (t : TrustedMemory). t.contents.regions) memory;
       bounded = bounded_same _ new.ends _ new.packets.packets _ new.steps (sym ends_is) (sym packets_is) (sym steps)
           after;
-      ends = λ of_interfaces by plan h links stands.
-          let b : Beside = beside_in old of_interfaces in
+      ends = λ said plan by h links stands.
+          let b : Beside = beside_in old said in
           let at_port = port_is plan old.ends old.keeper.keys port l links found_link.1 in
           let as_machine = given b old plan port bytes more trusted true links
           (sym (lt-true port.link (length old.ends) here))
           ∙ sends_as plan b old.ends old.keeper.keys old.packets.packets port l h bytes more
           trusted found_link.1 at_port stands
-          ∙ ap (λ (o : Option LinkEnds). sent plan old.ends old.keeper.keys old.packets.packets port l
+          ∙ ap (λ (o : Option LinkEnds). sent_at plan old.ends old.keeper.keys old.packets.packets port l
           (send_step e out more (λ head stream. t_in o port.side head stream trusted) n)) found_link.1
-          ∙ ap (λ (y : Trusting). sent plan old.ends old.keeper.keys old.packets.packets port l
+          ∙ ap (λ (y : Trusting). sent_at plan old.ends old.keeper.keys old.packets.packets port l
           (send_step e out more y n)) (asked_at port.side l trusted) in
           record {
             verdict_is = says ∙ ap (λ (p : PortName). sent_verdict p n answer) (sym at_port.name) ∙ sent_is.answered ∙
@@ -130,3 +136,12 @@ sealed_length old ends port bytes more trusted answer ps lent here sends said le
     sent_is.port ∙ send_joins e out more sets 0 in
     lengths_join ps step.packets (said ∙ sent_is.lengths) ∙ ap (λ (bs : List ℕ). length bs)
     (sym (lends a.0 at ∙ joined))
+
+pub sent_sends : (port : PortName) (n : ℕ) (answer : Sent) → is_sending (sent_verdict port n answer) ≡ true
+sent_sends port n (sent.Malformed fault) = refl
+sent_sends port n sent.Plain = refl
+sent_sends port n (Sealed ps) = refl
+sent_sends port n (sent.Refused (refusal.NoKey sub)) = refl
+sent_sends port n (sent.Refused (refusal.Worn sub units)) = refl
+sent_sends port n (sent.Refused refusal.Unfinished) = refl
+sent_sends port n (sent.Refused refusal.Insecure) = refl

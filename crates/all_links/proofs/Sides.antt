@@ -1,19 +1,18 @@
 -- What an event makes of what stands beside the ports. Most events keep all of it. A call of one link changes that link
 -- alone, so what holds of it and of each unchanged link holds of all (`each_both`); what an operation on a stream tells
 -- the manager of interfaces goes by the cases of its outcome (`told_here`).
+use Rattle.all_links.proofs.Terms.{LinkAccesses, Brings}
 use Rattle.all_links.proofs.Terms.{◌≡◌, ℕ, ◌+◌, ◌==◌, ◌<◌, ◌≤◌, not, Bool, true, false, List, [], length, refl, ap, sym}
 use Rattle.all_links.proofs.Terms.{◌∙◌, subst, arith, nat_tests, Option, Some, None, slice_get, slice_set, map}
-use Rattle.all_links.proofs.Terms.{none-some, same_Some, true-lt, nat_lt, nat_le, is_some, IsSome, if◌then◌else◌, Side}
+use Rattle.all_links.proofs.Terms.{none-some, same_Some, true-lt, nat_lt, is_some, IsSome, if◌then◌else◌, Side}
 use Rattle.all_links.proofs.Terms.{Host, Device, PortName, UnitName, Plan, Verdict, Op, LinkState, PortEnd, take_step}
 use Rattle.all_links.proofs.Terms.{LinkEnds, Links, InterfacesView, port_in, with_port, taken_ends, MemoryContents}
 use Rattle.all_links.proofs.Terms.{TrustedMemory, Leads, Write, IsBounded, AreLinks, links_state, packet_write}
-use Rattle.all_links.proofs.Terms.{unit_writes, ManagerView, Named, named, stream_named, ArrivesAt, OperatesAt}
-use Rattle.all_links.proofs.Terms.{ResetsAt, SendsAt, Sent, LinkPacket, packet_numbered, partner, work_of, passed}
-use Rattle.all_links.proofs.Terms.{altered_to, altered_bytes, cut_short, option_and_then, option_map, take, Arrive}
-use Rattle.all_links.proofs.Terms.{Result, Ok, Err, IfOk}
+use Rattle.all_links.proofs.Terms.{unit_writes, ManagerView, Named, named, stream_named, OperatesAt}
+use Rattle.all_links.proofs.Terms.{ResetsAt, SendsAt, Sent, LinkPacket, packet_numbered, partner, work_of}
+use Rattle.all_links.proofs.Terms.{Arrive}
 use Rattle.std.proofs.Common.{inl, inr}
 use Rattle.std.specs.Prelude.{IfSome}
-use Rattle.ide_types.specs.declared.memory.Memory.{Memory}
 use Rattle.link_events.specs.declared.event.Loss.{Loss}
 use Rattle.link_verdicts.specs.declared.verdict.Operation.{Operation}
 use Rattle.link_verdicts.specs.declared.verdict.Verdict.TheVariants as v
@@ -37,9 +36,9 @@ use Rattle.all_links.specs.Interfaces.{interface_named}
 use Rattle.all_links.specs.Sides.{SidesKeep, IsSettledOrSame, AllFollow, SidesArrive, told_by, SidesOperate, SidesReset}
 use Rattle.all_links.specs.Sides.{SidesAsk, called_if, SidesCall}
 use Rattle.all_ends.specs.Writes.{writes_by}
-use Rattle.all_links.proofs.Arrivals.{at_partner, altered_is, numbered_here}
+use Rattle.link_steps.proofs.Arrivals.{at_partner, numbered_here}
 use Rattle.all_ends.proofs.Finds.{there, each_both, port_is}
-use Rattle.all_links.proofs.Operations.{some_named}
+use Rattle.link_steps.proofs.Operations.{some_named}
 use Rattle.all_links.proofs.Asked.{if_some, set_back, with_interfaces}
 use Rattle.all_ends.proofs.Writes.{writes_agree}
 
@@ -122,33 +121,34 @@ nothing_arrives {verdict} {old} {new} arrival says is = record {
       (λ older left. left));
 }
 
-pub arrived_beside : (old : Links) (port : PortName) (bytes : List ℕ) (verdict : Verdict) (ends : List LinkEnds)
-    (m : TrustedMemory) → port.link < length old.ends
-    → ArrivesAt old.ends old.trusted.contents.regions (grants_in old.keeper.interfaces) port bytes verdict
-    old.trusted.contents m.contents ends
+pub arrived_beside : (old : Links) (xs ys : List LinkAccesses) (port : PortName) (bytes : List ℕ) (verdict : Verdict)
+    (ends : List LinkEnds) (m : TrustedMemory) → length xs ≡ length old.ends
+    → port.link < length old.ends
+    → Brings old.keeper.interfaces port bytes verdict old.ends old.trusted.contents xs ends m.contents ys
     → SidesArrive (λ plan st. Some (record { port = port; bytes = bytes })) verdict old
     (record old { ends = ends; trusted = m; steps = old.steps + 1 })
-arrived_beside old port bytes verdict ends m here arrives =
+arrived_beside old xs ys port bytes verdict ends m many here brought =
     let f = there old.ends port.link here in
     let l : LinkEnds = f.0 in
-    let a = arrives l f.1 in
+    let access = there xs port.link (subst (λ (n : ℕ). port.link < n) (sym many) here) in
+    let a = brought.arrives l access.0 f.1 access.1 in
     let t = take_step (port_in port.side l) (cut_of bytes) in
     let grants = grants_in old.keeper.interfaces in
     record {
       keeper = refl;
-      devices = follow_changed old.ends ends port.link l a.0 f.1 a.1
-          (subst (λ (y : LinkEnds). IsSettledOrSame l y) (sym a.2.ends) (taken_follows port.side t.port l));
+      devices = follow_changed old.ends ends port.link l a.ends f.1 a.ends_are
+          (subst (λ (y : LinkEnds). IsSettledOrSame l y) (sym a.made.ends) (taken_follows port.side t.port l));
       contents = λ plan h links stands regions.
           let arrival : Option Arrival = Some (record { port = port; bytes = bytes }) in
           let at_port = port_is plan old.ends old.keeper.keys port l links f.1 in
           let same : writes_by plan grants (links_state plan old) arrival verdict
           ≡ unit_writes t.answer
           (λ unit. map (packet_write old.trusted.contents.regions grants port unit) t.port.delivered) =
-          ap (λ (w : Verdict). writes_by plan grants (links_state plan old) arrival w) a.2.verdict_is
+          ap (λ (w : Verdict). writes_by plan grants (links_state plan old) arrival w) a.made.verdict_is
           ∙ writes_agree plan grants old.ends old.keeper.keys old.packets.packets h port l stands f.1 at_port bytes _
           ∙ (λ i. unit_writes t.answer
           (λ (unit : UnitName). map (packet_write (sym regions i) grants port unit) t.port.delivered)) in
-          subst (λ (os : List (Option Write)). Leads old.trusted.contents os m.contents) (sym same) a.2.written;
+          subst (λ (os : List (Option Write)). Leads old.trusted.contents os m.contents) (sym same) a.made.written;
     }
 
 -- an event that brings the same
@@ -174,65 +174,21 @@ brings_given old plan port bytes links here =
     ap (λ (b : Bool). if b then came else None)
     (ap (λ (n : ℕ). nat_lt port.link n) (sym links.many) ∙ sym here)
 
-module _ (old : Links) (n : ℕ) (x : LinkPacket) (is : Some x ≡ packet_numbered old.packets.packets n) where
-  pub brings_whole : option_and_then passed (packet_numbered old.packets.packets n) ≡ Some (at_partner x x.bytes)
-  brings_whole = ap (λ (o : Option LinkPacket). option_and_then passed o) (sym is)
-
-  pub brings_altered : (at mask : ℕ) (port : PortName) (bytes : List ℕ) → Some bytes ≡ altered_bytes at mask x.bytes
-      → port ≡ partner x.port
-      → option_and_then (altered_to at mask) (packet_numbered old.packets.packets n)
-      ≡ Some (record { port = port; bytes = bytes })
-  brings_altered at mask port bytes some port_is =
-      ap (λ (o : Option LinkPacket). option_and_then (altered_to at mask) o) (sym is) ∙ altered_is at mask x
-      ∙ ap (λ (o : Option (List ℕ)). option_map (at_partner x) o) (sym some)
-      ∙ (λ i. Some (record { port = sym port_is i; bytes = bytes }))
-
-  pub brings_cut : (len : ℕ) → nat_le len (length x.bytes) ≡ true
-      → option_and_then (cut_short len) (packet_numbered old.packets.packets n)
-      ≡ Some (at_partner x (take len x.bytes))
-  brings_cut len test =
-      ap (λ (o : Option LinkPacket). option_and_then (cut_short len) o) (sym is)
-      ∙ ap (λ (b : Bool). if b then Some (at_partner x (take len x.bytes)) else None) test
-
 -- the bytes of a packet that reach the other end, whole or in part
-pub packet_beside : (old : Links) (n : ℕ) (x : LinkPacket) (port : PortName) (bytes : List ℕ) (verdict : Verdict)
-    (ends : List LinkEnds) (m : TrustedMemory) → IsBounded old.ends old.packets.packets old.steps
-    → Some x ≡ packet_numbered old.packets.packets n → port ≡ partner x.port
-    → ArrivesAt old.ends old.trusted.contents.regions (grants_in old.keeper.interfaces) port bytes verdict
-    old.trusted.contents m.contents ends
+pub packet_beside : (old : Links) (xs ys : List LinkAccesses) (n : ℕ) (x : LinkPacket) (port : PortName)
+    (bytes : List ℕ) (verdict : Verdict) (ends : List LinkEnds) (m : TrustedMemory)
+    → IsBounded old.ends old.packets.packets old.steps → Some x ≡ packet_numbered old.packets.packets n
+    → length xs ≡ length old.ends → port ≡ partner x.port
+    → Brings old.keeper.interfaces port bytes verdict old.ends old.trusted.contents xs ends m.contents ys
     → (arrival : Plan → LinkState → Option Arrival)
     → ((plan : Plan) → arrival plan (links_state plan old) ≡ Some (at_partner x bytes))
     → SidesArrive arrival verdict old (record old { ends = ends; trusted = m; steps = old.steps + 1 })
-packet_beside old n x port bytes verdict ends m bounded is port_is arrives arrival same =
+packet_beside old xs ys n x port bytes verdict ends m bounded is many port_is brought arrival same =
     brings {one = λ plan st. Some (record { port = port; bytes = bytes })}
     (λ plan links. same plan ∙ (λ i. Some (record { port = sym port_is i; bytes = bytes })))
-    (arrived_beside old port bytes verdict ends m
-    (subst (λ (p : PortName). p.link < length old.ends) (sym port_is) (numbered_here old n x bounded is)) arrives)
-
--- pages that are taken first
-pub arrives_roomed : {verdict : Verdict} {new : Links} (old mid : Links) (arrival : Plan → LinkState → Option Arrival)
-    → mid ≡ record old { trusted = mid.trusted } → mid.trusted.contents ≡ old.trusted.contents
-    → SidesArrive arrival verdict mid new → SidesArrive arrival verdict old new
-arrives_roomed {verdict} {new} old mid arrival is same x = from
-    (subst (λ (m : Links). SidesArrive arrival verdict m new) is x)
-  where
-    from : SidesArrive arrival verdict (record old { trusted = mid.trusted }) new → SidesArrive arrival verdict old new
-    from y = record {
-      keeper = y.keeper;
-      devices = y.devices;
-      contents = λ plan h links stands regions.
-          subst (λ (c : MemoryContents). Leads c
-          (writes_by plan (grants_in old.keeper.interfaces) (links_state plan old)
-          (arrival plan (links_state plan old)) verdict) new.trusted.contents) same
-          (y.contents plan h links stands (ap (λ (c : MemoryContents). c.regions) same ∙ regions));
-    }
-
-pub arrives_roomed_or : (r : Result Verdict Memory) (old mid new : Links)
-    (arrival : Plan → LinkState → Option Arrival) → mid ≡ record old { trusted = mid.trusted }
-    → mid.trusted.contents ≡ old.trusted.contents → IfOk r (λ (w : Verdict). SidesArrive arrival w mid new)
-    → IfOk r (λ (w : Verdict). SidesArrive arrival w old new)
-arrives_roomed_or (Ok verdict) old mid new arrival is same x = arrives_roomed old mid arrival is same x
-arrives_roomed_or (Err e) old mid new arrival is same x = tt
+    (arrived_beside old xs ys port bytes verdict ends m many
+    (subst (λ (p : PortName). p.link < length old.ends) (sym port_is)
+    (numbered_here old.ends old.packets.packets old.steps n x bounded is)) brought)
 
 -- ---- resets
 

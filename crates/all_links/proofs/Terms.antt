@@ -17,9 +17,12 @@ pub use Rattle.all_ends.specs.AllEnds.{ArrivesAt, OperatesAt, ResetsAt, SendsAt,
 pub use Rattle.all_ends.specs.Cuts.{cut_packets}
 pub use Rattle.all_links.specs.Events.{altered_bytes, operation_event}
 pub use Rattle.all_ends.specs.Places.{stream_named}
-pub use Rattle.all_links.specs.Links.{Ends, EndsAs, EndsOr, EndsWith, HasNoVerdict, links_state}
+pub use Rattle.accesses.specs.declared.link.LinkAccesses.{LinkAccesses}
+pub use Rattle.all_links.specs.Accesses.{standings_at, policy_in, Brings}
+pub use Rattle.all_links.specs.States.{links_state}
+pub use Rattle.all_links.specs.Links.{Ends, EndsIf, EndsArriving, EndsAs, EndsOr, EndsWith, HasNoVerdict}
 pub use Rattle.all_ends.specs.States.{AreLinks, IsBounded, IsLink, name_of, ports_in, state_of}
-pub use Rattle.all_links.specs.Besides.{IsAnsweredBy, answer_of_links, beside_in}
+pub use Rattle.all_links.specs.Besides.{IsAnsweredBy, AreEffects, answer_of_links, beside_in}
 pub use Rattle.all_ends.specs.Verdicts.{arrival_verdict, packet_effect, packet_write, unit_writes}
 pub use Rattle.all_links.specs.declared.links.Links.{Links}
 pub use Rattle.link_ends.proofs.Names.{IsNamed, named_stands}

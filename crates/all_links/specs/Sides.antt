@@ -31,7 +31,7 @@ use Rattle.link_ends.specs.Hosts.{InterfacesView, keyed_if, stopped_if, operated
 use Rattle.whole_machine.specs.Machine.{arrival_of}
 use Rattle.all_links.specs.declared.links.Links.{Links}
 use Rattle.all_ends.specs.States.{AreLinks}
-use Rattle.all_links.specs.Links.{links_state}
+use Rattle.all_links.specs.States.{links_state}
 use Rattle.all_ends.specs.AllEnds.{grants_in, ResetsAt}
 use Rattle.all_ends.specs.Places.{stream_named}
 use Rattle.all_ends.specs.Writes.{writes_by}
@@ -158,3 +158,4 @@ Sides (event.Stop link stream loss) verdict old new = SidesOperate operation.Sto
 Sides (event.Reset link) verdict old new = SidesReset link old new
 Sides (event.Status link stream) verdict old new = SidesKeep old new
 Sides (event.Interface e) verdict old new = SidesInterface e old new
+Sides (event.Access e) verdict old new = SidesKeep old new

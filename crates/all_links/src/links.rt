@@ -1,7 +1,7 @@
 //! All links, event by event.
 
 ghost use Rattle.std.specs.Prelude.{◌≡◌, ◌+◌, ◌<◌, ◌≤◌, ◌^◌, ℕ, Some, None, [], IfOk, OnOk, IsSome, Vec, option_map};
-ghost use Rattle.std.specs.Prelude.{List, length, nat_lt};
+ghost use Rattle.std.specs.Prelude.{true, List, length, nat_lt, if◌then◌else◌};
 ghost use Rattle.std.specs.declared.alloc.Global.{Global};
 ghost use Rattle.ide_plan.specs.Fits.{FitsPlan};
 ghost use Rattle.link_events.specs.Spells.{IsAllowed};
@@ -18,13 +18,15 @@ ghost use Rattle.all_ends.specs.Places.{stream_named};
 
 use crate::interface_verdicts::{asked_verdict, view_shown};
 use crate::stream_verdicts::{named_op, operated_verdict};
+use accesses::Accesses;
 use all_ends::{AllEnds, Packets, partner, send_verdict};
 use ide_plan::Plan;
 use ide_port::Sent;
-use ide_types::{Bytes, Memory, PortName};
+use ide_types::{Bytes, Memory, PortName, Side, SubKind};
 use interface_words::{InterfaceVerdict, Register};
 use link_ends::HostKeeper;
 use link_events::{Event, InterfaceEvent, Loss};
+use link_steps::bring;
 use link_verdicts::{Operation, Verdict};
 use std::alloc::Global;
 use tdi_host::InterfaceOp;
@@ -41,9 +43,6 @@ pub struct Links {
     pub trusted: Trusted,
     pub steps: u64,
 }
-
-/// The most pages that a unit's writes go to: it has at most 8 packets, each in one page.
-const MOST_PAGES: u8 = 8;
 
 /// The most bytes of a report.
 const MOST_REPORT: usize = 1_140;
@@ -67,8 +66,10 @@ impl Links {
     ghost use Rattle.all_ends.specs.States.{IsBounded};
     ghost use Rattle.all_ends.specs.AllEnds.{OperatesAt};
     ghost use Rattle.all_links.specs.Links.{IsFirst, StandsForSome, EndsWith, EndsOr, EndsAs, EndsAsOr};
+    ghost use Rattle.all_links.specs.Links.{EndsArrivingOr};
+    ghost use Rattle.all_links.specs.Accesses.{AccessesArriveOr, is_sending, runs_in, device_draw};
     ghost use Rattle.all_links.specs.Sides.{SidesKeep, SidesArrive, SidesOperate, SidesReset, SidesAsk, SidesCall};
-    ghost use Rattle.all_links.specs.Sides.{SidesInterface, Sides, arrival_at};
+    ghost use Rattle.all_links.specs.Sides.{SidesInterface, arrival_at};
     ghost use Rattle.all_ends.specs.AllEnds.{AsksAt};
     ghost use Rattle.all_links.specs.Besides.{answer_of_links};
     ghost use Rattle.all_links.specs.Interfaces.{interface_named, link_named};
@@ -93,8 +94,8 @@ impl Links {
         })
     }
 
-    // A verdict that changes nothing.
-    fn only(&mut self, verdict: Verdict) -> Verdict
+    /// Counts an event, whose verdict changes nothing.
+    pub fn only(&mut self, verdict: Verdict) -> Verdict
         requires { self.old.steps < 2 ^ 28 }
         ensures value { result ≡ verdict }
         ensures links { self.new ≡ record self.old { steps = self.old.steps + 1 } }
@@ -103,7 +104,8 @@ impl Links {
         verdict
     }
 
-    fn has_link(&self, link: u64) -> bool
+    /// Whether there is this link.
+    pub fn has_link(&self, link: u64) -> bool
         ensures { result ≡ nat_lt link (length self.now.ends) }
     {
         link < self.ends.count() as u64
@@ -121,7 +123,8 @@ impl Links {
         self.packets.reserve()
     }
 
-    fn send(
+    /// Sends a TLP's bytes at a port. For want of memory nothing changes.
+    pub fn send(
         &mut self,
         port: PortName,
         bytes: &[u8],
@@ -132,6 +135,7 @@ impl Links {
         requires bounded { IsBounded self.old.ends self.old.packets.packets self.old.steps }
         ensures ends { EndsOr result self.old self.new (Event.Send port bytes.now more trusted) }
         ensures sides { IfOk result (λ v. SidesKeep self.old self.new) }
+        ensures sending { IfOk result (λ v. is_sending v ≡ true) }
     {
         if !self.has_link(port.link as u64) {
             return Ok(self.only(Verdict::Nothing));
@@ -149,6 +153,7 @@ impl Links {
         requires bytes_room { 4184 ≤ self.old.packets.byte_room }
         ensures ends { EndsWith result self.old self.new (Event.Send port bytes.now more trusted) }
         ensures sides { SidesKeep self.old self.new }
+        ensures sending { is_sending result ≡ true }
     {
         let number = self.packets.count() as u64 + 1;
         let sent = self.ends.send(port, bytes, more, trusted);
@@ -162,95 +167,144 @@ impl Links {
 
     // ---- arrivals
 
-    // Bytes that arrive at a port that exists.
-    fn arrive_at(&mut self, port: PortName, bytes: &[u8]) -> Verdict
-        requires room { 8 ≤ self.old.trusted.spare }
+    /// Bytes that arrive at a port. The pages of what they may write are taken first. For want of memory nothing
+    /// changes.
+    pub fn arrive(
+        &mut self,
+        port: PortName,
+        bytes: &[u8],
+        accesses: &mut Accesses,
+    ) -> Result<Verdict, Memory>
         requires steps { self.old.steps < 2 ^ 28 }
         requires bounded { IsBounded self.old.ends self.old.packets.packets self.old.steps }
-        requires here { port.link < length self.old.ends }
-        ensures ends { EndsWith result self.old self.new (Event.Arrive port bytes.now) }
-        ensures sides { SidesArrive (λ plan st. Some (record { port = port; bytes = bytes.now })) result self.old
-            self.new }
-    {
-        let keeper = &self.keeper.interfaces;
-        let verdict = self.ends.arrive(port, bytes, keeper, &mut self.trusted);
-        self.steps += 1;
-        verdict
-    }
-
-    fn arrive(&mut self, port: PortName, bytes: &[u8]) -> Verdict
-        requires room { 8 ≤ self.old.trusted.spare }
-        requires steps { self.old.steps < 2 ^ 28 }
-        requires bounded { IsBounded self.old.ends self.old.packets.packets self.old.steps }
-        ensures ends { EndsWith result self.old self.new (Event.Arrive port bytes.now) }
-        ensures sides { SidesArrive (arrival_at (Event.Arrive port bytes.now)) result self.old self.new }
+        requires many { length accesses.old ≡ length self.old.ends }
+        ensures ends { EndsArrivingOr result accesses.old self.old self.new (Event.Arrive port bytes.now) }
+        ensures sides { IfOk result (λ v. SidesArrive (arrival_at (Event.Arrive port bytes.now)) v self.old self.new) }
+        ensures accesses { AccessesArriveOr result (arrival_at (Event.Arrive port bytes.now))
+            (Event.Arrive port bytes.now) self.old accesses.old accesses.new }
     {
         if !self.has_link(port.link as u64) {
-            return self.only(Verdict::Nothing);
+            return Ok(self.only(Verdict::Nothing));
         }
-        self.arrive_at(port, bytes)
+        let keeper = &self.keeper.interfaces;
+        let verdict = bring(
+            &mut self.ends,
+            keeper,
+            &mut self.trusted,
+            accesses,
+            port,
+            bytes,
+        )?;
+        self.steps += 1;
+        Ok(verdict)
     }
 
-    fn pass(&mut self, packet: u64) -> Verdict
-        requires room { 8 ≤ self.old.trusted.spare }
+    /// A packet by its number arrives at the other end of its link. For want of memory nothing changes.
+    pub fn pass(&mut self, packet: u64, accesses: &mut Accesses) -> Result<Verdict, Memory>
         requires steps { self.old.steps < 2 ^ 28 }
         requires bounded { IsBounded self.old.ends self.old.packets.packets self.old.steps }
-        ensures ends { EndsWith result self.old self.new (Event.Pass packet) }
-        ensures sides { SidesArrive (arrival_at (Event.Pass packet)) result self.old self.new }
+        requires many { length accesses.old ≡ length self.old.ends }
+        ensures ends { EndsArrivingOr result accesses.old self.old self.new (Event.Pass packet) }
+        ensures sides { IfOk result (λ v. SidesArrive (arrival_at (Event.Pass packet)) v self.old self.new) }
+        ensures accesses { AccessesArriveOr result (arrival_at (Event.Pass packet)) (Event.Pass packet) self.old
+            accesses.old accesses.new }
     {
         match self.packets.get(packet) {
-            None => self.only(Verdict::Nothing),
+            None => Ok(self.only(Verdict::Nothing)),
             Some((port, bytes)) => {
                 let keeper = &self.keeper.interfaces;
                 let port = partner(port);
-                let verdict = self.ends.arrive(port, bytes, keeper, &mut self.trusted);
+                let verdict = bring(
+                    &mut self.ends,
+                    keeper,
+                    &mut self.trusted,
+                    accesses,
+                    port,
+                    bytes,
+                )?;
                 self.steps += 1;
-                verdict
+                Ok(verdict)
             }
         }
     }
 
-    fn alter(&mut self, alloc: Global, packet: u64, at: u64, mask: u8) -> Result<Verdict, Memory>
-        requires room { 8 ≤ self.old.trusted.spare }
+    /// A packet by its number, with its byte at `at` combined with `mask`, arrives at the other end of its link. For
+    /// want of memory nothing changes.
+    pub fn alter(
+        &mut self,
+        alloc: Global,
+        packet: u64,
+        at: u64,
+        mask: u8,
+        accesses: &mut Accesses,
+    ) -> Result<Verdict, Memory>
         requires steps { self.old.steps < 2 ^ 28 }
         requires bounded { IsBounded self.old.ends self.old.packets.packets self.old.steps }
-        ensures ends { EndsOr result self.old self.new (Event.Alter packet at mask) }
+        requires many { length accesses.old ≡ length self.old.ends }
+        ensures ends { EndsArrivingOr result accesses.old self.old self.new (Event.Alter packet at mask) }
         ensures sides { IfOk result (λ v. SidesArrive (arrival_at (Event.Alter packet at mask)) v self.old self.new) }
+        ensures accesses { AccessesArriveOr result (arrival_at (Event.Alter packet at mask))
+            (Event.Alter packet at mask) self.old accesses.old accesses.new }
     {
         match self.packets.get(packet) {
             None => Ok(self.only(Verdict::Nothing)),
             Some((port, bytes)) => match altered(alloc, bytes, at, mask)? {
                 None => Ok(self.only(Verdict::Nothing)),
-                Some(bytes) => Ok(self.arrive_at(partner(port), &bytes)),
+                Some(bytes) => {
+                    let keeper = &self.keeper.interfaces;
+                    let port = partner(port);
+                    let verdict = bring(
+                        &mut self.ends,
+                        keeper,
+                        &mut self.trusted,
+                        accesses,
+                        port,
+                        &bytes,
+                    )?;
+                    self.steps += 1;
+                    Ok(verdict)
+                }
             },
         }
     }
 
-    fn cut_short(&mut self, packet: u64, length: u64) -> Verdict
-        requires room { 8 ≤ self.old.trusted.spare }
+    /// The first `len` bytes of a packet by its number arrive at the other end of its link. For want of memory
+    /// nothing changes.
+    pub fn cut(&mut self, packet: u64, len: u64, accesses: &mut Accesses) -> Result<Verdict, Memory>
         requires steps { self.old.steps < 2 ^ 28 }
         requires bounded { IsBounded self.old.ends self.old.packets.packets self.old.steps }
-        ensures ends { EndsWith result self.old self.new (Event.Cut packet length) }
-        ensures sides { SidesArrive (arrival_at (Event.Cut packet length)) result self.old self.new }
+        requires many { length accesses.old ≡ length self.old.ends }
+        ensures ends { EndsArrivingOr result accesses.old self.old self.new (Event.Cut packet len) }
+        ensures sides { IfOk result (λ v. SidesArrive (arrival_at (Event.Cut packet len)) v self.old self.new) }
+        ensures accesses { AccessesArriveOr result (arrival_at (Event.Cut packet len)) (Event.Cut packet len)
+            self.old accesses.old accesses.new }
     {
         match self.packets.get(packet) {
-            None => self.only(Verdict::Nothing),
+            None => Ok(self.only(Verdict::Nothing)),
             Some((port, bytes)) => {
-                if length <= bytes.len() as u64 {
+                if len <= bytes.len() as u64 {
                     let keeper = &self.keeper.interfaces;
                     let port = partner(port);
-                    let bytes = &bytes[..length as usize];
-                    let verdict = self.ends.arrive(port, bytes, keeper, &mut self.trusted);
+                    let bytes = &bytes[..len as usize];
+                    let verdict = bring(
+                        &mut self.ends,
+                        keeper,
+                        &mut self.trusted,
+                        accesses,
+                        port,
+                        bytes,
+                    )?;
                     self.steps += 1;
-                    verdict
+                    Ok(verdict)
                 } else {
-                    self.only(Verdict::Nothing)
+                    Ok(self.only(Verdict::Nothing))
                 }
             }
         }
     }
 
-    fn dump(&mut self, alloc: Global, packet: u64) -> Result<Verdict, Memory>
+    /// The bytes of a packet by its number.
+    pub fn dump(&mut self, alloc: Global, packet: u64) -> Result<Verdict, Memory>
         requires steps { self.old.steps < 2 ^ 28 }
         requires bounded { IsBounded self.old.ends self.old.packets.packets self.old.steps }
         ensures ends { EndsOr result self.old self.new (Event.Dump packet) }
@@ -263,63 +317,6 @@ impl Links {
                 Ok(self.only(Verdict::Packet { packet, bytes }))
             }
         }
-    }
-
-    // ---- arrivals that take the pages of what they may write first
-
-    // Takes what the writes of one unit may need.
-    fn reserve_pages(&mut self) -> Result<(), Memory>
-        ensures links { self.new ≡ record self.old { trusted = self.new.trusted } }
-        ensures contents { self.new.trusted.contents ≡ self.old.trusted.contents }
-        ensures room { OnOk result (8 ≤ self.new.trusted.spare) }
-    {
-        self.trusted.spare(MOST_PAGES)
-    }
-
-    fn arrive_event(&mut self, port: PortName, bytes: &[u8]) -> Result<Verdict, Memory>
-        requires steps { self.old.steps < 2 ^ 28 }
-        requires bounded { IsBounded self.old.ends self.old.packets.packets self.old.steps }
-        ensures ends { EndsOr result self.old self.new (Event.Arrive port bytes.now) }
-        ensures sides { IfOk result (λ v. SidesArrive (arrival_at (Event.Arrive port bytes.now)) v self.old self.new) }
-    {
-        self.reserve_pages()?;
-        Ok(self.arrive(port, bytes))
-    }
-
-    fn pass_event(&mut self, packet: u64) -> Result<Verdict, Memory>
-        requires steps { self.old.steps < 2 ^ 28 }
-        requires bounded { IsBounded self.old.ends self.old.packets.packets self.old.steps }
-        ensures ends { EndsOr result self.old self.new (Event.Pass packet) }
-        ensures sides { IfOk result (λ v. SidesArrive (arrival_at (Event.Pass packet)) v self.old self.new) }
-    {
-        self.reserve_pages()?;
-        Ok(self.pass(packet))
-    }
-
-    fn alter_event(
-        &mut self,
-        alloc: Global,
-        packet: u64,
-        at: u64,
-        mask: u8,
-    ) -> Result<Verdict, Memory>
-        requires steps { self.old.steps < 2 ^ 28 }
-        requires bounded { IsBounded self.old.ends self.old.packets.packets self.old.steps }
-        ensures ends { EndsOr result self.old self.new (Event.Alter packet at mask) }
-        ensures sides { IfOk result (λ v. SidesArrive (arrival_at (Event.Alter packet at mask)) v self.old self.new) }
-    {
-        self.reserve_pages()?;
-        self.alter(alloc, packet, at, mask)
-    }
-
-    fn cut_event(&mut self, packet: u64, length: u64) -> Result<Verdict, Memory>
-        requires steps { self.old.steps < 2 ^ 28 }
-        requires bounded { IsBounded self.old.ends self.old.packets.packets self.old.steps }
-        ensures ends { EndsOr result self.old self.new (Event.Cut packet length) }
-        ensures sides { IfOk result (λ v. SidesArrive (arrival_at (Event.Cut packet length)) v self.old self.new) }
-    {
-        self.reserve_pages()?;
-        Ok(self.cut_short(packet, length))
     }
 
     // ---- operations, resets and states
@@ -341,7 +338,9 @@ impl Links {
         Some((link as u8, stream as u8))
     }
 
-    fn operate(
+    /// An operation on a stream of a link. It has no verdict if a reply is bad, or if an exchange is lost none of whose
+    /// messages is lost; that does not come while the links stand for some history.
+    pub fn operate(
         &mut self,
         operation: Operation,
         link: u64,
@@ -401,10 +400,13 @@ impl Links {
         operated_verdict(operation, link, stream, loss, outcome)
     }
 
-    fn reset(&mut self, link: u64) -> Verdict
+    /// Resets a link.
+    pub fn reset(&mut self, link: u64) -> Verdict
         requires steps { self.old.steps < 2 ^ 28 }
         requires bounded { IsBounded self.old.ends self.old.packets.packets self.old.steps }
         ensures ends { EndsWith result self.old self.new (Event.Reset link) }
+        ensures verdict { result ≡ (if nat_lt link (length self.old.ends) then Verdict.Reset link
+            else Verdict.Nothing) }
         ensures sides { SidesReset link self.old self.new }
     {
         if !self.has_link(link) {
@@ -417,7 +419,8 @@ impl Links {
         Verdict::Reset { link }
     }
 
-    fn status(&mut self, link: u64, stream: u64) -> Verdict
+    /// The states of a stream at both ports of a link.
+    pub fn status(&mut self, link: u64, stream: u64) -> Verdict
         requires steps { self.old.steps < 2 ^ 28 }
         requires bounded { IsBounded self.old.ends self.old.packets.packets self.old.steps }
         ensures ends { EndsWith result self.old self.new (Event.Status link stream) }
@@ -447,8 +450,8 @@ impl Links {
         self.only(Verdict::Interface { verdict })
     }
 
-    // The link and the place on it of the interface of a number, if there is one.
-    fn interface(&self, number: u64) -> Option<(u8, usize)>
+    /// The link and the place on it of the interface of a number, if there is one.
+    pub fn interface(&self, number: u64) -> Option<(u8, usize)>
         requires { length self.now.ends ≤ 8 }
         ensures { result ≡ interface_named self.now.keeper.interfaces self.now.ends number }
     {
@@ -459,6 +462,33 @@ impl Links {
             return None;
         }
         self.ends.interface(number)
+    }
+
+    /// Whether the interface of a number is in RUN; false if there is none.
+    pub fn runs(&self, number: u64) -> bool
+        requires { length self.now.ends ≤ 8 }
+        ensures { result ≡ runs_in self.now number }
+    {
+        match self.interface(number) {
+            None => false,
+            Some((link, place)) => self.ends.runs(link, place),
+        }
+    }
+
+    /// The greatest draw under which the device of a link opens posted requests on the stream of the interface of a
+    /// number, 0 if there is none.
+    pub fn device_draw(&self, link: u8, number: u64) -> u32
+        requires here { link < length self.now.ends }
+        requires interface { number < length self.now.keeper.interfaces.interfaces }
+        ensures { result ≡ device_draw self.now number link }
+    {
+        let stream = self.keeper.interfaces.manager().stream(number as usize);
+        let side = Side::Device;
+        let port = PortName { side, link };
+        match self.ends.receiving_draw(port, stream, SubKind::Pr) {
+            None => 0,
+            Some(draw) => draw,
+        }
     }
 
     // Carries an operation on the interface of this number, which is on this link. If the event has a verdict no reply
@@ -483,8 +513,9 @@ impl Links {
             .operate_on(link, &mut self.keeper, interface, op, loss)
     }
 
-    // An operation that reads no report.
-    fn operate_interface(
+    /// An operation on an interface that reads no report. It has no verdict if a reply is bad, or if an exchange is
+    /// lost none of whose messages is lost.
+    pub fn operate_interface(
         &mut self,
         alloc: Global,
         op: InterfaceOp,
@@ -573,7 +604,8 @@ impl Links {
         }
     }
 
-    fn flr(&mut self, number: u64) -> Verdict
+    /// A function level reset of an interface.
+    pub fn flr(&mut self, number: u64) -> Verdict
         requires steps { self.old.steps < 2 ^ 28 }
         requires bounded { IsBounded self.old.ends self.old.packets.packets self.old.steps }
         ensures ends { EndsWith result self.old self.new (Event.Interface (InterfaceEvent.Flr number)) }
@@ -621,7 +653,8 @@ impl Links {
         }
     }
 
-    fn ask(&mut self, alloc: Global, event: &InterfaceEvent) -> Result<Option<Verdict>, Memory>
+    /// The verdict of an event on an interface or on trusted memory, if it has one. For want of memory nothing changes.
+    pub fn ask(&mut self, alloc: Global, event: &InterfaceEvent) -> Result<Option<Verdict>, Memory>
         requires steps { self.old.steps < 2 ^ 28 }
         requires bounded { IsBounded self.old.ends self.old.packets.packets self.old.steps }
         requires allowed { IsAllowedInterface event.now }
@@ -653,47 +686,6 @@ impl Links {
             InterfaceEvent::Memory { address, length } => {
                 Ok(Some(self.memory(alloc, *address, *length)?))
             }
-        }
-    }
-
-    /// The verdict of an event, and what it makes of the links (this profile). For want of memory nothing changes.
-    ///
-    /// An operation has no verdict if a reply is bad, or if an exchange is lost none of whose messages is lost, and none
-    /// is made up for it. `ends` says that this does not come while the links stand for some history, and, on an
-    /// interface, while its device answers as the machine does; `World` shows both of every event.
-    pub fn answer(&mut self, alloc: Global, event: &Event) -> Result<Option<Verdict>, Memory>
-        requires steps { self.old.steps < 2 ^ 28 }
-        requires bounded { IsBounded self.old.ends self.old.packets.packets self.old.steps }
-        requires allowed { IsAllowed event.now }
-        ensures ends { EndsAsOr result self.old self.new event.now }
-        ensures sides { IfOk result (λ o. IfSome o (λ v. Sides event.now v self.old self.new)) }
-    {
-        match event {
-            Event::Establish { link, stream, lose } => {
-                Ok(self.operate(Operation::Establish, *link, *stream, *lose))
-            }
-            Event::Refresh { link, stream, lose } => {
-                Ok(self.operate(Operation::Refresh, *link, *stream, *lose))
-            }
-            Event::Stop { link, stream, lose } => {
-                Ok(self.operate(Operation::Stop, *link, *stream, *lose))
-            }
-            Event::Interface { event } => self.ask(alloc, event),
-            Event::Send {
-                port,
-                bytes,
-                more,
-                trusted,
-            } => Ok(Some(self.send(*port, bytes.as_slice(), *more, *trusted)?)),
-            Event::Pass { packet } => Ok(Some(self.pass_event(*packet)?)),
-            Event::Alter { packet, at, mask } => {
-                Ok(Some(self.alter_event(alloc, *packet, *at, *mask)?))
-            }
-            Event::Cut { packet, length } => Ok(Some(self.cut_event(*packet, *length)?)),
-            Event::Arrive { port, bytes } => Ok(Some(self.arrive_event(*port, bytes.as_slice())?)),
-            Event::Dump { packet } => Ok(Some(self.dump(alloc, *packet)?)),
-            Event::Reset { link } => Ok(Some(self.reset(*link))),
-            Event::Status { link, stream } => Ok(Some(self.status(*link, *stream))),
         }
     }
 }

@@ -22,6 +22,12 @@ abbrev pub outgoing_as : List StreamPlan → Side → Result Tlp TlpFault → Ou
 outgoing_as streams side (Err fault) = NoTlp fault
 outgoing_as streams side (Ok t) = outgoing_on t (chosen (choice_of streams side (header t)))
 
+-- the stream that it takes, if it takes one
+abbrev pub stream_taken : Outgoing → Option ℕ
+stream_taken (NoTlp fault) = None
+stream_taken OnNone = None
+stream_taken (OnStream t stream) = Some stream
+
 -- first the bytes are read, then the TLP's stream is chosen
 unfoldable pub outgoing_of : List StreamPlan → Side → List ℕ → Outgoing
 outgoing_of streams side bytes = outgoing_as streams side (read_of bytes)

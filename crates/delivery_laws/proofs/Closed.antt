@@ -8,8 +8,17 @@ use Rattle.sealing_laws.proofs.Terms.{if◌then◌else◌, AllByRecursion, and_p
 use Rattle.sealing_laws.proofs.Terms.{nat_tests, append-nil, take_all}
 use Rattle.sealing_laws.proofs.Terms.{PortName, Event, Verdict, Accepted, UnitName, Effect, Packet, Plan, SubStream}
 use Rattle.sealing_laws.proofs.Terms.{is_same, is_closed, units, open_unit, is_of, is_under, sealed_packets, sent}
-use Rattle.sealing_laws.proofs.Terms.{received_in, arrived_packet, held, got, units_got, draws_got, total_in, front_of}
-use Rattle.sealing_laws.proofs.Terms.{front_sent, front_due, units_since, History, base, CauseLaw, DrawFacts}
+use Rattle.sealing_laws.proofs.Terms.{
+  received_in,
+  arrived_packet,
+  held,
+  got,
+  units_got,
+  draws_got,
+  total_in,
+  ahead_of_unit,
+}
+use Rattle.sealing_laws.proofs.Terms.{ahead_sent, ahead_due, units_since, History, base, CauseLaw, DrawFacts}
 use Rattle.sealing_laws.proofs.Terms.{StreamsFit, NoForgery, NotForged, ClosedLaw, TotalsFit, same_stream, eqb-refl}
 use Rattle.sealing_laws.proofs.Terms.{joined, joined_units, ending, AcceptedBy, WasSealed, accepted_by, received_there}
 use Rattle.sealing_laws.proofs.Terms.{numbered}
@@ -82,8 +91,8 @@ sealed_draws plan fits facts h cause forged s =
 -- ---- the pair at which a unit is accepted
 
 front_total : (plan : Plan) (s : SubStream) (a b : ℕ) → is_closed plan s.link s.stream ≡ true → a < 18446744073709551616
-    → b < 18446744073709551616 → front_of plan s 1 a ≡ front_of plan s 1 b → a ≡ b
-unfolding front_of
+    → b < 18446744073709551616 → ahead_of_unit plan s 1 a ≡ ahead_of_unit plan s 1 b → a ≡ b
+unfolding ahead_of_unit
 front_total plan s a b closed a_fits b_fits same =
     let bytes : to_be_bytes w64 a ≡ to_be_bytes w64 b = rw closed at same in
     sym (from_be_bytes-to_be_bytes_8 a a_fits) ∙ (ap (from_be_bytes w64) bytes ∙ from_be_bytes-to_be_bytes_8 b b_fits)
@@ -156,8 +165,8 @@ module _
       let number : unit.unit ≡ 1 = omega (arith, numbered plan h port by.packet unit by.passed, zero_got) in
       let x = accepted_sealed in
       let sealed_front = front_is plan fits facts h cause.1 r j x (from_base plan facts h e port unit effects cause) in
-      let fronts : front_of plan r 1 (sum_sent plan h r from j) ≡ front_of plan r 1 (units_since h r from) =
-      sym sealed_front ∙ (ap (front_sent plan h r j) (sym number) ∙ (was.same_front ∙ ap (front_due plan h r) number))
+      let fronts : ahead_of_unit plan r 1 (sum_sent plan h r from j) ≡ ahead_of_unit plan r 1 (units_since h r from) =
+      sym sealed_front ∙ (ap (ahead_sent plan h r j) (sym number) ∙ (was.same_ahead ∙ ap (ahead_due plan h r) number))
       in
       let draws = below_next j (draws_got h r) (none_above plan facts h e port unit effects cause) in
       let received = since_total h r from (suc j) draws ∙ last_none from j (λ k. units_got h r k) zero_got in

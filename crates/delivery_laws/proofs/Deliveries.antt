@@ -7,7 +7,7 @@ use Rattle.sealing_laws.proofs.Terms.{Option, refl, ap, sym, ◌∙◌, subst, a
 use Rattle.sealing_laws.proofs.Terms.{length-drop, inl, inr, if◌then◌else◌, ◌==◌, map, filter, slice_index, and_parts}
 use Rattle.sealing_laws.proofs.Terms.{cases_Bool, eqb-true, append-nil, drop-append-le, take-append-le, take_all}
 use Rattle.sealing_laws.proofs.Terms.{flat_map-append, SubKind, PortName, Plan, SubStream, is_same, key_of, units}
-use Rattle.sealing_laws.proofs.Terms.{units_after, open_unit, History, base, is_under, front_of_packet, SealedList}
+use Rattle.sealing_laws.proofs.Terms.{units_after, open_unit, History, base, is_under, ahead_of_packet, SealedList}
 use Rattle.sealing_laws.proofs.Terms.{KeyName}
 use Rattle.sealing_laws.proofs.Terms.{with_sealed, sealed_packets, sent, sent_in, sub_stream_of, packet_of}
 use Rattle.sealing_laws.proofs.Terms.{arrived_packet, received_in, is_of, held, got, units_got, CauseLaw, NoForgery}
@@ -83,25 +83,25 @@ abbrev tlp_with : Packet → List ℕ → List (List ℕ)
 tlp_with p payload = if is_sync_packet p then [] else (p.head ++ payload) ∷ []
 
 -- the plaintext of a unit that gains a packet
-plain-snoc : (key iv : List ℕ) (front : List Packet) (p : Packet) (payload : List ℕ) → p.body
-    ≡ masked key iv (length (encrypted front)) payload
-    → open_of key iv (encrypted (front ++ p ∷ [])) ≡ open_of key iv (encrypted front) ++ payload
+plain-snoc : (key iv : List ℕ) (unfinished : List Packet) (p : Packet) (payload : List ℕ) → p.body
+    ≡ masked key iv (length (encrypted unfinished)) payload
+    → open_of key iv (encrypted (unfinished ++ p ∷ [])) ≡ open_of key iv (encrypted unfinished) ++ payload
 unfolding open_of
-plain-snoc key iv front p payload sealed =
-    let first : 0 + length (encrypted front) ≡ length (encrypted front) = omega arith in
+plain-snoc key iv unfinished p payload sealed =
+    let first : 0 + length (encrypted unfinished) ≡ length (encrypted unfinished) = omega arith in
     rw (flat_map-append, append-nil, masked-append, first, sealed, masked-masked) refl
 
-opened-snoc : (plan : Plan) (s : SubStream) (j n : ℕ) (front : List Packet) (p : Packet) (payload : List ℕ)
-    → p.body ≡ masked (key_of plan j s) (iv_of s.sub n) (length (encrypted front)) payload
-    → opened_tlps plan s j n (front ++ p ∷ []) ≡ opened_tlps plan s j n front ++ tlp_with p payload
-opened-snoc plan s j n front p payload sealed =
+opened-snoc : (plan : Plan) (s : SubStream) (j n : ℕ) (unfinished : List Packet) (p : Packet) (payload : List ℕ)
+    → p.body ≡ masked (key_of plan j s) (iv_of s.sub n) (length (encrypted unfinished)) payload
+    → opened_tlps plan s j n (unfinished ++ p ∷ []) ≡ opened_tlps plan s j n unfinished ++ tlp_with p payload
+opened-snoc plan s j n unfinished p payload sealed =
     let key = key_of plan j s in
     let iv = iv_of s.sub n in
-    let plain = open_of key iv (encrypted front) in
-    let size = ap length sealed ∙ length-masked key iv (length (encrypted front)) payload in
-    ap (λ (bs : List ℕ). with_payloads bs (front ++ p ∷ [])) (plain-snoc key iv front p payload sealed)
-    ∙ (with_payloads-append plain payload front (p ∷ []) (length-open_of key iv (encrypted front))
-    ∙ ap (λ later. opened_tlps plan s j n front ++ later)
+    let plain = open_of key iv (encrypted unfinished) in
+    let size = ap length sealed ∙ length-masked key iv (length (encrypted unfinished)) payload in
+    ap (λ (bs : List ℕ). with_payloads bs (unfinished ++ p ∷ [])) (plain-snoc key iv unfinished p payload sealed)
+    ∙ (with_payloads-append plain payload unfinished (p ∷ []) (length-open_of key iv (encrypted unfinished))
+    ∙ ap (λ later. opened_tlps plan s j n unfinished ++ later)
     (rw (take_all (length p.body) payload (omega (arith, size))) refl))
 
 -- ---- what was sealed, opened, is what was sent
@@ -118,13 +118,15 @@ head_plain head bytes sub spells class =
     not_sync sub head (slice_index bytes 0) right.kind class
 
 -- its packet has the header, and the payload in the ciphertext
-carries_tlp : (plan : Plan) (ahead bytes : List ℕ) (d : SealedPacket) (front : List Packet) (t : Tlp) → read_of bytes
+carries_tlp : (plan : Plan) (ahead bytes : List ℕ) (d : SealedPacket) (unfinished : List Packet) (t : Tlp)
+    → read_of bytes
     ≡ Ok t → (d.sync ≡ false → class_of (header t) ≡ d.sub) → (d.sync ≡ true → IsSyncOf d)
-    → ((packet_of plan ahead bytes d front).body ≡ masked (key_of plan d.draw (sub_stream_of d)) (iv_of d.sub d.unit)
-    (length (encrypted front)) (carried_by d (body t)))
-    × (tlp_with (packet_of plan ahead bytes d front) (carried_by d (body t)) ≡ (if d.sync then [] else bytes ∷ []))
+    → ((packet_of plan ahead bytes d unfinished).body ≡ masked (key_of plan d.draw (sub_stream_of d))
+    (iv_of d.sub d.unit)
+    (length (encrypted unfinished)) (carried_by d (body t)))
+    × (tlp_with (packet_of plan ahead bytes d unfinished) (carried_by d (body t)) ≡ (if d.sync then [] else bytes ∷ []))
 unfolding packet_of
-carries_tlp plan ahead bytes d front t reads class is_sync = elim (cases_Bool d.sync) [
+carries_tlp plan ahead bytes d unfinished t reads class is_sync = elim (cases_Bool d.sync) [
   | inl sync ↦ (rw sync refl, rw (sync, sync_begins d.sub (is_sync sync).sub) refl)
   | inr no_sync ↦
       let plain = head_plain (header t) (head_bytes (header t)) d.sub (is_read bytes t reads).head (class no_sync) in (
@@ -155,23 +157,23 @@ opened_more plan xs s j d ahead bytes t reads class is_sync unit before same =
     joins : sub_stream_of d ≡ s → d.draw ≡ j → opened_all plan s j (sent_in xs s j ++ p ∷ []) ≡ before
         ++ (if d.sync then [] else bytes ∷ [])
     joins stream draw =
-        let front = open_unit (sent_in xs s j) in
+        let unfinished = open_unit (sent_in xs s j) in
         let n = length (units (sent_in xs s j)) + 1 in
         let here : sent_in xs (sub_stream_of d) d.draw ≡ sent_in xs s j = λ i. sent_in xs (stream i) (draw i) in
         let number : d.unit ≡ n = unit ∙ ap (λ (ps : List Packet). length (units ps) + 1) here in
         let known = carries_tlp plan ahead bytes d (open_unit (sent_in xs (sub_stream_of d) d.draw)) t reads class
         is_sync in
         let payload = carried_by d (body t) in
-        let sealed : p.body ≡ masked (key_of plan j s) (iv_of s.sub n) (length (encrypted front)) payload =
+        let sealed : p.body ≡ masked (key_of plan j s) (iv_of s.sub n) (length (encrypted unfinished)) payload =
         cc (known.0, draw, stream, ap (λ (t : SubStream). t.sub) stream, number, here) in
         rw (
           opened_all-snoc plan s j (sent_in xs s j) p,
-          opened-snoc plan s j n front p payload sealed,
+          opened-snoc plan s j n unfinished p payload sealed,
           known.1,
           ←
               append_assoc,
         )
-        (ap (λ front. front ++ (if d.sync then [] else bytes ∷ [])) same)
+        (ap (λ unfinished. unfinished ++ (if d.sync then [] else bytes ∷ [])) same)
 
 -- those of one send
 carried-cons : (s : SubStream) (j : ℕ) (bytes : List ℕ) (d : SealedPacket) (ds : List SealedPacket)
@@ -190,8 +192,8 @@ opened_by plan port stream live from class ahead bytes t reads is_class s j [] x
     (append-nil before)
 opened_by plan port stream live from class ahead bytes t reads is_class s j (d ∷ ds) xs all before same =
     let of = all.0 in
-    let front = open_unit (sent_in xs (sub_stream_of d) d.draw) in
-    let p = packet_of plan (ahead d) bytes d front in
+    let unfinished = open_unit (sent_in xs (sub_stream_of d) d.draw) in
+    let p = packet_of plan (ahead d) bytes d unfinished in
     let unit : d.unit ≡ length (units (sent_in xs (sub_stream_of d) d.draw)) + 1 = rw
     (lane_is port stream d of.port_is of.stream_is) of.unit in
     let first = map (λ (d : SealedPacket). bytes) (filter (carries_tlp_of s j) (d ∷ [])) in
@@ -210,7 +212,7 @@ all_opened plan facts ((e, Sealed ds) ∷ h) cause s j =
     let is = sealing_is plan h e ds cause.0 in
     let from = is.sending in
     opened_by plan from.port from.stream (live_at plan h from.port from.stream) (from_at plan h from.port from.stream)
-    from.class (front_of_packet plan (sealed_packets plan h) (base h)) (sent_bytes plan h e) is.tlp is.reads is.class s
+    from.class (ahead_of_packet plan (sealed_packets plan h) (base h)) (sent_bytes plan h e) is.tlp is.reads is.class s
     j
     ds (sealed_packets plan h)
     (all_of_sealing plan facts h cause.1 (sending_port e) (sent_bytes plan h e) ds is) (tlps_sent plan h s j)
@@ -238,7 +240,7 @@ got_opened plan ((e, Accepted port unit effects) ∷ h) cause s j =
           let one = one_unit (got plan h s j) (held plan h s j unit.unit) (arrived_packet plan h e) are.none
           (held_front plan h cause.1 s j unit.unit) m in
           let u = held plan h s j unit.unit ++ arrived_packet plan h e ∷ [] in
-          rw (is, one, opened_units-snoc, ← n) (ap (λ front. front ++ opened_tlps plan s j unit.unit u) same)
+          rw (is, one, opened_units-snoc, ← n) (ap (λ unfinished. unfinished ++ opened_tlps plan s j unit.unit u) same)
       | inr other ↦ rw other same
     ]
 got_opened plan (_ ∷ h) cause s j = got_opened plan h cause.1 s j
@@ -252,11 +254,11 @@ delivered plan s j ps qs none begins =
     let vs = units_after [] begins.0 in
     let last = opened_tlps plan s j (length (units qs) + 1) (open_unit qs) in
     let all : units qs ≡ us ++ vs = ap units (sym begins.1) ∙
-    (units-append ps begins.0 ∙ ap (λ front. us ++ units_after front begins.0) none) in
-    let front = opened_units plan s j 1 us in
+    (units-append ps begins.0 ∙ ap (λ unfinished. us ++ units_after unfinished begins.0) none) in
+    let unfinished = opened_units plan s j 1 us in
     let back = opened_units plan s j (1 + length us) vs in (
       back ++ last,
-      sym (append_assoc front back last) ∙ ap (λ all. all ++ last)
+      sym (append_assoc unfinished back last) ∙ ap (λ all. all ++ last)
           (sym (ap (opened_units plan s j 1) all ∙ opened_units-append plan s j 1 us vs)),
     )
 
@@ -266,5 +268,6 @@ delivery_law plan fits facts h cause forged s j =
     let begins = delivered plan s j (got plan h s j) (sent plan h s j) (got_units plan h cause s j).none
     (got_begins plan fits facts h cause forged s j) in
     subst (λ all. IsPrefixOf (tlps_got plan h s j) all) (all_opened plan facts h cause s j)
-    (subst (λ front. IsPrefixOf front (opened_all plan s j (sent plan h s j))) (sym (got_opened plan h cause s j))
+    (subst (λ unfinished. IsPrefixOf unfinished (opened_all plan s j (sent plan h s j)))
+    (sym (got_opened plan h cause s j))
     begins)

@@ -3,15 +3,15 @@ use Rattle.sealing_laws.proofs.Terms.{◌≡◌, ℕ, ◌+◌, true, List, [], �
 use Rattle.sealing_laws.proofs.Terms.{append_assoc, inl, inr, cases_Bool, append-nil}
 use Rattle.sealing_laws.proofs.Terms.{Plan, SubStream, units, open_unit, History, arrived_packet, is_of, held, got}
 use Rattle.sealing_laws.proofs.Terms.{pending, units_got, CauseLaw, IsFront, units-end, units-more, open_unit-end}
-use Rattle.sealing_laws.proofs.Terms.{open_unit-front, accepted_by, packet_that_came, Accepted, Packet}
+use Rattle.sealing_laws.proofs.Terms.{open_unit-unfinished, accepted_by, packet_that_came, Accepted, Packet}
 use Rattle.delivery_laws.proofs.Received.{held_front}
 
 -- ---- what was got are finished units, and what is pending finishes none
 
 units-front_append : (ps qs : List Packet) → IsFront qs → units (ps ++ qs) ≡ units ps
-units-front_append ps [] front = ap units (append-nil ps)
-units-front_append ps (q ∷ qs) front = ap units (sym (append_assoc ps (q ∷ []) qs)) ∙
-    (units-front_append (ps ++ q ∷ []) qs front.1 ∙ units-more ps q front.0)
+units-front_append ps [] unfinished = ap units (append-nil ps)
+units-front_append ps (q ∷ qs) unfinished = ap units (sym (append_assoc ps (q ∷ []) qs)) ∙
+    (units-front_append (ps ++ q ∷ []) qs unfinished.1 ∙ units-more ps q unfinished.0)
 
 -- so many units, and nothing after them
 pub record AreUnits (ps : List Packet) (n : ℕ) : Type 0 where
@@ -19,20 +19,23 @@ pub record AreUnits (ps : List Packet) (n : ℕ) : Type 0 where
   pub none : open_unit ps ≡ []
 
 -- a unit after finished ones
-pub one_unit : (ps front : List Packet) (p : Packet) → open_unit ps ≡ [] → IsFront front → p.prefix.m ≡ true
-    → units (ps ++ (front ++ p ∷ [])) ≡ units ps ++ (front ++ p ∷ []) ∷ []
-one_unit ps front p none is m =
-    let open_is : open_unit (ps ++ front) ≡ front = open_unit-front ps front is ∙ ap (λ qs. qs ++ front) none in
-    ap units (sym (append_assoc ps front (p ∷ [])))
-    ∙ (units-end (ps ++ front) p m ∙
-    (ap (λ us. us ++ (open_unit (ps ++ front) ++ p ∷ []) ∷ []) (units-front_append ps front is) ∙ ap
+pub one_unit : (ps unfinished : List Packet) (p : Packet) → open_unit ps ≡ [] → IsFront unfinished → p.prefix.m ≡ true
+    → units (ps ++ (unfinished ++ p ∷ [])) ≡ units ps ++ (unfinished ++ p ∷ []) ∷ []
+one_unit ps unfinished p none is m =
+    let open_is : open_unit (ps ++ unfinished) ≡ unfinished = open_unit-unfinished ps unfinished is ∙ ap
+    (λ qs. qs ++ unfinished) none in
+    ap units (sym (append_assoc ps unfinished (p ∷ [])))
+    ∙ (units-end (ps ++ unfinished) p m ∙
+    (ap (λ us. us ++ (open_unit (ps ++ unfinished) ++ p ∷ []) ∷ []) (units-front_append ps unfinished is) ∙ ap
     (λ qs. units ps ++ (qs ++ p ∷ []) ∷ []) open_is))
 
-one_unit_more : (ps front : List Packet) (p : Packet) (n : ℕ) → AreUnits ps n → IsFront front → p.prefix.m ≡ true
-    → AreUnits (ps ++ (front ++ p ∷ [])) (n + 1)
-one_unit_more ps front p n are is m = record {
-  count = rw (one_unit ps front p are.none is m, ← are.count) (length-append (units ps) ((front ++ p ∷ []) ∷ []));
-  none = rw (← append_assoc) (open_unit-end (ps ++ front) p m);
+one_unit_more : (ps unfinished : List Packet) (p : Packet) (n : ℕ) → AreUnits ps n → IsFront unfinished → p.prefix.m
+    ≡ true
+    → AreUnits (ps ++ (unfinished ++ p ∷ [])) (n + 1)
+one_unit_more ps unfinished p n are is m = record {
+  count = rw (one_unit ps unfinished p are.none is m, ← are.count)
+      (length-append (units ps) ((unfinished ++ p ∷ []) ∷ []));
+  none = rw (← append_assoc) (open_unit-end (ps ++ unfinished) p m);
 }
 
 pub got_units : (plan : Plan) (h : History) → CauseLaw plan h → (s : SubStream) (j : ℕ)
@@ -54,15 +57,16 @@ got_units plan (_ ∷ h) cause s j = got_units plan h cause.1 s j
 -- the packets so far are the units that were got and what is pending
 pub record StandsAfter (plan : Plan) (h : History) (s : SubStream) (j : ℕ) (ps : List Packet) : Type 0 where
   pub count : length (units ps) ≡ units_got h s j
-  pub front : open_unit ps ≡ pending plan h s j
+  pub unfinished : open_unit ps ≡ pending plan h s j
 
 pub stands_after : (plan : Plan) (h : History) → CauseLaw plan h → (s : SubStream) (j : ℕ)
     → StandsAfter plan h s j (got plan h s j ++ pending plan h s j)
 stands_after plan h cause s j =
     let are = got_units plan h cause s j in
-    let front = held_front plan h cause s j (units_got h s j + 1) in
+    let unfinished = held_front plan h cause s j (units_got h s j + 1) in
     record {
-      count = ap length (units-front_append (got plan h s j) (pending plan h s j) front) ∙ are.count;
-      front = open_unit-front (got plan h s j) (pending plan h s j) front ∙ ap (λ ps. ps ++ pending plan h s j)
+      count = ap length (units-front_append (got plan h s j) (pending plan h s j) unfinished) ∙ are.count;
+      unfinished = open_unit-unfinished (got plan h s j) (pending plan h s j) unfinished ∙ ap
+          (λ ps. ps ++ pending plan h s j)
           are.none;
     }

@@ -15,7 +15,8 @@ use Rattle.sealing_laws.proofs.Terms.{accepted_by, sealed_same, sent_in-snoc, sa
 use Rattle.sealing_laws.proofs.Terms.{posted-more, PortName, Event, Accepted, SealedPacket, UnitName, Effect, Packet}
 use Rattle.link_history.specs.Ordered.{NoneMissing, StandsAt, BehindPosted, OrderLaw}
 use Rattle.delivery_laws.proofs.Closed.{Older, older_first, all_older, got_kept}
-use Rattle.delivery_laws.proofs.Prefixes.{got_begins, unit_that_ends}
+use Rattle.sealing_laws.proofs.Terms.{unit_that_ends}
+use Rattle.delivery_laws.proofs.Prefixes.{got_begins}
 use Rattle.delivery_laws.proofs.Orders.{below_next, from_base, none_above}
 use Rattle.sealing_laws.proofs.Sums.{all_at, at_taken, next_taken, sent_in-append, in_parts, Rises, smaller_before}
 use Rattle.sealing_laws.proofs.Counted.{IsCounted, counted}
@@ -262,12 +263,12 @@ module _
     | inl same ↦
         let begins = rw (sealed_same plan h e (Accepted port unit effects) refl) at
         (got_begins plan fits facts g cause forged s unit.draw) in
-        let front = sent_in (take (suc place) xs) s unit.draw in
-        let shorter : length front ≤ length (got plan g s unit.draw) = omega
+        let unfinished = sent_in (take (suc place) xs) s unit.draw in
+        let shorter : length unfinished ≤ length (got plan g s unit.draw) = omega
         (arith, sized xs s unit.draw m place at, within) in
         let all = taken_begins xs (suc place) s unit.draw in
         rw same (sum_begins posted _ _
-        (two_begin front (got plan g s unit.draw) (sent_in xs s unit.draw) all begins shorter))
+        (two_begin unfinished (got plan g s unit.draw) (sent_in xs s unit.draw) all begins shorter))
     | inr differ ↦
         let small : k < unit.draw = omega (arith, less, differ) in
         rw (got_kept plan h e port unit effects s k (λ is. small), none.own k up small)

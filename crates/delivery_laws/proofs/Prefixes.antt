@@ -8,7 +8,7 @@ use Rattle.sealing_laws.proofs.Terms.{sealed_packets, sent, sent_in, arrived_pac
 use Rattle.sealing_laws.proofs.Terms.{got, units_got, due, ended, CauseLaw, NoForgery, NotForged, WasSealed, IsPrefixOf}
 use Rattle.sealing_laws.proofs.Terms.{last_tag, same_stream, joined, units-append, joined_units, EndsInM, EndsInM-snoc}
 use Rattle.sealing_laws.proofs.Terms.{All-snoc, units_all, units_end, unit_at, take_next, below, joined_take}
-use Rattle.sealing_laws.proofs.Terms.{joined-snoc, Came, Passed, accepted_by, ending, packet_that_came, numbered}
+use Rattle.sealing_laws.proofs.Terms.{joined-snoc, Came, accepted_by, ending, numbered, unit_that_ends}
 use Rattle.sealing_laws.proofs.Terms.{DrawFacts, StreamsFit, PortName, Event, Verdict, Accepted, UnitName, Effect}
 use Rattle.sealing_laws.proofs.Terms.{Packet, FitsPacket, untagged}
 use Rattle.sealing_laws.proofs.Below.{same_packets}
@@ -81,34 +81,23 @@ last_tag-snoc [] p = refl
 last_tag-snoc (q ∷ []) p = refl
 last_tag-snoc (q ∷ r ∷ ps) p = last_tag-snoc (r ∷ ps) p
 
--- the unit that ends here
-pub unit_that_ends : (plan : Plan) (h : History) (e : Event) (port : PortName) (unit : UnitName) (p : Packet)
-    → Came plan h e port p → Passed plan h port p unit
-    → held plan h (received_in port unit) unit.draw unit.unit ++ arrived_packet plan h e ∷ []
-    ≡ ended plan h port (ending p unit)
-unit_that_ends plan h e port unit p came passed =
-    ap (λ (n : ℕ). held plan h (received_in port unit) unit.draw n ++ arrived_packet plan h e ∷ [])
-    (numbered plan h port p unit passed)
-    ∙ ap (λ (q : Packet). pending plan h (received_in port unit) unit.draw ++ q ∷ [])
-    (packet_that_came plan h e port p came)
-
 -- it was sealed
 as_sealed : (plan : Plan) → StreamsFit plan → DrawFacts plan → (h : History) (e : Event) (port : PortName)
     (unit : UnitName) (p : Packet) → CauseLaw plan h → Came plan h e port p → p.prefix.m ≡ true
     → (was : WasSealed plan h port (ending p unit)) → was.unit ≡ ended plan h port (ending p unit)
 as_sealed plan fits facts h e port unit p cause came ends was =
     let s = received_in port unit in
-    let front = pending plan h s unit.draw in
+    let unfinished = pending plan h s unit.draw in
     let us = units (sent plan h s unit.draw) in
     let sealed_fits = unit_at (AllByRecursion FitsPacket) us was.place was.unit
     (units_all FitsPacket (sent plan h s unit.draw) (sent_fits plan fits facts h cause s unit.draw)) was.finished in
     let sealed_ends = unit_at EndsInM us was.place was.unit (units_end (sent plan h s unit.draw)) was.finished in
-    let all_fit = All-snoc FitsPacket front p (held_fits plan h cause s unit.draw (units_got h s unit.draw + 1))
+    let all_fit = All-snoc FitsPacket unfinished p (held_fits plan h cause s unit.draw (units_got h s unit.draw + 1))
     (came_fits plan h e port p came) in
-    let is_unit = EndsInM-snoc front p (held_front plan h cause s unit.draw (units_got h s unit.draw + 1)) ends in
-    same_unit was.unit (front ++ p ∷ []) sealed_fits all_fit sealed_ends is_unit
-    (same_packets was.unit (front ++ p ∷ []) sealed_fits all_fit was.same_authenticated was.same_encrypted)
-    (was.same_tag ∙ sym (last_tag-snoc front p))
+    let is_unit = EndsInM-snoc unfinished p (held_front plan h cause s unit.draw (units_got h s unit.draw + 1)) ends in
+    same_unit was.unit (unfinished ++ p ∷ []) sealed_fits all_fit sealed_ends is_unit
+    (same_packets was.unit (unfinished ++ p ∷ []) sealed_fits all_fit was.same_authenticated was.same_encrypted)
+    (was.same_tag ∙ sym (last_tag-snoc unfinished p))
 
 -- the units that were got of a sub-stream under a draw
 abbrev GotFirst : Plan → History → SubStream → ℕ → Type 0

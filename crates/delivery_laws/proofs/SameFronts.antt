@@ -5,8 +5,16 @@ use Rattle.sealing_laws.proofs.Terms.{inr, AllByRecursion, list_any, eqb-true, l
 use Rattle.sealing_laws.proofs.Terms.{false_from_ne_true, nat_tests, take-append-le, PortName, Sealed, SealedPacket}
 use Rattle.sealing_laws.proofs.Terms.{Packet, Plan, SubStream, is_same, is_closed, lane_in, units, open_unit, History}
 use Rattle.sealing_laws.proofs.Terms.{base, On, key_in, keys_at, SealedList, sealed_packets, packet_of, sent_in}
-use Rattle.sealing_laws.proofs.Terms.{is_under, sub_stream_of, units_got, draws_got, front_of, front_sent, front_due}
-use Rattle.sealing_laws.proofs.Terms.{is_of_unit, front_of_packet, CauseLaw, DrawFacts, StreamsFit, is_same-refl}
+use Rattle.sealing_laws.proofs.Terms.{
+  is_under,
+  sub_stream_of,
+  units_got,
+  draws_got,
+  ahead_of_unit,
+  ahead_sent,
+  ahead_due,
+}
+use Rattle.sealing_laws.proofs.Terms.{is_of_unit, ahead_of_packet, CauseLaw, DrawFacts, StreamsFit, is_same-refl}
 use Rattle.sealing_laws.proofs.Terms.{units-end}
 use Rattle.sealing_laws.proofs.Terms.{sent_in-snoc, received_direction, IsOn, Prefix, sent_bytes}
 use Rattle.delivery_laws.proofs.Orders.{is_drawn, below_next}
@@ -20,11 +28,11 @@ use Rattle.delivery_laws.proofs.Closed.{Older}
 
 -- ---- of what was sealed
 
--- it was sealed with the front that its unit has
+-- it was sealed with what comes ahead of its unit
 pub record IsFronted (plan : Plan) (h : History) (xs : SealedList) (place : ℕ) (x : SealedPacket × Packet) : Type 0
   where
     pub bytes : List ℕ
-    pub packet : x.1 ≡ packet_of plan (front_sent plan h (sub_stream_of x.0) x.0.draw x.0.unit) bytes x.0
+    pub packet : x.1 ≡ packet_of plan (ahead_sent plan h (sub_stream_of x.0) x.0.draw x.0.unit) bytes x.0
         (open_unit (sent_in (take place xs) (sub_stream_of x.0) x.0.draw))
 
 -- after a packet that ends its unit, packets of its sub-stream and draw are of later units
@@ -36,9 +44,10 @@ later_unit plan ys places i k x z at_x at_z less m s j x_stream x_draw z_stream 
     let test : is_under s j x ≡ true = grind
     (arith, nat_tests, ap (λ (t : SubStream). is_same t s) x_stream ∙ is_same-refl s) in
     let joins = ap (λ (zs : SealedList). sent_in zs s j) (next_taken ys i x at_x) ∙ sent_in-snoc (take i ys) x s j in
-    let front = sent_in (take i ys) s j in
-    let counted : length (units (sent_in (take (suc i) ys) s j)) ≡ length (units front) + 1 =
-    rw (joins, test, units-end front x.1 m_is) (length-append (units front) ((open_unit front ++ x.1 ∷ []) ∷ [])) in
+    let unfinished = sent_in (take i ys) s j in
+    let counted : length (units (sent_in (take (suc i) ys) s j)) ≡ length (units unfinished) + 1 =
+    rw (joins, test, units-end unfinished x.1 m_is)
+    (length-append (units unfinished) ((open_unit unfinished ++ x.1 ∷ []) ∷ [])) in
     let within = units_within ys s j (suc i) k (omega (arith, less)) in
     omega (
       arith,
@@ -52,7 +61,7 @@ later_unit plan ys places i k x z at_x at_z less m s j x_stream x_draw z_stream 
 pub fronted : (plan : Plan) → StreamsFit plan → DrawFacts plan → (h : History) → CauseLaw plan h
     → (place : ℕ) (x : SealedPacket × Packet)
     → slice_get (sealed_packets plan h) place ≡ Some x → x.0.m ≡ true → IsFronted plan h (sealed_packets plan h) place x
-unfolding sealed_packets front_sent
+unfolding sealed_packets ahead_sent
 fronted plan fits facts [] law place x at m = absurd cc
 fronted plan fits facts ((e, Sealed ds) ∷ h) law place x at m =
     let before = λ (old : slice_get (sealed_packets plan h) place ≡ Some x). fronted plan fits facts h law.1 place x old
@@ -60,9 +69,9 @@ fronted plan fits facts ((e, Sealed ds) ∷ h) law place x at m =
     elim (old_or_new plan ahead (sent_bytes plan h e) ds (sealed_packets plan h) place x at) [
       | inl old ↦
           let was = before old in
-          let front = ap (take place) (sym grown.1) ∙ take-append-le place (sealed_packets plan h) grown.0
+          let unfinished = ap (take place) (sym grown.1) ∙ take-append-le place (sealed_packets plan h) grown.0
           (omega (arith, within old)) in
-          record { bytes = was.bytes; packet = rw (none_of_unit old, front) was.packet }
+          record { bytes = was.bytes; packet = rw (none_of_unit old, unfinished) was.packet }
       | inr new ↦ record {
         bytes = sent_bytes plan h e;
         packet = rw (new.among (is_of_unit s j n) (of_unit s j n x.0 refl refl refl)) new.packet;
@@ -73,7 +82,7 @@ fronted plan fits facts ((e, Sealed ds) ∷ h) law place x at m =
     g = (e, Sealed ds) ∷ h
 
     ahead : SealedPacket → List ℕ
-    ahead = front_of_packet plan (sealed_packets plan h) (base h)
+    ahead = ahead_of_packet plan (sealed_packets plan h) (base h)
 
     s : SubStream
     s = sub_stream_of x.0
@@ -107,15 +116,15 @@ fronted plan fits facts ((e, w) ∷ h) law place x at m = let before = fronted p
 -- ---- of what arrives in order
 
 no_front : (plan : Plan) (h : History) (s : SubStream) (j n : ℕ) → (is_closed plan s.link s.stream && (n == 1)) ≡ false
-    → front_sent plan h s j n ≡ []
-unfolding front_sent front_of
+    → ahead_sent plan h s j n ≡ []
+unfolding ahead_sent ahead_of_unit
 no_front plan [] s j n off = refl
 no_front plan ((e, Sealed ds) ∷ h) s j n off = grind (arith, no_front plan h s j n off, off)
 no_front plan (_ ∷ h) s j n off = no_front plan h s j n off
 
 due_off : (plan : Plan) (h : History) (s : SubStream) (n : ℕ) → (is_closed plan s.link s.stream && (n == 1)) ≡ false
-    → front_due plan h s n ≡ []
-unfolding front_of
+    → ahead_due plan h s n ≡ []
+unfolding ahead_of_unit
 due_off plan h s n off = rw off refl
 
 -- what the receiver puts before it is what the sender put before it
@@ -124,7 +133,7 @@ pub same_fronts : (plan : Plan) → StreamsFit plan → DrawFacts plan → (h : 
     → IsOn plan h port s j
     → IsSealedIn plan h s j
     → (units_got h s j ≡ 0 → is_closed plan s.link s.stream ≡ true → Older plan h s j)
-    → front_sent plan h s j (units_got h s j + 1) ≡ front_due plan h s (units_got h s j + 1)
+    → ahead_sent plan h s j (units_got h s j + 1) ≡ ahead_due plan h s (units_got h s j + 1)
 same_fronts plan fits facts h law port s j receiver live x older = elim
     (cases_Bool (is_closed plan s.link s.stream && (units_got h s j + 1 == 1))) [
       | inl here ↦
@@ -137,9 +146,9 @@ same_fronts plan fits facts h law port s j receiver live x older = elim
           let sums = total-same from j (units_sent plan h s) (λ k. units_got h s k)
           (λ k up less. ap (λ (ps : List Packet). length (units ps)) (sym (older none tests.0 k up less)) ∙
           (got_units plan h law s k).count) in
-          ap (front_sent plan h s j) one
+          ap (ahead_sent plan h s j) one
           ∙ (front_is plan fits facts h law s j x least ∙
-          (ap (front_of plan s 1) (sums ∙ sym received) ∙ ap (front_due plan h s) (sym one)))
+          (ap (ahead_of_unit plan s 1) (sums ∙ sym received) ∙ ap (ahead_due plan h s) (sym one)))
       | inr off ↦ no_front plan h s j (units_got h s j + 1) off ∙ sym (due_off plan h s (units_got h s j + 1) off)
     ]
   where

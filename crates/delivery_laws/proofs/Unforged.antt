@@ -1,7 +1,7 @@
 -- What arrives unchanged and in order is no forgery.
 use Rattle.sealing_laws.proofs.Terms.{◌+◌, ◌≡◌, ℕ, suc, true, List, [], ◌∷◌, ◌++◌, length, Some, slice_get, take, refl}
 use Rattle.sealing_laws.proofs.Terms.{ap, sym, ◌∙◌, subst, inl, inr, cases_Bool, drop, append_assoc, take-append-drop}
-use Rattle.sealing_laws.proofs.Terms.{Plan, SubStream, units, units_after, open_unit, History, front_sent, front_due}
+use Rattle.sealing_laws.proofs.Terms.{Plan, SubStream, units, units_after, open_unit, History, ahead_sent, ahead_due}
 use Rattle.sealing_laws.proofs.Terms.{Arrival, sent, pending, units_got, received_in, before_tag, unit_under, CauseLaw}
 use Rattle.sealing_laws.proofs.Terms.{ArrivesInOrder, NotForged, WasSealed, OrderIsNoForgery, units-append, units-end}
 use Rattle.sealing_laws.proofs.Terms.{ending, DrawFacts, StreamsFit, PortName, Event, Packet, packet_bytes}
@@ -26,17 +26,17 @@ in_order_was_sealed : (plan : Plan) (h : History) → CauseLaw plan h
     → (s : SubStream) (j m : ℕ) (port : PortName) (p : Packet) → slice_get (sent plan h s j) m ≡ Some p → p.prefix.m
     ≡ true
     → StandsAfter plan h s j (take m (sent plan h s j)) → received_in port (unit_under h s j) ≡ s
-    → front_sent plan h s j (units_got h s j + 1) ≡ front_due plan h s (units_got h s j + 1)
+    → ahead_sent plan h s j (units_got h s j + 1) ≡ ahead_due plan h s (units_got h s j + 1)
     → WasSealed plan h port (ending p (unit_under h s j))
 in_order_was_sealed plan h cause s j m port p is ends after there fronts = record {
   unit = pending plan h s j ++ p ∷ [];
   place = units_got h s j;
   numbered = refl;
-  finished = rw there (rw (after.count, after.front) at (ends_next (sent plan h s j) m p is ends));
+  finished = rw there (rw (after.count, after.unfinished) at (ends_next (sent plan h s j) m p is ends));
   same_authenticated = rw there refl;
   same_encrypted = rw there refl;
-  same_front = subst (λ (t : SubStream). front_sent plan h t j (units_got h s j + 1)
-      ≡ front_due plan h t (units_got h s j + 1)) (sym there) fronts;
+  same_ahead = subst (λ (t : SubStream). ahead_sent plan h t j (units_got h s j + 1)
+      ≡ ahead_due plan h t (units_got h s j + 1)) (sym there) fronts;
   same_tag = last_tag-snoc (pending plan h s j) p;
 }
 

@@ -3,9 +3,18 @@ use Rattle.sealing_laws.proofs.Terms.{◌≡◌, ◌≢◌, ℕ, ◌+◌, ◌<�
 use Rattle.sealing_laws.proofs.Terms.{None, Option, Ok, Err, Result, take, refl, ap, sym, ◌∙◌, subst, arith}
 use Rattle.sealing_laws.proofs.Terms.{if◌then◌else◌, not, ◌||◌, is_some, nat_tests, flat_map-append, Plan}
 use Rattle.sealing_laws.proofs.Terms.{SubStream, has_stream, key_of, mode_of, stream_plan, open_unit, History}
-use Rattle.sealing_laws.proofs.Terms.{sealed_packets, sent_in, front_sent, front_due, Arrival, arrived, sent}
+use Rattle.sealing_laws.proofs.Terms.{sealed_packets, sent_in, ahead_sent, ahead_due, Arrival, arrived, sent}
 use Rattle.sealing_laws.proofs.Terms.{sub_stream_of, packet_of, pending, units_got, on_draw, failed, meets_counts}
-use Rattle.sealing_laws.proofs.Terms.{received_in, keys_at, Ending, due, arrival_due, settled, before_tag, under_keys}
+use Rattle.sealing_laws.proofs.Terms.{
+  received_in,
+  keys_at,
+  Ending,
+  due,
+  arrival_due,
+  ending_due,
+  before_tag,
+  under_keys,
+}
 use Rattle.sealing_laws.proofs.Terms.{is_mixed, is_overfull, receiving, unit_under, is_verified, CauseLaw, WholeLaw}
 use Rattle.sealing_laws.proofs.Terms.{ArrivesInOrder, IsTaken, DrawFacts, On, key_in, StreamsFit, PortName, Event}
 use Rattle.sealing_laws.proofs.Terms.{Pass, Alter, Cut, Arrive, Verdict, Fail, Held, Accepted, SealedPacket, Prefix}
@@ -21,17 +30,17 @@ use Rattle.delivery_laws.proofs.GotUnits.{StandsAfter, stands_after}
 
 -- ---- the tag
 
-tag_is : (plan : Plan) (ahead bytes : List ℕ) (d : SealedPacket) (front : List Packet) → d.m ≡ true
-    → (packet_of plan ahead bytes d front).tag ≡ tag_of (key_of plan d.draw (sub_stream_of d)) (iv_of d.sub d.unit)
-    (ahead ++ authenticated (front ++ packet_of plan ahead bytes d front ∷ []))
-    (encrypted (front ++ packet_of plan ahead bytes d front ∷ []))
+tag_is : (plan : Plan) (ahead bytes : List ℕ) (d : SealedPacket) (unfinished : List Packet) → d.m ≡ true
+    → (packet_of plan ahead bytes d unfinished).tag ≡ tag_of (key_of plan d.draw (sub_stream_of d)) (iv_of d.sub d.unit)
+    (ahead ++ authenticated (unfinished ++ packet_of plan ahead bytes d unfinished ∷ []))
+    (encrypted (unfinished ++ packet_of plan ahead bytes d unfinished ∷ []))
 unfolding packet_of
-tag_is plan ahead bytes d front m = rw (m, flat_map-append, flat_map-append, flat_map-append, flat_map-append) refl
+tag_is plan ahead bytes d unfinished m = rw (m, flat_map-append, flat_map-append, flat_map-append, flat_map-append) refl
 
 -- ---- the verdict
 
 due_arrives : (plan : Plan) (h : History) (e : Event) (a : Arrival) → arrived plan h e ≡ Some a → due plan h e
-    ≡ settled plan h a.port (before_tag plan h a)
+    ≡ ending_due plan h a.port (before_tag plan h a)
 unfolding due arrived
 due_arrives plan h (Pass n) a is = ap (arrival_due plan h) is
 due_arrives plan h (Alter n at mask) a is = ap (arrival_due plan h) is
@@ -56,22 +65,22 @@ under_keys_is plan h port p s j other there alone room = ap in_stream there ∙ 
 accepted_is : (plan : Plan) (h : History) (port : PortName) (p : Packet) (s : SubStream) (j : ℕ)
     → received_in port (unit_under h s j) ≡ s
     → p.tag ≡ tag_of (key_of plan j s) (iv_of s.sub (units_got h s j + 1))
-    (front_due plan h s (units_got h s j + 1) ++ authenticated (pending plan h s j ++ p ∷ []))
+    (ahead_due plan h s (units_got h s j + 1) ++ authenticated (pending plan h s j ++ p ∷ []))
     (encrypted (pending plan h s j ++ p ∷ []))
     → meets_counts plan h s (pending plan h s j ++ p ∷ []) ≡ true
-    → settled plan h port (Ok (record { packet = p; unit = unit_under h s j }))
+    → ending_due plan h port (Ok (record { packet = p; unit = unit_under h s j }))
     ≡ Accepted port (unit_under h s j) (effects_of plan h port (unit_under h s j) (pending plan h s j ++ p ∷ []))
 unfolding is_verified
 accepted_is plan h port p s j there tag counts =
     let verified = tag-verifies (key_of plan j s) (iv_of s.sub (units_got h s j + 1))
-    (front_due plan h s (units_got h s j + 1) ++ authenticated (pending plan h s j ++ p ∷ []))
+    (ahead_due plan h s (units_got h s j + 1) ++ authenticated (pending plan h s j ++ p ∷ []))
     (encrypted (pending plan h s j ++ p ∷ [])) p.tag tag in
     ap in_stream there ∙ rw (verified, counts) refl
   where
     in_stream : SubStream → Verdict
     in_stream t =
         if not (verifies (key_of plan j t) (iv_of s.sub (units_got h s j + 1))
-        (front_due plan h t (units_got h s j + 1) ++ authenticated (pending plan h t j ++ p ∷ []))
+        (ahead_due plan h t (units_got h s j + 1) ++ authenticated (pending plan h t j ++ p ∷ []))
         (encrypted (pending plan h t j ++ p ∷ [])) p.tag)
         then Fail port s.stream s.sub fail.Tag
         else if not (meets_counts plan h t (pending plan h t j ++ p ∷ [])) then Fail port s.stream s.sub fail.Order
@@ -92,8 +101,8 @@ module _
     (plan : Plan) (fits : StreamsFit plan) (facts : DrawFacts plan) (h : History) (cause : CauseLaw plan h) (e : Event)
     (s : SubStream) (j m : ℕ)
     (port : PortName) (p : Packet) (arrives : ArrivesInOrder plan h e s j m port p) where
-  abbrev front : List Packet
-  front = pending plan h s j
+  abbrev unfinished : List Packet
+  unfinished = pending plan h s j
 
   abbrev n : ℕ
   n = units_got h s j + 1
@@ -108,34 +117,34 @@ module _
   there = λ i. record { link = arrives.receiver.0 i; stream = s.stream; direction = arrives.receiver.1 i; sub = s.sub }
 
   -- the fronts of both sides
-  pub fronts_agree : p.prefix.m ≡ true → front_sent plan h s j (units_got h s j + 1)
-      ≡ front_due plan h s (units_got h s j + 1)
+  pub fronts_agree : p.prefix.m ≡ true → ahead_sent plan h s j (units_got h s j + 1)
+      ≡ ahead_due plan h s (units_got h s j + 1)
   fronts_agree last =
       let among = place_among (sealed_packets plan h) s j m p arrives.sealed in
       let sealed : IsSealedIn plan h s j = record
       { place = among.place; sealed = among.sealed; stands = among.stands; under = among.under } in
       same_fronts plan fits facts h cause port s j arrives.receiver arrives.live sealed (arrives.older last)
 
-  -- its tag is that of the unit that it ends, with the front of that unit
+  -- its tag is that of the unit that it ends, with what comes ahead of that unit
   sent_tag : p.prefix.m ≡ true
-      → p.tag ≡ tag_of (key_of plan j s) (iv_of s.sub n) (front_due plan h s n ++ authenticated (front ++ p ∷ []))
-      (encrypted (front ++ p ∷ []))
+      → p.tag ≡ tag_of (key_of plan j s) (iv_of s.sub n) (ahead_due plan h s n ++ authenticated (unfinished ++ p ∷ []))
+      (encrypted (unfinished ++ p ∷ []))
   sent_tag last =
       let d = place.description in
       let m_is = sym (ap (λ (f : Prefix). f.m) place.prefix) ∙ last in
       let with_front = fronted plan fits facts h cause place.place (d, p) place.stands m_is in
       let number : d.unit ≡ n = place.unit ∙ ap (λ k. k + 1) after.count in
-      let ahead : front_sent plan h (sub_stream_of d) d.draw d.unit ≡ front_due plan h s n =
-      (λ i. front_sent plan h (place.stream i) (place.draw i) (number i)) ∙ fronts_agree last in
+      let ahead : ahead_sent plan h (sub_stream_of d) d.draw d.unit ≡ ahead_due plan h s n =
+      (λ i. ahead_sent plan h (place.stream i) (place.draw i) (number i)) ∙ fronts_agree last in
       let xs = take place.place (sealed_packets plan h) in
-      let opens : open_unit (sent_in xs (sub_stream_of d) d.draw) ≡ front =
-      (λ i. open_unit (sent_in xs (place.stream i) (place.draw i))) ∙ (ap open_unit place.before ∙ after.front) in
-      let packet : p ≡ packet_of plan (front_due plan h s n) with_front.bytes d front =
+      let opens : open_unit (sent_in xs (sub_stream_of d) d.draw) ≡ unfinished =
+      (λ i. open_unit (sent_in xs (place.stream i) (place.draw i))) ∙ (ap open_unit place.before ∙ after.unfinished) in
+      let packet : p ≡ packet_of plan (ahead_due plan h s n) with_front.bytes d unfinished =
       with_front.packet ∙ (λ i. packet_of plan (ahead i) with_front.bytes d (opens i)) in
       let sub = ap (λ (t : SubStream). t.sub) place.stream in
       cc (
         packet,
-        tag_is plan (front_due plan h s n) with_front.bytes d front m_is,
+        tag_is plan (ahead_due plan h s n) with_front.bytes d unfinished m_is,
         place.draw,
         place.stream,
         sub,
@@ -173,7 +182,8 @@ module _
       (λ i. is_some (stream_plan plan (arrives.receiver.0 i) (stream i))) ∙ facts.known h cause port s p.prefix.k j
       (is_drawn _ j live) in
       let secure : failed h port p.prefix.stream ≡ false = rw stream arrives.secure in
-      let less = λ (more : p.prefix.m ≡ false). subst (λ ps. length ps + 1 < mode_of plan s.link s.stream) after.front
+      let less = λ (more : p.prefix.m ≡ false). subst (λ ps. length ps + 1 < mode_of plan s.link s.stream)
+      after.unfinished
       (place.room more) in
       let room : is_overfull plan h s j p.prefix.m ≡ false = grind (arith, nat_tests, less) in
       rw (is_cut p place.fits, known, secure, receives, live)
@@ -183,14 +193,14 @@ module _
   taken : IsTaken plan h s j port p (due plan h e)
   taken =
       let is = due_arrives plan h e (record { port = port; bytes = packet_bytes p }) arrives.unchanged ∙ ap
-      (settled plan h port) before in (
+      (ending_due plan h port) before in (
         λ more. is ∙ ap by_m more,
         λ last. is ∙
             (ap by_m last ∙ accepted_is plan h port p s j there (sent_tag last) (arrives.counts last)),
       )
     where
       by_m : Bool → Verdict
-      by_m b = settled plan h port
+      by_m b = ending_due plan h port
           (if b then Ok (record { packet = p; unit = unit_under h s j }) else Err (Held port (unit_under h s j)))
 
 pub whole_law_holds : (plan : Plan) → StreamsFit plan → DrawFacts plan → (h : History) → CauseLaw plan h

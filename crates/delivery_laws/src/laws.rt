@@ -5,15 +5,15 @@ ghost use Rattle.delivery_laws.specs.Statements.{DeliveryLawHolds, DrawsNeverFal
 ghost use Rattle.delivery_laws.specs.Statements.{OrderLawHolds, PrefixLawHolds, WholeLawHolds};
 
 /// In every history in which each verdict is the one that is due and the totals fit in 8 bytes: provided no tag
-/// verified on a unit that its partner had not sealed with that front, each sub-stream got, key by key, a prefix of
-/// what was sealed, the draws of its accepted units never fall, and on a closed stream nothing of a newer key was
-/// accepted before all of the older ones.
+/// verified on a unit that its partner had not sealed, each sub-stream got, key by key, a prefix of what was sealed,
+/// the draws of its accepted units never fall, and on a closed stream nothing of a newer key was accepted before all of
+/// the older ones.
 pub fn prefix_law()
     ensures { PrefixLawHolds }
 {}
 
 /// In every history in which each verdict is the one that is due: provided no tag verified on a unit that its partner
-/// had not sealed with that front, each sub-stream delivered, key by key, a prefix of the TLPs that were sent in it.
+/// had not sealed, each sub-stream delivered, key by key, a prefix of the TLPs that were sent in it.
 pub fn delivery_law()
     ensures { DeliveryLawHolds }
 {}

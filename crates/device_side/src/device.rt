@@ -7,17 +7,15 @@ ghost use Rattle.tdi_state.specs.Held.{FitsTdi};
 ghost use Rattle.interface_words.specs.RegisterNames.{has_register, width_of};
 ghost use Rattle.tdi_state.specs.Machine.{state_code, LevelReset, FirmwareUpdate, WriteRegister};
 ghost use Rattle.tdi_device.specs.Replies.{called_at};
-ghost use Rattle.ide_prefix.specs.Reading.{cut_of};
-ghost use Rattle.ide_port.specs.{IsSentAtPort, take_step, status_in};
+ghost use Rattle.ide_port.specs.{IsSentAtPort};
 ghost use Rattle.device_side.specs.Ends.{is_to_interfaces, is_lockable, secure_at};
 
 use crate::wiring::{Owners, SecureStreams, is_secure_at};
 use ide_km::Responder;
 use ide_plan::{InterfacePlan, StreamPlan};
-use ide_port::{Arrival, Port, Sent};
-use ide_types::{Items, Memory, PortName, Side, StreamStatus};
+use ide_port::{Port, Sent};
+use ide_types::{Items, Memory, PortName, Side};
 use std::alloc::Global;
-use sub_stream::Delivered;
 use tdi_device::{DeviceInterfaces, TDISP_REPLY_ROOM, stream_asked};
 use tdi_state::Register;
 
@@ -28,7 +26,7 @@ pub const REPLY_ROOM: usize = TDISP_REPLY_ROOM;
 /// Express Base 6.0 section 6.33 and chapter 11, in this profile).
 #[derive(Drop)]
 pub struct Device {
-    /// The port, whose keys are moved by `answer` alone.
+    /// The port, whose keys are moved by `answer` alone. After an arrival there the caller calls `settle`.
     pub port: Port,
     /// The requester ID that the responder gives in its answer to QUERY.
     pub requester: u16,
@@ -60,7 +58,6 @@ impl Device {
     ghost use Rattle.device_side.specs.Ends.{
       new_device,
       settled_device,
-      device_with_port,
       asked_device,
       reply_given,
       asked_interfaces,
@@ -98,13 +95,6 @@ impl Device {
             requester,
             interfaces,
         })
-    }
-
-    /// How many TLPs its port was asked to send, and how many arrivals it had, together.
-    pub fn calls(&self) -> u64
-        ensures { result ≡ self.now.port.calls }
-    {
-        self.port.calls()
     }
 
     /// Sends each interface in CONFIG_LOCKED or RUN to ERROR if its stream is not Secure at the port.
@@ -175,40 +165,6 @@ impl Device {
             interfaces: &self.interfaces,
         };
         self.port.send(tlp, more, &owners)
-    }
-
-    /// The bytes that the last send sealed, its packets joined.
-    pub fn packets(&self) -> &[u8]
-        ensures value { result.now ≡ self.now.port.sealed }
-        ensures short { length result.now ≤ 4184 }
-    {
-        self.port.packets()
-    }
-
-    /// Takes bytes that arrive. What an accepted unit carries is lent until the next arrival or answer. After it, each
-    /// interface in CONFIG_LOCKED or RUN goes to ERROR if its stream is not Secure.
-    pub fn take(&mut self, bytes: &[u8]) -> Arrival
-        requires { self.old.port.calls < 2 ^ 40 }
-        ensures answer { result ≡ (take_step self.old.port (cut_of bytes.now)).answer }
-        ensures device { self.new ≡ device_with_port self.old (take_step self.old.port (cut_of bytes.now)).port }
-    {
-        let arrival = self.port.take(bytes);
-        self.settle();
-        arrival
-    }
-
-    /// The packets of an accepted unit that are lent.
-    pub fn delivered(&self) -> Delivered<'_>
-        ensures { result ≡ self.now.port.delivered }
-    {
-        self.port.delivered()
-    }
-
-    /// The status of a stream; `None` if the link has no such stream.
-    pub fn status(&self, stream: u8) -> Option<StreamStatus>
-        ensures { result ≡ status_in self.now.port stream }
-    {
-        self.port.status(stream)
     }
 
     /// Resets its end of the link: drops all keys, open units, held packets, counts and failures of the port; each

@@ -1,5 +1,6 @@
 -- Where a claim was found.
-use Rattle.std.proofs.Common.{◌≡◌, ℕ, suc, ◌+◌, Bool, true, false, cond, List, [], ◌∷◌, Option, Some, None, unwrap_or}
+use Rattle.std.proofs.Common.{◌≡◌, ℕ, zero, suc, drop, ◌+◌, Bool, true, false, cond, List, [], ◌∷◌, Option, Some, None}
+use Rattle.std.proofs.Common.{unwrap_or}
 use Rattle.std.proofs.Common.{is_some, refl, sym, ap, ◌∙◌, subst, inl, inr, arith}
 use Rattle.std.specs.Prelude.{slice_get}
 use Rattle.std.specs.Option.{option_or, option_map}
@@ -77,3 +78,22 @@ claimed xs s c e =
       bar = subst (λ (k : ℕ). slice_get c.standing.bars k ≡ Some c.range) b q.2;
       holds = q.3;
     }
+
+-- ---- interface after interface
+
+drop_at : {X : Type 0} (xs : List X) (i : ℕ) (x : X) → slice_get xs i ≡ Some x → drop i xs ≡ x ∷ drop (i + 1) xs
+drop_at {X} [] zero x e = absurd (true≢false (sym (ap (λ (o : Option X). is_some o) e)))
+drop_at {X} [] (suc i) x e = absurd (true≢false (sym (ap (λ (o : Option X). is_some o) e)))
+drop_at {X} (y ∷ xs) zero x e = ap (λ (o : Option X). unwrap_or o y ∷ xs) e
+drop_at {X} (y ∷ xs) (suc i) x e =
+    let next : suc (i + 1) ≡ suc i + 1 = omega arith in
+    subst (λ (k : ℕ). drop i xs ≡ x ∷ drop k (y ∷ xs)) next (drop_at xs i x e)
+
+-- the claim from an interface on is its own, or that of those behind it
+pub claim_from-next : (n i : ℕ) (xs : List Standing) (s : Span) (x : Standing) (o : Option (ℕ × BarPlan))
+    → slice_get xs i ≡ Some x → claimed_bar x s ≡ o → claim_from n (drop i xs) s
+    ≡ option_or (option_map (claim_by n x) o) (claim_from (n + 1) (drop (i + 1) xs) s)
+claim_from-next n i xs s x o is bar =
+    ap (λ (ys : List Standing). claim_from n ys s) (drop_at xs i x is)
+    ∙ ap (λ (p : Option (ℕ × BarPlan)). option_or (option_map (claim_by n x) p)
+    (claim_from (n + 1) (drop (i + 1) xs) s)) bar

@@ -13,8 +13,8 @@ use Rattle.guarded_memory.specs.declared.standing.InterfaceState.{InterfaceState
 use Rattle.guarded_memory.specs.declared.standing.InterfaceState.TheVariants as state
 use Rattle.guarded_memory.specs.declared.standing.Standing.{Standing}
 use Rattle.guarded_memory.specs.declared.claims.Claim.{Claim}
-use Rattle.guarded_memory.specs.declared.causes.MmioCause.{MmioCause}
-use Rattle.guarded_memory.specs.declared.causes.MmioCause.TheVariants as cause
+use Rattle.link_verdicts.specs.declared.verdict.BlockCause.{BlockCause}
+use Rattle.link_verdicts.specs.declared.verdict.BlockCause.TheVariants as cause
 use Rattle.guarded_memory.specs.Standings.{is_open_range, has_open_range, is_config_unlocked, is_in_run}
 use Rattle.guarded_memory.specs.Standings.{is_locked_or_run}
 use Rattle.guarded_memory.specs.Claims.{claim_of}
@@ -28,16 +28,16 @@ pub both : (p q : Bool) → (p && q) ≡ true → (p ≡ true) × (q ≡ true)
 both true q e = (refl, e)
 both false q e = absurd (true≢false (sym e))
 
-none_is_not : (c : MmioCause) → Some c ≡ None → ⊥
-none_is_not c e = true≢false (ap (λ (o : Option MmioCause). is_some o) e)
+none_is_not : (c : BlockCause) → Some c ≡ None → ⊥
+none_is_not c e = true≢false (ap (λ (o : Option BlockCause). is_some o) e)
 
 -- ---- what blocks nothing
 
-not_crossing : (t : Bool) (o : Option MmioCause) → cond t (Some cause.Crosses) o ≡ None → o ≡ None
+not_crossing : (t : Bool) (o : Option BlockCause) → cond t (Some cause.Crosses) o ≡ None → o ≡ None
 not_crossing true o e = absurd (none_is_not cause.Crosses e)
 not_crossing false o e = e
 
-running : (t : Bool) (o : Option MmioCause) → cond t o (Some cause.NotRunning) ≡ None → (t ≡ true) × (o ≡ None)
+running : (t : Bool) (o : Option BlockCause) → cond t o (Some cause.NotRunning) ≡ None → (t ≡ true) × (o ≡ None)
 running true o e = (refl, e)
 running false o e = absurd (none_is_not cause.NotRunning e)
 
@@ -102,7 +102,7 @@ not_guarded xs w c t stream draw i b x is none placed there guarded =
     (accessed c.standing c.range t stream draw held shut access)
 
 by_cause : (xs : List Standing) (w : Write) (c : Claim) (t : Bool) (stream draw : ℕ) (old : ℕ → ℕ → ℕ → ℕ)
-    (i b a : ℕ) (x : Standing) (o : Option MmioCause)
+    (i b a : ℕ) (x : Standing) (o : Option BlockCause)
     → IsClaimed xs w.span c → mmio_cause c.standing c.range w.span t stream draw ≡ o
     → slice_get xs i ≡ Some x → is_guarded x b ≡ true → is_admitted x t stream draw ≡ false
     → contents_by (stored_unless o c w) old i b a ≡ old i b a

@@ -9,10 +9,10 @@ use Rattle.trusted_memory.specs.Writes.{Write, write_in}
 use Rattle.guarded_memory.specs.declared.standing.InterfaceState.{InterfaceState}
 use Rattle.guarded_memory.specs.declared.standing.InterfaceState.TheVariants.{ConfigUnlocked, ConfigLocked, Run, Error}
 use Rattle.guarded_memory.specs.declared.standing.Standing.{Standing}
-use Rattle.guarded_memory.specs.declared.causes.MmioCause.TheVariants.{Crosses, NotTrusted, NotRunning, WrongStream}
-use Rattle.guarded_memory.specs.declared.causes.MmioCause.TheVariants.{Stale}
-use Rattle.guarded_memory.specs.declared.causes.MmioEffect.{MmioEffect}
-use Rattle.guarded_memory.specs.declared.causes.MmioEffect.TheVariants.{Delivered, Stored, Blocked}
+use Rattle.link_verdicts.specs.declared.verdict.BlockCause.TheVariants.{Crosses, NotTrusted, NotRunning, WrongStream}
+use Rattle.link_verdicts.specs.declared.verdict.BlockCause.TheVariants.{Stale}
+use Rattle.link_verdicts.specs.declared.verdict.Effect.{Effect}
+use Rattle.link_verdicts.specs.declared.verdict.Effect.TheVariants.{Delivered, Stored, Blocked}
 use Rattle.guarded_memory.specs.Causes.{mmio_effect}
 use Rattle.guarded_memory.specs.Happenings.{Happened, InterfaceReset, AllReset, InterfaceStopped, byte_shown}
 use Rattle.guarded_memory.specs.Stored.{stored_by}
@@ -39,7 +39,7 @@ case_standing state bars = record { state = state; memory_space = true; bars = b
 
 -- ---- effects
 
-abbrev pub HasEffect : List Standing → Bool → ℕ → ℕ → MmioEffect → Type 0
+abbrev pub HasEffect : List Standing → Bool → ℕ → ℕ → Effect → Type 0
 HasEffect xs t stream draw effect = mmio_effect xs t stream draw (option_map (λ w. w.span) case_write) ≡ effect
 
 -- of a range that is not open: trusted on the bound stream in each state; on another stream; under an older key; not

@@ -10,10 +10,8 @@ pub mod Cases
 pub use Rattle.guarded_memory.specs.declared.standing.InterfaceState.{InterfaceState}
 pub use Rattle.guarded_memory.specs.declared.standing.Standing.{Standing}
 pub use Rattle.guarded_memory.specs.declared.claims.Claim.{Claim}
-pub use Rattle.guarded_memory.specs.declared.causes.MmioCause.{MmioCause}
-pub use Rattle.guarded_memory.specs.declared.causes.MmioEffect.{MmioEffect}
 pub use Rattle.guarded_memory.specs.Standings.{is_open_range, has_open_range, is_config_unlocked, is_in_run}
-pub use Rattle.guarded_memory.specs.Standings.{is_locked_or_run}
+pub use Rattle.guarded_memory.specs.Standings.{is_locked_or_run, state_of, standing_of}
 pub use Rattle.guarded_memory.specs.Claims.{holds_span, first_passing, holding_bar, claimed_bar, claim_by, claim_from}
 pub use Rattle.guarded_memory.specs.Claims.{claim_of}
 pub use Rattle.guarded_memory.specs.Causes.{untrusted_cause, bound_cause, trusted_cause, access_cause, mmio_cause}

@@ -3,7 +3,7 @@ use Rattle.std.specs.Prelude.{ℕ, ◌-◌, Bool, List, Option, Some, None}
 use Rattle.trusted_memory.specs.Writes.{Write}
 use Rattle.guarded_memory.specs.declared.standing.Standing.{Standing}
 use Rattle.guarded_memory.specs.declared.claims.Claim.{Claim}
-use Rattle.guarded_memory.specs.declared.causes.MmioCause.{MmioCause}
+use Rattle.link_verdicts.specs.declared.verdict.BlockCause.{BlockCause}
 use Rattle.guarded_memory.specs.Claims.{claim_of}
 use Rattle.guarded_memory.specs.Causes.{mmio_cause}
 use Rattle.guarded_memory.specs.Happenings.{Happened, WriteStored}
@@ -17,7 +17,7 @@ abbrev pub write_from : ℕ → Write → Write
 write_from base w = write_to (w.span.address - base) w
 
 -- a claimed write is stored if nothing blocks it
-abbrev pub stored_unless : Option MmioCause → Claim → Write → Option Happened
+abbrev pub stored_unless : Option BlockCause → Claim → Write → Option Happened
 stored_unless None c w = Some (WriteStored c.interface c.bar (write_from c.range.base w))
 stored_unless (Some cause) c w = None
 

@@ -6,51 +6,31 @@ ghost use Rattle.guarded_memory.specs.Causes.{untrusted_cause, bound_cause, trus
 use crate::standing::is_open_range;
 use crate::{Claim, InterfaceState, Standing};
 use ide_plan::BarPlan;
+use link_verdicts::BlockCause;
 use trusted_memory::Span;
 
-/// Why a claimed write is not stored, the first that holds: its bytes cross a 4 KiB boundary of addresses; it is not
-/// trusted, the range is not open, and the interface is not in CONFIG_UNLOCKED; it is trusted, and the interface is not
-/// in RUN; it came on another stream than the bound one; its key is from before the interface started (this profile).
-#[derive(Clone, Copy, Debug, PartialEq, Eq)]
-pub enum MmioCause {
-    Crosses,
-    NotTrusted,
-    NotRunning,
-    WrongStream,
-    Stale,
-}
-
-/// The effect of a TLP of a unit that was accepted at a device's port: `Stored` or `Blocked` of a memory write that is
-/// claimed, `Delivered` of any other TLP (this profile).
-#[derive(Clone, Copy, Debug, PartialEq, Eq)]
-pub enum MmioEffect {
-    Delivered,
-    Stored,
-    Blocked(MmioCause),
-}
-
 // Of a write that is not trusted.
-fn untrusted_cause(state: InterfaceState, range: &BarPlan) -> Option<MmioCause>
+fn untrusted_cause(state: InterfaceState, range: &BarPlan) -> Option<BlockCause>
     ensures { result ≡ untrusted_cause state range.now }
 {
     if is_open_range(range) || state.is_config_unlocked() {
         None
     } else {
-        Some(MmioCause::NotTrusted)
+        Some(BlockCause::NotTrusted)
     }
 }
 
 // By the bound stream and the floor.
-fn bound_cause(bound: Option<(u8, u32)>, stream: u8, draw: u32) -> Option<MmioCause>
+fn bound_cause(bound: Option<(u8, u32)>, stream: u8, draw: u32) -> Option<BlockCause>
     ensures { result ≡ bound_cause bound stream draw }
 {
     match bound {
-        None => Some(MmioCause::WrongStream),
+        None => Some(BlockCause::WrongStream),
         Some((bound, floor)) => {
             if bound != stream {
-                Some(MmioCause::WrongStream)
+                Some(BlockCause::WrongStream)
             } else if draw < floor {
-                Some(MmioCause::Stale)
+                Some(BlockCause::Stale)
             } else {
                 None
             }
@@ -59,17 +39,17 @@ fn bound_cause(bound: Option<(u8, u32)>, stream: u8, draw: u32) -> Option<MmioCa
 }
 
 // Of a trusted write.
-fn trusted_cause(standing: &Standing, stream: u8, draw: u32) -> Option<MmioCause>
+fn trusted_cause(standing: &Standing, stream: u8, draw: u32) -> Option<BlockCause>
     ensures { result ≡ trusted_cause standing.now stream draw }
 {
     if standing.state.is_in_run() {
         bound_cause(standing.bound, stream, draw)
     } else {
-        Some(MmioCause::NotRunning)
+        Some(BlockCause::NotRunning)
     }
 }
 
-fn access_cause(claim: &Claim, trusted: bool, stream: u8, draw: u32) -> Option<MmioCause>
+fn access_cause(claim: &Claim, trusted: bool, stream: u8, draw: u32) -> Option<BlockCause>
     ensures { result ≡ access_cause claim.now.standing claim.now.range trusted stream draw }
 {
     if trusted {
@@ -79,19 +59,21 @@ fn access_cause(claim: &Claim, trusted: bool, stream: u8, draw: u32) -> Option<M
     }
 }
 
-/// The first cause that blocks a claimed write over these bytes, which came on this stream under the key of this draw;
-/// `None` if nothing blocks it.
+/// The first cause that blocks a claimed write over these bytes, which came on this stream under the key of this draw:
+/// its bytes cross a 4 KiB boundary of addresses; it is not trusted, the range is not open, and the interface is not in
+/// CONFIG_UNLOCKED; it is trusted, and the interface is not in RUN; it came on another stream than the bound one; its
+/// key is from before the interface started (this profile). `None` if nothing blocks it.
 pub fn mmio_cause(
     claim: &Claim,
     span: Span,
     trusted: bool,
     stream: u8,
     draw: u32,
-) -> Option<MmioCause>
+) -> Option<BlockCause>
     ensures { result ≡ mmio_cause claim.now.standing claim.now.range span trusted stream draw }
 {
     if span.crosses() {
-        Some(MmioCause::Crosses)
+        Some(BlockCause::Crosses)
     } else {
         access_cause(claim, trusted, stream, draw)
     }

@@ -3,7 +3,7 @@
 ghost use Rattle.std.specs.Prelude.{◌≡◌, true, IfSome};
 ghost use Rattle.guarded_memory.specs.Claims.{holds_span, holding_bar, claimed_bar, claim_of};
 
-use crate::Standing;
+use crate::{Standing, Standings};
 use ide_plan::BarPlan;
 use trusted_memory::Span;
 
@@ -57,15 +57,16 @@ fn claimed_bar(standing: &Standing, span: Span) -> Option<(usize, BarPlan)>
 
 /// The claim on a memory write over these bytes: that of the least interface with memory space on that has a BAR whose
 /// range holds all of them, by the least such BAR; `None` if there is none (this profile).
-pub fn claim_of(standings: &[Standing], span: Span) -> Option<Claim>
-    ensures claim { result ≡ claim_of standings.now span }
+pub fn claim_of<S: Standings>(standings: &S, span: Span) -> Option<Claim>
+    ensures claim { result ≡ claim_of (S.stand standings.now) span }
     ensures holds { IfSome result (λ c. holds_span c.range span ≡ true) }
 {
-    for (i, standing) in standings.iter().enumerate() {
-        if let Some((bar, range)) = claimed_bar(standing, span) {
+    for i in 0..standings.count() {
+        let standing = standings.standing(i);
+        if let Some((bar, range)) = claimed_bar(&standing, span) {
             return Some(Claim {
                 interface: i,
-                standing: *standing,
+                standing,
                 bar,
                 range,
             });

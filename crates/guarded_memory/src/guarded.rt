@@ -7,6 +7,7 @@ ghost use Rattle.tlp_layout.specs.Tlp.{viewed_tlp};
 ghost use Rattle.trusted_memory.specs.Spans.{span_byte_count, is_enabled, crosses, write_span};
 ghost use Rattle.trusted_memory.specs.Writes.{write_in, write_of};
 ghost use Rattle.trusted_memory.specs.Memory.{bytes_from};
+ghost use Rattle.guarded_memory.specs.declared.standing.Standing.{Standing};
 
 use crate::blanks::{fill, put};
 use crate::causes::mmio_cause;
@@ -14,10 +15,10 @@ use crate::claims::claim_of;
 use crate::names::{PageName, name_at, outlives_stop};
 use crate::page::{PAGE_BYTES, Page};
 use crate::sizes::{fits_range, sizes_of};
-use crate::{Claim, MmioEffect, Standing};
+use crate::{Claim, Standings};
 use ide_plan::{BarPlan, InterfacePlan};
 use ide_types::Memory;
-use link_verdicts::UnitName;
+use link_verdicts::{Effect, UnitName};
 use std::alloc::Global;
 use std::collections::HashMap;
 use std::marker::Model;
@@ -189,7 +190,7 @@ impl Guarded {
         write: &MemWriteView<'_>,
         trusted: bool,
         unit: UnitName,
-    ) -> MmioEffect
+    ) -> Effect
         requires spare { 2 ≤ self.old.spare }
         requires holds { holds_span claim.now.range write.now.span ≡ true }
         ensures effect { result ≡ cause_effect
@@ -202,59 +203,62 @@ impl Guarded {
         ensures spare { self.old.spare ≤ self.new.spare + 2 }
     {
         match mmio_cause(claim, write.span, trusted, unit.stream, unit.draw) {
-            Some(cause) => MmioEffect::Blocked(cause),
+            Some(cause) => Effect::Blocked(cause),
             None => {
                 self.store(claim, write);
-                MmioEffect::Stored
+                Effect::Stored
             }
         }
     }
 
     // A memory write, which is delivered if nothing claims it.
-    fn deliver_write(
+    fn deliver_write<S: Standings>(
         &mut self,
-        standings: &[Standing],
+        standings: &S,
         write: &MemWriteView<'_>,
         trusted: bool,
         unit: UnitName,
-    ) -> MmioEffect
+    ) -> Effect
         requires { 2 ≤ self.old.spare }
-        ensures effect { result ≡ mmio_effect standings.now trusted unit.stream unit.draw (Some write.now.span) }
+        ensures effect { result ≡ mmio_effect (S.stand standings.now) trusted unit.stream unit.draw
+            (Some write.now.span) }
         ensures bytes { (i b at : ℕ) → mmio_byte self.new i b at ≡ contents_by
-            (stored_by standings.now trusted unit.stream unit.draw (Some (write_of write.now)))
+            (stored_by (S.stand standings.now) trusted unit.stream unit.draw (Some (write_of write.now)))
             (mmio_byte self.old) i b at }
         ensures as_before { is_stored result ≡ false → self.new ≡ self.old }
         ensures sizes { self.new.sizes ≡ self.old.sizes }
         ensures spare { self.old.spare ≤ self.new.spare + 2 }
     {
         match claim_of(standings, write.span) {
-            None => MmioEffect::Delivered,
+            None => Effect::Delivered,
             Some(claim) => self.admit(&claim, write, trusted, unit),
         }
     }
 
     /// Gives a TLP of a unit that was accepted at the device's port its effect, by how its interfaces stand: a memory
-    /// write that one of them claims is stored, or blocked for the first cause that holds (`MmioCause`); any other TLP
+    /// write that one of them claims is stored, or blocked for the first cause that holds (`BlockCause`); any other TLP
     /// is delivered and changes nothing here. `trusted` is T of its packet. The payload's enabled bytes are written to
     /// ascending offsets in the range. It takes no memory, and at most two spare pages.
-    pub fn deliver(
+    pub fn deliver<S: Standings>(
         &mut self,
-        standings: &[Standing],
+        standings: &S,
         tlp: &TlpView<'_>,
         trusted: bool,
         unit: UnitName,
-    ) -> MmioEffect
+    ) -> Effect
         requires { 2 ≤ self.old.spare }
-        ensures effect { result ≡ mmio_effect standings.now trusted unit.stream unit.draw (write_span tlp.now.head) }
+        ensures effect { result ≡ mmio_effect (S.stand standings.now) trusted unit.stream unit.draw
+            (write_span tlp.now.head) }
         ensures bytes { (i b at : ℕ) → mmio_byte self.new i b at ≡ contents_by
-            (stored_by standings.now trusted unit.stream unit.draw (write_in (viewed_tlp tlp.now)))
+            (stored_by (S.stand standings.now) trusted unit.stream unit.draw (write_in (viewed_tlp tlp.now)))
             (mmio_byte self.old) i b at }
         ensures leads { MmioLeads self.old
-            (stored_by standings.now trusted unit.stream unit.draw (write_in (viewed_tlp tlp.now)) ∷ []) self.new }
+            (stored_by (S.stand standings.now) trusted unit.stream unit.draw (write_in (viewed_tlp tlp.now)) ∷ [])
+            self.new }
         // A byte of a range that is not open, of an interface in CONFIG_LOCKED or RUN, changes only by a trusted write
         // in RUN, on the bound stream, under a draw from the floor on.
-        ensures guarded { (i b at : ℕ) (x : Standing) → slice_get standings.now i ≡ Some x → is_guarded x b ≡ true
-            → is_admitted x trusted unit.stream unit.draw ≡ false
+        ensures guarded { (i b at : ℕ) (x : Standing) → slice_get (S.stand standings.now) i ≡ Some x
+            → is_guarded x b ≡ true → is_admitted x trusted unit.stream unit.draw ≡ false
             → mmio_byte self.new i b at ≡ mmio_byte self.old i b at }
         ensures as_before { is_stored result ≡ false → self.new ≡ self.old }
         ensures sizes { self.new.sizes ≡ self.old.sizes }
@@ -262,7 +266,7 @@ impl Guarded {
     {
         match MemWriteView::of(tlp) {
             Some(write) => self.deliver_write(standings, &write, trusted, unit),
-            None => MmioEffect::Delivered,
+            None => Effect::Delivered,
         }
     }
 

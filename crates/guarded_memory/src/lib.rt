@@ -14,9 +14,11 @@ mod names;
 mod page;
 mod sizes;
 mod standing;
+mod standings;
 
-pub use causes::{MmioCause, MmioEffect, mmio_cause};
+pub use causes::mmio_cause;
 pub use claims::{Claim, claim_of};
 pub use guarded::Guarded;
 pub use laws::{guarded_bytes_stay, happenings_in_turn, mmio_cases};
 pub use standing::{InterfaceState, Standing};
+pub use standings::Standings;

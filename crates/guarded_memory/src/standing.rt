@@ -1,10 +1,14 @@
 //! How an interface stands when a write arrives.
 
 ghost use Rattle.std.specs.Prelude.{◌≡◌};
+ghost use Rattle.std.specs.Option.{option_map};
+ghost use Rattle.tdi_state.specs.RegisterValues.{has_bit};
+ghost use Rattle.tdi_state.specs.Machine.{bound_stream};
 ghost use Rattle.guarded_memory.specs.Standings.{is_open_range, has_open_range};
-ghost use Rattle.guarded_memory.specs.Standings.{is_config_unlocked, is_in_run};
+ghost use Rattle.guarded_memory.specs.Standings.{is_config_unlocked, is_in_run, state_of, standing_of};
 
 use ide_plan::BarPlan;
+use tdi_state::{Interface, Register, TdiState};
 
 /// The state of a device interface (PCI Express Base 6.0 chapter 11).
 #[derive(Clone, Copy, Debug, PartialEq, Eq)]
@@ -47,6 +51,18 @@ pub fn has_open_range(bars: &[BarPlan], bar: usize) -> bool
 }
 
 impl InterfaceState {
+    /// The state, without what the lock that stands kept.
+    pub fn of(state: &TdiState) -> InterfaceState
+        ensures { result ≡ state_of state.now }
+    {
+        match state {
+            TdiState::ConfigUnlocked => InterfaceState::ConfigUnlocked,
+            TdiState::ConfigLocked { .. } => InterfaceState::ConfigLocked,
+            TdiState::Run { .. } => InterfaceState::Run,
+            TdiState::Error => InterfaceState::Error,
+        }
+    }
+
     /// Whether it is CONFIG_UNLOCKED.
     pub fn is_config_unlocked(self) -> bool
         ensures { result ≡ is_config_unlocked self }
@@ -59,5 +75,33 @@ impl InterfaceState {
         ensures { result ≡ is_in_run self }
     {
         matches!(self, InterfaceState::Run)
+    }
+}
+
+// Whether memory space is on.
+fn has_memory_space(interface: &Interface) -> bool
+    ensures { result ≡ has_bit 1 interface.now.registers.command }
+{
+    (interface.register(Register::Command) >> 1) & 1 == 1
+}
+
+// With its floor, the stream that it is bound to.
+fn bound(interface: &Interface, floor: u32) -> Option<(u8, u32)>
+    ensures { result ≡ option_map (λ stream. (stream, floor)) (bound_stream interface.now.state) }
+{
+    interface.bound().map(|stream| (stream, floor))
+}
+
+impl Standing {
+    /// How a device interface with this floor stands, the least draw under which writes are admitted.
+    pub fn of(interface: &Interface, floor: u32) -> Standing
+        ensures { result ≡ standing_of interface.now floor }
+    {
+        Standing {
+            state: InterfaceState::of(interface.standing()),
+            memory_space: has_memory_space(interface),
+            bars: interface.bars(),
+            bound: bound(interface, floor),
+        }
     }
 }

@@ -12,7 +12,7 @@ ghost use Rattle.link_verdicts.specs.Lines.{totals_line_of};
 ghost use Rattle.ide_cli.specs.Generated.{generated_due, generated_history, generated_line};
 ghost use Rattle.ide_cli.specs.Works.{Follows, IsEarly};
 
-use crate::running::Running;
+use crate::script::Running;
 use generated_events::{Generator, events_are_allowed, topology};
 use ide_base::Sink;
 use ide_types::Memory;

@@ -3,7 +3,6 @@
 
 mod generate;
 mod packets;
-mod running;
 mod script;
 mod status;
 mod top;

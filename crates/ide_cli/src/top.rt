@@ -12,7 +12,9 @@ ghost use Rattle.link_history.specs.Numbers.{NumbersFresh};
 ghost use Rattle.link_history.specs.Ordered.{OrderLaw};
 ghost use Rattle.line_runs.specs.Front.{AskedPieces};
 ghost use Rattle.line_runs.specs.Outcome.{Ran};
+ghost use Rattle.mmio_laws.specs.Mmio.{MmioLaw};
 ghost use Rattle.origin_laws.specs.Origin.{MemoryLaw, OriginLaw};
+ghost use Rattle.origin_laws.specs.ReadLaws.{ReadLaw, ReadOriginLaw};
 ghost use Rattle.ide_cli.specs.Headline.{AllCounted, AllWritten, InEvery, Unforged, ViewFacts};
 ghost use Rattle.ide_cli.specs.Meaning.{Answered, RanGenerated, usage_line};
 ghost use Rattle.ide_cli.specs.SoFar.{WroteSoFar};
@@ -34,7 +36,10 @@ use interface_states::views_hold;
 use key_states::{gos_find_keys, never_again, settled, stays_secure, stream_facts};
 use line_runs::{End, Fault, finish};
 use link_keys::keys_have_causes;
-use origin_laws::{interfaces_have_causes, memory_law, origin_law, run_law};
+use mmio_laws::mmio_law;
+use origin_laws::{
+    interfaces_have_causes, memory_law, origin_law, read_law, read_origin_law, run_law,
+};
 use sealing_laws::{numbers_fresh, totals_fit};
 use std::alloc::Global;
 use text_laws::lines_tell;
@@ -183,6 +188,13 @@ pub fn run<S: Shelf, O: Sink>(
     // memory that is shown is the one that the last admitted write left, or 0 if there was none.
     ensures memory_law { InEvery MemoryLaw
         (run_seen S.seen O.seen words.now shelf.old shelf.new out.old out.new result) }
+    // Answers take the reads of a link in the order in which they were queued, no more than 64 wait, and each
+    // completion has the bytes that stand in memory then, with T, on its interface's bound stream, from its floor on.
+    ensures read_law { InEvery ReadLaw (run_seen S.seen O.seen words.now shelf.old shelf.new out.old out.new result) }
+    // Each byte of a BAR that is shown is that of the last stored write that enables it since its range was last set to
+    // 0, or 0; while an interface is locked or in RUN, a range that is not open changes only by a stored write with T,
+    // in RUN, on the stream that the lock named, from the floor on, which is a draw that was On at the start.
+    ensures mmio_law { InEvery MmioLaw (run_seen S.seen O.seen words.now shelf.old shelf.new out.old out.new result) }
 
     // In every history that was written, provided no tag verified on a unit its partner had not sealed, each sub-stream
     // got, key by key, a prefix of what was sealed, and delivered a prefix of the TLPs that were sent; and, on a closed
@@ -194,9 +206,11 @@ pub fn run<S: Shelf, O: Sink>(
         (run_seen S.seen O.seen words.now shelf.old shelf.new out.old out.new result) }
     ensures order_law { InEvery (Unforged OrderLaw)
         (run_seen S.seen O.seen words.now shelf.old shelf.new out.old out.new result) }
-    // Under the same proviso, each admitted write was sealed by the interface that it is admitted for, while that was
-    // in RUN under the lock that it has now.
+    // Under the same proviso, each admitted write, and each read that was queued, was sealed by the interface that it
+    // is admitted or queued for, while that was in RUN under the lock that it has now.
     ensures origin_law { InEvery (Unforged OriginLaw)
+        (run_seen S.seen O.seen words.now shelf.old shelf.new out.old out.new result) }
+    ensures read_origin_law { InEvery (Unforged ReadOriginLaw)
         (run_seen S.seen O.seen words.now shelf.old shelf.new out.old out.new result) }
 {
     lines_tell();
@@ -219,7 +233,10 @@ pub fn run<S: Shelf, O: Sink>(
     run_law();
     views_hold();
     memory_law();
+    read_law();
+    mmio_law();
     origin_law();
+    read_origin_law();
     let words = words.as_slice();
     status_of(perform(alloc, words, shelf, out))
 }

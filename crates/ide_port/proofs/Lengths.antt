@@ -2,7 +2,7 @@
 use Rattle.ide_port.proofs.Terms.{◌≡◌, ℕ, ◌+◌, ◌≤◌, true, false, List, [], ◌∷◌, ◌++◌, length, Option, Some, None, arith}
 use Rattle.ide_port.proofs.Terms.{length-append, if◌then◌else◌, SubKind, Packet, packet_bytes, sync_head, Verdict}
 use Rattle.ide_port.proofs.Terms.{Sending, Lanes, described}
-use Rattle.ide_port.proofs.Terms.{needs_sync, sync_before, ends_unit, sets_trusted, front_with, sealed_by, LiveKey}
+use Rattle.ide_port.proofs.Terms.{needs_sync, sync_before, ends_unit, sets_trusted, ahead_with, sealed_by, LiveKey}
 use Rattle.ide_port.proofs.Terms.{Three, TxSub, at_sub, live_sender, untagged_under, tagged_under, packet_under}
 use Rattle.ide_port.proofs.Terms.{sealed_one, sealed_all, StreamEnd}
 use Rattle.ide_port.proofs.Terms.{joined_packets, packets_sent, lanes_in, unless_verdict, sealing, refused}
@@ -68,7 +68,7 @@ all_length closed head payload (d ∷ ds) tx h b =
       arith,
       length-append (packet_bytes one.0) (joined_packets (sealed_all closed head payload ds one.1).0),
       rest,
-      packet_length (front_with closed d.unit x.total) (live_sender x.slots) d head payload h b,
+      packet_length (ahead_with closed d.unit x.total) (live_sender x.slots) d head payload h b,
     )
 
 room_append : (xs ys : List SealedPacket) → room_all (xs ++ ys) ≡ room_all xs + room_all ys

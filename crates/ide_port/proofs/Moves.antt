@@ -1,26 +1,39 @@
 -- What a call makes of slots is what key management says of them.
-use Rattle.ide_port.proofs.Terms.{◌≡◌, true, false, ◌&&◌, ◌||◌, arith, nat_tests, SubKind, Slots, Three, TxSub, RxSub}
-use Rattle.ide_port.proofs.Terms.{StreamState, at_sub, set_sub, settled_stream, slot_pair, KeyCall, slots_at, pair_at}
+use Rattle.ide_port.proofs.Terms.{
+  ◌≡◌,
+  true,
+  false,
+  ◌&&◌,
+  ◌||◌,
+  arith,
+  nat_tests,
+  SubKind,
+  LaneSlots,
+  Three,
+  TxSub,
+  RxSub,
+}
+use Rattle.ide_port.proofs.Terms.{StreamState, at_sub, set_sub, rested_stream, slot_pair, KeyCall, slots_at, pair_at}
 use Rattle.ide_port.proofs.Terms.{called, slots_called_out, slots_called_into, slots_by, has_open_unit, is_waiting}
 use Rattle.ide_port.proofs.Terms.{NoneWaits}
 use Rattle.std.proofs.Common.{Bool}
 
-slots_out : (c : KeyCall) (s : Slots) → slot_pair true (slots_called_out c s)
+slots_out : (c : KeyCall) (s : LaneSlots) → slot_pair true (slots_called_out c s)
     ≡ slots_by c (has_open_unit s) (slot_pair true s)
 slots_out c s = grind (arith, nat_tests)
 
-slots_into : (c : KeyCall) (u : Bool) (s : Slots) → (is_waiting s.first || is_waiting s.second) ≡ false
+slots_into : (c : KeyCall) (u : Bool) (s : LaneSlots) → (is_waiting s.first || is_waiting s.second) ≡ false
     → slot_pair false (slots_called_into c s) ≡ slots_by c u (slot_pair false s)
 slots_into c u s h = grind (arith, nat_tests)
 
 -- ---- the place that is called
 
 settled_out : (u : SubKind) (tx : Three TxSub) (rx : Three RxSub) (failed : Bool)
-    → slots_at true u (settled_stream tx rx failed) ≡ (at_sub tx u).slots
+    → slots_at true u (rested_stream tx rx failed) ≡ (at_sub tx u).slots
 settled_out u tx rx failed = grind arith
 
 settled_in : (u : SubKind) (tx : Three TxSub) (rx : Three RxSub) (failed : Bool)
-    → slots_at false u (settled_stream tx rx failed) ≡ (at_sub rx u).slots
+    → slots_at false u (rested_stream tx rx failed) ≡ (at_sub rx u).slots
 settled_in u tx rx failed = grind arith
 
 set_same : {A : Type 0} (t : Three A) (u : SubKind) (x : A) → at_sub (set_sub t u x) u ≡ x

@@ -27,10 +27,10 @@ pub use Rattle.std.specs.Prelude.{if◌then◌else◌, nat_lt, slice_get, slice_
 pub use Rattle.sub_stream.specs.Calls.{called, no_stream, pair_at, sends_in, slots_at, slots_called_into}
 pub use Rattle.sub_stream.specs.Calls.{slots_called_out, stream_status}
 pub use Rattle.stream_lanes.specs.declared.refusal.SendRefusal.{SendRefusal}
-pub use Rattle.stream_rules.specs.Sending.{Lanes, Sending, described, ends_unit, front_with, needs_sync, sealed_by}
+pub use Rattle.stream_rules.specs.Sending.{Lanes, Sending, described, ends_unit, ahead_with, needs_sync, sealed_by}
 pub use Rattle.stream_rules.specs.Sending.{sets_trusted, sync_before}
-pub use Rattle.stream_rules.specs.Slots.{settled_stream}
-pub use Rattle.stream_rules.specs.Stream.{Accepted, Failed, Held, Insecure, LiveKey, NotKeyed, RxSub, Slots}
+pub use Rattle.stream_rules.specs.Slots.{rested_stream}
+pub use Rattle.stream_rules.specs.Stream.{Accepted, Failed, Held, Insecure, LiveKey, NotKeyed, RxSub, LaneSlots}
 pub use Rattle.stream_rules.specs.Stream.{StreamState, Three, TxSub, accepted_sub, at_sub, dropped_held, held_sub}
 pub use Rattle.stream_rules.specs.Stream.{live_sender, packet_under, sealed_all, sealed_one, set_sub, state_after}
 pub use Rattle.stream_rules.specs.Stream.{tagged_under, untagged_under}

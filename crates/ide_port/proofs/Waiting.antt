@@ -1,14 +1,14 @@
 -- The key of a receiver never waits for the end of a unit.
 use Rattle.ide_port.proofs.Terms.{◌≡◌, ℕ, true, false, ◌||◌, List, Option, arith, nat_tests, SubKind, Packet, Verdict}
-use Rattle.ide_port.proofs.Terms.{Slots, Three, TxSub, RxSub, StreamState, at_sub, set_sub, dropped_held, held_sub}
+use Rattle.ide_port.proofs.Terms.{LaneSlots, Three, TxSub, RxSub, StreamState, at_sub, set_sub, dropped_held, held_sub}
 use Rattle.ide_port.proofs.Terms.{accepted_sub, Insecure, NotKeyed}
-use Rattle.ide_port.proofs.Terms.{Failed, Held, Accepted, state_after, settled_stream, KeyCall, called}
+use Rattle.ide_port.proofs.Terms.{Failed, Held, Accepted, state_after, rested_stream, KeyCall, called}
 use Rattle.ide_port.proofs.Terms.{slots_called_out, slots_called_into, no_stream, unless_verdict, is_waiting, NoneWaits}
 use Rattle.std.proofs.Common.{Bool}
 use Rattle.stream_rules.specs.Stream.{Taken}
 
 -- neither slot has a key that waits
-abbrev pub neither : Slots → Type 0
+abbrev pub neither : LaneSlots → Type 0
 neither s = (is_waiting s.first || is_waiting s.second) ≡ false
 
 pub none-new : NoneWaits no_stream
@@ -47,11 +47,11 @@ none-taken st p (Accepted j n unit) h u = none-set st.rx p.prefix.sub _ h
 
 -- ---- keys
 
-none-into : (call : KeyCall) (s : Slots) → neither s → neither (slots_called_into call s)
+none-into : (call : KeyCall) (s : LaneSlots) → neither s → neither (slots_called_into call s)
 none-into call s h = grind (arith, nat_tests)
 
 none-settled : (tx : Three TxSub) (rx : Three RxSub) (failed : Bool) → NoneIn rx
-    → NoneWaits (settled_stream tx rx failed)
+    → NoneWaits (rested_stream tx rx failed)
 none-settled tx rx failed h u = grind (arith, h u)
 
 pub none-called : (sends : Bool) (u : SubKind) (call : KeyCall) (st : StreamState) → NoneWaits st

@@ -7,8 +7,8 @@ use Rattle.key_slots.specs.{KeySet, SlotPair, live_set}
 use Rattle.ide_km.specs.declared.place.Place.{Place}
 use Rattle.ide_km.specs.{PlaceCall}
 use Rattle.ide_prefix.specs.{sub_from}
-use Rattle.stream_rules.specs.Stream.{Slots, StreamState, at_sub}
-use Rattle.stream_rules.specs.Slots.{is_busy}
+use Rattle.stream_rules.specs.Stream.{LaneSlots, StreamState, at_sub}
+use Rattle.stream_rules.specs.Slots.{is_busy, sealing_draw, receiving_draw}
 use Rattle.sub_stream.specs.Calls.{sends_in, pair_at, called, stream_status}
 use Rattle.ide_port.specs.Ends.{PortEnd, Found, found, changed}
 
@@ -27,7 +27,7 @@ shown e place = option_map (λ (f : Found). pair_at (sends_in e.name.side place.
     (stream_at e place)
 
 -- a sender has begun a unit and not ended it
-abbrev pub has_open_unit : Slots → Bool
+abbrev pub has_open_unit : LaneSlots → Bool
 has_open_unit s = is_busy s.first || is_busy s.second
 
 abbrev pub is_open_at : PortEnd → Place → Option Found → Bool
@@ -45,6 +45,16 @@ status_in e id = option_map (λ (f : Found). stream_status f.state) (found e.pla
 -- the key set of the Live slot of a stream's sender
 abbrev pub live_in_port : PortEnd → ℕ → SubKind → Option KeySet
 live_in_port e id u = option_and_then (λ (f : Found). live_set (pair_at true u f.state)) (found e.plans e.states id)
+
+-- the draw that its sender seals under
+abbrev pub sealing_draw_in : PortEnd → ℕ → SubKind → Option ℕ
+sealing_draw_in e id u =
+    option_and_then (λ (f : Found). sealing_draw (at_sub f.state.tx u).slots) (found e.plans e.states id)
+
+-- the greatest draw that is Live at its receiver
+abbrev pub receiving_draw_in : PortEnd → ℕ → SubKind → Option ℕ
+receiving_draw_in e id u =
+    option_and_then (λ (f : Found). receiving_draw (at_sub f.state.rx u).slots) (found e.plans e.states id)
 
 -- ---- what a call makes of it
 

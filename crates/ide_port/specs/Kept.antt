@@ -7,7 +7,7 @@ use Rattle.ide_types.specs.declared.sub.SubKind.{SubKind}
 use Rattle.ide_plan.specs.declared.stream.StreamPlan.{StreamPlan}
 use Rattle.ide_prefix.specs.Packet.{Packet}
 use Rattle.ide_prefix.specs.{sub_from}
-use Rattle.stream_rules.specs.Stream.{Slot, Armed, StreamState, at_sub}
+use Rattle.stream_rules.specs.Stream.{LaneSlot, Armed, StreamState, at_sub}
 use Rattle.sub_stream.specs.declared.answer.Taken.{Taken}
 use Rattle.sub_stream.specs.declared.answer.Taken.TheVariants as taken
 use Rattle.link_verdicts.specs.declared.verdict.UnitName.{UnitName}
@@ -17,7 +17,7 @@ use Rattle.ide_port.specs.declared.answer.Arrival.TheVariants.{Insecure, NotKeye
 
 -- ---- streams and plans, one to one
 
-abbrev pub is_waiting : Slot → Bool
+abbrev pub is_waiting : LaneSlot → Bool
 is_waiting (Armed draw key) = true
 is_waiting slot = false
 

@@ -123,10 +123,11 @@ fn reset_streams(streams: &mut Vec<Stream>)
 impl Port {
     ghost use Rattle.ide_port.specs.Ends.{new_port, found, reset_port};
     ghost use Rattle.ide_prefix.specs.Reading.{cut_of};
-    ghost use Rattle.association.specs.Outgoing.{outgoing_on};
+    ghost use Rattle.association.specs.Outgoing.{outgoing_on, outgoing_of, stream_taken};
     ghost use Rattle.ide_port.specs.Sends.{IsSendStep, IsSentAtPort, send_step, stream_step, sent_verdict, unsealed};
     ghost use Rattle.ide_port.specs.Arrivals.{take_step, packet_step};
     ghost use Rattle.ide_port.specs.Calls.{status_in, live_in_port};
+    ghost use Rattle.ide_port.specs.Calls.{sealing_draw_in, receiving_draw_in};
 
     /// The port of this name with these streams of its link, without keys; a key seals at most `limit` units.
     pub fn make(
@@ -321,6 +322,37 @@ impl Port {
         match place(self.plans.as_slice(), stream) {
             None => None,
             Some(place) => self.streams[place].live_set(sub),
+        }
+    }
+
+    /// The draw of the Live key of a stream's sender in a sub-stream; `None` if none is Live.
+    pub fn sealing_draw(&self, stream: u8, sub: SubKind) -> Option<u32>
+        ensures { result ≡ sealing_draw_in self.now stream sub }
+    {
+        match place(self.plans.as_slice(), stream) {
+            None => None,
+            Some(place) => self.streams[place].sealing_draw(sub),
+        }
+    }
+
+    /// The greatest draw of a Live key of a stream's receiver in a sub-stream; `None` if none is Live.
+    pub fn receiving_draw(&self, stream: u8, sub: SubKind) -> Option<u32>
+        ensures { result ≡ receiving_draw_in self.now stream sub }
+    {
+        match place(self.plans.as_slice(), stream) {
+            None => None,
+            Some(place) => self.streams[place].receiving_draw(sub),
+        }
+    }
+
+    /// The stream that a TLP with these bytes takes, if it is one and takes one (PCI Express Base 6.0 section 6.33).
+    #[tactic(auto, unfolding(association::specs::Outgoing::outgoing_of))]
+    pub fn outgoing_stream(&self, tlp: &[u8]) -> Option<u8>
+        ensures { result ≡ stream_taken (outgoing_of self.now.plans self.now.name.side tlp.now) }
+    {
+        match read(tlp) {
+            Err(_) => None,
+            Ok(view) => named(choose(&self.plans, self.name.side, &view.head())),
         }
     }
 

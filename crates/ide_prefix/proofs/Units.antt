@@ -79,14 +79,14 @@ same_prefix p q a b e =
 
 -- ---- lists of one length
 
-same_front : (a b u v : List ℕ) → length a ≡ length b → a ++ u ≡ b ++ v → (a ≡ b) × (u ≡ v)
-same_front [] [] u v l e = (refl, e)
-same_front [] (y ∷ b) u v l e = absurd (omega arith)
-same_front (x ∷ a) [] u v l e = absurd (omega arith)
-same_front (x ∷ a) (y ∷ b) u v l e =
+same_ahead : (a b u v : List ℕ) → length a ≡ length b → a ++ u ≡ b ++ v → (a ≡ b) × (u ≡ v)
+same_ahead [] [] u v l e = (refl, e)
+same_ahead [] (y ∷ b) u v l e = absurd (omega arith)
+same_ahead (x ∷ a) [] u v l e = absurd (omega arith)
+same_ahead (x ∷ a) (y ∷ b) u v l e =
     let head : x ≡ y = cc in
     let tail : a ++ u ≡ b ++ v = cc in
-    let r = same_front a b u v (omega arith) tail in
+    let r = same_ahead a b u v (omega arith) tail in
     let one = r.0 in
     (cc, r.1)
 
@@ -158,11 +158,11 @@ same_packets (p ∷ ps) (q ∷ qs) fp fq a c =
     ap (λ (s : List ℕ). get_or s 0 0) e1.1 ∙ get_or_append_left q.head (authenticated qs) 0 0 sq.some in
     let long : length p.head ≡ length q.head = sp.head ∙ ap (λ (x : Prefix). clear_size x.sub (get_or p.head 0 0)) e1.0
     ∙ ap (clear_size q.prefix.sub) first ∙ sym sq.head in
-    let e2 = same_front p.head q.head (authenticated ps) (authenticated qs) long e1.1 in
+    let e2 = same_ahead p.head q.head (authenticated ps) (authenticated qs) long e1.1 in
     let cipher : p.body ++ encrypted ps ≡ q.body ++ encrypted qs = sym (flat_map-cons (λ (x : Packet). x.body) p ps) ∙ c
     ∙ flat_map-cons (λ (x : Packet). x.body) q qs in
     let wide : length p.body ≡ length q.body = sp.body ∙ ap rest_size e2.0 ∙ sym sq.body in
-    let e3 = same_front p.body q.body (encrypted ps) (encrypted qs) wide cipher in
+    let e3 = same_ahead p.body q.body (encrypted ps) (encrypted qs) wide cipher in
     let rest = same_packets ps qs fp.1 fq.1 e2.1 e3.1 in
     let one = packet_is p q e1.0 e2.0 e3.0 in
     cc

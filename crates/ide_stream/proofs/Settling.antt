@@ -6,7 +6,17 @@ use Rattle.ide_types.specs.declared.sub.SubKind.TheVariants.{Pr, Npr, Cpl}
 use Rattle.ide_types.specs.declared.port.Side.{Side}
 use Rattle.ide_prefix.specs.Packet.{Packet}
 use Rattle.stream_rules.specs.Sending.{Sending, sealed_by}
-use Rattle.stream_rules.specs.Stream.{Slots, TxSub, RxSub, Three, StreamState, at_sub, set_sub, slot_in_set, live_in}
+use Rattle.stream_rules.specs.Stream.{
+  LaneSlots,
+  TxSub,
+  RxSub,
+  Three,
+  StreamState,
+  at_sub,
+  set_sub,
+  slot_in_set,
+  live_in,
+}
 use Rattle.stream_rules.specs.Stream.{Taken}
 use Rattle.stream_rules.specs.Stream.{Insecure, NotKeyed, Failed, Held, Accepted, dropped_held, taken_under}
 use Rattle.stream_rules.specs.Stream.{state_after}
@@ -20,7 +30,7 @@ use Rattle.ide_stream.specs.Ends.{StreamEnd, lanes_in, taken_in, end_taken}
 use Rattle.ide_stream.specs.Sends.{ok_unless_verdict, refused, unless_verdict, IsSent, sealing}
 use Rattle.stream_lanes.specs.{SendEnds, any_out, settled_out, IsSealed, packet_lengths, joined_packets, ReceiveEnds}
 use Rattle.stream_lanes.specs.{receiving_state, taken_among, opened_after, ends_after, is_fail}
-use Rattle.ide_stream.specs.Both.{called_directions, settled_directions, end_of, AtMost, IsStream}
+use Rattle.ide_stream.specs.Both.{called_directions, rested_directions, end_of, AtMost, IsStream}
 
 -- ---- calls of key management
 
@@ -35,14 +45,14 @@ settled_few tx calls few = record {
   cpl = if_less (any_out tx) tx.cpl.total calls few.cpl;
 }
 
-slots_few : (u : SubKind) (tx : Three TxSub) (slots : Slots) (calls : ℕ) → AtMost tx calls
+slots_few : (u : SubKind) (tx : Three TxSub) (slots : LaneSlots) (calls : ℕ) → AtMost tx calls
     → AtMost (set_sub tx u (record { slots = slots; posted = (at_sub tx u).posted; total = (at_sub tx u).total })) calls
 slots_few Pr tx slots calls few = record { pr = few.pr; npr = few.npr; cpl = few.cpl }
 slots_few Npr tx slots calls few = record { pr = few.pr; npr = few.npr; cpl = few.cpl }
 slots_few Cpl tx slots calls few = record { pr = few.pr; npr = few.npr; cpl = few.cpl }
 
 pub call-kept : (sends : Bool) (u : SubKind) (call : KeyCall) (d : Directions) (calls : ℕ) → IsStream d calls
-    → IsStream (settled_directions (called_directions sends u call d)) calls
+    → IsStream (rested_directions (called_directions sends u call d)) calls
 call-kept true u call d calls inv = record {
   same_mode = inv.same_mode;
   same_closed = inv.same_closed;

@@ -7,7 +7,7 @@ use Rattle.stream_rules.specs.Stream.{TxSub, Three, at_sub}
 use Rattle.sub_stream.specs.{slot_pair}
 use Rattle.ide_stream.specs.declared.directions.Directions.{Directions}
 use Rattle.ide_stream.specs.Ends.{StreamEnd}
-use Rattle.stream_lanes.specs.{any_out, settled_out, called_ends, any_into, settled_into, called_receivers}
+use Rattle.stream_lanes.specs.{any_out, settled_out, called_ends, any_into, rested_into, called_receivers}
 
 -- the slots of a sender, or of a receiver
 abbrev pub pair_of : Bool → SubKind → Directions → SlotPair
@@ -18,10 +18,10 @@ abbrev pub called_directions : Bool → SubKind → KeyCall → Directions → D
 called_directions true u call d = record d { tx = called_ends d.tx u call }
 called_directions false u call d = record d { rx = called_receivers d.rx u call }
 
-abbrev pub settled_directions : Directions → Directions
-settled_directions d = record {
+abbrev pub rested_directions : Directions → Directions
+rested_directions d = record {
   tx = record d.tx { tx = settled_out d.tx.tx };
-  rx = record d.rx { rx = settled_into d.rx.rx; delivered = [] };
+  rx = record d.rx { rx = rested_into d.rx.rx; delivered = [] };
   failed = d.failed && (any_out d.tx.tx || any_into d.rx.rx);
 }
 

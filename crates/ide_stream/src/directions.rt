@@ -17,7 +17,7 @@ pub struct Directions {
 }
 
 impl Directions {
-    ghost use Rattle.ide_stream.specs.Both.{pair_of, called_directions, settled_directions};
+    ghost use Rattle.ide_stream.specs.Both.{pair_of, called_directions, rested_directions};
 
     /// Puts a key of this draw into a slot. Returns `OnlyLive` exactly if this slot is Live and the other holds no
     /// newer Live key: then the key comes back.
@@ -65,7 +65,7 @@ impl Directions {
     /// Ends each call: a direction without a Live slot counts from 0 again, a failure of a stream without a Live slot
     /// is forgotten, and nothing is lent any more.
     pub fn settle(&mut self)
-        ensures { self.new ≡ settled_directions self.old }
+        ensures { self.new ≡ rested_directions self.old }
     {
         self.tx.settle();
         self.rx.settle();

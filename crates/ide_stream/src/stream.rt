@@ -8,6 +8,8 @@ ghost use Rattle.ide_types.specs.declared.port.PortName.{PortName};
 ghost use Rattle.ide_prefix.specs.Cut.{packet_of_view, IsView};
 ghost use Rattle.key_slots.specs.{slot_in, is_one, is_empty, program_answer, live_set, Program, Go, Halt};
 ghost use Rattle.stream_rules.specs.Sending.{sets_trusted, refusals, first_that_holds};
+ghost use Rattle.stream_rules.specs.Slots.{sealing_draw, receiving_draw};
+ghost use Rattle.stream_rules.specs.Stream.{at_sub};
 ghost use Rattle.sub_stream.specs.Calls.{pair_at, sends_in, status_by, stream_status};
 ghost use Rattle.sub_stream.specs.{answer_of};
 
@@ -244,6 +246,20 @@ impl Stream {
         ensures { result ≡ live_set (pair_at true sub self.now.state) }
     {
         self.directions.tx.live_set(sub)
+    }
+
+    /// The draw of the Live key of a sender; `None` if none is Live.
+    pub fn sealing_draw(&self, sub: SubKind) -> Option<u32>
+        ensures { result ≡ sealing_draw (at_sub self.now.state.tx sub).slots }
+    {
+        self.directions.tx.sealing_draw(sub)
+    }
+
+    /// The greatest draw of a Live key of a receiver; `None` if none is Live.
+    pub fn receiving_draw(&self, sub: SubKind) -> Option<u32>
+        ensures { result ≡ receiving_draw (at_sub self.now.state.rx sub).slots }
+    {
+        self.directions.rx.receiving_draw(sub)
     }
 
     /// Drops all keys, open units, held packets, counts, and a failure.

@@ -17,6 +17,7 @@ use Rattle.link_history.specs.Units.{units, open_unit}
 use Rattle.link_history.specs.History.{packet_of, sent_in, sealed_packets, posted_in, keys_at, has_live_out}
 use Rattle.link_history.specs.History.{has_live_in}
 use Rattle.link_history.specs.Memory.{writes}
+use Rattle.link_history.specs.Sent.{bytes_by}
 use Rattle.link_history.specs.Due.{due}
 use Rattle.interface_cases.specs.Cases.{verdicts_on, InterfaceCases, in_doubt, in_doubt_verdicts, again, again_verdicts}
 use Rattle.interface_cases.specs.Cases.{written_in_run, written_verdicts, half_keyed, half_keyed_verdicts}
@@ -26,43 +27,43 @@ use Rattle.interface_cases.specs.Cases.{stopped_verdicts, reset, reset_verdicts,
 in_doubt_due : verdicts_on [] in_doubt ≡ in_doubt_verdicts
 unfolding due key_due manager moments keys is_open failed_there base interface_due devices managed stream_draw sites
     read_of reading walk_length walked_from outgoing_of choice_of keys_at has_live_out has_live_in stream_plan sent_in
-    sealed_packets packet_of units open_unit posted_in writes byte_after
+    sealed_packets bytes_by packet_of units open_unit posted_in writes byte_after
 in_doubt_due = refl
 
 again_due : verdicts_on [] again ≡ again_verdicts
 unfolding due key_due manager moments keys is_open failed_there base interface_due devices managed stream_draw sites
     read_of reading walk_length walked_from outgoing_of choice_of keys_at has_live_out has_live_in stream_plan sent_in
-    sealed_packets packet_of units open_unit posted_in writes byte_after
+    sealed_packets bytes_by packet_of units open_unit posted_in writes byte_after
 again_due = refl
 
 written_due : verdicts_on [] written_in_run ≡ written_verdicts
 unfolding due key_due manager moments keys is_open failed_there base interface_due devices managed stream_draw sites
     read_of reading walk_length walked_from outgoing_of choice_of keys_at has_live_out has_live_in stream_plan sent_in
-    sealed_packets packet_of units open_unit posted_in writes byte_after
+    sealed_packets bytes_by packet_of units open_unit posted_in writes byte_after
 written_due = refl
 
 half_keyed_due : verdicts_on [] half_keyed ≡ half_keyed_verdicts
 unfolding due key_due manager moments keys is_open failed_there base interface_due devices managed stream_draw sites
     read_of reading walk_length walked_from outgoing_of choice_of keys_at has_live_out has_live_in stream_plan sent_in
-    sealed_packets packet_of units open_unit posted_in writes byte_after
+    sealed_packets bytes_by packet_of units open_unit posted_in writes byte_after
 half_keyed_due = refl
 
 stopped_due : verdicts_on [] stopped_events ≡ stopped_verdicts
 unfolding due key_due manager moments keys is_open failed_there base interface_due devices managed stream_draw sites
     read_of reading walk_length walked_from outgoing_of choice_of keys_at has_live_out has_live_in stream_plan sent_in
-    sealed_packets packet_of units open_unit posted_in writes byte_after
+    sealed_packets bytes_by packet_of units open_unit posted_in writes byte_after
 stopped_due = refl
 
 reset_due : verdicts_on [] reset ≡ reset_verdicts
 unfolding due key_due manager moments keys is_open failed_there base interface_due devices managed stream_draw sites
     read_of reading walk_length walked_from outgoing_of choice_of keys_at has_live_out has_live_in stream_plan sent_in
-    sealed_packets packet_of units open_unit posted_in writes byte_after
+    sealed_packets bytes_by packet_of units open_unit posted_in writes byte_after
 reset_due = refl
 
 lost_between_due : verdicts_on [] lost_between ≡ lost_between_verdicts
 unfolding due key_due manager moments keys is_open failed_there base interface_due devices managed stream_draw sites
     read_of reading walk_length walked_from outgoing_of choice_of keys_at has_live_out has_live_in stream_plan sent_in
-    sealed_packets packet_of units open_unit posted_in writes byte_after
+    sealed_packets bytes_by packet_of units open_unit posted_in writes byte_after
 lost_between_due = refl
 
 pub computed : InterfaceCases

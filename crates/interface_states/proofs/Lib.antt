@@ -3,3 +3,4 @@ pub mod RunLaws
 pub mod Rests
 pub mod Trusted
 pub mod Views
+pub mod Floors

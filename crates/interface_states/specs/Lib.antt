@@ -6,3 +6,4 @@ pub mod Devices
 pub mod Due
 pub mod Cause
 pub mod Laws
+pub mod Floors

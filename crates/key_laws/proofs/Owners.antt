@@ -3,7 +3,7 @@ use Rattle.key_laws.proofs.Terms.{◌≡◌, ℕ, ◌<◌, ◌==◌, Bool, true,
 use Rattle.key_laws.proofs.Terms.{subst, arith, ◌&&◌, if◌then◌else◌, Event, Operation, SealedPacket, Verdict, KeyPlace}
 use Rattle.key_laws.proofs.Terms.{is_on_stream, Touch, Program, Go}
 use Rattle.key_laws.proofs.Terms.{Clear, Keyed, Off, Loaded, On, Keys, key_in, kept_in, on_in, touched, is_open}
-use Rattle.key_laws.proofs.Terms.{keys_settled, keys, Op, Idle, Establishing, Up, Refreshing, Stopping, Work, Reach}
+use Rattle.key_laws.proofs.Terms.{without_outlived, keys, Op, Idle, Establishing, Up, Refreshing, Stopping, Work, Reach}
 use Rattle.key_laws.proofs.Terms.{Manager}
 use Rattle.key_laws.proofs.Terms.{Begun, work_of, reach_of, op_after}
 use Rattle.key_laws.proofs.Terms.{makes_draw, begun_after, operated, manager_after, History, manager, begun_under, when}
@@ -31,7 +31,7 @@ TouchOwned O _ = Unit {0}
 
 touched_owned : (O : Bool → ℕ → Type 0) (s : Bool) (f : ℕ → Bool) (ks : Keys) (t : Touch) → OwnedKeys O ks
     → TouchOwned O t
-    → OwnedKeys O (keys_settled s f (touched s ks t))
+    → OwnedKeys O (without_outlived s f (touched s ks t))
 touched_owned O s f ks t owned mine = grind arith
 
 -- each touch that programs or starts a key is of a draw of its set

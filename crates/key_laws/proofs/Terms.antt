@@ -24,7 +24,7 @@ pub use Rattle.std.specs.Prelude.{if◌then◌else◌, is_some, max, nat_le, nat
 pub use Rattle.key_laws.specs.Keys.{Accept, Clear, Go, Keyed, Keys, Loaded, Off, On, Program, Seal, Stop, Touch}
 pub use Rattle.key_laws.specs.Keys.{is_live_draw, kept_in, key_in, sealing_draw, live_draw_in, no_keys, on_in}
 pub use Rattle.key_laws.specs.Keys.{refusal_if, refuses}
-pub use Rattle.key_laws.specs.Keys.{keys_settled, slot_from, slot_of, touched}
+pub use Rattle.key_laws.specs.Keys.{without_outlived, slot_from, slot_of, touched}
 unfoldable pub use Rattle.key_laws.specs.Keys.{is_open, keys}
 pub use Rattle.std.proofs.Math.Bool.{and-false, not-not}
 pub use Rattle.std.proofs.lemmas.Bool.Decides.{nat_tests}

@@ -1,6 +1,18 @@
 -- What touches after others leave: marks only grow, a draw that is On got its GO, an operation opens and ends no unit.
 use Rattle.key_states.proofs.Terms.{◌≡◌, ℕ, ◌<◌, ◌≤◌, Bool, true, false, Option, Some, List, [], ◌∷◌, refl, ◌∙◌, arith}
-use Rattle.key_states.proofs.Terms.{Touch, Seal, Keyed, On, Keys, key_in, on_in, touched, keys_settled, is_open, keys}
+use Rattle.key_states.proofs.Terms.{
+  Touch,
+  Seal,
+  Keyed,
+  On,
+  Keys,
+  key_in,
+  on_in,
+  touched,
+  without_outlived,
+  is_open,
+  keys,
+}
 use Rattle.key_states.proofs.Terms.{Event}
 use Rattle.key_states.proofs.Terms.{Verdict, KeyPlace, is_on_stream, Op}
 use Rattle.key_states.proofs.Terms.{Work, Reach, work_of, reach_of, touches_after, worked, on_it, came, touches, used}
@@ -35,7 +47,7 @@ record AllBelow (n : ℕ) (ks : Keys) : Type 0 where
   second_is : OnBelow n ks.second
 
 one_below : (s : Bool) (f : ℕ → Bool) (ts : List Touch) (ks : Keys) (t : Touch) → AllBelow (started ts) ks
-    → AllBelow (started (t ∷ ts)) (keys_settled s f (touched s ks t))
+    → AllBelow (started (t ∷ ts)) (without_outlived s f (touched s ks t))
 unfolding started
 one_below s f ts ks t below = grind arith
 

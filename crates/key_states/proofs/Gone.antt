@@ -1,7 +1,18 @@
 -- A draw that was On at a place and then kept in neither of its sets is never kept there again: a key that waits for
 -- its GO is of a draw that had none, and a GO finds its draw kept.
 use Rattle.key_states.proofs.Terms.{◌≡◌, ℕ, ◌<◌, ◌&&◌, ◌||◌, Bool, true, false, Some, List, [], ◌∷◌, refl, arith}
-use Rattle.key_states.proofs.Terms.{not, nat_tests, KeyPlan, Touch, Go, Keys, key_in, kept_in, keys_settled, touched}
+use Rattle.key_states.proofs.Terms.{
+  not,
+  nat_tests,
+  KeyPlan,
+  Touch,
+  Go,
+  Keys,
+  key_in,
+  kept_in,
+  without_outlived,
+  touched,
+}
 use Rattle.key_states.proofs.Terms.{keys, is_on_there, is_kept_there, was_on, has_gone, StaysGone, History, KeyCauseLaw}
 use Rattle.key_states.proofs.Terms.{touches_after, moments, manager, draws, touches, KeyPlace, Shape, IsAt, started}
 use Rattle.key_states.proofs.Terms.{is_open, fits, next_fits}
@@ -10,7 +21,7 @@ use Rattle.key_states.proofs.Behind.{on_started, started_behind}
 
 -- ---- one touch
 
-settled_on : (s : Bool) (f : ℕ → Bool) (ks : Keys) (j : ℕ) → is_on_there (keys_settled s f ks) j ≡ true
+settled_on : (s : Bool) (f : ℕ → Bool) (ks : Keys) (j : ℕ) → is_on_there (without_outlived s f ks) j ≡ true
     → is_on_there ks j ≡ true
 settled_on s f ks j on = grind arith
 

@@ -2,7 +2,7 @@
 pub use Rattle.key_laws.proofs.Terms.{Bool, List, None, Option, Some, [], ap, arith, false, length, refl, subst, sym}
 pub use Rattle.key_laws.proofs.Terms.{true, ℕ, ◌<◌, ◌==◌, ◌∙◌, ◌∷◌, ◌≡◌, ◌≢◌, ◌≤◌, KeyPlan, KeyPlace, is_on_stream}
 pub use Rattle.key_laws.proofs.Terms.{key_place_at, places_of, Keyed, Keys, On, Seal}
-pub use Rattle.key_laws.proofs.Terms.{Touch, kept_in, key_in, no_keys, on_in, keys_settled, touched, History}
+pub use Rattle.key_laws.proofs.Terms.{Touch, kept_in, key_in, no_keys, on_in, without_outlived, touched, History}
 pub use Rattle.key_laws.proofs.Terms.{begins_keyed}
 pub use Rattle.key_laws.proofs.Terms.{kept_draw, Go, StaysGone, has_gone, is_kept_there, is_on_there, was_on, not}
 pub use Rattle.key_laws.proofs.Terms.{touches_after, came, draws, fails_there, has_all, has_key, keeps_live, keys_there}

@@ -46,6 +46,6 @@ limit_front limit advance closing s file =
     ap₂ f (over_at limit file) (front_cut_at limit file)
 
 -- the same is due for the first bytes of a file, one more than those that count
-pub front_due : {S : Type 0} (advance : S → ℕ → Text → Result (S × Text) LineFault) (closing : S → Text) (s : S)
+pub ahead_due : {S : Type 0} (advance : S → ℕ → Text → Result (S × Text) LineFault) (closing : S → Text) (s : S)
     (file : Text) → file_due advance closing s (take (file_limit + 1) file) ≡ file_due advance closing s file
-front_due advance closing s file = limit_front file_limit advance closing s file
+ahead_due advance closing s file = limit_front file_limit advance closing s file

@@ -64,8 +64,8 @@ fn ran(
     Ok((end, out))
 }
 
-// Each read and each put of a file fails. What is due to the lines that ended before is written, and put before the next
-// read, which would fail in the rows of puts.
+// Each read and each put of a file fails. What is due to the lines that ended before is written, and put before the
+// next read, which would fail in the rows of puts.
 #[test]
 fn each_read_and_each_put_fails(rt: HostRuntime) -> Result<(), Fail> {
     let alloc = rt.alloc();

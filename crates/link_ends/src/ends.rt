@@ -4,14 +4,13 @@ ghost use Rattle.std.specs.Prelude.{◌≡◌, ◌+◌, ◌<◌, ◌≤◌, ◌^
 ghost use Rattle.ide_plan.specs.Fits.{FitsStream};
 ghost use Rattle.tdi_state.specs.Held.{FitsTdi};
 ghost use Rattle.ide_prefix.specs.Reading.{cut_of};
-ghost use Rattle.ide_port.specs.{IsSentAtPort, take_step, status_in};
+ghost use Rattle.ide_port.specs.{IsSentAtPort, take_step};
 
 use device_side::Device;
 use ide_plan::{InterfacePlan, StreamPlan};
 use ide_port::{Arrival, Asked, Port, Sent};
-use ide_types::{Items, Memory, PortName, Side, StreamStatus};
+use ide_types::{Items, Memory, PortName, Side};
 use std::alloc::Global;
-use sub_stream::Delivered;
 
 /// A link: its host's port, and its device (PCI Express Base 6.0 section 6.33 and chapter 11, in this profile).
 #[derive(Drop)]
@@ -62,48 +61,37 @@ impl LinkEnds {
         }
     }
 
-    /// The bytes that the last send at the port of this side sealed, its packets joined.
-    pub fn packets(&self, side: Side) -> &[u8]
-        ensures value { result.now ≡ (port_in side self.now).sealed }
-        ensures short { length result.now ≤ 4184 }
+    /// The port of this side, lent.
+    pub fn port(&self, side: Side) -> &Port
+        ensures { result.now ≡ port_in side self.now }
     {
         match side {
-            Side::Host => self.host.packets(),
-            Side::Device => self.device.packets(),
+            Side::Host => &self.host,
+            Side::Device => &self.device.port,
         }
     }
 
-    /// Takes bytes that arrive at the port of this side. What an accepted unit carries is lent until the next arrival.
-    /// After it, each interface of the device in CONFIG_LOCKED or RUN goes to ERROR if its stream is not Secure at the
-    /// device's port.
+    /// Takes bytes that arrive at the port of this side. What an accepted unit carries is lent by the port until the
+    /// next arrival. The caller calls `settle` after it.
     pub fn take(&mut self, side: Side, bytes: &[u8]) -> Arrival
         requires { (port_in side self.old).calls < 2 ^ 40 }
         ensures answer { result ≡ (take_step (port_in side self.old) (cut_of bytes.now)).answer }
-        ensures ends { self.new ≡ taken_ends side (take_step (port_in side self.old) (cut_of bytes.now)).port self.old }
+        ensures ends { self.new ≡ with_port side (take_step (port_in side self.old) (cut_of bytes.now)).port self.old }
     {
         match side {
             Side::Host => self.host.take(bytes),
-            Side::Device => self.device.take(bytes),
+            Side::Device => self.device.port.take(bytes),
         }
     }
 
-    /// The packets of an accepted unit that the port of this side lends.
-    pub fn delivered(&self, side: Side) -> Delivered<'_>
-        ensures { result ≡ (port_in side self.now).delivered }
+    /// Ends an arrival at the port of this side: at the device's, each interface in CONFIG_LOCKED or RUN goes to ERROR
+    /// if its stream is not Secure there.
+    pub fn settle(&mut self, side: Side)
+        ensures { self.new ≡ taken_ends side (port_in side self.old) self.old }
     {
         match side {
-            Side::Host => self.host.delivered(),
-            Side::Device => self.device.delivered(),
-        }
-    }
-
-    /// The status of a stream at the port of this side; `None` if the link has no such stream.
-    pub fn status(&self, side: Side, stream: u8) -> Option<StreamStatus>
-        ensures { result ≡ status_in (port_in side self.now) stream }
-    {
-        match side {
-            Side::Host => self.host.status(stream),
-            Side::Device => self.device.status(stream),
+            Side::Host => {}
+            Side::Device => self.device.settle(),
         }
     }
 

@@ -16,7 +16,8 @@ use Rattle.link_events.specs.Terms.{Status, LineFault}
 use Rattle.link_events.specs.Terms.fault
 use Rattle.link_events.specs.Words.{is_printable, words_in, number_of_word, mask_in, bytes_in, port_of_word}
 use Rattle.link_events.specs.Parse.{◌>>=◌, lost_exchange_in, loss_in, operation_in, marks_in, send_in, one_number_in}
-use Rattle.link_events.specs.Parse.{two_numbers_in, alter_in, arrive_in, bytes_event_in, event_by, event_in, is_comment}
+use Rattle.link_events.specs.Parse.{two_numbers_in, alter_in, arrive_in, bytes_event_in, last_event_in, event_by}
+use Rattle.link_events.specs.Parse.{event_in, is_comment}
 use Rattle.link_events.specs.Faults.{WordTest, event_table, is_at_host, is_trusted_at, number_test, mask_test}
 use Rattle.link_events.specs.Faults.{bytes_test, port_test, lost_test, word_test, trusted_test, mark_test}
 use Rattle.link_events.specs.Faults.{operation_tests, send_tests, arrive_tests, number_tests, two_number_tests}
@@ -26,6 +27,7 @@ use Rattle.link_events.proofs.Readings.{Reads, RowReads, TableReads, end_reads, 
 use Rattle.link_events.proofs.Readings.{miscounted, made_reads, one_number, two_numbers, word_reads, lost, row_reads}
 use Rattle.link_events.proofs.Readings.{last_row, no_row}
 use Rattle.link_events.proofs.InterfaceFaults.{interface_reads}
+use Rattle.link_events.proofs.AccessFaults.{access_reads}
 
 -- ---- events of packets and of ports
 
@@ -172,10 +174,11 @@ event_reads first rest =
     (made_reads (two_number_tests rest) rest (two_numbers_in rest) (λ n. Cut n.0 n.1) (two_numbers rest))
     (row_reads (codes "dump") number_tests (drop 9 event_table) rest first _ _ _
     (made_reads (number_tests rest) rest (one_number_in rest) Dump (one_number rest))
-    (interface_reads first rest (drop 19 event_table) (bytes_event_in first rest)
-    (last_row (codes "send") send_tests (drop 20 event_table) rest first _ _ (send rest)
-    (last_row (codes "arrive") arrive_tests (drop 21 event_table) rest first _ _ (arrive rest)
-    (no_row rest first))))))))))))
+    (interface_reads first rest (drop 19 event_table) (last_event_in first rest)
+    (access_reads first rest (drop 21 event_table) (bytes_event_in first rest)
+    (last_row (codes "send") send_tests (drop 22 event_table) rest first _ _ (send rest)
+    (last_row (codes "arrive") arrive_tests (drop 23 event_table) rest first _ _ (arrive rest)
+    (no_row rest first)))))))))))))
 
 -- ---- lines
 

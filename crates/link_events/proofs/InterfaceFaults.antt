@@ -7,10 +7,10 @@ use Rattle.link_events.specs.Terms.fault
 use Rattle.link_events.specs.Terms.ie
 use Rattle.link_events.specs.Words.{number_of_word}
 use Rattle.link_events.specs.Parts.{◌>>=◌, lost_exchange_in, loss_in, one_number_in, Row, number_test, word_test}
-use Rattle.link_events.specs.Parts.{lost_test, number_tests}
-use Rattle.link_events.specs.Interfaces.{register_in, register_value_in, length_in, interface_and_loss, write_event_in}
+use Rattle.link_events.specs.Parts.{length_in, length_test, lost_test, number_tests}
+use Rattle.link_events.specs.Interfaces.{register_in, register_value_in, interface_and_loss, write_event_in}
 use Rattle.link_events.specs.Interfaces.{memory_in}
-use Rattle.link_events.specs.Interfaces.{interface_event_of, register_test, value_test, length_test, asked_tests}
+use Rattle.link_events.specs.Interfaces.{interface_event_of, register_test, value_test, asked_tests}
 use Rattle.link_events.specs.Interfaces.{write_tests, memory_tests, interface_rows}
 use Rattle.link_events.specs.Parse.{made_interface}
 use Rattle.link_events.proofs.Readings.{RowReads, TableReads, end_reads, step_reads, miscounted, made_reads, one_number}

@@ -1,11 +1,11 @@
 -- A line of an interface or of memory means an event exactly if it spells it, and what it spells is allowed.
-use Rattle.std.proofs.Common.{zero, suc, true, false, not, nat_lt, nat_le, ◌&&◌, ◌==◌, ◌≡◌, ◌<◌, ◌≤◌, ◌+◌, ◌-◌, ◌^◌, ℕ}
+use Rattle.std.proofs.Common.{zero, suc, true, false, not, nat_lt, nat_le, ◌&&◌, ◌==◌, ◌≡◌, ◌<◌, ◌+◌, ◌-◌, ◌^◌, ℕ}
 use Rattle.std.proofs.Common.{List, [], ◌∷◌, Bool, Option, Some, None, Result, Ok, Err, refl, sym, ap, subst, arith}
 use Rattle.std.proofs.Common.{codes}
 use Rattle.std.specs.Prelude.{if◌then◌else◌}
 use Rattle.std.specs.Option.{ok_or, unwrap_or, option_map, option_and_then}
 use Rattle.std.specs.Str.{bytes_eq}
-use Rattle.std.proofs.lemmas.Bool.{eqb-true, ltb-true, leb-true, lt-ltb, le-leb}
+use Rattle.std.proofs.lemmas.Bool.{eqb-true, ltb-true, leb-true, lt-ltb}
 use Rattle.ide_types.specs.Names.{Text}
 use Rattle.interface_words.specs.declared.register.Register.{Register}
 use Rattle.interface_words.specs.declared.register.Register.TheVariants.{Command, CacheLine, Msix, Lnr, Tph, Pasid, Ats}
@@ -15,8 +15,8 @@ use Rattle.link_events.specs.Terms.{Event, Interface, InterfaceEvent, Loss, Line
 use Rattle.link_events.specs.Terms.fault
 use Rattle.link_events.specs.Terms.ie
 use Rattle.link_events.specs.Words.{number_of_word}
-use Rattle.link_events.specs.Parts.{◌>>=◌, loss_in, is_loss_long, one_number_in, LossSpelledBy}
-use Rattle.link_events.specs.Interfaces.{register_word, bar_number, bar_in, register_in, register_value_in, length_in}
+use Rattle.link_events.specs.Parts.{◌>>=◌, loss_in, is_loss_long, one_number_in, length_in, LossSpelledBy}
+use Rattle.link_events.specs.Interfaces.{register_word, bar_number, bar_in, register_in, register_value_in}
 use Rattle.link_events.specs.Interfaces.{interface_and_loss}
 use Rattle.link_events.specs.Interfaces.{write_event_in, memory_in, interface_event_of, AskedSpelledBy}
 use Rattle.link_events.specs.Interfaces.{InterfaceSpelledBy}
@@ -25,7 +25,8 @@ use Rattle.link_events.specs.Parse.{made_interface, event_in}
 use Rattle.link_events.specs.Spells.{SpelledBy}
 use Rattle.link_events.proofs.Steps.{err_ok, ok_ok, some_some, none_some, same_text, next_of, next_result}
 use Rattle.link_events.proofs.Steps.{tested_family}
-use Rattle.link_events.proofs.Spelled.{loss_spelled, loss_meant, one_spelled, SpelledAs, made}
+use Rattle.link_events.proofs.Spelled.{loss_spelled, loss_meant, one_spelled, length_bounded, length_back, SpelledAs}
+use Rattle.link_events.proofs.Spelled.{made}
 
 -- ---- registers
 
@@ -123,25 +124,6 @@ value_bounded r w v is = by_number (number_of_word w) is
 value_back : (r : Register) (w : Text) (v : ℕ) → number_of_word w ≡ Some v → v < 2 ^ width_of r → register_value_in r w
     ≡ Some v
 value_back r w v is room = rw is (rw (lt-ltb v (2 ^ width_of r) room) refl)
-
-between : (n v : ℕ) (low high : Bool) → nat_le 1 n ≡ low → nat_le n 256 ≡ high → (if low && high then Some n else None)
-    ≡ Some v → (n ≡ v) × (1 ≤ v) × (v ≤ 256)
-between n v true true x y e = let same = some_some n v e in
-    (same, omega (arith, leb-true 1 n x, same), omega (arith, leb-true n 256 y, same))
-between n v true false x y e = absurd (none_some v e)
-between n v false high x y e = absurd (none_some v e)
-
-length_bounded : (w : Text) (v : ℕ) → length_in w ≡ Some v → (number_of_word w ≡ Some v) × (1 ≤ v) × (v ≤ 256)
-length_bounded w v is = by_number (number_of_word w) is
-  where
-    by_number : (o : Option ℕ) → option_and_then (λ n. if nat_le 1 n && nat_le n 256 then Some n else None) o ≡ Some v
-        → (o ≡ Some v) × (1 ≤ v) × (v ≤ 256)
-    by_number None e = absurd (none_some v e)
-    by_number (Some n) e = let few = between n v (nat_le 1 n) (nat_le n 256) refl refl e in
-        (ap Some few.0, few.1, few.2)
-
-length_back : (w : Text) (v : ℕ) → number_of_word w ≡ Some v → 1 ≤ v → v ≤ 256 → length_in w ≡ Some v
-length_back w v is least most = rw is (rw (le-leb 1 v least, le-leb v 256 most) refl)
 
 -- ---- what was read is spelled
 

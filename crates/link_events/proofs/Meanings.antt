@@ -13,18 +13,19 @@ use Rattle.ide_types.specs.declared.port.Side.{Side}
 use Rattle.ide_types.specs.declared.port.Side.TheVariants.{Host, Device}
 use Rattle.ide_types.specs.Names.{Text}
 use Rattle.link_events.specs.Terms.{Event, Establish, Refresh, Stop, Send, Pass, Alter, Cut, Arrive, Dump, Reset}
-use Rattle.link_events.specs.Terms.{Status, Interface, Loss, LineFault}
+use Rattle.link_events.specs.Terms.{Status, Interface, Access, Loss, LineFault}
 use Rattle.link_events.specs.Terms.fault
 use Rattle.link_events.specs.Words.{is_printable, words_in, number_of_word, mask_in, bytes_in, port_of_word}
 use Rattle.link_events.specs.Parse.{◌>>=◌, loss_in, is_loss_long, operation_in, marks_in, send_in, one_number_in}
-use Rattle.link_events.specs.Parse.{two_numbers_in, alter_in, arrive_in, bytes_event_in, event_by, event_in, is_comment}
-use Rattle.link_events.specs.Parse.{line_meaning}
+use Rattle.link_events.specs.Parse.{two_numbers_in, alter_in, arrive_in, bytes_event_in, last_event_in, event_by}
+use Rattle.link_events.specs.Parse.{event_in, is_comment, line_meaning}
 use Rattle.link_events.specs.Spells.{LossSpelledBy, OperationSpelledBy, mark_words, SpelledBy, SpellsEvent}
 use Rattle.link_events.specs.Spells.{MeaningIsSpelling}
 use Rattle.link_events.proofs.Steps.{err_ok, ok_ok, some_some, none_some, same_text, next_of, next_result, tested}
 use Rattle.link_events.proofs.Steps.{tested_last}
 use Rattle.link_events.proofs.Spelled.{loss_spelled, loss_meant, one_spelled, two_spelled, SpelledAs, made}
 use Rattle.link_events.proofs.InterfaceMeanings.{interface_spelled, interface_meant}
+use Rattle.link_events.proofs.AccessMeanings.{access_spelled, access_meant}
 
 -- ---- operations
 
@@ -178,10 +179,11 @@ event_spelled first rest =
     (made SpelledBy rest _ (two_numbers_in rest) (λ n. Cut n.0 n.1) (two_spelled _ rest))
     (tested (SpelledAs SpelledBy rest) first (codes "dump") _ _ _
     (made SpelledBy rest _ (one_number_in rest) Dump (one_spelled _ rest))
-    (interface_spelled first rest (bytes_event_in first rest)
+    (interface_spelled first rest (last_event_in first rest)
+    (access_spelled first rest (bytes_event_in first rest)
     (tested_last (SpelledAs SpelledBy rest) first (codes "send") _ _ (send_spelled rest)
     (tested_last (SpelledAs SpelledBy rest) first (codes "arrive") _ _ (arrive_spelled rest)
-    (λ e h. absurd (err_ok fault.Word e h)))))))))))))
+    (λ e h. absurd (err_ok fault.Word e h))))))))))))))
 
 some_event : (x : Result Event LineFault) (e : Event) → (x >>= λ y. Ok (Some y)) ≡ Ok (Some e) → x ≡ Ok e
 some_event (Ok y) e h = ap Ok (some_some y e (ok_ok (Some y) (Some e) h))
@@ -217,6 +219,7 @@ words_meant ws (Dump n) h = rw h.1 (rw h.0.1 refl)
 words_meant ws (Reset l) h = rw h.1 (rw h.0.1 refl)
 words_meant ws (Status l s) h = rw h.2 (rw h.0.1 (rw h.1.1 refl))
 words_meant ws (Interface event) h = interface_meant ws event h
+words_meant ws (Access event) h = access_meant ws event h
 
 -- ---- lines
 

@@ -12,11 +12,12 @@ use Rattle.ide_types.specs.declared.port.Side.TheVariants.{Host, Device}
 use Rattle.ide_types.specs.declared.port.PortName.{PortName}
 use Rattle.ide_types.specs.Names.{Text}
 use Rattle.link_events.specs.Terms.{Event, Establish, Refresh, Stop, Send, Pass, Alter, Cut, Arrive, Dump, Reset}
-use Rattle.link_events.specs.Terms.{Status, Interface}
+use Rattle.link_events.specs.Terms.{Status, Interface, Access}
 use Rattle.link_events.specs.Words.{words_in, bytes_in, port_of_word}
 use Rattle.link_events.specs.Spells.{SpelledBy, IsAllowed, SpelledAreAllowed}
 use Rattle.link_events.proofs.Steps.{some_some, none_some}
 use Rattle.link_events.proofs.InterfaceMeanings.{interface_allowed}
+use Rattle.link_events.proofs.AccessMeanings.{access_allowed}
 
 -- ---- words
 
@@ -119,6 +120,7 @@ allowed n ws (Dump p) few short h = tt
 allowed n ws (Reset l) few short h = tt
 allowed n ws (Status l s) few short h = tt
 allowed n ws (Interface event) few short h = interface_allowed ws event h
+allowed n ws (Access event) few short h = access_allowed ws event h
 
 pub spelled_are_allowed : SpelledAreAllowed
 spelled_are_allowed line e h = allowed (length line) (words_in line) e h.short_enough (words_short line) h.words

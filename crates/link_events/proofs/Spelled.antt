@@ -1,17 +1,19 @@
 -- Parts of lines that several families of events have: what was read of words is what they spell, and the other way
 -- round.
-use Rattle.std.proofs.Common.{true, false, ◌≡◌, ℕ, List, [], ◌∷◌, Bool, Option, Some, None, Result, Ok, Err, refl, ◌∙◌}
+use Rattle.std.proofs.Common.{true, false, nat_le, ◌&&◌, ◌≤◌, arith, ◌≡◌, ℕ, List, [], ◌∷◌, Bool, Option, Some, None}
+use Rattle.std.proofs.Common.{Result, Ok, Err, refl, ◌∙◌}
 use Rattle.std.proofs.Common.{ap, subst, codes}
 use Rattle.std.specs.Prelude.{if◌then◌else◌}
-use Rattle.std.specs.Option.{ok_or}
+use Rattle.std.specs.Option.{ok_or, option_and_then}
 use Rattle.std.specs.Str.{bytes_eq}
+use Rattle.std.proofs.lemmas.Bool.{leb-true, le-leb}
 use Rattle.ide_types.specs.Names.{Text}
 use Rattle.link_events.specs.Terms.{Loss, LineFault}
 use Rattle.link_events.specs.Terms.fault
 use Rattle.link_events.specs.Words.{number_of_word, lost_of_word}
 use Rattle.link_events.specs.Parts.{◌>>=◌, lost_exchange_in, loss_in, is_loss_long, one_number_in, two_numbers_in}
-use Rattle.link_events.specs.Parts.{LossSpelledBy, OneSpelledBy, TwoSpelledBy}
-use Rattle.link_events.proofs.Steps.{err_ok, ok_ok, same_text, next_of, next_result}
+use Rattle.link_events.specs.Parts.{length_in, LossSpelledBy, OneSpelledBy, TwoSpelledBy}
+use Rattle.link_events.proofs.Steps.{err_ok, ok_ok, some_some, none_some, same_text, next_of, next_result}
 
 -- ---- what is lost
 
@@ -63,6 +65,27 @@ two_spelled first (v ∷ w ∷ []) n h =
     subst (λ (x : ℕ × ℕ). TwoSpelledBy first x.0 x.1 (first ∷ v ∷ w ∷ [])) (ok_ok (a.0, b.0) n b.2)
     ((v, a.1), (w, b.1), refl)
 two_spelled first (v ∷ w ∷ x ∷ ws) n h = absurd (err_ok fault.Count n h)
+
+-- ---- how many bytes are shown
+
+between : (n v : ℕ) (low high : Bool) → nat_le 1 n ≡ low → nat_le n 256 ≡ high → (if low && high then Some n else None)
+    ≡ Some v → (n ≡ v) × (1 ≤ v) × (v ≤ 256)
+between n v true true x y e = let same = some_some n v e in
+    (same, omega (arith, leb-true 1 n x, same), omega (arith, leb-true n 256 y, same))
+between n v true false x y e = absurd (none_some v e)
+between n v false high x y e = absurd (none_some v e)
+
+pub length_bounded : (w : Text) (v : ℕ) → length_in w ≡ Some v → (number_of_word w ≡ Some v) × (1 ≤ v) × (v ≤ 256)
+length_bounded w v is = by_number (number_of_word w) is
+  where
+    by_number : (o : Option ℕ) → option_and_then (λ n. if nat_le 1 n && nat_le n 256 then Some n else None) o ≡ Some v
+        → (o ≡ Some v) × (1 ≤ v) × (v ≤ 256)
+    by_number None e = absurd (none_some v e)
+    by_number (Some n) e = let few = between n v (nat_le 1 n) (nat_le n 256) refl refl e in
+        (ap Some few.0, few.1, few.2)
+
+pub length_back : (w : Text) (v : ℕ) → number_of_word w ≡ Some v → 1 ≤ v → v ≤ 256 → length_in w ≡ Some v
+length_back w v is least most = rw is (rw (le-leb 1 v least, le-leb v 256 most) refl)
 
 -- ---- answers
 

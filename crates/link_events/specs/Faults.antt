@@ -13,6 +13,7 @@ use Rattle.link_events.specs.Words.{line_limit, is_printable, words_in, mask_in,
 pub use Rattle.link_events.specs.Parts.{WordTest, number_test, lost_test, word_test, Row, number_tests}
 pub use Rattle.link_events.specs.Parts.{two_number_tests}
 use Rattle.link_events.specs.Interfaces.{interface_rows}
+use Rattle.link_events.specs.Accesses.{access_rows}
 use Rattle.link_events.specs.Parse.{is_comment, line_meaning}
 
 -- ---- what a word after the first has to be
@@ -73,7 +74,7 @@ event_table =
       codes "dump",
       number_tests,
     )
-    ∷ interface_rows ((codes "send", send_tests) ∷ (codes "arrive", arrive_tests) ∷ [])
+    ∷ interface_rows (access_rows ((codes "send", send_tests) ∷ (codes "arrive", arrive_tests) ∷ []))
 
 -- ---- the first fault
 

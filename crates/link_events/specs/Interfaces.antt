@@ -13,7 +13,8 @@ use Rattle.link_events.specs.Terms.{InterfaceEvent, Loss, LineFault, Word, Count
 use Rattle.link_events.specs.Terms.ie
 use Rattle.link_events.specs.Words.{number_of_word}
 use Rattle.link_events.specs.Parts.{◌>>=◌, loss_in, is_loss_long, one_number_in, WordOf, LossSpelledBy, OneSpelledBy}
-use Rattle.link_events.specs.Parts.{WordTest, Row, number_test, word_test, lost_test, number_tests}
+use Rattle.link_events.specs.Parts.{WordTest, Row, number_test, word_test, lost_test, number_tests, length_in}
+use Rattle.link_events.specs.Parts.{length_test}
 
 -- ---- words
 
@@ -53,10 +54,6 @@ register_in w =
 abbrev pub register_value_in : Register → Text → Option ℕ
 register_value_in register w =
     option_and_then (λ n. if nat_lt n (2 ^ width_of register) then Some n else None) (number_of_word w)
-
--- how many bytes of memory are shown: 1 to 256
-abbrev pub length_in : Text → Option ℕ
-length_in w = option_and_then (λ n. if nat_le 1 n && nat_le n 256 then Some n else None) (number_of_word w)
 
 -- ---- as they are read
 
@@ -147,9 +144,6 @@ value_test register =
       is_spelled = λ w. is_some (option_and_then (λ r. register_value_in r w) (register_in register));
       fault = Number;
     }
-
-abbrev pub length_test : WordTest
-length_test = record { is_spelled = λ w. is_some (length_in w); fault = Number }
 
 abbrev pub asked_tests : List Text → Option (List WordTest)
 asked_tests (i ∷ []) = Some (number_test ∷ [])

@@ -2,16 +2,18 @@ pub mod Terms
 pub mod Words
 pub mod Parts
 pub mod Interfaces
+pub mod Accesses
 pub mod Parse
 pub mod Spells
 pub mod Faults
 -- what clauses and crates above cite
 pub use Rattle.ide_types.specs.Names.{Text}
-pub use Rattle.link_events.specs.Terms.{Event, InterfaceEvent, Loss, Lost, LineFault, LineError}
+pub use Rattle.link_events.specs.Terms.{Event, InterfaceEvent, AccessEvent, Loss, Lost, LineFault, LineError}
 pub use Rattle.link_events.specs.Words.{line_limit, is_printable, words_in, line_fault_word, fault_line_of}
 unfoldable pub use Rattle.link_events.specs.Words.{number_of_word, mask_in, bytes_in, port_of_word}
 unfoldable pub use Rattle.link_events.specs.Interfaces.{register_in}
 pub use Rattle.link_events.specs.Interfaces.{InterfaceSpelledBy, IsAllowedInterface}
+pub use Rattle.link_events.specs.Accesses.{AccessSpelledBy, IsAllowedAccess}
 pub use Rattle.link_events.specs.Parse.{is_comment, line_meaning, begins_bytes, IsLineAnswer, line_answer}
 pub use Rattle.link_events.specs.Spells.{SpelledBy, SpellsEvent, MeaningIsSpelling, IsSkipped, NothingIsSkipped}
 pub use Rattle.link_events.specs.Spells.{IsAllowed, SpelledAreAllowed}

@@ -8,12 +8,14 @@ use Rattle.ide_types.specs.declared.port.Side.{Side}
 use Rattle.ide_types.specs.declared.port.Side.TheVariants.{Host, Device}
 use Rattle.ide_types.specs.Names.{Text}
 use Rattle.link_events.specs.Terms.{Event, Establish, Refresh, Stop, Send, Pass, Alter, Cut, Arrive, Dump, Reset}
-use Rattle.link_events.specs.Terms.{Status, Interface, InterfaceEvent, Loss, LineFault, Word, Count, Number, Hex}
-use Rattle.link_events.specs.Terms.{TooLong, NotAscii, LineError}
+use Rattle.link_events.specs.Terms.{Status, Interface, InterfaceEvent, Access, AccessEvent, Loss, LineFault, Word}
+use Rattle.link_events.specs.Terms.{Count}
+use Rattle.link_events.specs.Terms.{Number, Hex, TooLong, NotAscii, LineError}
 use Rattle.link_events.specs.Terms.error
 use Rattle.link_events.specs.Words.{line_limit, is_printable, words_in, number_of_word, mask_in, bytes_in, port_of_word}
 pub use Rattle.link_events.specs.Parts.{◌>>=◌, lost_exchange_in, loss_in, is_loss_long, one_number_in, two_numbers_in}
 use Rattle.link_events.specs.Interfaces.{interface_event_of}
+use Rattle.link_events.specs.Accesses.{access_event_of}
 
 -- ---- the words after the first
 
@@ -99,10 +101,17 @@ bytes_event_in first rest =
 abbrev pub made_interface : Result InterfaceEvent LineFault → Result Event LineFault
 made_interface answer = answer >>= λ e. Ok (Interface e)
 
--- an event on an interface or on memory, or one that holds bytes
+abbrev pub made_access : Result AccessEvent LineFault → Result Event LineFault
+made_access answer = answer >>= λ e. Ok (Access e)
+
+-- an event on a trusted read or on guarded memory, or one that holds bytes
+abbrev pub last_event_in : Text → List Text → Result Event LineFault
+last_event_in first rest = unwrap_or (option_map made_access (access_event_of first rest)) (bytes_event_in first rest)
+
+-- an event on an interface or on memory, or one of these
 abbrev pub other_event_in : Text → List Text → Result Event LineFault
 other_event_in first rest =
-    unwrap_or (option_map made_interface (interface_event_of first rest)) (bytes_event_in first rest)
+    unwrap_or (option_map made_interface (interface_event_of first rest)) (last_event_in first rest)
 
 abbrev pub event_by : Text → List Text → Result Event LineFault
 event_by first rest = unwrap_or (naming_event_of first rest) (other_event_in first rest)

@@ -1,8 +1,8 @@
 -- Parts of lines that several families of events have: numbers and what is lost, as they are read, as they are spelled,
 -- and as the table of faults tests them.
 use Rattle.std.specs.Prelude.{◌≡◌, ℕ, Bool, true, false, List, [], ◌∷◌, Option, Some, None, is_some, Result, Ok, Err}
-use Rattle.std.specs.Prelude.{if◌then◌else◌, codes}
-use Rattle.std.specs.Option.{ok_or}
+use Rattle.std.specs.Prelude.{◌&&◌, nat_le, if◌then◌else◌, codes}
+use Rattle.std.specs.Option.{ok_or, option_and_then}
 use Rattle.std.specs.Str.{bytes_eq}
 use Rattle.ide_types.specs.Names.{Text}
 use Rattle.link_events.specs.Terms.{Loss, LineFault, Word, Count, Number}
@@ -45,6 +45,10 @@ two_numbers_in (m ∷ n ∷ []) = do
   Ok (first, second)
 two_numbers_in _ = Err Count
 
+-- how many bytes are shown: 1 to 256
+abbrev pub length_in : Text → Option ℕ
+length_in w = option_and_then (λ n. if nat_le 1 n && nat_le n 256 then Some n else None) (number_of_word w)
+
 -- ---- as they are spelled
 
 -- a word that spells a value
@@ -77,6 +81,9 @@ number_test = record { is_spelled = λ w. is_some (number_of_word w); fault = Nu
 
 abbrev pub lost_test : WordTest
 lost_test = record { is_spelled = λ w. is_some (lost_of_word w); fault = Word }
+
+abbrev pub length_test : WordTest
+length_test = record { is_spelled = λ w. is_some (length_in w); fault = Number }
 
 -- this very word
 abbrev pub word_test : Text → WordTest

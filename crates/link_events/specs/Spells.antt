@@ -5,10 +5,11 @@ use Rattle.std.specs.List.{list_all}
 use Rattle.ide_types.specs.declared.port.Side.TheVariants.{Host}
 use Rattle.ide_types.specs.Names.{Text}
 use Rattle.link_events.specs.Terms.{Event, Establish, Refresh, Stop, Send, Pass, Alter, Cut, Arrive, Dump, Reset}
-use Rattle.link_events.specs.Terms.{Status, Interface, Loss}
+use Rattle.link_events.specs.Terms.{Status, Interface, Access, Loss}
 use Rattle.link_events.specs.Words.{line_limit, is_printable, words_in, number_of_word, mask_in, bytes_in, port_of_word}
 pub use Rattle.link_events.specs.Parts.{WordOf, LossSpelledBy, OneSpelledBy, TwoSpelledBy}
 use Rattle.link_events.specs.Interfaces.{InterfaceSpelledBy, IsAllowedInterface}
+use Rattle.link_events.specs.Accesses.{AccessSpelledBy, IsAllowedAccess}
 use Rattle.link_events.specs.Parse.{is_comment, line_meaning}
 
 abbrev pub OperationSpelledBy : Text → ℕ → ℕ → Option Loss → List Text → Type 0
@@ -41,6 +42,7 @@ SpelledBy (Dump packet) words = OneSpelledBy (codes "dump") packet words
 SpelledBy (Reset link) words = OneSpelledBy (codes "reset") link words
 SpelledBy (Status link stream) words = TwoSpelledBy (codes "status") link stream words
 SpelledBy (Interface event) words = InterfaceSpelledBy event words
+SpelledBy (Access event) words = AccessSpelledBy event words
 
 -- the line spells the event
 pub record SpellsEvent (event : Event) (line : Text) : Type 0 where
@@ -62,12 +64,13 @@ abbrev pub NothingIsSkipped : Type 0
 NothingIsSkipped = (line : Text) → (line_meaning line ≡ Ok None) ↔ IsSkipped line
 
 -- The event's port is on one of eight links, trusted is asked of a host's port alone, and a place in the event's
--- bytes has at most 64 bits. A value has room in its register, and 1 to 256 bytes of memory are shown.
+-- bytes has at most 64 bits. A value has room in its register, and 1 to 256 bytes are shown.
 abbrev pub IsAllowed : Event → Type 0
 IsAllowed (Send port bytes more trusted) = (port.link < 8) × (trusted ≡ true → port.side ≡ Host)
     × (length bytes < 2 ^ 64)
 IsAllowed (Arrive port bytes) = (port.link < 8) × (length bytes < 2 ^ 64)
 IsAllowed (Interface event) = IsAllowedInterface event
+IsAllowed (Access event) = IsAllowedAccess event
 IsAllowed _ = Unit {0}
 
 abbrev pub SpelledAreAllowed : Type 0

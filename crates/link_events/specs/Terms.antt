@@ -1,9 +1,11 @@
 -- The types of this crate with their variants.
 pub use Rattle.link_events.specs.declared.event.Event.{Event}
 pub use Rattle.link_events.specs.declared.event.Event.TheVariants.{Establish, Refresh, Stop, Send, Pass, Alter, Cut}
-pub use Rattle.link_events.specs.declared.event.Event.TheVariants.{Arrive, Dump, Reset, Status, Interface}
+pub use Rattle.link_events.specs.declared.event.Event.TheVariants.{Arrive, Dump, Reset, Status, Interface, Access}
 pub use Rattle.link_events.specs.declared.event.InterfaceEvent.{InterfaceEvent}
 pub use Rattle.link_events.specs.declared.event.InterfaceEvent.TheVariants as ie
+pub use Rattle.link_events.specs.declared.event.AccessEvent.{AccessEvent}
+pub use Rattle.link_events.specs.declared.event.AccessEvent.TheVariants as ae
 pub use Rattle.link_events.specs.declared.event.Loss.{Loss}
 pub use Rattle.link_events.specs.declared.event.Lost.{Lost}
 pub use Rattle.link_events.specs.declared.event.Lost.TheVariants.{Request, Reply}

@@ -70,6 +70,23 @@ pub enum InterfaceEvent {
     },
 }
 
+/// A trusted read that a host answers, or bytes of a device's guarded memory that are shown (this profile).
+#[derive(Debug, Drop)]
+pub enum AccessEvent {
+    /// `answer LINK`: the host answers the oldest trusted read of the link that waits.
+    Answer {
+        link: u64,
+    },
+    /// `mmio INTERFACE BAR OFFSET LEN`: shows bytes of the range of a BAR of an interface, 1 to 256 of them from the
+    /// offset on.
+    Mmio {
+        interface: u64,
+        bar: u64,
+        offset: u64,
+        length: u64,
+    },
+}
+
 /// What a line of a script asks for (this profile). Links, streams and packets need not exist: a packet is named by the
 /// number that it was sealed under, from 1.
 #[derive(Debug, Drop)]
@@ -137,5 +154,9 @@ pub enum Event {
     /// What concerns a device interface or trusted memory.
     Interface {
         event: InterfaceEvent,
+    },
+    /// What concerns a trusted read that waits, or a device's guarded memory.
+    Access {
+        event: AccessEvent,
     },
 }

@@ -8,14 +8,13 @@ ghost use Rattle.link_events.specs.Interfaces.{
   bar_in,
   register_in,
   register_value_in,
-  length_in,
   interface_and_loss,
   write_event_in,
   memory_in,
 };
 ghost use Rattle.link_events.specs.Interfaces.{asking_event_of, interface_event_of};
 
-use crate::parts::{loss, one_number};
+use crate::parts::{length_at, loss, one_number};
 use crate::words::{number, number_at};
 use crate::{InterfaceEvent, LineFault, Loss};
 use interface_words::Register;
@@ -85,16 +84,6 @@ fn value(register: Register, word: &[u8]) -> Option<u64>
     }
 }
 
-// How many bytes of memory are shown.
-fn length(word: &[u8]) -> Option<u64>
-    ensures { result ≡ length_in word.now }
-{
-    match number(word) {
-        Some(number) if 1 <= number && number <= 256 => Some(number),
-        _ => None,
-    }
-}
-
 // The interface of an operation, and what is lost.
 fn asked(words: &[&[u8]]) -> Result<(u64, Option<Loss>), LineFault>
     ensures { result ≡ interface_and_loss (map (λ w. w.now) words.now) }
@@ -129,11 +118,11 @@ fn write(words: &[&[u8]]) -> Result<InterfaceEvent, LineFault>
 fn memory(words: &[&[u8]]) -> Result<InterfaceEvent, LineFault>
     ensures { result ≡ memory_in (map (λ w. w.now) words.now) }
 {
-    let [address, length_word] = words else {
+    let [address, length] = words else {
         return Err(LineFault::Count);
     };
     let address = number_at(address)?;
-    let length = length(length_word).ok_or(LineFault::Number)?;
+    let length = length_at(length)?;
     Ok(InterfaceEvent::Memory { address, length })
 }
 

@@ -1,6 +1,7 @@
 //! The events of scripts, and the line that spells each (this profile).
 #![tactic(auto)]
 
+mod accesses;
 mod event;
 mod fault;
 mod interfaces;
@@ -8,7 +9,7 @@ mod parse;
 mod parts;
 mod words;
 
-pub use event::{Event, InterfaceEvent, Loss, Lost};
+pub use event::{AccessEvent, Event, InterfaceEvent, Loss, Lost};
 pub use fault::{LINE_LIMIT, LineError, LineFault, fault_line};
 pub use ide_types::Memory;
 pub use parse::{faults_are_first, lines_spell, parse_line};

@@ -5,12 +5,14 @@ ghost use Rattle.std.specs.Option.{ok_or};
 ghost use Rattle.link_events.specs.declared.fault.LineFault.TheVariants as fault;
 ghost use Rattle.link_events.specs.Words.{words_in};
 ghost use Rattle.link_events.specs.Parse.{operation_in, marks_in, send_in, alter_in, arrive_in, bytes_event_in};
-ghost use Rattle.link_events.specs.Parse.{packet_event_of, naming_event_of, other_event_in, event_by, event_in};
+ghost use Rattle.link_events.specs.Parse.{packet_event_of, naming_event_of, last_event_in, other_event_in};
+ghost use Rattle.link_events.specs.Parse.{event_by, event_in};
 ghost use Rattle.link_events.specs.Parse.{line_meaning, begins_bytes, line_answer, IsLineAnswer};
 ghost use Rattle.link_events.specs.Spells.{MeaningIsSpelling, NothingIsSkipped, SpelledAreAllowed};
 ghost use Rattle.link_events.specs.Faults.{FirstFault, FaultsAreFirst};
 ghost use Rattle.link_events.specs.Terms.{LineFault};
 
+use crate::accesses::access_event;
 use crate::interfaces::interface_event;
 use crate::parts::{loss, one_number, two_numbers};
 use crate::words::{bytes_at, is_printed, mask_at, number_at, port_at, words_of};
@@ -154,7 +156,20 @@ fn naming_event(first: &[u8], rest: &[&[u8]]) -> Option<Result<Event, LineFault>
     packet_event(first, rest)
 }
 
-// An event on an interface or on memory, or one that holds bytes.
+// An event on a trusted read or on guarded memory, or one that holds bytes.
+fn last_event(alloc: Global, first: &[u8], rest: &[&[u8]]) -> Result<Event, LineError>
+    ensures gives { IsLineAnswer (last_event_in first.now (map (λ w. w.now) rest.now)) result }
+    ensures exact { begins_bytes (first.now ∷ []) ≡ false
+        → result ≡ line_answer (last_event_in first.now (map (λ w. w.now) rest.now)) }
+{
+    match access_event(first, rest) {
+        Some(Ok(event)) => Ok(Event::Access { event }),
+        Some(Err(fault)) => Err(LineError::Fault(fault)),
+        None => bytes_event(alloc, first, rest),
+    }
+}
+
+// An event on an interface or on memory, or one of these.
 fn other_event(alloc: Global, first: &[u8], rest: &[&[u8]]) -> Result<Event, LineError>
     ensures gives { IsLineAnswer (other_event_in first.now (map (λ w. w.now) rest.now)) result }
     ensures exact { begins_bytes (first.now ∷ []) ≡ false
@@ -163,7 +178,7 @@ fn other_event(alloc: Global, first: &[u8], rest: &[&[u8]]) -> Result<Event, Lin
     match interface_event(first, rest) {
         Some(Ok(event)) => Ok(Event::Interface { event }),
         Some(Err(fault)) => Err(LineError::Fault(fault)),
-        None => bytes_event(alloc, first, rest),
+        None => last_event(alloc, first, rest),
     }
 }
 

@@ -1,9 +1,11 @@
 //! Words that several families of events have: numbers, and what is lost.
 
 ghost use Rattle.std.specs.Prelude.{◌≡◌, map};
-ghost use Rattle.link_events.specs.Parts.{loss_in, one_number_in, two_numbers_in};
+ghost use Rattle.std.specs.Option.{ok_or};
+ghost use Rattle.link_events.specs.declared.fault.LineFault.TheVariants as fault;
+ghost use Rattle.link_events.specs.Parts.{loss_in, one_number_in, two_numbers_in, length_in};
 
-use crate::words::{lost_at, number_at};
+use crate::words::{lost_at, number, number_at};
 use crate::{LineFault, Loss};
 
 // What is lost, by the last words of an operation.
@@ -42,4 +44,20 @@ pub(crate) fn two_numbers(words: &[&[u8]]) -> Result<(u64, u64), LineFault>
     let first = number_at(first)?;
     let second = number_at(second)?;
     Ok((first, second))
+}
+
+// How many bytes are shown: 1 to 256.
+fn length(word: &[u8]) -> Option<u64>
+    ensures { result ≡ length_in word.now }
+{
+    match number(word) {
+        Some(number) if 1 <= number && number <= 256 => Some(number),
+        _ => None,
+    }
+}
+
+pub(crate) fn length_at(word: &[u8]) -> Result<u64, LineFault>
+    ensures { result ≡ ok_or (length_in word.now) fault.Number }
+{
+    length(word).ok_or(LineFault::Number)
 }

@@ -12,18 +12,26 @@ use Rattle.link_history.proofs.Terms.{packet_in, received_in, sealed_packets, un
 use Rattle.link_history.proofs.Terms.{has_port, has_stream, stream_plan}
 use Rattle.link_history.proofs.Terms.{AllByRecursion, Alter, Arrive, Cut, Dump, Effect, Establish, Interface, Event}
 use Rattle.link_history.proofs.Terms.{t_due}
-use Rattle.link_history.proofs.Terms.{owner_at, sent_bytes, Host, Pass}
+use Rattle.link_history.proofs.Terms.{owner_at, sent_bytes, Pass}
 use Rattle.link_history.proofs.Terms.{History, Packet, Plan, PortName, Refresh, Reset, SealedPacket, Send, Status, Stop}
 use Rattle.link_history.proofs.Terms.{UnitName, Verdict, if◌then◌else◌, is_some, not}
-use Rattle.link_history.specs.Due.{settled}
+use Rattle.link_history.specs.Due.{ending_due}
+use Rattle.link_history.specs.History.{pending}
+use Rattle.link_history.specs.Memory.{unit_ended}
+use Rattle.link_history.proofs.Terms.{held, ◌++◌}
 use Rattle.link_history.proofs.Senders.{AreFalse}
 use Rattle.link_history.proofs.KeyVerdicts.{establish_due_quiet, refresh_due_quiet, stop_due_quiet, interface_due_quiet}
-use Rattle.link_history.proofs.KeyVerdicts.{if_quiet}
+use Rattle.link_history.proofs.KeyVerdicts.{if_quiet, mmio_quiet}
+use Rattle.link_history.proofs.Terms.{Access, sending_port, answer_due, answer_first, answer_of, answer_by, answer_out}
+use Rattle.link_history.proofs.Terms.{is_stream, is_before, WaitingRead, waiting, Site, site_with, granted_to}
+use Rattle.link_history.proofs.Terms.{live_key, lane_out, Cpl, nat_lt}
+unfoldable use Rattle.link_history.proofs.Terms.{bytes_by}
+use Rattle.link_events.specs.declared.event.AccessEvent.TheVariants as ae
 use Rattle.tlp_layout.specs.declared.tlp.Tlp.{Tlp}
 use Rattle.tlp_layout.specs.Class.{class_of}
 use Rattle.tlp_layout.specs.Tlp.{header}
 use Rattle.tlp_layout.specs.Reading.{read_of}
-use Rattle.association.specs.Outgoing.{Outgoing, NoTlp, OnNone, OnStream, outgoing_of}
+use Rattle.association.specs.Outgoing.{Outgoing, NoTlp, OnNone, OnStream, outgoing_of, stream_taken}
 use Rattle.association.proofs.Outgoing.{on_stream_reads}
 use Rattle.ide_prefix.specs.declared.fault.PacketFault.{PacketFault}
 use Rattle.ide_prefix.specs.Reading.{CutValue, PlainTlp, IdePacket, cut_of}
@@ -74,6 +82,7 @@ pub record IsSealing (plan : Plan) (h : History) (port : PortName) (bytes : List
     pub reads : read_of bytes ≡ Ok tlp
     pub class : sending.class ≡ class_of (header tlp)
     pub at_port : sending.port ≡ port
+    pub comes : outgoing_of (streams_of plan port.link) port.side bytes ≡ OnStream tlp sending.stream
     pub free : AreFalse (refusals (lanes_at plan h sending.port sending.stream) sending.class)
     pub number : ℕ
     pub next : number ≡ length (sealed_packets plan h) + 1
@@ -84,12 +93,8 @@ pub record IsSealing (plan : Plan) (h : History) (port : PortName) (bytes : List
 -- the events that may seal
 abbrev pub is_sealing : Event → Bool
 is_sealing (Send port bytes more trusted) = true
+is_sealing (Access (ae.Answer link)) = true
 is_sealing _ = false
-
--- the port at which an event that may seal does
-abbrev pub sending_port : Event → PortName
-sending_port (Send port bytes more trusted) = port
-sending_port _ = record { side = Host; link = 0 }
 
 -- the verdict is that of a packet which the event brought
 record Brought (plan : Plan) (h : History) (e : Event) (w : Verdict) : Type 0 where
@@ -97,7 +102,7 @@ record Brought (plan : Plan) (h : History) (e : Event) (w : Verdict) : Type 0 wh
   packet : Packet
   arrival : arrived plan h e ≡ Some at
   cut : cut_of at.bytes ≡ Ok (IdePacket packet)
-  is : w ≡ settled plan h at.port (before_tag_of plan h at.port (Ok (IdePacket packet)))
+  is : w ≡ ending_due plan h at.port (before_tag_of plan h at.port (Ok (IdePacket packet)))
 
 abbrev Sent : Plan → History → Event → List SealedPacket → Type 0
 Sent plan h e ds = (is_sealing e ≡ true) × IsSealing plan h (sending_port e) (sent_bytes plan h e) ds
@@ -141,6 +146,7 @@ outgoing_tells plan h e seals more trusted (OnStream t stream) comes =
         reads = (on_stream_reads (streams_of plan port.link) port.side (sent_bytes plan h e) t stream comes).0;
         class = refl;
         at_port = refl;
+        comes = comes;
         free = free;
         number = _;
         next = refl;
@@ -157,20 +163,52 @@ send_tells : (plan : Plan) (h : History) (port : PortName) (bytes : List ℕ) (m
     → Tells plan h (Send port bytes more trusted)
     (if here then send_due plan h port (outgoing_of (streams_of plan port.link) port.side bytes) more trusted
     else v.Nothing)
+unfolding bytes_by
 send_tells plan h port bytes more trusted here =
     let e = Send port bytes more trusted in
     if_tells plan h e here _ v.Nothing
     (outgoing_tells plan h e refl more trusted (outgoing_of (streams_of plan port.link) port.side bytes) refl) tt
 
+-- ---- answers
+
+answer_by_tells : (plan : Plan) (h : History) (link interface draw : ℕ) (o : Option (ℕ × ℕ))
+    → let e = Access (ae.Answer link) in
+    Tells plan h e (answer_by plan h (sending_port e) interface draw o (answer_out plan h link))
+answer_by_tells plan h link interface draw None = tt
+answer_by_tells plan h link interface draw (Some bound) =
+    let e = Access (ae.Answer link) in
+    let out = answer_out plan h link in
+    let key = live_key h (sending_port e) (lane_out (sending_port e) bound.0 Cpl) in
+    if_tells plan h e (not (is_stream bound.0 (stream_taken out))) _ _ tt
+    (if_tells plan h e (nat_lt draw bound.1) _ _ tt
+    (if_tells plan h e (is_before key bound.1) _ _ tt (outgoing_tells plan h e refl false true out refl)))
+
+answer_of_tells : (plan : Plan) (h : History) (link draw : ℕ) (o : Option Site) → let e = Access (ae.Answer link) in
+    Tells plan h e (answer_of plan h (sending_port e) draw o (answer_out plan h link))
+answer_of_tells plan h link draw None = tt
+answer_of_tells plan h link draw (Some x) = answer_by_tells plan h link x.number draw (granted_to h (Some x))
+
+answer_first_tells : (plan : Plan) (h : History) (link : ℕ) (rs : List WaitingRead)
+    → let e = Access (ae.Answer link) in
+    Tells plan h e (answer_first plan h (sending_port e) rs (answer_out plan h link))
+answer_first_tells plan h link [] = tt
+answer_first_tells plan h link (r ∷ rs) =
+    answer_of_tells plan h link r.draw (site_with plan link r.read.requester)
+
+answer_tells : (plan : Plan) (h : History) (link : ℕ) → Tells plan h (Access (ae.Answer link)) (answer_due plan h link)
+answer_tells plan h link =
+    if_tells plan h (Access (ae.Answer link)) (has_link plan link) _ v.Nothing
+    (answer_first_tells plan h link (waiting plan h link)) tt
+
 -- ---- arrivals
 
 not_sealed : (plan : Plan) (h : History) (port : PortName) (p : Packet) (ds : List SealedPacket)
-    → v.Sealed ds ≡ settled plan h port (before_tag_of plan h port (Ok (IdePacket p))) → ⊥
+    → v.Sealed ds ≡ ending_due plan h port (before_tag_of plan h port (Ok (IdePacket p))) → ⊥
 not_sealed plan h port p ds is = grind arith
 
 packet_tells : (plan : Plan) (h : History) (e : Event) (a : Arrival) (p : Packet) → arrived plan h e ≡ Some a
     → cut_of a.bytes ≡ Ok (IdePacket p)
-    → (w : Verdict) → w ≡ settled plan h a.port (before_tag_of plan h a.port (Ok (IdePacket p))) → Tells plan h e w
+    → (w : Verdict) → w ≡ ending_due plan h a.port (before_tag_of plan h a.port (Ok (IdePacket p))) → Tells plan h e w
 packet_tells plan h e a p arrival cut (v.Held port unit) is = record
     { at = a; packet = p; arrival = arrival; cut = cut; is = is }
 packet_tells plan h e a p arrival cut (v.Accepted port unit effects) is = record
@@ -180,7 +218,7 @@ packet_tells plan h e a p arrival cut _ is = tt
 
 cut_tells : (plan : Plan) (h : History) (e : Event) (a : Arrival) → arrived plan h e ≡ Some a
     → (r : Result CutValue PacketFault) → cut_of a.bytes ≡ r
-    → Tells plan h e (settled plan h a.port (before_tag_of plan h a.port r))
+    → Tells plan h e (ending_due plan h a.port (before_tag_of plan h a.port r))
 cut_tells plan h e a arrival (Err f) cut = tt
 cut_tells plan h e a arrival (Ok PlainTlp) cut = tt
 cut_tells plan h e a arrival (Ok (IdePacket p)) cut = packet_tells plan h e a p arrival cut _ refl
@@ -205,6 +243,9 @@ quiet_tells plan h e _ is = tt
 tells : (plan : Plan) (h : History) (e : Event) → Tells plan h e (due plan h e)
 unfolding due key_due
 tells plan h (Send port bytes more trusted) = send_tells plan h port bytes more trusted (has_port plan port)
+tells plan h (Access (ae.Answer link)) = answer_tells plan h link
+tells plan h (Access (ae.Mmio interface bar offset len)) =
+    quiet_tells plan h (Access (ae.Mmio interface bar offset len)) _ (mmio_quiet plan h interface bar offset len)
 tells plan h (Dump n) = quiet_tells plan h (Dump n) _ (dump_quiet n (packet_at (sealed_packets plan h) n))
 tells plan h (Establish link stream lose) = quiet_tells plan h (Establish link stream lose) _
     (establish_due_quiet plan h link stream lose)
@@ -234,7 +275,7 @@ came_to plan h e w port by same = record {
 }
 
 held_is : (plan : Plan) (h : History) (q port : PortName) (p : Packet) (unit : UnitName)
-    → v.Held port unit ≡ settled plan h q (before_tag_of plan h q (Ok (IdePacket p)))
+    → v.Held port unit ≡ ending_due plan h q (before_tag_of plan h q (Ok (IdePacket p)))
     → (q ≡ port) × Passed plan h port p unit × (p.prefix.m ≡ false)
 held_is plan h q port p unit is =
     let passed : Passed plan h port p unit =
@@ -269,7 +310,7 @@ ending_is plan h port p unit passed m = grind arith
 accepted_of : (plan : Plan) (h : History) (e : Event) (q port : PortName) (p : Packet) (unit : UnitName)
     (effects : List Effect)
     → (q ≡ port → Came plan h e port p)
-    → v.Accepted port unit effects ≡ settled plan h q (before_tag_of plan h q (Ok (IdePacket p)))
+    → v.Accepted port unit effects ≡ ending_due plan h q (before_tag_of plan h q (Ok (IdePacket p)))
     → AcceptedBy plan h e port unit effects
 unfolding before_tag
 accepted_of plan h e q port p unit effects came is =
@@ -326,3 +367,13 @@ pub numbered : (plan : Plan) (h : History) (port : PortName) (p : Packet) (unit 
 numbered plan h port p unit passed =
     ap (λ (u : UnitName). u.unit) passed.named ∙ ap (λ (s : SubStream). units_got h s unit.draw + 1)
     (sym (received_there plan h port p unit passed))
+
+-- the unit that an accepted verdict ends
+pub unit_that_ends : (plan : Plan) (h : History) (e : Event) (port : PortName) (unit : UnitName) (p : Packet)
+    → Came plan h e port p → Passed plan h port p unit → unit_ended plan h e port unit
+    ≡ ended plan h port (ending p unit)
+unit_that_ends plan h e port unit p came passed =
+    ap (λ (n : ℕ). held plan h (received_in port unit) unit.draw n ++ arrived_packet plan h e ∷ [])
+    (numbered plan h port p unit passed)
+    ∙ ap (λ (q : Packet). pending plan h (received_in port unit) unit.draw ++ q ∷ [])
+    (packet_that_came plan h e port p came)

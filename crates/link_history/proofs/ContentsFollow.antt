@@ -51,6 +51,6 @@ contents_follow = record {
   at_device = λ plan h e port unit m is older left.
       rw (each_stays plan (grant_at plan h) port unit (plain_of plan port unit (unit_ended plan h e port unit))
       (unit_ended plan h e port unit) older is) left;
-  sync = λ plan h port unit p payload is. rw is refl;
-  packet = λ plan h port unit p payload head carries host reads. rw (carries, host, reads) refl;
+  sync = λ plan grants port unit p payload is. rw is refl;
+  packet = λ plan grants port unit p payload head carries host reads. rw (carries, host, reads) refl;
 }

@@ -12,6 +12,8 @@ use Rattle.std.specs.Prelude.{nat_le, ◌&&◌}
 use Rattle.link_events.specs.declared.event.Lost.{Lost}
 use Rattle.key_laws.specs.Due.{lost_at}
 use Rattle.link_history.specs.Memory.{shown_if}
+use Rattle.link_history.specs.Guarded.{mmio_if, mmio_shown, mmio_due, happened}
+use Rattle.guarded_memory.specs.Happenings.{Happened}
 use Rattle.trusted_memory.specs.Regions.{in_one_region}
 use Rattle.key_laws.specs.Due.{if_secure}
 use Rattle.interface_states.specs.Terms.{View, has_register, kept_report, lock_of, start_answer}
@@ -155,3 +157,16 @@ memory_quiet plan h e = refl
 pub interface_due_quiet : (plan : Plan) (h : History) (e : InterfaceEvent) → is_quiet (due plan h (Interface e)) ≡ true
 unfolding due due_of
 interface_due_quiet plan h e = number_quiet plan h e (number_in e) (memory_due plan h e) (memory_quiet plan h e)
+
+-- ---- guarded memory
+
+mmio_if_quiet : (b : Bool) (bytes : List ℕ) → is_quiet (mmio_if b bytes) ≡ true
+mmio_if_quiet b bytes = grind arith
+
+mmio_shown_quiet : (plan : Plan) (happened_at : ℕ → List Happened) (o : Option Site) (bar offset len : ℕ)
+    → is_quiet (mmio_shown plan happened_at o bar offset len) ≡ true
+mmio_shown_quiet plan happened_at None bar offset len = refl
+mmio_shown_quiet plan happened_at (Some x) bar offset len = mmio_if_quiet _ _
+
+pub mmio_quiet : (plan : Plan) (h : History) (i bar offset len : ℕ) → is_quiet (mmio_due plan h i bar offset len) ≡ true
+mmio_quiet plan h i bar offset len = mmio_shown_quiet plan (happened plan h) (site_at plan i) bar offset len

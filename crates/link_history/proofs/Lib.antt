@@ -10,3 +10,4 @@ pub mod OneHistory
 pub mod Choices
 pub mod LastPlaces
 pub mod ContentsFollow
+pub mod Growth

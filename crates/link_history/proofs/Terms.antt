@@ -24,7 +24,7 @@ pub use Rattle.key_laws.specs.History.{sealed_here}
 pub use Rattle.key_laws.specs.History.{touches, when, worked}
 unfoldable pub use Rattle.key_laws.specs.History.{base, failed_there, manager, moments}
 pub use Rattle.key_laws.specs.Keys.{Accept, Clear as ClearTouch, Go as GoTouch, Loaded, Program as ProgramTouch, Seal}
-pub use Rattle.key_laws.specs.Keys.{Touch, is_on, kept_in, sealing_draw, keys_settled, touched}
+pub use Rattle.key_laws.specs.Keys.{Touch, is_on, kept_in, sealing_draw, without_outlived, touched}
 unfoldable pub use Rattle.key_laws.specs.Keys.{is_open, keys}
 pub use Rattle.key_laws.specs.Laws.{KeyCauseLaw, GivenFits, UsesFit}
 pub use Rattle.key_laws.specs.Operations.{Begun, Idle, Manager, Op, Reach, Stopping, Work, op_after, operated, reach_of}
@@ -38,7 +38,7 @@ pub use Rattle.link_history.specs.Due.{is_verified, lanes_at}
 pub use Rattle.link_history.specs.Due.{needs_sync, no_key, receiving, refusals, sealed_by, send_due}
 pub use Rattle.link_history.specs.Due.{sets_trusted, unit_under}
 unfoldable pub use Rattle.link_history.specs.Due.{before_tag, due}
-pub use Rattle.link_history.specs.History.{Arrival, KeyName, SealedList, accepted_keys, after_ends, front_of_packet}
+pub use Rattle.link_history.specs.History.{Arrival, KeyName, SealedList, accepted_keys, after_ends, ahead_of_packet}
 pub use Rattle.link_history.specs.History.{arrived_packet, cut_packet, ended_keys, ends_at, ends_in, failed, fails_at}
 pub use Rattle.link_history.specs.History.{has_live_key, is_in, is_keyed, is_under}
 pub use Rattle.link_history.specs.History.{keys_by, lesser, live_key, meets_counts, on_draw, packet_at, packet_in}
@@ -63,4 +63,8 @@ pub use Rattle.link_history.specs.Terms.{received_direction, sent_direction, sta
 pub use Rattle.link_history.specs.Units.{rest_after, units_after}
 unfoldable pub use Rattle.link_history.specs.Units.{open_unit, units}
 pub use Rattle.link_history.specs.Terms.{Interface, InterfaceEvent, t_due, owner_at}
-pub use Rattle.link_history.specs.Memory.{memory_due}
+pub use Rattle.link_history.specs.Memory.{memory_due, waiting}
+pub use Rattle.link_history.specs.History.{sending_port}
+unfoldable pub use Rattle.link_history.specs.Sent.{bytes_by}
+pub use Rattle.link_history.specs.Due.{answer_due, answer_first, answer_of, answer_by, answer_out, is_stream, is_before}
+pub use Rattle.link_history.specs.Terms.{Access, Site, WaitingRead, granted_to, site_with}

@@ -14,20 +14,23 @@ joined us = flat_map (λ (u : List Packet). u) us
 
 -- ---- more packets
 
-units_after-append : (front ps qs : List Packet) → units_after front (ps ++ qs) ≡ units_after front ps
-    ++ units_after (rest_after front ps) qs
-units_after-append front [] qs = refl
-units_after-append front (p ∷ ps) qs = grind
-    (arith, units_after-append [] ps qs, units_after-append (front ++ p ∷ []) ps qs)
+units_after-append : (unfinished ps qs : List Packet) → units_after unfinished (ps ++ qs) ≡ units_after unfinished ps
+    ++ units_after (rest_after unfinished ps) qs
+units_after-append unfinished [] qs = refl
+units_after-append unfinished (p ∷ ps) qs = grind
+    (arith, units_after-append [] ps qs, units_after-append (unfinished ++ p ∷ []) ps qs)
 
-rest_after-append : (front ps qs : List Packet) → rest_after front (ps ++ qs) ≡ rest_after (rest_after front ps) qs
-rest_after-append front [] qs = refl
-rest_after-append front (p ∷ ps) qs = grind
-    (arith, rest_after-append [] ps qs, rest_after-append (front ++ p ∷ []) ps qs)
+rest_after-append : (unfinished ps qs : List Packet) → rest_after unfinished (ps ++ qs)
+    ≡ rest_after (rest_after unfinished ps) qs
+rest_after-append unfinished [] qs = refl
+rest_after-append unfinished (p ∷ ps) qs = grind
+    (arith, rest_after-append [] ps qs, rest_after-append (unfinished ++ p ∷ []) ps qs)
 
-joined_after : (front ps : List Packet) → joined (units_after front ps) ++ rest_after front ps ≡ front ++ ps
-joined_after front [] = sym (append-nil front)
-joined_after front (q ∷ ps) = grind (arith, append_assoc, joined_after [] ps, joined_after (front ++ q ∷ []) ps)
+joined_after : (unfinished ps : List Packet) → joined (units_after unfinished ps) ++ rest_after unfinished ps
+    ≡ unfinished ++ ps
+joined_after unfinished [] = sym (append-nil unfinished)
+joined_after unfinished (q ∷ ps) = grind
+    (arith, append_assoc, joined_after [] ps, joined_after (unfinished ++ q ∷ []) ps)
 
 pub units-append : (ps qs : List Packet) → units (ps ++ qs) ≡ units ps ++ units_after (open_unit ps) qs
 unfolding units open_unit
@@ -85,34 +88,35 @@ EndsInM (p ∷ []) = p.prefix.m ≡ true
 EndsInM (p ∷ q ∷ ps) = (p.prefix.m ≡ false) × EndsInM (q ∷ ps)
 
 pub EndsInM-snoc : (ps : List Packet) (p : Packet) → IsFront ps → p.prefix.m ≡ true → EndsInM (ps ++ p ∷ [])
-EndsInM-snoc [] p front m = m
-EndsInM-snoc (q ∷ []) p front m = (front.0, m)
-EndsInM-snoc (q ∷ r ∷ ps) p front m = (front.0, EndsInM-snoc (r ∷ ps) p front.1 m)
+EndsInM-snoc [] p unfinished m = m
+EndsInM-snoc (q ∷ []) p unfinished m = (unfinished.0, m)
+EndsInM-snoc (q ∷ r ∷ ps) p unfinished m = (unfinished.0, EndsInM-snoc (r ∷ ps) p unfinished.1 m)
 
 open_after_front : (f ps : List Packet) → IsFront ps → rest_after f ps ≡ f ++ ps
-open_after_front f [] front = sym (append-nil f)
-open_after_front f (p ∷ ps) front =
-    ap (λ (b : Bool). if b then rest_after [] ps else rest_after (f ++ p ∷ []) ps) front.0 ∙
-    (open_after_front (f ++ p ∷ []) ps front.1 ∙ append_assoc f (p ∷ []) ps)
+open_after_front f [] unfinished = sym (append-nil f)
+open_after_front f (p ∷ ps) unfinished =
+    ap (λ (b : Bool). if b then rest_after [] ps else rest_after (f ++ p ∷ []) ps) unfinished.0 ∙
+    (open_after_front (f ++ p ∷ []) ps unfinished.1 ∙ append_assoc f (p ∷ []) ps)
 
-pub open_unit-front : (ps qs : List Packet) → IsFront qs → open_unit (ps ++ qs) ≡ open_unit ps ++ qs
-open_unit-front ps qs front = open_unit-append ps qs ∙ open_after_front (open_unit ps) qs front
+pub open_unit-unfinished : (ps qs : List Packet) → IsFront qs → open_unit (ps ++ qs) ≡ open_unit ps ++ qs
+open_unit-unfinished ps qs unfinished = open_unit-append ps qs ∙ open_after_front (open_unit ps) qs unfinished
 
 -- what the packets before and each packet keep holds of each unit
 each_unit : (F : List Packet → Type 0) (R : Packet → Type 0) (P : List Packet → Type 0) → F []
     → ((f : List Packet) (p : Packet) → F f → R p → p.prefix.m ≡ true → P (f ++ p ∷ []))
     → ((f : List Packet) (p : Packet) → F f → R p → p.prefix.m ≡ false → F (f ++ p ∷ []))
-    → (front ps : List Packet) → F front → AllByRecursion R ps → AllByRecursion P (units_after front ps)
-each_unit F R P none ends goes front [] f all = tt
-each_unit F R P none ends goes front (q ∷ ps) f all =
+    → (unfinished ps : List Packet) → F unfinished → AllByRecursion R ps → AllByRecursion P (units_after unfinished ps)
+each_unit F R P none ends goes unfinished [] f all = tt
+each_unit F R P none ends goes unfinished (q ∷ ps) f all =
     by_m q.prefix.m refl (each_unit F R P none ends goes [] ps none all.1)
-    (λ g. each_unit F R P none ends goes (front ++ q ∷ []) ps g all.1)
+    (λ g. each_unit F R P none ends goes (unfinished ++ q ∷ []) ps g all.1)
   where
     by_m : (b : Bool) → q.prefix.m ≡ b → AllByRecursion P (units_after [] ps)
-        → (F (front ++ q ∷ []) → AllByRecursion P (units_after (front ++ q ∷ []) ps))
-        → AllByRecursion P (if b then (front ++ q ∷ []) ∷ units_after [] ps else units_after (front ++ q ∷ []) ps)
-    by_m true m rest more = (ends front q f all.0 m, rest)
-    by_m false m rest more = more (goes front q f all.0 m)
+        → (F (unfinished ++ q ∷ []) → AllByRecursion P (units_after (unfinished ++ q ∷ []) ps))
+        → AllByRecursion P (if b then (unfinished ++ q ∷ []) ∷ units_after [] ps else units_after (unfinished ++ q ∷ [])
+        ps)
+    by_m true m rest more = (ends unfinished q f all.0 m, rest)
+    by_m false m rest more = more (goes unfinished q f all.0 m)
 
 pub units_all : (P : Packet → Type 0) (ps : List Packet) → AllByRecursion P ps
     → AllByRecursion (AllByRecursion P) (units ps)

@@ -1,28 +1,37 @@
 -- The one verdict that an event gets after a history.
-use Rattle.std.specs.Prelude.{if◌then◌else◌, ◌&&◌, ◌++◌, ◌+◌, ◌||◌, ◌∷◌, Bool, Err, List, None, Ok, Option, Result}
-use Rattle.std.specs.Prelude.{Some, [], is_some, length, nat_le, nat_lt, not, ℕ}
+use Rattle.std.specs.Prelude.{if◌then◌else◌, ◌&&◌, ◌++◌, ◌+◌, ◌==◌, ◌||◌, ◌∷◌, Bool, Err, List, None, Ok, Option}
+use Rattle.std.specs.Prelude.{Result, Some, [], false, true, is_some, length, nat_le, nat_lt, not, ℕ}
 use Rattle.link_history.specs.Terms.{option_map_or, PortName, Device, Host}
-use Rattle.link_history.specs.Terms.{Plan, Event, Alter, Arrive, Cut, Dump, Establish, Interface, Pass, Refresh, Reset}
-use Rattle.link_history.specs.Terms.{Send, Status, Stop, t_due}
+use Rattle.link_history.specs.Terms.{Plan, Event, Access, Alter, Arrive, Cut, Dump, Establish, Interface, Pass, Refresh}
+use Rattle.link_history.specs.Terms.{Reset, Send, Status, Stop, t_due, granted_to, Site, site_with, WaitingRead}
 use Rattle.link_history.specs.Terms.{owner_at, SealedPacket, UnitName, Verdict, header, iv_of}
 use Rattle.link_history.specs.Terms.{Packet, packet_bytes}
 use Rattle.link_history.specs.Terms.{CutValue, IdePacket, PlainTlp, cut_of, authenticated, encrypted, PacketFault}
 use Rattle.link_history.specs.Terms.{verifies, History, status_of, received_direction}
 use Rattle.key_laws.specs.Due.{key_due}
 use Rattle.interface_states.specs.Due.{interface_verdict_due as interface_due}
-use Rattle.association.specs.Outgoing.{Outgoing, NoTlp, OnNone, OnStream, outgoing_of}
+use Rattle.association.specs.Outgoing.{Outgoing, NoTlp, OnNone, OnStream, outgoing_of, stream_taken}
 use Rattle.tlp_layout.specs.Class.{class_of}
 use Rattle.tlp_layout.specs.Faults.{place_in}
 use Rattle.ide_prefix.specs.Faults.{packet_place}
 use Rattle.fault_words.specs.FaultWords.{tlp_word, packet_word}
 use Rattle.ide_types.specs.declared.sub.FailCause.TheVariants as fail
-use Rattle.link_history.specs.Plan.{SubStream, key_plan, streams_of, stream_plan, lane_out, has_port, has_stream}
+use Rattle.link_history.specs.Plan.{SubStream, key_plan, streams_of, stream_plan, lane_out, has_link, has_port}
+use Rattle.link_history.specs.Plan.{has_stream}
 use Rattle.link_history.specs.Plan.{mode_of, key_of}
 use Rattle.link_history.specs.Units.{units, open_unit}
 use Rattle.link_history.specs.History.{Arrival, KeyName, sealed_packets, sent, arrived, packet_at, pending, units_got}
-use Rattle.link_history.specs.History.{on_draw, live_key, failed, posted_count, meets_counts, received_in, front_due}
+use Rattle.link_history.specs.History.{on_draw, live_key, failed, posted_count, meets_counts, received_in, ahead_due}
+use Rattle.link_history.specs.History.{sent_bytes, sending_port}
+use Rattle.ide_types.specs.declared.sub.SubKind.TheVariants.{Cpl}
+use Rattle.interface_words.specs.declared.verdict.InterfaceVerdict.TheVariants as iv
+use Rattle.link_events.specs.declared.event.AccessEvent.TheVariants as ae
+use Rattle.link_verdicts.specs.declared.access.AccessVerdict.TheVariants as av
+use Rattle.link_verdicts.specs.declared.verdict.BlockCause.TheVariants as cause
 use Rattle.link_verdicts.specs.declared.verdict.Verdict.TheVariants as v
 pub use Rattle.link_history.specs.Memory.{effects_of, memory_due}
+use Rattle.link_history.specs.Memory.{waiting}
+use Rattle.link_history.specs.Guarded.{mmio_due}
 pub use Rattle.stream_rules.specs.Sending.{first_that_holds, Sending, Lane, Lanes, is_posted, begins_unit, needs_sync}
 pub use Rattle.stream_rules.specs.Sending.{is_worn, is_keyless, refusals, no_key, described, ends_unit, sets_trusted}
 pub use Rattle.stream_rules.specs.Sending.{sync_before, sealed_by, sent_as}
@@ -39,7 +48,7 @@ lane_at plan h port s =
     let under = sent_under plan h s (live_key h port s) in
     record {
       key = live_key h port s;
-      front = open_unit under;
+      unfinished = open_unit under;
       units = length (units under);
       posted = posted_count plan h s;
     }
@@ -65,6 +74,55 @@ send_due plan h port (OnStream t stream) more trusted =
       trusted = t_due plan h port port.side (owner_at plan port.link (header t)) stream trusted;
     } in
     sent_as (lanes_at plan h port stream) s (length (sealed_packets plan h) + 1)
+
+-- ---- answers
+
+abbrev pub is_stream : ℕ → Option ℕ → Bool
+is_stream stream None = false
+is_stream stream (Some s) = s == stream
+
+-- the draw that completions are sealed under is less than the floor
+abbrev pub is_before : Option KeyName → ℕ → Bool
+is_before None floor = false
+is_before (Some key) floor = nat_lt key.draw floor
+
+abbrev pub draw_of : Option KeyName → ℕ
+draw_of key = option_map_or (λ (k : KeyName). k.draw) key 0
+
+-- under a key of the bound stream from the floor on it is sent as any TLP is, with T
+abbrev pub answer_under : Plan → History → PortName → ℕ → Option KeyName → Outgoing → Verdict
+answer_under plan h port floor key out =
+    if is_before key floor then v.Interface (iv.RefusedRefreshFirst (draw_of key) floor)
+    else send_due plan h port out false true
+
+-- a read of an interface that came under this draw: what the manager says of the interface, by its bound stream and
+-- floor, and the completion
+abbrev pub answer_by : Plan → History → PortName → ℕ → ℕ → Option (ℕ × ℕ) → Outgoing → Verdict
+answer_by plan h port interface draw None out = v.Access (av.Dropped interface cause.NotRunning)
+answer_by plan h port interface draw (Some bound) out =
+    if not (is_stream bound.0 (stream_taken out)) then v.Access (av.Dropped interface cause.WrongStream)
+    else if nat_lt draw bound.1 then v.Access (av.Dropped interface cause.Stale)
+    else answer_under plan h port bound.1 (live_key h port (lane_out port bound.0 Cpl)) out
+
+abbrev pub answer_of : Plan → History → PortName → ℕ → Option Site → Outgoing → Verdict
+answer_of plan h port draw None out = v.Nothing
+answer_of plan h port draw (Some x) out = answer_by plan h port x.number draw (granted_to h (Some x)) out
+
+-- the oldest read that waits, and its completion
+abbrev pub answer_first : Plan → History → PortName → List WaitingRead → Outgoing → Verdict
+answer_first plan h port [] out = v.Access (av.Empty port.link)
+answer_first plan h port (r ∷ rs) out =
+    answer_of plan h port r.draw (site_with plan port.link r.read.requester) out
+
+-- what the completion comes to at the host's port
+abbrev pub answer_out : Plan → History → ℕ → Outgoing
+answer_out plan h link = outgoing_of (streams_of plan link) Host (sent_bytes plan h (Access (ae.Answer link)))
+
+abbrev pub answer_due : Plan → History → ℕ → Verdict
+answer_due plan h link =
+    if has_link plan link
+    then answer_first plan h (sending_port (Access (ae.Answer link))) (waiting plan h link) (answer_out plan h link)
+    else v.Nothing
 
 -- ---- arrivals
 
@@ -121,12 +179,12 @@ ended plan h port x = pending plan h (received_in port x.unit) x.unit.draw ++ x.
 unfoldable pub is_verified : Plan → History → PortName → Ending → Bool
 is_verified plan h port x =
     verifies (key_of plan x.unit.draw (received_in port x.unit)) (iv_of x.unit.sub x.unit.unit)
-    (front_due plan h (received_in port x.unit) x.unit.unit ++ authenticated (ended plan h port x))
+    (ahead_due plan h (received_in port x.unit) x.unit.unit ++ authenticated (ended plan h port x))
     (encrypted (ended plan h port x)) x.packet.tag
 
-abbrev pub settled : Plan → History → PortName → Result Ending Verdict → Verdict
-settled plan h port (Err verdict) = verdict
-settled plan h port (Ok x) =
+abbrev pub ending_due : Plan → History → PortName → Result Ending Verdict → Verdict
+ending_due plan h port (Err verdict) = verdict
+ending_due plan h port (Ok x) =
     if not (is_verified plan h port x) then v.Fail port x.unit.stream x.unit.sub fail.Tag
     else if not (meets_counts plan h (received_in port x.unit) (ended plan h port x)) then v.Fail port x.unit.stream
     x.unit.sub fail.Order
@@ -134,7 +192,7 @@ settled plan h port (Ok x) =
 
 abbrev pub arrival_due : Plan → History → Option Arrival → Verdict
 arrival_due plan h None = v.Nothing
-arrival_due plan h (Some a) = settled plan h a.port (before_tag plan h a)
+arrival_due plan h (Some a) = ending_due plan h a.port (before_tag plan h a)
 
 abbrev pub dump_due : ℕ → Option (SealedPacket × Packet) → Verdict
 dump_due n None = v.Nothing
@@ -143,12 +201,14 @@ dump_due n (Some x) = v.Packet n (packet_bytes x.1)
 -- ---- the verdict
 
 -- Each event has one verdict. An operation and a reset get that of their keys, what is asked of an interface that of
--- the interfaces.
+-- the interfaces, an access that of the reads that wait or of a device's memory.
 unfoldable pub due : Plan → History → Event → Verdict
 due plan h (Send port bytes more trusted) =
     if has_port plan port
     then send_due plan h port (outgoing_of (streams_of plan port.link) port.side bytes) more trusted
     else v.Nothing
+due plan h (Access (ae.Answer link)) = answer_due plan h link
+due plan h (Access (ae.Mmio interface bar offset len)) = mmio_due plan h interface bar offset len
 due plan h (Dump n) = dump_due n (packet_at (sealed_packets plan h) n)
 due plan h (Establish link stream lose) = key_due (key_plan plan) h (Establish link stream lose) v.Nothing
 due plan h (Refresh link stream lose) = key_due (key_plan plan) h (Refresh link stream lose) v.Nothing

@@ -1,27 +1,26 @@
 -- What happened: filters of a history, which is a list of events with their verdicts, the newest first.
-use Rattle.std.specs.Prelude.{if◌then◌else◌, ◌&&◌, ◌++◌, ◌+◌, ◌-◌, ◌==◌, ◌||◌, ◌∷◌, Bool, Err, List, None, Ok, Option}
-use Rattle.std.specs.Prelude.{Result, Some, [], bit_xor, false, filter, length, map, nat_le, nat_lt, not, option_map}
-use Rattle.std.specs.Prelude.{slice_get, slice_index, slice_set, sum_by, take, true, ℕ}
-use Rattle.link_history.specs.Terms.{after_last, list_any, option_and_then}
-use Rattle.link_history.specs.Terms.{sub_bits, PortName, Plan, Event, Alter, Arrive, Cut, Pass, Send, SealedPacket}
-use Rattle.link_history.specs.Terms.{UnitName, Verdict, Accepted, Held, Sealed}
-use Rattle.link_history.specs.Terms.{read_of, body, header, TlpFault, Tlp, iv_of, Packet, packet_bytes, sync_head}
-use Rattle.link_history.specs.Terms.{CutValue, IdePacket, cut_of, authenticated, encrypted, PacketFault, masked, tag_of}
+use Rattle.std.specs.Prelude.{if◌then◌else◌, ◌&&◌, ◌++◌, ◌+◌, ◌==◌, ◌||◌, ◌∷◌, Bool, Err, List, None, Ok, Option}
+use Rattle.std.specs.Prelude.{Result, Some, [], false, filter, length, map, nat_le, not, sum_by, true, ℕ}
+use Rattle.link_history.specs.Terms.{after_last, list_any}
+use Rattle.link_history.specs.Terms.{sub_bits, PortName, Plan, Event, SealedPacket}
+use Rattle.link_history.specs.Terms.{Verdict, Accepted, Held, Sealed}
+use Rattle.link_history.specs.Terms.{read_of, body, header, TlpFault, Tlp, iv_of, Packet, sync_head}
+use Rattle.link_history.specs.Terms.{authenticated, encrypted, masked, tag_of}
 use Rattle.link_history.specs.Terms.{History, base, failed_there}
 use Rattle.link_history.specs.Terms.{fails_there, keeps_live, keys_there, Keyed, Keys, Off, On, key_in, no_keys, on_in}
 use Rattle.link_history.specs.Terms.{unless_below, KeyPlace, received_direction, sent_direction}
 use Rattle.ide_types.specs.declared.sub.SubKind.TheVariants.{Pr, Npr, Cpl}
 use Rattle.tlp_layout.specs.Head.{head_bytes}
-use Rattle.link_history.specs.Plan.{SubStream, is_same, is_same_port, partner, lane_out, lane_in, has_port, key_of}
+use Rattle.link_history.specs.Plan.{SubStream, is_same, is_same_port, lane_out, lane_in, key_of}
 use Rattle.link_history.specs.Plan.{is_closed}
 use Rattle.link_history.specs.Units.{open_unit}
-pub use Rattle.stream_rules.specs.Sending.{KeyName, prefix_of, front_with}
+pub use Rattle.stream_rules.specs.Sending.{KeyName, prefix_of, ahead_with}
+pub use Rattle.link_history.specs.Packets.{sub_stream_of, SealedList, Arrival, packet_at, brought, altered, shortened}
+pub use Rattle.link_history.specs.Packets.{arrived_in, no_packet, cut_packet, packet_in, received_in, is_of}
+pub use Rattle.link_history.specs.Sent.{sending_port}
+unfoldable pub use Rattle.link_history.specs.Sent.{bytes_by}
 
 -- ---- what was sealed
-
--- the sub-stream of a sealed packet
-abbrev pub sub_stream_of : SealedPacket → SubStream
-sub_stream_of d = record { link = d.port.link; stream = d.stream; direction = sent_direction d.port.side; sub = d.sub }
 
 -- the header in clear: of a sync packet, or of the TLP that was sent
 abbrev pub head_in : Result Tlp TlpFault → List ℕ
@@ -34,32 +33,28 @@ payload_in (Err f) = []
 
 -- the packet before its tag: its body is its part of the unit's ciphertext, after the bodies of the packets before it
 abbrev pub untagged_packet : Plan → List ℕ → SealedPacket → List Packet → Packet
-untagged_packet plan bytes d front = record {
+untagged_packet plan bytes d unfinished = record {
   prefix = prefix_of d;
   head = if d.sync then sync_head else head_in (read_of bytes);
   body =
-      masked (key_of plan d.draw (sub_stream_of d)) (iv_of d.sub d.unit) (length (encrypted front))
+      masked (key_of plan d.draw (sub_stream_of d)) (iv_of d.sub d.unit) (length (encrypted unfinished))
       (if d.sync then [] else payload_in (read_of bytes));
   tag = [];
 }
 
-unfoldable pub front_of : Plan → SubStream → ℕ → ℕ → List ℕ
-front_of plan s unit total = front_with (is_closed plan s.link s.stream) unit total
+unfoldable pub ahead_of_unit : Plan → SubStream → ℕ → ℕ → List ℕ
+ahead_of_unit plan s unit total = ahead_with (is_closed plan s.link s.stream) unit total
 
 -- the tag of a unit
 abbrev pub unit_tag : Plan → List ℕ → SealedPacket → List Packet → List ℕ
 unit_tag plan ahead d unit =
     tag_of (key_of plan d.draw (sub_stream_of d)) (iv_of d.sub d.unit) (ahead ++ authenticated unit) (encrypted unit)
 
--- the packet that was sealed for the bytes of a send, after the packets before it in its unit
+-- the packet that was sealed for these bytes, after the packets before it in its unit
 unfoldable pub packet_of : Plan → List ℕ → List ℕ → SealedPacket → List Packet → Packet
-packet_of plan ahead bytes d front =
-    let p = untagged_packet plan bytes d front in
-    record p { tag = if d.m then unit_tag plan ahead d (front ++ p ∷ []) else [] }
-
--- packets with what their verdicts say of them
-abbrev pub SealedList : Type 0
-SealedList = List (SealedPacket × Packet)
+packet_of plan ahead bytes d unfinished =
+    let p = untagged_packet plan bytes d unfinished in
+    record p { tag = if d.m then unit_tag plan ahead d (unfinished ++ p ∷ []) else [] }
 
 -- whether a sealed packet is of this sub-stream and draw
 abbrev pub is_under : SubStream → ℕ → SealedPacket × Packet → Bool
@@ -69,7 +64,7 @@ is_under s j x = is_same (sub_stream_of x.0) s && (x.0.draw == j)
 unfoldable pub sent_in : SealedList → SubStream → ℕ → List Packet
 sent_in xs s j = map (λ (x : SealedPacket × Packet). x.1) (filter (is_under s j) xs)
 
--- the packets of one send after those before
+-- the packets of one event after those before
 abbrev pub with_sealed : Plan → (SealedPacket → List ℕ) → List ℕ → List SealedPacket → SealedList → SealedList
 with_sealed plan ahead bytes [] before = before
 with_sealed plan ahead bytes (d ∷ ds) before =
@@ -88,22 +83,22 @@ ends_in s from x = is_in s from x && x.1.prefix.m
 unfoldable pub total_in : SealedList → SubStream → ℕ → ℕ
 total_in xs s from = length (filter (ends_in s from) xs)
 
-abbrev pub front_of_packet : Plan → SealedList → (ℕ → ℕ → ℕ) → SealedPacket → List ℕ
-front_of_packet plan xs from d = let s = sub_stream_of d in front_of plan s d.unit
+abbrev pub ahead_of_packet : Plan → SealedList → (ℕ → ℕ → ℕ) → SealedPacket → List ℕ
+ahead_of_packet plan xs from d = let s = sub_stream_of d in ahead_of_unit plan s d.unit
     (total_in xs s (from s.link s.stream))
-
--- the bytes that an event gives a port to seal, after a history
-abbrev pub sent_bytes : Plan → History → Event → List ℕ
-sent_bytes plan h (Send port bytes more trusted) = bytes
-sent_bytes plan h e = []
 
 -- all packets that were sealed, in order: packet N stands at place N - 1
 unfoldable pub sealed_packets : Plan → History → SealedList
 sealed_packets plan [] = []
 sealed_packets plan ((e, Sealed ds) ∷ h) =
-    with_sealed plan (front_of_packet plan (sealed_packets plan h) (base h)) (sent_bytes plan h e) ds
+    with_sealed plan (ahead_of_packet plan (sealed_packets plan h) (base h))
+    (bytes_by plan (sealed_packets plan h) h e) ds
     (sealed_packets plan h)
 sealed_packets plan (_ ∷ h) = sealed_packets plan h
+
+-- the bytes that a sealed verdict of this event seals
+abbrev pub sent_bytes : Plan → History → Event → List ℕ
+sent_bytes plan h e = bytes_by plan (sealed_packets plan h) h e
 
 -- the packets that were sealed in a sub-stream under a draw, in order
 abbrev pub sent : Plan → History → SubStream → ℕ → List Packet
@@ -113,74 +108,22 @@ abbrev pub is_of_unit : SubStream → ℕ → ℕ → SealedPacket → Bool
 is_of_unit s j n d = is_same (sub_stream_of d) s && (d.draw == j) && (d.unit == n)
 
 -- what came before the unit of this number
-unfoldable pub front_sent : Plan → History → SubStream → ℕ → ℕ → List ℕ
-front_sent plan [] s j n = []
-front_sent plan ((e, Sealed ds) ∷ h) s j n =
-    if list_any (is_of_unit s j n) ds then front_of plan s n (total_in (sealed_packets plan h) s
-    (base h s.link s.stream)) else front_sent plan h s j n
-front_sent plan (_ ∷ h) s j n = front_sent plan h s j n
+unfoldable pub ahead_sent : Plan → History → SubStream → ℕ → ℕ → List ℕ
+ahead_sent plan [] s j n = []
+ahead_sent plan ((e, Sealed ds) ∷ h) s j n =
+    if list_any (is_of_unit s j n) ds then ahead_of_unit plan s n (total_in (sealed_packets plan h) s
+    (base h s.link s.stream)) else ahead_sent plan h s j n
+ahead_sent plan (_ ∷ h) s j n = ahead_sent plan h s j n
 
 -- ---- what arrived
 
-pub record Arrival : Type 0 where
-  pub port : PortName
-  pub bytes : List ℕ
-
-abbrev pub packet_at : SealedList → ℕ → Option (SealedPacket × Packet)
-packet_at xs n = if n == 0 then None else slice_get xs (n - 1)
-
--- bytes of packet N arrive at the partner of the port that sealed it
-abbrev pub brought : SealedPacket × Packet → List ℕ → Arrival
-brought x bytes = record { port = partner x.0.port; bytes = bytes }
-
-abbrev pub altered : ℕ → ℕ → SealedPacket × Packet → Option Arrival
-altered at mask x =
-    let bytes = packet_bytes x.1 in
-    if nat_lt at (length bytes) then Some (brought x (slice_set bytes at (bit_xor (slice_index bytes at) mask)))
-    else None
-
-abbrev pub shortened : ℕ → SealedPacket × Packet → Option Arrival
-shortened len x =
-    let bytes = packet_bytes x.1 in
-    if nat_le len (length bytes) then Some (brought x (take len bytes)) else None
-
 -- what an event brings, and where; nothing if a packet or byte that it names does not exist
 unfoldable pub arrived : Plan → History → Event → Option Arrival
-arrived plan h (Pass n) =
-    option_map (λ (x : SealedPacket × Packet). brought x (packet_bytes x.1)) (packet_at (sealed_packets plan h) n)
-arrived plan h (Alter n at mask) = option_and_then (altered at mask) (packet_at (sealed_packets plan h) n)
-arrived plan h (Cut n len) = option_and_then (shortened len) (packet_at (sealed_packets plan h) n)
-arrived plan h (Arrive port bytes) = if has_port plan port then Some (record { port = port; bytes = bytes }) else None
-arrived plan h _ = None
-
-abbrev pub no_packet : Packet
-no_packet =
-    record {
-      prefix = record { m = false; k = false; t = false; sub = Pr; stream = 0; posted = 0 };
-      head = [];
-      body = [];
-      tag = [];
-    }
-
-abbrev pub cut_packet : Result CutValue PacketFault → Packet
-cut_packet (Ok (IdePacket p)) = p
-cut_packet _ = no_packet
-
-abbrev pub packet_in : Option Arrival → Packet
-packet_in None = no_packet
-packet_in (Some a) = cut_packet (cut_of a.bytes)
+arrived plan h e = arrived_in plan (sealed_packets plan h) e
 
 -- the packet that an event brings
 abbrev pub arrived_packet : Plan → History → Event → Packet
 arrived_packet plan h e = packet_in (arrived plan h e)
-
--- the sub-stream that a unit was received in
-abbrev pub received_in : PortName → UnitName → SubStream
-received_in port unit =
-    record { link = port.link; stream = unit.stream; direction = received_direction port.side; sub = unit.sub }
-
-abbrev pub is_of : SubStream → ℕ → PortName → UnitName → Bool
-is_of s j port unit = is_same (received_in port unit) s && (unit.draw == j)
 
 -- the packets that were held for unit n, in order
 unfoldable pub held : Plan → History → SubStream → ℕ → ℕ → List Packet
@@ -341,5 +284,5 @@ units_since ((e, Accepted port unit effects) ∷ h) s from =
 units_since (_ ∷ h) s from = units_since h s from
 
 -- what has to come before a unit that ends now
-abbrev pub front_due : Plan → History → SubStream → ℕ → List ℕ
-front_due plan h s n = front_of plan s n (units_since h s (base h s.link s.stream))
+abbrev pub ahead_due : Plan → History → SubStream → ℕ → List ℕ
+ahead_due plan h s n = ahead_of_unit plan s n (units_since h s (base h s.link s.stream))

@@ -7,7 +7,7 @@ use Rattle.link_history.specs.Terms.{authenticated, encrypted}
 use Rattle.link_history.specs.Terms.{History, base, received_direction}
 use Rattle.link_history.specs.Plan.{SubStream, is_closed}
 use Rattle.link_history.specs.Units.{units}
-use Rattle.link_history.specs.History.{units_got, sealed_packets, total_in, front_sent, front_due, Arrival, arrived}
+use Rattle.link_history.specs.History.{units_got, sealed_packets, total_in, ahead_sent, ahead_due, Arrival, arrived}
 use Rattle.link_history.specs.History.{sent, got, pending, draws_got, on_draw, failed, meets_counts, received_in}
 use Rattle.link_history.specs.Due.{Ending, before_tag, is_verified, ended, effects_of, unit_under}
 
@@ -17,7 +17,7 @@ last_tag [] = []
 last_tag (p ∷ []) = p.tag
 last_tag (p ∷ q ∷ ps) = last_tag (q ∷ ps)
 
--- The unit of this number was sealed, and finished, with this front, these authenticated bytes, this ciphertext
+-- The unit of this number was sealed, and finished, with these bytes ahead, these authenticated bytes, this ciphertext
 -- and this tag.
 pub record WasSealed (plan : Plan) (h : History) (port : PortName) (x : Ending) : Type 0 where
   pub unit : List Packet
@@ -26,8 +26,8 @@ pub record WasSealed (plan : Plan) (h : History) (port : PortName) (x : Ending) 
   pub finished : slice_get (units (sent plan h (received_in port x.unit) x.unit.draw)) place ≡ Some unit
   pub same_authenticated : authenticated unit ≡ authenticated (ended plan h port x)
   pub same_encrypted : encrypted unit ≡ encrypted (ended plan h port x)
-  pub same_front : front_sent plan h (received_in port x.unit) x.unit.draw x.unit.unit
-      ≡ front_due plan h (received_in port x.unit) x.unit.unit
+  pub same_ahead : ahead_sent plan h (received_in port x.unit) x.unit.draw x.unit.unit
+      ≡ ahead_due plan h (received_in port x.unit) x.unit.unit
   pub same_tag : last_tag unit ≡ x.packet.tag
 
 -- A tag that verifies at this event was made by the partner.

@@ -1,8 +1,12 @@
 pub mod Terms
 pub mod Plan
 pub mod Units
+pub mod Packets
+pub mod Admission
+pub mod Sent
 pub mod History
 pub mod Memory
+pub mod Guarded
 pub mod Due
 pub mod Cause
 pub mod KeyFacts
@@ -17,9 +21,11 @@ pub use Rattle.link_history.specs.Units.{units, open_unit}
 pub use Rattle.link_history.specs.History.{sealed_packets, sent_bytes, sent, arrived, got, held, pending, units_got}
 pub use Rattle.link_history.specs.History.{draws_got}
 pub use Rattle.link_history.specs.History.{keys_at, on_draw, live_key, failed, posted_count, meets_counts, total_in}
-pub use Rattle.link_history.specs.History.{units_since, front_with, front_sent, front_due}
+pub use Rattle.link_history.specs.History.{units_since, ahead_with, ahead_sent, ahead_due}
 pub use Rattle.link_history.specs.Due.{due}
-pub use Rattle.link_history.specs.Memory.{writes, ContentsFollow}
+pub use Rattle.link_history.specs.Memory.{Policy, policy_at, writes, queued, waiting, effects_of, ContentsFollow}
+pub use Rattle.link_history.specs.Sent.{sending_port}
+unfoldable pub use Rattle.link_history.specs.Sent.{taken, bytes_by}
 pub use Rattle.link_history.specs.Cause.{CauseLaw, OneHistory}
 pub use Rattle.link_history.specs.Laws.{NoForgery, PrefixLaw, DrawsNeverFall, TotalsFit, WholeLaw, OrderIsNoForgery}
 pub use Rattle.link_history.specs.Delivered.{DeliveryLaw, tlps_sent, tlps_got}

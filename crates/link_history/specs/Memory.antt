@@ -1,89 +1,50 @@
--- What accepted units do to trusted memory, and what stands in it.
-use Rattle.std.specs.Prelude.{◌≡◌, if◌then◌else◌, ◌&&◌, ◌++◌, ◌==◌, ◌∷◌, Bool, Err, List, None, Ok, Option, Result, []}
-use Rattle.std.specs.Prelude.{drop, false, length, map, not, take, true, ℕ}
-use Rattle.link_history.specs.Terms.{option_and_then, PortName, Plan, Event, InterfaceEvent, Effect, UnitName, Verdict}
-use Rattle.link_history.specs.Terms.{Accepted, read_head_of, TlpFault, iv_of, Packet, is_sync_packet, encrypted}
-use Rattle.link_history.specs.Terms.{open_of, History, Device, Host, sent_direction}
-use Rattle.link_history.specs.Terms.{Write, Grant, write_span, memory_write, newest_first, byte_after, bytes_from}
-use Rattle.link_history.specs.Terms.{write_effect, in_one_region, is_on_bound, if_placed, admitted_write}
-use Rattle.link_history.specs.Terms.{MemoryContents}
-use Rattle.link_history.specs.Terms.{IsLeftBy, Leads, grant_at, owner_of}
+-- What accepted units do to trusted memory, which reads wait, and what stands in memory.
+use Rattle.std.specs.Prelude.{◌++◌, ◌∷◌, ◌≡◌, Bool, List, None, Ok, Option, [], drop, false}
+use Rattle.std.specs.Prelude.{length, true, ℕ}
+use Rattle.link_history.specs.Terms.{PortName, Plan, Event, InterfaceEvent, Effect, UnitName, Verdict, Accepted, Packet}
+use Rattle.link_history.specs.Terms.{History, Device, Host, is_sync_packet, read_head_of}
+use Rattle.link_history.specs.Terms.{Write, newest_first, byte_after, bytes_from, in_one_region, grant_at}
+use Rattle.link_history.specs.Terms.{MemoryContents, IsLeftBy, Leads, admitted_write, memory_write, WaitingRead}
+use Rattle.link_history.specs.Terms.{standings_at}
 use Rattle.tlp_layout.specs.declared.head.HeadView.{HeadView}
-use Rattle.link_history.specs.Plan.{key_of}
-use Rattle.link_history.specs.History.{arrived_packet, received_in, held}
-use Rattle.link_verdicts.specs.declared.verdict.Effect.TheVariants as effect
+use Rattle.link_history.specs.History.{arrived_packet, received_in, held, sealed_packets}
+pub use Rattle.link_history.specs.Admission.{Grants, Policy, bound_of, unit_grant, host_effect, device_effect}
+pub use Rattle.link_history.specs.Admission.{effect_by, waiting_then, effects_each, effects_by, admitted_as, admitted}
+pub use Rattle.link_history.specs.Admission.{admitted_each, plain_of, admitted_in}
+use Rattle.link_history.specs.Sent.{queued_in, taken}
 use Rattle.link_verdicts.specs.declared.verdict.Verdict.TheVariants as v
 use Rattle.link_events.specs.declared.event.InterfaceEvent.TheVariants as ie
 use Rattle.interface_words.specs.declared.verdict.InterfaceVerdict.TheVariants as iv
 
+-- ---- reads
+
+-- the reads of a link that were queued since its last reset, in order
+abbrev pub queued : Plan → History → ℕ → List WaitingRead
+queued plan h link = queued_in plan (sealed_packets plan h) h link
+
+-- those that wait for their answer
+abbrev pub waiting : Plan → History → ℕ → List WaitingRead
+waiting plan h link = drop (taken h link) (queued plan h link)
+
 -- ---- effects
 
--- what the manager says of requesters, by link and requester ID: the bound stream and the floor, if its view is Running
-abbrev pub Grants : Type 0
-Grants = ℕ → ℕ → Option (ℕ × ℕ)
+-- by what the history says of requesters, of the reads that wait, and of devices' interfaces
+abbrev pub policy_at : Plan → History → Policy
+policy_at plan h = record {
+  grants = grant_at plan h;
+  waiting = λ link. length (waiting plan h link);
+  standings = standings_at plan h;
+}
 
--- of the TLP's requester
-abbrev pub bound_of : Grants → PortName → HeadView → Option (ℕ × ℕ)
-bound_of grants port head = option_and_then (grants port.link) (owner_of head)
-
-abbrev pub unit_grant : Grants → PortName → UnitName → HeadView → Grant
-unit_grant grants port unit head =
-    record { bound = bound_of grants port head; stream = unit.stream; draw = unit.draw }
-
--- at a host's port: the header of a write says where its bytes go
-abbrev pub host_effect : Plan → Grants → PortName → UnitName → Packet → Result HeadView TlpFault → Effect
-host_effect plan grants port unit p (Err f) = effect.Delivered
-host_effect plan grants port unit p (Ok head) =
-    write_effect plan.memory p.prefix.t (unit_grant grants port unit head) (write_span head)
-
-abbrev pub effect_by : Plan → Grants → PortName → UnitName → Packet → Effect
-effect_by plan grants port unit p =
-    if is_sync_packet p then effect.Sync
-    else if sent_direction port.side == 0 then host_effect plan grants port unit p (read_head_of p.head)
-    else effect.Delivered
-
--- of the packets of a unit, in order
-abbrev pub effects_by : Plan → Grants → PortName → UnitName → List Packet → List Effect
-effects_by plan grants port unit ps = map (effect_by plan grants port unit) ps
-
--- by what the history says of requesters
 abbrev pub effects_of : Plan → History → PortName → UnitName → List Packet → List Effect
-effects_of plan h port unit ps = effects_by plan (grant_at plan h) port unit ps
+effects_of plan h port unit ps = effects_by plan (policy_at plan h) port unit ps
 
 -- ---- the writes that are admitted
-
--- the write that a packet with this payload is, if it is admitted: it has T, and its requester is an interface of the
--- link whose view is Running, on its bound stream, under a draw from its floor on
-abbrev pub admitted_as : Plan → Grants → PortName → UnitName → Bool → List ℕ → Result HeadView TlpFault → Option Write
-admitted_as plan grants port unit t payload (Err f) = None
-admitted_as plan grants port unit t payload (Ok head) =
-    if_placed plan.memory (t && is_on_bound unit.stream unit.draw (bound_of grants port head))
-    (memory_write head payload)
-
-abbrev pub admitted : Plan → Grants → PortName → UnitName → Packet → List ℕ → Option Write
-admitted plan grants port unit p payload =
-    if not (is_sync_packet p) && (sent_direction port.side == 0)
-    then admitted_as plan grants port unit p.prefix.t payload (read_head_of p.head) else None
-
--- of each packet of a unit with this plaintext
-abbrev pub admitted_each : Plan → Grants → PortName → UnitName → List ℕ → List Packet → List (Option Write)
-admitted_each plan grants port unit plain [] = []
-admitted_each plan grants port unit plain (p ∷ ps) =
-    admitted plan grants port unit p (take (length p.body) plain)
-    ∷ admitted_each plan grants port unit (drop (length p.body) plain) ps
 
 -- the unit that an accepted verdict ends
 abbrev pub unit_ended : Plan → History → Event → PortName → UnitName → List Packet
 unit_ended plan h e port unit =
     held plan h (received_in port unit) unit.draw unit.unit ++ arrived_packet plan h e ∷ []
-
-abbrev pub plain_of : Plan → PortName → UnitName → List Packet → List ℕ
-plain_of plan port unit ps =
-    open_of (key_of plan unit.draw (received_in port unit)) (iv_of unit.sub unit.unit) (encrypted ps)
-
--- of each packet of a unit
-abbrev pub admitted_in : Plan → Grants → PortName → UnitName → List Packet → List (Option Write)
-admitted_in plan grants port unit ps = admitted_each plan grants port unit (plain_of plan port unit ps) ps
 
 -- of the unit that an accepted verdict ends, by what the history says of requesters
 abbrev pub admitted_by : Plan → History → Event → PortName → UnitName → List (Option Write)
@@ -126,9 +87,9 @@ pub record ContentsFollow : Type 0 where
       → IsLeftBy m (writes plan h) → IsLeftBy m (writes plan ((e, w) ∷ h))
   pub at_device : (plan : Plan) (h : History) (e : Event) (port : PortName) (unit : UnitName) (m : MemoryContents)
       → port.side ≡ Device → Leads m (admitted_by plan h e port unit) m
-  pub sync : (plan : Plan) (h : History) (port : PortName) (unit : UnitName) (p : Packet) (payload : List ℕ)
-      → is_sync_packet p ≡ true → admitted plan (grant_at plan h) port unit p payload ≡ None
-  pub packet : (plan : Plan) (h : History) (port : PortName) (unit : UnitName) (p : Packet) (payload : List ℕ)
+  pub sync : (plan : Plan) (grants : Grants) (port : PortName) (unit : UnitName) (p : Packet) (payload : List ℕ)
+      → is_sync_packet p ≡ true → admitted plan grants port unit p payload ≡ None
+  pub packet : (plan : Plan) (grants : Grants) (port : PortName) (unit : UnitName) (p : Packet) (payload : List ℕ)
       (head : HeadView) → is_sync_packet p ≡ false → port.side ≡ Host → read_head_of p.head ≡ Ok head
-      → admitted plan (grant_at plan h) port unit p payload
-      ≡ admitted_write plan.memory p.prefix.t (unit_grant (grant_at plan h) port unit head) (memory_write head payload)
+      → admitted plan grants port unit p payload
+      ≡ admitted_write plan.memory p.prefix.t (unit_grant grants port unit head) (memory_write head payload)

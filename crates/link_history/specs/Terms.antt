@@ -7,8 +7,10 @@ pub use Rattle.ide_types.specs.declared.port.Side.TheVariants.{Device, Host}
 pub use Rattle.ide_types.specs.declared.sub.SubKind.{SubKind}
 pub use Rattle.ide_plan.specs.declared.plan.Plan.{Plan}
 pub use Rattle.link_events.specs.declared.event.Event.{Event}
-pub use Rattle.link_events.specs.declared.event.Event.TheVariants.{Alter, Arrive, Cut, Dump, Establish, Interface, Pass}
-pub use Rattle.link_events.specs.declared.event.Event.TheVariants.{Refresh, Reset, Send, Status, Stop}
+pub use Rattle.link_events.specs.declared.event.Event.TheVariants.{Access, Alter, Arrive, Cut, Dump, Establish}
+pub use Rattle.link_events.specs.declared.event.Event.TheVariants.{Interface, Pass, Refresh, Reset, Send, Status}
+pub use Rattle.link_events.specs.declared.event.Event.TheVariants.{Stop}
+pub use Rattle.link_events.specs.declared.event.AccessEvent.{AccessEvent}
 pub use Rattle.link_events.specs.declared.event.InterfaceEvent.{InterfaceEvent}
 pub use Rattle.link_verdicts.specs.declared.verdict.Effect.{Effect}
 pub use Rattle.link_verdicts.specs.declared.verdict.SealedPacket.{SealedPacket}
@@ -29,13 +31,21 @@ pub use Rattle.key_laws.specs.History.{History, base, failed_there, fails_there}
 pub use Rattle.key_laws.specs.History.{keeps_live, keys_there, status_of}
 pub use Rattle.key_laws.specs.Keys.{Keyed, Keys, Off, On, key_in, no_keys, on_in, unless_below}
 pub use Rattle.key_laws.specs.Places.{KeyPlan, KeyPlace, received_direction, sent_direction}
-pub use Rattle.interface_states.specs.Views.{grant_at}
+pub use Rattle.interface_states.specs.Views.{grant_at, granted_to}
+pub use Rattle.interface_states.specs.Floors.{standings_at}
+pub use Rattle.interface_states.specs.Sites.{Site, site_with}
 pub use Rattle.interface_states.specs.Cause.{owner_of, owner_at, t_due}
 pub use Rattle.trusted_memory.specs.declared.grant.Grant.{Grant}
 pub use Rattle.trusted_memory.specs.Spans.{write_span}
 pub use Rattle.trusted_memory.specs.Writes.{Write, memory_write, newest_first}
 unfoldable pub use Rattle.trusted_memory.specs.Writes.{byte_after}
 pub use Rattle.trusted_memory.specs.Regions.{in_one_region}
-pub use Rattle.trusted_memory.specs.Causes.{write_effect}
 pub use Rattle.trusted_memory.specs.Admitted.{is_on_bound, if_placed, admitted_write}
 pub use Rattle.trusted_memory.specs.Memory.{MemoryContents, IsLeftBy, Leads, bytes_from}
+pub use Rattle.waiting_reads.specs.declared.read.MemReadView.{MemReadView}
+pub use Rattle.waiting_reads.specs.declared.queue.WaitingRead.{WaitingRead}
+pub use Rattle.waiting_reads.specs.Requests.{memory_read}
+pub use Rattle.waiting_reads.specs.Waiting.{request_effect}
+unfoldable pub use Rattle.waiting_reads.specs.Completions.{completion_bytes}
+pub use Rattle.guarded_memory.specs.declared.standing.Standing.{Standing}
+pub use Rattle.guarded_memory.specs.Causes.{mmio_effect}

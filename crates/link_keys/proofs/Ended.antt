@@ -9,10 +9,10 @@ use Rattle.link_history.proofs.Terms.{Loss, Operation, PortView, establish_on, p
 use Rattle.link_history.proofs.Terms.{touches_after, came}
 use Rattle.link_history.proofs.Terms.{draws, manager, moments, on_it, op_of, touches, when, worked, ClearTouch, GoTouch}
 use Rattle.link_history.proofs.Terms.{Loaded, ProgramTouch, Touch}
-use Rattle.link_history.proofs.Terms.{is_open, kept_in, keys, sealing_draw, keys_settled, touched, Idle, Op, Reach}
+use Rattle.link_history.proofs.Terms.{is_open, kept_in, keys, sealing_draw, without_outlived, touched, Idle, Op, Reach}
 use Rattle.link_history.proofs.Terms.{Stopping}
 use Rattle.link_history.proofs.Terms.{Work, op_after, reach_of, work_of, is_on_stream, is_same_sub, lane, CauseLaw}
-use Rattle.link_history.proofs.Terms.{SealedList, after_ends, front_of_packet}
+use Rattle.link_history.proofs.Terms.{SealedList, after_ends, ahead_of_packet}
 use Rattle.link_history.proofs.Terms.{ended_keys, ends_at, is_under, keys_at, packet_of, place_in_sub_stream}
 use Rattle.link_history.proofs.Terms.{sealed_packets, sent}
 use Rattle.link_history.proofs.Terms.{sent_in, sub_stream_of, with_sealed, SubStream, is_same, key_plan, lane_in}
@@ -86,13 +86,13 @@ OnlyKeys (_ ∷ ts) = ⊥
 -- the Live draw of an open unit stays Live when a key is programmed, and when one that is kept gets its GO and is no
 -- smaller
 program_keeps : (f : ℕ → Bool) (ks : Keys) (k : Bool) (j i : ℕ) → sealing_draw ks ≡ Some i → f i ≡ true
-    → sealing_draw (keys_settled true f (touched true ks (ProgramTouch k j))) ≡ Some i
+    → sealing_draw (without_outlived true f (touched true ks (ProgramTouch k j))) ≡ Some i
 program_keeps f ks k j i live opens = grind (arith, nat_tests)
 
 go_keeps : (f : ℕ → Bool) (ks : Keys) (k : Bool) (j i : ℕ) → sealing_draw ks ≡ Some i → f i ≡ true
     → kept_in (key_in ks k)
     ≡ Some j → i ≤ j
-    → sealing_draw (keys_settled true f (touched true ks (GoTouch k j))) ≡ Some i
+    → sealing_draw (without_outlived true f (touched true ks (GoTouch k j))) ≡ Some i
 go_keeps f ks k j i live opens kept le = grind (arith, nat_tests)
 
 abbrev Given : Keys → Bool → ℕ → Type 0
@@ -361,7 +361,7 @@ unfolding sealed_packets
 still_above plan h e ds law port stream u i host is none place x at =
     let sealing = sealing_is plan h e ds law.0 in
     each_more (λ (d : SealedPacket). is_same (sub_stream_of d) (lane_out port stream u) ≡ true → d.draw ≤ i) plan
-    (front_of_packet plan (sealed_packets plan h) (base h)) (sent_bytes plan h e) ds (sealed_packets plan h)
+    (ahead_of_packet plan (sealed_packets plan h) (base h)) (sent_bytes plan h e) ds (sealed_packets plan h)
     (live_all (λ (d : SealedPacket). is_same (sub_stream_of d) (lane_out port stream u) ≡ true → d.draw ≤ i) plan h
     sealing.sending.port sealing.sending.stream ds
     (λ d live here. absurd
@@ -421,7 +421,7 @@ opens_sent plan h e ds law port stream u i opens =
     let s = lane_out port stream u in
     let is = sealing_is plan h e ds law.0 in
     let done = all_open (Excuse plan h port stream u i) i plan h is.sending.port is.sending.stream
-    (front_of_packet plan (sealed_packets plan h) (base h)) (sent_bytes plan h e)
+    (ahead_of_packet plan (sealed_packets plan h) (base h)) (sent_bytes plan h e)
     port stream u ds (sealed_packets plan h) (all_live plan h (sending_port e) (sent_bytes plan h e) ds is)
     (all_apart plan h (sending_port e) (sent_bytes plan h e) ds is) opens in
     let keys = sealed plan h e ds law port s in

@@ -2,8 +2,8 @@
 use Rattle.link_history.proofs.Terms.{Bool, List, Some, [], ap, arith, false, inl, inr, refl, subst, sym, true, ℕ}
 use Rattle.link_history.proofs.Terms.{◌<◌, ◌==◌, ◌∙◌, ◌∷◌, ◌≡◌, ◌≤◌, ◌⊎◌, nat_tests, base, touches_after, draws}
 use Rattle.link_history.proofs.Terms.{manager}
-use Rattle.link_history.proofs.Terms.{moments, touches, GoTouch as Go, Touch, is_open, keys, keys_settled, touched}
-use Rattle.link_history.proofs.Terms.{CauseLaw, KeyName, SealedList, after_ends, front_of_packet, ended_keys, keys_at}
+use Rattle.link_history.proofs.Terms.{moments, touches, GoTouch as Go, Touch, is_open, keys, without_outlived, touched}
+use Rattle.link_history.proofs.Terms.{CauseLaw, KeyName, SealedList, after_ends, ahead_of_packet, ended_keys, keys_at}
 use Rattle.link_history.proofs.Terms.{lesser, live_key, place_in_sub_stream, sealed_packets, sent, sent_in}
 use Rattle.link_history.proofs.Terms.{sub_stream_of, waits}
 use Rattle.link_history.proofs.Terms.{SubStream, is_same, key_plan, lane_out, Event, History, Keyed, Keys, Off, On}
@@ -25,7 +25,8 @@ use Rattle.link_keys.proofs.Moments.{none_sent, sends_lane}
 
 -- ---- what a touch makes On
 
-settled_on : (s : Bool) (f : ℕ → Bool) (ks : Keys) (k : Bool) (j : ℕ) → on_in (key_in (keys_settled s f ks) k) ≡ Some j
+settled_on : (s : Bool) (f : ℕ → Bool) (ks : Keys) (k : Bool) (j : ℕ) → on_in (key_in (without_outlived s f ks) k)
+    ≡ Some j
     → on_in (key_in ks k) ≡ Some j
 settled_on s f ks k j on = grind arith
 
@@ -139,7 +140,7 @@ sent_before plan h e (Sealed ds) law port stream u k j on waiting =
     let xs = sealed_packets plan h in
     left_alone (λ xs. sent_in xs s j) (λ d. (is_same (sub_stream_of d) s && (d.draw == j)) ≡ false)
     (λ xs d q off. sent_in-snoc xs (d, q) s j ∙ rw off refl)
-    plan (front_of_packet plan xs (base h)) (sent_bytes plan h e) ds xs
+    plan (ahead_of_packet plan xs (base h)) (sent_bytes plan h e) ds xs
     (live_all _ plan h is.sending.port is.sending.stream ds
     (none_under plan h law.1 port stream u k j on waiting is.sending.port is.sending.stream)
     (all_live plan h (sending_port e) (sent_bytes plan h e) ds is))

@@ -6,7 +6,7 @@ use Rattle.link_history.proofs.Terms.{Bool, List, Some, [], ap, arith, drop, fal
 use Rattle.link_history.proofs.Terms.{refl, suc, sym, true, zero, ℕ, ◌++◌, ◌+◌, ◌-◌, ◌<◌, ◌==◌, ◌∙◌, ◌∷◌, ◌≡◌, ◌≤◌}
 use Rattle.link_history.proofs.Terms.{nat_tests, append-nil, filter-append, suffix_len, max, Pr, base, touches_after}
 use Rattle.link_history.proofs.Terms.{draws as draws_made, is_sender, manager, moments, sealed_here, touches, when}
-use Rattle.link_history.proofs.Terms.{Seal, Touch, is_open, CauseLaw, SealedList, front_of_packet, ends_in, got_since}
+use Rattle.link_history.proofs.Terms.{Seal, Touch, is_open, CauseLaw, SealedList, ahead_of_packet, ends_in, got_since}
 use Rattle.link_history.proofs.Terms.{held}
 use Rattle.link_history.proofs.Terms.{is_in, is_under, keys_at, packet_of, place_in_sub_stream, posted_in, received_in}
 use Rattle.link_history.proofs.Terms.{sealed_packets, sends_it, sent_in, sub_stream_of, total_in, units_got}
@@ -105,7 +105,7 @@ none_in plan ((e, Sealed ds) ∷ h) law port s from here le =
     (sealed_by_sealing plan h e ds law.0) in
     left_alone (filter (is_in s from)) (λ d. is_from s from d ≡ false)
     (λ xs d q off. filter-append (is_in s from) xs ((d, q) ∷ []) ∙ rw off (append-nil _))
-    plan (front_of_packet plan (sealed_packets plan h) (base h)) (sent_bytes plan h e) ds (sealed_packets plan h)
+    plan (ahead_of_packet plan (sealed_packets plan h) (base h)) (sent_bytes plan h e) ds (sealed_packets plan h)
     (none_used port s from here ts ds (subst (λ (us : List Touch). used (touches_after ts us) ≤ from) touched le))
     ∙ none_in plan h law.1 port s from here (earlier_used h e (Sealed ds) (place_in_sub_stream port s true) from le)
 none_in plan ((e, w) ∷ h) law port s from here le = none_in plan h law.1 port s from here
@@ -231,34 +231,34 @@ no_units plan ((e, w) ∷ h) law q stream u from le = no_units plan h law.1 q st
 abbrev Busy : SubStream → ℕ → SealedList → List Touch → Type 0
 Busy s j xs ts = nat_lt 0 (length (open_unit (sent_in xs s j))) ≡ is_open ts j
 
-pub sealed_m : (plan : Plan) (ahead bytes : List ℕ) (d : SealedPacket) (front : List Packet)
-    → (packet_of plan ahead bytes d front).prefix.m ≡ d.m
+pub sealed_m : (plan : Plan) (ahead bytes : List ℕ) (d : SealedPacket) (unfinished : List Packet)
+    → (packet_of plan ahead bytes d unfinished).prefix.m ≡ d.m
 unfolding packet_of
-sealed_m plan ahead bytes d front = refl
+sealed_m plan ahead bytes d unfinished = refl
 
 open_after : (ps : List Packet) (q : Packet) → nat_lt 0 (length (open_unit (ps ++ q ∷ []))) ≡ not q.prefix.m
 open_after ps q = rw open_unit-snoc (grind (arith, nat_tests, length-append {A = Packet}))
 
 busy_one : (plan : Plan) (ahead : SealedPacket → List ℕ) (bytes : List ℕ) (port : PortName) (s : SubStream) (j : ℕ)
-    (d : SealedPacket) (front : List Packet) (xs : SealedList) (ts : List Touch) → sends_it port s ≡ true
+    (d : SealedPacket) (unfinished : List Packet) (xs : SealedList) (ts : List Touch) → sends_it port s ≡ true
     → Busy s j xs ts
-    → Busy s j (xs ++ (d, packet_of plan (ahead d) bytes d front) ∷ [])
+    → Busy s j (xs ++ (d, packet_of plan (ahead d) bytes d unfinished) ∷ [])
     (touches_after ts (when (is_sender (place_in_sub_stream port s true) d) (Seal d.draw d.m)))
 unfolding is_open
-busy_one plan ahead bytes port s j d front xs ts here before =
+busy_one plan ahead bytes port s j d unfinished xs ts here before =
     ap (λ (ps : List Packet). nat_lt 0 (length (open_unit ps))) (sent_in-snoc xs (d, q) s j) ∙ by_test
     (is_same (sub_stream_of d) s) (d.draw == j) refl
     ∙ ap (λ (b : Bool). is_open (touches_after ts (when b (Seal d.draw d.m))) j) (sym (seal_same port s d here))
   where
     q : Packet
-    q = packet_of plan (ahead d) bytes d front
+    q = packet_of plan (ahead d) bytes d unfinished
 
     by_test : (a b : Bool) → (d.draw == j) ≡ b
         → nat_lt 0 (length (open_unit (if a && b then sent_in xs s j ++ q ∷ [] else sent_in xs s j)))
         ≡ is_open (touches_after ts (when a (Seal d.draw d.m))) j
     by_test false b is = before
     by_test true false is = rw is before
-    by_test true true is = rw is (open_after (sent_in xs s j) q ∙ ap not (sealed_m plan (ahead d) bytes d front))
+    by_test true true is = rw is (open_after (sent_in xs s j) q ∙ ap not (sealed_m plan (ahead d) bytes d unfinished))
 
 behind-append : (ts : List Touch) (b : Bool) (t : Touch) (more : List Touch) → touches_after ts (when b t ++ more)
     ≡ touches_after (touches_after ts (when b t)) more
@@ -271,10 +271,10 @@ busy_more : (plan : Plan) (ahead : SealedPacket → List ℕ) (bytes : List ℕ)
     (touches_after ts (sealed_here (place_in_sub_stream port s true) ds))
 busy_more plan ahead bytes port s j [] xs ts here before = before
 busy_more plan ahead bytes port s j (d ∷ ds) xs ts here before =
-    let front = open_unit (sent_in xs (sub_stream_of d) d.draw) in
-    let more = busy_more plan ahead bytes port s j ds (xs ++ (d, packet_of plan (ahead d) bytes d front) ∷ [])
+    let unfinished = open_unit (sent_in xs (sub_stream_of d) d.draw) in
+    let more = busy_more plan ahead bytes port s j ds (xs ++ (d, packet_of plan (ahead d) bytes d unfinished) ∷ [])
     (touches_after ts (when (is_sender (place_in_sub_stream port s true) d) (Seal d.draw d.m))) here
-    (busy_one plan ahead bytes port s j d front xs ts
+    (busy_one plan ahead bytes port s j d unfinished xs ts
     here before) in
     more ∙ ap (λ (us : List Touch). is_open us j)
     (sym (behind-append ts (is_sender (place_in_sub_stream port s true) d) (Seal d.draw d.m)
@@ -287,7 +287,7 @@ busy_is plan [] law port s j here = refl
 busy_is plan ((e, Sealed ds) ∷ h) law port s j here =
     let touched = sealing_touches (manager h).ops (draws_made h) e ds (place_in_sub_stream port s true)
     (sealed_by_sealing plan h e ds law.0) in
-    rw touched (busy_more plan (front_of_packet plan (sealed_packets plan h) (base h)) (sent_bytes plan h e) port s j ds
+    rw touched (busy_more plan (ahead_of_packet plan (sealed_packets plan h) (base h)) (sent_bytes plan h e) port s j ds
     _
     (moments h (place_in_sub_stream port s true)) here (busy_is plan h law.1 port s j here))
 busy_is plan ((e, w) ∷ h) law port s j here =

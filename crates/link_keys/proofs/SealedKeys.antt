@@ -1,7 +1,7 @@
 -- The draws of sealed packets: whose they are, and that they never fall.
 use Rattle.link_history.proofs.Terms.{Bool, List, Option, Some, [], ap, false, inl, inr, refl, slice_get, subst, sym}
 use Rattle.link_history.proofs.Terms.{true, ℕ, ◌++◌, ◌<◌, ◌==◌, ◌∙◌, ◌∷◌, ◌≡◌, ◌⊎◌, Loss, base, begins_keyed, draws}
-use Rattle.link_history.proofs.Terms.{manager, Begun, CauseLaw, SealedList, front_of_packet, keys_at, packet_of}
+use Rattle.link_history.proofs.Terms.{manager, Begun, CauseLaw, SealedList, ahead_of_packet, keys_at, packet_of}
 use Rattle.link_history.proofs.Terms.{place_in_sub_stream}
 use Rattle.link_history.proofs.Terms.{sealed_packets, sent_in, sub_stream_of, with_sealed, NoneFrom, SubStream}
 use Rattle.link_history.proofs.Terms.{lane_out, AllByRecursion, Establish, Event, History, On, Packet, Plan, PortName}
@@ -74,7 +74,7 @@ all_owned plan ((e, Sealed ds) ∷ h) law i x is =
     let port = sealing.sending.port in
     let stream = sealing.sending.stream in
     owned_later h e (Sealed ds) x.0
-    (each_more (IsOwned h) plan (front_of_packet plan (sealed_packets plan h) (base h)) (sent_bytes plan h e) ds
+    (each_more (IsOwned h) plan (ahead_of_packet plan (sealed_packets plan h) (base h)) (sent_bytes plan h e) ds
     (sealed_packets plan h)
     (live_all (IsOwned h) plan h port stream ds (live_owned plan h port stream)
     (all_live plan h (sending_port e) (sent_bytes plan h e) ds sealing))

@@ -8,7 +8,7 @@ use Rattle.link_history.proofs.Terms.{◌≡◌, ◌≤◌, nat_tests, slice_get
 use Rattle.link_history.proofs.Terms.{max, Loss, Operation, base, begins_keyed, touches_after, draws, manager, moments}
 use Rattle.link_history.proofs.Terms.{touches, when, Accept, Touch, Manager, Reach, operated, reach_of, work_of}
 use Rattle.link_history.proofs.Terms.{is_on_stream, is_same_side, is_same_sub, CauseLaw}
-use Rattle.link_history.proofs.Terms.{due, KeyName, SealedList, front_of_packet, draws_got, is_in, keys_at, lesser}
+use Rattle.link_history.proofs.Terms.{due, KeyName, SealedList, ahead_of_packet, draws_got, is_in, keys_at, lesser}
 use Rattle.link_history.proofs.Terms.{packet_of}
 use Rattle.link_history.proofs.Terms.{place_in_sub_stream, received_in, sealed_packets, sent_in, sub_stream_of}
 use Rattle.link_history.proofs.Terms.{with_sealed}
@@ -136,7 +136,7 @@ unfolding sealed_packets
 rises plan [] law = λ s i k x y le at_x at_y in_x in_y. absurd cc
 rises plan ((e, v.Sealed ds) ∷ h) law =
     let is = sealing_is plan h e ds law.0 in
-    with_rises plan h is.sending.port is.sending.stream (front_of_packet plan (sealed_packets plan h) (base h))
+    with_rises plan h is.sending.port is.sending.stream (ahead_of_packet plan (sealed_packets plan h) (base h))
     (sent_bytes plan h e) ds (sealed_packets plan h) (all_live plan h (sending_port e) (sent_bytes plan h e) ds is)
     (all_above plan h law.1) (rises plan h law.1)
 rises plan ((e, w) ∷ h) law = rises plan h law.1

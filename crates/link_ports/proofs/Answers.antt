@@ -3,17 +3,16 @@
 -- it, so that each check in turn sees what the history says. Their counts are the history's only while the stream has a
 -- Live key, which a draw that is On provides.
 use Rattle.link_ports.specs.Stands.{beside_at}
-use Rattle.link_ports.proofs.Terms.{◌≡◌, ℕ, ◌+◌, Bool, true, false, List, [], ◌∷◌, ◌++◌, Option, Some, None, Ok}
-use Rattle.link_ports.proofs.Terms.{Err, option_map, refl, ap, sym, ◌∙◌, subst, arith, if◌then◌else◌, not, ◌||◌}
-use Rattle.link_ports.proofs.Terms.{Accepted, at_sub, base, checked, Cpl, each_sub, effects_of, Failed, failed}
-use Rattle.link_ports.proofs.Terms.{front_of}
+use Rattle.link_ports.proofs.Terms.{◌≡◌, ℕ, ◌+◌, Bool, true, false, List, [], ◌∷◌, ◌++◌, Option, Some, None, Ok, Err}
+use Rattle.link_ports.proofs.Terms.{option_map, refl, ap, sym, ◌∙◌, subst, arith, if◌then◌else◌, not, ◌||◌, Accepted}
+use Rattle.link_ports.proofs.Terms.{at_sub, base, checked, Cpl, each_sub, effects_of, Failed, failed, ahead_of_unit}
 use Rattle.link_ports.proofs.Terms.{got_in, has_live_in, Held, History, holds_any, Insecure, is_allowed, is_closed}
 use Rattle.link_ports.proofs.Terms.{is_keyed, is_mixed, is_on, is_overfull, is_tagged, is_verified, key_in, key_of}
 use Rattle.link_ports.proofs.Terms.{Keys, keys_at, lane_in, live_in, LiveKey, meets_counts, mode_of, NotKeyed, Npr}
 use Rattle.link_ports.proofs.Terms.{on_draw, on_in, Packet, pending, Plan, PortName, Pr, receiving, rx_slots}
-use Rattle.link_ports.proofs.Terms.{rx_standing, RxSub, settled, slot_in_set, Slots, standing, SubKind, SubStream}
-use Rattle.link_ports.proofs.Terms.{sum_by-append, Taken, taken_by, taken_under, Three, under_keys, unit_under}
-use Rattle.link_ports.proofs.Terms.{units_got, units_since, Verdict, verdict_of_taken}
+use Rattle.link_ports.proofs.Terms.{rx_standing, RxSub, ending_due, slot_in_set, LaneSlots, standing, SubKind}
+use Rattle.link_ports.proofs.Terms.{SubStream, sum_by-append, Taken, taken_by, taken_under, Three, under_keys}
+use Rattle.link_ports.proofs.Terms.{unit_under, units_got, units_since, Verdict, verdict_of_taken}
 use Rattle.ide_types.specs.declared.sub.FailCause.TheVariants as fail
 use Rattle.link_verdicts.specs.declared.verdict.Verdict.TheVariants as v
 
@@ -88,8 +87,8 @@ total_is plan h port stream u live = rw
 taken_is : (plan : Plan) (h : History) (port : PortName) (p : Packet) (o other : Option ℕ)
     → ((j : ℕ) → o ≡ Some j → has_live_in h port p.prefix.stream ≡ true)
     → verdict_of_taken (beside_at plan h) port p (taken_from plan h port p o other)
-    ≡ settled plan h port (under_keys plan h port p o other)
-unfolding is_verified front_of
+    ≡ ending_due plan h port (under_keys plan h port p o other)
+unfolding is_verified ahead_of_unit
 taken_is plan h port p None None live = refl
 taken_is plan h port p None (Some i) live = refl
 taken_is plan h port p (Some j) other live =
@@ -122,7 +121,7 @@ taken_is plan h port p (Some j) other live =
         (is_tagged (is_closed plan port.link p.prefix.stream) (units_since h s (base h port.link p.prefix.stream))
         (key_for plan h s j) p)
         (meets_counts plan h s (pending plan h s j ++ p ∷ [])) (key_for plan h s j) p else Held j (units_got h s j + 1))
-        ≡ settled plan h port (if full then Err (v.Fail port p.prefix.stream p.prefix.sub fail.Unit)
+        ≡ ending_due plan h port (if full then Err (v.Fail port p.prefix.stream p.prefix.sub fail.Unit)
         else if m then Ok (record { packet = p; unit = unit_under h s j }) else Err (v.Held port (unit_under h s j)))
     by_room true m = refl
     by_room false false = refl
@@ -134,7 +133,7 @@ taken_is plan h port p (Some j) other live =
 -- what is due of a packet of a stream that the port has
 abbrev pub packet_due : Plan → History → PortName → Packet → Verdict
 packet_due plan h port p =
-    settled plan h port (if failed h port p.prefix.stream then Err (v.Insecure port p.prefix.stream)
+    ending_due plan h port (if failed h port p.prefix.stream then Err (v.Insecure port p.prefix.stream)
     else under_keys plan h port p (on_draw h port (receiving port p) p.prefix.k)
     (on_draw h port (receiving port p) (not p.prefix.k)))
 
@@ -156,7 +155,7 @@ taken_by_is plan h port p = by_failure (failed h port p.prefix.stream) refl
     rx : SubKind → RxSub
     rx = λ w. rx_standing plan h port (lane_in port p.prefix.stream w)
 
-    under : Slots → Taken
+    under : LaneSlots → Taken
     under slots =
         taken_under (mode_of plan port.link p.prefix.stream) (is_closed plan port.link p.prefix.stream) (each_sub rx) p
         (live_in (slot_in_set slots p.prefix.k)) (live_in (slot_in_set slots (not p.prefix.k)))
@@ -182,7 +181,7 @@ answer_is plan h port p = ap (verdict_of_taken (beside_at plan h) port p) (taken
 
     by_failure : (b : Bool) → verdict_of_taken (beside_at plan h) port p
         (if b then Insecure else found_keys plan h port p)
-        ≡ settled plan h port
+        ≡ ending_due plan h port
         (if b then Err (v.Insecure port p.prefix.stream) else under_keys plan h port p (draw p.prefix.k)
         (draw (not p.prefix.k)))
     by_failure true = refl

@@ -6,7 +6,7 @@ use Rattle.link_ports.proofs.Terms.{sym, ◌∙◌, subst, arith, Accepted, Arri
 use Rattle.link_ports.proofs.Terms.{arrived, before_tag, before_tag_of, Came, due, effects_of, Event, Failed, find}
 use Rattle.link_ports.proofs.Terms.{has_stream, Held, History, Insecure, IsNoOperation, KeyFacts, LinkState, NotKeyed}
 use Rattle.link_ports.proofs.Terms.{Packet, packet_that_came, packet_word, pending, Plan, PortName, PortsStand, put}
-use Rattle.link_ports.proofs.Terms.{receiving, sealed_same, seals_none, settled, standing, state_after, StreamState}
+use Rattle.link_ports.proofs.Terms.{receiving, sealed_same, seals_none, ending_due, standing, state_after, StreamState}
 use Rattle.link_ports.proofs.Terms.{stepped_packet, stepped_cut, stepped_arrival, Taken, verdict_of_taken}
 use Rattle.link_verdicts.specs.declared.verdict.Verdict.TheVariants as v
 use Rattle.ide_prefix.specs.declared.fault.PacketFault.{PacketFault}
@@ -85,7 +85,7 @@ module _ (plan : Plan) (facts : KeyFacts plan) (st : LinkState) (h : History) (e
       (stands.packets ∙ ap kept_all (sym (sealed_same plan h e w (seals_nothing (beside_at plan h) port p t)))))
 
   by_found : (port : PortName) (p : Packet) → Came plan h e port p
-      → settled plan h port (before_tag_of plan h port (Ok (IdePacket p))) ≡ due plan h e
+      → ending_due plan h port (before_tag_of plan h port (Ok (IdePacket p))) ≡ due plan h e
       → (o : Option StreamState) → find plan st port p.prefix.stream ≡ o
       → Steps plan h e (stepped_packet plan (beside_at plan h) st port p o)
   by_found port p came is None found =
@@ -98,7 +98,7 @@ module _ (plan : Plan) (facts : KeyFacts plan) (st : LinkState) (h : History) (e
       (standing_takes port p came (rw kept.known at is) kept.known) found
 
   by_cut : (a : Arrival) → arrived plan h e ≡ Some a → (r : Result CutValue PacketFault) → cut_of a.bytes ≡ r
-      → settled plan h a.port (before_tag_of plan h a.port r) ≡ due plan h e
+      → ending_due plan h a.port (before_tag_of plan h a.port r) ≡ due plan h e
       → Steps plan h e (stepped_cut plan (beside_at plan h) st a.port r)
   by_cut a arrival (Err f) cut is = quiet plan facts st h e (v.Malformed a.port (packet_word f) (packet_place f)) stands
       refl is still

@@ -3,18 +3,16 @@
 -- stay by `KeyFacts`; what was sealed, got and held stays by the verdict; a failure stays since the stream still has a
 -- Live key. Senders and receivers are put together from these parts.
 use Rattle.link_ports.proofs.Terms.{◌≡◌, ℕ, ◌==◌, Bool, true, false, List, [], ◌∷◌, length, refl, ap, sym, ◌∙◌, subst}
-use Rattle.link_ports.proofs.Terms.{arith, if◌then◌else◌, ◌&&◌, ◌||◌, after_ends, front_of_packet, any_out, base}
-use Rattle.link_ports.proofs.Terms.{CauseLaw}
-use Rattle.link_ports.proofs.Terms.{Cpl, each_sub, ends_at, Event, failed, failed_there, fails_at, got_in, got_since}
-use Rattle.link_ports.proofs.Terms.{has_live_key, has_live_in, has_live_out, held, History, is_out, is_same}
-use Rattle.link_ports.proofs.Terms.{is_same_port}
-use Rattle.link_ports.proofs.Terms.{Keyed, KeyFacts, Keys, keys_at, lane_in, lane_out, Loaded, nat_tests, not_here, Npr}
-use Rattle.link_ports.proofs.Terms.{Off, On, operates, Plan, PortName, posted_elsewhere, posted_in, posted_sum, Pr}
-use Rattle.link_ports.proofs.Terms.{received_in, rx_slot, rx_slots, rx_standing, RxSub, same_in, sealed_packets}
-use Rattle.link_ports.proofs.Terms.{SealedList, SealedPacket, sent_elsewhere, sent_in, Slots, standing}
-use Rattle.link_ports.proofs.Terms.{StreamState, sub_stream_of, SubKind, SubStream, total_elsewhere, total_in, tx_slot}
-use Rattle.link_ports.proofs.Terms.{tx_slots, tx_standing, TxSub, UnitName, units, units_got, units_since, Verdict}
-use Rattle.link_ports.proofs.Terms.{with_sealed}
+use Rattle.link_ports.proofs.Terms.{arith, if◌then◌else◌, ◌&&◌, ◌||◌, after_ends, ahead_of_packet, any_out, base}
+use Rattle.link_ports.proofs.Terms.{CauseLaw, Cpl, each_sub, ends_at, Event, failed, failed_there, fails_at, got_in}
+use Rattle.link_ports.proofs.Terms.{got_since, has_live_key, has_live_in, has_live_out, held, History, is_out, is_same}
+use Rattle.link_ports.proofs.Terms.{is_same_port, Keyed, KeyFacts, Keys, keys_at, lane_in, lane_out, Loaded, nat_tests}
+use Rattle.link_ports.proofs.Terms.{not_here, Npr, Off, On, operates, Plan, PortName, posted_elsewhere, posted_in}
+use Rattle.link_ports.proofs.Terms.{posted_sum, Pr, received_in, rx_slot, rx_slots, rx_standing, RxSub, same_in}
+use Rattle.link_ports.proofs.Terms.{sealed_packets, SealedList, SealedPacket, sent_elsewhere, sent_in, LaneSlots}
+use Rattle.link_ports.proofs.Terms.{standing, StreamState, sub_stream_of, SubKind, SubStream, total_elsewhere, total_in}
+use Rattle.link_ports.proofs.Terms.{tx_slot, tx_slots, tx_standing, TxSub, UnitName, units, units_got, units_since}
+use Rattle.link_ports.proofs.Terms.{Verdict, with_sealed}
 use Rattle.link_verdicts.specs.declared.verdict.Verdict.TheVariants as v
 use Rattle.link_history.specs.History.{sent_bytes}
 use Rattle.link_keys.proofs.Failures.{failed_next}
@@ -51,7 +49,7 @@ tx_is a b slots posted total = λ i. record { slots = slots i; posted = posted i
 pub rx_is : (a b : RxSub) → a.slots ≡ b.slots → a.sum ≡ b.sum → a.got ≡ b.got → a.total ≡ b.total → a ≡ b
 rx_is a b slots sum got total = λ i. record { slots = slots i; sum = sum i; got = got i; total = total i }
 
-pub slots_is : (a b : Slots) → a.first ≡ b.first → a.second ≡ b.second → a ≡ b
+pub slots_is : (a b : LaneSlots) → a.first ≡ b.first → a.second ≡ b.second → a ≡ b
 slots_is a b first second = λ i. record { first = first i; second = second i }
 
 pub stream_is : (a b : StreamState) → a.tx ≡ b.tx → a.rx ≡ b.rx → a.failed ≡ b.failed → a ≡ b
@@ -124,7 +122,7 @@ sealed_elsewhere : {A : Type 0} (plan : Plan) (h : History) (e : Event) (w : Ver
     (f : SealedList → A)
     → seals_at port stream w ≡ false
     → ((bytes : List ℕ) (ds : List SealedPacket) → any_out port stream ds ≡ false
-    → f (with_sealed plan (front_of_packet plan (sealed_packets plan h) (base h)) bytes ds (sealed_packets plan h))
+    → f (with_sealed plan (ahead_of_packet plan (sealed_packets plan h) (base h)) bytes ds (sealed_packets plan h))
     ≡ f (sealed_packets plan h))
     → f (sealed_packets plan ((e, w) ∷ h)) ≡ f (sealed_packets plan h)
 unfolding sealed_packets
@@ -228,24 +226,25 @@ module _ (plan : Plan) (facts : KeyFacts plan) (h : History) (e : Event) (w : Ve
   tx_frame u none =
       let g = (e, w) ∷ h in
       let s = lane_out port stream u in
-      let front = front_of_packet plan (sealed_packets plan h) (base h) in
+      let unfinished = ahead_of_packet plan (sealed_packets plan h) (base h) in
       let xs = sealed_packets plan h in
       let from = base h port.link stream in
       tx_is _ _
       (tx_slots_same plan (sealed_packets plan g) xs s (keys_at g port s)
       (λ j. sealed_elsewhere plan h e w port stream (λ ys. sent_in ys s j) none
-      (λ bytes ds. sent_elsewhere plan front bytes ds xs port stream u j))
+      (λ bytes ds. sent_elsewhere plan unfinished bytes ds xs port stream u j))
       ∙ ap (tx_slots plan xs s) (keys_out plan facts h e w cause port stream still u none))
       (if_same _ _ _ _ live_out (ap (posted_in (sealed_packets plan g) s) based
       ∙ sealed_elsewhere plan h e w port stream (λ ys. posted_in ys s from) none
-      (λ bytes ds. posted_elsewhere plan front bytes ds xs port stream u from)))
+      (λ bytes ds. posted_elsewhere plan unfinished bytes ds xs port stream u from)))
       (if_same _ _ _ _ live_out (ap (total_in (sealed_packets plan g) s) based
       ∙ sealed_elsewhere plan h e w port stream (λ ys. total_in ys s from) none
-      (λ bytes ds. total_elsewhere plan front bytes ds xs port stream u from)))
+      (λ bytes ds. total_elsewhere plan unfinished bytes ds xs port stream u from)))
 
   -- the counts of a receiver stay as they are but for what it accepts
   pub rx_with : (u : SubKind) → let s = lane_in port stream u in
-      accepts_in s w ≡ false → (slots : Slots) → rx_slots plan ((e, w) ∷ h) port s (keys_at ((e, w) ∷ h) port s) ≡ slots
+      accepts_in s w ≡ false → (slots : LaneSlots) → rx_slots plan ((e, w) ∷ h) port s (keys_at ((e, w) ∷ h) port s)
+      ≡ slots
       → rx_standing plan ((e, w) ∷ h) port s ≡ record (rx_standing plan h port s) { slots = slots }
   rx_with u none slots same =
       let g = (e, w) ∷ h in

@@ -30,7 +30,7 @@ lane_is plan h port stream u n =
     by_key : (o : Option KeyName) → lane_of n (sealer plan (sealed_packets plan h) (lane_out port stream u) o)
         ≡ record {
           key = o;
-          front = open_unit (sent_under plan h (lane_out port stream u) o);
+          unfinished = open_unit (sent_under plan h (lane_out port stream u) o);
           units = length
               (units (sent_under plan h (lane_out port stream u) o));
           posted = n;

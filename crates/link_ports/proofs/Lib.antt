@@ -10,4 +10,5 @@ pub mod Arrivals
 pub mod Lanes
 pub mod Seals
 pub mod Sends
+pub mod Replies
 pub mod Steps

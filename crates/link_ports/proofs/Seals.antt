@@ -5,16 +5,15 @@
 use Rattle.link_ports.proofs.Terms.{◌≡◌, ℕ, ◌+◌, ◌==◌, Bool, true, false, List, [], ◌∷◌, ◌++◌, map, Option, Some, Ok}
 use Rattle.link_ports.proofs.Terms.{refl, ap, sym, ◌∙◌, subst, arith, length-append, append_assoc, if◌then◌else◌, not}
 use Rattle.link_ports.proofs.Terms.{◌&&◌, nat_le, after_ends, append-nil, AreOther, at_sub, body, counted_unit}
-use Rattle.link_ports.proofs.Terms.{each_sub}
-use Rattle.link_ports.proofs.Terms.{ended_keys, ended_slots, ends_at, eqb-refl, front_with, gone_on, head_bytes, header}
-use Rattle.link_ports.proofs.Terms.{in_lane, is_in, is_same, is_same_port, is_same_port-refl, is_same_sub, kept_at}
-use Rattle.link_ports.proofs.Terms.{key_in, key_of, Keys, lane_is, lane_out, lesser, Live, live_sender, LiveKey}
-use Rattle.link_ports.proofs.Terms.{map-append, nat_tests, On, open_unit, Packet, packet_of, packet_under, Plan}
-use Rattle.link_ports.proofs.Terms.{PortName, posted-more, posted-own, posted-same, posted_in, posted_of, Pr, read_of}
-use Rattle.link_ports.proofs.Terms.{same_sub, sealed_all, sealed_slots, sealed_sub, SealedList, SealedPacket}
-use Rattle.link_ports.proofs.Terms.{sealing_key, sent-same, sent_in, sent_in-snoc, Slot, Slots, sub_bits, sub_stream_of}
-use Rattle.link_ports.proofs.Terms.{SubKind, SubStream, Three, Tlp, total-same, total-snoc, total_in, tx_slots, TxSub}
-use Rattle.link_ports.proofs.Terms.{units, waits, with_sealed}
+use Rattle.link_ports.proofs.Terms.{each_sub, ended_keys, ended_slots, ends_at, eqb-refl, ahead_with, gone_on}
+use Rattle.link_ports.proofs.Terms.{head_bytes, header, in_lane, is_in, is_same, is_same_port, is_same_port-refl}
+use Rattle.link_ports.proofs.Terms.{is_same_sub, kept_at, key_in, key_of, Keys, lane_is, lane_out, lesser, Live}
+use Rattle.link_ports.proofs.Terms.{live_sender, LiveKey, map-append, nat_tests, On, open_unit, Packet, packet_of}
+use Rattle.link_ports.proofs.Terms.{packet_under, Plan, PortName, posted-more, posted-own, posted-same, posted_in}
+use Rattle.link_ports.proofs.Terms.{posted_of, Pr, read_of, same_sub, sealed_all, sealed_slots, sealed_sub, SealedList}
+use Rattle.link_ports.proofs.Terms.{SealedPacket, sealing_key, sent-same, sent_in, sent_in-snoc, LaneSlot, LaneSlots}
+use Rattle.link_ports.proofs.Terms.{sub_bits, sub_stream_of, SubKind, SubStream, Three, Tlp, total-same, total-snoc}
+use Rattle.link_ports.proofs.Terms.{total_in, tx_slots, TxSub, units, waits, with_sealed}
 use Rattle.link_history.proofs.UnitLemmas.{units-end, units-more, open_unit-end, open_unit-more}
 use Rattle.link_ports.proofs.Frames.{each_same, tx_is, tx_slots_same}
 use Rattle.link_ports.proofs.Changes.{kept_all}
@@ -40,7 +39,7 @@ pub record Fits (closed : Bool) (ahead : SealedPacket → List ℕ) (port : Port
   pub apart : (i j : ℕ) → (keys d.sub).first ≡ On i → (keys d.sub).second ≡ On j → (i == j) ≡ false
   pub unused : (k : Bool) (j : ℕ) → key_in (keys d.sub) k ≡ On j → waits k j (key_in (keys d.sub) (not k)) ≡ true
       → sent_in xs (lane_out port stream d.sub) j ≡ []
-  pub front : ahead d ≡ front_with closed d.unit (total_in xs (lane_out port stream d.sub) from)
+  pub unfinished : ahead d ≡ ahead_with closed d.unit (total_in xs (lane_out port stream d.sub) from)
 
 -- ---- the slots
 
@@ -84,7 +83,7 @@ key_begins : (plan : Plan) (xs : SealedList) (d : SealedPacket) (p : Packet) (s 
 unfolding units open_unit
 key_begins plan xs d p s j here other none = rw (sent_other xs d p s j here other, none) refl
 
-abbrev record_slots : Slot → Slot → Slots
+abbrev record_slots : LaneSlot → LaneSlot → LaneSlots
 record_slots x y = record { first = x; second = y }
 
 -- the draw that waits beside the Live one
@@ -127,10 +126,10 @@ if_true b x y is = rw is refl
 if_false : {A : Type 0} (b : Bool) (x y : A) → b ≡ false → (if b then x else y) ≡ y
 if_false b x y is = rw is refl
 
-prefix_is : (plan : Plan) (front : List ℕ) (bytes : List ℕ) (d : SealedPacket) (unit : List Packet)
-    → (packet_of plan front bytes d unit).prefix.m ≡ d.m
+prefix_is : (plan : Plan) (unfinished : List ℕ) (bytes : List ℕ) (d : SealedPacket) (unit : List Packet)
+    → (packet_of plan unfinished bytes d unit).prefix.m ≡ d.m
 unfolding packet_of
-prefix_is plan front bytes d unit = refl
+prefix_is plan unfinished bytes d unit = refl
 
 pub record IsSealed (plan : Plan) (ahead : SealedPacket → List ℕ) (port : PortName) (stream from : ℕ) (bytes : List ℕ)
     (xs : SealedList) (keys : SubKind → Keys) (ds : List SealedPacket) (r : List Packet × Three TxSub) : Type 0 where
@@ -235,12 +234,13 @@ module _ (plan : Plan) (closed : Bool) (ahead : SealedPacket → List ℕ) (port
   next_packet : (xs : SealedList) (keys : SubKind → Keys) (d : SealedPacket) (bytes : List ℕ) (t : Tlp)
       → Fits closed ahead port stream from xs keys d
       → read_of bytes ≡ Ok t → let tx = tx_at plan port stream from xs keys d.sub in
-      packet_under (front_with closed d.unit tx.total) (live_sender tx.slots) d (head_bytes (header t)) (body t)
+      packet_under (ahead_with closed d.unit tx.total) (live_sender tx.slots) d (head_bytes (header t)) (body t)
       ≡ packet_of plan (ahead d) bytes d (open_unit (sent_in xs (sub_stream_of d) d.draw))
   unfolding packet_of
   next_packet xs keys d bytes t fits reads =
       let tx = tx_at plan port stream from xs keys d.sub in
-      ap (λ (f : List ℕ). packet_under f (live_sender tx.slots) d (head_bytes (header t)) (body t)) (sym fits.front)
+      ap (λ (f : List ℕ). packet_under f (live_sender tx.slots) d (head_bytes (header t)) (body t))
+      (sym fits.unfinished)
       ∙ (ap (λ (o : Option (Bool × LiveKey)). packet_under (ahead d) o d (head_bytes (header t)) (body t))
       (live_sender_is plan xs (lane_out port stream d.sub) (keys d.sub) ∙ ap
       (sealer plan xs (lane_out port stream d.sub)) fits.live)
@@ -267,7 +267,7 @@ module _ (plan : Plan) (closed : Bool) (ahead : SealedPacket → List ℕ) (port
         unused = λ k j on waiting. sent-same xs (d, p) s j off
             ∙ fits.unused k j (ap (λ (y : Keys). key_in y k) (sym stays) ∙ on)
             (ap (λ (y : Keys). waits k j (key_in y (not k))) (sym stays) ∙ waiting);
-        front = fits.front ∙ ap (front_with closed x.unit) (sym (total-same xs (d, p) s from off));
+        unfinished = fits.unfinished ∙ ap (ahead_with closed x.unit) (sym (total-same xs (d, p) s from off));
       }
 
   all_fit_still : (xs : SealedList) (keys : SubKind → Keys) (d : SealedPacket) (p : Packet) (ds : List SealedPacket)
@@ -289,11 +289,11 @@ module _ (plan : Plan) (closed : Bool) (ahead : SealedPacket → List ℕ) (port
       let unit = open_unit (sent_in xs (sub_stream_of d) d.draw) in
       let p = packet_of plan (ahead d) bytes d unit in
       let ys = xs ++ (d, p) ∷ [] in
-      let made = packet_under (front_with closed d.unit (at_sub (each_sub old) d.sub).total)
+      let made = packet_under (ahead_with closed d.unit (at_sub (each_sub old) d.sub).total)
       (live_sender (at_sub (each_sub old) d.sub).slots) d
       (head_bytes (header t)) (body t) in
       let same : made ≡ p =
-      ap (λ (x : TxSub). packet_under (front_with closed d.unit x.total) (live_sender x.slots) d (head_bytes (header t))
+      ap (λ (x : TxSub). packet_under (ahead_with closed d.unit x.total) (live_sender x.slots) d (head_bytes (header t))
       (body t)) (at_each old d.sub)
       ∙ next_packet xs keys d bytes t all.0 reads in
       let new : each_sub (λ u. sealed_sub d made u (at_sub (each_sub old) u))

@@ -5,25 +5,23 @@
 use Rattle.link_ports.specs.Stands.{beside_at, is_of_packets}
 use Rattle.link_ports.specs.Machine.{Stepped}
 use Rattle.link_history.specs.History.{sent_bytes}
+unfoldable use Rattle.link_history.specs.Sent.{bytes_by}
 use Rattle.link_events.specs.declared.event.Event.{Event}
 use Rattle.link_history.specs.Terms.{t_due, owner_at}
 use Rattle.link_ports.proofs.Terms.{◌≡◌, ℕ, ◌+◌, ◌==◌, Bool, true, false, List, [], ◌∷◌, ◌++◌, length, map, Option}
-use Rattle.link_ports.proofs.Terms.{Some, None, Ok, refl, ap, sym, ◌∙◌, subst, arith, if◌then◌else◌, ◌&&◌}
-use Rattle.link_ports.proofs.Terms.{◌||◌, is_some, is_none, unwrap_or, after_ends, front_of_packet, and_false}
-use Rattle.link_ports.proofs.Terms.{stepped_answer}
-use Rattle.link_ports.proofs.Terms.{any_out, AreFalse, base, body, CauseLaw, Cpl, described, due, send_due}
-use Rattle.link_ports.proofs.Terms.{each_sub, failed, find, first_that_holds, front_of, has_key, has_live_out}
-use Rattle.link_ports.proofs.Terms.{has_port, has_stream, head_bytes, header, History, is_closed, is_keyed, is_keyless}
-use Rattle.link_ports.proofs.Terms.{is_on, is_out, is_quiet, is_same_port, is_same_sub, kept_at, KeyFacts, KeyName}
-use Rattle.link_ports.proofs.Terms.{Keys, keys_at, lane_out, Lanes, lanes_at, lanes_of, length-map, lesser, LinkPacket}
+use Rattle.link_ports.proofs.Terms.{Some, None, Ok, refl, ap, sym, ◌∙◌, subst, arith, if◌then◌else◌, ◌&&◌, ◌||◌}
+use Rattle.link_ports.proofs.Terms.{is_some, is_none, unwrap_or, after_ends, ahead_of_packet, and_false, stepped_answer}
+use Rattle.link_ports.proofs.Terms.{any_out, AreFalse, base, body, CauseLaw, Cpl, described, due, send_due, each_sub}
+use Rattle.link_ports.proofs.Terms.{failed, find, first_that_holds, ahead_of_unit, has_key, has_live_out, has_port}
+use Rattle.link_ports.proofs.Terms.{has_stream, head_bytes, header, History, is_closed, is_keyed, is_keyless, is_on}
+use Rattle.link_ports.proofs.Terms.{is_out, is_quiet, is_same_port, is_same_sub, kept_at, KeyFacts, KeyName, Keys}
+use Rattle.link_ports.proofs.Terms.{keys_at, lane_out, Lanes, lanes_at, lanes_of, length-map, lesser, LinkPacket}
 use Rattle.link_ports.proofs.Terms.{LinkState, listed, live_key, mode_of, needs_posted, needs_sync, no_key, none_holds}
 use Rattle.link_ports.proofs.Terms.{Npr, on_live, operates, Packet, Plan, PortName, PortsStand, posted_in, Pr, put}
-use Rattle.link_ports.proofs.Terms.{read_of, refusals, sealed_all, sealed_by, sealed_by_is}
-use Rattle.link_ports.proofs.Terms.{sealed_packets}
-use Rattle.link_ports.proofs.Terms.{SealedList, SealedPacket, Send, stepped_on_stream, stepped_send, streams_of}
-use Rattle.link_ports.proofs.Terms.{Sending}
-use Rattle.link_ports.proofs.Terms.{sent_as, standing, StreamState, SubKind, Three, Tlp, tlp_word, total_in, tx_slots}
-use Rattle.link_ports.proofs.Terms.{TxSub, Verdict, with_sealed}
+use Rattle.link_ports.proofs.Terms.{read_of, refusals, sealed_all, sealed_by, sealed_by_is, sealed_packets, SealedList}
+use Rattle.link_ports.proofs.Terms.{SealedPacket, Send, stepped_on_stream, stepped_send, streams_of, Sending, sent_as}
+use Rattle.link_ports.proofs.Terms.{standing, StreamState, SubKind, Three, Tlp, tlp_word, total_in, tx_slots, TxSub}
+use Rattle.link_ports.proofs.Terms.{Verdict, with_sealed}
 use Rattle.link_verdicts.specs.declared.verdict.Verdict.TheVariants as v
 use Rattle.tlp_layout.specs.Class.{class_of}
 use Rattle.tlp_layout.specs.Faults.{place_in}
@@ -52,19 +50,19 @@ seals_live plan h port stream u keyed = any_of (λ w. is_keyed h port (lane_out 
 -- these descriptions fit after what was sealed
 abbrev FitBehind : Plan → History → Sending → List SealedPacket → Type 0
 FitBehind plan h s =
-    AllFit (is_closed plan s.port.link s.stream) (front_of_packet plan (sealed_packets plan h) (base h)) s.port s.stream
+    AllFit (is_closed plan s.port.link s.stream) (ahead_of_packet plan (sealed_packets plan h) (base h)) s.port s.stream
     (base h s.port.link s.stream)
     (sealed_packets plan h) (λ u. keys_at h s.port (lane_out s.port s.stream u))
 
 module _ (plan : Plan) (facts : KeyFacts plan) (h : History) (law : CauseLaw plan h) (s : Sending) where
   -- a description under the key of its sub-stream
   describes : (u : SubKind) (number : ℕ) (m t sync : Bool) → is_keyless (lanes_at plan h s.port s.stream) u ≡ false
-      → Fits (is_closed plan s.port.link s.stream) (front_of_packet plan (sealed_packets plan h) (base h)) s.port
+      → Fits (is_closed plan s.port.link s.stream) (ahead_of_packet plan (sealed_packets plan h) (base h)) s.port
       s.stream
       (base h s.port.link s.stream)
       (sealed_packets plan h) (λ u. keys_at h s.port (lane_out s.port s.stream u))
       (described (lanes_at plan h s.port s.stream) s u number m t sync)
-  unfolding front_of
+  unfolding ahead_of_unit
   describes u number m t sync keyed =
       let place = lane_out s.port s.stream u in
       let x = has_key (lanes_at plan h s.port s.stream) u keyed in
@@ -79,7 +77,7 @@ module _ (plan : Plan) (facts : KeyFacts plan) (h : History) (law : CauseLaw pla
         counts = facts.from_base h law s.port place _ _ (on_live _ _ _ live_is);
         apart = facts.apart h law s.port place;
         unused = facts.unused h law s.port s.stream u;
-        front = refl;
+        unfinished = refl;
       }
 
   all_fit : (number : ℕ) (n c : Bool) → let x = lanes_at plan h s.port s.stream in is_keyless x s.class ≡ false
@@ -155,7 +153,7 @@ module _ (plan : Plan) (facts : KeyFacts plan) (h : History) (s : Sending) (e : 
     (ds : List SealedPacket)
     (law : CauseLaw plan ((e, v.Sealed ds) ∷ h)) where
   sealed_with : sealed_packets plan ((e, v.Sealed ds) ∷ h)
-      ≡ with_sealed plan (front_of_packet plan (sealed_packets plan h) (base h)) (sent_bytes plan h e) ds
+      ≡ with_sealed plan (ahead_of_packet plan (sealed_packets plan h) (base h)) (sent_bytes plan h e) ds
       (sealed_packets plan h)
   unfolding sealed_packets
   sealed_with = refl
@@ -165,7 +163,7 @@ module _ (plan : Plan) (facts : KeyFacts plan) (h : History) (s : Sending) (e : 
 
   after_seals : (tx : Three TxSub) → has_live_out h s.port s.stream ≡ true
       → tx ≡ each_sub (tx_at plan s.port s.stream (base h s.port.link s.stream)
-      (with_sealed plan (front_of_packet plan (sealed_packets plan h) (base h)) (sent_bytes plan h e) ds
+      (with_sealed plan (ahead_of_packet plan (sealed_packets plan h) (base h)) (sent_bytes plan h e) ds
       (sealed_packets plan h))
       (λ u. after_ends s.port (lane_out s.port s.stream u) ds (keys_at h s.port (lane_out s.port s.stream u))))
       → record (standing plan h s.port s.stream) { tx = tx } ≡ standing plan
@@ -213,7 +211,7 @@ refusal_quiet b class = grind arith
 
 module _ (plan : Plan) (facts : KeyFacts plan) (st : LinkState) (h : History) (stands : PortsStand plan st h)
     (e : Event) (on : is_of_packets e ≡ true) (more trusted : Bool) where
-  tells : (port : PortName) (w : Verdict) → is_quiet w ≡ true → w ≡ due plan h e
+  pub tells : (port : PortName) (w : Verdict) → is_quiet w ≡ true → w ≡ due plan h e
       → Steps plan h e (w, st)
   tells port w none is = quiet plan facts st h e w stands none is
       (none_of_packets e on)
@@ -226,23 +224,23 @@ module _ (plan : Plan) (facts : KeyFacts plan) (st : LinkState) (h : History) (s
       → Steps plan h e (stepped_answer plan st s t (standing plan h s.port s.stream) None ds)
   seals s t ds known found reads is live all =
       let closed = is_closed plan s.port.link s.stream in
-      let front = front_of_packet plan (sealed_packets plan h) (base h) in
+      let unfinished = ahead_of_packet plan (sealed_packets plan h) (base h) in
       let from = base h s.port.link s.stream in
       let xs = sealed_packets plan h in
       let keys : SubKind → Keys = λ u. keys_at h s.port (lane_out s.port s.stream u) in
       let r = sealed_all closed (head_bytes (header t)) (body t) ds (standing plan h s.port s.stream).tx in
-      let done : IsSealed plan front s.port s.stream from (sent_bytes plan h e) xs keys ds r =
-      subst (λ (tx : Three TxSub). IsSealed plan front s.port s.stream from (sent_bytes plan h e) xs keys ds
+      let done : IsSealed plan unfinished s.port s.stream from (sent_bytes plan h e) xs keys ds r =
+      subst (λ (tx : Three TxSub). IsSealed plan unfinished s.port s.stream from (sent_bytes plan h e) xs keys ds
       (sealed_all closed (head_bytes (header t)) (body t) ds tx))
       (sym (senders_before plan h s.port s.stream live))
-      (all_sealed plan closed front s.port s.stream from (sent_bytes plan h e) t reads ds xs keys all) in
+      (all_sealed plan closed unfinished s.port s.stream from (sent_bytes plan h e) t reads ds xs keys all) in
       let x : StreamState = record (standing plan h s.port s.stream) { tx = r.1 } in
       let ps : List LinkPacket = st.packets ++ map (kept_at s.port) r.0 in
       let new = put plan st s.port s.stream x in
       let law : CauseLaw plan ((e, v.Sealed ds) ∷ h) = (is, stands.cause) in
       changes plan facts st (record new { packets = ps }) h e (v.Sealed ds) s.port s.stream x stands is
       (none_of_packets e on) known
-      (λ q n other. (only_out closed front s.port s.stream from xs keys ds all q n other, refl))
+      (λ q n other. (only_out closed unfinished s.port s.stream from xs keys ds all q n other, refl))
       (find_packets plan new ps s.port s.stream ∙ find-put plan st s.port s.stream x found)
       (λ q n other. find_packets plan new ps q n ∙ find-put_other plan st s.port s.stream x q n other)
       (after_seals plan facts h s e on ds law r.1 live done.senders)
@@ -321,7 +319,7 @@ module _ (plan : Plan) (facts : KeyFacts plan) (st : LinkState) (h : History) (s
   by_found s t reads known is None found = let other = not_kept plan st h s.port s.stream stands found in absurd cc
   by_found s t reads known is (Some y) found = sends_as s t reads is y found
 
-  by_outgoing : (port : PortName) (o : Outgoing)
+  pub by_outgoing : (port : PortName) (o : Outgoing)
       → outgoing_of (streams_of plan port.link) port.side (sent_bytes plan h e) ≡ o
       → send_due plan h port o more trusted ≡ due plan h e
       → Steps plan h e (stepped_send plan (beside_at plan h) st port o more trusted)
@@ -339,7 +337,7 @@ module _ (plan : Plan) (facts : KeyFacts plan) (st : LinkState) (h : History) (s
       (on_stream_reads (streams_of plan port.link) port.side (sent_bytes plan h e) t stream comes).0
       (stream_known plan port (sent_bytes plan h e) t stream comes) is (find plan st port stream) refl
 
-if_steps : (plan : Plan) (h : History) (e : Event) (b : Bool) (x y : Stepped) → (b ≡ true → Steps plan h e x)
+pub if_steps : (plan : Plan) (h : History) (e : Event) (b : Bool) (x y : Stepped) → (b ≡ true → Steps plan h e x)
     → (b ≡ false → Steps plan h e y) → Steps plan h e (if b then x else y)
 if_steps plan h e true x y one two = one refl
 if_steps plan h e false x y one two = two refl
@@ -351,7 +349,7 @@ pub sends : (plan : Plan) → KeyFacts plan → (st : LinkState) (h : History) �
     then stepped_send plan (beside_at plan h) st port (outgoing_of (streams_of plan port.link) port.side bytes) more
     trusted
     else (v.Nothing, st))
-unfolding due
+unfolding due bytes_by
 sends plan facts st h stands bytes more trusted port =
     let e = Send port bytes more trusted in
     if_steps plan h e (has_port plan port) _ _

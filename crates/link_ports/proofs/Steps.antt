@@ -2,17 +2,19 @@
 use Rattle.link_ports.specs.Stands.{beside_at}
 use Rattle.link_ports.proofs.Terms.{◌≡◌, ℕ, Bool, true, false, List, Option, Some, None, option_map, option_and_then}
 use Rattle.link_ports.proofs.Terms.{refl, ap, sym, ◌∙◌, arith, if◌then◌else◌, Alter, altered, altered_to, Arrival}
-use Rattle.link_ports.proofs.Terms.{arrival_due, Arrive, arrived, brought, Cut, cut_short, due, Dump, dump_due}
-use Rattle.link_ports.proofs.Terms.{Event, has_port, History, is_of_packets, IsNoOperation, KeyFacts, LinkPacket}
-use Rattle.link_ports.proofs.Terms.{LinkState, operates, packet_bytes, packet_numbered, PacketsStand, Pass, passed}
-use Rattle.link_ports.proofs.Terms.{Plan, PortName, PortsStand, quiet_test, sealed_packets, Send, shortened}
-use Rattle.link_ports.proofs.Terms.{shown_packet, stepped_arrival}
-use Rattle.link_ports.proofs.Terms.{Status, step_of}
+use Rattle.link_ports.proofs.Terms.{arrival_due, Arrive, arrived, brought, Cut, cut_short, due, Dump, dump_due, Event}
+use Rattle.link_ports.proofs.Terms.{has_port, History, is_of_packets, IsNoOperation, KeyFacts, LinkPacket, LinkState}
+use Rattle.link_ports.proofs.Terms.{operates, packet_bytes, packet_numbered, PacketsStand, Pass, passed, Plan, PortName}
+use Rattle.link_ports.proofs.Terms.{PortsStand, quiet_test, sealed_packets, Send, shortened, shown_packet}
+use Rattle.link_ports.proofs.Terms.{stepped_arrival, Status, step_of}
 use Rattle.link_verdicts.specs.declared.verdict.Verdict.TheVariants as v
 use Rattle.link_ports.proofs.Changes.{Steps, none_of_packets, quiet}
 use Rattle.link_ports.proofs.Numbers.{of_numbered}
 use Rattle.link_ports.proofs.Arrivals.{arrives}
 use Rattle.link_ports.proofs.Sends.{sends}
+use Rattle.link_ports.proofs.Replies.{replies}
+use Rattle.link_events.specs.declared.event.Event.TheVariants.{Access}
+use Rattle.link_events.specs.declared.event.AccessEvent.TheVariants as ae
 
 pub none_status : (l s : ℕ) → IsNoOperation (Status l s)
 unfolding operates
@@ -63,6 +65,7 @@ pub packets_stand : PacketsStand
 unfolding step_of due arrived
 packets_stand plan facts st h (Send port bytes more trusted) is stands = sends plan facts st h stands bytes more trusted
     port
+packets_stand plan facts st h (Access (ae.Answer link)) is stands = replies plan facts st h stands link
 packets_stand plan facts st h (Pass n) is stands =
     brought_to plan facts st h (Pass n) refl stands _
     (of_numbered st.packets (sealed_packets plan h) n stands.packets (option_and_then passed)

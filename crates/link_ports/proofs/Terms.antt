@@ -30,50 +30,37 @@ pub use Rattle.link_history.proofs.Tests.{same_stream, same_sub}
 pub use Rattle.link_history.specs.Cause.{CauseLaw}
 pub use Rattle.link_history.specs.Due.{Lane, Lanes, Sending, arrival_due, before_tag_of, described, dump_due}
 pub use Rattle.link_history.specs.Due.{effects_of, first_that_holds, is_keyless, is_mixed, is_overfull, lane_at}
-pub use Rattle.link_history.specs.Due.{lanes_at, needs_sync, no_key, receiving, refusals, sealed_by, send_due}
-pub use Rattle.link_history.specs.Due.{sent_as, sent_under, settled, under_keys, unit_under}
+pub use Rattle.link_history.specs.Due.{lanes_at, needs_sync, no_key, receiving, refusals, sealed_by, send_due, sent_as}
+pub use Rattle.link_history.specs.Due.{sent_under, ending_due, under_keys, unit_under}
 unfoldable pub use Rattle.link_history.specs.Due.{before_tag, due, is_verified}
-pub use Rattle.link_history.specs.History.{Arrival, KeyName, SealedList, accepted_keys, after_ends, front_of_packet}
-pub use Rattle.link_history.specs.History.{altered}
-pub use Rattle.link_history.specs.History.{arrived_packet, brought, ended_keys, ends_at, failed, fails_at, front_with}
-pub use Rattle.link_history.specs.History.{has_live_key, held as held_in, is_in, is_keyed, is_of, keys_at, lesser}
-pub use Rattle.link_history.specs.History.{live_key}
-pub use Rattle.link_history.specs.History.{on_draw, packet_at, pending, posted_count, posted_in, posted_of, received_in}
-pub use Rattle.link_history.specs.History.{sent_in, shortened, sub_stream_of, total_in, waits, with_sealed}
-unfoldable pub use Rattle.link_history.specs.History.{
-  arrived,
-  front_of,
-  got_since,
-  has_live_in,
-  has_live_out,
-  held,
-  meets_counts,
-  packet_of,
-  sealed_packets,
-  units_got,
-  units_since,
-}
+pub use Rattle.link_history.specs.History.{Arrival, KeyName, SealedList, accepted_keys, after_ends, ahead_of_packet}
+pub use Rattle.link_history.specs.History.{altered, arrived_packet, brought, ended_keys, ends_at, failed, fails_at}
+pub use Rattle.link_history.specs.History.{ahead_with, has_live_key, held as held_in, is_in, is_keyed, is_of, keys_at}
+pub use Rattle.link_history.specs.History.{lesser, live_key, on_draw, packet_at, pending, posted_count, posted_in}
+pub use Rattle.link_history.specs.History.{posted_of, received_in, sent_in, shortened, sub_stream_of, total_in, waits}
+pub use Rattle.link_history.specs.History.{with_sealed}
+unfoldable pub use Rattle.link_history.specs.History.{arrived, ahead_of_unit, got_since, has_live_in, has_live_out}
+unfoldable pub use Rattle.link_history.specs.History.{held, meets_counts, packet_of, sealed_packets, units_got}
+unfoldable pub use Rattle.link_history.specs.History.{units_since}
 pub use Rattle.link_history.specs.KeyFacts.{IsNoOperation, KeyFacts, is_quiet, is_quiet as quiet_test}
 unfoldable pub use Rattle.link_history.specs.KeyFacts.{operates}
 pub use Rattle.link_history.specs.Plan.{SubStream, has_port, has_stream, is_closed, is_same, is_same_port, key_of}
 pub use Rattle.link_history.specs.Plan.{lane_in, lane_out, mode_of, streams_of}
 unfoldable pub use Rattle.link_history.specs.Units.{open_unit, units}
-pub use Rattle.link_ports.specs.Machine.{LinkPacket, LinkState, Stepped, altered_to, stepped_answer}
-pub use Rattle.link_ports.specs.Machine.{changed_by_id, cut_short, found_by_id, kept_at, packet_numbered, passed}
-pub use Rattle.link_ports.specs.Machine.{port_place}
+pub use Rattle.link_ports.specs.Machine.{LinkPacket, LinkState, Stepped, altered_to, stepped_answer, changed_by_id}
+pub use Rattle.link_ports.specs.Machine.{cut_short, found_by_id, kept_at, packet_numbered, passed, port_place}
 pub use Rattle.link_ports.specs.Machine.{stepped_on_stream, stepped_send, stepped_packet, stepped_cut, stepped_arrival}
-pub use Rattle.link_ports.specs.Machine.{shown_packet}
-pub use Rattle.link_ports.specs.Machine.{unit_name, verdict_of_taken}
+pub use Rattle.link_ports.specs.Machine.{shown_packet, unit_name, verdict_of_taken}
 unfoldable pub use Rattle.link_ports.specs.Machine.{find, put, step_of}
 pub use Rattle.link_ports.specs.Stands.{PacketsStand, PortsStand, got_in, is_of_packets, rx_slot, rx_slots, rx_standing}
 pub use Rattle.link_ports.specs.Stands.{sealing_key, standing_if_planned, tx_slot, tx_slots, tx_standing}
 unfoldable pub use Rattle.link_ports.specs.Stands.{standing}
-pub use Rattle.link_ports.specs.Stream.{Accepted, Failed, Held, Insecure, Live, LiveKey, NotKeyed, RxSub, Slot, Slots}
-pub use Rattle.link_ports.specs.Stream.{StreamState, Taken, Three, TxSub, accepted_slots, accepted_sub, at_sub, checked}
-pub use Rattle.link_ports.specs.Stream.{counted_unit, dropped, dropped_held, each_sub, ended_slots, gone_on, held_sub}
-pub use Rattle.link_ports.specs.Stream.{holds_any, is_allowed, is_tagged, lane_of, lanes_of, live_in, live_sender}
-pub use Rattle.link_ports.specs.Stream.{packet_under, posted_sum, retired, sealed_all, sealed_slots, sealed_sub}
-pub use Rattle.link_ports.specs.Stream.{set_sub, slot_in_set, state_after, taken_by, taken_under, with_slot}
+pub use Rattle.link_ports.specs.Stream.{Accepted, Failed, Held, Insecure, Live, LiveKey, NotKeyed, RxSub, LaneSlot}
+pub use Rattle.link_ports.specs.Stream.{LaneSlots, StreamState, Taken, Three, TxSub, accepted_slots, accepted_sub}
+pub use Rattle.link_ports.specs.Stream.{at_sub, checked, counted_unit, dropped, dropped_held, each_sub, ended_slots}
+pub use Rattle.link_ports.specs.Stream.{gone_on, held_sub, holds_any, is_allowed, is_tagged, lane_of, lanes_of, live_in}
+pub use Rattle.link_ports.specs.Stream.{live_sender, packet_under, posted_sum, retired, sealed_all, sealed_slots}
+pub use Rattle.link_ports.specs.Stream.{sealed_sub, set_sub, slot_in_set, state_after, taken_by, taken_under, with_slot}
 pub use Rattle.link_verdicts.specs.declared.verdict.SealedPacket.{SealedPacket}
 pub use Rattle.link_verdicts.specs.declared.verdict.UnitName.{UnitName}
 pub use Rattle.link_verdicts.specs.declared.verdict.Verdict.{Verdict}

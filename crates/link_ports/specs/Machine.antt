@@ -1,13 +1,15 @@
 -- What is kept of all links between two events, and one step.
 use Rattle.std.specs.Prelude.{true, false, not, ◌&&◌, ℕ, ◌+◌, ◌-◌, ◌*◌, ◌==◌, nat_lt, nat_le, Bool, if◌then◌else◌}
 use Rattle.std.specs.Prelude.{List, [], ◌∷◌, ◌++◌, length, map, take, slice_get, slice_index, slice_set, bit_xor}
-use Rattle.std.specs.Prelude.{Option, Some, None, is_some, Result, Ok, Err}
+use Rattle.std.specs.Prelude.{Option, Some, None, is_some, unwrap_or, Result, Ok, Err}
 use Rattle.std.specs.List.{slice_index_or}
 use Rattle.std.specs.Option.{option_and_then}
 use Rattle.ide_types.specs.declared.port.PortName.{PortName}
 use Rattle.link_events.specs.declared.event.Event.{Event}
 use Rattle.link_events.specs.declared.event.Event.TheVariants.{Send, Pass, Alter, Cut, Arrive, Dump, Establish, Refresh}
-use Rattle.link_events.specs.declared.event.Event.TheVariants.{Stop, Reset, Status, Interface}
+use Rattle.link_events.specs.declared.event.Event.TheVariants.{Stop, Reset, Status, Interface, Access}
+use Rattle.link_events.specs.declared.event.AccessEvent.TheVariants as ae
+use Rattle.interface_words.specs.declared.verdict.InterfaceVerdict.TheVariants as iv
 use Rattle.link_verdicts.specs.declared.verdict.Verdict.{Verdict}
 use Rattle.link_verdicts.specs.declared.verdict.Verdict.TheVariants as v
 use Rattle.link_verdicts.specs.declared.verdict.SealedPacket.{SealedPacket}
@@ -26,6 +28,7 @@ use Rattle.fault_words.specs.FaultWords.{tlp_word, packet_word}
 use Rattle.ide_types.specs.declared.port.Side.{Side}
 use Rattle.ide_types.specs.declared.port.Side.TheVariants.{Host, Device}
 use Rattle.ide_types.specs.declared.sub.SubKind.{SubKind}
+use Rattle.ide_types.specs.declared.sub.SubKind.TheVariants.{Cpl}
 use Rattle.link_events.specs.declared.event.Loss.{Loss}
 use Rattle.link_verdicts.specs.declared.verdict.Operation.{Operation}
 use Rattle.link_verdicts.specs.declared.verdict.Operation.TheVariants as op
@@ -46,8 +49,9 @@ use Rattle.link_verdicts.specs.declared.verdict.Effect.{Effect}
 use Rattle.link_events.specs.declared.event.InterfaceEvent.{InterfaceEvent}
 use Rattle.link_history.specs.Due.{Sending, refusals, sealed_by, first_that_holds}
 use Rattle.link_history.specs.History.{Arrival}
-use Rattle.link_ports.specs.Stream.{Slot, Slots, slot_in_set, LiveKey, Live, StreamState}
-use Rattle.link_ports.specs.Stream.{is_live_slot, slots_at, stream_status, no_stream}
+use Rattle.link_ports.specs.Replies.{Reply, is_below}
+use Rattle.link_ports.specs.Stream.{LaneSlot, LaneSlots, slot_in_set, LiveKey, Live, StreamState}
+use Rattle.link_ports.specs.Stream.{is_live_slot, slots_at, stream_status, no_stream, sealing_draw, receiving_draw}
 use Rattle.link_ports.specs.Stream.{Taken, Insecure, NotKeyed, Failed, Held, Accepted, lanes_of, sealed_all}
 use Rattle.link_ports.specs.Stream.{taken_by, state_after}
 
@@ -107,12 +111,14 @@ Stepped = Verdict × LinkState
 abbrev pub kept_at : PortName → Packet → LinkPacket
 kept_at port p = record { port = port; bytes = packet_bytes p }
 
--- what is said beside the ports: the interfaces say T of a TLP on a stream, and what is due of events on them; the
--- manager says what the packets of an accepted unit do
+-- what is said beside the ports: T of a TLP on a stream, what the packets of an accepted unit do, what is due of events
+-- on interfaces, what the answer to a link's oldest waiting read comes to, and what is shown of a device's memory
 pub record Beside : Type 0 where
   pub t : PortName → HeadView → ℕ → Bool → Bool
   pub effects : PortName → UnitName → List Packet → List Effect
   pub answer : InterfaceEvent → Verdict
+  pub reply : ℕ → Result Reply Verdict
+  pub shows : ℕ → ℕ → ℕ → ℕ → Verdict
 
 -- a TLP is refused on its stream, or sealed as these packets
 abbrev pub stepped_answer : Plan → LinkState → Sending → Tlp → StreamState → Option Verdict → List SealedPacket
@@ -140,6 +146,29 @@ stepped_send plan beside st port (OnStream t stream) more trusted =
       more = more;
       trusted = beside.t port (header t) stream trusted;
     }) t (find plan st port stream)
+
+-- ---- answers to reads that wait
+
+abbrev pub port_at : Side → ℕ → PortName
+port_at side link = record { side = side; link = link }
+
+-- the draw that a port seals a sub-stream of a stream under, and the greatest that it opens one under
+abbrev pub sealing_draw_at : SubKind → Option StreamState → Option ℕ
+sealing_draw_at u o = option_and_then (λ (x : StreamState). sealing_draw (slots_at true u x)) o
+
+abbrev pub receiving_draw_at : SubKind → Option StreamState → Option ℕ
+receiving_draw_at u o = option_and_then (λ (x : StreamState). receiving_draw (slots_at false u x)) o
+
+-- under a key of the bound stream from the floor on the completion is sent as any TLP is, with T
+abbrev pub stepped_completion : Plan → Beside → LinkState → PortName → Reply → Option ℕ → Stepped
+stepped_completion plan beside st port r draw =
+    if is_below draw r.floor then (v.Interface (iv.RefusedRefreshFirst (unwrap_or draw 0) r.floor), st)
+    else stepped_send plan beside st port (outgoing_of (streams_of plan port.link) port.side r.bytes) false true
+
+abbrev pub stepped_reply : Plan → Beside → LinkState → PortName → Result Reply Verdict → Stepped
+stepped_reply plan beside st port (Err verdict) = (verdict, st)
+stepped_reply plan beside st port (Ok r) =
+    stepped_completion plan beside st port r (sealing_draw_at Cpl (find plan st port r.stream))
 
 -- ---- arrivals
 
@@ -217,19 +246,16 @@ touched_state plan st link stream out into =
 
 -- ---- what operations read of the ports
 
-abbrev pub port_at : Side → ℕ → PortName
-port_at side link = record { side = side; link = link }
-
 -- a KEY_PROG of a Live slot is refused if the other slot holds no newer Live key
-abbrev pub is_newer : ℕ → Slot → Bool
+abbrev pub is_newer : ℕ → LaneSlot → Bool
 is_newer i (Live x) = nat_lt i x.draw
 is_newer i _ = false
 
-abbrev pub is_last_in : Slot → Slot → Bool
+abbrev pub is_last_in : LaneSlot → LaneSlot → Bool
 is_last_in (Live x) other = not (is_newer x.draw other)
 is_last_in _ other = false
 
-abbrev pub refuses_in : Slots → Bool → Bool
+abbrev pub refuses_in : LaneSlots → Bool → Bool
 refuses_in s k = is_last_in (slot_in_set s k) (slot_in_set s (not k))
 
 abbrev pub refuses_at : Bool → SubKind → Bool → Option StreamState → Bool
@@ -338,6 +364,8 @@ step_of plan beside st (Reset link) =
     if nat_lt link (length plan.links) then (v.Reset link, reset_state plan st link) else (v.Nothing, st)
 step_of plan beside st (Status link stream) = status_found plan st link stream (find_op plan st link stream)
 step_of plan beside st (Interface e) = (beside.answer e, st)
+step_of plan beside st (Access (ae.Answer link)) = stepped_reply plan beside st (port_at Host link) (beside.reply link)
+step_of plan beside st (Access (ae.Mmio interface bar offset len)) = (beside.shows interface bar offset len, st)
 
 -- ---- the beginning
 

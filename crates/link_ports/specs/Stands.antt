@@ -15,9 +15,26 @@ use Rattle.link_history.specs.History.{keys_at, SealedList, sealed_packets, sent
 use Rattle.link_history.specs.History.{failed, has_live_out, has_live_in, posted_count, waits, total_in, units_since}
 use Rattle.link_history.specs.Terms.{t_due, owner_at}
 use Rattle.link_history.specs.Due.{due, effects_of}
+use Rattle.link_history.specs.Guarded.{mmio_due}
+use Rattle.link_history.specs.Memory.{waiting}
+use Rattle.link_history.specs.History.{sent_bytes}
+use Rattle.interface_states.specs.Views.{grant_at}
+use Rattle.link_events.specs.declared.event.AccessEvent.TheVariants as ae
+use Rattle.link_ports.specs.Replies.{reply_to}
 use Rattle.link_history.specs.Cause.{CauseLaw}
 use Rattle.link_history.specs.KeyFacts.{KeyFacts}
-use Rattle.link_ports.specs.Stream.{Slot, Empty, Programmed, Armed, Live, LiveKey, Slots, TxSub, RxSub, StreamState}
+use Rattle.link_ports.specs.Stream.{
+  LaneSlot,
+  Empty,
+  Programmed,
+  Armed,
+  Live,
+  LiveKey,
+  LaneSlots,
+  TxSub,
+  RxSub,
+  StreamState,
+}
 use Rattle.link_ports.specs.Stream.{each_sub, posted_sum}
 use Rattle.key_laws.specs.Operations.{Op}
 use Rattle.link_ports.specs.Machine.{Beside, LinkState, find, find_op, step_of, kept_at, first_state}
@@ -35,12 +52,12 @@ sealing_key plan xs s j =
     }
 
 -- the slot of a set, beside what the other set holds
-abbrev pub tx_slot : Plan → SealedList → SubStream → Bool → Keyed → Keyed → Slot
+abbrev pub tx_slot : Plan → SealedList → SubStream → Bool → Keyed → Keyed → LaneSlot
 tx_slot plan xs s k Off other = Empty
 tx_slot plan xs s k (Loaded j) other = Programmed j (key_of plan j s)
 tx_slot plan xs s k (On j) other = if waits k j other then Armed j (key_of plan j s) else Live (sealing_key plan xs s j)
 
-abbrev pub tx_slots : Plan → SealedList → SubStream → Keys → Slots
+abbrev pub tx_slots : Plan → SealedList → SubStream → Keys → LaneSlots
 tx_slots plan xs s keys =
     record {
       first = tx_slot plan xs s false keys.first keys.second;
@@ -68,12 +85,12 @@ receiving_key plan h port s j =
           else pending plan h s j;
     }
 
-abbrev pub rx_slot : Plan → History → PortName → SubStream → Keyed → Slot
+abbrev pub rx_slot : Plan → History → PortName → SubStream → Keyed → LaneSlot
 rx_slot plan h port s Off = Empty
 rx_slot plan h port s (Loaded j) = Programmed j (key_of plan j s)
 rx_slot plan h port s (On j) = Live (receiving_key plan h port s j)
 
-abbrev pub rx_slots : Plan → History → PortName → SubStream → Keys → Slots
+abbrev pub rx_slots : Plan → History → PortName → SubStream → Keys → LaneSlots
 rx_slots plan h port s keys =
     record { first = rx_slot plan h port s keys.first; second = rx_slot plan h port s keys.second }
 
@@ -121,6 +138,9 @@ beside_at plan h = record {
   t = λ port head stream trusted. t_due plan h port port.side (owner_at plan port.link head) stream trusted;
   effects = effects_of plan h;
   answer = λ e. due plan h (event.Interface e);
+  reply = λ link. reply_to plan (grant_at plan h) (λ r. sent_bytes plan h (event.Access (ae.Answer link))) link
+      (waiting plan h link);
+  shows = mmio_due plan h;
 }
 
 -- A step gives the verdict that is due, and its state stands for the history with it.
@@ -133,9 +153,10 @@ StepStands = (plan : Plan) (st : LinkState) (h : History) (e : Event) → PortsS
 abbrev pub FirstStands : Type 0
 FirstStands = (plan : Plan) → PortsStandFor plan (first_state plan) []
 
--- it is a send, brings bytes, or shows a packet
+-- it is a send or an answer to a read, brings bytes, or shows a packet
 abbrev pub is_of_packets : Event → Bool
 is_of_packets (event.Send port bytes more trusted) = true
+is_of_packets (event.Access (ae.Answer link)) = true
 is_of_packets (event.Pass n) = true
 is_of_packets (event.Alter n at mask) = true
 is_of_packets (event.Cut n len) = true

@@ -1,5 +1,5 @@
 -- A port's part of one stream, as the rules of streams have it.
-pub use Rattle.stream_rules.specs.Stream.{Three, at_sub, set_sub, each_sub, LiveKey, Slot, Slots, TxSub, RxSub}
+pub use Rattle.stream_rules.specs.Stream.{Three, at_sub, set_sub, each_sub, LiveKey, LaneSlot, LaneSlots, TxSub, RxSub}
 pub use Rattle.stream_rules.specs.Stream.{StreamState, slot_in_set, with_slot, live_in, live_sender, lane_of, lanes_of}
 pub use Rattle.stream_rules.specs.Stream.{untagged_under, tagged_under, packet_under, gone_on, counted_unit}
 pub use Rattle.stream_rules.specs.Stream.{ended_slots}
@@ -8,5 +8,5 @@ pub use Rattle.stream_rules.specs.Stream.{posted_sum, is_allowed, is_tagged, che
 pub use Rattle.stream_rules.specs.Stream.{dropped_held, retired, accepted_slots, accepted_sub, held_sub, state_after}
 pub use Rattle.stream_rules.specs.Stream.{Empty, Programmed, Armed, Live, Insecure, NotKeyed, Failed, Held, Accepted}
 pub use Rattle.stream_rules.specs.Slots.{both_slots, begun, slot_gone, woken_slot, is_live_slot, any_live, slots_at}
-pub use Rattle.stream_rules.specs.Slots.{settled_stream, no_slots, no_stream, has_all_live, has_some_live}
-pub use Rattle.stream_rules.specs.Slots.{stream_status}
+pub use Rattle.stream_rules.specs.Slots.{rested_stream, no_slots, no_stream, has_all_live, has_some_live}
+pub use Rattle.stream_rules.specs.Slots.{stream_status, sealing_draw, receiving_draw}

@@ -1,7 +1,9 @@
 pub mod Joins
 pub mod WordReadings
 pub mod InterfaceReadings
+pub mod AccessReadings
 pub mod Readings
 pub mod WordSpellings
 pub mod InterfaceSpellings
+pub mod AccessSpellings
 pub mod Spellings

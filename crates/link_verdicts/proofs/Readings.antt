@@ -15,13 +15,15 @@ use Rattle.ide_types.specs.declared.fault_word.FaultWord.{FaultWord}
 use Rattle.ide_types.specs.declared.status.StreamStatus.{StreamStatus}
 use Rattle.ide_types.specs.declared.sub.FailCause.TheVariants as fail
 use Rattle.ide_types.specs.declared.fault_word.FaultWord.TheVariants as fault
-use Rattle.link_verdicts.specs.Terms.{NotTrusted, NotRunning, WrongStream, Stale, Outside, Crosses, Effect, Sync}
-use Rattle.link_verdicts.specs.Terms.{Delivered, Applied, Blocked, SealedPacket, UnitName, Verdict, Nothing, Malformed}
+use Rattle.link_verdicts.specs.Terms.{NotTrusted, NotRunning, WrongStream, Stale, Outside, Crosses, Full, Effect, Sync}
+use Rattle.link_verdicts.specs.Terms.{Delivered, Applied, Queued, Stored, Blocked, SealedPacket, UnitName, Verdict}
+use Rattle.link_verdicts.specs.Terms.{Nothing, Malformed}
 use Rattle.link_verdicts.specs.Terms.{Plain, RefusedInsecure, RefusedNoKey, RefusedUnfinished, RefusedWorn, Sealed}
 use Rattle.link_verdicts.specs.Terms.{Unknown, Insecure, NotKeyed, Fail, Held, Accepted, Established, Refreshed}
 use Rattle.link_verdicts.specs.Terms.{Stopped, LostRequest, LostReply, RefusedNotIdle, RefusedNotSecure}
 use Rattle.link_verdicts.specs.Terms.{RefusedPoolEmpty, RefusedDevice, RefusedBusy, RefusedUnitOpen, Packet, Reset}
-use Rattle.link_verdicts.specs.Terms.{Status, Interface, Operation}
+use Rattle.link_verdicts.specs.Terms.{Status, Interface, Access, Operation}
+use Rattle.link_verdicts.specs.Terms.av
 use Rattle.ide_types.specs.declared.status.StreamStatus.TheVariants as status
 use Rattle.link_verdicts.specs.Terms.operation
 use Rattle.ide_types.specs.Names.{Text, side_word, port_word, substream_word, fail_word, fault_word, status_word}
@@ -30,6 +32,7 @@ use Rattle.link_verdicts.specs.Lines.{more_packets_words, packets_words, effects
 use Rattle.interface_words.specs.declared.verdict.InterfaceVerdict.TheVariants as iv
 use Rattle.link_verdicts.proofs.WordReadings.{word_at, number, bytes, number_back, bytes_back, pairs_back}
 use Rattle.link_verdicts.proofs.InterfaceReadings.{view_back, interface_refusal, interface_by}
+use Rattle.link_verdicts.proofs.AccessReadings.{block_named, block_back, begins_access, access_by}
 use Rattle.link_verdicts.specs.Apart.{Fits, FitsUnit, FitsSealed, FitPackets}
 
 -- ---- words and what they stand for
@@ -76,12 +79,9 @@ effect w =
     if bytes_eq w (codes "sync") then Sync
     else if bytes_eq w (codes "delivered") then Delivered
     else if bytes_eq w (codes "applied") then Applied
-    else if bytes_eq w (codes "blocked:nottrusted") then Blocked NotTrusted
-    else if bytes_eq w (codes "blocked:notrunning") then Blocked NotRunning
-    else if bytes_eq w (codes "blocked:wrongstream") then Blocked WrongStream
-    else if bytes_eq w (codes "blocked:stale") then Blocked Stale
-    else if bytes_eq w (codes "blocked:outside") then Blocked Outside
-    else Blocked Crosses
+    else if bytes_eq w (codes "queued") then Queued
+    else if bytes_eq w (codes "stored") then Stored
+    else Blocked (block_named (drop 8 w))
 
 abbrev effects : List Text → List Effect
 effects [] = []
@@ -167,6 +167,7 @@ verdict_by first ws =
     else if bytes_eq first (codes "status") then Status (number (word_at ws 0)) (number (word_at ws 1))
     (status_named (word_at ws 2)) (status_named (word_at ws 3))
     else if bytes_eq first (codes "packet") then Packet (number (word_at ws 0)) (bytes (word_at ws 1))
+    else if begins_access first then Access (access_by first ws)
     else Interface (interface_by first ws)
 
 abbrev pub verdict : List Text → Verdict
@@ -223,12 +224,15 @@ effect_back : (e : Effect) → effect (effect_word e) ≡ e
 effect_back Sync = refl
 effect_back Delivered = refl
 effect_back Applied = refl
+effect_back Queued = refl
+effect_back Stored = refl
 effect_back (Blocked NotTrusted) = refl
 effect_back (Blocked NotRunning) = refl
 effect_back (Blocked WrongStream) = refl
 effect_back (Blocked Stale) = refl
 effect_back (Blocked Outside) = refl
 effect_back (Blocked Crosses) = refl
+effect_back (Blocked Full) = refl
 
 effects_back : (es : List Effect) → effects (effects_words es) ≡ es
 effects_back [] = refl
@@ -333,4 +337,7 @@ verdict_back (Interface (iv.Memory bs)) h = rw (bytes_back bs h) refl
 verdict_back (Interface (iv.RefusedWrongState v)) h = rw (view_back v) refl
 verdict_back (Interface iv.RefusedNotReported) h = refl
 verdict_back (Interface (iv.RefusedRefreshFirst j n)) h = rw (number_back j h.0, number_back n h.1) refl
+verdict_back (Access (av.Empty l)) h = rw (number_back l h) refl
+verdict_back (Access (av.Dropped i c)) h = rw (number_back i h, block_back c) refl
+verdict_back (Access (av.Mmio bs)) h = rw (bytes_back bs h) refl
 verdict_back (Packet n bs) h = rw (number_back n h.0, bytes_back bs h.1) refl

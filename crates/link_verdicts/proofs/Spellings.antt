@@ -13,13 +13,13 @@ use Rattle.ide_types.specs.declared.fault_word.FaultWord.{FaultWord}
 use Rattle.ide_types.specs.declared.status.StreamStatus.{StreamStatus}
 use Rattle.ide_types.specs.declared.sub.FailCause.TheVariants as fail
 use Rattle.ide_types.specs.declared.fault_word.FaultWord.TheVariants as fault
-use Rattle.link_verdicts.specs.Terms.{NotTrusted, NotRunning, WrongStream, Stale, Outside, Crosses, Effect, Sync}
-use Rattle.link_verdicts.specs.Terms.{Delivered, Applied, Blocked, SealedPacket, UnitName, Verdict, Nothing, Malformed}
+use Rattle.link_verdicts.specs.Terms.{Effect, Sync, Delivered, Applied, Queued, Stored, Blocked, SealedPacket, UnitName}
+use Rattle.link_verdicts.specs.Terms.{Verdict, Nothing, Malformed}
 use Rattle.link_verdicts.specs.Terms.{Plain, RefusedInsecure, RefusedNoKey, RefusedUnfinished, RefusedWorn, Sealed}
 use Rattle.link_verdicts.specs.Terms.{Unknown, Insecure, NotKeyed, Fail, Held, Accepted, Established, Refreshed}
 use Rattle.link_verdicts.specs.Terms.{Stopped, LostRequest, LostReply, RefusedNotIdle, RefusedNotSecure}
 use Rattle.link_verdicts.specs.Terms.{RefusedPoolEmpty, RefusedDevice, RefusedBusy, RefusedUnitOpen, Packet, Reset}
-use Rattle.link_verdicts.specs.Terms.{Status, Interface, Operation}
+use Rattle.link_verdicts.specs.Terms.{Status, Interface, Access, Operation}
 use Rattle.ide_types.specs.declared.status.StreamStatus.TheVariants as status
 use Rattle.link_verdicts.specs.Terms.operation
 use Rattle.ide_types.specs.Names.{Text, side_word, port_word, substream_word, fail_word, fault_word, status_word}
@@ -29,6 +29,7 @@ use Rattle.link_verdicts.specs.Apart.{LinesApart, Fits, FitsKeyed, FitsUnit, Fit
 use Rattle.link_verdicts.proofs.Joins.{IsWord, AreWords, line_apart}
 use Rattle.link_verdicts.proofs.WordSpellings.{decimal_word, bytes_are_word}
 use Rattle.link_verdicts.proofs.InterfaceSpellings.{interface_is_words}
+use Rattle.link_verdicts.proofs.AccessSpellings.{block_is_word, access_is_words}
 use Rattle.link_verdicts.proofs.Readings.{verdict, verdict_back}
 
 side_port : (s : Side) (l : ℕ) → l < 2 ^ 64 → IsWord (side_word s ++ decimal l)
@@ -79,12 +80,9 @@ effect_is_word : (e : Effect) → IsWord (effect_word e)
 effect_is_word Sync = search rules
 effect_is_word Delivered = search rules
 effect_is_word Applied = search rules
-effect_is_word (Blocked NotTrusted) = search rules
-effect_is_word (Blocked NotRunning) = search rules
-effect_is_word (Blocked WrongStream) = search rules
-effect_is_word (Blocked Stale) = search rules
-effect_is_word (Blocked Outside) = search rules
-effect_is_word (Blocked Crosses) = search rules
+effect_is_word Queued = search rules
+effect_is_word Stored = search rules
+effect_is_word (Blocked cause) = let w = block_is_word cause in search rules
 
 effects_are_words : (es : List Effect) → AreWords (effects_words es)
 effects_are_words [] = tt
@@ -169,6 +167,7 @@ verdict_is_words (Status l s a b) h =
     search rules
 verdict_is_words (Packet n bs) h = let a = decimal_word n h.0 in let b = bytes_are_word bs h.1 in search rules
 verdict_is_words (Interface verdict) h = interface_is_words verdict h
+verdict_is_words (Access verdict) h = access_is_words verdict h
 
 pub lines_apart : LinesApart
 lines_apart m n v w xs ys hm hn fv fw e =

@@ -5,8 +5,9 @@ use Rattle.link_verdicts.specs.Terms.{SealedPacket, UnitName, Verdict, Nothing, 
 use Rattle.link_verdicts.specs.Terms.{RefusedNoKey, RefusedUnfinished, RefusedWorn, Sealed, Unknown, Insecure, NotKeyed}
 use Rattle.link_verdicts.specs.Terms.{Fail, Held, Accepted, Established, Refreshed, Stopped, LostRequest, LostReply}
 use Rattle.link_verdicts.specs.Terms.{RefusedNotIdle, RefusedNotSecure, RefusedPoolEmpty, RefusedDevice, RefusedBusy}
-use Rattle.link_verdicts.specs.Terms.{RefusedUnitOpen, Packet, Reset, Status, Interface}
+use Rattle.link_verdicts.specs.Terms.{RefusedUnitOpen, Packet, Reset, Status, Interface, Access}
 use Rattle.link_verdicts.specs.InterfaceLines.{FitsInterfaceVerdict}
+use Rattle.link_verdicts.specs.AccessLines.{FitsAccessVerdict}
 use Rattle.link_verdicts.specs.Lines.{line_of}
 
 -- ---- each number has at most 64 bits, as those of every type here have, and each byte 8
@@ -56,6 +57,7 @@ Fits (Packet packet bytes) = (packet < 2 ^ 64) × IsBytes bytes
 Fits (Reset link) = link < 2 ^ 64
 Fits (Status link stream host device) = (link < 2 ^ 64) × (stream < 2 ^ 64)
 Fits (Interface verdict) = FitsInterfaceVerdict verdict
+Fits (Access verdict) = FitsAccessVerdict verdict
 
 -- Texts that are equal, and begin with the lines of two verdicts, begin with one verdict of one number, and go on
 -- alike.

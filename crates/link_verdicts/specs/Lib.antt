@@ -1,13 +1,16 @@
 pub mod Terms
 pub mod Words
 pub mod InterfaceLines
+pub mod AccessLines
 pub mod Lines
 pub mod Apart
 -- what clauses and crates above cite
 pub use Rattle.ide_types.specs.Names.{Text, joined}
-pub use Rattle.link_verdicts.specs.Terms.{BlockCause, Effect, Operation, SealedPacket, UnitName, Totals, Verdict}
+pub use Rattle.link_verdicts.specs.Terms.{AccessVerdict, BlockCause, Effect, Operation, SealedPacket, UnitName}
+pub use Rattle.link_verdicts.specs.Terms.{Totals, Verdict}
 pub use Rattle.link_verdicts.specs.Lines.{verdict_words, line_of, totals_line_of, IsSendRefusal, IsArrival}
 pub use Rattle.link_verdicts.specs.Lines.{IsOperationRefusal, IsOutcome}
 pub use Rattle.link_verdicts.specs.InterfaceLines.{interface_words, FitsInterfaceVerdict, IsInterfaceRefusal}
 pub use Rattle.link_verdicts.specs.InterfaceLines.{ShowsBytes}
+pub use Rattle.link_verdicts.specs.AccessLines.{access_words, FitsAccessVerdict}
 pub use Rattle.link_verdicts.specs.Apart.{Fits, LinesApart}

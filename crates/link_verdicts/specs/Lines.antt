@@ -7,8 +7,10 @@ use Rattle.link_verdicts.specs.Terms.{RefusedInsecure, RefusedNoKey, RefusedUnfi
 use Rattle.link_verdicts.specs.Terms.{Insecure, NotKeyed, Fail, Held, Accepted, Established, Refreshed, Stopped}
 use Rattle.link_verdicts.specs.Terms.{LostRequest, LostReply, RefusedNotIdle, RefusedNotSecure, RefusedPoolEmpty}
 use Rattle.link_verdicts.specs.Terms.{RefusedDevice, RefusedBusy, RefusedUnitOpen, Packet, Reset, Status, Interface}
+use Rattle.link_verdicts.specs.Terms.{Access}
 pub use Rattle.link_verdicts.specs.Words.{block_word, effect_word, operation_word, bytes_word, bit_of}
 use Rattle.link_verdicts.specs.InterfaceLines.{interface_words}
+use Rattle.link_verdicts.specs.AccessLines.{access_words}
 
 -- ---- parts of a line, each before the words that follow it
 
@@ -78,6 +80,7 @@ verdict_words (Reset link) = codes "reset" ∷ decimal link ∷ []
 verdict_words (Status link stream host device) =
     codes "status" ∷ decimal link ∷ decimal stream ∷ status_word host ∷ status_word device ∷ []
 verdict_words (Interface verdict) = interface_words verdict
+verdict_words (Access verdict) = access_words verdict
 
 -- of a send that was refused
 abbrev pub IsSendRefusal : Verdict → Type 0

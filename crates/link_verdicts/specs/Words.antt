@@ -2,8 +2,8 @@
 use Rattle.std.specs.Prelude.{ℕ, Bool, true, false, List, [], ◌∷◌, ◌++◌, codes}
 use Rattle.hex.specs.Hex.{encode_lower}
 use Rattle.ide_types.specs.Names.{Text}
-use Rattle.link_verdicts.specs.Terms.{BlockCause, NotTrusted, NotRunning, WrongStream, Stale, Outside, Crosses, Effect}
-use Rattle.link_verdicts.specs.Terms.{Sync, Delivered, Applied, Blocked, Operation}
+use Rattle.link_verdicts.specs.Terms.{BlockCause, NotTrusted, NotRunning, WrongStream, Stale, Outside, Crosses, Full}
+use Rattle.link_verdicts.specs.Terms.{Effect, Sync, Delivered, Applied, Queued, Stored, Blocked, Operation}
 use Rattle.link_verdicts.specs.Terms.operation
 
 abbrev pub block_word : BlockCause → Text
@@ -13,11 +13,14 @@ block_word WrongStream = codes "wrongstream"
 block_word Stale = codes "stale"
 block_word Outside = codes "outside"
 block_word Crosses = codes "crosses"
+block_word Full = codes "full"
 
 abbrev pub effect_word : Effect → Text
 effect_word Sync = codes "sync"
 effect_word Delivered = codes "delivered"
 effect_word Applied = codes "applied"
+effect_word Queued = codes "queued"
+effect_word Stored = codes "stored"
 effect_word (Blocked cause) = codes "blocked:" ++ block_word cause
 
 abbrev pub operation_word : Operation → Text

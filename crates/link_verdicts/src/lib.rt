@@ -2,12 +2,15 @@
 //! profile).
 #![tactic(auto)]
 
+mod access;
+mod access_lines;
 mod interface_lines;
 mod lines;
 mod lists;
 mod names;
 mod verdict;
 
+pub use access::AccessVerdict;
 pub use ide_types::Memory;
 pub use lines::{line, lines_apart, totals_line};
 pub use lists::{Effects, SealedPackets};

@@ -8,6 +8,7 @@ ghost use Rattle.link_verdicts.specs.Lines.{sync_words, line_of, totals_line_of,
 ghost use Rattle.link_verdicts.specs.Lines.{IsOperationRefusal, IsOutcome};
 ghost use Rattle.link_verdicts.specs.Apart.{LinesApart};
 
+use crate::access_lines::access_text;
 use crate::interface_lines::{bytes_text, interface_text};
 use crate::{Effect, Memory, SealedPacket, Totals, UnitName, Verdict};
 use ide_types::PortName;
@@ -216,6 +217,7 @@ fn text_of(alloc: Global, number: u64, verdict: &Verdict) -> Result<String, Allo
             device,
         } => format!(in alloc; "{number} status {link} {stream} {host} {device}\n"),
         Verdict::Interface { verdict } => interface_text(alloc, number, verdict),
+        Verdict::Access { verdict } => access_text(alloc, number, verdict),
         _ => answer_text(alloc, number, verdict),
     }
 }

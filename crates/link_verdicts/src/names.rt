@@ -17,6 +17,7 @@ impl fmt::Display for BlockCause {
             BlockCause::Stale => "stale",
             BlockCause::Outside => "outside",
             BlockCause::Crosses => "crosses",
+            BlockCause::Full => "full",
         })
     }
 }
@@ -29,6 +30,8 @@ impl fmt::Display for Effect {
             Effect::Sync => f.write_str("sync"),
             Effect::Delivered => f.write_str("delivered"),
             Effect::Applied => f.write_str("applied"),
+            Effect::Queued => f.write_str("queued"),
+            Effect::Stored => f.write_str("stored"),
             Effect::Blocked(cause) => write!(f, "blocked:{cause}"),
         }
     }

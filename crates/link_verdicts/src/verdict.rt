@@ -1,6 +1,6 @@
 //! The verdict of each event of a script.
 
-use crate::{Effects, SealedPackets};
+use crate::{AccessVerdict, Effects, SealedPackets};
 use ide_types::{Bytes, FailCause, FaultWord, PortName, StreamStatus, SubKind};
 use interface_words::InterfaceVerdict;
 
@@ -35,9 +35,11 @@ pub struct UnitName {
     pub unit: u64,
 }
 
-/// Why a memory write at a host's port was not applied, the first that holds: it is not trusted; its requester is no
-/// running interface; it came on another stream than that interface's own; its key is from before the interface
-/// started; its bytes are not in one region of the trusted memory; they cross a 4 KiB boundary (this profile).
+/// Why a memory request was blocked. Of a write or a trusted read at a host's port it is the first that holds: it is
+/// not trusted; its requester is no running interface; it came on another stream than that interface's own; its key is
+/// from before the interface started; its bytes are not in one region of the trusted memory; they cross a 4 KiB
+/// boundary; 64 reads wait. Of a write to a BAR of an interface it is the first of `Crosses`, `NotTrusted`,
+/// `NotRunning`, `WrongStream` and `Stale` that holds, of that interface (this profile).
 #[derive(Clone, Copy, Debug, PartialEq, Eq)]
 pub enum BlockCause {
     NotTrusted,
@@ -46,16 +48,20 @@ pub enum BlockCause {
     Stale,
     Outside,
     Crosses,
+    Full,
 }
 
 /// The effect of a packet of an accepted unit: `Sync` of a sync packet, `Applied` or `Blocked` of a memory write at a
-/// host's port, `Delivered` of any other TLP (this profile).
+/// host's port, `Queued` or `Blocked` of a trusted read there, `Stored` or `Blocked` of a memory write to a BAR at a
+/// device's port, `Delivered` of any other TLP (this profile).
 #[derive(Clone, Copy, Debug, Default, PartialEq, Eq)]
 pub enum Effect {
     #[default]
     Sync,
     Delivered,
     Applied,
+    Queued,
+    Stored,
     Blocked(BlockCause),
 }
 
@@ -203,6 +209,10 @@ pub enum Verdict {
     /// The verdict of an event on a device interface or on trusted memory.
     Interface {
         verdict: InterfaceVerdict,
+    },
+    /// The verdict of an event on a trusted read or on a device's guarded memory.
+    Access {
+        verdict: AccessVerdict,
     },
 }
 

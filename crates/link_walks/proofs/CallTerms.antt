@@ -14,7 +14,7 @@ pub use Rattle.key_laws.specs.Places.{lane, KeyPlace}
 pub use Rattle.link_ports.specs.Machine.{place_at_end, port_at, touches_at, refuses_in, is_last_in}
 pub use Rattle.key_slots.specs.{is_only_live, is_last_live, live_draw, KeyCall, Program, Go, Halt}
 pub use Rattle.sub_stream.specs.{slot_pair, key_slot}
-pub use Rattle.stream_rules.specs.Stream.{Slots, StreamState, at_sub, each_sub, Slot, Live, LiveKey}
+pub use Rattle.stream_rules.specs.Stream.{LaneSlots, StreamState, at_sub, each_sub, LaneSlot, Live, LiveKey}
 pub use Rattle.link_history.specs.Plan.{SubStream, lane_out, lane_in, key_of}
 pub use Rattle.link_ports.specs.Touches.{slots_touched, taken_touches, touched_stream}
 pub use Rattle.link_walks.specs.Touches.{host_go, WaitsBesideLive, IsSound, ReadsStream, device_calls, CallsAreTouches}

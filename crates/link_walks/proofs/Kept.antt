@@ -2,7 +2,7 @@
 -- an unfinished operation was made.
 use Rattle.link_walks.proofs.Terms.{◌≡◌, Bool, arith, true, SubKind, ℕ, List, Plan, nat_tests, Operation, place_at_end}
 use Rattle.link_walks.proofs.Terms.{◌≤◌, ◌∙◌, makes_draw, Device, StreamState, ◌+◌, ap, KeyPlace, ◌<◌, Some}
-use Rattle.link_walks.proofs.Terms.{port_at, slots_at, Slot, key_of, ◌/◌}
+use Rattle.link_walks.proofs.Terms.{port_at, slots_at, LaneSlot, key_of, ◌/◌}
 use Rattle.link_walks.proofs.Terms.{◌%◌, length, option_map, work_of, Op, sub_from, lane_number, History, draws}
 use Rattle.link_walks.proofs.Terms.{moments, op_of, key_plan, slot_in_set, LinkState, find, find_op, draws_now}
 use Rattle.link_walks.proofs.Terms.{sends_in}
@@ -45,7 +45,7 @@ drawn_before : (q : Op) (next made top : ℕ) (p : KeyPlace) (ts : List Touch) (
     → let w = work_of o q next in (draws_now w ≡ true → next < top) → makes_draw w.operation ≡ true → w.draw < top
 drawn_before q next made top p ts o at le now makes = grind arith
 
-kept_is_full : (s : Slot) (x : ℕ × List ℕ) → key_held s ≡ Some x → IsFull s
+kept_is_full : (s : LaneSlot) (x : ℕ × List ℕ) → key_held s ≡ Some x → IsFull s
 kept_is_full s x is = grind arith
 
 module _ (plan : Plan) (st : LinkState) (h : History) (stands : PortsStandFor plan st h) (link id : ℕ) (q : Op)

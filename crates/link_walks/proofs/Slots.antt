@@ -4,18 +4,27 @@ use Rattle.link_walks.proofs.CallTerms.{Go}
 use Rattle.link_walks.proofs.CallTerms.{Halt, slots_called_out, slots_called_into, Work, makes_draw, Operation}
 use Rattle.link_walks.proofs.CallTerms.{refuses_in}
 use Rattle.link_walks.proofs.CallTerms.{is_last_in, is_only_live}
-use Rattle.link_walks.proofs.CallTerms.{is_last_live, live_draw, slot_pair, key_slot, Slots, Slot, Live, LiveKey}
+use Rattle.link_walks.proofs.CallTerms.{
+  is_last_live,
+  live_draw,
+  slot_pair,
+  key_slot,
+  LaneSlots,
+  LaneSlot,
+  Live,
+  LiveKey,
+}
 use Rattle.link_walks.proofs.CallTerms.{WaitsBesideLive, DrawsApart, if◌then◌else◌, not, any_live, refl, is_some}
 use Rattle.link_walks.proofs.CallTerms.{refusal_if}
 
 -- ---- KEY_PROG
 
 -- what is refused there is what the rules of links refuse, if two Live draws are apart
-last_live_is : (k : Bool) (a b : Slot) → ((x y : LiveKey) → a ≡ Live x → b ≡ Live y → x.draw ≢ y.draw)
+last_live_is : (k : Bool) (a b : LaneSlot) → ((x y : LiveKey) → a ≡ Live x → b ≡ Live y → x.draw ≢ y.draw)
     → is_last_live k (live_draw (key_slot a)) (live_draw (key_slot b)) ≡ is_last_in a b
 last_live_is k a b apart = grind (arith, nat_tests)
 
-pub only_live_is : (sends : Bool) (s : Slots) (k : Bool) → DrawsApart s → is_only_live (slot_pair sends s) k
+pub only_live_is : (sends : Bool) (s : LaneSlots) (k : Bool) → DrawsApart s → is_only_live (slot_pair sends s) k
     ≡ refuses_in s k
 only_live_is sends s false apart = last_live_is false s.first s.second apart
 only_live_is sends s true apart = last_live_is true s.second s.first
@@ -46,20 +55,21 @@ second_call w = if makes_draw w.operation then Go w.set else Halt true
 abbrev pub is_of : Operation → KeyCall → Bool
 is_of o call = if makes_draw o then is_no_halt call else is_halt call
 
-abbrev pub slots_by : Bool → KeyCall → Slots → Slots
+abbrev pub slots_by : Bool → KeyCall → LaneSlots → LaneSlots
 slots_by true call s = slots_called_out call s
 slots_by false call s = slots_called_into call s
 
-pub slots_keep : (sends : Bool) (call : KeyCall) (s : Slots) → is_no_halt call ≡ true → any_live s ≡ true
+pub slots_keep : (sends : Bool) (call : KeyCall) (s : LaneSlots) → is_no_halt call ≡ true → any_live s ≡ true
     → any_live (slots_by sends call s) ≡ true
 slots_keep sends call s kept some = grind arith
 
 -- ---- STOP: no place without a Live slot gets one
 
-pub slots_halt : (sends : Bool) (call : KeyCall) (s : Slots) → is_halt call ≡ true → (sends ≡ true → WaitsBesideLive s)
+pub slots_halt : (sends : Bool) (call : KeyCall) (s : LaneSlots) → is_halt call ≡ true
+    → (sends ≡ true → WaitsBesideLive s)
     → any_live (slots_by sends call s) ≡ true → any_live s ≡ true
 slots_halt sends call s is waits some = grind arith
 
 -- after it no key waits
-pub halts_wait : (call : KeyCall) (s : Slots) → is_halt call ≡ true → WaitsBesideLive (slots_called_out call s)
+pub halts_wait : (call : KeyCall) (s : LaneSlots) → is_halt call ≡ true → WaitsBesideLive (slots_called_out call s)
 halts_wait call s is k draw key waits = grind arith

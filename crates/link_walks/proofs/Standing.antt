@@ -1,9 +1,19 @@
 -- What is known of a stream that stands for a history.
 use Rattle.link_walks.proofs.Terms.{◌≡◌, Bool, arith, true, SubKind, ℕ, List, Plan, false, nat_tests, place_at_end}
-use Rattle.link_walks.proofs.Terms.{Slots}
+use Rattle.link_walks.proofs.Terms.{LaneSlots}
 use Rattle.link_walks.proofs.Terms.{◌∙◌, sym, Host, slot_pair, StreamState, refl, ap, SubStream, WaitsBesideLive, Pr}
 use Rattle.link_walks.proofs.Terms.{Npr, Cpl, Some, subst, ◌≢◌, port_at}
-use Rattle.link_walks.proofs.Terms.{slots_at, at_sub, Slot, Live, lane_out, lane_in, IsSound, ReadsStream, DrawsApart}
+use Rattle.link_walks.proofs.Terms.{
+  slots_at,
+  at_sub,
+  LaneSlot,
+  Live,
+  lane_out,
+  lane_in,
+  IsSound,
+  ReadsStream,
+  DrawsApart,
+}
 use Rattle.link_walks.proofs.Terms.{◌||◌, History, moments, key_plan, slot_in_set, Armed, LinkState, find}
 use Rattle.link_walks.proofs.Terms.{ports_of, status_at, refuses_at, refusal_if, Option}
 use Rattle.link_walks.proofs.Terms.{live_at, status_there, Side, live_set, is_set, Reads}
@@ -26,7 +36,7 @@ use Rattle.link_walks.proofs.Settling.{outs, ins, any_of, settle}
 -- ---- the slots of a sender
 
 -- at most one is Live, and a key waits only beside a Live one
-abbrev may_stand : Slot → Slot → Bool
+abbrev may_stand : LaneSlot → LaneSlot → Bool
 may_stand (Live x) (Live y) = false
 may_stand (Armed j key) b = is_live_slot b
 may_stand a (Armed j key) = is_live_slot a
@@ -36,10 +46,10 @@ tx_may : (plan : Plan) (xs : SealedList) (s : SubStream) (sh : Shape) → InOrde
     → may_stand (tx_slots plan xs s (keys_of sh)).first (tx_slots plan xs s (keys_of sh)).second ≡ true
 tx_may plan xs s sh lt = grind (arith, nat_tests)
 
-apart_of : (s : Slots) → may_stand s.first s.second ≡ true → DrawsApart s
+apart_of : (s : LaneSlots) → may_stand s.first s.second ≡ true → DrawsApart s
 apart_of s may x y e f = grind arith
 
-waits_of : (s : Slots) → may_stand s.first s.second ≡ true → WaitsBesideLive s
+waits_of : (s : LaneSlots) → may_stand s.first s.second ≡ true → WaitsBesideLive s
 waits_of s may k draw key e = grind arith
 
 -- ---- the slots of a receiver
@@ -75,7 +85,7 @@ module _ (plan : Plan) (h : History) (law : CauseLaw plan h) (side : Side) (link
       let place = place_at_end link stream true side u in
       let at = fits (key_plan plan) h (key_cause plan h law) place in
       let are : keys_at h port s ≡ keys_of at.shape = keys_out h port stream u ∙ at.is.are in
-      subst (λ (x : Slots). may_stand x.first x.second ≡ true)
+      subst (λ (x : LaneSlots). may_stand x.first x.second ≡ true)
       (sym (tx_slots_are u ∙ ap (tx_slots plan (sealed_packets plan h) s) are))
       (tx_may plan (sealed_packets plan h) s at.shape (in_order true (moments h place) at.shape at.is.sound))
 
@@ -135,7 +145,7 @@ reads_stream plan st side link stream x found sends u k = ap
     found
 
 -- the set that is shown is the Live one
-by_first : (set : Bool) (s : Slots) → may_stand s.first s.second ≡ true → is_set set (live_set (slot_pair true s))
+by_first : (set : Bool) (s : LaneSlots) → may_stand s.first s.second ≡ true → is_set set (live_set (slot_pair true s))
     ≡ is_live_slot (slot_in_set s set)
 by_first set s may = grind arith
 

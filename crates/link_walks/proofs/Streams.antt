@@ -1,7 +1,15 @@
 -- Calls at a port, one after another: what they leave in each place, and that the stream is settled as it is by one
 -- settling at the end.
 use Rattle.link_walks.proofs.CallTerms.{◌≡◌, Bool, arith, true, List, ◌++◌, false, ◌∙◌, sym, [], refl, ap, ◌∷◌, SubKind}
-use Rattle.link_walks.proofs.CallTerms.{KeyCall, called, StreamCall, all_called, Slots, StreamState, WaitsBesideLive}
+use Rattle.link_walks.proofs.CallTerms.{
+  KeyCall,
+  called,
+  StreamCall,
+  all_called,
+  LaneSlots,
+  StreamState,
+  WaitsBesideLive,
+}
 use Rattle.link_walks.proofs.CallTerms.{if◌then◌else◌, ◌&&◌, not, Pr, Npr, Cpl}
 use Rattle.link_walks.proofs.CallTerms.{any_live}
 use Rattle.ide_types.specs.Sub.{is_same_sub}
@@ -18,10 +26,10 @@ is_same_end false b = not b
 abbrev pub is_at : Bool → SubKind → StreamCall → Bool
 is_at sends u c = is_same_end sends c.sends && is_same_sub u c.sub
 
-abbrev pub place_called : Bool → SubKind → StreamCall → Slots → Slots
+abbrev pub place_called : Bool → SubKind → StreamCall → LaneSlots → LaneSlots
 place_called sends u c s = if is_at sends u c then slots_by sends c.call s else s
 
-abbrev pub places_called : Bool → SubKind → List StreamCall → Slots → Slots
+abbrev pub places_called : Bool → SubKind → List StreamCall → LaneSlots → LaneSlots
 places_called sends u [] s = s
 places_called sends u (c ∷ cs) s = places_called sends u cs (place_called sends u c s)
 
@@ -34,11 +42,11 @@ abbrev pub calls_at : Bool → SubKind → List StreamCall → List KeyCall
 calls_at sends u [] = []
 calls_at sends u (c ∷ cs) = one_if (is_at sends u c) c.call ++ calls_at sends u cs
 
-abbrev pub called_by : Bool → List KeyCall → Slots → Slots
+abbrev pub called_by : Bool → List KeyCall → LaneSlots → LaneSlots
 called_by sends [] s = s
 called_by sends (call ∷ calls) s = called_by sends calls (slots_by sends call s)
 
-pub places_are : (sends : Bool) (u : SubKind) (cs : List StreamCall) (s : Slots) → places_called sends u cs s
+pub places_are : (sends : Bool) (u : SubKind) (cs : List StreamCall) (s : LaneSlots) → places_called sends u cs s
     ≡ called_by sends (calls_at sends u cs) s
 places_are sends u [] s = refl
 places_are sends u (c ∷ cs) s = grind (arith, places_are sends u cs)
@@ -57,22 +65,22 @@ called_is : (sends : Bool) (u : SubKind) (call : KeyCall) (x : StreamState)
 called_is sends u call x = grind arith
 
 -- what holds of both holds of the one that a test chooses
-chosen : (P : Slots → Type 0) (t : Bool) (a b : Slots) → P a → P b → P (if t then a else b)
+chosen : (P : LaneSlots → Type 0) (t : Bool) (a b : LaneSlots) → P a → P b → P (if t then a else b)
 chosen P true a b first second = first
 chosen P false a b first second = second
 
-keeps_at : (sends : Bool) (u : SubKind) (c : StreamCall) (s : Slots) → is_no_halt c.call ≡ true → any_live s ≡ true
+keeps_at : (sends : Bool) (u : SubKind) (c : StreamCall) (s : LaneSlots) → is_no_halt c.call ≡ true → any_live s ≡ true
     → any_live (place_called sends u c s) ≡ true
 keeps_at sends u c s kept some = chosen (λ a. any_live a ≡ true) (is_at sends u c) _ _
     (slots_keep sends c.call s kept some) some
 
-halts_at : (sends : Bool) (u : SubKind) (c : StreamCall) (s : Slots) → is_halt c.call ≡ true
+halts_at : (sends : Bool) (u : SubKind) (c : StreamCall) (s : LaneSlots) → is_halt c.call ≡ true
     → (sends ≡ true → WaitsBesideLive s)
     → any_live (place_called sends u c s) ≡ true → any_live s ≡ true
 halts_at sends u c s is waits = chosen (λ a. any_live a ≡ true → any_live s ≡ true) (is_at sends u c) _ _
     (slots_halt sends c.call s is waits) (λ some. some)
 
-still_waits : (u : SubKind) (c : StreamCall) (s : Slots) → is_halt c.call ≡ true → WaitsBesideLive s
+still_waits : (u : SubKind) (c : StreamCall) (s : LaneSlots) → is_halt c.call ≡ true → WaitsBesideLive s
     → WaitsBesideLive (place_called true u c s)
 still_waits u c s is waits = chosen WaitsBesideLive (is_at true u c) _ _ (halts_wait c.call s is) waits
 
@@ -106,7 +114,7 @@ keyed_once (c ∷ cs) x all is =
     (any_each (ins x) g (λ u. keeps_at false u c (ins x u) each.0)) in
     ap (all_called cs) (called_is c.sends c.sub c.call x ∙ stays) ∙ keyed_once cs (with_slots f g x) each.1 stays
 
-waits_each : (f g : SubKind → Slots) (x : StreamState) → ((u : SubKind) → WaitsBesideLive (f u)) → (u : SubKind)
+waits_each : (f g : SubKind → LaneSlots) (x : StreamState) → ((u : SubKind) → WaitsBesideLive (f u)) → (u : SubKind)
     → WaitsBesideLive (outs (with_slots f g x) u)
 waits_each f g x waits Pr = waits Pr
 waits_each f g x waits Npr = waits Npr

@@ -1,6 +1,6 @@
 -- What proofs on walks of links speak of.
 pub use Rattle.link_walks.proofs.CallTerms.{◌≡◌, Bool, arith, true, SubKind, ℕ, List, ◌++◌, Work, Plan, if◌then◌else◌}
-pub use Rattle.link_walks.proofs.CallTerms.{false, nat_tests, Operation, place_at_end, Slots, ◌≤◌, ◌∙◌, sym, Reach}
+pub use Rattle.link_walks.proofs.CallTerms.{false, nat_tests, Operation, place_at_end, LaneSlots, ◌≤◌, ◌∙◌, sym, Reach}
 pub use Rattle.link_walks.proofs.CallTerms.{makes_draw}
 pub use Rattle.link_walks.proofs.CallTerms.{is_within, lane_key, StreamCall, Device}
 pub use Rattle.link_walks.proofs.CallTerms.{
@@ -34,7 +34,7 @@ pub use Rattle.link_walks.proofs.CallTerms.{refuses_in}
 pub use Rattle.link_walks.proofs.CallTerms.{
   key_slot,
   at_sub,
-  Slot,
+  LaneSlot,
   Live,
   lane_out,
   lane_in,

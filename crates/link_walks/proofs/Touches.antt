@@ -5,7 +5,7 @@ use Rattle.link_walks.proofs.CallTerms.{Plan}
 use Rattle.link_walks.proofs.CallTerms.{Program, Go, Halt, Work, Reach, makes_draw, work, is_within, program_at, go_at}
 use Rattle.link_walks.proofs.CallTerms.{when, worked, Device, Host}
 use Rattle.link_walks.proofs.CallTerms.{Operation, KeyPlace, place_at_end, taken_touches, is_only_live, slot_pair}
-use Rattle.link_walks.proofs.CallTerms.{Slots, SubStream}
+use Rattle.link_walks.proofs.CallTerms.{LaneSlots, SubStream}
 use Rattle.link_walks.proofs.CallTerms.{key_of, slots_touched, host_go, if◌then◌else◌}
 use Rattle.key_laws.specs.Keys.{Program as ProgramTouch, Go as GoTouch, Stop as StopTouch}
 use Rattle.link_verdicts.specs.declared.verdict.Operation.TheVariants as op
@@ -13,18 +13,19 @@ use Rattle.link_walks.proofs.Slots.{first_call, second_call}
 use Rattle.link_walks.proofs.Streams.{one_if, called_by}
 
 -- what the calls of a place leave is what the touches of its event do
-abbrev pub AreTouched : Plan → Work → Reach → KeyPlace → SubStream → (Bool → Bool) → Bool → Bool → Slots → Type 0
+abbrev pub AreTouched : Plan → Work → Reach → KeyPlace → SubStream → (Bool → Bool) → Bool → Bool → LaneSlots → Type 0
 AreTouched plan w r p s refuses first second x =
     called_by p.sends (one_if first (first_call w (key_of plan w.draw s)) ++ one_if second (second_call w)) x
     ≡ slots_touched p.sends plan s (taken_touches refuses (worked w (Some r) p)) x
 
-keyed_touches : (plan : Plan) (s : SubStream) (sends : Bool) (refuses : Bool → Bool) (k : Bool) (draw : ℕ) (x : Slots)
+keyed_touches : (plan : Plan) (s : SubStream) (sends : Bool) (refuses : Bool → Bool) (k : Bool) (draw : ℕ)
+    (x : LaneSlots)
     → refuses k ≡ is_only_live (slot_pair sends x) k
     → (a b : Bool) → called_by sends (one_if a (Program k (key_of plan draw s) draw) ++ one_if b (Go k)) x
     ≡ slots_touched sends plan s (taken_touches refuses (when a (ProgramTouch k draw) ++ when b (GoTouch k draw))) x
 keyed_touches plan s sends refuses k draw x same a b = grind arith
 
-stopped_touches : (plan : Plan) (s : SubStream) (sends : Bool) (refuses : Bool → Bool) (x : Slots) (a b : Bool)
+stopped_touches : (plan : Plan) (s : SubStream) (sends : Bool) (refuses : Bool → Bool) (x : LaneSlots) (a b : Bool)
     → called_by sends (one_if a (Halt false) ++ one_if b (Halt true)) x
     ≡ slots_touched sends plan s (taken_touches refuses (when a (StopTouch false) ++ when b (StopTouch true))) x
 stopped_touches plan s sends refuses x a b = grind arith
@@ -32,7 +33,7 @@ stopped_touches plan s sends refuses x a b = grind arith
 -- at the device's port
 pub touches_carried : (plan : Plan) (o : Operation) (set : Bool) (draw first : ℕ) (begins : Bool) (link stream : ℕ)
     (sends : Bool) (u : SubKind) (r : Reach)
-    (s : SubStream) (x : Slots) (refuses : Bool → Bool) → refuses set ≡ is_only_live (slot_pair sends x) set
+    (s : SubStream) (x : LaneSlots) (refuses : Bool → Bool) → refuses set ≡ is_only_live (slot_pair sends x) set
     → let p = place_at_end link stream sends Device u in
     AreTouched plan (work o set draw first begins) r p s refuses (is_within first (program_at o p) r.carried)
     (is_within first (go_at o p) r.carried) x
@@ -47,7 +48,7 @@ touches_carried plan op.Stop set draw first begins link stream sends u r s x ref
 
 -- at the host's port
 pub touches_asked : (plan : Plan) (w : Work) (link stream : ℕ) (sends : Bool) (u : SubKind) (r : Reach) (s : SubStream)
-    (x : Slots) (refuses : Bool → Bool)
+    (x : LaneSlots) (refuses : Bool → Bool)
     → refuses w.set ≡ is_only_live (slot_pair sends x) w.set → 1 ≤ w.first → w.first ≤ r.acknowledged
     → (w.begins ≡ true → w.first ≡ 1)
     → AreTouched plan w r (place_at_end link stream sends Host u) s refuses w.begins

@@ -15,8 +15,8 @@ use Rattle.key_laws.specs.Keys.{refusal_if}
 use Rattle.key_laws.specs.Due.{PortView}
 use Rattle.tsm_host.specs.Local.{goes}
 use Rattle.tsm_host.specs.Streams.{begun_calls}
-use Rattle.stream_rules.specs.Stream.{Live, Armed, Slots, StreamState, LiveKey, slot_in_set, at_sub}
-use Rattle.stream_rules.specs.Slots.{is_live_slot, settled_stream, slots_at}
+use Rattle.stream_rules.specs.Stream.{Live, Armed, LaneSlots, StreamState, LiveKey, slot_in_set, at_sub}
+use Rattle.stream_rules.specs.Slots.{is_live_slot, rested_stream, slots_at}
 use Rattle.link_ports.specs.Machine.{port_at, place_at_end, refuses_in, touches_at}
 use Rattle.link_ports.specs.Touches.{touched_stream}
 use Rattle.link_walks.specs.Calls.{StreamCall, all_called, all_called_at, exchanges_called}
@@ -24,18 +24,18 @@ use Rattle.link_walks.specs.Calls.{StreamCall, all_called, all_called_at, exchan
 -- ---- what is known of a stream at a port
 
 -- two Live keys are of different draws
-abbrev pub DrawsApart : Slots → Type 0
+abbrev pub DrawsApart : LaneSlots → Type 0
 DrawsApart s = (x y : LiveKey) → s.first ≡ Live x → s.second ≡ Live y → x.draw ≢ y.draw
 
 -- a key waits only beside a Live one
-abbrev pub WaitsBesideLive : Slots → Type 0
+abbrev pub WaitsBesideLive : LaneSlots → Type 0
 WaitsBesideLive s =
     (k : Bool) (draw : ℕ) (key : List ℕ) → slot_in_set s k ≡ Armed draw key → is_live_slot (slot_in_set s (not k))
     ≡ true
 
 -- counts are 0 in a direction without a Live key, and a failure stands only beside one
 pub record IsSound (x : StreamState) : Type 0 where
-  pub settled : settled_stream x.tx x.rx x.failed ≡ x
+  pub settled : rested_stream x.tx x.rx x.failed ≡ x
   pub apart : (sends : Bool) (u : SubKind) → DrawsApart (slots_at sends u x)
   pub waits : (u : SubKind) → WaitsBesideLive (at_sub x.tx u).slots
   pub none_waits : (u : SubKind) (k : Bool) (draw : ℕ) (key : List ℕ)

@@ -20,9 +20,10 @@ use Rattle.trusted_memory.specs.Writes.{byte_after}
 use Rattle.link_history.specs.Plan.{stream_plan, key_of}
 use Rattle.link_history.specs.Units.{units, open_unit}
 use Rattle.link_history.specs.History.{packet_of, sent_in, sealed_packets, posted_in, keys_at, has_live_out}
-use Rattle.link_history.specs.History.{has_live_in, front_of, total_in, arrived, meets_counts, got_since, held}
+use Rattle.link_history.specs.History.{has_live_in, ahead_of_unit, total_in, arrived, meets_counts, got_since, held}
 use Rattle.link_history.specs.History.{units_got, units_since}
 use Rattle.link_history.specs.Memory.{writes}
+use Rattle.link_history.specs.Sent.{bytes_by}
 use Rattle.link_history.specs.Due.{due, before_tag, is_verified}
 use Rattle.link_verdicts.specs.declared.verdict.Effect.TheVariants.{Applied, Blocked}
 use Rattle.link_verdicts.specs.declared.verdict.BlockCause.TheVariants.{NotRunning, Stale}
@@ -34,7 +35,9 @@ use Rattle.memory_cases.specs.Cases.{run_again}
 sealed_due : IsDue (started_event ∷ reported_history) sealed_write
 unfolding due key_due manager moments keys is_open failed_there base interface_due devices managed stream_draw sites
     read_of reading walk_length walked_from outgoing_of choice_of keys_at has_live_out has_live_in stream_plan sent_in
-    sealed_packets packet_of units open_unit posted_in writes byte_after front_of total_in arrived read_head_of cut_of
+    sealed_packets bytes_by packet_of units open_unit posted_in writes byte_after ahead_of_unit total_in arrived
+    read_head_of
+    cut_of
     key_of before_tag is_verified meets_counts got_since held units_got units_since verifies tag_of ghash hash_key
     blocks counter key_stream masked bits aes cipher rounds add_round_key mixed mix_columns shift_rows sub_bytes
     key_words temp expansion sub_word sbox open_of
@@ -43,7 +46,9 @@ sealed_due = refl
 applied_due : IsDue (sealed_write ∷ started_event ∷ reported_history) (accepted_write Applied)
 unfolding due key_due manager moments keys is_open failed_there base interface_due devices managed stream_draw sites
     read_of reading walk_length walked_from outgoing_of choice_of keys_at has_live_out has_live_in stream_plan sent_in
-    sealed_packets packet_of units open_unit posted_in writes byte_after front_of total_in arrived read_head_of cut_of
+    sealed_packets bytes_by packet_of units open_unit posted_in writes byte_after ahead_of_unit total_in arrived
+    read_head_of
+    cut_of
     key_of before_tag is_verified meets_counts got_since held units_got units_since verifies tag_of ghash hash_key
     blocks counter key_stream masked bits aes cipher rounds add_round_key mixed mix_columns shift_rows sub_bytes
     key_words temp expansion sub_word sbox open_of
@@ -52,7 +57,9 @@ applied_due = refl
 shown_due : IsDue (accepted_write Applied ∷ sealed_write ∷ started_event ∷ reported_history) memory_read_back
 unfolding due key_due manager moments keys is_open failed_there base interface_due devices managed stream_draw sites
     read_of reading walk_length walked_from outgoing_of choice_of keys_at has_live_out has_live_in stream_plan sent_in
-    sealed_packets packet_of units open_unit posted_in writes byte_after front_of total_in arrived read_head_of cut_of
+    sealed_packets bytes_by packet_of units open_unit posted_in writes byte_after ahead_of_unit total_in arrived
+    read_head_of
+    cut_of
     key_of before_tag is_verified meets_counts got_since held units_got units_since verifies tag_of ghash hash_key
     blocks counter key_stream masked bits aes cipher rounds add_round_key mixed mix_columns shift_rows sub_bytes
     key_words temp expansion sub_word sbox open_of
@@ -61,7 +68,9 @@ shown_due = refl
 unheard_due : IsDue (unheard ∷ reported_history) sealed_write
 unfolding due key_due manager moments keys is_open failed_there base interface_due devices managed stream_draw sites
     read_of reading walk_length walked_from outgoing_of choice_of keys_at has_live_out has_live_in stream_plan sent_in
-    sealed_packets packet_of units open_unit posted_in writes byte_after front_of total_in arrived read_head_of cut_of
+    sealed_packets bytes_by packet_of units open_unit posted_in writes byte_after ahead_of_unit total_in arrived
+    read_head_of
+    cut_of
     key_of before_tag is_verified meets_counts got_since held units_got units_since verifies tag_of ghash hash_key
     blocks counter key_stream masked bits aes cipher rounds add_round_key mixed mix_columns shift_rows sub_bytes
     key_words temp expansion sub_word sbox open_of
@@ -70,7 +79,9 @@ unheard_due = refl
 blocked_due : IsDue (sealed_write ∷ unheard ∷ reported_history) (accepted_write (Blocked NotRunning))
 unfolding due key_due manager moments keys is_open failed_there base interface_due devices managed stream_draw sites
     read_of reading walk_length walked_from outgoing_of choice_of keys_at has_live_out has_live_in stream_plan sent_in
-    sealed_packets packet_of units open_unit posted_in writes byte_after front_of total_in arrived read_head_of cut_of
+    sealed_packets bytes_by packet_of units open_unit posted_in writes byte_after ahead_of_unit total_in arrived
+    read_head_of
+    cut_of
     key_of before_tag is_verified meets_counts got_since held units_got units_since verifies tag_of ghash hash_key
     blocks counter key_stream masked bits aes cipher rounds add_round_key mixed mix_columns shift_rows sub_bytes
     key_words temp expansion sub_word sbox open_of
@@ -79,7 +90,9 @@ blocked_due = refl
 halted_due : IsDue halted_history (accepted_write (Blocked NotRunning))
 unfolding due key_due manager moments keys is_open failed_there base interface_due devices managed stream_draw sites
     read_of reading walk_length walked_from outgoing_of choice_of keys_at has_live_out has_live_in stream_plan sent_in
-    sealed_packets packet_of units open_unit posted_in writes byte_after front_of total_in arrived read_head_of cut_of
+    sealed_packets bytes_by packet_of units open_unit posted_in writes byte_after ahead_of_unit total_in arrived
+    read_head_of
+    cut_of
     key_of before_tag is_verified meets_counts got_since held units_got units_since verifies tag_of ghash hash_key
     blocks counter key_stream masked bits aes cipher rounds add_round_key mixed mix_columns shift_rows sub_bytes
     key_words temp expansion sub_word sbox open_of
@@ -88,7 +101,9 @@ halted_due = refl
 stale_due : IsDue run_again (accepted_write (Blocked Stale))
 unfolding due key_due manager moments keys is_open failed_there base interface_due devices managed stream_draw sites
     read_of reading walk_length walked_from outgoing_of choice_of keys_at has_live_out has_live_in stream_plan sent_in
-    sealed_packets packet_of units open_unit posted_in writes byte_after front_of total_in arrived read_head_of cut_of
+    sealed_packets bytes_by packet_of units open_unit posted_in writes byte_after ahead_of_unit total_in arrived
+    read_head_of
+    cut_of
     key_of before_tag is_verified meets_counts got_since held units_got units_since verifies tag_of ghash hash_key
     blocks counter key_stream masked bits aes cipher rounds add_round_key mixed mix_columns shift_rows sub_bytes
     key_words temp expansion sub_word sbox open_of

@@ -1,6 +1,6 @@
-//! Worked cases of trusted memory, computed.
+//! Worked cases of trusted memory and of guarded memory, computed.
 #![tactic(auto)]
 
 mod cases;
 
-pub use cases::memory_cases;
+pub use cases::{memory_cases, mmio_cases, read_cases};

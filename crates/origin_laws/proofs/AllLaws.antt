@@ -1,11 +1,14 @@
 -- The laws of interfaces and of trusted memory.
 use Rattle.origin_laws.specs.Statements.{InterfacesHaveCauses, RunLawHolds, MemoryLawHolds, OriginLawHolds}
+use Rattle.origin_laws.specs.Statements.{ReadLawHolds, ReadOriginLawHolds}
 use Rattle.interface_states.proofs.RunLaws.{run_law as runs}
 use Rattle.link_keys.proofs.Draws.{draws}
 use Rattle.sealing_laws.proofs.OfPlans.{streams_fit}
 use Rattle.origin_laws.proofs.Causes.{interface_cause}
 use Rattle.origin_laws.proofs.Memory.{memory_law as in_memory}
 use Rattle.origin_laws.proofs.Origins.{origin_law as from_run}
+use Rattle.origin_laws.proofs.OfReads.{read_law as reads_hold}
+use Rattle.origin_laws.proofs.QueuedReads.{read_origins}
 
 pub interfaces_have_causes : InterfacesHaveCauses
 interfaces_have_causes = interface_cause
@@ -18,3 +21,9 @@ memory_law plan h cause = in_memory plan h cause
 
 pub origin_law : OriginLawHolds
 origin_law plan fits h cause forged = from_run plan (streams_fit plan fits) (draws plan) h cause forged
+
+pub read_law : ReadLawHolds
+read_law plan h cause = reads_hold plan (draws plan) h cause
+
+pub read_origin_law : ReadOriginLawHolds
+read_origin_law plan fits h cause forged = read_origins plan (streams_fit plan fits) (draws plan) h cause forged

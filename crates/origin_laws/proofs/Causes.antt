@@ -12,7 +12,7 @@ use Rattle.association.proofs.Outgoing.{on_stream_reads}
 use Rattle.link_history.specs.Plan.{has_port, streams_of}
 use Rattle.link_history.specs.Due.{send_due}
 use Rattle.link_history.specs.Memory.{memory_due}
-use Rattle.interface_states.specs.Terms.{InterfaceEvent}
+use Rattle.interface_states.specs.Terms.{InterfaceEvent, SealedPacket}
 unfoldable use Rattle.interface_states.specs.Due.{interface_verdict_due as interface_due}
 use Rattle.interface_states.specs.Cause.{InterfaceCause, PairFits, SealFits, t_due, owner_at, owner_read}
 use Rattle.link_events.specs.declared.event.Event.TheVariants as event
@@ -117,6 +117,15 @@ here_fits : (plan : Plan) (h : History) (port : PortName) (bytes : List ℕ) (mo
 here_fits plan h port bytes more trusted false = tt
 here_fits plan h port bytes more trusted true = outgoing_fits plan h port bytes more trusted
     (outgoing_of (streams_of plan port.link) port.side bytes) refl
+
+-- of what was sealed
+pub sent_fits : (plan : Plan) (h : History) (port : PortName) (bytes : List ℕ) (more trusted : Bool)
+    (ds : List SealedPacket)
+    → v.Sealed ds ≡ send_due plan h port (outgoing_of (streams_of plan port.link) port.side bytes) more trusted
+    → AllByRecursion (SealFits plan h port bytes trusted) ds
+sent_fits plan h port bytes more trusted ds is =
+    subst (Fits plan h port bytes more trusted) (sym is)
+    (outgoing_fits plan h port bytes more trusted (outgoing_of (streams_of plan port.link) port.side bytes) refl)
 
 -- ---- all events
 

@@ -2,10 +2,13 @@
 use Rattle.sealing_laws.proofs.Terms.{◌≡◌, ℕ, ◌+◌, ◌<◌, ◌≤◌, ◌==◌, ◌⊎◌, inl, inr, zero, suc, Bool, true, false, List}
 use Rattle.sealing_laws.proofs.Terms.{[], ◌∷◌, ◌++◌, length, length-append, slice_get, Some, refl, ap, sym, subst}
 use Rattle.sealing_laws.proofs.Terms.{arith, if◌then◌else◌, AllByRecursion, nat_tests, Plan, History, base, Event, Send}
-use Rattle.sealing_laws.proofs.Terms.{Verdict, Sealed, SealedPacket, PortName, Packet, SealedList, front_of_packet}
+use Rattle.sealing_laws.proofs.Terms.{Verdict, Sealed, SealedPacket, PortName, Packet, SealedList, ahead_of_packet}
 use Rattle.sealing_laws.proofs.Terms.{with_sealed, open_unit, sent_in, sub_stream_of, eqb-refl}
-use Rattle.sealing_laws.proofs.Terms.{CauseLaw}
-use Rattle.link_history.proofs.Causes.{sealed_by_sealing}
+use Rattle.sealing_laws.proofs.Terms.{CauseLaw, due, sealing_is, sealed_by_sealing, AllLive, all_live, sent_bytes}
+use Rattle.sealing_laws.proofs.Terms.{sending_port, ◌∙◌}
+use Rattle.link_history.proofs.Terms.{Host, Device, Side}
+unfoldable use Rattle.link_history.proofs.Terms.{bytes_by}
+use Rattle.link_events.specs.declared.event.AccessEvent.TheVariants as ae
 unfoldable use Rattle.sealing_laws.proofs.Terms.{sealed_packets, packet_of}
 use Rattle.interface_states.specs.Sites.{Site, sites_on, sites_from, site_at}
 unfoldable use Rattle.interface_states.specs.Sites.{sites}
@@ -49,13 +52,13 @@ pub record IsNew (plan : Plan) (bytes : List ℕ) (ds : List SealedPacket) (d : 
   pub index : ℕ
   pub listed : slice_get ds index ≡ Some d
   pub ahead : List ℕ
-  pub front : List Packet
-  pub packet : p ≡ packet_of plan ahead bytes d front
+  pub unfinished : List Packet
+  pub packet : p ≡ packet_of plan ahead bytes d unfinished
 
 new_later : (plan : Plan) (bytes : List ℕ) (e d : SealedPacket) (ds : List SealedPacket) (p : Packet)
     → IsNew plan bytes ds d p → IsNew plan bytes (e ∷ ds) d p
 new_later plan bytes e d ds p new = record
-    { index = suc new.index; listed = new.listed; ahead = new.ahead; front = new.front; packet = new.packet }
+    { index = suc new.index; listed = new.listed; ahead = new.ahead; unfinished = new.unfinished; packet = new.packet }
 
 with_at : (plan : Plan) (ahead : SealedPacket → List ℕ) (bytes : List ℕ) (ds : List SealedPacket) (xs : SealedList)
     (k : ℕ) (x : SealedPacket × Packet)
@@ -63,8 +66,8 @@ with_at : (plan : Plan) (ahead : SealedPacket → List ℕ) (bytes : List ℕ) (
     ⊎ ((length xs ≤ k) × IsNew plan bytes ds x.0 x.1)
 with_at plan ahead bytes [] xs k x is = inl is
 with_at plan ahead bytes (d ∷ ds) xs k x is =
-    let front = open_unit (sent_in xs (sub_stream_of d) d.draw) in
-    let p = packet_of plan (ahead d) bytes d front in
+    let unfinished = open_unit (sent_in xs (sub_stream_of d) d.draw) in
+    let p = packet_of plan (ahead d) bytes d unfinished in
     elim (with_at plan ahead bytes ds (xs ++ (d, p) ∷ []) k x is) [
       | inl before ↦ elim (last_at xs (d, p) x k before) [
         | inl older ↦ inl older
@@ -74,7 +77,7 @@ with_at plan ahead bytes (d ∷ ds) xs k x is =
             index = 0;
             listed = refl;
             ahead = ahead d;
-            front = front;
+            unfinished = unfinished;
             packet = refl;
           }),
         )
@@ -113,15 +116,37 @@ sealing_later plan h x k d p at = record {
   new = at.new;
 }
 
+-- an answer's packets are the host's
+live_port : (plan : Plan) (h : History) (port : PortName) (stream : ℕ) (ds : List SealedPacket) (i : ℕ)
+    (d : SealedPacket) → AllLive plan h port stream ds → slice_get ds i ≡ Some d → d.port ≡ port
+live_port plan h port stream [] i d all is = absurd cc
+live_port plan h port stream (y ∷ ds) zero d all is =
+    let same : y ≡ d = cc (is) in ap (λ (z : SealedPacket). z.port) (sym same) ∙ all.0.port_is
+live_port plan h port stream (y ∷ ds) (suc i) d all is = live_port plan h port stream ds i d all.1 is
+
+answered_by_host : (plan : Plan) (h : History) (link : ℕ) (ds : List SealedPacket) (i : ℕ) (d : SealedPacket)
+    → Sealed ds ≡ due plan h (event.Access (ae.Answer link)) → slice_get ds i ≡ Some d
+    → d.port ≡ record { side = Host; link = link }
+answered_by_host plan h link ds i d is at =
+    let e = event.Access (ae.Answer link) in
+    let sealing = sealing_is plan h e ds is in
+    live_port plan h sealing.sending.port sealing.sending.stream ds i d
+    (all_live plan h (sending_port e) (sent_bytes plan h e) ds sealing) at
+    ∙ sealing.at_port
+
+host_or_device : (side : Side) → side ≡ Host → side ≡ Device → ⊥
+host_or_device side host device = absurd cc
+
+-- of a device's packet
 pub sealing_of : (plan : Plan) (h : History) → CauseLaw plan h → (k : ℕ) (d : SealedPacket) (p : Packet)
-    → slice_get (sealed_packets plan h) k ≡ Some (d, p) → Sealing plan h k d p
-unfolding sealed_packets
-sealing_of plan [] cause k d p is = absurd cc
-sealing_of plan ((Send port bytes more trusted, Sealed ds) ∷ h) cause k d p is =
-    elim (with_at plan (front_of_packet plan (sealed_packets plan h) (base h)) bytes ds (sealed_packets plan h) k (d, p)
+    → d.port.side ≡ Device → slice_get (sealed_packets plan h) k ≡ Some (d, p) → Sealing plan h k d p
+unfolding sealed_packets bytes_by
+sealing_of plan [] cause k d p device is = absurd cc
+sealing_of plan ((Send port bytes more trusted, Sealed ds) ∷ h) cause k d p device is =
+    elim (with_at plan (ahead_of_packet plan (sealed_packets plan h) (base h)) bytes ds (sealed_packets plan h) k (d, p)
     is) [
       | inl before ↦ sealing_later plan h (Send port bytes more trusted, Sealed ds) k d p
-          (sealing_of plan h cause.1 k d p before)
+          (sealing_of plan h cause.1 k d p device before)
       | inr new ↦ record {
         port = port;
         bytes = bytes;
@@ -131,14 +156,23 @@ sealing_of plan ((Send port bytes more trusted, Sealed ds) ∷ h) cause k d p is
         older = h;
         came = record { since = []; is = refl };
         from = new.0;
-        until = get_less (with_sealed plan (front_of_packet plan (sealed_packets plan h) (base h)) bytes ds
+        until = get_less (with_sealed plan (ahead_of_packet plan (sealed_packets plan h) (base h)) bytes ds
             (sealed_packets plan h)) k (d, p) is;
         new = new.1;
       }
     ]
-sealing_of plan ((e, Sealed ds) ∷ h) cause k d p is = absurd
+sealing_of plan ((event.Access (ae.Answer link), Sealed ds) ∷ h) cause k d p device is =
+    let e = event.Access (ae.Answer link) in
+    elim (with_at plan (ahead_of_packet plan (sealed_packets plan h) (base h)) (sent_bytes plan h e) ds
+    (sealed_packets plan h) k (d, p) is) [
+      | inl before ↦ sealing_later plan h (e, Sealed ds) k d p (sealing_of plan h cause.1 k d p device before)
+      | inr new ↦ absurd (host_or_device d.port.side
+          (ap (λ (q : PortName). q.side) (answered_by_host plan h link ds new.1.index d cause.0 new.1.listed)) device)
+    ]
+sealing_of plan ((e, Sealed ds) ∷ h) cause k d p device is = absurd
     (let sealing = sealed_by_sealing plan h e ds cause.0 in cc)
-sealing_of plan ((e, w) ∷ h) cause k d p is = sealing_later plan h (e, w) k d p (sealing_of plan h cause.1 k d p is)
+sealing_of plan ((e, w) ∷ h) cause k d p device is =
+    sealing_later plan h (e, w) k d p (sealing_of plan h cause.1 k d p device is)
 
 -- ---- what holds of a history holds at each pair that it came from
 
@@ -211,13 +245,3 @@ pub found_by_number : (plan : Plan) (test : Site → Bool) (x : Site) → find t
     → site_at plan x.number ≡ Some x
 unfolding sites
 found_by_number plan test x is = (all_found 0 0 plan.links test x is).1
-
--- what is found meets the test
-pub found_meets : (test : Site → Bool) (xs : List Site) (x : Site) → find test xs ≡ Some x → test x ≡ true
-found_meets test [] x is = absurd cc
-found_meets test (y ∷ xs) x is = by (found_meets test xs x) (test y) refl is
-  where
-    by : (find test xs ≡ Some x → test x ≡ true) → (b : Bool) → test y ≡ b → (if b then Some y else find test xs)
-        ≡ Some x → test x ≡ true
-    by later true e is = let same : y ≡ x = cc (is) in subst (λ (z : Site). test z ≡ true) same e
-    by later false e is = later is

@@ -3,3 +3,5 @@ pub mod Memory
 pub mod Found
 pub mod Origins
 pub mod AllLaws
+pub mod OfReads
+pub mod QueuedReads

@@ -19,7 +19,7 @@ use Rattle.ide_plan.specs.declared.plan.Region.{Region}
 use Rattle.tlp_layout.specs.declared.head.HeadView.{HeadView}
 use Rattle.tlp_layout.specs.declared.fault.TlpFault.{TlpFault}
 use Rattle.tlp_layout.specs.Reading.{read_head_of}
-use Rattle.std.proofs.Common.{get_or}
+use Rattle.std.proofs.Common.{get_or, subst}
 use Rattle.tlp_layout.proofs.Heads.{kept, head_size_at_least}
 use Rattle.tlp_layout.proofs.Readings.{read_head_spells}
 use Rattle.trusted_memory.specs.Writes.{Write, memory_write}
@@ -43,10 +43,11 @@ use Rattle.interface_states.specs.Devices.{locks_at}
 use Rattle.interface_states.specs.Cause.{SealFits, owner_of, owner_at, owner_read}
 use Rattle.interface_states.specs.Laws.{IsTrusted, InRun}
 use Rattle.interface_states.proofs.Views.{views_hold}
-use Rattle.origin_laws.specs.Origin.{AreFrom, OriginLaw}
+use Rattle.origin_laws.specs.Origin.{IsFrom, AreFrom, OriginLaw}
 use Rattle.origin_laws.proofs.Causes.{interface_cause}
 use Rattle.origin_laws.proofs.Found.{get_less, all_get, get_behind, IsNew, sealing_of, cause_before, trusted_before}
-use Rattle.origin_laws.proofs.Found.{found_by_number, found_meets}
+use Rattle.origin_laws.proofs.Found.{found_by_number}
+use Rattle.read_order.proofs.Requesters.{requester_meets}
 
 -- ---- what it means that a write is admitted
 
@@ -62,12 +63,12 @@ bound_means stream draw (Some b) e = record
     { bound = b; is = refl; stream_is = grind (arith, nat_tests); floor = grind (arith, nat_tests) }
 
 -- of a write at a host's port
-record Admitted (plan : Plan) (h : History) (port : PortName) (unit : UnitName) (p : Packet) : Type 0 where
-  head : HeadView
-  reads : read_head_of p.head ≡ Ok head
-  host : (sent_direction port.side == 0) ≡ true
-  trusted : p.prefix.t ≡ true
-  bound : is_on_bound unit.stream unit.draw (bound_of (grant_at plan h) port head) ≡ true
+pub record Admitted (plan : Plan) (h : History) (port : PortName) (unit : UnitName) (p : Packet) : Type 0 where
+  pub head : HeadView
+  pub reads : read_head_of p.head ≡ Ok head
+  pub host : (sent_direction port.side == 0) ≡ true
+  pub trusted : p.prefix.t ≡ true
+  pub bound : is_on_bound unit.stream unit.draw (bound_of (grant_at plan h) port head) ≡ true
 
 placed_means : (regions : List Region) (a : Bool) (o : Option Write) (w : Write) → if_placed regions a o ≡ Some w → a
     ≡ true
@@ -112,7 +113,7 @@ record Granted (h : History) (o : Option Site) (b : ℕ × ℕ) : Type 0 where
   view : view_at h site ≡ Running
   bound : b ≡ (site.plan.stream, floor_at h site)
 
-if_bound : (view : View) (stream floor : ℕ) (b : ℕ × ℕ) → bound_if view stream floor ≡ Some b → (view ≡ Running)
+pub if_bound : (view : View) (stream floor : ℕ) (b : ℕ × ℕ) → bound_if view stream floor ≡ Some b → (view ≡ Running)
     × (b ≡ (stream, floor))
 if_bound view stream floor b e = grind arith
 
@@ -122,9 +123,6 @@ granted_means h (Some x) b e =
     let is = if_bound (view_at h x) x.plan.stream (floor_at h x) b e in record
     { site = x; is = refl; view = is.0; bound = is.1 }
 
-same_id : (m n : ℕ) → (m == n) ≡ true → m ≡ n
-same_id m n e = grind (arith, nat_tests)
-
 -- of the requester
 owner_means : (plan : Plan) (h : History) (link stream draw : ℕ) (head : HeadView) (o : Option ℕ) → owner_of head ≡ o
     → is_on_bound stream draw (option_and_then (grant_at plan h link) o) ≡ true → For plan h link stream draw head
@@ -132,14 +130,13 @@ owner_means plan h link stream draw head None named e = absurd cc
 owner_means plan h link stream draw head (Some rid) named e =
     let b = bound_means stream draw (grant_at plan h link rid) e in
     let g = granted_means h (site_with plan link rid) b.bound b.is in
-    let meets = both (g.site.link == link) (g.site.plan.requester == rid)
-    (found_meets (λ x. (x.link == link) && (x.plan.requester == rid)) (sites plan) g.site g.is) in
+    let meets = requester_meets plan link rid g.site g.is in
     record {
       site = g.site;
       known = found_by_number plan (λ x. (x.link == link) && (x.plan.requester == rid)) g.site g.is;
-      link_is = grind (arith, nat_tests, meets.0);
+      link_is = meets.0;
       owns = ap (option_and_then (site_with plan link)) named ∙ g.is;
-      requester = named ∙ ap (λ (r : ℕ). Some r) (sym (same_id g.site.plan.requester rid meets.1));
+      requester = named ∙ ap (λ (r : ℕ). Some r) (sym meets.1);
       view = g.view;
       stream_is = ap (λ (c : ℕ × ℕ). c.0) (sym g.bound) ∙ b.stream_is;
       floor = let f = ap (λ (c : ℕ × ℕ). c.1) g.bound in omega (arith, f, b.floor);
@@ -185,10 +182,10 @@ head_of bytes head (Ok t) reads is =
     (t, refl, cc (again, is))
 head_of bytes head (Err f) reads is = absurd (no_head head is)
 
-head_is : (plan : Plan) (ahead bytes : List ℕ) (d : SealedPacket) (front : List Packet) → d.sync ≡ false
-    → (packet_of plan ahead bytes d front).head ≡ head_in (read_of bytes)
+head_is : (plan : Plan) (ahead bytes : List ℕ) (d : SealedPacket) (unfinished : List Packet) → d.sync ≡ false
+    → (packet_of plan ahead bytes d unfinished).head ≡ head_in (read_of bytes)
 unfolding packet_of
-head_is plan ahead bytes d front sync = rw sync refl
+head_is plan ahead bytes d unfinished sync = rw sync refl
 
 -- a port with the link of a host's port and the direction that this receives is the device's
 at_device_end : (p : PortName) (side : Side) (link : ℕ) → p.link ≡ link → sent_direction p.side
@@ -238,12 +235,12 @@ trusted_there : (plan : Plan) (h : History) (port : PortName) (unit : UnitName) 
     → q ≡ p → sub_stream_of d ≡ received_in port unit → IsNew plan bytes ds d q
     → SealFits plan older sender bytes trusted d → IsTrusted plan for.site sender bytes d
 trusted_there plan h port unit p adm for d q older sender bytes trusted ds same stream new fit =
-    let prefix = ap (λ (r : Packet). r.prefix) new.packet ∙ prefix_is plan new.ahead bytes d new.front in
+    let prefix = ap (λ (r : Packet). r.prefix) new.packet ∙ prefix_is plan new.ahead bytes d new.unfinished in
     let has_t : d.t ≡ true = sym (ap (λ (f : Prefix). f.t) prefix) ∙
     (ap (λ (r : Packet). r.prefix.t) same ∙ adm.trusted) in
     let sync : d.sync ≡ false = not_synced d.sync _ (sym fit.t_is ∙ has_t) in
     let head : p.head ≡ head_in (read_of bytes) = ap (λ (r : Packet). r.head) (sym same) ∙
-    (ap (λ (r : Packet). r.head) new.packet ∙ head_is plan new.ahead bytes d new.front sync) in
+    (ap (λ (r : Packet). r.head) new.packet ∙ head_is plan new.ahead bytes d new.unfinished sync) in
     let tlp = head_of bytes adm.head (read_of bytes) refl (ap (λ (bs : List ℕ). read_head_of bs) (sym head) ∙ adm.reads)
     in
     let port_is = at_device_end d.port port.side port.link (ap (λ (s : SubStream). s.link) stream)
@@ -258,29 +255,31 @@ trusted_there plan h port unit p adm for d q older sender bytes trusted ds same 
 some_same : (p q : Packet) → Some p ≡ Some q → p ≡ q
 some_same p q e = cc (e)
 
-origin_at : (plan : Plan) → StreamsFit plan → DrawFacts plan → (h : History) (e : Event) (port : PortName)
+-- packet n of the unit, if it is admitted
+pub origin_of : (plan : Plan) → StreamsFit plan → DrawFacts plan → (h : History) (e : Event) (port : PortName)
     (unit : UnitName) (effects : List Effect)
     → CauseLaw plan ((e, Accepted port unit effects) ∷ h) → NoForgery plan ((e, Accepted port unit effects) ∷ h)
-    → AreFrom plan h e (Accepted port unit effects)
-origin_at plan fits facts h e port unit effects cause forged n w p is stands =
+    → (n : ℕ) (p : Packet) → Admitted plan h port unit p
+    → slice_get (unit_ended plan h e port unit) n ≡ Some p
+    → IsFrom plan h port unit p (length (got plan h (received_in port unit) unit.draw) + n)
+origin_of plan fits facts h e port unit effects cause forged n p adm stands =
     let s = received_in port unit in
     let m = length (got plan h s unit.draw) + n in
-    let each = each_at plan h port unit (plain_of plan port unit (unit_ended plan h e port unit))
-    (unit_ended plan h e port unit) n (Some w) is in
-    let same : each.packet ≡ p = some_same each.packet p (sym each.stands ∙ stands) in
-    let adm = admitted_means plan h port unit each.packet each.payload w each.is in
     let for = owner_means plan h port.link unit.stream unit.draw adm.head (owner_of adm.head) refl adm.bound in
     let x = for.site in
-    let at = sent_at plan fits facts h e port unit effects cause forged n each.packet each.stands in
-    let among = place_among (sealed_packets plan h) s unit.draw m each.packet at in
+    let at = sent_at plan fits facts h e port unit effects cause forged n p stands in
+    let among = place_among (sealed_packets plan h) s unit.draw m p at in
     let names = in_parts s unit.draw among.sealed among.under in
     let d = among.sealed.0 in
-    let seal = sealing_of plan h cause.1 among.place d among.sealed.1 among.stands in
+    let device = at_device_end d.port port.side port.link (ap (λ (t : SubStream). t.link) names.2)
+    (ap (λ (t : SubStream). t.direction) names.2) adm.host in
+    let seal = sealing_of plan h cause.1 among.place d among.sealed.1 (ap (λ (q : PortName). q.side) device)
+    among.stands in
     let known = interface_cause plan h cause.1 in
     let fit = all_get (SealFits plan seal.older seal.port seal.bytes seal.trusted) seal.ds seal.new.index d
     (cause_before plan ((Send seal.port seal.bytes seal.more seal.trusted, Sealed seal.ds) ∷ seal.older) h seal.came
     known).0 seal.new.listed in
-    let is_trusted = trusted_there plan h port unit each.packet adm for d among.sealed.1 seal.older seal.port seal.bytes
+    let is_trusted = trusted_there plan h port unit p adm for d among.sealed.1 seal.older seal.port seal.bytes
     seal.trusted seal.ds among.packet names.2 seal.new fit in
     let runs = (views_hold plan (key_plan plan) h (key_cause plan h cause.1) known x for.known).running for.view in
     let since = trusted_before plan x (λ g d. floor_at h x ≤ d.draw → InRun plan x (locks_at plan h x) g)
@@ -288,13 +287,13 @@ origin_at plan fits facts h e port unit effects cause forged n w p is stands =
     let there = all_get (λ (y : SealedPacket). IsTrusted plan x seal.port seal.bytes y → floor_at h x ≤ y.draw
     → InRun plan x (locks_at plan h x) seal.older) seal.ds seal.new.index d since.0 seal.new.listed in
     let in_run = there is_trusted (omega (arith, for.floor, names.1)) in
-    let less = get_less (sent plan h s unit.draw) m each.packet at in
+    let less = get_less (sent plan h s unit.draw) m p at in
     record {
       interface = x;
       known = for.known;
       link = for.link_is;
       head = adm.head;
-      reads = ap (λ (q : Packet). read_head_of q.head) (sym same) ∙ adm.reads;
+      reads = adm.reads;
       requester = for.requester;
       stream = for.stream_is;
       view = for.view;
@@ -316,8 +315,20 @@ origin_at plan fits facts h e port unit effects cause forged n w p is stands =
         runs = in_run.runs;
         same_lock = in_run.same_lock;
       };
-      same = among.packet ∙ same;
+      same = among.packet;
     }
+
+origin_at : (plan : Plan) → StreamsFit plan → DrawFacts plan → (h : History) (e : Event) (port : PortName)
+    (unit : UnitName) (effects : List Effect)
+    → CauseLaw plan ((e, Accepted port unit effects) ∷ h) → NoForgery plan ((e, Accepted port unit effects) ∷ h)
+    → AreFrom plan h e (Accepted port unit effects)
+origin_at plan fits facts h e port unit effects cause forged n w p is stands =
+    let each = each_at plan h port unit (plain_of plan port unit (unit_ended plan h e port unit))
+    (unit_ended plan h e port unit) n (Some w) is in
+    let same : each.packet ≡ p = some_same each.packet p (sym each.stands ∙ stands) in
+    let adm = subst (Admitted plan h port unit) same
+    (admitted_means plan h port unit each.packet each.payload w each.is) in
+    origin_of plan fits facts h e port unit effects cause forged n p adm stands
 
 -- ---- the law
 

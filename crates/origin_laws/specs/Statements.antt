@@ -7,6 +7,7 @@ use Rattle.link_history.specs.Laws.{NoForgery}
 use Rattle.interface_states.specs.Cause.{InterfaceCause}
 use Rattle.interface_states.specs.Laws.{RunLaw}
 use Rattle.origin_laws.specs.Origin.{MemoryLaw, OriginLaw}
+use Rattle.origin_laws.specs.ReadLaws.{ReadLaw, ReadOriginLaw}
 
 abbrev pub InterfacesHaveCauses : Type 0
 InterfacesHaveCauses = (plan : Plan) (h : History) → CauseLaw plan h → InterfaceCause plan h
@@ -19,3 +20,10 @@ MemoryLawHolds = (plan : Plan) (h : History) → CauseLaw plan h → MemoryLaw p
 
 abbrev pub OriginLawHolds : Type 0
 OriginLawHolds = (plan : Plan) → FitsPlan plan → (h : History) → CauseLaw plan h → NoForgery plan h → OriginLaw plan h
+
+abbrev pub ReadLawHolds : Type 0
+ReadLawHolds = (plan : Plan) (h : History) → CauseLaw plan h → ReadLaw plan h
+
+abbrev pub ReadOriginLawHolds : Type 0
+ReadOriginLawHolds = (plan : Plan) → FitsPlan plan → (h : History) → CauseLaw plan h → NoForgery plan h
+    → ReadOriginLaw plan h

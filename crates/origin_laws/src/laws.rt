@@ -1,6 +1,7 @@
 //! Laws of interfaces and of trusted memory.
 
 ghost use Rattle.origin_laws.specs.Statements.{InterfacesHaveCauses, MemoryLawHolds, OriginLawHolds, RunLawHolds};
+ghost use Rattle.origin_laws.specs.Statements.{ReadLawHolds, ReadOriginLawHolds};
 
 /// What is due of events on interfaces is due by the interfaces alone, and T is set as they say.
 pub fn interfaces_have_causes()
@@ -25,4 +26,19 @@ pub fn memory_law()
 /// is admitted for.
 pub fn origin_law()
     ensures { OriginLawHolds }
+{}
+
+/// In every history in which each verdict is the one that is due, answers take the reads of a link in the order in
+/// which they were queued since its last reset, and no more than 64 wait. A completion is that of the oldest read, from
+/// memory as it is then. It has T, and is sealed on its interface's bound stream under a draw from its floor on, while
+/// the manager's view of the interface is Running.
+pub fn read_law()
+    ensures { ReadLawHolds }
+{}
+
+/// In every history in which each verdict is the one that is due: provided no tag verified on a unit that its partner
+/// had not sealed, each queued read was sealed while its interface was in the very RUN, under the very lock, that it is
+/// queued for.
+pub fn read_origin_law()
+    ensures { ReadOriginLawHolds }
 {}

@@ -3,4 +3,6 @@
 
 mod laws;
 
-pub use laws::{interfaces_have_causes, memory_law, origin_law, run_law};
+pub use laws::{
+    interfaces_have_causes, memory_law, origin_law, read_law, read_origin_law, run_law,
+};

@@ -11,9 +11,11 @@ use Rattle.port_operations.proofs.Terms.{Refresh, refresh_found, refresh_on, Res
 use Rattle.port_operations.proofs.Terms.{PortsStandFor, Status, status_at, status_found, step_of, Stepped, Steps}
 use Rattle.port_operations.proofs.Terms.{StepStands, Stop, stop_found, stop_on, stream_plan, streams_of, Verdict}
 use Rattle.port_operations.proofs.Terms.{work_done, work_of}
-use Rattle.link_events.specs.declared.event.Event.TheVariants.{Interface}
+use Rattle.link_events.specs.declared.event.Event.TheVariants.{Interface, Access}
+use Rattle.link_events.specs.declared.event.AccessEvent.TheVariants as ae
+use Rattle.link_history.specs.Guarded.{mmio_due}
 use Rattle.link_events.specs.declared.event.InterfaceEvent.{InterfaceEvent}
-use Rattle.link_history.proofs.KeyVerdicts.{interface_due_quiet}
+use Rattle.link_history.proofs.KeyVerdicts.{interface_due_quiet, mmio_quiet}
 use Rattle.link_ports.specs.Stands.{beside_at}
 use Rattle.link_verdicts.specs.declared.verdict.Operation.TheVariants as op
 use Rattle.link_verdicts.specs.declared.verdict.Verdict.TheVariants as v
@@ -197,6 +199,19 @@ asks plan st h e stands =
     (quiet plan (facts plan) st h (Interface e) (due plan h (Interface e)) stands.ports_stand
     (interface_due_quiet plan h e) refl (no_interface e)) (refl, refl)
 
+no_mmio : (i bar offset len : ℕ) → IsNoOperation (Access (ae.Mmio i bar offset len))
+unfolding operates
+no_mmio i bar offset len link stream = refl
+
+shows : (plan : Plan) (st : LinkState) (h : History) (i bar offset len : ℕ) → PortsStandFor plan st h
+    → AllStep plan h (Access (ae.Mmio i bar offset len)) (mmio_due plan h i bar offset len, st)
+unfolding due
+shows plan st h i bar offset len stands =
+    let e = Access (ae.Mmio i bar offset len) in
+    plain plan st h e (mmio_due plan h i bar offset len, st) (no_mmio i bar offset len) stands
+    (quiet plan (facts plan) st h e (mmio_due plan h i bar offset len) stands.ports_stand
+    (mmio_quiet plan h i bar offset len) refl (no_mmio i bar offset len)) (refl, refl)
+
 pub steps : StepStands
 unfolding step_of
 steps plan st h (Establish link stream lose) stands = establishes plan st h stands link stream lose
@@ -208,4 +223,5 @@ steps plan st h (Stop link stream lose) stands = stops plan st h stands link str
 steps plan st h (Status link stream) stands = told plan st h stands link stream (find_op plan st link stream) refl
 steps plan st h (Reset link) stands = resets plan st h link stands
 steps plan st h (Interface e) stands = asks plan st h e stands
+steps plan st h (Access (ae.Mmio i bar offset len)) stands = shows plan st h i bar offset len stands
 steps plan st h e stands = packets_step plan st h e refl stands

@@ -1,6 +1,13 @@
--- A send or an arrival leaves the manager's operations and the draws.
-use Rattle.link_ports.specs.Machine.{Beside}
-use Rattle.port_operations.proofs.Terms.{◌≡◌, Bool, true, false, List, Option, Some, None, refl}
+-- A send, an answer to a read or an arrival leaves the manager's operations and the draws.
+use Rattle.link_ports.specs.Machine.{Beside, port_at, sealing_draw_at, stepped_completion, stepped_reply}
+use Rattle.link_ports.specs.Replies.{Reply, is_below}
+use Rattle.link_events.specs.declared.event.Event.TheVariants.{Access}
+use Rattle.link_events.specs.declared.event.AccessEvent.TheVariants as ae
+use Rattle.interface_words.specs.declared.verdict.InterfaceVerdict.TheVariants as iv
+use Rattle.ide_types.specs.declared.port.Side.TheVariants.{Host}
+use Rattle.ide_types.specs.declared.sub.SubKind.TheVariants.{Cpl}
+use Rattle.port_operations.proofs.Terms.{◌≡◌, ℕ, Bool, true, false, List, Option, Some, None, Result, Ok, Err, refl}
+use Rattle.std.specs.Prelude.{unwrap_or}
 use Rattle.port_operations.proofs.Terms.{arith, if◌then◌else◌, Alter, stepped_answer, Arrival, Arrive, stepped_arrival}
 use Rattle.port_operations.proofs.Terms.{Cut}
 use Rattle.port_operations.proofs.Terms.{Dump, Event, find, has_port, is_of_packets, LinkState, Pass, Plan, PortName}
@@ -47,11 +54,28 @@ send_kept plan beside st port (OnStream t stream) more trusted true =
     }) t (find plan st port stream)
 send_kept plan beside st port o more trusted false = (refl, refl)
 
+completed_kept : (plan : Plan) (beside : Beside) (st : LinkState) (port : PortName) (r : Reply) (draw : Option ℕ)
+    → Kept st (stepped_completion plan beside st port r draw)
+completed_kept plan beside st port r draw = by (is_below draw r.floor)
+  where
+    by : (b : Bool) → Kept st (if b then (v.Interface (iv.RefusedRefreshFirst (unwrap_or draw 0) r.floor), st)
+        else stepped_send plan beside st port (outgoing_of (streams_of plan port.link) port.side r.bytes) false true)
+    by true = (refl, refl)
+    by false = send_kept plan beside st port (outgoing_of (streams_of plan port.link) port.side r.bytes) false true true
+
+reply_kept : (plan : Plan) (beside : Beside) (st : LinkState) (port : PortName) (r : Result Reply Verdict)
+    → Kept st (stepped_reply plan beside st port r)
+reply_kept plan beside st port (Err w) = (refl, refl)
+reply_kept plan beside st port (Ok r) =
+    completed_kept plan beside st port r (sealing_draw_at Cpl (find plan st port r.stream))
+
 pub step_kept : (plan : Plan) (beside : Beside) (st : LinkState) (e : Event) → is_of_packets e ≡ true
     → Kept st (step_of plan beside st e)
 unfolding step_of
 step_kept plan beside st (Send port bytes more trusted) is = send_kept plan beside st port
     (outgoing_of (streams_of plan port.link) port.side bytes) more trusted (has_port plan port)
+step_kept plan beside st (Access (ae.Answer link)) is =
+    reply_kept plan beside st (port_at Host link) (beside.reply link)
 step_kept plan beside st (Arrive port bytes) is = by_port (has_port plan port)
   where
     by_port : (b : Bool) → Kept st

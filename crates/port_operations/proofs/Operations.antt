@@ -7,7 +7,7 @@ use Rattle.port_operations.proofs.Terms.{has_live_in, has_live_out, held_same, H
 use Rattle.port_operations.proofs.Terms.{key_in, keyed_in, keys_at, lane_in, lane_out, Npr, on_in}
 use Rattle.port_operations.proofs.Terms.{Operated, OperationStands, Plan, PortName, posted_count, posted_in, posted_sum}
 use Rattle.port_operations.proofs.Terms.{Pr, quiet_seals_none, rx_slot, rx_slot_same, rx_slots, rx_standing, RxSub}
-use Rattle.port_operations.proofs.Terms.{sealed_packets, sealed_same, settled_stream, since_same, Slots, slots_is}
+use Rattle.port_operations.proofs.Terms.{sealed_packets, sealed_same, rested_stream, since_same, LaneSlots, slots_is}
 use Rattle.port_operations.proofs.Terms.{slots_touched, standing, SubKind, SubStream, total_in, Touch, touched_stream}
 use Rattle.port_operations.proofs.Terms.{tx_slots, tx_standing, TxSub, units_same, units_since, Verdict}
 use Rattle.port_operations.proofs.Terms.{AllowedIn, AllowedOut, busy_in, key_touched_in, key_touched_out}
@@ -51,7 +51,7 @@ failed_on plan h e w none port stream u keyed = failed_quiet plan h e w none por
 
 -- ---- the stream
 
-abbrev live_of : (SubKind → Slots) → Bool
+abbrev live_of : (SubKind → LaneSlots) → Bool
 live_of slots = any_live (slots Pr) || any_live (slots Npr) || any_live (slots Cpl)
 
 outs_live : (plan : Plan) (h g : History) (port : PortName) (stream : ℕ)
@@ -122,12 +122,12 @@ rx_new plan h g port stream u = record {
 slots_new : (plan : Plan) (h : History) (e : Event) (w : Verdict) (port : PortName) (stream : ℕ)
     (out into : SubKind → List Touch) → Operated plan h e w port stream out into
     → touched_stream plan port stream out into (standing plan h port stream)
-    ≡ settled_stream (each_sub (tx_new plan h ((e, w) ∷ h) port stream))
+    ≡ rested_stream (each_sub (tx_new plan h ((e, w) ∷ h) port stream))
     (each_sub (rx_new plan h ((e, w) ∷ h) port stream)) (failed h port stream)
 unfolding standing
 slots_new plan h e w port stream out into is =
     let g = (e, w) ∷ h in
-    λ i. settled_stream (each_sub
+    λ i. rested_stream (each_sub
     (λ u. record (tx_new plan h g port stream u) { slots = tx_touched plan h e w port stream out into is u i }))
     (each_sub (λ u. record (rx_new plan h g port stream u)
     { slots = rx_touched plan h e w port stream out into is u i }))
@@ -135,7 +135,7 @@ slots_new plan h e w port stream out into is =
 
 settled_is : (plan : Plan) (h : History) (e : Event) (w : Verdict) (port : PortName) (stream : ℕ)
     (out into : SubKind → List Touch) → Operated plan h e w port stream out into
-    → settled_stream (each_sub (tx_new plan h ((e, w) ∷ h) port stream))
+    → rested_stream (each_sub (tx_new plan h ((e, w) ∷ h) port stream))
     (each_sub (rx_new plan h ((e, w) ∷ h) port stream)) (failed h port stream)
     ≡ standing plan ((e, w) ∷ h) port stream
 unfolding standing

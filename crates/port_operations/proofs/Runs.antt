@@ -8,7 +8,7 @@ use Rattle.port_operations.proofs.Terms.{arith, not, if◌then◌else◌, AllCom
 use Rattle.port_operations.proofs.Terms.{busy_in, ClearTouch, Comes, Goes, GoTouch, History, is_open, key_in}
 use Rattle.port_operations.proofs.Terms.{key_touched_in, key_touched_out, Keys, keys, keys_of, LeadTo, Loaded}
 use Rattle.port_operations.proofs.Terms.{nat_tests, new_key, no_keys, Off, On, Plan, PortName, ProgramTouch}
-use Rattle.port_operations.proofs.Terms.{receiving_key, refuses, SealedList, sent_in, keys_settled, Shape, Sound}
+use Rattle.port_operations.proofs.Terms.{receiving_key, refuses, SealedList, sent_in, without_outlived, Shape, Sound}
 use Rattle.port_operations.proofs.Terms.{started, StopTouch, SubStream, taken_touches, Touch, touched, used, waits}
 use Rattle.port_operations.proofs.Terms.{with_key}
 
@@ -45,22 +45,23 @@ bounds s ts t come = subst (Bounds ts) (sym come.is.are) (shape_bounds s ts come
 
 -- ---- what touches make of keys
 
-settled_again : (s : Bool) (f : ℕ → Bool) (ks : Keys) → keys_settled s f (keys_settled s f ks) ≡ keys_settled s f ks
+settled_again : (s : Bool) (f : ℕ → Bool) (ks : Keys) → without_outlived s f (without_outlived s f ks)
+    ≡ without_outlived s f ks
 settled_again s f ks = grind (arith, nat_tests)
 
-settled_none : (s : Bool) (f : ℕ → Bool) → keys_settled s f no_keys ≡ no_keys
+settled_none : (s : Bool) (f : ℕ → Bool) → without_outlived s f no_keys ≡ no_keys
 settled_none s f = grind arith
 
-settled_keys : (s : Bool) (ts : List Touch) → keys_settled s (is_open ts) (keys s ts) ≡ keys s ts
+settled_keys : (s : Bool) (ts : List Touch) → without_outlived s (is_open ts) (keys s ts) ≡ keys s ts
 unfolding keys
 settled_keys s [] = settled_none s (is_open [])
 settled_keys s (t ∷ ts) = settled_again s (is_open (t ∷ ts)) (touched s (keys s ts) t)
 
 loaded : (s : Bool) (f : ℕ → Bool) (k : Bool) (j : ℕ) (ks : Keys) → refuses s ks k ≡ false
-    → keys_settled s f (touched s ks (ProgramTouch k j)) ≡ with_key ks k (Loaded j)
+    → without_outlived s f (touched s ks (ProgramTouch k j)) ≡ with_key ks k (Loaded j)
 loaded s f k j ks free = grind (arith, nat_tests)
 
-halted : (s : Bool) (f : ℕ → Bool) (k : Bool) (ks : Keys) → keys_settled s f (touched s ks (StopTouch k))
+halted : (s : Bool) (f : ℕ → Bool) (k : Bool) (ks : Keys) → without_outlived s f (touched s ks (StopTouch k))
     ≡ with_key ks k Off
 halted s f k ks = grind (arith, nat_tests)
 
@@ -89,12 +90,12 @@ goes_of k j sh goes = grind (arith, nat_tests)
 
 gone_new : (busy : ℕ → Bool) (k : Bool) (j : ℕ) (ks : Keys) → key_in ks k ≡ Loaded j
     → ((i : ℕ) → key_in ks (not k) ≡ On i → i < j)
-    → ((i : ℕ) → key_in ks (not k) ≡ Loaded i → ⊥) → keys_settled true busy (touched true ks (GoTouch k j))
+    → ((i : ℕ) → key_in ks (not k) ≡ Loaded i → ⊥) → without_outlived true busy (touched true ks (GoTouch k j))
     ≡ key_touched_out busy (GoTouch k j) ks
 gone_new busy k j ks is older one = grind (arith, nat_tests, older, one)
 
-gone_again : (busy : ℕ → Bool) (k : Bool) (j : ℕ) (ks : Keys) → key_in ks k ≡ On j → keys_settled true busy ks ≡ ks
-    → keys_settled true busy (touched true ks (GoTouch k j)) ≡ key_touched_out busy (GoTouch k j) ks
+gone_again : (busy : ℕ → Bool) (k : Bool) (j : ℕ) (ks : Keys) → key_in ks k ≡ On j → without_outlived true busy ks ≡ ks
+    → without_outlived true busy (touched true ks (GoTouch k j)) ≡ key_touched_out busy (GoTouch k j) ks
 gone_again busy k j ks is stays = grind (arith, nat_tests, stays)
 
 gone_out : (k : Bool) (j : ℕ) (ts : List Touch) → Comes true ts (GoTouch k j) → keys true (GoTouch k j ∷ ts)
@@ -105,7 +106,7 @@ gone_out k j ts come =
     by_on goes.0 (ap (λ (ks : Keys). key_in ks k) come.is.are ∙ goes.1)
   where
     by_on : (on : Bool) → key_in (keys true ts) k ≡ (if on then On j else Loaded j)
-        → keys_settled true (is_open ts) (touched true (keys true ts) (GoTouch k j))
+        → without_outlived true (is_open ts) (touched true (keys true ts) (GoTouch k j))
         ≡ key_touched_out (is_open ts) (GoTouch k j) (keys true ts)
     by_on true is = gone_again (is_open ts) k j (keys true ts) is (settled_keys true ts)
     by_on false is =

@@ -3,7 +3,7 @@ use Rattle.port_operations.proofs.Terms.{◌≡◌, ℕ, Bool, true, false, List
 use Rattle.port_operations.proofs.Terms.{◌||◌, key_in, nat_tests, AllowedIn, AllowedOut, any_live, busy_in, ClearTouch}
 use Rattle.port_operations.proofs.Terms.{GoTouch, History, is_on, key_touched_in, key_touched_out, Keys, LeadTo, Live}
 use Rattle.port_operations.proofs.Terms.{Loaded, new_key, On, open_unit, Plan, PortName, ProgramTouch, rx_slots}
-use Rattle.port_operations.proofs.Terms.{SealedList, sealing_key, sent_in, slot_touched, Slots, slots_touched}
+use Rattle.port_operations.proofs.Terms.{SealedList, sealing_key, sent_in, slot_touched, LaneSlots, slots_touched}
 use Rattle.port_operations.proofs.Terms.{StopTouch, SubStream, Touch, tx_slots, units, waits}
 
 -- ---- receivers
@@ -62,7 +62,7 @@ module _ (plan : Plan) (xs : SealedList) (s : SubStream) where
 
 -- slots stand for the keys to which touches lead, if they do after each touch that is allowed
 pub all_touched : (sends : Bool) (plan : Plan) (s : SubStream) (Allowed : Touch → Keys → Type 0)
-    (one : Touch → Keys → Keys) (slots : Keys → Slots)
+    (one : Touch → Keys → Keys) (slots : Keys → LaneSlots)
     → ((t : Touch) (keys : Keys) → Allowed t keys → slot_touched sends plan s t (slots keys) ≡ slots (one t keys))
     → (ts : List Touch) (before after : Keys) → LeadTo Allowed one ts before after
     → slots_touched sends plan s ts (slots before) ≡ slots after

@@ -5,7 +5,7 @@ pub use Rattle.link_ports.proofs.Terms.{nat_lt, None, not, Ok, Option, option_ma
 pub use Rattle.link_ports.proofs.Terms.{sym, true, ℕ, ◌&&◌, ◌+◌, ◌<◌, ◌==◌, ◌||◌, ◌∙◌, ◌∷◌, ◌≡◌, ◌≢◌, ◌≤◌, Alter}
 pub use Rattle.link_ports.proofs.Terms.{Arrival, Arrive, CauseLaw, Cpl, Cut, Dump, Event, History, IsNoOperation}
 pub use Rattle.link_ports.proofs.Terms.{KeyFacts, Keys, LinkState, Live, Loaded, Npr, Off, On, Pass, Plan, PortName}
-pub use Rattle.link_ports.proofs.Terms.{PortsStand, Pr, RxSub, SealedList, Send, Sending, Slots, Status, Stepped}
+pub use Rattle.link_ports.proofs.Terms.{PortsStand, Pr, RxSub, SealedList, Send, Sending, LaneSlots, Status, Stepped}
 pub use Rattle.link_ports.proofs.Terms.{StreamState, SubKind, SubStream, TxSub, Verdict}
 pub use Rattle.link_ports.proofs.Terms.{changed_by_id}
 pub use Rattle.link_ports.proofs.Terms.{each_sub, eqb-refl, failed, fails_at, found_by_id, get_or-set_other}
@@ -45,7 +45,7 @@ pub use Rattle.key_laws.specs.History.{kept_draw, keys_there, on_it, op_of, stat
 pub use Rattle.key_laws.specs.History.{worked}
 unfoldable pub use Rattle.key_laws.specs.History.{base, manager, moments}
 pub use Rattle.key_laws.specs.Keys.{Clear as ClearTouch, Go as GoTouch, Program as ProgramTouch, Stop as StopTouch}
-pub use Rattle.key_laws.specs.Keys.{Touch, is_live_draw as is_live_there, kept_in, no_keys, refuses, keys_settled}
+pub use Rattle.key_laws.specs.Keys.{Touch, is_live_draw as is_live_there, kept_in, no_keys, refuses, without_outlived}
 pub use Rattle.key_laws.specs.Keys.{slot_of}
 pub use Rattle.key_laws.specs.Keys.{touched, with_key}
 unfoldable pub use Rattle.key_laws.specs.Keys.{is_open, keys}
@@ -73,7 +73,7 @@ pub use Rattle.link_ports.specs.Machine.{touched_at, touched_found, touched_stat
 pub use Rattle.link_ports.specs.Machine.{stepped_operation, port_at, ports_of, refresh_found, refuses_at, refuses_in}
 pub use Rattle.link_ports.specs.Machine.{reset_state, status_at, status_found, status_if_planned, stop_found, work_done}
 unfoldable pub use Rattle.link_ports.specs.Machine.{find_op, put_op}
-pub use Rattle.link_ports.specs.Stream.{any_live, has_all_live, has_some_live, is_live_slot, no_stream, settled_stream}
+pub use Rattle.link_ports.specs.Stream.{any_live, has_all_live, has_some_live, is_live_slot, no_stream, rested_stream}
 pub use Rattle.link_ports.specs.Stream.{slots_at}
 pub use Rattle.link_ports.specs.Touches.{slot_touched, slots_touched, taken_touches, touched_stream}
 pub use Rattle.link_ports.specs.Stands.{FirstStands, PortsStandFor, StepStands, op_at, receiving_key}

@@ -7,7 +7,7 @@ use Rattle.port_operations.proofs.Terms.{lane_in, lane_out, LinkState, live_at, 
 use Rattle.port_operations.proofs.Terms.{port_at, PortName, ports_at, ports_of, PortsStand, refuses, refuses_at}
 use Rattle.port_operations.proofs.Terms.{refuses_in, rx_slots, rx_standing, RxSub, sealed_packets, SealedList}
 use Rattle.port_operations.proofs.Terms.{slot_in_set}
-use Rattle.port_operations.proofs.Terms.{slot_of, Slots, slots_at, standing, StreamState, SubStream, tx_slots}
+use Rattle.port_operations.proofs.Terms.{slot_of, LaneSlots, slots_at, standing, StreamState, SubStream, tx_slots}
 use Rattle.port_operations.proofs.Terms.{tx_standing, TxSub}
 use Rattle.key_laws.specs.Keys.{refusal_if}
 use Rattle.link_keys.proofs.Unplanned.{unplanned_keys}
@@ -36,7 +36,7 @@ live_into plan h k port s ks apart = grind arith
 
 -- ---- a stream that the plan has, and one that it does not have
 
-known : (plan : Plan) (h : History) → CauseLaw plan h → (p : KeyPlace) (sends : Bool) (seen : Slots → Bool)
+known : (plan : Plan) (h : History) → CauseLaw plan h → (p : KeyPlace) (sends : Bool) (seen : LaneSlots → Bool)
     (there : Bool → Keys → Bool)
     → ((xs : SealedList) (s : SubStream) (ks : Keys) → Apart ks → seen (tx_slots plan xs s ks) ≡ there true ks)
     → ((port : PortName) (s : SubStream) (ks : Keys) → Apart ks → seen (rx_slots plan h port s ks) ≡ there false ks)

@@ -1,5 +1,5 @@
 -- Worked cases: operations among sends, by the definitions and by the machine.
-use Rattle.std.specs.Prelude.{◌≡◌, Some, None, ℕ, Bool, false, true, List, [], ◌∷◌, map, replicate}
+use Rattle.std.specs.Prelude.{◌≡◌, Some, None, ℕ, Bool, false, true, List, [], ◌∷◌, map, replicate, Err}
 use Rattle.ide_types.specs.declared.sub.SubKind.TheVariants.{Pr}
 use Rattle.ide_types.specs.declared.port.Side.TheVariants.{Device}
 use Rattle.ide_types.specs.declared.port.PortName.{PortName}
@@ -65,6 +65,8 @@ no_interfaces = record {
   t = λ port head stream trusted. false;
   effects = λ port unit ps. map (λ p. effect.Delivered) ps;
   answer = λ e. v.Nothing;
+  reply = λ link. Err v.Nothing;
+  shows = λ i bar offset len. v.Nothing;
 }
 
 abbrev pub port_verdicts_on : History → List Event → List Verdict

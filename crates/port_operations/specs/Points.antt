@@ -7,12 +7,12 @@ use Rattle.ide_plan.specs.declared.plan.Plan.{Plan}
 use Rattle.key_laws.specs.Operations.{Idle, Establishing, Refreshing}
 use Rattle.key_laws.specs.History.{History, kept_draw, draw_on_at, go_at}
 use Rattle.link_history.specs.Plan.{SubStream, lane_out, lane_in, key_of}
-use Rattle.link_ports.specs.Stream.{Slot, Empty, Programmed, Armed, Live, StreamState, slot_in_set, slots_at}
+use Rattle.link_ports.specs.Stream.{LaneSlot, Empty, Programmed, Armed, Live, StreamState, slot_in_set, slots_at}
 use Rattle.link_ports.specs.Machine.{LinkState, find, find_op, port_at, place_at_end}
 use Rattle.link_ports.specs.Stands.{PortsStandFor}
 
 -- the draw in a slot, and its key
-abbrev pub key_held : Slot → Option (ℕ × List ℕ)
+abbrev pub key_held : LaneSlot → Option (ℕ × List ℕ)
 key_held Empty = None
 key_held (Programmed j key) = Some (j, key)
 key_held (Armed j key) = Some (j, key)

@@ -7,7 +7,7 @@ use Rattle.sealing_laws.proofs.Terms.{Option, Some, inl, inr, ◌⊎◌, refl, a
 use Rattle.sealing_laws.proofs.Terms.{if◌then◌else◌, ◌&&◌, nat_le, is_some, after_last, and_parts, cases_Bool}
 use Rattle.sealing_laws.proofs.Terms.{eqb-true, leb-true, nat_tests, SubKind, Pr, PortName, Event, Verdict}
 use Rattle.sealing_laws.proofs.Terms.{SealedPacket, Packet, Prefix, Plan, SubStream, lane_out, mode_of, stream_plan}
-use Rattle.sealing_laws.proofs.Terms.{is_same, is_same_port, open_unit, History, base, front_of_packet, SealedList}
+use Rattle.sealing_laws.proofs.Terms.{is_same, is_same_port, open_unit, History, base, ahead_of_packet, SealedList}
 use Rattle.sealing_laws.proofs.Terms.{KeyName}
 use Rattle.sealing_laws.proofs.Terms.{sealed_packets, with_sealed, packet_of, prefix_of, sent_in, posted_in}
 use Rattle.sealing_laws.proofs.Terms.{posted_of, is_in, sub_stream_of, is_posted, CauseLaw, DrawFacts, NoneFrom}
@@ -31,32 +31,32 @@ id_byte plan fits link stream is = grind (arith, fits.id link stream)
 
 -- ---- of one stream at the port that seals
 
-abbrev pub front_of : PortName → ℕ → SealedList → SubKind → ℕ → ℕ
-front_of port stream xs u j = length (open_unit (sent_in xs (lane_out port stream u) j))
+abbrev pub open_count : PortName → ℕ → SealedList → SubKind → ℕ → ℕ
+open_count port stream xs u j = length (open_unit (sent_in xs (lane_out port stream u) j))
 
 pub record Bounds (plan : Plan) (port : PortName) (stream : ℕ) (live : SubKind → Option KeyName) (from : ℕ)
     (xs : SealedList) : Type 0 where
   pub room : (u : SubKind) (key : KeyName) → live u ≡ Some key
-      → front_of port stream xs u key.draw < mode_of plan port.link stream
+      → open_count port stream xs u key.draw < mode_of plan port.link stream
   pub count : (u : SubKind) → is_posted u ≡ false → posted_in xs (lane_out port stream u) from ≤ 255
   -- the packets that are still to come in the open unit are counted beforehand
   pub open_room : (u : SubKind) → is_posted u ≡ false → (key : KeyName) → live Pr ≡ Some key
-      → (front_of port stream xs Pr key.draw ≡ 0) ⊎
-      (posted_in xs (lane_out port stream u) from + mode_of plan port.link stream ≤ 255 + front_of port stream xs Pr
+      → (open_count port stream xs Pr key.draw ≡ 0) ⊎
+      (posted_in xs (lane_out port stream u) from + mode_of plan port.link stream ≤ 255 + open_count port stream xs Pr
       key.draw)
 
-pub prefix_is : (plan : Plan) (ahead bytes : List ℕ) (d : SealedPacket) (front : List Packet)
-    → (packet_of plan ahead bytes d front).prefix ≡ prefix_of d
+pub prefix_is : (plan : Plan) (ahead bytes : List ℕ) (d : SealedPacket) (unfinished : List Packet)
+    → (packet_of plan ahead bytes d unfinished).prefix ≡ prefix_of d
 unfolding packet_of
-prefix_is plan ahead bytes d front = refl
+prefix_is plan ahead bytes d unfinished = refl
 
 module _ (plan : Plan) (fits : StreamsFit plan) (port : PortName) (stream : ℕ) (live : SubKind → Option KeyName)
     (from : ℕ) (class : SubKind) where
   abbrev lane : SubKind → SubStream
   lane u = lane_out port stream u
 
-  abbrev front : SealedList → SubKind → ℕ → ℕ
-  front xs u j = front_of port stream xs u j
+  abbrev unfinished : SealedList → SubKind → ℕ → ℕ
+  unfinished xs u j = open_count port stream xs u j
 
   abbrev count : SealedList → SubKind → ℕ
   count xs u = posted_in xs (lane u) from
@@ -70,11 +70,11 @@ module _ (plan : Plan) (fits : StreamsFit plan) (port : PortName) (stream : ℕ)
   same_draw xs d of u key is here = cc (ap live (same_sub d.sub u here), of.live_is)
 
   -- what one packet does to an open unit
-  front-one : (xs : SealedList) (d : SealedPacket) (p : Packet) → IsOf plan port stream live from class xs d
+  unfinished-one : (xs : SealedList) (d : SealedPacket) (p : Packet) → IsOf plan port stream live from class xs d
       → p.prefix.m ≡ d.m
-      → (u : SubKind) (key : KeyName) → live u ≡ Some key → front (xs ++ (d, p) ∷ []) u key.draw
-      ≡ (if is_same_sub d.sub u then (if d.m then 0 else front xs u key.draw + 1) else front xs u key.draw)
-  front-one xs d p of m u key is =
+      → (u : SubKind) (key : KeyName) → live u ≡ Some key → unfinished (xs ++ (d, p) ∷ []) u key.draw
+      ≡ (if is_same_sub d.sub u then (if d.m then 0 else unfinished xs u key.draw + 1) else unfinished xs u key.draw)
+  unfinished-one xs d p of m u key is =
       let ps = sent_in xs (lane u) key.draw in
       let here = in_lane port stream d u of.port_is of.stream_is in
       let grown = length-append (open_unit ps) (p ∷ []) in
@@ -104,9 +104,9 @@ module _ (plan : Plan) (fits : StreamsFit plan) (port : PortName) (stream : ℕ)
   has_room : (xs : SealedList) (d : SealedPacket) → IsOf plan port stream live from class xs d
       → Bounds plan port stream live from xs
       → (u : SubKind) → is_posted u ≡ false → (key : KeyName) → live Pr ≡ Some key → is_posted d.sub ≡ true
-      → count xs u + mode ≤ 255 + front xs Pr key.draw
+      → count xs u + mode ≤ 255 + unfinished xs Pr key.draw
   has_room xs d of bounds u other key is posted =
-      let clear : front xs Pr key.draw ≡ 0 → (count xs u + mode ≤ 255) ⊎ (count xs u ≡ 0) =
+      let clear : unfinished xs Pr key.draw ≡ 0 → (count xs u + mode ≤ 255) ⊎ (count xs u ≡ 0) =
       λ empty. of.clear posted (rw (same_sub d.sub Pr posted, same_draw xs d of Pr key is posted) empty) u other in
       grind (arith, clear, bounds.open_room u other key is, mode_eight plan fits port.link stream)
 
@@ -115,11 +115,11 @@ module _ (plan : Plan) (fits : StreamsFit plan) (port : PortName) (stream : ℕ)
       → Bounds plan port stream live from xs → Bounds plan port stream live from (xs ++ (d, p) ∷ [])
   one_bounded xs d p of m bounds = record {
     room = λ u key is.
-        let one = front-one xs d p of m u key is in
+        let one = unfinished-one xs d p of m u key is in
         grind (arith, nat_tests, one, bounds.room u key is, mode_one plan fits port.link stream, more u key is);
     count = λ u other. grind (arith, posted-one xs d p of u, bounds.count u other, posted_room u other);
     open_room = λ u other key is.
-        let one = front-one xs d p of m Pr key is in
+        let one = unfinished-one xs d p of m Pr key is in
         let room = has_room xs d of bounds u other key is in
         grind (
           arith,
@@ -133,7 +133,7 @@ module _ (plan : Plan) (fits : StreamsFit plan) (port : PortName) (stream : ℕ)
   }
     where
       more : (u : SubKind) (key : KeyName) → live u ≡ Some key → is_same_sub d.sub u ≡ true → d.m ≡ false
-          → (front xs u key.draw + 1 == mode) ≡ false
+          → (unfinished xs u key.draw + 1 == mode) ≡ false
       more u key is here not_m = rw (← same_draw xs d of u key is here, ← same_sub d.sub u here) (of.more not_m)
 
       posted_room : (u : SubKind) → is_posted u ≡ false → is_posted d.sub ≡ true → count xs u < 255
@@ -192,8 +192,8 @@ none_from plan h port stream u from none =
 moved : (plan : Plan) → StreamsFit plan → (port : PortName) (stream : ℕ) (live later : SubKind → Option KeyName)
     (from next : ℕ) (xs ys : SealedList)
     → ((u : SubKind) (key : KeyName) → later u ≡ Some key
-    → ((live u ≡ Some key) × (front_of port stream ys u key.draw ≡ front_of port stream xs u key.draw))
-    ⊎ (front_of port stream ys u key.draw ≡ 0))
+    → ((live u ≡ Some key) × (open_count port stream ys u key.draw ≡ open_count port stream xs u key.draw))
+    ⊎ (open_count port stream ys u key.draw ≡ 0))
     → ((u : SubKind) → let s = lane_out port stream u in (posted_in ys s next ≡ posted_in xs s from)
     ⊎ (posted_in ys s next ≡ 0))
     → Bounds plan port stream live from xs → Bounds plan port stream later next ys
@@ -217,8 +217,8 @@ keys_change plan fits facts h e w law port stream = moved plan fits port stream 
     ys = sealed_packets plan ((e, w) ∷ h)
 
     fronts : (u : SubKind) (key : KeyName) → live_at plan ((e, w) ∷ h) port stream u ≡ Some key
-        → let front = front_of port stream ys u key.draw in
-        ((live_at plan h port stream u ≡ Some key) × (front ≡ front)) ⊎ (front ≡ 0)
+        → let unfinished = open_count port stream ys u key.draw in
+        ((live_at plan h port stream u ≡ Some key) × (unfinished ≡ unfinished)) ⊎ (unfinished ≡ 0)
     fronts u key is = elim (facts.fresh h e w law port stream u key is) [
       | inl before ↦ inl (before, refl)
       | inr none ↦ inr (ap (λ (ps : List Packet). length (open_unit ps)) none)
@@ -245,7 +245,7 @@ sealing_bounded plan fits facts h e ds law port stream before =
     let s = is.sending in
     let all = all_of_sealing plan facts h law.1 (sending_port e) (sent_bytes plan h e) ds is in
     let xs = sealed_packets plan h in
-    let ahead = front_of_packet plan xs (base h) in
+    let ahead = ahead_of_packet plan xs (base h) in
     elim (cases_Bool (is_same_port s.port port && (s.stream == stream))) [
       | inl here ↦
           let tests = and_parts (is_same_port s.port port) (s.stream == stream) here in
@@ -254,10 +254,10 @@ sealing_bounded plan fits facts h e ds law port stream before =
           (sent_bytes plan h e) ds xs same before
       | inr other ↦
           let out = all_out plan s.port port s.stream stream _ _ s.class xs ds all other in
-          let front = λ (u : SubKind) (j : ℕ). ap (λ (ps : List Packet). length (open_unit ps))
+          let unfinished = λ (u : SubKind) (j : ℕ). ap (λ (ps : List Packet). length (open_unit ps))
           (sent_elsewhere plan ahead (sent_bytes plan h e) ds xs port stream u j out) in
           moved plan fits port stream _ _ _ _ xs (with_sealed plan ahead (sent_bytes plan h e) ds xs)
-          (λ u key is. inl (is, front u key.draw))
+          (λ u key is. inl (is, unfinished u key.draw))
           (λ u. inl (posted_elsewhere plan ahead (sent_bytes plan h e) ds xs port stream u (from_at plan h port stream)
           out)) before
     ]

@@ -2,7 +2,7 @@
 use Rattle.sealing_laws.proofs.Terms.{◌≡◌, ◌≢◌, ℕ, ◌≤◌, true, List, [], ◌∷◌, ◌++◌, Option, Some, slice_get, take, ap}
 use Rattle.sealing_laws.proofs.Terms.{sym, ◌∙◌, inl, inr, AllByRecursion, ne_eqb, sub_bits, SubKind, PortName, Event}
 use Rattle.sealing_laws.proofs.Terms.{Verdict, Sealed, SealedPacket, Prefix, Packet, Plan, SubStream, is_same}
-use Rattle.sealing_laws.proofs.Terms.{lane_out, open_unit, History, base, front_of_packet, SealedList, KeyName}
+use Rattle.sealing_laws.proofs.Terms.{lane_out, open_unit, History, base, ahead_of_packet, SealedList, KeyName}
 use Rattle.sealing_laws.proofs.Terms.{sealed_packets, sent_in, with_sealed, packet_of, sub_stream_of, posted_in}
 use Rattle.sealing_laws.proofs.Terms.{CauseLaw, DrawFacts, BaseStays, same_stream, sealing_is, sent_bytes}
 use Rattle.sealing_laws.proofs.Terms.{sending_port}
@@ -35,9 +35,10 @@ all_counted : (plan : Plan) (h : History) (port : PortName) (stream : ℕ) (live
     → Stays plan h from s ds → IsCounted from s xs → IsCounted from s (with_sealed plan ahead bytes ds xs)
 all_counted plan h port stream live class ahead bytes from s other [] xs all stays counted = counted
 all_counted plan h port stream live class ahead bytes from s other (d ∷ ds) xs all stays counted =
-    let front = open_unit (sent_in xs (sub_stream_of d) d.draw) in
-    let p = packet_of plan (ahead d) bytes d front in
-    let posted : p.prefix.posted ≡ d.posted = ap (λ (f : Prefix). f.posted) (prefix_is plan (ahead d) bytes d front) in
+    let unfinished = open_unit (sent_in xs (sub_stream_of d) d.draw) in
+    let p = packet_of plan (ahead d) bytes d unfinished in
+    let posted : p.prefix.posted ≡ d.posted = ap (λ (f : Prefix). f.posted)
+    (prefix_is plan (ahead d) bytes d unfinished) in
     all_counted plan h port stream live class ahead bytes from s other ds (xs ++ (d, p) ∷ []) (all.1 p) stays.1
     (counted-snoc from s xs (d, p) counted (λ here up. posted ∙ says here (stays.0 here up)))
   where
@@ -64,7 +65,7 @@ counted plan facts ((e, Sealed ds) ∷ h) cause s from other stays =
     let is = sealing_is plan h e ds cause.0 in
     let t = is.sending in
     all_counted plan h t.port t.stream (live_at plan h t.port t.stream) t.class
-    (front_of_packet plan (sealed_packets plan h) (base h)) (sent_bytes plan h e) from s other ds
+    (ahead_of_packet plan (sealed_packets plan h) (base h)) (sent_bytes plan h e) from s other ds
     (sealed_packets plan h)
     (all_of_sealing plan facts h cause.1 (sending_port e) (sent_bytes plan h e) ds is) stays.0
     (counted plan facts h cause.1 s from other stays.1)

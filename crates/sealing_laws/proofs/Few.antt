@@ -2,7 +2,7 @@
 use Rattle.sealing_laws.proofs.Terms.{◌≡◌, ℕ, ◌+◌, ◌*◌, ◌≤◌, Bool, List, [], ◌∷◌, ◌++◌, length, filter, arith}
 use Rattle.sealing_laws.proofs.Terms.{length-append, PortName, SealedPacket, Packet, Plan, open_unit, History, base}
 use Rattle.sealing_laws.proofs.Terms.{SealedList, sealed_packets, with_sealed, packet_of, sent_in, sub_stream_of}
-use Rattle.sealing_laws.proofs.Terms.{front_of_packet, total_in, ends_in, lanes_at, CauseLaw, TotalsFit, listed}
+use Rattle.sealing_laws.proofs.Terms.{ahead_of_packet, total_in, ends_in, lanes_at, CauseLaw, TotalsFit, listed}
 use Rattle.sealing_laws.proofs.Terms.{sealed_by_is, IsSealing, sealing_is, Sealed, sent_bytes, sending_port}
 
 three_sealed : (plan : Plan) (h : History) (port : PortName) (bytes : List ℕ) (ds : List SealedPacket)
@@ -26,7 +26,7 @@ sealed_few plan [] law = omega arith
 sealed_few plan ((e, Sealed ds) ∷ h) law =
     let rest = sealed_few plan h law.1 in
     let three = three_sealed plan h (sending_port e) (sent_bytes plan h e) ds (sealing_is plan h e ds law.0) in
-    let all = sealed_length plan (front_of_packet plan (sealed_packets plan h) (base h)) (sent_bytes plan h e) ds
+    let all = sealed_length plan (ahead_of_packet plan (sealed_packets plan h) (base h)) (sent_bytes plan h e) ds
     (sealed_packets plan h) in
     omega (arith, rest, three, all)
 sealed_few plan ((e, w) ∷ h) law = let rest = sealed_few plan h law.1 in omega (arith, rest)

@@ -7,7 +7,7 @@ use Rattle.sealing_laws.proofs.Terms.{take, slice_get, Some, refl, ap, sym, ◌�
 use Rattle.sealing_laws.proofs.Terms.{list_any, both_ways, cases_Bool, or_cases, take_at, nat_tests, PortName, Sealed}
 use Rattle.sealing_laws.proofs.Terms.{SealedPacket, Packet, Plan, SubStream, is_same, units, History, base}
 use Rattle.sealing_laws.proofs.Terms.{SealedList, sealed_packets, sent, sent_in, is_under, sub_stream_of, total_in}
-use Rattle.sealing_laws.proofs.Terms.{front_of, front_sent, is_of_unit, front_of_packet, CauseLaw, DrawFacts}
+use Rattle.sealing_laws.proofs.Terms.{ahead_of_unit, ahead_sent, is_of_unit, ahead_of_packet, CauseLaw, DrawFacts}
 use Rattle.sealing_laws.proofs.Terms.{StreamsFit}
 use Rattle.sealing_laws.proofs.Terms.{same_stream, is_same-refl, IsLive, AllLive, sealing_is, all_live, sent_bytes}
 use Rattle.sealing_laws.proofs.Terms.{sending_port}
@@ -67,18 +67,18 @@ sum_sent plan h s from j = total from j (λ i. units_sent plan h s i)
 
 pub front_is : (plan : Plan) → StreamsFit plan → DrawFacts plan → (h : History) → CauseLaw plan h
     → (s : SubStream) (j : ℕ) → IsSealedIn plan h s j
-    → base h s.link s.stream ≤ j → front_sent plan h s j 1 ≡ front_of plan s 1
+    → base h s.link s.stream ≤ j → ahead_sent plan h s j 1 ≡ ahead_of_unit plan s 1
     (sum_sent plan h s (base h s.link s.stream) j)
-unfolding sealed_packets front_sent units
+unfolding sealed_packets ahead_sent units
 front_is plan fits facts [] law s j x up = let none = x.stands in absurd cc
 front_is plan fits facts ((e, Sealed ds) ∷ h) law s j x up =
     let before = front_is plan fits facts h law.1 s j in
     elim (cases_Bool (list_any (is_of_unit s j 1) ds)) [
-      | inl some ↦ rw some (ap (front_of plan s 1) (from_new some))
+      | inl some ↦ rw some (ap (ahead_of_unit plan s 1) (from_new some))
       | inr none ↦
           let older = first_is_old none in
           rw none (before older (omega (arith, up, base_is))
-          ∙ ap (front_of plan s 1) (moved (λ i less. sent_kept plan facts h e (Sealed ds) law s i j older less)))
+          ∙ ap (ahead_of_unit plan s 1) (moved (λ i less. sent_kept plan facts h e (Sealed ds) law s i j older less)))
     ]
   where
     g : History
@@ -114,7 +114,7 @@ front_is plan fits facts ((e, Sealed ds) ∷ h) law s j x up =
         record {
           place = y.place;
           sealed = y.sealed;
-          stands = elim (old_or_new plan (front_of_packet plan xs (base h)) (sent_bytes plan h e) ds xs y.place y.sealed
+          stands = elim (old_or_new plan (ahead_of_packet plan xs (base h)) (sent_bytes plan h e) ds xs y.place y.sealed
               y.stands) [
                 | inl old ↦ old
                 | inr new ↦ absurd (both_ways _ none
@@ -132,7 +132,7 @@ front_is plan fits facts ((e, Sealed ds) ∷ h) law s j x up =
         let one = any_live plan h is.sending.port is.sending.stream (is_of_unit s j 1) ds live some in
         let names = unit_parts s j 1 one.0 one.2 in
         let each = rw names.1 at (draws_one plan h is.sending.port is.sending.stream one.0 s one.1 names.0 ds live) in
-        let new = any_new (is_of_unit s j 1) plan (front_of_packet plan xs (base h)) (sent_bytes plan h e) ds xs some in
+        let new = any_new (is_of_unit s j 1) plan (ahead_of_packet plan xs (base h)) (sent_bytes plan h e) ds xs some in
         let z = new.1 in
         let of = unit_parts s j 1 z.0 new.3 in
         let grown = packets_grow plan h e (Sealed ds) in
@@ -151,9 +151,9 @@ front_is plan fits facts ((e, Sealed ds) ∷ h) law s j x up =
         (arith, ap (λ (zs : SealedList). length (units (sent_in zs s j))) front, within, unit, of.2) in
         total_is xs s from (suc j) below
         ∙ (last_none from j (λ i. units_sent plan h s i) none ∙ moved
-        (λ i less. others_kept plan (front_of_packet plan xs (base h)) (sent_bytes plan h e) s i j less ds xs each))
+        (λ i less. others_kept plan (ahead_of_packet plan xs (base h)) (sent_bytes plan h e) s i j less ds xs each))
 front_is plan fits facts ((e, w) ∷ h) law s j x up =
     let same = base_kept plan facts h e w law s j x up in
     front_is plan fits facts h law.1 s j
     (record { place = x.place; sealed = x.sealed; stands = x.stands; under = x.under }) (omega (arith, up, same))
-    ∙ ap (λ (b : ℕ). front_of plan s 1 (sum_sent plan h s b j)) (sym same)
+    ∙ ap (λ (b : ℕ). ahead_of_unit plan s 1 (sum_sent plan h s b j)) (sym same)

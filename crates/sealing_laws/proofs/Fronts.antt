@@ -1,41 +1,18 @@
--- What stays while more is sealed. The list of sealed packets grows only at its end, so a packet keeps its place.
--- Sealed draws rise, so once one was sealed under, nothing of a smaller one follows (`sent_kept`). Base stays, since it
--- moves only to a draw of which nothing was sealed (`base_kept`). The rest finds packets among those of the last send.
-use Rattle.sealing_laws.proofs.Terms.{◌≡◌, ℕ, zero, suc, ◌<◌, ◌≤◌, Bool, true, List, [], ◌∷◌, ◌++◌, length, take}
+-- What stays while more is sealed. A packet keeps its place in the list of sealed packets. Sealed draws rise, so once
+-- one was sealed under, nothing of a smaller one follows (`sent_kept`). Base stays, since it moves only to a draw of
+-- which nothing was sealed (`base_kept`). The rest finds packets among those of the last send.
+use Rattle.sealing_laws.proofs.Terms.{◌≡◌, ℕ, ◌<◌, ◌≤◌, Bool, true, List, [], ◌∷◌, ◌++◌, length, take}
 use Rattle.sealing_laws.proofs.Terms.{slice_get, Some, refl, ap, sym, ◌∙◌, subst, arith, append_assoc, length-append}
 use Rattle.sealing_laws.proofs.Terms.{inl, inr, ◌⊎◌, AllByRecursion, list_any, or_cases, or_left, or_right, nat_tests}
-use Rattle.sealing_laws.proofs.Terms.{slice_get_cases, append-nil, take-append-le, PortName, Event, Verdict, Sealed}
+use Rattle.sealing_laws.proofs.Terms.{slice_get_cases, take-append-le, PortName, Event, Verdict}
 use Rattle.sealing_laws.proofs.Terms.{SealedPacket, Packet, Plan, SubStream, is_same, lane_out, open_unit, History}
 use Rattle.sealing_laws.proofs.Terms.{base, live_key, SealedList, KeyName, sealed_packets, with_sealed, packet_of}
-use Rattle.sealing_laws.proofs.Terms.{sent, sent_in, is_under, sub_stream_of, front_of_packet, CauseLaw, DrawFacts}
+use Rattle.sealing_laws.proofs.Terms.{sent, sent_in, is_under, sub_stream_of, CauseLaw, DrawFacts}
 use Rattle.sealing_laws.proofs.Terms.{IsLive}
-use Rattle.sealing_laws.proofs.Terms.{sent_in-snoc, sent_bytes}
+use Rattle.sealing_laws.proofs.Terms.{sent_in-snoc}
+pub use Rattle.link_history.proofs.Growth.{with_grows, packets_grow, at_front}
 use Rattle.sealing_laws.proofs.Places.{last_place, place_among}
 use Rattle.sealing_laws.proofs.Sums.{in_parts, smaller_before, element_behind}
-
--- ---- what was sealed grows at its end
-
-pub with_grows : (plan : Plan) (ahead : SealedPacket → List ℕ) (bytes : List ℕ) (ds : List SealedPacket)
-    (xs : SealedList) → (rest : SealedList) × (xs ++ rest ≡ with_sealed plan ahead bytes ds xs)
-with_grows plan ahead bytes [] xs = ([], append-nil xs)
-with_grows plan ahead bytes (d ∷ ds) xs =
-    let x : SealedPacket × Packet =
-    (d, packet_of plan (ahead d) bytes d (open_unit (sent_in xs (sub_stream_of d) d.draw))) in
-    let more = with_grows plan ahead bytes ds (xs ++ x ∷ []) in
-    (x ∷ more.0, sym (append_assoc xs (x ∷ []) more.0) ∙ more.1)
-
-pub packets_grow : (plan : Plan) (h : History) (e : Event) (w : Verdict) → (rest : SealedList)
-    × (sealed_packets plan h ++ rest ≡ sealed_packets plan ((e, w) ∷ h))
-unfolding sealed_packets
-packets_grow plan h e (Sealed ds) = with_grows plan (front_of_packet plan (sealed_packets plan h) (base h))
-    (sent_bytes plan h e) ds (sealed_packets plan h)
-packets_grow plan h e w = ([], append-nil (sealed_packets plan h))
-
-pub at_front : {A : Type 0} (xs ys : List A) (i : ℕ) (x : A) → slice_get xs i ≡ Some x
-    → (slice_get (xs ++ ys) i ≡ Some x) × (i < length xs)
-at_front [] ys i x is = absurd cc
-at_front (z ∷ xs) ys zero x is = (is, omega arith)
-at_front (z ∷ xs) ys (suc i) x is = let rest = at_front xs ys i x is in (rest.0, omega (arith, rest.1))
 
 -- a packet of the sub-stream and draw was sealed
 pub record IsSealedIn (plan : Plan) (h : History) (s : SubStream) (j : ℕ) : Type 0 where

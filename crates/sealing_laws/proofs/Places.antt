@@ -8,7 +8,7 @@ use Rattle.sealing_laws.proofs.Terms.{if◌then◌else◌, slice_get, filter, ma
 use Rattle.sealing_laws.proofs.Terms.{nat_tests, nil_from_length, All-nil, SubKind, PortName, Sealed, SealedPacket}
 use Rattle.sealing_laws.proofs.Terms.{Tlp, class_of, header, body, read_of, Prefix, Packet, FitsPrefix, FitsPacket}
 use Rattle.sealing_laws.proofs.Terms.{length-masked, masked-bytes, length-tag_of, tag_of-bytes, Plan, SubStream}
-use Rattle.sealing_laws.proofs.Terms.{lane_out, mode_of, units, open_unit, History, base, front_of_packet, SealedList}
+use Rattle.sealing_laws.proofs.Terms.{lane_out, mode_of, units, open_unit, History, base, ahead_of_packet, SealedList}
 use Rattle.sealing_laws.proofs.Terms.{KeyName, sealed_packets, with_sealed, sent, sent_in, is_under, sub_stream_of}
 use Rattle.sealing_laws.proofs.Terms.{prefix_of, packet_of, untagged_packet, unit_tag, keys_at, is_posted, CauseLaw}
 use Rattle.sealing_laws.proofs.Terms.{DrawFacts, on_live, lane_is, sealing_is, StreamsFit, sent_bytes, sending_port}
@@ -74,12 +74,13 @@ place_among (x ∷ xs) s j m p is = by_test (is_under s j x) refl m is (place_am
 -- ---- the packets
 
 -- its spelling
-packet_fits : (plan : Plan) (ahead bytes : List ℕ) (d : SealedPacket) (front : List Packet) (t : Tlp) → read_of bytes
+packet_fits : (plan : Plan) (ahead bytes : List ℕ) (d : SealedPacket) (unfinished : List Packet) (t : Tlp)
+    → read_of bytes
     ≡ Ok t
     → (d.sync ≡ false → class_of (header t) ≡ d.sub) → (d.sync ≡ true → IsSyncOf d) → FitsPrefix (prefix_of d)
-    → FitsPacket (packet_of plan ahead bytes d front)
+    → FitsPacket (packet_of plan ahead bytes d unfinished)
 unfolding packet_of
-packet_fits plan ahead bytes d front t reads class is_sync fits = elim (cases_Bool d.sync) [
+packet_fits plan ahead bytes d unfinished t reads class is_sync fits = elim (cases_Bool d.sync) [
   | inl sync ↦
       let is = is_sync sync in
       record {
@@ -112,12 +113,12 @@ packet_fits plan ahead bytes d front t reads class is_sync fits = elim (cases_Bo
 ]
   where
     tag_fits : (m : Bool) → All (λ b. b < 256)
-        (if m then unit_tag plan ahead d (front ++ untagged_packet plan bytes d front ∷ []) else [])
+        (if m then unit_tag plan ahead d (unfinished ++ untagged_packet plan bytes d unfinished ∷ []) else [])
     tag_fits true = tag_of-bytes _ _ _ _
     tag_fits false = All-nil _
 
     size_fits : (m : Bool) → length
-        (if m then unit_tag plan ahead d (front ++ untagged_packet plan bytes d front ∷ []) else [])
+        (if m then unit_tag plan ahead d (unfinished ++ untagged_packet plan bytes d unfinished ∷ []) else [])
         ≡ (if m then 12 else 0)
     size_fits true = length-tag_of _ _ _ _
     size_fits false = refl
@@ -191,7 +192,7 @@ placed plan fits facts ((e, Sealed ds) ∷ h) law i x at =
     let bounds = bounded plan fits facts h law.1 s.port s.stream in
     all_placed plan fits s.port s.stream (live_at plan h s.port s.stream) (from_at plan h s.port s.stream) s.class
     (id s.port s.stream) (sent_bytes plan h e) is.tlp
-    is.reads is.class (front_of_packet plan (sealed_packets plan h) (base h)) ds (sealed_packets plan h) all bounds
+    is.reads is.class (ahead_of_packet plan (sealed_packets plan h) (base h)) ds (sealed_packets plan h) all bounds
     (placed plan fits facts h law.1) i x at
   where
     id : (port : PortName) (stream : ℕ) (u : SubKind) (key : KeyName) → live_at plan h port stream u ≡ Some key

@@ -89,7 +89,7 @@ module _ (plan : Plan) (facts : DrawFacts plan) (h : History) (law : CauseLaw pl
 
   describes : (xs : SealedList) (u : SubKind) (number : ℕ) (m t sync : Bool) → MaySeal u
       → Same s.port s.stream from u (sealed_packets plan h) xs
-      → (m ≡ false → (length (x.lane u).front + 1 == mode) ≡ false)
+      → (m ≡ false → (length (x.lane u).unfinished + 1 == mode) ≡ false)
       → (sync ≡ true → IsSyncOf (described x s u number m t sync)) → (sync ≡ false → s.class ≡ u)
       → (is_posted u ≡ true → (s.class ≡ u) × ((w : SubKind) → is_posted w ≡ false → Clear xs w))
       → IsOf plan s.port s.stream (live_at plan h s.port s.stream) from s.class xs (described x s u number m t sync)
@@ -118,10 +118,10 @@ module _ (plan : Plan) (facts : DrawFacts plan) (h : History) (law : CauseLaw pl
         sync = is_sync;
         class_is = class;
         clear = λ posted empty w other.
-            let front = sym (ap (λ (ps : List Packet). length (open_unit ps)) under) ∙ empty in
+            let unfinished = sym (ap (λ (ps : List Packet). length (open_unit ps)) under) ∙ empty in
             let known = clear posted in
             known.1 w other (ap is_posted known.0 ∙ posted)
-            (ap (λ (c : SubKind). begins_unit (x.lane c)) known.0 ∙ eq-eqb _ 0 front);
+            (ap (λ (c : SubKind). begins_unit (x.lane c)) known.0 ∙ eq-eqb _ 0 unfinished);
       }
 
   -- ---- all of a send

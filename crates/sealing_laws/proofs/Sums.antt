@@ -91,10 +91,10 @@ units_within xs s j a b le =
 abbrev ends_one : Packet → ℕ
 ends_one p = if p.prefix.m then 1 else 0
 
-units_count : (front ps : List Packet) → sum_by ends_one ps ≡ length (units_after front ps)
-units_count front [] = refl
-units_count front (p ∷ ps) = grind
-    (arith, units_count [] ps, units_count (front ++ p ∷ []) ps, sum_by-cons ends_one p ps)
+units_count : (unfinished ps : List Packet) → sum_by ends_one ps ≡ length (units_after unfinished ps)
+units_count unfinished [] = refl
+units_count unfinished (p ∷ ps) = grind
+    (arith, units_count [] ps, units_count (unfinished ++ p ∷ []) ps, sum_by-cons ends_one p ps)
 
 count_units : (ps : List Packet) → sum_by ends_one ps ≡ length (units ps)
 unfolding units

@@ -39,18 +39,25 @@ unfoldable pub use Rattle.link_history.specs.Plan.{stream_plan}
 pub use Rattle.link_history.specs.Units.{units_after}
 unfoldable pub use Rattle.link_history.specs.Units.{open_unit, units}
 pub use Rattle.key_laws.specs.History.{History, base}
-pub use Rattle.link_history.specs.History.{front_of_packet, SealedList, KeyName, with_sealed, prefix_of, posted_of}
+pub use Rattle.link_history.specs.History.{ahead_of_packet, SealedList, KeyName, with_sealed, prefix_of, posted_of}
 pub use Rattle.link_history.specs.History.{is_in}
 pub use Rattle.link_history.specs.History.{sub_stream_of, ends_in, sent, is_under, is_of_unit, live_key}
 pub use Rattle.link_history.specs.History.{untagged_packet, unit_tag, keys_at, posted_count, received_in}
-pub use Rattle.link_history.specs.History.{arrived_packet, is_of, front_due, pending, Arrival, on_draw, failed}
+pub use Rattle.link_history.specs.History.{arrived_packet, is_of, ahead_due, pending, Arrival, on_draw, failed}
 unfoldable pub use Rattle.link_history.specs.History.{sealed_packets, packet_of, sent_in, posted_in, total_in}
-unfoldable pub use Rattle.link_history.specs.History.{front_of, front_sent, units_got, draws_got, units_since, held}
+unfoldable pub use Rattle.link_history.specs.History.{
+  ahead_of_unit,
+  ahead_sent,
+  units_got,
+  draws_got,
+  units_since,
+  held,
+}
 unfoldable pub use Rattle.link_history.specs.History.{got, got_since, arrived, meets_counts}
 pub use Rattle.link_history.specs.Due.{is_posted, Sending, Lanes, lanes_at, needs_sync, sent_under, described}
 pub use Rattle.link_history.specs.Due.{is_worn, is_keyless, ends_unit, begins_unit, sets_trusted, no_key, receiving}
 pub use Rattle.link_history.specs.Due.{ended}
-pub use Rattle.link_history.specs.Due.{unit_under, Ending, arrival_due, settled, under_keys, is_mixed, is_overfull}
+pub use Rattle.link_history.specs.Due.{unit_under, Ending, arrival_due, ending_due, under_keys, is_mixed, is_overfull}
 pub use Rattle.link_history.specs.Due.{effects_of}
 unfoldable pub use Rattle.link_history.specs.Due.{due, before_tag, is_verified}
 pub use Rattle.link_history.specs.Cause.{CauseLaw}
@@ -72,7 +79,7 @@ pub use Rattle.tlp_layout.proofs.Readings.{read_spells_tlp}
 pub use Rattle.ide_prefix.proofs.Units.{one_list, not_sync}
 pub use Rattle.link_history.proofs.Tests.{same_sub, same_stream, same_port, eqb-refl, is_same-refl}
 pub use Rattle.link_history.proofs.UnitLemmas.{open_unit-snoc, units-append, joined, joined_units, units-end}
-pub use Rattle.link_history.proofs.UnitLemmas.{units-more, open_unit-end, open_unit-more, IsFront, open_unit-front}
+pub use Rattle.link_history.proofs.UnitLemmas.{units-more, open_unit-end, open_unit-more, IsFront, open_unit-unfinished}
 pub use Rattle.link_history.proofs.UnitLemmas.{EndsInM, EndsInM-snoc, All-snoc, units_all, units_end, unit_at}
 pub use Rattle.link_history.proofs.UnitLemmas.{take_next, below, joined_take, joined-snoc}
 pub use Rattle.link_history.proofs.Sealed.{sent_in-snoc, sent-same, posted-own, posted-more, sent_elsewhere}
@@ -88,4 +95,4 @@ pub use Rattle.gcm_seal.proofs.Strings.{length-masked}
 pub use Rattle.gcm_seal.proofs.Sealing.{masked-bytes, length-tag_of, tag_of-bytes, length-open_of, masked-masked}
 pub use Rattle.gcm_seal.proofs.Sealing.{masked-append, tag-verifies}
 pub use Rattle.link_history.proofs.Causes.{ending, accepted_by, received_there, numbered, packet_that_came, AcceptedBy}
-pub use Rattle.link_history.proofs.Causes.{Came, Passed, HeldBy, held_by}
+pub use Rattle.link_history.proofs.Causes.{Came, Passed, HeldBy, held_by, unit_that_ends}

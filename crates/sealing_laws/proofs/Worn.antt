@@ -4,7 +4,7 @@ use Rattle.sealing_laws.proofs.Terms.{◌≡◌, ℕ, ◌<◌, ◌≤◌, ◌==�
 use Rattle.sealing_laws.proofs.Terms.{Some, inl, inr, ◌⊎◌, refl, sym, ◌∙◌, subst, arith, nat_tests, slice_get}
 use Rattle.sealing_laws.proofs.Terms.{length-append, if◌then◌else◌}
 use Rattle.sealing_laws.proofs.Terms.{SubKind, PortName, Sealed, SealedPacket, Packet, Plan, SubStream, lane_out}
-use Rattle.sealing_laws.proofs.Terms.{units, open_unit, History, base, front_of_packet, SealedList, KeyName}
+use Rattle.sealing_laws.proofs.Terms.{units, open_unit, History, base, ahead_of_packet, SealedList, KeyName}
 use Rattle.sealing_laws.proofs.Terms.{sealed_packets}
 use Rattle.sealing_laws.proofs.Terms.{with_sealed, sent_in, is_under, sub_stream_of, packet_of, CauseLaw, DrawFacts}
 use Rattle.sealing_laws.proofs.Terms.{lane_is, sealing_is, sending_port, sent_bytes, sent_in-snoc, units-end}
@@ -94,6 +94,6 @@ unworn plan facts ((e, Sealed ds) ∷ h) law =
     let is = sealing_is plan h e ds law.0 in
     let s = is.sending in
     all_last plan s.port s.stream (live_at plan h s.port s.stream) (from_at plan h s.port s.stream) s.class
-    (front_of_packet plan (sealed_packets plan h) (base h)) (sent_bytes plan h e) ds (sealed_packets plan h)
+    (ahead_of_packet plan (sealed_packets plan h) (base h)) (sent_bytes plan h e) ds (sealed_packets plan h)
     (all_of_sealing plan facts h law.1 (sending_port e) (sent_bytes plan h e) ds is) (unworn plan facts h law.1)
 unworn plan facts ((e, w) ∷ h) law = unworn plan facts h law.1

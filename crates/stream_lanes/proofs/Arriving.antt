@@ -11,7 +11,18 @@ use Rattle.ide_types.specs.declared.sub.SubKind.{SubKind}
 use Rattle.ide_types.specs.declared.sub.SubKind.TheVariants.{Pr, Npr, Cpl}
 use Rattle.ide_types.specs.declared.sub.FailCause.TheVariants as fail
 use Rattle.ide_prefix.specs.Packet.{Packet}
-use Rattle.stream_rules.specs.Stream.{Slot, Empty, Programmed, Armed, Live, LiveKey, RxSub, Three, StreamState, at_sub}
+use Rattle.stream_rules.specs.Stream.{
+  LaneSlot,
+  Empty,
+  Programmed,
+  Armed,
+  Live,
+  LiveKey,
+  RxSub,
+  Three,
+  StreamState,
+  at_sub,
+}
 use Rattle.stream_rules.specs.Stream.{slot_in_set, live_in, Taken, Insecure, NotKeyed, Failed, Held, Accepted}
 use Rattle.stream_rules.specs.Stream.{holds_any}
 use Rattle.stream_rules.specs.Stream.{posted_sum, is_tagged, checked, dropped, dropped_held, taken_under, state_after}
@@ -75,7 +86,7 @@ among-here pr npr cpl lent takes p inv =
 
 -- ---- the receivers after it
 
-dropped_again : (slot : Slot) → dropped (dropped slot) ≡ dropped slot
+dropped_again : (slot : LaneSlot) → dropped (dropped slot) ≡ dropped slot
 dropped_again Empty = refl
 dropped_again (Programmed j key) = refl
 dropped_again (Armed j key) = refl

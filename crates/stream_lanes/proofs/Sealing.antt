@@ -15,8 +15,18 @@ use Rattle.gcm_seal.proofs.Sealing.{length-tag_of}
 use Rattle.ide_prefix.specs.Packet.{Packet, packet_bytes, sync_head}
 use Rattle.ide_prefix.specs.Iv.{iv_of}
 use Rattle.ide_prefix.specs.Units.{authenticated, encrypted}
-use Rattle.stream_rules.specs.Sending.{is_posted, no_key, front_with, begins_unit, prefix_of}
-use Rattle.stream_rules.specs.Stream.{Slot, Empty, Programmed, Armed, Live, LiveKey, Slots, with_slot, live_sender}
+use Rattle.stream_rules.specs.Sending.{is_posted, no_key, ahead_with, begins_unit, prefix_of}
+use Rattle.stream_rules.specs.Stream.{
+  LaneSlot,
+  Empty,
+  Programmed,
+  Armed,
+  Live,
+  LiveKey,
+  LaneSlots,
+  with_slot,
+  live_sender,
+}
 use Rattle.stream_rules.specs.Stream.{lane_of, packet_under, tagged_under, untagged_under, sealed_slots, ended_slots}
 use Rattle.stream_rules.specs.Slots.{is_live_slot, any_live, is_busy, both_slots, slot_gone}
 use Rattle.key_slots.specs.{is_only_live}
@@ -28,7 +38,7 @@ use Rattle.stream_lanes.specs.Lanes.{SendEnd, IsSendLane, open_unit_number, open
 use Rattle.stream_lanes.specs.Lanes.{packet_said}
 use Rattle.stream_lanes.specs.Lanes.{measured, sync_said}
 
-abbrev pub one_live : Slots → Bool
+abbrev pub one_live : LaneSlots → Bool
 one_live s = is_live_slot s.first && is_live_slot s.second
 
 abbrev pub view : Sender → Bool → ℕ → ℕ → SendEnd
@@ -44,10 +54,10 @@ and_false : (b : Bool) → (b && false) ≡ false
 and_false true = refl
 and_false false = refl
 
-pub live-some : (s : Slots) → any_live s ≡ true → (x : Bool × LiveKey) × (live_sender s ≡ Some x)
+pub live-some : (s : LaneSlots) → any_live s ≡ true → (x : Bool × LiveKey) × (live_sender s ≡ Some x)
 live-some s = by_slots s.first s.second
   where
-    by_slots : (a b : Slot) → (is_live_slot a || is_live_slot b) ≡ true → (x : Bool × LiveKey)
+    by_slots : (a b : LaneSlot) → (is_live_slot a || is_live_slot b) ≡ true → (x : Bool × LiveKey)
         × (live_sender (record { first = a; second = b }) ≡ Some x)
     by_slots (Live x) b e = ((false, x), refl)
     by_slots Empty (Live y) e = ((true, y), refl)
@@ -64,13 +74,13 @@ live-some s = by_slots s.first s.second
     by_slots (Armed i k) (Armed j l) e = absurd (cc)
 
 -- what is open stays, or nothing is open
-abbrev pub Moved : Slots → Slots → Type 0
+abbrev pub Moved : LaneSlots → LaneSlots → Type 0
 Moved old new = ((live_sender new ≡ live_sender old) ⊎ (open_in new ≡ [])) × (one_live new ≡ false)
 
 none_open : (ps : List Packet) → ps ≡ [] → (length ps == 0) ≡ false → ⊥
 none_open ps e f = let g : true ≡ false = ap (λ (qs : List Packet). length qs == 0) (sym e) ∙ f in cc
 
-pub moved-kept : (tx : Sender) (limit : ℕ) (closed : Bool) (posted total : ℕ) (slots : Slots)
+pub moved-kept : (tx : Sender) (limit : ℕ) (closed : Bool) (posted total : ℕ) (slots : LaneSlots)
     → IsSendLane tx limit closed posted total → Moved tx.slots slots
     → IsSendLane (record tx { slots = slots }) limit closed posted total
 moved-kept tx limit closed posted total slots inv moved =
@@ -102,7 +112,7 @@ go_busy false true j key x = (inl refl, refl)
 go_busy true false j key x = (inr refl, refl)
 go_busy false false j key x = (inr refl, refl)
 
-pub go-moved : (k : Bool) (mine other : Slot) → one_live (both_slots k mine other) ≡ false
+pub go-moved : (k : Bool) (mine other : LaneSlot) → one_live (both_slots k mine other) ≡ false
     → Moved (both_slots k mine other) (slot_gone k mine other)
 go-moved k (Programmed j key) (Live x) e = go_busy k (is_busy (Live x)) j key x
 go-moved true (Programmed j key) Empty e = (inr refl, refl)
@@ -126,7 +136,7 @@ gone-kept false tx limit closed posted total inv =
     (go-moved false tx.slots.first tx.slots.second inv.one_live)
 
 -- a key that is put in if the slot is not Live
-put_second : (a b : Slot) (j : ℕ) (key : List ℕ) → (is_live_slot a && is_live_slot b) ≡ false
+put_second : (a b : LaneSlot) (j : ℕ) (key : List ℕ) → (is_live_slot a && is_live_slot b) ≡ false
     → is_only_live (slot_pair true (record { first = a; second = b })) true ≡ false
     → Moved (record { first = a; second = b }) (record { first = a; second = Programmed j key })
 put_second a Empty j key one e = (inl refl, and_false (is_live_slot a))
@@ -137,7 +147,7 @@ put_second (Programmed i l) (Live y) j key one e = absurd (cc)
 put_second (Armed i l) (Live y) j key one e = absurd (cc)
 put_second (Live x) (Live y) j key one e = absurd (cc)
 
-put_first : (a b : Slot) (j : ℕ) (key : List ℕ) → (is_live_slot a && is_live_slot b) ≡ false
+put_first : (a b : LaneSlot) (j : ℕ) (key : List ℕ) → (is_live_slot a && is_live_slot b) ≡ false
     → is_only_live (slot_pair true (record { first = a; second = b })) false ≡ false
     → Moved (record { first = a; second = b }) (record { first = Programmed j key; second = b })
 put_first Empty b j key one e = (inl refl, refl)
@@ -186,16 +196,16 @@ said_under e m t sync o =
     }
 
 abbrev last_under : SendEnd → Bool → Option (Bool × LiveKey) → Bool
-last_under e more o = not more || (length (lane_of e.kept.posted o).front + 1 == e.fixed.mode)
+last_under e more o = not more || (length (lane_of e.kept.posted o).unfinished + 1 == e.fixed.mode)
 
 abbrev whole_under : SendEnd → List ℕ → List ℕ → Bool → Bool → Bool → Option (Bool × LiveKey) → Packet
 whole_under e head payload more t sync o =
     let d = said_under e (last_under e more o) t sync o in
-    packet_under (front_with e.fixed.closed d.unit e.kept.total) o d head payload
+    packet_under (ahead_with e.fixed.closed d.unit e.kept.total) o d head payload
 
 -- the description of a packet
 abbrev pub said_of : SendEnd → Bool → Bool → Bool → Described
-said_of e more t sync = said e (not more || (length (sealing_lane e).front + 1 == e.fixed.mode)) t sync
+said_of e more t sync = said e (not more || (length (sealing_lane e).unfinished + 1 == e.fixed.mode)) t sync
 
 abbrev pub sealing_right : Sender → Bool → ℕ → ℕ → Content → Bool → Sealing
 sealing_right tx closed posted total c more =
@@ -206,7 +216,7 @@ sealing_right tx closed posted total c more =
       description = measured d p;
       packet = p;
       sender = record tx {
-        ahead = (if d.m then [] else front_with closed d.unit total);
+        ahead = (if d.m then [] else ahead_with closed d.unit total);
         slots = sealed_slots d.m p
             tx.slots;
       };
@@ -221,30 +231,30 @@ sealing_with tx closed posted total c more o =
       description = measured d p;
       packet = p;
       sender = record tx {
-        ahead = (if d.m then [] else front_with closed d.unit total);
+        ahead = (if d.m then [] else ahead_with closed d.unit total);
         slots = sealed_slots d.m p
             tx.slots;
       };
     }
 
-front_ahead : (closed : Bool) (total n : ℕ) (front : List ℕ) → front ≡ (if closed then to_be_bytes w64 total else [])
-    → ahead_of front n ≡ front_with closed n total
-front_ahead closed total n front e = by_unit closed (n == 1) front e
+lent_ahead_is : (closed : Bool) (total n : ℕ) (lent : List ℕ) → lent ≡ (if closed then to_be_bytes w64 total else [])
+    → ahead_of lent n ≡ ahead_with closed n total
+lent_ahead_is closed total n lent e = by_unit closed (n == 1) lent e
   where
-    by_unit : (closed b : Bool) (front : List ℕ) → front ≡ (if closed then to_be_bytes w64 total else [])
-        → (if b then front else []) ≡ (if closed && b then to_be_bytes w64 total else [])
-    by_unit true true front e = e
-    by_unit true false front e = refl
-    by_unit false true front e = e
-    by_unit false false front e = refl
+    by_unit : (closed b : Bool) (lent : List ℕ) → lent ≡ (if closed then to_be_bytes w64 total else [])
+        → (if b then lent else []) ≡ (if closed && b then to_be_bytes w64 total else [])
+    by_unit true true lent e = e
+    by_unit true false lent e = refl
+    by_unit false true lent e = e
+    by_unit false false lent e = refl
 
 -- what comes before a unit is what the rules say
-pub ahead-right : (b : Bool) (old : List ℕ) (closed : Bool) (total n : ℕ) (front : List ℕ) → front
+pub ahead-right : (b : Bool) (old : List ℕ) (closed : Bool) (total n : ℕ) (lent : List ℕ) → lent
     ≡ (if closed then to_be_bytes w64 total else [])
-    → (b ≡ false → old ≡ front_with closed n total)
-    → (if b then ahead_of front n else old) ≡ front_with closed n total
-ahead-right true old closed total n front e h = front_ahead closed total n front e
-ahead-right false old closed total n front e h = h refl
+    → (b ≡ false → old ≡ ahead_with closed n total)
+    → (if b then ahead_of lent n else old) ≡ ahead_with closed n total
+ahead-right true old closed total n lent e h = lent_ahead_is closed total n lent e
+ahead-right false old closed total n lent e h = h refl
 
 count_said : (b : Bool) (n : ℕ) → (b ≡ true → n ≡ 0) → n ≡ (if b then 0 else n)
 count_said true n h = h refl
@@ -255,34 +265,34 @@ ready_live : (limit : ℕ) (b : Bool) (x : Bool × LiveKey) → b ≡ false
 ready_live limit true x e = absurd (cc)
 ready_live limit false x e = refl
 
-pub sealing-is : (tx : Sender) (limit : ℕ) (closed : Bool) (posted total : ℕ) (front : List ℕ) (c : Content)
+pub sealing-is : (tx : Sender) (limit : ℕ) (closed : Bool) (posted total : ℕ) (lent : List ℕ) (c : Content)
     (more : Bool)
     → IsSendLane tx limit closed posted total
     → any_live tx.slots ≡ true → is_spent (view tx closed posted total) ≡ false
-    → front ≡ (if closed then to_be_bytes w64 total else []) → c.posted ≡ posted
-    → sealing_of tx front c more ≡ Ok (sealing_right tx closed posted total c more)
-sealing-is tx limit closed posted total front c more inv live unspent is_front is_posted_count =
+    → lent ≡ (if closed then to_be_bytes w64 total else []) → c.posted ≡ posted
+    → sealing_of tx lent c more ≡ Ok (sealing_right tx closed posted total c more)
+sealing-is tx limit closed posted total lent c more inv live unspent is_lent is_posted_count =
     let some = live-some tx.slots live in
     under some.0 some.1
   where
     e : SendEnd
     e = view tx closed posted total
 
-    under : (x : Bool × LiveKey) → live_sender tx.slots ≡ Some x → sealing_of tx front c more
+    under : (x : Bool × LiveKey) → live_sender tx.slots ≡ Some x → sealing_of tx lent c more
         ≡ Ok (sealing_right tx closed posted total c more)
     under x is =
         let spent : ((length x.1.packets == 0) && (x.1.units == tx.limit)) ≡ false =
         ap (λ (o : Option (Bool × LiveKey)). begins_unit (lane_of posted o) && ((lane_of posted o).units == tx.limit))
         (sym is) ∙ unspent in
         let ready : ready_of tx ≡ Ok x = ap (ready_under tx.limit) is ∙ ready_live tx.limit _ x spent in
-        let open_ahead : (length x.1.packets == 0) ≡ false → tx.ahead ≡ front_with closed (x.1.units + 1) total =
+        let open_ahead : (length x.1.packets == 0) ≡ false → tx.ahead ≡ ahead_with closed (x.1.units + 1) total =
         subst (λ (o : Option (Bool × LiveKey)). (length (packets_under o) == 0) ≡ false → tx.ahead
-        ≡ front_with closed (open_unit_number o) total) is inv.ahead in
-        let ahead : ahead_for tx x.1 front ≡ front_with closed (x.1.units + 1) total =
-        ahead-right (length x.1.packets == 0) tx.ahead closed total (x.1.units + 1) front is_front open_ahead in
+        ≡ ahead_with closed (open_unit_number o) total) is inv.ahead in
+        let ahead : ahead_for tx x.1 lent ≡ ahead_with closed (x.1.units + 1) total =
+        ahead-right (length x.1.packets == 0) tx.ahead closed total (x.1.units + 1) lent is_lent open_ahead in
         let count : c.posted ≡ (if is_posted tx.sub then 0 else posted) = is_posted_count ∙ count_said
         (is_posted tx.sub) posted inv.no_count in
-        ap (sealing_under tx front c more) ready
+        ap (sealing_under tx lent c more) ready
         ∙ (λ i. Ok (sealed_with x (ahead i) (count i)))
         ∙ ap (λ (o : Option (Bool × LiveKey)). Ok (sealing_with tx closed posted total c more o)) (sym is)
       where
@@ -340,10 +350,10 @@ sync-same ahead (Some x) d head payload head' payload' e =
 
 -- ---- the sender after it
 
-ended_open : (s : Slots) → open_in (ended_slots s) ≡ []
+ended_open : (s : LaneSlots) → open_in (ended_slots s) ≡ []
 ended_open s = by_slots s.first s.second
   where
-    by_slots : (a b : Slot) → open_in (ended_slots (record { first = a; second = b })) ≡ []
+    by_slots : (a b : LaneSlot) → open_in (ended_slots (record { first = a; second = b })) ≡ []
     by_slots Empty Empty = refl
     by_slots Empty (Programmed h k) = refl
     by_slots Empty (Armed h k) = refl
@@ -361,10 +371,11 @@ ended_open s = by_slots s.first s.second
     by_slots (Live g) (Armed h k) = refl
     by_slots (Live g) (Live h) = refl
 
-pub sealed-one_live : (m : Bool) (p : Packet) (s : Slots) → one_live s ≡ false → one_live (sealed_slots m p s) ≡ false
+pub sealed-one_live : (m : Bool) (p : Packet) (s : LaneSlots) → one_live s ≡ false → one_live (sealed_slots m p s)
+    ≡ false
 sealed-one_live m p s = by_slots m s.first s.second
   where
-    by_slots : (m : Bool) (a b : Slot) → (is_live_slot a && is_live_slot b) ≡ false
+    by_slots : (m : Bool) (a b : LaneSlot) → (is_live_slot a && is_live_slot b) ≡ false
         → one_live (sealed_slots m p (record { first = a; second = b })) ≡ false
     by_slots m (Live g) (Live h) e = absurd (cc)
     by_slots true Empty b e = refl
@@ -390,12 +401,12 @@ joined : Packet → Option (Bool × LiveKey) → Option (Bool × LiveKey)
 joined p None = None
 joined p (Some x) = Some (x.0, record x.1 { packets = x.1.packets ++ p ∷ [] })
 
-pub goes_on-live : (p : Packet) (s : Slots) (x : Bool × LiveKey) → live_sender s ≡ Some x
+pub goes_on-live : (p : Packet) (s : LaneSlots) (x : Bool × LiveKey) → live_sender s ≡ Some x
     → live_sender (sealed_slots false p s) ≡ Some (x.0, record x.1 { packets = x.1.packets ++ p ∷ [] })
 unfolding joined
 goes_on-live p s x is = by_slots s.first s.second ∙ ap (joined p) is
   where
-    by_slots : (a b : Slot) → live_sender (sealed_slots false p (record { first = a; second = b }))
+    by_slots : (a b : LaneSlot) → live_sender (sealed_slots false p (record { first = a; second = b }))
         ≡ joined p (live_sender (record { first = a; second = b }))
     by_slots (Live g) b = refl
     by_slots Empty Empty = refl
@@ -412,7 +423,7 @@ goes_on-live p s x is = by_slots s.first s.second ∙ ap (joined p) is
     by_slots (Armed g l) (Live h) = refl
 
 -- a posted packet joins, or ends its unit
-pub room-sealed : (mode n : ℕ) (m : Bool) (p : Packet) (s : Slots) → any_live s ≡ true
+pub room-sealed : (mode n : ℕ) (m : Bool) (p : Packet) (s : LaneSlots) → any_live s ≡ true
     → n + mode ≤ 255 + length (open_in s)
     → (length (open_in (sealed_slots m p s)) == 0) ≡ false → n + 1 + mode ≤ 255 + length (open_in (sealed_slots m p s))
 room-sealed mode n true p s live le e = absurd (none_open _ (ended_open s) e)
@@ -433,9 +444,9 @@ room_left n mode less e = grind (arith, common_steps)
 
 pub sealed-kept : (tx : Sender) (limit : ℕ) (closed : Bool) (posted total : ℕ) (more : Bool) (p : Packet) (m : Bool)
     → IsSendLane tx limit closed posted total → any_live tx.slots ≡ true
-    → m ≡ (not more || (length (lane_of posted (live_sender tx.slots)).front + 1 == tx.mode))
+    → m ≡ (not more || (length (lane_of posted (live_sender tx.slots)).unfinished + 1 == tx.mode))
     → IsSendLane (record tx {
-      ahead = (if m then [] else front_with closed ((lane_of posted (live_sender tx.slots)).units + 1) total);
+      ahead = (if m then [] else ahead_with closed ((lane_of posted (live_sender tx.slots)).units + 1) total);
       slots
           = sealed_slots m p tx.slots;
     }) limit closed 0 (if m then total + 1 else total)
@@ -443,10 +454,10 @@ sealed-kept tx limit closed posted total more p m inv live is_m =
     let some = live-some tx.slots live in
     under m is_m some.0 some.1
   where
-    under : (m : Bool) → m ≡ (not more || (length (lane_of posted (live_sender tx.slots)).front + 1 == tx.mode))
+    under : (m : Bool) → m ≡ (not more || (length (lane_of posted (live_sender tx.slots)).unfinished + 1 == tx.mode))
         → (x : Bool × LiveKey) → live_sender tx.slots ≡ Some x
         → IsSendLane (record tx {
-          ahead = (if m then [] else front_with closed ((lane_of posted (live_sender tx.slots)).units + 1) total);
+          ahead = (if m then [] else ahead_with closed ((lane_of posted (live_sender tx.slots)).units + 1) total);
           slots = sealed_slots m p tx.slots;
         }) limit closed 0 (if m then total + 1 else total)
     under true is_m x is = record {
@@ -462,7 +473,7 @@ sealed-kept tx limit closed posted total more p m inv live is_m =
         (λ (o : Option (Bool × LiveKey)). length (packets_under o) < tx.mode) is inv.fits in
         let low : (length x.1.packets + 1 == tx.mode) ≡ false =
         not_last more _ (ap (λ (o : Option (Bool × LiveKey)). not more
-        || (length (lane_of posted o).front + 1 == tx.mode)) (sym is) ∙ sym is_m) in
+        || (length (lane_of posted o).unfinished + 1 == tx.mode)) (sym is) ∙ sym is_m) in
         let more_fits : length (x.1.packets ++ p ∷ []) < tx.mode = rw (length-append x.1.packets (p ∷ []))
         (room_left (length x.1.packets) tx.mode fits low) in
         let on = goes_on-live p tx.slots x is in
@@ -471,8 +482,8 @@ sealed-kept tx limit closed posted total more p m inv live is_m =
           some_mode = inv.some_mode;
           one_live = sealed-one_live false p tx.slots inv.one_live;
           fits = subst (λ (o : Option (Bool × LiveKey)). length (packets_under o) < tx.mode) (sym on) more_fits;
-          ahead = λ e. (λ i. front_with closed ((lane_of posted (is i)).units + 1) total) ∙
-              (λ i. front_with closed (open_unit_number (sym on i)) total);
+          ahead = λ e. (λ i. ahead_with closed ((lane_of posted (is i)).units + 1) total) ∙
+              (λ i. ahead_with closed (open_unit_number (sym on i)) total);
           no_count = λ e. refl;
         }
 
@@ -503,4 +514,4 @@ short_under e (Some x) d m sync ahead =
 
 pub sync-short : (e : SendEnd) → length (packet_bytes (packet_said e [] [] (sync_said e))) ≤ 28
 sync-short e = short_under e (live_sender e.kept.slots) (sync_said e) refl refl
-    (front_with e.fixed.closed (sync_said e).unit e.kept.total)
+    (ahead_with e.fixed.closed (sync_said e).unit e.kept.total)

@@ -10,7 +10,7 @@ use Rattle.ide_types.specs.declared.port.PortName.{PortName}
 use Rattle.link_verdicts.specs.declared.verdict.Verdict.{Verdict}
 use Rattle.link_verdicts.specs.declared.verdict.SealedPacket.{SealedPacket as Described}
 use Rattle.ide_prefix.specs.Packet.{Packet, packet_bytes}
-use Rattle.stream_rules.specs.Sending.{Sending, Lanes, front_with, is_keyless, is_worn, needs_sync, refusals}
+use Rattle.stream_rules.specs.Sending.{Sending, Lanes, ahead_with, is_keyless, is_worn, needs_sync, refusals}
 use Rattle.stream_rules.specs.Sending.{first_that_holds, described, ends_unit, sets_trusted, sealed_by}
 use Rattle.stream_rules.specs.Stream.{LiveKey, TxSub, at_sub, each_sub, live_sender, packet_under, sealed_sub}
 use Rattle.stream_rules.specs.Stream.{sealed_one, sealed_all}
@@ -96,16 +96,16 @@ sync_packet : (x : SendEnds) (d : Described) (number : ℕ) (port : PortName) (h
     → packet_said_at x [] [] d ≡
     (sealed_one x.fixed.closed head payload (record d { number = number; port = port }) x.tx).0
 sync_packet x d number port head payload e =
-    sync-same (front_with x.fixed.closed d.unit (at_sub x.tx d.sub).total) (live_sender (at_sub x.tx d.sub).slots) d []
+    sync-same (ahead_with x.fixed.closed d.unit (at_sub x.tx d.sub).total) (live_sender (at_sub x.tx d.sub).slots) d []
     [] head payload e
-    ∙ renumbered (front_with x.fixed.closed d.unit (at_sub x.tx d.sub).total) (live_sender (at_sub x.tx d.sub).slots) d
+    ∙ renumbered (ahead_with x.fixed.closed d.unit (at_sub x.tx d.sub).total) (live_sender (at_sub x.tx d.sub).slots) d
     number port head payload
 
 tlp_packet : (x : SendEnds) (d : Described) (number : ℕ) (port : PortName) (head payload : List ℕ)
     → packet_said_at x head payload d ≡
     (sealed_one x.fixed.closed head payload (record d { number = number; port = port }) x.tx).0
 tlp_packet x d number port head payload =
-    renumbered (front_with x.fixed.closed d.unit (at_sub x.tx d.sub).total) (live_sender (at_sub x.tx d.sub).slots) d
+    renumbered (ahead_with x.fixed.closed d.unit (at_sub x.tx d.sub).total) (live_sender (at_sub x.tx d.sub).slots) d
     number port head payload
 
 -- the senders after the TLP's packet

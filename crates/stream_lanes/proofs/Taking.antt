@@ -15,8 +15,18 @@ use Rattle.ide_types.specs.declared.sub.FailCause.TheVariants as fail
 use Rattle.gcm_seal.specs.Gcm.{masked}
 use Rattle.ide_prefix.specs.Iv.{iv_of}
 use Rattle.ide_prefix.specs.Packet.{Packet}
-use Rattle.stream_rules.specs.Sending.{is_posted, front_with}
-use Rattle.stream_rules.specs.Stream.{Slot, Empty, Programmed, Armed, Live, LiveKey, Slots, slot_in_set, with_slot}
+use Rattle.stream_rules.specs.Sending.{is_posted, ahead_with}
+use Rattle.stream_rules.specs.Stream.{
+  LaneSlot,
+  Empty,
+  Programmed,
+  Armed,
+  Live,
+  LiveKey,
+  LaneSlots,
+  slot_in_set,
+  with_slot,
+}
 use Rattle.stream_rules.specs.Stream.{live_in}
 use Rattle.stream_rules.specs.Stream.{Taken, Insecure, NotKeyed, Failed, Held, Accepted, holds_any, posted_sum}
 use Rattle.stream_rules.specs.Stream.{is_tagged, checked, dropped, gone_on, counted_unit, retired, accepted_slots}
@@ -84,12 +94,12 @@ allowed-right Npr sum got allowed n few e le = ap (nat_le n) e ∙ within_left s
 allowed-right Cpl sum got allowed n few e le = ap (nat_le n) e ∙ within_left sum n got (le refl)
 
 -- what comes before the packets of a slot, with the next
-next_ahead : (ahead : List ℕ) (mode : ℕ) (closed : Bool) (total : ℕ) (front : List ℕ) (x : LiveKey) → front
+next_ahead : (ahead : List ℕ) (mode : ℕ) (closed : Bool) (total : ℕ) (lent : List ℕ) (x : LiveKey) → lent
     ≡ (if closed then to_be_bytes w64 total else [])
-    → HoldsPackets ahead mode closed total x → (if length x.packets == 0 then ahead_of front (x.units + 1) else ahead)
-    ≡ front_with closed (x.units + 1) total
-next_ahead ahead mode closed total front x e held = ahead-right (length x.packets == 0) ahead closed total (x.units + 1)
-    front e held.front
+    → HoldsPackets ahead mode closed total x → (if length x.packets == 0 then ahead_of lent (x.units + 1) else ahead)
+    ≡ ahead_with closed (x.units + 1) total
+next_ahead ahead mode closed total lent x e held = ahead-right (length x.packets == 0) ahead closed total (x.units + 1)
+    lent e held.ahead_right
 
 few_posted : (ahead : List ℕ) (mode : ℕ) (closed : Bool) (total : ℕ) (x : LiveKey) (p : Packet) → mode ≤ 8
     → p.prefix.posted < 256 → HoldsPackets ahead mode closed total x
@@ -97,38 +107,38 @@ few_posted : (ahead : List ℕ) (mode : ℕ) (closed : Bool) (total : ℕ) (x : 
 few_posted ahead mode closed total x p small byte held = omega
     (arith, posted_sum-joined x.packets p, held.posted, held.fits)
 
-taken_slots : (rx : Receiver) (sub : SubKind) (closed : Bool) (sum own total got allowed : ℕ) (front : List ℕ)
-    (p : Packet) (mine : Slot) (other : Option LiveKey)
+taken_slots : (rx : Receiver) (sub : SubKind) (closed : Bool) (sum own total got allowed : ℕ) (lent : List ℕ)
+    (p : Packet) (mine : LaneSlot) (other : Option LiveKey)
     → rx.mode ≤ 8 → HoldsRight rx.ahead rx.mode closed total mine → p.prefix.posted < 256
     → allowed ≡ (if sub_bits sub == 0 then 2 ^ 64 - 1 else got - sum) → (is_posted sub ≡ false → sum ≤ got)
-    → front ≡ (if closed then to_be_bytes w64 total else [])
-    → taken_with rx allowed front p (live_in mine) other ≡ taken_at (view rx sub closed sum own total) got p
+    → lent ≡ (if closed then to_be_bytes w64 total else [])
+    → taken_with rx allowed lent p (live_in mine) other ≡ taken_at (view rx sub closed sum own total) got p
     (live_in mine) other
-taken_slots rx sub closed sum own total got allowed front p mine other small held byte is_allowed le is_front = by_slot
+taken_slots rx sub closed sum own total got allowed lent p mine other small held byte is_allowed le is_lent = by_slot
     mine held
   where
-    by_none : (other : Option LiveKey) → taken_with rx allowed front p None other
+    by_none : (other : Option LiveKey) → taken_with rx allowed lent p None other
         ≡ taken_at (view rx sub closed sum own total) got p None other
     by_none None = refl
     by_none (Some y) = refl
 
     by_fits : (x : LiveKey) (b : Bool) →
-        (if not b then judged_packet (ahead_in rx x front) allowed x p else Failed fail.Unit)
+        (if not b then judged_packet (ahead_in rx x lent) allowed x p else Failed fail.Unit)
         ≡ (if b then Failed fail.Unit
-        else if p.prefix.m then checked (is_tagged_behind (ahead_in rx x front) x p)
+        else if p.prefix.m then checked (is_tagged_behind (ahead_in rx x lent) x p)
         (nat_le (posted_sum (x.packets ++ p ∷ [])) allowed) x p
         else Held x.draw (x.units + 1))
     by_fits x true = refl
     by_fits x false = refl
 
-    by_slot : (s : Slot) → HoldsRight rx.ahead rx.mode closed total s
-        → taken_with rx allowed front p (live_in s) other ≡ taken_at (view rx sub closed sum own total) got p
+    by_slot : (s : LaneSlot) → HoldsRight rx.ahead rx.mode closed total s
+        → taken_with rx allowed lent p (live_in s) other ≡ taken_at (view rx sub closed sum own total) got p
         (live_in s) other
     by_slot Empty held = by_none other
     by_slot (Programmed j key) held = by_none other
     by_slot (Armed j key) held = by_none other
     by_slot (Live x) held =
-        let ahead = next_ahead rx.ahead rx.mode closed total front x is_front held in
+        let ahead = next_ahead rx.ahead rx.mode closed total lent x is_lent held in
         let within = allowed-right sub sum got allowed (posted_sum (x.packets ++ p ∷ []))
         (few_posted rx.ahead rx.mode closed total x p small byte held) is_allowed le in
         by_fits x (holds_any other || (not p.prefix.m && nat_le rx.mode (length x.packets + 1)))
@@ -141,16 +151,16 @@ slot_right : (k : Bool) (rx : Receiver) (closed : Bool) (sum own total : ℕ) �
 slot_right true rx closed sum own total inv = inv.second
 slot_right false rx closed sum own total inv = inv.first
 
-pub taken-right : (rx : Receiver) (sub : SubKind) (closed : Bool) (sum own total got allowed : ℕ) (front : List ℕ)
+pub taken-right : (rx : Receiver) (sub : SubKind) (closed : Bool) (sum own total got allowed : ℕ) (lent : List ℕ)
     (p : Packet)
     → IsReceiveLane rx closed sum own total → p.prefix.posted < 256
     → allowed ≡ (if sub_bits sub == 0 then 2 ^ 64 - 1 else got - sum) → (is_posted sub ≡ false → sum ≤ got)
-    → front ≡ (if closed then to_be_bytes w64 total else [])
-    → taken_of rx allowed front p ≡ taken_here (view rx sub closed sum own total) got p
-taken-right rx sub closed sum own total got allowed front p inv byte is_allowed le is_front =
-    taken_slots rx sub closed sum own total got allowed front p (slot_in_set rx.slots p.prefix.k)
+    → lent ≡ (if closed then to_be_bytes w64 total else [])
+    → taken_of rx allowed lent p ≡ taken_here (view rx sub closed sum own total) got p
+taken-right rx sub closed sum own total got allowed lent p inv byte is_allowed le is_lent =
+    taken_slots rx sub closed sum own total got allowed lent p (slot_in_set rx.slots p.prefix.k)
     (key_for rx (not p.prefix.k))
-    inv.small_mode (slot_right p.prefix.k rx closed sum own total inv) byte is_allowed le is_front
+    inv.small_mode (slot_right p.prefix.k rx closed sum own total inv) byte is_allowed le is_lent
 
 -- ---- the receiver after it
 
@@ -162,20 +172,20 @@ accepted-keyed e got p j n unit None None is = absurd (cc)
 accepted-keyed e got p j n unit None (Some y) is = absurd (cc)
 accepted-keyed e got p j n unit (Some x) y is = posted_sum-opened x p.prefix.sub unit
 
-pub end-after : (rx : Receiver) (sub : SubKind) (closed : Bool) (sum own total got : ℕ) (front : List ℕ) (p : Packet)
+pub end-after : (rx : Receiver) (sub : SubKind) (closed : Bool) (sum own total got : ℕ) (lent : List ℕ) (p : Packet)
     (t : Taken) (a : Answer)
     → taken_here (view rx sub closed sum own total) got p ≡ t → Some a ≡ answer_of t
-    → (let new : Receiver = record (after_answer rx front p t) { takes = rx.takes + 1 } in
+    → (let new : Receiver = record (after_answer rx lent p t) { takes = rx.takes + 1 } in
     view new sub closed (if is_accepted a then sum + posted_sum new.delivered else sum)
     (if is_accepted a then own + count_in a else own) (if is_accepted a then total + 1 else total))
     ≡ end_after (view rx sub closed sum own total) p t
-end-after rx sub closed sum own total got front p NotKeyed a is e = let same : a ≡ answers.NotKeyed = cc in rw same refl
-end-after rx sub closed sum own total got front p Insecure a is e = absurd (cc)
-end-after rx sub closed sum own total got front p (Failed cause) a is e = let same : a
+end-after rx sub closed sum own total got lent p NotKeyed a is e = let same : a ≡ answers.NotKeyed = cc in rw same refl
+end-after rx sub closed sum own total got lent p Insecure a is e = absurd (cc)
+end-after rx sub closed sum own total got lent p (Failed cause) a is e = let same : a
     ≡ answers.Fail cause = cc in rw same refl
-end-after rx sub closed sum own total got front p (Held j n) a is e = let same : a
+end-after rx sub closed sum own total got lent p (Held j n) a is e = let same : a
     ≡ answers.Held j n = cc in rw same refl
-end-after rx sub closed sum own total got front p (Accepted j n unit) a is e =
+end-after rx sub closed sum own total got lent p (Accepted j n unit) a is e =
     let same : a ≡ answers.Accepted j n (length unit) = cc in
     let posted : posted_sum (opened_under (key_for rx p.prefix.k) p.prefix.sub unit) ≡ posted_sum unit =
     accepted-keyed (view rx sub closed sum own total) got p j n unit (key_for rx p.prefix.k)
@@ -201,14 +211,14 @@ clash : (b : Bool) → b ≡ true → b ≡ false → ⊥
 clash b e f = let g : true ≡ false = sym e ∙ f in cc
 
 -- a slot that holds no packets is right under any total
-nothing_held : (slot : Slot) (ahead ahead' : List ℕ) (mode : ℕ) (closed : Bool) (total total' : ℕ)
+nothing_held : (slot : LaneSlot) (ahead ahead' : List ℕ) (mode : ℕ) (closed : Bool) (total total' : ℕ)
     → HoldsRight ahead mode closed total slot
     → holds_any (live_in slot) ≡ false → HoldsRight ahead' mode closed total' slot
 nothing_held Empty ahead ahead' mode closed total total' held e = tt
 nothing_held (Programmed j key) ahead ahead' mode closed total total' held e = tt
 nothing_held (Armed j key) ahead ahead' mode closed total total' held e = tt
 nothing_held (Live x) ahead ahead' mode closed total total' held e = record {
-  front = λ some. absurd (clash _ (none_in x e) some);
+  ahead_right = λ some. absurd (clash _ (none_in x e) some);
   posted = held.posted;
   fits = held.fits;
 }
@@ -217,19 +227,19 @@ nothing_held (Live x) ahead ahead' mode closed total total' held e = record {
 begun_right : (ahead : List ℕ) (mode : ℕ) (closed : Bool) (total draw units : ℕ) (key : List ℕ) → 0 < mode
     → HoldsPackets ahead mode closed total (record { draw = draw; key = key; units = units; packets = [] })
 begun_right ahead mode closed total draw units key some = record {
-  front = λ e. absurd (cc);
+  ahead_right = λ e. absurd (cc);
   posted = omega arith;
   fits = some;
 }
 
-dropped_right : (slot : Slot) (ahead : List ℕ) (mode : ℕ) (closed : Bool) (total : ℕ) → 0 < mode
+dropped_right : (slot : LaneSlot) (ahead : List ℕ) (mode : ℕ) (closed : Bool) (total : ℕ) → 0 < mode
     → HoldsRight ahead mode closed total (dropped slot)
 dropped_right Empty ahead mode closed total some = tt
 dropped_right (Programmed j key) ahead mode closed total some = tt
 dropped_right (Armed j key) ahead mode closed total some = tt
 dropped_right (Live x) ahead mode closed total some = begun_right ahead mode closed total x.draw x.units x.key some
 
-counted_right : (slot : Slot) (ahead : List ℕ) (mode : ℕ) (closed : Bool) (total : ℕ) → 0 < mode
+counted_right : (slot : LaneSlot) (ahead : List ℕ) (mode : ℕ) (closed : Bool) (total : ℕ) → 0 < mode
     → HoldsRight ahead mode closed total (counted_unit slot)
 counted_right Empty ahead mode closed total some = tt
 counted_right (Programmed j key) ahead mode closed total some = tt
@@ -237,7 +247,7 @@ counted_right (Armed j key) ahead mode closed total some = tt
 counted_right (Live x) ahead mode closed total some = begun_right ahead mode closed total x.draw (x.units + 1) x.key
     some
 
-retired_right : (j : ℕ) (slot : Slot) (ahead : List ℕ) (mode : ℕ) (closed : Bool) (total : ℕ)
+retired_right : (j : ℕ) (slot : LaneSlot) (ahead : List ℕ) (mode : ℕ) (closed : Bool) (total : ℕ)
     → HoldsRight ahead mode closed total slot
     → HoldsRight ahead mode closed total (retired j slot)
 retired_right j Empty ahead mode closed total held = tt
@@ -256,13 +266,13 @@ room_more n mode e = grind (arith, common_steps)
 joined_right : (ahead ahead' : List ℕ) (mode : ℕ) (closed : Bool) (total : ℕ) (x : LiveKey) (p : Packet)
     → HoldsPackets ahead mode closed total x
     → p.prefix.posted < 256 → nat_le mode (length x.packets + 1) ≡ false → ahead'
-    ≡ front_with closed (x.units + 1) total
+    ≡ ahead_with closed (x.units + 1) total
     → HoldsPackets ahead' mode closed total (record x { packets = x.packets ++ p ∷ [] })
 joined_right ahead ahead' mode closed total x p held byte room is =
     let size = length-append x.packets (p ∷ []) in
     let less = room_more (length x.packets) mode room in
     record {
-      front = λ e. is;
+      ahead_right = λ e. is;
       posted = omega (arith, posted_sum-joined x.packets p, held.posted, size);
       fits = omega (arith, less, size);
     }
@@ -298,43 +308,43 @@ fits_here e got p (Some x) y =
         let both = or_both (holds_any y) (not p.prefix.m && nat_le e.mode (length x.packets + 1)) is in
         (both.0, ap (λ m. not m && nat_le e.mode (length x.packets + 1)) (sym is_m) ∙ both.1)
 
-abbrev BothRight : Bool → List ℕ → ℕ → Bool → ℕ → Slots → Type 0
+abbrev BothRight : Bool → List ℕ → ℕ → Bool → ℕ → LaneSlots → Type 0
 BothRight k ahead mode closed total s = HoldsRight ahead mode closed total s.first
     × HoldsRight ahead mode closed total s.second
 
-held_both : (k : Bool) (rx : Receiver) (closed : Bool) (sum own total got : ℕ) (front : List ℕ) (p : Packet) (j n : ℕ)
+held_both : (k : Bool) (rx : Receiver) (closed : Bool) (sum own total got : ℕ) (lent : List ℕ) (p : Packet) (j n : ℕ)
     → IsReceiveLane rx closed sum own total
-    → p.prefix.posted < 256 → front ≡ (if closed then to_be_bytes w64 total else [])
+    → p.prefix.posted < 256 → lent ≡ (if closed then to_be_bytes w64 total else [])
     → FitsHere rx.mode p (Held j n) (live_in (slot_in_set rx.slots k)) (live_in (slot_in_set rx.slots (not k)))
-    → BothRight k (ahead_held rx (live_in (slot_in_set rx.slots k)) front) rx.mode closed total
+    → BothRight k (ahead_held rx (live_in (slot_in_set rx.slots k)) lent) rx.mode closed total
     (with_slot rx.slots k (gone_on p (slot_in_set rx.slots k)))
-held_both true rx closed sum own total got front p j n inv byte is_front fits = by_slot rx.slots.second inv.second fits
+held_both true rx closed sum own total got lent p j n inv byte is_lent fits = by_slot rx.slots.second inv.second fits
   where
-    by_slot : (s : Slot) → HoldsRight rx.ahead rx.mode closed total s
+    by_slot : (s : LaneSlot) → HoldsRight rx.ahead rx.mode closed total s
         → FitsHere rx.mode p (Held j n) (live_in s) (live_in rx.slots.first)
-        → HoldsRight (ahead_held rx (live_in s) front) rx.mode closed total rx.slots.first
-        × HoldsRight (ahead_held rx (live_in s) front) rx.mode closed total (gone_on p s)
+        → HoldsRight (ahead_held rx (live_in s) lent) rx.mode closed total rx.slots.first
+        × HoldsRight (ahead_held rx (live_in s) lent) rx.mode closed total (gone_on p s)
     by_slot Empty held fits = absurd fits
     by_slot (Programmed i key) held fits = absurd fits
     by_slot (Armed i key) held fits = absurd fits
     by_slot (Live x) held fits = (
-      nothing_held rx.slots.first rx.ahead (ahead_in rx x front) rx.mode closed total total inv.first fits.0,
-      joined_right rx.ahead (ahead_in rx x front) rx.mode closed total x p held byte fits.1
-          (next_ahead rx.ahead rx.mode closed total front x is_front held),
+      nothing_held rx.slots.first rx.ahead (ahead_in rx x lent) rx.mode closed total total inv.first fits.0,
+      joined_right rx.ahead (ahead_in rx x lent) rx.mode closed total x p held byte fits.1
+          (next_ahead rx.ahead rx.mode closed total lent x is_lent held),
     )
-held_both false rx closed sum own total got front p j n inv byte is_front fits = by_slot rx.slots.first inv.first fits
+held_both false rx closed sum own total got lent p j n inv byte is_lent fits = by_slot rx.slots.first inv.first fits
   where
-    by_slot : (s : Slot) → HoldsRight rx.ahead rx.mode closed total s
+    by_slot : (s : LaneSlot) → HoldsRight rx.ahead rx.mode closed total s
         → FitsHere rx.mode p (Held j n) (live_in s) (live_in rx.slots.second)
-        → HoldsRight (ahead_held rx (live_in s) front) rx.mode closed total (gone_on p s)
-        × HoldsRight (ahead_held rx (live_in s) front) rx.mode closed total rx.slots.second
+        → HoldsRight (ahead_held rx (live_in s) lent) rx.mode closed total (gone_on p s)
+        × HoldsRight (ahead_held rx (live_in s) lent) rx.mode closed total rx.slots.second
     by_slot Empty held fits = absurd fits
     by_slot (Programmed i key) held fits = absurd fits
     by_slot (Armed i key) held fits = absurd fits
     by_slot (Live x) held fits = (
-      joined_right rx.ahead (ahead_in rx x front) rx.mode closed total x p held byte fits.1
-          (next_ahead rx.ahead rx.mode closed total front x is_front held),
-      nothing_held rx.slots.second rx.ahead (ahead_in rx x front) rx.mode closed total total inv.second fits.0,
+      joined_right rx.ahead (ahead_in rx x lent) rx.mode closed total x p held byte fits.1
+          (next_ahead rx.ahead rx.mode closed total lent x is_lent held),
+      nothing_held rx.slots.second rx.ahead (ahead_in rx x lent) rx.mode closed total total inv.second fits.0,
     )
 
 accepted_both : (k : Bool) (rx : Receiver) (closed : Bool) (sum own total : ℕ) (j : ℕ)
@@ -352,19 +362,19 @@ accepted_both false rx closed sum own total j inv none = (
       (nothing_held rx.slots.second rx.ahead [] rx.mode closed total (total + 1) inv.second none),
 )
 
-pub taken-kept : (rx : Receiver) (sub : SubKind) (closed : Bool) (sum own total got : ℕ) (front : List ℕ) (p : Packet)
+pub taken-kept : (rx : Receiver) (sub : SubKind) (closed : Bool) (sum own total got : ℕ) (lent : List ℕ) (p : Packet)
     (t : Taken) (a : Answer) (sum' own' total' : ℕ)
     → IsReceiveLane rx closed sum own total → p.prefix.posted < 256 → rx.takes < 2 ^ 40
-    → front ≡ (if closed then to_be_bytes w64 total else [])
+    → lent ≡ (if closed then to_be_bytes w64 total else [])
     → taken_here (view rx sub closed sum own total) got p ≡ t → Some a ≡ answer_of t
     → sum' ≤ sum + 2040 → own' ≤ own + 255 → total' ≡ (if is_accepted a then total + 1 else total)
-    → IsReceiveLane (record (after_answer rx front p t) { takes = rx.takes + 1 }) closed sum' own' total'
-taken-kept rx sub closed sum own total got front p t a sum' own' total' inv byte few is_front is e le_sum le_own
+    → IsReceiveLane (record (after_answer rx lent p t) { takes = rx.takes + 1 }) closed sum' own' total'
+taken-kept rx sub closed sum own total got lent p t a sum' own' total' inv byte few is_lent is e le_sum le_own
     is_total =
     by_taken t is e (subst (λ (t : Taken). FitsHere rx.mode p t (key_for rx p.prefix.k) (key_for rx (not p.prefix.k)))
     is (fits_here (view rx sub closed sum own total) got p (key_for rx p.prefix.k) (key_for rx (not p.prefix.k))))
   where
-    with_both : (ahead : List ℕ) (slots : Slots) (delivered : List Packet) → total' ≤ total + 1
+    with_both : (ahead : List ℕ) (slots : LaneSlots) (delivered : List Packet) → total' ≤ total + 1
         → HoldsRight ahead rx.mode closed total' slots.first → HoldsRight ahead rx.mode closed total' slots.second
         → IsReceiveLane (record rx { ahead = ahead; slots = slots; delivered = delivered; takes = rx.takes + 1 }) closed
         sum' own' total'
@@ -385,7 +395,7 @@ taken-kept rx sub closed sum own total got front p t a sum' own' total' inv byte
 
     by_taken : (t : Taken) → taken_here (view rx sub closed sum own total) got p ≡ t → Some a ≡ answer_of t
         → FitsHere rx.mode p t (key_for rx p.prefix.k) (key_for rx (not p.prefix.k))
-        → IsReceiveLane (record (after_answer rx front p t) { takes = rx.takes + 1 }) closed sum' own' total'
+        → IsReceiveLane (record (after_answer rx lent p t) { takes = rx.takes + 1 }) closed sum' own' total'
     by_taken NotKeyed is e fits =
         let same : a ≡ answers.NotKeyed = cc in
         let keeps = same_total answers.NotKeyed same refl in
@@ -400,8 +410,8 @@ taken-kept rx sub closed sum own total got front p t a sum' own' total' inv byte
     by_taken (Held j n) is e fits =
         let same : a ≡ answers.Held j n = cc in
         let keeps = same_total (answers.Held j n) same refl in
-        let both = held_both p.prefix.k rx closed sum own total got front p j n inv byte is_front fits in
-        with_both (ahead_held rx (key_for rx p.prefix.k) front)
+        let both = held_both p.prefix.k rx closed sum own total got lent p j n inv byte is_lent fits in
+        with_both (ahead_held rx (key_for rx p.prefix.k) lent)
         (with_slot rx.slots p.prefix.k (gone_on p (slot_in_set rx.slots p.prefix.k))) [] (omega (arith, keeps))
         (rw keeps both.0) (rw keeps both.1)
     by_taken (Accepted j n unit) is e fits =
@@ -414,14 +424,14 @@ taken-kept rx sub closed sum own total got front p t a sum' own' total' inv byte
 
 -- ---- KEY_PROG
 
-kept_ahead : (slot : Slot) (b : Bool) (ahead : List ℕ) (mode : ℕ) (closed : Bool) (total : ℕ)
+kept_ahead : (slot : LaneSlot) (b : Bool) (ahead : List ℕ) (mode : ℕ) (closed : Bool) (total : ℕ)
     → (holds_any (live_in slot) ≡ true → b ≡ true)
     → HoldsRight ahead mode closed total slot → HoldsRight (if b then ahead else []) mode closed total slot
 kept_ahead Empty b ahead mode closed total h held = tt
 kept_ahead (Programmed j key) b ahead mode closed total h held = tt
 kept_ahead (Armed j key) b ahead mode closed total h held = tt
 kept_ahead (Live x) b ahead mode closed total h held = record {
-  front = λ some. ap (λ (c : Bool). if c then ahead else []) (h (some_in x some)) ∙ held.front some;
+  ahead_right = λ some. ap (λ (c : Bool). if c then ahead else []) (h (some_in x some)) ∙ held.ahead_right some;
   posted = held.posted;
   fits = held.fits;
 }

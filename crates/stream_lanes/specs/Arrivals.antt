@@ -6,8 +6,8 @@ use Rattle.ide_types.specs.declared.sub.SubKind.{SubKind}
 use Rattle.ide_types.specs.declared.sub.SubKind.TheVariants.{Pr, Npr, Cpl}
 use Rattle.ide_types.specs.declared.sub.FailCause.TheVariants as fail
 use Rattle.ide_prefix.specs.Packet.{Packet}
-use Rattle.stream_rules.specs.Sending.{front_with}
-use Rattle.stream_rules.specs.Stream.{Slot, Live, LiveKey, RxSub, Three, StreamState, at_sub, set_sub, each_sub}
+use Rattle.stream_rules.specs.Sending.{ahead_with}
+use Rattle.stream_rules.specs.Stream.{LaneSlot, Live, LiveKey, RxSub, Three, StreamState, at_sub, set_sub, each_sub}
 use Rattle.stream_rules.specs.Stream.{slot_in_set, live_in, Taken, NotKeyed, Failed, Held, Accepted, holds_any}
 use Rattle.stream_rules.specs.Stream.{posted_sum}
 use Rattle.stream_rules.specs.Stream.{is_tagged, checked, dropped_held, accepted_sub, held_sub, taken_by, state_after}
@@ -75,11 +75,11 @@ called_into e call = record e.kept { slots = slots_called_into call e.kept.slots
 
 -- what comes before held packets is what the rules say; they are few, and their posted counts are bytes
 pub record HoldsPackets (ahead : List ℕ) (mode : ℕ) (closed : Bool) (total : ℕ) (x : LiveKey) : Type 0 where
-  pub front : (length x.packets == 0) ≡ false → ahead ≡ front_with closed (x.units + 1) total
+  pub ahead_right : (length x.packets == 0) ≡ false → ahead ≡ ahead_with closed (x.units + 1) total
   pub posted : posted_sum x.packets ≤ 255 * length x.packets
   pub fits : length x.packets < mode
 
-abbrev pub HoldsRight : List ℕ → ℕ → Bool → ℕ → Slot → Type 0
+abbrev pub HoldsRight : List ℕ → ℕ → Bool → ℕ → LaneSlot → Type 0
 HoldsRight ahead mode closed total (Live x) = HoldsPackets ahead mode closed total x
 HoldsRight ahead mode closed total slot = Unit {0}
 
@@ -175,8 +175,8 @@ abbrev pub all_into : Three RxSub → Bool
 all_into rx = any_live rx.pr.slots && any_live rx.npr.slots && any_live rx.cpl.slots
 
 -- they count from 0 if none has a Live slot
-abbrev pub settled_into : Three RxSub → Three RxSub
-settled_into rx =
+abbrev pub rested_into : Three RxSub → Three RxSub
+rested_into rx =
     let into = any_into rx in
     each_sub (λ u. record {
       slots = (at_sub rx u).slots;

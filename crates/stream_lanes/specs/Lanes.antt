@@ -6,8 +6,8 @@ use Rattle.ide_types.specs.declared.sub.SubKind.TheVariants.{Pr, Npr, Cpl}
 use Rattle.ide_types.specs.declared.port.Side.TheVariants.{Host}
 use Rattle.link_verdicts.specs.declared.verdict.SealedPacket.{SealedPacket as Described}
 use Rattle.ide_prefix.specs.Packet.{Packet, packet_bytes}
-use Rattle.stream_rules.specs.Sending.{Lane, Lanes, is_posted, begins_unit, no_key, front_with}
-use Rattle.stream_rules.specs.Stream.{LiveKey, Slots, TxSub, Three, at_sub, set_sub, each_sub, live_sender, lane_of}
+use Rattle.stream_rules.specs.Sending.{Lane, Lanes, is_posted, begins_unit, no_key, ahead_with}
+use Rattle.stream_rules.specs.Stream.{LiveKey, LaneSlots, TxSub, Three, at_sub, set_sub, each_sub, live_sender, lane_of}
 use Rattle.stream_rules.specs.Stream.{packet_under, sealed_slots, sealed_one}
 use Rattle.stream_rules.specs.Slots.{is_live_slot, any_live}
 use Rattle.key_slots.specs.{KeyCall}
@@ -58,14 +58,14 @@ said e m t sync =
 
 -- a TLP's packet, which goes on with its unit if that has room and `more` is said; and a sync packet
 abbrev pub tlp_said : SendEnd → Bool → Bool → Described
-tlp_said e more t = said e (not more || (length (sealing_lane e).front + 1 == e.fixed.mode)) t false
+tlp_said e more t = said e (not more || (length (sealing_lane e).unfinished + 1 == e.fixed.mode)) t false
 
 abbrev pub sync_said : SendEnd → Described
 sync_said e = said e true false true
 
 -- the packet that is said, with this header and payload
 abbrev pub packet_said : SendEnd → List ℕ → List ℕ → Described → Packet
-packet_said e head payload d = packet_under (front_with e.fixed.closed d.unit e.kept.total) (live_sender e.kept.slots)
+packet_said e head payload d = packet_under (ahead_with e.fixed.closed d.unit e.kept.total) (live_sender e.kept.slots)
     d head payload
 
 -- its own posted count begins again, and a finished unit counts
@@ -99,7 +99,7 @@ pub record IsSendLane (tx : Sender) (limit : ℕ) (closed : Bool) (posted total 
   pub one_live : (is_live_slot tx.slots.first && is_live_slot tx.slots.second) ≡ false
   pub fits : length (open_packets tx) < tx.mode
   pub ahead : (length (open_packets tx) == 0) ≡ false → tx.ahead
-      ≡ front_with closed (open_unit_number (live_sender tx.slots)) total
+      ≡ ahead_with closed (open_unit_number (live_sender tx.slots)) total
   pub no_count : is_posted tx.sub ≡ true → posted ≡ 0
 
 -- ---- three sub-streams
@@ -137,7 +137,7 @@ abbrev pub measured : Described → Packet → SealedPacket
 measured d p = with_length d (length (packet_bytes p))
 
 -- the packets of an open unit of these slots
-abbrev pub open_in : Slots → List Packet
+abbrev pub open_in : LaneSlots → List Packet
 open_in slots = packets_under (live_sender slots)
 
 -- the posted packets that may still join an open unit of this mode leave the count within a byte

@@ -6,5 +6,5 @@ pub use Rattle.stream_lanes.specs.Lanes.{SendEnds, new_send_ends, end_at, sealin
 pub use Rattle.stream_lanes.specs.Lanes.{called_ends}
 pub use Rattle.stream_lanes.specs.Sends.{refusal_verdict, numbered_from, joined_packets, packet_lengths, IsSealed}
 pub use Rattle.stream_lanes.specs.Arrivals.{ReceiveEnds, no_receivers, new_receive_ends, receiving_state, taken_among}
-pub use Rattle.stream_lanes.specs.Arrivals.{opened_after, ends_after, is_fail, any_into, all_into, settled_into}
+pub use Rattle.stream_lanes.specs.Arrivals.{opened_after, ends_after, is_fail, any_into, all_into, rested_into}
 pub use Rattle.stream_lanes.specs.Arrivals.{called_receivers}

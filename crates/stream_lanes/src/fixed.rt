@@ -1,7 +1,7 @@
 //! What never changes of a stream.
 
 ghost use Rattle.std.specs.Prelude.{◌≡◌, if◌then◌else◌, []};
-ghost use Rattle.sub_stream.specs.Gathered.{lent_front};
+ghost use Rattle.sub_stream.specs.Gathered.{lent_ahead};
 
 /// The stream's ID, the most packets of a unit, the most units under one key, and whether the stream is closed: then
 /// the total of units finished before is authenticated before the packets of a key's first unit.
@@ -15,8 +15,8 @@ pub struct Fixed {
 
 /// What is authenticated before the packets of a key's first unit: on a closed stream the total of units finished
 /// before, 8 bytes; on an open one nothing.
-pub fn front(closed: bool, total: &[u8; 8]) -> Option<&[u8; 8]>
-    ensures { lent_front result ≡ (if closed then total.now else []) }
+pub fn lent_total(closed: bool, total: &[u8; 8]) -> Option<&[u8; 8]>
+    ensures { lent_ahead result ≡ (if closed then total.now else []) }
 {
     if closed { Some(total) } else { None }
 }

@@ -4,10 +4,8 @@
 
 mod fixed;
 mod list;
-mod receive_lane;
 mod receive_lanes;
 mod refusal;
-mod send_lane;
 mod send_lanes;
 
 pub use fixed::Fixed;

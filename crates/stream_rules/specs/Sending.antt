@@ -34,7 +34,7 @@ pub record Sending : Type 0 where
 -- number of finished ones under it, and the posted count
 pub record Lane : Type 0 where
   pub key : Option KeyName
-  pub front : List Packet
+  pub unfinished : List Packet
   pub units : ℕ
   pub posted : ℕ
 
@@ -50,7 +50,7 @@ is_posted u = sub_bits u == 0
 
 -- whether the next packet begins a unit
 abbrev pub begins_unit : Lane → Bool
-begins_unit l = length l.front == 0
+begins_unit l = length l.unfinished == 0
 
 -- whether a sync packet goes first: a posted unit is to begin whose packets the next posted count might not hold
 abbrev pub needs_sync : Lanes → SubKind → SubKind → Bool
@@ -99,7 +99,7 @@ described x s u number m t sync =
 
 -- whether the TLP ends its unit
 abbrev pub ends_unit : Lanes → Sending → Bool
-ends_unit x s = not s.more || (length (x.lane s.class).front + 1 == x.mode)
+ends_unit x s = not s.more || (length (x.lane s.class).unfinished + 1 == x.mode)
 
 -- T is set as the port is asked: a host's port by the send, a device's port by its interfaces
 abbrev pub sets_trusted : PortName → Bool → Bool
@@ -126,5 +126,5 @@ abbrev pub prefix_of : SealedPacket → Prefix
 prefix_of d = record { m = d.m; k = d.k; t = d.t; sub = d.sub; stream = d.stream; posted = d.posted }
 
 -- what comes before the authenticated bytes of a unit: on a closed stream, for unit 1, the total before it in 8 bytes
-abbrev pub front_with : Bool → ℕ → ℕ → List ℕ
-front_with closed unit total = if closed && (unit == 1) then to_be_bytes w64 total else []
+abbrev pub ahead_with : Bool → ℕ → ℕ → List ℕ
+ahead_with closed unit total = if closed && (unit == 1) then to_be_bytes w64 total else []

@@ -1,42 +1,69 @@
 -- What keys do to slots: a key is put in, gets GO, or is taken out; and what all slots of a stream come to.
-use Rattle.std.specs.Prelude.{Bool, true, false, ◌&&◌, ◌||◌, nat_lt, [], length, if◌then◌else◌}
+use Rattle.std.specs.Prelude.{ℕ, Bool, true, false, ◌&&◌, ◌||◌, nat_lt, [], length, if◌then◌else◌}
+use Rattle.std.specs.Prelude.{Option, Some, None, option_map}
 use Rattle.ide_types.specs.declared.sub.SubKind.{SubKind}
 use Rattle.ide_types.specs.declared.status.StreamStatus.{StreamStatus}
 use Rattle.ide_types.specs.declared.status.StreamStatus.TheVariants as status
-use Rattle.stream_rules.specs.Stream.{Slot, Empty, Programmed, Armed, Live, Slots, TxSub, RxSub, Three, StreamState}
-use Rattle.stream_rules.specs.Stream.{at_sub, each_sub}
+use Rattle.stream_rules.specs.Stream.{
+  LaneSlot,
+  Empty,
+  Programmed,
+  Armed,
+  Live,
+  LiveKey,
+  LaneSlots,
+  TxSub,
+  RxSub,
+  Three,
+  StreamState,
+}
+use Rattle.stream_rules.specs.Stream.{at_sub, each_sub, live_in, live_sender}
 
-abbrev pub both_slots : Bool → Slot → Slot → Slots
+abbrev pub both_slots : Bool → LaneSlot → LaneSlot → LaneSlots
 both_slots k a b = if k then record { first = b; second = a } else record { first = a; second = b }
 
-abbrev pub begun : Slot → Slot
+abbrev pub begun : LaneSlot → LaneSlot
 begun (Programmed j key) = Live (record { draw = j; key = key; units = 0; packets = [] })
 begun s = s
 
-abbrev pub is_busy : Slot → Bool
+abbrev pub is_busy : LaneSlot → Bool
 is_busy (Live x) = nat_lt 0 (length x.packets)
 is_busy _ = false
 
-abbrev pub slot_gone : Bool → Slot → Slot → Slots
+abbrev pub slot_gone : Bool → LaneSlot → LaneSlot → LaneSlots
 slot_gone k (Programmed j key) other =
     if is_busy other then both_slots k (Armed j key) other
     else both_slots k (Live (record { draw = j; key = key; units = 0; packets = [] })) Empty
 slot_gone k a other = both_slots k a other
 
-abbrev pub woken_slot : Slot → Slot
+abbrev pub woken_slot : LaneSlot → LaneSlot
 woken_slot (Armed j key) = Live (record { draw = j; key = key; units = 0; packets = [] })
 woken_slot s = s
 
-abbrev pub is_live_slot : Slot → Bool
+abbrev pub is_live_slot : LaneSlot → Bool
 is_live_slot (Live x) = true
 is_live_slot _ = false
 
-abbrev pub any_live : Slots → Bool
+abbrev pub any_live : LaneSlots → Bool
 any_live s = is_live_slot s.first || is_live_slot s.second
 
+-- the draw that a sender seals under
+abbrev pub sealing_draw : LaneSlots → Option ℕ
+sealing_draw s = option_map (λ (x : Bool × LiveKey). x.1.draw) (live_sender s)
+
+abbrev pub greater_draw : Option LiveKey → Option LiveKey → Option ℕ
+greater_draw None None = None
+greater_draw (Some x) None = Some x.draw
+greater_draw None (Some y) = Some y.draw
+greater_draw (Some x) (Some y) = Some (if nat_lt x.draw y.draw then y.draw else x.draw)
+
+-- the greatest draw that a receiver opens under
+abbrev pub receiving_draw : LaneSlots → Option ℕ
+receiving_draw s = greater_draw (live_in s.first) (live_in s.second)
+
 -- a direction without a Live slot counts from 0, and a stream without a Live slot has not failed
-abbrev pub settled_stream : Three TxSub → Three RxSub → Bool → StreamState
-settled_stream tx rx failed =
+abbrev pub rested_stream : Three TxSub → Three RxSub → Bool → StreamState
+rested_stream tx rx failed =
     let out = any_live tx.pr.slots || any_live tx.npr.slots || any_live tx.cpl.slots in
     let into = any_live rx.pr.slots || any_live rx.npr.slots || any_live rx.cpl.slots in
     record {
@@ -55,13 +82,13 @@ settled_stream tx rx failed =
     }
 
 -- the slots of a sender, or of a receiver, in a sub-stream
-abbrev pub slots_at : Bool → SubKind → StreamState → Slots
+abbrev pub slots_at : Bool → SubKind → StreamState → LaneSlots
 slots_at true u st = (at_sub st.tx u).slots
 slots_at false u st = (at_sub st.rx u).slots
 
 -- ---- without keys
 
-abbrev pub no_slots : Slots
+abbrev pub no_slots : LaneSlots
 no_slots = record { first = Empty; second = Empty }
 
 abbrev pub no_stream : StreamState

@@ -11,7 +11,7 @@ use Rattle.gcm_seal.specs.Gcm.{masked, tag_of, verifies}
 use Rattle.ide_prefix.specs.Packet.{Packet, sync_head}
 use Rattle.ide_prefix.specs.Iv.{iv_of}
 use Rattle.ide_prefix.specs.Units.{authenticated, encrypted}
-use Rattle.stream_rules.specs.Sending.{Lane, Lanes, prefix_of, front_with}
+use Rattle.stream_rules.specs.Sending.{Lane, Lanes, prefix_of, ahead_with}
 
 -- ---- three sub-streams
 
@@ -42,26 +42,26 @@ pub record LiveKey : Type 0 where
   pub units : ℕ
   pub packets : List Packet
 
-pub data Slot : Type 0 where
-  Empty : Slot
-  Programmed : ℕ → List ℕ → Slot
-  Armed : ℕ → List ℕ → Slot
-  Live : LiveKey → Slot
+pub data LaneSlot : Type 0 where
+  Empty : LaneSlot
+  Programmed : ℕ → List ℕ → LaneSlot
+  Armed : ℕ → List ℕ → LaneSlot
+  Live : LiveKey → LaneSlot
 
 -- the slots of both key sets
-pub record Slots : Type 0 where
-  pub first : Slot
-  pub second : Slot
+pub record LaneSlots : Type 0 where
+  pub first : LaneSlot
+  pub second : LaneSlot
 
 -- a sender: the posted count of its next packet, and how many units it finished
 pub record TxSub : Type 0 where
-  pub slots : Slots
+  pub slots : LaneSlots
   pub posted : ℕ
   pub total : ℕ
 
 -- a receiver: the sum of the posted counts, and the number, of the packets of its accepted units, and how many units
 pub record RxSub : Type 0 where
-  pub slots : Slots
+  pub slots : LaneSlots
   pub sum : ℕ
   pub got : ℕ
   pub total : ℕ
@@ -71,20 +71,20 @@ pub record StreamState : Type 0 where
   pub rx : Three RxSub
   pub failed : Bool
 
-abbrev pub slot_in_set : Slots → Bool → Slot
+abbrev pub slot_in_set : LaneSlots → Bool → LaneSlot
 slot_in_set s k = if k then s.second else s.first
 
-abbrev pub with_slot : Slots → Bool → Slot → Slots
+abbrev pub with_slot : LaneSlots → Bool → LaneSlot → LaneSlots
 with_slot s k x = if k then record s { second = x } else record s { first = x }
 
-abbrev pub live_in : Slot → Option LiveKey
+abbrev pub live_in : LaneSlot → Option LiveKey
 live_in (Live x) = Some x
 live_in _ = None
 
 -- ---- sends
 
 -- the Live key of a sender, with its set; there is at most one
-abbrev pub live_sender : Slots → Option (Bool × LiveKey)
+abbrev pub live_sender : LaneSlots → Option (Bool × LiveKey)
 live_sender s = first_live (live_in s.first) (live_in s.second)
   where
     first_live : Option LiveKey → Option LiveKey → Option (Bool × LiveKey)
@@ -94,10 +94,10 @@ live_sender s = first_live (live_in s.first) (live_in s.second)
 
 -- what the rules of sealing see of a sender
 abbrev pub lane_of : ℕ → Option (Bool × LiveKey) → Lane
-lane_of posted None = record { key = None; front = []; units = 0; posted = posted }
+lane_of posted None = record { key = None; unfinished = []; units = 0; posted = posted }
 lane_of posted (Some x) = record {
   key = Some (record { k = x.0; draw = x.1.draw });
-  front = x.1.packets;
+  unfinished = x.1.packets;
   units = x.1.units;
   posted = posted;
 }
@@ -112,18 +112,18 @@ lanes_of mode limit st = record {
 
 -- the packet of a description under a key: its body is its part of the unit's ciphertext, and the last has the tag
 abbrev pub untagged_under : List ℕ → List Packet → SealedPacket → List ℕ → List ℕ → Packet
-untagged_under key front d head payload = record {
+untagged_under key unfinished d head payload = record {
   prefix = prefix_of d;
   head = if d.sync then sync_head else head;
-  body = masked key (iv_of d.sub d.unit) (length (encrypted front)) (if d.sync then [] else payload);
+  body = masked key (iv_of d.sub d.unit) (length (encrypted unfinished)) (if d.sync then [] else payload);
   tag = [];
 }
 
 abbrev pub tagged_under : List ℕ → List ℕ → List Packet → SealedPacket → Packet → Packet
-tagged_under ahead key front d p =
+tagged_under ahead key unfinished d p =
     record p {
-      tag = if d.m then tag_of key (iv_of d.sub d.unit) (ahead ++ authenticated (front ++ p ∷ []))
-          (encrypted (front ++ p ∷ [])) else [];
+      tag = if d.m then tag_of key (iv_of d.sub d.unit) (ahead ++ authenticated (unfinished ++ p ∷ []))
+          (encrypted (unfinished ++ p ∷ [])) else [];
     }
 
 abbrev pub packet_under : List ℕ → Option (Bool × LiveKey) → SealedPacket → List ℕ → List ℕ → Packet
@@ -132,18 +132,18 @@ packet_under ahead (Some x) d head payload = tagged_under ahead x.1.key x.1.pack
     (untagged_under x.1.key x.1.packets d head payload)
 
 -- a unit goes on, or ends: then a slot that waited for that is Live
-abbrev pub gone_on : Packet → Slot → Slot
+abbrev pub gone_on : Packet → LaneSlot → LaneSlot
 gone_on p (Live x) = Live (record x { packets = x.packets ++ p ∷ [] })
 gone_on p s = s
 
-abbrev pub counted_unit : Slot → Slot
+abbrev pub counted_unit : LaneSlot → LaneSlot
 counted_unit (Live x) = Live (record x { units = x.units + 1; packets = [] })
 counted_unit s = s
 
-abbrev pub ended_slots : Slots → Slots
+abbrev pub ended_slots : LaneSlots → LaneSlots
 ended_slots s = by_wait s.first s.second
   where
-    by_wait : Slot → Slot → Slots
+    by_wait : LaneSlot → LaneSlot → LaneSlots
     by_wait (Live x) (Armed j key) = record {
       first = Empty;
       second = Live (record { draw = j; key = key; units = 0; packets = [] });
@@ -154,7 +154,7 @@ ended_slots s = by_wait s.first s.second
     }
     by_wait a b = record { first = counted_unit a; second = counted_unit b }
 
-abbrev pub sealed_slots : Bool → Packet → Slots → Slots
+abbrev pub sealed_slots : Bool → Packet → LaneSlots → LaneSlots
 sealed_slots m p s = if m then ended_slots s else record { first = gone_on p s.first; second = gone_on p s.second }
 
 -- a sub-stream after a sealed packet of the stream: its own begins its posted count again, a posted one counts
@@ -171,7 +171,7 @@ sealed_sub d p u tx =
 abbrev pub sealed_one : Bool → List ℕ → List ℕ → SealedPacket → Three TxSub → Packet × Three TxSub
 sealed_one closed head payload d tx =
     let x = at_sub tx d.sub in
-    let p = packet_under (front_with closed d.unit x.total) (live_sender x.slots) d head payload in
+    let p = packet_under (ahead_with closed d.unit x.total) (live_sender x.slots) d head payload in
     (p, each_sub (λ u. sealed_sub d p u (at_sub tx u)))
 
 -- the packets of descriptions in order, and the senders after them
@@ -206,7 +206,7 @@ is_allowed rx u unit = (sub_bits u == 0) || nat_le ((at_sub rx u).sum + posted_s
 -- the tag is that of the unit, with the total before unit 1 on a closed stream
 abbrev pub is_tagged : Bool → ℕ → LiveKey → Packet → Bool
 is_tagged closed total x p =
-    verifies x.key (iv_of p.prefix.sub (x.units + 1)) (front_with closed (x.units + 1) total
+    verifies x.key (iv_of p.prefix.sub (x.units + 1)) (ahead_with closed (x.units + 1) total
     ++ authenticated (x.packets ++ p ∷ [])) (encrypted (x.packets ++ p ∷ [])) p.tag
 
 abbrev pub checked : Bool → Bool → LiveKey → Packet → Taken
@@ -232,7 +232,7 @@ taken_by mode closed st p =
     else taken_under mode closed st.rx p (live_in (slot_in_set slots p.prefix.k))
     (live_in (slot_in_set slots (not p.prefix.k)))
 
-abbrev pub dropped : Slot → Slot
+abbrev pub dropped : LaneSlot → LaneSlot
 dropped (Live x) = Live (record x { packets = [] })
 dropped s = s
 
@@ -240,11 +240,11 @@ abbrev pub dropped_held : RxSub → RxSub
 dropped_held rx = record rx { slots = record { first = dropped rx.slots.first; second = dropped rx.slots.second } }
 
 -- a Live key of a smaller draw than that of an accepted unit
-abbrev pub retired : ℕ → Slot → Slot
+abbrev pub retired : ℕ → LaneSlot → LaneSlot
 retired j (Live x) = if nat_lt x.draw j then Empty else Live x
 retired j s = s
 
-abbrev pub accepted_slots : ℕ → Bool → Slots → Slots
+abbrev pub accepted_slots : ℕ → Bool → LaneSlots → LaneSlots
 accepted_slots j true s = record { first = retired j s.first; second = counted_unit s.second }
 accepted_slots j false s = record { first = counted_unit s.first; second = retired j s.second }
 

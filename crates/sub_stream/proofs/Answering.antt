@@ -40,18 +40,18 @@ use Rattle.sub_stream.proofs.Receiving.{units_of, held_of, key_seen, fits_seen, 
 
 -- ---- answers that come early
 
-pub early-taken : (rx : Receiver) (allowed : ℕ) (front : List ℕ) (p : Packet) (a : Answer) → early_of rx p ≡ Some a
-    → Some a ≡ answer_of (taken_of rx allowed front p)
-early-taken rx allowed front p a = by_keys (key_for rx p.prefix.k) (key_for rx (not p.prefix.k))
+pub early-taken : (rx : Receiver) (allowed : ℕ) (total : List ℕ) (p : Packet) (a : Answer) → early_of rx p ≡ Some a
+    → Some a ≡ answer_of (taken_of rx allowed total p)
+early-taken rx allowed total p a = by_keys (key_for rx p.prefix.k) (key_for rx (not p.prefix.k))
   where
     by_keys : (x y : Option LiveKey) → early_answer rx.mode p x y ≡ Some a → Some a
-        ≡ answer_of (taken_with rx allowed front p x y)
+        ≡ answer_of (taken_with rx allowed total p x y)
     by_keys None None e = sym e
     by_keys None (Some y) e = sym e
     by_keys (Some x) y e = by_fits (fits_unit rx.mode x y p) e
       where
         by_fits : (b : Bool) → (if b then None else Some (answers.Fail fail.Unit)) ≡ Some a
-            → Some a ≡ answer_of (if b then judged_packet (ahead_in rx x front) allowed x p else Failed fail.Unit)
+            → Some a ≡ answer_of (if b then judged_packet (ahead_in rx x total) allowed x p else Failed fail.Unit)
         by_fits true e = absurd (cc)
         by_fits false e = sym e
 
@@ -60,21 +60,21 @@ abbrev pub after_early : Receiver → Answer → Receiver
 after_early rx answers.NotKeyed = rx
 after_early rx answer = dropped_receiver rx
 
-pub early-after : (rx : Receiver) (allowed : ℕ) (front : List ℕ) (p : Packet) (a : Answer) → early_of rx p ≡ Some a
-    → after_answer rx front p (taken_of rx allowed front p) ≡ after_early rx a
-early-after rx allowed front p a = by_keys (key_for rx p.prefix.k) (key_for rx (not p.prefix.k))
+pub early-after : (rx : Receiver) (allowed : ℕ) (total : List ℕ) (p : Packet) (a : Answer) → early_of rx p ≡ Some a
+    → after_answer rx total p (taken_of rx allowed total p) ≡ after_early rx a
+early-after rx allowed total p a = by_keys (key_for rx p.prefix.k) (key_for rx (not p.prefix.k))
   where
     by_fail : (cause : FailCause) → Some (answers.Fail cause) ≡ Some a → dropped_receiver rx ≡ after_early rx a
     by_fail cause e = let same : answers.Fail cause ≡ a = cc in ap (after_early rx) same
 
     by_keys : (x y : Option LiveKey) → early_answer rx.mode p x y ≡ Some a
-        → after_answer rx front p (taken_with rx allowed front p x y) ≡ after_early rx a
+        → after_answer rx total p (taken_with rx allowed total p x y) ≡ after_early rx a
     by_keys None None e = let same : answers.NotKeyed ≡ a = cc in ap (after_early rx) same
     by_keys None (Some y) e = by_fail fail.Key e
     by_keys (Some x) y e = by_fits (fits_unit rx.mode x y p) e
       where
         by_fits : (b : Bool) → (if b then None else Some (answers.Fail fail.Unit)) ≡ Some a
-            → after_answer rx front p (if b then judged_packet (ahead_in rx x front) allowed x p else Failed fail.Unit)
+            → after_answer rx total p (if b then judged_packet (ahead_in rx x total) allowed x p else Failed fail.Unit)
             ≡ after_early rx a
         by_fits true e = absurd (cc)
         by_fits false e = by_fail fail.Unit e
@@ -98,7 +98,7 @@ view stream sub mode u0 u1 pair h unit takes = record {
   stream = stream;
   sub = sub;
   mode = mode;
-  ahead = ahead_by h unit.front;
+  ahead = ahead_by h unit.ahead;
   slots = seen_in pair u0 u1 h unit.packets;
   delivered = lent_by h unit.packets;
   takes = takes;
@@ -151,13 +151,13 @@ held-other false Nothing ps e = refl
 held-other false Delivered ps e = refl
 
 -- what comes before is the same
-pub ahead-kept : (h : Holds) (unit : Gathered) (front : List ℕ) (n : ℕ)
-    → (if length (kept h unit).packets == 0 then ahead_of front n else ahead_by h unit.front)
-    ≡ (begun_where_empty (kept h unit) front n).front
-ahead-kept Zero unit front n = refl
-ahead-kept One unit front n = refl
-ahead-kept Nothing unit front n = refl
-ahead-kept Delivered unit front n = refl
+pub ahead-kept : (h : Holds) (unit : Gathered) (total : List ℕ) (n : ℕ)
+    → (if length (kept h unit).packets == 0 then ahead_of total n else ahead_by h unit.ahead)
+    ≡ (begun_where_empty (kept h unit) total n).ahead
+ahead-kept Zero unit total n = refl
+ahead-kept One unit total n = refl
+ahead-kept Nothing unit total n = refl
+ahead-kept Delivered unit total n = refl
 
 fits_apart : (a b : Bool) → not (a || b) ≡ true → a ≡ false
 fits_apart true b e = absurd (cc)
@@ -195,13 +195,13 @@ fits-early k pair u0 u1 h mode unit p held few is_k is none =
     by_fits false e = absurd (cc)
 
 pub taken-keyed : (stream : ℕ) (sub : SubKind) (mode u0 u1 : ℕ) (pair : SlotPair) (h : Holds) (unit : Gathered)
-    (takes allowed : ℕ) (front : List ℕ) (p : Packet) (held : DrawnKey)
+    (takes allowed : ℕ) (total : List ℕ) (p : Packet) (held : DrawnKey)
     → HoldsFew pair mode h unit.packets → live_held (slot_in pair p.prefix.k) ≡ Some held
     → fits_held h (length unit.packets) mode p.prefix.k p.prefix.m ≡ true
-    → taken_of (view stream sub mode u0 u1 pair h unit takes) allowed front p
-    ≡ judged_packet (begun_where_empty (kept h unit) front (units_of p.prefix.k u0 u1 + 1)).front allowed
+    → taken_of (view stream sub mode u0 u1 pair h unit takes) allowed total p
+    ≡ judged_packet (begun_where_empty (kept h unit) total (units_of p.prefix.k u0 u1 + 1)).ahead allowed
     (live_with (units_of p.prefix.k u0 u1) (kept h unit).packets held) p
-taken-keyed stream sub mode u0 u1 pair h unit takes allowed front p held few is fits =
+taken-keyed stream sub mode u0 u1 pair h unit takes allowed total p held few is fits =
     let k = p.prefix.k in
     let rx = view stream sub mode u0 u1 pair h unit takes in
     let apart = not_apart h (length unit.packets) mode k p.prefix.m fits in
@@ -209,9 +209,9 @@ taken-keyed stream sub mode u0 u1 pair h unit takes allowed front p held few is 
     let key = key-kept k pair u0 u1 h unit held is apart in
     let room : fits_unit mode x (key_for rx (not k)) p ≡ true =
     fits_seen k pair u0 u1 h mode unit.packets p x few (sym (held-kept k h unit apart)) ∙ fits in
-    ap (λ o. taken_with rx allowed front p o (key_for rx (not k))) key
-    ∙ ap (λ b. if b then judged_packet (ahead_in rx x front) allowed x p else Failed fail.Unit) room
-    ∙ ap (λ a. judged_packet a allowed x p) (ahead-kept h unit front (units_of k u0 u1 + 1))
+    ap (λ o. taken_with rx allowed total p o (key_for rx (not k))) key
+    ∙ ap (λ b. if b then judged_packet (ahead_in rx x total) allowed x p else Failed fail.Unit) room
+    ∙ ap (λ a. judged_packet a allowed x p) (ahead-kept h unit total (units_of k u0 u1 + 1))
 
 -- ---- the receiver after it
 
@@ -322,9 +322,9 @@ slots-accepted false pair u0 u1 draw h ps qs apart =
           (sym (held-other false h ps apart))) i;
     })
 
-held-ahead : (k : Bool) (front : List ℕ) → ahead_by (held_in k) front ≡ front
-held-ahead true front = refl
-held-ahead false front = refl
+held-ahead : (k : Bool) (total : List ℕ) → ahead_by (held_in k) total ≡ total
+held-ahead true ahead = refl
+held-ahead false ahead = refl
 
 held-lent : (k : Bool) (ps : List Packet) → lent_by (held_in k) ps ≡ []
 held-lent true ps = refl
@@ -337,24 +337,24 @@ abbrev pub counted_one : Bool → ℕ → Answer → ℕ
 counted_one k u1 a = if is_accepted a && k then u1 + 1 else u1
 
 pub view-answered : (stream : ℕ) (sub : SubKind) (mode u0 u1 : ℕ) (pair : SlotPair) (h : Holds) (unit new : Gathered)
-    (takes : ℕ) (front : List ℕ) (p : Packet) (held : DrawnKey) (a : Answer) (t : Taken)
+    (takes : ℕ) (total : List ℕ) (p : Packet) (held : DrawnKey) (a : Answer) (t : Taken)
     → live_held (slot_in pair p.prefix.k) ≡ Some held → holds_apart p.prefix.k h ≡ false
     → (p.prefix.m ≡ false → p.tag ≡ [])
     → IsJudged p t → Some a ≡ answer_of t
-    → BufferAfter (begun_where_empty (kept h unit) front (units_of p.prefix.k u0 u1 + 1))
+    → BufferAfter (begun_where_empty (kept h unit) total (units_of p.prefix.k u0 u1 + 1))
     (live_with (units_of p.prefix.k u0 u1) (kept h unit).packets held) p t new
     → view stream sub mode (counted_zero p.prefix.k u0 a) (counted_one p.prefix.k u1 a) (slots_after a p.prefix.k pair)
     (holds_after p.prefix.k a) new (takes + 1)
-    ≡ record (after_answer (view stream sub mode u0 u1 pair h unit takes) front p t) { takes = takes + 1 }
-view-answered stream sub mode u0 u1 pair h unit new takes front p held a t is apart tagless judged answered buffer =
+    ≡ record (after_answer (view stream sub mode u0 u1 pair h unit takes) total p t) { takes = takes + 1 }
+view-answered stream sub mode u0 u1 pair h unit new takes total p held a t is apart tagless judged answered buffer =
     by_taken t judged answered buffer
   where
     by_taken : (t : Taken) → IsJudged p t → Some a ≡ answer_of t
-        → BufferAfter (begun_where_empty (kept h unit) front (units_of p.prefix.k u0 u1 + 1))
+        → BufferAfter (begun_where_empty (kept h unit) total (units_of p.prefix.k u0 u1 + 1))
         (live_with (units_of p.prefix.k u0 u1) (kept h unit).packets held) p t new
         → view stream sub mode (counted_zero p.prefix.k u0 a) (counted_one p.prefix.k u1 a)
         (slots_after a p.prefix.k pair) (holds_after p.prefix.k a) new (takes + 1)
-        ≡ record (after_answer (view stream sub mode u0 u1 pair h unit takes) front p t) { takes = takes + 1 }
+        ≡ record (after_answer (view stream sub mode u0 u1 pair h unit takes) total p t) { takes = takes + 1 }
     by_taken NotKeyed j e b = absurd j
     by_taken Insecure j e b = absurd j
     by_taken (Failed cause) j e b =
@@ -367,9 +367,9 @@ view-answered stream sub mode u0 u1 pair h unit new takes front p held a t is ap
         let key = key-kept k pair u0 u1 h unit held is apart in
         let packets : new.packets ≡ (kept h unit).packets ++ p ∷ [] =
         ap (λ (u : Gathered). u.packets) b ∙ ap (λ q. (kept h unit).packets ++ q ∷ []) (untagged-same p (tagless m)) in
-        let ahead : ahead_by (held_in k) new.front ≡ ahead_held rx (key_for rx k) front =
-        held-ahead k new.front ∙ ap (λ (u : Gathered). u.front) b ∙ sym (ahead-kept h unit front (units_of k u0 u1 + 1))
-        ∙ sym (ap (λ o. ahead_held rx o front) key) in
+        let ahead : ahead_by (held_in k) new.ahead ≡ ahead_held rx (key_for rx k) total =
+        held-ahead k new.ahead ∙ ap (λ (u : Gathered). u.ahead) b ∙ sym (ahead-kept h unit total (units_of k u0 u1 + 1))
+        ∙ sym (ap (λ o. ahead_held rx o total) key) in
         let slots : seen_in pair u0 u1 (held_in k) new.packets
         ≡ with_slot rx.slots k (gone_on p (seen_slot rx.slots k)) =
         ap (seen_in pair u0 u1 (held_in k)) packets ∙ slots-held k pair u0 u1 h unit p apart in
@@ -472,18 +472,18 @@ counted_few : (b : Bool) (u n : ℕ) → u ≤ n → (if b then u + 1 else u) �
 counted_few true u n h = omega arith
 counted_few false u n h = omega arith
 
-pub receiver-answered : (mode u0 u1 takes : ℕ) (pair : SlotPair) (h : Holds) (unit new : Gathered) (front : List ℕ)
+pub receiver-answered : (mode u0 u1 takes : ℕ) (pair : SlotPair) (h : Holds) (unit new : Gathered) (total : List ℕ)
     (p : Packet) (held : DrawnKey) (a : Answer) (t : Taken)
     → IsReceiver mode u0 u1 takes pair h unit
     → live_held (slot_in pair p.prefix.k) ≡ Some held → fits_held h (length unit.packets) mode p.prefix.k p.prefix.m
     ≡ true
     → IsJudged p t → Some a ≡ answer_of t
-    → BufferAfter (begun_where_empty (kept h unit) front (units_of p.prefix.k u0 u1 + 1))
+    → BufferAfter (begun_where_empty (kept h unit) total (units_of p.prefix.k u0 u1 + 1))
     (live_with (units_of p.prefix.k u0 u1) (kept h unit).packets held) p t new
     → new.mode ≡ mode
     → IsReceiver mode (counted_zero p.prefix.k u0 a) (counted_one p.prefix.k u1 a) (takes + 1)
     (slots_after a p.prefix.k pair) (holds_after p.prefix.k a) new
-receiver-answered mode u0 u1 takes pair h unit new front p held a t inv is fits judged answered buffer same_mode =
+receiver-answered mode u0 u1 takes pair h unit new total p held a t inv is fits judged answered buffer same_mode =
     by_taken t judged answered buffer
   where
     with_few : (b : Answer) → has_armed (slots_after b p.prefix.k pair) ≡ false → (slots_after b p.prefix.k pair).sender
@@ -503,7 +503,7 @@ receiver-answered mode u0 u1 takes pair h unit new front p held a t inv is fits 
     }
 
     by_taken : (t : Taken) → IsJudged p t → Some a ≡ answer_of t
-        → BufferAfter (begun_where_empty (kept h unit) front (units_of p.prefix.k u0 u1 + 1))
+        → BufferAfter (begun_where_empty (kept h unit) total (units_of p.prefix.k u0 u1 + 1))
         (live_with (units_of p.prefix.k u0 u1) (kept h unit).packets held) p t new
         → IsReceiver mode (counted_zero p.prefix.k u0 a) (counted_one p.prefix.k u1 a) (takes + 1)
         (slots_after a p.prefix.k pair) (holds_after p.prefix.k a) new
@@ -617,15 +617,15 @@ holds_begun (Programmed held) units ps = refl
 holds_begun (Armed held) units ps = refl
 holds_begun (Live held) units ps = refl
 
-ahead_alone : (k : Bool) (pair : SlotPair) (u0 u1 mode : ℕ) (h : Holds) (ps : List Packet) (front : List ℕ)
+ahead_alone : (k : Bool) (pair : SlotPair) (u0 u1 mode : ℕ) (h : Holds) (ps : List Packet) (total : List ℕ)
     → HoldsFew pair mode h ps
-    → ahead_by (held_alone h) front ≡ ahead_at
-    (with_slot (seen_in pair u0 u1 h ps) k (begun (seen_slot (seen_in pair u0 u1 h ps) k))) (ahead_by h front)
-ahead_alone k pair u0 u1 mode h ps front few =
-    by_holds h ∙ ap (λ b. if b then ahead_by h front else []) (sym (by_set k))
+    → ahead_by (held_alone h) total ≡ ahead_at
+    (with_slot (seen_in pair u0 u1 h ps) k (begun (seen_slot (seen_in pair u0 u1 h ps) k))) (ahead_by h total)
+ahead_alone k pair u0 u1 mode h ps total few =
+    by_holds h ∙ ap (λ b. if b then ahead_by h total else []) (sym (by_set k))
   where
-    by_holds : (h : Holds) → ahead_by (held_alone h) front ≡
-        (if holds_apart true h || holds_apart false h then ahead_by h front else [])
+    by_holds : (h : Holds) → ahead_by (held_alone h) total ≡
+        (if holds_apart true h || holds_apart false h then ahead_by h total else [])
     by_holds Nothing = refl
     by_holds Zero = refl
     by_holds One = refl
@@ -658,7 +658,7 @@ view-gone k stream sub mode u0 u1 pair h unit takes s few = λ i. record {
   stream = stream;
   sub = sub;
   mode = mode;
-  ahead = ahead_alone k pair u0 u1 mode h unit.packets unit.front few i;
+  ahead = ahead_alone k pair u0 u1 mode h unit.packets unit.ahead few i;
   slots = gone_in k pair u0 u1 mode h unit.packets s few i;
   delivered = alone_lent h unit.packets i;
   takes = takes;

@@ -81,10 +81,10 @@ judged-accepted ahead allowed x p m tag order = λ i. if m i then checked (tag i
 pub tagged-in : (begun unit : Gathered) (x : LiveKey) (p : Packet) (iv : List ℕ) (b : Bool)
     → begun.packets ≡ x.packets → iv ≡ iv_of p.prefix.sub (x.units + 1) → unit ≡ with_packet begun (untagged p)
     → b ≡ verifies x.key iv (clear_of unit) (encrypted unit.packets) p.tag
-    → is_tagged_behind begun.front x p ≡ b
+    → is_tagged_behind begun.ahead x p ≡ b
 tagged-in begun unit x p iv b same is_iv is_unit is =
-    tag-seen begun.front x p iv (clear_of unit) (encrypted unit.packets) b is_iv
-    (ap clear_of is_unit ∙ ap (λ ps. begun.front ++ authenticated (ps ++ untagged p ∷ [])) same)
+    tag-seen begun.ahead x p iv (clear_of unit) (encrypted unit.packets) b is_iv
+    (ap clear_of is_unit ∙ ap (λ ps. begun.ahead ++ authenticated (ps ++ untagged p ∷ [])) same)
     (ap (λ (u : Gathered). encrypted u.packets) is_unit ∙ ap (λ ps. encrypted (ps ++ untagged p ∷ [])) same) is
 
 pub posted-in : (begun unit : Gathered) (x : LiveKey) (p : Packet) (n : ℕ)

@@ -10,7 +10,7 @@ use Rattle.ide_prefix.specs.declared.packet.Prefix.{Prefix}
 use Rattle.ide_prefix.specs.Iv.{iv_of}
 use Rattle.ide_prefix.specs.Packet.{Packet, prefix_bytes, packet_bytes, sync_head}
 use Rattle.ide_prefix.specs.Units.{encrypted}
-use Rattle.stream_rules.specs.Stream.{Slots, LiveKey, live_sender, sealed_slots, ended_slots}
+use Rattle.stream_rules.specs.Stream.{LaneSlots, LiveKey, live_sender, sealed_slots, ended_slots}
 use Rattle.key_slots.specs.declared.slot.Slot.{Slot as KeySlot}
 use Rattle.key_slots.specs.declared.slot.Slot.TheVariants.{Empty, Programmed, Armed, Live}
 use Rattle.key_slots.specs.{SlotPair}
@@ -20,9 +20,9 @@ use Rattle.sub_stream.specs.Gathered.{Gathered, with_packet, clear_of, no_packet
 use Rattle.sub_stream.specs.Senders.{Sender, Content, ready_of, ready_under, sealing_of, sealing_under, sealing_as}
 use Rattle.sub_stream.specs.Senders.{tagged_packet, ends, ahead_for, IsSender}
 
-pub sealing_with : (tx : Sender) (front : List ℕ) (c : Content) (more : Bool) (x : Bool × LiveKey) → Ok x ≡ ready_of tx
-    → sealing_of tx front c more ≡ Ok (sealing_as tx front x c (ends tx x.1 more))
-sealing_with tx front c more x e = ap (sealing_under tx front c more) (sym e)
+pub sealing_with : (tx : Sender) (total : List ℕ) (c : Content) (more : Bool) (x : Bool × LiveKey) → Ok x ≡ ready_of tx
+    → sealing_of tx total c more ≡ Ok (sealing_as tx total x c (ends tx x.1 more))
+sealing_with tx total c more x e = ap (sealing_under tx total c more) (sym e)
 
 -- the packet before its tag
 abbrev pub bare : List ℕ → List ℕ → List Packet → Prefix → List ℕ → List ℕ → Packet
@@ -37,14 +37,14 @@ tagged m key iv unit q =
     }
 
 -- it is the rules' packet
-pub packet-tagged : (tx : Sender) (front : List ℕ) (x : Bool × LiveKey) (c : Content) (m : Bool) (unit : Gathered)
+pub packet-tagged : (tx : Sender) (total : List ℕ) (x : Bool × LiveKey) (c : Content) (m : Bool) (unit : Gathered)
     (prefix : Prefix) (iv : List ℕ)
-    → unit.packets ≡ x.1.packets → unit.front ≡ ahead_for tx x.1 front
+    → unit.packets ≡ x.1.packets → unit.ahead ≡ ahead_for tx x.1 total
     → (if c.sync then sync_head else c.head) ≡ c.head → (if c.sync then [] else c.payload) ≡ c.payload
     → prefix ≡ record { m = m; k = x.0; t = c.t; sub = tx.sub; stream = tx.stream; posted = c.posted }
     → iv ≡ iv_of tx.sub (x.1.units + 1)
-    → tagged m x.1.key iv unit (bare x.1.key iv unit.packets prefix c.head c.payload) ≡ tagged_packet tx front x c m
-packet-tagged tx front x c m unit prefix iv ps ahead head payload is_prefix is_iv =
+    → tagged m x.1.key iv unit (bare x.1.key iv unit.packets prefix c.head c.payload) ≡ tagged_packet tx total x c m
+packet-tagged tx total x c m unit prefix iv ps ahead head payload is_prefix is_iv =
     rw (ps, ahead, is_prefix, is_iv, head, payload) refl
 
 pub bytes-sealed : (key iv out0 out1 out2 head payload : List ℕ) (prefix : Prefix) (unit unit2 : Gathered) (m : Bool)
@@ -111,7 +111,7 @@ goes_on pair units ps p = by_slots pair.zero pair.one
     by_slots (Live g) (Live h) = refl
 
 pub slots-sealed : (m : Bool) (pair : SlotPair) (units : ℕ) (ps : List Packet) (key iv : List ℕ) (unit : Gathered)
-    (q : Packet) (slots : Slots)
+    (q : Packet) (slots : LaneSlots)
     → q.tag ≡ []
     → slots ≡ (if m then ended_slots (seen_out pair units (ps ++ q ∷ [])) else seen_out pair units (ps ++ q ∷ []))
     → slots ≡ sealed_slots m (tagged m key iv unit q) (seen_out pair units ps)
@@ -120,7 +120,7 @@ slots-sealed false pair units ps key iv unit q slots bare_tag is =
     let same : q ≡ tagged false key iv unit q = rw bare_tag refl in
     is ∙ goes_on pair units ps q ∙ ap (λ p. sealed_slots false p (seen_out pair units ps)) same
 
-pub front_if : (m : Bool) (a b : Gathered) → (if m then a else b).front ≡ (if m then a.front else b.front)
+pub front_if : (m : Bool) (a b : Gathered) → (if m then a else b).ahead ≡ (if m then a.ahead else b.ahead)
 front_if true a b = refl
 front_if false a b = refl
 

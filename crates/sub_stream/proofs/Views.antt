@@ -17,7 +17,7 @@ use Rattle.sub_stream.proofs.Packets.{parts-rebodied, opened-rebodied, overwritt
 
 -- the packets that are seen of these fields
 abbrev pub view : List Prefix → Collected → Gathered
-view ps buf = record { mode = buf.mode; front = buf.front; packets = packets_in buf.packets ps }
+view ps buf = record { mode = buf.mode; ahead = buf.ahead; packets = packets_in buf.packets ps }
 
 -- ---- decrypted
 
@@ -50,7 +50,7 @@ pub view-masked : (key iv : List ℕ) (ps : List Prefix) (buf new : Collected) (
     → view ps new ≡ record old { packets = opened key iv old.packets }
 view-masked key iv ps buf new old was is =
     ap (view ps) (is ∙ rebodied-masked key iv buf)
-    ∙ ap (λ x. record { mode = buf.mode; front = buf.front; packets = x }) (opened-rebodied key iv 0 buf.packets ps)
+    ∙ ap (λ x. record { mode = buf.mode; ahead = buf.ahead; packets = x }) (opened-rebodied key iv 0 buf.packets ps)
     ∙ ap (λ (u : Gathered). record u { packets = opened key iv u.packets }) was
 
 -- ---- one more
@@ -109,5 +109,5 @@ view-added ps n i buf new old p h b head g was lt at clear is =
     (added buf new head b lt is) in
     rw at
     (ap (view (set ps (length buf.packets) p)) here
-    ∙ ap (λ x. record { mode = buf.mode; front = buf.front; packets = x }) (packets-added buf.packets ps p h b room)
+    ∙ ap (λ x. record { mode = buf.mode; ahead = buf.ahead; packets = x }) (packets-added buf.packets ps p h b room)
     ∙ ap (λ (u : Gathered). with_packet u q) was)

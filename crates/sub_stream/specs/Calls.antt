@@ -5,8 +5,17 @@ use Rattle.ide_types.specs.declared.sub.SubKind.{SubKind}
 use Rattle.ide_types.specs.declared.port.Side.{Side}
 use Rattle.key_slots.specs.{SlotPair, is_only_live, KeyCall, Program, Go, Halt}
 use Rattle.sub_stream.specs.Seen.{slot_pair}
-use Rattle.stream_rules.specs.Stream.{Programmed, Empty, Slots, slot_in_set, with_slot, at_sub, set_sub, StreamState}
-use Rattle.stream_rules.specs.Slots.{both_slots, begun, slot_gone, woken_slot, settled_stream}
+use Rattle.stream_rules.specs.Stream.{
+  Programmed,
+  Empty,
+  LaneSlots,
+  slot_in_set,
+  with_slot,
+  at_sub,
+  set_sub,
+  StreamState,
+}
+use Rattle.stream_rules.specs.Slots.{both_slots, begun, slot_gone, woken_slot, rested_stream}
 pub use Rattle.stream_rules.specs.Slots.{slots_at, no_stream, has_all_live, has_some_live, status_by, stream_status}
 
 -- whether a port of this side sends in the direction: 0 is from the host to the device
@@ -20,13 +29,13 @@ abbrev pub pair_at : Bool → SubKind → StreamState → SlotPair
 pair_at sends u st = slot_pair sends (slots_at sends u st)
 
 -- a KEY_PROG of a Live slot is refused if the other slot holds no newer Live key
-abbrev pub slots_called_out : KeyCall → Slots → Slots
+abbrev pub slots_called_out : KeyCall → LaneSlots → LaneSlots
 slots_called_out (Program k key draw) s =
     if is_only_live (slot_pair true s) k then s else with_slot s k (Programmed draw key)
 slots_called_out (Go k) s = slot_gone k (slot_in_set s k) (slot_in_set s (not k))
 slots_called_out (Halt k) s = both_slots k Empty (woken_slot (slot_in_set s (not k)))
 
-abbrev pub slots_called_into : KeyCall → Slots → Slots
+abbrev pub slots_called_into : KeyCall → LaneSlots → LaneSlots
 slots_called_into (Program k key draw) s =
     if is_only_live (slot_pair false s) k then s else with_slot s k (Programmed draw key)
 slots_called_into (Go k) s = with_slot s k (begun (slot_in_set s k))
@@ -38,7 +47,7 @@ slots_called_into (Halt k) s = with_slot s k Empty
 abbrev pub called : Bool → SubKind → KeyCall → StreamState → StreamState
 called true u call st =
     let x = at_sub st.tx u in
-    settled_stream (set_sub st.tx u (record x { slots = slots_called_out call x.slots })) st.rx st.failed
+    rested_stream (set_sub st.tx u (record x { slots = slots_called_out call x.slots })) st.rx st.failed
 called false u call st =
     let x = at_sub st.rx u in
-    settled_stream st.tx (set_sub st.rx u (record x { slots = slots_called_into call x.slots })) st.failed
+    rested_stream st.tx (set_sub st.rx u (record x { slots = slots_called_into call x.slots })) st.failed

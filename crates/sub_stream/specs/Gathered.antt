@@ -13,26 +13,26 @@ use Rattle.sub_stream.specs.declared.answer.PacketMark.{PacketMark}
 -- at most how many packets, the bytes before what they have in clear, and the packets, without a tag
 pub record Gathered : Type 0 where
   pub mode : ℕ
-  pub front : List ℕ
+  pub ahead : List ℕ
   pub packets : List Packet
 
 abbrev pub no_packets : ℕ → Gathered
-no_packets mode = record { mode = mode; front = []; packets = [] }
+no_packets mode = record { mode = mode; ahead = []; packets = [] }
 
 -- a unit that begins, after these bytes
 abbrev pub begun_unit : ℕ → List ℕ → Gathered
-begun_unit mode front = record { mode = mode; front = front; packets = [] }
+begun_unit mode total = record { mode = mode; ahead = total; packets = [] }
 
 abbrev pub with_packet : Gathered → Packet → Gathered
 with_packet unit p = record unit { packets = unit.packets ++ p ∷ [] }
 
 -- what is authenticated in clear
 abbrev pub clear_of : Gathered → List ℕ
-clear_of unit = unit.front ++ authenticated unit.packets
+clear_of unit = unit.ahead ++ authenticated unit.packets
 
-abbrev pub lent_front : Option (Bor (List ℕ)) → List ℕ
-lent_front None = []
-lent_front (Some front) = front.now
+abbrev pub lent_ahead : Option (Bor (List ℕ)) → List ℕ
+lent_ahead None = []
+lent_ahead (Some total) = total.now
 
 -- ---- packets in a buffer
 

@@ -10,7 +10,7 @@ pub use Rattle.sub_stream.specs.declared.answer.TxRefusal.{TxRefusal}
 pub use Rattle.sub_stream.specs.declared.answer.Taken.{Taken}
 pub use Rattle.sub_stream.specs.declared.answer.PacketMark.{PacketMark}
 pub use Rattle.sub_stream.specs.Answers.{numbered, answer_of}
-pub use Rattle.sub_stream.specs.Gathered.{lent_front, lent_parts, mark_of, opened_from, opened}
+pub use Rattle.sub_stream.specs.Gathered.{lent_ahead, lent_parts, mark_of, opened_from, opened}
 pub use Rattle.sub_stream.specs.Seen.{key_slot, slot_pair}
 pub use Rattle.stream_rules.specs.Slots.{no_slots}
 pub use Rattle.sub_stream.specs.Senders.{Sender, new_sender, ready_under, ready_of, packets_under, open_packets}

@@ -8,7 +8,7 @@ use Rattle.gcm_seal.specs.Gcm.{verifies}
 use Rattle.ide_prefix.specs.Packet.{Packet}
 use Rattle.ide_prefix.specs.Iv.{iv_of}
 use Rattle.ide_prefix.specs.Units.{authenticated, encrypted, untagged}
-use Rattle.stream_rules.specs.Stream.{Empty, Programmed, Slots, LiveKey, Taken, NotKeyed, Failed, Held, Accepted}
+use Rattle.stream_rules.specs.Stream.{Empty, Programmed, LaneSlots, LiveKey, Taken, NotKeyed, Failed, Held, Accepted}
 use Rattle.stream_rules.specs.Stream.{slot_in_set, with_slot, live_in, holds_any, posted_sum, checked, dropped, gone_on}
 use Rattle.stream_rules.specs.Stream.{accepted_slots}
 use Rattle.stream_rules.specs.Slots.{begun}
@@ -31,7 +31,7 @@ pub record Receiver : Type 0 where
   pub sub : SubKind
   pub mode : ℕ
   pub ahead : List ℕ
-  pub slots : Slots
+  pub slots : LaneSlots
   pub delivered : List Packet
   pub takes : ℕ
 
@@ -55,9 +55,9 @@ lent_by Delivered ps = ps
 lent_by h ps = []
 
 abbrev pub ahead_by : Holds → List ℕ → List ℕ
-ahead_by Zero front = front
-ahead_by One front = front
-ahead_by h front = []
+ahead_by Zero total = total
+ahead_by One total = total
+ahead_by h total = []
 
 abbrev pub holds_some : Holds → Bool
 holds_some Zero = true
@@ -117,7 +117,7 @@ left_without k Zero = if k then Zero else Nothing
 left_without k One = if k then Nothing else One
 left_without k h = Nothing
 
-abbrev pub seen_in : SlotPair → ℕ → ℕ → Holds → List Packet → Slots
+abbrev pub seen_in : SlotPair → ℕ → ℕ → Holds → List Packet → LaneSlots
 seen_in pair units_zero units_one h ps =
     record {
       first = slot_as_seen units_zero (held_zero h ps) pair.zero;
@@ -148,7 +148,7 @@ abbrev pub key_for : Receiver → Bool → Option LiveKey
 key_for rx k = live_in (slot_in_set rx.slots k)
 
 abbrev pub ahead_in : Receiver → LiveKey → List ℕ → List ℕ
-ahead_in rx x front = if length x.packets == 0 then ahead_of front (x.units + 1) else rx.ahead
+ahead_in rx x total = if length x.packets == 0 then ahead_of total (x.units + 1) else rx.ahead
 
 -- the tag is that of the unit
 abbrev pub is_tagged_behind : List ℕ → LiveKey → Packet → Bool
@@ -166,10 +166,10 @@ judged_packet ahead allowed x p =
     else Held x.draw (x.units + 1)
 
 abbrev pub taken_with : Receiver → ℕ → List ℕ → Packet → Option LiveKey → Option LiveKey → Taken
-taken_with rx allowed front p None None = NotKeyed
-taken_with rx allowed front p None (Some y) = Failed fail.Key
-taken_with rx allowed front p (Some x) other =
-    if fits_unit rx.mode x other p then judged_packet (ahead_in rx x front) allowed x p else Failed fail.Unit
+taken_with rx allowed total p None None = NotKeyed
+taken_with rx allowed total p None (Some y) = Failed fail.Key
+taken_with rx allowed total p (Some x) other =
+    if fits_unit rx.mode x other p then judged_packet (ahead_in rx x total) allowed x p else Failed fail.Unit
 
 -- the answers that come before a look at the tag
 abbrev pub early_answer : ℕ → Packet → Option LiveKey → Option LiveKey → Option Answer
@@ -189,17 +189,17 @@ BufferAfter begun x p answer new = Unit {0}
 
 -- the answer to a packet of the sub-stream, whose unit's posted counts may sum to `allowed` at most
 abbrev pub taken_of : Receiver → ℕ → List ℕ → Packet → Taken
-taken_of rx allowed front p = taken_with rx allowed front p (key_for rx p.prefix.k) (key_for rx (not p.prefix.k))
+taken_of rx allowed total p = taken_with rx allowed total p (key_for rx p.prefix.k) (key_for rx (not p.prefix.k))
 
-abbrev pub dropped_slots : Slots → Slots
+abbrev pub dropped_slots : LaneSlots → LaneSlots
 dropped_slots s = record { first = dropped s.first; second = dropped s.second }
 
 abbrev pub dropped_receiver : Receiver → Receiver
 dropped_receiver rx = record rx { ahead = []; slots = dropped_slots rx.slots; delivered = [] }
 
 abbrev pub ahead_held : Receiver → Option LiveKey → List ℕ → List ℕ
-ahead_held rx None front = []
-ahead_held rx (Some x) front = ahead_in rx x front
+ahead_held rx None total = []
+ahead_held rx (Some x) total = ahead_in rx x total
 
 -- an accepted unit, decrypted under its key
 abbrev pub opened_under : Option LiveKey → SubKind → List Packet → List Packet
@@ -208,31 +208,31 @@ opened_under (Some x) sub unit = opened x.key (iv_of sub (x.units + 1)) unit
 
 -- what is kept after an answer: only an accepted unit moves a counter or empties a slot
 abbrev pub after_answer : Receiver → List ℕ → Packet → Taken → Receiver
-after_answer rx front p (Failed cause) = dropped_receiver rx
-after_answer rx front p (Held draw unit) =
+after_answer rx total p (Failed cause) = dropped_receiver rx
+after_answer rx total p (Held draw unit) =
     record rx {
-      ahead = ahead_held rx (key_for rx p.prefix.k) front;
+      ahead = ahead_held rx (key_for rx p.prefix.k) total;
       slots = with_slot rx.slots p.prefix.k (gone_on p (slot_in_set rx.slots p.prefix.k));
       delivered = [];
     }
-after_answer rx front p (Accepted draw unit packets) =
+after_answer rx total p (Accepted draw unit packets) =
     record rx {
       ahead = [];
       slots = accepted_slots draw p.prefix.k rx.slots;
       delivered = opened_under (key_for rx p.prefix.k) p.prefix.sub packets;
     }
-after_answer rx front p answer = rx
+after_answer rx total p answer = rx
 
 abbrev pub receiver_after : Receiver → ℕ → List ℕ → Packet → Receiver
-receiver_after rx allowed front p = record (after_answer rx front p (taken_of rx allowed front p))
+receiver_after rx allowed total p = record (after_answer rx total p (taken_of rx allowed total p))
     { takes = rx.takes + 1 }
 
 -- ---- keys: the held packets go with their slot, and what was delivered is lent no more
 
-abbrev pub ahead_at : Slots → List ℕ → List ℕ
+abbrev pub ahead_at : LaneSlots → List ℕ → List ℕ
 ahead_at slots ahead = if holds_any (live_in slots.first) || holds_any (live_in slots.second) then ahead else []
 
-abbrev pub with_slots : Receiver → Slots → Receiver
+abbrev pub with_slots : Receiver → LaneSlots → Receiver
 with_slots rx slots = record rx { ahead = ahead_at slots rx.ahead; slots = slots; delivered = [] }
 
 abbrev pub programmed_receiver : Receiver → Bool → List ℕ → ℕ → Receiver

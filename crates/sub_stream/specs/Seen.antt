@@ -3,13 +3,13 @@ use Rattle.std.specs.Prelude.{ℕ, Bool, true, false, ◌&&◌, ◌||◌, List, 
 use Rattle.std.specs.Option.{option_map}
 use denote.Ref.{Bor}
 use Rattle.ide_prefix.specs.Packet.{Packet}
-use Rattle.stream_rules.specs.Stream.{Slot, Empty, Programmed, Armed, Live, LiveKey, Slots}
+use Rattle.stream_rules.specs.Stream.{LaneSlot, Empty, Programmed, Armed, Live, LiveKey, LaneSlots}
 use Rattle.key_slots.specs.declared.slot.Slot.{Slot as KeySlot}
 use Rattle.key_slots.specs.{SlotPair, DrawnKey, live_held, is_live, is_armed}
 use Rattle.key_slots.specs.declared.slot.Slot.TheVariants as key
 
 -- a slot, with the units and the open unit's packets of its key if that is Live
-abbrev pub slot_as_seen : ℕ → List Packet → KeySlot → Slot
+abbrev pub slot_as_seen : ℕ → List Packet → KeySlot → LaneSlot
 slot_as_seen units packets key.Empty = Empty
 slot_as_seen units packets (key.Programmed held) = Programmed held.draw held.key
 slot_as_seen units packets (key.Armed held) = Armed held.draw held.key
@@ -21,14 +21,14 @@ slot_as_seen units packets (key.Live held) = Live (record {
 })
 
 -- the keys of a slot alone
-abbrev pub key_slot : Slot → KeySlot
+abbrev pub key_slot : LaneSlot → KeySlot
 key_slot Empty = key.Empty
 key_slot (Programmed draw bytes) = key.Programmed (record { key = bytes; draw = draw })
 key_slot (Armed draw bytes) = key.Armed (record { key = bytes; draw = draw })
 key_slot (Live x) = key.Live (record { key = x.key; draw = x.draw })
 
 -- the keys of both slots, of a sender or of a receiver
-abbrev pub slot_pair : Bool → Slots → SlotPair
+abbrev pub slot_pair : Bool → LaneSlots → SlotPair
 slot_pair sender slots = record { sender = sender; zero = key_slot slots.first; one = key_slot slots.second }
 
 abbrev pub is_programmed : KeySlot → Bool
@@ -37,7 +37,7 @@ is_programmed slot = false
 
 -- ---- a sender's slots, at most one of which is Live
 
-abbrev pub seen_out : SlotPair → ℕ → List Packet → Slots
+abbrev pub seen_out : SlotPair → ℕ → List Packet → LaneSlots
 seen_out pair units packets
     = record { first = slot_as_seen units packets pair.zero; second = slot_as_seen units packets pair.one }
 

@@ -7,7 +7,7 @@ use Rattle.ide_types.specs.declared.sub.SubKind.{SubKind}
 use Rattle.ide_types.specs.declared.port.Side.TheVariants.{Host}
 use Rattle.link_verdicts.specs.declared.verdict.SealedPacket.{SealedPacket as Described}
 use Rattle.ide_prefix.specs.Packet.{Packet, packet_bytes, sync_head}
-use Rattle.stream_rules.specs.Stream.{Empty, Programmed, Slots, LiveKey, live_sender, untagged_under, tagged_under}
+use Rattle.stream_rules.specs.Stream.{Empty, Programmed, LaneSlots, LiveKey, live_sender, untagged_under, tagged_under}
 use Rattle.stream_rules.specs.Stream.{sealed_slots, slot_in_set, with_slot}
 use Rattle.stream_rules.specs.Slots.{both_slots, slot_gone, woken_slot, is_live_slot}
 use Rattle.key_slots.specs.{SlotPair, is_only_live}
@@ -27,7 +27,7 @@ pub record Sender : Type 0 where
   pub mode : ℕ
   pub limit : ℕ
   pub ahead : List ℕ
-  pub slots : Slots
+  pub slots : LaneSlots
 
 abbrev pub new_sender : ℕ → SubKind → ℕ → ℕ → Sender
 new_sender stream sub mode limit =
@@ -116,20 +116,20 @@ with_length d n = record {
 
 -- what comes before unit n, if this is given for the first
 abbrev pub ahead_of : List ℕ → ℕ → List ℕ
-ahead_of front n = if n == 1 then front else []
+ahead_of total n = if n == 1 then total else []
 
 -- a unit that begins if no packet is there; what comes before it is set then
 abbrev pub begun_where_empty : Gathered → List ℕ → ℕ → Gathered
-begun_where_empty unit front n =
-    record unit { front = if length unit.packets == 0 then ahead_of front n else unit.front }
+begun_where_empty unit total n =
+    record unit { ahead = if length unit.packets == 0 then ahead_of total n else unit.ahead }
 
 abbrev pub ahead_for : Sender → LiveKey → List ℕ → List ℕ
-ahead_for tx x front = if length x.packets == 0 then ahead_of front (x.units + 1) else tx.ahead
+ahead_for tx x total = if length x.packets == 0 then ahead_of total (x.units + 1) else tx.ahead
 
 abbrev pub tagged_packet : Sender → List ℕ → Bool × LiveKey → Content → Bool → Packet
-tagged_packet tx front x c m =
+tagged_packet tx total x c m =
     let d = noted tx x c m in
-    tagged_under (ahead_for tx x.1 front) x.1.key x.1.packets d (untagged_under x.1.key x.1.packets d c.head c.payload)
+    tagged_under (ahead_for tx x.1 total) x.1.key x.1.packets d (untagged_under x.1.key x.1.packets d c.head c.payload)
 
 -- whether a packet ends its unit
 abbrev pub ends : Sender → LiveKey → Bool → Bool
@@ -142,22 +142,22 @@ pub record Sealing : Type 0 where
   pub sender : Sender
 
 abbrev pub sealing_as : Sender → List ℕ → Bool × LiveKey → Content → Bool → Sealing
-sealing_as tx front x c m =
-    let p = tagged_packet tx front x c m in
+sealing_as tx total x c m =
+    let p = tagged_packet tx total x c m in
     record {
       description = with_length (noted tx x c m) (length (packet_bytes p));
       packet = p;
-      sender = record tx { ahead = (if m then [] else ahead_for tx x.1 front); slots = sealed_slots m p tx.slots };
+      sender = record tx { ahead = (if m then [] else ahead_for tx x.1 total); slots = sealed_slots m p tx.slots };
     }
 
 abbrev pub sealing_under : Sender → List ℕ → Content → Bool → Result (Bool × LiveKey) TxRefusal
     → Result Sealing TxRefusal
-sealing_under tx front c more (Err e) = Err e
-sealing_under tx front c more (Ok x) = Ok (sealing_as tx front x c (ends tx x.1 more))
+sealing_under tx total c more (Err e) = Err e
+sealing_under tx total c more (Ok x) = Ok (sealing_as tx total x c (ends tx x.1 more))
 
 -- what becomes of sealing; `more` says that the unit goes on if it has room
 abbrev pub sealing_of : Sender → List ℕ → Content → Bool → Result Sealing TxRefusal
-sealing_of tx front c more = sealing_under tx front c more (ready_of tx)
+sealing_of tx total c more = sealing_under tx total c more (ready_of tx)
 
 abbrev pub sealing_answer : Result Sealing TxRefusal → Result SealedPacket TxRefusal
 sealing_answer r = result_map_both (λ (s : Sealing). s.description) (λ (e : TxRefusal). e) r
@@ -172,10 +172,10 @@ sender_after tx (Ok s) = s.sender
 
 -- ---- keys
 
-abbrev pub gone_slots : Slots → Bool → Slots
+abbrev pub gone_slots : LaneSlots → Bool → LaneSlots
 gone_slots slots k = slot_gone k (slot_in_set slots k) (slot_in_set slots (not k))
 
-abbrev pub halted_slots : Slots → Bool → Slots
+abbrev pub halted_slots : LaneSlots → Bool → LaneSlots
 halted_slots slots k = both_slots k Empty (woken_slot (slot_in_set slots (not k)))
 
 abbrev pub programmed_sender : Sender → Bool → List ℕ → ℕ → Sender

@@ -1,14 +1,15 @@
 //! The receiver of one sub-stream, what it holds, and the checks of a packet under a Live key.
 
 ghost use Rattle.std.specs.Prelude.{◌≡◌, ◌+◌, ◌<◌, ◌≤◌, ◌^◌, ◌*◌, ◌&&◌, Some, None, is_ok, is_some, not, true, false};
-ghost use Rattle.std.specs.Prelude.{[], length, if◌then◌else◌};
+ghost use Rattle.std.specs.Prelude.{[], length, nat_lt, if◌then◌else◌};
 ghost use Rattle.gcm_seal.specs.Gcm.{verifies};
 ghost use Rattle.ide_prefix.specs.Cut.{packet_of_view, lent_tag, IsView};
 ghost use Rattle.ide_prefix.specs.Units.{encrypted};
 ghost use Rattle.key_slots.specs.{slot_in as key_slot_in, is_one, is_empty, is_live, program_answer};
+ghost use Rattle.stream_rules.specs.Slots.{receiving_draw};
 ghost use Rattle.stream_rules.specs.Stream.{slot_in_set, posted_sum};
 ghost use Rattle.sub_stream.specs.Answers.{answer_of};
-ghost use Rattle.sub_stream.specs.Gathered.{lent_front, clear_of, no_packets};
+ghost use Rattle.sub_stream.specs.Gathered.{lent_ahead, clear_of, no_packets};
 ghost use Rattle.sub_stream.specs.Seen.{slot_pair, key_slot, is_programmed, live_with};
 ghost use Rattle.sub_stream.specs.Senders.{begun_where_empty};
 ghost use Rattle.sub_stream.specs.Receivers.{fits_held, judged_packet, BufferAfter, holds_some, holds_apart};
@@ -128,7 +129,7 @@ impl Model for Rx {
       stream = r.stream;
       sub = r.sub;
       mode = r.mode;
-      ahead = ahead_by r.holds r.unit.front;
+      ahead = ahead_by r.holds r.unit.ahead;
       slots = seen_in r.slots r.zero r.one r.holds r.unit.packets;
       delivered = lent_by r.holds r.unit.packets;
       takes = r.takes;
@@ -156,6 +157,12 @@ fn units_in(k: bool, zero: u64, one: u64) -> u64
     ensures { result ≡ (if k then one else zero) }
 {
     if k { one } else { zero }
+}
+
+fn greater(zero: u32, one: u32) -> u32
+    ensures { result ≡ (if nat_lt zero one then one else zero) }
+{
+    if zero < one { one } else { zero }
 }
 
 // Whether the packet joins what is held, and leaves room for the last of its unit.
@@ -214,15 +221,15 @@ impl Rx {
     }
 
     /// Takes a packet of this sub-stream that `cut` gave, and answers what became of it. `allowed` is the most that the
-    /// posted counts of its unit may sum to; `front` is the total on a closed stream (8 bytes), which is authenticated
+    /// posted counts of its unit may sum to; `total` is that of a closed stream (8 bytes), which is authenticated
     /// before the packets of unit 1 under a key. Only an accepted unit moves a counter or empties a slot; what it
     /// carries is lent until the next change. A failed check drops the held packets.
-    pub fn take(&mut self, packet: &PacketView, allowed: u64, front: Option<&[u8; 8]>) -> Taken
+    pub fn take(&mut self, packet: &PacketView, allowed: u64, total: Option<&[u8; 8]>) -> Taken
         requires view { IsView packet.now }
         requires few { self.old.takes < 2 ^ 40 }
-        ensures answer { Some result ≡ answer_of (taken_of self.old allowed (lent_front front.entry)
+        ensures answer { Some result ≡ answer_of (taken_of self.old allowed (lent_ahead total.entry)
             (packet_of_view packet.now)) }
-        ensures receiver { self.new ≡ receiver_after self.old allowed (lent_front front.entry)
+        ensures receiver { self.new ≡ receiver_after self.old allowed (lent_ahead total.entry)
             (packet_of_view packet.now) }
     {
         match self.early(packet) {
@@ -231,18 +238,18 @@ impl Rx {
                 self.holds = self.holds.unless_failed(&taken);
                 taken
             }
-            None => self.take_keyed(packet, allowed, front),
+            None => self.take_keyed(packet, allowed, total),
         }
     }
 
     // Takes a packet under its Live key, if it fits what is held.
-    fn take_keyed(&mut self, packet: &PacketView, allowed: u64, front: Option<&[u8; 8]>) -> Taken
+    fn take_keyed(&mut self, packet: &PacketView, allowed: u64, total: Option<&[u8; 8]>) -> Taken
         requires view { IsView packet.now }
         requires few { self.old.takes < 2 ^ 40 }
         requires early { early_of self.old (packet_of_view packet.now) ≡ None }
-        ensures answer { Some result ≡ answer_of (taken_of self.old allowed (lent_front front.entry)
+        ensures answer { Some result ≡ answer_of (taken_of self.old allowed (lent_ahead total.entry)
             (packet_of_view packet.now)) }
-        ensures receiver { self.new ≡ receiver_after self.old allowed (lent_front front.entry)
+        ensures receiver { self.new ≡ receiver_after self.old allowed (lent_ahead total.entry)
             (packet_of_view packet.now) }
     {
         let k = packet.prefix.k;
@@ -252,7 +259,7 @@ impl Rx {
         let units = units_in(k, self.zero, self.one);
         self.takes += 1;
         keep_held(&mut self.unit, self.holds);
-        let taken = take_under(cipher, draw, units, packet, allowed, front, &mut self.unit);
+        let taken = take_under(cipher, draw, units, packet, allowed, total, &mut self.unit);
         count_accepted(&taken, k, &mut self.slots, &mut self.zero, &mut self.one);
         self.holds = Holds::after(k, &taken);
         taken
@@ -328,6 +335,21 @@ impl Rx {
         self.slots = Slots::make(false);
     }
 
+    /// The greatest draw of a Live key; `None` if no slot is Live.
+    pub fn receiving_draw(&self) -> Option<u32>
+        ensures { result ≡ receiving_draw self.now.slots }
+    {
+        match (
+            self.slots.live_key(KeySet::Zero),
+            self.slots.live_key(KeySet::One),
+        ) {
+            (None, None) => None,
+            (Some((_, zero)), None) => Some(zero),
+            (None, Some((_, one))) => Some(one),
+            (Some((_, zero)), Some((_, one))) => Some(greater(zero, one)),
+        }
+    }
+
     /// The slots, lent.
     pub fn slots(&self) -> &Slots
         ensures { result.now ≡ slot_pair false self.now.slots }
@@ -373,24 +395,24 @@ fn take_under(
     units: u64,
     packet: &PacketView,
     allowed: u64,
-    front: Option<&[u8; 8]>,
+    total: Option<&[u8; 8]>,
     unit: &mut UnitPackets,
 ) -> Taken
     requires view { IsView packet.now }
     requires few { units < 2 ^ 40 }
     requires room { length unit.old.packets < unit.old.mode }
     ensures answer { let x = live_with units unit.old.packets (record { key = cipher.now; draw = draw }) in
-        let begun = begun_where_empty unit.old (lent_front front.entry) (units + 1) in
-        Some result ≡ answer_of (judged_packet begun.front allowed x (packet_of_view packet.now)) }
+        let begun = begun_where_empty unit.old (lent_ahead total.entry) (units + 1) in
+        Some result ≡ answer_of (judged_packet begun.ahead allowed x (packet_of_view packet.now)) }
     ensures buffer { let x = live_with units unit.old.packets (record { key = cipher.now; draw = draw }) in
-        let begun = begun_where_empty unit.old (lent_front front.entry) (units + 1) in
+        let begun = begun_where_empty unit.old (lent_ahead total.entry) (units + 1) in
         BufferAfter begun x (packet_of_view packet.now)
-        (judged_packet begun.front allowed x (packet_of_view packet.now)) unit.new }
+        (judged_packet begun.ahead allowed x (packet_of_view packet.now)) unit.new }
     ensures mode { unit.new.mode ≡ unit.old.mode }
 {
     carried_head();
     let n = units + 1;
-    begin_where_empty(unit, front, n);
+    begin_where_empty(unit, total, n);
     unit.push(&packet.prefix, packet.head, packet.body);
     if !packet.prefix.m {
         return Taken::Held { draw, unit: n };

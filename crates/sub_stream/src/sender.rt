@@ -8,8 +8,9 @@ ghost use Rattle.ide_prefix.specs.Packet.{prefix_bytes, sync_head};
 ghost use Rattle.ide_prefix.specs.Units.{encrypted};
 ghost use Rattle.key_slots.specs.{slot_in as key_slot_in, is_one, is_empty, is_live, is_armed as is_armed_key};
 ghost use Rattle.key_slots.specs.{program_answer};
+ghost use Rattle.stream_rules.specs.Slots.{sealing_draw};
 ghost use Rattle.stream_rules.specs.Stream.{ended_slots, live_sender, slot_in_set};
-ghost use Rattle.sub_stream.specs.Gathered.{clear_of, lent_front, with_packet};
+ghost use Rattle.sub_stream.specs.Gathered.{clear_of, lent_ahead, with_packet};
 ghost use Rattle.sub_stream.specs.Gathered as gathered;
 ghost use Rattle.sub_stream.specs.Seen.{shown_in_use, in_use, live_with, seen_out, has_live, both_live, has_armed};
 ghost use Rattle.sub_stream.specs.Seen.{is_programmed, slot_pair, key_slot};
@@ -71,7 +72,7 @@ impl Model for Tx {
       sub = s.sub;
       mode = s.mode;
       limit = s.limit;
-      ahead = s.unit.front;
+      ahead = s.unit.ahead;
       slots = seen_out s.slots s.units s.unit.packets;
     } };
 
@@ -112,12 +113,12 @@ fn is_armed(slots: &Slots) -> bool
     slots.slot(KeySet::Zero).0 == SlotState::Armed || slots.slot(KeySet::One).0 == SlotState::Armed
 }
 
-/// Begins unit `n` if no packet is there; the front comes before the first unit.
-pub fn begin_where_empty(unit: &mut UnitPackets, front: Option<&[u8; 8]>, n: u64)
-    ensures { unit.new ≡ begun_where_empty unit.old (lent_front front.entry) n }
+/// Begins unit `n` if no packet is there; the total comes before the first unit.
+pub fn begin_where_empty(unit: &mut UnitPackets, total: Option<&[u8; 8]>, n: u64)
+    ensures { unit.new ≡ begun_where_empty unit.old (lent_ahead total.entry) n }
 {
     if unit.count() == 0 {
-        unit.begin(if n == 1 { front } else { None });
+        unit.begin(if n == 1 { total } else { None });
     }
 }
 
@@ -234,7 +235,7 @@ impl Tx {
         &mut self,
         carried: &Carried,
         more: bool,
-        front: Option<&[u8; 8]>,
+        total: Option<&[u8; 8]>,
         out: &mut Vec<u8>,
     ) -> Result<SealedPacket, TxRefusal>
         requires head { (if carried.now.sync then sync_head else carried.now.head.now) ≡ carried.now.head.now }
@@ -243,11 +244,11 @@ impl Tx {
         requires payload_short { length carried.now.payload.now ≤ PAYLOAD_BYTES }
         requires room { vec_len out.old + PREFIX_BYTES + length carried.now.head.now + length carried.now.payload.now
             + TAG_BYTES ≤ vec_capacity out.old }
-        ensures answer { result ≡ sealing_answer (sealing_of self.old (lent_front front.entry)
+        ensures answer { result ≡ sealing_answer (sealing_of self.old (lent_ahead total.entry)
             (carried_content carried.now) more) }
-        ensures sender { self.new ≡ sender_after self.old (sealing_of self.old (lent_front front.entry)
+        ensures sender { self.new ≡ sender_after self.old (sealing_of self.old (lent_ahead total.entry)
             (carried_content carried.now) more) }
-        ensures bytes { out.new.items ≡ out.old.items ++ sealing_bytes (sealing_of self.old (lent_front front.entry)
+        ensures bytes { out.new.items ≡ out.old.items ++ sealing_bytes (sealing_of self.old (lent_ahead total.entry)
             (carried_content carried.now) more) }
         ensures capacity { vec_capacity out.old ≤ vec_capacity out.new }
     {
@@ -267,7 +268,7 @@ impl Tx {
         };
         let iv = unit_iv(self.sub, unit);
         let start = out.len();
-        begin_where_empty(&mut self.unit, front, unit);
+        begin_where_empty(&mut self.unit, total, unit);
         append_packet(
             out,
             cipher,
@@ -295,7 +296,7 @@ impl Tx {
 
     /// Seals a TLP's header and payload, and appends its packet to `out`, which has room for `PACKET_ROOM` bytes more.
     /// `posted` is the posted count, 0 in the posted sub-stream; `more` says that the unit goes on if it has room, and
-    /// `t` that the TLP is trusted. `front` is the total on a closed stream (8 bytes): it is authenticated before the
+    /// `t` that the TLP is trusted. `total` is that of a closed stream (8 bytes): it is authenticated before the
     /// packets of unit 1 under a key, and is the same for all packets of one unit.
     pub fn seal(
         &mut self,
@@ -304,17 +305,17 @@ impl Tx {
         posted: u8,
         more: bool,
         t: bool,
-        front: Option<&[u8; 8]>,
+        total: Option<&[u8; 8]>,
         out: &mut Vec<u8>,
     ) -> Result<SealedPacket, TxRefusal>
         requires head_short { length head.now ≤ TLP_HEAD_BYTES }
         requires payload_short { length payload.now ≤ PAYLOAD_BYTES }
         requires room { vec_len out.old + PACKET_ROOM ≤ vec_capacity out.old }
-        ensures answer { result ≡ sealing_answer (sealing_of self.old (lent_front front.entry)
+        ensures answer { result ≡ sealing_answer (sealing_of self.old (lent_ahead total.entry)
             (tlp_content head.now payload.now posted t) more) }
-        ensures sender { self.new ≡ sender_after self.old (sealing_of self.old (lent_front front.entry)
+        ensures sender { self.new ≡ sender_after self.old (sealing_of self.old (lent_ahead total.entry)
             (tlp_content head.now payload.now posted t) more) }
-        ensures bytes { out.new.items ≡ out.old.items ++ sealing_bytes (sealing_of self.old (lent_front front.entry)
+        ensures bytes { out.new.items ≡ out.old.items ++ sealing_bytes (sealing_of self.old (lent_ahead total.entry)
             (tlp_content head.now payload.now posted t) more) }
         ensures capacity { vec_capacity out.old ≤ vec_capacity out.new }
     {
@@ -325,23 +326,23 @@ impl Tx {
             t,
             sync: false,
         };
-        self.seal_carried(&carried, more, front, out)
+        self.seal_carried(&carried, more, total, out)
     }
 
     /// Seals a sync packet, which ends its unit, and appends it to `out`, which has room for `SYNC_ROOM` bytes more.
-    /// `posted` and `front` are as for `seal`.
+    /// `posted` and `total` are as for `seal`.
     pub fn sync(
         &mut self,
         posted: u8,
-        front: Option<&[u8; 8]>,
+        total: Option<&[u8; 8]>,
         out: &mut Vec<u8>,
     ) -> Result<SealedPacket, TxRefusal>
         requires { vec_len out.old + SYNC_ROOM ≤ vec_capacity out.old }
-        ensures answer { result ≡ sealing_answer (sealing_of self.old (lent_front front.entry)
+        ensures answer { result ≡ sealing_answer (sealing_of self.old (lent_ahead total.entry)
             (sync_content posted) false) }
-        ensures sender { self.new ≡ sender_after self.old (sealing_of self.old (lent_front front.entry)
+        ensures sender { self.new ≡ sender_after self.old (sealing_of self.old (lent_ahead total.entry)
             (sync_content posted) false) }
-        ensures bytes { out.new.items ≡ out.old.items ++ sealing_bytes (sealing_of self.old (lent_front front.entry)
+        ensures bytes { out.new.items ≡ out.old.items ++ sealing_bytes (sealing_of self.old (lent_ahead total.entry)
             (sync_content posted) false) }
         ensures capacity { vec_capacity out.old ≤ vec_capacity out.new }
     {
@@ -352,7 +353,7 @@ impl Tx {
             t: false,
             sync: true,
         };
-        self.seal_carried(&carried, false, front, out)
+        self.seal_carried(&carried, false, total, out)
     }
 
     /// Puts a key of this draw into the slot. Returns `OnlyLive` exactly if this slot is Live and the other holds no
@@ -391,6 +392,16 @@ impl Tx {
         self.units = 0;
         self.unit.clear();
         self.slots = Slots::make(true);
+    }
+
+    /// The draw of the Live key; `None` if no slot is Live.
+    pub fn sealing_draw(&self) -> Option<u32>
+        ensures { result ≡ sealing_draw self.now.slots }
+    {
+        match live_of(&self.slots) {
+            None => None,
+            Some((_, _, draw)) => Some(draw),
+        }
     }
 
     /// The slots, lent.

@@ -27,7 +27,7 @@ const BLANK: Prefix = Prefix {
 };
 
 /// The packets of one unit in a buffer: those of an open unit as they are sent, those of an accepted one decrypted.
-/// Contracts see the mode, the front and the packets, without a tag.
+/// Contracts see the mode, what comes ahead and the packets, without a tag.
 #[derive(Drop)]
 pub struct UnitPackets {
     prefixes: [Prefix; 8],
@@ -43,7 +43,7 @@ impl Model for UnitPackets {
 
     ghost view = { λ u. record {
       mode = u.buf.mode;
-      front = u.buf.front;
+      ahead = u.buf.ahead;
       packets = packets_in u.buf.packets u.prefixes;
     } };
 
@@ -91,7 +91,7 @@ impl UnitPackets {
       begun_unit,
       with_packet,
       clear_of,
-      lent_front,
+      lent_ahead,
       opened,
       lent_parts,
       mark_of,
@@ -127,7 +127,7 @@ impl UnitPackets {
         self.posted
     }
 
-    /// What is authenticated in clear: the front, and prefixes and headers, joined.
+    /// What is authenticated in clear: what comes ahead, and prefixes and headers, joined.
     pub fn clear_bytes(&self) -> &[u8]
         ensures value { result.now ≡ clear_of self.now }
         ensures short { length result.now ≤ MAX_BYTES }
@@ -143,7 +143,7 @@ impl UnitPackets {
         self.buf.body()
     }
 
-    /// Drops the packets and the front.
+    /// Drops the packets and what comes ahead.
     pub fn clear(&mut self)
         ensures { self.new ≡ no_packets self.old.mode }
     {
@@ -151,13 +151,13 @@ impl UnitPackets {
         self.buf.clear();
     }
 
-    /// Begins a unit that has this front.
-    pub fn begin(&mut self, front: Option<&[u8; 8]>)
-        ensures { self.new ≡ begun_unit self.old.mode (lent_front front.entry) }
+    /// Begins a unit with these bytes ahead.
+    pub fn begin(&mut self, ahead: Option<&[u8; 8]>)
+        ensures { self.new ≡ begun_unit self.old.mode (lent_ahead ahead.entry) }
     {
         self.clear();
-        if let Some(front) = front {
-            self.buf.front(front);
+        if let Some(ahead) = ahead {
+            self.buf.ahead(ahead);
         }
     }
 

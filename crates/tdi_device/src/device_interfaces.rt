@@ -265,6 +265,14 @@ impl DeviceInterfaces {
         self.interfaces.len()
     }
 
+    /// The interface at this place, lent.
+    pub fn interface(&self, place: usize) -> &Interface
+        requires { place < length self.now.interfaces }
+        ensures { slice_get self.now.interfaces place ≡ Some result.now }
+    {
+        &self.interfaces[place]
+    }
+
     /// The code of an interface's state: CONFIG_UNLOCKED 0, CONFIG_LOCKED 1, RUN 2, ERROR 3.
     pub fn state(&self, place: usize) -> u8
         requires { place < length self.now.interfaces }

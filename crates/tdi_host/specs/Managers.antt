@@ -15,7 +15,7 @@ use Rattle.tdi_host.specs.Steps.{Read, first_step, next_step, exchange_number}
 use Rattle.tdi_host.specs.Judging.{Judged, Portion, interface_judged}
 use Rattle.tdi_host.specs.Views.{HostTdi, new_interface, interface_refusal_of, interface_unless, step_request}
 use Rattle.tdi_host.specs.Views.{taken_interface, interface_outcome}
-use Rattle.tdi_host.specs.Views.{left_by_stop, left_by_reset, keyed_by, is_granted, interface_grant}
+use Rattle.tdi_host.specs.Views.{left_by_stop, left_by_reset, keyed_by, is_requester, is_granted, interface_grant}
 
 -- The interfaces of all links, in the order of the links and of each link's interfaces; how many bytes of a report one
 -- portion asks for; the exchange that is to be asked and taken; what was read of a report.
@@ -130,3 +130,9 @@ granted_at interfaces (Some place) = option_map_or interface_grant (slice_get in
 -- of the interface of the link with this requester ID that is running
 abbrev pub granted : InterfaceManagerView → ℕ → ℕ → Option (ℕ × ℕ)
 granted m link requester = granted_at m.interfaces (position (is_granted link requester) m.interfaces)
+
+-- ---- names
+
+-- the number of the interface of the link with this requester ID
+abbrev pub number_of : InterfaceManagerView → ℕ → ℕ → Option ℕ
+number_of m link requester = position (is_requester link requester) m.interfaces

@@ -282,8 +282,12 @@ abbrev pub is_running : Seen → Bool
 is_running (IsRunning floor) = true
 is_running v = false
 
+-- it is on this link, and has this requester ID
+abbrev pub is_requester : ℕ → ℕ → HostTdi → Bool
+is_requester link requester i = (i.link == link) && (i.requester == requester)
+
 abbrev pub is_granted : ℕ → ℕ → HostTdi → Bool
-is_granted link requester i = ((i.link == link) && (i.requester == requester)) && is_running i.seen
+is_granted link requester i = is_requester link requester i && is_running i.seen
 
 -- the bound stream and the floor of a run
 abbrev pub grant_by : ℕ → Option ℕ → Option (ℕ × ℕ)

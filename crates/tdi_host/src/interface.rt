@@ -181,6 +181,7 @@ impl HostInterface {
       left_by_stop,
       keyed_by,
       left_by_reset,
+      is_requester,
       is_granted,
       interface_grant,
       broken,
@@ -347,11 +348,18 @@ impl HostInterface {
         }
     }
 
-    /// Whether it is the interface of this link with this requester ID, and running.
+    /// Whether it is the interface of this link with this requester ID.
+    pub(crate) fn is_requester(&self, link: u8, requester: u16) -> bool
+        ensures { result ≡ is_requester link requester self.now }
+    {
+        self.link == link && self.requester == requester
+    }
+
+    /// Whether it is, and running.
     pub(crate) fn is_granted(&self, link: u8, requester: u16) -> bool
         ensures { result ≡ is_granted link requester self.now }
     {
-        (self.link == link && self.requester == requester) && self.view() == View::Running
+        self.is_requester(link, requester) && self.view() == View::Running
     }
 
     /// The bound stream and the floor of a run.

@@ -11,7 +11,7 @@ ghost use Rattle.tdi_host.specs.Views.{
   keyed_by,
   left_by_reset,
 };
-ghost use Rattle.tdi_host.specs.Views.{is_granted};
+ghost use Rattle.tdi_host.specs.Views.{is_granted, is_requester};
 ghost use Rattle.tdi_host.specs.Managers.{new_interfaces, interface_asking_after};
 
 use crate::interface::HostInterface;
@@ -126,6 +126,7 @@ impl Interfaces {
       stream_keyed,
       reset_interface_manager,
       granted,
+      number_of,
     };
 
     /// A manager of the interfaces of these links, up to 8 links; no interface is locked. It asks for a report in
@@ -186,6 +187,15 @@ impl Interfaces {
         ensures { IfSome (slice_get self.now.interfaces interface) (λ i. result ≡ i.needs) }
     {
         self.interfaces[interface].needs()
+    }
+
+    /// The number of the interface of this link with this requester ID; `None` if there is none.
+    pub fn number(&self, link: u8, requester: u16) -> Option<usize>
+        ensures { result ≡ number_of self.now link requester }
+    {
+        self.interfaces
+            .iter()
+            .position(|i| i.is_requester(link, requester))
     }
 
     fn granted_place(&self, link: u8, requester: u16) -> Option<usize>

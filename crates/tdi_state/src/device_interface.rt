@@ -16,7 +16,7 @@ use crate::error_codes::ErrorCode;
 use crate::register_set::{Registers, has_bit};
 use crate::report_buffer::ReportBuffer;
 use crate::states::{Lock, TdiState};
-use ide_plan::InterfacePlan;
+use ide_plan::{BarPlan, InterfacePlan};
 use ide_types::{Bytes, Items, Memory};
 use interface_words::Register;
 use std::alloc::Global;
@@ -359,6 +359,21 @@ impl Interface {
         ensures { result ≡ self.now.plan.requester }
     {
         self.plan.requester
+    }
+
+    /// The six base address registers by their number, each with its base as it stands; one that the interface has not
+    /// has no pages.
+    pub fn bars(&self) -> [BarPlan; 6]
+        ensures { result ≡ bars_of self.now.plan self.now.registers }
+    {
+        bars_of(&self.plan, &self.registers)
+    }
+
+    /// The base address registers that the topology lays out, by their number.
+    pub fn planned_bars(&self) -> &[BarPlan]
+        ensures { result.now ≡ self.now.plan.bars }
+    {
+        self.plan.bars.as_slice()
     }
 
     /// Whether the interface has this register: all but the BARs that its layout leaves out.

@@ -14,7 +14,7 @@ use Rattle.ide_plan.specs.declared.plan.Plan.{Plan}
 use Rattle.ide_plan.specs.Fits.{FitsPlan}
 use Rattle.link_events.specs.declared.event.Event.{Event}
 use Rattle.link_events.specs.declared.event.Event.TheVariants.{Send, Pass, Alter, Cut, Arrive, Dump, Establish, Refresh}
-use Rattle.link_events.specs.declared.event.Event.TheVariants.{Stop, Reset, Status, Interface}
+use Rattle.link_events.specs.declared.event.Event.TheVariants.{Stop, Reset, Status, Interface, Access}
 use Rattle.link_events.specs.Spells.{IsAllowed}
 use Rattle.link_verdicts.specs.declared.verdict.Verdict.{Verdict}
 use Rattle.link_verdicts.specs.declared.verdict.Verdict.TheVariants as v
@@ -29,11 +29,11 @@ use Rattle.key_laws.specs.Keys.{Keyed, Off, Loaded, On, key_in, on_in}
 use Rattle.key_laws.specs.History.{History, base}
 use Rattle.link_history.specs.Plan.{SubStream, has_port, has_stream, stream_plan}
 use Rattle.link_history.specs.History.{SealedList, Arrival, arrived, altered, brought, shortened, packet_at}
-use Rattle.link_history.specs.History.{sealed_packets, front_of_packet, sub_stream_of, units_got, is_of, keys_at}
+use Rattle.link_history.specs.History.{sealed_packets, ahead_of_packet, sub_stream_of, units_got, is_of, keys_at}
 use Rattle.link_history.specs.History.{on_draw}
 use Rattle.link_history.specs.History.{failed, meets_counts, received_in, sent_bytes}
-use Rattle.link_history.proofs.Causes.{sending_port}
-use Rattle.link_history.specs.Due.{Ending, dump_due, arrival_due, settled, before_tag, before_tag_of, under_keys}
+use Rattle.link_history.specs.History.{sending_port}
+use Rattle.link_history.specs.Due.{Ending, dump_due, arrival_due, ending_due, before_tag, before_tag_of, under_keys}
 use Rattle.link_history.specs.Due.{is_mixed, is_overfull, receiving, unit_under, is_verified, ended, effects_of}
 use Rattle.link_history.specs.Cause.{CauseLaw}
 use Rattle.link_history.proofs.SealingIs.{IsLive, sealing_is, all_live}
@@ -68,7 +68,7 @@ all_known plan ((e, v.Sealed ds) ∷ h) law i x is =
     let sealing = sealing_is plan h e ds law.0 in
     let port = sealing.sending.port in
     let stream = sealing.sending.stream in
-    each_more (IsKnown plan) plan (front_of_packet plan (sealed_packets plan h) (base h)) (sent_bytes plan h e) ds
+    each_more (IsKnown plan) plan (ahead_of_packet plan (sealed_packets plan h) (base h)) (sent_bytes plan h e) ds
     (sealed_packets plan h)
     (live_all (IsKnown plan) plan h port stream ds (live_known plan h law.1 port stream)
     (all_live plan h (sending_port e) (sent_bytes plan h e) ds sealing)) (all_known plan h law.1) i x is
@@ -182,6 +182,7 @@ arrival_fits plan fits h cause (Stop link stream lose) allowed a is = absurd cc
 arrival_fits plan fits h cause (Reset link) allowed a is = absurd cc
 arrival_fits plan fits h cause (Status link stream) allowed a is = absurd cc
 arrival_fits plan fits h cause (Interface e) allowed a is = absurd cc
+arrival_fits plan fits h cause (Access e) allowed a is = absurd cc
 
 -- ---- the verdict
 
@@ -248,7 +249,7 @@ cut_step_fits plan h a fits few (Ok (IdePacket p)) cut = by_tests (has_stream pl
     by_tests true false = under_fits plan h a.port p fits.port few stream _ _ refl
 
 settled_fits : (plan : Plan) (h : History) (port : PortName) (r : Result Ending Verdict) → FitsStep port r
-    → Fits (settled plan h port r)
+    → Fits (ending_due plan h port r)
 settled_fits plan h port (Err w) step = step
 settled_fits plan h port (Ok x) step = by_tests (is_verified plan h port x)
     (meets_counts plan h (received_in port x.unit) (ended plan h port x))

@@ -1,7 +1,8 @@
 -- What is due fits.
 use Rattle.std.proofs.Common.{refl}
 use Rattle.link_events.specs.declared.event.Event.TheVariants.{Send, Pass, Alter, Cut, Arrive, Dump, Establish, Refresh}
-use Rattle.link_events.specs.declared.event.Event.TheVariants.{Stop, Reset, Status, Interface}
+use Rattle.link_events.specs.declared.event.Event.TheVariants.{Stop, Reset, Status, Interface, Access}
+use Rattle.link_events.specs.declared.event.AccessEvent.TheVariants as ae
 use Rattle.link_history.specs.History.{arrived, packet_at, sealed_packets}
 use Rattle.link_history.specs.Due.{due}
 use Rattle.link_history.specs.Memory.{memory_due}
@@ -11,6 +12,8 @@ use Rattle.text_laws.proofs.OperationsFit.{status_due_fits}
 use Rattle.text_laws.proofs.SendsFit.{send_due_fits}
 use Rattle.text_laws.proofs.InterfacesFit.{interface_fits}
 use Rattle.text_laws.proofs.MemoryFits.{memory_fits}
+use Rattle.text_laws.proofs.AnswersFit.{answer_due_fits}
+use Rattle.text_laws.proofs.MmioFits.{mmio_fits}
 use Rattle.text_laws.proofs.ArrivalsFit.{arrival_due_fits, dump_due_fits}
 
 pub due_fits : DueFits
@@ -27,6 +30,8 @@ due_fits plan fits h cause few (Reset link) allowed = reset_due_fits plan fits h
 due_fits plan fits h cause few (Status link stream) allowed = status_due_fits plan fits h link stream
 due_fits plan fits h cause few (Interface e) allowed = interface_fits plan fits h cause few e (memory_due plan h e)
     (memory_fits plan h cause e)
+due_fits plan fits h cause few (Access (ae.Answer link)) allowed = answer_due_fits plan fits h cause few link
+due_fits plan fits h cause few (Access (ae.Mmio i bar offset len)) allowed = mmio_fits plan h cause i bar offset len
 due_fits plan fits h cause few (Pass n) allowed = arrival_due_fits plan fits h cause few (Pass n) allowed
     (arrived plan h (Pass n)) refl
 due_fits plan fits h cause few (Alter n place mask) allowed = arrival_due_fits plan fits h cause few

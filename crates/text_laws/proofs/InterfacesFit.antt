@@ -1,7 +1,8 @@
 -- The verdicts of device interfaces fit: an interface has one of few numbers, a nonce is of the plan, a report is made
 -- of numbers' bytes and of the plan's, and draws are no more than events.
 use Rattle.std.proofs.Common.{◌≡◌, ℕ, ◌+◌, ◌-◌, ◌<◌, ◌≤◌, ◌^◌, ◌&&◌, Bool, true, false, nat_le, nat_lt, List, [], ◌∷◌}
-use Rattle.std.proofs.Common.{length, Option, Some, None, Result, Ok, Err, if◌then◌else◌, refl, sym, subst, arith}
+use Rattle.std.proofs.Common.{length, Option, Some, None, Result, Ok, Err, if◌then◌else◌, refl, sym, ap, ◌∙◌, subst}
+use Rattle.std.proofs.Common.{arith}
 use Rattle.std.specs.Option.{option_map}
 use Rattle.std.proofs.Math.Nat.{div-le_self}
 use Rattle.std.proofs.lemmas.Bool.{leb-true}
@@ -34,12 +35,14 @@ use Rattle.key_laws.specs.History.{History, op_of, draws}
 use Rattle.key_laws.specs.Due.{lost_at}
 use Rattle.interface_states.specs.Sites.{Site, site_at}
 use Rattle.interface_states.specs.Views.{Managed, on_lock, on_report, on_start, on_halt, on_state, on_operation}
-use Rattle.interface_states.specs.Views.{managed_after, managed, stream_draw, number_in}
+use Rattle.interface_states.specs.Views.{managed_after, managed, stream_draw, number_in, view_broken}
 use Rattle.interface_states.specs.Due.{Standing, standing_at, unless_lost, if_unlocked, locked_as, lock_due}
 use Rattle.interface_states.specs.Due.{if_locked_or_running, portions, reported_as, if_locked, if_reported, started_as}
 use Rattle.interface_states.specs.Due.{start_due, asked_due, interface_due, on_site, with_number}
 use Rattle.interface_states.specs.Due.{interface_verdict_due as own_due}
 use Rattle.link_history.specs.Cause.{CauseLaw}
+use Rattle.link_history.specs.Memory.{memory_due}
+unfoldable use Rattle.link_history.specs.Due.{due}
 use Rattle.text_laws.proofs.Draws.{few_draws}
 use Rattle.text_laws.proofs.OperationsFit.{lost_fits, secure_fits, fits_if, refresh_due_fits}
 use Rattle.text_laws.proofs.SitesFit.{SiteFits, site_fits, nonce_bytes}
@@ -268,3 +271,59 @@ interface_fits plan fits h cause few e given known = by_number (number_in e)
     by_number : (o : Option ℕ) → Fits (with_number plan h e o given)
     by_number None = known
     by_number (Some i) = by_site (site_at plan i) (site_fits plan fits i)
+
+-- ---- floors
+
+lock_floor : (m : Managed) (w : Verdict) → (on_lock m w).floor ≡ m.floor
+lock_floor m w = grind arith
+
+report_floor : (m : Managed) (w : Verdict) → (on_report m w).floor ≡ m.floor
+report_floor m w = grind arith
+
+state_floor : (m : Managed) (w : Verdict) → (on_state m w).floor ≡ m.floor
+state_floor m w = grind arith
+
+halt_floor : (drawn : ℕ) (m : Managed) (w : Verdict) → (on_halt drawn m w).floor ≡ m.floor
+halt_floor drawn m w = grind arith
+
+floor_if : (b : Bool) (k m : Managed) → k.floor < 2 ^ 64 → m.floor < 2 ^ 64 → (if b then k else m).floor < 2 ^ 64
+floor_if true k m one two = one
+floor_if false k m one two = two
+
+-- a start sets it to the draw that it shows
+start_floor : (m : Managed) (w : Verdict) → Fits w → m.floor < 2 ^ 64 → (on_start m w).floor < 2 ^ 64
+start_floor m (v.Interface (iv.Started i draw)) shown few = shown.1
+start_floor m w shown few = grind arith
+
+operation_floor : (drawn : ℕ) (e : InterfaceEvent) (w : Verdict) (m : Managed) → Fits w → m.floor < 2 ^ 64
+    → (on_operation drawn e w m).floor < 2 ^ 64
+operation_floor drawn (ie.Lock i loss) w m shown few = omega (arith, lock_floor m w, few)
+operation_floor drawn (ie.Report i loss) w m shown few = omega (arith, report_floor m w, few)
+operation_floor drawn (ie.Start i loss) w m shown few = start_floor m w shown few
+operation_floor drawn (ie.Halt i loss) w m shown few = omega (arith, halt_floor drawn m w, few)
+operation_floor drawn (ie.State i loss) w m shown few = omega (arith, state_floor m w, few)
+operation_floor drawn _ w m shown few = few
+
+one_floor : (h : History) (x : Site) (e : Event) (w : Verdict) (m : Managed)
+    → ((i : InterfaceEvent) → e ≡ event.Interface i → Fits w) → m.floor < 2 ^ 64
+    → (managed_after (op_of h) (draws h) x e w m).floor < 2 ^ 64
+one_floor h x (event.Interface e) w m shown few = floor_if _ (on_operation (draws h) e w m) m
+    (operation_floor (draws h) e w m (shown e refl) few) few
+one_floor h x (event.Stop link stream loss) w m shown few = floor_if _ (record m { view = view_broken m.view }) m few
+    few
+one_floor h x (event.Reset link) (v.Reset l) m shown few = floor_if _ (record m { view = view_broken m.view }) m few few
+one_floor h x e w m shown few = few
+
+pub floor_fits : (plan : Plan) → FitsPlan plan
+    → ((h : History) → CauseLaw plan h → (e : InterfaceEvent) → Fits (memory_due plan h e))
+    → (h : History) → CauseLaw plan h → length h < 2 ^ 28 → (x : Site) → (managed h x).floor < 2 ^ 64
+unfolding managed due
+floor_fits plan fits known [] cause few x = omega arith
+floor_fits plan fits known ((e, w) ∷ h) cause few x =
+    one_floor h x e w (managed h x) (shown e w cause.0) (floor_fits plan fits known h cause.1 (omega (arith, few)) x)
+  where
+    shown : (e : Event) (w : Verdict) → w ≡ due plan h e → (i : InterfaceEvent) → e ≡ event.Interface i → Fits w
+    shown e w is i same =
+        let here : w ≡ due plan h (event.Interface i) = is ∙ ap (due plan h) same in
+        subst Fits (sym here)
+        (interface_fits plan fits h cause.1 (omega (arith, few)) i (memory_due plan h i) (known h cause.1 i))

@@ -6,5 +6,7 @@ mod ArrivalsFit
 mod SitesFit
 mod InterfacesFit
 mod MemoryFits
+mod AnswersFit
+mod MmioFits
 pub mod Fitting
 pub mod Reading

@@ -42,10 +42,10 @@ use Rattle.link_history.specs.Due.{due}
 use Rattle.link_history.proofs.Causes.{accepted_by, packet_that_came}
 use Rattle.delivery_laws.proofs.Received.{came_fits, held_fits}
 
-abbrev IsByte : ℕ → Type 0
+abbrev pub IsByte : ℕ → Type 0
 IsByte b = b < 256
 
-abbrev AreOctets : List ℕ → Type 0
+abbrev pub AreOctets : List ℕ → Type 0
 AreOctets bytes = All IsByte bytes
 
 -- ---- the payloads of a unit
@@ -59,14 +59,14 @@ snoc_fits : (ps : List Packet) (p : Packet) → AllByRecursion FitsPacket ps →
 snoc_fits [] p fits last = (last, tt)
 snoc_fits (q ∷ ps) p fits last = (fits.0, snoc_fits ps p fits.1 last)
 
-plain_bytes : (plan : Plan) (port : PortName) (unit : UnitName) (ps : List Packet) → AllByRecursion FitsPacket ps
+pub plain_bytes : (plan : Plan) (port : PortName) (unit : UnitName) (ps : List Packet) → AllByRecursion FitsPacket ps
     → AreOctets (plain_of plan port unit ps)
 unfolding open_of
 plain_bytes plan port unit ps fits = masked-bytes _ _ 0 (encrypted ps) (bodies ps fits)
 
 -- ---- the writes of a unit
 
-abbrev OfBytes : Option Write → Type 0
+abbrev pub OfBytes : Option Write → Type 0
 OfBytes None = Unit {0}
 OfBytes (Some w) = AreOctets w.payload
 
@@ -75,7 +75,7 @@ span_bytes : (o : Option Span) (payload : List ℕ) → AreOctets payload
 span_bytes None payload bytes = tt
 span_bytes (Some s) payload bytes = bytes
 
-write_bytes : (head : HeadView) (payload : List ℕ) → AreOctets payload → OfBytes (memory_write head payload)
+pub write_bytes : (head : HeadView) (payload : List ℕ) → AreOctets payload → OfBytes (memory_write head payload)
 write_bytes head payload bytes = span_bytes (write_span head) payload bytes
 
 placed_bytes : (regions : List Region) (b : Bool) (o : Option Write) → OfBytes o → OfBytes (if_placed regions b o)
@@ -111,7 +111,7 @@ each_bytes plan grants port unit plain (p ∷ ps) bytes = (
 
 -- ---- all writes
 
-abbrev Payloads : List Write → Type 0
+abbrev pub Payloads : List Write → Type 0
 Payloads ws = AllByRecursion (λ w. AreOctets w.payload) ws
 
 newest_bytes : (os : List (Option Write)) (older : List Write) → AllByRecursion OfBytes os → Payloads older
@@ -120,7 +120,7 @@ newest_bytes [] older each all = all
 newest_bytes (None ∷ os) older each all = newest_bytes os older each.1 all
 newest_bytes (Some w ∷ os) older each all = newest_bytes os (w ∷ older) each.1 (each.0, all)
 
-unit_fits : (plan : Plan) (h : History) → CauseLaw plan h → (e : Event) (port : PortName) (unit : UnitName)
+pub unit_fits : (plan : Plan) (h : History) → CauseLaw plan h → (e : Event) (port : PortName) (unit : UnitName)
     (effects : List Effect) → v.Accepted port unit effects ≡ due plan h e
     → AllByRecursion FitsPacket (unit_ended plan h e port unit)
 unit_fits plan h cause e port unit effects is =
@@ -153,7 +153,7 @@ found_payload test (x ∷ ws) w all is = by (found_payload test ws w all.1) (tes
     by later true is = let same : x ≡ w = cc in subst (λ (y : Write). AreOctets y.payload) same all.0
     by later false is = later is
 
-byte_small : (ws : List Write) → Payloads ws → (a : ℕ) → byte_after ws a < 256
+pub byte_small : (ws : List Write) → Payloads ws → (a : ℕ) → byte_after ws a < 256
 unfolding byte_after
 byte_small ws all a = by (last_enabling ws a) refl
   where
@@ -161,7 +161,7 @@ byte_small ws all a = by (last_enabling ws a) refl
     by None is = omega arith
     by (Some w) is = all_bytes w.payload (found_payload (λ w. enables w.span a) ws w all is) (a - w.span.address)
 
-from_bytes : (byte : ℕ → ℕ) → ((a : ℕ) → byte a < 256) → (at n : ℕ) → IsBytes (bytes_from byte at n)
+pub from_bytes : (byte : ℕ → ℕ) → ((a : ℕ) → byte a < 256) → (at n : ℕ) → IsBytes (bytes_from byte at n)
 from_bytes byte small at zero i = omega arith
 from_bytes byte small at (suc n) zero = small at
 from_bytes byte small at (suc n) (suc i) = from_bytes byte small (at + 1) n i

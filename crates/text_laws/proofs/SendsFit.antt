@@ -16,6 +16,7 @@ use Rattle.link_verdicts.specs.declared.verdict.Verdict.TheVariants as v
 use Rattle.link_verdicts.specs.declared.verdict.SealedPacket.{SealedPacket}
 use Rattle.link_verdicts.specs.Apart.{Fits, FitPackets, FitsSealed}
 use Rattle.tlp_layout.specs.Class.{class_of}
+use Rattle.tlp_layout.specs.declared.tlp.Tlp.{Tlp}
 use Rattle.tlp_layout.specs.Tlp.{header}
 use Rattle.association.specs.Outgoing.{Outgoing, NoTlp, OnNone, OnStream, outgoing_of}
 use Rattle.association.proofs.Outgoing.{no_tlp_reads}
@@ -39,9 +40,9 @@ use Rattle.text_laws.proofs.OperationsFit.{FitsStream, stream_fits}
 
 -- ---- counts
 
-units_few : (front ps : List Packet) → length (units_after front ps) ≤ length ps
-units_few front [] = omega arith
-units_few front (p ∷ ps) = grind (arith, units_few [] ps, units_few (front ++ p ∷ []) ps)
+units_few : (unfinished ps : List Packet) → length (units_after unfinished ps) ≤ length ps
+units_few unfinished [] = omega arith
+units_few unfinished (p ∷ ps) = grind (arith, units_few [] ps, units_few (unfinished ++ p ∷ []) ps)
 
 under_few : (plan : Plan) (h : History) (s : SubStream) (o : Option KeyName)
     → length (units (sent_under plan h s o)) ≤ length (sealed_packets plan h)
@@ -68,7 +69,7 @@ posted_few xs s from =
           (length xs - suffix_len (λ (y : SealedPacket × Packet). not (is_in s from y)) xs) xs,
     )
 
-live_few : (h : History) (port : PortName) (s : SubStream) (o : Option KeyName) → live_key h port s ≡ o
+pub live_few : (h : History) (port : PortName) (s : SubStream) (o : Option KeyName) → live_key h port s ≡ o
     → (unwrap_or o no_key).draw ≤ length h
 live_few h port s None is = omega arith
 live_few h port s (Some key) is =
@@ -171,15 +172,12 @@ sent_fits plan fits h cause few s at number small =
     (listed_fits x s number (needs_sync x s.class Npr) (needs_sync x s.class Cpl)
     (lane_fits plan h cause few s.port s.stream) at small))
 
-outgoing_fits : (plan : Plan) → FitsPlan plan → (h : History) → CauseLaw plan h → length h < 2 ^ 28
-    → (port : PortName) (bytes : List ℕ) (more trusted : Bool) → length bytes < 2 ^ 64 → port.link < 2 ^ 64
-    → (o : Outgoing) → outgoing_of (streams_of plan port.link) port.side bytes ≡ o
-    → Fits (send_due plan h port o more trusted)
-outgoing_fits plan fits h cause few port bytes more trusted small link (NoTlp f) comes =
-    let reads = no_tlp_reads (streams_of plan port.link) port.side bytes f comes in
-    (link, omega (arith, small, tlp_place bytes f reads))
-outgoing_fits plan fits h cause few port bytes more trusted small link OnNone comes = link
-outgoing_fits plan fits h cause few port bytes more trusted small link (OnStream t stream) comes =
+-- of a TLP that takes a stream
+pub on_stream_fits : (plan : Plan) → FitsPlan plan → (h : History) → CauseLaw plan h → length h < 2 ^ 28
+    → (port : PortName) (bytes : List ℕ) (more trusted : Bool) (t : Tlp) (stream : ℕ)
+    → outgoing_of (streams_of plan port.link) port.side bytes ≡ OnStream t stream
+    → Fits (send_due plan h port (OnStream t stream) more trusted)
+on_stream_fits plan fits h cause few port bytes more trusted t stream comes =
     let s : Sending = record {
       port = port;
       stream = stream;
@@ -191,6 +189,17 @@ outgoing_fits plan fits h cause few port bytes more trusted small link (OnStream
     sent_fits plan fits h cause few s
     (stream_fits plan fits port.link stream (stream_known plan port bytes t stream comes))
     (length (sealed_packets plan h) + 1) (omega (arith, few, sealed_few plan h cause))
+
+outgoing_fits : (plan : Plan) → FitsPlan plan → (h : History) → CauseLaw plan h → length h < 2 ^ 28
+    → (port : PortName) (bytes : List ℕ) (more trusted : Bool) → length bytes < 2 ^ 64 → port.link < 2 ^ 64
+    → (o : Outgoing) → outgoing_of (streams_of plan port.link) port.side bytes ≡ o
+    → Fits (send_due plan h port o more trusted)
+outgoing_fits plan fits h cause few port bytes more trusted small link (NoTlp f) comes =
+    let reads = no_tlp_reads (streams_of plan port.link) port.side bytes f comes in
+    (link, omega (arith, small, tlp_place bytes f reads))
+outgoing_fits plan fits h cause few port bytes more trusted small link OnNone comes = link
+outgoing_fits plan fits h cause few port bytes more trusted small link (OnStream t stream) comes =
+    on_stream_fits plan fits h cause few port bytes more trusted t stream comes
 
 pub port_fits : (plan : Plan) → FitsPlan plan → (port : PortName) → has_port plan port ≡ true → port.link < 2 ^ 64
 port_fits plan fits port is = let less : port.link < length plan.links = grind (arith, nat_tests) in omega

@@ -71,6 +71,10 @@ found_fits test (y ∷ xs) x all is = by (found_fits test xs x all.1) (test y) i
 pub site_fits : (plan : Plan) → FitsPlan plan → (i : ℕ) (x : Site) → site_at plan i ≡ Some x → SiteFits x
 site_fits plan fits i x is = found_fits (λ y. y.number == i) (sites plan) x (sites_fit plan fits) is
 
+pub found_site_fits : (plan : Plan) → FitsPlan plan → (test : Site → Bool) (x : Site) → find test (sites plan) ≡ Some x
+    → SiteFits x
+found_site_fits plan fits test x is = found_fits test (sites plan) x (sites_fit plan fits) is
+
 -- ---- nonces
 
 key_at : (keys : List (List ℕ)) (i : ℕ) (key : List ℕ) → AllByRecursion IsKey keys → slice_get keys i ≡ Some key

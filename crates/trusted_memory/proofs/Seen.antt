@@ -91,6 +91,17 @@ ends_low (r ∷ rs) at n fit h = elim (cases_Bool (holds_all r at n)) [
   | inr e ↦ ends_low rs at n (All-tail FitsRegion r rs fit) (rw e at h)
 ]
 
+-- so none has a byte from there on
+pub none_high : (rs : List Region) (a : ℕ) → All FitsRegion rs → 2 ^ 63 ≤ a → in_region rs a ≡ false
+none_high [] a fit high = refl
+none_high (r ∷ rs) a fit high = elim (cases_Bool (is_inside r a)) [
+  | inl e ↦
+      let fits = All-head FitsRegion r rs fit in
+      let most : r.base + r.size ≤ 2 ^ 63 = fits.most in
+      absurd (omega (arith, inside_high r a e))
+  | inr e ↦ rw e (none_high rs a (All-tail FitsRegion r rs fit) high)
+]
+
 -- ---- at first
 
 pub new_is_seen : (rs : List Region) → memory_seen rs [] 0 ≡ new_memory rs

@@ -1,7 +1,7 @@
 //! Which bytes regions hold.
 
 ghost use Rattle.std.specs.Prelude.{◌≡◌};
-ghost use Rattle.trusted_memory.specs.Regions.{is_inside, holds_all, in_one_region};
+ghost use Rattle.trusted_memory.specs.Regions.{is_inside, in_region, holds_all, in_one_region};
 
 use ide_plan::Region;
 
@@ -9,6 +9,13 @@ fn is_inside(region: &Region, at: u64) -> bool
     ensures { result ≡ is_inside region.now at }
 {
     region.base <= at && at - region.base < region.size
+}
+
+/// Whether a region has the byte at the address.
+pub fn in_region(regions: &[Region], at: u64) -> bool
+    ensures { result ≡ in_region regions.now at }
+{
+    regions.iter().any(|region| is_inside(region, at))
 }
 
 fn holds_all(region: &Region, at: u64, n: usize) -> bool

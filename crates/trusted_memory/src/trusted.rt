@@ -11,7 +11,7 @@ ghost use Rattle.trusted_memory.specs.Writes.{Write, written, byte_after, write_
 use crate::blanks::{fill, put};
 use crate::causes::block_cause;
 use crate::page::{PAGE_BYTES, Page};
-use crate::regions::in_one_region;
+use crate::regions::{in_one_region, in_region};
 use crate::{Grant, MemWriteView, Span};
 use ide_plan::Region;
 use ide_types::Memory;
@@ -47,7 +47,7 @@ impl Model for Trusted {
 }
 
 impl Trusted {
-    ghost use Rattle.trusted_memory.specs.Regions.{is_inside, in_region, in_one_region};
+    ghost use Rattle.trusted_memory.specs.Regions.{is_inside, in_one_region};
     ghost use Rattle.trusted_memory.specs.Causes.{block_cause, block_effect, is_applied, write_effect};
     ghost use Rattle.trusted_memory.specs.Admitted.{admitted_write};
     ghost use Rattle.trusted_memory.specs.Memory.{
@@ -190,22 +190,35 @@ impl Trusted {
     }
 
     fn byte(&self, at: u64) -> u8
-        requires { in_region self.now.contents.regions at ≡ true }
         ensures { result ≡ byte_at self.now.contents at }
     {
+        if !in_region(&self.regions, at) {
+            return 0;
+        }
         match self.pages.get(&(at / PAGE_BYTES as u64)) {
             Some(page) => page.byte((at % PAGE_BYTES as u64) as usize),
             None => 0,
         }
     }
 
-    fn copy(&self, at: u64, buf: &mut [u8])
-        requires inside { in_one_region self.now.contents.regions at (length buf.old) ≡ true }
-        requires fits { at + length buf.old ≤ 2 ^ 63 }
+    // The byte that is `i` bytes behind an address, which may be past the last.
+    fn byte_behind(&self, at: u64, i: usize) -> u8
+        ensures { result ≡ byte_at self.now.contents (at + i) }
+    {
+        // what always holds of the regions: none has a byte from 2^63 on
+        let _ = &self.regions;
+        match at.checked_add(i as u64) {
+            Some(at) => self.byte(at),
+            None => 0,
+        }
+    }
+
+    /// Copies the bytes from an address on into `buf`, 0 of each that no region has.
+    pub fn copy(&self, at: u64, buf: &mut [u8])
         ensures { buf.new ≡ bytes_from (byte_at self.now.contents) at (length buf.old) }
     {
         for (i, byte) in buf.iter_mut().enumerate() {
-            *byte = self.byte(at + i as u64);
+            *byte = self.byte_behind(at, i);
         }
     }
 

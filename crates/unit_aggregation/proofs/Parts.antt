@@ -31,15 +31,15 @@ pub bodies_of-parts : (x y : List ℕ) (h b : ℕ) (es : List PacketEnds) → Ri
 bodies_of-parts x y h b [] r = sym (drop_all b y (omega (arith, r.1)))
 bodies_of-parts x y h b (e ∷ es) r = rw (bodies_of-parts x y e.head e.body es r.2) (sym (drop_split y b e.body r.1))
 
--- after the front all heads, and all bodies
-pub joined_heads : (x y : List ℕ) (front : ℕ) (es : List PacketEnds) → Rises front 0 es (length x) (length y) → x
-    ≡ take front x ++ heads_of (parts x y front 0 es)
-joined_heads x y front es r =
-    sym (ap (λ (t : List ℕ). take front x ++ t) (heads_of-parts x y front 0 es r) ∙ take-append-drop front x)
+-- after what comes ahead all heads, and all bodies
+pub joined_heads : (x y : List ℕ) (ahead : ℕ) (es : List PacketEnds) → Rises ahead 0 es (length x) (length y) → x
+    ≡ take ahead x ++ heads_of (parts x y ahead 0 es)
+joined_heads x y ahead es r =
+    sym (ap (λ (t : List ℕ). take ahead x ++ t) (heads_of-parts x y ahead 0 es r) ∙ take-append-drop ahead x)
 
-pub joined_bodies : (x y : List ℕ) (front : ℕ) (es : List PacketEnds) → Rises front 0 es (length x) (length y) → y
-    ≡ bodies_of (parts x y front 0 es)
-joined_bodies x y front es r = sym (bodies_of-parts x y front 0 es r)
+pub joined_bodies : (x y : List ℕ) (ahead : ℕ) (es : List PacketEnds) → Rises ahead 0 es (length x) (length y) → y
+    ≡ bodies_of (parts x y ahead 0 es)
+joined_bodies x y ahead es r = sym (bodies_of-parts x y ahead 0 es r)
 
 -- ---- one more packet
 

@@ -13,47 +13,47 @@ use Rattle.unit_aggregation.proofs.Parts.{rises_at, parts-rebodied}
 
 -- the unit that is seen of these fields
 abbrev pub view : ℕ → ℕ → List ℕ → List ℕ → List PacketEnds → Collected
-view mode front x y es = record { mode = mode; front = take front x; packets = parts x y front 0 es }
+view mode ahead x y es = record { mode = mode; ahead = take ahead x; packets = parts x y ahead 0 es }
 
-pub count_of : (mode front : ℕ) (x y : List ℕ) (es : List PacketEnds) (v : Collected) → view mode front x y es ≡ v
+pub count_of : (mode ahead : ℕ) (x y : List ℕ) (es : List PacketEnds) (v : Collected) → view mode ahead x y es ≡ v
     → length v.packets ≡ length es
-count_of mode front x y es v is = ap (λ (u : Collected). length u.packets) (sym is) ∙ length-parts x y front 0 es
+count_of mode ahead x y es v is = ap (λ (u : Collected). length u.packets) (sym is) ∙ length-parts x y ahead 0 es
 
 -- ---- one more packet
 
-pub has_room-less : (mode front : ℕ) (x y : List ℕ) (es : List PacketEnds) (v : Collected) → view mode front x y es ≡ v
+pub has_room-less : (mode ahead : ℕ) (x y : List ℕ) (es : List PacketEnds) (v : Collected) → view mode ahead x y es ≡ v
     → length es < mode → has_room v ≡ true
-has_room-less mode front x y es v is less = rw (← is, length-parts x y front 0 es) (lt-ltb (length es) mode less)
+has_room-less mode ahead x y es v is less = rw (← is, length-parts x y ahead 0 es) (lt-ltb (length es) mode less)
 
-pub has_room-full : (mode front : ℕ) (x y : List ℕ) (es : List PacketEnds) (v : Collected) → view mode front x y es ≡ v
+pub has_room-full : (mode ahead : ℕ) (x y : List ℕ) (es : List PacketEnds) (v : Collected) → view mode ahead x y es ≡ v
     → mode ≤ length es → has_room v ≡ false
-has_room-full mode front x y es v is full = rw (← is, length-parts x y front 0 es) (le-ltb (length es) mode full)
+has_room-full mode ahead x y es v is full = rw (← is, length-parts x y ahead 0 es) (le-ltb (length es) mode full)
 
 pub view-full : (v : Collected) (head body : List ℕ) → has_room v ≡ false → v ≡ unit_with_packet v head body
 view-full v head body full = rw full refl
 
-pub view-added : (mode front : ℕ) (x y head body : List ℕ) (es : List PacketEnds) (n m : ℕ) (v : Collected)
-    → view mode front x y es ≡ v → length es < mode → Rises front 0 es (length x) (length y)
+pub view-added : (mode ahead : ℕ) (x y head body : List ℕ) (es : List PacketEnds) (n m : ℕ) (v : Collected)
+    → view mode ahead x y es ≡ v → length es < mode → Rises ahead 0 es (length x) (length y)
     → n ≡ length x + length head → m ≡ length y + length body
-    → view mode front (x ++ head) (y ++ body) (es ++ record { head = n; body = m } ∷ []) ≡ unit_with_packet v head body
-view-added mode front x y head body es n m v is less r en em =
-    let room = has_room-less mode front x y es v is less in
-    let below = rises_below front 0 es (length x) (length y) r in
-    let one : view mode front (x ++ head) (y ++ body) (es ++ record { head = n; body = m } ∷ [])
-    ≡ record (view mode front x y es) { packets = parts x y front 0 es ++ (head, body) ∷ [] } =
+    → view mode ahead (x ++ head) (y ++ body) (es ++ record { head = n; body = m } ∷ []) ≡ unit_with_packet v head body
+view-added mode ahead x y head body es n m v is less r en em =
+    let room = has_room-less mode ahead x y es v is less in
+    let below = rises_below ahead 0 es (length x) (length y) r in
+    let one : view mode ahead (x ++ head) (y ++ body) (es ++ record { head = n; body = m } ∷ [])
+    ≡ record (view mode ahead x y es) { packets = parts x y ahead 0 es ++ (head, body) ∷ [] } =
     rw (en, em) (λ i. record {
       mode = mode;
-      front = take-append-le front x head below.0 i;
-      packets = parts-added x y head body front 0 es r i;
+      ahead = take-append-le ahead x head below.0 i;
+      packets = parts-added x y head body ahead 0 es r i;
     }) in
     rw room (one ∙ ap (λ (u : Collected). record u { packets = u.packets ++ (head, body) ∷ [] }) is)
 
 -- the new packet ends where the bytes now end, so all that stood before lies as it did
-pub laid-added : (mode front : ℕ) (x y head body : List ℕ) (es : List PacketEnds) (n m xs ys xs' ys' : ℕ)
-    → IsLaidOut mode front es x y xs ys → length es < mode → length head ≤ 20 → length body ≤ 4096 → xs ≤ xs' → ys ≤ ys'
+pub laid-added : (mode ahead : ℕ) (x y head body : List ℕ) (es : List PacketEnds) (n m xs ys xs' ys' : ℕ)
+    → IsLaidOut mode ahead es x y xs ys → length es < mode → length head ≤ 20 → length body ≤ 4096 → xs ≤ xs' → ys ≤ ys'
     → n ≡ length x + length head → m ≡ length y + length body
-    → IsLaidOut mode front (es ++ record { head = n; body = m } ∷ []) (x ++ head) (y ++ body) xs' ys'
-laid-added mode front x y head body es n m xs ys xs' ys' p less short_head short_body wider_x wider_y en em =
+    → IsLaidOut mode ahead (es ++ record { head = n; body = m } ∷ []) (x ++ head) (y ++ body) xs' ys'
+laid-added mode ahead x y head body es n m xs ys xs' ys' p less short_head short_body wider_x wider_y en em =
     let lx : length (x ++ head) ≡ n = length-append x head ∙ sym en in
     let ly : length (y ++ body) ≡ m = length-append y body ∙ sym em in
     let more : length (es ++ record { head = n; body = m } ∷ [])
@@ -61,7 +61,7 @@ laid-added mode front x y head body es n m xs ys xs' ys' p less short_head short
     record {
       mode_fits = p.mode_fits;
       packets_fit = omega (arith, more, less);
-      rising = rw (lx, ly) (rises_on front 0 es (length x) (length y) n m p.rising (omega (arith, en))
+      rising = rw (lx, ly) (rises_on ahead 0 es (length x) (length y) n m p.rising (omega (arith, en))
           (omega (arith, em)));
       heads_fit = omega (arith, lx, en, more, p.heads_fit, short_head);
       bodies_fit = omega (arith, ly, em, more, p.bodies_fit, short_body);
@@ -71,77 +71,77 @@ laid-added mode front x y head body es n m xs ys xs' ys' p less short_head short
 
 -- ---- one packet
 
-pub packet_at : (mode front : ℕ) (x y : List ℕ) (es : List PacketEnds) (i : ℕ) (s t : PacketEnds) (v : Collected)
-    → view mode front x y es ≡ v
-    → i < length es → s ≡ get_or (record { head = front; body = 0 } ∷ es) i s → t ≡ get_or es i t
+pub packet_at : (mode ahead : ℕ) (x y : List ℕ) (es : List PacketEnds) (i : ℕ) (s t : PacketEnds) (v : Collected)
+    → view mode ahead x y es ≡ v
+    → i < length es → s ≡ get_or (record { head = ahead; body = 0 } ∷ es) i s → t ≡ get_or es i t
     → slice_get v.packets i ≡ Some (slice_range x s.head t.head, slice_range y s.body t.body)
-packet_at mode front x y es i s t v is less es' et =
-    rw (← is) (subst (λ (u : PacketEnds). slice_get (parts x y front 0 es) i
+packet_at mode ahead x y es i s t v is less es' et =
+    rw (← is) (subst (λ (u : PacketEnds). slice_get (parts x y ahead 0 es) i
     ≡ Some (slice_range x u.head t.head, slice_range y u.body t.body)) (sym es')
-    (subst (λ (w : PacketEnds). slice_get (parts x y front 0 es) i
+    (subst (λ (w : PacketEnds). slice_get (parts x y ahead 0 es) i
     ≡ Some (
-      slice_range x (get_or (record { head = front; body = 0 } ∷ es) i s).head w.head,
+      slice_range x (get_or (record { head = ahead; body = 0 } ∷ es) i s).head w.head,
       slice_range y
-          (get_or (record { head = front; body = 0 } ∷ es) i s).body w.body,
+          (get_or (record { head = ahead; body = 0 } ∷ es) i s).body w.body,
     ))
     (sym et)
-    (parts_at x y front 0 es i s t less)))
+    (parts_at x y ahead 0 es i s t less)))
 
-pub lies_within : (front : ℕ) (x y : List ℕ) (es : List PacketEnds) (i : ℕ) (s t : PacketEnds)
-    → Rises front 0 es (length x) (length y)
-    → i < length es → s ≡ get_or (record { head = front; body = 0 } ∷ es) i s → t ≡ get_or es i t
+pub lies_within : (ahead : ℕ) (x y : List ℕ) (es : List PacketEnds) (i : ℕ) (s t : PacketEnds)
+    → Rises ahead 0 es (length x) (length y)
+    → i < length es → s ≡ get_or (record { head = ahead; body = 0 } ∷ es) i s → t ≡ get_or es i t
     → LieWithin s t (length x) (length y)
-lies_within front x y es i s t r less es' et =
+lies_within ahead x y es i s t r less es' et =
     subst (λ (u : PacketEnds). LieWithin u t (length x) (length y)) (sym es')
-    (subst (λ (w : PacketEnds). LieWithin (get_or (record { head = front; body = 0 } ∷ es) i s) w (length x) (length y))
+    (subst (λ (w : PacketEnds). LieWithin (get_or (record { head = ahead; body = 0 } ∷ es) i s) w (length x) (length y))
     (sym et)
-    (rises_at front 0 es (length x) (length y) i s t r less))
+    (rises_at ahead 0 es (length x) (length y) i s t r less))
 
 -- ---- other bodies
 
-pub view-rebodied : (mode front n : ℕ) (x y new : List ℕ) (es : List PacketEnds) (v : Collected)
-    → view mode front x y es ≡ v
-    → Rises front 0 es (length x) (length y) → n ≡ length y
-    → view mode front x (take n (new ++ drop (length new) y)) es ≡ with_bodies v new
-view-rebodied mode front n x y new es v is r en =
-    let bodies : body_of (view mode front x y es) ≡ y = bodies_of-parts x y front 0 es r in
-    let same : take n (new ++ drop (length new) y) ≡ overwritten (body_of (view mode front x y es)) new = rw
+pub view-rebodied : (mode ahead n : ℕ) (x y new : List ℕ) (es : List PacketEnds) (v : Collected)
+    → view mode ahead x y es ≡ v
+    → Rises ahead 0 es (length x) (length y) → n ≡ length y
+    → view mode ahead x (take n (new ++ drop (length new) y)) es ≡ with_bodies v new
+view-rebodied mode ahead n x y new es v is r en =
+    let bodies : body_of (view mode ahead x y es) ≡ y = bodies_of-parts x y ahead 0 es r in
+    let same : take n (new ++ drop (length new) y) ≡ overwritten (body_of (view mode ahead x y es)) new = rw
     (en, bodies) refl in
     rw (← is) (rw same (λ i. record {
       mode = mode;
-      front = take front x;
+      ahead = take ahead x;
       packets = parts-rebodied x y
-          (overwritten (body_of (view mode front x y es)) new) front 0 es r i;
+          (overwritten (body_of (view mode ahead x y es)) new) ahead 0 es r i;
     }))
 
 -- ---- no packet
 
-pub record IsEmpty (front : ℕ) (x y : List ℕ) (es : List PacketEnds) : Type 0 where
+pub record IsEmpty (ahead : ℕ) (x y : List ℕ) (es : List PacketEnds) : Type 0 where
   pub ends : es ≡ []
   pub heads : x ≡ []
   pub bodies : y ≡ []
 
-pub nothing_left : (front : ℕ) (x y : List ℕ) (es : List PacketEnds) → take front x ≡ [] → parts x y front 0 es ≡ []
-    → Rises front 0 es (length x) (length y) → IsEmpty front x y es
-nothing_left front x y [] none no_packets r =
+pub nothing_left : (ahead : ℕ) (x y : List ℕ) (es : List PacketEnds) → take ahead x ≡ [] → parts x y ahead 0 es ≡ []
+    → Rises ahead 0 es (length x) (length y) → IsEmpty ahead x y es
+nothing_left ahead x y [] none no_packets r =
     record {
       ends = refl;
-      heads = sym (take_all front x (omega (arith, r.0))) ∙ none;
+      heads = sym (take_all ahead x (omega (arith, r.0))) ∙ none;
       bodies = sym
           (take_all 0 y (omega (arith, r.1)));
     }
-nothing_left front x y (e ∷ es) none no_packets r = absurd cc
+nothing_left ahead x y (e ∷ es) none no_packets r = absurd cc
 
-pub emptied : (mode mode' front : ℕ) (x y : List ℕ) (es : List PacketEnds) → view mode front x y es ≡ empty_unit mode'
-    → Rises front 0 es (length x) (length y) → IsEmpty front x y es
-emptied mode mode' front x y es is r =
-    nothing_left front x y es (ap (λ (u : Collected). u.front) is) (ap (λ (u : Collected). u.packets) is) r
+pub emptied : (mode mode' ahead : ℕ) (x y : List ℕ) (es : List PacketEnds) → view mode ahead x y es ≡ empty_unit mode'
+    → Rises ahead 0 es (length x) (length y) → IsEmpty ahead x y es
+emptied mode mode' ahead x y es is r =
+    nothing_left ahead x y es (ap (λ (u : Collected). u.ahead) is) (ap (λ (u : Collected). u.packets) is) r
 
--- there was no packet, so the front alone lies in the heads
-pub laid-front : (mode front : ℕ) (x y bytes : List ℕ) (es : List PacketEnds) (xs ys xs' : ℕ)
-    → IsLaidOut mode front es x y xs ys → IsEmpty front x y es
+-- there was no packet, so the ahead alone lies in the heads
+pub laid-ahead : (mode ahead : ℕ) (x y bytes : List ℕ) (es : List PacketEnds) (xs ys xs' : ℕ)
+    → IsLaidOut mode ahead es x y xs ys → IsEmpty ahead x y es
     → length bytes ≡ 8 → xs ≤ xs' → IsLaidOut mode 8 es (x ++ bytes) y xs' ys
-laid-front mode front x y bytes es xs ys xs' p e long wider =
+laid-ahead mode ahead x y bytes es xs ys xs' p e long wider =
     rw (e.ends, e.heads, e.bodies) (record {
       mode_fits = p.mode_fits;
       packets_fit = omega arith;
@@ -152,11 +152,11 @@ laid-front mode front x y bytes es xs ys xs' p e long wider =
       room_for_bodies = p.room_for_bodies;
     })
 
-pub view-front : (mode front : ℕ) (x y bytes : List ℕ) (es : List PacketEnds) (old : Collected) → IsEmpty front x y es
+pub view-ahead : (mode ahead : ℕ) (x y bytes : List ℕ) (es : List PacketEnds) (old : Collected) → IsEmpty ahead x y es
     → length bytes ≡ 8
-    → view mode front x y es ≡ empty_unit old.mode → old.packets ≡ [] → view mode 8 (x ++ bytes) y es
-    ≡ record old { front = bytes }
-view-front mode front x y bytes es old e long is none =
+    → view mode ahead x y es ≡ empty_unit old.mode → old.packets ≡ [] → view mode 8 (x ++ bytes) y es
+    ≡ record old { ahead = bytes }
+view-ahead mode ahead x y bytes es old e long is none =
     let whole : take 8 bytes ≡ bytes = take_all 8 bytes (omega (arith, long)) in
     rw (e.ends, e.heads) (λ i. record
-    { mode = ap (λ (u : Collected). u.mode) is i; front = whole i; packets = sym none i })
+    { mode = ap (λ (u : Collected). u.mode) is i; ahead = whole i; packets = sym none i })

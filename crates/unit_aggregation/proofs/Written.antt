@@ -43,6 +43,6 @@ keeps unit bytes e =
     let is = overwritten_all (body_of unit) bytes e in
     record {
       body = rw is (bodies_of-rebodied unit.packets bytes e);
-      aad = ap (λ (t : List ℕ). unit.front ++ t) (heads_of-rebodied unit.packets _);
+      aad = ap (λ (t : List ℕ). unit.ahead ++ t) (heads_of-rebodied unit.packets _);
       lengths = rw is (lengths_of-rebodied unit.packets bytes e);
     }

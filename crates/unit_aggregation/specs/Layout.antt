@@ -13,13 +13,14 @@ abbrev pub Rises : ℕ → ℕ → List PacketEnds → ℕ → ℕ → Type 0
 Rises h b [] heads bodies = (h ≡ heads) × (b ≡ bodies)
 Rises h b (e ∷ es) heads bodies = (h ≤ e.head) × (b ≤ e.body) × Rises e.head e.body es heads bodies
 
--- the packets lie after the front, and there is room for the rest: 8 bytes of front, 20 of each head and 4,096 of each
+-- the packets lie after what comes ahead, and there is room for the rest: 8 bytes ahead, 20 of each head and 4,096 of
+-- each
 -- body
-pub record IsLaidOut (mode front : ℕ) (ends : List PacketEnds) (heads bodies : List ℕ) (heads_room bodies_room : ℕ)
+pub record IsLaidOut (mode ahead : ℕ) (ends : List PacketEnds) (heads bodies : List ℕ) (heads_room bodies_room : ℕ)
     : Type 0 where
   pub mode_fits : mode ≤ 8
   pub packets_fit : length ends ≤ mode
-  pub rising : Rises front 0 ends (length heads) (length bodies)
+  pub rising : Rises ahead 0 ends (length heads) (length bodies)
   pub heads_fit : length heads ≤ 8 + 20 * length ends
   pub bodies_fit : length bodies ≤ 4096 * length ends
   pub room_for_heads : 8 + 20 * mode ≤ heads_room

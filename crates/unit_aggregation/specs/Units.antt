@@ -6,11 +6,11 @@ use Rattle.std.specs.List.{flat_map}
 -- at most how many packets, the bytes before the first, and the packets
 pub record Collected : Type 0 where
   pub mode : ℕ
-  pub front : List ℕ
+  pub ahead : List ℕ
   pub packets : List (List ℕ × List ℕ)
 
 abbrev pub empty_unit : ℕ → Collected
-empty_unit mode = record { mode = mode; front = []; packets = [] }
+empty_unit mode = record { mode = mode; ahead = []; packets = [] }
 
 -- the heads of packets, joined
 abbrev pub heads_of : List (List ℕ × List ℕ) → List ℕ
@@ -20,9 +20,9 @@ heads_of packets = flat_map (λ p. p.0) packets
 abbrev pub bodies_of : List (List ℕ × List ℕ) → List ℕ
 bodies_of packets = flat_map (λ p. p.1) packets
 
--- what is authenticated in clear: the front, and the heads
+-- what is authenticated in clear: what comes ahead, and the heads
 abbrev pub aad_of : Collected → List ℕ
-aad_of unit = unit.front ++ heads_of unit.packets
+aad_of unit = unit.ahead ++ heads_of unit.packets
 
 abbrev pub body_of : Collected → List ℕ
 body_of unit = bodies_of unit.packets

@@ -7,4 +7,4 @@ mod laws;
 mod unit_buf;
 
 pub use laws::written_keeps_lengths;
-pub use unit_buf::{BODY_BYTES, FRONT_BYTES, HEAD_BYTES, MAX_PACKETS, UnitBuf, UnitFull};
+pub use unit_buf::{AHEAD_BYTES, BODY_BYTES, HEAD_BYTES, MAX_PACKETS, UnitBuf, UnitFull};

@@ -14,7 +14,7 @@ use std::marker::Model;
 pub const MAX_PACKETS: usize = 8;
 
 /// The bytes that may come before the first packet's head, once a unit (this profile).
-pub const FRONT_BYTES: usize = 8;
+pub const AHEAD_BYTES: usize = 8;
 
 /// The most bytes of a packet's head: 4 of its prefix and 16 of its TLP's header (PCI Express Base 6.0 section 2.2).
 pub const HEAD_BYTES: usize = 20;
@@ -27,11 +27,11 @@ pub const BODY_BYTES: usize = 4_096;
 pub struct UnitFull;
 
 /// The packets of one unit (PCI Express Base 6.0 section 6.33, in this profile). A packet is its head, which is sent
-/// in clear (prefix and header), and its body. Contracts see the mode, the front and the packets.
+/// in clear (prefix and header), and its body. Contracts see the mode, what comes ahead and the packets.
 #[derive(Drop)]
 pub struct UnitBuf {
     mode: usize,
-    front: usize,
+    ahead: usize,
     heads: Vec<u8>,
     bodies: Vec<u8>,
     ends: ArrayVec<PacketEnds, 8>,
@@ -47,11 +47,11 @@ impl Model for UnitBuf {
     ghost view = { λ u.
         record {
           mode = u.mode;
-          front = take u.front u.heads.items;
-          packets = parts u.heads.items u.bodies.items u.front 0 u.ends.items;
+          ahead = take u.ahead u.heads.items;
+          packets = parts u.heads.items u.bodies.items u.ahead 0 u.ends.items;
         } };
 
-    ghost invariant = { λ u. IsLaidOut u.mode u.front u.ends.items u.heads.items u.bodies.items
+    ghost invariant = { λ u. IsLaidOut u.mode u.ahead u.ends.items u.heads.items u.bodies.items
         (vec_capacity u.heads) (vec_capacity u.bodies) };
 }
 
@@ -65,14 +65,14 @@ fn append(out: &mut Vec<u8>, bytes: &[u8])
     let _ = out.extend_from_slice(bytes);
 }
 
-// The place at which packet `i` starts: the end of the one before it; of the first, the end of the front.
-fn start_of(front: usize, ends: &[PacketEnds], i: usize) -> PacketEnds
+// The place at which packet `i` starts: the end of the one before it; of the first, the end of what comes ahead.
+fn start_of(ahead: usize, ends: &[PacketEnds], i: usize) -> PacketEnds
     requires { i ≤ length ends.now }
-    ensures { result ≡ slice_index_or (record { head = front; body = 0 } ∷ ends.now) i result }
+    ensures { result ≡ slice_index_or (record { head = ahead; body = 0 } ∷ ends.now) i result }
 {
     if i == 0 {
         PacketEnds {
-            head: front,
+            head: ahead,
             body: 0,
         }
     } else {
@@ -116,11 +116,11 @@ impl UnitBuf {
         ensures { IfOk result (λ unit. unit ≡ empty_unit mode) }
     {
         let mode = mode as usize;
-        let heads = Vec::with_capacity(alloc, FRONT_BYTES + HEAD_BYTES * mode)?;
+        let heads = Vec::with_capacity(alloc, AHEAD_BYTES + HEAD_BYTES * mode)?;
         let bodies = Vec::with_capacity(alloc, BODY_BYTES * mode)?;
         Ok(UnitBuf {
             mode,
-            front: 0,
+            ahead: 0,
             heads,
             bodies,
             ends: ArrayVec::new(),
@@ -155,10 +155,10 @@ impl UnitBuf {
         self.ends.len()
     }
 
-    /// What is authenticated in clear: the front, if one was set, and the heads, joined.
+    /// What is authenticated in clear: what comes ahead, if it was set, and the heads, joined.
     pub fn aad(&self) -> &[u8]
         ensures value { result.now ≡ aad_of self.now }
-        ensures short { length result.now ≤ FRONT_BYTES + HEAD_BYTES * MAX_PACKETS }
+        ensures short { length result.now ≤ AHEAD_BYTES + HEAD_BYTES * MAX_PACKETS }
     {
         &self.heads
     }
@@ -176,7 +176,7 @@ impl UnitBuf {
         requires { i < length self.now.packets }
         ensures { slice_get self.now.packets i ≡ Some (result.0.now, result.1.now) }
     {
-        let start = start_of(self.front, self.ends.as_slice(), i);
+        let start = start_of(self.ahead, self.ends.as_slice(), i);
         let ends = end_of(self.ends.as_slice(), i);
         packet_between(&self.heads, &self.bodies, start, ends)
     }
@@ -190,11 +190,11 @@ impl UnitBuf {
         self.bodies.as_mut_slice()
     }
 
-    /// Drops the packets and the front.
+    /// Drops the packets and what comes ahead.
     pub fn clear(&mut self)
         ensures { self.new ≡ empty_unit self.old.mode }
     {
-        self.front = 0;
+        self.ahead = 0;
         self.heads.clear();
         self.bodies.clear();
         self.ends.clear();
@@ -202,12 +202,12 @@ impl UnitBuf {
 
     /// Sets the 8 bytes that are authenticated before the heads, in place of those set before. The unit has no packet
     /// yet.
-    pub fn front(&mut self, bytes: &[u8; 8])
+    pub fn ahead(&mut self, bytes: &[u8; 8])
         requires { self.old.packets ≡ [] }
-        ensures { self.new ≡ record self.old { front = bytes.now } }
+        ensures { self.new ≡ record self.old { ahead = bytes.now } }
     {
         self.clear();
         append(&mut self.heads, bytes);
-        self.front = FRONT_BYTES;
+        self.ahead = AHEAD_BYTES;
     }
 }

@@ -5,7 +5,6 @@ ghost use Rattle.std.specs.Prelude.{slice_index, vec_len, vec_capacity, if◌the
 ghost use Rattle.tlp_layout.specs.Head.{head_bytes, first_byte, field_bytes as field_bytes_of};
 ghost use Rattle.tlp_layout.specs.Head.{lead_bytes as lead_bytes_of};
 ghost use Rattle.trusted_memory.specs.Spans.{span_byte_count, is_enabled};
-ghost use Rattle.trusted_memory.specs.Regions.{in_one_region};
 ghost use Rattle.trusted_memory.specs.Writes.{Write, byte_after};
 ghost use Rattle.trusted_memory.specs.Memory.{byte_at, IsLeftBy};
 ghost use Rattle.waiting_reads.specs.Requests.{FitsRead};
@@ -150,18 +149,16 @@ fn clear_others(span: Span, bytes: &mut [u8])
 }
 
 fn read_into(memory: &Trusted, span: Span, bytes: &mut [u8])
-    requires size { length bytes.old ≡ span_byte_count span }
-    requires inside { in_one_region memory.now.contents.regions span.address (span_byte_count span) ≡ true }
+    requires { length bytes.old ≡ span_byte_count span }
     ensures { bytes.new ≡ read_bytes (byte_at memory.now.contents) span }
 {
-    let _ = memory.peek(span.address, bytes);
+    memory.copy(span.address, bytes);
     clear_others(span, bytes);
 }
 
 fn append_data(memory: &Trusted, span: Span, out: &mut Vec<u8>)
     requires short { span_byte_count span ≤ 4096 }
     requires room { vec_len out.old + 4096 ≤ vec_capacity out.old }
-    requires inside { in_one_region memory.now.contents.regions span.address (span_byte_count span) ≡ true }
     ensures items { out.new.items ≡ out.old.items ++ read_bytes (byte_at memory.now.contents) span }
     ensures capacity { vec_capacity out.old ≤ vec_capacity out.new }
 {
@@ -172,14 +169,12 @@ fn append_data(memory: &Trusted, span: Span, out: &mut Vec<u8>)
 }
 
 /// Appends the completion that answers a read of this memory as it stands, with as many bytes of data as the read names
-/// (PCI Express Base 6.0 section 2.2.9). Its completer ID is 0, and the bytes that the read does not enable are 0 (this
-/// profile). That there is room for 4,108 bytes, that the read's fields are in range and that one region has all its
-/// bytes are the caller's conditions. It takes no memory.
+/// (PCI Express Base 6.0 section 2.2.9). Its completer ID is 0, and a byte that the read does not enable, or that no
+/// region has, is 0 (this profile). That there is room for 4,108 bytes and that the read's fields are in range are the
+/// caller's conditions. It takes no memory.
 pub fn complete(memory: &Trusted, read: &MemReadView, out: &mut Vec<u8>)
     requires fits { FitsRead read.now }
     requires room { vec_len out.old + COMPLETION_BYTES ≤ vec_capacity out.old }
-    requires inside { in_one_region memory.now.contents.regions read.now.span.address
-        (span_byte_count read.now.span) ≡ true }
     ensures bytes { out.new.items ≡ out.old.items ++ completion_bytes (byte_at memory.now.contents) read.now }
     // That is, of each enabled byte, what the last applied write that enables it left, else 0.
     ensures last { (writes : List Write) → IsLeftBy memory.now.contents writes

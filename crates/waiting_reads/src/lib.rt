@@ -11,5 +11,5 @@ mod read;
 
 pub use completion::{COMPLETION_BYTES, complete};
 pub use laws::{answer_cases, completions_are_read, completions_show_enabled_bytes};
-pub use queue::{MOST_WAITING, Offered, ReadBlockCause, Reads, WaitingRead};
+pub use queue::{MOST_WAITING, Reads, WaitingRead};
 pub use read::MemReadView;

@@ -1,14 +1,12 @@
 //! The reads of a link that wait.
 
-ghost use Rattle.std.specs.Prelude.{◌≡◌, ◌≤◌, [], true, IfOk, IfSome, length, drop};
+ghost use Rattle.std.specs.Prelude.{◌≡◌, ◌≤◌, [], IfOk, IfSome, length, drop};
 ghost use Rattle.std.specs.List.{slice_get};
-ghost use Rattle.trusted_memory.specs.Spans.{span_byte_count};
-ghost use Rattle.trusted_memory.specs.Regions.{in_one_region};
 ghost use Rattle.waiting_reads.specs.Requests.{FitsRead};
 
 use crate::MemReadView;
 use ide_types::Memory;
-use link_verdicts::BlockCause;
+use link_verdicts::{BlockCause, Effect};
 use std::alloc::Global;
 use std::collections::VecDeque;
 use std::marker::Model;
@@ -24,24 +22,6 @@ pub struct WaitingRead {
     pub read: MemReadView,
     /// The draw of the key of the unit that brought it.
     pub draw: u32,
-}
-
-/// Why a trusted read does not wait for an answer, the first that holds (this profile).
-#[derive(Clone, Copy, Debug, PartialEq, Eq)]
-pub enum ReadBlockCause {
-    /// What blocks a trusted write to the same bytes.
-    Request(BlockCause),
-    /// As many reads wait as may.
-    Full,
-}
-
-/// What becomes of a trusted read that a host's port accepted (this profile).
-#[derive(Clone, Copy, Debug, PartialEq, Eq)]
-pub enum Offered {
-    /// It waits for its answer.
-    Queued,
-    /// It is blocked, and gets no answer.
-    Blocked(ReadBlockCause),
 }
 
 /// The trusted reads of a link that wait for their answer, at most 64 (this profile). Contracts see the list of them,
@@ -65,7 +45,7 @@ impl Model for Reads {
 }
 
 impl Reads {
-    ghost use Rattle.waiting_reads.specs.Waiting.{full_cause, read_block_cause, offered_by, waiting_after};
+    ghost use Rattle.waiting_reads.specs.Waiting.{full_cause, read_cause, read_effect, waiting_after};
 
     /// No reads, with room for as many as may wait.
     pub fn make(alloc: Global) -> Result<Reads, Memory>
@@ -84,39 +64,30 @@ impl Reads {
     }
 
     // One more, unless as many wait as may.
-    fn push(&mut self, read: WaitingRead) -> Offered
+    fn push(&mut self, read: WaitingRead) -> Effect
         requires { FitsRead read.read }
-        ensures answer { result ≡ offered_by (full_cause (length self.old)) }
+        ensures effect { result ≡ read_effect (full_cause (length self.old)) }
         ensures reads { self.new ≡ waiting_after result read self.old }
     {
         if self.waiting.len() >= MOST_WAITING {
-            return Offered::Blocked(ReadBlockCause::Full);
+            return Effect::Blocked(BlockCause::Full);
         }
         let _ = self.waiting.push_back(read);
-        Offered::Queued
+        Effect::Queued
     }
 
     /// Offers a memory read with T that a host's port accepted: it waits as the last, or is blocked by the first cause
     /// that holds. The causes are those of a trusted write to the same bytes, and then that 64 reads wait (this
     /// profile). `draw` is that of the key of the read's unit. A blocked read changes nothing. That the fields of the
     /// read are in range is the caller's condition. It takes no memory.
-    pub fn offer(
-        &mut self,
-        memory: &Trusted,
-        read: &MemReadView,
-        draw: u32,
-        grant: Grant,
-    ) -> Offered
+    pub fn offer(&mut self, memory: &Trusted, read: &MemReadView, draw: u32, grant: Grant) -> Effect
         requires { FitsRead read.now }
-        ensures answer { result ≡ offered_by
-            (read_block_cause memory.now.contents.regions read.now.span grant (length self.old)) }
+        ensures effect { result ≡ read_effect
+            (read_cause memory.now.contents.regions read.now.span grant (length self.old)) }
         ensures reads { self.new ≡ waiting_after result (record { read = read.now; draw = draw }) self.old }
-        // So one region has all bytes of a read that waits.
-        ensures inside { result ≡ Offered.Queued → in_one_region memory.now.contents.regions read.now.span.address
-            (span_byte_count read.now.span) ≡ true }
     {
         match memory.block_cause(read.span, true, grant) {
-            Some(cause) => Offered::Blocked(ReadBlockCause::Request(cause)),
+            Some(cause) => Effect::Blocked(cause),
             None => self.push(WaitingRead { read: *read, draw }),
         }
     }

@@ -1,3 +1,4 @@
 pub mod Streams
+pub mod Accesses
 pub mod Units
 pub mod Whole

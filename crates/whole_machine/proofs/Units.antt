@@ -16,7 +16,7 @@ use Rattle.link_history.specs.Plan.{SubStream, has_stream}
 use Rattle.link_history.specs.History.{sealed_packets, brought, altered, shortened, arrived_packet, received_in, held}
 use Rattle.link_history.specs.History.{pending, failed, on_draw}
 unfoldable use Rattle.link_history.specs.History.{arrived}
-use Rattle.link_history.specs.Due.{Ending, effects_of, due, settled, before_tag_of, under_keys, receiving, ended}
+use Rattle.link_history.specs.Due.{Ending, effects_of, due, ending_due, before_tag_of, under_keys, receiving, ended}
 unfoldable use Rattle.link_history.specs.Due.{before_tag}
 use Rattle.link_history.specs.Memory.{unit_ended}
 use Rattle.link_history.proofs.Causes.{Came, Passed, AcceptedBy, accepted_by, ending, packet_that_came, received_there}
@@ -64,7 +64,7 @@ due_accepted plan h e port unit effects by =
     (on_draw h port (receiving port p) (not p.prefix.k))) ≡ Ok (ending p unit) =
     is_known (has_stream plan port p.prefix.stream) _ _ _ by.passed.known before in (
       effects_of plan h port unit (ended plan h port (ending p unit)),
-      ap (settled plan h port) keyed ∙ rw
+      ap (ending_due plan h port) keyed ∙ rw
           (by.verified, by.counts) refl,
     )
 

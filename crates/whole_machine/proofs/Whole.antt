@@ -1,6 +1,7 @@
 -- The whole machine stands for the history: what each part reads of the other is what the history says, so that each
 -- step is that of its parts.
-use Rattle.std.proofs.Common.{◌≡◌, ℕ, ◌∷◌, Bool, refl, sym, ap, ◌∙◌, subst, List}
+use Rattle.std.proofs.Common.{◌≡◌, ℕ, ◌∷◌, [], Bool, true, false, Err, refl, sym, ap, ◌∙◌, subst, List, length}
+use Rattle.std.proofs.Common.{if◌then◌else◌}
 use Rattle.ide_types.specs.declared.port.PortName.{PortName}
 use Rattle.ide_types.specs.declared.port.Side.{Side}
 use Rattle.ide_types.specs.declared.port.Side.TheVariants.{Host, Device}
@@ -19,7 +20,21 @@ unfoldable use Rattle.interface_states.specs.Due.{interface_verdict_due as inter
 use Rattle.interface_machine.specs.Machine.{Faces, faces_after, interface_answer, grant_of}
 use Rattle.interface_machine.specs.Stands.{FacesStandFor}
 use Rattle.interface_machine.proofs.Faces.{faces_stand}
-use Rattle.link_history.specs.Memory.{effects_by, admitted_in, shown_if, memory_due}
+use Rattle.link_history.specs.Cause.{CauseLaw}
+use Rattle.link_history.specs.Plan.{has_link}
+use Rattle.link_history.specs.History.{sent_bytes}
+use Rattle.link_history.specs.Memory.{policy_at, effects_by, admitted_in, shown_if, memory_due, queued, waiting}
+unfoldable use Rattle.link_history.specs.Sent.{taken, queued_in}
+unfoldable use Rattle.link_history.specs.Guarded.{happened}
+use Rattle.link_history.specs.Guarded.{mmio_by, happens_by}
+use Rattle.guarded_memory.specs.Happenings.{newest_happened}
+unfoldable use Rattle.interface_states.specs.Floors.{device_floor}
+use Rattle.interface_states.specs.Sites.{sites, site_with}
+use Rattle.waiting_reads.specs.declared.queue.WaitingRead.{WaitingRead}
+unfoldable use Rattle.waiting_reads.specs.Completions.{completion_bytes}
+use Rattle.link_events.specs.declared.event.AccessEvent.TheVariants as ae
+use Rattle.link_ports.specs.Replies.{reply_of, reply_first, reply_to}
+use Rattle.read_order.proofs.Oldest.{drop_first, bytes_are}
 unfoldable use Rattle.link_history.specs.Memory.{writes}
 use Rattle.trusted_memory.specs.Writes.{Write, newest_first}
 unfoldable use Rattle.trusted_memory.specs.Writes.{byte_after}
@@ -32,10 +47,12 @@ use Rattle.link_ports.specs.Stands.{beside_at, PortsStandFor}
 use Rattle.port_operations.proofs.AllSteps.{steps}
 use Rattle.port_operations.proofs.Resets.{begins as first}
 use Rattle.whole_machine.specs.Machine.{Whole, t_by, memory_shown, written_after, beside_of, whole_streams, draw_after}
-use Rattle.whole_machine.specs.Machine.{whole_after}
-use Rattle.whole_machine.specs.Stands.{StandsFor, WholeBegins, WholeSteps}
+use Rattle.whole_machine.specs.Machine.{policy_of, completed, reply_in, ended_unit, whole_faces_after, whole_after}
+use Rattle.whole_machine.specs.Accesses.{standings_on, waiting_reads_after, accesses_after}
+use Rattle.whole_machine.specs.Stands.{AccessesStandFor, StandsFor, WholeBegins, WholeSteps}
 use Rattle.whole_machine.proofs.Units.{unit_is}
 use Rattle.whole_machine.proofs.Streams.{secure_all, streams_are}
+use Rattle.whole_machine.proofs.Accesses.{AreEnded, waiting_is, floors_are, standings_are, happened_is}
 
 -- ---- what the ports read of the interfaces
 
@@ -64,11 +81,50 @@ answer_says plan w h stands e =
 grants_are : (plan : Plan) (fs : Faces) (h : History) → FacesStandFor plan fs h → grant_of plan fs ≡ grant_at plan h
 grants_are plan fs h stands = λ i link requester. faces_stand.grant plan fs h link requester stands i
 
+policy_is : (plan : Plan) (w : Whole) (h : History) → StandsFor plan w h → policy_of plan w ≡ policy_at plan h
+policy_is plan w h stands = λ i. record {
+  grants = grants_are plan w.faces h stands.faces i;
+  waiting = λ link. length (stands.accesses.waiting link i);
+  standings = λ link. standings_are plan h w.faces.list w.accesses.floors stands.faces.faces stands.accesses.floors
+      link i;
+}
+
+-- the completion of the first of the reads that wait is what an answer seals
+completed_is : (plan : Plan) (w : Whole) (h : History) → StandsFor plan w h → (link : ℕ) (rs : List WaitingRead)
+    → waiting plan h link ≡ rs
+    → reply_first plan (grant_of plan w.faces) (completed w) link rs
+    ≡ reply_first plan (grant_at plan h) (λ r. sent_bytes plan h (event.Access (ae.Answer link))) link rs
+completed_is plan w h stands link [] waits = refl
+completed_is plan w h stands link (r ∷ rs) waits =
+    let oldest = drop_first (taken h link) (queued plan h link) r rs waits in
+    let bytes = ap (λ (ws : List Write). completion_bytes (byte_after ws) r.read) stands.written
+    ∙ sym (bytes_are plan h link r stands.links.ports_stand.cause oldest) in
+    λ i. reply_of plan link r.draw (bytes i)
+    (grants_are plan w.faces h stands.faces i link r.read.requester) (site_with plan link r.read.requester)
+
+reply_is : (plan : Plan) (w : Whole) (h : History) → StandsFor plan w h → (link : ℕ)
+    → reply_in plan w link
+    ≡ reply_to plan (grant_at plan h) (λ r. sent_bytes plan h (event.Access (ae.Answer link))) link
+    (waiting plan h link)
+reply_is plan w h stands link =
+    ap (reply_to plan (grant_of plan w.faces) (completed w) link) (stands.accesses.waiting link)
+    ∙ by (has_link plan link)
+  where
+    by : (b : Bool)
+        → (if b then reply_first plan (grant_of plan w.faces) (completed w) link (waiting plan h link)
+        else Err v.Nothing)
+        ≡ (if b then reply_first plan (grant_at plan h) (λ r. sent_bytes plan h (event.Access (ae.Answer link))) link
+        (waiting plan h link) else Err v.Nothing)
+    by true = completed_is plan w h stands link (waiting plan h link) refl
+    by false = refl
+
 beside_is : (plan : Plan) (w : Whole) (h : History) → StandsFor plan w h → beside_of plan w ≡ beside_at plan h
 beside_is plan w h stands = λ i. record {
   t = λ port head stream trusted. t_says plan w.faces h stands.faces port port.side head stream trusted i;
-  effects = λ port unit ps. effects_by plan (grants_are plan w.faces h stands.faces i) port unit ps;
+  effects = effects_by plan (policy_is plan w h stands i);
   answer = λ e. answer_says plan w h stands e i;
+  reply = λ link. reply_is plan w h stands link i;
+  shows = mmio_by plan (λ link. stands.accesses.happened link i);
 }
 
 -- ---- draws
@@ -90,6 +146,33 @@ written_is plan w h e (v.Accepted port unit effects) stands is =
     (unit_is plan w.links h e port unit effects stands.links.ports_stand is i)) (stands.written i))
 written_is plan w h e x stands is = stands.written
 
+-- ---- reads that wait, and the memory of devices' interfaces
+
+units_are : (plan : Plan) (w : Whole) (h : History) (e : Event) (x : Verdict) → StandsFor plan w h → x ≡ due plan h e
+    → AreEnded plan h (ended_unit plan w e) e x
+units_are plan w h e (v.Accepted port unit effects) stands is =
+    unit_is plan w.links h e port unit effects stands.links.ports_stand is
+units_are plan w h e x stands is = tt
+
+accesses_are : (plan : Plan) (w : Whole) (h : History) (e : Event) (x : Verdict) (faces : Faces) → StandsFor plan w h
+    → x ≡ due plan h e → FacesStandFor plan faces ((e, x) ∷ h)
+    → AccessesStandFor plan (accesses_after plan w.links w.faces faces (ended_unit plan w e) e x w.accesses)
+    ((e, x) ∷ h)
+accesses_are plan w h e x faces stands is next =
+    let law : CauseLaw plan ((e, x) ∷ h) = (is, stands.links.ports_stand.cause) in
+    let units = units_are plan w h e x stands is in
+    record {
+      waiting = λ link. ap (waiting_reads_after (ended_unit plan w e) e x link) (stands.accesses.waiting link)
+          ∙ waiting_is plan h e x (ended_unit plan w e) law units link;
+      floors = floors_are plan w.links h e x w.faces.list faces.list w.accesses.floors stands.links.ports_stand
+          stands.faces.faces next.faces stands.accesses.floors;
+      happened = λ link. ap (newest_happened
+          (happens_by plan (λ l. standings_on l (sites plan) w.faces.list w.accesses.floors) (ended_unit plan w e) e x
+          link)) (stands.accesses.happened link)
+          ∙ happened_is plan h e x (ended_unit plan w e) w.faces.list w.accesses.floors stands.faces.faces
+          stands.accesses.floors units link;
+    }
+
 -- ---- one step
 
 after_stands : (plan : Plan) (w : Whole) (h : History) (e : Event) (x : Verdict) (links : LinkState)
@@ -97,14 +180,16 @@ after_stands : (plan : Plan) (w : Whole) (h : History) (e : Event) (x : Verdict)
     → StandsFor plan (whole_after plan w e x links) ((e, x) ∷ h)
 after_stands plan w h e x links stands is next =
     let streams = streams_are plan w h stands.links stands.draw in
+    let faces : FacesStandFor plan (whole_faces_after plan w e x links) ((e, x) ∷ h) =
+    subst (λ (fs : Faces). FacesStandFor plan fs ((e, x) ∷ h))
+    (λ i. faces_after plan (sym streams i) (sym (secure_all plan links ((e, x) ∷ h) next.ports_stand) i) e x w.faces)
+    (faces_stand.step plan w.faces h e x stands.faces) in
     record {
       links = next;
-      faces = subst (λ (fs : Faces). FacesStandFor plan fs ((e, x) ∷ h))
-          (λ i. faces_after plan (sym streams i) (sym (secure_all plan links ((e, x) ∷ h) next.ports_stand) i) e x
-          w.faces)
-          (faces_stand.step plan w.faces h e x stands.faces);
+      faces = faces;
       draw = (λ i. draw_after (streams i).op (stands.links.draws_is i) e x (stands.draw i)) ∙ draw_is h e x;
       written = written_is plan w h e x stands is;
+      accesses = accesses_are plan w h e x (whole_faces_after plan w e x links) stands is faces;
     }
 
 at_step : (plan : Plan) (w : Whole) (h : History) (e : Event) (b : Beside) → b ≡ beside_at plan h → StandsFor plan w h
@@ -126,5 +211,11 @@ pub whole_steps : WholeSteps
 whole_steps plan w h e stands = at_step plan w h e (beside_of plan w) (beside_is plan w h stands) stands
 
 pub whole_begins : WholeBegins
-unfolding stream_draw writes
-whole_begins plan = record { links = first plan; faces = faces_stand.first plan; draw = refl; written = refl }
+unfolding stream_draw writes taken queued_in device_floor happened
+whole_begins plan = record {
+  links = first plan;
+  faces = faces_stand.first plan;
+  draw = refl;
+  written = refl;
+  accesses = record { waiting = λ link. refl; floors = refl; happened = λ link. refl };
+}

@@ -1,5 +1,5 @@
 -- All that is kept of ports and interfaces, and one step of it.
-use Rattle.std.specs.Prelude.{ℕ, ◌==◌, ◌&&◌, Bool, if◌then◌else◌, Option, Some, None, Result, Ok, [], List}
+use Rattle.std.specs.Prelude.{ℕ, ◌==◌, ◌&&◌, Bool, if◌then◌else◌, Option, Some, None, Result, Ok, [], List, length}
 use Rattle.std.specs.Option.{option_and_then}
 use Rattle.ide_types.specs.declared.port.PortName.{PortName}
 use Rattle.ide_types.specs.declared.port.Side.{Side}
@@ -17,7 +17,8 @@ use Rattle.key_laws.specs.History.{begins_keyed}
 use Rattle.interface_states.specs.Devices.{is_secure}
 use Rattle.interface_states.specs.Cause.{owner_of}
 use Rattle.interface_machine.specs.Machine.{Faces, new_faces, Streams, faces_after, interface_answer, t_of, grant_of}
-use Rattle.link_history.specs.Memory.{effects_by, admitted_in, shown_if}
+use Rattle.link_history.specs.Memory.{Policy, effects_by, admitted_in, shown_if}
+use Rattle.link_history.specs.Guarded.{mmio_by}
 use Rattle.link_history.specs.History.{Arrival}
 use Rattle.link_history.specs.Plan.{has_port, mode_of, is_closed}
 use Rattle.trusted_memory.specs.Writes.{Write, newest_first}
@@ -30,19 +31,31 @@ use Rattle.link_events.specs.declared.event.InterfaceEvent.TheVariants as ie
 use Rattle.link_ports.specs.Stream.{StreamState, Taken, Accepted, taken_by}
 use Rattle.link_ports.specs.Machine.{Beside, LinkState, find, find_op, status_at, step_of, first_state, passed}
 use Rattle.link_ports.specs.Machine.{altered_to, cut_short, packet_numbered}
+use Rattle.link_ports.specs.Replies.{Reply, reply_to}
+use Rattle.interface_states.specs.Sites.{sites}
+use Rattle.waiting_reads.specs.declared.queue.WaitingRead.{WaitingRead}
+unfoldable use Rattle.waiting_reads.specs.Completions.{completion_bytes}
+use Rattle.whole_machine.specs.Accesses.{Accesses, new_accesses, standings_on, accesses_after}
 
 -- ---- what is kept
 
--- the ports with the manager's streams, the interfaces, the draw of each stream, and the writes that were admitted, the
--- newest first
+-- the ports with the manager's streams, the interfaces, the draw of each stream, the writes that were admitted, the
+-- newest first, and what stands at each link for reads and for the memory of interfaces
 pub record Whole : Type 0 where
   pub links : LinkState
   pub faces : Faces
   pub draw : ℕ → ℕ → ℕ
   pub written : List Write
+  pub accesses : Accesses
 
 abbrev pub new_whole : Plan → Whole
-new_whole plan = record { links = first_state plan; faces = new_faces plan; draw = λ link stream. 0; written = [] }
+new_whole plan = record {
+  links = first_state plan;
+  faces = new_faces plan;
+  draw = λ link stream. 0;
+  written = [];
+  accesses = new_accesses plan;
+}
 
 -- ---- what each part reads of the other
 
@@ -103,11 +116,28 @@ unit_in plan st (Some a) = unit_cut plan st a.port (cut_of a.bytes)
 
 -- ---- beside the ports
 
+-- what the effects of packets depend on
+abbrev pub policy_of : Plan → Whole → Policy
+policy_of plan w = record {
+  grants = grant_of plan w.faces;
+  waiting = λ link. length (w.accesses.waiting link);
+  standings = λ link. standings_on link (sites plan) w.faces.list w.accesses.floors;
+}
+
+-- the completion of a read, from memory as it is now
+abbrev pub completed : Whole → WaitingRead → List ℕ
+completed w r = completion_bytes (byte_after w.written) r.read
+
+abbrev pub reply_in : Plan → Whole → ℕ → Result Reply Verdict
+reply_in plan w link = reply_to plan (grant_of plan w.faces) (completed w) link (w.accesses.waiting link)
+
 abbrev pub beside_of : Plan → Whole → Beside
 beside_of plan w = record {
   t = λ port head stream trusted. t_by plan w.faces port port.side head stream trusted;
-  effects = effects_by plan (grant_of plan w.faces);
+  effects = effects_by plan (policy_of plan w);
   answer = λ e. interface_answer plan (whole_streams plan w) w.faces e (memory_shown plan w.written e);
+  reply = reply_in plan w;
+  shows = mmio_by plan w.accesses.happened;
 }
 
 -- ---- one step
@@ -119,19 +149,29 @@ draw_after ops drawn (event.Refresh l s loss) (v.Refreshed a b j) draw =
     λ link stream. if (l == link) && (s == stream) then j else draw link stream
 draw_after ops drawn e w draw = draw
 
+-- the packets of the unit that an event ends
+abbrev pub ended_unit : Plan → Whole → Event → List Packet
+ended_unit plan w e = unit_in plan w.links (arrival_of plan w.links e)
+
 abbrev pub written_after : Plan → Whole → Event → Verdict → List Write
 written_after plan w e (v.Accepted port unit effects) =
-    newest_first (admitted_in plan (grant_of plan w.faces) port unit (unit_in plan w.links (arrival_of plan w.links e)))
-    w.written
+    newest_first (admitted_in plan (grant_of plan w.faces) port unit (ended_unit plan w e)) w.written
 written_after plan w e verdict = w.written
 
+abbrev pub whole_faces_after : Plan → Whole → Event → Verdict → LinkState → Faces
+whole_faces_after plan w e verdict links =
+    faces_after plan (whole_streams plan w) (secure_in plan links) e verdict w.faces
+
 abbrev pub whole_after : Plan → Whole → Event → Verdict → LinkState → Whole
-whole_after plan w e verdict links = record {
-  links = links;
-  faces = faces_after plan (whole_streams plan w) (secure_in plan links) e verdict w.faces;
-  draw = draw_after (whole_streams plan w).op w.links.draws e verdict w.draw;
-  written = written_after plan w e verdict;
-}
+whole_after plan w e verdict links =
+    let faces = whole_faces_after plan w e verdict links in
+    record {
+      links = links;
+      faces = faces;
+      draw = draw_after (whole_streams plan w).op w.links.draws e verdict w.draw;
+      written = written_after plan w e verdict;
+      accesses = accesses_after plan w.links w.faces faces (ended_unit plan w e) e verdict w.accesses;
+    }
 
 -- the verdict of an event, and the state after it
 abbrev pub whole_step : Plan → Whole → Event → Verdict × Whole

@@ -10,7 +10,7 @@ use Rattle.key_laws.specs.History.{History}
 use Rattle.link_verdicts.specs.declared.verdict.Verdict.{Verdict}
 use Rattle.link_verdicts.specs.declared.verdict.Verdict.TheVariants as v
 use Rattle.link_history.specs.History.{Arrival, meets_counts, received_in}
-use Rattle.link_history.specs.Due.{Ending, before_tag, is_verified, ended, settled, arrival_due, effects_of}
+use Rattle.link_history.specs.Due.{Ending, before_tag, is_verified, ended, ending_due, arrival_due, effects_of}
 use Rattle.worked_cases.specs.Cases.{host}
 
 -- a packet at the host's port, and the unit that it ends there
@@ -35,9 +35,9 @@ pub ends : (plan : Plan) (h : History) (o : Option Arrival) (p : Packet) (sub : 
     → arrival_due plan h o ≡ ends_as plan h host (ending p sub draw unit) verified
 ends plan h o p sub draw unit verified brings passes is =
     ap (arrival_due plan h) brings
-    ∙ (ap (settled plan h host) passes ∙ ap (ends_as plan h host (ending p sub draw unit)) is)
+    ∙ (ap (ending_due plan h host) passes ∙ ap (ends_as plan h host (ending p sub draw unit)) is)
 
 -- it has its verdict without a look at the tag
 pub stops : (plan : Plan) (h : History) (o : Option Arrival) (p : Packet) (w : Verdict) → o ≡ comes p
     → before_tag plan h (record { port = host; bytes = packet_bytes p }) ≡ Err w → arrival_due plan h o ≡ w
-stops plan h o p w brings before = ap (arrival_due plan h) brings ∙ ap (settled plan h host) before
+stops plan h o p w brings before = ap (arrival_due plan h) brings ∙ ap (ending_due plan h host) before

@@ -13,8 +13,9 @@ use Rattle.interface_states.specs.Sites.{sites}
 use Rattle.link_history.specs.Plan.{stream_plan, key_of}
 use Rattle.link_history.specs.Units.{units, open_unit}
 use Rattle.link_history.specs.History.{packet_of, sent_in, sealed_packets, posted_in, keys_at, has_live_out}
-use Rattle.link_history.specs.History.{has_live_in, front_of, total_in, arrived, meets_counts, got_since}
+use Rattle.link_history.specs.History.{has_live_in, ahead_of_unit, total_in, arrived, meets_counts, got_since}
 use Rattle.link_history.specs.History.{held as held_in, units_got, units_since}
+use Rattle.link_history.specs.Sent.{bytes_by}
 use Rattle.link_history.specs.Due.{due, before_tag, is_verified}
 use Rattle.gcm_seal.specs.Gcm.{verifies}
 use Rattle.ide_types.specs.declared.sub.SubKind.TheVariants.{Pr}
@@ -31,8 +32,10 @@ use Rattle.worked_cases.specs.Cases.{reply_lost, tail_missing, older_goes, recei
 late_6 : due (plan 1 false) (sealed 3 1 1 ∷ refreshed ∷ sealed 2 0 2 ∷ sealed 1 0 1 ∷ established ∷ [])
     (accepted_unit 1 0 1).0 ≡ (accepted_unit 1 0 1).1
 unfolding due sites key_due manager moments keys is_open failed_there base read_of reading walk_length walked_from
-    outgoing_of choice_of keys_at has_live_out has_live_in stream_plan sent_in sealed_packets packet_of units open_unit
-    posted_in front_of total_in arrived read_head_of cut_of key_of before_tag is_verified meets_counts got_since held_in
+    outgoing_of choice_of keys_at has_live_out has_live_in stream_plan sent_in sealed_packets bytes_by packet_of units
+    open_unit
+    posted_in ahead_of_unit total_in arrived read_head_of cut_of key_of before_tag is_verified meets_counts got_since
+    held_in
     units_got units_since verifies
 late_6 =
     ends (plan 1 false) (sealed 3 1 1 ∷ refreshed ∷ sealed 2 0 2 ∷ sealed 1 0 1 ∷ established ∷ []) _ write_1 Pr 0 1
@@ -43,8 +46,10 @@ late_7 : due (plan 1 false)
     (accepted_unit 1 0 1 ∷ sealed 3 1 1 ∷ refreshed ∷ sealed 2 0 2 ∷ sealed 1 0 1 ∷ established ∷ [])
     (accepted_unit 3 1 1).0 ≡ (accepted_unit 3 1 1).1
 unfolding due sites key_due manager moments keys is_open failed_there base read_of reading walk_length walked_from
-    outgoing_of choice_of keys_at has_live_out has_live_in stream_plan sent_in sealed_packets packet_of units open_unit
-    posted_in front_of total_in arrived read_head_of cut_of key_of before_tag is_verified meets_counts got_since held_in
+    outgoing_of choice_of keys_at has_live_out has_live_in stream_plan sent_in sealed_packets bytes_by packet_of units
+    open_unit
+    posted_in ahead_of_unit total_in arrived read_head_of cut_of key_of before_tag is_verified meets_counts got_since
+    held_in
     units_got units_since verifies
 late_7 =
     ends (plan 1 false) (accepted_unit 1 0 1 ∷ sealed 3 1 1 ∷ refreshed ∷ sealed 2 0 2 ∷ sealed 1 0 1 ∷ established
@@ -57,8 +62,10 @@ late_8 : due (plan 1 false)
     ∷ [])
     (fails_key (Pass 2)).0 ≡ (fails_key (Pass 2)).1
 unfolding due sites key_due manager moments keys is_open failed_there base read_of reading walk_length walked_from
-    outgoing_of choice_of keys_at has_live_out has_live_in stream_plan sent_in sealed_packets packet_of units open_unit
-    posted_in front_of total_in arrived read_head_of cut_of key_of before_tag is_verified meets_counts got_since held_in
+    outgoing_of choice_of keys_at has_live_out has_live_in stream_plan sent_in sealed_packets bytes_by packet_of units
+    open_unit
+    posted_in ahead_of_unit total_in arrived read_head_of cut_of key_of before_tag is_verified meets_counts got_since
+    held_in
     units_got units_since verifies
 late_8 =
     stops (plan 1 false) (accepted_unit 3 1 1 ∷ accepted_unit 1 0 1 ∷ sealed 3 1 1 ∷ refreshed ∷ sealed 2 0 2
@@ -68,21 +75,25 @@ late_8 =
 
 pub late_due : AreDue (plan 1 false) [] late_packet
 unfolding due sites key_due manager moments keys is_open failed_there base read_of reading walk_length walked_from
-    outgoing_of choice_of keys_at has_live_out has_live_in stream_plan sent_in sealed_packets packet_of units open_unit
-    posted_in front_of total_in arrived
+    outgoing_of choice_of keys_at has_live_out has_live_in stream_plan sent_in sealed_packets bytes_by packet_of units
+    open_unit
+    posted_in ahead_of_unit total_in arrived
 late_due = (refl, (refl, (refl, (refl, (refl, (late_6, (late_7, (late_8, tt))))))))
 
 pub reply_lost_due : AreDue (plan 1 false) [] reply_lost
 unfolding due sites key_due manager moments keys is_open failed_there base read_of reading walk_length walked_from
-    outgoing_of choice_of keys_at has_live_out has_live_in stream_plan sent_in sealed_packets packet_of units open_unit
-    posted_in front_of total_in arrived
+    outgoing_of choice_of keys_at has_live_out has_live_in stream_plan sent_in sealed_packets bytes_by packet_of units
+    open_unit
+    posted_in ahead_of_unit total_in arrived
 reply_lost_due = (refl, (refl, (refl, (refl, tt))))
 
 open_tail_5 : due (plan 1 false) (sealed 2 1 1 ∷ refreshed ∷ sealed 1 0 1 ∷ established ∷ []) (accepted_unit 2 1 1).0
     ≡ (accepted_unit 2 1 1).1
 unfolding due sites key_due manager moments keys is_open failed_there base read_of reading walk_length walked_from
-    outgoing_of choice_of keys_at has_live_out has_live_in stream_plan sent_in sealed_packets packet_of units open_unit
-    posted_in front_of total_in arrived read_head_of cut_of key_of before_tag is_verified meets_counts got_since held_in
+    outgoing_of choice_of keys_at has_live_out has_live_in stream_plan sent_in sealed_packets bytes_by packet_of units
+    open_unit
+    posted_in ahead_of_unit total_in arrived read_head_of cut_of key_of before_tag is_verified meets_counts got_since
+    held_in
     units_got units_since verifies
 open_tail_5 =
     ends (plan 1 false) (sealed 2 1 1 ∷ refreshed ∷ sealed 1 0 1 ∷ established ∷ []) _ newer_write Pr 1 1 true
@@ -90,15 +101,18 @@ open_tail_5 =
 
 pub open_tail_due : AreDue (plan 1 false) [] (tail_missing (accepted_unit 2 1 1))
 unfolding due sites key_due manager moments keys is_open failed_there base read_of reading walk_length walked_from
-    outgoing_of choice_of keys_at has_live_out has_live_in stream_plan sent_in sealed_packets packet_of units open_unit
-    posted_in front_of total_in arrived
+    outgoing_of choice_of keys_at has_live_out has_live_in stream_plan sent_in sealed_packets bytes_by packet_of units
+    open_unit
+    posted_in ahead_of_unit total_in arrived
 open_tail_due = (refl, (refl, (refl, (refl, (open_tail_5, tt)))))
 
 closed_tail_5 : due (plan 1 true) (sealed 2 1 1 ∷ refreshed ∷ sealed 1 0 1 ∷ established ∷ []) (fails (Pass 2)).0
     ≡ (fails (Pass 2)).1
 unfolding due sites key_due manager moments keys is_open failed_there base read_of reading walk_length walked_from
-    outgoing_of choice_of keys_at has_live_out has_live_in stream_plan sent_in sealed_packets packet_of units open_unit
-    posted_in front_of total_in arrived read_head_of cut_of key_of before_tag is_verified meets_counts got_since held_in
+    outgoing_of choice_of keys_at has_live_out has_live_in stream_plan sent_in sealed_packets bytes_by packet_of units
+    open_unit
+    posted_in ahead_of_unit total_in arrived read_head_of cut_of key_of before_tag is_verified meets_counts got_since
+    held_in
     units_got units_since verifies
 closed_tail_5 =
     ends (plan 1 true) (sealed 2 1 1 ∷ refreshed ∷ sealed 1 0 1 ∷ established ∷ []) _ closed_write Pr 1 1 false
@@ -106,8 +120,9 @@ closed_tail_5 =
 
 pub closed_tail_due : AreDue (plan 1 true) [] (tail_missing (fails (Pass 2)))
 unfolding due sites key_due manager moments keys is_open failed_there base read_of reading walk_length walked_from
-    outgoing_of choice_of keys_at has_live_out has_live_in stream_plan sent_in sealed_packets packet_of units open_unit
-    posted_in front_of total_in arrived
+    outgoing_of choice_of keys_at has_live_out has_live_in stream_plan sent_in sealed_packets bytes_by packet_of units
+    open_unit
+    posted_in ahead_of_unit total_in arrived
 closed_tail_due = (refl, (refl, (refl, (refl, (closed_tail_5, tt)))))
 
 pub older_gone : AreGone sender receiver 0 [] older_goes
@@ -140,6 +155,7 @@ older_gone = (
 
 pub older_due : AreDue (plan 1 false) [] (map (λ row. row.0) older_goes)
 unfolding due sites key_due manager moments keys is_open failed_there base read_of reading walk_length walked_from
-    outgoing_of choice_of keys_at has_live_out has_live_in stream_plan sent_in sealed_packets packet_of units open_unit
-    posted_in front_of total_in arrived
+    outgoing_of choice_of keys_at has_live_out has_live_in stream_plan sent_in sealed_packets bytes_by packet_of units
+    open_unit
+    posted_in ahead_of_unit total_in arrived
 older_due = (refl, (refl, (refl, (refl, (open_tail_5, (refl, (refl, tt)))))))

@@ -12,8 +12,9 @@ use Rattle.link_events.specs.declared.event.Event.TheVariants.{Pass}
 use Rattle.link_verdicts.specs.declared.verdict.Verdict.{Verdict}
 use Rattle.link_history.specs.Plan.{stream_plan}
 use Rattle.link_history.specs.Units.{units, open_unit}
-use Rattle.link_history.specs.History.{Arrival, packet_of, sent_in, sealed_packets, keys_at, front_of, front_sent}
+use Rattle.link_history.specs.History.{Arrival, packet_of, sent_in, sealed_packets, keys_at, ahead_of_unit, ahead_sent}
 use Rattle.link_history.specs.History.{total_in, arrived, held, units_got, units_since}
+use Rattle.link_history.specs.Sent.{bytes_by}
 use Rattle.link_history.specs.Due.{Ending, before_tag}
 use Rattle.link_history.specs.Laws.{WasSealed, NotForged, NoForgery, last_tag}
 use Rattle.worked_cases.proofs.Ends.{comes, ending as ending_of}
@@ -37,7 +38,7 @@ abbrev ending : Ending
 ending = ending_of first_packet Pr 0 1
 
 arrives : arrived (plan 1 false) past (Pass 1) ≡ Some arrival
-unfolding arrived sealed_packets front_of stream_plan sent_in units open_unit total_in
+unfolding arrived sealed_packets bytes_by ahead_of_unit stream_plan sent_in units open_unit total_in
 arrives = ap comes write_1_is
 
 passes : before_tag (plan 1 false) past arrival ≡ Ok ending
@@ -46,7 +47,8 @@ unfolding before_tag is_open keys manager moments base failed_there keys_at stre
 passes = refl
 
 was : WasSealed (plan 1 false) past host ending
-unfolding arrived sealed_packets packet_of front_of front_sent stream_plan sent_in units open_unit total_in held
+unfolding arrived sealed_packets bytes_by packet_of ahead_of_unit ahead_sent stream_plan sent_in units open_unit
+    total_in held
     units_got units_since base
 was = record {
   unit = sealed_packet ∷ [];
@@ -55,7 +57,7 @@ was = record {
   finished = refl;
   same_authenticated = ap (λ (p : Packet). authenticated (p ∷ [])) write_1_is;
   same_encrypted = ap (λ (p : Packet). encrypted (p ∷ [])) write_1_is;
-  same_front = refl;
+  same_ahead = refl;
   same_tag = ap (λ (p : Packet). last_tag (p ∷ [])) write_1_is;
 }
 

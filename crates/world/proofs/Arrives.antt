@@ -17,7 +17,7 @@ use Rattle.link_ends.specs.declared.ends.LinkEnds.{LinkEnds}
 use Rattle.link_ends.specs.Hosts.{InterfacesView}
 use Rattle.all_links.specs.declared.links.Links.{Links}
 use Rattle.all_ends.specs.AllEnds.{grants_in}
-use Rattle.all_links.specs.Links.{links_state}
+use Rattle.all_links.specs.States.{links_state}
 use Rattle.all_links.specs.Sides.{SidesArrive, AllFollow, arrival_at}
 use Rattle.all_ends.specs.Writes.{writes_by}
 use Rattle.world_states.specs.Whole.{IsBeside}

@@ -27,14 +27,14 @@ use Rattle.interface_joins.specs.Verdicts.{op_event}
 use Rattle.link_ends.specs.Hosts.{InterfacesView, operated_on}
 use Rattle.whole_machine.specs.Machine.{Whole, secure_in, whole_streams, beside_of, whole_after}
 use Rattle.all_links.specs.declared.links.Links.{Links}
-use Rattle.all_links.specs.Links.{links_state}
+use Rattle.all_links.specs.States.{links_state}
 use Rattle.all_links.specs.Sides.{SidesAsk}
 use Rattle.world_states.specs.Whole.{IsPlaced, IsBeside}
 use Rattle.world_states.proofs.Places.{get_there}
 use Rattle.world_states.proofs.Sites.{is_at, interface_there, interface_absent}
 use Rattle.world_states.proofs.Statuses.{host_status_is, secure_is}
-use Rattle.world.proofs.Calls.{IsOne, there_beside, nowhere_beside, interface_step, answer_there}
-use Rattle.world_states.proofs.Kept.{AreBoth}
+use Rattle.world.proofs.Calls.{IsOne, there_beside, nowhere_beside, answer_there}
+use Rattle.world_states.proofs.Kept.{AreBoth, interface_step}
 
 op_number : (o : InterfaceOp) (i : ℕ) (loss : Option Loss) → number_in (op_event o i loss) ≡ Some i
 op_number op.Lock i loss = refl

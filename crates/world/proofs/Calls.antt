@@ -49,7 +49,7 @@ use Rattle.link_ends.specs.declared.ends.LinkEnds.{LinkEnds}
 use Rattle.link_ends.specs.Hosts.{InterfacesView}
 use Rattle.link_ends.proofs.Lists.{set_read}
 use Rattle.all_links.specs.declared.links.Links.{Links}
-use Rattle.all_links.specs.Links.{links_state}
+use Rattle.all_links.specs.States.{links_state}
 use Rattle.all_ends.specs.Places.{located}
 use Rattle.all_links.specs.Sides.{SidesKeep, SidesCall}
 use Rattle.world_states.specs.Whole.{IsPlaced, IsDevice, IsBeside}
@@ -57,7 +57,7 @@ use Rattle.world_states.proofs.Places.{get_there}
 use Rattle.world_states.proofs.Sites.{site_numbered, face_found, located_apart, located_kept, interface_there}
 use Rattle.world_states.proofs.Sites.{interface_absent}
 use Rattle.world_states.proofs.Faces.{each_at, each_many, none_of}
-use Rattle.world_states.proofs.Kept.{AreBoth, elsewhere_beside, written_kept}
+use Rattle.world_states.proofs.Kept.{AreBoth, elsewhere_beside, written_kept, interface_step}
 
 -- ---- numbers
 
@@ -480,12 +480,6 @@ module _ (plan : Plan) (ends : List LinkEnds) (m : InterfacesView) (memory : Mem
   })
 
 -- ---- the step of the machine
-
-pub interface_step : (plan : Plan) (w : Whole) (st : LinkState) (e : InterfaceEvent) (verdict : Verdict)
-    → ◌≡◌ {A = Stepped} (verdict, st) (step_of plan (beside_of plan w) w.links (event.Interface e))
-    → (verdict ≡ (beside_of plan w).answer e) × (st ≡ w.links)
-unfolding step_of
-interface_step plan w st e verdict is = (ap (λ (s : Stepped). s.0) is, ap (λ (s : Stepped). s.1) is)
 
 -- the verdict of an event on an interface that is there
 pub answer_there : (plan : Plan) (w : Whole) (e : InterfaceEvent) (i : ℕ) (x : Site) (f : Face) → number_in e ≡ Some i

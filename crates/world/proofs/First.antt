@@ -4,7 +4,7 @@
 use Rattle.std.proofs.Common.{◌≡◌, ℕ, suc, zero, ◌+◌, ◌-◌, ◌<◌, ◌≤◌, List, [], ◌∷◌, ◌++◌, length}
 use Rattle.std.proofs.Common.{map}
 use Rattle.std.proofs.Common.{refl, ap, sym, ◌∙◌, subst, arith, inl, inr, Some, Option, length-append}
-use Rattle.std.specs.Prelude.{slice_get, nat_lt, All, replicate, if◌then◌else◌}
+use Rattle.std.specs.Prelude.{◌==◌, Bool, true, false, filter, slice_get, nat_lt, All, replicate, if◌then◌else◌}
 use Rattle.std.specs.List.{slice_index_or}
 use Rattle.std.proofs.lemmas.List.{length-map, map-append}
 use Rattle.std.proofs.lemmas.List.Elements.{All-head, All-tail, All-nil, All-cons}
@@ -20,9 +20,15 @@ use Rattle.ide_plan.specs.declared.stream.StreamPlan.{StreamPlan}
 use Rattle.ide_plan.specs.declared.interface.InterfacePlan.{InterfacePlan}
 use Rattle.ide_plan.specs.declared.plan.Region.{Region}
 use Rattle.ide_plan.specs.Fits.{FitsInterface, FitsLink, FitsPlan, IsKey}
+use Rattle.interface_states.specs.Floors.{interfaces_before}
 use Rattle.interface_states.specs.Sites.{Site, sites_on, sites_from}
 unfoldable use Rattle.interface_states.specs.Sites.{sites}
+use Rattle.interface_states.proofs.Floors.{planned_on, sites_of_is}
 use Rattle.interface_machine.specs.Machine.{new_face}
+use Rattle.guarded_memory.specs.{page_counts}
+use Rattle.accesses.specs.declared.link.LinkAccesses.{LinkAccesses}
+use Rattle.accesses.specs.{new_link_accesses, new_accesses}
+use Rattle.whole_machine.specs.Accesses.{new_accesses as machine_accesses}
 use Rattle.whole_machine.specs.Machine.{new_whole}
 use Rattle.tdi_state.specs.Machine.{Tdi, new_tdi}
 use Rattle.tdi_host.specs.Views.{new_interface}
@@ -46,12 +52,17 @@ use Rattle.link_ends.specs.Keepers.{KeeperView}
 use Rattle.link_ends.specs.Hosts.{InterfacesView}
 use Rattle.all_ends.specs.AllEnds.{ends_from}
 use Rattle.all_ends.specs.Places.{located}
-use Rattle.all_links.specs.Links.{IsFirst, links_state}
+use Rattle.all_links.specs.Links.{IsFirst}
+use Rattle.all_links.specs.Accesses.{reads_at, floors_at, sizes_at, bytes_at}
+use Rattle.all_links.specs.States.{links_state}
+use Rattle.whole_links.specs.declared.whole.WholeLinks.{WholeLinks}
+use Rattle.whole_links.specs.Whole.{IsFirstWhole}
 use Rattle.all_ends.specs.Requester.{requester_of}
 use Rattle.all_ends.specs.States.{ports_in, ops_in, ops_of, views_after, name_of, names_of, names_from, state_of}
 use Rattle.all_ends.specs.States.{IsBounded}
 use Rattle.all_ends.specs.States.{IsLink, AreLinks}
 use Rattle.all_links.specs.declared.links.Links.{Links}
+use Rattle.world_states.specs.Accesses.{AreAccesses, on_link, seen_at}
 use Rattle.world_states.specs.Whole.{IsPlaced, IsDevice, IsBeside}
 use Rattle.world_states.specs.Worlds.{Stands, IsNewWorld, world_of, IsWorld}
 
@@ -413,35 +424,102 @@ beside_first plan = record {
   written = memory_first plan.memory;
 }
 
+-- ---- reads, floors and the memory of devices
+
+abbrev first_floor : Site → ℕ
+first_floor x = 0
+
+zeros_on : (link : ℕ) (xs : List Site) → on_link link xs (map first_floor xs)
+    ≡ map first_floor (filter (λ x. x.link == link) xs)
+zeros_on link [] = refl
+zeros_on link (x ∷ xs) = by (x.link == link) (zeros_on link xs)
+  where
+    by : (b : Bool) → on_link link xs (map first_floor xs) ≡ map first_floor (filter (λ y. y.link == link) xs)
+        → (if b then first_floor x ∷ on_link link xs (map first_floor xs) else on_link link xs (map first_floor xs))
+        ≡ map first_floor (if b then x ∷ filter (λ y. y.link == link) xs else filter (λ y. y.link == link) xs)
+    by true rest = ap (λ (ns : List ℕ). 0 ∷ ns) rest
+    by false rest = rest
+
+zeros_of : (number link : ℕ) (ps : List InterfacePlan)
+    → map first_floor (sites_on number link ps) ≡ replicate (length ps) 0
+zeros_of number link [] = refl
+zeros_of number link (p ∷ ps) = ap (λ (ns : List ℕ). 0 ∷ ns) (zeros_of (number + 1) link ps)
+
+zeros_at : (ls : List LinkPlan) (link : ℕ) → floors_at (new_accesses ls) link
+    ≡ replicate (length (planned_on ls link)) 0
+zeros_at [] link = refl
+zeros_at (l ∷ ls) zero = refl
+zeros_at (l ∷ ls) (suc link) = zeros_at ls link
+
+none_read : (ls : List LinkPlan) (link : ℕ) → reads_at (new_accesses ls) link ≡ []
+none_read [] link = refl
+none_read (l ∷ ls) zero = refl
+none_read (l ∷ ls) (suc link) = none_read ls link
+
+none_written : (ls : List LinkPlan) (link i b offset : ℕ) → bytes_at (new_accesses ls) link i b offset ≡ 0
+none_written [] link i b offset = refl
+none_written (l ∷ ls) zero i b offset = refl
+none_written (l ∷ ls) (suc link) i b offset = none_written ls link i b offset
+
+sizes_of : (ls : List LinkPlan) (link : ℕ) (p : LinkPlan) → slice_get ls link ≡ Some p
+    → sizes_at (new_accesses ls) link ≡ map page_counts p.interfaces
+sizes_of [] link p is = absurd (none-some p is)
+sizes_of (l ∷ ls) zero p is = ap (λ (q : LinkPlan). map page_counts q.interfaces) (same_Some l p is)
+sizes_of (l ∷ ls) (suc link) p is = sizes_of ls link p is
+
+accesses_first : (plan : Plan) → AreAccesses plan (seen_at (new_accesses plan.links)) (machine_accesses plan)
+accesses_first plan = record {
+  floored = length-map (sites plan) first_floor;
+  reads = λ link. none_read plan.links link;
+  bytes = λ link i b offset. none_written plan.links link i b offset ∙ sym (byte_after-none offset);
+  sizes = λ link p is. sizes_of plan.links link p is;
+  floors = λ link. zeros_at plan.links link
+      ∙ sym (zeros_on link (sites plan)
+      ∙ (ap (map first_floor) (sites_of_is plan link)
+      ∙ zeros_of (interfaces_before plan.links link) link (planned_on plan.links link)));
+}
+
 -- ---- the world
 
 links_are : (plan : Plan) (s : Links) → IsFirst plan s → links_state plan s ≡ first_state plan
 links_are plan s is = (λ i. state_of plan (is.ends i) (is.keys i) (is.packets i)) ∙ state_first plan
 
-pub first_stands : (plan : Plan) (s : Links) → WholeBegins → IsFirst plan s → Stands (world_of plan s) []
-first_stands plan s begins is = record {
-  whole = new_whole plan;
-  is = record {
-    links = sym (links_are plan s is);
-    beside =
-        subst (λ (m : TrustedMemory). IsBeside plan s.ends s.keeper.interfaces m.contents (new_whole plan))
-        (sym is.trusted)
-        (subst (λ (m : InterfacesView). IsBeside plan s.ends m (new_contents plan.memory) (new_whole plan))
-        (sym is.interfaces)
-        (subst (λ (es : List LinkEnds). IsBeside plan es (new_host plan.links plan.portion) (new_contents plan.memory)
-        (new_whole plan)) (sym is.ends) (beside_first plan)));
-  };
-  stands = begins plan;
-}
+pub first_stands : (plan : Plan) (s : WholeLinks) → WholeBegins → IsFirstWhole plan s → Stands (world_of plan s) []
+first_stands plan s begins is =
+    let at = is.links in
+    record {
+      whole = new_whole plan;
+      is = record {
+        links = sym (links_are plan s.links at);
+        beside =
+            subst (λ (m : TrustedMemory). IsBeside plan s.links.ends s.links.keeper.interfaces m.contents
+            (new_whole plan))
+            (sym at.trusted)
+            (subst (λ (m : InterfacesView). IsBeside plan s.links.ends m (new_contents plan.memory) (new_whole plan))
+            (sym at.interfaces)
+            (subst (λ (es : List LinkEnds). IsBeside plan es (new_host plan.links plan.portion)
+            (new_contents plan.memory) (new_whole plan)) (sym at.ends) (beside_first plan)));
+        accesses = subst (λ (xs : List LinkAccesses). AreAccesses plan (seen_at xs) (machine_accesses plan))
+            (sym is.accesses) (accesses_first plan);
+      };
+      stands = begins plan;
+    }
 
-pub first_is : (plan : Plan) (s : Links) → WholeBegins → IsFirst plan s → IsNewWorld plan (world_of plan s)
+pub first_is : (plan : Plan) (s : WholeLinks) → WholeBegins → IsFirstWhole plan s → IsNewWorld plan (world_of plan s)
 first_is plan s begins is =
-    record { plan_is = refl; steps_are = is.steps; stands = first_stands plan s begins is }
+    record { plan_is = refl; steps_are = is.links.steps; stands = first_stands plan s begins is }
 
-pub first_world : (plan : Plan) (s : Links) → WholeBegins → FitsPlan plan → IsFirst plan s → IsWorld plan s
-first_world plan s begins fits is = record {
-  links = links_same plan _ _ _ _ (sym is.ends) (sym is.keys) (links_first plan fits);
-  bounded = bounded_same _ _ _ _ _ _ (sym is.ends) (sym is.packets) (sym is.steps) (bounded_first plan fits);
-  history = [];
-  stands = first_stands plan s begins is;
-}
+pub first_world : (plan : Plan) (s : WholeLinks) → WholeBegins → FitsPlan plan → IsFirstWhole plan s → IsWorld plan s
+first_world plan s begins fits is =
+    let at = is.links in
+    let links = links_same plan _ _ _ _ (sym at.ends) (sym at.keys) (links_first plan fits) in
+    record {
+      links = links;
+      bounded = record {
+        bounded = bounded_same _ _ _ _ _ _ (sym at.ends) (sym at.packets) (sym at.steps) (bounded_first plan fits);
+        whole = ap (λ (xs : List LinkAccesses). length xs) is.accesses
+            ∙ (length-map plan.links (λ (l : LinkPlan). new_link_accesses l.interfaces) ∙ sym links.many);
+      };
+      history = [];
+      stands = first_stands plan s begins is;
+    }

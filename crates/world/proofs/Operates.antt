@@ -37,7 +37,7 @@ use Rattle.whole_machine.specs.Machine.{whole_after, arrival_of}
 use Rattle.link_ends.specs.Hosts.{InterfacesView, keyed_if, stopped_if}
 use Rattle.all_links.specs.declared.links.Links.{Links}
 use Rattle.all_ends.specs.Places.{stream_named}
-use Rattle.all_links.specs.Links.{links_state}
+use Rattle.all_links.specs.States.{links_state}
 use Rattle.all_links.specs.Sides.{SidesOperate, told_by}
 use Rattle.all_ends.proofs.Streams.{op_is, unnamed}
 use Rattle.world_states.specs.Whole.{IsBeside}

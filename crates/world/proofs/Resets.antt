@@ -30,7 +30,7 @@ use Rattle.link_ends.specs.Ends.{reset_ends}
 use Rattle.link_ends.specs.Hosts.{InterfacesView}
 use Rattle.whole_machine.specs.Machine.{Whole, secure_in, whole_streams, beside_of, whole_after}
 use Rattle.all_links.specs.declared.links.Links.{Links}
-use Rattle.all_links.specs.Links.{links_state}
+use Rattle.all_links.specs.States.{links_state}
 use Rattle.all_ends.specs.Places.{located}
 use Rattle.all_links.specs.Sides.{SidesReset}
 use Rattle.world_states.specs.Whole.{IsPlaced, IsDevice, IsBeside}

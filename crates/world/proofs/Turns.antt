@@ -6,6 +6,7 @@ use Rattle.link_events.specs.declared.event.Event.{Event}
 use Rattle.link_events.specs.declared.event.Event.TheVariants as event
 use Rattle.link_events.specs.declared.event.InterfaceEvent.{InterfaceEvent}
 use Rattle.link_events.specs.declared.event.InterfaceEvent.TheVariants as ie
+use Rattle.link_events.specs.declared.event.AccessEvent.TheVariants as ae
 use Rattle.link_verdicts.specs.declared.verdict.Verdict.{Verdict}
 use Rattle.key_laws.specs.History.{History}
 use Rattle.link_ports.specs.Machine.{Stepped, step_of}
@@ -14,11 +15,22 @@ use Rattle.whole_machine.specs.Machine.{Whole, beside_of, whole_after}
 use Rattle.interface_joins.specs.Joined.{InterfaceOperationsJoin}
 use Rattle.tdi_host.specs.declared.operation.InterfaceOp.TheVariants as op
 use Rattle.all_links.specs.declared.links.Links.{Links}
-use Rattle.all_links.specs.Links.{links_state}
+use Rattle.all_links.specs.States.{links_state}
 use Rattle.all_links.specs.Sides.{Sides, SidesInterface}
 use Rattle.world_states.specs.Whole.{IsBeside}
-use Rattle.world_states.proofs.Besides.{grants_are}
-use Rattle.world_states.proofs.Kept.{AreBoth, send_beside, dump_beside, status_beside, view_beside, memory_beside}
+use Rattle.all_ends.specs.AllEnds.{grants_in}
+use Rattle.interface_machine.specs.Machine.{grant_of}
+use Rattle.world_states.proofs.Besides.{grant_is}
+use Rattle.world_states.proofs.Kept.{
+  AreBoth,
+  answer_beside,
+  mmio_beside,
+  send_beside,
+  dump_beside,
+  status_beside,
+  view_beside,
+  memory_beside,
+}
 use Rattle.world.proofs.Arrives.{arrives_beside}
 use Rattle.world.proofs.Calls.{write_beside, flr_beside, firmware_beside}
 use Rattle.world.proofs.Asks.{asked_beside}
@@ -33,10 +45,16 @@ pub record Turn (plan : Plan) (old new : Links) (w : Whole) (e : Event) (verdict
   pub regions : new.trusted.contents.regions ≡ old.trusted.contents.regions
   pub step : ◌≡◌ {A = Stepped} (verdict, links_state plan new) (step_of plan (beside_of plan w) w.links e)
 
-abbrev IsAfter : Plan → Links → Whole → Event → Verdict → Type 0
+abbrev pub IsAfter : Plan → Links → Whole → Event → Verdict → Type 0
 IsAfter plan new w e verdict =
     IsBeside plan new.ends new.keeper.interfaces new.trusted.contents
     (whole_after plan w e verdict (links_state plan new))
+
+grants_are : (plan : Plan) (old new : Links) (w : Whole) → AreBoth plan old new w
+    → grants_in old.keeper.interfaces ≡ grant_of plan w.faces
+grants_are plan old new w both = λ i link requester.
+    grant_is plan old.ends old.keeper.interfaces old.trusted.contents w both.whole.beside both.links.fits
+    both.links.many link requester i
 
 module _ (plan : Plan) (old new : Links) (w : Whole) (verdict : Verdict) (join : InterfaceOperationsJoin) where
   interface_after : (e : InterfaceEvent) → Turn plan old new w (event.Interface e) verdict → SidesInterface e old new
@@ -66,16 +84,16 @@ module _ (plan : Plan) (old new : Links) (w : Whole) (verdict : Verdict) (join :
       send_beside plan old new w verdict (beside_of plan w) t.both sides port bytes more trusted t.step
   beside_after (event.Pass n) t sides =
       arrives_beside plan old new w t.history (event.Pass n) verdict refl t.both t.stands
-      (grants_are plan old w t.both.links t.both.whole) t.regions sides
+      (grants_are plan old new w t.both) t.regions sides
   beside_after (event.Alter n at mask) t sides =
       arrives_beside plan old new w t.history (event.Alter n at mask) verdict refl t.both t.stands
-      (grants_are plan old w t.both.links t.both.whole) t.regions sides
+      (grants_are plan old new w t.both) t.regions sides
   beside_after (event.Cut n len) t sides =
       arrives_beside plan old new w t.history (event.Cut n len) verdict refl t.both t.stands
-      (grants_are plan old w t.both.links t.both.whole) t.regions sides
+      (grants_are plan old new w t.both) t.regions sides
   beside_after (event.Arrive port bytes) t sides =
       arrives_beside plan old new w t.history (event.Arrive port bytes) verdict refl t.both t.stands
-      (grants_are plan old w t.both.links t.both.whole) t.regions sides
+      (grants_are plan old new w t.both) t.regions sides
   beside_after (event.Dump n) t sides =
       dump_beside plan old new w verdict (beside_of plan w) t.both sides n t.step
   beside_after (event.Establish link stream loss) t sides =
@@ -88,3 +106,7 @@ module _ (plan : Plan) (old new : Links) (w : Whole) (verdict : Verdict) (join :
   beside_after (event.Status link stream) t sides =
       status_beside plan old new w verdict (beside_of plan w) t.both sides link stream t.step
   beside_after (event.Interface e) t sides = interface_after e t sides
+  beside_after (event.Access (ae.Answer link)) t sides =
+      answer_beside plan old new w verdict (beside_of plan w) t.both sides link t.step
+  beside_after (event.Access (ae.Mmio interface bar offset len)) t sides =
+      mmio_beside plan old new w verdict (beside_of plan w) t.both sides interface bar offset len t.step

@@ -1,31 +1,41 @@
 -- One step of the world. What the links say beside the ports is what the whole machine says. So the step of the links
 -- is the machine's, and its verdict and its state are those of the machine, which stands for the history with the
 -- event.
-use Rattle.std.proofs.Common.{◌≡◌, ◌∷◌, refl, ap, sym, ◌∙◌, subst, Option, Some, None}
+use Rattle.std.proofs.Common.{◌≡◌, ◌∷◌, ℕ, List, length, refl, ap, sym, ◌∙◌, subst, Option, Some, None}
 use Rattle.std.proofs.lemmas.Option.{none-some, same_Some}
-use Rattle.std.specs.Prelude.{IfSome, IsSome}
+use Rattle.std.specs.Prelude.{Err, IfSome, IsSome, Ok, OnErr, Result}
 use Rattle.ide_plan.specs.declared.plan.Plan.{Plan}
 use Rattle.link_events.specs.declared.event.Event.{Event}
 use Rattle.link_events.specs.declared.event.InterfaceEvent.{InterfaceEvent}
 use Rattle.link_verdicts.specs.declared.verdict.Verdict.{Verdict}
 use Rattle.key_laws.specs.History.{History}
-use Rattle.link_ports.specs.Machine.{LinkState, Stepped, step_of}
+use Rattle.link_ports.specs.Machine.{LinkPacket, LinkState, Stepped, step_of}
 use Rattle.link_ports.specs.Stands.{PortsStandFor}
 use Rattle.port_operations.specs.Points.{PointsStand}
 use Rattle.whole_machine.specs.Machine.{Whole, beside_of, whole_after, whole_step}
 use Rattle.whole_machine.specs.Stands.{StandsFor, WholeSteps}
 use Rattle.interface_joins.specs.Joined.{InterfaceOperationsJoin}
-use Rattle.all_links.specs.declared.links.Links.{Links}
-use Rattle.all_ends.specs.States.{AreLinks}
-use Rattle.all_links.specs.Links.{links_state, StandsForSome, Ends, EndsWith, EndsAs, HasNoVerdict}
-use Rattle.all_links.specs.Besides.{beside_in}
+use Rattle.link_ends.specs.declared.ends.LinkEnds.{LinkEnds}
+use Rattle.link_ends.specs.declared.host.HostKeeper.{HostKeeper}
+use Rattle.all_ends.specs.States.{AreLinks, IsBounded, state_of}
+use Rattle.all_links.specs.Links.{StandsForSome, Ends, HasNoVerdict}
 use Rattle.all_links.specs.Sides.{Sides}
-use Rattle.world_states.specs.Worlds.{WorldView, Stands, HasStood, IsStep, world_of, IsWorld}
-use Rattle.world_states.proofs.Besides.{answers_are, beside_is, is_answered}
-use Rattle.world.proofs.Turns.{Turn, beside_after}
+use Rattle.all_links.specs.States.{links_state}
+use Rattle.whole_links.specs.declared.whole.WholeLinks.{WholeLinks}
+use Rattle.whole_links.specs.Accesses.{AccessesAfter}
+use Rattle.whole_links.specs.Besides.{beside_whole}
+use Rattle.whole_links.specs.Whole.{WholeEnds, WholeEndsAs, WholeStays}
+use Rattle.whole_links.specs.Whole.{IsWhole as EachHasAccesses}
+use Rattle.world_states.specs.Accesses.{AreAccesses, LinkSeen, seen_at}
+use Rattle.world_states.specs.Whole.{IsBeside}
+use Rattle.world_states.specs.Worlds.{WorldView, IsAsBefore, Stands, HasStood, IsStep, world_of, IsWorld}
+use Rattle.world_states.proofs.Kept.{IsState}
+use Rattle.access_states.proofs.Said.{answers_are, beside_is, is_answered}
+use Rattle.access_states.proofs.Turned.{accesses_are}
+use Rattle.world.proofs.Turns.{Turn, IsAfter, beside_after}
 
 -- the links stand for the history that the world stands for
-pub standing : (plan : Plan) (s : Links) → IsWorld plan s → StandsForSome s
+pub standing : (plan : Plan) (s : WholeLinks) → IsWorld plan s → StandsForSome s.links
 standing plan s is = record {
   plan = plan;
   history = is.history;
@@ -39,36 +49,45 @@ pub record Given : Type 0 where
   pub points : PointsStand
   pub join : InterfaceOperationsJoin
 
-module _ (plan : Plan) (old new : Links) (e : Event) (verdict : Verdict) (given : Given)
-    (links : AreLinks plan old.ends old.keeper.keys) (ended : EndsWith verdict old new e)
-    (sides : Sides e verdict old new) (h : History) (s : Stands (world_of plan old) h) where
-  before : PortsStandFor plan (links_state plan old) h
+module _ (plan : Plan) (old new : WholeLinks) (e : Event) (verdict : Verdict) (given : Given)
+    (links : AreLinks plan old.links.ends old.links.keeper.keys) (each : EachHasAccesses old)
+    (ended : WholeEnds verdict old new e)
+    (sides : Sides e verdict old.links new.links) (accesses : AccessesAfter e verdict old new) (h : History)
+    (s : Stands (world_of plan old) h) where
+  before : PortsStandFor plan (links_state plan old.links) h
   before = subst (λ (st : LinkState). PortsStandFor plan st h) s.is.links s.stands.links
 
   abbrev answer : InterfaceEvent → Verdict
   answer = (beside_of plan s.whole).answer
 
-  ends : Ends plan new verdict (step_of plan (beside_in old answer) (links_state plan old) e)
-  ends = ended.ends answer (λ f on. answers_are plan old s.whole given.join links s.is f) plan h links before
+  ends : Ends plan new.links verdict (step_of plan (beside_whole plan old answer) (links_state plan old.links) e)
+  ends = ended.ends answer (λ f on. answers_are plan old s.whole given.join links s.is f) plan s.is.beside.regions h
+      links before
 
-  same : step_of plan (beside_in old answer) (links_state plan old) e
+  same : step_of plan (beside_whole plan old answer) (links_state plan old.links) e
       ≡ step_of plan (beside_of plan s.whole) s.whole.links e
-  same = λ i. step_of plan (beside_is plan old s.whole links s.is i) (sym s.is.links i) e
+  same = λ i. step_of plan (beside_is plan old s.whole links each s.is i) (sym s.is.links i) e
 
-  stepped : (verdict, links_state plan new) ≡ step_of plan (beside_of plan s.whole) s.whole.links e
+  stepped : (verdict, links_state plan new.links) ≡ step_of plan (beside_of plan s.whole) s.whole.links e
   stepped = (λ i. (ends.verdict_is i, ends.state_is i)) ∙ same
 
-  turn : Turn plan old new s.whole e verdict
+  state : IsState plan old.links s.whole
+  state = record { links = s.is.links; beside = s.is.beside }
+
+  turn : Turn plan old.links new.links s.whole e verdict
   turn = record {
-    both = record { links = links; links_after = ends.links; whole = s.is };
+    both = record { links = links; links_after = ends.links; whole = state };
     history = h;
     stands = before;
     regions = ended.regions;
     step = stepped;
   }
 
+  beside_now : IsAfter plan new.links s.whole e verdict
+  beside_now = beside_after plan old.links new.links s.whole verdict given.join e turn sides
+
   abbrev after : Whole
-  after = whole_after plan s.whole e verdict (links_state plan new)
+  after = whole_after plan s.whole e verdict (links_state plan new.links)
 
   machine : (verdict, after) ≡ whole_step plan s.whole e
   machine = ap (λ (r : Stepped). (r.0, whole_after plan s.whole e r.0 r.1)) stepped
@@ -82,37 +101,55 @@ module _ (plan : Plan) (old new : Links) (e : Event) (verdict : Verdict) (given 
     due_is = ap (λ (r : Verdict × Whole). r.0) machine ∙ (given.steps plan s.whole h e s.stands).0;
     stands = record {
       whole = after;
-      is = record { links = refl; beside = beside_after plan old new s.whole verdict given.join e turn sides };
+      is = record {
+        links = refl;
+        beside = beside_now;
+        accesses = accesses_are plan old new s.whole verdict turn.both each s.is.accesses e h before beside_now stepped
+            accesses;
+      };
       stands = new_stands;
     };
-    points = given.points plan (links_state plan new) ((e, verdict) ∷ h) new_stands.links;
+    points = given.points plan (links_state plan new.links) ((e, verdict) ∷ h) new_stands.links;
   }
 
 -- ---- a step of the world
 
-module _ (plan : Plan) (old new : Links) (e : Event) (given : Given) (w : IsWorld plan old) where
+-- what an event with this verdict makes of what stands beside the ports
+pub record HasSides (old new : WholeLinks) (e : Event) (verdict : Verdict) : Type 0 where
+  pub sides : Sides e verdict old.links new.links
+  pub accesses : AccessesAfter e verdict old new
+
+pub both_sides : (old new : WholeLinks) (e : Event) (o : Option Verdict)
+    → IfSome o (λ v. Sides e v old.links new.links) → IfSome o (λ v. AccessesAfter e v old new)
+    → IfSome o (HasSides old new e)
+both_sides old new e None sides accesses = tt
+both_sides old new e (Some verdict) sides accesses = record { sides = sides; accesses = accesses }
+
+module _ (plan : Plan) (old new : WholeLinks) (e : Event) (given : Given) (w : IsWorld plan old) where
   -- each event has a verdict
-  not_without : HasNoVerdict old e → ⊥
+  not_without : HasNoVerdict old.links e → ⊥
   not_without none = none (standing plan old w)
       (is_answered plan old w.stands.whole given.join w.links w.stands.is e)
 
-  pub has_verdict : (o : Option Verdict) → EndsAs o old new e → IsSome o
+  pub has_verdict : (o : Option Verdict) → WholeEndsAs o old new e → IsSome o
   has_verdict (Some verdict) x = refl
   has_verdict None x = absurd (not_without x)
 
-  pub world_after : (o : Option Verdict) → EndsAs o old new e → IfSome o (λ v. Sides e v old new) → IsWorld plan new
+  pub world_after : (o : Option Verdict) → WholeEndsAs o old new e → IfSome o (HasSides old new e) → IsWorld plan new
   world_after None x sides = absurd (not_without x)
   world_after (Some verdict) x sides =
-      let stood = stood_after plan old new e verdict given w.links x sides w.history w.stands in
+      let stood = stood_after plan old new e verdict given w.links w.bounded.whole x sides.sides sides.accesses
+      w.history w.stands in
       record {
-        links = (ends plan old new e verdict given w.links x sides w.history w.stands).links;
+        links = (ends plan old new e verdict given w.links w.bounded.whole x sides.sides sides.accesses w.history
+            w.stands).links;
         bounded = x.bounded;
         history = (e, verdict) ∷ w.history;
         stands = stood.stands;
       }
 
   pub step_after : (view : WorldView) → world_of plan old ≡ view → (o : Option Verdict) (verdict : Verdict)
-      → o ≡ Some verdict → EndsAs o old new e → IfSome o (λ v. Sides e v old new)
+      → o ≡ Some verdict → WholeEndsAs o old new e → IfSome o (HasSides old new e)
       → IsStep view e verdict (world_of plan new)
   step_after view is None verdict some x sides = absurd (none-some verdict some)
   step_after view is (Some said) verdict some x sides =
@@ -120,5 +157,64 @@ module _ (plan : Plan) (old new : Links) (e : Event) (given : Given) (w : IsWorl
       (subst (λ (b : WorldView). IsStep b e said (world_of plan new)) is (record {
         plan_is = refl;
         steps_are = x.counted;
-        stood = λ h s. stood_after plan old new e said given w.links x sides h s;
+        stood = λ h s. stood_after plan old new e said given w.links w.bounded.whole x sides.sides sides.accesses h s;
       }))
+
+-- ---- want of memory
+
+module _ (plan : Plan) (old new : WholeLinks) (w : IsWorld plan old) (stays : WholeStays old new) where
+  seen_same : seen_at new.accesses ≡ seen_at old.accesses
+  seen_same = λ j link. record {
+    reads = stays.accesses.reads link j;
+    floors = stays.accesses.floors link j;
+    sizes = stays.accesses.sizes link j;
+    bytes = λ i b offset.
+        (stays.accesses.bytes link (w.stands.whole.accesses.happened link) (w.stands.is.accesses.bytes link) i b offset
+        ∙ sym (w.stands.is.accesses.bytes link i b offset)) j;
+  }
+
+  world_same : record (world_of plan new) { accesses = old.accesses } ≡ world_of plan old
+  world_same = λ j. record {
+    plan = plan;
+    state = state_of plan (stays.links.ends j) (stays.links.keeper j).keys (stays.links.packets j);
+    ends = stays.links.ends j;
+    interfaces = (stays.links.keeper j).interfaces;
+    memory = stays.links.trusted j;
+    accesses = old.accesses;
+    steps = stays.links.steps j;
+  }
+
+  pub world_stays : IsAsBefore (world_of plan old) (world_of plan new)
+  world_stays = record { world = world_same; accesses = seen_same }
+
+  pub invariant_stays : IsWorld plan new
+  invariant_stays = record {
+    links = subst (λ (es : List LinkEnds). AreLinks plan es new.links.keeper.keys) (sym stays.links.ends)
+        (subst (λ (k : HostKeeper). AreLinks plan old.links.ends k.keys) (sym stays.links.keeper) w.links);
+    bounded = record {
+      bounded = subst (λ (n : ℕ). IsBounded new.links.ends new.links.packets.packets n) (sym stays.links.steps)
+          (subst (λ (ps : List LinkPacket). IsBounded new.links.ends ps old.links.steps) (sym stays.links.packets)
+          (subst (λ (es : List LinkEnds). IsBounded es old.links.packets.packets old.links.steps)
+          (sym stays.links.ends) w.bounded.bounded));
+      whole = stays.accesses.many ∙ (w.bounded.whole ∙ sym (ap (λ (es : List LinkEnds). length es) stays.links.ends));
+    };
+    history = w.history;
+    stands = record {
+      whole = w.stands.whole;
+      is = record {
+        links = w.stands.is.links ∙ sym (ap (λ (v : WorldView). v.state) world_same);
+        beside = subst (λ (v : WorldView). IsBeside plan v.ends v.interfaces v.memory w.stands.whole)
+            (sym world_same) w.stands.is.beside;
+        accesses = subst (λ (seen : ℕ → LinkSeen). AreAccesses plan seen w.stands.whole.accesses) (sym seen_same)
+            w.stands.is.accesses;
+      };
+      stands = w.stands.stands;
+    };
+  }
+
+pub as_before : {A E : Type 0} (plan : Plan) (old new : WholeLinks) → IsWorld plan old → WholeStays old new
+    → (view : WorldView) → world_of plan old ≡ view → (r : Result A E)
+    → OnErr r (IsAsBefore view (world_of plan new))
+as_before plan old new w stays view is (Ok x) = tt
+as_before plan old new w stays view is (Err e) =
+    subst (λ (v : WorldView). IsAsBefore v (world_of plan new)) is (world_stays plan old new w stays)

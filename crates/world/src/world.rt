@@ -4,7 +4,6 @@ ghost use Rattle.std.specs.Prelude.{◌≡◌, ◌<◌, ◌+◌, ◌^◌, IfOk, 
 ghost use Rattle.ide_plan.specs.Fits.{FitsPlan};
 ghost use Rattle.link_events.specs.Spells.{IsAllowed};
 
-use all_links::Links;
 use ide_plan::Plan;
 use ide_types::Memory;
 use interface_joins::interface_operations_join;
@@ -13,6 +12,7 @@ use link_verdicts::Verdict;
 use port_operations::points_stand;
 use std::alloc::Global;
 use std::marker::Model;
+use whole_links::WholeLinks;
 use whole_machine::{whole_begins, whole_steps};
 
 /// All links of a topology, with their devices' interfaces, the keys, the packets that were sealed, what the managers
@@ -21,7 +21,7 @@ use whole_machine::{whole_begins, whole_steps};
 pub struct World {
     alloc: Global,
     plan: Plan,
-    links: Links,
+    links: WholeLinks,
 }
 
 impl Model for World {
@@ -35,7 +35,7 @@ impl Model for World {
 }
 
 impl World {
-    ghost use Rattle.world_states.specs.Worlds.{IsNewWorld, IsStep};
+    ghost use Rattle.world_states.specs.Worlds.{IsAsBefore, IsNewWorld, IsStep};
 
     /// The world before the first event: no stream of the plan has keys, no interface is locked, and trusted memory is
     /// 0.
@@ -43,7 +43,7 @@ impl World {
         requires { FitsPlan plan }
         ensures { IfOk result (λ w. IsNewWorld plan w) }
     {
-        let links = Links::make(alloc, &plan)?;
+        let links = WholeLinks::make(alloc, &plan)?;
         whole_begins();
         Ok(World { alloc, plan, links })
     }
@@ -52,16 +52,16 @@ impl World {
     pub fn calls(&self) -> u64
         ensures { result ≡ self.now.steps }
     {
-        self.links.steps
+        self.links.links.steps
     }
 
     /// The verdict of an event that a script's line spells: the one that is due after the events before it. For want of
-    /// memory nothing changes. Fewer than 2^28 events came before.
+    /// memory nothing changes, but pages that were taken ahead may stay. Fewer than 2^28 events came before.
     pub fn step(&mut self, event: &Event) -> Result<Verdict, Memory>
         requires few { self.old.steps < 2 ^ 28 }
         requires allowed { IsAllowed event.now }
         ensures step { IfOk result (λ v. IsStep self.old event.now v self.new) }
-        ensures memory { OnErr result (self.new ≡ self.old) }
+        ensures memory { OnErr result (IsAsBefore self.old self.new) }
     {
         whole_steps();
         points_stand();

@@ -2,36 +2,28 @@
 -- link with a requester, as requesters of a link differ (`t_is`, `grant_is`). Effects read the same regions and grants.
 -- An event on an interface has the machine's answer, an operation by what it carries out (`verdict_is`).
 use Rattle.std.proofs.Common.{◌≡◌, ℕ, ◌<◌, ◌≤◌, ◌==◌, ◌&&◌, Bool, true, false, List, length, refl, sym, ap, ◌∙◌}
-use Rattle.std.proofs.Common.{arith, Option, Some, None, subst, ⊎_elim, ◌⊎◌, ◌+◌}
+use Rattle.std.proofs.Common.{arith, Option, Some, None, ⊎_elim, ◌⊎◌, ◌+◌}
 use Rattle.std.proofs.lemmas.Bool.{cases_lt, cases_Bool, and_parts, eqb-true, eq-eqb, ne_eqb, and_from, and_left}
 use Rattle.std.proofs.lemmas.Bool.{and_right}
 use Rattle.std.proofs.lemmas.Option.{none-some, same_Some, slice_get_within}
 use Rattle.std.specs.Option.{option_and_then, option_map_or}
-use Rattle.std.specs.Prelude.{slice_get, is_some, map, if◌then◌else◌, Result, Ok, Err, IfSome, IsSome}
+use Rattle.std.specs.Prelude.{slice_get, is_some, if◌then◌else◌, IfSome}
 use Rattle.ide_types.specs.declared.port.PortName.{PortName}
 use Rattle.ide_types.specs.declared.port.Side.{Side}
 use Rattle.ide_types.specs.declared.port.Side.TheVariants.{Host, Device}
 use Rattle.ide_plan.specs.Fits.{FitsPlan}
 use Rattle.ide_plan.specs.declared.interface.InterfacePlan.{InterfacePlan}
 use Rattle.ide_plan.specs.declared.plan.Plan.{Plan}
-use Rattle.tlp_layout.specs.declared.fault.TlpFault.{TlpFault}
 use Rattle.tlp_layout.specs.declared.head.HeadView.{HeadView}
-use Rattle.tlp_layout.specs.Reading.{read_head_of}
-use Rattle.ide_prefix.specs.Packet.{Packet, is_sync_packet}
 use Rattle.interface_words.specs.declared.register.Register.{Register}
 use Rattle.interface_words.specs.declared.verdict.InterfaceVerdict.TheVariants as iv
 use Rattle.interface_words.specs.declared.view.View.{View}
 use Rattle.interface_words.specs.RegisterNames.{has_register}
-use Rattle.link_events.specs.declared.event.Event.{Event}
 use Rattle.link_events.specs.declared.event.InterfaceEvent.{InterfaceEvent}
 use Rattle.link_events.specs.declared.event.InterfaceEvent.TheVariants as ie
 use Rattle.link_events.specs.declared.event.Loss.{Loss}
-use Rattle.link_verdicts.specs.declared.verdict.Effect.{Effect}
-use Rattle.link_verdicts.specs.declared.verdict.Effect.TheVariants as effect
-use Rattle.link_verdicts.specs.declared.verdict.UnitName.{UnitName}
 use Rattle.link_verdicts.specs.declared.verdict.Verdict.{Verdict}
 use Rattle.link_verdicts.specs.declared.verdict.Verdict.TheVariants as v
-use Rattle.key_laws.specs.Places.{sent_direction}
 use Rattle.tdi_state.specs.declared.states.TdiState.{TdiState}
 use Rattle.tdi_state.specs.declared.states.TdiState.TheVariants.{ConfigUnlocked, ConfigLocked, Run, Error}
 use Rattle.tdi_state.specs.Machine.{Tdi, WriteRegister, LevelReset, FirmwareUpdate, bound_stream}
@@ -58,23 +50,19 @@ use Rattle.interface_joins.specs.Verdicts.{view_shown, ended_as, op_event}
 use Rattle.device_side.specs.Ends.{owner_sets, secure_at}
 use Rattle.ide_port.specs.{status_in}
 use Rattle.tsm_host.specs.Streams.{status_or_idle}
-use Rattle.link_history.specs.Memory.{Grants, effect_by, host_effect, shown_if}
+use Rattle.link_history.specs.Memory.{shown_if}
 use Rattle.link_ports.specs.Machine.{LinkPacket, LinkState, status_at}
 use Rattle.link_ends.specs.declared.ends.LinkEnds.{LinkEnds}
 use Rattle.link_ends.specs.Hosts.{InterfacesView, operated_on}
 use Rattle.link_ends.specs.Keepers.{KeeperView}
-use Rattle.whole_machine.specs.Machine.{Whole, beside_of, memory_shown, secure_in, whole_streams, t_by}
-use Rattle.all_links.specs.declared.links.Links.{Links}
-use Rattle.all_ends.specs.AllEnds.{grants_in}
-use Rattle.all_links.specs.Besides.{t_in, answer_of_links, beside_in, IsAnswered}
+use Rattle.whole_machine.specs.Machine.{Whole, memory_shown, secure_in, whole_streams, t_by}
+use Rattle.all_links.specs.Besides.{t_in}
 use Rattle.all_links.specs.Interfaces.{interface_named, answer_in, ended_in, ended_at, ended_on}
 use Rattle.all_ends.specs.Places.{code_behind}
 use Rattle.all_links.specs.Interfaces.{written_as, flr_as, firmware_as, viewed_as, read_as, tdi_of_ends, seen_at}
 use Rattle.all_links.specs.Interfaces.{device_interfaces, verdict_in}
 use Rattle.all_ends.specs.States.{AreLinks, state_of}
-use Rattle.all_ends.specs.Verdicts.{head_effect, packet_effect}
 use Rattle.world_states.specs.Whole.{IsPlaced, IsBeside}
-use Rattle.world_states.specs.Worlds.{IsWhole, world_of}
 use Rattle.world_states.proofs.Places.{face_first, face_nowhere, position_at, position_none, IsSomeSite, site_or_none}
 use Rattle.world_states.proofs.Places.{get_there}
 use Rattle.world_states.proofs.Sites.{site_at_place, site_numbered, site_apart, face_found, face_absent}
@@ -132,21 +120,6 @@ not_running (IsLocked nonce reported) stream is = refl
 not_running (IsRunning floor) stream is = absurd (true_false refl is)
 not_running IsDoubt stream is = refl
 not_running IsBroken stream is = refl
-
--- ---- effects
-
-head_is : (plan : Plan) (grants : Grants) (port : PortName) (unit : UnitName) (p : Packet)
-    (r : Result HeadView TlpFault)
-    → head_effect plan.memory grants port.link unit p.prefix.t r ≡ host_effect plan grants port unit p r
-head_is plan grants port unit p (Ok head) = refl
-head_is plan grants port unit p (Err f) = refl
-
-effect_is : (plan : Plan) (grants : Grants) (port : PortName) (unit : UnitName) (p : Packet)
-    → packet_effect plan.memory grants port unit p ≡ effect_by plan grants port unit p
-effect_is plan grants port unit p =
-    ap (λ (e : Effect). if is_sync_packet p then effect.Sync
-    else if sent_direction port.side == 0 then e else effect.Delivered)
-    (head_is plan grants port unit p (read_head_of p.head))
 
 -- ---- memory
 
@@ -309,7 +282,7 @@ module _ (plan : Plan) (ends : List LinkEnds) (m : InterfacesView) (memory : Mem
           ∙ p.ends_are)))
           (λ not_so. not_so) cases
 
-  t_is : (port : PortName) (side : Side) (o : Option LinkEnds) (head : HeadView) (stream : ℕ) (trusted : Bool)
+  pub t_is : (port : PortName) (side : Side) (o : Option LinkEnds) (head : HeadView) (stream : ℕ) (trusted : Bool)
       → slice_get ends port.link ≡ o → t_in o side head stream trusted ≡ t_by plan w.faces port side head stream trusted
   t_is port Host None head stream trusted is = refl
   t_is port Host (Some l) head stream trusted is = refl
@@ -418,7 +391,7 @@ module _ (plan : Plan) (ends : List LinkEnds) (m : InterfacesView) (memory : Mem
           (x.3 ∙ eqb-true y.requester requester its.1)) (fails k x.0 x.1)))
           (and_left ((y.link == link) && (y.requester == requester)) (is_running y.seen)) cases
 
-  grant_is : (link requester : ℕ) → granted m link requester ≡ grant_of plan w.faces link requester
+  pub grant_is : (link requester : ℕ) → granted m link requester ≡ grant_of plan w.faces link requester
   grant_is link requester =
       ⊎_elim (grant_found link requester) (grant_nowhere link requester)
       (site_or_none (is_requester link requester) (sites plan))
@@ -462,7 +435,7 @@ module _ (plan : Plan) (ends : List LinkEnds) (m : InterfacesView) (memory : Mem
       ∙ (λ j. v.Interface (iv.View (sym (site_numbered plan i x is) j)
       (seen_view p.interface.seen p.face.managed p.keeps.managed.seen j)))
 
-  tdi_there : (i : ℕ) (x : Site) (p : IsPlaced plan ends m w i x) → tdi_of_ends ends (x.link, p.place) ≡ Some p.tdi
+  pub tdi_there : (i : ℕ) (x : Site) (p : IsPlaced plan ends m w i x) → tdi_of_ends ends (x.link, p.place) ≡ Some p.tdi
   tdi_there i x p =
       ap (λ (o : Option LinkEnds). option_and_then (λ d. slice_get d.interfaces p.place) (device_interfaces o))
       p.ends_are ∙ p.tdi_is
@@ -533,7 +506,7 @@ module _ (plan : Plan) (ends : List LinkEnds) (m : InterfacesView) (memory : Mem
         (verdict_is i o loss)
 
     -- every event has the verdict that the machine answers it with
-    answer_is : (e : InterfaceEvent) → answer_in ends m k.pool.draws memory e
+    pub answer_is : (e : InterfaceEvent) → answer_in ends m k.pool.draws memory e
         ≡ Some (interface_answer plan (whole_streams plan w) w.faces e (memory_shown plan w.written e))
     answer_is (ie.Lock i loss) = operation_is i op.Lock loss
     answer_is (ie.Report i loss) = operation_is i op.Report loss
@@ -553,39 +526,3 @@ module _ (plan : Plan) (ends : List LinkEnds) (m : InterfacesView) (memory : Mem
         answered i (ie.Firmware i) (λ at. Some (firmware_as i (option_and_then (tdi_of_ends ends) at))) refl
         (λ x p is. ap Some (firmware_is i x p is))
     answer_is (ie.Memory at len) = ap Some (memory_is plan memory w.written at len beside.regions beside.written)
-
--- ---- all of it
-
-pub beside_is : (plan : Plan) (s : Links) (w : Whole) → AreLinks plan s.ends s.keeper.keys
-    → IsWhole (world_of plan s) w → beside_in s (beside_of plan w).answer ≡ beside_of plan w
-beside_is plan s w links whole =
-    let m = s.keeper.interfaces in
-    let memory = s.trusted.contents in
-    let b = whole.beside in
-    λ i. record {
-      t = λ port head stream trusted.
-          t_is plan s.ends m memory w b links.fits links.many port port.side (slice_get s.ends port.link) head stream
-          trusted refl i;
-      effects = λ port unit ps.
-          map (λ p. ((λ j. packet_effect (b.regions j)
-          (λ link requester. grant_is plan s.ends m memory w b links.fits links.many link requester j) port unit p)
-          ∙ effect_is plan (grant_of plan w.faces) port unit p) i) ps;
-      answer = (beside_of plan w).answer;
-    }
-
--- every event on an interface has the machine's answer
-pub answers_are : (plan : Plan) (s : Links) (w : Whole) → InterfaceOperationsJoin → AreLinks plan s.ends s.keeper.keys
-    → IsWhole (world_of plan s) w → (e : InterfaceEvent) → answer_of_links s e ≡ Some ((beside_of plan w).answer e)
-answers_are plan s w joins links whole =
-    answer_is plan s.ends s.keeper.interfaces s.trusted.contents w whole.beside links.fits links.many s.keeper.keys
-    s.packets.packets joins links whole.links
-
-pub is_answered : (plan : Plan) (s : Links) (w : Whole) → InterfaceOperationsJoin → AreLinks plan s.ends s.keeper.keys
-    → IsWhole (world_of plan s) w → (event : Event) → IsAnswered s event
-is_answered plan s w joins links whole event e on =
-    subst (λ (o : Option Verdict). IsSome o) (sym (answers_are plan s w joins links whole e)) refl
-
-pub grants_are : (plan : Plan) (s : Links) (w : Whole) → AreLinks plan s.ends s.keeper.keys
-    → IsWhole (world_of plan s) w → grants_in s.keeper.interfaces ≡ grant_of plan w.faces
-grants_are plan s w links is = λ i link requester.
-    grant_is plan s.ends s.keeper.interfaces s.trusted.contents w is.beside links.fits links.many link requester i

@@ -6,7 +6,8 @@ use Rattle.std.specs.Prelude.{not, if◌then◌else◌, nat_lt, slice_get}
 use Rattle.ide_types.specs.declared.port.PortName.{PortName}
 use Rattle.ide_plan.specs.declared.plan.Plan.{Plan}
 use Rattle.link_events.specs.declared.event.Event.{Event}
-use Rattle.link_events.specs.declared.event.Event.TheVariants.{Send, Dump, Reset, Status, Interface}
+use Rattle.link_events.specs.declared.event.Event.TheVariants.{Access, Send, Dump, Reset, Status, Interface}
+use Rattle.link_events.specs.declared.event.AccessEvent.TheVariants as ae
 use Rattle.link_events.specs.declared.event.InterfaceEvent.{InterfaceEvent}
 use Rattle.link_events.specs.declared.event.InterfaceEvent.TheVariants as ie
 use Rattle.link_verdicts.specs.declared.verdict.Verdict.{Verdict}
@@ -24,17 +25,16 @@ use Rattle.link_history.specs.Memory.{Grants}
 use Rattle.link_ports.specs.Machine.{Beside, LinkState, Stepped, status_found}
 unfoldable use Rattle.link_ports.specs.Machine.{find_op, step_of}
 use Rattle.whole_machine.specs.Machine.{Whole, secure_in, whole_streams, arrival_of, draw_after, written_after}
-use Rattle.whole_machine.specs.Machine.{whole_after}
+use Rattle.whole_machine.specs.Machine.{beside_of, whole_after}
 use Rattle.link_ends.specs.Hosts.{InterfacesView}
 use Rattle.all_links.specs.declared.links.Links.{Links}
 use Rattle.all_ends.specs.States.{AreLinks}
-use Rattle.all_links.specs.Links.{links_state}
+use Rattle.all_links.specs.States.{links_state}
 use Rattle.all_links.specs.Sides.{SidesKeep}
 use Rattle.all_ends.specs.Writes.{writes_by}
 use Rattle.world_states.specs.Whole.{IsBeside}
-use Rattle.world_states.specs.Worlds.{IsWhole, world_of}
 use Rattle.world_states.proofs.Settled.{leaves, stays_is}
-use Rattle.world_states.proofs.Secure.{secure_kept}
+use Rattle.world_states.proofs.Secure.{answer_kept, secure_kept}
 use Rattle.world_states.proofs.Rests.{Rests, rests_of_packets, rests_at_view, rests_at_memory, rests_elsewhere}
 use Rattle.world_states.proofs.Rests.{draw_of_packets, is_of_packets}
 use Rattle.std.proofs.lemmas.Bool.Decides.{nat_tests}
@@ -128,18 +128,30 @@ kept_beside plan w e verdict new old after b many sides still =
           (subst (IsLeftBy old.trusted.contents) (sym still.written) b.written);
     })
 
+-- ports, interfaces and memory are a state of the machine
+pub record IsState (plan : Plan) (s : Links) (w : Whole) : Type 0 where
+  pub links : w.links ≡ links_state plan s
+  pub beside : IsBeside plan s.ends s.keeper.interfaces s.trusted.contents w
+
 -- the links before and after an event, and the state of the machine before it
 pub record AreBoth (plan : Plan) (old new : Links) (w : Whole) : Type 0 where
   pub links : AreLinks plan old.ends old.keeper.keys
   pub links_after : AreLinks plan new.ends new.keeper.keys
-  pub whole : IsWhole (world_of plan old) w
+  pub whole : IsState plan old w
 
 -- ---- events that leave the ports as they are
+
+pub interface_step : (plan : Plan) (w : Whole) (st : LinkState) (e : InterfaceEvent) (verdict : Verdict)
+    → ◌≡◌ {A = Stepped} (verdict, st) (step_of plan (beside_of plan w) w.links (Interface e))
+    → (verdict ≡ (beside_of plan w).answer e) × (st ≡ w.links)
+unfolding step_of
+interface_step plan w st e verdict is = (ap (λ (s : Stepped). s.0) is, ap (λ (s : Stepped). s.1) is)
 
 abbrev leaves_ports : Plan → Event → Bool
 leaves_ports plan (Dump n) = true
 leaves_ports plan (Status link stream) = true
 leaves_ports plan (Interface e) = true
+leaves_ports plan (Access (ae.Mmio interface bar offset len)) = true
 leaves_ports plan (Reset link) = not (nat_lt link (length plan.links))
 leaves_ports plan e = false
 
@@ -158,6 +170,7 @@ unfolding step_of
 ports_kept plan beside st (Dump n) is = refl
 ports_kept plan beside st (Status link stream) is = status_kept plan st link stream (find_op plan st link stream)
 ports_kept plan beside st (Interface e) is = refl
+ports_kept plan beside st (Access (ae.Mmio interface bar offset len)) is = refl
 ports_kept plan beside st (Reset link) is = past_kept (nat_lt link (length plan.links)) _ _ st is
 ports_kept plan beside st e is = absurd cc
 
@@ -203,6 +216,20 @@ module _ (plan : Plan) (old new : Links) (w : Whole) (verdict : Verdict) (beside
         written = written_kept plan w (Send port bytes more trusted) verdict refl;
       })
 
+  pub answer_beside : (link : ℕ)
+      → (verdict, links_state plan new) ≡ step_of plan beside w.links (Access (ae.Answer link))
+      → IsBeside plan new.ends new.keeper.interfaces new.trusted.contents
+      (whole_after plan w (Access (ae.Answer link)) verdict (links_state plan new))
+  answer_beside link step =
+      still_beside (Access (ae.Answer link)) (record {
+        stays = λ l stream is.
+            ap (λ (r : Stepped). secure_in plan r.1 l stream) step
+            ∙ answer_kept plan beside w.links link l stream is;
+        rests = λ i x at. rests_of_packets (Access (ae.Answer link)) verdict x refl;
+        draw = refl;
+        written = written_kept plan w (Access (ae.Answer link)) verdict refl;
+      })
+
   -- an event that leaves the ports as they are
   pub leaving_beside : (e : Event) → leaves_ports plan e ≡ true
       → (verdict, links_state plan new) ≡ step_of plan beside w.links e
@@ -232,6 +259,14 @@ module _ (plan : Plan) (old new : Links) (w : Whole) (verdict : Verdict) (beside
   status_beside link stream step =
       leaving_beside (Status link stream) refl step (λ i x at. rests_of_packets (Status link stream) verdict x refl)
       refl refl
+
+  pub mmio_beside : (interface bar offset len : ℕ)
+      → (verdict, links_state plan new) ≡ step_of plan beside w.links (Access (ae.Mmio interface bar offset len))
+      → IsBeside plan new.ends new.keeper.interfaces new.trusted.contents
+      (whole_after plan w (Access (ae.Mmio interface bar offset len)) verdict (links_state plan new))
+  mmio_beside interface bar offset len step =
+      let e = Access (ae.Mmio interface bar offset len) in
+      leaving_beside e refl step (λ i x at. rests_of_packets e verdict x refl) refl refl
 
   pub view_beside : (i : ℕ) → (verdict, links_state plan new) ≡ step_of plan beside w.links (Interface (ie.View i))
       → IsBeside plan new.ends new.keeper.interfaces new.trusted.contents

@@ -14,6 +14,7 @@ use Rattle.ide_plan.proofs.Limits.{few_interfaces}
 use Rattle.ide_plan.specs.declared.interface.InterfacePlan.{InterfacePlan}
 use Rattle.ide_plan.specs.declared.plan.LinkPlan.{LinkPlan}
 use Rattle.ide_plan.specs.declared.plan.Plan.{Plan}
+use Rattle.interface_states.specs.Floors.{interfaces_before}
 use Rattle.interface_states.specs.Sites.{Site, sites_on, sites_from}
 unfoldable use Rattle.interface_states.specs.Sites.{sites}
 use Rattle.interface_machine.specs.Machine.{Face, find_face}
@@ -94,12 +95,6 @@ on_many number link (p ∷ ps) = ap suc (on_many (number + 1) link ps)
 
 -- ---- the sites of all links
 
--- how many interfaces are on the links before this one
-abbrev pub planned_before : List LinkPlan → ℕ → ℕ
-planned_before [] link = 0
-planned_before (l ∷ ls) zero = 0
-planned_before (l ∷ ls) (suc link) = length l.interfaces + planned_before ls link
-
 record IsFrom (number link i : ℕ) (ls : List LinkPlan) (x : Site) : Type 0 where
   number_is : x.number ≡ number + i
   on : ℕ
@@ -108,7 +103,7 @@ record IsFrom (number link i : ℕ) (ls : List LinkPlan) (x : Site) : Type 0 whe
   links_are : slice_get ls on ≡ Some laid_out
   place : ℕ
   plan_is : slice_get laid_out.interfaces place ≡ Some x.plan
-  place_is : i ≡ planned_before ls on + place
+  place_is : i ≡ interfaces_before ls on + place
 
 from_read : (number link : ℕ) (ls : List LinkPlan) (i : ℕ) (x : Site)
     → slice_get (sites_from number link ls) i ≡ Some x → IsFrom number link i ls x
@@ -169,7 +164,7 @@ pub record IsPlanned (plan : Plan) (i : ℕ) (x : Site) : Type 0 where
   pub links_are : slice_get plan.links x.link ≡ Some laid_out
   pub place : ℕ
   pub plan_is : slice_get laid_out.interfaces place ≡ Some x.plan
-  pub place_is : i ≡ planned_before plan.links x.link + place
+  pub place_is : i ≡ interfaces_before plan.links x.link + place
   pub fits : FitsLink laid_out
   pub interface_fits : FitsInterface laid_out.streams x.plan
 
@@ -191,7 +186,7 @@ site_planned plan i x fits is =
       links_are = links_are;
       place = r.place;
       plan_is = r.plan_is;
-      place_is = r.place_is ∙ ap (λ n. planned_before plan.links n + r.place) on;
+      place_is = r.place_is ∙ ap (λ n. interfaces_before plan.links n + r.place) on;
       fits = fitting;
       interface_fits =
           all_at (FitsInterface r.laid_out.streams) r.laid_out.interfaces r.place x.plan fitting.each_interface
@@ -229,7 +224,7 @@ site_apart plan i j x y fits first second link requester =
     ap (λ (l : LinkPlan). slice_get l.interfaces b.place) (sym layouts) ∙ b.plan_is in
     let place = requesters_apart a.laid_out.interfaces a.place b.place x.plan y.plan a.fits.requesters_differ a.plan_is
     there requester in
-    omega (arith, a.place_is, b.place_is, place, ap (planned_before plan.links) link)
+    omega (arith, a.place_is, b.place_is, place, ap (interfaces_before plan.links) link)
 
 -- ---- what is looked for
 

@@ -3,9 +3,9 @@
 -- streams and ports.
 use Rattle.std.proofs.Common.{◌≡◌, ℕ, ◌+◌, ◌==◌, ◌&&◌, Bool, true, false, List, [], ◌∷◌, length, Option, Some, None}
 use Rattle.std.proofs.Common.{refl, ap, sym, ◌∙◌, subst, arith}
-use Rattle.std.specs.Prelude.{not, if◌then◌else◌, is_some}
+use Rattle.std.specs.Prelude.{not, if◌then◌else◌, is_some, unwrap_or, Result, Ok, Err}
 use Rattle.ide_types.specs.declared.port.PortName.{PortName}
-use Rattle.ide_types.specs.declared.port.Side.TheVariants.{Device}
+use Rattle.ide_types.specs.declared.port.Side.TheVariants.{Device, Host}
 use Rattle.ide_types.specs.declared.sub.SubKind.{SubKind}
 use Rattle.ide_types.specs.declared.sub.SubKind.TheVariants.{Pr, Npr, Cpl}
 use Rattle.ide_types.specs.Sub.{is_same_sub}
@@ -16,35 +16,50 @@ use Rattle.tlp_layout.specs.Head.{head_bytes}
 use Rattle.tlp_layout.specs.Tlp.{header, body}
 use Rattle.association.specs.Outgoing.{Outgoing, NoTlp, OnNone, OnStream, outgoing_of}
 use Rattle.ide_prefix.specs.Packet.{Packet}
-use Rattle.link_events.specs.declared.event.Event.TheVariants.{Send}
+use Rattle.interface_words.specs.declared.verdict.InterfaceVerdict.TheVariants as iv
+use Rattle.link_events.specs.declared.event.Event.TheVariants.{Access, Send}
+use Rattle.link_events.specs.declared.event.AccessEvent.TheVariants as ae
 use Rattle.link_verdicts.specs.declared.verdict.SealedPacket.{SealedPacket}
 use Rattle.link_verdicts.specs.declared.verdict.Verdict.{Verdict}
 use Rattle.link_verdicts.specs.declared.verdict.Verdict.TheVariants as v
 use Rattle.link_history.specs.Plan.{has_port, mode_of, is_closed, is_same_port, streams_of}
 use Rattle.link_history.specs.Due.{Sending, refusals, sealed_by, first_that_holds}
-use Rattle.stream_rules.specs.Stream.{Slot, Slots, TxSub, Three, StreamState, Empty, Programmed, Armed, Live, gone_on}
+use Rattle.stream_rules.specs.Stream.{
+  LaneSlot,
+  LaneSlots,
+  TxSub,
+  Three,
+  StreamState,
+  Empty,
+  Programmed,
+  Armed,
+  Live,
+  gone_on,
+}
 use Rattle.stream_rules.specs.Stream.{counted_unit, ended_slots, sealed_slots, sealed_sub, sealed_one, sealed_all}
 use Rattle.stream_rules.specs.Stream.{lanes_of}
 use Rattle.stream_rules.specs.Slots.{is_live_slot, any_live, has_all_live, has_some_live, status_by}
 use Rattle.interface_states.specs.Devices.{is_secure}
 use Rattle.whole_machine.specs.Machine.{secure_in}
 use Rattle.link_ports.specs.Machine.{Beside, LinkState, LinkPacket, port_at, status_if_planned}
-use Rattle.link_ports.specs.Machine.{stepped_answer, stepped_on_stream, stepped_send}
+use Rattle.link_ports.specs.Machine.{sealing_draw_at, stepped_answer, stepped_completion, stepped_on_stream}
+use Rattle.link_ports.specs.Machine.{stepped_reply, stepped_send}
+use Rattle.link_ports.specs.Replies.{Reply, is_below}
 unfoldable use Rattle.link_ports.specs.Machine.{find, put, step_of}
 use Rattle.link_ports.proofs.Puts.{find-put, find-put_other}
 use Rattle.link_ports.proofs.Changes.{at_place}
 
 -- ---- senders
 
-gone_live : (p : Packet) (s : Slot) → is_live_slot (gone_on p s) ≡ is_live_slot s
+gone_live : (p : Packet) (s : LaneSlot) → is_live_slot (gone_on p s) ≡ is_live_slot s
 gone_live p (Live x) = refl
 gone_live p s = refl
 
-counted_live : (s : Slot) → is_live_slot (counted_unit s) ≡ is_live_slot s
+counted_live : (s : LaneSlot) → is_live_slot (counted_unit s) ≡ is_live_slot s
 counted_live (Live x) = refl
 counted_live s = refl
 
-ended_live : (a b : Slot) → any_live (record { first = a; second = b }) ≡ true
+ended_live : (a b : LaneSlot) → any_live (record { first = a; second = b }) ≡ true
     → any_live (ended_slots (record { first = a; second = b })) ≡ true
 ended_live Empty b is = rw (counted_live b) is
 ended_live (Programmed j key) b is = rw (counted_live b) is
@@ -52,7 +67,7 @@ ended_live (Armed j key) (Live x) is = refl
 ended_live (Armed j key) b is = is
 ended_live (Live x) b is = grind arith
 
-sealed_live : (m : Bool) (p : Packet) (s : Slots) → any_live s ≡ true → any_live (sealed_slots m p s) ≡ true
+sealed_live : (m : Bool) (p : Packet) (s : LaneSlots) → any_live s ≡ true → any_live (sealed_slots m p s) ≡ true
 sealed_live true p s is = ended_live s.first s.second is
 sealed_live false p s is = rw (gone_live p s.first, gone_live p s.second) is
 
@@ -196,3 +211,35 @@ pub secure_kept : (plan : Plan) (beside : Beside) (st : LinkState) (port : PortN
     → secure_in plan (step_of plan beside st (Send port bytes more trusted)).1 link stream ≡ true
 secure_kept plan beside st port bytes more trusted link stream is =
     port_kept plan beside st port bytes more trusted (has_port plan port) refl (port_at Device link) stream is
+
+-- an answer to a read is a send, or leaves the ports as they are
+completion_kept : (plan : Plan) (beside : Beside) (st : LinkState) (port : PortName) (r : Reply) (draw : Option ℕ)
+    (older : Bool) → is_below draw r.floor ≡ older
+    → StaySecure plan st (stepped_completion plan beside st port r draw).1
+completion_kept plan beside st port r draw true older q n is =
+    subst (λ (b : Bool). is_secure
+    (status_if_planned (find plan (if b then (v.Interface (iv.RefusedRefreshFirst (unwrap_or draw 0) r.floor), st)
+    else stepped_send plan beside st port (outgoing_of (streams_of plan port.link) port.side r.bytes) false true).1 q
+    n))
+    ≡ true) (sym older) is
+completion_kept plan beside st port r draw false older q n is =
+    subst (λ (b : Bool). is_secure
+    (status_if_planned (find plan (if b then (v.Interface (iv.RefusedRefreshFirst (unwrap_or draw 0) r.floor), st)
+    else stepped_send plan beside st port (outgoing_of (streams_of plan port.link) port.side r.bytes) false true).1 q
+    n))
+    ≡ true) (sym older)
+    (send_kept plan beside st port (outgoing_of (streams_of plan port.link) port.side r.bytes) false true q n is)
+
+reply_kept : (plan : Plan) (beside : Beside) (st : LinkState) (port : PortName) (o : Result Reply Verdict)
+    → StaySecure plan st (stepped_reply plan beside st port o).1
+reply_kept plan beside st port (Err w) q n is = is
+reply_kept plan beside st port (Ok r) q n is =
+    completion_kept plan beside st port r (sealing_draw_at Cpl (find plan st port r.stream))
+    (is_below (sealing_draw_at Cpl (find plan st port r.stream)) r.floor) refl q n is
+
+pub answer_kept : (plan : Plan) (beside : Beside) (st : LinkState) (answered link stream : ℕ)
+    → secure_in plan st link stream ≡ true
+    → secure_in plan (step_of plan beside st (Access (ae.Answer answered))).1 link stream ≡ true
+unfolding step_of
+answer_kept plan beside st answered link stream is =
+    reply_kept plan beside st (port_at Host answered) (beside.reply answered) (port_at Device link) stream is

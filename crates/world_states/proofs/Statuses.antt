@@ -4,21 +4,24 @@ use Rattle.std.proofs.Common.{◌≡◌, ℕ, suc, zero, ◌+◌, ◌*◌, List,
 use Rattle.std.proofs.Common.{None}
 use Rattle.std.proofs.lemmas.Option.{none-some, same_Some}
 use Rattle.std.specs.List.{slice_index_or}
-use Rattle.std.specs.Prelude.{slice_get, option_map}
+use Rattle.std.specs.Option.{option_and_then}
+use Rattle.std.specs.Prelude.{slice_get, option_map, unwrap_or}
 use Rattle.ide_types.specs.declared.port.Side.{Side}
 use Rattle.ide_types.specs.declared.port.Side.TheVariants.{Host, Device}
 use Rattle.ide_types.specs.declared.status.StreamStatus.{StreamStatus}
+use Rattle.ide_types.specs.declared.sub.SubKind.{SubKind}
 use Rattle.ide_types.specs.declared.status.StreamStatus.TheVariants as status
 use Rattle.ide_plan.specs.declared.plan.Plan.{Plan}
 use Rattle.ide_plan.specs.declared.stream.StreamPlan.{StreamPlan}
 use Rattle.key_laws.specs.Places.{sent_direction}
-use Rattle.stream_rules.specs.Stream.{StreamState}
+use Rattle.stream_rules.specs.Stream.{StreamState, at_sub}
+use Rattle.stream_rules.specs.Slots.{receiving_draw}
 use Rattle.sub_stream.specs.Calls.{stream_status}
 use Rattle.tsm_host.specs.Streams.{status_or_idle}
-use Rattle.ide_port.specs.{Found, found, status_in}
+use Rattle.ide_port.specs.{Found, found, receiving_draw_in, status_in}
 use Rattle.device_side.specs.Ends.{says_secure, secure_at}
 use Rattle.link_history.specs.Plan.{streams_of}
-use Rattle.link_ports.specs.Machine.{LinkPacket, port_at, status_at}
+use Rattle.link_ports.specs.Machine.{LinkPacket, port_at, receiving_draw_at, status_at}
 unfoldable use Rattle.link_ports.specs.Machine.{find}
 use Rattle.link_ports.specs.Machine as machine
 use Rattle.interface_states.specs.Devices.{is_secure}
@@ -91,3 +94,20 @@ pub secure_is : (plan : Plan) (ends : List LinkEnds) (k : KeeperView) (packets :
 secure_is plan ends k packets link stream l links is =
     secure_says (status_in l.device.port stream)
     ∙ ap is_secure (status_is plan ends k packets Device link stream l links is)
+
+-- ---- what its receivers open under
+
+draw_shown : (o : Option Found) (u : SubKind)
+    → unwrap_or (option_and_then (λ (f : Found). receiving_draw (at_sub f.state.rx u).slots) o) 0
+    ≡ unwrap_or (receiving_draw_at u (option_map (λ (f : Found). f.state) o)) 0
+draw_shown None u = refl
+draw_shown (Some f) u = refl
+
+pub device_draw_is : (plan : Plan) (ends : List LinkEnds) (k : KeeperView) (packets : List LinkPacket)
+    (link stream : ℕ) (l : LinkEnds) (u : SubKind) → AreLinks plan ends k → slice_get ends link ≡ Some l
+    → unwrap_or (receiving_draw_in l.device.port stream u) 0
+    ≡ unwrap_or (receiving_draw_at u (find plan (state_of plan ends k packets) (port_at Device link) stream)) 0
+device_draw_is plan ends k packets link stream l u links is =
+    draw_shown (found l.device.port.plans l.device.port.states stream) u
+    ∙ ap (λ (o : Option StreamState). unwrap_or (receiving_draw_at u o) 0)
+    (sym (find_is plan ends k packets Device link stream l links is))

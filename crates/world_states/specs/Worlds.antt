@@ -12,26 +12,32 @@ use Rattle.whole_machine.specs.Stands.{StandsFor}
 use Rattle.link_ends.specs.declared.ends.LinkEnds.{LinkEnds}
 use Rattle.link_ends.specs.Hosts.{InterfacesView}
 use Rattle.trusted_memory.specs.{MemoryContents}
-use Rattle.all_links.specs.declared.links.Links.{Links}
-use Rattle.all_ends.specs.States.{IsBounded, AreLinks}
-use Rattle.all_links.specs.Links.{links_state}
+use Rattle.all_ends.specs.States.{AreLinks}
+use Rattle.all_links.specs.States.{links_state}
+use Rattle.whole_links.specs.declared.whole.WholeLinks.{WholeLinks}
+use Rattle.whole_links.specs.Whole.{IsBoundedWhole}
 use Rattle.world_states.specs.Whole.{IsBeside}
+use Rattle.accesses.specs.declared.link.LinkAccesses.{LinkAccesses}
+use Rattle.world_states.specs.Accesses.{AreAccesses, seen_at}
 
 -- the topology, what is kept of its ports and of the manager's streams, the ends of each link with its device's
--- interfaces, the manager of interfaces, trusted memory, and how many events came
+-- interfaces, the manager of interfaces, trusted memory, what stands at each link for reads and for the memory of its
+-- device, and how many events came
 pub record WorldView : Type 0 where
   pub plan : Plan
   pub state : LinkState
   pub ends : List LinkEnds
   pub interfaces : InterfacesView
   pub memory : MemoryContents
+  pub accesses : List LinkAccesses
   pub steps : ℕ
 
--- The world is a state of the whole machine: of its ports that state itself; of interfaces and memory what the machine
--- keeps of them.
+-- The world is a state of the whole machine: of its ports that state itself; of interfaces, memory and accesses what
+-- the machine keeps of them.
 pub record IsWhole (s : WorldView) (w : Whole) : Type 0 where
   pub links : w.links ≡ s.state
   pub beside : IsBeside s.plan s.ends s.interfaces s.memory w
+  pub accesses : AreAccesses s.plan (seen_at s.accesses) w.accesses
 
 -- It stands for a history: it is a state of the whole machine that does.
 pub record Stands (s : WorldView) (h : History) : Type 0 where
@@ -58,21 +64,27 @@ pub record IsStep (old : WorldView) (event : Event) (verdict : Verdict) (new : W
   pub steps_are : new.steps ≡ old.steps + 1
   pub stood : (h : History) → Stands old h → HasStood h event verdict old new
 
+-- All is as before, but for how many pages are spare.
+pub record IsAsBefore (old new : WorldView) : Type 0 where
+  pub world : record new { accesses = old.accesses } ≡ old
+  pub accesses : seen_at new.accesses ≡ seen_at old.accesses
+
 -- ---- as it is kept
 
-abbrev pub world_of : Plan → Links → WorldView
+abbrev pub world_of : Plan → WholeLinks → WorldView
 world_of plan s = record {
   plan = plan;
-  state = links_state plan s;
-  ends = s.ends;
-  interfaces = s.keeper.interfaces;
-  memory = s.trusted.contents;
-  steps = s.steps;
+  state = links_state plan s.links;
+  ends = s.links.ends;
+  interfaces = s.links.keeper.interfaces;
+  memory = s.links.trusted.contents;
+  accesses = s.accesses;
+  steps = s.links.steps;
 }
 
 -- the links are those of the plan, and the world stands for some history
-pub record IsWorld (plan : Plan) (s : Links) : Type 0 where
-  pub links : AreLinks plan s.ends s.keeper.keys
-  pub bounded : IsBounded s.ends s.packets.packets s.steps
+pub record IsWorld (plan : Plan) (s : WholeLinks) : Type 0 where
+  pub links : AreLinks plan s.links.ends s.links.keeper.keys
+  pub bounded : IsBoundedWhole s
   pub history : History
   pub stands : Stands (world_of plan s) history

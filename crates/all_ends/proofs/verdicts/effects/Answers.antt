@@ -1,38 +1,80 @@
-use Rattle.all_ends.proofs.Terms.{map, take, packet_write, ◌≡◌, ◌∙◌, ap, sym, subst, List, ◌++◌, [], ◌∷◌, arith}
-use Rattle.all_ends.proofs.Terms.{length-append, Region, Write, Option, Packet, Leads, marked_effect, marked_write}
+use Rattle.all_ends.proofs.Terms.{◌≡◌, ◌∙◌, ap, sym, subst, List, ◌+◌, ◌++◌, [], ◌∷◌, arith, drop, add-one, ℕ}
+use Rattle.all_ends.proofs.Terms.{append-nil, length, length-append, Region, Packet, Effect, mark_of}
+use Rattle.std.proofs.lemmas.List.{append_assoc}
+use Rattle.std.proofs.Math.Seq.{drop-length}
+use Rattle.guarded_memory.specs.declared.standing.Standing.{Standing}
+use Rattle.accesses.specs.{standings_by}
+use Rattle.sub_stream.specs.declared.answer.PacketMark.{PacketMark}
 use Rattle.all_ends.specs.AllEnds.{grants_in}
-use Rattle.all_ends.proofs.Effects.{one_more, one_more_write}
+use Rattle.all_ends.specs.Verdicts.{UnitCame, PacketCame}
+use Rattle.all_ends.proofs.Effects.{none_came, more_came, packet_there, IsThere}
 use Rattle.all_ends.proofs.verdicts.effects.Goals as goal
 
 pub loop-i-preserved : goal.loop-i-preserved
 loop-i-preserved c =
     let ps : List Packet = c.args.packets.now in
+    let port = c.args.at.now.port in
+    let unit = c.args.unit in
     let regions : List Region = c.args.memory.now.contents.regions in
-    let grants = grants_in c.args.keeper.now in
+    let grants = grants_in c.args.at.now.keeper.now in
+    let xs : List Standing = standings_by c.args.access.now.floors c.args.at.now.interfaces.now in
     let same : c.loop-i.memory.contents.regions ≡ regions = c.loop-i.invariant.2 in
-    let head = c.packet.result.0.now in
-    let body = c.packet.result.1.now in
-    let came : c.effect.result ≡ marked_effect regions grants c.args.port c.args.unit c.mark-mark.result head =
-    c.effect.ensures.effect ∙ ap
-    (λ (rs : List Region). marked_effect rs grants c.args.port c.args.unit c.mark-mark.result head) same in
-    let more : Leads c.loop-i.memory.contents
-    (marked_write regions grants c.args.port c.args.unit c.mark-mark.result head body ∷ [])
-    c.effect.new.memory.contents =
-    subst (λ (rs : List Region). Leads c.loop-i.memory.contents
-    (marked_write rs grants c.args.port c.args.unit c.mark-mark.result head body ∷ []) c.effect.new.memory.contents)
-    same c.effect.ensures.leads in (
-      c.push.ensures ∙ (λ i. c.loop-i.invariant.0 i ++ came i ∷ [])
-          ∙ sym (one_more regions grants c.args.port c.args.unit ps c.loop-i.i c.mark-mark.result head body
-          c.mark-mark.ensures c.packet.ensures),
+    let floors : c.loop-i.access.floors ≡ c.args.access.now.floors = c.loop-i.invariant.3 in
+    let ws = c.loop-i.access.reads in
+    let m = c.loop-i.memory.contents in
+    let g = c.loop-i.access.guarded in
+    let e : Effect = c.effect.result in
+    let ws1 = c.effect.new.access.reads in
+    let m1 = c.effect.new.memory.contents in
+    let g1 = c.effect.new.access.guarded in
+    let t : IsThere ps c.loop-i.i c.mark-mark.result c.packet.result.0.now c.packet.result.1.now = packet_there ps
+    c.loop-i.i c.mark-mark.result c.packet.result.0.now c.packet.result.1.now c.mark-mark.ensures c.packet.ensures in
+    let p : Packet = t.packet in
+    let here : drop c.loop-i.i ps ≡ p ∷ drop (c.loop-i.i + 1) ps = rw add-one t.here in
+    let first = subst (λ (rs : List Region). PacketCame rs grants
+    (standings_by c.loop-i.access.floors c.args.at.now.interfaces.now) port unit c.mark-mark.result
+    c.packet.result.0.now c.packet.result.1.now ws m g e ws1 m1 g1) same c.effect.ensures.came in
+    let second = subst (λ (fs : List ℕ). PacketCame regions grants (standings_by fs c.args.at.now.interfaces.now) port
+    unit c.mark-mark.result c.packet.result.0.now c.packet.result.1.now ws m g e ws1 m1 g1) floors first in
+    let third = subst (λ (k : PacketMark). PacketCame regions grants xs port unit k c.packet.result.0.now
+    c.packet.result.1.now ws m g e ws1 m1 g1) (sym t.mark_is) second in
+    let fourth = subst (λ (head : List ℕ). PacketCame regions grants xs port unit (mark_of p) head
+    c.packet.result.1.now ws m g e ws1 m1 g1) (sym t.head_is) third in
+    let one = subst (λ (body : List ℕ). PacketCame regions grants xs port unit (mark_of p) p.head body ws m g e ws1 m1
+    g1) (sym t.body_is) fourth in (
+      λ es ws' m' g' came.
+          let all = more_came regions grants xs port unit p (drop (c.loop-i.i + 1) ps) ws ws1 ws' m m1 m' g g1 g' e es
+          one came in
+          let whole = c.loop-i.invariant.0 (e ∷ es) ws' m' g'
+          (subst (λ (qs : List Packet). UnitCame regions grants xs port unit qs ws m g (e ∷ es) ws' m' g') (sym here)
+          all) in
+          subst (λ (ds : List Effect). UnitCame regions grants xs port unit ps c.args.access.now.reads
+          c.args.memory.now.contents c.args.access.now.guarded ds ws' m' g')
+          (sym (append_assoc c.loop-i.list (e ∷ []) es)
+          ∙ ap (λ (ds : List Effect). ds ++ es) (sym c.push.ensures)) whole,
       rw c.push.ensures (omega (arith, length-append c.loop-i.list (c.effect.result ∷ []), c.loop-i.invariant.1)),
       c.effect.ensures.regions ∙ same,
-      omega (arith, c.effect.ensures.spare, c.loop-i.invariant.3),
-      subst (λ (os : List (Option Write)). Leads c.args.memory.now.contents os c.effect.new.memory.contents)
-          (sym (one_more_write regions grants c.args.port c.args.unit ps c.loop-i.i c.mark-mark.result head body
-          c.mark-mark.ensures c.packet.ensures))
-          (c.packets_in_turn.ensures.joined c.args.memory.now.contents c.loop-i.memory.contents
-          c.effect.new.memory.contents
-          (map (packet_write regions grants c.args.port c.args.unit) (take c.loop-i.i ps))
-          (marked_write regions grants c.args.port c.args.unit c.mark-mark.result head body ∷ [])
-          c.loop-i.invariant.4 more),
+      c.effect.ensures.floors ∙ floors,
+      c.effect.ensures.sizes ∙ c.loop-i.invariant.4,
+      omega (arith, c.effect.ensures.spare, c.loop-i.invariant.5),
+      omega (arith, c.effect.ensures.pages, c.loop-i.invariant.6),
     )
+
+pub returns-clause-came : goal.returns-clause-came
+returns-clause-came c =
+    let ps : List Packet = c.args.packets.now in
+    let port = c.args.at.now.port in
+    let unit = c.args.unit in
+    let regions : List Region = c.args.memory.now.contents.regions in
+    let grants = grants_in c.args.at.now.keeper.now in
+    let xs : List Standing = standings_by c.args.access.now.floors c.args.at.now.interfaces.now in
+    let ws = c.loop-i.access.reads in
+    let m = c.loop-i.memory.contents in
+    let g = c.loop-i.access.guarded in
+    let at : c.loop-i.i ≡ length ps = omega (arith, c.count-i-end.ensures.value) in
+    let none : drop c.loop-i.i ps ≡ [] = ap (λ (n : ℕ). drop n ps) at ∙ drop-length ps in
+    let whole = c.loop-i.invariant.0 [] ws m g
+    (subst (λ (qs : List Packet). UnitCame regions grants xs port unit qs ws m g [] ws m g) (sym none)
+    (none_came regions grants xs port unit ws m g)) in
+    subst (λ (es : List Effect). UnitCame regions grants xs port unit ps c.args.access.now.reads
+    c.args.memory.now.contents c.args.access.now.guarded es ws m g) (append-nil c.loop-i.list) whole

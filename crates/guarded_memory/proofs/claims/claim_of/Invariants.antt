@@ -3,4 +3,5 @@ use Rattle.guarded_memory.specs.Claims.{claim_from, claim_of}
 use Rattle.guarded_memory.proofs.claims.claim_of.Given as goal
 
 abbrev pub invariant-loop-i : goal.invariant-loop-i
-invariant-loop-i l = claim_from l.i (drop l.i l.standings) l.span ≡ claim_of l.standings l.span
+invariant-loop-i g l = let xs = g.S.Standings.stand l.standings in claim_from l.i (drop l.i xs) l.span
+    ≡ claim_of xs l.span

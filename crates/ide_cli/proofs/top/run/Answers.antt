@@ -110,6 +110,16 @@ returns-clause-run_law g c plan h w = c.run_law.ensures plan h (is_due g c plan 
 pub returns-clause-memory_law : goal.returns-clause-memory_law
 returns-clause-memory_law g c plan h w = c.memory_law.ensures plan h (is_due g c plan h w).cause
 
+pub returns-clause-read_law : goal.returns-clause-read_law
+returns-clause-read_law g c plan h w = c.read_law.ensures plan h (is_due g c plan h w).cause
+
+pub returns-clause-mmio_law : goal.returns-clause-mmio_law
+returns-clause-mmio_law g c plan h w = c.mmio_law.ensures plan h (is_due g c plan h w).cause
+
+pub returns-clause-read_origin_law : goal.returns-clause-read_origin_law
+returns-clause-read_origin_law g c plan h w =
+    let is = is_due g c plan h w in c.read_origin_law.ensures plan is.fits h is.cause
+
 pub returns-clause-view_facts : goal.returns-clause-view_facts
 returns-clause-view_facts g c plan h w = c.views_hold.ensures plan (key_plan plan) h (keys_caused g c plan h w)
     (c.interfaces_have_causes.ensures plan h (is_due g c plan h w).cause)

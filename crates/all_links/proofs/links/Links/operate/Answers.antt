@@ -1,7 +1,7 @@
 use Rattle.all_links.proofs.Terms.{ℕ, length, subst, IfSome, Verdict, EndsAs, operation_event, links_state}
 use Rattle.all_links.proofs.Finds.{nothing_changes}
 use Rattle.all_ends.proofs.Streams.{name_is, unnamed}
-use Rattle.all_links.proofs.Operations.{step_none}
+use Rattle.link_steps.proofs.Operations.{step_none}
 use Rattle.all_links.specs.Sides.{SidesOperate}
 use Rattle.all_links.proofs.Sides.{nothing_operates}
 use Rattle.all_links.proofs.links.Links.operate.Goals as goal
@@ -9,7 +9,7 @@ use Rattle.all_links.proofs.links.Links.operate.Goals as goal
 pub returns-in-None-clause-ends : goal.returns-in-None-clause-ends
 returns-in-None-clause-ends c =
     nothing_changes c.only.ensures.value c.only.ensures.links c.requires.bounded
-    (λ answer by plan h links stands. step_none plan _ (links_state plan c.args.self.now)
+    (λ b plan by h links stands. step_none plan _ (links_state plan c.args.self.now)
     c.args.operation c.args.link c.args.stream c.args.loss
     (unnamed plan c.args.self.now.ends c.args.self.now.keeper.keys c.args.self.now.packets.packets c.args.link
     c.args.stream links c.in-None.ensures))

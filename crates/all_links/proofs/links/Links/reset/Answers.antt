@@ -8,7 +8,7 @@ use Rattle.all_links.proofs.links.Links.reset.Goals as goal
 pub returns-then-not-has_link-clause-ends : goal.returns-then-not-has_link-clause-ends
 returns-then-not-has_link-clause-ends c =
     nothing_changes c.only.ensures.value c.only.ensures.links c.requires.bounded
-    (λ answer by plan h links stands. reset_step _ c.args.self.now plan c.args.link false links
+    (λ b plan by h links stands. reset_step _ c.args.self.now plan c.args.link false links
     c.if-not-has_link.ensures)
 
 pub returns-clause-ends : goal.returns-clause-ends

@@ -1,8 +1,10 @@
 use Rattle.all_links.proofs.Terms.{ap, sym, ◌∙◌, ◌≡◌, ◌<◌, ◌+◌, ℕ, length, subst, List, ◌++◌, slice_get, map, Some}
 use Rattle.all_links.proofs.Terms.{length-set, append-nil, SealedPacket, Sent, lengths_sent, sent_verdict, LinkEnds}
 use Rattle.all_links.proofs.Terms.{Links, SendsAt, cut_packets, port_in}
+use Rattle.all_links.proofs.Terms.{Verdict}
+use Rattle.all_links.specs.Accesses.{is_sending}
 use Rattle.all_ends.proofs.Finds.{there}
-use Rattle.all_links.proofs.Sends.{seals, not_sealed, sealed_length}
+use Rattle.all_links.proofs.Sends.{seals, not_sealed, sealed_length, sent_sends}
 use Rattle.all_links.proofs.links.Links.seal.Goals.{in-Sealed, in_default}
 use Rattle.all_links.proofs.Sides.{sent_keeps}
 use Rattle.all_links.proofs.links.Links.seal.Goals as goal
@@ -81,3 +83,7 @@ returns-clause-sides c =
           finish (ap (λ (s : Links). s.ends) w.self-is) (ap (λ (s : Links). s.keeper.interfaces) w.self-is)
           (ap (λ (s : Links). s.trusted) w.self-is)
     ]
+
+pub returns-clause-sending : goal.returns-clause-sending
+returns-clause-sending c =
+    ap (λ (w : Verdict). is_sending w) c.send_verdict.ensures ∙ sent_sends c.args.port _ c.send-sent.result

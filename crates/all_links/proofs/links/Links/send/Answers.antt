@@ -7,7 +7,7 @@ use Rattle.all_links.proofs.links.Links.send.Goals as goal
 pub returns-then-not-has_link-clause-ends : goal.returns-then-not-has_link-clause-ends
 returns-then-not-has_link-clause-ends c =
     nothing_changes c.only.ensures.value c.only.ensures.links c.requires.bounded
-    (λ answer by plan h links stands. given _ c.args.self.now plan c.args.port c.args.bytes.now c.args.more
+    (λ b plan by h links stands. given _ c.args.self.now plan c.args.port c.args.bytes.now c.args.more
     c.args.trusted false links c.if-not-has_link.ensures)
 
 pub returns-clause-ends : goal.returns-clause-ends

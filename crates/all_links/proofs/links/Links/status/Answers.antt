@@ -9,14 +9,14 @@ use Rattle.all_links.proofs.links.Links.status.Goals as goal
 pub returns-in-None-clause-ends : goal.returns-in-None-clause-ends
 returns-in-None-clause-ends c =
     nothing_changes c.only.ensures.value c.only.ensures.links c.requires.bounded
-    (λ answer by plan h links stands. status_nowhere _ c.args.self.now plan c.args.link c.args.stream links
+    (λ b plan by h links stands. status_nowhere _ c.args.self.now plan c.args.link c.args.stream links
     c.in-None.ensures)
 
 pub returns-in-None-status-clause-ends : goal.returns-in-None-status-clause-ends
 returns-in-None-status-clause-ends c =
     let n = name_is _ _ c.args.link c.args.stream c.in-Some.link c.in-Some.stream c.in-Some.ensures in
     nothing_changes c.only-in-None-status.ensures.value c.only-in-None-status.ensures.links c.requires.bounded
-    (λ answer by plan h links stands. absurd
+    (λ b plan by h links stands. absurd
     (none-some _ (status_read c.args.self.now plan h c.args.link c.args.stream _ _ _ links stands n
     c.in-None-status.ensures)))
 
@@ -25,7 +25,7 @@ returns-in-Some-status-clause-ends c =
     let old : Links = c.args.self.now in
     let n = name_is _ _ c.args.link c.args.stream c.in-Some.link c.in-Some.stream c.in-Some.ensures in
     nothing_changes c.only-in-Some-status.ensures.value c.only-in-Some-status.ensures.links c.requires.bounded
-    (λ answer by plan h links stands.
+    (λ b plan by h links stands.
     let same = same_Some _ _
     (status_read old plan h c.args.link c.args.stream _ _ _ links stands n c.in-Some-status.ensures) in
     status_here _ old plan c.args.link c.args.stream links n.there

@@ -9,14 +9,15 @@ use Rattle.guarded_memory.proofs.Shown.{leads_one}
 use Rattle.guarded_memory.proofs.guarded.Guarded.deliver.Goals as goal
 
 pub returns-in-Some-clause-leads : goal.returns-in-Some-clause-leads
-returns-in-Some-clause-leads c =
+returns-in-Some-clause-leads g c =
     let is : write_in (viewed_tlp c.args.tlp.now) ≡ Some (write_of c.in-Some.write) =
     sym c.of.ensures ∙ ap (λ (o : Option MemWriteView). option_map write_of o) c.in-Some.is in
     rw is (leads_one (mmio_byte c.args.self.now) (mmio_byte c.deliver_write.new.self) _
     c.deliver_write.ensures.bytes)
 
 pub returns-in-Some-clause-guarded : goal.returns-in-Some-clause-guarded
-returns-in-Some-clause-guarded c = λ i b a x there guarded other.
+returns-in-Some-clause-guarded g c = λ i b a x there guarded other.
     c.deliver_write.ensures.bytes i b a
-    ∙ stays c.args.standings.now c.args.trusted c.args.unit.stream c.args.unit.draw (Some (write_of c.in-Some.write))
+    ∙ stays (g.S.Standings.stand c.args.standings.now) c.args.trusted c.args.unit.stream c.args.unit.draw
+    (Some (write_of c.in-Some.write))
     (mmio_byte c.args.self.now) i b a x there guarded other

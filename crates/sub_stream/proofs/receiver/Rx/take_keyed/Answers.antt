@@ -6,7 +6,7 @@ use Rattle.stream_rules.specs.Stream.{Taken}
 use Rattle.key_slots.specs.{DrawnKey, SlotPair, slot_in, live_held}
 use Rattle.sub_stream.specs.declared.receiver.Holds.{Holds}
 use Rattle.sub_stream.specs.Answers.{answer_of}
-use Rattle.sub_stream.specs.Gathered.{Gathered, lent_front}
+use Rattle.sub_stream.specs.Gathered.{Gathered, lent_ahead}
 use Rattle.sub_stream.specs.Seen.{live_with}
 use Rattle.sub_stream.specs.Senders.{begun_where_empty}
 use Rattle.sub_stream.specs.Receivers.{Receiver, fits_held, judged_packet, early_of, taken_of, after_answer}
@@ -38,40 +38,40 @@ fits c =
 
 answer : goal.After-self-1 → Taken
 answer c =
-    judged_packet (begun_where_empty (kept c.self.inside.holds c.self.inside.unit) (lent_front c.args.front)
-    (units_of (packet c).prefix.k c.self.inside.zero c.self.inside.one + 1)).front
+    judged_packet (begun_where_empty (kept c.self.inside.holds c.self.inside.unit) (lent_ahead c.args.total)
+    (units_of (packet c).prefix.k c.self.inside.zero c.self.inside.one + 1)).ahead
     c.args.allowed (live_with (units_of (packet c).prefix.k c.self.inside.zero c.self.inside.one)
     (kept c.self.inside.holds c.self.inside.unit).packets (held c)) (packet c)
 
-taken_is : (c : goal.After-self-1) → taken_of c.args.self.now c.args.allowed (lent_front c.args.front) (packet c)
+taken_is : (c : goal.After-self-1) → taken_of c.args.self.now c.args.allowed (lent_ahead c.args.total) (packet c)
     ≡ answer c
 unfolding packet answer
 taken_is c =
-    ap (λ (rx : Receiver). taken_of rx c.args.allowed (lent_front c.args.front) (packet c)) (sym c.self.view_is)
+    ap (λ (rx : Receiver). taken_of rx c.args.allowed (lent_ahead c.args.total) (packet c)) (sym c.self.view_is)
     ∙ taken-keyed c.self.inside.stream c.self.inside.sub c.self.inside.mode c.self.inside.zero c.self.inside.one
     c.self.inside.slots c.self.inside.holds c.self.inside.unit c.self.inside.takes
-    c.args.allowed (lent_front c.args.front) (packet c) (held c) c.self.invariant.few (key c) (fits c)
+    c.args.allowed (lent_ahead c.args.total) (packet c) (held c) c.self.invariant.few (key c) (fits c)
 
 answered : (c : goal.After-self-1) → Some c.take_under-taken.result ≡ answer_of (answer c)
 unfolding packet held answer
 answered c =
     c.take_under-taken.ensures.answer
     ∙ (λ i. answer_of (judged_packet
-    (begun_where_empty (c.keep_held.ensures i) (lent_front c.args.front) (c.units_in-units.ensures i + 1)).front
+    (begun_where_empty (c.keep_held.ensures i) (lent_ahead c.args.total) (c.units_in-units.ensures i + 1)).ahead
     c.args.allowed (live_with (c.units_in-units.ensures i) (c.keep_held.ensures i).packets
     (held c)) (packet c)))
 
 buffer : (c : goal.After-self-1) → BufferAfter
-    (begun_where_empty (kept c.self.inside.holds c.self.inside.unit) (lent_front c.args.front)
+    (begun_where_empty (kept c.self.inside.holds c.self.inside.unit) (lent_ahead c.args.total)
     (units_of (packet c).prefix.k c.self.inside.zero c.self.inside.one + 1))
     (live_with (units_of (packet c).prefix.k c.self.inside.zero c.self.inside.one)
     (kept c.self.inside.holds c.self.inside.unit).packets (held c)) (packet c) (answer c)
     c.take_under-taken.new.unit
 unfolding packet held answer
 buffer c =
-    let Left : ℕ × Gathered → Type 0 = λ y. BufferAfter (begun_where_empty y.1 (lent_front c.args.front) (y.0 + 1))
+    let Left : ℕ × Gathered → Type 0 = λ y. BufferAfter (begun_where_empty y.1 (lent_ahead c.args.total) (y.0 + 1))
     (live_with y.0 y.1.packets (held c)) (packet c)
-    (judged_packet (begun_where_empty y.1 (lent_front c.args.front) (y.0 + 1)).front
+    (judged_packet (begun_where_empty y.1 (lent_ahead c.args.total) (y.0 + 1)).ahead
     c.args.allowed (live_with y.0 y.1.packets (held c)) (packet c)) c.take_under-taken.new.unit in
     subst Left (λ i. (c.units_in-units.ensures i, c.keep_held.ensures i)) c.take_under-taken.ensures.buffer
 
@@ -103,12 +103,12 @@ returns-clause-receiver c =
     (c.self.inside.takes + 1))
     ∙ view-answered c.self.inside.stream c.self.inside.sub c.self.inside.mode c.self.inside.zero c.self.inside.one
     c.self.inside.slots c.self.inside.holds c.self.inside.unit c.take_under-taken.new.unit c.self.inside.takes
-    (lent_front c.args.front) (packet c) (held c) c.take_under-taken.result (answer c) (key c)
+    (lent_ahead c.args.total) (packet c) (held c) c.take_under-taken.result (answer c) (key c)
     (not_apart c.self.inside.holds (length c.self.inside.unit.packets) c.self.inside.mode (packet c).prefix.k
     (packet c).prefix.m (fits c)) (tagless c) (judged_so c) (answered c) (buffer c)
-    ∙ ap (λ (rx : Receiver). record (after_answer rx (lent_front c.args.front) (packet c) (answer c))
+    ∙ ap (λ (rx : Receiver). record (after_answer rx (lent_ahead c.args.total) (packet c) (answer c))
     { takes = rx.takes + 1 }) c.self.view_is
-    ∙ ap (λ (t : Taken). record (after_answer c.args.self.now (lent_front c.args.front) (packet c) t)
+    ∙ ap (λ (t : Taken). record (after_answer c.args.self.now (lent_ahead c.args.total) (packet c) t)
     { takes = c.args.self.now.takes + 1 }) (sym (taken_is c))
 
 pub invariant_of-self : goal.invariant_of-self
@@ -125,7 +125,7 @@ invariant_of-self c =
     ))
     (receiver-answered c.self.inside.mode c.self.inside.zero c.self.inside.one c.self.inside.takes c.self.inside.slots
     c.self.inside.holds c.self.inside.unit c.take_under-taken.new.unit
-    (lent_front c.args.front) (packet c) (held c) c.take_under-taken.result (answer c) c.self.invariant (key c) (fits c)
+    (lent_ahead c.args.total) (packet c) (held c) c.take_under-taken.result (answer c) c.self.invariant (key c) (fits c)
     (judged_so c) (answered c) (buffer c)
     (c.take_under-taken.ensures.mode ∙ ap (λ (u : Gathered). u.mode) c.keep_held.ensures ∙ mode_kept c.self.inside.holds
     c.self.inside.unit ∙ c.self.invariant.same_mode))

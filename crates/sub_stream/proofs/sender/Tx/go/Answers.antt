@@ -103,7 +103,7 @@ returns-clause-sender c =
       mode = c.self.inside.mode;
       limit =
           c.self.inside.limit;
-      ahead = c.self.inside.unit.front;
+      ahead = c.self.inside.unit.ahead;
       slots = x;
     })
     (goes (is_one c.args.set) c.self.inside.slots c.self.inside.units c.self.inside.unit.packets c.self.invariant.sender

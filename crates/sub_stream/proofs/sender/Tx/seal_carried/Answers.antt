@@ -3,7 +3,7 @@ use Rattle.std.proofs.Common.{◌∙◌, arith, length-append}
 use Rattle.ide_prefix.specs.declared.packet.Prefix.{Prefix}
 use Rattle.ide_prefix.specs.Packet.{Packet, packet_bytes}
 use Rattle.stream_rules.specs.Stream.{LiveKey, sealed_slots, ended_slots}
-use Rattle.sub_stream.specs.Gathered.{Gathered, lent_front}
+use Rattle.sub_stream.specs.Gathered.{Gathered, lent_ahead}
 use Rattle.sub_stream.specs.Seen.{seen_out, live_with}
 use Rattle.sub_stream.specs.Senders.{Sender, Content, carried_content, sealing_of, sealing_as, sealing_answer}
 use Rattle.sub_stream.specs.Senders.{sealing_bytes, sender_after, tagged_packet, ahead_for}
@@ -18,7 +18,7 @@ tx c = record {
   sub = c.self.inside.sub;
   mode = c.self.inside.mode;
   limit = c.self.inside.limit;
-  ahead = c.self.inside.unit.front;
+  ahead = c.self.inside.unit.ahead;
   slots = seen_out c.self.inside.slots c.self.inside.units c.self.inside.unit.packets;
 }
 
@@ -39,8 +39,8 @@ prefix c = record {
   posted = c.args.carried.now.posted;
 }
 
-front : goal.After-len → List ℕ
-front c = lent_front c.args.front
+total : goal.After-len → List ℕ
+total c = lent_ahead c.args.total
 
 content : goal.After-len → Content
 content c = carried_content c.args.carried.now
@@ -48,25 +48,25 @@ content c = carried_content c.args.carried.now
 unit : goal.After-len → Gathered
 unit c = c.begin_where_empty.new.unit
 
-sealing : (c : goal.After-len) → sealing_of c.args.self.now (front c) (content c) c.args.more
-    ≡ Ok (sealing_as (tx c) (front c) (key c) (content c) c.is_last-m.result)
-unfolding tx key front content
+sealing : (c : goal.After-len) → sealing_of c.args.self.now (total c) (content c) c.args.more
+    ≡ Ok (sealing_as (tx c) (total c) (key c) (content c) c.is_last-m.result)
+unfolding tx key total content
 sealing c =
-    ap (λ (s : Sender). sealing_of s (front c) (content c) c.args.more) (sym c.self.view_is)
-    ∙ sealing_with (tx c) (front c) (content c) c.args.more (key c) c.in-Ok.ensures
-    ∙ ap (λ m. Ok (sealing_as (tx c) (front c) (key c) (content c) m)) (sym c.is_last-m.ensures)
+    ap (λ (s : Sender). sealing_of s (total c) (content c) c.args.more) (sym c.self.view_is)
+    ∙ sealing_with (tx c) (total c) (content c) c.args.more (key c) c.in-Ok.ensures
+    ∙ ap (λ m. Ok (sealing_as (tx c) (total c) (key c) (content c) m)) (sym c.is_last-m.ensures)
 
 packet : (c : goal.After-len) → Packet
 packet c = tagged c.is_last-m.result c.in-Ok.key.1.now c.unit_iv-iv.result (unit c)
     (bare c.in-Ok.key.1.now c.unit_iv-iv.result (unit c).packets (prefix c) c.args.carried.now.head.now
     c.args.carried.now.payload.now)
 
-packet_is : (c : goal.After-len) → packet c ≡ tagged_packet (tx c) (front c) (key c) (content c) c.is_last-m.result
-unfolding tx key prefix front content unit packet
+packet_is : (c : goal.After-len) → packet c ≡ tagged_packet (tx c) (total c) (key c) (content c) c.is_last-m.result
+unfolding tx key prefix total content unit packet
 packet_is c =
-    packet-tagged (tx c) (front c) (key c) (content c) c.is_last-m.result (unit c) (prefix c) c.unit_iv-iv.result
+    packet-tagged (tx c) (total c) (key c) (content c) c.is_last-m.result (unit c) (prefix c) c.unit_iv-iv.result
     (ap (λ (u : Gathered). u.packets) c.begin_where_empty.ensures)
-    (ap (λ (u : Gathered). u.front) c.begin_where_empty.ensures)
+    (ap (λ (u : Gathered). u.ahead) c.begin_where_empty.ensures)
     c.requires.head c.requires.payload refl c.unit_iv-iv.ensures
 
 bytes : (c : goal.After-len) → c.append_tag.new.out.items ≡ c.args.out.now.items ++ packet_bytes (packet c)
@@ -79,13 +79,13 @@ bytes c =
     c.append_packet.ensures.items c.append_packet.ensures.unit c.append_tag.ensures.items
 
 pub returns-clause-bytes : goal.returns-clause-bytes
-unfolding front content
+unfolding total content
 returns-clause-bytes c =
     bytes c ∙ ap (λ p. c.args.out.now.items ++ packet_bytes p) (packet_is c)
     ∙ ap (λ r. c.args.out.now.items ++ sealing_bytes r) (sym (sealing c))
 
 pub returns-clause-answer : goal.returns-clause-answer
-unfolding tx key front content
+unfolding tx key total content
 returns-clause-answer c =
     let n : c.len.result - c.len-start.result ≡ length (packet_bytes (packet c)) =
     omega (
@@ -97,7 +97,7 @@ returns-clause-answer c =
       c.append_tag.new.out.ok.0,
       c.args.out.now.ok.0,
     ) in
-    ap (λ (l : ℕ). Ok (record (sealing_as (tx c) (front c) (key c) (content c) c.is_last-m.result).description
+    ap (λ (l : ℕ). Ok (record (sealing_as (tx c) (total c) (key c) (content c) c.is_last-m.result).description
     { length = l })) (n ∙ ap (λ p. length (packet_bytes p)) (packet_is c))
     ∙ ap sealing_answer (sym (sealing c))
 
@@ -124,22 +124,22 @@ slots c =
     (λ ps. if c.is_last-m.result then ended_slots (seen_out c.self.inside.slots c.self.inside.units ps) else
     seen_out c.self.inside.slots c.self.inside.units ps) (more_packets c))
 
-ahead : (c : goal.After-len) → c.end_unit.new.unit.front ≡
-    (if c.is_last-m.result then [] else ahead_for (tx c) (key c).1 (front c))
-unfolding tx key front
+ahead : (c : goal.After-len) → c.end_unit.new.unit.ahead ≡
+    (if c.is_last-m.result then [] else ahead_for (tx c) (key c).1 (total c))
+unfolding tx key total
 ahead c =
-    ap (λ (u : Gathered). u.front) c.end_unit.ensures.unit
+    ap (λ (u : Gathered). u.ahead) c.end_unit.ensures.unit
     ∙ front_if c.is_last-m.result _ _
     ∙ ap (λ f. if c.is_last-m.result then [] else f)
-    (ap (λ (u : Gathered). u.front) c.append_packet.ensures.unit ∙ ap (λ (u : Gathered). u.front)
+    (ap (λ (u : Gathered). u.ahead) c.append_packet.ensures.unit ∙ ap (λ (u : Gathered). u.ahead)
     c.begin_where_empty.ensures)
 
 pub returns-clause-sender : goal.returns-clause-sender
-unfolding tx front content
+unfolding tx total content
 returns-clause-sender c =
     (λ i. record (tx c) { ahead = ahead c i; slots = slots c i })
     ∙ ap (λ p. record (tx c) {
-      ahead = (if c.is_last-m.result then [] else ahead_for (tx c) (key c).1 (front c));
+      ahead = (if c.is_last-m.result then [] else ahead_for (tx c) (key c).1 (total c));
       slots = sealed_slots
           c.is_last-m.result p (tx c).slots;
     }) (packet_is c)

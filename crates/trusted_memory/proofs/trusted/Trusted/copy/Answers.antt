@@ -1,13 +1,7 @@
-use Rattle.std.proofs.Common.{◌≡◌, ◌+◌, ◌<◌, ◌≤◌, length, ap, ◌∙◌, arith}
+use Rattle.std.proofs.Common.{◌≡◌, ◌≤◌, length, ap, ◌∙◌, arith}
 use Rattle.trusted_memory.specs.Memory.{byte_at, bytes_from}
-use Rattle.trusted_memory.proofs.Seen.{each_in_region, is_bytes_from}
+use Rattle.trusted_memory.proofs.Seen.{is_bytes_from}
 use Rattle.trusted_memory.proofs.trusted.Trusted.copy.Goals as goal
-
-pub byte-requires : goal.byte-requires
-byte-requires c =
-    let high : c.args.at + c.loop-i.i < c.args.at + length c.args.buf.now = omega arith in
-    each_in_region c.args.self.now.contents.regions c.args.at (length c.args.buf.now) (c.args.at + c.loop-i.i)
-    c.requires.inside (omega arith) high
 
 pub returns : goal.returns
 returns c =

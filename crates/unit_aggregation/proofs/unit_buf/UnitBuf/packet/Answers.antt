@@ -19,7 +19,7 @@ packet_between-requires c =
     let start = c.start_of-start.ensures in
     let end = c.end_of-ends.ensures in
     rw (c.deref.ensures.value, c.deref-2.ensures.value)
-    (lies_within c.self.inside.front _ _ c.self.inside.ends.items c.args.i _ _ c.self.invariant.rising less
+    (lies_within c.self.inside.ahead _ _ c.self.inside.ends.items c.args.i _ _ c.self.invariant.rising less
     (rw c.as_slice.ensures.value at start) (rw c.as_slice-2.ensures.value at end))
 
 pub returns : goal.returns
@@ -29,5 +29,5 @@ returns c =
     let start = c.start_of-start.ensures in
     let end = c.end_of-ends.ensures in
     rw (c.packet_between.ensures.head, c.packet_between.ensures.body, c.deref.ensures.value, c.deref-2.ensures.value)
-    (packet_at _ c.self.inside.front _ _ c.self.inside.ends.items c.args.i _ _ c.args.self.now c.self.view_is less
+    (packet_at _ c.self.inside.ahead _ _ c.self.inside.ends.items c.args.i _ _ c.args.self.now c.self.view_is less
     (rw c.as_slice.ensures.value at start) (rw c.as_slice-2.ensures.value at end))

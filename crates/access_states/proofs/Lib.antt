@@ -1,0 +1,5 @@
+pub mod OnLinks
+pub mod Accessed
+pub mod Said
+pub mod Rested
+pub mod Turned

@@ -1,0 +1,53 @@
+-- What stands at each link beside its ports and its device's interfaces, and how these stand by it (this profile).
+use Rattle.std.specs.Prelude.{ℕ, ◌+◌, Bool, if◌then◌else◌, List, [], ◌∷◌, length, map, replicate, slice_index, Option}
+use Rattle.std.specs.Prelude.{Some, None}
+use Rattle.ide_plan.specs.declared.interface.InterfacePlan.{InterfacePlan}
+use Rattle.ide_plan.specs.declared.plan.LinkPlan.{LinkPlan}
+use Rattle.link_verdicts.specs.declared.verdict.Effect.{Effect}
+use Rattle.tlp_layout.specs.declared.head.HeadView.{HeadView}
+use Rattle.tdi_state.specs.Machine.{Tdi}
+use Rattle.tdi_device.specs.Replies.{DeviceTdis}
+use Rattle.waiting_reads.specs.declared.read.MemReadView.{MemReadView}
+use Rattle.waiting_reads.specs.declared.queue.WaitingRead.{WaitingRead}
+use Rattle.waiting_reads.specs.{memory_read, waiting_after}
+use Rattle.guarded_memory.specs.declared.standing.Standing.{Standing}
+use Rattle.guarded_memory.specs.{standing_of, new_guarded}
+use Rattle.accesses.specs.declared.link.LinkAccesses.{LinkAccesses}
+
+-- ---- at first
+
+-- no read waits, and all memory and all floors are 0
+abbrev pub new_link_accesses : List InterfacePlan → LinkAccesses
+new_link_accesses interfaces =
+    record { reads = []; guarded = new_guarded interfaces; floors = replicate (length interfaces) 0 }
+
+abbrev pub new_at_link : LinkPlan → LinkAccesses
+new_at_link l = new_link_accesses l.interfaces
+
+abbrev pub new_accesses : List LinkPlan → List LinkAccesses
+new_accesses links = map new_at_link links
+
+-- ---- how interfaces stand
+
+-- those from this place on, with floors by place
+abbrev pub standings_from : List ℕ → ℕ → List Tdi → List Standing
+standings_from floors n [] = []
+standings_from floors n (t ∷ ts) = standing_of t (slice_index floors n) ∷ standings_from floors (n + 1) ts
+
+-- those of a device
+abbrev pub standings_by : List ℕ → DeviceTdis → List Standing
+standings_by floors d = standings_from floors 0 d.interfaces
+
+-- ---- reads
+
+-- the memory read that a TLP of this header is, if it has T
+abbrev pub trusted_read : Bool → HeadView → Option MemReadView
+trusted_read t head = if t then memory_read head else None
+
+abbrev pub waiting_with : Effect → ℕ → Option MemReadView → List WaitingRead → List WaitingRead
+waiting_with effect draw None ws = ws
+waiting_with effect draw (Some read) ws = waiting_after effect (record { read = read; draw = draw }) ws
+
+-- those that wait after a TLP of this header got its effect
+abbrev pub reads_after : Effect → ℕ → HeadView → List WaitingRead → List WaitingRead
+reads_after effect draw head ws = waiting_with effect draw (memory_read head) ws

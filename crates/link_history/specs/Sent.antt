@@ -1,0 +1,101 @@
+-- What a sealed verdict seals: the TLP of a send, or the completion that answers the oldest read that waits. What an
+-- event brought is said by the list of the packets that were sealed, since it names a packet by its number there.
+use Rattle.std.specs.Prelude.{if◌then◌else◌, ◌&&◌, ◌++◌, ◌+◌, ◌==◌, ◌∷◌, Bool, Err, List, None, Ok, Option, Result}
+use Rattle.std.specs.Prelude.{Some, [], false, slice_get, ℕ}
+use Rattle.link_history.specs.Terms.{option_map_or, PortName, Host, Plan, Event, Access, Reset, Send, Effect}
+use Rattle.link_history.specs.Terms.{UnitName, Accepted, Held, Sealed, read_head_of, TlpFault, Packet, History}
+use Rattle.link_history.specs.Terms.{Write, newest_first, byte_after, completion_bytes, grant_at}
+use Rattle.link_history.specs.Terms.{MemReadView, WaitingRead, memory_read}
+use Rattle.tlp_layout.specs.declared.head.HeadView.{HeadView}
+use Rattle.link_history.specs.Plan.{SubStream}
+use Rattle.link_history.specs.Packets.{SealedList, arrived_in, packet_in, received_in, is_of}
+use Rattle.link_history.specs.Admission.{admitted_in}
+use Rattle.link_events.specs.declared.event.AccessEvent.TheVariants as ae
+use Rattle.link_verdicts.specs.declared.access.AccessVerdict.TheVariants as av
+use Rattle.link_verdicts.specs.declared.verdict.Effect.TheVariants as effect
+use Rattle.link_verdicts.specs.declared.verdict.Verdict.TheVariants as v
+
+-- ---- units that were accepted
+
+-- the packets that were held for unit n, in order
+unfoldable pub held_in : Plan → SealedList → History → SubStream → ℕ → ℕ → List Packet
+held_in plan xs [] s j n = []
+held_in plan xs ((e, Held port unit) ∷ h) s j n =
+    if is_of s j port unit && (unit.unit == n) then held_in plan xs h s j n ++ packet_in (arrived_in plan xs e) ∷ []
+    else held_in plan xs h s j n
+held_in plan xs (_ ∷ h) s j n = held_in plan xs h s j n
+
+-- the unit that an accepted verdict ends
+abbrev pub unit_in : Plan → SealedList → History → Event → PortName → UnitName → List Packet
+unit_in plan xs h e port unit =
+    held_in plan xs h (received_in port unit) unit.draw unit.unit ++ packet_in (arrived_in plan xs e) ∷ []
+
+-- the writes of accepted units that are admitted, the newest first
+unfoldable pub writes_in : Plan → SealedList → History → List Write
+writes_in plan xs [] = []
+writes_in plan xs ((e, Accepted port unit effects) ∷ h) =
+    newest_first (admitted_in plan (grant_at plan h) port unit (unit_in plan xs h e port unit)) (writes_in plan xs h)
+writes_in plan xs (_ ∷ h) = writes_in plan xs h
+
+-- ---- reads
+
+-- the read of a header, with the draw of the key that it came under
+abbrev pub read_under : ℕ → Option MemReadView → List WaitingRead
+read_under draw None = []
+read_under draw (Some read) = record { read = read; draw = draw } ∷ []
+
+abbrev pub read_in : ℕ → Result HeadView TlpFault → List WaitingRead
+read_in draw (Err f) = []
+read_in draw (Ok head) = read_under draw (memory_read head)
+
+-- the packets of a unit whose effect is that they are queued
+abbrev pub reads_by : ℕ → List Effect → List Packet → List WaitingRead
+reads_by draw (effect.Queued ∷ es) (p ∷ ps) = read_in draw (read_head_of p.head) ++ reads_by draw es ps
+reads_by draw (e ∷ es) (p ∷ ps) = reads_by draw es ps
+reads_by draw _ _ = []
+
+-- those of the reads of a link that were queued since its last reset, in order
+unfoldable pub queued_in : Plan → SealedList → History → ℕ → List WaitingRead
+queued_in plan xs [] link = []
+queued_in plan xs ((e, Accepted port unit effects) ∷ h) link =
+    if port.link == link then queued_in plan xs h link ++ reads_by unit.draw effects (unit_in plan xs h e port unit)
+    else queued_in plan xs h link
+queued_in plan xs ((Reset k, v.Reset l) ∷ h) link = if l == link then [] else queued_in plan xs h link
+queued_in plan xs (_ ∷ h) link = queued_in plan xs h link
+
+-- whether it answers a read of the link
+abbrev pub answers : ℕ → Event → Bool
+answers link (Access (ae.Answer l)) = l == link
+answers link e = false
+
+-- how many of them an answer took since then: it sealed a completion, or dropped the read
+unfoldable pub taken : History → ℕ → ℕ
+taken [] link = 0
+taken ((e, Sealed ds) ∷ h) link = if answers link e then taken h link + 1 else taken h link
+taken ((e, v.Access (av.Dropped interface cause)) ∷ h) link =
+    if answers link e then taken h link + 1 else taken h link
+taken ((Reset k, v.Reset l) ∷ h) link = if l == link then 0 else taken h link
+taken (_ ∷ h) link = taken h link
+
+-- the oldest that waits
+abbrev pub oldest_in : Plan → SealedList → History → ℕ → Option WaitingRead
+oldest_in plan xs h link = slice_get (queued_in plan xs h link) (taken h link)
+
+-- ---- what is sealed
+
+-- its completion, from memory as it is now
+abbrev pub answer_in : Plan → SealedList → History → ℕ → List ℕ
+answer_in plan xs h link =
+    option_map_or (λ (r : WaitingRead). completion_bytes (byte_after (writes_in plan xs h)) r.read)
+    (oldest_in plan xs h link) []
+
+unfoldable pub bytes_by : Plan → SealedList → History → Event → List ℕ
+bytes_by plan xs h (Send port bytes more trusted) = bytes
+bytes_by plan xs h (Access (ae.Answer link)) = answer_in plan xs h link
+bytes_by plan xs h e = []
+
+-- the port that seals them: an answer's is the host's
+abbrev pub sending_port : Event → PortName
+sending_port (Send port bytes more trusted) = port
+sending_port (Access (ae.Answer link)) = record { side = Host; link = link }
+sending_port e = record { side = Host; link = 0 }

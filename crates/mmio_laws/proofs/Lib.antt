@@ -1,0 +1,7 @@
+pub mod Units
+pub mod SameWrites
+pub mod Shown
+pub mod Secure
+pub mod Guards
+pub mod Starts
+pub mod Law

@@ -1,0 +1,189 @@
+-- While a lock stands, its stream is Secure at the device's port.
+use Rattle.std.proofs.Common.{◌≡◌, ℕ, ◌==◌, ◌&&◌, ◌∷◌, ◌⊎◌, Bool, true, false, not, List, [], Option, Some}
+use Rattle.std.proofs.Common.{refl, sym, ap, ◌∙◌, inl, inr, arith}
+use Rattle.std.proofs.lemmas.Bool.{true≢false}
+use Rattle.std.proofs.lemmas.Bool.Decides.{nat_tests}
+use Rattle.ide_types.specs.declared.sub.SubKind.TheVariants.{Pr, Npr, Cpl}
+use Rattle.ide_types.specs.declared.port.Side.TheVariants.{Device}
+use Rattle.key_laws.specs.Keys.{Keys}
+use Rattle.key_laws.specs.Places.{KeyPlace, key_place_at}
+use Rattle.key_laws.specs.History.{History, touches, keys_there, has_key, has_all}
+use Rattle.key_laws.specs.History.{fails_there, status_by, draws, came}
+unfoldable use Rattle.key_laws.specs.History.{moments, failed_there, manager}
+use Rattle.link_history.specs.Terms.{Plan, Event, Verdict}
+use Rattle.link_history.specs.Cause.{CauseLaw}
+use Rattle.link_history.specs.KeyFacts.{is_quiet}
+unfoldable use Rattle.link_history.specs.Due.{due}
+use Rattle.link_history.proofs.KeyVerdicts.{interface_due_quiet}
+use Rattle.interface_states.specs.Sites.{Site}
+use Rattle.interface_states.specs.Exchanges.{carries}
+unfoldable use Rattle.interface_states.specs.Devices.{devices}
+use Rattle.interface_states.specs.Devices.{Around, around_at, tdi_at, tdi_if_called, next_tdi, leaves, is_secure}
+use Rattle.interface_states.specs.Devices.{has_secure_stream, accepts_lock, is_given}
+use Rattle.interface_states.specs.Laws.{IsLocked}
+use Rattle.interface_states.proofs.Locks.{Made, next_made}
+use Rattle.tdi_state.specs.declared.states.Lock.{Lock}
+use Rattle.tdi_state.specs.declared.states.TdiState.{TdiState}
+use Rattle.tdi_state.specs.declared.states.TdiState.TheVariants as tdi
+use Rattle.tdi_state.specs.Machine.{Tdi, state_code, lock_of, lock_answer, after_failure, StreamLeft}
+use Rattle.tdi_state.specs.Machine.{LinkReset}
+use Rattle.link_verdicts.specs.declared.verdict.Verdict.TheVariants as v
+use Rattle.link_events.specs.declared.event.Event.TheVariants as event
+use Rattle.link_events.specs.declared.event.InterfaceEvent.TheVariants as ie
+
+pub both : (p q : Bool) → (p && q) ≡ true → (p ≡ true) × (q ≡ true)
+both true q e = (refl, e)
+both false q e = absurd (true≢false (sym e))
+
+-- ---- locked, and a lock that stands
+
+abbrev pub Held : TdiState → Type 0
+Held s = (state_code s ≡ 1) ⊎ (state_code s ≡ 2)
+
+record HasLock (s : TdiState) : Type 0 where
+  lock : Lock
+  stands : lock_of s ≡ Some lock
+
+has_lock : (s : TdiState) → Held s → HasLock s
+has_lock tdi.ConfigUnlocked (inl e) = absurd cc
+has_lock tdi.ConfigUnlocked (inr e) = absurd cc
+has_lock (tdi.ConfigLocked lock nonce) h = record { lock = lock; stands = refl }
+has_lock (tdi.Run lock) h = record { lock = lock; stands = refl }
+has_lock tdi.Error (inl e) = absurd cc
+has_lock tdi.Error (inr e) = absurd cc
+
+lock_held : (s : TdiState) (l : Lock) → lock_of s ≡ Some l → Held s
+lock_held tdi.ConfigUnlocked l is = absurd cc
+lock_held (tdi.ConfigLocked lock nonce) l is = inl refl
+lock_held (tdi.Run lock) l is = inr refl
+lock_held tdi.Error l is = absurd cc
+
+pub not_failed : (s : TdiState) → Held (after_failure s) → ⊥
+not_failed tdi.ConfigUnlocked (inl e) = absurd cc
+not_failed tdi.ConfigUnlocked (inr e) = absurd cc
+not_failed (tdi.ConfigLocked lock nonce) (inl e) = absurd cc
+not_failed (tdi.ConfigLocked lock nonce) (inr e) = absurd cc
+not_failed (tdi.Run lock) (inl e) = absurd cc
+not_failed (tdi.Run lock) (inr e) = absurd cc
+not_failed tdi.Error (inl e) = absurd cc
+not_failed tdi.Error (inr e) = absurd cc
+
+-- a lock is accepted only if the stream is Secure
+given_secure : (t : Tdi) (flags offset : ℕ) (secure : Bool) (drawn : Option (List ℕ))
+    → is_given (lock_answer t flags offset secure drawn) ≡ true → secure ≡ true
+given_secure t flags offset true drawn is = refl
+given_secure t flags offset false drawn is = grind arith
+
+accepts_secure : (a : Around) (x : Site) (e : Event) (w : Verdict) (t : Tdi) → accepts_lock a x e w t ≡ true
+    → a.secure ≡ true
+accepts_secure a x (event.Interface (ie.Lock i loss)) w t is =
+    let given = is_given (lock_answer t x.plan.flags x.plan.offset a.secure a.drawn) in
+    given_secure t x.plan.flags x.plan.offset a.secure a.drawn (both ((i == x.number) && carries w 3) given is).1
+accepts_secure a x e w t is = absurd (true≢false (sym is))
+
+-- ---- Secure by keys
+
+pub secure_parts : (f some all : Bool) → is_secure (status_by f some all) ≡ true → (f ≡ false) × (all ≡ true)
+secure_parts f some all is = grind (arith, is)
+
+secure_by : (f some all : Bool) → f ≡ false → all ≡ true → is_secure (status_by f some all) ≡ true
+secure_by f some all none full = rw (none, full) refl
+
+all_same : (ks ls : KeyPlace → Keys) (link stream : ℕ) → ((p : KeyPlace) → p.link ≡ link → ks p ≡ ls p)
+    → has_all ks Device link stream ≡ has_all ls Device link stream
+all_same ks ls link stream same =
+    rw (
+      same (key_place_at Device link stream false Pr) refl,
+      same (key_place_at Device link stream false Npr) refl,
+      same (key_place_at Device link stream false Cpl) refl,
+      same (key_place_at Device link stream true Pr) refl,
+      same (key_place_at Device link stream true Npr) refl,
+      same (key_place_at Device link stream true Cpl) refl,
+    ) refl
+
+-- the pair touches no place of the link
+abbrev TouchesNone : History → Event → Verdict → ℕ → Type 0
+TouchesNone h e w link = (p : KeyPlace) → p.link ≡ link → touches (manager h).ops (draws h) e w p ≡ []
+
+keys_same : (h : History) (e : Event) (w : Verdict) (p : KeyPlace) → touches (manager h).ops (draws h) e w p ≡ []
+    → keys_there ((e, w) ∷ h) p ≡ keys_there h p
+unfolding moments
+keys_same h e w p none = rw none refl
+
+stays_whole : (h : History) (e : Event) (w : Verdict) (link stream : ℕ) → fails_there Device link stream w ≡ false
+    → failed_there h Device link stream ≡ false → failed_there ((e, w) ∷ h) Device link stream ≡ false
+unfolding failed_there
+stays_whole h e w link stream none whole = rw (none, whole) refl
+
+stays_secure : (h : History) (e : Event) (w : Verdict) (x : Site) → TouchesNone h e w x.link
+    → fails_there Device x.link x.plan.stream w ≡ false → has_secure_stream h x ≡ true
+    → has_secure_stream ((e, w) ∷ h) x ≡ true
+stays_secure h e w x none fails is =
+    let parts = secure_parts (failed_there h Device x.link x.plan.stream)
+    (has_key (keys_there h) Device x.link x.plan.stream) (has_all (keys_there h) Device x.link x.plan.stream) is in
+    secure_by (failed_there ((e, w) ∷ h) Device x.link x.plan.stream)
+    (has_key (keys_there ((e, w) ∷ h)) Device x.link x.plan.stream)
+    (has_all (keys_there ((e, w) ∷ h)) Device x.link x.plan.stream)
+    (stays_whole h e w x.link x.plan.stream fails parts.0)
+    (all_same (keys_there ((e, w) ∷ h)) (keys_there h) x.link x.plan.stream (λ p at. keys_same h e w p (none p at))
+    ∙ parts.1)
+
+-- ---- pairs that touch nothing
+
+quiet_came : (p : KeyPlace) (w : Verdict) → is_quiet w ≡ true → came p w ≡ []
+quiet_came p w quiet = grind (arith, quiet)
+
+quiet_fails : (link stream : ℕ) (w : Verdict) → is_quiet w ≡ true → fails_there Device link stream w ≡ false
+quiet_fails link stream w quiet = grind (arith, quiet)
+
+-- ---- the pair
+
+-- before it
+before : (plan : Plan) (h : History) (e : Event) (w : Verdict) (x : Site)
+    → (Held (tdi_at plan h x).state → has_secure_stream h x ≡ true)
+    → Held (next_tdi (around_at plan h x) (leaves h e w x) x e w (tdi_at plan h x)).state
+    → has_secure_stream h x ≡ true
+before plan h e w x earlier held =
+    let a = around_at plan h x in
+    let t = tdi_at plan h x in
+    let has = has_lock (next_tdi a (leaves h e w x) x e w t).state held in
+    by has.lock (next_made a (leaves h e w x) x e w t has.lock has.stands)
+  where
+    by : (l : Lock) → Made (around_at plan h x) x e w (tdi_at plan h x) l → has_secure_stream h x ≡ true
+    by l (inl stood) = earlier (lock_held (tdi_at plan h x).state l stood.0)
+    by l (inr made) = accepts_secure (around_at plan h x) x e w (tdi_at plan h x) made.0
+
+not_left : (b c : Bool) (t : Tdi) → Held (tdi_if_called (b && not c) StreamLeft t).state → b ≡ true → c ≡ true
+not_left true true t held is = refl
+not_left true false t held is = absurd (not_failed t.state held)
+not_left false c t held is = absurd (true≢false (sym is))
+
+other_link : (b : Bool) (t : Tdi) → Held (tdi_if_called b LinkReset t).state → b ≡ false
+other_link true t (inl e) = absurd cc
+other_link true t (inr e) = absurd cc
+other_link false t held = refl
+
+eqb_swap : (m l k : ℕ) → m ≡ k → (l == k) ≡ false → (m == l) ≡ false
+eqb_swap m l k at apart = grind (arith, nat_tests, at, apart)
+
+-- and after it
+after : (plan : Plan) (h : History) (e : Event) (w : Verdict) (x : Site) → w ≡ due plan h e
+    → Held (next_tdi (around_at plan h x) (leaves h e w x) x e w (tdi_at plan h x)).state
+    → has_secure_stream h x ≡ true → has_secure_stream ((e, w) ∷ h) x ≡ true
+after plan h (event.Interface e) w x is held secure =
+    let quiet : is_quiet w ≡ true = ap (λ (u : Verdict). is_quiet u) is ∙ interface_due_quiet plan h e in
+    stays_secure h (event.Interface e) w x (λ p at. quiet_came p w quiet)
+    (quiet_fails x.link x.plan.stream w quiet) secure
+after plan h (event.Reset l) (v.Reset k) x is held secure =
+    let apart = other_link (l == x.link) (tdi_at plan h x) held in
+    stays_secure h (event.Reset l) (v.Reset k) x (λ p at. rw (eqb_swap p.link l x.link at apart) refl) refl secure
+after plan h e w x is held secure =
+    not_left (has_secure_stream h x) (has_secure_stream ((e, w) ∷ h) x) (tdi_at plan h x) held secure
+
+pub locked_secure : (plan : Plan) (h : History) → CauseLaw plan h → (x : Site) → IsLocked plan h x
+    → has_secure_stream h x ≡ true
+unfolding devices
+locked_secure plan [] cause x (inl e) = absurd cc
+locked_secure plan [] cause x (inr e) = absurd cc
+locked_secure plan ((e, w) ∷ h) cause x held =
+    after plan h e w x cause.0 held (before plan h e w x (λ earlier. locked_secure plan h cause.1 x earlier) held)

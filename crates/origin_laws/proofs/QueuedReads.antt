@@ -1,0 +1,103 @@
+-- A queued read was sealed by its interface in the very RUN, under the very lock, that it is queued for: it meets what
+-- an admitted write does but for where its bytes lie, and no more than that tells of origin.
+use Rattle.sealing_laws.proofs.Terms.{◌≡◌, ℕ, ◌==◌, zero, suc, Bool, true, false, List, [], ◌∷◌, slice_get, Option}
+use Rattle.sealing_laws.proofs.Terms.{Some, None, Result, Ok, Err, ap, sym, subst, ◌∙◌, refl, arith, nat_tests}
+use Rattle.sealing_laws.proofs.Terms.{if◌then◌else◌, Plan, History, Event, Verdict, Accepted, UnitName, Effect, Packet}
+use Rattle.sealing_laws.proofs.Terms.{PortName, CauseLaw, NoForgery, DrawFacts, accepted_by, is_sync_packet, effects_of}
+use Rattle.sealing_laws.proofs.Terms.{unit_that_ends}
+use Rattle.sealing_laws.proofs.Fits.{StreamsFit}
+use Rattle.std.specs.Option.{option_or}
+use Rattle.ide_types.specs.Sub.{sent_direction}
+use Rattle.ide_plan.specs.declared.plan.Region.{Region}
+use Rattle.tlp_layout.specs.declared.head.HeadView.{HeadView}
+use Rattle.tlp_layout.specs.declared.fault.TlpFault.{TlpFault}
+use Rattle.tlp_layout.specs.Reading.{read_head_of}
+use Rattle.trusted_memory.specs.declared.grant.Grant.{Grant}
+use Rattle.trusted_memory.specs.Causes.{grant_cause, place_cause, block_cause}
+use Rattle.trusted_memory.specs.Admitted.{is_on_bound}
+use Rattle.waiting_reads.specs.Waiting.{request_effect}
+use Rattle.link_verdicts.specs.declared.verdict.BlockCause.{BlockCause}
+use Rattle.link_verdicts.specs.declared.verdict.Effect.TheVariants as effect
+use Rattle.interface_states.specs.Views.{grant_at}
+use Rattle.link_history.specs.Memory.{Policy, policy_at, unit_grant, host_effect, device_effect, effect_by}
+use Rattle.link_history.specs.Memory.{effects_each, waiting_then, unit_ended}
+use Rattle.read_order.proofs.Order.{request_waits, device_waits}
+use Rattle.origin_laws.specs.ReadLaws.{QueuedFrom, ReadOriginLaw}
+use Rattle.origin_laws.proofs.Origins.{Admitted, origin_of}
+
+-- ---- what it means that a read is queued
+
+first_none : (a b : Option BlockCause) → option_or a b ≡ None → a ≡ None
+first_none None b is = refl
+first_none (Some c) b is = absurd cc
+
+granted_on : (o : Option (ℕ × ℕ)) (stream draw : ℕ) → grant_cause o stream draw ≡ None
+    → is_on_bound stream draw o ≡ true
+granted_on None stream draw is = absurd cc
+granted_on (Some b) stream draw is = grind (arith, nat_tests)
+
+request_means : (regions : List Region) (t : Bool) (g : Grant) (n : ℕ) (head : HeadView)
+    → request_effect regions t g n head ≡ effect.Queued → (t ≡ true) × (is_on_bound g.stream g.draw g.bound ≡ true)
+request_means regions t g n head is =
+    let waits = request_waits regions t g n head is in
+    let cause = first_none (block_cause regions waits.read.span true g) _ waits.unblocked in (
+      waits.trusted,
+      granted_on g.bound g.stream g.draw (first_none (grant_cause g.bound g.stream g.draw)
+          (place_cause regions waits.read.span) cause),
+    )
+
+queued_means : (plan : Plan) (h : History) (k : ℕ) (port : PortName) (unit : UnitName) (p : Packet)
+    → effect_by plan (policy_at plan h) k port unit p ≡ effect.Queued → Admitted plan h port unit p
+queued_means plan h k port unit p is =
+    by (is_sync_packet p) (sent_direction port.side == 0) refl (read_head_of p.head) refl is
+  where
+    by : (a b : Bool) → (sent_direction port.side == 0) ≡ b → (r : Result HeadView TlpFault) → read_head_of p.head ≡ r
+        → (if a then effect.Sync else if b then host_effect plan (grant_at plan h) k port unit p r
+        else device_effect ((policy_at plan h).standings port.link) unit p r) ≡ effect.Queued
+        → Admitted plan h port unit p
+    by true b host r reads is = absurd cc
+    by false false host r reads is = absurd (device_waits ((policy_at plan h).standings port.link) unit p r is)
+    by false true host (Err f) reads is = absurd cc
+    by false true host (Ok head) reads is =
+        let tests = request_means plan.memory p.prefix.t (unit_grant (grant_at plan h) port unit head) k head is in
+        record { head = head; reads = reads; host = host; trusted = tests.0; bound = tests.1 }
+
+-- ---- packet n of a unit
+
+queued_at : (plan : Plan) (policy : Policy) (w : ℕ) (port : PortName) (unit : UnitName) (ps : List Packet) (n : ℕ)
+    (p : Packet) → slice_get (effects_each plan policy w port unit ps) n ≡ Some effect.Queued → slice_get ps n ≡ Some p
+    → (k : ℕ) × (effect_by plan policy k port unit p ≡ effect.Queued)
+queued_at plan policy w port unit [] n p is at = absurd cc
+queued_at plan policy w port unit (q ∷ ps) zero p is at =
+    let same : q ≡ p = cc (at) in
+    (w, subst (λ (z : Packet). effect_by plan policy w port unit z ≡ effect.Queued) same (cc (is)))
+queued_at plan policy w port unit (q ∷ ps) (suc n) p is at =
+    queued_at plan policy (waiting_then (effect_by plan policy w port unit q) w) port unit ps n p is at
+
+-- ---- the law
+
+accepted_from : (plan : Plan) → StreamsFit plan → DrawFacts plan → (h : History) (e : Event) (port : PortName)
+    (unit : UnitName) (effects : List Effect)
+    → CauseLaw plan ((e, Accepted port unit effects) ∷ h) → NoForgery plan ((e, Accepted port unit effects) ∷ h)
+    → QueuedFrom plan h e (Accepted port unit effects)
+accepted_from plan fits facts h e port unit effects cause forged n p is stands =
+    let by = accepted_by plan h e port unit effects cause.0 in
+    let same = unit_that_ends plan h e port unit by.packet by.came by.passed in
+    let effects_are : effects ≡ effects_of plan h port unit (unit_ended plan h e port unit) = by.effects_are ∙ ap
+    (λ (ps : List Packet). effects_of plan h port unit ps) (sym same) in
+    let there = queued_at plan (policy_at plan h) ((policy_at plan h).waiting port.link) port unit
+    (unit_ended plan h e port unit) n p (ap (λ (es : List Effect). slice_get es n) (sym effects_are) ∙ is) stands in
+    origin_of plan fits facts h e port unit effects cause forged n p (queued_means plan h there.0 port unit p there.1)
+    stands
+
+queued_from : (plan : Plan) → StreamsFit plan → DrawFacts plan → (h : History) (e : Event) (w : Verdict)
+    → CauseLaw plan ((e, w) ∷ h) → NoForgery plan ((e, w) ∷ h) → QueuedFrom plan h e w
+queued_from plan fits facts h e (Accepted port unit effects) cause forged = accepted_from plan fits facts h e port unit
+    effects cause forged
+queued_from plan fits facts h e w cause forged = tt
+
+pub read_origins : (plan : Plan) → StreamsFit plan → DrawFacts plan → (h : History) → CauseLaw plan h
+    → NoForgery plan h → ReadOriginLaw plan h
+read_origins plan fits facts [] cause forged = tt
+read_origins plan fits facts ((e, w) ∷ h) cause forged =
+    (queued_from plan fits facts h e w cause forged, read_origins plan fits facts h cause.1 forged.1)

@@ -1,0 +1,4 @@
+pub mod ByNumber
+pub mod Oldest
+pub mod Order
+pub mod Requesters

@@ -1,0 +1,114 @@
+use Rattle.std.proofs.Common.{◌≡◌, ◌+◌, ◌++◌, true, false, if◌then◌else◌, [], ℕ, List, length, Result, Ok, sym, ap, ◌∙◌}
+use Rattle.std.proofs.Common.{subst, refl, arith, length-append, ◌≤◌}
+use Rattle.ide_prefix.specs.Packet.{Packet, packet_bytes, sync_head}
+use Rattle.stream_rules.specs.Sending.{ahead_with}
+use Rattle.stream_rules.specs.Stream.{live_sender, sealed_slots}
+use Rattle.stream_rules.specs.Slots.{any_live}
+use Rattle.sub_stream.specs.{Sender, Sealing, Content, sync_content, sealing_of, sealing_answer, sealing_bytes}
+use Rattle.sub_stream.specs.{sender_after}
+use Rattle.sub_stream.specs.Gathered.{lent_ahead}
+use Rattle.sub_stream.specs.declared.answer.SealedPacket.{SealedPacket}
+use Rattle.sub_stream.specs.declared.answer.TxRefusal.{TxRefusal}
+use Rattle.stream_lanes.specs.Lanes.{SendEnd, IsSendLane, is_spent, sync_said, packet_said, sealed_end, measured}
+use Rattle.stream_lanes.proofs.Sealing.{view, sealing-is, sealed-kept, sync-short, sync-same}
+use Rattle.stream_lanes.proofs.send_lanes.SendLane.sync.Goals as goal
+
+end : goal.After-count → SendEnd
+end c = view c.self.inside.tx c.self.inside.closed c.self.inside.posted c.self.inside.total
+
+live : (c : goal.After-count) → any_live c.self.inside.tx.slots ≡ true
+live c = ap (λ (e : SendEnd). any_live e.kept.slots) c.self.view_is ∙ c.requires.live
+
+content : goal.After-count → Content
+content c = sync_content c.self.inside.posted
+
+with_sealed : goal.After-count → Packet → Sealing
+with_sealed c p = record {
+  description = measured (sync_said (end c)) p;
+  packet = p;
+  sender = record c.self.inside.tx { ahead = []; slots = sealed_slots true p c.self.inside.tx.slots };
+}
+
+sealing_so : (c : goal.After-count) → sealing_of c.self.inside.tx (lent_ahead c.lent_total-lent.result) (content c)
+    false
+    ≡ Ok (with_sealed c (packet_said (end c) sync_head [] (sync_said (end c))))
+unfolding with_sealed content end
+sealing_so c =
+    sealing-is c.self.inside.tx c.self.inside.limit c.self.inside.closed c.self.inside.posted c.self.inside.total
+    (lent_ahead c.lent_total-lent.result) (content c) false
+    c.self.invariant (live c) (ap is_spent c.self.view_is ∙ c.requires.unworn)
+    (c.lent_total-lent.ensures ∙ ap (λ (b : List ℕ). if c.self.inside.closed then b else [])
+    c.to_be_bytes-total.ensures)
+    refl
+
+sealed : goal.After-count → Sealing
+sealed c = with_sealed c (packet_said (end c) [] [] (sync_said (end c)))
+
+right : (c : goal.After-count) → sealing_of c.self.inside.tx (lent_ahead c.lent_total-lent.result) (content c) false
+    ≡ Ok (sealed c)
+unfolding sealed end
+right c =
+    sealing_so c
+    ∙ ap (λ (p : Packet). Ok (with_sealed c p))
+    (sync-same (ahead_with c.self.inside.closed (sync_said (end c)).unit c.self.inside.total)
+    (live_sender c.self.inside.tx.slots) (sync_said (end c)) sync_head [] [] [] refl)
+
+ok_is : (a b : SealedPacket) (r : Result SealedPacket TxRefusal) → r ≡ Ok a → r ≡ Ok b → a ≡ b
+ok_is a b r e f = cc
+
+packet_is : (c : goal.After-count) → c.in-Ok.packet ≡ measured (sync_said (end c))
+    (packet_said (end c) [] [] (sync_said (end c)))
+unfolding sealed with_sealed end content
+packet_is c = ok_is _ _ _ (sym c.in-Ok.ensures.answer) (ap sealing_answer (right c))
+
+pub returns-clause-answer : goal.returns-clause-answer
+unfolding end
+returns-clause-answer c =
+    packet_is c
+    ∙ ap (λ (e : SendEnd). measured (sync_said e) (packet_said e [] [] (sync_said e))) c.self.view_is
+
+pub returns-clause-bytes : goal.returns-clause-bytes
+unfolding sealed with_sealed end content
+returns-clause-bytes c =
+    c.in-Ok.ensures.bytes
+    ∙ ap (λ (s : Result Sealing TxRefusal). c.args.out.now.items ++ sealing_bytes s) (right c)
+    ∙ ap (λ (e : SendEnd). c.args.out.now.items ++ packet_bytes (packet_said e [] [] (sync_said e))) c.self.view_is
+
+sender_is : (c : goal.After-count) → c.sync.new.self ≡ (sealed c).sender
+unfolding content
+sender_is c = c.in-Ok.ensures.sender ∙ ap (sender_after c.self.inside.tx) (right c)
+
+total_is : (c : goal.After-count) → c.count.new.total ≡
+    (if (sync_said (end c)).m then c.self.inside.total + 1 else c.self.inside.total)
+unfolding end
+total_is c =
+    c.count.ensures.total
+    ∙ ap (λ (p : SealedPacket). if p.m then c.self.inside.total + 1 else c.self.inside.total) (packet_is c)
+
+pub returns-clause-lane : goal.returns-clause-lane
+unfolding sealed with_sealed end content
+returns-clause-lane c =
+    (λ i. view (sender_is c i) c.self.inside.closed (c.count.ensures.posted i) (total_is c i))
+    ∙ ap (λ (e : SendEnd). sealed_end e [] [] (sync_said e)) c.self.view_is
+
+pub invariant_of-self : goal.invariant_of-self
+unfolding sealed with_sealed end content
+invariant_of-self c =
+    let Kept : Sender × ℕ × ℕ → Type 0 = λ y. IsSendLane y.0 c.self.inside.limit c.self.inside.closed y.1 y.2 in
+    subst Kept (λ i. (sym (sender_is c) i, sym c.count.ensures.posted i, sym (total_is c) i))
+    (sealed-kept c.self.inside.tx c.self.inside.limit c.self.inside.closed c.self.inside.posted c.self.inside.total
+    false (sealed c).packet _ c.self.invariant (live c) refl)
+
+bytes_are : (c : goal.After-count) → c.sync.new.out.items ≡ c.args.out.now.items
+    ++ packet_bytes (packet_said (end c) [] [] (sync_said (end c)))
+unfolding sealed with_sealed end content
+bytes_are c = c.in-Ok.ensures.bytes ∙ ap (λ (s : Result Sealing TxRefusal). c.args.out.now.items ++ sealing_bytes s)
+    (right c)
+
+pub returns-clause-len : goal.returns-clause-len
+returns-clause-len c =
+    let more = packet_bytes (packet_said (end c) [] [] (sync_said (end c))) in
+    let size : length c.sync.new.out.items ≡ length c.args.out.now.items + length more = ap length (bytes_are c) ∙
+    length-append c.args.out.now.items more in
+    let few : length more ≤ 28 = sync-short (end c) in
+    omega (arith, size, few, c.sync.new.out.ok.0, c.args.out.now.ok.0)

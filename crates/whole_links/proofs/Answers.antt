@@ -1,0 +1,219 @@
+-- An answer to the oldest read of a link, as the machine has it: a verdict ahead of the ports, a refusal for an older
+-- draw, or the send of the completion.
+use Rattle.std.proofs.Common.{◌≡◌, ℕ, zero, suc, ◌+◌, ◌<◌, true, false, [], length, refl, ap, sym, subst, ◌∙◌, arith}
+use Rattle.std.proofs.lemmas.Bool.Decides.{nat_tests}
+use Rattle.std.specs.Prelude.{Option, Some, None, Result, Ok, Err, unwrap_or, slice_get, nat_lt, if◌then◌else◌}
+use Rattle.std.specs.Option.{option_map, option_map_or, option_and_then}
+use Rattle.std.proofs.lemmas.Option.{none-some, slice_get_within}
+use Rattle.ide_types.specs.declared.memory.Memory.{Memory}
+use Rattle.ide_types.specs.declared.port.Side.TheVariants.{Host}
+use Rattle.ide_types.specs.declared.sub.SubKind.{SubKind}
+use Rattle.ide_types.specs.declared.sub.SubKind.TheVariants.{Pr, Npr, Cpl}
+use Rattle.ide_plan.specs.declared.plan.Plan.{Plan}
+use Rattle.interface_words.specs.declared.verdict.InterfaceVerdict.TheVariants as iv
+use Rattle.link_events.specs.declared.event.Event.TheVariants.{Send, Access}
+use Rattle.link_events.specs.declared.event.AccessEvent.TheVariants as ae
+use Rattle.link_verdicts.specs.declared.verdict.Verdict.{Verdict}
+use Rattle.link_verdicts.specs.declared.verdict.Verdict.TheVariants as v
+use Rattle.key_laws.proofs.Tests.{lt-true}
+use Rattle.association.specs.Outgoing.{outgoing_of}
+use Rattle.link_history.specs.Plan.{streams_of}
+use Rattle.stream_rules.specs.Stream.{StreamState, at_sub}
+use Rattle.stream_rules.specs.Slots.{sealing_draw}
+use Rattle.link_ports.specs.Replies.{Reply, is_below}
+use Rattle.link_ports.specs.Machine.{Beside, LinkState, Stepped, port_at, sealing_draw_at, stepped_completion}
+use Rattle.link_ports.specs.Machine.{stepped_reply, stepped_send}
+unfoldable use Rattle.link_ports.specs.Machine.{find, step_of}
+use Rattle.ide_port.specs.{Found, found, sealing_draw_in}
+use Rattle.link_ends.specs.declared.ends.LinkEnds.{LinkEnds}
+use Rattle.all_ends.specs.States.{AreLinks}
+use Rattle.all_ends.proofs.Finds.{find_at, port_is}
+use Rattle.all_links.specs.declared.links.Links.{Links}
+use Rattle.all_links.specs.States.{links_state}
+use Rattle.all_links.specs.Links.{Ends, EndsIf, EndsWith, EndsOr}
+use Rattle.all_links.specs.Accesses.{reads_at, sizes_at, bytes_at}
+use Rattle.trusted_memory.specs.{bytes_from}
+use Rattle.guarded_memory.specs.Contents.{has_bytes}
+use Rattle.all_links.specs.Besides.{beside_in}
+use Rattle.all_links.proofs.Finds.{nothing_changes}
+use Rattle.all_links.proofs.Sends.{given}
+use Rattle.whole_links.specs.declared.whole.WholeLinks.{WholeLinks}
+use Rattle.whole_links.specs.Besides.{reply_at_ends, reply_in, draw_below, shown_in, place_of}
+use Rattle.whole_links.specs.Besides.{has_shown, bytes_shown}
+use Rattle.whole_links.specs.Whole.{IsBoundedWhole, WholeEnds, WholeEndsOr}
+use Rattle.whole_links.proofs.Ends.{ends_if, stays_with}
+
+-- ---- the machine's step
+
+answer_step : (plan : Plan) (b : Beside) (st : LinkState) (link : ℕ) (o : Result Reply Verdict) → b.reply link ≡ o
+    → step_of plan b st (Access (ae.Answer link)) ≡ stepped_reply plan b st (port_at Host link) o
+unfolding step_of
+answer_step plan b st link o is = ap (λ (r : Result Reply Verdict). stepped_reply plan b st (port_at Host link) r) is
+
+-- the draw that the host's port seals completions under
+found_at : (x : StreamState) (u : SubKind) → sealing_draw_at u (Some x) ≡ sealing_draw (at_sub x.tx u).slots
+found_at x Pr = refl
+found_at x Npr = refl
+found_at x Cpl = refl
+
+found_draw : (o : Option Found)
+    → sealing_draw_at Cpl (option_map (λ (f : Found). f.state) o)
+    ≡ option_and_then (λ (f : Found). sealing_draw (at_sub f.state.tx Cpl).slots) o
+found_draw None = refl
+found_draw (Some f) = found_at f.state Cpl
+
+draw_same : (s : Links) (plan : Plan) (link : ℕ) (l : LinkEnds) (stream : ℕ) → AreLinks plan s.ends s.keeper.keys
+    → slice_get s.ends link ≡ Some l
+    → sealing_draw_at Cpl (find plan (links_state plan s) (port_at Host link) stream)
+    ≡ sealing_draw_in l.host stream Cpl
+draw_same s plan link l stream links is =
+    ap (λ (o : Option StreamState). sealing_draw_at Cpl o)
+    (find_at plan s.ends s.keeper.keys s.packets.packets (port_at Host link) l stream is
+    (port_is plan s.ends s.keeper.keys (port_at Host link) l links is))
+    ∙ found_draw (found l.host.plans l.host.states stream)
+
+-- ---- a verdict ahead of the ports
+
+pub answer_only : {verdict w : Verdict} {old new : WholeLinks} (link : ℕ) → reply_in old link ≡ Err w → verdict ≡ w
+    → new.links ≡ record old.links { steps = old.links.steps + 1 } → new.accesses ≡ old.accesses → IsBoundedWhole old
+    → WholeEnds verdict old new (Access (ae.Answer link))
+answer_only {verdict} {w} {old} {new} link due says is same bounded =
+    ends_if
+    (nothing_changes {IsSo = λ plan b. b.reply link ≡ Err w} says is bounded.bounded
+    (λ b plan so h links stands. answer_step plan (beside_in old.links b) (links_state plan old.links) link (Err w) so))
+    bounded.whole (ap length same) (λ answer by plan regions. due)
+
+-- ---- a refusal for an older draw
+
+below_is : (o : Option ℕ) (floor draw : ℕ) → draw_below o floor ≡ Some draw
+    → (is_below o floor ≡ true) × (unwrap_or o 0 ≡ draw)
+below_is None floor draw is = absurd (none-some draw is)
+below_is (Some d) floor draw is = grind arith
+
+not_below : (o : Option ℕ) (floor : ℕ) → draw_below o floor ≡ None → is_below o floor ≡ false
+not_below None floor is = refl
+not_below (Some d) floor is = grind arith
+
+module _ (plan : Plan) (b : Beside) (st : LinkState) (link : ℕ) (r : Reply) (o : Option ℕ) where
+  abbrev sends : Stepped
+  sends = stepped_send plan b st (port_at Host link) (outgoing_of (streams_of plan link) Host r.bytes) false true
+
+  older : (draw : ℕ) → draw_below o r.floor ≡ Some draw
+      → stepped_completion plan b st (port_at Host link) r o ≡ (v.Interface (iv.RefusedRefreshFirst draw r.floor), st)
+  older draw below =
+      let at = below_is o r.floor draw below in
+      (λ i. if at.0 i then (v.Interface (iv.RefusedRefreshFirst (at.1 i) r.floor), st) else sends)
+
+  newer : draw_below o r.floor ≡ None → stepped_completion plan b st (port_at Host link) r o ≡ sends
+  newer below =
+      let none : is_below o r.floor ≡ false = not_below o r.floor below in
+      (λ i. if none i then (v.Interface (iv.RefusedRefreshFirst (unwrap_or o 0) r.floor), st) else sends)
+
+pub answer_older : {verdict : Verdict} {old new : WholeLinks} (link : ℕ) (r : Reply) (l : LinkEnds) (draw : ℕ)
+    → reply_in old link ≡ Ok r → slice_get old.links.ends link ≡ Some l
+    → draw_below (sealing_draw_in l.host r.stream Cpl) r.floor ≡ Some draw
+    → verdict ≡ v.Interface (iv.RefusedRefreshFirst draw r.floor)
+    → new.links ≡ record old.links { steps = old.links.steps + 1 } → new.accesses ≡ old.accesses → IsBoundedWhole old
+    → WholeEnds verdict old new (Access (ae.Answer link))
+answer_older {verdict} {old} {new} link r l draw due l_is below says is same bounded =
+    ends_if
+    (nothing_changes {IsSo = λ plan b. b.reply link ≡ Ok r} says is bounded.bounded
+    (λ b plan so h links stands.
+    let st : LinkState = links_state plan old.links in
+    let beside : Beside = beside_in old.links b in
+    answer_step plan beside st link (Ok r) so
+    ∙ ap (λ (o : Option ℕ). stepped_completion plan beside st (port_at Host link) r o)
+    (draw_same old.links plan link l r.stream links l_is)
+    ∙ older plan beside st link r (sealing_draw_in l.host r.stream Cpl) draw below))
+    bounded.whole (ap length same) (λ answer by plan regions. due)
+
+-- ---- the send
+
+sent_as_answer : {verdict : Verdict} (old new : WholeLinks) (link : ℕ) (r : Reply) (l : LinkEnds)
+    → slice_get old.links.ends link ≡ Some l → link < length old.links.ends
+    → draw_below (sealing_draw_in l.host r.stream Cpl) r.floor ≡ None
+    → EndsWith verdict old.links new.links (Send (port_at Host link) r.bytes false true)
+    → EndsIf (λ plan b. b.reply link ≡ Ok r) verdict old.links new.links (Access (ae.Answer link))
+sent_as_answer {verdict} old new link r l l_is here below x = record {
+  counted = x.counted;
+  bounded = x.bounded;
+  many = x.many;
+  regions = x.regions;
+  ends = λ b plan so h links stands.
+      let st : LinkState = links_state plan old.links in
+      let beside : Beside = beside_in old.links b in
+      subst (λ (s : Stepped). Ends plan new.links verdict s)
+      (given beside old.links plan (port_at Host link) r.bytes false true true links
+      (sym (lt-true link (length old.links.ends) here))
+      ∙ sym (answer_step plan beside st link (Ok r) so
+      ∙ ap (λ (o : Option ℕ). stepped_completion plan beside st (port_at Host link) r o)
+      (draw_same old.links plan link l r.stream links l_is)
+      ∙ newer plan beside st link r (sealing_draw_in l.host r.stream Cpl) below))
+      (x.ends b plan (λ f on. absurd cc) h links stands);
+}
+
+pub answer_sent : {verdict : Verdict} (old new : WholeLinks) (link : ℕ) (r : Reply) (l : LinkEnds)
+    → reply_in old link ≡ Ok r → slice_get old.links.ends link ≡ Some l → link < length old.links.ends
+    → draw_below (sealing_draw_in l.host r.stream Cpl) r.floor ≡ None
+    → EndsWith verdict old.links new.links (Send (port_at Host link) r.bytes false true)
+    → new.accesses ≡ old.accesses → IsBoundedWhole old → WholeEnds verdict old new (Access (ae.Answer link))
+answer_sent {verdict} old new link r l due l_is here below x same bounded =
+    ends_if (sent_as_answer old new link r l l_is here below x) bounded.whole (ap length same)
+    (λ answer by plan regions. due)
+
+pub answer_sent_or : (r : Result Verdict Memory) (old new : WholeLinks) (link : ℕ) (reply : Reply) (l : LinkEnds)
+    → reply_in old link ≡ Ok reply → slice_get old.links.ends link ≡ Some l → link < length old.links.ends
+    → draw_below (sealing_draw_in l.host reply.stream Cpl) reply.floor ≡ None
+    → EndsOr r old.links new.links (Send (port_at Host link) reply.bytes false true)
+    → new.accesses ≡ old.accesses → IsBoundedWhole old → WholeEndsOr r old new (Access (ae.Answer link))
+answer_sent_or (Ok verdict) old new link reply l due l_is here below x same bounded =
+    answer_sent old new link reply l due l_is here below x same bounded
+answer_sent_or (Err e) old new link reply l due l_is here below x same bounded = stays_with x same
+
+-- ---- on no link
+
+pub answer_nowhere : {verdict : Verdict} {old new : WholeLinks} (link : ℕ) → false ≡ nat_lt link (length old.links.ends)
+    → verdict ≡ v.Nothing → new.links ≡ record old.links { steps = old.links.steps + 1 }
+    → new.accesses ≡ old.accesses → IsBoundedWhole old → WholeEnds verdict old new (Access (ae.Answer link))
+answer_nowhere {verdict} {old} {new} link nowhere says is same bounded =
+    answer_only link (by_ends (slice_get old.links.ends link) refl) says is same bounded
+  where
+    by_ends : (o : Option LinkEnds) → slice_get old.links.ends link ≡ o → reply_in old link ≡ Err v.Nothing
+    by_ends None at =
+        ap (λ (p : Option LinkEnds). reply_at_ends old.links.keeper.interfaces p link old.links.trusted.contents
+        (reads_at old.accesses link)) at
+    by_ends (Some l) at =
+        let within : link < length old.links.ends = slice_get_within old.links.ends link l at in
+        absurd (grind (arith, nat_tests, nowhere, within))
+
+-- ---- the memory of devices
+
+shows_step : (plan : Plan) (b : Beside) (st : LinkState) (i bar offset len : ℕ) (w : Verdict)
+    → b.shows i bar offset len ≡ w → step_of plan b st (Access (ae.Mmio i bar offset len)) ≡ (w, st)
+unfolding step_of
+shows_step plan b st i bar offset len w is = ap (λ (x : Verdict). (x, st)) is
+
+pub mmio_only : {verdict w : Verdict} {old new : WholeLinks} (i bar offset len : ℕ)
+    → shown_in old i bar offset len ≡ w → verdict ≡ w
+    → new.links ≡ record old.links { steps = old.links.steps + 1 } → new.accesses ≡ old.accesses → IsBoundedWhole old
+    → WholeEnds verdict old new (Access (ae.Mmio i bar offset len))
+mmio_only {verdict} {w} {old} {new} i bar offset len due says is same bounded =
+    ends_if
+    (nothing_changes {IsSo = λ plan b. b.shows i bar offset len ≡ w} says is bounded.bounded
+    (λ b plan so h links stands.
+    shows_step plan (beside_in old.links b) (links_state plan old.links) i bar offset len w so))
+    bounded.whole (ap length same) (λ answer by plan regions. due)
+
+length-bytes : (f : ℕ → ℕ) (at n : ℕ) → length (bytes_from f at n) ≡ n
+length-bytes f at zero = refl
+length-bytes f at (suc n) = ap (λ (k : ℕ). suc k) (length-bytes f (at + 1) n)
+
+pub length-shown : (s : WholeLinks) (i bar offset n : ℕ) → has_shown s i bar offset n ≡ true
+    → length (bytes_shown s i bar offset n) ≡ n
+length-shown s i bar offset n has = by_place (place_of s i) has
+  where
+    by_place : (o : Option (ℕ × ℕ))
+        → option_map_or (λ (at : ℕ × ℕ). has_bytes (sizes_at s.accesses at.0) at.1 bar offset n) o false ≡ true
+        → length (option_map_or (λ (at : ℕ × ℕ). bytes_from (bytes_at s.accesses at.0 at.1 bar) offset n) o []) ≡ n
+    by_place None has = absurd cc
+    by_place (Some at) has = length-bytes (bytes_at s.accesses at.0 at.1 bar) offset n

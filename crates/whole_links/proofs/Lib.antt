@@ -1,0 +1,4 @@
+mod Ends
+mod Replies
+mod Answers
+mod Accesses

@@ -1,0 +1,11 @@
+use Rattle.std.proofs.Common.{sym, refl}
+use Rattle.all_links.proofs.Sides.{keeps_all}
+use Rattle.whole_links.proofs.Answers.{answer_only}
+use Rattle.whole_links.proofs.whole.WholeLinks.answered.Goals as goal
+
+pub returns-in-Err-clause-ends : goal.returns-in-Err-clause-ends
+returns-in-Err-clause-ends c =
+    answer_only c.args.link (sym c.in-Err.ensures) c.only.ensures.value c.only.ensures.links refl c.requires.bounded
+
+pub returns-in-Err-clause-sides : goal.returns-in-Err-clause-sides
+returns-in-Err-clause-sides c = keeps_all c.only.ensures.links

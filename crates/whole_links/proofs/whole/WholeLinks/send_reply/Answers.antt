@@ -1,0 +1,24 @@
+use Rattle.std.proofs.Common.{sym, refl}
+use Rattle.all_ends.proofs.Finds.{there}
+use Rattle.all_links.proofs.Sides.{keeps_all}
+use Rattle.whole_links.proofs.Answers.{answer_older, answer_sent_or}
+use Rattle.whole_links.proofs.whole.WholeLinks.send_reply.Goals as goal
+
+pub returns-in-Some-clause-ends : goal.returns-in-Some-clause-ends
+returns-in-Some-clause-ends c =
+    let l = there c.args.self.now.links.ends c.args.link c.requires.here in
+    answer_older c.args.link
+    (record { stream = c.args.bound.0; floor = c.args.bound.1; bytes = c.args.bytes.now }) l.0 c.in-Some.draw
+    c.requires.due l.1 (sym (c.in-Some.ensures l.0 l.1)) c.only.ensures.value c.only.ensures.links refl
+    c.requires.bounded
+
+pub returns-in-None-clause-ends : goal.returns-in-None-clause-ends
+returns-in-None-clause-ends c =
+    let l = there c.args.self.now.links.ends c.args.link c.requires.here in
+    answer_sent_or c.send.result c.args.self.now
+    (record { links = c.send.new.self; accesses = c.args.self.now.accesses }) c.args.link
+    (record { stream = c.args.bound.0; floor = c.args.bound.1; bytes = c.args.bytes.now }) l.0
+    c.requires.due l.1 c.requires.here (sym (c.in-None.ensures l.0 l.1)) c.send.ensures.ends refl c.requires.bounded
+
+pub returns-in-Some-clause-sides : goal.returns-in-Some-clause-sides
+returns-in-Some-clause-sides c = keeps_all c.only.ensures.links

@@ -1,0 +1,97 @@
+-- What an event makes of the accesses of all links.
+use Rattle.std.specs.Prelude.{ℕ, ◌≡◌, ◌==◌, ◌&&◌, not, Bool, true, false, if◌then◌else◌, List, [], ◌∷◌}
+use Rattle.std.specs.Prelude.{slice_set, Option, Some, None}
+use Rattle.std.specs.Option.{option_map_or}
+use Rattle.ide_plan.specs.declared.interface.BarPlan.{BarPlan}
+use Rattle.link_events.specs.declared.event.Event.{Event}
+use Rattle.link_events.specs.declared.event.Event.TheVariants as event
+use Rattle.link_events.specs.declared.event.AccessEvent.TheVariants as ae
+use Rattle.link_events.specs.declared.event.InterfaceEvent.{InterfaceEvent}
+use Rattle.link_events.specs.declared.event.InterfaceEvent.TheVariants as ie
+use Rattle.link_verdicts.specs.declared.verdict.Verdict.{Verdict}
+use Rattle.link_verdicts.specs.declared.verdict.Verdict.TheVariants as v
+use Rattle.link_verdicts.specs.declared.access.AccessVerdict.TheVariants as av
+use Rattle.interface_states.specs.Exchanges.{carries, changes_device}
+use Rattle.guarded_memory.specs.Happenings.{Happened, InterfaceReset, AllReset, InterfaceStopped}
+use Rattle.whole_machine.specs.Accesses.{waiting_reads_after}
+use Rattle.tdi_state.specs.Machine.{Tdi}
+use Rattle.all_links.specs.Accesses.{runs_in, device_draw, same_reads, same_floors, nothing_happens, AccessesTurn}
+use Rattle.all_links.specs.Accesses.{AccessesArrive}
+use Rattle.all_links.specs.Interfaces.{interface_named, tdi_named}
+use Rattle.all_links.specs.Sides.{arrival_at}
+use Rattle.all_links.specs.declared.links.Links.{Links}
+use Rattle.whole_links.specs.declared.whole.WholeLinks.{WholeLinks}
+
+-- ---- answers to reads
+
+-- an answer with this verdict takes the read that it answers: its completion was sealed, or it was dropped
+abbrev pub takes_read : Verdict → Bool
+takes_read (v.Sealed ds) = true
+takes_read (v.Access (av.Dropped interface cause)) = true
+takes_read verdict = false
+
+-- ---- floors
+
+abbrev pub floors_set : Links → ℕ → Option (ℕ × ℕ) → ℕ → List ℕ → List ℕ
+floors_set s i None link floors = floors
+floors_set s i (Some at) link floors =
+    if at.0 == link then slice_set floors at.1 (device_draw s i at.0) else floors
+
+-- of an interface that came into RUN
+abbrev pub floors_if : Bool → Links → ℕ → ℕ → List ℕ → List ℕ
+floors_if came s i link floors =
+    if came then floors_set s i (interface_named s.keeper.interfaces s.ends i) link floors else floors
+
+abbrev pub floors_started : Links → Links → ℕ → ℕ → List ℕ → List ℕ
+floors_started old new i = floors_if (not (runs_in old i) && runs_in new i) new i
+
+-- ---- the memory of devices
+
+-- at the link of an interface at this place
+abbrev pub happens_at : Bool → Option (ℕ × ℕ) → (ℕ → Happened) → ℕ → List (Option Happened)
+happens_at happens None which link = []
+happens_at happens (Some at) which link = if happens && (at.0 == link) then Some (which at.1) ∷ [] else []
+
+abbrev pub bars_named : Links → ℕ → List BarPlan
+bars_named s i = option_map_or (λ (t : Tdi). t.plan.bars) (tdi_named s.keeper.interfaces s.ends i) []
+
+abbrev pub halted_at : Links → ℕ → Verdict → ℕ → List (Option Happened)
+halted_at s i verdict link =
+    happens_at (carries verdict 1) (interface_named s.keeper.interfaces s.ends i)
+    (λ place. InterfaceStopped place (bars_named s i)) link
+
+abbrev pub flr_at : Links → ℕ → Verdict → ℕ → List (Option Happened)
+flr_at s i verdict link =
+    happens_at (changes_device verdict) (interface_named s.keeper.interfaces s.ends i) InterfaceReset link
+
+abbrev pub reset_happens : Verdict → ℕ → List (Option Happened)
+reset_happens (v.Reset reset) link = if reset == link then Some AllReset ∷ [] else []
+reset_happens verdict link = []
+
+-- ---- by events
+
+abbrev pub AccessesInterface : InterfaceEvent → Verdict → WholeLinks → WholeLinks → Type 0
+AccessesInterface (ie.Start i loss) verdict old new =
+    AccessesTurn same_reads (floors_started old.links new.links i) nothing_happens old.accesses new.accesses
+AccessesInterface (ie.Halt i loss) verdict old new =
+    AccessesTurn same_reads same_floors (halted_at new.links i verdict) old.accesses new.accesses
+AccessesInterface (ie.Flr i) verdict old new =
+    AccessesTurn same_reads same_floors (flr_at new.links i verdict) old.accesses new.accesses
+AccessesInterface e verdict old new = new.accesses ≡ old.accesses
+
+abbrev pub AccessesArriveAt : Event → Verdict → WholeLinks → WholeLinks → Type 0
+AccessesArriveAt e verdict old new = AccessesArrive (arrival_at e) e verdict old.links old.accesses new.accesses
+
+abbrev pub AccessesAfter : Event → Verdict → WholeLinks → WholeLinks → Type 0
+AccessesAfter (event.Pass n) verdict old new = AccessesArriveAt (event.Pass n) verdict old new
+AccessesAfter (event.Alter n at mask) verdict old new = AccessesArriveAt (event.Alter n at mask) verdict old new
+AccessesAfter (event.Cut n len) verdict old new = AccessesArriveAt (event.Cut n len) verdict old new
+AccessesAfter (event.Arrive port bytes) verdict old new = AccessesArriveAt (event.Arrive port bytes) verdict old new
+AccessesAfter (event.Reset link) verdict old new =
+    AccessesTurn (waiting_reads_after [] (event.Reset link) verdict) same_floors (reset_happens verdict) old.accesses
+    new.accesses
+AccessesAfter (event.Interface e) verdict old new = AccessesInterface e verdict old new
+AccessesAfter (event.Access (ae.Answer link)) verdict old new =
+    AccessesTurn (waiting_reads_after [] (event.Access (ae.Answer link)) verdict) same_floors nothing_happens
+    old.accesses new.accesses
+AccessesAfter e verdict old new = new.accesses ≡ old.accesses

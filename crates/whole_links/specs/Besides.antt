@@ -1,0 +1,112 @@
+-- What all links say beside their ports: also the effects of accepted units, the answers to reads that wait, and what
+-- is shown of the memory of devices.
+use Rattle.std.specs.Prelude.{ℕ, nat_lt, nat_le, not, Bool, false, if◌then◌else◌, List, [], ◌∷◌, Option, Some, None}
+use Rattle.std.specs.Prelude.{Result}
+use Rattle.std.specs.Prelude.{Ok, Err, slice_get}
+use Rattle.ide_plan.specs.declared.plan.Plan.{Plan}
+use Rattle.link_events.specs.declared.event.InterfaceEvent.{InterfaceEvent}
+use Rattle.link_verdicts.specs.declared.verdict.BlockCause.TheVariants as cause
+use Rattle.link_verdicts.specs.declared.verdict.Verdict.{Verdict}
+use Rattle.link_verdicts.specs.declared.verdict.Verdict.TheVariants as v
+use Rattle.link_verdicts.specs.declared.access.AccessVerdict.TheVariants as av
+use Rattle.association.specs.Outgoing.{outgoing_of, stream_taken}
+use Rattle.trusted_memory.specs.{MemoryContents, byte_at, bytes_from}
+use Rattle.waiting_reads.specs.declared.queue.WaitingRead.{WaitingRead}
+unfoldable use Rattle.waiting_reads.specs.{completion_bytes}
+use Rattle.guarded_memory.specs.Contents.{has_bytes}
+use Rattle.tdi_host.specs.Managers.{granted, number_of}
+use Rattle.link_ends.specs.declared.ends.LinkEnds.{LinkEnds}
+use Rattle.link_ends.specs.Hosts.{InterfacesView}
+use Rattle.link_history.specs.Memory.{effects_by}
+use Rattle.link_history.specs.Due.{is_stream}
+use Rattle.link_history.specs.Guarded.{mmio_if}
+use Rattle.link_ports.specs.Machine.{Beside}
+use Rattle.link_ports.specs.Replies.{Reply, is_below}
+use Rattle.std.specs.Option.{option_map_or, option_and_then}
+use Rattle.all_links.specs.Accesses.{reads_at, sizes_at, bytes_at, policy_in}
+use Rattle.all_links.specs.Besides.{beside_in}
+use Rattle.all_links.specs.Interfaces.{interface_named}
+use Rattle.whole_links.specs.declared.whole.WholeLinks.{WholeLinks}
+
+-- ---- answers to reads
+
+-- the stream that a TLP takes at the host's port, if it takes one
+abbrev pub taken_stream : LinkEnds → List ℕ → Option ℕ
+taken_stream l bytes = stream_taken (outgoing_of l.host.plans l.host.name.side bytes)
+
+-- of a read of an interface that came under this draw: by what the manager says of the interface, by its bound stream
+-- and floor, and by the stream that the completion takes
+abbrev pub judged_bound : Option ℕ → ℕ → ℕ → Option (ℕ × ℕ) → Result (ℕ × ℕ) Verdict
+judged_bound taken interface draw None = Err (v.Access (av.Dropped interface cause.NotRunning))
+judged_bound taken interface draw (Some bound) =
+    if not (is_stream bound.0 taken) then Err (v.Access (av.Dropped interface cause.WrongStream))
+    else if nat_lt draw bound.1 then Err (v.Access (av.Dropped interface cause.Stale))
+    else Ok bound
+
+-- with the completion's bytes
+abbrev pub replied : Result (ℕ × ℕ) Verdict → List ℕ → Result Reply Verdict
+replied (Err verdict) bytes = Err verdict
+replied (Ok bound) bytes = Ok (record { stream = bound.0; floor = bound.1; bytes = bytes })
+
+abbrev pub reply_numbered : InterfacesView → LinkEnds → ℕ → MemoryContents → WaitingRead → Option ℕ
+    → Result Reply Verdict
+reply_numbered m l link memory r None = Err v.Nothing
+reply_numbered m l link memory r (Some interface) =
+    let bytes = completion_bytes (byte_at memory) r.read in
+    replied (judged_bound (taken_stream l bytes) interface r.draw (granted m link r.read.requester)) bytes
+
+-- the number of the interface of a link with this requester ID
+abbrev pub small_number : ℕ → Option ℕ
+small_number n = if nat_le n 255 then Some n else None
+
+abbrev pub reader_of : InterfacesView → ℕ → ℕ → Option ℕ
+reader_of m link requester = option_and_then small_number (number_of m link requester)
+
+-- the oldest read that waits, and its completion from memory as it is now
+abbrev pub reply_first : InterfacesView → LinkEnds → ℕ → MemoryContents → List WaitingRead → Result Reply Verdict
+reply_first m l link memory [] = Err (v.Access (av.Empty link))
+reply_first m l link memory (r ∷ rs) = reply_numbered m l link memory r (reader_of m link r.read.requester)
+
+abbrev pub reply_at_ends : InterfacesView → Option LinkEnds → ℕ → MemoryContents → List WaitingRead
+    → Result Reply Verdict
+reply_at_ends m None link memory reads = Err v.Nothing
+reply_at_ends m (Some l) link memory reads = reply_first m l link memory reads
+
+abbrev pub reply_in : WholeLinks → ℕ → Result Reply Verdict
+reply_in s link =
+    reply_at_ends s.links.keeper.interfaces (slice_get s.links.ends link) link s.links.trusted.contents
+    (reads_at s.accesses link)
+
+-- the draw, if it is less than a floor
+abbrev pub draw_below : Option ℕ → ℕ → Option ℕ
+draw_below draw floor = if is_below draw floor then draw else None
+
+-- ---- the memory of devices
+
+abbrev pub place_of : WholeLinks → ℕ → Option (ℕ × ℕ)
+place_of s i = interface_named s.links.keeper.interfaces s.links.ends i
+
+-- the range of a BAR of an interface has all these bytes
+abbrev pub has_shown : WholeLinks → ℕ → ℕ → ℕ → ℕ → Bool
+has_shown s i bar offset len =
+    option_map_or (λ (at : ℕ × ℕ). has_bytes (sizes_at s.accesses at.0) at.1 bar offset len) (place_of s i) false
+
+abbrev pub bytes_shown : WholeLinks → ℕ → ℕ → ℕ → ℕ → List ℕ
+bytes_shown s i bar offset len =
+    option_map_or (λ (at : ℕ × ℕ). bytes_from (bytes_at s.accesses at.0 at.1 bar) offset len) (place_of s i) []
+
+abbrev pub shown_in : WholeLinks → ℕ → ℕ → ℕ → ℕ → Verdict
+shown_in s i bar offset len = mmio_if (has_shown s i bar offset len) (bytes_shown s i bar offset len)
+
+-- ---- all of it
+
+-- events on interfaces have these answers
+abbrev pub beside_whole : Plan → WholeLinks → (InterfaceEvent → Verdict) → Beside
+beside_whole plan s answer =
+    beside_in s.links (record {
+      t = λ port head stream trusted. trusted;
+      effects = effects_by plan (policy_in s.links.keeper.interfaces s.links.ends s.accesses);
+      answer = answer;
+      reply = reply_in s;
+      shows = shown_in s;
+    })

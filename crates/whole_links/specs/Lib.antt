@@ -1,0 +1,3 @@
+pub mod Besides
+pub mod Accesses
+pub mod Whole

@@ -1,0 +1,478 @@
+//! All links with the accesses that stand at each.
+
+ghost use Rattle.std.specs.Prelude.{◌≡◌, ◌≤◌, ◌<◌, ◌^◌, ◌&&◌, not, true, [], Ok, Some, IfOk, IfSome, length, slice_get};
+ghost use Rattle.std.specs.Prelude.{◌+◌, vec_len, vec_capacity};
+ghost use Rattle.std.specs.Bool.{OnTrue};
+ghost use Rattle.ide_plan.specs.Fits.{FitsPlan};
+ghost use Rattle.link_events.specs.Spells.{IsAllowed};
+ghost use Rattle.link_events.specs.Interfaces.{IsAllowedInterface};
+ghost use Rattle.link_events.specs.Accesses.{IsAllowedAccess};
+ghost use Rattle.waiting_reads.specs.{FitsRead};
+ghost use Rattle.ide_port.specs.{sealing_draw_in};
+ghost use Rattle.link_ends.specs.declared.ends.LinkEnds.{LinkEnds};
+ghost use Rattle.all_links.specs.Events.{operation_event};
+ghost use Rattle.whole_links.specs.Besides.{draw_below};
+ghost use Rattle.all_links.specs.Accesses.{is_sending, reads_at, runs_in};
+ghost use Rattle.all_links.specs.Accesses.{same_reads, same_floors, nothing_happens, AccessesTurn};
+ghost use Rattle.all_links.specs.Sides.{SidesKeep, SidesOperate, SidesInterface, Sides};
+
+use crate::reply::{draw_below, judged, small_number};
+use crate::verdicts::{changes_device, dropped, reaches, takes_read};
+use accesses::Accesses;
+use all_links::Links;
+use ide_plan::Plan;
+use ide_types::{Bytes, Memory, PortName, Side, SubKind};
+use interface_words::InterfaceVerdict;
+use link_events::{AccessEvent, Event, InterfaceEvent, Loss};
+use link_verdicts::{AccessVerdict, BlockCause, Operation, Verdict};
+use std::alloc::Global;
+use tdi_host::InterfaceOp;
+use waiting_reads::{COMPLETION_BYTES, WaitingRead, complete};
+
+/// All links of a topology, the trusted reads of each that wait for their answer, and the memory of each device's
+/// interfaces with the least draws that they take trusted writes under (PCI Express Base 6.0 section 6.33 and chapter
+/// 11, in this profile).
+#[derive(Drop)]
+pub struct WholeLinks {
+    pub links: Links,
+    pub accesses: Accesses,
+}
+
+impl WholeLinks {
+    ghost use Rattle.whole_links.specs.Besides.{replied, reply_numbered, reply_in};
+    ghost use Rattle.whole_links.specs.Besides.{reader_of};
+    ghost use Rattle.whole_links.specs.Besides.{has_shown, bytes_shown};
+    ghost use Rattle.whole_links.specs.Whole.{IsFirstWhole, IsWhole, IsBoundedWhole, WholeEnds, WholeEndsAs};
+    ghost use Rattle.whole_links.specs.Whole.{WholeEndsOr, WholeEndsAsOr};
+    ghost use Rattle.whole_links.specs.Accesses.{takes_read, floors_if, halted_at, flr_at};
+    ghost use Rattle.whole_links.specs.Accesses.{AccessesInterface, AccessesAfter};
+
+    /// The links of the plan before the first event, with no read that waits, and 0 in all ranges of its devices.
+    /// Returns `Memory` for want of memory.
+    pub fn make(alloc: Global, plan: &Plan) -> Result<WholeLinks, Memory>
+        requires { FitsPlan plan.now }
+        ensures { IfOk result (λ s. IsFirstWhole plan.now s) }
+    {
+        let links = Links::make(alloc, plan)?;
+        let accesses = Accesses::make(alloc, plan)?;
+        Ok(WholeLinks { links, accesses })
+    }
+
+    // ---- answers to reads
+
+    // Of this read of an interface: appends its completion, and says which stream that is to take and the least draw
+    // that it may be sealed under, by what the manager says of its requester. There is room for it.
+    fn granted(
+        &self,
+        link: u8,
+        interface: u8,
+        waiting: &WaitingRead,
+        bytes: &mut Vec<u8>,
+    ) -> Result<(u8, u32), Verdict>
+        requires here { link < length self.now.links.ends }
+        requires fits { FitsRead waiting.now.read }
+        requires empty { bytes.old.items ≡ [] }
+        requires room { vec_len bytes.old + 4108 ≤ vec_capacity bytes.old }
+        ensures { (l : LinkEnds) → slice_get self.now.links.ends link ≡ Some l → replied result bytes.new.items
+            ≡ reply_numbered self.now.links.keeper.interfaces l link self.now.links.trusted.contents waiting.now
+            (Some interface) }
+    {
+        let requester = waiting.read.requester;
+        match self
+            .links
+            .keeper
+            .interfaces
+            .manager()
+            .grant(link, requester)
+        {
+            None => Err(dropped(interface, BlockCause::NotRunning)),
+            Some(bound) => {
+                complete(&self.links.trusted, &waiting.read, bytes);
+                let side = Side::Host;
+                let taken = self
+                    .links
+                    .ends
+                    .outgoing_stream(PortName { side, link }, bytes);
+                judged(taken, interface, waiting.draw, bound)
+            }
+        }
+    }
+
+    // The number of the interface of a link with this requester ID.
+    fn reader(&self, link: u8, requester: u16) -> Option<u8>
+        ensures { result ≡ reader_of self.now.links.keeper.interfaces link requester }
+    {
+        match self
+            .links
+            .keeper
+            .interfaces
+            .manager()
+            .number(link, requester)
+        {
+            None => None,
+            Some(number) => small_number(number),
+        }
+    }
+
+    // Appends the completion of the oldest read of the link, or gives the verdict without one. There is room for it.
+    fn reply(&self, link: u8, bytes: &mut Vec<u8>) -> Result<(u8, u32), Verdict>
+        requires here { link < length self.now.links.ends }
+        requires whole { IsWhole self.now }
+        requires empty { bytes.old.items ≡ [] }
+        requires room { vec_len bytes.old + 4108 ≤ vec_capacity bytes.old }
+        ensures { replied result bytes.new.items ≡ reply_in self.now link }
+    {
+        match self.accesses.at(link).reads.first() {
+            None => Err(Verdict::Access {
+                verdict: AccessVerdict::Empty { link },
+            }),
+            Some(waiting) => match self.reader(link, waiting.read.requester) {
+                None => Err(Verdict::Nothing),
+                Some(interface) => self.granted(link, interface, &waiting, bytes),
+            },
+        }
+    }
+
+    // The draw that completions of the stream are sealed under at the host's port, if it is less than the floor.
+    fn older_draw(&self, link: u8, bound: (u8, u32)) -> Option<u32>
+        requires { link < length self.now.links.ends }
+        ensures { (l : LinkEnds) → slice_get self.now.links.ends link ≡ Some l → result
+            ≡ draw_below (sealing_draw_in l.host bound.0 SubKind.Cpl) bound.1 }
+    {
+        let side = Side::Host;
+        let port = PortName { side, link };
+        let draw = self.links.ends.sealing_draw(port, bound.0, SubKind::Cpl);
+        draw_below(draw, bound.1)
+    }
+
+    // Sends the completion as any TLP is sent, with T, unless that would be under too old a draw.
+    fn send_reply(&mut self, link: u8, bound: (u8, u32), bytes: &[u8]) -> Result<Verdict, Memory>
+        requires steps { self.old.links.steps < 2 ^ 28 }
+        requires bounded { IsBoundedWhole self.old }
+        requires here { link < length self.old.links.ends }
+        requires due { reply_in self.old link ≡ replied (Ok bound) bytes.now }
+        ensures ends { WholeEndsOr result self.old self.new (Event.Access (AccessEvent.Answer link)) }
+        ensures sides { IfOk result (λ v. SidesKeep self.old.links self.new.links) }
+        ensures accesses { self.new.accesses ≡ self.old.accesses }
+        ensures kind { IfOk result (λ v. is_sending v ≡ true) }
+    {
+        match self.older_draw(link, bound) {
+            Some(draw) => {
+                let needed = bound.1;
+                let verdict = InterfaceVerdict::RefusedRefreshFirst { draw, needed };
+                Ok(self.links.only(Verdict::Interface { verdict }))
+            }
+            None => {
+                let side = Side::Host;
+                self.links.send(PortName { side, link }, bytes, false, true)
+            }
+        }
+    }
+
+    // The answer to the oldest read of a link that exists.
+    fn answered(&mut self, alloc: Global, link: u8) -> Result<Verdict, Memory>
+        requires steps { self.old.links.steps < 2 ^ 28 }
+        requires bounded { IsBoundedWhole self.old }
+        requires here { link < length self.old.links.ends }
+        ensures ends { WholeEndsOr result self.old self.new (Event.Access (AccessEvent.Answer link)) }
+        ensures sides { IfOk result (λ v. SidesKeep self.old.links self.new.links) }
+        ensures accesses { self.new.accesses ≡ self.old.accesses }
+        ensures kind { IfOk result (λ v. is_sending v ≡ true) }
+        ensures waits { IfOk result (λ v. takes_read v ≡ true → 1 ≤ length (reads_at self.old.accesses link)) }
+    {
+        let mut bytes = Vec::with_capacity(alloc, COMPLETION_BYTES)?;
+        match self.reply(link, &mut bytes) {
+            Err(verdict) => Ok(self.links.only(verdict)),
+            Ok(bound) => self.send_reply(link, bound, &bytes),
+        }
+    }
+
+    // Answers the oldest read of a link that waits. Once its completion is sealed, or it is dropped, it waits no more.
+    fn answer_read(&mut self, alloc: Global, link: u64) -> Result<Verdict, Memory>
+        requires steps { self.old.links.steps < 2 ^ 28 }
+        requires bounded { IsBoundedWhole self.old }
+        ensures ends { WholeEndsOr result self.old self.new (Event.Access (AccessEvent.Answer link)) }
+        ensures sides { IfOk result (λ v. SidesKeep self.old.links self.new.links) }
+        ensures accesses { IfOk result (λ v. AccessesAfter (Event.Access (AccessEvent.Answer link)) v self.old
+            self.new) }
+    {
+        if !self.links.has_link(link) {
+            return Ok(self.links.only(Verdict::Nothing));
+        }
+        let link = link as u8;
+        let verdict = self.answered(alloc, link)?;
+        if takes_read(&verdict) {
+            self.accesses.at_mut(link).reads.remove_first();
+        }
+        Ok(verdict)
+    }
+
+    // ---- the memory of devices
+
+    // Copies bytes of the range of a BAR of an interface; false if it has not all of them.
+    fn peek(&self, interface: u64, bar: u64, offset: u64, buf: &mut [u8]) -> bool
+        requires bounded { IsBoundedWhole self.now }
+        ensures answer { result ≡ has_shown self.now interface bar offset (length buf.old) }
+        ensures bytes { OnTrue result (buf.new ≡ bytes_shown self.now interface bar offset (length buf.old)) }
+    {
+        match self.links.interface(interface) {
+            None => false,
+            Some((link, place)) => self
+                .accesses
+                .at(link)
+                .guarded
+                .peek(place, bar as usize, offset, buf),
+        }
+    }
+
+    // Shows bytes of the range of a BAR of an interface, if it has them all.
+    fn mmio(
+        &mut self,
+        alloc: Global,
+        interface: u64,
+        bar: u64,
+        offset: u64,
+        length: u64,
+    ) -> Result<Verdict, Memory>
+        requires steps { self.old.links.steps < 2 ^ 28 }
+        requires bounded { IsBoundedWhole self.old }
+        ensures ends { WholeEndsOr result self.old self.new
+            (Event.Access (AccessEvent.Mmio interface bar offset length)) }
+        ensures sides { IfOk result (λ v. SidesKeep self.old.links self.new.links) }
+        ensures accesses { IfOk result (λ v. AccessesAfter (Event.Access (AccessEvent.Mmio interface bar offset length))
+            v self.old self.new) }
+    {
+        let mut bytes = vec![in alloc; 0; length as usize]?;
+        if self.peek(interface, bar, offset, &mut bytes) {
+            let bytes = Bytes::new(bytes);
+            Ok(
+                self.links.only(Verdict::Access {
+                    verdict: AccessVerdict::Mmio { bytes },
+                }),
+            )
+        } else {
+            Ok(self.links.only(Verdict::Nothing))
+        }
+    }
+
+    // ---- events on interfaces
+
+    // Of an interface that was not in RUN, and is now: its device takes trusted writes to it from the draw on under
+    // which it now opens posted requests of its stream.
+    fn note_start(&mut self, interface: u64, ran: bool)
+        requires bounded { IsBoundedWhole self.old }
+        ensures links { self.new.links ≡ self.old.links }
+        ensures accesses { AccessesTurn same_reads (floors_if (not ran && runs_in self.old.links interface)
+            self.old.links interface) nothing_happens self.old.accesses self.new.accesses }
+    {
+        if ran || !self.links.runs(interface) {
+            return;
+        }
+        match self.links.interface(interface) {
+            None => {}
+            Some((link, place)) => {
+                let draw = self.links.device_draw(link, interface);
+                self.accesses.at_mut(link).floors.start(place, draw);
+            }
+        }
+    }
+
+    fn start(&mut self, alloc: Global, interface: u64, loss: Option<Loss>) -> Option<Verdict>
+        requires steps { self.old.links.steps < 2 ^ 28 }
+        requires bounded { IsBoundedWhole self.old }
+        ensures ends { WholeEndsAs result self.old self.new (Event.Interface (InterfaceEvent.Start interface loss)) }
+        ensures sides { IfSome result (λ v. SidesInterface (InterfaceEvent.Start interface loss) self.old.links
+            self.new.links) }
+        ensures accesses { IfSome result (λ v. AccessesInterface (InterfaceEvent.Start interface loss)
+            v self.old self.new) }
+    {
+        let ran = self.links.runs(interface);
+        let verdict = self
+            .links
+            .operate_interface(alloc, InterfaceOp::Start, interface, loss)?;
+        self.note_start(interface, ran);
+        Some(verdict)
+    }
+
+    // Of an interface that was asked to halt with this verdict: its ranges that are not open are 0 once it took the
+    // request.
+    fn note_halt(&mut self, interface: u64, verdict: &Verdict)
+        requires bounded { IsBoundedWhole self.old }
+        ensures links { self.new.links ≡ self.old.links }
+        ensures accesses { AccessesTurn same_reads same_floors (halted_at self.old.links interface verdict.now)
+            self.old.accesses self.new.accesses }
+    {
+        if !reaches(verdict) {
+            return;
+        }
+        match self.links.interface(interface) {
+            None => {}
+            Some((link, place)) => {
+                let bars = self.links.ends.bars(link, place);
+                self.accesses.at_mut(link).guarded.stop(place, bars);
+            }
+        }
+    }
+
+    fn halt(&mut self, alloc: Global, interface: u64, loss: Option<Loss>) -> Option<Verdict>
+        requires steps { self.old.links.steps < 2 ^ 28 }
+        requires bounded { IsBoundedWhole self.old }
+        ensures ends { WholeEndsAs result self.old self.new (Event.Interface (InterfaceEvent.Halt interface loss)) }
+        ensures sides { IfSome result (λ v. SidesInterface (InterfaceEvent.Halt interface loss) self.old.links
+            self.new.links) }
+        ensures accesses { IfSome result (λ v. AccessesInterface (InterfaceEvent.Halt interface loss)
+            v self.old self.new) }
+    {
+        let verdict = self
+            .links
+            .operate_interface(alloc, InterfaceOp::Halt, interface, loss)?;
+        self.note_halt(interface, &verdict);
+        Some(verdict)
+    }
+
+    // Of an interface whose level reset has this verdict: all its ranges are 0.
+    fn note_flr(&mut self, interface: u64, verdict: &Verdict)
+        requires bounded { IsBoundedWhole self.old }
+        ensures links { self.new.links ≡ self.old.links }
+        ensures accesses { AccessesTurn same_reads same_floors (flr_at self.old.links interface verdict.now)
+            self.old.accesses self.new.accesses }
+    {
+        if !changes_device(verdict) {
+            return;
+        }
+        match self.links.interface(interface) {
+            None => {}
+            Some((link, place)) => self.accesses.at_mut(link).guarded.reset(place),
+        }
+    }
+
+    fn flr(&mut self, interface: u64) -> Verdict
+        requires steps { self.old.links.steps < 2 ^ 28 }
+        requires bounded { IsBoundedWhole self.old }
+        ensures ends { WholeEnds result self.old self.new (Event.Interface (InterfaceEvent.Flr interface)) }
+        ensures sides { SidesInterface (InterfaceEvent.Flr interface) self.old.links self.new.links }
+        ensures accesses { AccessesInterface (InterfaceEvent.Flr interface) result self.old self.new }
+    {
+        let verdict = self.links.flr(interface);
+        self.note_flr(interface, &verdict);
+        verdict
+    }
+
+    fn ask(&mut self, alloc: Global, event: &InterfaceEvent) -> Result<Option<Verdict>, Memory>
+        requires steps { self.old.links.steps < 2 ^ 28 }
+        requires bounded { IsBoundedWhole self.old }
+        requires allowed { IsAllowedInterface event.now }
+        ensures ends { WholeEndsAsOr result self.old self.new (Event.Interface event.now) }
+        ensures sides { IfOk result (λ o. IfSome o (λ v. SidesInterface event.now self.old.links self.new.links)) }
+        ensures accesses { IfOk result (λ o. IfSome o (λ v. AccessesInterface event.now v self.old self.new)) }
+    {
+        match event {
+            InterfaceEvent::Start { interface, lose } => Ok(self.start(alloc, *interface, *lose)),
+            InterfaceEvent::Halt { interface, lose } => Ok(self.halt(alloc, *interface, *lose)),
+            InterfaceEvent::Flr { interface } => Ok(Some(self.flr(*interface))),
+            _ => self.links.ask(alloc, event),
+        }
+    }
+
+    // ---- a reset
+
+    fn reset(&mut self, link: u64) -> Verdict
+        requires steps { self.old.links.steps < 2 ^ 28 }
+        requires bounded { IsBoundedWhole self.old }
+        ensures ends { WholeEnds result self.old self.new (Event.Reset link) }
+        ensures sides { Sides (Event.Reset link) result self.old.links self.new.links }
+        ensures accesses { AccessesAfter (Event.Reset link) result self.old self.new }
+    {
+        let verdict = self.links.reset(link);
+        if link < self.links.ends.count() as u64 {
+            self.accesses.at_mut(link as u8).reset();
+        }
+        verdict
+    }
+
+    // ---- all events
+
+    fn access(&mut self, alloc: Global, event: &AccessEvent) -> Result<Verdict, Memory>
+        requires steps { self.old.links.steps < 2 ^ 28 }
+        requires bounded { IsBoundedWhole self.old }
+        requires allowed { IsAllowedAccess event.now }
+        ensures ends { WholeEndsOr result self.old self.new (Event.Access event.now) }
+        ensures sides { IfOk result (λ v. SidesKeep self.old.links self.new.links) }
+        ensures accesses { IfOk result (λ v. AccessesAfter (Event.Access event.now) v self.old self.new) }
+    {
+        match event {
+            AccessEvent::Answer { link } => self.answer_read(alloc, *link),
+            AccessEvent::Mmio {
+                interface,
+                bar,
+                offset,
+                length,
+            } => self.mmio(alloc, *interface, *bar, *offset, *length),
+        }
+    }
+
+    fn operate(
+        &mut self,
+        operation: Operation,
+        link: u64,
+        stream: u64,
+        loss: Option<Loss>,
+    ) -> Option<Verdict>
+        requires steps { self.old.links.steps < 2 ^ 28 }
+        requires bounded { IsBoundedWhole self.old }
+        ensures ends { WholeEndsAs result self.old self.new (operation_event operation link stream loss) }
+        ensures sides { IfSome result (λ v. SidesOperate operation link stream v self.old.links self.new.links) }
+        ensures accesses { self.new.accesses ≡ self.old.accesses }
+    {
+        self.links.operate(operation, link, stream, loss)
+    }
+
+    /// The verdict of an event, and what it makes of the links (this profile). For want of memory nothing changes.
+    ///
+    /// An operation has no verdict if a reply is bad, or if an exchange is lost none of whose messages is lost, and
+    /// none is made up for it. `ends` says that this does not come while the links stand for some history, and, on an
+    /// interface, while its device answers as the machine does; `World` shows both of every event.
+    pub fn answer(&mut self, alloc: Global, event: &Event) -> Result<Option<Verdict>, Memory>
+        requires steps { self.old.links.steps < 2 ^ 28 }
+        requires bounded { IsBoundedWhole self.old }
+        requires allowed { IsAllowed event.now }
+        ensures ends { WholeEndsAsOr result self.old self.new event.now }
+        ensures sides { IfOk result (λ o. IfSome o (λ v. Sides event.now v self.old.links self.new.links)) }
+        ensures accesses { IfOk result (λ o. IfSome o (λ v. AccessesAfter event.now v self.old self.new)) }
+    {
+        match event {
+            Event::Establish { link, stream, lose } => {
+                Ok(self.operate(Operation::Establish, *link, *stream, *lose))
+            }
+            Event::Refresh { link, stream, lose } => {
+                Ok(self.operate(Operation::Refresh, *link, *stream, *lose))
+            }
+            Event::Stop { link, stream, lose } => {
+                Ok(self.operate(Operation::Stop, *link, *stream, *lose))
+            }
+            Event::Interface { event } => self.ask(alloc, event),
+            Event::Access { event } => Ok(Some(self.access(alloc, event)?)),
+            Event::Send {
+                port,
+                bytes,
+                more,
+                trusted,
+            } => Ok(Some(self.links.send(*port, bytes.as_slice(), *more, *trusted)?)),
+            Event::Pass { packet } => Ok(Some(self.links.pass(*packet, &mut self.accesses)?)),
+            Event::Alter { packet, at, mask } => {
+                let accesses = &mut self.accesses;
+                Ok(Some(self.links.alter(alloc, *packet, *at, *mask, accesses)?))
+            }
+            Event::Cut { packet, length } => {
+                Ok(Some(self.links.cut(*packet, *length, &mut self.accesses)?))
+            }
+            Event::Arrive { port, bytes } => {
+                let accesses = &mut self.accesses;
+                Ok(Some(self.links.arrive(*port, bytes.as_slice(), accesses)?))
+            }
+            Event::Dump { packet } => Ok(Some(self.links.dump(alloc, *packet)?)),
+            Event::Reset { link } => Ok(Some(self.reset(*link))),
+            Event::Status { link, stream } => Ok(Some(self.links.status(*link, *stream))),
+        }
+    }
+}

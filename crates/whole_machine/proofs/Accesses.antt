@@ -1,0 +1,197 @@
+-- The reads that wait, the floors of devices and what happened to their memory are those of the history, from each pair
+-- to the next.
+use Rattle.std.proofs.Common.{◌≡◌, ℕ, ◌+◌, ◌++◌, ◌==◌, ◌∷◌, zero, suc, Bool, true, false, [], List, Option, None, Some}
+use Rattle.std.proofs.Common.{refl, sym, ap, ◌∙◌, arith, map, inl, inr, if◌then◌else◌}
+use Rattle.std.proofs.lemmas.Bool.{cases_Bool}
+use Rattle.std.proofs.lemmas.Bool.Decides.{nat_tests}
+use Rattle.std.proofs.lemmas.List.{drop-append-le}
+use Rattle.std.specs.Prelude.{drop, filter, is_some, unwrap_or}
+use Rattle.ide_types.specs.declared.port.Side.TheVariants.{Device}
+use Rattle.ide_types.specs.declared.sub.SubKind.TheVariants.{Pr}
+use Rattle.ide_plan.specs.declared.plan.Plan.{Plan}
+use Rattle.ide_prefix.specs.Packet.{Packet}
+use Rattle.link_events.specs.declared.event.Event.{Event}
+use Rattle.link_events.specs.declared.event.Event.TheVariants as event
+use Rattle.link_verdicts.specs.declared.verdict.Verdict.{Verdict}
+use Rattle.link_verdicts.specs.declared.verdict.Verdict.TheVariants as v
+use Rattle.link_verdicts.specs.declared.access.AccessVerdict.TheVariants as av
+use Rattle.key_laws.specs.Keys.{Keys, Keyed, On}
+use Rattle.key_laws.specs.History.{History}
+use Rattle.interface_states.specs.Sites.{Site, sites}
+unfoldable use Rattle.interface_states.specs.Floors.{device_floor}
+use Rattle.interface_states.specs.Floors.{greatest_on, posted_receiver, device_draw, device_standing, standings_at}
+use Rattle.interface_machine.specs.Machine.{Face}
+use Rattle.interface_machine.specs.Stands.{face_at}
+use Rattle.guarded_memory.specs.declared.standing.Standing.{Standing}
+use Rattle.guarded_memory.specs.Happenings.{Happened, newest_happened}
+use Rattle.waiting_reads.specs.declared.queue.WaitingRead.{WaitingRead}
+use Rattle.link_history.specs.Plan.{SubStream, lane_in, stream_plan}
+use Rattle.link_history.specs.Cause.{CauseLaw}
+use Rattle.link_history.specs.History.{SealedList, sealed_packets, keys_at}
+use Rattle.link_history.specs.Memory.{queued, waiting, unit_ended}
+unfoldable use Rattle.link_history.specs.Sent.{taken, queued_in}
+use Rattle.link_history.specs.Sent.{answers, reads_by, unit_in as unit_by}
+unfoldable use Rattle.link_history.specs.Guarded.{happened}
+use Rattle.link_history.specs.Guarded.{happens_by, unit_of}
+use Rattle.link_keys.proofs.Unplanned.{unplanned_keys}
+use Rattle.link_keys.proofs.Seats.{keys_into}
+use Rattle.link_ports.specs.Machine.{LinkState, port_at, receiving_draw_at}
+use Rattle.link_ports.specs.Stands.{PortsStand, standing_if_planned, rx_slots}
+unfoldable use Rattle.link_ports.specs.Stands.{standing}
+use Rattle.link_ports.specs.Stream.{StreamState, receiving_draw}
+use Rattle.read_order.proofs.Order.{here_after, takes_first}
+use Rattle.read_order.proofs.ByNumber.{unit_again}
+use Rattle.whole_machine.specs.Accesses.{standings_on, waiting_reads_after, device_draw_at, floors_after}
+
+-- these are the packets of the unit that a verdict ends, if it ends one
+abbrev pub AreEnded : Plan → History → List Packet → Event → Verdict → Type 0
+AreEnded plan h ps e (v.Accepted port unit effects) = ps ≡ unit_ended plan h e port unit
+AreEnded plan h ps e w = Unit {0}
+
+-- ---- the reads that wait
+
+drop_more : {A : Type 0} (n : ℕ) (xs : List A) → drop 1 (drop n xs) ≡ drop (n + 1) xs
+drop_more zero [] = refl
+drop_more zero (x ∷ xs) = refl
+drop_more (suc n) [] = let e : suc n + 1 ≡ suc (n + 1) = omega arith in rw e refl
+drop_more (suc n) (x ∷ xs) = let e : suc n + 1 ≡ suc (n + 1) = omega arith in rw e (drop_more n xs)
+
+-- an answer takes the first, if it takes one
+one_taken : (b : Bool) (n : ℕ) (xs ys : List WaitingRead) → ys ≡ xs
+    → (if b then drop 1 (drop n xs) else drop n xs) ≡ drop (if b then n + 1 else n) ys
+one_taken true n xs ys same = drop_more n xs ∙ ap (drop (n + 1)) (sym same)
+one_taken false n xs ys same = ap (drop n) (sym same)
+
+pub waiting_is : (plan : Plan) (h : History) (e : Event) (w : Verdict) (ps : List Packet)
+    → CauseLaw plan ((e, w) ∷ h) → AreEnded plan h ps e w
+    → (link : ℕ) → waiting_reads_after ps e w link (waiting plan h link) ≡ waiting plan ((e, w) ∷ h) link
+unfolding taken queued_in
+waiting_is plan h e (v.Accepted port unit effects) ps law units link =
+    by (port.link == link) (here_after plan h e (v.Accepted port unit effects) law link)
+    (units ∙ sym (unit_again plan h e port unit effects law))
+  where
+    xs : SealedList
+    xs = sealed_packets plan ((e, v.Accepted port unit effects) ∷ h)
+
+    by : (b : Bool) → queued_in plan (sealed_packets plan ((e, v.Accepted port unit effects) ∷ h)) h link
+        ≡ queued plan h link
+        → ps ≡ unit_by plan (sealed_packets plan ((e, v.Accepted port unit effects) ∷ h)) h e port unit
+        → (if b then waiting plan h link ++ reads_by unit.draw effects ps else waiting plan h link)
+        ≡ drop (taken h link)
+        (if b then queued_in plan (sealed_packets plan ((e, v.Accepted port unit effects) ∷ h)) h link
+        ++ reads_by unit.draw effects
+        (unit_by plan (sealed_packets plan ((e, v.Accepted port unit effects) ∷ h)) h e port unit)
+        else queued_in plan (sealed_packets plan ((e, v.Accepted port unit effects) ∷ h)) h link)
+    by true here same =
+        ap (λ (us : List Packet). waiting plan h link ++ reads_by unit.draw effects us) same
+        ∙ (sym (drop-append-le (taken h link) (queued plan h link) _ (takes_first plan h law.1 link))
+        ∙ ap (λ (ys : List WaitingRead). drop (taken h link)
+        (ys ++ reads_by unit.draw effects (unit_by plan xs h e port unit))) (sym here))
+    by false here same = ap (drop (taken h link)) (sym here)
+waiting_is plan h e (v.Sealed ds) ps law units link =
+    one_taken (answers link e) (taken h link) (queued plan h link) _ (here_after plan h e (v.Sealed ds) law link)
+waiting_is plan h e (v.Access (av.Dropped i c)) ps law units link =
+    one_taken (answers link e) (taken h link) (queued plan h link) _
+    (here_after plan h e (v.Access (av.Dropped i c)) law link)
+waiting_is plan h (event.Reset k) (v.Reset l) ps law units link = by (l == link)
+    (here_after plan h (event.Reset k) (v.Reset l) law link)
+  where
+    by : (b : Bool) → queued_in plan (sealed_packets plan ((event.Reset k, v.Reset l) ∷ h)) h link ≡ queued plan h link
+        → (if b then [] else waiting plan h link) ≡ drop (if b then 0 else taken h link)
+        (if b then [] else queued_in plan (sealed_packets plan ((event.Reset k, v.Reset l) ∷ h)) h link)
+    by true here = refl
+    by false here = ap (drop (taken h link)) (sym here)
+waiting_is plan h e w ps law units link = ap (drop (taken h link)) (sym (here_after plan h e w law link))
+
+-- ---- the floors
+
+-- the greatest draw that is Live at a receiver is the greatest that is On
+greatest_is : (plan : Plan) (h : History) (s : SubStream) (ks : Keys)
+    → unwrap_or (receiving_draw (rx_slots plan h (port_at Device s.link) s ks)) 0 ≡ greatest_on ks
+greatest_is plan h s ks = by ks.first ks.second
+  where
+    by : (a b : Keyed) → unwrap_or (receiving_draw (rx_slots plan h (port_at Device s.link) s
+        (record { first = a; second = b }))) 0 ≡ greatest_on (record { first = a; second = b })
+    by (On i) (On j) = grind (arith, nat_tests)
+    by a b = grind arith
+
+device_draw_is : (plan : Plan) (st : LinkState) (h : History) → PortsStand plan st h → (x : Site)
+    → device_draw_at plan st x ≡ device_draw h x
+unfolding standing
+device_draw_is plan st h stands x = elim (cases_Bool (is_some (stream_plan plan x.link x.plan.stream))) [
+  | inl known ↦
+      let s = lane_in (port_at Device x.link) x.plan.stream Pr in
+      let here : standing_if_planned plan h (port_at Device x.link) x.plan.stream
+      ≡ Some (standing plan h (port_at Device x.link) x.plan.stream) = rw known refl in
+      ap (λ (o : Option StreamState). unwrap_or (receiving_draw_at Pr o) 0)
+      (stands.streams (port_at Device x.link) x.plan.stream ∙ here)
+      ∙ (greatest_is plan h s (keys_at h (port_at Device x.link) s)
+      ∙ ap greatest_on (keys_into h (port_at Device x.link) x.plan.stream Pr))
+  | inr none ↦
+      let here : standing_if_planned plan h (port_at Device x.link) x.plan.stream ≡ None = rw none refl in
+      ap (λ (o : Option StreamState). unwrap_or (receiving_draw_at Pr o) 0)
+      (stands.streams (port_at Device x.link) x.plan.stream ∙ here)
+      ∙ sym (ap greatest_on (unplanned_keys plan h stands.cause (posted_receiver x) none))
+]
+
+floors_map : (plan : Plan) (h : History) (e : Event) (w : Verdict) (xs : List Site)
+    → floors_after e (device_draw h) xs (map (face_at plan h) xs) (map (face_at plan ((e, w) ∷ h)) xs)
+    (map (device_floor plan h) xs) ≡ map (device_floor plan ((e, w) ∷ h)) xs
+unfolding device_floor
+floors_map plan h e w [] = refl
+floors_map plan h e w (x ∷ xs) = ap (λ (rest : List ℕ). device_floor plan ((e, w) ∷ h) x ∷ rest)
+    (floors_map plan h e w xs)
+
+pub floors_are : (plan : Plan) (st : LinkState) (h : History) (e : Event) (w : Verdict) (before after : List Face)
+    (floors : List ℕ) → PortsStand plan st h → before ≡ map (face_at plan h) (sites plan)
+    → after ≡ map (face_at plan ((e, w) ∷ h)) (sites plan) → floors ≡ map (device_floor plan h) (sites plan)
+    → floors_after e (device_draw_at plan st) (sites plan) before after floors
+    ≡ map (device_floor plan ((e, w) ∷ h)) (sites plan)
+floors_are plan st h e w before after floors stands old new same =
+    (λ i. floors_after e (λ x. device_draw_is plan st h stands x i) (sites plan) (old i) (new i) (same i))
+    ∙ floors_map plan h e w (sites plan)
+
+-- ---- how interfaces stand
+
+standings_map : (plan : Plan) (h : History) (link : ℕ) (xs : List Site)
+    → standings_on link xs (map (face_at plan h) xs) (map (device_floor plan h) xs)
+    ≡ map (device_standing plan h) (filter (λ x. x.link == link) xs)
+standings_map plan h link [] = refl
+standings_map plan h link (x ∷ xs) = by (x.link == link) (standings_map plan h link xs)
+  where
+    by : (b : Bool) → standings_on link xs (map (face_at plan h) xs) (map (device_floor plan h) xs)
+        ≡ map (device_standing plan h) (filter (λ x. x.link == link) xs)
+        → (if b then device_standing plan h x
+        ∷ standings_on link xs (map (face_at plan h) xs) (map (device_floor plan h) xs)
+        else standings_on link xs (map (face_at plan h) xs) (map (device_floor plan h) xs))
+        ≡ map (device_standing plan h)
+        (if b then x ∷ filter (λ x. x.link == link) xs else filter (λ x. x.link == link) xs)
+    by true rest = ap (λ (ys : List Standing). device_standing plan h x ∷ ys) rest
+    by false rest = rest
+
+pub standings_are : (plan : Plan) (h : History) (faces : List Face) (floors : List ℕ)
+    → faces ≡ map (face_at plan h) (sites plan) → floors ≡ map (device_floor plan h) (sites plan)
+    → (link : ℕ) → standings_on link (sites plan) faces floors ≡ standings_at plan h link
+standings_are plan h faces floors old same link =
+    (λ i. standings_on link (sites plan) (old i) (same i)) ∙ standings_map plan h link (sites plan)
+
+-- ---- what happened
+
+happens_same : (plan : Plan) (standings : ℕ → List Standing) (h : History) (ps : List Packet) (e : Event) (w : Verdict)
+    (link : ℕ) → AreEnded plan h ps e w
+    → happens_by plan standings ps e w link ≡ happens_by plan standings (unit_of plan h e w) e w link
+happens_same plan standings h ps e (v.Accepted port unit effects) link units =
+    ap (λ (us : List Packet). happens_by plan standings us e (v.Accepted port unit effects) link) units
+happens_same plan standings h ps (event.Reset k) (v.Reset l) link units = refl
+happens_same plan standings h ps e w link units = refl
+
+pub happened_is : (plan : Plan) (h : History) (e : Event) (w : Verdict) (ps : List Packet) (faces : List Face)
+    (floors : List ℕ) → faces ≡ map (face_at plan h) (sites plan) → floors ≡ map (device_floor plan h) (sites plan)
+    → AreEnded plan h ps e w → (link : ℕ)
+    → newest_happened (happens_by plan (λ l. standings_on l (sites plan) faces floors) ps e w link)
+    (happened plan h link) ≡ happened plan ((e, w) ∷ h) link
+unfolding happened
+happened_is plan h e w ps faces floors old same units link =
+    ap (λ (hs : List (Option Happened)). newest_happened hs (happened plan h link))
+    ((λ i. happens_by plan (λ l. standings_are plan h faces floors old same l i) ps e w link)
+    ∙ happens_same plan (standings_at plan h) h ps e w link units)

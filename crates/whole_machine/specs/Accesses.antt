@@ -1,0 +1,69 @@
+-- What is kept of reads that wait and of the memory of devices' interfaces, and what an event makes of it.
+use Rattle.std.specs.Prelude.{ℕ, ◌==◌, ◌++◌, List, [], ◌∷◌, drop, map, unwrap_or, if◌then◌else◌}
+use Rattle.ide_types.specs.declared.port.Side.TheVariants.{Device}
+use Rattle.ide_types.specs.declared.sub.SubKind.TheVariants.{Pr}
+use Rattle.ide_plan.specs.declared.plan.Plan.{Plan}
+use Rattle.ide_prefix.specs.Packet.{Packet}
+use Rattle.link_events.specs.declared.event.Event.{Event}
+use Rattle.link_events.specs.declared.event.Event.TheVariants as event
+use Rattle.link_verdicts.specs.declared.verdict.Verdict.{Verdict}
+use Rattle.link_verdicts.specs.declared.verdict.Verdict.TheVariants as v
+use Rattle.link_verdicts.specs.declared.access.AccessVerdict.TheVariants as av
+use Rattle.interface_states.specs.Sites.{Site, sites}
+use Rattle.interface_states.specs.Devices.{is_run}
+use Rattle.interface_states.specs.Floors.{floor_after}
+use Rattle.interface_machine.specs.Machine.{Face, Faces}
+use Rattle.waiting_reads.specs.declared.queue.WaitingRead.{WaitingRead}
+use Rattle.guarded_memory.specs.declared.standing.Standing.{Standing}
+use Rattle.guarded_memory.specs.Standings.{standing_of}
+use Rattle.guarded_memory.specs.Happenings.{Happened, newest_happened}
+use Rattle.link_history.specs.Sent.{answers, reads_by}
+use Rattle.link_history.specs.Guarded.{happens_by}
+use Rattle.link_ports.specs.Machine.{LinkState, find, port_at, receiving_draw_at}
+
+-- of each link the reads that wait, the oldest first, and what happened to its device's memory, the newest first; of
+-- each interface, in the topology's order, the least draw that its device takes trusted writes under
+pub record Accesses : Type 0 where
+  pub waiting : ℕ → List WaitingRead
+  pub floors : List ℕ
+  pub happened : ℕ → List Happened
+
+abbrev pub new_accesses : Plan → Accesses
+new_accesses plan = record { waiting = λ link. []; floors = map (λ x. 0) (sites plan); happened = λ link. [] }
+
+-- ---- how a device's interfaces stand
+
+abbrev pub standings_on : ℕ → List Site → List Face → List ℕ → List Standing
+standings_on link (x ∷ xs) (f ∷ fs) (n ∷ ns) =
+    if x.link == link then standing_of f.tdi n ∷ standings_on link xs fs ns else standings_on link xs fs ns
+standings_on link _ _ _ = []
+
+-- ---- one step
+
+-- if an event had this verdict, and ended a unit of these packets, or none
+abbrev pub waiting_reads_after : List Packet → Event → Verdict → ℕ → List WaitingRead → List WaitingRead
+waiting_reads_after ps e (v.Accepted port unit effects) link rs =
+    if port.link == link then rs ++ reads_by unit.draw effects ps else rs
+waiting_reads_after ps e (v.Sealed ds) link rs = if answers link e then drop 1 rs else rs
+waiting_reads_after ps e (v.Access (av.Dropped interface cause)) link rs = if answers link e then drop 1 rs else rs
+waiting_reads_after ps (event.Reset k) (v.Reset l) link rs = if l == link then [] else rs
+waiting_reads_after ps e w link rs = rs
+
+-- the greatest draw that the device receives posted requests under on an interface's stream, 0 if none
+abbrev pub device_draw_at : Plan → LinkState → Site → ℕ
+device_draw_at plan st x = unwrap_or (receiving_draw_at Pr (find plan st (port_at Device x.link) x.plan.stream)) 0
+
+-- by what is kept of the interfaces before the event, and after it
+abbrev pub floors_after : Event → (Site → ℕ) → List Site → List Face → List Face → List ℕ → List ℕ
+floors_after e draw (x ∷ xs) (f ∷ fs) (g ∷ gs) (n ∷ ns) =
+    floor_after e x (is_run f.tdi.state) (is_run g.tdi.state) (draw x) n ∷ floors_after e draw xs fs gs ns
+floors_after e draw _ _ _ _ = []
+
+-- by the ports before the event
+abbrev pub accesses_after : Plan → LinkState → Faces → Faces → List Packet → Event → Verdict → Accesses → Accesses
+accesses_after plan st before after ps e w a = record {
+  waiting = λ link. waiting_reads_after ps e w link (a.waiting link);
+  floors = floors_after e (device_draw_at plan st) (sites plan) before.list after.list a.floors;
+  happened = λ link. newest_happened
+      (happens_by plan (λ l. standings_on l (sites plan) before.list a.floors) ps e w link) (a.happened link);
+}

@@ -1,0 +1,40 @@
+-- What stands at each link for reads and for the memory of its device is what the machine keeps.
+use Rattle.std.specs.Prelude.{ℕ, ◌≡◌, ◌==◌, List, [], ◌∷◌, length, map, slice_get, Some, if◌then◌else◌}
+use Rattle.ide_plan.specs.declared.plan.Plan.{Plan}
+use Rattle.ide_plan.specs.declared.plan.LinkPlan.{LinkPlan}
+use Rattle.interface_states.specs.Sites.{Site, sites}
+use Rattle.waiting_reads.specs.declared.queue.WaitingRead.{WaitingRead}
+use Rattle.guarded_memory.specs.{page_counts}
+use Rattle.whole_machine.specs.Accesses.{Accesses}
+use Rattle.accesses.specs.declared.link.LinkAccesses.{LinkAccesses}
+use Rattle.all_links.specs.Accesses.{reads_at, floors_at, sizes_at, bytes_at, AreLeftBy}
+
+-- What is seen of a link. How many pages are spare is no part of it.
+pub record LinkSeen : Type 0 where
+  pub reads : List WaitingRead
+  pub floors : List ℕ
+  pub sizes : List (List ℕ)
+  pub bytes : ℕ → ℕ → ℕ → ℕ
+
+abbrev pub seen_at : List LinkAccesses → ℕ → LinkSeen
+seen_at xs link = record {
+  reads = reads_at xs link;
+  floors = floors_at xs link;
+  sizes = sizes_at xs link;
+  bytes = bytes_at xs link;
+}
+
+-- of the interfaces of a link, in order, what is kept of each in the topology's order
+abbrev pub on_link : {A : Type 0} → ℕ → List Site → List A → List A
+on_link link (x ∷ xs) (y ∷ ys) = if x.link == link then y ∷ on_link link xs ys else on_link link xs ys
+on_link link _ _ = []
+
+-- of each link the reads that wait, the bytes of its device's memory, how many pages its ranges have, and the least
+-- draws that its device's interfaces take trusted writes under
+pub record AreAccesses (plan : Plan) (seen : ℕ → LinkSeen) (a : Accesses) : Type 0 where
+  pub floored : length a.floors ≡ length (sites plan)
+  pub reads : (link : ℕ) → (seen link).reads ≡ a.waiting link
+  pub bytes : (link : ℕ) → AreLeftBy (seen link).bytes (a.happened link)
+  pub sizes : (link : ℕ) (p : LinkPlan) → slice_get plan.links link ≡ Some p
+      → (seen link).sizes ≡ map page_counts p.interfaces
+  pub floors : (link : ℕ) → (seen link).floors ≡ on_link link (sites plan) a.floors
