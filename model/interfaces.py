@@ -7,13 +7,15 @@ through a session, which counts the exchanges of one event and loses the one tha
 import struct
 from typing import Callable, Dict, List, Optional
 
-from links import DEVICE, HOST, Links, Loss
+from guarded import GuardedMemory
+from links import DEVICE, HOST, PR, Links, Loss
+from memory import PAGE
 from plan import InterfacePlan
 
 UNLOCKED, LOCKED, RUN, ERROR = range(4)
 NO_FIRMWARE, KEEP_CACHE_LINE, LOCK_MSIX = 1, 2, 4
 LOCK_FLAGS = 0x17
-PAGE = 4096
+MEMORY_SPACE = 2
 ANY_TIME = {"tph", "lnr", "pasid", "ats", "bar0", "bar1", "bar2", "bar3", "bar4", "bar5"}
 ERROR_REQUEST, ERROR_STATE, ERROR_NONCE, NO_NONCE, NOT_LOCKABLE = 1, 4, 0x102, 0x103, 0x104
 
@@ -33,8 +35,7 @@ class Stays(Exception):
 
 
 def first_registers(plan: InterfacePlan) -> Dict[str, int]:
-    registers = {name: getattr(plan, name) for name in ("command", "msix", "lnr", "cacheline", "tph")}
-    registers.update(pasid=0, ats=0)
+    registers = {name: getattr(plan, name) for name in ("command", "msix", "lnr", "cacheline", "tph", "pasid", "ats")}
     registers.update({f"bar{number}": bar.base for number, bar in enumerate(plan.bars)})
     return registers
 
@@ -55,11 +56,13 @@ class Interface:
 
     def __init__(self, plan: InterfacePlan, nonces: List[bytes]):
         self.plan, self.nonces = plan, nonces
+        self.guarded, self.floor = GuardedMemory(plan.bars), 0
         self.reset()
 
     def reset(self):
         self.registers = first_registers(self.plan)
         self.stop()
+        self.guarded.clear()
 
     def goes_wrong(self):
         """What CONFIG_LOCKED and RUN do not bear; else nothing."""
@@ -99,15 +102,17 @@ class Interface:
         portion = self.kept_report[offset: offset + length]
         return portion, len(self.kept_report) - offset - len(portion)
 
-    def start(self, nonce: bytes):
+    def start(self, nonce: bytes, floor: int):
+        """From the floor on, a key of the bound stream admits trusted writes to the BARs."""
         if self.state != LOCKED:
             raise DeviceRefused(ERROR_STATE)
         if nonce != self.nonce:
             raise DeviceRefused(ERROR_NONCE)
-        self.state, self.nonce = RUN, None
+        self.state, self.nonce, self.floor = RUN, None, floor
 
     def stop(self):
         self.state, self.stream, self.nonce, self.flags, self.kept_report = UNLOCKED, None, None, 0, b""
+        self.guarded.stopped()
 
     def shown_state(self) -> int:
         return self.state
@@ -128,11 +133,32 @@ class Interface:
 
     def level_reset(self):
         self.registers = first_registers(self.plan)
+        self.guarded.clear()
         self.goes_wrong()
 
     def firmware(self):
         if self.flags & NO_FIRMWARE:
             self.goes_wrong()
+
+    # -- writes to the BARs
+
+    def claims(self, address: int, length: int) -> Optional[int]:
+        """The least BAR that has all of these bytes, while memory space is on."""
+        if self.registers["command"] & MEMORY_SPACE:
+            for bar in range(len(self.plan.bars)):
+                if self.guarded.has(bar, address - self.registers[f"bar{bar}"], length):
+                    return bar
+        return None
+
+    def not_admitted(self, bar: int, t: bool, stream: int, draw: int) -> Optional[str]:
+        """Why a write to this BAR changes nothing."""
+        if not t:
+            return None if self.guarded.is_open(bar) or self.state == UNLOCKED else "nottrusted"
+        if self.state != RUN:
+            return "notrunning"
+        if stream != self.stream:
+            return "wrongstream"
+        return "stale" if draw < self.floor else None
 
 
 # ---- the manager's end
@@ -230,8 +256,9 @@ class Handle:
         draw = self.links.stream_draws[self.link, self.plan.stream]
         self.only_if(draw >= self.needs, f"refreshfirst {draw} {self.needs}")
         self.start_was_asked = True
+        live = self.links.ends[self.link, DEVICE, self.plan.stream].rx[PR].live_draw()
         try:
-            session.ask(self.interface.start, self.nonce)
+            session.ask(self.interface.start, self.nonce, live or 0)
         except Stays as stays:
             self.view = "broken"
             self.after_loss(stays)

@@ -210,6 +210,10 @@ class Lane:
     def live(self) -> Optional[int]:
         return next((k for k in (0, 1) if self.slots[k].state == "live"), None)
 
+    def live_draw(self) -> Optional[int]:
+        """The greatest that is Live."""
+        return max((slot.draw for slot in self.slots if slot.state == "live"), default=None)
+
 
 class End:
     """A stream at a port."""
@@ -301,7 +305,7 @@ def loss(words: List[str]) -> Loss:
 
 
 class Links:
-    """The ports of all links. What has no interfaces and no trusted memory is these four: `sets_t`, `write_effect`,
+    """The ports of all links. What has no interfaces and no trusted memory is these four: `sets_t`, `effect`,
     `stop_begins` and `device_moved`; world.py has them with both."""
 
     def __init__(self, plan: Plan):
@@ -327,9 +331,11 @@ class Links:
         """Whether the packet of a TLP has T."""
         return end.side == HOST and trusted
 
-    def write_effect(self, end: End, draw: int, packet: Packet, payload: bytes) -> str:
-        """What a memory write that the host's port accepted gives."""
-        return "blocked:notrunning" if packet.t else "blocked:nottrusted"
+    def effect(self, end: End, draw: int, packet: Packet, payload: bytes) -> str:
+        """What a TLP gives that a port accepted."""
+        if end.side == HOST and kind_of(packet.header[0]).name == "memwrite":
+            return "blocked:notrunning" if packet.t else "blocked:nottrusted"
+        return "delivered"
 
     def stop_begins(self, link: int, stream: int):
         """Before the first exchange of a stop."""
@@ -497,12 +503,7 @@ class Links:
         for packet in slot.packets:
             payload = masked(key, iv, place, packet.body)
             place += len(payload)
-            if packet.sync:
-                effects.append("sync")
-            elif end.side == HOST and kind_of(packet.header[0]).name == "memwrite":
-                effects.append(self.write_effect(end, slot.draw, packet, payload))
-            else:
-                effects.append("delivered")
+            effects.append("sync" if packet.sync else self.effect(end, slot.draw, packet, payload))
         return effects
 
     # -- operations

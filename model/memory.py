@@ -1,10 +1,12 @@
-"""Trusted memory at the host, byte by byte (docs/RULES.md, Trusted memory)."""
+"""Trusted memory at the host, byte by byte, and the reads of it that wait (docs/RULES.md)."""
 
+from dataclasses import dataclass
 from typing import List, Optional
 
 from plan import RegionPlan
 
 PAGE = 4096
+MOST_WAITING = 64
 
 
 class Memory:
@@ -22,9 +24,7 @@ class Memory:
         """Why no write may touch these bytes, whoever sends it."""
         if self.region_of(address, length) is None:
             return "outside"
-        if address // PAGE != (address + length - 1) // PAGE:
-            return "crosses"
-        return None
+        return "crosses" if crosses(address, length) else None
 
     def write(self, address: int, payload: bytes, first: int, last: int):
         """Puts the bytes that the byte enables name; the bytes are in one region."""
@@ -39,6 +39,35 @@ class Memory:
             return None
         base, contents = self.regions[number]
         return bytes(contents[address - base: address - base + length])
+
+
+@dataclass
+class WaitingRead:
+    """A trusted read that the host's port accepted, by its header, and the draw it came under."""
+
+    header: bytes
+    draw: int
+
+    address = property(lambda self: int.from_bytes(self.header[8:], "big"))
+    length = property(lambda self: 4 * (((self.header[2] & 3) << 8 | self.header[3]) or 1024))
+    requester = property(lambda self: self.header[4] << 8 | self.header[5])
+
+    def is_enabled(self, place: int) -> bool:
+        return enabled(place, self.length, self.header[7] & 15, self.header[7] >> 4)
+
+    def completion(self, memory: Memory) -> bytes:
+        """One completion with all of the data (section 2.2.9), as memory is now."""
+        places = [place for place in range(self.length) if self.is_enabled(place)]
+        first, last = (places[0], places[-1]) if places else (0, 0)
+        count = (last - first + 1) % 4096
+        header = bytes([0x4A, self.header[1], self.header[2] & 0x33, self.header[3], 0, 0, count >> 8, count & 255])
+        header += self.header[4:7] + bytes([(self.address + first) & 127])
+        contents = memory.read(self.address, self.length)
+        return header + bytes(byte if self.is_enabled(place) else 0 for place, byte in enumerate(contents))
+
+
+def crosses(address: int, length: int) -> bool:
+    return address // PAGE != (address + length - 1) // PAGE
 
 
 def enabled(place: int, length: int, first: int, last: int) -> bool:

@@ -46,12 +46,14 @@ class InterfacePlan:
     lnr: int = 0
     cacheline: int = 0
     tph: int = 0
+    pasid: int = 0
+    ats: int = 0
     info: bytes = b""
     bars: List[BarPlan] = field(default_factory=list)
 
     def rows(self) -> List[str]:
         rows = ["[[link.interface]]"] + pairs(rid=self.rid, stream=self.stream)
-        names = ["flags", "offset", "command", "msix", "lnr", "cacheline", "tph"]
+        names = ["flags", "offset", "command", "msix", "lnr", "cacheline", "tph", "pasid", "ats"]
         rows += pairs(**{name: getattr(self, name) for name in names if getattr(self, name)})
         if self.info:
             rows += pairs(info=self.info.hex())
@@ -81,7 +83,8 @@ class Plan:
     memory: List[RegionPlan] = field(default_factory=list)
 
     def toml(self) -> str:
-        rows = pairs(version=1, portion=self.portion, units_per_key=self.units_per_key)
+        version = 2 if any(table.pasid or table.ats for link in self.links for table in link.interfaces) else 1
+        rows = pairs(version=version, portion=self.portion, units_per_key=self.units_per_key)
         rows += pairs(pool=[key.hex() for key in self.pool])
         for link in self.links:
             rows.append("[[link]]")

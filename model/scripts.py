@@ -8,14 +8,16 @@ script.
 import random
 from typing import Callable, List, Optional, Tuple
 
-from interfaces import Handle, first_registers
+from interfaces import MEMORY_SPACE, UNLOCKED, Handle, Interface, first_registers
 from links import DEVICE, HOST, PR, End, Packet, Slot, kind_of, masked, nonce
+from memory import MOST_WAITING
 from plan import BarPlan, InterfacePlan, LinkPlan, Plan, RegionPlan, StreamPlan
 from words import WIDTHS
 from world import OPERATIONS, World
 
 CLOSE = 0x10000000
 FAR = 0x2_0000_0000
+MEGABYTE = 1 << 20
 
 
 # ---- topologies
@@ -63,8 +65,28 @@ def random_interface(r: random.Random, link: LinkPlan) -> InterfacePlan:
     interface.offset = 4096 * r.choice([0, 0, 1, 2**40, r.randrange(2**51)])
     interface.command, interface.cacheline = r.choice([0, 6, 7, 0xFFFF]), r.choice([0, 16, 255])
     interface.msix, interface.lnr, interface.tph = (r.choice([0, r.randrange(2**bits)]) for bits in (16, 16, 32))
+    interface.pasid, interface.ats = (r.choice([0] * 9 + [r.randrange(2**16)]) for _ in range(2))
     interface.bars = random_bars(r)
     return interface
+
+
+def takes_bars(r: random.Random, link: LinkPlan, interface: InterfacePlan):
+    """Lets a stream of the link take what is sent to a BAR of the interface, mostly the one it is bound to."""
+    stream = next(stream for stream in link.streams if stream.id == interface.stream)
+    if r.random() < 0.2:
+        stream = r.choice([stream for stream in link.streams if stream.kind == "selective"])
+    bar = r.choice(interface.bars)
+    base = bar.base // MEGABYTE * MEGABYTE
+    limit = min(base + r.choice([1, 1, 4]) * MEGABYTE, 2**63) - 1
+    if len(stream.ranges) < 8:
+        stream.ranges.append((base, limit))
+
+
+def by_address_alone(link: LinkPlan, interface: InterfacePlan):
+    """Its stream takes requests of memory, and no completion for it."""
+    stream = next(stream for stream in link.streams if stream.id == interface.stream)
+    stream.rid, stream.default = None, False
+    stream.ranges = stream.ranges[:7] + [(CLOSE, CLOSE + MEGABYTE - 1)]
 
 
 def random_memory(r: random.Random) -> List[RegionPlan]:
@@ -82,7 +104,12 @@ def random_plan(r: random.Random) -> Plan:
     links = [random_link(r) for _ in range(r.choice([1, 1, 2, 3]))]
     for _ in range(r.choice([0, 1, 1, 2, 3, 4])):
         link = r.choice(links)
-        link.interfaces.append(random_interface(r, link))
+        interface = random_interface(r, link)
+        link.interfaces.append(interface)
+        if interface.bars and r.random() < 0.7:
+            takes_bars(r, link, interface)
+        if r.random() < 0.05:
+            by_address_alone(link, interface)
     pool = [r.randbytes(32) for _ in range(6 * r.choice([2, 16] + [100] * 4 + [300] * 6))]
     portion = r.choice([16, 17, 64, 64, 1024, 65535])
     units_per_key = r.choice([1, 3, 50] + [4294967296] * 12)
@@ -130,15 +157,44 @@ SIZES = [1, 1, 1, 2, 2, 3, 16, 32]
 
 
 def memory_write(r: random.Random, requester: int, regions: List[RegionPlan], sizes: List[int] = SIZES) -> bytes:
+    head, words = memory_request(r, requester, random_address(r, regions), sizes, 0x40)
+    return head + r.randbytes(4 * words)
+
+
+def memory_read(r: random.Random, requester: int, regions: List[RegionPlan]) -> bytes:
+    return memory_request(r, requester, random_address(r, regions), SIZES, 0)[0]
+
+
+def memory_request(r: random.Random, requester: int, address: int, sizes: List[int], form: int) -> Tuple[bytes, int]:
+    """The header of a request of this form, and how many double words it names."""
     words = r.choice(sizes)
     if r.random() < 0.01:
         words = 1024
-    address = random_address(r, regions) & ~3
     enables = r.choice([0x0F, 0xFF, 0xFF, 0xFF, r.randrange(256)])
     is_wide = address >= 2**32 or r.random() < 0.2
-    head = bytes([0x60 if is_wide else 0x40, 0, words >> 8 & 3, words & 255])
+    byte_1 = r.choice([0, 0, 0, 0, r.randrange(256)]) & 0xFC
+    byte_2 = r.choice([0, 0, 0, 0, r.randrange(256)]) & 0x3C
+    head = bytes([form | (0x20 if is_wide else 0), byte_1, byte_2 | words >> 8 & 3, words & 255])
     head += requester.to_bytes(2, "big") + bytes([r.randrange(256), enables])
-    return head + address.to_bytes(8 if is_wide else 4, "big") + r.randbytes(4 * words)
+    return head + (address & ~3).to_bytes(8 if is_wide else 4, "big"), words
+
+
+def offset_in(r: random.Random, pages: int) -> int:
+    """In a few pages of a range, mostly where other offsets are too; or at the ends of pages, or past the range."""
+    page = 4096 * r.choice([0, 0, 0, pages - 1, r.randrange(pages)])
+    return page + r.choice([0, 0, 4, 8, 60, 64, 4092, 4092, 4088, 4096, r.randrange(4096)])
+
+
+def bar_write(r: random.Random, requester: int, interface: Interface) -> Optional[bytes]:
+    """Into a BAR as it stands now, or as the topology has it."""
+    bars = [number for number, bar in enumerate(interface.plan.bars) if bar.pages]
+    if not bars:
+        return None
+    number = r.choice(bars)
+    base = interface.registers[f"bar{number}"] if r.random() < 0.9 else interface.plan.bars[number].base
+    address = base + r.choice([0] * 12 + [-4, 3]) + offset_in(r, interface.plan.bars[number].pages)
+    head, words = memory_request(r, requester, address % 2**64, SIZES, 0x40)
+    return head + r.randbytes(4 * words)
 
 
 def broken(r: random.Random, data: bytes) -> bytes:
@@ -192,6 +248,9 @@ class Script:
         self.forgery = r.choice([0.0, 0.05, 0.2]) if not self.is_posting else 0.0
         self.losses = r.choice([0.0, 0.05, 0.3])
         self.changes = r.choice([0.0, 0.02, 0.15]) if not self.is_posting else 0.001
+        self.reading = r.choice([0.0, 0.2, 0.5]) if not self.is_posting else 0.0
+        self.answering = r.choice([0.0, 0.02, 0.3, 0.6])
+        self.is_flooding = r.random() < 0.1
         self.queue: List[Line] = []
         self.waiting: List[Tuple[int, int]] = []
         self.sealed = 0
@@ -245,7 +304,8 @@ class Script:
                 f"dump {r.randrange(self.sealed + 2)}",
                 f"{r.choice(['send', 'arrive'])} {r.choice('hd')}{r.randrange(8)} -",
                 self.show_memory(),
-                self.show_memory(),
+                self.show_guarded(number),
+                f"answer {link}",
                 self.write_register(number),
                 self.numbered(r.choice(OPERATIONS), number),
                 f"flr {number}" if r.random() < self.changes * 3 else f"firmware {number}",
@@ -292,15 +352,25 @@ class Script:
     def send(self) -> str:
         r, link = self.r, self.r.randrange(len(self.plan.links))
         if self.is_posting:
-            return f"send d0 {memory_write(r, self.plan.links[0].streams[0].rid[0], self.plan.memory, [1]).hex()}"
+            lowest, _ = self.plan.links[0].streams[0].rid or (0, 0)
+            return f"send d0 {memory_write(r, lowest, self.plan.memory, [1]).hex()}"
         side = r.choice("hdd")
         requester = self.requester(link)
+        if side == "h" and r.random() < 0.5:
+            return self.host_write(link)
         data = memory_write(r, requester, self.plan.memory) if r.random() < 0.5 else random_tlp(r, requester)
         if r.random() < self.hostility * 0.3:
             data = broken(r, data)
         more = r.choice(["", "", " more"])
         trusted = " trusted" if side == "h" and r.random() < 0.3 else ""
         return f"send {side}{link} {data.hex() or '-'}{more}{trusted}"
+
+    def host_write(self, link: int) -> str:
+        """A write of the host into a BAR of an interface of the link."""
+        r, handles = self.r, self.world.on_link(link)
+        data = bar_write(r, r.choice([0, self.requester(link)]), r.choice(handles).interface) if handles else None
+        data = data or random_tlp(r, self.requester(link))
+        return f"send h{link} {data.hex()}{r.choice(['', '', ' more'])}{r.choice(['', ' trusted'])}"
 
     def notice_sealed(self):
         """Packets that were sealed wait to arrive, in their order."""
@@ -348,8 +418,12 @@ class Script:
         r = self.r
         link, stream = r.choice(self.streams)
         end = self.world.ends[link, r.choice([HOST, HOST, HOST, DEVICE]), stream]
-        requester = self.requester(link)
-        tlp = memory_write(r, requester, self.plan.memory) if r.random() < 0.8 else random_tlp(r, requester)
+        requester, handles = self.requester(link), self.world.on_link(link)
+        if end.side == DEVICE and handles:
+            tlp = bar_write(r, requester, r.choice(handles).interface) or random_tlp(r, requester)
+        else:
+            write, read = (make(r, requester, self.plan.memory) for make in (memory_write, memory_read))
+            tlp = r.choice([write, write, read, read, random_tlp(r, requester)])
         data = forged(r, self.world, end, tlp, r.random() < 0.8)
         return f"arrive {'hd'[end.side]}{link} {data.hex()}" if data else self.send()
 
@@ -393,12 +467,19 @@ class Script:
 
     def in_run(self, handle: Handle) -> str:
         r, what = self.r, self.r.random()
+        if self.world.reads[handle.link] and r.random() < self.answering:
+            return f"answer {handle.link}"
+        if self.is_flooding and len(self.world.reads[handle.link]) < MOST_WAITING and not self.queue:
+            self.queue = self.flood(handle)
+            return self.queue.pop(0)()
+        if what < 0.40:
+            return self.device_request(handle)
         if what < 0.55:
-            return self.device_write(handle)
+            return self.host_write(handle.link)
         if what < 0.78:
             return self.next_packet()
         if what < 0.84:
-            return self.show_memory()
+            return r.choice([self.show_memory(), self.show_guarded(handle.number)])
         if what < 0.88:
             return f"refresh {handle.link} {handle.plan.stream}{self.lose('refresh')}"
         if what < 0.92:
@@ -406,32 +487,70 @@ class Script:
         if what < 0.95:
             return self.numbered("halt", handle.number)
         if what < 0.97:
-            self.queue = self.late_write(handle)
+            self.queue = r.choice([self.late_request, self.late_request, self.late_answer])(handle)
             return self.queue.pop(0)()
         if what < 0.98 and not self.is_posting:
             return f"stop {handle.link} {handle.plan.stream}{self.lose('stop')}"
         return f"view {handle.number}"
 
-    def device_write(self, handle: Handle) -> str:
+    def device_request(self, handle: Handle) -> str:
+        """A write to trusted memory, or a read of it."""
+        make = memory_read if self.r.random() < self.reading else memory_write
         more = self.r.choice(["", "", " more"])
-        return f"send d{handle.link} {memory_write(self.r, handle.plan.rid, self.plan.memory).hex()}{more}"
+        return f"send d{handle.link} {make(self.r, handle.plan.rid, self.plan.memory).hex()}{more}"
 
-    def late_write(self, handle: Handle) -> List[Line]:
-        """A write that is sealed in one run and arrives in the next one, or after it."""
-        number, again = handle.number, ["lock", "report", "refresh", "start"]
-        if self.r.random() < 0.2:
-            again.remove(self.r.choice(again))
+    def late_request(self, handle: Handle) -> List[Line]:
+        """A write or a read, of the device or of the host, that is sealed in one run and arrives in the next one, or
+        after it; a read may have waited since the first."""
+        r, number = self.r, handle.number
+        again = self.run_again(handle)
+        make = r.choice([memory_write, memory_read, bar_write])
 
-        def marked_write():
+        def marked_request():
             self.marked = self.sealed + 1
-            return f"send d{handle.link} {memory_write(self.r, handle.plan.rid, self.plan.memory).hex()}"
+            if make is bar_write:
+                data = bar_write(r, 0, handle.interface)
+                return f"send h{handle.link} {data.hex()} trusted" if data else f"view {number}"
+            return f"send d{handle.link} {make(r, handle.plan.rid, self.plan.memory).hex()}"
 
-        def line(name: str) -> Line:
-            if name == "refresh":
-                return lambda: f"refresh {handle.link} {handle.plan.stream}"
-            return lambda: f"{name} {number}"
+        def passes():
+            return f"pass {self.marked}"
 
-        return [marked_write, line("halt")] + [line(name) for name in again] + [lambda: f"pass {self.marked}"]
+        ends = [lambda: f"answer {handle.link}"] * 2
+        if make is memory_read and r.random() < 0.5:
+            return [marked_request, passes] + again + ends
+        return [marked_request] + again + [passes] + ends
+
+    def run_again(self, handle: Handle) -> List[Line]:
+        """From the halt to the next start; seldom something is left out."""
+        names = ["halt", "lock", "report", "refresh", "start"]
+        if self.r.random() < 0.2:
+            names.remove(self.r.choice(names[1:]))
+        return [self.of_handle(handle, name) for name in names]
+
+    def of_handle(self, handle: Handle, name: str) -> Line:
+        if name == "refresh":
+            return lambda: f"refresh {handle.link} {handle.plan.stream}"
+        return lambda: f"{name} {handle.number}"
+
+    def late_answer(self, handle: Handle) -> List[Line]:
+        """The host has a unit of completions open over a refresh, so that it still seals under the older key."""
+        r, link = self.r, handle.link
+        completion = bytes.fromhex("0a00000000000004") + handle.plan.rid.to_bytes(2, "big") + b"\0\0"
+        opens = [lambda: f"send h{link} {completion.hex()} more"]
+        reads = [lambda: f"send d{link} {memory_read(r, handle.plan.rid, self.plan.memory).hex()}", self.next_packet]
+        return opens + self.run_again(handle) + reads * 3 + [lambda: f"answer {link}"] * 2
+
+    def flood(self, handle: Handle) -> List[Line]:
+        """More reads than may wait."""
+        r, many = self.r, self.r.choice([5, 20, 70, 70])
+        read = lambda: f"send d{handle.link} {self.good_read(handle).hex()}{r.choice(['', ' more'])}"
+        return [read, self.next_packet] * many + [lambda: f"answer {handle.link}"] * r.choice([0, 3, 30])
+
+    def good_read(self, handle: Handle) -> bytes:
+        """One that may wait, if there is memory."""
+        region = self.r.choice(self.plan.memory) if self.plan.memory else RegionPlan(CLOSE, 4096)
+        return memory_request(self.r, handle.plan.rid, region.base + 4 * self.r.randrange(900), [1, 2], 0)[0]
 
     def change(self, number: int) -> str:
         return f"{self.r.choice(['flr', 'firmware', 'firmware'])} {number}"
@@ -442,13 +561,29 @@ class Script:
         registers = self.world.interfaces[number].registers if has_interface else {}
         register = r.choice(list(registers if registers and r.random() < 0.9 else WIDTHS))
         kept, bars = registers.get(register, 0), [value for name, value in registers.items() if name.startswith("bar")]
+        if register == "command" and has_interface and self.world.interfaces[number].state == UNLOCKED:
+            return f"write {number} command {kept ^ MEMORY_SPACE}"
         harmless = [kept] * 5 + [kept ^ 1, kept ^ 0x80]
         harmful = [kept ^ 2, kept ^ 4, r.randrange(2**64), r.choice(bars or [0]) + 4096]
         return f"write {number} {register} {r.choice([str, hex])(r.choice(harmless + harmful) % 2 ** WIDTHS[register])}"
 
     def show_memory(self) -> str:
-        length = self.r.choice([1, 4, 16, 64, 256, 1 + self.r.randrange(256)])
-        return f"memory {random_address(self.r, self.plan.memory):#x} {length}"
+        return f"memory {random_address(self.r, self.plan.memory):#x} {self.length()}"
+
+    def length(self) -> int:
+        return self.r.choice([1, 4, 16, 64, 256, 1 + self.r.randrange(256)])
+
+    def show_guarded(self, number: int) -> str:
+        """Mostly where a write may have gone."""
+        r, interfaces = self.r, self.world.interfaces
+        bars = interfaces[number].plan.bars if number < len(interfaces) else []
+        bar = r.randrange(len(bars)) if bars and r.random() < 0.95 else r.choice([0, 5, 6, 2**64 - 1])
+        pages = bars[bar].pages if bar < len(bars) else 0
+        written = sorted(interfaces[number].guarded.contents[bar]) if bar < len(bars) else []
+        if written and r.random() < 0.7:
+            return f"mmio {number} {bar} {max(r.choice(written) - r.choice([0, 0, 1, 3, 8]), 0)} {self.length()}"
+        offset = offset_in(r, pages) if pages and r.random() < 0.95 else r.choice([0, 4096 * pages, 2**64 - 1])
+        return f"mmio {number} {bar} {offset} {self.length()}"
 
 
 def misspelled(r: random.Random, line: str) -> str:

@@ -8,13 +8,14 @@ ASKED = ["lock", "report", "start", "halt", "state"]
 # of each event the kinds of its words; what may follow them is in `options`
 KINDS = {
     **{event: ["number", "number"] for event in OPERATIONS + ["status"]},
-    **{event: ["number"] for event in ASKED + ["reset", "pass", "dump", "flr", "firmware", "view"]},
+    **{event: ["number"] for event in ASKED + ["reset", "pass", "dump", "flr", "firmware", "view", "answer"]},
     "send": ["port", "bytes"],
     "arrive": ["port", "bytes"],
     "alter": ["number", "number", "byte"],
     "cut": ["number", "number"],
     "write": ["number", "register", "value"],
     "memory": ["number", "length"],
+    "mmio": ["number", "number", "number", "length"],
 }
 WIDTHS = {"command": 16, "msix": 16, "lnr": 16, "pasid": 16, "ats": 16, "cacheline": 8, "tph": 32}
 WIDTHS.update({f"bar{number}": 64 for number in range(6)})

@@ -1,10 +1,11 @@
-"""Keyed links with device interfaces, the manager's views and trusted memory: the verdict of every line of a script."""
+"""Keyed links with device interfaces, the manager's views, trusted memory with the reads of it that wait, and the
+guarded memory of devices: the verdict of every line of a script."""
 
-from typing import List, Optional
+from typing import Dict, List, Optional
 
 from interfaces import RUN, Handle, Interface
-from links import DEVICE, HOST, End, Links, Packet, loss, number
-from memory import Memory
+from links import CPL, DEVICE, HOST, End, Links, Packet, kind_of, loss, number, read_tlp
+from memory import MOST_WAITING, Memory, WaitingRead, crosses
 from plan import Plan
 
 OPERATIONS = ["lock", "report", "start", "halt", "state"]
@@ -15,6 +16,7 @@ class World(Links):
     def __init__(self, plan: Plan):
         super().__init__(plan)
         self.memory = Memory(plan.memory)
+        self.reads: Dict[int, List[WaitingRead]] = {link: [] for link in range(len(plan.links))}
         self.interfaces: List[Interface] = []
         self.handles: List[Handle] = []
         for link, link_plan in enumerate(plan.links):
@@ -40,17 +42,46 @@ class World(Links):
         owners = self.on_link(end.link, requester=header[4] << 8 | header[5])
         return any(owner.interface.state == RUN and owner.interface.stream == end.plan.id for owner in owners)
 
-    def write_effect(self, end: End, draw: int, packet: Packet, payload: bytes) -> str:
-        header = packet.header
+    def effect(self, end: End, draw: int, packet: Packet, payload: bytes) -> str:
+        header, kind = packet.header, kind_of(packet.header[0]).name
         address = int.from_bytes(header[8:], "big")
-        cause = self.not_granted(end, draw, packet) or self.memory.blocks(address, len(payload))
-        if cause:
-            return f"blocked:{cause}"
-        self.memory.write(address, payload, header[7] & 15, header[7] >> 4)
-        return "applied"
+        if kind == "memwrite":
+            if end.side == DEVICE:
+                return self.guarded_effect(end, draw, packet, payload)
+            cause = self.not_granted(end, draw, packet) or self.memory.blocks(address, len(payload))
+            if not cause:
+                self.memory.write(address, payload, header[7] & 15, header[7] >> 4)
+            return f"blocked:{cause}" if cause else "applied"
+        if kind == "memread" and end.side == HOST and packet.t:
+            return self.read_effect(end, draw, packet)
+        return "delivered"
+
+    def read_effect(self, end: End, draw: int, packet: Packet) -> str:
+        read, waiting = WaitingRead(packet.header, draw), self.reads[end.link]
+        cause = self.not_granted(end, draw, packet) or self.memory.blocks(read.address, read.length)
+        if not cause and len(waiting) == MOST_WAITING:
+            cause = "full"
+        if not cause:
+            waiting.append(read)
+        return f"blocked:{cause}" if cause else "queued"
+
+    def guarded_effect(self, end: End, draw: int, packet: Packet, payload: bytes) -> str:
+        """What a memory write that the device's port accepted gives."""
+        address, enables = int.from_bytes(packet.header[8:], "big"), packet.header[7]
+        for interface in [handle.interface for handle in self.on_link(end.link)]:
+            bar = interface.claims(address, len(payload))
+            if bar is None:
+                continue
+            cause = "crosses" if crosses(address, len(payload)) else None
+            cause = cause or interface.not_admitted(bar, bool(packet.t), end.plan.id, draw)
+            if not cause:
+                offset = address - interface.registers[f"bar{bar}"]
+                interface.guarded.write(bar, offset, payload, enables & 15, enables >> 4)
+            return f"blocked:{cause}" if cause else "stored"
+        return "delivered"
 
     def not_granted(self, end: End, draw: int, packet: Packet) -> Optional[str]:
-        """Why the manager does not let this requester write."""
+        """Why the manager does not let this requester write, or read."""
         if not packet.t:
             return "nottrusted"
         requester = packet.header[4] << 8 | packet.header[5]
@@ -80,6 +111,10 @@ class World(Links):
         if event == "memory":
             contents = self.memory.read(number(rest[0]), number(rest[1]))
             return f"memory {contents.hex()}" if contents else "none"
+        if event == "mmio":
+            return self.show_guarded(*map(number, rest))
+        if event == "answer":
+            return self.answer(number(rest[0]))
         if event in OPERATIONS + CHANGES + ["view"]:
             return self.on_interface(event, number(rest[0]), rest[1:])
         return super().verdict(line)
@@ -110,4 +145,42 @@ class World(Links):
         for handle in self.on_link(link):
             handle.interface.reset()
             handle.breaks()
+        if link in self.reads:
+            self.reads[link] = []
         return super().reset(link)
+
+    # -- reads that wait, and guarded memory
+
+    def answer(self, link: int) -> str:
+        """The oldest read of the link that waits is answered, dropped, or stays."""
+        if link not in self.reads:
+            return "none"
+        waiting = self.reads[link]
+        if not waiting:
+            return f"empty {link}"
+        completion = waiting[0].completion(self.memory)
+        owner = self.on_link(link, requester=waiting[0].requester)[0]
+        cause = self.not_answered(owner, waiting[0], completion)
+        if cause:
+            waiting.pop(0)
+            return f"dropped {owner.number} {cause}"
+        draw = self.ends[link, HOST, owner.plan.stream].tx[CPL].live_draw()
+        if draw is not None and draw < owner.floor:
+            return f"refused refreshfirst {draw} {owner.floor}"
+        verdict = self.send(link, HOST, completion, more=False, trusted=True)
+        if verdict.startswith("sealed"):
+            waiting.pop(0)
+        return verdict
+
+    def not_answered(self, owner: Handle, read: WaitingRead, completion: bytes) -> Optional[str]:
+        if owner.view != "running":
+            return "notrunning"
+        kind, header, _ = read_tlp(completion)
+        if self.chosen(owner.link, HOST, kind, header) != owner.plan.stream:
+            return "wrongstream"
+        return "stale" if read.draw < owner.floor else None
+
+    def show_guarded(self, place: int, bar: int, offset: int, length: int) -> str:
+        has_it = place < len(self.interfaces)
+        contents = self.interfaces[place].guarded.read(bar, offset, length) if has_it else None
+        return f"mmio {contents.hex()}" if contents else "none"

@@ -12,8 +12,8 @@ HOST, DEVICE = "h", "d"
 ARRIVALS = ("pass", "alter", "cut", "arrive")
 KEY_OPERATIONS = ("establish", "refresh", "stop")
 ASKED = ("lock", "report", "start", "halt", "state")
-ON_INTERFACES = ASKED + ("view", "write", "flr", "firmware")
-ON_STREAMS = KEY_OPERATIONS + ("status", "reset")
+ON_INTERFACES = ASKED + ("view", "write", "flr", "firmware", "mmio")
+ON_LINKS = KEY_OPERATIONS + ("status", "reset", "answer")
 PACKET = re.compile(
     r"(\d+) ([hd])(\d+) (\d+) (pr|npr|cpl) draw (\d+) unit (\d+) m([01]) k([01]) t([01]) p(\d+)( sync)?"
 )
@@ -254,7 +254,7 @@ def link_of(row: Row, run: Run) -> Optional[int]:
         link = run.topology.faces[face].link
     elif packet:
         link = packet.link
-    elif row.verb() in ON_STREAMS and numbers(row):
+    elif row.verb() in ON_LINKS and numbers(row):
         link = numbers(row)[0]
     most = run.topology.links or 8
     return link if link is not None and link < most else None

@@ -149,18 +149,23 @@ def fates_of(run: Run) -> Fates:
     return Fates(passed, {packet_named(row, run).number for row in arrived})
 
 
+def sent_text(row: Row) -> str:
+    """What goes out: the bytes of a send, or the completion of an answer."""
+    return "completion of the oldest read" if row.verb() == "answer" else tlp_text(row.words[2])
+
+
 def draw_send(row: Row, places: Places, fates: Fates) -> Drawn:
-    side = row.words[1][0]
+    side = HOST if row.verb() == "answer" else row.words[1][0]
     if row.packets:
         return draw_sealed(row, side, places, fates)
     y, lifeline = 22, places.lifeline(side)
     if row.answer() == "plain":
         shaft = arrow((lifeline, y), places.edge(side), "send", PLAIN_COLOUR, "dotted")
         over = places.over(lifeline, places.edge(side), y, "plain: unprotected")
-        return Drawn([shaft, over, places.note(side, y, tlp_text(row.words[2]))], ARROW_HEIGHT, y)
+        return Drawn([shaft, over, places.note(side, y, sent_text(row))], ARROW_HEIGHT, y)
     stub = places.inward(side, 26)
     parts = [drawing.line(lifeline, y, stub, y, more=' stroke="#5f5f66" stroke-width="2"'), cross(stub, y, 4)]
-    parts.append(places.inside(side, 38, y, tlp_text(row.words[2])))
+    parts.append(places.inside(side, 38, y, sent_text(row)))
     return Drawn(parts + [places.beside(side, y, verdict_chips(row))], ARROW_HEIGHT, y)
 
 
@@ -174,7 +179,7 @@ def draw_sealed(row: Row, side: str, places: Places, fates: Fates) -> Drawn:
         parts.append(fates.end(packet, edge - 4 * outwards, y))
         parts.append(places.over(lifeline, edge, y, packet_text(packet)))
         is_own = place + 1 == len(row.packets)
-        parts.append(places.note(side, y, tlp_text(row.words[2]) if is_own else "sync packet"))
+        parts.append(places.note(side, y, sent_text(row) if is_own else "sync packet"))
     middle = 22 + 30 * (len(row.packets) - 1)
     return Drawn(parts, middle + ARROW_HEIGHT - 22, middle)
 
@@ -384,9 +389,20 @@ def draw_change(row: Row, places: Places) -> Drawn:
     return draw_plain(places, DEVICE, chip, f"interface {words[1]}: {note}")
 
 
+def draw_read(row: Row, places: Places) -> Drawn:
+    """An `answer` that no completion comes of: no read waits, or the oldest is dropped."""
+    if row.answer() == "empty":
+        return draw_plain(places, HOST, Chip("no read waits", "dull"), "answer to the oldest read")
+    chip = Chip(f"dropped: {row.verdict[-1]}", "blocked")
+    return draw_plain(places, HOST, chip, f"answer to the oldest read, of interface {row.verdict[1]}")
+
+
 def draw_shown(row: Row, places: Places) -> Drawn:
-    """A `memory` or a `view`: both are the host's."""
+    """A `memory` or a `view`, both at the host, or a `mmio` at the device."""
     verdict = row.verdict
+    if row.answer() == "mmio":
+        note = f"interface {row.words[1]}: BAR {row.words[2]} at {row.words[3]}, {row.words[4]} bytes"
+        return draw_plain(places, DEVICE, Chip(verdict[-1], "dull"), note)
     if row.answer() == "memory":
         note = f"trusted memory at {row.words[1]}, {row.words[2]} bytes"
         return draw_plain(places, HOST, Chip(verdict[-1], "dull"), note)
@@ -406,7 +422,9 @@ def draw_row(row: Row, run: Run, places: Places, fates: Fates, begun: int, is_ag
         return draw_operation(row, run, places, begun)
     drawn = {"send": lambda: draw_send(row, places, fates), "status": lambda: draw_status(row, places)}
     drawn.update(reset=lambda: draw_reset(row, places), packet=lambda: draw_dump(row, places))
-    drawn.update({shown: lambda: draw_shown(row, places) for shown in ("memory", "view")})
+    drawn.update({shown: lambda: draw_shown(row, places) for shown in ("memory", "view", "mmio")})
+    drawn.update({ended: lambda: draw_read(row, places) for ended in ("empty", "dropped")})
     drawn.update({changed: lambda: draw_change(row, places) for changed in ("written", "flr", "firmware")})
-    name = verb if verb == "send" else answer
+    is_sending = verb == "send" or verb == "answer" and answer in ("sealed", "refused")
+    name = "send" if is_sending else answer
     return drawn.get(name, lambda: draw_text(row, places, "dull"))()
