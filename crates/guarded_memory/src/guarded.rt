@@ -9,11 +9,9 @@ ghost use Rattle.trusted_memory.specs.Writes.{write_in, write_of};
 ghost use Rattle.trusted_memory.specs.Memory.{bytes_from};
 ghost use Rattle.guarded_memory.specs.declared.standing.Standing.{Standing};
 
-use crate::blanks::{fill, put};
 use crate::causes::mmio_cause;
 use crate::claims::claim_of;
-use crate::names::{PageName, name_at, outlives_stop};
-use crate::page::{PAGE_BYTES, Page};
+use crate::names::{PageName, name_at, outlives_stop, put};
 use crate::sizes::{fits_range, sizes_of};
 use crate::{Claim, Standings};
 use ide_plan::{BarPlan, InterfacePlan};
@@ -23,7 +21,7 @@ use std::alloc::Global;
 use std::collections::HashMap;
 use std::marker::Model;
 use tlp_layout::TlpView;
-use trusted_memory::MemWriteView;
+use trusted_memory::{MemWriteView, PAGE_BYTES, Page, fill};
 
 /// The memory behind the base address registers of a device's interfaces (PCI Express Base 6.0 chapter 11, in this
 /// profile). Contracts see the byte at each offset of each BAR of each interface; and beside that how large the BARs

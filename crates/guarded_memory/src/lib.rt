@@ -5,13 +5,11 @@
 //! Memory is taken by `Guarded::make` and `spare` alone.
 #![tactic(auto)]
 
-mod blanks;
 mod causes;
 mod claims;
 mod guarded;
 mod laws;
 mod names;
-mod page;
 mod sizes;
 mod standing;
 mod standings;

@@ -1,12 +1,15 @@
-//! The names of pages.
+//! Pages by their names.
 
-ghost use Rattle.std.specs.Prelude.{◌≡◌, not};
+ghost use Rattle.std.specs.Prelude.{◌≡◌, ◌+◌, ◌≤◌, Some, if◌then◌else◌, not};
+ghost use Rattle.std.specs.HashMap as hash;
+ghost use Rattle.guarded_memory.specs.declared.names.PageName.{PageName};
 ghost use Rattle.guarded_memory.specs.Happenings.{clears, InterfaceStopped};
-ghost use Rattle.guarded_memory.specs.Contents.{name_at};
+ghost use Rattle.guarded_memory.specs.Contents.{is_page_name, name_at};
 
-use crate::page::PAGE_BYTES;
 use crate::standing::has_open_range;
 use ide_plan::BarPlan;
+use std::collections::HashMap;
+use trusted_memory::{PAGE_BYTES, Page};
 
 /// Which page it is.
 #[derive(Clone, Copy, Debug, PartialEq, Eq, Hash)]
@@ -35,4 +38,14 @@ pub fn outlives_stop(name: &PageName, interface: usize, bars: &[BarPlan]) -> boo
     ensures { result ≡ not (clears (InterfaceStopped interface bars.now) name.now.interface name.now.bar) }
 {
     interface != name.interface || has_open_range(bars, name.bar)
+}
+
+/// Puts a page there, for which there is room.
+pub fn put(pages: &mut HashMap<PageName, Page>, name: PageName, page: Page)
+    requires { 1 ≤ hash.spare pages.old }
+    ensures there { (q : PageName) → hash.get is_page_name pages.new q
+        ≡ (if is_page_name name q then Some page else hash.get is_page_name pages.old q) }
+    ensures room { hash.spare pages.old ≤ hash.spare pages.new + 1 }
+{
+    let _ = pages.insert(name, page);
 }

@@ -22,3 +22,4 @@ pub use Rattle.trusted_memory.specs.Admitted.{is_on_bound, is_placed, if_placed,
 pub use Rattle.trusted_memory.specs.Memory.{MemoryContents, TrustedMemory, new_contents, new_memory, byte_at}
 pub use Rattle.trusted_memory.specs.Memory.{bytes_from}
 pub use Rattle.trusted_memory.specs.Memory.{has_page, takes_page, byte_by, IsLeftBy, Leads}
+pub use Rattle.trusted_memory.specs.Pages.{IsBlank}

@@ -67,6 +67,15 @@ impl Page {
         self.bytes[i]
     }
 
+    /// Sets byte `i`.
+    pub fn set(&mut self, i: usize, value: u8)
+        requires { i < PAGE_BYTES }
+        ensures bytes { self.new ≡ slice_set self.old i value }
+        ensures long { length self.old ≡ 4096 }
+    {
+        self.bytes[i] = value;
+    }
+
     /// Writes the enabled bytes of the payload, the first at `start`.
     pub fn write(&mut self, start: usize, write: &MemWriteView<'_>)
         requires { start + span_byte_count write.now.span ≤ PAGE_BYTES }
